@@ -1,0 +1,5 @@
+pub mod Sizes
+pub mod Patch
+pub mod Edition
+pub mod Encode
+pub mod Fits

@@ -1,0 +1,80 @@
+-- RFC 3629, section 4: the syntax of UTF-8 as octet sequences, and the number of characters.
+use Prim.Native.Nat.{ℕ, _+_}
+use mathlib.Core.Bool.{Bool, true, false, cond, _&&_}
+use mathlib.Core.List.{List, [], _∷_}
+use lib.Dec.{leb}
+
+infix 60 _⋯_
+-- A range of octets, both ends included.
+pub record Range : Type 0 where
+  pub low : ℕ
+  pub high : ℕ
+
+abbrev pub _⋯_ : ℕ → ℕ → Range
+l ⋯ h = record { low = l; high = h }
+
+abbrev pub inside : Range → ℕ → Bool
+inside r b = leb (r .low) b && leb b (r .high)
+
+-- UTF8-tail
+abbrev pub tail : Range
+tail = 0x80 ⋯ 0xbf
+
+-- The alternatives of UTF8-char: UTF8-1, UTF8-2, the four of UTF8-3 and the three of UTF8-4. No two begin with the same octet.
+abbrev pub sequences : List (List Range)
+sequences =
+    ((0x00 ⋯ 0x7f) ∷ [])
+    ∷ ((0xc2 ⋯ 0xdf) ∷ tail ∷ [])
+    ∷ ((0xe0 ⋯ 0xe0) ∷ (0xa0 ⋯ 0xbf) ∷ tail ∷ [])
+    ∷ ((0xe1 ⋯ 0xec) ∷ tail ∷ tail ∷ [])
+    ∷ ((0xed ⋯ 0xed) ∷ (0x80 ⋯ 0x9f) ∷ tail ∷ [])
+    ∷ ((0xee ⋯ 0xef) ∷ tail ∷ tail ∷ [])
+    ∷ ((0xf0 ⋯ 0xf0) ∷ (0x90 ⋯ 0xbf) ∷ tail ∷ tail ∷ [])
+    ∷ ((0xf1 ⋯ 0xf3) ∷ tail ∷ tail ∷ tail ∷ [])
+    ∷ ((0xf4 ⋯ 0xf4) ∷ (0x80 ⋯ 0x8f) ∷ tail ∷ tail ∷ [])
+    ∷ []
+
+-- What the syntax allows after a part of a text: `expects rs`, octets of the ranges rs and then any characters; or nothing at all.
+pub data After : Type 0 where
+  expects : List Range → After
+  refused : After
+
+-- after the first octet of a character
+abbrev pub lead : List (List Range) → ℕ → After
+lead [] b = refused
+lead ([] ∷ rows) b = lead rows b
+lead ((r ∷ rs) ∷ rows) b = cond (inside r b) (expects rs) (lead rows b)
+
+-- after one octet more
+abbrev pub advance : After → ℕ → After
+advance (expects []) b = lead sequences b
+advance (expects (r ∷ rs)) b = cond (inside r b) (expects rs) refused
+advance refused b = refused
+
+-- whether the text may end here, and then as a number
+abbrev pub whole : After → Bool
+whole (expects []) = true
+whole (expects (r ∷ rs)) = false
+whole refused = false
+
+abbrev pub one-if : Bool → ℕ
+one-if true = 1
+one-if false = 0
+
+-- UTF8-octets, of what is left of a text
+abbrev pub isUtf8After : After → List ℕ → Bool
+isUtf8After a [] = whole a
+isUtf8After a (b ∷ bs) = isUtf8After (advance a b) bs
+
+-- how many characters end in what is left of a text
+abbrev pub charactersAfter : After → List ℕ → ℕ
+charactersAfter a [] = 0
+charactersAfter a (b ∷ bs) = one-if (whole (advance a b)) + charactersAfter (advance a b) bs
+
+-- UTF8-octets
+abbrev pub isUtf8 : List ℕ → Bool
+isUtf8 text = isUtf8After (expects []) text
+
+-- the number of characters of a text that is UTF-8
+abbrev pub characters : List ℕ → ℕ
+characters text = charactersAfter (expects []) text
