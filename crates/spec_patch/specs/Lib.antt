@@ -3,3 +3,8 @@ pub mod Patch
 pub mod Edition
 pub mod Encode
 pub mod Fits
+pub mod Reader
+pub mod Read
+pub mod Write
+pub mod Codec
+pub mod ReadLaws

@@ -1,0 +1,75 @@
+-- The writer: 01, 'Rejections': it tests 12, then 10, then 14.
+use Prim.Native.Nat.{ℕ}
+use mathlib.Core.Bool.{Bool, true, false, _&&_}
+use mathlib.Core.List.{List, [], _∷_}
+use lib.Dec.{leb}
+use lib.ListN.{length}
+use Rattle.spec_lists.specs.Lists.{if_then_else_, all}
+use Rattle.spec_text.specs.Syntax.{isUtf8}
+use Rattle.spec_patch.specs.Sizes.{setBytes, setPatches, patchOperations, textBytes}
+use Rattle.spec_patch.specs.Patch.{Value, quad, signed, text, unsigned, Operation, setBinding, setAvailability, insert, update, remove, move, Patch}
+use Rattle.spec_patch.specs.Edition.{Edition, hasKind}
+use Rattle.spec_patch.specs.Encode.{kindOf, encode}
+
+-- why a list is not written
+pub data WriteRefusal : Type 0 where
+  overCapacity malformed outputTooShort : WriteRefusal
+
+-- 01's number of each refusal in writing
+unfoldable pub writeNumber : WriteRefusal → ℕ
+writeNumber overCapacity = 12
+writeNumber malformed = 10
+writeNumber outputTooShort = 14
+
+-- a test of an operation's value; an operation without one passes
+unfoldable pub valuePasses : (Value → Bool) → Operation → Bool
+valuePasses test (setBinding node slot v) = test v
+valuePasses test (setAvailability node a) = true
+valuePasses test (insert c k before v) = test v
+valuePasses test (update c k v) = test v
+valuePasses test (remove c k) = true
+valuePasses test (move c k before) = true
+
+-- a test of every value of a list
+unfoldable pub allValues : (Value → Bool) → List Patch → Bool
+allValues test ps = all (λ (p : Patch). all (valuePasses test) (p .operations)) ps
+
+-- a text's length is within the capacity; other values pass
+unfoldable pub shortEnough : Value → Bool
+shortEnough (quad q) = true
+shortEnough (signed z) = true
+shortEnough (text t) = leb (length t) textBytes
+shortEnough (unsigned x) = true
+
+-- the patch count, each operation count, each text's length and the set's bytes are within their capacities
+unfoldable pub withinCapacities : Edition → List Patch → Bool
+withinCapacities ed ps =
+    leb (length ps) setPatches
+    && (all (λ (p : Patch). leb (length (p .operations)) patchOperations) ps
+    && (allValues shortEnough ps
+    && leb (length (encode ed ps)) setBytes))
+
+-- RFC 3629 allows a text; other values pass
+unfoldable pub allowedText : Value → Bool
+allowedText (quad q) = true
+allowedText (signed z) = true
+allowedText (text t) = isUtf8 t
+allowedText (unsigned x) = true
+
+-- a value of a kind that the edition has, and an allowed text
+unfoldable pub wellFormed : Edition → Value → Bool
+wellFormed ed v = hasKind ed (kindOf v) && allowedText v
+
+-- what writing gives
+pub data Written : Type 0 where
+  wrote : List ℕ → Written
+  refused : WriteRefusal → Written
+
+-- the canonical bytes, into an output of so many places
+unfoldable pub write : Edition → List Patch → ℕ → Written
+write ed ps room =
+    if withinCapacities ed ps then
+    (if allValues (wellFormed ed) ps then
+    (if leb (length (encode ed ps)) room then wrote (encode ed ps) else refused outputTooShort)
+    else refused malformed)
+    else refused overCapacity
