@@ -81,3 +81,13 @@ all-append P (x ∷ a) b h k = (h .0, all-append P a b (h .1) k)
 pub all-map : {A : Type 0} (P Q : A → Type 0) → ((a : A) → P a → Q a) → (l : List A) → All P l → All Q l
 all-map P Q f [] h = tt
 all-map P Q f (x ∷ l) h = (f x (h .0), all-map P Q f l (h .1))
+
+-- a test of every element, and a property that follows from it
+pub all-of-test : {A : Type 0} (P Q : A → Type 0) (test : A → Bool) → ((a : A) → P a → test a ≡ true → Q a) → (l : List A) → All P l → all test l ≡ true → All Q l
+all-of-test P Q test f [] h e = tt
+all-of-test P Q test f (x ∷ l) h e =
+    (f x (h .0) (and-left (test x) _ e), all-of-test P Q test f l (h .1) (and-right (test x) _ e))
+
+pub test-of-all : {A : Type 0} (P : A → Type 0) (test : A → Bool) → ((a : A) → P a → test a ≡ true) → (l : List A) → All P l → all test l ≡ true
+test-of-all P test f [] h = refl
+test-of-all P test f (x ∷ l) h = rw (f x (h .0)) (test-of-all P test f l (h .1))

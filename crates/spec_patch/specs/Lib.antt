@@ -8,3 +8,6 @@ pub mod Read
 pub mod Write
 pub mod Codec
 pub mod ReadLaws
+pub mod SetLaws
+pub mod FitsLaws
+pub mod WriteLaws
