@@ -11,3 +11,4 @@ pub mod ReadLaws
 pub mod SetLaws
 pub mod FitsLaws
 pub mod WriteLaws
+pub mod StrictLaws
