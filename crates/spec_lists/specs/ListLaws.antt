@@ -81,3 +81,10 @@ all-append P (x ∷ a) b h k = (h .0, all-append P a b (h .1) k)
 pub all-map : {A : Type 0} (P Q : A → Type 0) → ((a : A) → P a → Q a) → (l : List A) → All P l → All Q l
 all-map P Q f [] h = tt
 all-map P Q f (x ∷ l) h = (f x (h .0), all-map P Q f l (h .1))
+
+-- ---- cases
+
+-- a test holds or it does not
+pub test-cases : {G : Type 0} (t : Bool) → (t ≡ true → G) → (t ≡ false → G) → G
+test-cases true holds fails = holds refl
+test-cases false holds fails = fails refl
