@@ -91,3 +91,10 @@ all-of-test P Q test f (x ∷ l) h e =
 pub test-of-all : {A : Type 0} (P : A → Type 0) (test : A → Bool) → ((a : A) → P a → test a ≡ true) → (l : List A) → All P l → all test l ≡ true
 test-of-all P test f [] h = refl
 test-of-all P test f (x ∷ l) h = rw (f x (h .0)) (test-of-all P test f l (h .1))
+
+-- ---- cases
+
+-- a test holds or it does not
+pub test-cases : {G : Type 0} (t : Bool) → (t ≡ true → G) → (t ≡ false → G) → G
+test-cases true holds fails = holds refl
+test-cases false holds fails = fails refl

@@ -1,0 +1,66 @@
+-- What edits at the first match keep: properties of all elements, and lengths.
+use Prim.Native.Nat.{ℕ, zero, suc, _≤_}
+use mathlib.Core.Path.{_≡_, refl, sym, ap, subst}
+use mathlib.Core.Bool.{Bool, true, false}
+use mathlib.Core.List.{List, [], _∷_}
+use mathlib.Core.Option.{Option, none, some, Option·some-injective}
+use native.Mathlib.Omega.{arith}
+use lib.ListN.{length}
+use Rattle.spec_lists.specs.Lists.{if_then_else_, any, All}
+use Rattle.spec_lists.specs.ListLaws.{test-cases}
+use Rattle.spec_projection.specs.FirstMatch.{findFirst, insertBeforeFirst, replaceFirst, removeFirst}
+
+module _ {A : Type 0} (test : A → Bool) where
+  -- ---- properties of all elements
+
+  pub insertBeforeFirst-all : (P : A → Type 0) (a : A) (l : List A) → P a → All P l → All P (insertBeforeFirst test a l)
+  unfolding insertBeforeFirst
+  insertBeforeFirst-all P a [] p h = (p, tt)
+  insertBeforeFirst-all P a (x ∷ l) p h = test-cases (test x) (λ f. rw f (p, h)) (λ f. rw f (h .0, insertBeforeFirst-all P a l p (h .1)))
+
+  -- the new element has what the one that it replaces gives it
+  pub replaceFirst-all : (P : A → Type 0) (a : A) (l : List A) → ((y : A) → test y ≡ true → P y → P a) → All P l → All P (replaceFirst test a l)
+  unfolding replaceFirst
+  replaceFirst-all P a [] p h = tt
+  replaceFirst-all P a (x ∷ l) p h = test-cases (test x) (λ f. rw f (p x f (h .0), h .1)) (λ f. rw f (h .0, replaceFirst-all P a l p (h .1)))
+
+  pub removeFirst-all : (P : A → Type 0) (l : List A) → All P l → All P (removeFirst test l)
+  unfolding removeFirst
+  removeFirst-all P [] h = tt
+  removeFirst-all P (x ∷ l) h = test-cases (test x) (λ f. rw f (h .1)) (λ f. rw f (h .0, removeFirst-all P l (h .1)))
+
+  -- ---- lengths
+
+  pub insertBeforeFirst-length : (a : A) (l : List A) → length (insertBeforeFirst test a l) ≡ suc (length l)
+  unfolding insertBeforeFirst
+  insertBeforeFirst-length a [] = refl
+  insertBeforeFirst-length a (x ∷ l) = test-cases (test x) (λ f. rw f) (λ f. rw f (ap suc (insertBeforeFirst-length a l)))
+
+  pub replaceFirst-length : (a : A) (l : List A) → length (replaceFirst test a l) ≡ length l
+  unfolding replaceFirst
+  replaceFirst-length a [] = refl
+  replaceFirst-length a (x ∷ l) = test-cases (test x) (λ f. rw f) (λ f. rw f (ap suc (replaceFirst-length a l)))
+
+  -- where an element passes, taking it out frees its place
+  pub removeFirst-length : (l : List A) → any test l ≡ true → suc (length (removeFirst test l)) ≡ length l
+  unfolding removeFirst
+  removeFirst-length [] h = cc
+  removeFirst-length (x ∷ l) h = test-cases (test x) (λ f. rw f) (λ f. rw f (ap suc (removeFirst-length l (rw f at h))))
+
+  -- ---- what is found
+
+  pub findFirst-passes : (l : List A) (a : A) → findFirst test l ≡ some a → test a ≡ true
+  unfolding findFirst
+  findFirst-passes [] a h = cc
+  findFirst-passes (x ∷ l) a h = test-cases (test x) (λ f. rw (Option·some-injective x a (rw f at h)) at f) (λ f. findFirst-passes l a (rw f at h))
+
+  pub findFirst-any : (l : List A) (a : A) → findFirst test l ≡ some a → any test l ≡ true
+  unfolding findFirst
+  findFirst-any [] a h = cc
+  findFirst-any (x ∷ l) a h = test-cases (test x) (λ f. rw f) (λ f. rw f (findFirst-any l a (rw f at h)))
+
+  -- what holds of all holds of what is found
+  pub findFirst-all : (P : A → Type 0) (l : List A) (a : A) → findFirst test l ≡ some a → All P l → P a
+  unfolding findFirst
+  findFirst-all P [] a h k = let z : _≡_ {A = ℕ} 0 1 = cc in absurd (omega arith)
+  findFirst-all P (x ∷ l) a h k = test-cases (test x) (λ f. subst P (Option·some-injective x a (rw f at h)) (k .0)) (λ f. findFirst-all P l a (rw f at h) (k .1))

@@ -1,0 +1,11 @@
+pub mod FirstMatch
+pub mod FirstMatchLaws
+pub mod Projection
+pub mod Entries
+pub mod Lookups
+pub mod Apply
+pub mod Valid
+pub mod EntriesLaws
+pub mod ApplyLaws
+pub mod OperationLaws
+pub mod ValidLaws
