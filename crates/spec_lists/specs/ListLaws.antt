@@ -1,7 +1,7 @@
 -- Laws of tests, and of properties of all elements.
 use mathlib.Core.Path.{_≡_, refl, sym, ap, _∙_}
 use mathlib.Core.Bool.{Bool, true, false, _&&_, _||_}
-use mathlib.Core.List.{List, [], _∷_, _++_, append-assoc, flatMap}
+use mathlib.Core.List.{List, [], _∷_, _++_, append-assoc, flatMap, List·Memᴰ, List·Memᴰ·head, List·Memᴰ·tail}
 use Prim.Native.Nat.{ℕ}
 use lib.Dec.{T, eqb}
 use borrow.Author.Tests.{eqb-true}
@@ -81,3 +81,9 @@ all-append P (x ∷ a) b h k = (h .0, all-append P a b (h .1) k)
 pub all-map : {A : Type 0} (P Q : A → Type 0) → ((a : A) → P a → Q a) → (l : List A) → All P l → All Q l
 all-map P Q f [] h = tt
 all-map P Q f (x ∷ l) h = (f x (h .0), all-map P Q f l (h .1))
+
+-- ---- members
+
+pub all-member : {A : Type 0} (P : A → Type 0) {x : A} (l : List A) → All P l → List·Memᴰ x l → P x
+all-member P (y ∷ l) h (List·Memᴰ·head e) = rw e (h .0)
+all-member P (y ∷ l) h (List·Memᴰ·tail m) = all-member P l (h .1) m
