@@ -1,7 +1,7 @@
 -- Laws of tests, and of properties of all elements.
 use mathlib.Core.Path.{_≡_, refl, sym, ap, _∙_}
 use mathlib.Core.Bool.{Bool, true, false, _&&_, _||_}
-use mathlib.Core.List.{List, [], _∷_, _++_, append-assoc, flatMap}
+use mathlib.Core.List.{List, [], _∷_, _++_, append-assoc, flatMap, List·Memᴰ, List·Memᴰ·head, List·Memᴰ·tail}
 use Prim.Native.Nat.{ℕ}
 use lib.Dec.{T, eqb}
 use borrow.Author.Tests.{eqb-true}
@@ -98,3 +98,9 @@ test-of-all P test f (x ∷ l) h = rw (f x (h .0)) (test-of-all P test f l (h .1
 pub test-cases : {G : Type 0} (t : Bool) → (t ≡ true → G) → (t ≡ false → G) → G
 test-cases true holds fails = holds refl
 test-cases false holds fails = fails refl
+
+-- ---- members
+
+pub all-member : {A : Type 0} (P : A → Type 0) {x : A} (l : List A) → All P l → List·Memᴰ x l → P x
+all-member P (y ∷ l) h (List·Memᴰ·head e) = rw e (h .0)
+all-member P (y ∷ l) h (List·Memᴰ·tail m) = all-member P l (h .1) m

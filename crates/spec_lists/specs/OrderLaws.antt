@@ -1,13 +1,16 @@
 -- The order of keys is strict and total, and an ascending list stays ascending when an element is inserted.
-use Prim.Native.Nat.{ℕ, _≤_, _<_}
+use Prim.Native.Nat.{ℕ, suc, _≤_, _<_}
 use mathlib.Core.Path.{_≡_, refl, sym, ap, _∙_}
 use mathlib.Core.Bool.{Bool, true, false, _&&_, _||_}
-use mathlib.Core.List.{List, [], _∷_}
-use mathlib.Core.Logic.{_⊎_, inl, inr}
+use mathlib.Core.HLevel.{⊥-prop}
+use mathlib.Core.List.{List, [], _∷_, List·Memᴰ, List·Memᴰ·head, List·Memᴰ·tail, List·Memᴰ·cases-cons, List·Memᴰ·not-nil, List·Memᴰ·eq-of-singleton, Memᴰ·cast, List·Nodup, Pairwise·nil, Pairwise·cons}
+use mathlib.Core.Logic.{_⊎_, inl, inr, ⊎-elim, ∥∥₁-elim}
 use native.Mathlib.Omega.{arith}
 use borrow.Author.Tests.{ltb-true, ltb-false, lt-ltb, eqb-true, eqb-false, eq-eqb}
 use lib.Dec.{ltb, eqb}
+use lib.ListN.{length}
 use Rattle.spec_lists.specs.Lists.{if_then_else_, All}
+use Rattle.spec_lists.specs.ListLaws.{all-member}
 use Rattle.spec_lists.specs.Order.{lexLess, upsert, sortUnique, Ascending}
 
 -- what `lexLess` says of two keys with a first number each
@@ -104,3 +107,114 @@ module _ {A : Type 0} (key : A → List ℕ) where
   unfolding sortUnique
   sortUnique-ascending [] = tt
   sortUnique-ascending (a ∷ l) = upsert-ascending a (sortUnique key l) (sortUnique-ascending l)
+
+-- ---- members
+
+pub lexLess-irreflexive : (a : List ℕ) → lexLess a a ≡ true → ⊥
+unfolding lexLess
+lexLess-irreflexive [] h = let z : _≡_ {A = ℕ} 0 1 = cc in omega arith
+lexLess-irreflexive (x ∷ a) h = ⊎-elim (λ (l : x < x). omega arith) (λ (e : (x ≡ x) × (lexLess a a ≡ true)). lexLess-irreflexive a (e .1)) (lexLess-cases x x a a h)
+
+module _ {A : Type 0} (key : A → List ℕ) where
+  upsert-member : (x a : A) (l : List A) → List·Memᴰ x (upsert key a l) → (x ≡ a) ⊎ List·Memᴰ x l
+  unfolding upsert
+  upsert-member x a [] m = inl (List·Memᴰ·eq-of-singleton m)
+  upsert-member x a (y ∷ l) m = go (lexLess (key a) (key y)) (lexLess (key y) (key a)) (upsert-member x a l) m
+    where
+      later : (x ≡ a) ⊎ List·Memᴰ x l → (x ≡ a) ⊎ List·Memᴰ x (y ∷ l)
+      later (inl e) = inl e
+      later (inr d) = inr (List·Memᴰ·tail d)
+      behind : (List·Memᴰ x (upsert key a l) → (x ≡ a) ⊎ List·Memᴰ x l) → (x ≡ y) ⊎ List·Memᴰ x (upsert key a l) → (x ≡ a) ⊎ List·Memᴰ x (y ∷ l)
+      behind ih (inl e) = inr (List·Memᴰ·head e)
+      behind ih (inr d) = later (ih d)
+      go : (s t : Bool) → (List·Memᴰ x (upsert key a l) → (x ≡ a) ⊎ List·Memᴰ x l)
+          → List·Memᴰ x (if s then a ∷ y ∷ l else if t then y ∷ upsert key a l else a ∷ l) → (x ≡ a) ⊎ List·Memᴰ x (y ∷ l)
+      go true t ih m = List·Memᴰ·cases-cons m
+      go false true ih m = behind ih (List·Memᴰ·cases-cons m)
+      go false false ih m = later (List·Memᴰ·cases-cons m)
+
+  upsert-new : (a : A) (l : List A) → List·Memᴰ a (upsert key a l)
+  unfolding upsert
+  upsert-new a [] = List·Memᴰ·head refl
+  upsert-new a (y ∷ l) = go (lexLess (key a) (key y)) (lexLess (key y) (key a)) (upsert-new a l)
+    where
+      go : (s t : Bool) → List·Memᴰ a (upsert key a l) → List·Memᴰ a (if s then a ∷ y ∷ l else if t then y ∷ upsert key a l else a ∷ l)
+      go true t ih = List·Memᴰ·head refl
+      go false true ih = List·Memᴰ·tail ih
+      go false false ih = List·Memᴰ·head refl
+
+  -- what is sorted holds nothing new
+  pub sortUnique-member : (x : A) (l : List A) → List·Memᴰ x (sortUnique key l) → List·Memᴰ x l
+  unfolding sortUnique
+  sortUnique-member x [] m = m
+  sortUnique-member x (a ∷ l) m =
+      ⊎-elim (λ (e : x ≡ a). List·Memᴰ·head e) (λ (d : List·Memᴰ x (sortUnique key l)). List·Memᴰ·tail (sortUnique-member x l d)) (upsert-member x a (sortUnique key l) m)
+
+  upsert-length : (a : A) (l : List A) → length (upsert key a l) ≤ suc (length l)
+  unfolding upsert
+  upsert-length a [] = omega arith
+  upsert-length a (y ∷ l) = go (lexLess (key a) (key y)) (lexLess (key y) (key a)) (upsert-length a l)
+    where
+      go : (s t : Bool) → length (upsert key a l) ≤ suc (length l) → length (if s then a ∷ y ∷ l else if t then y ∷ upsert key a l else a ∷ l) ≤ suc (suc (length l))
+      go true t ih = omega arith
+      go false true ih = omega arith
+      go false false ih = omega arith
+
+  pub sortUnique-length : (l : List A) → length (sortUnique key l) ≤ length l
+  unfolding sortUnique
+  sortUnique-length [] = omega arith
+  sortUnique-length (a ∷ l) = omega (arith, upsert-length a (sortUnique key l), sortUnique-length l)
+
+  -- an ascending list has no repeats
+  pub ascending-nodup : (l : List A) → Ascending key l → List·Nodup l
+  ascending-nodup [] h = Pairwise·nil
+  ascending-nodup (x ∷ l) h = Pairwise·cons (λ y m e. ∥∥₁-elim m ⊥-prop (λ d. apart y d e)) (ascending-nodup l (h .1))
+    where
+      apart : (y : A) → List·Memᴰ y l → x ≡ y → ⊥
+      apart y d e = lexLess-irreflexive (key y) (rw e at (all-member _ l (h .0) d))
+
+  heads : (x y : A) (a b : List A) → All (λ z. lexLess (key x) (key z) ≡ true) a → All (λ z. lexLess (key y) (key z) ≡ true) b → List·Memᴰ x (y ∷ b) → List·Memᴰ y (x ∷ a) → x ≡ y
+  heads x y a b h k m n = go (List·Memᴰ·cases-cons m) (List·Memᴰ·cases-cons n)
+    where
+      go : (x ≡ y) ⊎ List·Memᴰ x b → (y ≡ x) ⊎ List·Memᴰ y a → x ≡ y
+      go (inl e) o = e
+      go (inr d) (inl e) = sym e
+      go (inr d) (inr c) = absurd (lexLess-irreflexive (key x) (lexLess-trans (key x) (key y) (key x) (all-member _ a h c) (all-member _ b k d)))
+
+  later : (x y : A) (a b : List A) → x ≡ y → All (λ z. lexLess (key x) (key z) ≡ true) a → (z : A) → List·Memᴰ z a → List·Memᴰ z (y ∷ b) → List·Memᴰ z b
+  later x y a b e h z m n =
+      ⊎-elim (λ (f : z ≡ y). absurd (lexLess-irreflexive (key x) (rw (f ∙ sym e) at (all-member _ a h m)))) (λ (d : List·Memᴰ z b). d) (List·Memᴰ·cases-cons n)
+
+  -- its members determine an ascending list
+  pub ascending-unique : (a b : List A) → Ascending key a → Ascending key b → ((x : A) → List·Memᴰ x a → List·Memᴰ x b) → ((x : A) → List·Memᴰ x b → List·Memᴰ x a) → a ≡ b
+  ascending-unique [] [] h k f g = refl
+  ascending-unique [] (y ∷ b) h k f g = absurd (List·Memᴰ·not-nil (g y (List·Memᴰ·head refl)))
+  ascending-unique (x ∷ a) [] h k f g = absurd (List·Memᴰ·not-nil (f x (List·Memᴰ·head refl)))
+  ascending-unique (x ∷ a) (y ∷ b) h k f g =
+      let e : x ≡ y = heads x y a b (h .0) (k .0) (f x (List·Memᴰ·head refl)) (g y (List·Memᴰ·head refl)) in
+      let into : (z : A) → List·Memᴰ z a → List·Memᴰ z b = λ z m. later x y a b e (h .0) z m (f z (List·Memᴰ·tail m)) in
+      let back : (z : A) → List·Memᴰ z b → List·Memᴰ z a = λ z m. later y x b a (sym e) (k .0) z m (g z (List·Memᴰ·tail m)) in
+      cc (ascending-unique a b (h .1) (k .1) into back)
+
+-- a key that tells the elements apart
+module _ {A : Type 0} (key : A → List ℕ) (injective : (a b : A) → key a ≡ key b → a ≡ b) where
+  upsert-old : (x a : A) (l : List A) → List·Memᴰ x l → List·Memᴰ x (upsert key a l)
+  unfolding upsert
+  upsert-old x a [] m = absurd (List·Memᴰ·not-nil m)
+  upsert-old x a (y ∷ l) m = go (lexLess (key a) (key y)) refl (lexLess (key y) (key a)) refl (upsert-old x a l) (List·Memᴰ·cases-cons m)
+    where
+      go : (s : Bool) → lexLess (key a) (key y) ≡ s → (t : Bool) → lexLess (key y) (key a) ≡ t → (List·Memᴰ x l → List·Memᴰ x (upsert key a l)) → (x ≡ y) ⊎ List·Memᴰ x l
+          → List·Memᴰ x (if s then a ∷ y ∷ l else if t then y ∷ upsert key a l else a ∷ l)
+      go true e t f ih (inl h) = List·Memᴰ·tail (List·Memᴰ·head h)
+      go true e t f ih (inr d) = List·Memᴰ·tail (List·Memᴰ·tail d)
+      go false e true f ih (inl h) = List·Memᴰ·head h
+      go false e true f ih (inr d) = List·Memᴰ·tail (ih d)
+      go false e false f ih (inl h) = List·Memᴰ·head (h ∙ sym (injective a y (lexLess-total (key a) (key y) e f)))
+      go false e false f ih (inr d) = List·Memᴰ·tail d
+
+  -- what is sorted has lost nothing
+  pub member-sortUnique : (x : A) (l : List A) → List·Memᴰ x l → List·Memᴰ x (sortUnique key l)
+  unfolding sortUnique
+  member-sortUnique x [] m = m
+  member-sortUnique x (a ∷ l) m =
+      ⊎-elim (λ (e : x ≡ a). Memᴰ·cast e (upsert-new key a (sortUnique key l))) (λ (d : List·Memᴰ x l). upsert-old x a (sortUnique key l) (member-sortUnique x l d)) (List·Memᴰ·cases-cons m)

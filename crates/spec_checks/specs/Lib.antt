@@ -1,0 +1,6 @@
+pub mod Finding
+pub mod Target
+pub mod PatchChecks
+pub mod SetChecks
+pub mod Findings
+pub mod Answer
