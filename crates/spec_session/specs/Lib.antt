@@ -1,0 +1,4 @@
+pub mod Session
+pub mod Diagnostics
+pub mod Lifecycle
+pub mod Batch

@@ -1,0 +1,1 @@
+// Sessions: creation, lifecycle and batches. The definitions stand in specs/; there is no code here.
