@@ -2,3 +2,7 @@ pub mod Session
 pub mod Diagnostics
 pub mod Lifecycle
 pub mod Batch
+pub mod DiagnosticsLaws
+pub mod BatchLaws
+pub mod ValidSession
+pub mod ValidSessionLaws
