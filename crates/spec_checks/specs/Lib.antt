@@ -6,3 +6,5 @@ pub mod Findings
 pub mod Answer
 pub mod Rules
 pub mod RulesLaws
+pub mod FindingsLaws
+pub mod PartsLaws

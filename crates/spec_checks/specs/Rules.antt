@@ -1,15 +1,19 @@
--- The rules of 01, 'Patch checks', as statements: what makes a record of three numbers a finding. RulesLaws proves that the checks
--- find exactly these.
-use Prim.Native.Nat.{ℕ, _+_, _≤_}
+-- The rules of 01, 'Patch checks', as statements: what makes a record of three numbers a finding, in what order findings are given, and
+-- where the check ends. RulesLaws and FindingsLaws prove that the checks do this.
+use Prim.Native.Nat.{ℕ, _+_, _≤_, _<_}
 use mathlib.Core.Path.{_≡_}
-use mathlib.Core.List.{List, [], _∷_, _++_, List·Memᴰ}
+use mathlib.Core.List.{List, [], _∷_, _++_, List·Memᴰ, List·Nodup}
 use mathlib.Core.Logic.{_≢_}
 use mathlib.Core.Option.{some}
 use lib.ListN.{length}
+use Rattle.spec_lists.specs.Lists.{All}
 use Rattle.spec_patch.specs.Sizes.{largestU64}
 use Rattle.spec_patch.specs.Patch.{Value, Operation, insert, move, Envelope, Patch}
 use Rattle.spec_checks.specs.Finding.{Finding, finding, brokenRevisionChain, collectionBeforeSelf, duplicateMutationTarget, duplicatePatchId, duplicateSequence, emptyOperations, mixedDocument, mixedEpoch, mixedStream, nonIncreasingRevision, outOfOrderSequence, sequenceOverflow, zeroPatchId, zeroStreamId}
 use Rattle.spec_checks.specs.Target.{mutationTarget}
+use Rattle.spec_checks.specs.PatchChecks.{patchFindings}
+use Rattle.spec_checks.specs.SetChecks.{setFindings}
+use Rattle.spec_checks.specs.Findings.{inPatch, inSet, Findings, CleanPatch}
 
 -- an operation that is to stand before its own key
 pub data BeforeSelf (o : Operation) : Type 0 where
@@ -42,3 +46,30 @@ pub data SetFinding (ps : List Patch) (f : Finding) : Type 0 where
   sameId : (a : List Patch) (p : Patch) (b : List Patch) → ps ≡ a ++ (p ∷ b) → (q : Patch) → List·Memᴰ q a → q .envelope .id ≡ p .envelope .id
       → f ≡ finding duplicatePatchId (p .envelope .id) (p .envelope .sequence) → SetFinding ps f
   neighbours : (a : List Patch) (q p : Patch) (b : List Patch) → ps ≡ a ++ (q ∷ p ∷ b) → PairFinding (q .envelope) (p .envelope) f → SetFinding ps f
+
+-- ---- order
+
+-- by kind, then domain, then secondary
+pub data Precedes (f g : Finding) : Type 0 where
+  byKind : f .kind < g .kind → Precedes f g
+  byDomain : f .kind ≡ g .kind → f .domain < g .domain → Precedes f g
+  bySecondary : f .kind ≡ g .kind → f .domain ≡ g .domain → f .secondary < g .secondary → Precedes f g
+
+abbrev pub Sorted : List Finding → Type 0
+Sorted [] = Unit {0}
+Sorted (f ∷ fs) = All (Precedes f) fs × Sorted fs
+
+-- what is given is what was found, sorted and without repeats
+pub record Reported (raw found : List Finding) : Type 0 where
+  pub sorted : Sorted found
+  pub nodup : List·Nodup found
+  pub only : (f : Finding) → List·Memᴰ f found → List·Memᴰ f raw
+  pub every : (f : Finding) → List·Memᴰ f raw → List·Memᴰ f found
+
+-- ---- the end of the check
+
+-- at the first patch with findings, or else at the set
+pub data Ended (ps : List Patch) (r : Findings) : Type 0 where
+  atPatch : (a : List Patch) (p : Patch) (b : List Patch) → ps ≡ a ++ (p ∷ b) → All CleanPatch a → patchFindings p ≢ []
+      → r ≡ record { place = inPatch (length a); found = patchFindings p } → Ended ps r
+  atSet : All CleanPatch ps → r ≡ record { place = inSet; found = setFindings ps } → Ended ps r
