@@ -2,7 +2,7 @@
 use Prim.Native.Nat.{ℕ}
 use Prim.Native.String.{String}
 use mathlib.Core.Bool.{Bool, true, false}
-use mathlib.Core.List.{List, [], _∷_}
+use mathlib.Core.List.{List, [], _∷_, _++_}
 
 -- the kinds, by their names in `ProjectionPatchDiagnosticKind`
 pub data Kind : Type 0 where
@@ -60,3 +60,8 @@ findingKey f = f .kind ∷ f .domain ∷ f .secondary ∷ []
 unfoldable pub report : Bool → Finding → List Finding
 report true f = f ∷ []
 report false f = []
+
+-- the findings of each element, given those before it, which stand nearest first
+unfoldable pub checkEach : {A : Type 0} → (List A → A → List Finding) → List A → List A → List Finding
+checkEach check earlier [] = []
+checkEach check earlier (x ∷ xs) = check earlier x ++ checkEach check (x ∷ earlier) xs

@@ -4,3 +4,7 @@ pub mod PatchChecks
 pub mod SetChecks
 pub mod Findings
 pub mod Answer
+pub mod Rules
+pub mod RulesLaws
+pub mod FindingsLaws
+pub mod PartsLaws

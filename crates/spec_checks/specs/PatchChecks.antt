@@ -1,13 +1,14 @@
 -- The findings of one patch, kinds 2, 3, 6, 10, 13 and 14: 01, 'Patch checks'; `validate_patch` of the Rust. Domain is the patch id.
-use Prim.Native.Nat.{ℕ, _+_}
+use Prim.Native.Nat.{ℕ}
 use mathlib.Core.Bool.{Bool, true, false}
-use mathlib.Core.List.{List, [], _∷_, _++_}
+use mathlib.Core.List.{List, [], _++_}
 use mathlib.Core.Option.{Option, none, some}
 use lib.Dec.{leb, eqb}
+use lib.ListN.{length}
 use Rattle.spec_lists.specs.Lists.{any, isEmpty}
 use Rattle.spec_lists.specs.Order.{sortUnique}
 use Rattle.spec_patch.specs.Patch.{Operation, setBinding, setAvailability, insert, update, remove, move, Envelope, Patch}
-use Rattle.spec_checks.specs.Finding.{Finding, finding, findingKey, report, collectionBeforeSelf, duplicateMutationTarget, emptyOperations, nonIncreasingRevision, zeroPatchId, zeroStreamId}
+use Rattle.spec_checks.specs.Finding.{Finding, finding, findingKey, report, checkEach, collectionBeforeSelf, duplicateMutationTarget, emptyOperations, nonIncreasingRevision, zeroPatchId, zeroStreamId}
 use Rattle.spec_checks.specs.Target.{sameTarget}
 
 -- the named neighbour is the key itself
@@ -24,16 +25,11 @@ beforeSelf (update collection key v) = false
 beforeSelf (remove collection key) = false
 beforeSelf (move collection key before) = isSelf key before
 
--- kinds 2 and 3 of the operation of index i after the earlier ones; secondary is the index
-unfoldable pub operationFindings : ℕ → ℕ → List Operation → Operation → List Finding
-operationFindings id i earlier o =
-    report (beforeSelf o) (finding collectionBeforeSelf id i)
-    ++ report (any (sameTarget o) earlier) (finding duplicateMutationTarget id i)
-
--- the operations from index i on, with the earlier ones nearest first
-unfoldable pub operationsFindings : ℕ → ℕ → List Operation → List Operation → List Finding
-operationsFindings id i earlier [] = []
-operationsFindings id i earlier (o ∷ os) = operationFindings id i earlier o ++ operationsFindings id (i + 1) (o ∷ earlier) os
+-- kinds 2 and 3 of an operation after the earlier ones; secondary is its index from 0
+unfoldable pub operationFindings : ℕ → List Operation → Operation → List Finding
+operationFindings id earlier o =
+    report (beforeSelf o) (finding collectionBeforeSelf id (length earlier))
+    ++ report (any (sameTarget o) earlier) (finding duplicateMutationTarget id (length earlier))
 
 -- kinds 10, 13 and 14; secondary is 0
 unfoldable pub envelopeFindings : Envelope → List Finding
@@ -48,7 +44,7 @@ rawPatchFindings p =
     let id = p .envelope .id in
     report (isEmpty (p .operations)) (finding emptyOperations id 0)
     ++ (envelopeFindings (p .envelope)
-    ++ operationsFindings id 0 [] (p .operations))
+    ++ checkEach (operationFindings id) [] (p .operations))
 
 -- sorted without repeats
 unfoldable pub patchFindings : Patch → List Finding

@@ -7,7 +7,7 @@ use Rattle.spec_lists.specs.Lists.{if_then_else_, any}
 use Rattle.spec_lists.specs.Order.{sortUnique}
 use Rattle.spec_patch.specs.Sizes.{largestU64}
 use Rattle.spec_patch.specs.Patch.{Envelope, Patch}
-use Rattle.spec_checks.specs.Finding.{Finding, finding, findingKey, report, brokenRevisionChain, duplicatePatchId, duplicateSequence, mixedDocument, mixedEpoch, mixedStream, outOfOrderSequence, sequenceOverflow}
+use Rattle.spec_checks.specs.Finding.{Finding, finding, findingKey, report, checkEach, brokenRevisionChain, duplicatePatchId, duplicateSequence, mixedDocument, mixedEpoch, mixedStream, outOfOrderSequence, sequenceOverflow}
 
 -- kinds 12, 5 and 11, and 1 where none of these is found: patch e after patch q. Kind 12 carries q's id and sequence.
 unfoldable pub sequenceFindings : Envelope → Envelope → List Finding
@@ -25,26 +25,23 @@ pairFindings q e =
     ++ (report (not (eqb (e .stream) (q .stream))) (finding mixedStream (e .id) (q .id))
     ++ sequenceFindings q e))
 
--- against the patch just before, which stands first among the earlier ones; the first patch has none
-unfoldable pub previousFindings : List Envelope → Envelope → List Finding
-previousFindings [] e = []
-previousFindings (q ∷ earlier) e = pairFindings q e
+-- kind 4: an earlier patch, whichever, has the id; secondary is the sequence
+unfoldable pub duplicateIdFindings : List Patch → Patch → List Finding
+duplicateIdFindings earlier p =
+    let e = p .envelope in
+    report (any (λ (q : Patch). eqb (q .envelope .id) (e .id)) earlier) (finding duplicatePatchId (e .id) (e .sequence))
 
--- kind 4: an earlier patch, whichever, has the id
-unfoldable pub duplicateIdFindings : List Envelope → Envelope → List Finding
-duplicateIdFindings earlier e = report (any (λ (q : Envelope). eqb (q .id) (e .id)) earlier) (finding duplicatePatchId (e .id) (e .sequence))
+-- against the patch just before, the nearest of the earlier ones; the first patch has none
+unfoldable pub previousFindings : List Patch → Patch → List Finding
+previousFindings [] p = []
+previousFindings (q ∷ earlier) p = pairFindings (q .envelope) (p .envelope)
 
--- the patches after the earlier ones, which stand nearest first
-unfoldable pub findingsAfter : List Envelope → List Patch → List Finding
-findingsAfter earlier [] = []
-findingsAfter earlier (p ∷ ps) =
-    duplicateIdFindings earlier (p .envelope)
-    ++ (previousFindings earlier (p .envelope)
-    ++ findingsAfter (p .envelope ∷ earlier) ps)
+unfoldable pub afterFindings : List Patch → Patch → List Finding
+afterFindings earlier p = duplicateIdFindings earlier p ++ previousFindings earlier p
 
 -- the set, in the order of the checks
 unfoldable pub rawSetFindings : List Patch → List Finding
-rawSetFindings ps = findingsAfter [] ps
+rawSetFindings ps = checkEach afterFindings [] ps
 
 -- sorted without repeats
 unfoldable pub setFindings : List Patch → List Finding

@@ -1,8 +1,11 @@
 -- Laws of tests, and of properties of all elements.
-use mathlib.Core.Path.{_≡_, refl, sym, ap, _∙_}
+use mathlib.Core.Path.{_≡_, refl, sym, ap, _∙_, subst}
 use mathlib.Core.Bool.{Bool, true, false, _&&_, _||_}
-use mathlib.Core.List.{List, [], _∷_, _++_, append-assoc, flatMap, List·Memᴰ, List·Memᴰ·head, List·Memᴰ·tail}
+use mathlib.Core.List.{List, [], _∷_, _++_, append-assoc, flatMap, reverse, reverse-cons, reverse-reverse}
+use mathlib.Core.List.{List·Memᴰ, List·Memᴰ·head, List·Memᴰ·tail, List·Memᴰ·append-cases, List·Memᴰ·eq-of-singleton}
+use mathlib.Core.Logic.{⊎-elim}
 use Prim.Native.Nat.{ℕ}
+use native.Mathlib.Omega.{arith}
 use lib.Dec.{T, eqb}
 use borrow.Author.Tests.{eqb-true}
 use Rattle.spec_lists.specs.Lists.{all, any, equalLists, isEmpty, All}
@@ -104,3 +107,31 @@ test-cases false holds fails = fails refl
 pub all-member : {A : Type 0} (P : A → Type 0) {x : A} (l : List A) → All P l → List·Memᴰ x l → P x
 all-member P (y ∷ l) h (List·Memᴰ·head e) = rw e (h .0)
 all-member P (y ∷ l) h (List·Memᴰ·tail m) = all-member P l (h .1) m
+
+-- a list without members is empty
+pub no-members : {A : Type 0} (l : List A) → ((x : A) → List·Memᴰ x l → ⊥) → l ≡ []
+no-members [] h = refl
+no-members (x ∷ l) h = absurd (h x (List·Memᴰ·head refl))
+
+-- some element passes the test exactly if a member does
+pub any-member : {A : Type 0} (test : A → Bool) (l : List A) → any test l ≡ true → (x : A) × List·Memᴰ x l × (test x ≡ true)
+any-member test [] e = let z : _≡_ {A = ℕ} 0 1 = cc in absurd (omega arith)
+any-member {A} test (x ∷ l) e = go (test x) refl (any-member test l) e
+  where
+    go : (t : Bool) → test x ≡ t → (any test l ≡ true → (y : A) × List·Memᴰ y l × (test y ≡ true)) → (t || any test l) ≡ true → (y : A) × List·Memᴰ y (x ∷ l) × (test y ≡ true)
+    go true f ih e = (x, List·Memᴰ·head refl, f)
+    go false f ih e = let found = ih e in (found .0, List·Memᴰ·tail (found .1), found .2)
+
+pub member-any : {A : Type 0} (test : A → Bool) {x : A} (l : List A) → List·Memᴰ x l → test x ≡ true → any test l ≡ true
+member-any test (y ∷ l) (List·Memᴰ·head e) h = rw (ap test (sym e) ∙ h)
+member-any test (y ∷ l) (List·Memᴰ·tail m) h = or-true (test y) (any test l) (member-any test l m h)
+
+-- a reversed list has the same members
+pub reverse-member : {A : Type 0} {x : A} (l : List A) → List·Memᴰ x (reverse l) → List·Memᴰ x l
+reverse-member [] m = m
+reverse-member {x} (y ∷ l) m =
+    ⊎-elim (λ (n : List·Memᴰ x (reverse l)). List·Memᴰ·tail (reverse-member l n)) (λ (n : List·Memᴰ x (y ∷ [])). List·Memᴰ·head (List·Memᴰ·eq-of-singleton n))
+    (List·Memᴰ·append-cases (reverse l) (subst (List·Memᴰ x) (reverse-cons y l) m))
+
+pub member-reverse : {A : Type 0} {x : A} (l : List A) → List·Memᴰ x l → List·Memᴰ x (reverse l)
+member-reverse {x} l m = reverse-member (reverse l) (subst (List·Memᴰ x) (sym (reverse-reverse l)) m)

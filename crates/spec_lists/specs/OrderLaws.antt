@@ -14,7 +14,7 @@ use Rattle.spec_lists.specs.ListLaws.{all-member}
 use Rattle.spec_lists.specs.Order.{lexLess, upsert, sortUnique, Ascending}
 
 -- what `lexLess` says of two keys with a first number each
-lexLess-cases : (x y : ℕ) (xs ys : List ℕ) → lexLess (x ∷ xs) (y ∷ ys) ≡ true → (x < y) ⊎ ((x ≡ y) × (lexLess xs ys ≡ true))
+pub lexLess-cases : (x y : ℕ) (xs ys : List ℕ) → lexLess (x ∷ xs) (y ∷ ys) ≡ true → (x < y) ⊎ ((x ≡ y) × (lexLess xs ys ≡ true))
 unfolding lexLess
 lexLess-cases x y xs ys h = go (ltb x y) refl (eqb x y) refl h
   where
@@ -23,11 +23,11 @@ lexLess-cases x y xs ys h = go (ltb x y) refl (eqb x y) refl h
     go false e true f h = inr (eqb-true x y f, h)
     go false e false f h = let z : _≡_ {A = ℕ} 0 1 = cc in absurd (omega arith)
 
-lexLess-less : (x y : ℕ) (xs ys : List ℕ) → x < y → lexLess (x ∷ xs) (y ∷ ys) ≡ true
+pub lexLess-less : (x y : ℕ) (xs ys : List ℕ) → x < y → lexLess (x ∷ xs) (y ∷ ys) ≡ true
 unfolding lexLess
 lexLess-less x y xs ys h = rw (lt-ltb x y h)
 
-lexLess-same : (x y : ℕ) (xs ys : List ℕ) → x ≡ y → lexLess xs ys ≡ true → lexLess (x ∷ xs) (y ∷ ys) ≡ true
+pub lexLess-same : (x y : ℕ) (xs ys : List ℕ) → x ≡ y → lexLess xs ys ≡ true → lexLess (x ∷ xs) (y ∷ ys) ≡ true
 unfolding lexLess
 lexLess-same x y xs ys e h = rw (eq-eqb x y e, h) (or-true (ltb x y))
   where
