@@ -1,2 +1,4 @@
 pub mod Splitting
 pub mod Passing
+pub mod Runs
+pub mod Theorem

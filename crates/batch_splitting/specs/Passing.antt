@@ -17,8 +17,8 @@ use Rattle.spec_patch.specs.Fits.{Fits, InRange}
 use Rattle.spec_patch.specs.FitsLaws.{fits-left, fits-right}
 use Rattle.spec_patch.specs.SetLaws.{reads-back, patches-inj}
 use Rattle.spec_patch.specs.StrictLaws.{fits-if-read}
-use Rattle.spec_checks.specs.Findings.{findings}
-use Rattle.spec_checks.specs.PartsLaws.{Clean, clean-left, clean-right, clean-of-findings, findings-of-clean}
+use Rattle.spec_checks.specs.Findings.{findings, Clean}
+use Rattle.spec_checks.specs.PartsLaws.{clean-left, clean-right, clean-of-findings, findings-of-clean}
 use Rattle.spec_projection.specs.Apply.{operationsOf}
 use Rattle.spec_projection.specs.ApplyLaws.{operationsOf-append}
 use Rattle.spec_session.specs.Session.{Limits, Catalogue, Session}
@@ -109,9 +109,9 @@ passes-of-checks s n p ps r h =
       record {
         acceptable = record {
           fits = f;
-          clean = clean-of-findings (p .patches) (rw same at (isEmpty-true _ (c .clean)));
+          clean = clean-of-findings (p .patches) (rw same at (isEmpty-true (findings ps .found) (c .clean)));
           few = leb-true (length (p .patches)) (s .limits .patches) (and-left _ _ limits);
-          references = rw same at (leb-true _ _ (c .fewReferences));
+          references = rw same at (leb-true (length (operationsOf ps)) (s .limits .references) (c .fewReferences));
           known = rw same at (c .targets);
         };
         isOpen = not-true _ (c .isOpen);
