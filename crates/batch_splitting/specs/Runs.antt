@@ -17,7 +17,7 @@ use Rattle.spec_projection.specs.ApplyLaws.{done-injective, stopped-not-done, a
 use Rattle.spec_session.specs.Session.{Cursor, at, Session}
 use Rattle.spec_session.specs.Diagnostics.{ofOperation, diagnosticsOf}
 use Rattle.spec_session.specs.Lifecycle.{isClosed}
-use Rattle.spec_session.specs.Batch.{takesNumber, rejectBatch, advanced, applyBatch, commit, concludeBatch, batch}
+use Rattle.spec_session.specs.Batch.{takesNumber, rejectBatch, advanced, applyBatch, candidate, commit, concludeBatch, batch}
 use Rattle.batch_splitting.specs.Splitting.{Piece, envelopeOf, references, send, Run, isRejected, continue, sendAll, patchesOf, Applies, AlikeBeside, cursorAfter, StopsAtPiece}
 use Rattle.batch_splitting.specs.Passing.{Acceptable, acceptable-left, acceptable-right, Passes, checks-pass}
 
@@ -99,13 +99,13 @@ cursor-next c n (suc k) = ap at (omega arith)
 
 pub send-done : (s : Session) (n : ℕ) (p : Piece) (q : Projection) → Passes s n p → 0 < length (p .patches)
     → applySteps (s .projection) (replaySteps (p .patches)) ≡ done q → send s n p ≡ applyBatch s n q
-unfolding send batch concludeBatch commit envelopeOf
+unfolding send batch concludeBatch candidate commit envelopeOf
 send-done s n p q h k e =
     rw (checks-pass s n p h, e, ne-eqb (length (p .patches)) 0 (λ z. omega arith))
 
 pub send-stopped : (s : Session) (n : ℕ) (p : Piece) (f : OperationFault) → Passes s n p
     → applySteps (s .projection) (replaySteps (p .patches)) ≡ stopped f → send s n p ≡ rejectBatch s (ofOperation f) 1
-unfolding send batch concludeBatch commit
+unfolding send batch concludeBatch candidate commit
 send-stopped s n p f h e = rw (checks-pass s n p h, e)
 
 -- ---- a list of pieces

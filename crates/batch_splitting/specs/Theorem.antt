@@ -1,15 +1,14 @@
 -- The theorem on split batches: 01, 'Whole and pieces', over every session, sequence number, patch list and list of pieces cut from it.
 use Prim.Native.Nat.{ℕ, zero, suc, _+_, _-_, _≤_, _<_}
 use mathlib.Core.Path.{_≡_, refl, sym, ap, _∙_}
-use mathlib.Core.Bool.{Bool, true, false, _||_}
+use mathlib.Core.Bool.{_||_}
 use mathlib.Core.List.{List, [], _∷_, _++_, flatMap}
 use native.Mathlib.Omega.{arith}
-use borrow.Author.Tests.{ne-eqb, eqb-false}
+use borrow.Author.Tests.{ne-eqb}
 use lib.Dec.{eqb}
 use lib.ListN.{length, length-append}
-use Rattle.spec_lists.specs.Lists.{if_then_else_, All}
+use Rattle.spec_lists.specs.Lists.{All}
 use Rattle.spec_lists.specs.ListLaws.{or-second}
-use Rattle.spec_patch.specs.Patch.{Patch}
 use Rattle.spec_patch.specs.Edition.{v1}
 use Rattle.spec_patch.specs.Encode.{encode}
 use Rattle.spec_projection.specs.Projection.{Projection}
@@ -17,8 +16,8 @@ use Rattle.spec_projection.specs.Apply.{OperationFault, Outcome, done, stopped,
 use Rattle.spec_projection.specs.ApplyLaws.{stopped-not-done, failure}
 use Rattle.spec_session.specs.Session.{Cursor, at, Session}
 use Rattle.spec_session.specs.Diagnostics.{ofOperation, diagnosticsOf}
-use Rattle.spec_session.specs.Lifecycle.{applied, rejected}
-use Rattle.spec_session.specs.Batch.{Check, pass, refuse, batchChecks, takesNumber, rejectBatch, keepSession, advanced, applyBatch, commit, concludeBatch, batch}
+use Rattle.spec_session.specs.Batch.{takesNumber, rejectBatch, advanced, applyBatch, candidate, commit, concludeBatch, batch}
+use Rattle.spec_session.specs.BatchLaws.{Applied, batch-applied}
 use Rattle.batch_splitting.specs.Splitting.{Piece, envelopeOf, references, send, Run, sendAll, patchesOf, Given, Applies, AlikeBeside, AllApply, FailsAtOperation, cursorAfter, StopsAtPiece, WholeAndPieces}
 use Rattle.batch_splitting.specs.Passing.{Passes, passes-of-checks}
 use Rattle.batch_splitting.specs.Runs.{Ready, ready-passes, ready-next, goes-on, stops, ran-on, first-place, later-place, cursor-next, send-done, send-stopped, sendAll-done, sendAll-stopped, beside-refl, beside-advanced, Ends, run-applies}
@@ -119,41 +118,6 @@ run-stops (p ∷ ps) s n f r e whole cut = go (applySteps (s .projection) (repla
         stops-first p ps s n f r (g ∙ ap stopped same) whole cut
     go (done q) g ih = stops-later p ps s n f r q g (together ps) refl (ih q g) whole cut
 
--- ---- a batch that applies
-
-record AppliedBy (s : Session) (n : ℕ) (p : Piece) : Type 0 where
-  patches : List Patch
-  passes : batchChecks s (envelopeOf s n p) (references p) (encode v1 (p .patches)) ≡ pass patches
-  result : Projection
-  runs : applySteps (s .projection) (replaySteps patches) ≡ done result
-  nonEmpty : 0 < length (p .patches)
-  sends : send s n p ≡ applyBatch s n result
-
-pos-of-ne : {k : ℕ} → (k ≡ 0 → ⊥) → 0 < k
-pos-of-ne {k = zero} h = absurd (h refl)
-pos-of-ne {k = suc k} h = omega arith
-
-applied-inversion : (s : Session) (n : ℕ) (p : Piece) → Applies (send s n p .answer) → AppliedBy s n p
-unfolding send batch concludeBatch commit envelopeOf rejectBatch keepSession
-applied-inversion s n p a = by-checks (batchChecks s (envelopeOf s n p) (references p) (encode v1 (p .patches))) refl a
-  where
-    by-count : (ps : List Patch) (q : Projection) → batchChecks s (envelopeOf s n p) (references p) (encode v1 (p .patches)) ≡ pass ps
-        → applySteps (s .projection) (replaySteps ps) ≡ done q
-        → (t : Bool) → eqb (length (p .patches)) 0 ≡ t → (if t then keepSession s else applyBatch s n q) .answer .disposition ≡ applied → AppliedBy s n p
-    by-count ps q c e true z a = absurd (let w : _≡_ {A = ℕ} 0 1 = cc in omega arith)
-    by-count ps q c e false z a =
-        record { patches = ps; passes = c; result = q; runs = e; nonEmpty = pos-of-ne (eqb-false (length (p .patches)) 0 z); sends = rw (c, e, z) }
-
-    by-outcome : (ps : List Patch) (x : Outcome) → batchChecks s (envelopeOf s n p) (references p) (encode v1 (p .patches)) ≡ pass ps
-        → applySteps (s .projection) (replaySteps ps) ≡ x → commit s (envelopeOf s n p) x .answer .disposition ≡ applied → AppliedBy s n p
-    by-outcome ps (stopped m) c e a = absurd (let w : _≡_ {A = ℕ} 0 1 = cc in omega arith)
-    by-outcome ps (done q) c e a = by-count ps q c e (eqb (length (p .patches)) 0) refl a
-
-    by-checks : (c : Check (List Patch)) → batchChecks s (envelopeOf s n p) (references p) (encode v1 (p .patches)) ≡ c
-        → concludeBatch s (envelopeOf s n p) c .answer .disposition ≡ applied → AppliedBy s n p
-    by-checks (refuse m t) c a = absurd (let w : _≡_ {A = ℕ} 0 1 = cc in omega arith)
-    by-checks (pass ps) c a = by-outcome ps (applySteps (s .projection) (replaySteps ps)) c refl a
-
 -- ---- the theorem
 
 patches-length : (pieces : List Piece) → 0 < length pieces → All (λ (p : Piece). 0 < length (p .patches)) pieces → 0 < length (patchesOf pieces)
@@ -182,26 +146,35 @@ ready s n whole pieces g h = record {
   numbers = g .numbers;
 }
 
+-- a piece that applied is a batch that was applied
+send-applied : (s : Session) (n : ℕ) (p : Piece) → Applies (send s n p .answer) → Applied s (envelopeOf s n p) (references p) (encode v1 (p .patches))
+unfolding send
+send-applied s n p a = batch-applied s (envelopeOf s n p) (references p) (encode v1 (p .patches)) a
+
+pos-of-ne : {k : ℕ} → (k ≡ 0 → ⊥) → 0 < k
+pos-of-ne {k = zero} h = absurd (h refl)
+pos-of-ne {k = suc k} h = omega arith
+
 all-apply : (s : Session) (n : ℕ) (whole : Piece) (pieces : List Piece) → Given s n whole pieces
     → Applies (send s n whole .answer) → AllApply n (send s n whole) pieces (sendAll s n pieces)
-unfolding applyBatch advanced
+unfolding applyBatch advanced send envelopeOf
 all-apply s n whole pieces g a =
-    let i = applied-inversion s n whole a in
+    let i = send-applied s n whole a in
     let h = passes-of-checks s n whole (i .patches) (g .inRange) (i .passes) in
     let e : applySteps (s .projection) (replaySteps (patchesOf pieces)) ≡ done (i .result) = ap (λ ps. applySteps (s .projection) (replaySteps ps)) (g .cut ∙ sym (h .1)) ∙ i .runs in
     let w = run-applies pieces s n (i .result) (ready s n whole pieces g (h .0)) e in
-    rw (i .sends)
+    rw (i .step)
     (record {
       sent = w .sent;
       apply = w .apply;
       beside = record { id = w .beside .id; limits = w .beside .limits; catalogue = w .beside .catalogue; lifecycle = w .beside .lifecycle };
       projection = w .projection;
-      cursor = w .cursor ∙ cursor-last (s .cursor) n (length pieces) (some-pieces pieces (rw (g .cut) (i .nonEmpty)));
+      cursor = w .cursor ∙ cursor-last (s .cursor) n (length pieces) (some-pieces pieces (rw (g .cut) (pos-of-ne (i .nonEmpty))));
     })
 
 stop-there : (s : Session) (n : ℕ) (whole : Piece) (pieces : List Piece) → Given s n whole pieces
     → (f : FailsAtOperation s n whole) → StopsAtPiece s n whole (f .fault) (send s n whole .answer .diagnostics) pieces (sendAll s n pieces)
-unfolding send batch concludeBatch commit rejectBatch
+unfolding send batch concludeBatch candidate commit rejectBatch
 stop-there s n whole pieces g f =
     let h = passes-of-checks s n whole (f .patches) (g .inRange) (f .passes) in
     let e : applySteps (s .projection) (replaySteps (patchesOf pieces)) ≡ stopped (f .fault) = ap (λ ps. applySteps (s .projection) (replaySteps ps)) (g .cut ∙ sym (h .1)) ∙ f .fails in

@@ -1,5 +1,6 @@
 -- Reading a set: 01, 'Canonical bytes' and step 4. The first fault in reading decides.
 use Prim.Native.Nat.{ℕ}
+use mathlib.Core.Bool.{Bool}
 use mathlib.Core.List.{List, [], _∷_}
 use mathlib.Core.Option.{Option, none, some}
 use lib.Dec.{leb}
@@ -26,9 +27,12 @@ readU64 = number 8
 abbrev pub readI64 : Reader ℤ
 readI64 = mapped (toZ w64) readU64
 
+abbrev pub withinCapacity : ℕ → ℕ → Bool
+withinCapacity capacity n = leb n capacity
+
 -- a count or a length; over its capacity is 12 at its field, before what follows is read
 abbrev pub readCount : ℕ → Reader ℕ
-readCount capacity = checked (λ n. leb n capacity) overCapacity readU32
+readCount capacity = checked (withinCapacity capacity) overCapacity readU32
 
 -- a list behind its count
 abbrev pub readCounted : {A : Type 0} → ℕ → Reader A → Reader (List A)

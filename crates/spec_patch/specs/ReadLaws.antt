@@ -20,7 +20,7 @@ use Rattle.spec_patch.specs.Patch.{Quad, N, F, T, S, Availability, avail
 use Rattle.spec_patch.specs.Edition.{Edition, hasKind}
 use Rattle.spec_patch.specs.Encode.{u32, u64, encodeOptional, quadByte, availabilityByte, encodeText, kindOf, valueBody, encodeValue, encodeOperation, encodeEnvelope, encodeCounted, encodePatch, heading, encode}
 use Rattle.spec_patch.specs.Reader.{malformed, overCapacity, Result, read, refused, Reader, onward, followed, mapped, pair, checked, many, bytes, literal}
-use Rattle.spec_patch.specs.Read.{readU32, readU64, readI64, readCount, readCounted, optionalAfter, readOptional, quadAfter, readQuad, availabilityAfter, readAvailability, readText, valueAfter, inEdition, readValue, toSetBinding, toSetAvailability, toInsert, toUpdate, toRemove, toMove, operationAfter, readOperation, toEnvelope, readEnvelope, toPatch, readPatch, readPatches}
+use Rattle.spec_patch.specs.Read.{readU32, readU64, readI64, withinCapacity, readCount, readCounted, optionalAfter, readOptional, quadAfter, readQuad, availabilityAfter, readAvailability, readText, valueAfter, inEdition, readValue, toSetBinding, toSetAvailability, toInsert, toUpdate, toRemove, toMove, operationAfter, readOperation, toEnvelope, readEnvelope, toPatch, readPatch, readPatches}
 use Rattle.spec_patch.specs.Fits.{U64, U32, OptionalU64, OperationHolds, InRangeEnvelope, FitsText, Storable, FitsValue, FitsOperation, FitsPatch}
 use Rattle.spec_patch.specs.Codec.{Codec, never, Passed, if-read, nothing-codec, bytes-codec, number-codec, iso-codec, checked-codec, good-codec, followed-codec, pair-codec, many-codec, literal-codec, OnlyAfter, only-none, only-tag, back-after, tag-codec}
 
@@ -42,7 +42,7 @@ i64-codec =
 
 pub count-codec : (capacity : ℕ) → capacity < 2 ^ 32 → Codec u32 (λ (n : ℕ). n ≤ capacity) (readCount capacity)
 count-codec capacity small =
-    good-codec (checked-codec u32-codec (λ n. leb n capacity) overCapacity) (λ n. n ≤ capacity)
+    good-codec (checked-codec u32-codec (withinCapacity capacity) overCapacity) (λ n. n ≤ capacity)
     (λ n g. (omega arith, le-leb n capacity g))
     (λ n g. leb-true n capacity (g .1))
 

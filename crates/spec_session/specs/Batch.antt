@@ -117,14 +117,18 @@ advanced s n p = record { id = s .id; limits = s .limits; catalogue = s .catalog
 unfoldable pub applyBatch : Session → ℕ → Projection → BatchStep
 applyBatch s n p = record { next = advanced s n p; answer = record { disposition = applied; diagnostics = noDiagnostics; cursor = at n } }
 
--- step 9 and the answer: the first operation that fails gives 8 or 9, and the copy is dropped
+-- step 9: all operations apply in order to a copy; the first that fails ends it
+unfoldable pub candidate : Session → List Patch → Outcome
+candidate s ps = applySteps (s .projection) (replaySteps ps)
+
+-- a failed operation gives 8 or 9, and the copy is dropped
 unfoldable pub commit : Session → BatchEnvelope → Outcome → BatchStep
 commit s e (stopped f) = rejectBatch s (ofOperation f) 1
 commit s e (done p) = if eqb (e .patches) 0 then keepSession s else applyBatch s (e .sequence) p
 
 unfoldable pub concludeBatch : Session → BatchEnvelope → Check (List Patch) → BatchStep
 concludeBatch s e (refuse r n) = rejectBatch s r n
-concludeBatch s e (pass ps) = commit s e (applySteps (s .projection) (replaySteps ps))
+concludeBatch s e (pass ps) = commit s e (candidate s ps)
 
 -- one batch: the envelope, the declared count of target references, the bytes of a set
 unfoldable pub batch : Session → BatchEnvelope → ℕ → List ℕ → BatchStep

@@ -1,10 +1,11 @@
--- What follows from steps 1 to 8 that passed, and that a batch that is not applied leaves the session as it was.
+-- What follows from steps 1 to 8 that passed; a batch that is applied has run all its operations, and any other leaves the session as it
+-- was.
 use Prim.Native.Nat.{ℕ}
 use mathlib.Core.Path.{_≡_, refl, sym, ap, _∙_}
 use mathlib.Core.Bool.{Bool, true, false, not, _&&_, _||_}
 use mathlib.Core.List.{List}
 use native.Mathlib.Omega.{arith}
-use borrow.Author.Tests.{eqb-true}
+use borrow.Author.Tests.{eqb-true, eqb-false}
 use lib.Dec.{leb, eqb}
 use lib.ListN.{length}
 use Rattle.spec_lists.specs.Lists.{if_then_else_, isEmpty}
@@ -17,7 +18,7 @@ use Rattle.spec_projection.specs.Apply.{Outcome, done, stopped, applySteps, rep
 use Rattle.spec_session.specs.Session.{Session}
 use Rattle.spec_session.specs.Diagnostics.{SessionRefusal, sessionMismatch, sessionClosed, limitExceeded, countsDiffer, unknownTarget, cursorMismatch, checksFailed}
 use Rattle.spec_session.specs.Lifecycle.{isClosed, Disposition, applied, noChange, rejected}
-use Rattle.spec_session.specs.Batch.{BatchEnvelope, BatchStep, Check, pass, refuse, _>>=_, _>>_, require, readable, absentTargets, knownTargets, takesNumber, batchChecks, rejectBatch, keepSession, applyBatch, commit, concludeBatch, batch}
+use Rattle.spec_session.specs.Batch.{BatchEnvelope, BatchStep, Check, pass, refuse, _>>=_, _>>_, require, readable, absentTargets, knownTargets, takesNumber, batchChecks, rejectBatch, keepSession, applyBatch, candidate, commit, concludeBatch, batch}
 
 -- ---- one check
 
@@ -105,4 +106,36 @@ batch-unchanged s e references set h = by-checks (batchChecks s e references set
 
     by-checks : (c : Check (List Patch)) → (concludeBatch s e c .answer .disposition ≡ applied → ⊥) → concludeBatch s e c .next ≡ s
     by-checks (refuse r n) h = refl
-    by-checks (pass ps) h = by-outcome (applySteps (s .projection) (replaySteps ps)) h
+    by-checks (pass ps) h = by-outcome (candidate s ps) h
+
+-- ---- a batch that is applied
+
+-- all its patches' operations ran, the projection is what they left, and the cursor stands at the batch's number
+pub record Applied (s : Session) (e : BatchEnvelope) (references : ℕ) (set : List ℕ) : Type 0 where
+  pub patches : List Patch
+  pub passes : batchChecks s e references set ≡ pass patches
+  pub result : Projection
+  pub runs : applySteps (s .projection) (replaySteps patches) ≡ done result
+  pub nonEmpty : e .patches ≡ 0 → ⊥
+  pub step : batch s e references set ≡ applyBatch s (e .sequence) result
+
+pub batch-applied : (s : Session) (e : BatchEnvelope) (references : ℕ) (set : List ℕ) → batch s e references set .answer .disposition ≡ applied → Applied s e references set
+unfolding batch concludeBatch candidate commit rejectBatch keepSession
+batch-applied s e references set a = by-checks (batchChecks s e references set) refl a
+  where
+    never : {C : Type 0} {d : Disposition} → d ≡ rejected → d ≡ applied → C
+    never p q = absurd (let z : _≡_ {A = ℕ} 0 1 = cc in omega arith)
+
+    by-count : (ps : List Patch) (q : Projection) → batchChecks s e references set ≡ pass ps → applySteps (s .projection) (replaySteps ps) ≡ done q
+        → (t : Bool) → eqb (e .patches) 0 ≡ t → (if t then keepSession s else applyBatch s (e .sequence) q) .answer .disposition ≡ applied → Applied s e references set
+    by-count ps q c r true z a = absurd (let w : _≡_ {A = ℕ} 0 1 = cc in omega arith)
+    by-count ps q c r false z a = record { patches = ps; passes = c; result = q; runs = r; nonEmpty = eqb-false (e .patches) 0 z; step = rw (c, r, z) }
+
+    by-outcome : (ps : List Patch) (x : Outcome) → batchChecks s e references set ≡ pass ps → applySteps (s .projection) (replaySteps ps) ≡ x
+        → commit s e x .answer .disposition ≡ applied → Applied s e references set
+    by-outcome ps (stopped f) c r a = never refl a
+    by-outcome ps (done q) c r a = by-count ps q c r (eqb (e .patches) 0) refl a
+
+    by-checks : (c : Check (List Patch)) → batchChecks s e references set ≡ c → concludeBatch s e c .answer .disposition ≡ applied → Applied s e references set
+    by-checks (refuse r n) c a = never refl a
+    by-checks (pass ps) c a = by-outcome ps (applySteps (s .projection) (replaySteps ps)) c refl a

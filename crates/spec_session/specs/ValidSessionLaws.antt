@@ -25,7 +25,7 @@ use Rattle.spec_session.specs.Session.{Lifecycle, Limits, Catalogue, Ses
 use Rattle.spec_session.specs.Diagnostics.{sessionClosed, wrongLifecycle, limitExceeded}
 use Rattle.spec_session.specs.Lifecycle.{Stimulus, Disposition, applied, LifecycleStep, isClosed, transition, dispositionOf, withLifecycle, rejectLifecycle, enterLifecycle, lifecycleStep}
 use Rattle.spec_session.specs.Lifecycle as lifecycle
-use Rattle.spec_session.specs.Batch.{BatchEnvelope, Check, pass, refuse, batchChecks, rejectBatch, keepSession, advanced, applyBatch, commit, concludeBatch, batch}
+use Rattle.spec_session.specs.Batch.{BatchEnvelope, Check, pass, refuse, batchChecks, rejectBatch, keepSession, advanced, applyBatch, candidate, commit, concludeBatch, batch}
 use Rattle.spec_session.specs.BatchLaws.{checks-passed}
 use Rattle.spec_session.specs.ValidSession.{CursorFits, LimitsFit, AnchorsInRange, FewAnchors, ValidSession}
 
@@ -94,7 +94,7 @@ lifecycleStep-unchanged s u b =
 
 -- with bytes, and a sequence number that is a u64
 pub batch-valid : (s : Session) (e : BatchEnvelope) (references : ℕ) (set : List ℕ) → Bytes set → U64 (e .sequence) → ValidSession s → ValidSession (batch s e references set .next)
-unfolding batch concludeBatch commit rejectBatch keepSession applyBatch advanced
+unfolding batch concludeBatch candidate commit rejectBatch keepSession applyBatch advanced
 batch-valid s e references set b n v = by-checks (batchChecks s e references set) refl
   where
     by-count : (t : Bool) (q : Projection) → Valid q → ValidSession ((if t then keepSession s else applyBatch s (e .sequence) q) .next)

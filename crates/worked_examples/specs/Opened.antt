@@ -181,6 +181,7 @@ unfolding
     Rattle.spec_session.specs.Batch.keepSession
     Rattle.spec_session.specs.Batch.advanced
     Rattle.spec_session.specs.Batch.applyBatch
+    Rattle.spec_session.specs.Batch.candidate
     Rattle.spec_session.specs.Batch.commit
     Rattle.spec_session.specs.Batch.concludeBatch
     Rattle.spec_session.specs.Batch.batch
