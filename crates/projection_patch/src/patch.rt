@@ -1,0 +1,135 @@
+// What a patch is made of. After crates/prom-ui/src/projection_patch.rs.
+ghost use mathlib.Core.Path.{_≡_};
+use crate::binding_graph::BindingTarget;
+use crate::contract_primitives::CollectionKey;
+use crate::contract_primitives::Epoch;
+use crate::contract_primitives::Revision;
+use crate::contract_primitives::StaticDocumentId;
+use crate::contract_primitives::StaticNodeId;
+use crate::contract_primitives::StaticSurfaceId;
+
+// A patch; finding 13 reports 0.
+pub struct ProjectionPatchId(u64);
+
+impl ProjectionPatchId {
+    pub fn new(raw: u64) -> ProjectionPatchId
+        ensures { λ r. ⌜ r .0 ≡ raw ⌝ }
+    {
+        ProjectionPatchId(raw)
+    }
+
+    pub fn raw(self) -> u64
+        ensures { λ r. ⌜ r ≡ self .0 ⌝ }
+    {
+        self.0
+    }
+}
+
+// A stream of patches; finding 14 reports 0.
+pub struct ProjectionPatchStreamId(u64);
+
+impl ProjectionPatchStreamId {
+    pub fn new(raw: u64) -> ProjectionPatchStreamId
+        ensures { λ r. ⌜ r .0 ≡ raw ⌝ }
+    {
+        ProjectionPatchStreamId(raw)
+    }
+
+    pub fn raw(self) -> u64
+        ensures { λ r. ⌜ r ≡ self .0 ⌝ }
+    {
+        self.0
+    }
+}
+
+// A patch's place in its stream.
+pub struct ProjectionPatchSequence(u64);
+
+impl ProjectionPatchSequence {
+    pub fn new(raw: u64) -> ProjectionPatchSequence
+        ensures { λ r. ⌜ r .0 ≡ raw ⌝ }
+    {
+        ProjectionPatchSequence(raw)
+    }
+
+    pub fn raw(self) -> u64
+        ensures { λ r. ⌜ r ≡ self .0 ⌝ }
+    {
+        self.0
+    }
+}
+
+pub enum OptionalSurfaceId {
+    None,
+    Some(StaticSurfaceId),
+}
+
+pub struct ProjectionPatchEnvelope {
+    pub patch_id: ProjectionPatchId,
+    pub stream_id: ProjectionPatchStreamId,
+    pub document_id: StaticDocumentId,
+    pub surface_id: OptionalSurfaceId,
+    pub previous_projection_revision: Revision,
+    pub projection_revision: Revision,
+    pub epoch: Epoch,
+    pub sequence: ProjectionPatchSequence,
+}
+
+pub enum ProjectionQuadState {
+    N,
+    F,
+    T,
+    S,
+}
+
+// A text is the len bytes from start on, of the slice that is lent beside the value.
+pub enum ProjectionPatchValue {
+    Quad(ProjectionQuadState),
+    SignedScalar(i64),
+    UnsignedScalar(u64),
+    Text { start: usize, len: usize },
+}
+
+pub enum ProjectionNodeAvailability {
+    Available,
+    Unavailable,
+    Hidden,
+    Pending,
+    Stale,
+}
+
+pub enum OptionalKey {
+    None,
+    Some(CollectionKey),
+}
+
+pub enum ProjectionPatchOperation {
+    SetBindingValue {
+        target: BindingTarget,
+        value: ProjectionPatchValue,
+    },
+    SetNodeAvailability {
+        node: StaticNodeId,
+        availability: ProjectionNodeAvailability,
+    },
+    CollectionInsert {
+        collection: StaticNodeId,
+        key: CollectionKey,
+        before: OptionalKey,
+        value: ProjectionPatchValue,
+    },
+    CollectionUpdate {
+        collection: StaticNodeId,
+        key: CollectionKey,
+        value: ProjectionPatchValue,
+    },
+    CollectionRemove {
+        collection: StaticNodeId,
+        key: CollectionKey,
+    },
+    CollectionMove {
+        collection: StaticNodeId,
+        key: CollectionKey,
+        before: OptionalKey,
+    },
+}
