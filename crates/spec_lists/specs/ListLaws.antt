@@ -81,3 +81,13 @@ all-append P (x ∷ a) b h k = (h .0, all-append P a b (h .1) k)
 pub all-map : {A : Type 0} (P Q : A → Type 0) → ((a : A) → P a → Q a) → (l : List A) → All P l → All Q l
 all-map P Q f [] h = tt
 all-map P Q f (x ∷ l) h = (f x (h .0), all-map P Q f l (h .1))
+
+-- two lists that pass a test of their elements are equal, if two elements that pass it are
+pub equalLists-equal : {A : Type 0} (test : A → A → Bool) → ((x y : A) → test x y ≡ true → x ≡ y) → (a b : List A) → equalLists test a b ≡ true → a ≡ b
+equalLists-equal test sound [] [] e = refl
+equalLists-equal test sound [] (y ∷ b) e = cc
+equalLists-equal test sound (x ∷ a) [] e = cc
+equalLists-equal test sound (x ∷ a) (y ∷ b) e =
+    let heads : x ≡ y = sound x y (and-left (test x y) _ e) in
+    let tails : a ≡ b = equalLists-equal test sound a b (and-right (test x y) _ e) in
+    cc
