@@ -16,7 +16,7 @@ use Rattle.spec_text.specs.SplitLaws.{utf8-encoded}
 
 -- The encoding of scalar values is in the syntax, with one character for each value.
 pub encoding-is-utf8 : (cs : List ℕ) → All Scalar cs → (isUtf8 (encode cs) ≡ true) × (characters (encode cs) ≡ length cs)
-unfolding flatMap
+unfolding encode flatMap
 encoding-is-utf8 [] s = (refl, refl)
 encoding-is-utf8 (c ∷ cs) s =
     let first = character-first (encodeScalar c) (encode cs) (octets-match c (s .0)) in

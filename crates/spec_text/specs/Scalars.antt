@@ -18,7 +18,7 @@ encodeScalar c =
     (0xf0 + c / 0x40000) ∷ (0x80 + c / 0x1000 % 0x40) ∷ (0x80 + c / 0x40 % 0x40) ∷ (0x80 + c % 0x40) ∷ []
 
 -- The octets of one scalar value after the other.
-abbrev pub encode : List ℕ → List ℕ
+unfoldable pub encode : List ℕ → List ℕ
 encode = flatMap encodeScalar
 
 -- A text that is the encoding of some scalar values.

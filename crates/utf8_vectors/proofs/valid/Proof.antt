@@ -1,10 +1,10 @@
--- `utf8_main::valid` meets its contract: each arm goes by what the answer says of the text.
+-- `utf8_vectors::valid` meets its contract: each arm goes by what the answer says of the text.
 use mathlib.Core.Path.{sym, _∙_}
 use denote.Ref.{now}
 use borrow.Author.Needs.{needs}
-use Rattle.utf8_main.proofs.Vectors.{valid-counts, invalid-counts}
-use Rattle.utf8_main.proofs.valid.Statement.{statement}
-use Rattle.utf8_main.proofs.valid.Tie as tie
+use Rattle.utf8_vectors.proofs.Vectors.{valid-counts, invalid-counts}
+use Rattle.utf8_vectors.proofs.valid.Statement.{statement}
+use Rattle.utf8_vectors.proofs.valid.Tie as tie
 
 check-requires : tie.Need-check-requires
 check-requires c κs = search needs
