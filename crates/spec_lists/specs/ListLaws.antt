@@ -48,15 +48,18 @@ pub isEmpty-true : {A : Type 0} (l : List A) → isEmpty l ≡ true → l ≡ []
 isEmpty-true [] e = refl
 isEmpty-true (x ∷ l) e = cc
 
--- two lists of numbers that pass the test are equal
-pub equalLists-true : (a b : List ℕ) → equalLists eqb a b ≡ true → a ≡ b
-equalLists-true [] [] e = refl
-equalLists-true [] (y ∷ b) e = cc
-equalLists-true (x ∷ a) [] e = cc
-equalLists-true (x ∷ a) (y ∷ b) e =
-    let heads : x ≡ y = eqb-true x y (and-left (eqb x y) _ e) in
-    let tails : a ≡ b = equalLists-true a b (and-right (eqb x y) _ e) in
+-- two lists that pass a test of their elements are equal, if two elements that pass it are
+pub equalLists-equal : {A : Type 0} (test : A → A → Bool) → ((x y : A) → test x y ≡ true → x ≡ y) → (a b : List A) → equalLists test a b ≡ true → a ≡ b
+equalLists-equal test sound [] [] e = refl
+equalLists-equal test sound [] (y ∷ b) e = cc
+equalLists-equal test sound (x ∷ a) [] e = cc
+equalLists-equal test sound (x ∷ a) (y ∷ b) e =
+    let heads : x ≡ y = sound x y (and-left (test x y) _ e) in
+    let tails : a ≡ b = equalLists-equal test sound a b (and-right (test x y) _ e) in
     cc
+
+pub equalLists-true : (a b : List ℕ) → equalLists eqb a b ≡ true → a ≡ b
+equalLists-true = equalLists-equal eqb eqb-true
 
 -- a test that fails of a whole list fails of its front
 pub any-left : {A : Type 0} (test : A → Bool) (a b : List A) → any test (a ++ b) ≡ false → any test a ≡ false

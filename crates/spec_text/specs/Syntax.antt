@@ -1,11 +1,11 @@
 -- RFC 3629, section 4: the syntax of UTF-8 as octet sequences, and the number of characters.
 use Prim.Native.Nat.{ℕ, _+_}
-use mathlib.Core.Bool.{Bool, true, false, cond, _&&_}
+use mathlib.Core.Bool.{Bool, true, false}
 use mathlib.Core.List.{List, [], _∷_}
-use lib.Dec.{leb}
+use Rattle.spec_lists.specs.Lists.{if_then_else_, between}
 
 infix 60 _⋯_
--- A range of octets, both ends included.
+-- A range of octets, both ends included: %x80-BF is `0x80 ⋯ 0xbf`.
 pub record Range : Type 0 where
   pub low : ℕ
   pub high : ℕ
@@ -14,7 +14,7 @@ abbrev pub _⋯_ : ℕ → ℕ → Range
 l ⋯ h = record { low = l; high = h }
 
 abbrev pub inside : Range → ℕ → Bool
-inside r b = leb (r .low) b && leb b (r .high)
+inside r b = between (r .low) (r .high) b
 
 -- UTF8-tail
 abbrev pub tail : Range
@@ -34,44 +34,40 @@ sequences =
     ∷ ((0xf4 ⋯ 0xf4) ∷ (0x80 ⋯ 0x8f) ∷ tail ∷ tail ∷ [])
     ∷ []
 
--- What the syntax allows after a part of a text: `expects rs`, octets of the ranges rs and then any characters; or nothing at all.
+-- What the syntax allows after a part of a text: `expects rs`, octets of the ranges rs and then any characters; `refused`, nothing.
 pub data After : Type 0 where
   expects : List Range → After
   refused : After
 
--- after the first octet of a character
+-- after an octet that begins one of the sequences
 abbrev pub lead : List (List Range) → ℕ → After
 lead [] b = refused
 lead ([] ∷ rows) b = lead rows b
-lead ((r ∷ rs) ∷ rows) b = cond (inside r b) (expects rs) (lead rows b)
+lead ((r ∷ rs) ∷ rows) b = if inside r b then expects rs else lead rows b
 
 -- after one octet more
 abbrev pub advance : After → ℕ → After
 advance (expects []) b = lead sequences b
-advance (expects (r ∷ rs)) b = cond (inside r b) (expects rs) refused
+advance (expects (r ∷ rs)) b = if inside r b then expects rs else refused
 advance refused b = refused
 
--- whether the text may end here, and then as a number
+-- whether no character is left unfinished
 abbrev pub whole : After → Bool
 whole (expects []) = true
 whole (expects (r ∷ rs)) = false
 whole refused = false
 
-abbrev pub one-if : Bool → ℕ
-one-if true = 1
-one-if false = 0
-
--- UTF8-octets, of what is left of a text
+-- whether the octets are what the syntax allows
 abbrev pub isUtf8After : After → List ℕ → Bool
 isUtf8After a [] = whole a
 isUtf8After a (b ∷ bs) = isUtf8After (advance a b) bs
 
--- how many characters end in what is left of a text
+-- how many of the octets end a character
 abbrev pub charactersAfter : After → List ℕ → ℕ
 charactersAfter a [] = 0
-charactersAfter a (b ∷ bs) = one-if (whole (advance a b)) + charactersAfter (advance a b) bs
+charactersAfter a (b ∷ bs) = (if whole (advance a b) then 1 else 0) + charactersAfter (advance a b) bs
 
--- UTF8-octets
+-- UTF8-octets: any number of UTF8-char
 abbrev pub isUtf8 : List ℕ → Bool
 isUtf8 text = isUtf8After (expects []) text
 

@@ -1,0 +1,4 @@
+pub mod Below
+pub mod TableLaws
+pub mod Reached
+pub mod Answers
