@@ -7,7 +7,7 @@ use native.Mathlib.Omega.{arith}
 use lib.ListN.{length, getD, take, drop}
 use lib.Dec.{lit<}
 use Rattle.spec_lists.specs.Lists.{All}
-use Rattle.spec_lists.specs.ListLaws.{all-right}
+use Rattle.spec_lists.specs.ListLaws.{all-right, all-append}
 use Rattle.spec_lists.specs.Bytes.{Bytes, littleEndian, numberOf}
 
 -- ---- bytes
@@ -66,3 +66,8 @@ littleEndian-numberOf (b ∷ bs) h =
     let low : (b + 256 * numberOf bs) % 256 ≡ b = omega arith in
     let high : (b + 256 * numberOf bs) / 256 ≡ numberOf bs = omega arith in
     rw (low, high) (ap (λ (l : List ℕ). b ∷ l) (littleEndian-numberOf bs (h .1)))
+
+-- ---- two runs of bytes
+
+pub bytes-append : (a b : List ℕ) → Bytes a → Bytes b → Bytes (a ++ b)
+bytes-append = all-append (λ (x : ℕ). x < 256)
