@@ -11,8 +11,8 @@ use lib.IntN.{ℤ}
 use lib.ListN.{length, take, drop, length-append, length-drop, take-append-drop}
 use lib.Seq.{take-at, drop-drop, length-take-le}
 use mir.Syntax.{w64}
-use mir.Val.{SFits, toZ, ofZ}
-use mir.Facts.{toZ-ofZ, fits-ofZ}
+use mir.Val.{Fits, SFits, toZ, ofZ}
+use mir.Facts.{toZ-ofZ, ofZ-toZ, fits-ofZ, sfits-toZ}
 use Rattle.spec_lists.specs.Lists.{if_then_else_}
 use Rattle.spec_lists.specs.Bytes.{Bytes, littleEndian, numberOf}
 use Rattle.spec_lists.specs.BytesLaws.{bytes-take, bytes-drop, length-littleEndian, numberOf-lt, numberOf-littleEndian, littleEndian-numberOf}
@@ -79,6 +79,19 @@ unfolding firstSigned
 signed-at l at z e =
     let found = map-eq-some-iff (toZ w64) (firstNumber 8 (drop at l)) .0 e in
     record { bits = found .0; read = number-at l at 8 (found .0) (found .1); is = found .2 }
+
+module _ {l : List ℕ} {at : ℕ} {z : ℤ} (signed : SignedAt l at z) (all : Bytes l) where
+  bits-fit : Fits w64 (signed .bits)
+  bits-fit = record { fits = number-small l at 8 (signed .read) all }
+
+  pub signed-fits : SFits w64 z
+  signed-fits = rw (← signed .is) (sfits-toZ bits-fit)
+
+  -- the bytes are those of the two's complement, with the rest behind them
+  pub signed-bytes : drop at l ≡ littleEndian 8 (ofZ w64 z) ++ drop (at + 8) l
+  signed-bytes =
+      number-bytes l at 8 (signed .read) all
+      ∙ ap (λ (x : ℕ). littleEndian 8 x ++ drop (at + 8) l) (sym (ofZ-toZ bits-fit) ∙ ap (ofZ w64) (signed .is))
 
 pub signed-short-at : (l : List ℕ) (at : ℕ) → firstSigned (drop at l) ≡ none → ShortAt l at 8
 unfolding firstSigned
