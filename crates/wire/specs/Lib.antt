@@ -1,0 +1,6 @@
+pub mod Read
+pub mod ReadLaws
+pub mod Write
+pub mod WriteLaws
+pub mod Prefix
+pub mod PrefixLaws
