@@ -133,3 +133,40 @@ pub enum ProjectionPatchOperation {
         before: OptionalKey,
     },
 }
+
+impl ProjectionPatchValue {
+    // The most bytes of a text.
+    pub const TEXT_BYTES: usize = 160;
+}
+
+// A patch's head: its envelope, and how many operations follow it.
+pub struct ProjectionPatch {
+    pub envelope: ProjectionPatchEnvelope,
+    pub operation_count: usize,
+}
+
+impl ProjectionPatch {
+    // The most operations of a patch.
+    pub const OPERATIONS: usize = 128;
+}
+
+// A place in a list of operations.
+pub struct OperationPlace {
+    pub operation: ProjectionPatchOperation,
+}
+
+// A patch list by value: the first patch_count heads, and the operations of all their patches in order. No set that can be written has more
+// operations than there are places.
+pub struct ProjectionPatchSet {
+    pub patch_count: usize,
+    pub patches: [ProjectionPatch; ProjectionPatchSet::PATCHES],
+    pub operations: [OperationPlace; ProjectionPatchSet::PLACES],
+}
+
+impl ProjectionPatchSet {
+    // The most patches of a set, and the most bytes.
+    pub const PATCHES: usize = 64;
+    pub const BYTES: usize = 32768;
+    // 10 bytes at least for an operation, and 61 for each patch of at most 128.
+    pub const PLACES: usize = 3120;
+}
