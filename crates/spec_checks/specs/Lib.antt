@@ -8,3 +8,5 @@ pub mod Rules
 pub mod RulesLaws
 pub mod FindingsLaws
 pub mod PartsLaws
+pub mod AnswerLaws
+pub mod BoundLaws
