@@ -10,3 +10,5 @@ pub mod FindingsLaws
 pub mod PartsLaws
 pub mod AnswerLaws
 pub mod BoundLaws
+pub mod KindLaws
+pub mod CheckExamples
