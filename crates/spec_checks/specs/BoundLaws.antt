@@ -8,7 +8,7 @@ use native.Mathlib.Omega.{arith}
 use lib.Dec.{eqb}
 use lib.ListN.{length, length-append}
 use Rattle.spec_lists.specs.Lists.{if_then_else_, All}
-use Rattle.spec_lists.specs.ListLaws.{all-right, all-map}
+use Rattle.spec_lists.specs.ListLaws.{if-cases, all-right, all-map}
 use Rattle.spec_lists.specs.OrderLaws.{sortUnique-length}
 use Rattle.spec_patch.specs.Sizes.{setPatches, patchOperations, largestU64}
 use Rattle.spec_patch.specs.Patch.{Operation, Envelope, Patch}
@@ -60,19 +60,22 @@ patch-length p = omega (arith, sortUnique-length findingKey (rawPatchFindings p)
 
 -- ---- a set
 
+record AtMostOne (l : List Finding) : Type 0 where
+  bound : length l ≤ 1
+
+single : (f : Finding) → AtMostOne (f ∷ [])
+single f = record { bound = omega arith }
+
+one-sequence : (q e : Envelope) → AtMostOne (sequenceFindings q e)
+unfolding sequenceFindings
+one-sequence q e =
+    if-cases AtMostOne (eqb (q .sequence) largestU64) _ _ (λ t. single _) λ n.
+    if-cases AtMostOne (eqb (e .sequence) (q .sequence)) _ _ (λ t. single _) λ k.
+    if-cases AtMostOne (eqb (e .sequence) (q .sequence + 1)) _ _ (λ t. record { bound = report-length _ _ }) (λ l. single _)
+
 -- at most one of the kinds 1, 5, 11 and 12
 pub sequence-length : (q e : Envelope) → length (sequenceFindings q e) ≤ 1
-unfolding sequenceFindings
-sequence-length q e = go (eqb (q .sequence) largestU64) (eqb (e .sequence) (q .sequence)) (eqb (e .sequence) (q .sequence + 1))
-  where
-    go : (s t u : Bool) → length (if s then finding sequenceOverflow (q .id) (q .sequence) ∷ [] else
-        if t then finding duplicateSequence (e .id) (e .sequence) ∷ [] else
-        if u then report (not (eqb (e .previous) (q .revision))) (finding brokenRevisionChain (e .id) (q .id)) else
-        finding outOfOrderSequence (e .id) (e .sequence) ∷ []) ≤ 1
-    go true t u = omega arith
-    go false true u = omega arith
-    go false false true = report-length _ _
-    go false false false = omega arith
+sequence-length q e = one-sequence q e .bound
 
 previous-length : (earlier : List Patch) (p : Patch) → length (previousFindings earlier p) ≤ 4
 unfolding previousFindings pairFindings

@@ -92,10 +92,9 @@ first-found : (i : ℕ) (a : List Patch) (p : Patch) (b : List Patch) (set : Fin
 unfolding firstFindings
 first-found i [] p b set h n = go (patchFindings p) refl
   where
-    go : (l : List Finding) → patchFindings p ≡ l
-        → _≡_ {A = Findings} (elim l as (λ x. Findings) [ [] ↦ firstFindings (i + 1) b set | f ∷ fs ↦ record { place = inPatch i; found = f ∷ fs } ]) (record { place = inPatch (i + 0); found = l })
+    go : (l : List Finding) → patchFindings p ≡ l → firstFindings i (p ∷ b) set ≡ record { place = inPatch (i + 0); found = patchFindings p }
     go [] e = absurd (n e)
-    go (f ∷ fs) e = let index : i ≡ i + 0 = omega arith in λ j. record { place = inPatch (index j); found = f ∷ fs }
+    go (f ∷ fs) e = let index : i ≡ i + 0 = omega arith in rw (e, firstFindings) (λ j. record { place = inPatch (index j); found = f ∷ fs })
 first-found i (q ∷ a) p b set h n =
     let index : i + 1 + length a ≡ i + suc (length a) = omega arith in
     rw (h .0, firstFindings) (first-found (i + 1) a p b set (h .1) n ∙ λ j. record { place = inPatch (index j); found = patchFindings p })

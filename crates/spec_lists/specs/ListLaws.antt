@@ -9,7 +9,7 @@ use native.Mathlib.Omega.{arith}
 use lib.Dec.{T, eqb}
 use lib.ListN.{length, getD}
 use borrow.Author.Tests.{eqb-true}
-use Rattle.spec_lists.specs.Lists.{all, any, equalLists, isEmpty, All}
+use Rattle.spec_lists.specs.Lists.{if_then_else_, all, any, equalLists, isEmpty, All}
 
 -- ---- tests
 
@@ -37,6 +37,11 @@ or-second false b e f = e
 pub or-true : (a b : Bool) → b ≡ true → (a || b) ≡ true
 or-true true b e = refl
 or-true false b e = e
+
+-- what holds of both branches holds of the choice
+pub if-cases : {A : Type 0} (P : A → Type 0) (t : Bool) (a b : A) → (t ≡ true → P a) → (t ≡ false → P b) → P (if t then a else b)
+if-cases P true a b h k = h refl
+if-cases P false a b h k = k refl
 
 -- ---- lists
 
