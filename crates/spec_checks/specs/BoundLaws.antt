@@ -1,23 +1,22 @@
 -- How many findings there can be at most: two for each operation and four for a patch, five for each patch of a set but the first.
 use Prim.Native.Nat.{ℕ, suc, _+_, _*_, _-_, _≤_, max}
-use mathlib.Core.Path.{_≡_, refl, subst}
-use mathlib.Core.Bool.{Bool, true, false, not}
+use mathlib.Core.Path.{subst}
+use mathlib.Core.Bool.{Bool, true, false}
 use mathlib.Core.List.{List, [], _∷_, _++_}
 use native.Mathlib.Nat.{suc-mul, le-trans}
 use native.Mathlib.Omega.{arith}
-use lib.Dec.{eqb}
 use lib.ListN.{length, length-append}
-use Rattle.spec_lists.specs.Lists.{if_then_else_, All}
+use Rattle.spec_lists.specs.Lists.{All}
 use Rattle.spec_lists.specs.ListLaws.{if-cases, all-right, all-map}
 use Rattle.spec_lists.specs.OrderLaws.{sortUnique-length}
-use Rattle.spec_patch.specs.Sizes.{setPatches, patchOperations, largestU64}
+use Rattle.spec_patch.specs.Sizes.{setPatches, patchOperations}
 use Rattle.spec_patch.specs.Patch.{Operation, Envelope, Patch}
 use Rattle.spec_patch.specs.Edition.{Edition}
 use Rattle.spec_patch.specs.Fits.{FitsPatch, Fits}
-use Rattle.spec_checks.specs.Finding.{Finding, finding, findingKey, report, checkEach, brokenRevisionChain, duplicateSequence, outOfOrderSequence, sequenceOverflow}
+use Rattle.spec_checks.specs.Finding.{Finding, findingKey, report, checkEach}
 use Rattle.spec_checks.specs.PatchChecks.{operationFindings, envelopeFindings, rawPatchFindings, patchFindings}
-use Rattle.spec_checks.specs.SetChecks.{sequenceFindings, pairFindings, duplicateIdFindings, previousFindings, afterFindings, rawSetFindings, setFindings}
-use Rattle.spec_checks.specs.Findings.{Findings, findings, CleanPatch}
+use Rattle.spec_checks.specs.SetChecks.{isLastSequence, isSameSequence, isNextSequence, sequenceFindings, pairFindings, duplicateIdFindings, previousFindings, afterFindings, rawSetFindings, setFindings}
+use Rattle.spec_checks.specs.Findings.{Findings, findings}
 use Rattle.spec_checks.specs.Rules.{Ended, atPatch, atSet}
 use Rattle.spec_checks.specs.FindingsLaws.{findings-ended}
 
@@ -69,9 +68,9 @@ single f = record { bound = omega arith }
 one-sequence : (q e : Envelope) → AtMostOne (sequenceFindings q e)
 unfolding sequenceFindings
 one-sequence q e =
-    if-cases AtMostOne (eqb (q .sequence) largestU64) _ _ (λ t. single _) λ n.
-    if-cases AtMostOne (eqb (e .sequence) (q .sequence)) _ _ (λ t. single _) λ k.
-    if-cases AtMostOne (eqb (e .sequence) (q .sequence + 1)) _ _ (λ t. record { bound = report-length _ _ }) (λ l. single _)
+    if-cases AtMostOne (isLastSequence q) _ _ (λ t. single _) λ n.
+    if-cases AtMostOne (isSameSequence q e) _ _ (λ t. single _) λ k.
+    if-cases AtMostOne (isNextSequence q e) _ _ (λ t. record { bound = report-length _ _ }) (λ l. single _)
 
 -- at most one of the kinds 1, 5, 11 and 12
 pub sequence-length : (q e : Envelope) → length (sequenceFindings q e) ≤ 1

@@ -1,7 +1,7 @@
 -- Examples of 01's rules for the patch checks, computed.
 use Prim.Native.Nat.{ℕ, _+_}
 use mathlib.Core.Path.{_≡_, refl}
-use mathlib.Core.List.{List, [], _∷_, _++_, map, flatMap}
+use mathlib.Core.List.{List, [], _∷_, map, flatMap}
 use mathlib.Core.Option.{none, some}
 use Rattle.spec_lists.specs.Order.{lexLess, upsert, sortUnique}
 use Rattle.spec_patch.specs.Sizes.{largestU64}
@@ -9,9 +9,9 @@ use Rattle.spec_patch.specs.Patch.{Operation, setBinding, setAvailability, inse
 use Rattle.spec_checks.specs.Finding.{Finding, kindNumber, findingKey, report, checkEach}
 use Rattle.spec_checks.specs.Target.{mutationTarget, sameTarget}
 use Rattle.spec_checks.specs.PatchChecks.{isSelf, beforeSelf, operationFindings, envelopeFindings, rawPatchFindings, patchFindings}
-use Rattle.spec_checks.specs.SetChecks.{sequenceFindings, pairFindings, duplicateIdFindings, previousFindings, afterFindings, rawSetFindings, setFindings}
+use Rattle.spec_checks.specs.SetChecks.{isLastSequence, isSameSequence, isNextSequence, sequenceFindings, pairFindings, duplicateIdFindings, previousFindings, afterFindings, rawSetFindings, setFindings}
 use Rattle.spec_checks.specs.Findings.{inPatch, inSet, Findings, firstFindings, findings}
-use Rattle.spec_checks.specs.Answer.{findingWords, fitting, writeFindings, Checked, checked}
+use Rattle.spec_checks.specs.Answer.{findingWords, fitting, writeFindings, checked}
 
 -- ---- patches, and rows of an answer
 
@@ -39,14 +39,14 @@ ofPatch i fs = record { place = inPatch i; found = fs }
 abbrev pub strange : ℕ → ℕ → Patch
 strange i n = record {
   envelope = record { id = i; stream = 2; document = 2; surface = none; previous = 7; revision = 8; epoch = 2; sequence = n };
-  operations = setAvailability 5 pending ∷ []
+  operations = setAvailability 5 pending ∷ [];
 }
 
 -- revisions 1 and 2, whatever the sequence
 abbrev pub late : ℕ → ℕ → Patch
 late i n = record {
   envelope = record { id = i; stream = 1; document = 1; surface = none; previous = 1; revision = 2; epoch = 1; sequence = n };
-  operations = setAvailability 5 pending ∷ []
+  operations = setAvailability 5 pending ∷ [];
 }
 
 -- ids of 0, no operations, and a revision that is not above the previous one
@@ -92,7 +92,7 @@ examples =
     ∷ []
 
 pub examples-found : map (λ (e : Example). findings (e .patches)) examples ≡ map (λ (e : Example). e .answer) examples
-unfolding lexLess upsert sortUnique kindNumber findingKey report checkEach mutationTarget sameTarget isSelf beforeSelf operationFindings envelopeFindings rawPatchFindings patchFindings sequenceFindings pairFindings duplicateIdFindings previousFindings afterFindings rawSetFindings setFindings firstFindings findings
+unfolding lexLess upsert sortUnique kindNumber findingKey report checkEach mutationTarget sameTarget isSelf beforeSelf operationFindings envelopeFindings rawPatchFindings patchFindings isLastSequence isSameSequence isNextSequence sequenceFindings pairFindings duplicateIdFindings previousFindings afterFindings rawSetFindings setFindings firstFindings findings
 examples-found = refl
 
 -- ---- what is written
@@ -103,5 +103,5 @@ pub examples-written :
     × (writeFindings (row 4 7 3 ∷ row 5 7 3 ∷ []) (10 ∷ 20 ∷ 30 ∷ 40 ∷ 50 ∷ 60 ∷ 70 ∷ []) ≡ 4 ∷ 7 ∷ 3 ∷ 5 ∷ 7 ∷ 3 ∷ 70 ∷ [])
     × (checked (plain 7 3 ∷ plain 7 3 ∷ []) 5 ≡ record { place = inSet; logical = 2; written = 1 })
     × (checked (plain 7 3 ∷ plain 7 3 ∷ []) 7 ≡ record { place = inSet; logical = 2; written = 2 })
-unfolding lexLess upsert sortUnique kindNumber findingKey report checkEach mutationTarget sameTarget isSelf beforeSelf operationFindings envelopeFindings rawPatchFindings patchFindings sequenceFindings pairFindings duplicateIdFindings previousFindings afterFindings rawSetFindings setFindings firstFindings findings flatMap findingWords fitting writeFindings checked
+unfolding lexLess upsert sortUnique kindNumber findingKey report checkEach mutationTarget sameTarget isSelf beforeSelf operationFindings envelopeFindings rawPatchFindings patchFindings isLastSequence isSameSequence isNextSequence sequenceFindings pairFindings duplicateIdFindings previousFindings afterFindings rawSetFindings setFindings firstFindings findings flatMap findingWords fitting writeFindings checked
 examples-written = (refl, refl, refl, refl)

@@ -1,9 +1,9 @@
 -- What is given is sorted by kind, domain and secondary, has no repeats and is what was found; and where the check ends.
 use Prim.Native.Nat.{ℕ, suc, _+_, _<_}
-use mathlib.Core.Path.{_≡_, refl, sym, ap, _∙_}
+use mathlib.Core.Path.{_≡_, refl, ap, _∙_}
 use mathlib.Core.Bool.{true}
-use mathlib.Core.List.{List, [], _∷_, _++_, List·Memᴰ, List·Nodup}
-use mathlib.Core.Logic.{_⊎_, inl, inr, ⊎-elim, _↔_, _≢_}
+use mathlib.Core.List.{List, [], _∷_, _++_, List·Nodup}
+use mathlib.Core.Logic.{_⊎_, inl, inr, _≢_}
 use native.Mathlib.Omega.{arith}
 use lib.ListN.{length}
 use Rattle.spec_lists.specs.Lists.{All}
@@ -34,9 +34,11 @@ precedes f g h = kinds (lexLess-cases _ _ _ _ h)
     secondaries : f .kind ≡ g .kind → f .domain ≡ g .domain → (f .secondary < g .secondary) ⊎ ((f .secondary ≡ g .secondary) × (lexLess [] [] ≡ true)) → Precedes f g
     secondaries k d (inl l) = bySecondary k d l
     secondaries k d (inr e) = absurd (lexLess-irreflexive [] (e .1))
+
     domains : f .kind ≡ g .kind → (f .domain < g .domain) ⊎ ((f .domain ≡ g .domain) × (lexLess (f .secondary ∷ []) (g .secondary ∷ []) ≡ true)) → Precedes f g
     domains k (inl l) = byDomain k l
     domains k (inr e) = secondaries k (e .0) (lexLess-cases _ _ _ _ (e .1))
+
     kinds : (f .kind < g .kind) ⊎ ((f .kind ≡ g .kind) × (lexLess (f .domain ∷ f .secondary ∷ []) (g .domain ∷ g .secondary ∷ []) ≡ true)) → Precedes f g
     kinds (inl l) = byKind l
     kinds (inr e) = domains (e .0) (lexLess-cases _ _ _ _ (e .1))
@@ -64,7 +66,7 @@ reported raw =
       sorted = sorted-ascending (sortUnique findingKey raw) ascending;
       nodup = ascending-nodup findingKey (sortUnique findingKey raw) ascending;
       only = λ f m. sortUnique-member findingKey f raw m;
-      every = λ f m. member-sortUnique findingKey findingKey-injective f raw m
+      every = λ f m. member-sortUnique findingKey findingKey-injective f raw m;
     }
 
 pub patch-reported : (p : Patch) → Reported (rawPatchFindings p) (patchFindings p)
@@ -123,6 +125,7 @@ findings-ended ps = go (first-or-none ps)
   where
     set : Findings
     set = record { place = inSet; found = setFindings ps }
+
     go : First ps ⊎ All CleanPatch ps → Ended ps (firstFindings 0 ps set)
     go (inl s) =
         let index : 0 + length (s .before) ≡ length (s .before) = omega arith in

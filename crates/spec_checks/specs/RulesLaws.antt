@@ -1,24 +1,23 @@
 -- The checks find exactly what the rules say: of one patch, of two neighbours, and of a set.
-use Prim.Native.Nat.{ℕ, _+_, _≤_}
+use Prim.Native.Nat.{ℕ}
 use mathlib.Core.Path.{_≡_, refl, sym, ap, _∙_, subst}
-use mathlib.Core.Bool.{Bool, true, false, not, _&&_, false≢true}
-use mathlib.Core.List.{List, [], _∷_, _++_, append-assoc, reverse, reverseAux, reverse-append, reverse-reverse, reverse-cons}
-use mathlib.Core.List.{List·Memᴰ, List·Memᴰ·head, List·Memᴰ·tail, List·Memᴰ·not-nil, List·Memᴰ·eq-of-singleton, List·Memᴰ·append-cases, Memᴰ·append-left, Memᴰ·append-right, Memᴰ·cast}
-use mathlib.Core.Logic.{_⊎_, inl, inr, ⊎-elim, _↔_, _≢_}
-use mathlib.Core.Option.{Option, none, some}
+use mathlib.Core.Bool.{true, not, _&&_, false≢true}
+use mathlib.Core.List.{List, [], _∷_, _++_, append-assoc, reverse, reverse-append, reverse-reverse, reverse-cons}
+use mathlib.Core.List.{List·Memᴰ, List·Memᴰ·head, List·Memᴰ·not-nil, List·Memᴰ·eq-of-singleton, List·Memᴰ·append-cases, Memᴰ·append-left, Memᴰ·append-right}
+use mathlib.Core.Logic.{⊎-elim, _↔_, _≢_}
+use mathlib.Core.Option.{none, some}
 use native.Mathlib.Omega.{arith}
 use borrow.Author.Tests.{leb-true, le-leb, eqb-true, eqb-false, eq-eqb, ne-eqb, not-true}
-use lib.Dec.{leb, eqb}
-use lib.ListN.{length, length-reverse}
-use Rattle.spec_lists.specs.Lists.{any, isEmpty, if_then_else_}
+use lib.Dec.{eqb}
+use lib.ListN.{length-reverse}
+use Rattle.spec_lists.specs.Lists.{isEmpty}
 use Rattle.spec_lists.specs.ListLaws.{if-cases, and-left, and-right, isEmpty-true, any-member, member-any, reverse-member, member-reverse}
-use Rattle.spec_patch.specs.Sizes.{largestU64}
 use Rattle.spec_patch.specs.Patch.{Operation, setBinding, setAvailability, insert, update, remove, move, Envelope, Patch}
-use Rattle.spec_checks.specs.Finding.{Finding, finding, report, checkEach, brokenRevisionChain, collectionBeforeSelf, duplicateMutationTarget, duplicatePatchId, duplicateSequence, emptyOperations, mixedDocument, mixedEpoch, mixedStream, nonIncreasingRevision, outOfOrderSequence, sequenceOverflow, zeroPatchId, zeroStreamId}
+use Rattle.spec_checks.specs.Finding.{Finding, finding, checkEach, collectionBeforeSelf, duplicateMutationTarget}
 use Rattle.spec_checks.specs.FindingLaws.{report-member, report-cases, report-here, report-there, checkEach-member, member-checkEach}
 use Rattle.spec_checks.specs.Target.{MutationTarget, mutationTarget, sameTarget}
 use Rattle.spec_checks.specs.PatchChecks.{isSelf, beforeSelf, operationFindings, envelopeFindings, rawPatchFindings}
-use Rattle.spec_checks.specs.SetChecks.{sequenceFindings, pairFindings, duplicateIdFindings, previousFindings, afterFindings, rawSetFindings}
+use Rattle.spec_checks.specs.SetChecks.{isLastSequence, isSameSequence, isNextSequence, sequenceFindings, pairFindings, duplicateIdFindings, previousFindings, afterFindings, rawSetFindings}
 use Rattle.spec_checks.specs.Rules.{BeforeSelf, inserted, moved, PatchFinding, beforeSelfAt, repeatedAt, noOperations, notAbove, noId, noStream, PairFinding, otherDocument, otherEpoch, otherStream, overflow, sameSequence, outOfOrder, brokenChain, SetFinding, sameId, neighbours}
 
 -- ---- one patch
@@ -104,7 +103,7 @@ module _ (p : Patch) (f : Finding) where
 
 module _ (q e : Envelope) (f : Finding) where
   sequence-to : List·Memᴰ f (sequenceFindings q e) → PairFinding q e f
-  unfolding sequenceFindings
+  unfolding sequenceFindings isLastSequence isSameSequence isNextSequence
   sequence-to =
       if-cases (λ l. List·Memᴰ f l → PairFinding q e f) _ _ _ (λ t m. overflow (eqb-true _ _ t) (List·Memᴰ·eq-of-singleton m)) λ n.
       if-cases (λ l. List·Memᴰ f l → PairFinding q e f) _ _ _ (λ t m. sameSequence (eqb-false _ _ n) (eqb-true _ _ t) (List·Memᴰ·eq-of-singleton m)) λ k.
@@ -125,7 +124,7 @@ module _ (q e : Envelope) (f : Finding) where
   sequence-from m = report-there _ _ _ f (report-there _ _ _ f (report-there _ _ _ f m))
 
   pair-from : PairFinding q e f → List·Memᴰ f (pairFindings q e)
-  unfolding pairFindings sequenceFindings
+  unfolding pairFindings sequenceFindings isLastSequence isSameSequence isNextSequence
   pair-from (otherDocument n h) = report-here _ _ _ f (differs _ _ n) h
   pair-from (otherEpoch n h) = report-there _ _ _ f (report-here _ _ _ f (differs _ _ n) h)
   pair-from (otherStream n h) = report-there _ _ _ f (report-there _ _ _ f (report-here _ _ _ f (differs _ _ n) h))
@@ -157,8 +156,8 @@ module _ (ps : List Patch) (f : Finding) where
       let s = checkEach-member afterFindings [] ps f m in
       let p = s .1 in
       report-cases _ _ _ f (λ t h.
-          let w = any-member (λ (q : Patch). eqb (q .envelope .id) (p .envelope .id)) (reverse (s .0)) t in
-          sameId (s .0) p (s .2) (s .3) (w .0) (reverse-member (s .0) (w .1)) (eqb-true _ _ (w .2)) h)
+      let w = any-member (λ (q : Patch). eqb (q .envelope .id) (p .envelope .id)) (reverse (s .0)) t in
+      sameId (s .0) p (s .2) (s .3) (w .0) (reverse-member (s .0) (w .1)) (eqb-true _ _ (w .2)) h)
       (previous-to (s .0) p (s .2) (s .3)) (s .4)
 
   after-from : (a : List Patch) (p : Patch) (b : List Patch) → ps ≡ a ++ (p ∷ b) → List·Memᴰ f (afterFindings (reverse a) p) → List·Memᴰ f (rawSetFindings ps)
