@@ -10,7 +10,7 @@ use native.Mathlib.Omega.{arith}
 use borrow.Author.Tests.{ltb-true, ltb-false, lt-ltb, eqb-true, eqb-false, eq-eqb}
 use lib.Dec.{ltb, eqb}
 use lib.ListN.{length}
-use Rattle.spec_lists.specs.Lists.{if_then_else_, All}
+use Rattle.spec_lists.specs.Lists.{All}
 use Rattle.spec_lists.specs.ListLaws.{if-cases, all-member}
 use Rattle.spec_lists.specs.Order.{lexLess, upsert, sortUnique, Ascending}
 
@@ -73,6 +73,12 @@ lexLess-total (x ∷ a) (y ∷ b) p q = go (ltb x y) refl (ltb y x) refl (eqb x 
 -- ---- ascending lists
 
 module _ {A : Type 0} (key : A → List ℕ) where
+  -- where an element is inserted: before one of a larger key, behind one of a smaller key, or in place of one of the same key
+  pub upsert-cases : (P : List A → Type 0) (a x : A) (l : List A) → (lexLess (key a) (key x) ≡ true → P (a ∷ x ∷ l)) → (lexLess (key x) (key a) ≡ true → P (x ∷ upsert key a l))
+      → (key a ≡ key x → P (a ∷ l)) → P (upsert key a (x ∷ l))
+  unfolding upsert
+  upsert-cases P a x l before behind same = if-cases P _ _ _ before (λ e. if-cases P _ _ _ behind (λ f. same (lexLess-total (key a) (key x) e f)))
+
   -- a key below one element is below all that follow it
   above : (a x : A) (l : List A) → lexLess (key a) (key x) ≡ true → All (λ y. lexLess (key x) (key y) ≡ true) l → All (λ y. lexLess (key a) (key y) ≡ true) l
   above a x [] h k = tt
@@ -86,23 +92,14 @@ module _ {A : Type 0} (key : A → List ℕ) where
   pub upsert-all : (P : A → Type 0) (a : A) (l : List A) → P a → All P l → All P (upsert key a l)
   unfolding upsert
   upsert-all P a [] p h = (p, tt)
-  upsert-all P a (x ∷ l) p h = go (lexLess (key a) (key x)) (lexLess (key x) (key a)) (upsert-all P a l p (h .1))
-    where
-      go : (s t : Bool) → All P (upsert key a l) → All P (if s then a ∷ x ∷ l else if t then x ∷ upsert key a l else a ∷ l)
-      go true t ih = (p, h)
-      go false true ih = (h .0, ih)
-      go false false ih = (p, h .1)
+  upsert-all P a (x ∷ l) p h = upsert-cases (All P) a x l (λ e. (p, h)) (λ e. (h .0, upsert-all P a l p (h .1))) (λ e. (p, h .1))
 
   pub upsert-ascending : (a : A) (l : List A) → Ascending key l → Ascending key (upsert key a l)
   unfolding upsert
   upsert-ascending a [] h = (tt, tt)
-  upsert-ascending a (x ∷ l) h = go (lexLess (key a) (key x)) refl (lexLess (key x) (key a)) refl (upsert-ascending a l (h .1))
-    where
-      go : (s : Bool) → lexLess (key a) (key x) ≡ s → (t : Bool) → lexLess (key x) (key a) ≡ t → Ascending key (upsert key a l)
-          → Ascending key (if s then a ∷ x ∷ l else if t then x ∷ upsert key a l else a ∷ l)
-      go true e t f ih = ((e, above a x l e (h .0)), h)
-      go false e true f ih = (upsert-all (λ y. lexLess (key x) (key y) ≡ true) a l f (h .0), ih)
-      go false e false f ih = (alike a x l (lexLess-total (key a) (key x) e f) (h .0), h .1)
+  upsert-ascending a (x ∷ l) h =
+      upsert-cases (Ascending key) a x l (λ e. ((e, above a x l e (h .0)), h)) (λ e. (upsert-all (λ y. lexLess (key x) (key y) ≡ true) a l e (h .0), upsert-ascending a l (h .1)))
+      (λ e. (alike a x l e (h .0), h .1))
 
   pub sortUnique-ascending : (l : List A) → Ascending key (sortUnique key l)
   unfolding sortUnique
@@ -117,17 +114,11 @@ lexLess-irreflexive [] h = let z : _≡_ {A = ℕ} 0 1 = cc in omega arith
 lexLess-irreflexive (x ∷ a) h = ⊎-elim (λ (l : x < x). omega arith) (λ (e : (x ≡ x) × (lexLess a a ≡ true)). lexLess-irreflexive a (e .1)) (lexLess-cases x x a a h)
 
 module _ {A : Type 0} (key : A → List ℕ) where
-  -- where an element is inserted: before one of a larger key, behind one of a smaller key, or in place of one of the same key
-  pub upsert-cases : (P : List A → Type 0) (a x : A) (l : List A) → (lexLess (key a) (key x) ≡ true → P (a ∷ x ∷ l)) → (lexLess (key x) (key a) ≡ true → P (x ∷ upsert key a l))
-      → (key a ≡ key x → P (a ∷ l)) → P (upsert key a (x ∷ l))
-  unfolding upsert
-  upsert-cases P a x l before behind same = if-cases P _ _ _ before (λ e. if-cases P _ _ _ behind (λ f. same (lexLess-total (key a) (key x) e f)))
-
   pub upsert-member : (x a : A) (l : List A) → List·Memᴰ x (upsert key a l) → (x ≡ a) ⊎ List·Memᴰ x l
   unfolding upsert
   upsert-member x a [] = λ m. inl (List·Memᴰ·eq-of-singleton m)
   upsert-member x a (y ∷ l) =
-      upsert-cases (λ r. List·Memᴰ x r → (x ≡ a) ⊎ List·Memᴰ x (y ∷ l)) a y l (λ e m. List·Memᴰ·cases-cons m)
+      upsert-cases key (λ r. List·Memᴰ x r → (x ≡ a) ⊎ List·Memᴰ x (y ∷ l)) a y l (λ e m. List·Memᴰ·cases-cons m)
       (λ e m. ⊎-elim (λ (h : x ≡ y). inr (List·Memᴰ·head h)) (λ (d : List·Memᴰ x (upsert key a l)). behind (upsert-member x a l d)) (List·Memᴰ·cases-cons m))
       (λ e m. behind (List·Memᴰ·cases-cons m))
     where
@@ -138,7 +129,7 @@ module _ {A : Type 0} (key : A → List ℕ) where
   pub upsert-new : (a : A) (l : List A) → List·Memᴰ a (upsert key a l)
   unfolding upsert
   upsert-new a [] = List·Memᴰ·head refl
-  upsert-new a (y ∷ l) = upsert-cases (List·Memᴰ a) a y l (λ e. List·Memᴰ·head refl) (λ e. List·Memᴰ·tail (upsert-new a l)) (λ e. List·Memᴰ·head refl)
+  upsert-new a (y ∷ l) = upsert-cases key (List·Memᴰ a) a y l (λ e. List·Memᴰ·head refl) (λ e. List·Memᴰ·tail (upsert-new a l)) (λ e. List·Memᴰ·head refl)
 
   -- what is sorted holds nothing new
   pub sortUnique-member : (x : A) (l : List A) → List·Memᴰ x (sortUnique key l) → List·Memᴰ x l
@@ -150,7 +141,7 @@ module _ {A : Type 0} (key : A → List ℕ) where
   upsert-length : (a : A) (l : List A) → length (upsert key a l) ≤ suc (length l)
   unfolding upsert
   upsert-length a [] = omega arith
-  upsert-length a (y ∷ l) = upsert-cases (λ r. length r ≤ suc (suc (length l))) a y l (λ e. omega arith) (λ e. omega (arith, upsert-length a l)) (λ e. omega arith)
+  upsert-length a (y ∷ l) = upsert-cases key (λ r. length r ≤ suc (suc (length l))) a y l (λ e. omega arith) (λ e. omega (arith, upsert-length a l)) (λ e. omega arith)
 
   pub sortUnique-length : (l : List A) → length (sortUnique key l) ≤ length l
   unfolding sortUnique
