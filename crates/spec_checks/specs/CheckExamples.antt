@@ -1,7 +1,7 @@
 -- Examples of 01's rules for the patch checks, computed.
 use Prim.Native.Nat.{ℕ, _+_}
 use mathlib.Core.Path.{_≡_, refl}
-use mathlib.Core.List.{List, [], _∷_, map, flatMap}
+use mathlib.Core.List.{List, [], _∷_, _++_, map, flatMap}
 use mathlib.Core.Option.{none, some}
 use Rattle.spec_lists.specs.Order.{lexLess, upsert, sortUnique}
 use Rattle.spec_patch.specs.Sizes.{largestU64}
@@ -63,16 +63,14 @@ infix 3 _⇒_
 abbrev pub _⇒_ : List Patch → Findings → Example
 ps ⇒ r = record { patches = ps; answer = r }
 
-abbrev pub examples : List Example
-examples =
-    ([] ⇒ ofSet [])
-    -- three patches alike, id 7 and sequence 3
-    ∷ (plain 7 3 ∷ plain 7 3 ∷ plain 7 3 ∷ [] ⇒ ofSet (row 4 7 3 ∷ row 5 7 3 ∷ []))
+-- one patch
+abbrev pub patchExamples : List Example
+patchExamples =
     -- every kind of operation on one key, and an availability and a binding of one node
-    ∷ (with 1 1 (insert 9 2 none (unsigned 1) ∷ update 9 2 (unsigned 1) ∷ move 9 2 none ∷ remove 9 2 ∷ setAvailability 9 stale ∷ setBinding 9 0 (unsigned 1) ∷ []) ∷ [] ⇒ ofSet [])
+    (with 1 1 (insert 9 2 none (unsigned 1) ∷ update 9 2 (unsigned 1) ∷ move 9 2 none ∷ remove 9 2 ∷ setAvailability 9 stale ∷ setBinding 9 0 (unsigned 1) ∷ []) ∷ [] ⇒ ofSet [])
     -- other ids of one kind
     ∷ (with 1 1 (insert 9 2 none (unsigned 1) ∷ insert 9 3 none (unsigned 1) ∷ insert 8 2 none (unsigned 1) ∷ setBinding 9 0 (unsigned 1) ∷ setBinding 9 1 (unsigned 1) ∷ []) ∷ [] ⇒ ofSet [])
-    -- targets that repeat, in the second patch, with other values and neighbours
+    -- targets that repeat, with other values and neighbours
     ∷ (plain 1 1 ∷ with 2 2 (setBinding 5 0 (unsigned 1) ∷ setBinding 5 0 (unsigned 2) ∷ setAvailability 5 stale ∷ setAvailability 5 pending ∷ []) ∷ [] ⇒ ofPatch 1 (row 3 2 1 ∷ row 3 2 3 ∷ []))
     ∷ (with 2 2 (insert 9 1 none (unsigned 1) ∷ insert 9 1 (some 2) (unsigned 1) ∷ remove 9 1 ∷ update 9 1 (unsigned 1) ∷ remove 9 1 ∷ update 9 1 (unsigned 2) ∷ []) ∷ [] ⇒ ofPatch 0 (row 3 2 1 ∷ row 3 2 4 ∷ row 3 2 5 ∷ []))
     -- before self
@@ -80,6 +78,14 @@ examples =
     -- the first patch with findings ends the check
     ∷ (plain 0 1 ∷ nothing ∷ [] ⇒ ofPatch 0 (row 13 0 0 ∷ []))
     ∷ (plain 7 3 ∷ plain 7 3 ∷ nothing ∷ [] ⇒ ofPatch 2 (row 6 0 0 ∷ row 10 0 0 ∷ row 13 0 0 ∷ row 14 0 0 ∷ []))
+    ∷ []
+
+-- a set
+abbrev pub setExamples : List Example
+setExamples =
+    ([] ⇒ ofSet [])
+    -- three patches alike, id 7 and sequence 3
+    ∷ (plain 7 3 ∷ plain 7 3 ∷ plain 7 3 ∷ [] ⇒ ofSet (row 4 7 3 ∷ row 5 7 3 ∷ []))
     -- neighbours that differ in everything; a broken chain is told only where the sequence is the next
     ∷ (plain 1 1 ∷ strange 2 2 ∷ [] ⇒ ofSet (row 1 2 1 ∷ row 7 2 1 ∷ row 8 2 1 ∷ row 9 2 1 ∷ []))
     ∷ (plain 1 1 ∷ strange 2 1 ∷ [] ⇒ ofSet (row 5 2 1 ∷ row 7 2 1 ∷ row 8 2 1 ∷ row 9 2 1 ∷ []))
@@ -90,6 +96,9 @@ examples =
     ∷ (late 5 largestU64 ∷ late 6 largestU64 ∷ [] ⇒ ofSet (row 12 5 largestU64 ∷ []))
     ∷ (late 5 largestU64 ∷ late 6 0 ∷ [] ⇒ ofSet (row 12 5 largestU64 ∷ []))
     ∷ []
+
+abbrev pub examples : List Example
+examples = patchExamples ++ setExamples
 
 pub examples-found : map (λ (e : Example). findings (e .patches)) examples ≡ map (λ (e : Example). e .answer) examples
 unfolding lexLess upsert sortUnique kindNumber findingKey report checkEach mutationTarget sameTarget isSelf beforeSelf operationFindings envelopeFindings rawPatchFindings patchFindings isLastSequence isSameSequence isNextSequence sequenceFindings pairFindings duplicateIdFindings previousFindings afterFindings rawSetFindings setFindings firstFindings findings

@@ -87,7 +87,7 @@ reported-unique raw a b h k =
 first-clean : (i : ℕ) (ps : List Patch) (set : Findings) → All CleanPatch ps → firstFindings i ps set ≡ set
 unfolding firstFindings
 first-clean i [] set h = refl
-first-clean i (p ∷ ps) set h = rw (h .0, firstFindings) (first-clean (i + 1) ps set (h .1))
+first-clean i (p ∷ ps) set h = rw (h .0, firstFindings) (first-clean _ ps set (h .1))
 
 first-found : (i : ℕ) (a : List Patch) (p : Patch) (b : List Patch) (set : Findings) → All CleanPatch a → patchFindings p ≢ []
     → firstFindings i (a ++ (p ∷ b)) set ≡ record { place = inPatch (i + length a); found = patchFindings p }

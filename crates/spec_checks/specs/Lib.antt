@@ -10,6 +10,6 @@ pub mod RulesLaws
 pub mod FindingsLaws
 pub mod PartsLaws
 pub mod AnswerLaws
-pub mod BoundLaws
+pub mod CountLaws
 pub mod KindLaws
 pub mod CheckExamples
