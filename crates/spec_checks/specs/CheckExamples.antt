@@ -2,7 +2,7 @@
 use Prim.Native.Nat.{ℕ, _+_}
 use mathlib.Core.Path.{_≡_, refl}
 use mathlib.Core.List.{List, [], _∷_, _++_, map, flatMap}
-use mathlib.Core.Option.{none, some}
+use mathlib.Core.Option.{Option, none, some}
 use Rattle.spec_lists.specs.Order.{lexLess, upsert, sortUnique}
 use Rattle.spec_patch.specs.Sizes.{largestU64}
 use Rattle.spec_patch.specs.Patch.{Operation, setBinding, setAvailability, insert, update, remove, move, pending, stale, unsigned, Envelope, Patch}
@@ -26,6 +26,14 @@ with i n os = record { envelope = envelope i n; operations = os }
 abbrev pub plain : ℕ → ℕ → Patch
 plain i n = with i n (setAvailability 5 pending ∷ [])
 
+-- every kind of operation on a key
+abbrev pub each : ℕ → ℕ → Option ℕ → List Operation
+each c k before = insert c k before (unsigned 1) ∷ update c k (unsigned 1) ∷ remove c k ∷ move c k before ∷ []
+
+-- a binding and the availability of its node
+abbrev pub panel : ℕ → ℕ → List Operation
+panel node slot = setBinding node slot (unsigned 1) ∷ setAvailability node stale ∷ []
+
 abbrev pub row : ℕ → ℕ → ℕ → Finding
 row k d s = record { kind = k; domain = d; secondary = s }
 
@@ -36,22 +44,22 @@ abbrev pub ofPatch : ℕ → List Finding → Findings
 ofPatch i fs = record { place = inPatch i; found = fs }
 
 -- another stream, document and epoch, and revisions that do not follow
-abbrev pub strange : ℕ → ℕ → Patch
-strange i n = record {
+abbrev pub differing : ℕ → ℕ → Patch
+differing i n = record {
   envelope = record { id = i; stream = 2; document = 2; surface = none; previous = 7; revision = 8; epoch = 2; sequence = n };
   operations = setAvailability 5 pending ∷ [];
 }
 
--- revisions 1 and 2, whatever the sequence
-abbrev pub late : ℕ → ℕ → Patch
-late i n = record {
-  envelope = record { id = i; stream = 1; document = 1; surface = none; previous = 1; revision = 2; epoch = 1; sequence = n };
+-- previous revision, revision and sequence, each as given
+abbrev pub revised : ℕ → ℕ → ℕ → ℕ → Patch
+revised i p r n = record {
+  envelope = record { id = i; stream = 1; document = 1; surface = none; previous = p; revision = r; epoch = 1; sequence = n };
   operations = setAvailability 5 pending ∷ [];
 }
 
 -- ids of 0, no operations, and a revision that is not above the previous one
-abbrev pub nothing : Patch
-nothing = record { envelope = record { id = 0; stream = 0; document = 1; surface = none; previous = 3; revision = 3; epoch = 1; sequence = 3 }; operations = [] }
+abbrev pub empty : Patch
+empty = record { envelope = record { id = 0; stream = 0; document = 1; surface = none; previous = 3; revision = 3; epoch = 1; sequence = 3 }; operations = [] }
 
 -- ---- a patch list, and what is found
 
@@ -66,18 +74,20 @@ ps ⇒ r = record { patches = ps; answer = r }
 -- one patch
 abbrev pub patchExamples : List Example
 patchExamples =
-    -- every kind of operation on one key, and an availability and a binding of one node
-    (with 1 1 (insert 9 2 none (unsigned 1) ∷ update 9 2 (unsigned 1) ∷ move 9 2 none ∷ remove 9 2 ∷ setAvailability 9 stale ∷ setBinding 9 0 (unsigned 1) ∷ []) ∷ [] ⇒ ofSet [])
-    -- other ids of one kind
-    ∷ (with 1 1 (insert 9 2 none (unsigned 1) ∷ insert 9 3 none (unsigned 1) ∷ insert 8 2 none (unsigned 1) ∷ setBinding 9 0 (unsigned 1) ∷ setBinding 9 1 (unsigned 1) ∷ []) ∷ [] ⇒ ofSet [])
-    -- targets that repeat, with other values and neighbours
-    ∷ (plain 1 1 ∷ with 2 2 (setBinding 5 0 (unsigned 1) ∷ setBinding 5 0 (unsigned 2) ∷ setAvailability 5 stale ∷ setAvailability 5 pending ∷ []) ∷ [] ⇒ ofPatch 1 (row 3 2 1 ∷ row 3 2 3 ∷ []))
-    ∷ (with 2 2 (insert 9 1 none (unsigned 1) ∷ insert 9 1 (some 2) (unsigned 1) ∷ remove 9 1 ∷ update 9 1 (unsigned 1) ∷ remove 9 1 ∷ update 9 1 (unsigned 2) ∷ []) ∷ [] ⇒ ofPatch 0 (row 3 2 1 ∷ row 3 2 4 ∷ row 3 2 5 ∷ []))
+    -- every kind of operation on one key; other keys, collections, nodes and slots
+    (with 1 1 (each 9 2 none ++ (each 9 3 none ++ (each 8 2 none ++ (panel 9 0 ++ panel 8 1)))) ∷ [] ⇒ ofSet [])
+    ∷ (with 1 1 (setBinding 9 0 (unsigned 1) ∷ setBinding 9 1 (unsigned 1) ∷ []) ∷ [] ⇒ ofSet [])
+    -- targets that repeat, with another neighbour
+    ∷ (plain 1 1 ∷ with 2 2 (each 9 2 none ++ each 9 2 (some 3)) ∷ [] ⇒ ofPatch 1 (row 3 2 4 ∷ row 3 2 5 ∷ row 3 2 6 ∷ row 3 2 7 ∷ []))
+    ∷ (with 2 2 (panel 5 0 ++ (panel 5 0 ++ panel 5 0)) ∷ [] ⇒ ofPatch 0 (row 3 2 2 ∷ row 3 2 3 ∷ row 3 2 4 ∷ row 3 2 5 ∷ []))
     -- before self
     ∷ (with 6 1 (insert 9 4 (some 4) (unsigned 1) ∷ move 9 3 (some 4) ∷ move 9 4 (some 4) ∷ []) ∷ [] ⇒ ofPatch 0 (row 2 6 0 ∷ row 2 6 2 ∷ []))
+    -- a revision that is not above the previous one
+    ∷ (revised 4 3 4 1 ∷ revised 5 4 4 2 ∷ [] ⇒ ofPatch 1 (row 10 5 0 ∷ []))
+    ∷ (revised 4 3 2 1 ∷ [] ⇒ ofPatch 0 (row 10 4 0 ∷ []))
     -- the first patch with findings ends the check
-    ∷ (plain 0 1 ∷ nothing ∷ [] ⇒ ofPatch 0 (row 13 0 0 ∷ []))
-    ∷ (plain 7 3 ∷ plain 7 3 ∷ nothing ∷ [] ⇒ ofPatch 2 (row 6 0 0 ∷ row 10 0 0 ∷ row 13 0 0 ∷ row 14 0 0 ∷ []))
+    ∷ (plain 0 1 ∷ empty ∷ [] ⇒ ofPatch 0 (row 13 0 0 ∷ []))
+    ∷ (plain 7 3 ∷ plain 7 3 ∷ empty ∷ [] ⇒ ofPatch 2 (row 6 0 0 ∷ row 10 0 0 ∷ row 13 0 0 ∷ row 14 0 0 ∷ []))
     ∷ []
 
 -- a set
@@ -87,14 +97,14 @@ setExamples =
     -- three patches alike, id 7 and sequence 3
     ∷ (plain 7 3 ∷ plain 7 3 ∷ plain 7 3 ∷ [] ⇒ ofSet (row 4 7 3 ∷ row 5 7 3 ∷ []))
     -- neighbours that differ in everything; a broken chain is told only where the sequence is the next
-    ∷ (plain 1 1 ∷ strange 2 2 ∷ [] ⇒ ofSet (row 1 2 1 ∷ row 7 2 1 ∷ row 8 2 1 ∷ row 9 2 1 ∷ []))
-    ∷ (plain 1 1 ∷ strange 2 1 ∷ [] ⇒ ofSet (row 5 2 1 ∷ row 7 2 1 ∷ row 8 2 1 ∷ row 9 2 1 ∷ []))
+    ∷ (plain 1 1 ∷ differing 2 2 ∷ [] ⇒ ofSet (row 1 2 1 ∷ row 7 2 1 ∷ row 8 2 1 ∷ row 9 2 1 ∷ []))
+    ∷ (plain 1 1 ∷ differing 2 1 ∷ [] ⇒ ofSet (row 5 2 1 ∷ row 7 2 1 ∷ row 8 2 1 ∷ row 9 2 1 ∷ []))
     ∷ (plain 1 1 ∷ plain 2 3 ∷ plain 3 2 ∷ [] ⇒ ofSet (row 11 2 3 ∷ row 11 3 2 ∷ []))
     -- an id that returns later
     ∷ (plain 1 1 ∷ plain 2 2 ∷ plain 1 3 ∷ [] ⇒ ofSet (row 4 1 3 ∷ []))
     -- the largest sequence: the earlier patch's id, and neither 5, 11 nor 1
-    ∷ (late 5 largestU64 ∷ late 6 largestU64 ∷ [] ⇒ ofSet (row 12 5 largestU64 ∷ []))
-    ∷ (late 5 largestU64 ∷ late 6 0 ∷ [] ⇒ ofSet (row 12 5 largestU64 ∷ []))
+    ∷ (revised 5 1 2 largestU64 ∷ revised 6 1 2 largestU64 ∷ [] ⇒ ofSet (row 12 5 largestU64 ∷ []))
+    ∷ (revised 5 1 2 largestU64 ∷ revised 6 1 2 0 ∷ [] ⇒ ofSet (row 12 5 largestU64 ∷ []))
     ∷ []
 
 abbrev pub examples : List Example
