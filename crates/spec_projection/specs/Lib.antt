@@ -9,3 +9,5 @@ pub mod EntriesLaws
 pub mod ApplyLaws
 pub mod OperationLaws
 pub mod ValidLaws
+pub mod Effects
+pub mod CollectionLaws
