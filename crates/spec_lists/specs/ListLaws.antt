@@ -4,7 +4,7 @@ use mathlib.Core.Bool.{Bool, true, false, _&&_, _||_}
 use mathlib.Core.List.{List, [], _∷_, _++_, append-assoc, flatMap}
 use Prim.Native.Nat.{ℕ}
 use lib.Dec.{T, eqb}
-use borrow.Author.Tests.{eqb-true}
+use borrow.Author.Tests.{eqb-true, eq-eqb}
 use Rattle.spec_lists.specs.Lists.{all, any, equalLists, isEmpty, All}
 
 -- ---- tests
@@ -88,3 +88,8 @@ all-map P Q f (x ∷ l) h = (f x (h .0), all-map P Q f l (h .1))
 pub test-cases : {G : Type 0} (t : Bool) → (t ≡ true → G) → (t ≡ false → G) → G
 test-cases true holds fails = holds refl
 test-cases false holds fails = fails refl
+
+-- a list of numbers passes the test against itself
+pub equalLists-refl : (a : List ℕ) → equalLists eqb a a ≡ true
+equalLists-refl [] = refl
+equalLists-refl (x ∷ a) = rw (eq-eqb x x refl) (equalLists-refl a)
