@@ -20,11 +20,11 @@ use Rattle.spec_projection.specs.Valid.{Behind, Grouped}
 
 -- ---- a list's head
 
-entriesIn-own : (e : Entry) (l : List Entry) → entriesIn (e .collection) (e ∷ l) ≡ keyedValue e ∷ entriesIn (e .collection) l
+pub entriesIn-own : (e : Entry) (l : List Entry) → entriesIn (e .collection) (e ∷ l) ≡ keyedValue e ∷ entriesIn (e .collection) l
 unfolding entriesIn
 entriesIn-own e l = rw (eq-eqb (e .collection) (e .collection) refl)
 
-entriesIn-other : (c : ℕ) (e : Entry) (l : List Entry) → e .collection ≢ c → entriesIn c (e ∷ l) ≡ entriesIn c l
+pub entriesIn-other : (c : ℕ) (e : Entry) (l : List Entry) → e .collection ≢ c → entriesIn c (e ∷ l) ≡ entriesIn c l
 unfolding entriesIn
 entriesIn-other c e l n = rw (ne-eqb (e .collection) c n)
 

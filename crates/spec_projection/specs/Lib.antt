@@ -11,3 +11,4 @@ pub mod OperationLaws
 pub mod ValidLaws
 pub mod Effects
 pub mod CollectionLaws
+pub mod Determined
