@@ -12,3 +12,4 @@ pub mod ValidLaws
 pub mod Effects
 pub mod CollectionLaws
 pub mod Determined
+pub mod EffectsLaws
