@@ -168,7 +168,7 @@ module _ {A B : Type 0} (key : A → List ℕ) (value : A → B) (whole : (x y :
   ascending-determined [] (y ∷ m) g h e = absurd (first-not-below y m [] tt (sym (e y)))
   ascending-determined (x ∷ l) (y ∷ m) g h e =
       test-cases (lexLess (key x) (key y)) (λ s. absurd (first-not-below x l (y ∷ m) (s, above key x y m s (h .0)) (e x)))
-      (λ s. test-cases (lexLess (key y) (key x)) (λ t. absurd (first-not-below y m (x ∷ l) (t, above key y x l t (g .0)) (sym (e y)))) 
+      (λ s. test-cases (lexLess (key y) (key x)) (λ t. absurd (first-not-below y m (x ∷ l) (t, above key y x l t (g .0)) (sym (e y))))
       (λ t. heads (lexLess-total (key x) (key y) s t) (ascending-determined l m (g .1) (h .1))))
     where
       tails : key x ≡ key y → (a : A) → Option·map value (lookup key (key a) l) ≡ Option·map value (lookup key (key a) m)

@@ -13,3 +13,5 @@ pub mod Effects
 pub mod CollectionLaws
 pub mod Determined
 pub mod EffectsLaws
+pub mod Opened
+pub mod ProjectionExamples
