@@ -91,9 +91,12 @@ pub record ReplayStep : Type 0 where
   pub patch : ℕ
   pub operation : Operation
 
+abbrev pub stepOf : ℕ → Operation → ReplayStep
+stepOf id o = record { patch = id; operation = o }
+
 -- the steps of one patch
 unfoldable pub patchSteps : Patch → List ReplayStep
-patchSteps p = map (λ (o : Operation). record { patch = p .envelope .id; operation = o }) (p .operations)
+patchSteps p = map (stepOf (p .envelope .id)) (p .operations)
 
 -- the steps of all patches, in order
 unfoldable pub replaySteps : List Patch → List ReplayStep

@@ -6,14 +6,14 @@ use mathlib.Core.Bool.{Bool, true, false, _&&_, _||_}
 use mathlib.Core.List.{List, [], _∷_, _++_}
 use mathlib.Core.Option.{Option, none, some, Option·map}
 use native.Mathlib.Omega.{arith}
-use borrow.Author.Tests.{ltb-true, ltb-false, eqb-true, eq-eqb, ne-eqb}
-use lib.Dec.{ltb, eqb}
+use borrow.Author.Tests.{eq-eqb, ne-eqb}
+use lib.Dec.{eqb}
 use Rattle.spec_lists.specs.Lists.{if_then_else_, any, All}
 use Rattle.spec_lists.specs.ListLaws.{test-cases}
 use Rattle.spec_projection.specs.Projection.{Entry}
 use Rattle.spec_projection.specs.FirstMatch.{findFirst, insertBeforeFirst, replaceFirst, removeFirst}
 use Rattle.spec_projection.specs.Entries.{isEntry, isLater, contains, insertLast, insertBefore, insertEntry, replaceEntry, removeEntry}
-use Rattle.spec_projection.specs.EntriesLaws.{entry-collection}
+use Rattle.spec_projection.specs.EntriesLaws.{entry-collection, later-above}
 use Rattle.spec_projection.specs.Lookups.{KeyedValue, keyedValue, entriesIn}
 use Rattle.spec_projection.specs.Effects.{hasKey, insertKeyed}
 use Rattle.spec_projection.specs.Valid.{Behind, Grouped}
@@ -66,15 +66,15 @@ none-later c x l h b = rw (ne-eqb (x .collection) c (λ e. omega arith)) (rest l
     rest (y ∷ l) b = rw (ne-eqb (y .collection) c (λ e. omega (arith, b .0 .collection))) (rest l (b .1))
 
 insertLast-own : (e : Entry) (l : List Entry) → Grouped l → entriesIn (e .collection) (insertLast e l) ≡ entriesIn (e .collection) l ++ keyedValue e ∷ []
-unfolding insertLast insertBeforeFirst isLater entriesIn
+unfolding insertLast insertBeforeFirst entriesIn
 insertLast-own e [] h = entriesIn-own e []
-insertLast-own e (x ∷ l) h = test-cases (ltb (e .collection) (x .collection))
+insertLast-own e (x ∷ l) h = test-cases (isLater (e .collection) x)
     (λ f. rw f (later f))
     (λ f. rw (f, insertLast-own e l (h .1)) (test-cases (eqb (x .collection) (e .collection)) (λ g. rw g) (λ g. rw g)))
   where
-    later : ltb (e .collection) (x .collection) ≡ true → entriesIn (e .collection) (e ∷ x ∷ l) ≡ entriesIn (e .collection) (x ∷ l) ++ keyedValue e ∷ []
+    later : isLater (e .collection) x ≡ true → entriesIn (e .collection) (e ∷ x ∷ l) ≡ entriesIn (e .collection) (x ∷ l) ++ keyedValue e ∷ []
     later f =
-        let empty = none-later (e .collection) x l (ltb-true (e .collection) (x .collection) f) (h .0) in
+        let empty = none-later (e .collection) x l (later-above (e .collection) x f) (h .0) in
         entriesIn-own e (x ∷ l) ∙ ap (λ m. keyedValue e ∷ m) empty ∙ sym (ap (λ m. m ++ keyedValue e ∷ []) empty)
 
 -- where the test of all entries is the test of this collection's list

@@ -1,15 +1,18 @@
 -- Examples of 01, 'Projection', and others that tell the rules apart, as one table that the checker computes.
 use Prim.Native.Nat.{ℕ, zero, suc, _+_}
 use mathlib.Core.Bool.{Bool, true, false, _&&_}
-use mathlib.Core.List.{List, [], _∷_, _++_, map}
+use mathlib.Core.List.{List, [], _∷_, _++_, map, flatMap}
 use mathlib.Core.Option.{Option, none, some, Option·map}
 use lib.Dec.{T, eqb}
 use Rattle.spec_lists.specs.Lists.{all, equalLists}
+use Rattle.spec_lists.specs.Order.{lexLess, upsert, lookup}
 use Rattle.spec_patch.specs.Patch.{Value, quad, signed, text, unsigned, Availability, pending, hidden, Operation, setBinding, setAvailability, insert, update, remove, move, Envelope, Patch}
-use Rattle.spec_projection.specs.Projection.{Binding, NodeAvailability, Entry, Projection, empty}
-use Rattle.spec_projection.specs.Lookups.{bindingOf, entryOf, KeyedValue, entriesOf, entryAt, entryCount}
-use Rattle.spec_projection.specs.Apply.{operationFaultNumber, Outcome, done, stopped, ReplayStep, replaySteps, applySteps}
-use Rattle.spec_projection.specs.Opened.{opened}
+use Rattle.spec_patch.specs.Encode.{availabilityByte}
+use Rattle.spec_projection.specs.Projection.{Binding, Entry, Projection, empty, bindingKey, availabilityKey}
+use Rattle.spec_projection.specs.FirstMatch.{findFirst, insertBeforeFirst, replaceFirst, removeFirst}
+use Rattle.spec_projection.specs.Entries.{isEntry, isLater, contains, containsNeighbour, insertLast, insertBefore, insertEntry, replaceEntry, removeEntry}
+use Rattle.spec_projection.specs.Lookups.{KeyedValue, bindingOf, availabilityOf, entryOf, entriesIn, entriesOf, entryAt, entryCount}
+use Rattle.spec_projection.specs.Apply.{Outcome, done, stopped, ReplayStep, operationFaultNumber, withBindings, withAvailabilities, withEntries, applyBinding, applyAvailability, applyInsert, applyUpdate, applyRemove, applyMove, applyOperation, patchSteps, replaySteps, operationsOf, applyStep, applySteps}
 
 -- ---- what the examples are made of
 
@@ -43,6 +46,10 @@ plain (unsigned x) = x ∷ []
 answer : Option Value → List ℕ
 answer none = []
 answer (some v) = plain v
+
+byte : Option Availability → List ℕ
+byte none = []
+byte (some a) = availabilityByte a ∷ []
 
 -- n inserts into a collection, each placed last, of the keys n − 1 down to 0
 inserts : ℕ → ℕ → List Operation
@@ -83,6 +90,9 @@ examples =
     -- an update leaves the entry in its place
     ∷ shows (1 ∷ 2 ∷ 3 ∷ []) (keys 9) (three ++ (update 9 1 (unsigned 40) ∷ []))
     ∷ shows (40 ∷ []) (λ p. answer (entryOf p 9 1)) (three ++ (update 9 1 (unsigned 40) ∷ []))
+    -- an insert goes before its neighbour, or last
+    ∷ shows (1 ∷ 4 ∷ 2 ∷ 3 ∷ []) (keys 9) (three ++ (insert 9 4 (some 2) (unsigned 0) ∷ []))
+    ∷ shows (1 ∷ 2 ∷ 3 ∷ 4 ∷ []) (keys 9) (three ++ (insert 9 4 none (unsigned 0) ∷ []))
     -- a present key, an absent neighbour, an absent key
     ∷ gives 8 (three ++ (insert 9 1 none (unsigned 0) ∷ []))
     ∷ gives 8 (three ++ (insert 9 4 (some 5) (unsigned 0) ∷ []))
@@ -112,6 +122,8 @@ examples =
     -- lookups: the last value set, or none; an emptied collection has no entries
     ∷ shows (2 ∷ []) (λ p. answer (bindingOf p 5 0)) (setBinding 5 0 (unsigned 1) ∷ setBinding 5 0 (unsigned 2) ∷ [])
     ∷ shows [] (λ p. answer (bindingOf p 5 1)) (setBinding 5 0 (unsigned 1) ∷ [])
+    ∷ shows (2 ∷ []) (λ p. byte (availabilityOf p 5)) (setAvailability 5 pending ∷ setAvailability 5 hidden ∷ [])
+    ∷ shows [] (λ p. byte (availabilityOf p 6)) (setAvailability 5 pending ∷ [])
     ∷ shows (30 ∷ []) (λ p. answer (Option·map (λ (e : KeyedValue). e .value) (entryAt p 9 2))) three
     ∷ shows (3 ∷ []) (λ p. entryCount p 9 ∷ []) three
     ∷ shows (0 ∷ []) (λ p. entryCount p 9 ∷ []) (three ++ (remove 9 1 ∷ remove 9 2 ∷ remove 9 3 ∷ []))
@@ -124,5 +136,11 @@ examples =
 
 -- every example holds
 pub projection-examples : T (all (λ (b : Bool). b) examples)
-unfolding examples patch after numberOf ask keys plain answer inserts bindings availabilities three gives shows opened
+unfolding examples patch after numberOf ask keys plain answer byte availabilityByte inserts bindings availabilities three gives shows
+    flatMap lexLess upsert lookup
+    empty bindingKey availabilityKey findFirst insertBeforeFirst replaceFirst removeFirst
+    isEntry isLater contains containsNeighbour insertLast insertBefore insertEntry replaceEntry removeEntry
+    bindingOf availabilityOf entryOf entriesIn entriesOf entryAt entryCount
+    operationFaultNumber withBindings withAvailabilities withEntries applyBinding applyAvailability applyInsert applyUpdate applyRemove applyMove applyOperation
+    patchSteps replaySteps operationsOf applyStep applySteps
 projection-examples = tt
