@@ -1,20 +1,20 @@
 -- One collection's list of entries, after an entry is inserted, replaced or removed among those of all collections.
-use Prim.Native.Nat.{ℕ, zero, suc, _≤_, _<_}
+use Prim.Native.Nat.{ℕ, _<_}
 use mathlib.Core.Path.{_≡_, refl, sym, ap, _∙_}
 use mathlib.Core.Logic.{_≢_}
-use mathlib.Core.Bool.{Bool, true, false, _&&_, _||_}
+use mathlib.Core.Bool.{Bool, true}
 use mathlib.Core.List.{List, [], _∷_, _++_}
 use mathlib.Core.Option.{Option, none, some, Option·map}
 use native.Mathlib.Omega.{arith}
 use borrow.Author.Tests.{eq-eqb, ne-eqb}
 use lib.Dec.{eqb}
-use Rattle.spec_lists.specs.Lists.{if_then_else_, any, All}
+use Rattle.spec_lists.specs.Lists.{any, All}
 use Rattle.spec_lists.specs.ListLaws.{test-cases}
 use Rattle.spec_projection.specs.Projection.{Entry}
 use Rattle.spec_projection.specs.FirstMatch.{findFirst, insertBeforeFirst, replaceFirst, removeFirst}
 use Rattle.spec_projection.specs.Entries.{isEntry, isLater, contains, insertLast, insertBefore, insertEntry, replaceEntry, removeEntry}
 use Rattle.spec_projection.specs.EntriesLaws.{entry-collection, later-above}
-use Rattle.spec_projection.specs.Lookups.{KeyedValue, keyedValue, entriesIn}
+use Rattle.spec_projection.specs.Lookups.{keyedValue, entriesIn}
 use Rattle.spec_projection.specs.Effects.{hasKey, insertKeyed}
 use Rattle.spec_projection.specs.Valid.{Behind, Grouped}
 

@@ -1,19 +1,15 @@
 -- A valid projection is determined by what its lookups and its collections' lists answer.
-use Prim.Native.Nat.{ℕ, _≤_, _<_}
+use Prim.Native.Nat.{ℕ, _<_}
 use mathlib.Core.Path.{_≡_, refl, sym, ap, _∙_}
-use mathlib.Core.Logic.{_≢_}
-use mathlib.Core.Bool.{Bool, true, false}
 use mathlib.Core.List.{List, [], _∷_, head-eq-of-cons-eq, tail-eq-of-cons-eq}
 use native.Mathlib.Omega.{arith}
 use borrow.Author.Tests.{ltb-true, ltb-false, eqb-true, eqb-false}
 use lib.Dec.{ltb, eqb}
-use Rattle.spec_lists.specs.Lists.{All}
 use Rattle.spec_lists.specs.ListLaws.{test-cases}
 use Rattle.spec_lists.specs.OrderLaws.{ascending-determined}
-use Rattle.spec_patch.specs.Patch.{Value, Availability}
 use Rattle.spec_projection.specs.Projection.{Binding, NodeAvailability, Entry, Projection, bindingKey, availabilityKey}
 use Rattle.spec_projection.specs.Lookups.{bindingOf, availabilityOf, KeyedValue, keyedValue, entriesIn, entriesOf}
-use Rattle.spec_projection.specs.Valid.{Behind, Grouped, Valid}
+use Rattle.spec_projection.specs.Valid.{Grouped, Valid}
 use Rattle.spec_projection.specs.CollectionLaws.{entriesIn-own, entriesIn-other, none-later}
 
 cons-not-nil : {A : Type 0} (x : A) (l : List A) → x ∷ l ≡ [] → ⊥

@@ -4,7 +4,7 @@ use mathlib.Core.Bool.{Bool}
 use mathlib.Core.List.{List, [], _∷_, _++_}
 use mathlib.Core.Option.{Option, none, some}
 use lib.Dec.{eqb}
-use Rattle.spec_patch.specs.Patch.{Value, Operation, setBinding, setAvailability, insert, update, remove, move}
+use Rattle.spec_patch.specs.Patch.{Operation, setBinding, setAvailability, insert, update, remove, move}
 use Rattle.spec_projection.specs.FirstMatch.{findFirst, insertBeforeFirst, replaceFirst, removeFirst}
 use Rattle.spec_projection.specs.Lookups.{KeyedValue}
 

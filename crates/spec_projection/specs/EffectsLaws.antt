@@ -1,25 +1,23 @@
 -- An operation that applies changes what it is on and nothing else, and its own collection's list as `collectionAfter` says.
 use Prim.Native.Nat.{ℕ}
-use mathlib.Core.Path.{_≡_, refl, sym, ap, _∙_, subst}
+use mathlib.Core.Path.{_≡_, sym, ap, _∙_, subst}
 use mathlib.Core.Logic.{_≢_}
-use mathlib.Core.Bool.{true, false}
 use mathlib.Core.List.{List, [], _∷_, head-eq-of-cons-eq, tail-eq-of-cons-eq}
-use mathlib.Core.Option.{Option, none, some, Option·map}
-use native.Mathlib.Omega.{arith}
-use Rattle.spec_lists.specs.Order.{upsert, lookup}
+use mathlib.Core.Option.{some, Option·map}
+use Rattle.spec_lists.specs.Order.{upsert}
 use Rattle.spec_lists.specs.OrderLaws.{lookup-upsert, lookup-upsert-other}
 use Rattle.spec_patch.specs.Patch.{Value, Availability, Operation, setBinding, setAvailability, insert, update, remove, move}
 use Rattle.spec_projection.specs.Projection.{Binding, NodeAvailability, Entry, Projection, bindingKey, availabilityKey}
-use Rattle.spec_projection.specs.FirstMatch.{findFirst, removeFirst}
+use Rattle.spec_projection.specs.FirstMatch.{findFirst}
 use Rattle.spec_projection.specs.FirstMatchLaws.{findFirst-passes}
 use Rattle.spec_projection.specs.Entries.{isEntry, insertEntry, replaceEntry, removeEntry}
 use Rattle.spec_projection.specs.EntriesLaws.{entry-collection, entry-key, removeEntry-grouped}
-use Rattle.spec_projection.specs.Lookups.{bindingOf, availabilityOf, KeyedValue, keyedValue, entriesIn, entriesOf}
-use Rattle.spec_projection.specs.Apply.{Outcome, done, withBindings, withAvailabilities, withEntries, applyOperation}
+use Rattle.spec_projection.specs.Lookups.{bindingOf, availabilityOf, keyedValue, entriesIn, entriesOf}
+use Rattle.spec_projection.specs.Apply.{done, withBindings, withAvailabilities, withEntries, applyOperation}
 use Rattle.spec_projection.specs.OperationLaws.{applied-binding, applied-availability, applied-insert, applied-update, applied-remove, AppliedMove, applied-move}
 use Rattle.spec_projection.specs.Effects.{Target, bindingTarget, nodeTarget, collectionTarget, targetOf, hasKey, insertKeyed, moveKeyed, collectionAfter}
 use Rattle.spec_projection.specs.CollectionLaws.{insertEntry-other, insertEntry-own, replaceEntry-other, replaceEntry-own, removeEntry-other, removeEntry-own, findFirst-own}
-use Rattle.spec_projection.specs.Valid.{Grouped, Valid}
+use Rattle.spec_projection.specs.Valid.{Valid}
 
 -- ---- one of the three lists changes, at the operation's target
 

@@ -1,14 +1,14 @@
 -- Inserting, replacing and removing an entry keep the stored order of entries.
-use Prim.Native.Nat.{ℕ, zero, suc, _≤_, _<_}
-use mathlib.Core.Path.{_≡_, refl, sym, ap, _∙_}
-use mathlib.Core.Bool.{Bool, true, false, false≢true, _&&_, _||_}
+use Prim.Native.Nat.{ℕ, suc, _≤_, _<_}
+use mathlib.Core.Path.{_≡_, refl, sym}
+use mathlib.Core.Bool.{Bool, true, false, false≢true}
 use mathlib.Core.List.{List, [], _∷_}
 use mathlib.Core.Option.{Option, none, some}
 use native.Mathlib.Omega.{arith}
 use borrow.Author.Tests.{ltb-true, ltb-false, eqb-true, eq-eqb}
-use lib.Dec.{ltb, eqb}
+use lib.Dec.{eqb}
 use lib.ListN.{length}
-use Rattle.spec_lists.specs.Lists.{if_then_else_, any, All}
+use Rattle.spec_lists.specs.Lists.{any, All}
 use Rattle.spec_lists.specs.ListLaws.{and-left, and-right, or-left, or-right, or-second, all-map, test-cases}
 use Rattle.spec_projection.specs.Projection.{Entry}
 use Rattle.spec_projection.specs.FirstMatch.{findFirst, insertBeforeFirst, replaceFirst, removeFirst}

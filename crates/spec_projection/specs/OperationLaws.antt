@@ -1,18 +1,16 @@
 -- What is known of an operation that applied: its tests held, and the projection afterwards.
 use Prim.Native.Nat.{ℕ, _≤_}
-use mathlib.Core.Path.{_≡_, refl, sym, ap, _∙_}
-use mathlib.Core.Bool.{Bool, true, false, not}
-use mathlib.Core.List.{List, [], _∷_}
+use mathlib.Core.Path.{_≡_, refl}
+use mathlib.Core.Bool.{Bool, true, false}
 use mathlib.Core.Option.{Option, none, some}
 use borrow.Author.Tests.{leb-true, not-false}
-use lib.Dec.{leb}
 use lib.ListN.{length}
 use Rattle.spec_lists.specs.Lists.{if_then_else_}
 use Rattle.spec_lists.specs.Order.{upsert}
 use Rattle.spec_patch.specs.Sizes.{projectionBindings, projectionAvailabilities, projectionEntries}
 use Rattle.spec_projection.specs.Projection.{Binding, NodeAvailability, Entry, Projection, bindingKey, availabilityKey}
 use Rattle.spec_projection.specs.Entries.{contains, containsNeighbour, insertEntry, replaceEntry, removeEntry}
-use Rattle.spec_projection.specs.Apply.{OperationFault, keyRule, projectionFull, Outcome, done, stopped, withBindings, withAvailabilities, withEntries, applyBinding, applyAvailability, applyInsert, applyUpdate, applyRemove, applyMove}
+use Rattle.spec_projection.specs.Apply.{OperationFault, Outcome, done, stopped, withBindings, withAvailabilities, withEntries, applyBinding, applyAvailability, applyInsert, applyUpdate, applyRemove, applyMove}
 use Rattle.spec_projection.specs.ApplyLaws.{stopped-not-done}
 
 -- a test that must hold did

@@ -1,26 +1,25 @@
 -- The empty projection is valid, and every operation that applies leaves a valid one.
-use Prim.Native.Nat.{ℕ, suc, _≤_}
-use mathlib.Core.Path.{_≡_, refl, sym, subst}
+use Prim.Native.Nat.{ℕ, _≤_}
+use mathlib.Core.Path.{_≡_, sym, subst}
 use mathlib.Core.List.{List, [], _∷_, map, flatMap}
-use mathlib.Core.Option.{Option, none, some}
+use mathlib.Core.Option.{Option}
 use native.Mathlib.Omega.{arith}
 use lib.ListN.{length}
 use Rattle.spec_lists.specs.Lists.{All}
-use Rattle.spec_lists.specs.Order.{upsert}
 use Rattle.spec_lists.specs.OrderLaws.{upsert-ascending, upsert-all}
 use Rattle.spec_lists.specs.ListLaws.{all-append}
 use Rattle.spec_patch.specs.Edition.{Edition}
 use Rattle.spec_patch.specs.Sizes.{projectionEntries}
 use Rattle.spec_patch.specs.Fits.{U64, OperationHolds, FitsOperation, FitsPatch}
-use Rattle.spec_patch.specs.Patch.{Value, Operation, setBinding, setAvailability, insert, update, remove, move, Patch}
+use Rattle.spec_patch.specs.Patch.{Operation, setBinding, setAvailability, insert, update, remove, move, Patch}
 use Rattle.spec_projection.specs.Projection.{Binding, NodeAvailability, Entry, Projection, empty, bindingKey, availabilityKey}
 use Rattle.spec_projection.specs.FirstMatch.{findFirst}
 use Rattle.spec_projection.specs.FirstMatchLaws.{findFirst-all}
 use Rattle.spec_projection.specs.Entries.{isEntry, insertEntry, replaceEntry, removeEntry}
 use Rattle.spec_projection.specs.EntriesLaws.{insertEntry-grouped, insertEntry-all, insertEntry-length, replaceEntry-grouped, replaceEntry-all, replaceEntry-length, removeEntry-grouped, removeEntry-gone, removeEntry-all, removeEntry-length, found-contains}
-use Rattle.spec_projection.specs.Apply.{Outcome, done, stopped, withBindings, withAvailabilities, withEntries, applyBinding, applyAvailability, applyInsert, applyUpdate, applyRemove, applyMove, applyOperation, ReplayStep, stepOf, patchSteps, replaySteps, applyStep, andThen, applySteps}
+use Rattle.spec_projection.specs.Apply.{done, withBindings, withAvailabilities, withEntries, applyBinding, applyAvailability, applyInsert, applyUpdate, applyRemove, applyMove, applyOperation, ReplayStep, stepOf, patchSteps, replaySteps, applyStep, applySteps}
 use Rattle.spec_projection.specs.ApplyLaws.{done-injective, andThen-done}
-use Rattle.spec_projection.specs.OperationLaws.{applied-binding, applied-availability, AppliedInsert, applied-insert, applied-update, applied-remove, AppliedMove, applied-move}
+use Rattle.spec_projection.specs.OperationLaws.{applied-binding, applied-availability, applied-insert, applied-update, applied-remove, applied-move}
 use Rattle.spec_projection.specs.Valid.{Grouped, FitsBinding, FitsNodeAvailability, FitsEntry, Valid, FitsStep}
 
 pub empty-valid : Valid empty
