@@ -3,7 +3,7 @@ use Prim.Native.Nat.{ℕ, _≤_, _<_}
 use mathlib.Core.Path.{_≡_, refl, sym, ap, _∙_}
 use mathlib.Core.Bool.{Bool, true, false, false≢true, _&&_, _||_}
 use mathlib.Core.List.{List, [], _∷_}
-use mathlib.Core.Option.{none, some, Option·map, Option·some-injective}
+use mathlib.Core.Option.{none, some, Option·map, Option·some-injective, Option·some-ne-none}
 use mathlib.Core.Logic.{_⊎_, inl, inr, _≢_}
 use native.Mathlib.Omega.{arith}
 use borrow.Author.Tests.{ltb-true, ltb-false, lt-ltb, le-ltb, eqb-true, eqb-false, eq-eqb}
@@ -153,13 +153,10 @@ module _ {A : Type 0} (key : A → List ℕ) where
 
 -- `value` is what a lookup gives; it and the key determine an element
 module _ {A B : Type 0} (key : A → List ℕ) (value : A → B) (whole : (x y : A) → key x ≡ key y → value x ≡ value y → x ≡ y) where
-  some-not-none : (b : B) → some b ≡ none → ⊥
-  some-not-none b e = let z : _≡_ {A = ℕ} 0 1 = cc in omega arith
-
   -- a first key that is below all of another list is not found there
   first-not-below : (x : A) (l m : List A) → All (λ y. lexLess (key x) (key y) ≡ true) m
       → Option·map value (lookup key (key x) (x ∷ l)) ≡ Option·map value (lookup key (key x) m) → ⊥
-  first-not-below x l m h e = some-not-none (value x) (rw (lookup-here key x l, lookup-below key (key x) m h) at e)
+  first-not-below x l m h e = Option·some-ne-none (value x) (rw (lookup-here key x l, lookup-below key (key x) m h) at e)
 
   pub ascending-determined : (l m : List A) → Ascending key l → Ascending key m
       → ((a : A) → Option·map value (lookup key (key a) l) ≡ Option·map value (lookup key (key a) m)) → l ≡ m

@@ -1,7 +1,7 @@
 -- A valid projection is determined by what its lookups and its collections' lists answer.
 use Prim.Native.Nat.{ℕ, _<_}
 use mathlib.Core.Path.{_≡_, refl, sym, ap, _∙_}
-use mathlib.Core.List.{List, [], _∷_, head-eq-of-cons-eq, tail-eq-of-cons-eq}
+use mathlib.Core.List.{List, [], _∷_, cons≢nil, head-eq-of-cons-eq, tail-eq-of-cons-eq}
 use native.Mathlib.Omega.{arith}
 use borrow.Author.Tests.{ltb-true, ltb-false, eqb-true, eqb-false}
 use lib.Dec.{ltb, eqb}
@@ -12,13 +12,10 @@ use Rattle.spec_projection.specs.Lookups.{bindingOf, availabilityOf, Key
 use Rattle.spec_projection.specs.Valid.{Grouped, Valid}
 use Rattle.spec_projection.specs.CollectionLaws.{entriesIn-own, entriesIn-other, none-later}
 
-cons-not-nil : {A : Type 0} (x : A) (l : List A) → x ∷ l ≡ [] → ⊥
-cons-not-nil x l e = let z : _≡_ {A = ℕ} 0 1 = cc in omega arith
-
 -- an entry's collection has an entry, so it is not before all of another list
 first-not-before : (x y : Entry) (l m : List Entry) → Grouped (y ∷ m) → ((c : ℕ) → entriesIn c (x ∷ l) ≡ entriesIn c (y ∷ m)) → x .collection < y .collection → ⊥
 first-not-before x y l m h e less =
-    cons-not-nil (keyedValue x) (entriesIn (x .collection) l) (sym (entriesIn-own x l) ∙ e (x .collection) ∙ none-later (x .collection) y m less (h .0))
+    cons≢nil (sym (entriesIn-own x l) ∙ e (x .collection) ∙ none-later (x .collection) y m less (h .0))
 
 entry-equal : (x y : Entry) → x .collection ≡ y .collection → x .key ≡ y .key → x .value ≡ y .value → x ≡ y
 entry-equal x y c k v = λ i. record { collection = c i; key = k i; value = v i }
@@ -28,8 +25,8 @@ entry-equal x y c k v = λ i. record { collection = c i; key = k i; value = v i 
 grouped-determined : (l m : List Entry) → Grouped l → Grouped m → ((c : ℕ) → entriesIn c l ≡ entriesIn c m) → l ≡ m
 unfolding entriesIn
 grouped-determined [] [] g h e = refl
-grouped-determined (x ∷ l) [] g h e = absurd (cons-not-nil _ _ (sym (entriesIn-own x l) ∙ e (x .collection)))
-grouped-determined [] (y ∷ m) g h e = absurd (cons-not-nil _ _ (sym (entriesIn-own y m) ∙ sym (e (y .collection))))
+grouped-determined (x ∷ l) [] g h e = absurd (cons≢nil (sym (entriesIn-own x l) ∙ e (x .collection)))
+grouped-determined [] (y ∷ m) g h e = absurd (cons≢nil (sym (entriesIn-own y m) ∙ sym (e (y .collection))))
 grouped-determined (x ∷ l) (y ∷ m) g h e = heads (grouped-determined l m (g .1) (h .1))
   where
     collections : x .collection ≡ y .collection
