@@ -8,7 +8,7 @@ use Prim.Native.Nat.{ℕ, zero, suc, _<_}
 use native.Mathlib.Omega.{arith}
 use lib.Dec.{T, eqb}
 use lib.ListN.{length, getD}
-use borrow.Author.Tests.{eqb-true}
+use borrow.Author.Tests.{eqb-true, eq-eqb}
 use Rattle.spec_lists.specs.Lists.{if_then_else_, all, any, equalLists, isEmpty, All}
 
 -- ---- tests
@@ -154,3 +154,8 @@ getD-member (x ∷ l) (suc i) d h = List·Memᴰ·tail (getD-member l i d (omega
 pub map-member : {A B : Type 0} (f g : A → B) {x : A} (l : List A) → map f l ≡ map g l → List·Memᴰ x l → f x ≡ g x
 map-member f g (y ∷ l) h (List·Memᴰ·head e) = cc
 map-member f g (y ∷ l) h (List·Memᴰ·tail m) = map-member f g l (cc) m
+
+-- a list of numbers passes the test against itself
+pub equalLists-refl : (a : List ℕ) → equalLists eqb a a ≡ true
+equalLists-refl [] = refl
+equalLists-refl (x ∷ a) = rw (eq-eqb x x refl) (equalLists-refl a)

@@ -1,13 +1,13 @@
 -- The order of keys is strict and total, and an ascending list stays ascending when an element is inserted.
 use Prim.Native.Nat.{ℕ, suc, _≤_, _<_}
 use mathlib.Core.Path.{_≡_, refl, sym, ap, _∙_}
-use mathlib.Core.Bool.{Bool, true, false, _&&_, _||_}
+use mathlib.Core.Bool.{Bool, true, false, false≢true, _&&_, _||_}
 use mathlib.Core.HLevel.{⊥-prop}
 use mathlib.Core.List.{List, [], _∷_, _++_, List·Nodup, Pairwise·nil, Pairwise·cons}
 use mathlib.Core.List.{List·Memᴰ, List·Memᴰ·head, List·Memᴰ·tail, List·Memᴰ·cases-cons, List·Memᴰ·not-nil, List·Memᴰ·eq-of-singleton, List·Memᴰ·append-cases, Memᴰ·append-left, Memᴰ·append-right, Memᴰ·cast}
 use mathlib.Core.Logic.{_⊎_, inl, inr, ⊎-elim, ∥∥₁-elim}
 use native.Mathlib.Omega.{arith}
-use borrow.Author.Tests.{ltb-true, ltb-false, lt-ltb, eqb-true, eqb-false, eq-eqb}
+use borrow.Author.Tests.{ltb-true, ltb-false, lt-ltb, le-ltb, eqb-true, eqb-false, eq-eqb}
 use lib.Dec.{ltb, eqb}
 use lib.ListN.{length}
 use Rattle.spec_lists.specs.Lists.{All}
@@ -80,11 +80,11 @@ module _ {A : Type 0} (key : A → List ℕ) where
   upsert-cases P a x l before behind same = if-cases P _ _ _ before (λ e. if-cases P _ _ _ behind (λ f. same (lexLess-total (key a) (key x) e f)))
 
   -- a key below one element is below all that follow it
-  above : (a x : A) (l : List A) → lexLess (key a) (key x) ≡ true → All (λ y. lexLess (key x) (key y) ≡ true) l → All (λ y. lexLess (key a) (key y) ≡ true) l
+  pub above : (a x : A) (l : List A) → lexLess (key a) (key x) ≡ true → All (λ y. lexLess (key x) (key y) ≡ true) l → All (λ y. lexLess (key a) (key y) ≡ true) l
   above a x [] h k = tt
   above a x (y ∷ l) h k = (lexLess-trans (key a) (key x) (key y) h (k .0), above a x l h (k .1))
 
-  alike : (a x : A) (l : List A) → key a ≡ key x → All (λ y. lexLess (key x) (key y) ≡ true) l → All (λ y. lexLess (key a) (key y) ≡ true) l
+  pub alike : (a x : A) (l : List A) → key a ≡ key x → All (λ y. lexLess (key x) (key y) ≡ true) l → All (λ y. lexLess (key a) (key y) ≡ true) l
   alike a x [] h k = tt
   alike a x (y ∷ l) h k = (rw h (k .0), alike a x l h (k .1))
 
@@ -108,10 +108,14 @@ module _ {A : Type 0} (key : A → List ℕ) where
 
 -- ---- members
 
-pub lexLess-irreflexive : (a : List ℕ) → lexLess a a ≡ true → ⊥
+-- no key is below itself
+pub lexLess-self : (a : List ℕ) → lexLess a a ≡ false
 unfolding lexLess
-lexLess-irreflexive [] h = let z : _≡_ {A = ℕ} 0 1 = cc in omega arith
-lexLess-irreflexive (x ∷ a) h = ⊎-elim (λ (l : x < x). omega arith) (λ (e : (x ≡ x) × (lexLess a a ≡ true)). lexLess-irreflexive a (e .1)) (lexLess-cases x x a a h)
+lexLess-self [] = refl
+lexLess-self (x ∷ a) = rw (le-ltb x x (omega arith), eq-eqb x x refl, lexLess-self a)
+
+pub lexLess-irreflexive : (a : List ℕ) → lexLess a a ≡ true → ⊥
+lexLess-irreflexive a e = false≢true (sym (lexLess-self a) ∙ e)
 
 module _ {A : Type 0} (key : A → List ℕ) where
   pub upsert-member : (x a : A) (l : List A) → List·Memᴰ x (upsert key a l) → (x ≡ a) ⊎ List·Memᴰ x l
