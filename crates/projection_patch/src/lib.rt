@@ -1,4 +1,4 @@
 // Patches and their canonical bytes. After crates/prom-ui/src/projection_patch.rs.
-pub mod contract_primitives;
 pub mod binding_graph;
+pub mod contract_primitives;
 pub mod patch;
