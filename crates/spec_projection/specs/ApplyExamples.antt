@@ -85,8 +85,9 @@ byte (some a) = availabilityByte a ∷ []
 
 -- ---- the table
 
-pub examples : List Bool
-examples =
+-- what stands where in a collection
+places : List Bool
+places =
     -- [1, 2, 3], move 1 before 3: [2, 1, 3]; move 1 last: [2, 3, 1]
     shows (2 ∷ 1 ∷ 3 ∷ []) (keys 9) three (move 9 1 (some 3) ∷ [])
     ∷ shows (2 ∷ 3 ∷ 1 ∷ []) (keys 9) three (move 9 1 none ∷ [])
@@ -101,8 +102,13 @@ examples =
     ∷ shows (1 ∷ 2 ∷ 3 ∷ 4 ∷ []) (keys 9) three (insert 9 4 none (unsigned 0) ∷ [])
     -- a removal takes one key out
     ∷ shows (1 ∷ 3 ∷ []) (keys 9) three (remove 9 2 ∷ [])
+    ∷ []
+
+-- 8: the key and neighbour rules
+keyRules : List Bool
+keyRules =
     -- a present key, an absent neighbour, an absent key
-    ∷ gives 8 three (insert 9 1 none (unsigned 0) ∷ [])
+    gives 8 three (insert 9 1 none (unsigned 0) ∷ [])
     ∷ gives 8 three (insert 9 4 (some 5) (unsigned 0) ∷ [])
     ∷ gives 8 three (update 9 4 (unsigned 0) ∷ [])
     ∷ gives 8 three (remove 9 4 ∷ [])
@@ -111,8 +117,13 @@ examples =
     ∷ gives 0 three (insert 8 1 none (unsigned 0) ∷ [])
     ∷ gives 8 three (insert 8 1 (some 2) (unsigned 0) ∷ [])
     ∷ gives 8 three (remove 8 1 ∷ [])
+    ∷ []
+
+-- 9: 128 entries of all collections, 64 bindings, 64 availabilities
+capacities : List Bool
+capacities =
     -- entry 128 fits; 129 gives 9, over all collections; on a full projection an absent neighbour is still 8
-    ∷ gives 0 (stored 0 (keyed 9 127)) (insert 9 500 none (unsigned 0) ∷ [])
+    gives 0 (stored 0 (keyed 9 127)) (insert 9 500 none (unsigned 0) ∷ [])
     ∷ gives 9 full (insert 9 500 none (unsigned 0) ∷ [])
     ∷ gives 9 (stored 0 (keyed 8 64 ++ keyed 9 64)) (insert 9 500 (some 1) (unsigned 0) ∷ [])
     ∷ gives 8 full (insert 9 500 (some 600) (unsigned 0) ∷ [])
@@ -124,24 +135,40 @@ examples =
     ∷ gives 9 (stored 64 []) (setBinding 6 0 (unsigned 2) ∷ [])
     ∷ gives 0 (stored 63 []) (setAvailability 500 hidden ∷ setAvailability 3 hidden ∷ [])
     ∷ gives 9 (stored 64 []) (setAvailability 500 hidden ∷ [])
-    -- stored order: collections ascending, entries in list order; bindings by (node, slot)
-    ∷ shows (8 ∷ 9 ∷ 9 ∷ 9 ∷ []) (λ p. map (λ (e : Entry). e .collection) (p .entries)) three (insert 8 1 none (unsigned 0) ∷ [])
+    ∷ []
+
+-- collections ascending, entries in list order; bindings by (node, slot)
+storedOrder : List Bool
+storedOrder =
+    shows (8 ∷ 9 ∷ 9 ∷ 9 ∷ []) (λ p. map (λ (e : Entry). e .collection) (p .entries)) three (insert 8 1 none (unsigned 0) ∷ [])
     ∷ shows (9 ∷ 9 ∷ 9 ∷ 10 ∷ []) (λ p. map (λ (e : Entry). e .collection) (p .entries)) three (insert 10 1 none (unsigned 0) ∷ [])
     ∷ shows (7 ∷ 0 ∷ 3 ∷ []) (λ p. map (λ (b : Binding). b .slot) (p .bindings)) empty (setBinding 2 3 (unsigned 0) ∷ setBinding 1 7 (unsigned 0) ∷ setBinding 2 0 (unsigned 0) ∷ [])
-    -- lookups: the last value set, or none; an emptied collection has no entries
-    ∷ shows (2 ∷ []) (λ p. number (bindingOf p 5 0)) empty (setBinding 5 0 (unsigned 1) ∷ setBinding 5 0 (unsigned 2) ∷ [])
+    ∷ []
+
+-- lookups answer the last value set, or none; an emptied collection has no entries
+lookups : List Bool
+lookups =
+    shows (2 ∷ []) (λ p. number (bindingOf p 5 0)) empty (setBinding 5 0 (unsigned 1) ∷ setBinding 5 0 (unsigned 2) ∷ [])
     ∷ shows [] (λ p. number (bindingOf p 5 1)) empty (setBinding 5 0 (unsigned 1) ∷ [])
     ∷ shows (2 ∷ []) (λ p. byte (availabilityOf p 5)) empty (setAvailability 5 pending ∷ setAvailability 5 hidden ∷ [])
     ∷ shows [] (λ p. byte (availabilityOf p 6)) empty (setAvailability 5 pending ∷ [])
     ∷ shows (3 ∷ []) (λ p. number (Option·map (λ (e : KeyedValue). e .value) (entryAt p 9 2))) three []
     ∷ shows (3 ∷ []) (λ p. entryCount p 9 ∷ []) three []
     ∷ shows (0 ∷ []) (λ p. entryCount p 9 ∷ []) three (remove 9 1 ∷ remove 9 2 ∷ remove 9 3 ∷ [])
+    ∷ []
+
+-- steps in order
+steps : List Bool
+steps =
     -- the first step that fails decides
-    ∷ gives 8 full (remove 9 500 ∷ insert 9 500 none (unsigned 0) ∷ [])
+    gives 8 full (remove 9 500 ∷ insert 9 500 none (unsigned 0) ∷ [])
     ∷ gives 9 full (insert 9 500 none (unsigned 0) ∷ remove 9 501 ∷ [])
     -- each step has its patch's id
     ∷ equalLists eqb (map (λ (s : ReplayStep). s .patch) (replaySteps (patch 7 (remove 9 1 ∷ remove 9 2 ∷ []) ∷ patch 8 (remove 9 1 ∷ []) ∷ []))) (7 ∷ 7 ∷ 8 ∷ [])
     ∷ []
+
+pub examples : List Bool
+examples = places ++ keyRules ++ capacities ++ storedOrder ++ lookups ++ steps
 
 -- the places of the rows that fail, from 0
 pub failing : ℕ → List Bool → List ℕ
@@ -151,7 +178,7 @@ failing i (false ∷ rows) = i ∷ failing (suc i) rows
 
 -- no row fails
 pub projection-examples : failing 0 examples ≡ []
-unfolding examples failing patch numbers keyed stored three full numberOf ask gives shows keys plain number byte availabilityByte
+unfolding examples places keyRules capacities storedOrder lookups steps failing patch numbers keyed stored three full numberOf ask gives shows keys plain number byte availabilityByte
     flatMap lexLess upsert lookup
     empty bindingKey availabilityKey findFirst insertBeforeFirst replaceFirst removeFirst
     isEntry isLater contains containsNeighbour insertLast insertBefore insertEntry replaceEntry removeEntry
