@@ -1,35 +1,37 @@
 // Runs of bytes: written into ten letters Z, and compared.
 use crate::tally;
 
-fn bytes_give(at: usize, bytes: &[u8], expected: &[u8]) -> bool {
+// The answer, and the ten bytes.
+fn gives(passed: u64, at: usize, bytes: &[u8], fits: bool, expected: &[u8]) -> u64 {
     let mut out = [0x5au8; 10];
-    wire::write_bytes_at(&mut out, at, bytes) && check::same(&out, expected)
+    let written = wire::write_bytes_at(&mut out, at, bytes);
+    let n = tally(passed, written == fits);
+    tally(n, check::same(&out, expected))
 }
 
-fn bytes_refused(at: usize, bytes: &[u8]) -> bool {
-    let mut out = [0x5au8; 10];
-    !wire::write_bytes_at(&mut out, at, bytes) && check::same(&out, b"ZZZZZZZZZZ")
+fn refuses(passed: u64, at: usize, bytes: &[u8]) -> u64 {
+    gives(passed, at, bytes, false, b"ZZZZZZZZZZ")
 }
 
 fn written(passed: u64) -> u64 {
-    let n = tally(passed, bytes_give(0, b"abc", b"abcZZZZZZZ"));
-    let n = tally(n, bytes_give(3, b"abc", b"ZZZabcZZZZ"));
-    let n = tally(n, bytes_give(7, b"abc", b"ZZZZZZZabc"));
-    tally(n, bytes_give(0, b"abcdefghij", b"abcdefghij"))
+    let n = gives(passed, 0, b"abc", true, b"abcZZZZZZZ");
+    let n = gives(n, 3, b"abc", true, b"ZZZabcZZZZ");
+    let n = gives(n, 7, b"abc", true, b"ZZZZZZZabc");
+    gives(n, 0, b"abcdefghij", true, b"abcdefghij")
 }
 
 fn none_written(passed: u64) -> u64 {
-    let n = tally(passed, bytes_give(0, b"", b"ZZZZZZZZZZ"));
-    let n = tally(n, bytes_give(10, b"", b"ZZZZZZZZZZ"));
-    tally(n, bytes_refused(11, b""))
+    let n = gives(passed, 0, b"", true, b"ZZZZZZZZZZ");
+    let n = gives(n, 10, b"", true, b"ZZZZZZZZZZ");
+    refuses(n, 11, b"")
 }
 
 fn refused(passed: u64) -> u64 {
-    let n = tally(passed, bytes_refused(8, b"abc"));
-    let n = tally(n, bytes_refused(0, b"abcdefghijk"));
-    let n = tally(n, bytes_refused(10, b"a"));
-    let n = tally(n, bytes_refused(11, b"a"));
-    tally(n, bytes_refused(0xffffffffffffffff, b"ab"))
+    let n = refuses(passed, 8, b"abc");
+    let n = refuses(n, 0, b"abcdefghijk");
+    let n = refuses(n, 10, b"a");
+    let n = refuses(n, 11, b"a");
+    refuses(n, 0xffffffffffffffff, b"ab")
 }
 
 // Whether the letters PATCH begin with prefix, from a position on.

@@ -1,4 +1,4 @@
-// Each number is read from its place in the expected bytes, and gives them when it is written there: two vectors.
+// Each number is read from its place in the expected bytes, is written there, and gives them: three vectors.
 use crate::tally;
 use wire::ReadI64;
 use wire::ReadU8;
@@ -12,7 +12,8 @@ fn u8_both(passed: u64, at: usize, x: u8, expected: &[u8]) -> u64 {
     };
     let mut out = [0x5au8; 10];
     let written = wire::write_u8_at(&mut out, at, x);
-    tally(tally(passed, read), written && check::same(&out, expected))
+    let n = tally(tally(passed, read), written);
+    tally(n, check::same(&out, expected))
 }
 
 fn u32_both(passed: u64, at: usize, x: u32, expected: &[u8]) -> u64 {
@@ -22,7 +23,8 @@ fn u32_both(passed: u64, at: usize, x: u32, expected: &[u8]) -> u64 {
     };
     let mut out = [0x5au8; 10];
     let written = wire::write_u32_at(&mut out, at, x);
-    tally(tally(passed, read), written && check::same(&out, expected))
+    let n = tally(tally(passed, read), written);
+    tally(n, check::same(&out, expected))
 }
 
 fn u64_both(passed: u64, at: usize, x: u64, expected: &[u8]) -> u64 {
@@ -32,7 +34,8 @@ fn u64_both(passed: u64, at: usize, x: u64, expected: &[u8]) -> u64 {
     };
     let mut out = [0x5au8; 10];
     let written = wire::write_u64_at(&mut out, at, x);
-    tally(tally(passed, read), written && check::same(&out, expected))
+    let n = tally(tally(passed, read), written);
+    tally(n, check::same(&out, expected))
 }
 
 fn i64_both(passed: u64, at: usize, z: i64, expected: &[u8]) -> u64 {
@@ -42,7 +45,8 @@ fn i64_both(passed: u64, at: usize, z: i64, expected: &[u8]) -> u64 {
     };
     let mut out = [0x5au8; 10];
     let written = wire::write_i64_at(&mut out, at, z);
-    tally(tally(passed, read), written && check::same(&out, expected))
+    let n = tally(tally(passed, read), written);
+    tally(n, check::same(&out, expected))
 }
 
 fn u8_numbers(passed: u64) -> u64 {

@@ -1,5 +1,5 @@
-// Too few bytes for a number, at every length below its own and at positions up to the largest: reading is short, and writing leaves the
-// ten letters Z.
+// Too few bytes for a number, at every length below its own and at positions up to the largest: reading is short, and writing is refused
+// and leaves the ten letters Z.
 use crate::tally;
 use wire::ReadI64;
 use wire::ReadU8;
@@ -34,24 +34,32 @@ fn i64_short(part: &[u8], at: usize) -> bool {
     }
 }
 
-fn u8_refused(at: usize) -> bool {
+fn u8_refused(passed: u64, at: usize) -> u64 {
     let mut out = [0x5au8; 10];
-    !wire::write_u8_at(&mut out, at, 1) && check::same(&out, b"ZZZZZZZZZZ")
+    let written = wire::write_u8_at(&mut out, at, 1);
+    let n = tally(passed, !written);
+    tally(n, check::same(&out, b"ZZZZZZZZZZ"))
 }
 
-fn u32_refused(at: usize) -> bool {
+fn u32_refused(passed: u64, at: usize) -> u64 {
     let mut out = [0x5au8; 10];
-    !wire::write_u32_at(&mut out, at, 1) && check::same(&out, b"ZZZZZZZZZZ")
+    let written = wire::write_u32_at(&mut out, at, 1);
+    let n = tally(passed, !written);
+    tally(n, check::same(&out, b"ZZZZZZZZZZ"))
 }
 
-fn u64_refused(at: usize) -> bool {
+fn u64_refused(passed: u64, at: usize) -> u64 {
     let mut out = [0x5au8; 10];
-    !wire::write_u64_at(&mut out, at, 1) && check::same(&out, b"ZZZZZZZZZZ")
+    let written = wire::write_u64_at(&mut out, at, 1);
+    let n = tally(passed, !written);
+    tally(n, check::same(&out, b"ZZZZZZZZZZ"))
 }
 
-fn i64_refused(at: usize) -> bool {
+fn i64_refused(passed: u64, at: usize) -> u64 {
     let mut out = [0x5au8; 10];
-    !wire::write_i64_at(&mut out, at, -1) && check::same(&out, b"ZZZZZZZZZZ")
+    let written = wire::write_i64_at(&mut out, at, -1);
+    let n = tally(passed, !written);
+    tally(n, check::same(&out, b"ZZZZZZZZZZ"))
 }
 
 fn eight_short(passed: u64, part: &[u8]) -> u64 {
@@ -83,9 +91,9 @@ fn off_by_one(passed: u64) -> u64 {
     let n = tally(passed, u32_short(b"ZZZZZZZZZZ", 7));
     let n = tally(n, u64_short(b"ZZZZZZZZZZ", 3));
     let n = tally(n, i64_short(b"ZZZZZZZZZZ", 3));
-    let n = tally(n, u32_refused(7));
-    let n = tally(n, u64_refused(3));
-    tally(n, i64_refused(3))
+    let n = u32_refused(n, 7);
+    let n = u64_refused(n, 3);
+    i64_refused(n, 3)
 }
 
 // The eight functions at one position of ten bytes.
@@ -95,10 +103,10 @@ fn all_refused(passed: u64, at: usize) -> u64 {
     let n = tally(n, u32_short(part, at));
     let n = tally(n, u64_short(part, at));
     let n = tally(n, i64_short(part, at));
-    let n = tally(n, u8_refused(at));
-    let n = tally(n, u32_refused(at));
-    let n = tally(n, u64_refused(at));
-    tally(n, i64_refused(at))
+    let n = u8_refused(n, at);
+    let n = u32_refused(n, at);
+    let n = u64_refused(n, at);
+    i64_refused(n, at)
 }
 
 fn at_the_end(passed: u64) -> u64 {
