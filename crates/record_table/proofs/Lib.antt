@@ -1,2 +1,4 @@
+pub mod Offsets
 pub mod Parts
 pub mod Turns
+pub mod Changes

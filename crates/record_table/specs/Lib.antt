@@ -1,4 +1,5 @@
 pub mod Positions
+pub mod PositionsLaws
 pub mod Table
 pub mod TableLaws
 pub mod Moves

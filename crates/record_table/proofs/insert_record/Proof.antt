@@ -1,61 +1,66 @@
+-- `record_table::insert_record` meets its contract: the table's part from the position on is pushed up by one row.
+use Prim.Native.Nat.{_+_, _*_, _≤_}
+use native.Mathlib.Omega.{arith}
+use lib.ListN.{length, length-take, length-drop}
 use borrow.Author.Needs.{needs}
+use Rattle.record_table.proofs.Offsets.{start-le, room, room-not}
+use Rattle.record_table.proofs.Changes.{refused, changed, inserted, insert-past, insert-other, insert-full, insert-can}
 use Rattle.record_table.proofs.insert_record.Statement.{statement}
 use Rattle.record_table.proofs.insert_record.Tie as tie
-use Rattle.record_table.proofs.insert_record.Reads as reads
-use Rattle.record_table.proofs.insert_record.Lts as lts
-use Rattle.record_table.proofs.shift.push_front.Reads as push-front-reads
 
--- src/lib.rt:37:9
 returns : tie.Need-returns
-returns c = ?
+returns c = refused (insert-past _ _ _ _ _ (search needs))
 
--- src/lib.rt:40:9
 returns-2 : tie.Need-returns-2
-returns-2 c = ?
+returns-2 c = refused (insert-other _ _ _ _ _ (search needs) (c .if2 .taken))
 
--- src/lib.rt:42:8
 div-if3 : tie.Need-div-if3
 div-if3 c = search needs
 
--- src/lib.rt:43:9
 returns-3 : tie.Need-returns-3
-returns-3 c = ?
+returns-3 c =
+    let at-start = c .before .before .before .before .before in
+    refused (insert-full _ _ _ _ _ (search needs) (search needs) (room-not _ _ _ (at-start .pre) (c .if3 .taken)))
 
--- src/lib.rt:45:16
+-- the position and the room behind the last row are within the table
+placed : (c : tie.Else3) → let args = c .before .before .before .before .before .args in
+    (args .at * args .width ≤ args .count * args .width) × (args .count * args .width + args .width ≤ length (args .table .now))
+placed c =
+    let at-start = c .before .before .before .before .before in
+    (start-le (at-start .args .width) (search needs), room _ _ _ (at-start .pre) (c .if3 .left))
+
 mul-from : tie.Need-mul-from
-mul-from c = ?
+mul-from c = omega (arith, placed c)
 
--- src/lib.rt:46:15
 mul-end : tie.Need-mul-end
-mul-end c = ?
+mul-end c = omega (arith, placed c)
 
--- src/lib.rt:46:15
 add-end : tie.Need-add-end
-add-end c = ?
+add-end c = omega (arith, placed c)
 
--- src/lib.rt:47:23
 sub-push-front : tie.Need-sub-push-front
-sub-push-front c = ?
+sub-push-front c = omega (arith, placed c)
 
--- src/lib.rt:47:23
 part-push-front-start : tie.Need-part-push-front-start
-part-push-front-start c = ?
+part-push-front-start c = omega (arith, placed c)
 
--- src/lib.rt:47:23
 part-push-front-end : tie.Need-part-push-front-end
-part-push-front-end c = ?
+part-push-front-end c = omega (arith, placed c)
 
--- src/lib.rt:47:5
 push-front-requires : tie.Need-push-front-requires
-push-front-requires c κs = ?
+push-front-requires c κs = simp (length-take, length-drop) (omega (arith, placed (c .before)))
 
--- src/lib.rt:31:1
 same-length : tie.Need-same-length
 same-length c = search needs
 
--- src/lib.rt:31:1
 returns-4 : tie.Need-returns-4
-returns-4 c = ?
+returns-4 c =
+    let at-call = c .before .before in
+    let tested = at-call .before .before in
+    let at-start = tested .before .before .before .before .before in
+    changed
+    (insert-can _ _ _ _ _ (search needs) (search needs) (placed tested .1))
+    (λ m t. inserted m t (at-start .args .at) (at-start .args .row .now) (search needs) (search needs) (placed tested .1) _ (at-call .push-front .ensures))
 
 pub insert-record-spec : {M : Type 1} → statement M
 insert-record-spec =

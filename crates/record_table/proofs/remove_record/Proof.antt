@@ -1,53 +1,60 @@
+-- `record_table::remove_record` meets its contract: the table's part from the position on has one row popped.
+use Prim.Native.Nat.{_+_, _*_, _≤_}
+use native.Mathlib.Omega.{arith}
+use lib.ListN.{length, length-take, length-drop}
 use borrow.Author.Needs.{needs}
+use Rattle.record_table.proofs.Offsets.{end-le, fits, fits-not}
+use Rattle.record_table.proofs.Changes.{refused, changed, removed, remove-past, remove-outside, remove-can}
 use Rattle.record_table.proofs.remove_record.Statement.{statement}
 use Rattle.record_table.proofs.remove_record.Tie as tie
-use Rattle.record_table.proofs.remove_record.Reads as reads
-use Rattle.record_table.proofs.remove_record.Lts as lts
-use Rattle.record_table.proofs.shift.pop_front.Reads as pop-front-reads
 
--- src/lib.rt:58:9
 returns : tie.Need-returns
-returns c = ?
+returns c = refused (remove-past _ _ _ _ (search needs))
 
--- src/lib.rt:60:8
 div-if2 : tie.Need-div-if2
 div-if2 c = search needs
 
--- src/lib.rt:61:9
 returns-2 : tie.Need-returns-2
-returns-2 c = ?
+returns-2 c =
+    let at-start = c .before .before .before in
+    refused (remove-outside _ _ _ _ (search needs) (fits-not _ _ _ (at-start .pre) (c .if2 .taken)))
 
--- src/lib.rt:63:16
+-- the row is among those of the table, and these are within it
+placed : (c : tie.Else2) → let args = c .before .before .before .args in
+    (args .at * args .width + args .width ≤ args .count * args .width) × (args .count * args .width ≤ length (args .table .now))
+placed c =
+    let at-start = c .before .before .before in
+    (end-le _ _ _ (search needs), fits _ _ _ (at-start .pre) (c .if2 .left))
+
 mul-from : tie.Need-mul-from
-mul-from c = ?
+mul-from c = omega (arith, placed c)
 
--- src/lib.rt:64:15
 mul-end : tie.Need-mul-end
-mul-end c = ?
+mul-end c = omega (arith, placed c)
 
--- src/lib.rt:65:22
 sub-pop-front : tie.Need-sub-pop-front
-sub-pop-front c = ?
+sub-pop-front c = omega (arith, placed c)
 
--- src/lib.rt:65:22
 part-pop-front-start : tie.Need-part-pop-front-start
-part-pop-front-start c = ?
+part-pop-front-start c = omega (arith, placed c)
 
--- src/lib.rt:65:22
 part-pop-front-end : tie.Need-part-pop-front-end
-part-pop-front-end c = ?
+part-pop-front-end c = omega (arith, placed c)
 
--- src/lib.rt:65:5
 pop-front-requires : tie.Need-pop-front-requires
-pop-front-requires c κs = ?
+pop-front-requires c κs = simp (length-take, length-drop) (omega (arith, placed (c .before)))
 
--- src/lib.rt:52:1
 same-length : tie.Need-same-length
 same-length c = search needs
 
--- src/lib.rt:52:1
 returns-3 : tie.Need-returns-3
-returns-3 c = ?
+returns-3 c =
+    let at-call = c .before .before in
+    let tested = at-call .before .before in
+    let at-start = tested .before .before .before in
+    changed
+    (remove-can _ _ _ _ (search needs) (placed tested .1))
+    (λ m t. removed m t (at-start .args .at) (search needs) _ (at-call .pop-front .ensures))
 
 pub remove-record-spec : {M : Type 1} → statement M
 remove-record-spec =
