@@ -7,5 +7,6 @@ use Rattle.spec_lists.specs.Order.{lexLess}
 use Rattle.record_table.specs.declared.number.Order.{Order}
 use Rattle.record_table.specs.declared.number.Order.the-variants.{Below, Same, Above}
 
+-- how key a stands to key b
 unfoldable pub orderOf : List ℕ → List ℕ → Order
-orderOf a b = if lexLess a b then Below else if lexLess b a then Above else Same
+orderOf a b = if lexLess b a then Above else if lexLess a b then Below else Same

@@ -4,4 +4,5 @@ pub mod Table
 pub mod TableLaws
 pub mod Moves
 pub mod Search
+pub mod SearchLaws
 pub mod Compare

@@ -66,3 +66,10 @@ littleEndian-numberOf (b ∷ bs) h =
     let low : (b + 256 * numberOf bs) % 256 ≡ b = omega arith in
     let high : (b + 256 * numberOf bs) / 256 ≡ numberOf bs = omega arith in
     rw (low, high) (ap (λ (l : List ℕ). b ∷ l) (littleEndian-numberOf bs (h .1)))
+
+-- ---- the number of two runs of bytes
+
+pub numberOf-append : (a b : List ℕ) → numberOf (a ++ b) ≡ numberOf a + numberOf b * 256 ^ length a
+unfolding numberOf
+numberOf-append [] b = omega arith
+numberOf-append (x ∷ a) b = rw pow-suc (omega (arith, numberOf-append a b))

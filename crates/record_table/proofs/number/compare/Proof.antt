@@ -1,57 +1,55 @@
+-- `record_table::number::compare` meets its contract: each answer follows from the tests before it.
+use native.Mathlib.Omega.{arith}
+use lib.ListN.{length-take}
 use borrow.Author.Needs.{needs}
+use Rattle.record_table.proofs.Orders.{row-below, row-above, row-below-second, row-above-second, row-same}
 use Rattle.record_table.proofs.number.compare.Statement.{statement}
 use Rattle.record_table.proofs.number.compare.Tie as tie
-use Rattle.record_table.proofs.number.compare.Reads as reads
-use Rattle.record_table.proofs.number.compare.Lts as lts
-use Rattle.record_table.proofs.number.number.Reads as number-reads
 
--- src/number.rt:84:22
 slice-aggregate-number : tie.Need-slice-aggregate-number
-slice-aggregate-number c = ?
+slice-aggregate-number c = simp length-take (omega arith)
 
--- src/number.rt:84:9
 number-requires : tie.Need-number-requires
-number-requires c κs = ?
+number-requires c κs = simp length-take (omega arith)
 
--- src/number.rt:86:9
 returns : tie.Need-returns
-returns c = ?
+returns c = row-below _ _ _ _ _ (c .before .number .ensures) (c .if1 .taken)
 
--- src/number.rt:89:9
 returns-2 : tie.Need-returns-2
-returns-2 c = ?
+returns-2 c = row-above _ _ _ _ _ (c .before .before .number .ensures) (c .if2 .taken)
 
--- src/number.rt:91:15
 add-end : tie.Need-add-end
 add-end c = search needs
 
--- src/number.rt:92:25
 sub-number : tie.Need-sub-number
 sub-number c = search needs
 
--- src/number.rt:92:25
 part-number-start : tie.Need-part-number-start
 part-number-start c = search needs
 
--- src/number.rt:92:25
 part-number-end : tie.Need-part-number-end
 part-number-end c = search needs
 
--- src/number.rt:92:9
 number-requires-2 : tie.Need-number-requires-2
 number-requires-2 c κs = search needs
 
--- src/number.rt:94:9
 returns-3 : tie.Need-returns-3
-returns-3 c = ?
+returns-3 c =
+    let read = c .before in
+    let tested = read .before .before in
+    row-below-second _ _ _ _ _ (tested .before .before .number .ensures) _ (read .number2 .ensures) (tested .before .if1 .left) (tested .if2 .left) (c .if3 .taken)
 
--- src/number.rt:97:9
 returns-4 : tie.Need-returns-4
-returns-4 c = ?
+returns-4 c =
+    let read = c .before .before in
+    let tested = read .before .before in
+    row-above-second _ _ _ _ _ (tested .before .before .number .ensures) _ (read .number2 .ensures) (tested .before .if1 .left) (tested .if2 .left) (c .if4 .taken)
 
--- src/number.rt:80:1
 returns-5 : tie.Need-returns-5
-returns-5 c = ?
+returns-5 c =
+    let read = c .before .before in
+    let tested = read .before .before in
+    row-same _ _ _ _ _ (tested .before .before .number .ensures) _ (read .number2 .ensures) (tested .before .if1 .left) (tested .if2 .left) (c .before .if3 .left) (c .if4 .left)
 
 pub compare-spec : {M : Type 1} → statement M
 compare-spec =

@@ -1,50 +1,59 @@
+-- `record_table::number::half_number` meets its contract. The invariant: the number is that of the bytes from i on.
+use mathlib.Core.Path.{_≡_, _∙_}
+use Prim.Native.Nat.{_-_, _≤_, _<_}
+use native.Mathlib.Omega.{arith}
+use lib.ListN.{length, drop}
+use borrow.Author.Needs.{needs}
+use Rattle.spec_lists.specs.Bytes.{Bytes, numberOf}
+use Rattle.spec_lists.specs.BytesLaws.{bytes-of}
+use Rattle.record_table.proofs.Numbers.{number-start, number-turn, number-end, number-small}
 use Rattle.record_table.proofs.number.half_number.Statement.{statement}
 use Rattle.record_table.proofs.number.half_number.Tie as tie
-use Rattle.record_table.proofs.number.half_number.Reads as reads
-use Rattle.record_table.proofs.number.half_number.Lts as lts
-use Rattle.record_table.proofs.number.wide.Reads as wide-reads
 
 abbrev Inv-loop : tie.InvT-loop
-Inv-loop part x₀ i₀ x i = ?
+Inv-loop part x₀ i₀ x i = (i ≤ length part) × (x ≡ numberOf (drop i part))
 
 abbrev μ-loop : tie.MeasureT-loop
-μ-loop part x₀ i₀ x i = ?
+μ-loop part x₀ i₀ x i = i
 
--- src/number.rt:30:5
 loop-holds : tie.Need-loop-holds Inv-loop μ-loop
-loop-holds c = ?
+loop-holds c = (search needs, number-start (c .before .args .part .now))
 
--- src/number.rt:31:9
 sub-i : tie.Need-sub-i Inv-loop μ-loop
-sub-i c = ?
+sub-i c = search needs
 
--- src/number.rt:32:13
+-- there is room for one byte more
+small : (c : tie.In-loop Inv-loop μ-loop) → c .before .loop .x < 0x100_0000
+small c =
+    let at-loop = c .before in
+    let part = at-loop .before .before .args .part .now in
+    let bytes : Bytes part = bytes-of part (λ i. omega (arith, at-loop .before .shared-slice-known .given i)) in
+    omega (arith, number-small part (at-loop .loop .i) bytes (search needs) (search needs))
+
 mul-x : tie.Need-mul-x Inv-loop μ-loop
-mul-x c = ?
+mul-x c = omega (arith, small c)
 
--- src/number.rt:32:28
 shared-slice-read-wide : tie.Need-shared-slice-read-wide Inv-loop μ-loop
-shared-slice-read-wide c = ?
+shared-slice-read-wide c = search needs
 
--- src/number.rt:32:23
 wide-requires : tie.Need-wide-requires Inv-loop μ-loop
-wide-requires c κs = ?
+wide-requires c κs = tt
 
--- src/number.rt:32:13
 add-x : tie.Need-add-x Inv-loop μ-loop
-add-x c = ?
+add-x c =
+    let at-loop = c .before .before .before in
+    omega (arith, small (c .before .before), c .before .shared-slice-known2 .given (at-loop .loop .i - 1))
 
--- src/number.rt:30:5
 loop-less : tie.Need-loop-less Inv-loop μ-loop
-loop-less c = ?
+loop-less c = search needs
 
--- src/number.rt:30:5
 loop-again : tie.Need-loop-again Inv-loop μ-loop
-loop-again c = ?
+loop-again c =
+    let at-loop = c .before .before .before in
+    (search needs, number-turn _ (at-loop .loop .i) _ _ (search needs) (search needs) (at-loop .loop .inv .1) (c .wide .ensures))
 
--- src/number.rt:24:1
 returns : tie.Need-returns Inv-loop μ-loop
-returns c = ?
+returns c = number-end _ (c .before .loop .i) _ (search needs) (c .before .loop .inv .1)
 
 pub half-number-spec : {M : Type 1} → statement M
 half-number-spec =

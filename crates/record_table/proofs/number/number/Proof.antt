@@ -1,53 +1,55 @@
+-- `record_table::number::number` meets its contract: the two halves are the number, and it fits.
+use Prim.Native.Nat.{_+_, _*_, _^_, _<_}
+use native.Mathlib.Omega.{arith}
+use lib.ListN.{length, length-take}
 use borrow.Author.Needs.{needs}
+use Rattle.spec_lists.specs.Bytes.{Bytes}
+use Rattle.spec_lists.specs.BytesLaws.{bytes-of}
+use Rattle.record_table.proofs.Numbers.{number-halves, number-fits}
 use Rattle.record_table.proofs.number.number.Statement.{statement}
 use Rattle.record_table.proofs.number.number.Tie as tie
-use Rattle.record_table.proofs.number.number.Reads as reads
-use Rattle.record_table.proofs.number.number.Lts as lts
-use Rattle.record_table.proofs.number.half_number.Reads as half-number-reads
 
--- src/number.rt:43:9
 half-number-requires : tie.Need-half-number-requires
 half-number-requires c κs = search needs
 
--- src/number.rt:43:9
 returns : tie.Need-returns
 returns c = search needs
 
--- src/number.rt:45:17
 slice-aggregate-half-number : tie.Need-slice-aggregate-half-number
-slice-aggregate-half-number c = ?
+slice-aggregate-half-number c = simp length-take (omega arith)
 
--- src/number.rt:45:5
 half-number-requires-2 : tie.Need-half-number-requires-2
-half-number-requires-2 c κs = ?
+half-number-requires-2 c κs = simp length-take (omega arith)
 
--- src/number.rt:45:43
 sub-half-number : tie.Need-sub-half-number
 sub-half-number c = search needs
 
--- src/number.rt:45:43
 part-half-number-start : tie.Need-part-half-number-start
 part-half-number-start c = search needs
 
--- src/number.rt:45:43
 part-half-number-end : tie.Need-part-half-number-end
 part-half-number-end c = search needs
 
--- src/number.rt:45:31
 half-number-requires-3 : tie.Need-half-number-requires-3
 half-number-requires-3 c κs = search needs
 
--- src/number.rt:45:31
+fits : (c : tie.After-half-number3) → c .before .before .half-number2 .result + c .half-number3 .result * 0x1_0000_0000 < 2 ^ 64
+fits c =
+    let at-low = c .before .before in
+    let at-start = at-low .before .before .before .before in
+    let bytes : Bytes (at-start .args .part .now) = bytes-of (at-start .args .part .now) (λ i. omega (arith, at-low .before .before .before .shared-slice-known .given i)) in
+    number-fits (at-start .args .part .now) _ _ (search needs) (at-low .half-number2 .ensures) (c .half-number3 .ensures) bytes (search needs)
+
 mul-result : tie.Need-mul-result
-mul-result c = ?
+mul-result c = omega (arith, fits c)
 
--- src/number.rt:45:5
 add-result : tie.Need-add-result
-add-result c = ?
+add-result c = omega (arith, fits c)
 
--- src/number.rt:38:1
 returns-2 : tie.Need-returns-2
-returns-2 c = ?
+returns-2 c =
+    let at-low = c .before .before in
+    number-halves _ _ _ (search needs) (at-low .half-number2 .ensures) (c .half-number3 .ensures)
 
 pub number-spec : {M : Type 1} → statement M
 number-spec =
