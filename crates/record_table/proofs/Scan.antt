@@ -1,4 +1,4 @@
--- What one turn of each searching loop finds.
+-- What one turn of each loop that compares or searches finds.
 use mathlib.Core.Path.{_≡_, sym, ap, _∙_}
 use mathlib.Core.Bool.{Bool, true, false, _&&_}
 use mathlib.Core.List.{List, [], _∷_}
@@ -6,10 +6,14 @@ use Prim.Native.Nat.{ℕ, _+_, _-_, _*_, _≤_, _<_}
 use native.Mathlib.Numerals.{add-one}
 use native.Mathlib.Omega.{arith}
 use lib.Dec.{eqb}
-use lib.ListN.{length, take, drop, getD, drop-of-length-le}
-use lib.Seq.{drop-cons}
+use lib.ListN.{length, take, drop, getD, drop-of-length-le, length-drop}
+use lib.Seq.{drop-cons, drop-drop}
 use borrow.Author.Tests.{eq-eqb, ne-eqb}
+use Rattle.spec_lists.specs.Bytes.{Bytes, numberOf}
+use Rattle.spec_lists.specs.BytesLaws.{bytes-take, bytes-drop}
 use Rattle.record_table.specs.Search.{startsWith}
+use Rattle.record_table.specs.SearchLaws.{starts-part}
+use Rattle.record_table.proofs.Numbers.{rest-is}
 
 -- ---- a key against a row, one byte at a time
 
@@ -29,3 +33,27 @@ module _ (key row : List ℕ) (i : ℕ) where
   pub starts-end : length key ≤ i → startsWith (drop i key) (drop i row) ≡ true
   unfolding startsWith
   starts-end h = rw (drop-of-length-le key h)
+
+-- ---- a key against a row, eight bytes at a time
+
+module _ (key row : List ℕ) (i a b : ℕ) (key-bytes : Bytes key) (row-bytes : Bytes row) (long : i + 8 ≤ length key) (within : i + 8 ≤ length row)
+    (own : a ≡ numberOf (take (i + 8 - i) (drop i row))) (other : b ≡ numberOf (take (i + 8 - i) (drop i key))) where
+  eight-turn : startsWith (drop i key) (drop i row) ≡ (eqb a b && startsWith (drop (i + 8) key) (drop (i + 8) row))
+  eight-turn =
+      let n : i + 8 - i ≡ 8 = omega arith in
+      let key-long : 8 ≤ length (drop i key) = simp length-drop (omega arith) in
+      let row-long : 8 ≤ length (drop i row) = simp length-drop (omega arith) in
+      starts-part 8 (drop i key) (drop i row) key-long row-long
+      (bytes-take 8 (drop i key) (bytes-drop i key key-bytes))
+      (bytes-take 8 (drop i row) (bytes-drop i row row-bytes))
+      ∙ rw (own, other, n, drop-drop 8 i key, drop-drop 8 i row)
+
+  pub eight-same : a ≡ b → startsWith (drop i key) (drop i row) ≡ startsWith (drop (i + 8) key) (drop (i + 8) row)
+  eight-same e = eight-turn ∙ rw (eq-eqb a b e)
+
+  pub eight-other : (a ≡ b → ⊥) → startsWith (drop i key) (drop i row) ≡ false
+  eight-other e = eight-turn ∙ rw (ne-eqb a b e)
+
+-- what the rest of a key and of a row say
+pub starts-rest : (key row : List ℕ) (i : ℕ) → startsWith (take (length key - i) (drop i key)) (take (length row - i) (drop i row)) ≡ startsWith (drop i key) (drop i row)
+starts-rest key row i = rw (rest-is key i, rest-is row i)

@@ -1,103 +1,106 @@
+-- `record_table::number::starts_with` meets its contract. The invariant: row begins with key exactly where the rest of row begins with the rest of key.
+use mathlib.Core.Path.{_≡_, sym, _∙_}
+use mathlib.Core.List.{List}
+use Prim.Native.Nat.{ℕ, _+_, _-_, _≤_}
+use native.Mathlib.Omega.{arith}
+use lib.ListN.{length, drop, length-take, length-drop}
+use borrow.Author.Needs.{needs}
+use Rattle.spec_lists.specs.Bytes.{Bytes}
+use Rattle.spec_lists.specs.BytesLaws.{bytes-of}
+use Rattle.record_table.specs.Search.{startsWith}
+use Rattle.record_table.proofs.Scan.{eight-same, eight-other, starts-rest}
 use Rattle.record_table.proofs.number.starts_with.Statement.{statement}
 use Rattle.record_table.proofs.number.starts_with.Tie as tie
-use Rattle.record_table.proofs.number.starts_with.Reads as reads
-use Rattle.record_table.proofs.number.starts_with.Lts as lts
-use Rattle.record_table.proofs.number.number.Reads as number-reads
-use Rattle.record_table.proofs.number.same_bytes.Reads as same-bytes-reads
 
 abbrev Inv-loop : tie.InvT-loop
-Inv-loop row key i₀ i = ?
+Inv-loop row key i₀ i = (i ≤ length key) × (startsWith key row ≡ startsWith (drop i key) (drop i row))
 
 abbrev μ-loop : tie.MeasureT-loop
-μ-loop row key i₀ i = ?
+μ-loop row key i₀ i = length key - i
 
--- src/number.rt:69:5
 loop-holds : tie.Need-loop-holds Inv-loop μ-loop
-loop-holds c = ?
+loop-holds c = search needs
 
--- src/number.rt:69:16
 sub-loop : tie.Need-sub-loop Inv-loop μ-loop
-sub-loop c = ?
+sub-loop c = search needs
 
--- src/number.rt:70:19
 add-end : tie.Need-add-end Inv-loop μ-loop
-add-end c = ?
+add-end c = search needs
 
--- src/number.rt:71:19
 sub-number : tie.Need-sub-number Inv-loop μ-loop
-sub-number c = ?
+sub-number c = search needs
 
--- src/number.rt:71:19
 part-number-start : tie.Need-part-number-start Inv-loop μ-loop
-part-number-start c = ?
+part-number-start c = search needs
 
--- src/number.rt:71:19
 part-number-end : tie.Need-part-number-end Inv-loop μ-loop
-part-number-end c = ?
+part-number-end c = search needs
 
--- src/number.rt:71:12
 number-requires : tie.Need-number-requires Inv-loop μ-loop
-number-requires c κs = ?
+number-requires c κs = search needs
 
--- src/number.rt:71:43
 sub-number-2 : tie.Need-sub-number-2 Inv-loop μ-loop
-sub-number-2 c = ?
+sub-number-2 c = search needs
 
--- src/number.rt:71:43
 part-number-start-2 : tie.Need-part-number-start-2 Inv-loop μ-loop
-part-number-start-2 c = ?
+part-number-start-2 c = search needs
 
--- src/number.rt:71:43
 part-number-end-2 : tie.Need-part-number-end-2 Inv-loop μ-loop
-part-number-end-2 c = ?
+part-number-end-2 c = search needs
 
--- src/number.rt:71:36
 number-requires-2 : tie.Need-number-requires-2 Inv-loop μ-loop
-number-requires-2 c κs = ?
+number-requires-2 c κs = search needs
 
--- src/number.rt:72:13
+-- the bytes of the two slices, as they are known at the loop
+row-bytes : (c : tie.At-loop Inv-loop μ-loop) → Bytes (c .before .before .before .args .row .now)
+row-bytes c = bytes-of (c .before .before .before .args .row .now) (λ i. omega (arith, c .before .before .shared-slice-known .given i))
+
+key-bytes : (c : tie.At-loop Inv-loop μ-loop) → Bytes (c .before .before .before .args .key .now)
+key-bytes c = bytes-of (c .before .before .before .args .key .now) (λ i. omega (arith, c .before .shared-slice-known2 .given i))
+
 returns : tie.Need-returns Inv-loop μ-loop
-returns c = ?
+returns c =
+    let read = c .before in
+    let at-loop = read .before .before .before .before .before in
+    sym
+    (at-loop .loop .inv .1
+    ∙ eight-other _ _ (at-loop .loop .i) _ _ (key-bytes at-loop) (row-bytes at-loop) (search needs) (search needs) (read .before .before .number .ensures) (read .number2 .ensures) (c .if1 .taken))
 
--- src/number.rt:69:5
 loop-less : tie.Need-loop-less Inv-loop μ-loop
-loop-less c = ?
+loop-less c = search needs
 
--- src/number.rt:69:5
 loop-again : tie.Need-loop-again Inv-loop μ-loop
-loop-again c = ?
+loop-again c =
+    let read = c .before in
+    let at-loop = read .before .before .before .before .before in
+    (search needs, at-loop .loop .inv .1
+    ∙ eight-same _ _ (at-loop .loop .i) _ _ (key-bytes at-loop) (row-bytes at-loop) (search needs) (search needs) (read .before .before .number .ensures) (read .number2 .ensures) (c .if1 .left))
 
--- src/number.rt:76:16
 sub-same-bytes : tie.Need-sub-same-bytes Inv-loop μ-loop
-sub-same-bytes c = ?
+sub-same-bytes c = search needs
 
--- src/number.rt:76:16
 part-same-bytes-start : tie.Need-part-same-bytes-start Inv-loop μ-loop
-part-same-bytes-start c = ?
+part-same-bytes-start c = search needs
 
--- src/number.rt:76:16
 part-same-bytes-end : tie.Need-part-same-bytes-end Inv-loop μ-loop
-part-same-bytes-end c = ?
+part-same-bytes-end c = search needs
 
--- src/number.rt:76:27
 sub-same-bytes-2 : tie.Need-sub-same-bytes-2 Inv-loop μ-loop
-sub-same-bytes-2 c = ?
+sub-same-bytes-2 c = search needs
 
--- src/number.rt:76:27
 part-same-bytes-start-2 : tie.Need-part-same-bytes-start-2 Inv-loop μ-loop
-part-same-bytes-start-2 c = ?
+part-same-bytes-start-2 c = search needs
 
--- src/number.rt:76:27
 part-same-bytes-end-2 : tie.Need-part-same-bytes-end-2 Inv-loop μ-loop
-part-same-bytes-end-2 c = ?
+part-same-bytes-end-2 c = search needs
 
--- src/number.rt:76:5
 same-bytes-requires : tie.Need-same-bytes-requires Inv-loop μ-loop
-same-bytes-requires c κs = ?
+same-bytes-requires c κs = simp (length-take, length-drop) (omega arith)
 
--- src/number.rt:64:1
 returns-2 : tie.Need-returns-2 Inv-loop μ-loop
-returns-2 c = ?
+returns-2 c =
+    let at-loop = c .before .before .before .before in
+    c .same-bytes .ensures ∙ starts-rest _ _ (at-loop .loop .i) ∙ sym (at-loop .loop .inv .1)
 
 pub starts-with-spec : {M : Type 1} → statement M
 starts-with-spec =
