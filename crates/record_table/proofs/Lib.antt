@@ -5,3 +5,4 @@ pub mod Changes
 pub mod Numbers
 pub mod Orders
 pub mod Scan
+pub mod Searches

@@ -24,6 +24,10 @@ unfoldable pub leadingNumbers : List ℕ → List ℕ → List ℕ
 leadingNumbers [] row = []
 leadingNumbers (n ∷ sizes) row = numberOf (take n row) ∷ leadingNumbers sizes (drop n row)
 
+-- the number of eight bytes that a row begins with is above the id
+abbrev pub isAbove : ℕ → List ℕ → Bool
+isAbove id row = ltb id (numberOf (take 8 row))
+
 -- ---- the first element that passes a test
 
 unfoldable pub findFirst : {A : Type 0} → (A → Bool) → List A → Found

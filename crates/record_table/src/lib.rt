@@ -3,16 +3,13 @@
 mod number;
 mod shift;
 
-ghost use mathlib.Core.Bool.{Bool, true, false};
 ghost use mathlib.Core.List.{List, [], _∷_};
 ghost use mathlib.Core.Path.{_≡_};
 ghost use Prim.Native.Nat.{ℕ, _+_, _-_, _*_, _≤_, _<_};
-ghost use lib.Dec.{ltb};
-ghost use lib.ListN.{length, take, getD};
-ghost use Rattle.spec_lists.specs.Bytes.{numberOf};
+ghost use lib.ListN.{length, getD};
 ghost use Rattle.record_table.specs.Positions.{insertAt, removeAt, replaceAt, firstIndex};
 ghost use Rattle.record_table.specs.Table.{Holds, Changed, canInsert, canRemove, canReplace};
-ghost use Rattle.record_table.specs.Search.{startsWith, leadingNumbers, findFirst, Within, placeOf, PlaceWithin};
+ghost use Rattle.record_table.specs.Search.{startsWith, leadingNumbers, isAbove, findFirst, Within, placeOf, PlaceWithin};
 
 // The position of a record, if there is one.
 pub enum Found {
@@ -134,7 +131,7 @@ pub fn find_record(table: &[u8], width: usize, count: usize, key: &[u8]) -> Foun
 pub fn find_above(table: &[u8], width: usize, count: usize, id: u64) -> usize
     requires { ⌜ 8 ≤ width ⌝ }
     ensures first { λ r. ⌜ ((rows : List (List ℕ)) → Holds width count (now (table .entry)) rows
-        → r ≡ firstIndex (λ (row : List ℕ). ltb id (numberOf (take 8 row))) rows) ⌝ }
+        → r ≡ firstIndex (isAbove id) rows) ⌝ }
     ensures within { λ r. ⌜ r ≤ count ⌝ }
 {
     if table.len() / width < count {

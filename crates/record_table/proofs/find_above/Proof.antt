@@ -1,70 +1,91 @@
+-- `record_table::find_above` meets its contract. The invariant: no row before position i has a number above the id.
+use mathlib.Core.Path.{_≡_, sym, ap, _∙_}
+use mathlib.Core.List.{List, []}
+use Prim.Native.Nat.{ℕ, _+_, _-_, _*_, _≤_}
+use native.Mathlib.Omega.{arith}
+use lib.ListN.{length, take, getD}
+use borrow.Author.Needs.{needs}
+use borrow.Author.Tests.{lt-ltb, le-ltb}
+use Rattle.spec_lists.specs.Bytes.{numberOf}
+use Rattle.record_table.specs.Table.{Holds}
+use Rattle.record_table.specs.TableLaws.{fitting}
+use Rattle.record_table.specs.PositionsLaws.{Passed, passed-none}
+use Rattle.record_table.specs.Search.{isAbove}
+use Rattle.record_table.proofs.Offsets.{end-le, fits, fits-not}
+use Rattle.record_table.proofs.Searches.{head-is, search-more, search-first, search-all}
 use Rattle.record_table.proofs.find_above.Statement.{statement}
 use Rattle.record_table.proofs.find_above.Tie as tie
-use Rattle.record_table.proofs.find_above.Reads as reads
-use Rattle.record_table.proofs.find_above.Lts as lts
-use Rattle.record_table.proofs.number.number.Reads as number-reads
 
 abbrev Inv-loop : tie.InvT-loop
-Inv-loop table width count id i₀ i = ?
+Inv-loop table width count id i₀ i =
+    (i ≤ count) × ((m : List (List ℕ)) → Holds width count table m → Passed (isAbove id) i m)
 
 abbrev μ-loop : tie.MeasureT-loop
-μ-loop table width count id i₀ i = ?
+μ-loop table width count id i₀ i = count - i
 
--- src/lib.rt:140:8
 div-if1 : tie.Need-div-if1 Inv-loop μ-loop
-div-if1 c = ?
+div-if1 c = search needs
 
--- src/lib.rt:141:9
 returns : tie.Need-returns Inv-loop μ-loop
-returns c = ?
+returns c =
+    ((λ m t. absurd (omega (arith, fitting t, fits-not _ _ _ (search needs) (c .if1 .taken)))), search needs)
 
--- src/lib.rt:144:5
 loop-holds : tie.Need-loop-holds Inv-loop μ-loop
-loop-holds c = ?
+loop-holds c = (search needs, λ m t. passed-none (isAbove _) m)
 
--- src/lib.rt:145:20
+-- the row at position i is within the table
+placed : (c : tie.In-loop Inv-loop μ-loop) → let at-start = c .before .before .before .before in
+    (c .before .loop .i * at-start .args .width + at-start .args .width ≤ at-start .args .count * at-start .args .width)
+    × (at-start .args .count * at-start .args .width ≤ length (at-start .args .table .now))
+placed c =
+    let tested = c .before .before in
+    (end-le _ _ _ (c .loop-test .taken), fits _ _ _ (search needs) (tested .if1 .left))
+
 mul-from : tie.Need-mul-from Inv-loop μ-loop
-mul-from c = ?
+mul-from c = omega (arith, placed c)
 
--- src/lib.rt:146:19
 add-end : tie.Need-add-end Inv-loop μ-loop
-add-end c = ?
+add-end c = omega (arith, placed c)
 
--- src/lib.rt:147:32
 sub-number : tie.Need-sub-number Inv-loop μ-loop
-sub-number c = ?
+sub-number c = search needs
 
--- src/lib.rt:147:32
 part-number-start : tie.Need-part-number-start Inv-loop μ-loop
-part-number-start c = ?
+part-number-start c = search needs
 
--- src/lib.rt:147:32
 part-number-end : tie.Need-part-number-end Inv-loop μ-loop
-part-number-end c = ?
+part-number-end c = omega (arith, placed c)
 
--- src/lib.rt:147:17
 number-requires : tie.Need-number-requires Inv-loop μ-loop
-number-requires c κs = ?
+number-requires c κs = search needs
 
--- src/lib.rt:148:13
+-- the number that was read is that of the row at position i
+read-row : (c : tie.After-number Inv-loop μ-loop) (m : List (List ℕ)) → let at-loop = c .before .before .before in
+    let args = at-loop .before .before .before .args in
+    Holds (args .width) (args .count) (args .table .now) m → c .number .result ≡ numberOf (take 8 (getD m (at-loop .loop .i) []))
+read-row c m t =
+    let in-loop = c .before .before in
+    c .number .ensures ∙ ap numberOf (head-is m t (in-loop .before .loop .i) (in-loop .loop-test .taken) (search needs))
+
 returns-2 : tie.Need-returns-2 Inv-loop μ-loop
-returns-2 c = ?
+returns-2 c =
+    let in-loop = c .before .before .before in
+    ((λ m t. sym (search-first m t (isAbove _) (in-loop .before .loop .i) (in-loop .before .loop .inv .1 m t) (in-loop .loop-test .taken) (rw (← read-row (c .before) m t) (lt-ltb _ _ (c .if2 .taken))))), search needs)
 
--- src/lib.rt:150:9
 add-i : tie.Need-add-i Inv-loop μ-loop
-add-i c = ?
+add-i c = search needs
 
--- src/lib.rt:144:5
 loop-less : tie.Need-loop-less Inv-loop μ-loop
-loop-less c = ?
+loop-less c = search needs
 
--- src/lib.rt:144:5
 loop-again : tie.Need-loop-again Inv-loop μ-loop
-loop-again c = ?
+loop-again c =
+    let in-loop = c .before .before .before in
+    (search needs, λ m t. search-more m t (isAbove _) (in-loop .before .loop .i) (in-loop .before .loop .inv .1 m t) (in-loop .loop-test .taken) (rw (← read-row (c .before) m t) (le-ltb _ _ (c .if2 .left))))
 
--- src/lib.rt:134:1
 returns-3 : tie.Need-returns-3 Inv-loop μ-loop
-returns-3 c = ?
+returns-3 c =
+    ((λ m t. sym (search-all m t (isAbove _) (c .before .loop .i) (c .before .loop .inv .1 m t) (c .loop-test .left) (search needs) ∙ t .counted)), search needs)
 
 pub find-above-spec : {M : Type 1} → statement M
 find-above-spec =
