@@ -45,7 +45,7 @@ module _ (l : List ℕ) (low high : ℕ) (long : 4 ≤ length l) (first : low �
   number-halves =
       let n : length (take 4 l) ≡ 4 = simp length-take (omega arith) in
       let whole : numberOf l ≡ numberOf (take 4 l) + numberOf (drop 4 l) * 256 ^ length (take 4 l) =
-          ap numberOf (sym (take-append-drop 4 l)) ∙ numberOf-append (take 4 l) (drop 4 l) in
+      ap numberOf (sym (take-append-drop 4 l)) ∙ numberOf-append (take 4 l) (drop 4 l) in
       rw (first, high-is) (sym (rw n at whole))
 
   pub number-fits : Bytes l → length l ≤ 8 → low + high * 0x1_0000_0000 < 2 ^ 64

@@ -1,85 +1,111 @@
+-- `record_table::find_pair_place` meets its contract. The invariant: every row before position i is below the two numbers.
+use mathlib.Core.Path.{_≡_, sym, ap, _∙_}
+use mathlib.Core.List.{List, [], _∷_}
+use Prim.Native.Nat.{ℕ, _+_, _-_, _*_, _≤_}
+use native.Mathlib.Omega.{arith}
+use lib.ListN.{length, getD}
+use borrow.Author.Needs.{needs}
+use Rattle.record_table.specs.Table.{Holds}
+use Rattle.record_table.specs.TableLaws.{fitting}
+use Rattle.record_table.specs.Search.{leadingNumbers, PlaceWithin}
+use Rattle.record_table.specs.Compare.{orderOf}
+use Rattle.record_table.proofs.Offsets.{end-le, fits, fits-not}
+use Rattle.record_table.proofs.Changes.{row-is}
+use Rattle.record_table.proofs.Searches.{Placed, placed-none, placed-more, placed-taken, placed-before, placed-all}
 use Rattle.record_table.proofs.find_pair_place.Statement.{statement}
 use Rattle.record_table.proofs.find_pair_place.Tie as tie
-use Rattle.record_table.proofs.find_pair_place.Reads as reads
-use Rattle.record_table.proofs.find_pair_place.Lts as lts
-use Rattle.record_table.proofs.number.compare.Reads as compare-reads
 
 abbrev Inv-loop : tie.InvT-loop
-Inv-loop table width count id size second i₀ i = ?
+Inv-loop table width count id size second i₀ i =
+    (i ≤ count) × ((m : List (List ℕ)) → Holds width count table m → Placed (leadingNumbers (8 ∷ size ∷ [])) (id ∷ second ∷ []) i m)
 
 abbrev μ-loop : tie.MeasureT-loop
-μ-loop table width count id size second i₀ i = ?
+μ-loop table width count id size second i₀ i = count - i
 
--- src/lib.rt:170:8
 div-if1 : tie.Need-div-if1 Inv-loop μ-loop
-div-if1 c = ?
+div-if1 c = search needs
 
--- src/lib.rt:171:9
 returns : tie.Need-returns Inv-loop μ-loop
-returns c = ?
+unfolding PlaceWithin
+returns c = ((λ m t. absurd (omega (arith, fitting t, fits-not _ _ _ (search needs) (c .if1 .taken)))), search needs)
 
--- src/lib.rt:174:5
 loop-holds : tie.Need-loop-holds Inv-loop μ-loop
-loop-holds c = ?
+loop-holds c = (search needs, λ m t. placed-none _ _ m)
 
--- src/lib.rt:175:20
+-- the row at position i is within the table
+placed : (c : tie.In-loop Inv-loop μ-loop) → let at-start = c .before .before .before .before in
+    (c .before .loop .i * at-start .args .width + at-start .args .width ≤ at-start .args .count * at-start .args .width)
+    × (at-start .args .count * at-start .args .width ≤ length (at-start .args .table .now))
+placed c =
+    let tested = c .before .before in
+    (end-le _ _ _ (c .loop-test .taken), fits _ _ _ (search needs) (tested .if1 .left))
+
 mul-from : tie.Need-mul-from Inv-loop μ-loop
-mul-from c = ?
+mul-from c = omega (arith, placed c)
 
--- src/lib.rt:176:19
 add-end : tie.Need-add-end Inv-loop μ-loop
-add-end c = ?
+add-end c = omega (arith, placed c)
 
--- src/lib.rt:177:31
 sub-compare : tie.Need-sub-compare Inv-loop μ-loop
-sub-compare c = ?
+sub-compare c = search needs
 
--- src/lib.rt:177:31
 part-compare-start : tie.Need-part-compare-start Inv-loop μ-loop
-part-compare-start c = ?
+part-compare-start c = search needs
 
--- src/lib.rt:177:31
 part-compare-end : tie.Need-part-compare-end Inv-loop μ-loop
-part-compare-end c = ?
+part-compare-end c = omega (arith, placed c)
 
--- src/lib.rt:177:15
 compare-requires : tie.Need-compare-requires Inv-loop μ-loop
-compare-requires c κs = ?
+compare-requires c κs = search needs
+
+-- what the call answered is how the row at position i stands to the two numbers
+compared-row : (c : tie.After-compare Inv-loop μ-loop) (m : List (List ℕ)) → let at-loop = c .before .before .before in
+    let args = at-loop .before .before .before .args in
+    Holds (args .width) (args .count) (args .table .now) m
+    → orderOf (leadingNumbers (8 ∷ args .size ∷ []) (getD m (at-loop .loop .i) [])) (args .id ∷ args .second ∷ []) ≡ c .compare .result
+compared-row c m t =
+    let in-loop = c .before .before in
+    sym (c .compare .ensures ∙ rw (row-is m t (in-loop .before .loop .i) (in-loop .loop-test .taken)))
 
 enum-told : tie.Need-enum-told Inv-loop μ-loop
-enum-told c = ?
+enum-told c = search needs
 
--- src/lib.rt:180:17
 enum-told-2 : tie.Need-enum-told-2 Inv-loop μ-loop
-enum-told-2 c = ?
+enum-told-2 c = search needs
 
--- src/lib.rt:180:17
 returns-2 : tie.Need-returns-2 Inv-loop μ-loop
-returns-2 c = ?
+unfolding PlaceWithin
+returns-2 c =
+    let compared = c .before .before in
+    let in-loop = compared .before .before in
+    ((λ m t. sym (placed-taken _ _ m t (in-loop .before .loop .i) (in-loop .before .loop .inv .1 m t) (in-loop .loop-test .taken) (compared-row compared m t ∙ c .enum-told2 .given .1))), search needs)
 
--- src/lib.rt:183:17
 enum-told-3 : tie.Need-enum-told-3 Inv-loop μ-loop
-enum-told-3 c = ?
+enum-told-3 c = search needs
 
--- src/lib.rt:183:17
 returns-3 : tie.Need-returns-3 Inv-loop μ-loop
-returns-3 c = ?
+unfolding PlaceWithin
+returns-3 c =
+    let compared = c .before .before in
+    let in-loop = compared .before .before in
+    ((λ m t. sym (placed-before _ _ m t (in-loop .before .loop .i) (in-loop .before .loop .inv .1 m t) (in-loop .loop-test .taken) (compared-row compared m t ∙ c .enum-told3 .given .1))), search needs)
 
--- src/lib.rt:186:9
 add-i : tie.Need-add-i Inv-loop μ-loop
-add-i c = ?
+add-i c = search needs
 
--- src/lib.rt:174:5
 loop-less : tie.Need-loop-less Inv-loop μ-loop
-loop-less c = ?
+loop-less c = search needs
 
--- src/lib.rt:174:5
 loop-again : tie.Need-loop-again Inv-loop μ-loop
-loop-again c = ?
+loop-again c =
+    let compared = c .before .before in
+    let in-loop = compared .before .before in
+    (search needs, λ m t. placed-more _ _ m t (in-loop .before .loop .i) (in-loop .before .loop .inv .1 m t) (in-loop .loop-test .taken) (compared-row compared m t ∙ c .enum-told .given .1))
 
--- src/lib.rt:157:1
 returns-4 : tie.Need-returns-4 Inv-loop μ-loop
-returns-4 c = ?
+unfolding PlaceWithin
+returns-4 c =
+    ((λ m t. sym (placed-all _ _ m t (c .before .loop .i) (c .before .loop .inv .1 m t) (c .loop-test .left) (search needs))), search needs)
 
 pub find-pair-place-spec : {M : Type 1} → statement M
 find-pair-place-spec =

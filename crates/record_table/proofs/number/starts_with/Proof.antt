@@ -72,9 +72,11 @@ loop-less c = search needs
 loop-again : tie.Need-loop-again Inv-loop μ-loop
 loop-again c =
     let read = c .before in
-    let at-loop = read .before .before .before .before .before in
-    (search needs, at-loop .loop .inv .1
-    ∙ eight-same _ _ (at-loop .loop .i) _ _ (key-bytes at-loop) (row-bytes at-loop) (search needs) (search needs) (read .before .before .number .ensures) (read .number2 .ensures) (c .if1 .left))
+    let at-loop = read .before .before .before .before .before in (
+      search needs,
+      at-loop .loop .inv .1
+          ∙ eight-same _ _ (at-loop .loop .i) _ _ (key-bytes at-loop) (row-bytes at-loop) (search needs) (search needs) (read .before .before .number .ensures) (read .number2 .ensures) (c .if1 .left),
+    )
 
 sub-same-bytes : tie.Need-sub-same-bytes Inv-loop μ-loop
 sub-same-bytes c = search needs
