@@ -10,10 +10,10 @@ use borrow.Rule.Slice.PartMut.{midOf, putMid}
 use borrow.Author.Tests.{le-leb, lt-leb, lt-ltb, le-ltb, eq-eqb, ne-eqb}
 use Rattle.spec_lists.specs.ListLaws.{all-append, all-take, all-drop}
 use Rattle.record_table.specs.Positions.{insertAt, removeAt, replaceAt}
-use Rattle.record_table.specs.Table.{zeros, Wide, Holds, canInsert, canRemove, canReplace, Changed}
+use Rattle.record_table.specs.Table.{Wide, Holds, canInsert, canRemove, canReplace, Changed}
 use Rattle.record_table.specs.TableLaws.{flatten-append, flatten-middle, wide-middle, zeros-split, holds, before-length, after-length, split, row-width, row-bytes, row-split}
-use Rattle.record_table.specs.Moves.{overwrite, pushFront, popFront}
-use Rattle.record_table.proofs.Parts.{part-is, lent}
+use Rattle.byte_moves.specs.Moves.{zeros, overwrite, pushFront, popFront}
+use Rattle.byte_moves.proofs.Parts.{part-is, lent}
 use Rattle.record_table.proofs.Offsets.{start-le}
 
 -- ---- the rows of the table afterwards

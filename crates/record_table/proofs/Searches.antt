@@ -14,13 +14,13 @@ use Rattle.record_table.specs.Positions.{firstIndex}
 use Rattle.record_table.specs.PositionsLaws.{Passed, passed-more, passed-first, passed-all}
 use Rattle.record_table.specs.Table.{Wide, Holds}
 use Rattle.record_table.specs.TableLaws.{row-at, row-cons}
-use Rattle.record_table.specs.Search.{startsWith, nextPlace, placeOf}
-use Rattle.record_table.specs.SearchLaws.{starts-long}
-use Rattle.record_table.specs.Compare.{orderOf}
+use Rattle.record_keys.specs.Keys.{startsWith, orderOf}
+use Rattle.record_keys.specs.KeysLaws.{starts-long}
+use Rattle.record_table.specs.Search.{nextPlace, placeOf}
 use Rattle.record_table.specs.declared.Place.{Place}
 use Rattle.record_table.specs.declared.Place.the-variants.{Taken, Before}
-use Rattle.record_table.specs.declared.number.Order.{Order}
-use Rattle.record_table.specs.declared.number.Order.the-variants.{Below, Same, Above}
+use Rattle.record_keys.specs.declared.Order.{Order}
+use Rattle.record_keys.specs.declared.Order.the-variants.{Below, Same, Above}
 use Rattle.record_table.proofs.Changes.{row-is}
 
 -- no row begins with a key that is longer than it

@@ -1,9 +1,9 @@
--- Searches in a list of rows: by the bytes that a row begins with, and by the little-endian numbers that these spell.
+-- Searches in a list: for the first element that passes a test, and for the place of a key.
 use Prim.Native.Nat.{ℕ, zero, suc, _≤_, _<_}
-use mathlib.Core.Bool.{Bool, true, false, _&&_}
+use mathlib.Core.Bool.{Bool}
 use mathlib.Core.List.{List, [], _∷_}
-use lib.Dec.{eqb, ltb}
-use lib.ListN.{length, take, drop}
+use lib.Dec.{ltb}
+use lib.ListN.{length, take}
 use Rattle.spec_lists.specs.Lists.{if_then_else_}
 use Rattle.spec_lists.specs.Bytes.{numberOf}
 use Rattle.spec_lists.specs.Order.{lexLess}
@@ -12,17 +12,6 @@ use Rattle.record_table.specs.declared.Found.{Found}
 use Rattle.record_table.specs.declared.Found.the-variants.{At, Absent}
 use Rattle.record_table.specs.declared.Place.{Place}
 use Rattle.record_table.specs.declared.Place.the-variants.{Taken, Before}
-
--- the row's first bytes are the key
-unfoldable pub startsWith : List ℕ → List ℕ → Bool
-startsWith [] row = true
-startsWith (k ∷ key) [] = false
-startsWith (k ∷ key) (b ∷ row) = eqb b k && startsWith key row
-
--- the numbers that a row begins with, each of so many bytes
-unfoldable pub leadingNumbers : List ℕ → List ℕ → List ℕ
-leadingNumbers [] row = []
-leadingNumbers (n ∷ sizes) row = numberOf (take n row) ∷ leadingNumbers sizes (drop n row)
 
 -- the number of eight bytes that a row begins with is above the id
 abbrev pub isAbove : ℕ → List ℕ → Bool

@@ -4,12 +4,9 @@ use mathlib.Core.Path.{_≡_}
 use mathlib.Core.Bool.{Bool, true, false, _&&_}
 use mathlib.Core.List.{List, _++_, flatten}
 use lib.Dec.{eqb, ltb, leb}
-use lib.ListN.{length, replicate}
+use lib.ListN.{length}
 use Rattle.spec_lists.specs.Lists.{All}
-
--- n bytes that are 0
-abbrev pub zeros : ℕ → List ℕ
-zeros n = replicate n 0
+use Rattle.byte_moves.specs.Moves.{zeros}
 
 -- a row that is so many bytes wide
 abbrev pub Wide : ℕ → List ℕ → Type 0

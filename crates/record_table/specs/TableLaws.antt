@@ -12,7 +12,8 @@ use lib.Seq.{ext-getD, take-at, drop-at, drop-cons}
 use borrow.Author.Tests.{le-leb, lt-leb, lt-ltb, le-ltb, eq-eqb}
 use Rattle.spec_lists.specs.Lists.{All}
 use Rattle.spec_lists.specs.ListLaws.{all-append, all-take, all-drop}
-use Rattle.record_table.specs.Table.{zeros, Wide, tableBytes, Holds, canInsert, canRemove, canReplace}
+use Rattle.byte_moves.specs.Moves.{zeros}
+use Rattle.record_table.specs.Table.{Wide, tableBytes, Holds, canInsert, canRemove, canReplace}
 
 -- ---- rows one after the other
 

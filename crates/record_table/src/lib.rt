@@ -1,7 +1,6 @@
 // Tables of fixed-width records in one lent byte slice, changed in place. A contract speaks of the rows that the table
 // holds, whichever these are (`Holds`). Nothing is asked of a count or a position: a call that does not fit is refused.
-mod number;
-mod shift;
+use record_keys::Order;
 
 ghost use mathlib.Core.List.{List, [], _∷_};
 ghost use mathlib.Core.Path.{_≡_};
@@ -9,7 +8,8 @@ ghost use Prim.Native.Nat.{ℕ, _+_, _-_, _*_, _≤_, _<_};
 ghost use lib.ListN.{length, getD};
 ghost use Rattle.record_table.specs.Positions.{insertAt, removeAt, replaceAt, firstIndex};
 ghost use Rattle.record_table.specs.Table.{Holds, Changed, canInsert, canRemove, canReplace};
-ghost use Rattle.record_table.specs.Search.{startsWith, leadingNumbers, isAbove, findFirst, Within, placeOf, PlaceWithin};
+ghost use Rattle.record_keys.specs.Keys.{startsWith, leadingNumbers};
+ghost use Rattle.record_table.specs.Search.{isAbove, findFirst, Within, placeOf, PlaceWithin};
 
 // The position of a record, if there is one.
 pub enum Found {
@@ -41,7 +41,7 @@ pub fn insert_record(table: &mut [u8], width: usize, count: usize, at: usize, ro
     }
     let from = at * width;
     let end = count * width + width;
-    shift::push_front(&mut table[from..end], row);
+    byte_moves::push_front(&mut table[from..end], row);
     true
 }
 
@@ -59,7 +59,7 @@ pub fn remove_record(table: &mut [u8], width: usize, count: usize, at: usize) ->
     }
     let from = at * width;
     let end = count * width;
-    shift::pop_front(&mut table[from..end], width);
+    byte_moves::pop_front(&mut table[from..end], width);
     true
 }
 
@@ -80,7 +80,7 @@ pub fn replace_record(table: &mut [u8], width: usize, count: usize, at: usize, r
     }
     let from = at * width;
     let end = from + width;
-    shift::copy(row, &mut table[from..end]);
+    byte_moves::copy(row, &mut table[from..end]);
     true
 }
 
@@ -118,7 +118,7 @@ pub fn find_record(table: &[u8], width: usize, count: usize, key: &[u8]) -> Foun
     while i < count {
         let from = i * width;
         let end = from + width;
-        if number::starts_with(&table[from..end], key) {
+        if record_keys::starts_with(&table[from..end], key) {
             return Found::At(i);
         }
         i += 1;
@@ -141,7 +141,7 @@ pub fn find_above(table: &[u8], width: usize, count: usize, id: u64) -> usize
     while i < count {
         let from = i * width;
         let end = from + 8;
-        if id < number::number(&table[from..end]) {
+        if id < record_keys::number(&table[from..end]) {
             return i;
         }
         i += 1;
@@ -171,12 +171,12 @@ pub fn find_pair_place(
     while i < count {
         let from = i * width;
         let end = from + width;
-        match number::compare(&table[from..end], id, size, second) {
-            number::Order::Below => {}
-            number::Order::Same => {
+        match record_keys::compare(&table[from..end], id, size, second) {
+            Order::Below => {}
+            Order::Same => {
                 return Place::Taken(i);
             }
-            number::Order::Above => {
+            Order::Above => {
                 return Place::Before(i);
             }
         }

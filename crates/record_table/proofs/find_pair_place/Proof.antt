@@ -7,8 +7,8 @@ use lib.ListN.{length, getD}
 use borrow.Author.Needs.{needs}
 use Rattle.record_table.specs.Table.{Holds}
 use Rattle.record_table.specs.TableLaws.{fitting}
-use Rattle.record_table.specs.Search.{leadingNumbers, PlaceWithin}
-use Rattle.record_table.specs.Compare.{orderOf}
+use Rattle.record_keys.specs.Keys.{leadingNumbers, orderOf}
+use Rattle.record_table.specs.Search.{PlaceWithin}
 use Rattle.record_table.proofs.Offsets.{end-le, fits, fits-not}
 use Rattle.record_table.proofs.Changes.{row-is}
 use Rattle.record_table.proofs.Searches.{Placed, placed-none, placed-more, placed-taken, placed-before, placed-all}

@@ -8,7 +8,8 @@ use borrow.Author.Needs.{needs}
 use Rattle.record_table.specs.Table.{Holds}
 use Rattle.record_table.specs.TableLaws.{fitting}
 use Rattle.record_table.specs.PositionsLaws.{Passed, passed-none}
-use Rattle.record_table.specs.Search.{startsWith, Within}
+use Rattle.record_keys.specs.Keys.{startsWith}
+use Rattle.record_table.specs.Search.{Within}
 use Rattle.record_table.specs.SearchLaws.{find-stopped, find-ended}
 use Rattle.record_table.proofs.Offsets.{end-le, fits, fits-not}
 use Rattle.record_table.proofs.Changes.{row-is}
