@@ -96,9 +96,9 @@ pub fn record_at(table: &[u8], width: usize, count: usize, at: usize) -> &[u8]
     if table.len() / width < count {
         return &table[..0];
     }
-    let from = at * width;
-    let end = from + width;
-    &table[from..end]
+    let start = at * width;
+    let stop = start + width;
+    &table[start..stop]
 }
 
 // The first record that begins with key.
@@ -114,14 +114,14 @@ pub fn find_record(table: &[u8], width: usize, count: usize, key: &[u8]) -> Foun
     if table.len() / width < count {
         return Found::Absent;
     }
-    let mut i = 0;
-    while i < count {
-        let from = i * width;
+    let mut at = 0;
+    while at < count {
+        let from = at * width;
         let end = from + width;
         if record_keys::starts_with(&table[from..end], key) {
-            return Found::At(i);
+            return Found::At(at);
         }
-        i += 1;
+        at += 1;
     }
     Found::Absent
 }
@@ -167,20 +167,20 @@ pub fn find_pair_place(
     if table.len() / width < count {
         return Place::Before(count);
     }
-    let mut i = 0;
-    while i < count {
-        let from = i * width;
+    let mut place = 0;
+    while place < count {
+        let from = place * width;
         let end = from + width;
         match record_keys::compare(&table[from..end], id, size, second) {
             Order::Below => {}
             Order::Same => {
-                return Place::Taken(i);
+                return Place::Taken(place);
             }
             Order::Above => {
-                return Place::Before(i);
+                return Place::Before(place);
             }
         }
-        i += 1;
+        place += 1;
     }
     Place::Before(count)
 }

@@ -13,10 +13,10 @@ number-requires : tie.Need-number-requires
 number-requires c κs = simp length-take (omega arith)
 
 returns : tie.Need-returns
-returns c = row-below _ _ _ _ _ (c .before .number .ensures) (c .if1 .taken)
+returns c = row-below _ _ _ _ _ (c .before .number .ensures) (search needs)
 
 returns-2 : tie.Need-returns-2
-returns-2 c = row-above _ _ _ _ _ (c .before .before .number .ensures) (c .if2 .taken)
+returns-2 c = row-above _ _ _ _ _ (c .before .before .number .ensures) (search needs)
 
 add-end : tie.Need-add-end
 add-end c = search needs
@@ -37,19 +37,19 @@ returns-3 : tie.Need-returns-3
 returns-3 c =
     let read = c .before in
     let tested = read .before .before in
-    row-below-second _ _ _ _ _ (tested .before .before .number .ensures) _ (read .number2 .ensures) (tested .before .if1 .left) (tested .if2 .left) (c .if3 .taken)
+    row-below-second _ _ _ _ _ (tested .before .before .number .ensures) _ (read .number2 .ensures) (search needs) (search needs) (search needs)
 
 returns-4 : tie.Need-returns-4
 returns-4 c =
     let read = c .before .before in
     let tested = read .before .before in
-    row-above-second _ _ _ _ _ (tested .before .before .number .ensures) _ (read .number2 .ensures) (tested .before .if1 .left) (tested .if2 .left) (c .if4 .taken)
+    row-above-second _ _ _ _ _ (tested .before .before .number .ensures) _ (read .number2 .ensures) (search needs) (search needs) (search needs)
 
 returns-5 : tie.Need-returns-5
 returns-5 c =
     let read = c .before .before in
     let tested = read .before .before in
-    row-same _ _ _ _ _ (tested .before .before .number .ensures) _ (read .number2 .ensures) (tested .before .if1 .left) (tested .if2 .left) (c .before .if3 .left) (c .if4 .left)
+    row-same _ _ _ _ _ (tested .before .before .number .ensures) _ (read .number2 .ensures) (search needs) (search needs) (search needs) (search needs)
 
 pub compare-spec : {M : Type 1} → statement M
 compare-spec =

@@ -50,7 +50,7 @@ loop-less c = search needs
 loop-again : tie.Need-loop-again Inv-loop μ-loop
 loop-again c =
     let at-loop = c .before .before .before in
-    (search needs, number-turn _ (at-loop .loop .i) _ _ (search needs) (search needs) (at-loop .loop .inv .1) (c .wide .ensures))
+    (search needs, omega (arith, number-turn _ (at-loop .loop .i) _ _ (search needs) (search needs) (at-loop .loop .inv .1) (c .wide .ensures)))
 
 returns : tie.Need-returns Inv-loop μ-loop
 returns c = number-end _ (c .before .loop .i) _ (search needs) (c .before .loop .inv .1)

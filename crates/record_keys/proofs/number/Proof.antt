@@ -49,7 +49,8 @@ add-result c = omega (arith, fits c)
 returns-2 : tie.Need-returns-2
 returns-2 c =
     let at-low = c .before .before in
-    number-halves _ _ _ (search needs) (at-low .half-number2 .ensures) (c .half-number3 .ensures)
+    let at-start = at-low .before .before .before .before in
+    omega (arith, number-halves (at-start .args .part .now) _ _ (search needs) (at-low .half-number2 .ensures) (c .half-number3 .ensures))
 
 pub number-spec : {M : Type 1} → statement M
 number-spec =

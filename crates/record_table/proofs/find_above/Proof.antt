@@ -38,8 +38,8 @@ placed : (c : tie.In-loop Inv-loop μ-loop) → let at-start = c .before .before
     (c .before .loop .i * at-start .args .width + at-start .args .width ≤ at-start .args .count * at-start .args .width)
     × (at-start .args .count * at-start .args .width ≤ length (at-start .args .table .now))
 placed c =
-    let tested = c .before .before in
-    (end-le _ _ _ (c .loop-test .taken), fits _ _ _ (search needs) (tested .if1 .left))
+    let args = c .before .before .before .before .args in
+    (end-le (args .width) (c .before .loop .i) (args .count) (search needs), fits (length (args .table .now)) (args .width) (args .count) (search needs) (search needs))
 
 mul-from : tie.Need-mul-from Inv-loop μ-loop
 mul-from c = omega (arith, placed c)
@@ -70,7 +70,7 @@ read-row c m t =
 returns-2 : tie.Need-returns-2 Inv-loop μ-loop
 returns-2 c =
     let in-loop = c .before .before .before in
-    ((λ m t. sym (search-first m t (isAbove _) (in-loop .before .loop .i) (in-loop .before .loop .inv .1 m t) (in-loop .loop-test .taken) (rw (← read-row (c .before) m t) (lt-ltb _ _ (c .if2 .taken))))), search needs)
+    ((λ m t. sym (search-first m t (isAbove _) (in-loop .before .loop .i) (in-loop .before .loop .inv .1 m t) (in-loop .loop-test .taken) (rw (← read-row (c .before) m t) (lt-ltb _ (c .before .number .result) (search needs))))), search needs)
 
 add-i : tie.Need-add-i Inv-loop μ-loop
 add-i c = search needs
@@ -81,7 +81,7 @@ loop-less c = search needs
 loop-again : tie.Need-loop-again Inv-loop μ-loop
 loop-again c =
     let in-loop = c .before .before .before in
-    (search needs, λ m t. search-more m t (isAbove _) (in-loop .before .loop .i) (in-loop .before .loop .inv .1 m t) (in-loop .loop-test .taken) (rw (← read-row (c .before) m t) (le-ltb _ _ (c .if2 .left))))
+    (search needs, λ m t. search-more m t (isAbove _) (in-loop .before .loop .i) (in-loop .before .loop .inv .1 m t) (in-loop .loop-test .taken) (rw (← read-row (c .before) m t) (le-ltb _ (c .before .number .result) (search needs))))
 
 returns-3 : tie.Need-returns-3 Inv-loop μ-loop
 returns-3 c =

@@ -19,15 +19,16 @@ div-if3 c = search needs
 
 returns-3 : tie.Need-returns-3
 returns-3 c =
-    let at-start = c .before .before .before .before .before in
-    refused (insert-full _ _ _ _ _ (search needs) (search needs) (room-not _ _ _ (at-start .pre) (c .if3 .taken)))
+    let args = c .before .before .before .before .before .args in
+    refused
+    (insert-full _ _ _ _ _ (search needs) (search needs) (room-not (length (args .table .now)) (args .width) (args .count) (search needs) (search needs)))
 
 -- the position and the room behind the last row are within the table
 placed : (c : tie.Else3) → let args = c .before .before .before .before .before .args in
     (args .at * args .width ≤ args .count * args .width) × (args .count * args .width + args .width ≤ length (args .table .now))
 placed c =
-    let at-start = c .before .before .before .before .before in
-    (start-le (at-start .args .width) (search needs), room _ _ _ (at-start .pre) (c .if3 .left))
+    let args = c .before .before .before .before .before .args in
+    (start-le (args .width) (search needs), room (length (args .table .now)) (args .width) (args .count) (search needs) (search needs))
 
 mul-from : tie.Need-mul-from
 mul-from c = omega (arith, placed c)

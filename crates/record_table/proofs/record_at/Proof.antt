@@ -31,14 +31,14 @@ returns-2 c =
 placed : (c : tie.Else2) → let args = c .before .before .args in
     (args .at * args .width + args .width ≤ args .count * args .width) × (args .count * args .width ≤ length (args .table .now))
 placed c =
-    let at-start = c .before .before in
-    (end-le _ _ _ (search needs), fits _ _ _ (at-start .pre) (c .if2 .left))
+    let args = c .before .before .args in
+    (end-le (args .width) (args .at) (args .count) (search needs), fits (length (args .table .now)) (args .width) (args .count) (search needs) (search needs))
 
-mul-from : tie.Need-mul-from
-mul-from c = omega (arith, placed c)
+mul-start : tie.Need-mul-start
+mul-start c = omega (arith, placed c)
 
-add-end : tie.Need-add-end
-add-end c = omega (arith, placed c)
+add-stop : tie.Need-add-stop
+add-stop c = omega (arith, placed c)
 
 sub-result : tie.Need-sub-result
 sub-result c = search needs
@@ -61,8 +61,8 @@ record-at-spec =
     div-if2
     slice-aggregate-result-2
     returns-2
-    mul-from
-    add-end
+    mul-start
+    add-stop
     sub-result
     part-result-start
     part-result-end

@@ -16,15 +16,15 @@ div-if2 c = search needs
 
 returns-2 : tie.Need-returns-2
 returns-2 c =
-    let at-start = c .before .before .before in
-    refused (remove-outside _ _ _ _ (search needs) (fits-not _ _ _ (at-start .pre) (c .if2 .taken)))
+    let args = c .before .before .before .args in
+    refused (remove-outside _ _ _ _ (search needs) (fits-not (length (args .table .now)) (args .width) (args .count) (search needs) (search needs)))
 
 -- the row is among those of the table, and these are within it
 placed : (c : tie.Else2) → let args = c .before .before .before .args in
     (args .at * args .width + args .width ≤ args .count * args .width) × (args .count * args .width ≤ length (args .table .now))
 placed c =
-    let at-start = c .before .before .before in
-    (end-le _ _ _ (search needs), fits _ _ _ (at-start .pre) (c .if2 .left))
+    let args = c .before .before .before .args in
+    (end-le (args .width) (args .at) (args .count) (search needs), fits (length (args .table .now)) (args .width) (args .count) (search needs) (search needs))
 
 mul-from : tie.Need-mul-from
 mul-from c = omega (arith, placed c)
