@@ -1,7 +1,6 @@
 // Tables of fixed-width records in one lent byte slice, changed in place. A contract speaks of the rows that the table
 // holds, whichever these are (`Holds`). Nothing is asked of a count or a position: a call that does not fit is refused.
 use record_keys::Order;
-
 ghost use mathlib.Core.List.{List, [], _∷_};
 ghost use mathlib.Core.Path.{_≡_};
 ghost use Prim.Native.Nat.{ℕ, _+_, _-_, _*_, _≤_, _<_};
