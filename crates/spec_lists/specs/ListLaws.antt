@@ -7,7 +7,7 @@ use mathlib.Core.Logic.{⊎-elim}
 use Prim.Native.Nat.{ℕ, zero, suc, _<_}
 use native.Mathlib.Omega.{arith}
 use lib.Dec.{T, eqb}
-use lib.ListN.{length, getD}
+use lib.ListN.{length, getD, take, drop}
 use borrow.Author.Tests.{eqb-true, eq-eqb}
 use Rattle.spec_lists.specs.Lists.{if_then_else_, all, any, equalLists, isEmpty, All}
 
@@ -159,3 +159,13 @@ map-member f g (y ∷ l) h (List·Memᴰ·tail m) = map-member f g l (cc) m
 pub equalLists-refl : (a : List ℕ) → equalLists eqb a a ≡ true
 equalLists-refl [] = refl
 equalLists-refl (x ∷ a) = rw (eq-eqb x x refl) (equalLists-refl a)
+
+pub all-take : {A : Type 0} (P : A → Type 0) (n : ℕ) (l : List A) → All P l → All P (take n l)
+all-take P zero l h = tt
+all-take P (suc n) [] h = tt
+all-take P (suc n) (x ∷ l) h = (h .0, all-take P n l (h .1))
+
+pub all-drop : {A : Type 0} (P : A → Type 0) (n : ℕ) (l : List A) → All P l → All P (drop n l)
+all-drop P zero l h = h
+all-drop P (suc n) [] h = tt
+all-drop P (suc n) (x ∷ l) h = all-drop P n l (h .1)
