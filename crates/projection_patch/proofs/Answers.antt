@@ -11,11 +11,11 @@ use Rattle.spec_patch.specs.Sizes.{textBytes, patchOperations, setPatches}
 use Rattle.spec_patch.specs.Patch as model
 use Rattle.spec_patch.specs.Edition.{v1}
 use Rattle.spec_patch.specs.Reader.{Fault, Result, read, refused, malformed, Reader, followed, byte}
-use Rattle.spec_patch.specs.Read.{readCount, readOptional, readAvailability, readValue}
+use Rattle.spec_patch.specs.Read.{readCount, readOptional, readAvailability, readValue, readOperation}
 use Rattle.spec_patch.specs.Codec.{Codec, suffix}
-use Rattle.spec_patch.specs.ReadLaws.{count-codec, optional-codec, availability-codec, value-codec}
-use Rattle.projection_patch.specs.Meaning.{valueTo, availabilityTo}
-use Rattle.projection_patch.specs.ReadAnswers.{faultTo, answer, anywhere, optionalTo, countAnswer, optionalAnswer, availabilityAnswer, valueAnswer}
+use Rattle.spec_patch.specs.ReadLaws.{count-codec, optional-codec, availability-codec, value-codec, operation-codec}
+use Rattle.projection_patch.specs.Meaning.{valueTo, availabilityTo, operationTo}
+use Rattle.projection_patch.specs.ReadAnswers.{faultTo, answer, anywhere, optionalTo, countAnswer, optionalAnswer, availabilityAnswer, valueAnswer, operationAnswer}
 use Rattle.projection_patch.specs.declared.patch.ProjectionNodeAvailability.{ProjectionNodeAvailability}
 use Rattle.projection_patch.specs.declared.patch.ProjectionPatchValue.{ProjectionPatchValue}
 use Rattle.projection_patch.specs.declared.read_values.ProjectionPatchReadFault.{ProjectionPatchReadFault}
@@ -28,6 +28,9 @@ use Rattle.projection_patch.specs.declared.read_values.AvailabilityRead.
 use Rattle.projection_patch.specs.declared.read_values.AvailabilityRead.the-variants as availability-read
 use Rattle.projection_patch.specs.declared.read_values.ValueRead.{ValueRead}
 use Rattle.projection_patch.specs.declared.read_values.ValueRead.the-variants as value-read
+use Rattle.projection_patch.specs.declared.patch.ProjectionPatchOperation.{ProjectionPatchOperation}
+use Rattle.projection_patch.specs.declared.read_operations.OperationRead.{OperationRead}
+use Rattle.projection_patch.specs.declared.read_operations.OperationRead.the-variants as operation-read
 use Rattle.projection_patch.proofs.At.{byte-at, no-byte}
 
 -- ---- a tag
@@ -122,6 +125,14 @@ value-told = record {
   apart = λ x m f e. let z : _≡_ {A = ℕ} 0 1 = cc in omega arith;
 }
 
+operation-told : Told operation-read.Read operation-read.Refused
+operation-told = record {
+  value = λ x y m n e. cc;
+  next = λ x y m n e. cc;
+  reason = λ f g e. cc;
+  apart = λ x m f e. let z : _≡_ {A = ℕ} 0 1 = cc in omega arith;
+}
+
 module _ (l : List ℕ) (at : ℕ) where
   pub text-count-got : (r : CountRead) → r ≡ countAnswer (length l) (readCount textBytes (drop at l)) → Bytes l → (n end : ℕ) → r ≡ count-read.Read n end → Got (readCount textBytes) (anywhere (λ n. n)) l at n end
   text-count-got = got (anywhere (λ n. n)) (count-codec textBytes (lit< tt)) count-told l at
@@ -158,3 +169,9 @@ module _ (l : List ℕ) (at : ℕ) where
 
   pub no-value : (r : ValueRead) → r ≡ valueAnswer (length l) (readValue v1 (drop at l)) → (f : ProjectionPatchReadFault) → r ≡ value-read.Refused f → NotGot (readValue v1) l at f
   no-value = not-got valueTo (value-codec v1) value-told l at
+
+  pub operation-got : (r : OperationRead) → r ≡ operationAnswer (length l) (readOperation v1 (drop at l)) → Bytes l → (o : ProjectionPatchOperation) (end : ℕ) → r ≡ operation-read.Read o end → Got (readOperation v1) operationTo l at o end
+  operation-got = got operationTo (operation-codec v1) operation-told l at
+
+  pub no-operation : (r : OperationRead) → r ≡ operationAnswer (length l) (readOperation v1 (drop at l)) → (f : ProjectionPatchReadFault) → r ≡ operation-read.Refused f → NotGot (readOperation v1) l at f
+  no-operation = not-got operationTo (operation-codec v1) operation-told l at

@@ -2,3 +2,4 @@
 mod At
 mod Answers
 mod Texts
+mod Places

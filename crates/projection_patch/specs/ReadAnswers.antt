@@ -12,7 +12,7 @@ use Rattle.spec_patch.specs.Edition.{v1}
 use Rattle.spec_patch.specs.Encode.{heading}
 use Rattle.spec_patch.specs.Reader.{Fault, malformed, overCapacity, Result, read, refused, Reader, followed, pair, literal}
 use Rattle.spec_patch.specs.Read.{readCount, readEnvelope, SetReading, patches, fault}
-use Rattle.projection_patch.specs.Meaning.{valueTo, availabilityTo, operationTo, envelopeTo}
+use Rattle.projection_patch.specs.Meaning.{nodeTo, keyTo, valueTo, availabilityTo, operationTo, envelopeTo}
 use Rattle.projection_patch.specs.declared.patch.ProjectionPatch.{ProjectionPatch}
 use Rattle.projection_patch.specs.declared.patch.ProjectionPatchEnvelope.{ProjectionPatchEnvelope}
 use Rattle.projection_patch.specs.declared.read_values.ProjectionPatchReadFault.{ProjectionPatchReadFault}
@@ -29,6 +29,10 @@ use Rattle.projection_patch.specs.declared.read_values.AvailabilityRead.
 use Rattle.projection_patch.specs.declared.read_values.AvailabilityRead.the-variants as availability-read
 use Rattle.projection_patch.specs.declared.read_values.ValueRead.{ValueRead}
 use Rattle.projection_patch.specs.declared.read_values.ValueRead.the-variants as value-read
+use Rattle.projection_patch.specs.declared.read_operations.PlaceRead.{PlaceRead}
+use Rattle.projection_patch.specs.declared.read_operations.PlaceRead.the-variants as place-read
+use Rattle.projection_patch.specs.declared.read_operations.OperationRead.{OperationRead}
+use Rattle.projection_patch.specs.declared.read_operations.OperationRead.the-variants as operation-read
 
 -- ---- faults
 
@@ -68,6 +72,10 @@ abbrev pub optionalTo : Option ℕ → OptionalNumber
 optionalTo none = optional.None
 optionalTo (some n) = optional.Some n
 
+abbrev pub optionalOf : OptionalNumber → Option ℕ
+optionalOf optional.None = none
+optionalOf (optional.Some n) = some n
+
 abbrev pub optionalAnswer : ℕ → Result (Option ℕ) → OptionalRead
 optionalAnswer = answer (anywhere optionalTo) optional-read.Read optional-read.Refused
 
@@ -80,3 +88,13 @@ valueAnswer = answer valueTo value-read.Read value-read.Refused
 -- the bytes from index a up to b, or none where a is past b or b past the end
 unfoldable pub lentPart : List ℕ → ℕ → ℕ → List ℕ
 lentPart set a b = if leb b (length set) then take (b - a) (drop a set) else []
+
+-- ---- operations
+
+-- two numbers as a collection and a key
+abbrev pub placeTo : NumbersRead → PlaceRead
+placeTo (numbers-read.Read c k) = place-read.Read (nodeTo c) (keyTo k)
+placeTo numbers-read.Short = place-read.Short
+
+abbrev pub operationAnswer : ℕ → Result model.Operation → OperationRead
+operationAnswer = answer operationTo operation-read.Read operation-read.Refused

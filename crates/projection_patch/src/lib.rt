@@ -3,3 +3,4 @@ pub mod contract_primitives;
 pub mod binding_graph;
 pub mod patch;
 pub mod read_values;
+pub mod read_operations;
