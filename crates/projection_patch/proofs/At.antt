@@ -9,7 +9,7 @@ use lib.ListN.{length, getD, take, drop, length-drop, drop-of-length-le}
 use lib.Seq.{drop-cons, drop-drop, take-all}
 use lib.Dec.{lit<}
 use lib.IntN.{ℤ}
-use Rattle.spec_patch.specs.Reader.{read, refused, malformed, Result, Reader, onward, mapped, pair, byte, number}
+use Rattle.spec_patch.specs.Reader.{Fault, read, refused, malformed, Result, Reader, onward, mapped, pair, byte, number}
 use Rattle.spec_patch.specs.Read.{readU32, readU64, readI64}
 use Rattle.wire.specs.Read.{firstNumber, firstSigned, numberU32, numberU64, numberI64}
 use Rattle.wire.specs.ReadLaws as wire
@@ -108,19 +108,23 @@ module _ (l : List ℕ) (at : ℕ) where
             both x y (one ∙ sym p) (two ∙ sym q)
 
     -- whatever follows them
-    pub numbers-short : {B C : Type 0} (p : Reader B) (f : ℕ × (ℕ × B) → C) → r ≡ numbers-read.Short → mapped f (pair readU64 (pair readU64 p)) (drop at l) ≡ refused malformed
-    numbers-short {C} p f s = pick (firstNumber 8 (drop at l)) (firstNumber 8 (drop (at + 8) l)) refl refl (sym e ∙ s)
+    pub numbers-missing : {B : Type 0} (p : Reader B) → r ≡ numbers-read.Short → pair readU64 (pair readU64 p) (drop at l) ≡ refused malformed
+    numbers-missing p s = pick (firstNumber 8 (drop at l)) (firstNumber 8 (drop (at + 8) l)) refl refl (sym e ∙ s)
       where
-        pick : (a b : Option ℕ) → firstNumber 8 (drop at l) ≡ a → firstNumber 8 (drop (at + 8) l) ≡ b → numbersAnswer a b ≡ numbers-read.Short → mapped f (pair readU64 (pair readU64 p)) (drop at l) ≡ refused malformed
+        pick : (a b : Option ℕ) → firstNumber 8 (drop at l) ≡ a → firstNumber 8 (drop (at + 8) l) ≡ b → numbersAnswer a b ≡ numbers-read.Short → pair readU64 (pair readU64 p) (drop at l) ≡ refused malformed
         pick none b m q g = rw (number-missing l at 8 (sym m))
         pick (some a) none m q g = rw (number-here l at 8 a (lit< tt) (sym m) .is, number-missing l (at + 8) 8 (sym q))
         pick (some a) (some b) m q g = absurd (let z : _≡_ {A = ℕ} 0 1 = cc g in omega arith)
 
     -- where nothing follows
-    pub only-numbers-short : {C : Type 0} (f : ℕ × ℕ → C) → r ≡ numbers-read.Short → mapped f (pair readU64 readU64) (drop at l) ≡ refused malformed
-    only-numbers-short {C} f s = pick (firstNumber 8 (drop at l)) (firstNumber 8 (drop (at + 8) l)) refl refl (sym e ∙ s)
+    pub last-numbers-missing : r ≡ numbers-read.Short → pair readU64 readU64 (drop at l) ≡ refused malformed
+    last-numbers-missing s = pick (firstNumber 8 (drop at l)) (firstNumber 8 (drop (at + 8) l)) refl refl (sym e ∙ s)
       where
-        pick : (a b : Option ℕ) → firstNumber 8 (drop at l) ≡ a → firstNumber 8 (drop (at + 8) l) ≡ b → numbersAnswer a b ≡ numbers-read.Short → mapped f (pair readU64 readU64) (drop at l) ≡ refused malformed
+        pick : (a b : Option ℕ) → firstNumber 8 (drop at l) ≡ a → firstNumber 8 (drop (at + 8) l) ≡ b → numbersAnswer a b ≡ numbers-read.Short → pair readU64 readU64 (drop at l) ≡ refused malformed
         pick none b m q g = rw (number-missing l at 8 (sym m))
         pick (some a) none m q g = rw (number-here l at 8 a (lit< tt) (sym m) .is, number-missing l (at + 8) 8 (sym q))
         pick (some a) (some b) m q g = absurd (let z : _≡_ {A = ℕ} 0 1 = cc g in omega arith)
+
+-- what is made of a refused reading
+pub mapped-refused : {A B : Type 0} (f : A → B) (r : Result A) {g : Fault} → r ≡ refused g → onward r (λ a rest. read (f a) rest) ≡ refused g
+mapped-refused f r e = rw e

@@ -3,3 +3,5 @@ mod At
 mod Answers
 mod Texts
 mod Places
+mod Heads
+mod Runs

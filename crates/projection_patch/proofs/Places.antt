@@ -18,7 +18,7 @@ use Rattle.projection_patch.specs.declared.read_values.NumbersRead.{Numb
 use Rattle.projection_patch.specs.declared.read_values.NumbersRead.the-variants as numbers-read
 use Rattle.projection_patch.specs.declared.read_operations.PlaceRead.{PlaceRead}
 use Rattle.projection_patch.specs.declared.read_operations.PlaceRead.the-variants as place-read
-use Rattle.projection_patch.proofs.At.{NumbersAt, numbers-at, numbers-short, only-numbers-short}
+use Rattle.projection_patch.proofs.At.{NumbersAt, numbers-at, numbers-missing, last-numbers-missing, mapped-refused}
 
 -- ---- numbers as ids
 
@@ -67,7 +67,7 @@ module _ (l : List ℕ) (r : PlaceRead) (e : r ≡ placeTo (numbersAnswer (first
       pick numbers-read.Short q = refl
 
   pub no-place : {B C : Type 0} (p : Reader B) (f : ℕ × (ℕ × B) → C) → r ≡ place-read.Short → mapped f (pair readU64 (pair readU64 p)) (drop 1 l) ≡ refused malformed
-  no-place p f s = numbers-short l 1 both refl p f (short s)
+  no-place p f s = mapped-refused f (pair readU64 (pair readU64 p) (drop 1 l)) (numbers-missing l 1 both refl p (short s))
 
   pub no-place-alone : {C : Type 0} (f : ℕ × ℕ → C) → r ≡ place-read.Short → mapped f (pair readU64 readU64) (drop 1 l) ≡ refused malformed
-  no-place-alone f s = only-numbers-short l 1 both refl f (short s)
+  no-place-alone f s = mapped-refused f (pair readU64 readU64 (drop 1 l)) (last-numbers-missing l 1 both refl (short s))

@@ -1,2 +1,4 @@
 pub mod Meaning
+pub mod Walk
+pub mod WalkLaws
 pub mod ReadAnswers
