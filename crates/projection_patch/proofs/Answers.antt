@@ -16,7 +16,7 @@ use Rattle.spec_patch.specs.Codec.{Codec, suffix, many-codec}
 use Rattle.spec_patch.specs.ReadLaws.{count-codec, optional-codec, availability-codec, value-codec, operation-codec, envelope-codec, patch-codec}
 use Rattle.projection_patch.specs.Meaning.{valueTo, availabilityTo, operationTo, envelopeTo}
 use Rattle.projection_patch.specs.Walk.{readHeading, readHead}
-use Rattle.projection_patch.specs.WalkLaws.{heading-codec, head-codec}
+use Rattle.projection_patch.specs.HeadLaws.{heading-codec, head-codec}
 use Rattle.projection_patch.specs.ReadAnswers.{faultTo, answer, anywhere, optionalTo, countAnswer, optionalAnswer, availabilityAnswer, valueAnswer, operationAnswer, envelopeAnswer, headTo, headAnswer, operationsAnswer, patchAnswer}
 use Rattle.projection_patch.specs.declared.patch.ProjectionNodeAvailability.{ProjectionNodeAvailability}
 use Rattle.projection_patch.specs.declared.patch.ProjectionPatchValue.{ProjectionPatchValue}

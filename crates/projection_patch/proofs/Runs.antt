@@ -17,7 +17,7 @@ use Rattle.spec_patch.specs.Codec.{many-codec}
 use Rattle.spec_patch.specs.ReadLaws.{operation-codec, patch-codec}
 use Rattle.projection_patch.specs.Meaning.{operationTo}
 use Rattle.projection_patch.specs.Walk.{readHeading, readHead}
-use Rattle.projection_patch.specs.WalkLaws.{patches-by-heading, patch-by-head}
+use Rattle.projection_patch.specs.HeadLaws.{patches-by-heading, patch-by-head}
 use Rattle.projection_patch.specs.ReadAnswers.{faultTo, anywhere, operationsAnswer, operationCount, setAnswer}
 use Rattle.projection_patch.specs.declared.patch.ProjectionPatchOperation.{ProjectionPatchOperation}
 use Rattle.projection_patch.specs.declared.read_values.ProjectionPatchReadFault.{ProjectionPatchReadFault}

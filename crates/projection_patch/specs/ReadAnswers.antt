@@ -90,6 +90,10 @@ availabilityAnswer = answer (anywhere availabilityTo) availability-read.Read ava
 abbrev pub valueAnswer : ℕ → Result model.Value → ValueRead
 valueAnswer = answer valueTo value-read.Read value-read.Refused
 
+-- the part of a set from an index on, as `&set[at..]` lends it
+abbrev pub lentFrom : List ℕ → ℕ → List ℕ
+lentFrom set at = take (length set - at) (drop at set)
+
 -- the bytes from index a up to b, or none where a is past b or b past the end
 unfoldable pub lentPart : List ℕ → ℕ → ℕ → List ℕ
 lentPart set a b = if leb b (length set) then take (b - a) (drop a set) else []

@@ -10,7 +10,7 @@ use Rattle.spec_lists.specs.BytesLaws.{bytes-of}
 use Rattle.spec_patch.specs.Edition.{v1}
 use Rattle.wire.specs.Read.{firstNumber, numberU32}
 use Rattle.spec_patch.specs.Reader.{malformed}
-use Rattle.projection_patch.specs.WalkLaws.{heading-by-letters, heading-refused}
+use Rattle.projection_patch.specs.HeadLaws.{heading-by-letters, heading-refused}
 use Rattle.projection_patch.specs.ReadAnswers.{countAnswer}
 use Rattle.projection_patch.proofs.Heads.{letterCount, no-number, other-number, other-letters, heading-there}
 use borrow.Author.Needs.{needs}

@@ -12,7 +12,7 @@ use Rattle.spec_patch.specs.Edition.{v1}
 use Rattle.spec_patch.specs.Reader.{refused, many}
 use Rattle.spec_patch.specs.Read.{readPatch, ended, readSet}
 use Rattle.projection_patch.specs.Walk.{readHeading}
-use Rattle.projection_patch.specs.WalkLaws.{heading-codec}
+use Rattle.projection_patch.specs.HeadLaws.{heading-codec}
 use Rattle.projection_patch.specs.ReadAnswers.{anywhere, setAnswer}
 use Rattle.projection_patch.proofs.Answers.{Got, heading-got, no-heading}
 use Rattle.projection_patch.proofs.Runs.{set-read-by}
