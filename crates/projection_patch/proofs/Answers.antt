@@ -1,0 +1,235 @@
+-- What a callee answered of a position, as the readers of spec_patch have it: a tag and the reader that it picks, and an answer taken apart.
+use Prim.Native.Nat.{ℕ, _+_, _-_, _≤_, _<_}
+use mathlib.Core.Path.{_≡_, refl, sym, ap, _∙_}
+use mathlib.Core.List.{List}
+use mathlib.Core.Option.{Option}
+use native.Mathlib.Omega.{arith}
+use lib.Dec.{lit<}
+use lib.ListN.{length, getD, drop}
+use Rattle.spec_lists.specs.Bytes.{Bytes}
+use Rattle.spec_patch.specs.Sizes.{textBytes, patchOperations}
+use Rattle.spec_patch.specs.Patch as model
+use Rattle.spec_patch.specs.Edition.{v1}
+use Rattle.spec_patch.specs.Reader.{Fault, Result, read, refused, malformed, Reader, followed, many, byte}
+use Rattle.spec_patch.specs.Read.{readCount, readOptional, readAvailability, readValue, readOperation, readEnvelope, readPatch}
+use Rattle.spec_patch.specs.Codec.{Codec, suffix, many-codec}
+use Rattle.spec_patch.specs.ReadLaws.{count-codec, optional-codec, availability-codec, value-codec, operation-codec, envelope-codec, patch-codec}
+use Rattle.projection_patch.specs.Meaning.{valueTo, availabilityTo, operationTo, envelopeTo}
+use Rattle.projection_patch.specs.Walk.{readHeading, readHead}
+use Rattle.projection_patch.specs.HeadLaws.{heading-codec, head-codec}
+use Rattle.projection_patch.specs.ReadAnswers.{faultTo, answer, anywhere, optionalTo, countAnswer, optionalAnswer, availabilityAnswer, valueAnswer, operationAnswer, envelopeAnswer, headTo, headAnswer, operationsAnswer, patchAnswer}
+use Rattle.projection_patch.specs.declared.patch.ProjectionNodeAvailability.{ProjectionNodeAvailability}
+use Rattle.projection_patch.specs.declared.patch.ProjectionPatchValue.{ProjectionPatchValue}
+use Rattle.projection_patch.specs.declared.read_values.ProjectionPatchReadFault.{ProjectionPatchReadFault}
+use Rattle.projection_patch.specs.declared.read_values.OptionalNumber.{OptionalNumber}
+use Rattle.projection_patch.specs.declared.read_values.CountRead.{CountRead}
+use Rattle.projection_patch.specs.declared.read_values.CountRead.the-variants as count-read
+use Rattle.projection_patch.specs.declared.read_values.OptionalRead.{OptionalRead}
+use Rattle.projection_patch.specs.declared.read_values.OptionalRead.the-variants as optional-read
+use Rattle.projection_patch.specs.declared.read_values.AvailabilityRead.{AvailabilityRead}
+use Rattle.projection_patch.specs.declared.read_values.AvailabilityRead.the-variants as availability-read
+use Rattle.projection_patch.specs.declared.read_values.ValueRead.{ValueRead}
+use Rattle.projection_patch.specs.declared.read_values.ValueRead.the-variants as value-read
+use Rattle.projection_patch.specs.declared.patch.ProjectionPatchOperation.{ProjectionPatchOperation}
+use Rattle.projection_patch.specs.declared.read_operations.OperationRead.{OperationRead}
+use Rattle.projection_patch.specs.declared.read_operations.OperationRead.the-variants as operation-read
+use Rattle.projection_patch.specs.declared.patch.ProjectionPatch.{ProjectionPatch}
+use Rattle.projection_patch.specs.declared.patch.ProjectionPatchEnvelope.{ProjectionPatchEnvelope}
+use Rattle.projection_patch.specs.declared.read_patches.EnvelopeRead.{EnvelopeRead}
+use Rattle.projection_patch.specs.declared.read_patches.EnvelopeRead.the-variants as envelope-read
+use Rattle.projection_patch.specs.declared.read_patches.PatchHeadRead.{PatchHeadRead}
+use Rattle.projection_patch.specs.declared.read_patches.PatchHeadRead.the-variants as head-read
+use Rattle.projection_patch.specs.declared.read_patches.OperationsRead.{OperationsRead}
+use Rattle.projection_patch.specs.declared.read_patches.OperationsRead.the-variants as operations-read
+use Rattle.projection_patch.proofs.At.{byte-at, no-byte}
+
+-- ---- a tag
+
+module _ {A : Type 0} (f : ℕ → Reader A) (l : List ℕ) (at : ℕ) where
+  after-tag : (t : ℕ) → at < length l → getD l at 0 ≡ t → followed byte f (drop at l) ≡ f t (drop (at + 1) l)
+  after-tag t h e = rw (byte-at l at h, e)
+
+  -- whatever is told of a reading is told of the whole
+  pub picked : {B : Type 0} (tell : Result A → B) (t : ℕ) → at < length l → getD l at 0 ≡ t → tell (f t (drop (at + 1) l)) ≡ tell (followed byte f (drop at l))
+  picked tell t h e = ap tell (sym (after-tag t h e))
+
+  pub no-tag : length l ≤ at → followed byte f (drop at l) ≡ refused malformed
+  no-tag h = rw (no-byte l at h)
+
+-- ---- an answer taken apart: once for every enum that has a reading and a refusal
+
+-- what the constructors of such an enum tell
+pub record Told {X B : Type 0} (reading : X → ℕ → B) (refusal : ProjectionPatchReadFault → B) : Type 0 where
+  pub value : (x y : X) (m n : ℕ) → reading x m ≡ reading y n → x ≡ y
+  pub next : (x y : X) (m n : ℕ) → reading x m ≡ reading y n → m ≡ n
+  pub reason : (f g : ProjectionPatchReadFault) → refusal f ≡ refusal g → f ≡ g
+  pub apart : (x : X) (m : ℕ) (f : ProjectionPatchReadFault) → reading x m ≡ refusal f → ⊥
+
+-- the reading behind an answer at a position: what was read, and that the bytes left are those from the next position on
+pub record Got {A X : Type 0} (p : Reader A) (to : ℕ → A → X) (l : List ℕ) (at : ℕ) (x : X) (end : ℕ) : Type 0 where
+  pub a : A
+  pub is : p (drop at l) ≡ read a (drop end l)
+  pub same : to end a ≡ x
+  pub there : length l - length (drop end l) ≡ end
+
+-- the fault behind a refusal
+pub record NotGot {A : Type 0} (p : Reader A) (l : List ℕ) (at : ℕ) (f : ProjectionPatchReadFault) : Type 0 where
+  pub fault : Fault
+  pub is : p (drop at l) ≡ refused fault
+  pub same : faultTo fault ≡ f
+
+module _ {A X B : Type 0} {e : A → List ℕ} {Good : A → Type 0} {p : Reader A} {reading : X → ℕ → B} {refusal : ProjectionPatchReadFault → B} (to : ℕ → A → X) (codec : Codec e Good p) (told : Told reading refusal) (l : List ℕ) (at : ℕ) (r : B) (ensured : r ≡ answer to reading refusal (length l) (p (drop at l))) where
+  pub got : Bytes l → (x : X) (end : ℕ) → r ≡ reading x end → Got p to l at x end
+  got h x end q = pick (p (drop at l)) refl (sym ensured ∙ q)
+    where
+      pick : (s : Result A) → p (drop at l) ≡ s → answer to reading refusal (length l) s ≡ reading x end → Got p to l at x end
+      pick (refused c) is t = absurd (told .apart x end (faultTo c) (sym t))
+      pick (read a rest) is t =
+          let here : length l - length rest ≡ end = told .next (to (length l - length rest) a) x (length l - length rest) end t in
+          let left : drop end l ≡ rest = ap (λ (k : ℕ). drop k l) (sym here) ∙ suffix codec l at h a rest is in
+          record {
+            a = a;
+            is = is ∙ ap (read a) (sym left);
+            same = ap (λ (k : ℕ). to k a) (sym here) ∙ told .value (to (length l - length rest) a) x (length l - length rest) end t;
+            there = ap (λ (k : List ℕ). length l - length k) left ∙ here;
+          }
+
+  pub not-got : (f : ProjectionPatchReadFault) → r ≡ refusal f → NotGot p l at f
+  not-got f q = pick (p (drop at l)) refl (sym ensured ∙ q)
+    where
+      pick : (s : Result A) → p (drop at l) ≡ s → answer to reading refusal (length l) s ≡ refusal f → NotGot p l at f
+      pick (refused c) is t = record { fault = c; is = is; same = told .reason (faultTo c) f t }
+      pick (read a rest) is t = absurd (told .apart (to (length l - length rest) a) (length l - length rest) f t)
+
+-- ---- each of the enums
+
+count-told : Told count-read.Read count-read.Refused
+count-told = record {
+  value = λ x y m n e. cc;
+  next = λ x y m n e. cc;
+  reason = λ f g e. cc;
+  apart = λ x m f e. let z : _≡_ {A = ℕ} 0 1 = cc in omega arith;
+}
+
+optional-told : Told optional-read.Read optional-read.Refused
+optional-told = record {
+  value = λ x y m n e. cc;
+  next = λ x y m n e. cc;
+  reason = λ f g e. cc;
+  apart = λ x m f e. let z : _≡_ {A = ℕ} 0 1 = cc in omega arith;
+}
+
+availability-told : Told availability-read.Read availability-read.Refused
+availability-told = record {
+  value = λ x y m n e. cc;
+  next = λ x y m n e. cc;
+  reason = λ f g e. cc;
+  apart = λ x m f e. let z : _≡_ {A = ℕ} 0 1 = cc in omega arith;
+}
+
+value-told : Told value-read.Read value-read.Refused
+value-told = record {
+  value = λ x y m n e. cc;
+  next = λ x y m n e. cc;
+  reason = λ f g e. cc;
+  apart = λ x m f e. let z : _≡_ {A = ℕ} 0 1 = cc in omega arith;
+}
+
+operation-told : Told operation-read.Read operation-read.Refused
+operation-told = record {
+  value = λ x y m n e. cc;
+  next = λ x y m n e. cc;
+  reason = λ f g e. cc;
+  apart = λ x m f e. let z : _≡_ {A = ℕ} 0 1 = cc in omega arith;
+}
+
+envelope-told : Told envelope-read.Read envelope-read.Refused
+envelope-told = record {
+  value = λ x y m n e. cc;
+  next = λ x y m n e. cc;
+  reason = λ f g e. cc;
+  apart = λ x m f e. let z : _≡_ {A = ℕ} 0 1 = cc in omega arith;
+}
+
+head-told : Told head-read.Read head-read.Refused
+head-told = record {
+  value = λ x y m n e. cc;
+  next = λ x y m n e. cc;
+  reason = λ f g e. cc;
+  apart = λ x m f e. let z : _≡_ {A = ℕ} 0 1 = cc in omega arith;
+}
+
+operations-told : Told (λ (u : Unit {0}) (end : ℕ). operations-read.At end) operations-read.Refused
+operations-told = record {
+  value = λ x y m n e. refl;
+  next = λ x y m n e. cc;
+  reason = λ f g e. cc;
+  apart = λ x m f e. let z : _≡_ {A = ℕ} 0 1 = cc in omega arith;
+}
+
+module _ (l : List ℕ) (at : ℕ) where
+  pub text-count-got : (r : CountRead) → r ≡ countAnswer (length l) (readCount textBytes (drop at l)) → Bytes l → (n end : ℕ) → r ≡ count-read.Read n end → Got (readCount textBytes) (anywhere (λ n. n)) l at n end
+  text-count-got = got (anywhere (λ n. n)) (count-codec textBytes (lit< tt)) count-told l at
+
+  pub no-text-count : (r : CountRead) → r ≡ countAnswer (length l) (readCount textBytes (drop at l)) → (f : ProjectionPatchReadFault) → r ≡ count-read.Refused f → NotGot (readCount textBytes) l at f
+  no-text-count = not-got (anywhere (λ n. n)) (count-codec textBytes (lit< tt)) count-told l at
+
+  pub operation-count-got : (r : CountRead) → r ≡ countAnswer (length l) (readCount patchOperations (drop at l)) → Bytes l → (n end : ℕ) → r ≡ count-read.Read n end → Got (readCount patchOperations) (anywhere (λ n. n)) l at n end
+  operation-count-got = got (anywhere (λ n. n)) (count-codec patchOperations (lit< tt)) count-told l at
+
+  pub no-operation-count : (r : CountRead) → r ≡ countAnswer (length l) (readCount patchOperations (drop at l)) → (f : ProjectionPatchReadFault) → r ≡ count-read.Refused f → NotGot (readCount patchOperations) l at f
+  no-operation-count = not-got (anywhere (λ n. n)) (count-codec patchOperations (lit< tt)) count-told l at
+
+  pub optional-got : (r : OptionalRead) → r ≡ optionalAnswer (length l) (readOptional (drop at l)) → Bytes l → (o : OptionalNumber) (end : ℕ) → r ≡ optional-read.Read o end → Got readOptional (anywhere optionalTo) l at o end
+  optional-got = got (anywhere optionalTo) optional-codec optional-told l at
+
+  pub no-optional : (r : OptionalRead) → r ≡ optionalAnswer (length l) (readOptional (drop at l)) → (f : ProjectionPatchReadFault) → r ≡ optional-read.Refused f → NotGot readOptional l at f
+  no-optional = not-got (anywhere optionalTo) optional-codec optional-told l at
+
+  pub availability-got : (r : AvailabilityRead) → r ≡ availabilityAnswer (length l) (readAvailability (drop at l)) → Bytes l → (a : ProjectionNodeAvailability) (end : ℕ) → r ≡ availability-read.Read a end → Got readAvailability (anywhere availabilityTo) l at a end
+  availability-got = got (anywhere availabilityTo) availability-codec availability-told l at
+
+  pub no-availability : (r : AvailabilityRead) → r ≡ availabilityAnswer (length l) (readAvailability (drop at l)) → (f : ProjectionPatchReadFault) → r ≡ availability-read.Refused f → NotGot readAvailability l at f
+  no-availability = not-got (anywhere availabilityTo) availability-codec availability-told l at
+
+  pub value-got : (r : ValueRead) → r ≡ valueAnswer (length l) (readValue v1 (drop at l)) → Bytes l → (v : ProjectionPatchValue) (end : ℕ) → r ≡ value-read.Read v end → Got (readValue v1) valueTo l at v end
+  value-got = got valueTo (value-codec v1) value-told l at
+
+  pub no-value : (r : ValueRead) → r ≡ valueAnswer (length l) (readValue v1 (drop at l)) → (f : ProjectionPatchReadFault) → r ≡ value-read.Refused f → NotGot (readValue v1) l at f
+  no-value = not-got valueTo (value-codec v1) value-told l at
+
+  pub operation-got : (r : OperationRead) → r ≡ operationAnswer (length l) (readOperation v1 (drop at l)) → Bytes l → (o : ProjectionPatchOperation) (end : ℕ) → r ≡ operation-read.Read o end → Got (readOperation v1) operationTo l at o end
+  operation-got = got operationTo (operation-codec v1) operation-told l at
+
+  pub no-operation : (r : OperationRead) → r ≡ operationAnswer (length l) (readOperation v1 (drop at l)) → (f : ProjectionPatchReadFault) → r ≡ operation-read.Refused f → NotGot (readOperation v1) l at f
+  no-operation = not-got operationTo (operation-codec v1) operation-told l at
+
+  pub envelope-got : (r : EnvelopeRead) → r ≡ envelopeAnswer (length l) (readEnvelope (drop at l)) → Bytes l → (e : ProjectionPatchEnvelope) (end : ℕ) → r ≡ envelope-read.Read e end → Got readEnvelope (anywhere envelopeTo) l at e end
+  envelope-got = got (anywhere envelopeTo) envelope-codec envelope-told l at
+
+  pub no-envelope : (r : EnvelopeRead) → r ≡ envelopeAnswer (length l) (readEnvelope (drop at l)) → (f : ProjectionPatchReadFault) → r ≡ envelope-read.Refused f → NotGot readEnvelope l at f
+  no-envelope = not-got (anywhere envelopeTo) envelope-codec envelope-told l at
+
+  pub head-got : (r : PatchHeadRead) → r ≡ headAnswer (length l) (readHead (drop at l)) → Bytes l → (h : ProjectionPatch) (end : ℕ) → r ≡ head-read.Read h end → Got readHead (anywhere headTo) l at h end
+  head-got = got (anywhere headTo) head-codec head-told l at
+
+  pub no-head : (r : PatchHeadRead) → r ≡ headAnswer (length l) (readHead (drop at l)) → (f : ProjectionPatchReadFault) → r ≡ head-read.Refused f → NotGot readHead l at f
+  no-head = not-got (anywhere headTo) head-codec head-told l at
+
+  pub heading-got : (r : CountRead) → r ≡ countAnswer (length l) (readHeading (drop at l)) → Bytes l → (n end : ℕ) → r ≡ count-read.Read n end → Got readHeading (anywhere (λ n. n)) l at n end
+  heading-got = got (anywhere (λ n. n)) heading-codec count-told l at
+
+  pub no-heading : (r : CountRead) → r ≡ countAnswer (length l) (readHeading (drop at l)) → (f : ProjectionPatchReadFault) → r ≡ count-read.Refused f → NotGot readHeading l at f
+  no-heading = not-got (anywhere (λ n. n)) heading-codec count-told l at
+
+  pub operations-got : (n : ℕ) (r : OperationsRead) → r ≡ operationsAnswer (length l) (many n (readOperation v1) (drop at l)) → Bytes l → (end : ℕ) → r ≡ operations-read.At end → Got (many n (readOperation v1)) (anywhere (λ os. tt {0})) l at (tt {0}) end
+  operations-got n r e h end q = got (anywhere (λ os. tt {0})) (many-codec (operation-codec v1) n) operations-told l at r e h (tt {0}) end q
+
+  pub no-operations : (n : ℕ) (r : OperationsRead) → r ≡ operationsAnswer (length l) (many n (readOperation v1) (drop at l)) → (f : ProjectionPatchReadFault) → r ≡ operations-read.Refused f → NotGot (many n (readOperation v1)) l at f
+  no-operations n r e f q = not-got (anywhere (λ os. tt {0})) (many-codec (operation-codec v1) n) operations-told l at r e f q
+
+  pub patch-got : (r : CountRead) → r ≡ patchAnswer (length l) (readPatch v1 (drop at l)) → Bytes l → (n end : ℕ) → r ≡ count-read.Read n end → Got (readPatch v1) (anywhere (λ p. length (p .operations))) l at n end
+  patch-got = got (anywhere (λ p. length (p .operations))) (patch-codec v1) count-told l at
+
+  pub no-patch : (r : CountRead) → r ≡ patchAnswer (length l) (readPatch v1 (drop at l)) → (f : ProjectionPatchReadFault) → r ≡ count-read.Refused f → NotGot (readPatch v1) l at f
+  no-patch = not-got (anywhere (λ p. length (p .operations))) (patch-codec v1) count-told l at

@@ -1,0 +1,127 @@
+-- `projection_patch::read_operations::collection_insert` meets its contract: a collection, a key, a neighbour, then a value.
+use Prim.Native.Nat.{ℕ}
+use mathlib.Core.Path.{_≡_, sym, ap}
+use mathlib.Core.List.{List}
+use lib.ListN.{length}
+use Rattle.spec_lists.specs.Bytes.{Bytes}
+use Rattle.spec_lists.specs.BytesLaws.{bytes-of}
+use Rattle.spec_patch.specs.Edition.{v1}
+use Rattle.projection_patch.specs.ReadAnswers.{operationAnswer}
+use Rattle.spec_patch.specs.Reader.{pair}
+use Rattle.spec_patch.specs.Read.{readOptional, readValue, toInsert, operationAfter}
+use Rattle.projection_patch.specs.ReadAnswers.{anywhere, optionalTo}
+use Rattle.projection_patch.proofs.Answers.{Got, optional-got, no-optional, value-got, no-value}
+use Rattle.projection_patch.proofs.Places.{PlaceAt, place-at, no-place, before-is}
+use borrow.Author.Needs.{needs}
+use Rattle.projection_patch.proofs.read_operations.collection_insert.Statement.{statement}
+use Rattle.projection_patch.proofs.read_operations.collection_insert.Tie as tie
+
+abbrev part : tie.After-place → List ℕ
+part c = c .before .before .args .part .now
+
+all-bytes : (c : tie.After-place) → Bytes (part c)
+all-bytes c = bytes-of (part c) (λ j. c .before .shared-slice-known .given j .fits)
+
+here : (c : tie.After-known-told) → PlaceAt (part (c .before .before .before)) (c .before .collection .given .0 .0) (c .before .collection .given .0 .1 .0)
+here c =
+    let call = c .before .before .before in
+    let bound = c .before .collection .given in
+    place-at (part call) (call .place .result) (call .place .ensures) (bound .0 .0) (bound .0 .1 .0) (bound .1)
+
+abbrev start : tie.After-known-told2 → tie.After-place
+start c = c .before .before .before .before .before .before .before
+
+abbrev body : tie.After-known-told2 → ℕ
+body c = c .before .neighbour .given .0 .1 .0
+
+neighbour : (c : tie.After-known-told2) → Got readOptional (anywhere optionalTo) (part (start c)) 17 (c .before .neighbour .given .0 .0) (body c)
+neighbour c =
+    let call = c .before .before .before in
+    let bound = c .before .neighbour .given in
+    optional-got (part (start c)) 17 (call .optional-at .result) (call .optional-at .ensures) (all-bytes (start c)) (bound .0 .0) (body c) (bound .1)
+
+place-requires : tie.Need-place-requires
+place-requires c κs = search needs
+
+enum-known-collection : tie.Need-enum-known-collection
+enum-known-collection c = search needs
+
+enum-told : tie.Need-enum-told
+enum-told c = search needs
+
+returns : tie.Need-returns
+unfolding operationAfter
+returns c =
+    let call = c .before .before in
+    ap (operationAnswer (length (part call))) (sym (no-place (part call) (call .place .result) (call .place .ensures) (pair readOptional (readValue v1)) toInsert (c .enum-told .given .1)))
+
+optional-at-requires : tie.Need-optional-at-requires
+optional-at-requires c κs = search needs
+
+enum-known-neighbour : tie.Need-enum-known-neighbour
+enum-known-neighbour c = search needs
+
+value-at-requires : tie.Need-value-at-requires
+value-at-requires c κs = search needs
+
+enum-known-value : tie.Need-enum-known-value
+enum-known-value c = search needs
+
+key-of-requires : tie.Need-key-of-requires
+key-of-requires c κs = search needs
+
+enum-known-fault : tie.Need-enum-known-fault
+enum-known-fault c = search needs
+
+enum-known-fault-2 : tie.Need-enum-known-fault-2
+enum-known-fault-2 c = search needs
+
+returns-2 : tie.Need-returns-2
+unfolding operationAfter
+returns-2 c =
+    let bound = c .before .before .value .given in
+    let call = c .before .before .before .before in
+    let k = call .before in
+    let p = here (k .before .before .before .before) in
+    let b = neighbour k in
+    let v = value-got (part (start k)) (body k) (call .value-at .result) (call .value-at .ensures) (all-bytes (start k)) (bound .0 .0) (bound .0 .1 .0) (bound .1) in
+    rw (p .numbers .first, p .numbers .second, b .is, v .is, v .there, v .same, p .node, p .in-it, before-is (k .before .neighbour .given .0 .0) (b .a) (b .same) (c .key-of .result) (c .key-of .ensures))
+
+returns-3 : tie.Need-returns-3
+unfolding operationAfter
+returns-3 c =
+    let call = c .before .before .before in
+    let k = call .before in
+    let p = here (k .before .before .before .before) in
+    let bound = c .before .fault .given in
+    let v = no-value (part (start k)) (body k) (call .value-at .result) (call .value-at .ensures) (bound .0 .0) (bound .1) in
+    rw (p .numbers .first, p .numbers .second, neighbour k .is, v .is, v .same)
+
+returns-4 : tie.Need-returns-4
+unfolding operationAfter
+returns-4 c =
+    let call = c .before .before .before in
+    let k = call .before in
+    let p = here k in
+    let bound = c .before .fault2 .given in
+    let b = no-optional (part (k .before .before .before)) 17 (call .optional-at .result) (call .optional-at .ensures) (bound .0 .0) (bound .1) in
+    rw (p .numbers .first, p .numbers .second, b .is, b .same)
+
+pub collection-insert-spec : {M : Type 1} → statement M
+collection-insert-spec =
+    tie.close
+    (tie.spec
+    place-requires
+    enum-known-collection
+    enum-told
+    returns
+    optional-at-requires
+    enum-known-neighbour
+    value-at-requires
+    enum-known-value
+    key-of-requires
+    enum-known-fault
+    enum-known-fault-2
+    returns-2
+    returns-3
+    returns-4)

@@ -1,0 +1,86 @@
+-- `projection_patch::read_operations::collection_update` meets its contract: a collection, a key, then a value.
+use Prim.Native.Nat.{ℕ}
+use mathlib.Core.Path.{_≡_, sym, ap}
+use mathlib.Core.List.{List}
+use lib.ListN.{length}
+use Rattle.spec_lists.specs.Bytes.{Bytes}
+use Rattle.spec_lists.specs.BytesLaws.{bytes-of}
+use Rattle.spec_patch.specs.Edition.{v1}
+use Rattle.projection_patch.specs.ReadAnswers.{operationAnswer}
+use Rattle.spec_patch.specs.Read.{readValue, toUpdate, operationAfter}
+use Rattle.projection_patch.proofs.Answers.{value-got, no-value}
+use Rattle.projection_patch.proofs.Places.{PlaceAt, place-at, no-place}
+use borrow.Author.Needs.{needs}
+use Rattle.projection_patch.proofs.read_operations.collection_update.Statement.{statement}
+use Rattle.projection_patch.proofs.read_operations.collection_update.Tie as tie
+
+abbrev part : tie.After-place → List ℕ
+part c = c .before .before .args .part .now
+
+all-bytes : (c : tie.After-place) → Bytes (part c)
+all-bytes c = bytes-of (part c) (λ j. c .before .shared-slice-known .given j .fits)
+
+here : (c : tie.After-known-told) → PlaceAt (part (c .before .before .before)) (c .before .collection .given .0 .0) (c .before .collection .given .0 .1 .0)
+here c =
+    let call = c .before .before .before in
+    let bound = c .before .collection .given in
+    place-at (part call) (call .place .result) (call .place .ensures) (bound .0 .0) (bound .0 .1 .0) (bound .1)
+
+place-requires : tie.Need-place-requires
+place-requires c κs = search needs
+
+enum-known-collection : tie.Need-enum-known-collection
+enum-known-collection c = search needs
+
+enum-told : tie.Need-enum-told
+enum-told c = search needs
+
+returns : tie.Need-returns
+unfolding operationAfter
+returns c =
+    let call = c .before .before in
+    ap (operationAnswer (length (part call))) (sym (no-place (part call) (call .place .result) (call .place .ensures) (readValue v1) toUpdate (c .enum-told .given .1)))
+
+value-at-requires : tie.Need-value-at-requires
+value-at-requires c κs = search needs
+
+enum-known-value : tie.Need-enum-known-value
+enum-known-value c = search needs
+
+enum-known-fault : tie.Need-enum-known-fault
+enum-known-fault c = search needs
+
+returns-2 : tie.Need-returns-2
+unfolding operationAfter
+returns-2 c =
+    let call = c .before .before .before in
+    let k = call .before in
+    let start = k .before .before .before in
+    let p = here k in
+    let bound = c .before .value .given in
+    let v = value-got (part start) 17 (call .value-at .result) (call .value-at .ensures) (all-bytes start) (bound .0 .0) (bound .0 .1 .0) (bound .1) in
+    rw (p .numbers .first, p .numbers .second, v .is, v .there, v .same, p .node, p .in-it)
+
+returns-3 : tie.Need-returns-3
+unfolding operationAfter
+returns-3 c =
+    let call = c .before .before .before in
+    let k = call .before in
+    let p = here k in
+    let bound = c .before .fault .given in
+    let v = no-value (part (k .before .before .before)) 17 (call .value-at .result) (call .value-at .ensures) (bound .0 .0) (bound .1) in
+    rw (p .numbers .first, p .numbers .second, v .is, v .same)
+
+pub collection-update-spec : {M : Type 1} → statement M
+collection-update-spec =
+    tie.close
+    (tie.spec
+    place-requires
+    enum-known-collection
+    enum-told
+    returns
+    value-at-requires
+    enum-known-value
+    enum-known-fault
+    returns-2
+    returns-3)

@@ -1,0 +1,47 @@
+-- `projection_patch::read_operations::place` meets its contract: two numbers of eight bytes, as ids.
+use Prim.Native.Nat.{ℕ}
+use mathlib.Core.Path.{_≡_, sym, ap, ap₂, _∙_}
+use Rattle.projection_patch.specs.ReadAnswers.{placeTo}
+use Rattle.projection_patch.specs.declared.read_operations.PlaceRead.the-variants as place-read
+use Rattle.projection_patch.proofs.Places.{node-is, key-is}
+use borrow.Author.Needs.{needs}
+use Rattle.projection_patch.proofs.read_operations.place.Statement.{statement}
+use Rattle.projection_patch.proofs.read_operations.place.Tie as tie
+
+numbers-at-requires : tie.Need-numbers-at-requires
+numbers-at-requires c κs = search needs
+
+enum-known-collection : tie.Need-enum-known-collection
+enum-known-collection c = search needs
+
+new-requires : tie.Need-new-requires
+new-requires c κs = search needs
+
+new-requires-2 : tie.Need-new-requires-2
+new-requires-2 c κs = search needs
+
+enum-told : tie.Need-enum-told
+enum-told c = search needs
+
+returns : tie.Need-returns
+returns c =
+    let node = c .before in
+    let bound = node .before .before .collection .given in
+    let call = node .before .before .before .before in
+    ap₂ place-read.Read (node-is (node .new .result) (bound .0 .0) (node .new .ensures)) (key-is (c .new2 .result) (bound .0 .1 .0) (c .new2 .ensures))
+    ∙ ap placeTo (sym (bound .1) ∙ call .numbers-at .ensures)
+
+returns-2 : tie.Need-returns-2
+returns-2 c = ap placeTo (sym (c .enum-told .given .1) ∙ c .before .before .numbers-at .ensures)
+
+pub place-spec : {M : Type 1} → statement M
+place-spec =
+    tie.close
+    (tie.spec
+    numbers-at-requires
+    enum-known-collection
+    new-requires
+    new-requires-2
+    enum-told
+    returns
+    returns-2)

@@ -1,0 +1,113 @@
+-- `projection_patch::read_operations::set_binding_value` meets its contract: a node, a slot, then a value.
+use Prim.Native.Nat.{ℕ}
+use mathlib.Core.List.{List}
+use Rattle.spec_lists.specs.Bytes.{Bytes}
+use Rattle.spec_lists.specs.BytesLaws.{bytes-of}
+use Rattle.spec_patch.specs.Read.{operationAfter}
+use Rattle.projection_patch.proofs.At.{NumberAt, u64-at, u64-short, u32-at, u32-short}
+use Rattle.projection_patch.proofs.Answers.{value-got, no-value}
+use Rattle.projection_patch.proofs.Places.{node-is}
+use borrow.Author.Needs.{needs}
+use Rattle.projection_patch.proofs.read_operations.set_binding_value.Statement.{statement}
+use Rattle.projection_patch.proofs.read_operations.set_binding_value.Tie as tie
+
+abbrev part : tie.After-shared-slice-known → List ℕ
+part c = c .before .args .part .now
+
+all-bytes : (c : tie.After-shared-slice-known) → Bytes (part c)
+all-bytes c = bytes-of (part c) (λ j. c .shared-slice-known .given j .fits)
+
+abbrev start : tie.After-known-told2 → tie.After-shared-slice-known
+start c = c .before .before .before .before .before .before .before .before
+
+node : (c : tie.After-known-told) → NumberAt (part (c .before .before .before .before)) 1 8 (c .before .node .given .0 .0)
+node c =
+    let call = c .before .before .before in
+    u64-at (part (call .before)) 1 (c .before .node .given .0 .0) (call .read-u64-at .result) (call .read-u64-at .ensures) (c .before .node .given .1)
+
+slot : (c : tie.After-known-told2) → NumberAt (part (start c)) 9 4 (c .before .slot .given .0 .0)
+slot c =
+    let call = c .before .before .before in
+    u32-at (part (start c)) 9 (c .before .slot .given .0 .0) (call .read-u32-at .result) (call .read-u32-at .ensures) (c .before .slot .given .1)
+
+read-u64-at-requires : tie.Need-read-u64-at-requires
+read-u64-at-requires c κs = search needs
+
+enum-known-node : tie.Need-enum-known-node
+enum-known-node c = search needs
+
+enum-told : tie.Need-enum-told
+enum-told c = search needs
+
+returns : tie.Need-returns
+unfolding operationAfter
+returns c =
+    let call = c .before .before in
+    rw (u64-short (part (call .before)) 1 (call .read-u64-at .result) (call .read-u64-at .ensures) (c .enum-told .given .1))
+
+read-u32-at-requires : tie.Need-read-u32-at-requires
+read-u32-at-requires c κs = search needs
+
+enum-known-slot : tie.Need-enum-known-slot
+enum-known-slot c = search needs
+
+enum-told-2 : tie.Need-enum-told-2
+enum-told-2 c = search needs
+
+returns-2 : tie.Need-returns-2
+unfolding operationAfter
+returns-2 c =
+    let call = c .before .before in
+    let l = part (call .before .before .before .before .before) in
+    rw (node (call .before) .is, u32-short l 9 (call .read-u32-at .result) (call .read-u32-at .ensures) (c .enum-told2 .given .1))
+
+new-requires : tie.Need-new-requires
+new-requires c κs = search needs
+
+value-at-requires : tie.Need-value-at-requires
+value-at-requires c κs = search needs
+
+enum-known-value : tie.Need-enum-known-value
+enum-known-value c = search needs
+
+enum-known-fault : tie.Need-enum-known-fault
+enum-known-fault c = search needs
+
+returns-3 : tie.Need-returns-3
+unfolding operationAfter
+returns-3 c =
+    let call = c .before .before .before in
+    let made = call .before in
+    let k = made .before in
+    let first = k .before .before .before .before in
+    let bound = c .before .value .given in
+    let v = value-got (part (start k)) 13 (call .value-at .result) (call .value-at .ensures) (all-bytes (start k)) (bound .0 .0) (bound .0 .1 .0) (bound .1) in
+    rw (node first .is, slot k .is, v .is, v .there, v .same, node-is (made .new .result) (first .before .node .given .0 .0) (made .new .ensures))
+
+returns-4 : tie.Need-returns-4
+unfolding operationAfter
+returns-4 c =
+    let call = c .before .before .before in
+    let k = call .before .before in
+    let bound = c .before .fault .given in
+    let v = no-value (part (start k)) 13 (call .value-at .result) (call .value-at .ensures) (bound .0 .0) (bound .1) in
+    rw (node (k .before .before .before .before) .is, slot k .is, v .is, v .same)
+
+pub set-binding-value-spec : {M : Type 1} → statement M
+set-binding-value-spec =
+    tie.close
+    (tie.spec
+    read-u64-at-requires
+    enum-known-node
+    enum-told
+    returns
+    read-u32-at-requires
+    enum-known-slot
+    enum-told-2
+    returns-2
+    new-requires
+    value-at-requires
+    enum-known-value
+    enum-known-fault
+    returns-3
+    returns-4)

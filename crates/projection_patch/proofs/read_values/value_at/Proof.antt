@@ -1,0 +1,98 @@
+-- `projection_patch::read_values::value_at` meets its contract: the kind picks the reader, and the edition has kinds 1 to 4.
+use Prim.Native.Nat.{ℕ, _+_}
+use mathlib.Core.Path.{_≡_, refl, sym, ap, _∙_}
+use mathlib.Core.List.{List}
+use native.Mathlib.Omega.{arith}
+use borrow.Author.Tests.{ne-eqb}
+use lib.ListN.{length, getD, drop}
+use Rattle.spec_patch.specs.Edition.{v1, hasKind}
+use Rattle.spec_patch.specs.Reader.{Reader, refused, malformed}
+use Rattle.spec_patch.specs.Patch.{Value}
+use Rattle.spec_patch.specs.Read.{valueAfter, inEdition, readValue}
+use Rattle.projection_patch.specs.ReadAnswers.{valueAnswer}
+use Rattle.projection_patch.proofs.Answers.{picked, no-tag}
+use borrow.Author.Needs.{needs}
+use Rattle.projection_patch.proofs.read_values.value_at.Statement.{statement}
+use Rattle.projection_patch.proofs.read_values.value_at.Tie as tie
+
+abbrev part : tie.After-shared-slice-known2 → List ℕ
+part c = c .before .before .before .args .part .now
+
+abbrev at : tie.After-shared-slice-known2 → ℕ
+at c = c .before .before .before .args .at
+
+abbrev after : ℕ → Reader Value
+after = inEdition v1 valueAfter
+
+-- the answer of the reader after the kind t is the whole's
+tagged : (c : tie.After-shared-slice-known2) (t : ℕ) → getD (part c) (at c) 0 ≡ t → valueAnswer (length (part c)) (after t (drop (at c + 1) (part c))) ≡ valueAnswer (length (part c)) (readValue v1 (drop (at c) (part c)))
+unfolding readValue
+tagged c t e = picked after (part c) (at c) (valueAnswer (length (part c))) t (omega arith) e
+
+other : (t : ℕ) (bs : List ℕ) → (t ≡ 1 → ⊥) → (t ≡ 2 → ⊥) → (t ≡ 3 → ⊥) → (t ≡ 4 → ⊥) → after t bs ≡ refused malformed
+unfolding inEdition hasKind v1
+other t bs a b c d = rw (ne-eqb t 1 a, ne-eqb t 2 b, ne-eqb t 3 c, ne-eqb t 4 d)
+
+returns : tie.Need-returns
+unfolding readValue
+returns c =
+    let a = c .before .before .args in
+    rw (no-tag after (a .part .now) (a .at) (c .if1 .taken))
+
+shared-slice-read-tag : tie.Need-shared-slice-read-tag
+shared-slice-read-tag c = search needs
+
+add-body : tie.Need-add-body
+add-body c = search needs
+
+quad-at-requires : tie.Need-quad-at-requires
+quad-at-requires c κs = search needs
+
+signed-at-requires : tie.Need-signed-at-requires
+signed-at-requires c κs = search needs
+
+text-at-requires : tie.Need-text-at-requires
+text-at-requires c κs = search needs
+
+unsigned-at-requires : tie.Need-unsigned-at-requires
+unsigned-at-requires c κs = search needs
+
+returns-2 : tie.Need-returns-2
+unfolding valueAfter inEdition hasKind v1
+returns-2 c = c .quad-at .ensures ∙ tagged (c .before .before) 1 (c .before .match .keys1)
+
+returns-3 : tie.Need-returns-3
+unfolding valueAfter inEdition hasKind v1
+returns-3 c = c .signed-at .ensures ∙ tagged (c .before .before) 2 (c .before .match .keys2)
+
+returns-4 : tie.Need-returns-4
+unfolding valueAfter inEdition hasKind v1
+returns-4 c = c .text-at .ensures ∙ tagged (c .before .before) 3 (c .before .match .keys3)
+
+returns-5 : tie.Need-returns-5
+unfolding valueAfter inEdition hasKind v1
+returns-5 c = c .unsigned-at .ensures ∙ tagged (c .before .before) 4 (c .before .match .keys4)
+
+returns-6 : tie.Need-returns-6
+returns-6 c =
+    let k = c .before in
+    let none = c .match .rest in
+    ap (valueAnswer (length (part k))) (sym (other (getD (part k) (at k) 0) (drop (at k + 1) (part k)) (none .0 .0 .0 .1) (none .0 .0 .1) (none .0 .1) (none .1)))
+    ∙ tagged k (getD (part k) (at k) 0) refl
+
+pub value-at-spec : {M : Type 1} → statement M
+value-at-spec =
+    tie.close
+    (tie.spec
+    returns
+    shared-slice-read-tag
+    add-body
+    quad-at-requires
+    signed-at-requires
+    text-at-requires
+    unsigned-at-requires
+    returns-2
+    returns-3
+    returns-4
+    returns-5
+    returns-6)

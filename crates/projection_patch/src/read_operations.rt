@@ -1,0 +1,187 @@
+// Reading of operations. An operation is read from the start of a part, which is the set from the operation's own start on.
+ghost use mathlib.Core.Path.{_≡_};
+ghost use lib.ListN.{length, drop};
+ghost use Rattle.spec_patch.specs.Edition.{v1};
+ghost use Rattle.spec_patch.specs.Read.{operationAfter, readOperation};
+ghost use Rattle.projection_patch.specs.Meaning.{beforeTo};
+ghost use Rattle.wire.specs.Read.{firstNumber};
+ghost use Rattle.projection_patch.specs.ReadAnswers.{optionalOf, numbersAnswer, placeTo, operationAnswer};
+use crate::binding_graph::BindingSlot;
+use crate::binding_graph::BindingTarget;
+use crate::contract_primitives::CollectionKey;
+use crate::contract_primitives::StaticNodeId;
+use crate::patch::OptionalKey;
+use crate::patch::ProjectionPatchOperation;
+use crate::read_values;
+use crate::read_values::AvailabilityRead;
+use crate::read_values::NumbersRead;
+use crate::read_values::OptionalNumber;
+use crate::read_values::OptionalRead;
+use crate::read_values::ProjectionPatchReadFault;
+use crate::read_values::ValueRead;
+use wire::ReadU32;
+use wire::ReadU64;
+
+// An operation, and how many bytes it took. The place of its text counts from the start of the part.
+pub enum OperationRead {
+    Read(ProjectionPatchOperation, usize),
+    Refused(ProjectionPatchReadFault),
+}
+
+// A collection and a key in it.
+pub enum PlaceRead {
+    Read(StaticNodeId, CollectionKey),
+    Short,
+}
+
+// The collection and the key behind the tag.
+fn place(part: &[u8]) -> PlaceRead
+    ensures { λ r. ⌜ r ≡ placeTo (numbersAnswer (firstNumber 8 (drop 1 (now (part .entry)))) (firstNumber 8 (drop 9 (now (part .entry))))) ⌝ }
+{
+    match read_values::numbers_at(part, 1) {
+        NumbersRead::Read(collection, key) => PlaceRead::Read(
+            StaticNodeId::new(collection),
+            CollectionKey::new(key),
+        ),
+        NumbersRead::Short => PlaceRead::Short,
+    }
+}
+
+fn key_of(number: OptionalNumber) -> OptionalKey
+    ensures { λ r. ⌜ r ≡ beforeTo (optionalOf number) ⌝ }
+{
+    match number {
+        OptionalNumber::None => OptionalKey::None,
+        OptionalNumber::Some(key) => OptionalKey::Some(CollectionKey::new(key)),
+    }
+}
+
+fn set_binding_value(part: &[u8]) -> OperationRead
+    ensures { λ r. ⌜ r ≡ operationAnswer (length (now (part .entry))) (operationAfter v1 1 (drop 1 (now (part .entry)))) ⌝ }
+{
+    let ReadU64::Read(node) = wire::read_u64_at(part, 1) else {
+        return OperationRead::Refused(ProjectionPatchReadFault::Malformed);
+    };
+    let ReadU32::Read(slot) = wire::read_u32_at(part, 9) else {
+        return OperationRead::Refused(ProjectionPatchReadFault::Malformed);
+    };
+    let target = BindingTarget {
+        node: StaticNodeId::new(node),
+        slot: BindingSlot(slot),
+    };
+    match read_values::value_at(part, 13) {
+        ValueRead::Read(value, end) => OperationRead::Read(
+            ProjectionPatchOperation::SetBindingValue { target, value },
+            end,
+        ),
+        ValueRead::Refused(fault) => OperationRead::Refused(fault),
+    }
+}
+
+fn set_node_availability(part: &[u8]) -> OperationRead
+    ensures { λ r. ⌜ r ≡ operationAnswer (length (now (part .entry))) (operationAfter v1 2 (drop 1 (now (part .entry)))) ⌝ }
+{
+    let ReadU64::Read(number) = wire::read_u64_at(part, 1) else {
+        return OperationRead::Refused(ProjectionPatchReadFault::Malformed);
+    };
+    let node = StaticNodeId::new(number);
+    match read_values::availability_at(part, 9) {
+        AvailabilityRead::Read(availability, end) => OperationRead::Read(
+            ProjectionPatchOperation::SetNodeAvailability { node, availability },
+            end,
+        ),
+        AvailabilityRead::Refused(fault) => OperationRead::Refused(fault),
+    }
+}
+
+fn collection_insert(part: &[u8]) -> OperationRead
+    ensures { λ r. ⌜ r ≡ operationAnswer (length (now (part .entry))) (operationAfter v1 3 (drop 1 (now (part .entry)))) ⌝ }
+{
+    let PlaceRead::Read(collection, key) = place(part) else {
+        return OperationRead::Refused(ProjectionPatchReadFault::Malformed);
+    };
+    match read_values::optional_at(part, 17) {
+        OptionalRead::Read(neighbour, body) => match read_values::value_at(part, body) {
+            ValueRead::Read(value, end) => OperationRead::Read(
+                ProjectionPatchOperation::CollectionInsert {
+                    collection,
+                    key,
+                    before: key_of(neighbour),
+                    value,
+                },
+                end,
+            ),
+            ValueRead::Refused(fault) => OperationRead::Refused(fault),
+        },
+        OptionalRead::Refused(fault) => OperationRead::Refused(fault),
+    }
+}
+
+fn collection_update(part: &[u8]) -> OperationRead
+    ensures { λ r. ⌜ r ≡ operationAnswer (length (now (part .entry))) (operationAfter v1 4 (drop 1 (now (part .entry)))) ⌝ }
+{
+    let PlaceRead::Read(collection, key) = place(part) else {
+        return OperationRead::Refused(ProjectionPatchReadFault::Malformed);
+    };
+    match read_values::value_at(part, 17) {
+        ValueRead::Read(value, end) => OperationRead::Read(
+            ProjectionPatchOperation::CollectionUpdate {
+                collection,
+                key,
+                value,
+            },
+            end,
+        ),
+        ValueRead::Refused(fault) => OperationRead::Refused(fault),
+    }
+}
+
+fn collection_remove(part: &[u8]) -> OperationRead
+    ensures { λ r. ⌜ r ≡ operationAnswer (length (now (part .entry))) (operationAfter v1 5 (drop 1 (now (part .entry)))) ⌝ }
+{
+    let PlaceRead::Read(collection, key) = place(part) else {
+        return OperationRead::Refused(ProjectionPatchReadFault::Malformed);
+    };
+    OperationRead::Read(
+        ProjectionPatchOperation::CollectionRemove { collection, key },
+        17,
+    )
+}
+
+fn collection_move(part: &[u8]) -> OperationRead
+    ensures { λ r. ⌜ r ≡ operationAnswer (length (now (part .entry))) (operationAfter v1 6 (drop 1 (now (part .entry)))) ⌝ }
+{
+    let PlaceRead::Read(collection, key) = place(part) else {
+        return OperationRead::Refused(ProjectionPatchReadFault::Malformed);
+    };
+    match read_values::optional_at(part, 17) {
+        OptionalRead::Read(neighbour, end) => OperationRead::Read(
+            ProjectionPatchOperation::CollectionMove {
+                collection,
+                key,
+                before: key_of(neighbour),
+            },
+            end,
+        ),
+        OptionalRead::Refused(fault) => OperationRead::Refused(fault),
+    }
+}
+
+// Reads an operation from the start of a part.
+pub fn read_operation(part: &[u8]) -> OperationRead
+    ensures { λ r. ⌜ r ≡ operationAnswer (length (now (part .entry))) (readOperation v1 (now (part .entry))) ⌝ }
+{
+    if part.len() == 0 {
+        return OperationRead::Refused(ProjectionPatchReadFault::Malformed);
+    }
+    let tag = part[0];
+    match tag {
+        1 => set_binding_value(part),
+        2 => set_node_availability(part),
+        3 => collection_insert(part),
+        4 => collection_update(part),
+        5 => collection_remove(part),
+        6 => collection_move(part),
+        _ => OperationRead::Refused(ProjectionPatchReadFault::Malformed),
+    }
+}

@@ -1,0 +1,242 @@
+// Reading of counts, optional numbers and values. A reader takes a part and a position in it, and answers what stands there with the
+// position behind it, or the fault. Every position may be asked for.
+ghost use mathlib.Core.Path.{_≡_};
+ghost use Prim.Native.Nat.{_+_, _-_, _≤_};
+ghost use mathlib.Core.Option.{some};
+ghost use lib.ListN.{length, drop};
+ghost use Rattle.spec_patch.specs.Edition.{v1};
+ghost use Rattle.spec_patch.specs.Patch as model;
+ghost use Rattle.spec_text.specs.Syntax.{isUtf8};
+ghost use Rattle.spec_patch.specs.Reader.{faultNumber, malformed, mapped, checked, bytes};
+ghost use Rattle.spec_patch.specs.Read.{readU64, readI64, readCount, readQuad, readText, readOptional, readAvailability, readValue};
+ghost use Rattle.wire.specs.Read.{firstNumber};
+ghost use Rattle.projection_patch.specs.ReadAnswers.{faultOf, numbersAnswer, countAnswer, optionalAnswer, availabilityAnswer, valueAnswer, lentPart};
+use crate::patch::ProjectionNodeAvailability;
+use crate::patch::ProjectionPatchValue;
+use crate::patch::ProjectionQuadState;
+use wire::ReadI64;
+use wire::ReadU32;
+use wire::ReadU64;
+use utf8::Utf8Check;
+
+// Why bytes are not read.
+pub enum ProjectionPatchReadFault {
+    Malformed,
+    OverCapacity,
+}
+
+impl ProjectionPatchReadFault {
+    // The number of a refusal.
+    pub fn number(self) -> u64
+        ensures { λ r. ⌜ r ≡ faultNumber (faultOf self) ⌝ }
+    {
+        match self {
+            ProjectionPatchReadFault::Malformed => 10,
+            ProjectionPatchReadFault::OverCapacity => 12,
+        }
+    }
+}
+
+pub enum OptionalNumber {
+    None,
+    Some(u64),
+}
+
+// Two numbers, one behind the other.
+pub enum NumbersRead {
+    Read(u64, u64),
+    Short,
+}
+
+pub enum CountRead {
+    Read(usize, usize),
+    Refused(ProjectionPatchReadFault),
+}
+
+pub enum OptionalRead {
+    Read(OptionalNumber, usize),
+    Refused(ProjectionPatchReadFault),
+}
+
+pub enum AvailabilityRead {
+    Read(ProjectionNodeAvailability, usize),
+    Refused(ProjectionPatchReadFault),
+}
+
+pub enum ValueRead {
+    Read(ProjectionPatchValue, usize),
+    Refused(ProjectionPatchReadFault),
+}
+
+pub fn numbers_at(part: &[u8], at: usize) -> NumbersRead
+    ensures { λ r. ⌜ r ≡ numbersAnswer (firstNumber 8 (drop at (now (part .entry)))) (firstNumber 8 (drop (at + 8) (now (part .entry)))) ⌝ }
+{
+    let ReadU64::Read(first) = wire::read_u64_at(part, at) else {
+        return NumbersRead::Short;
+    };
+    let ReadU64::Read(second) = wire::read_u64_at(part, at + 8) else {
+        return NumbersRead::Short;
+    };
+    NumbersRead::Read(first, second)
+}
+
+// A count or a length, at most the capacity.
+pub fn count_at(part: &[u8], at: usize, capacity: usize) -> CountRead
+    ensures { λ r. ⌜ r ≡ countAnswer (length (now (part .entry))) (readCount capacity (drop at (now (part .entry)))) ⌝ }
+{
+    let ReadU32::Read(n) = wire::read_u32_at(part, at) else {
+        return CountRead::Refused(ProjectionPatchReadFault::Malformed);
+    };
+    let count = n as usize;
+    let end = at + 4;
+    if count <= capacity {
+        CountRead::Read(count, end)
+    } else {
+        CountRead::Refused(ProjectionPatchReadFault::OverCapacity)
+    }
+}
+
+fn some_at(part: &[u8], at: usize) -> OptionalRead
+    ensures { λ r. ⌜ r ≡ optionalAnswer (length (now (part .entry))) (mapped some readU64 (drop at (now (part .entry)))) ⌝ }
+{
+    match wire::read_u64_at(part, at) {
+        ReadU64::Read(n) => OptionalRead::Read(OptionalNumber::Some(n), at + 8),
+        ReadU64::Short => OptionalRead::Refused(ProjectionPatchReadFault::Malformed),
+    }
+}
+
+pub fn optional_at(part: &[u8], at: usize) -> OptionalRead
+    ensures { λ r. ⌜ r ≡ optionalAnswer (length (now (part .entry))) (readOptional (drop at (now (part .entry)))) ⌝ }
+{
+    if part.len() <= at {
+        return OptionalRead::Refused(ProjectionPatchReadFault::Malformed);
+    }
+    let tag = part[at];
+    let body = at + 1;
+    match tag {
+        0 => OptionalRead::Read(OptionalNumber::None, body),
+        1 => some_at(part, body),
+        _ => OptionalRead::Refused(ProjectionPatchReadFault::Malformed),
+    }
+}
+
+// Reads an optional number from the start of a part.
+pub fn read_optional(part: &[u8]) -> OptionalRead
+    ensures { λ r. ⌜ r ≡ optionalAnswer (length (now (part .entry))) (readOptional (now (part .entry))) ⌝ }
+{
+    optional_at(part, 0)
+}
+
+pub fn availability_at(part: &[u8], at: usize) -> AvailabilityRead
+    ensures { λ r. ⌜ r ≡ availabilityAnswer (length (now (part .entry))) (readAvailability (drop at (now (part .entry)))) ⌝ }
+{
+    if part.len() <= at {
+        return AvailabilityRead::Refused(ProjectionPatchReadFault::Malformed);
+    }
+    let tag = part[at];
+    let end = at + 1;
+    match tag {
+        0 => AvailabilityRead::Read(ProjectionNodeAvailability::Available, end),
+        1 => AvailabilityRead::Read(ProjectionNodeAvailability::Unavailable, end),
+        2 => AvailabilityRead::Read(ProjectionNodeAvailability::Hidden, end),
+        3 => AvailabilityRead::Read(ProjectionNodeAvailability::Pending, end),
+        4 => AvailabilityRead::Read(ProjectionNodeAvailability::Stale, end),
+        _ => AvailabilityRead::Refused(ProjectionPatchReadFault::Malformed),
+    }
+}
+
+fn quad_at(part: &[u8], at: usize) -> ValueRead
+    ensures { λ r. ⌜ r ≡ valueAnswer (length (now (part .entry))) (mapped model.quad readQuad (drop at (now (part .entry)))) ⌝ }
+{
+    if part.len() <= at {
+        return ValueRead::Refused(ProjectionPatchReadFault::Malformed);
+    }
+    let tag = part[at];
+    let end = at + 1;
+    match tag {
+        0 => ValueRead::Read(ProjectionPatchValue::Quad(ProjectionQuadState::N), end),
+        1 => ValueRead::Read(ProjectionPatchValue::Quad(ProjectionQuadState::F), end),
+        2 => ValueRead::Read(ProjectionPatchValue::Quad(ProjectionQuadState::T), end),
+        3 => ValueRead::Read(ProjectionPatchValue::Quad(ProjectionQuadState::S), end),
+        _ => ValueRead::Refused(ProjectionPatchReadFault::Malformed),
+    }
+}
+
+fn signed_at(part: &[u8], at: usize) -> ValueRead
+    ensures { λ r. ⌜ r ≡ valueAnswer (length (now (part .entry))) (mapped model.signed readI64 (drop at (now (part .entry)))) ⌝ }
+{
+    match wire::read_i64_at(part, at) {
+        ReadI64::Read(z) => ValueRead::Read(ProjectionPatchValue::SignedScalar(z), at + 8),
+        ReadI64::Short => ValueRead::Refused(ProjectionPatchReadFault::Malformed),
+    }
+}
+
+fn unsigned_at(part: &[u8], at: usize) -> ValueRead
+    ensures { λ r. ⌜ r ≡ valueAnswer (length (now (part .entry))) (mapped model.unsigned readU64 (drop at (now (part .entry)))) ⌝ }
+{
+    match wire::read_u64_at(part, at) {
+        ReadU64::Read(n) => ValueRead::Read(ProjectionPatchValue::UnsignedScalar(n), at + 8),
+        ReadU64::Short => ValueRead::Refused(ProjectionPatchReadFault::Malformed),
+    }
+}
+
+// The bytes of a text from index a up to b, or none where they do not stand in the set.
+pub fn text_of(set: &[u8], a: usize, b: usize) -> &[u8]
+    ensures { λ r. ⌜ now r ≡ lentPart (now (set .entry)) a b ⌝ }
+{
+    if b < a {
+        return &set[0..0];
+    }
+    if set.len() < b {
+        return &set[0..0];
+    }
+    &set[a..b]
+}
+
+fn text_at(part: &[u8], at: usize) -> ValueRead
+    ensures { λ r. ⌜ r ≡ valueAnswer (length (now (part .entry))) (mapped model.text readText (drop at (now (part .entry)))) ⌝ }
+{
+    match count_at(part, at, ProjectionPatchValue::TEXT_BYTES) {
+        CountRead::Read(len, start) => text_from(part, start, len),
+        CountRead::Refused(fault) => ValueRead::Refused(fault),
+    }
+}
+
+// The text of len bytes from start on.
+fn text_from(part: &[u8], start: usize, len: usize) -> ValueRead
+    requires { ⌜ start ≤ length (now part) ⌝ }
+    ensures { λ r. ⌜ r ≡ valueAnswer (length (now (part .entry))) (mapped model.text (checked isUtf8 malformed (bytes len)) (drop start (now (part .entry)))) ⌝ }
+{
+    if part.len() - start < len {
+        return ValueRead::Refused(ProjectionPatchReadFault::Malformed);
+    }
+    let end = start + len;
+    match utf8::check(&part[start..end]) {
+        Utf8Check::Valid { characters: _ } => ValueRead::Read(ProjectionPatchValue::Text { start, len }, end),
+        Utf8Check::Invalid => ValueRead::Refused(ProjectionPatchReadFault::Malformed),
+    }
+}
+
+pub fn value_at(part: &[u8], at: usize) -> ValueRead
+    ensures { λ r. ⌜ r ≡ valueAnswer (length (now (part .entry))) (readValue v1 (drop at (now (part .entry)))) ⌝ }
+{
+    if part.len() <= at {
+        return ValueRead::Refused(ProjectionPatchReadFault::Malformed);
+    }
+    let tag = part[at];
+    let body = at + 1;
+    match tag {
+        1 => quad_at(part, body),
+        2 => signed_at(part, body),
+        3 => text_at(part, body),
+        4 => unsigned_at(part, body),
+        _ => ValueRead::Refused(ProjectionPatchReadFault::Malformed),
+    }
+}
+
+// Reads a value from the start of a part. The place of a text counts from that start.
+pub fn read_value(part: &[u8]) -> ValueRead
+    ensures { λ r. ⌜ r ≡ valueAnswer (length (now (part .entry))) (readValue v1 (now (part .entry))) ⌝ }
+{
+    value_at(part, 0)
+}
