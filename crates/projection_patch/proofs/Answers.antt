@@ -7,17 +7,15 @@ use native.Mathlib.Omega.{arith}
 use lib.Dec.{lit<}
 use lib.ListN.{length, getD, drop}
 use Rattle.spec_lists.specs.Bytes.{Bytes}
-use Rattle.spec_patch.specs.Sizes.{textBytes, patchOperations}
+use Rattle.spec_patch.specs.Sizes.{textBytes}
 use Rattle.spec_patch.specs.Patch as model
 use Rattle.spec_patch.specs.Edition.{v1}
-use Rattle.spec_patch.specs.Reader.{Fault, Result, read, refused, malformed, Reader, followed, many, byte}
-use Rattle.spec_patch.specs.Read.{readCount, readOptional, readAvailability, readValue, readOperation, readEnvelope, readPatch}
-use Rattle.spec_patch.specs.Codec.{Codec, suffix, many-codec}
-use Rattle.spec_patch.specs.ReadLaws.{count-codec, optional-codec, availability-codec, value-codec, operation-codec, envelope-codec, patch-codec}
-use Rattle.projection_patch.specs.Meaning.{valueTo, availabilityTo, operationTo, envelopeTo}
-use Rattle.projection_patch.specs.Walk.{readHeading, readHead}
-use Rattle.projection_patch.specs.HeadLaws.{heading-codec, head-codec}
-use Rattle.projection_patch.specs.ReadAnswers.{faultTo, answer, anywhere, optionalTo, countAnswer, optionalAnswer, availabilityAnswer, valueAnswer, operationAnswer, envelopeAnswer, headTo, headAnswer, operationsAnswer, patchAnswer}
+use Rattle.spec_patch.specs.Reader.{Fault, Result, read, refused, malformed, Reader, followed, byte}
+use Rattle.spec_patch.specs.Read.{readCount, readOptional, readAvailability, readValue, readOperation}
+use Rattle.spec_patch.specs.Codec.{Codec, suffix}
+use Rattle.spec_patch.specs.ReadLaws.{count-codec, optional-codec, availability-codec, value-codec, operation-codec}
+use Rattle.projection_patch.specs.Meaning.{valueTo, availabilityTo, operationTo}
+use Rattle.projection_patch.specs.ReadAnswers.{faultTo, answer, anywhere, optionalTo, countAnswer, optionalAnswer, availabilityAnswer, valueAnswer, operationAnswer}
 use Rattle.projection_patch.specs.declared.patch.ProjectionNodeAvailability.{ProjectionNodeAvailability}
 use Rattle.projection_patch.specs.declared.patch.ProjectionPatchValue.{ProjectionPatchValue}
 use Rattle.projection_patch.specs.declared.read_values.ProjectionPatchReadFault.{ProjectionPatchReadFault}
@@ -33,14 +31,6 @@ use Rattle.projection_patch.specs.declared.read_values.ValueRead.the-var
 use Rattle.projection_patch.specs.declared.patch.ProjectionPatchOperation.{ProjectionPatchOperation}
 use Rattle.projection_patch.specs.declared.read_operations.OperationRead.{OperationRead}
 use Rattle.projection_patch.specs.declared.read_operations.OperationRead.the-variants as operation-read
-use Rattle.projection_patch.specs.declared.patch.ProjectionPatch.{ProjectionPatch}
-use Rattle.projection_patch.specs.declared.patch.ProjectionPatchEnvelope.{ProjectionPatchEnvelope}
-use Rattle.projection_patch.specs.declared.read_patches.EnvelopeRead.{EnvelopeRead}
-use Rattle.projection_patch.specs.declared.read_patches.EnvelopeRead.the-variants as envelope-read
-use Rattle.projection_patch.specs.declared.read_patches.PatchHeadRead.{PatchHeadRead}
-use Rattle.projection_patch.specs.declared.read_patches.PatchHeadRead.the-variants as head-read
-use Rattle.projection_patch.specs.declared.read_patches.OperationsRead.{OperationsRead}
-use Rattle.projection_patch.specs.declared.read_patches.OperationsRead.the-variants as operations-read
 use Rattle.projection_patch.proofs.At.{byte-at, no-byte}
 
 -- ---- a tag
@@ -103,7 +93,7 @@ module _ {A X B : Type 0} {e : A → List ℕ} {Good : A → Type 0} {p : Reader
 
 -- ---- each of the enums
 
-count-told : Told count-read.Read count-read.Refused
+pub count-told : Told count-read.Read count-read.Refused
 count-told = record {
   value = λ x y m n e. cc;
   next = λ x y m n e. cc;
@@ -143,42 +133,12 @@ operation-told = record {
   apart = λ x m f e. let z : _≡_ {A = ℕ} 0 1 = cc in omega arith;
 }
 
-envelope-told : Told envelope-read.Read envelope-read.Refused
-envelope-told = record {
-  value = λ x y m n e. cc;
-  next = λ x y m n e. cc;
-  reason = λ f g e. cc;
-  apart = λ x m f e. let z : _≡_ {A = ℕ} 0 1 = cc in omega arith;
-}
-
-head-told : Told head-read.Read head-read.Refused
-head-told = record {
-  value = λ x y m n e. cc;
-  next = λ x y m n e. cc;
-  reason = λ f g e. cc;
-  apart = λ x m f e. let z : _≡_ {A = ℕ} 0 1 = cc in omega arith;
-}
-
-operations-told : Told (λ (u : Unit {0}) (end : ℕ). operations-read.At end) operations-read.Refused
-operations-told = record {
-  value = λ x y m n e. refl;
-  next = λ x y m n e. cc;
-  reason = λ f g e. cc;
-  apart = λ x m f e. let z : _≡_ {A = ℕ} 0 1 = cc in omega arith;
-}
-
 module _ (l : List ℕ) (at : ℕ) where
   pub text-count-got : (r : CountRead) → r ≡ countAnswer (length l) (readCount textBytes (drop at l)) → Bytes l → (n end : ℕ) → r ≡ count-read.Read n end → Got (readCount textBytes) (anywhere (λ n. n)) l at n end
   text-count-got = got (anywhere (λ n. n)) (count-codec textBytes (lit< tt)) count-told l at
 
   pub no-text-count : (r : CountRead) → r ≡ countAnswer (length l) (readCount textBytes (drop at l)) → (f : ProjectionPatchReadFault) → r ≡ count-read.Refused f → NotGot (readCount textBytes) l at f
   no-text-count = not-got (anywhere (λ n. n)) (count-codec textBytes (lit< tt)) count-told l at
-
-  pub operation-count-got : (r : CountRead) → r ≡ countAnswer (length l) (readCount patchOperations (drop at l)) → Bytes l → (n end : ℕ) → r ≡ count-read.Read n end → Got (readCount patchOperations) (anywhere (λ n. n)) l at n end
-  operation-count-got = got (anywhere (λ n. n)) (count-codec patchOperations (lit< tt)) count-told l at
-
-  pub no-operation-count : (r : CountRead) → r ≡ countAnswer (length l) (readCount patchOperations (drop at l)) → (f : ProjectionPatchReadFault) → r ≡ count-read.Refused f → NotGot (readCount patchOperations) l at f
-  no-operation-count = not-got (anywhere (λ n. n)) (count-codec patchOperations (lit< tt)) count-told l at
 
   pub optional-got : (r : OptionalRead) → r ≡ optionalAnswer (length l) (readOptional (drop at l)) → Bytes l → (o : OptionalNumber) (end : ℕ) → r ≡ optional-read.Read o end → Got readOptional (anywhere optionalTo) l at o end
   optional-got = got (anywhere optionalTo) optional-codec optional-told l at
@@ -203,33 +163,3 @@ module _ (l : List ℕ) (at : ℕ) where
 
   pub no-operation : (r : OperationRead) → r ≡ operationAnswer (length l) (readOperation v1 (drop at l)) → (f : ProjectionPatchReadFault) → r ≡ operation-read.Refused f → NotGot (readOperation v1) l at f
   no-operation = not-got operationTo (operation-codec v1) operation-told l at
-
-  pub envelope-got : (r : EnvelopeRead) → r ≡ envelopeAnswer (length l) (readEnvelope (drop at l)) → Bytes l → (e : ProjectionPatchEnvelope) (end : ℕ) → r ≡ envelope-read.Read e end → Got readEnvelope (anywhere envelopeTo) l at e end
-  envelope-got = got (anywhere envelopeTo) envelope-codec envelope-told l at
-
-  pub no-envelope : (r : EnvelopeRead) → r ≡ envelopeAnswer (length l) (readEnvelope (drop at l)) → (f : ProjectionPatchReadFault) → r ≡ envelope-read.Refused f → NotGot readEnvelope l at f
-  no-envelope = not-got (anywhere envelopeTo) envelope-codec envelope-told l at
-
-  pub head-got : (r : PatchHeadRead) → r ≡ headAnswer (length l) (readHead (drop at l)) → Bytes l → (h : ProjectionPatch) (end : ℕ) → r ≡ head-read.Read h end → Got readHead (anywhere headTo) l at h end
-  head-got = got (anywhere headTo) head-codec head-told l at
-
-  pub no-head : (r : PatchHeadRead) → r ≡ headAnswer (length l) (readHead (drop at l)) → (f : ProjectionPatchReadFault) → r ≡ head-read.Refused f → NotGot readHead l at f
-  no-head = not-got (anywhere headTo) head-codec head-told l at
-
-  pub heading-got : (r : CountRead) → r ≡ countAnswer (length l) (readHeading (drop at l)) → Bytes l → (n end : ℕ) → r ≡ count-read.Read n end → Got readHeading (anywhere (λ n. n)) l at n end
-  heading-got = got (anywhere (λ n. n)) heading-codec count-told l at
-
-  pub no-heading : (r : CountRead) → r ≡ countAnswer (length l) (readHeading (drop at l)) → (f : ProjectionPatchReadFault) → r ≡ count-read.Refused f → NotGot readHeading l at f
-  no-heading = not-got (anywhere (λ n. n)) heading-codec count-told l at
-
-  pub operations-got : (n : ℕ) (r : OperationsRead) → r ≡ operationsAnswer (length l) (many n (readOperation v1) (drop at l)) → Bytes l → (end : ℕ) → r ≡ operations-read.At end → Got (many n (readOperation v1)) (anywhere (λ os. tt {0})) l at (tt {0}) end
-  operations-got n r e h end q = got (anywhere (λ os. tt {0})) (many-codec (operation-codec v1) n) operations-told l at r e h (tt {0}) end q
-
-  pub no-operations : (n : ℕ) (r : OperationsRead) → r ≡ operationsAnswer (length l) (many n (readOperation v1) (drop at l)) → (f : ProjectionPatchReadFault) → r ≡ operations-read.Refused f → NotGot (many n (readOperation v1)) l at f
-  no-operations n r e f q = not-got (anywhere (λ os. tt {0})) (many-codec (operation-codec v1) n) operations-told l at r e f q
-
-  pub patch-got : (r : CountRead) → r ≡ patchAnswer (length l) (readPatch v1 (drop at l)) → Bytes l → (n end : ℕ) → r ≡ count-read.Read n end → Got (readPatch v1) (anywhere (λ p. length (p .operations))) l at n end
-  patch-got = got (anywhere (λ p. length (p .operations))) (patch-codec v1) count-told l at
-
-  pub no-patch : (r : CountRead) → r ≡ patchAnswer (length l) (readPatch v1 (drop at l)) → (f : ProjectionPatchReadFault) → r ≡ count-read.Refused f → NotGot (readPatch v1) l at f
-  no-patch = not-got (anywhere (λ p. length (p .operations))) (patch-codec v1) count-told l at

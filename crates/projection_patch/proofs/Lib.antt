@@ -1,7 +1,5 @@
--- Laws that belong to no one function.
-mod At
-mod Answers
+-- Laws that belong to no one function. The readers of patches and sets cite them too.
+pub mod At
+pub mod Answers
 mod Texts
-mod Places
-mod Heads
-mod Runs
+pub mod Places

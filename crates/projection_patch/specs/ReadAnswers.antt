@@ -1,17 +1,14 @@
 -- What the readers answer, as definitions of what spec_patch reads. Of a part of n bytes with a rest of r, the position behind what was read
 -- is n - r.
-use Prim.Native.Nat.{ℕ, _+_, _-_}
-use mathlib.Core.List.{List, [], _∷_}
+use Prim.Native.Nat.{ℕ, _-_}
+use mathlib.Core.List.{List, []}
 use mathlib.Core.Option.{Option, none, some}
 use lib.Dec.{leb}
 use lib.ListN.{length, take, drop}
 use Rattle.spec_lists.specs.Lists.{if_then_else_}
 use Rattle.spec_patch.specs.Patch as model
 use Rattle.spec_patch.specs.Reader.{Fault, malformed, overCapacity, Result, read, refused}
-use Rattle.spec_patch.specs.Read.{SetReading, patches, fault}
-use Rattle.projection_patch.specs.Meaning.{nodeTo, keyTo, valueTo, availabilityTo, operationTo, envelopeTo}
-use Rattle.projection_patch.specs.declared.patch.ProjectionPatch.{ProjectionPatch}
-use Rattle.projection_patch.specs.declared.patch.ProjectionPatchEnvelope.{ProjectionPatchEnvelope}
+use Rattle.projection_patch.specs.Meaning.{nodeTo, keyTo, valueTo, availabilityTo, operationTo}
 use Rattle.projection_patch.specs.declared.read_values.ProjectionPatchReadFault.{ProjectionPatchReadFault}
 use Rattle.projection_patch.specs.declared.read_values.ProjectionPatchReadFault.the-variants.{Malformed, OverCapacity}
 use Rattle.projection_patch.specs.declared.read_values.OptionalNumber.{OptionalNumber}
@@ -30,14 +27,6 @@ use Rattle.projection_patch.specs.declared.read_operations.PlaceRead.{Pl
 use Rattle.projection_patch.specs.declared.read_operations.PlaceRead.the-variants as place-read
 use Rattle.projection_patch.specs.declared.read_operations.OperationRead.{OperationRead}
 use Rattle.projection_patch.specs.declared.read_operations.OperationRead.the-variants as operation-read
-use Rattle.projection_patch.specs.declared.read_patches.EnvelopeRead.{EnvelopeRead}
-use Rattle.projection_patch.specs.declared.read_patches.EnvelopeRead.the-variants as envelope-read
-use Rattle.projection_patch.specs.declared.read_patches.PatchHeadRead.{PatchHeadRead}
-use Rattle.projection_patch.specs.declared.read_patches.PatchHeadRead.the-variants as head-read
-use Rattle.projection_patch.specs.declared.read_patches.OperationsRead.{OperationsRead}
-use Rattle.projection_patch.specs.declared.read_patches.OperationsRead.the-variants as operations-read
-use Rattle.projection_patch.specs.declared.read_patches.SetRead.{SetRead}
-use Rattle.projection_patch.specs.declared.read_patches.SetRead.the-variants as set-read
 
 -- ---- faults
 
@@ -107,31 +96,3 @@ placeTo numbers-read.Short = place-read.Short
 
 abbrev pub operationAnswer : ℕ → Result model.Operation → OperationRead
 operationAnswer = answer operationTo operation-read.Read operation-read.Refused
-
--- ---- patches and sets
-
-abbrev pub envelopeAnswer : ℕ → Result model.Envelope → EnvelopeRead
-envelopeAnswer = answer (anywhere envelopeTo) envelope-read.Read envelope-read.Refused
-
-abbrev pub headTo : model.Envelope × ℕ → ProjectionPatch
-headTo h = record { envelope = envelopeTo (h .0); «operation_count» = h .1 }
-
-abbrev pub headAnswer : ℕ → Result (model.Envelope × ℕ) → PatchHeadRead
-headAnswer = answer (anywhere headTo) head-read.Read head-read.Refused
-
--- where a run of operations ends
-abbrev pub operationsAnswer : ℕ → Result (List model.Operation) → OperationsRead
-operationsAnswer = answer (anywhere (λ os. tt {0})) (λ u end. operations-read.At end) operations-read.Refused
-
--- how many operations a patch has, and where it ends
-abbrev pub patchAnswer : ℕ → Result model.Patch → CountRead
-patchAnswer = answer (anywhere (λ p. length (p .operations))) count-read.Read count-read.Refused
-
--- the operations of all patches
-unfoldable pub operationCount : List model.Patch → ℕ
-operationCount [] = 0
-operationCount (p ∷ ps) = length (p .operations) + operationCount ps
-
-abbrev pub setAnswer : SetReading → SetRead
-setAnswer (patches ps) = set-read.Read (length ps) (operationCount ps)
-setAnswer (fault f) = set-read.Refused (faultTo f)

@@ -4,4 +4,3 @@ pub mod contract_primitives;
 pub mod patch;
 pub mod read_values;
 pub mod read_operations;
-pub mod read_patches;

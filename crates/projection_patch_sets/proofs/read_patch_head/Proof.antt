@@ -1,16 +1,17 @@
--- `projection_patch::read_patches::read_patch_head` meets its contract: the envelope, then a count within its capacity.
+-- `projection_patch_sets::read_patch_head` meets its contract: the envelope, then a count within its capacity.
 use Prim.Native.Nat.{ℕ}
 use mathlib.Core.List.{List}
 use Rattle.spec_lists.specs.Bytes.{Bytes}
 use Rattle.spec_lists.specs.BytesLaws.{bytes-of}
 use Rattle.spec_patch.specs.Read.{readEnvelope}
 use Rattle.projection_patch.specs.Meaning.{envelopeTo}
-use Rattle.projection_patch.specs.Walk.{readHead}
+use Rattle.projection_patch_sets.specs.Walk.{readHead}
 use Rattle.projection_patch.specs.ReadAnswers.{anywhere}
-use Rattle.projection_patch.proofs.Answers.{Got, envelope-got, no-envelope, operation-count-got, no-operation-count}
+use Rattle.projection_patch.proofs.Answers.{Got}
+use Rattle.projection_patch_sets.proofs.PatchAnswers.{envelope-got, no-envelope, operation-count-got, no-operation-count}
 use borrow.Author.Needs.{needs}
-use Rattle.projection_patch.proofs.read_patches.read_patch_head.Statement.{statement}
-use Rattle.projection_patch.proofs.read_patches.read_patch_head.Tie as tie
+use Rattle.projection_patch_sets.proofs.read_patch_head.Statement.{statement}
+use Rattle.projection_patch_sets.proofs.read_patch_head.Tie as tie
 
 abbrev part : tie.After-envelope → List ℕ
 part c = c .before .before .args .part .now

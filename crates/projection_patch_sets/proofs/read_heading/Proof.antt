@@ -1,4 +1,4 @@
--- `projection_patch::read_patches::read_heading` meets its contract: the number of letters, the letters, then the patch count.
+-- `projection_patch_sets::read_heading` meets its contract: the number of letters, the letters, then the patch count.
 use Prim.Native.Nat.{ℕ}
 use mathlib.Core.Path.{_≡_, sym, ap, _∙_}
 use mathlib.Core.List.{List}
@@ -10,12 +10,12 @@ use Rattle.spec_lists.specs.BytesLaws.{bytes-of}
 use Rattle.spec_patch.specs.Edition.{v1}
 use Rattle.wire.specs.Read.{firstNumber, numberU32}
 use Rattle.spec_patch.specs.Reader.{malformed}
-use Rattle.projection_patch.specs.HeadLaws.{heading-by-letters, heading-refused}
+use Rattle.projection_patch_sets.specs.HeadLaws.{heading-by-letters, heading-refused}
 use Rattle.projection_patch.specs.ReadAnswers.{countAnswer}
-use Rattle.projection_patch.proofs.Heads.{letterCount, no-number, other-number, other-letters, heading-there}
+use Rattle.projection_patch_sets.proofs.Heads.{letterCount, no-number, other-number, other-letters, heading-there}
 use borrow.Author.Needs.{needs}
-use Rattle.projection_patch.proofs.read_patches.read_heading.Statement.{statement}
-use Rattle.projection_patch.proofs.read_patches.read_heading.Tie as tie
+use Rattle.projection_patch_sets.proofs.read_heading.Statement.{statement}
+use Rattle.projection_patch_sets.proofs.read_heading.Tie as tie
 
 abbrev set : tie.After-shared-slice-known → List ℕ
 set c = c .before .args .set .now

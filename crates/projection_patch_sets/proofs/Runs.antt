@@ -15,18 +15,19 @@ use Rattle.spec_patch.specs.Reader.{Fault, Result, read, refused, onward, follo
 use Rattle.spec_patch.specs.Read.{readOperation, toPatch, readPatch, readPatches, SetReading, patches, fault, ended, readSet}
 use Rattle.spec_patch.specs.Codec.{many-codec}
 use Rattle.spec_patch.specs.ReadLaws.{operation-codec, patch-codec}
 use Rattle.projection_patch.specs.Meaning.{operationTo}
-use Rattle.projection_patch.specs.Walk.{readHeading, readHead}
-use Rattle.projection_patch.specs.HeadLaws.{patches-by-heading, patch-by-head}
-use Rattle.projection_patch.specs.ReadAnswers.{faultTo, anywhere, operationsAnswer, operationCount, setAnswer}
+use Rattle.projection_patch_sets.specs.Walk.{readHeading, readHead}
+use Rattle.projection_patch_sets.specs.HeadLaws.{patches-by-heading, patch-by-head}
+use Rattle.projection_patch.specs.ReadAnswers.{faultTo, anywhere}
+use Rattle.projection_patch_sets.specs.SetAnswers.{operationsAnswer, operationCount, setAnswer}
 use Rattle.projection_patch.specs.declared.patch.ProjectionPatchOperation.{ProjectionPatchOperation}
 use Rattle.projection_patch.specs.declared.read_values.ProjectionPatchReadFault.{ProjectionPatchReadFault}
 use Rattle.projection_patch.specs.declared.read_values.ProjectionPatchReadFault.the-variants.{Malformed}
-use Rattle.projection_patch.specs.declared.read_patches.OperationsRead.the-variants as operations-read
-use Rattle.projection_patch.specs.declared.read_patches.SetRead.{SetRead}
-use Rattle.projection_patch.specs.declared.read_patches.SetRead.the-variants as set-read
+use Rattle.projection_patch_sets.specs.declared.OperationsRead.the-variants as operations-read
+use Rattle.projection_patch_sets.specs.declared.SetRead.{SetRead}
+use Rattle.projection_patch_sets.specs.declared.SetRead.the-variants as set-read
 use Rattle.projection_patch.proofs.At.{position}
 use Rattle.projection_patch.proofs.Answers.{Got, NotGot}
 
 -- ---- operations
 

@@ -12,7 +12,7 @@ use Rattle.spec_patch.specs.Reader.{Fault, Result, read, refused, Reader, onwar
 use Rattle.spec_patch.specs.Read.{readCount, readCounted, readOperation, readEnvelope, toPatch, readPatch, readPatches}
 use Rattle.spec_patch.specs.Codec.{Codec, iso-codec, pair-codec, literal-codec}
 use Rattle.spec_patch.specs.ReadLaws.{count-codec, envelope-codec}
-use Rattle.projection_patch.specs.Walk.{readHeading, readHead, encodeHeading, encodeHead}
+use Rattle.projection_patch_sets.specs.Walk.{readHeading, readHead, encodeHeading, encodeHead}
 
 pub heading-codec : Codec encodeHeading (λ (n : ℕ). n ≤ setPatches) readHeading
 unfolding encodeHeading readHeading

@@ -1,4 +1,4 @@
--- `projection_patch::read_patches::envelope` meets its contract: seven numbers and a surface, in order.
+-- `projection_patch_sets::envelope` meets its contract: seven numbers and a surface, in order.
 use Prim.Native.Nat.{ℕ, _+_}
 use mathlib.Core.Path.{_≡_, sym, ap, _∙_}
 use mathlib.Core.List.{List}
@@ -9,15 +9,16 @@ use Rattle.spec_lists.specs.Bytes.{Bytes}
 use Rattle.spec_lists.specs.BytesLaws.{bytes-of}
 use Rattle.spec_patch.specs.Reader.{Reader, pair}
 use Rattle.spec_patch.specs.Read.{readU64, readOptional, toEnvelope, readEnvelope}
 use Rattle.projection_patch.specs.Meaning.{envelopeTo}
-use Rattle.projection_patch.specs.ReadAnswers.{anywhere, optionalTo, envelopeAnswer}
+use Rattle.projection_patch.specs.ReadAnswers.{anywhere, optionalTo}
+use Rattle.projection_patch_sets.specs.SetAnswers.{envelopeAnswer}
 use Rattle.projection_patch.proofs.At.{position, NumberAt, u64-at, u64-short, NumbersAt, numbers-at, numbers-missing, last-numbers-missing, mapped-refused}
 use Rattle.projection_patch.proofs.Answers.{Got, optional-got, no-optional}
 use Rattle.projection_patch.proofs.Places.{optional-is}
-use Rattle.projection_patch.proofs.Heads.{optional-malformed}
+use Rattle.projection_patch_sets.proofs.Heads.{optional-malformed}
 use borrow.Author.Needs.{needs}
-use Rattle.projection_patch.proofs.read_patches.envelope.Statement.{statement}
-use Rattle.projection_patch.proofs.read_patches.envelope.Tie as tie
+use Rattle.projection_patch_sets.proofs.envelope.Statement.{statement}
+use Rattle.projection_patch_sets.proofs.envelope.Tie as tie
 
 abbrev part : tie.After-shared-slice-known → List ℕ
 part c = c .before .args .part .now

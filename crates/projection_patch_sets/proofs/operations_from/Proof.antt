@@ -1,4 +1,4 @@
--- `projection_patch::read_patches::operations_from` meets its contract: what is left to read from the present position answers as the whole does; the measure is what is left.
+-- `projection_patch_sets::operations_from` meets its contract: what is left to read from the present position answers as the whole does; the measure is what is left.
 use Prim.Native.Nat.{ℕ, suc, _+_, _-_, _≤_}
 use mathlib.Core.Path.{_≡_, refl, ap, _∙_}
 use mathlib.Core.List.{List}
@@ -9,14 +9,15 @@ use Rattle.spec_lists.specs.BytesLaws.{bytes-of, bytes-drop}
 use Rattle.spec_patch.specs.Edition.{v1}
 use Rattle.spec_patch.specs.Reader.{many}
 use Rattle.spec_patch.specs.Read.{readOperation}
 use Rattle.projection_patch.specs.Meaning.{operationTo}
-use Rattle.projection_patch.specs.ReadAnswers.{operationAnswer, operationsAnswer}
+use Rattle.projection_patch.specs.ReadAnswers.{operationAnswer}
+use Rattle.projection_patch_sets.specs.SetAnswers.{operationsAnswer}
 use Rattle.projection_patch.proofs.At.{from}
 use Rattle.projection_patch.proofs.Answers.{Got, operation-got, no-operation}
-use Rattle.projection_patch.proofs.Runs.{refusal, inside, turn, none-left}
+use Rattle.projection_patch_sets.proofs.Runs.{refusal, inside, turn, none-left}
 use borrow.Author.Needs.{needs}
-use Rattle.projection_patch.proofs.read_patches.operations_from.Statement.{statement}
-use Rattle.projection_patch.proofs.read_patches.operations_from.Tie as tie
+use Rattle.projection_patch_sets.proofs.operations_from.Statement.{statement}
+use Rattle.projection_patch_sets.proofs.operations_from.Tie as tie
 
 abbrev Inv-loop : tie.InvT-loop
 Inv-loop set first count at₀ left₀ at left =

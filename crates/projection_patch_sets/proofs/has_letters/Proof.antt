@@ -1,8 +1,8 @@
--- `projection_patch::read_patches::has_letters` meets its contract: the byte string is that of the edition.
+-- `projection_patch_sets::has_letters` meets its contract: the byte string is that of the edition.
 use Rattle.spec_patch.specs.Edition.{v1}
 use borrow.Author.Needs.{needs}
-use Rattle.projection_patch.proofs.read_patches.has_letters.Statement.{statement}
-use Rattle.projection_patch.proofs.read_patches.has_letters.Tie as tie
+use Rattle.projection_patch_sets.proofs.has_letters.Statement.{statement}
+use Rattle.projection_patch_sets.proofs.has_letters.Tie as tie
 
 slice-aggregate-starts-with : tie.Need-slice-aggregate-starts-with
 slice-aggregate-starts-with c = search needs

@@ -15,20 +15,21 @@ use Rattle.spec_patch.specs.Read.{readOperation, patches, readSet}
 use Rattle.spec_patch.specs.Codec.{Codec}
 use Rattle.spec_patch.specs.ReadLaws.{operation-codec}
 use Rattle.spec_patch.specs.SetLaws.{was-encoded}
 use Rattle.projection_patch.specs.Meaning.{operationTo, operationOf}
-use Rattle.projection_patch.specs.Walk.{readHeading, readHead, headOf, encodeHeading, encodeHead, AtPatches, AtOperations}
-use Rattle.projection_patch.specs.HeadLaws.{heading-codec, head-codec}
-use Rattle.projection_patch.specs.ReadAnswers.{answer, anywhere, lentFrom, countAnswer, operationAnswer, headTo, headAnswer}
+use Rattle.projection_patch_sets.specs.Walk.{readHeading, readHead, headOf, encodeHeading, encodeHead, AtPatches, AtOperations}
+use Rattle.projection_patch_sets.specs.HeadLaws.{heading-codec, head-codec}
+use Rattle.projection_patch.specs.ReadAnswers.{answer, anywhere, lentFrom, countAnswer, operationAnswer}
+use Rattle.projection_patch_sets.specs.SetAnswers.{headTo, headAnswer}
 use Rattle.projection_patch.specs.TextLaws.{textOf, text-within, operation-encoded-back, lent-from}
 use Rattle.projection_patch.specs.declared.patch.ProjectionPatch.{ProjectionPatch}
 use Rattle.projection_patch.specs.declared.patch.ProjectionPatchOperation.{ProjectionPatchOperation}
 use Rattle.projection_patch.specs.declared.read_values.ProjectionPatchReadFault.{ProjectionPatchReadFault}
 use Rattle.projection_patch.specs.declared.read_values.CountRead.{CountRead}
 use Rattle.projection_patch.specs.declared.read_values.CountRead.the-variants as count-read
 use Rattle.projection_patch.specs.declared.read_operations.OperationRead.{OperationRead}
 use Rattle.projection_patch.specs.declared.read_operations.OperationRead.the-variants as operation-read
-use Rattle.projection_patch.specs.declared.read_patches.PatchHeadRead.{PatchHeadRead}
-use Rattle.projection_patch.specs.declared.read_patches.PatchHeadRead.the-variants as head-read
+use Rattle.projection_patch_sets.specs.declared.PatchHeadRead.{PatchHeadRead}
+use Rattle.projection_patch_sets.specs.declared.PatchHeadRead.the-variants as head-read
 
 -- ---- one step, whatever is read
 

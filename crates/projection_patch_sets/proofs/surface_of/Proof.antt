@@ -1,14 +1,14 @@
--- `projection_patch::read_patches::surface_of` meets its contract: none, or a surface.
+-- `projection_patch_sets::surface_of` meets its contract: none, or a surface.
 use Prim.Native.Nat.{ℕ}
 use mathlib.Core.Path.{_≡_, sym, ap, _∙_}
 use Rattle.projection_patch.specs.Meaning.{surfaceTo}
 use Rattle.projection_patch.specs.ReadAnswers.{optionalOf}
 use Rattle.projection_patch.specs.declared.contract_primitives.StaticSurfaceId.{StaticSurfaceId}
 use Rattle.projection_patch.specs.declared.patch.OptionalSurfaceId.the-variants as surface
 use Rattle.projection_patch.specs.declared.read_values.OptionalNumber.{OptionalNumber}
 use borrow.Author.Needs.{needs}
-use Rattle.projection_patch.proofs.read_patches.surface_of.Statement.{statement}
-use Rattle.projection_patch.proofs.read_patches.surface_of.Tie as tie
+use Rattle.projection_patch_sets.proofs.surface_of.Statement.{statement}
+use Rattle.projection_patch_sets.proofs.surface_of.Tie as tie
 
 surface-is : (r : StaticSurfaceId) (n : ℕ) → r .0 ≡ n → r ≡ record { 0 = n }
 surface-is r n e = ap (λ (k : ℕ). record { 0 = k }) e

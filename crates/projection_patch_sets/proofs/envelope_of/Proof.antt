@@ -1,15 +1,15 @@
--- `projection_patch::read_patches::envelope_of` meets its contract: each number as its id.
+-- `projection_patch_sets::envelope_of` meets its contract: each number as its id.
 use Prim.Native.Nat.{ℕ}
 use mathlib.Core.Path.{_≡_, ap}
 use Rattle.projection_patch.specs.declared.contract_primitives.StaticDocumentId.{StaticDocumentId}
 use Rattle.projection_patch.specs.declared.contract_primitives.Revision.{Revision}
 use Rattle.projection_patch.specs.declared.contract_primitives.Epoch.{Epoch}
 use Rattle.projection_patch.specs.declared.patch.ProjectionPatchId.{ProjectionPatchId}
 use Rattle.projection_patch.specs.declared.patch.ProjectionPatchStreamId.{ProjectionPatchStreamId}
 use Rattle.projection_patch.specs.declared.patch.ProjectionPatchSequence.{ProjectionPatchSequence}
 use borrow.Author.Needs.{needs}
-use Rattle.projection_patch.proofs.read_patches.envelope_of.Statement.{statement}
-use Rattle.projection_patch.proofs.read_patches.envelope_of.Tie as tie
+use Rattle.projection_patch_sets.proofs.envelope_of.Statement.{statement}
+use Rattle.projection_patch_sets.proofs.envelope_of.Tie as tie
 
 patch-is : (r : ProjectionPatchId) (n : ℕ) → r .0 ≡ n → r ≡ record { 0 = n }
 patch-is r n e = ap (λ (k : ℕ). record { 0 = k }) e

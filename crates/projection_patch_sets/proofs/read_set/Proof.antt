@@ -1,4 +1,4 @@
--- `projection_patch::read_patches::read_set` meets its contract: the length of the set, its heading, then its patches.
+-- `projection_patch_sets::read_set` meets its contract: the length of the set, its heading, then its patches.
 use Prim.Native.Nat.{ℕ, _≤_}
 use mathlib.Core.Path.{_≡_, sym, ap, _∙_}
 use mathlib.Core.List.{List}
@@ -11,14 +11,16 @@ use Rattle.spec_patch.specs.Sizes.{setBytes, setPatches}
 use Rattle.spec_patch.specs.Edition.{v1}
 use Rattle.spec_patch.specs.Reader.{refused, many}
 use Rattle.spec_patch.specs.Read.{readPatch, ended, readSet}
-use Rattle.projection_patch.specs.Walk.{readHeading}
-use Rattle.projection_patch.specs.HeadLaws.{heading-codec}
-use Rattle.projection_patch.specs.ReadAnswers.{anywhere, setAnswer}
-use Rattle.projection_patch.proofs.Answers.{Got, heading-got, no-heading}
-use Rattle.projection_patch.proofs.Runs.{set-read-by}
+use Rattle.projection_patch_sets.specs.Walk.{readHeading}
+use Rattle.projection_patch_sets.specs.HeadLaws.{heading-codec}
+use Rattle.projection_patch.specs.ReadAnswers.{anywhere}
+use Rattle.projection_patch_sets.specs.SetAnswers.{setAnswer}
+use Rattle.projection_patch.proofs.Answers.{Got}
+use Rattle.projection_patch_sets.proofs.PatchAnswers.{heading-got, no-heading}
+use Rattle.projection_patch_sets.proofs.Runs.{set-read-by}
 use borrow.Author.Needs.{needs}
-use Rattle.projection_patch.proofs.read_patches.read_set.Statement.{statement}
-use Rattle.projection_patch.proofs.read_patches.read_set.Tie as tie
+use Rattle.projection_patch_sets.proofs.read_set.Statement.{statement}
+use Rattle.projection_patch_sets.proofs.read_set.Tie as tie
 
 abbrev set : tie.After-read-heading → List ℕ
 set c = c .before .before .before .args .set .now

@@ -1,4 +1,4 @@
--- `projection_patch::read_patches::patch_at` meets its contract: its head, then its operations.
+-- `projection_patch_sets::patch_at` meets its contract: its head, then its operations.
 use Prim.Native.Nat.{ℕ, _+_, _≤_}
 use mathlib.Core.Path.{_≡_, ap, _∙_}
 use mathlib.Core.List.{List}
@@ -8,15 +8,17 @@ use Rattle.spec_lists.specs.Bytes.{Bytes}
 use Rattle.spec_lists.specs.BytesLaws.{bytes-of, bytes-drop}
 use Rattle.spec_patch.specs.Edition.{v1}
 use Rattle.spec_patch.specs.Reader.{read, refused, onward}
-use Rattle.projection_patch.specs.Walk.{readHead}
-use Rattle.projection_patch.specs.ReadAnswers.{anywhere, headTo, headAnswer}
+use Rattle.projection_patch_sets.specs.Walk.{readHead}
+use Rattle.projection_patch.specs.ReadAnswers.{anywhere}
+use Rattle.projection_patch_sets.specs.SetAnswers.{headTo, headAnswer}
 use Rattle.projection_patch.specs.declared.patch.ProjectionPatch.{ProjectionPatch}
 use Rattle.projection_patch.proofs.At.{from}
-use Rattle.projection_patch.proofs.Answers.{Got, head-got, no-head, operations-got, no-operations}
-use Rattle.projection_patch.proofs.Runs.{run-length, patch-read, head-refused}
+use Rattle.projection_patch.proofs.Answers.{Got}
+use Rattle.projection_patch_sets.proofs.PatchAnswers.{head-got, no-head, operations-got, no-operations}
+use Rattle.projection_patch_sets.proofs.Runs.{run-length, patch-read, head-refused}
 use borrow.Author.Needs.{needs}
-use Rattle.projection_patch.proofs.read_patches.patch_at.Statement.{statement}
-use Rattle.projection_patch.proofs.read_patches.patch_at.Tie as tie
+use Rattle.projection_patch_sets.proofs.patch_at.Statement.{statement}
+use Rattle.projection_patch_sets.proofs.patch_at.Tie as tie
 
 abbrev set : tie.After-read-patch-head → List ℕ
 set c = c .before .before .before .args .set .now

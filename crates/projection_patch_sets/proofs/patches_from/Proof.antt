@@ -1,4 +1,4 @@
--- `projection_patch::read_patches::patches_from` meets its contract: what is left, with what was counted, answers as the whole does; the measure is the patches left.
+-- `projection_patch_sets::patches_from` meets its contract: what is left, with what was counted, answers as the whole does; the measure is the patches left.
 use Prim.Native.Nat.{ℕ, suc, _+_, _-_, _*_, _≤_}
 use mathlib.Core.Path.{_≡_, refl, sym, ap, ap₂, _∙_}
 use mathlib.Core.List.{List}
@@ -10,12 +10,14 @@ use Rattle.spec_patch.specs.Sizes.{patchOperations}
 use Rattle.spec_patch.specs.Edition.{v1}
 use Rattle.spec_patch.specs.Reader.{many}
 use Rattle.spec_patch.specs.Read.{readPatch, ended}
-use Rattle.projection_patch.specs.ReadAnswers.{anywhere, setAnswer}
-use Rattle.projection_patch.proofs.Answers.{Got, patch-got, no-patch}
-use Rattle.projection_patch.proofs.Runs.{few, counted, counted-none, patch-refused, patch-turn, bytes-left, at-end}
+use Rattle.projection_patch.specs.ReadAnswers.{anywhere}
+use Rattle.projection_patch_sets.specs.SetAnswers.{setAnswer}
+use Rattle.projection_patch.proofs.Answers.{Got}
+use Rattle.projection_patch_sets.proofs.PatchAnswers.{patch-got, no-patch}
+use Rattle.projection_patch_sets.proofs.Runs.{few, counted, counted-none, patch-refused, patch-turn, bytes-left, at-end}
 use borrow.Author.Needs.{needs}
-use Rattle.projection_patch.proofs.read_patches.patches_from.Statement.{statement}
-use Rattle.projection_patch.proofs.read_patches.patches_from.Tie as tie
+use Rattle.projection_patch_sets.proofs.patches_from.Statement.{statement}
+use Rattle.projection_patch_sets.proofs.patches_from.Tie as tie
 
 abbrev Inv-loop : tie.InvT-loop
 Inv-loop set first count at₀ left₀ operations₀ at left operations =

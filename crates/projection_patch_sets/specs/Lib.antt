@@ -1,0 +1,4 @@
+pub mod Walk
+pub mod HeadLaws
+pub mod SetAnswers
+pub mod WalkLaws
