@@ -1,0 +1,1 @@
+// Writing of a whole patch list.
