@@ -1,7 +1,8 @@
 -- What a call that writes from a position on answers, and what it leaves of the output.
 use Prim.Native.Nat.{ℕ, _+_}
-use mathlib.Core.List.{List}
-use lib.ListN.{length}
+use mathlib.Core.List.{List, _++_}
+use lib.Dec.{leb}
+use lib.ListN.{length, drop}
 use Rattle.spec_lists.specs.Lists.{if_then_else_}
 use Rattle.spec_patch.specs.Write as model
 use Rattle.wire.specs.Write.{hasRoom, overwrite}
@@ -29,3 +30,20 @@ answerAt out at (model.refused n) = Refused (refusalTo n)
 abbrev pub outputAt : List ℕ → ℕ → model.Written → List ℕ
 outputAt out at (model.wrote bs) = overwrite out at bs
 outputAt out at (model.refused n) = out
+
+-- ---- the same by what 01's writer gives, for a call that writes from the start of the output
+
+-- the bytes, if the output has so many places
+abbrev pub withRoom : ℕ → model.Written → model.Written
+withRoom room (model.wrote bs) = if leb (length bs) room then model.wrote bs else model.refused model.outputTooShort
+withRoom room (model.refused n) = model.refused n
+
+-- the length
+abbrev pub answerOf : model.Written → Written
+answerOf (model.wrote bs) = Wrote (length bs)
+answerOf (model.refused n) = Refused (refusalTo n)
+
+-- the bytes, and the rest of the output as it was
+abbrev pub outputOf : List ℕ → model.Written → List ℕ
+outputOf out (model.wrote bs) = bs ++ drop (length bs) out
+outputOf out (model.refused n) = out

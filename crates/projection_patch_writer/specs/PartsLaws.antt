@@ -19,12 +19,18 @@ use Rattle.projection_patch.specs.declared.patch.ProjectionPatchOperation.{Proj
 use Rattle.projection_patch_writer.specs.declared.operation.TextPlace.{TextPlace}
 use Rattle.projection_patch_writer.specs.declared.written.Written.{Written}
 use Rattle.projection_patch_writer.specs.declared.written.Written.the-variants.{Wrote, Refused}
-use Rattle.projection_patch_writer.specs.declared.written.WriteRefusal.the-variants.{OutputTooShort}
+use Rattle.projection_patch_writer.specs.declared.written.WriteRefusal.{WriteRefusal}
+use Rattle.projection_patch_writer.specs.declared.written.WriteRefusal.the-variants.{OverCapacity, Malformed, OutputTooShort}
 use Rattle.projection_patch_writer.specs.Extent.{operationText}
-use Rattle.projection_patch_writer.specs.Answer.{refusalTo, answerAt, outputAt}
+use Rattle.projection_patch_writer.specs.Answer.{refusalOf, refusalTo, answerAt, outputAt}
 use Rattle.projection_patch_writer.specs.Parts.{headingBytes, headBytes, shortText, insideTexts, operationBytes}
 
 -- ---- the answer by the result
+
+same-refusal : (r : WriteRefusal) → r ≡ refusalTo (refusalOf r)
+same-refusal OverCapacity = refl
+same-refusal Malformed = refl
+same-refusal OutputTooShort = refl
 
 module _ (out : List ℕ) (at : ℕ) where
   abbrev pub Answers : model.Written → Written → List ℕ → Type 0
@@ -32,6 +38,9 @@ module _ (out : List ℕ) (at : ℕ) where
 
   pub answers-refused : {w : model.Written} {n : model.WriteRefusal} → w ≡ model.refused n → Answers w (Refused (refusalTo n)) out
   answers-refused e = (sym (ap (answerAt out at) e), sym (ap (outputAt out at) e))
+
+  pub answers-refusal : {w : model.Written} (r : WriteRefusal) → w ≡ model.refused (refusalOf r) → Answers w (Refused r) out
+  answers-refusal r e = (ap Refused (same-refusal r) ∙ answers-refused e .0, answers-refused e .1)
 
   module _ {w : model.Written} {bs : List ℕ} (e : w ≡ model.wrote bs) (n : ℕ) (long : length bs ≡ n) where
     pub answers-short : leb (at + n) (length out) ≡ false → Answers w (Refused OutputTooShort) out
