@@ -1,0 +1,11 @@
+-- A test of the contrary.
+use mathlib.Core.Path.{_≡_, refl, sym}
+use mathlib.Core.Bool.{Bool, true, false, not}
+
+pub fails : (b : Bool) → not b ≡ true → b ≡ false
+fails true e = sym e
+fails false e = refl
+
+pub holds : (b : Bool) → not b ≡ false → b ≡ true
+holds true e = refl
+holds false e = sym e

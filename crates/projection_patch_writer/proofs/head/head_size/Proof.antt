@@ -1,0 +1,18 @@
+-- `head::head_size` meets its contract: a surface takes at most nine bytes.
+use native.Mathlib.Omega.{arith}
+use borrow.Author.Needs.{needs}
+use Rattle.projection_patch_writer.specs.ExtentLaws.{surface-small}
+use Rattle.projection_patch_writer.proofs.head.head_size.Statement.{statement}
+use Rattle.projection_patch_writer.proofs.head.head_size.Tie as tie
+
+surface-size-requires : tie.Need-surface-size-requires
+surface-size-requires c κs = search needs
+
+add-result : tie.Need-add-result
+add-result c = omega (arith, c .surface-size .ensures, surface-small (c .before .before .args .patch .envelope .«surface_id»))
+
+returns : tie.Need-returns
+returns c = search needs
+
+pub head-size-spec : {M : Type 1} → statement M
+head-size-spec = tie.close (tie.spec surface-size-requires add-result returns)

@@ -1,0 +1,9 @@
+pub mod Extent
+pub mod ExtentLaws
+pub mod Answer
+pub mod Parts
+pub mod PartsLaws
+pub mod Set
+pub mod SetLaws
+pub mod CallLaws
+pub mod Survey
