@@ -1,21 +1,16 @@
 -- Laws of digits: how many there are, what number they spell, and that a numeral is what is printed of its number.
 use Prim.Native.Nat.{ℕ, zero, suc, _+_, _-_, _*_, _/_, _%_, _^_, _≤_, _<_}
 use mathlib.Core.Path.{_≡_, refl, sym, ap, _∙_}
-use mathlib.Core.Bool.{Bool, true, false, not, _&&_, _||_}
+use mathlib.Core.Bool.{true, false, not}
 use mathlib.Core.List.{List, [], _∷_, _++_, append-assoc, append-nil}
-use mathlib.Core.Option.{Option, none, some}
 use native.Mathlib.Nat.{mod-lt, pow-suc, add-zero}
-use native.Mathlib.Numerals.{add-one}
 use native.Mathlib.Omega.{arith}
 use lib.Dec.{ltb, leb, eqb, lit<}
-use lib.IntN.{ℤ, pos, negsuc}
 use lib.ListN.{length, length-append}
-use mir.Syntax.{w64}
-use mir.Val.{SFits}
-use borrow.Author.Tests.{ltb-true, ltb-false, leb-true, eqb-true, eqb-false, lt-ltb, le-ltb, le-leb, eq-eqb, ne-eqb, not-true}
-use Rattle.spec_lists.specs.Lists.{if_then_else_, between, all, isEmpty}
+use borrow.Author.Tests.{ltb-true, ltb-false, leb-true, eqb-false, lt-ltb, le-ltb, le-leb, ne-eqb, not-true}
+use Rattle.spec_lists.specs.Lists.{all}
 use Rattle.spec_lists.specs.ListLaws.{and-left, and-right, test-cases}
-use Rattle.spec_decimal.specs.Decimal.{digit, digits, decimal, signedDecimal, isDigit, isNumeral, numberWith, readDecimal, positive, negative, readSignedDecimal}
+use Rattle.spec_decimal.specs.Decimal.{digit, digits, isDigit, isNumeral, numberWith}
 
 -- ---- digits
 
@@ -24,7 +19,6 @@ tenth k n h = omega (arith, rw pow-suc at h)
 
 shifted : (k n : ℕ) → suc k + n ≡ k + suc n
 shifted k n = omega arith
-
 
 pub digits-last : (k n : ℕ) → n < 10 → digits (suc k) n ≡ digit n ∷ []
 unfolding digits
@@ -55,8 +49,8 @@ unfolding digits
 all-digits zero n = refl
 all-digits (suc k) n =
     test-cases (ltb n 10)
-        (λ t. rw t (one-digit n (ltb-true n 10 t)))
-        (λ t. rw t (all-digits-append (digits k (n / 10)) (digit (n % 10) ∷ []) (all-digits k (n / 10)) (one-digit (n % 10) (mod-lt n (lit< tt)))))
+    (λ t. rw t (one-digit n (ltb-true n 10 t)))
+    (λ t. rw t (all-digits-append (digits k (n / 10)) (digit (n % 10) ∷ []) (all-digits k (n / 10)) (one-digit (n % 10) (mod-lt n (lit< tt)))))
 
 -- ---- how many digits
 
@@ -65,15 +59,15 @@ unfolding digits
 length-digits zero n = omega arith
 length-digits (suc k) n =
     test-cases (ltb n 10)
-        (λ t. rw t (omega arith))
-        (λ t. rw (t, length-append (digits k (n / 10)) (digit (n % 10) ∷ [])) (omega (arith, length-digits k (n / 10))))
+    (λ t. rw t (omega arith))
+    (λ t. rw (t, length-append (digits k (n / 10)) (digit (n % 10) ∷ [])) (omega (arith, length-digits k (n / 10))))
 
 pub length-digits-positive : (k n : ℕ) → 1 ≤ length (digits (suc k) n)
 unfolding digits
 length-digits-positive k n =
     test-cases (ltb n 10)
-        (λ t. rw t (omega arith))
-        (λ t. rw (t, length-append (digits k (n / 10)) (digit (n % 10) ∷ [])) (omega arith))
+    (λ t. rw t (omega arith))
+    (λ t. rw (t, length-append (digits k (n / 10)) (digit (n % 10) ∷ [])) (omega arith))
 
 -- where both allow enough digits, how many are allowed does not matter
 pub digits-same : (j k n : ℕ) → n < 10 ^ suc j → n < 10 ^ suc k → digits (suc j) n ≡ digits (suc k) n
@@ -85,8 +79,8 @@ digits-same (suc j) zero n h g =
     digits-last (suc j) n small ∙ sym (digits-last zero n small)
 digits-same (suc j) (suc k) n h g =
     test-cases (ltb n 10)
-        (λ t. digits-last (suc j) n (ltb-true n 10 t) ∙ sym (digits-last (suc k) n (ltb-true n 10 t)))
-        (λ t. digits-more (suc j) n (ltb-false n 10 t) ∙ ap (λ (l : List ℕ). l ++ (digit (n % 10) ∷ [])) (digits-same j k (n / 10) (tenth j n h) (tenth k n g)) ∙ sym (digits-more (suc k) n (ltb-false n 10 t)))
+    (λ t. digits-last (suc j) n (ltb-true n 10 t) ∙ sym (digits-last (suc k) n (ltb-true n 10 t)))
+    (λ t. digits-more (suc j) n (ltb-false n 10 t) ∙ ap (λ (l : List ℕ). l ++ (digit (n % 10) ∷ [])) (digits-same j k (n / 10) (tenth j n h) (tenth k n g)) ∙ sym (digits-more (suc k) n (ltb-false n 10 t)))
 
 -- ---- the number of digits that were printed
 
@@ -100,8 +94,8 @@ unfolding digits numberWith
 numberWith-digits zero n h = omega arith
 numberWith-digits (suc k) n h =
     test-cases (ltb n 10)
-        (λ t. rw t (omega arith))
-        (λ t. rw (t, numberWith-append 0 (digits k (n / 10)) (digit (n % 10) ∷ [])) (omega (arith, numberWith-digits k (n / 10) (omega (arith, rw pow-suc at h)))))
+    (λ t. rw t (omega arith))
+    (λ t. rw (t, numberWith-append 0 (digits k (n / 10)) (digit (n % 10) ∷ [])) (omega (arith, numberWith-digits k (n / 10) (omega (arith, rw pow-suc at h)))))
 
 -- the digits of a number other than 0 do not begin with 0
 abbrev Leads : List ℕ → Type 0
@@ -115,8 +109,8 @@ leads : (k n : ℕ) → 0 < n → n < 10 ^ k → Leads (digits k n)
 leads zero n h g = absurd (omega arith)
 leads (suc k) n h g =
     test-cases (ltb n 10)
-        (λ t. (digit n, [], digits-last k n (ltb-true n 10 t), ne-eqb (digit n) 48 (λ e. omega arith)))
-        (λ t. leads-more k n (ltb-false n 10 t) (leads k (n / 10) (omega (arith, ltb-false n 10 t)) (omega (arith, rw pow-suc at g))))
+    (λ t. (digit n, [], digits-last k n (ltb-true n 10 t), ne-eqb (digit n) 48 (λ e. omega arith)))
+    (λ t. leads-more k n (ltb-false n 10 t) (leads k (n / 10) (omega (arith, ltb-false n 10 t)) (omega (arith, rw pow-suc at g))))
 
 numeral-of : (b : ℕ) (bs : List ℕ) → eqb b 48 ≡ false → all isDigit (b ∷ bs) ≡ true → isNumeral (b ∷ bs) ≡ true
 unfolding isNumeral
@@ -127,11 +121,11 @@ pub isNumeral-digits : (k n : ℕ) → n < 10 ^ suc k → isNumeral (digits (suc
 unfolding isNumeral
 isNumeral-digits k n h =
     test-cases (ltb n 10)
-        (λ t. rw (digits-last k n (ltb-true n 10 t)) (one-digit n (ltb-true n 10 t)))
-        (λ t.
-            let first = leads (suc k) n (omega (arith, ltb-false n 10 t)) h in
-            let d : all isDigit (first .0 ∷ first .1) ≡ true = rw (first .2) at (all-digits (suc k) n) in
-            rw (first .2) (numeral-of (first .0) (first .1) (first .3) d))
+    (λ t. rw (digits-last k n (ltb-true n 10 t)) (one-digit n (ltb-true n 10 t)))
+    (λ t.
+    let first = leads (suc k) n (omega (arith, ltb-false n 10 t)) h in
+    let d : all isDigit (first .0 ∷ first .1) ≡ true = rw (first .2) at (all-digits (suc k) n) in
+    rw (first .2) (numeral-of (first .0) (first .1) (first .3) d))
 
 -- ---- the digits of a number that was read
 

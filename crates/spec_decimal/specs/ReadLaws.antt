@@ -1,17 +1,17 @@
 -- Reading gives back what was printed, and takes nothing else.
 use Prim.Native.Nat.{ℕ, zero, suc, _/_, _%_, _^_, _≤_, _<_}
 use mathlib.Core.Path.{_≡_, refl, sym, ap, _∙_}
-use mathlib.Core.Bool.{Bool, true, false, _&&_}
+use mathlib.Core.Bool.{true, _&&_}
 use mathlib.Core.List.{List, [], _∷_, _++_}
 use mathlib.Core.Option.{Option, none, some}
 use native.Mathlib.Omega.{arith}
-use lib.Dec.{ltb, eqb, lit<}
+use lib.Dec.{ltb, eqb}
 use lib.IntN.{ℤ, pos, negsuc}
 use lib.ListN.{length}
 use mir.Syntax.{w64}
 use mir.Val.{SFits}
-use borrow.Author.Tests.{ltb-true, ltb-false, lt-ltb, eqb-true, eq-eqb, ne-eqb}
-use Rattle.spec_lists.specs.Lists.{if_then_else_, all}
+use borrow.Author.Tests.{ltb-true, lt-ltb, eqb-true, ne-eqb}
+use Rattle.spec_lists.specs.Lists.{all}
 use Rattle.spec_lists.specs.ListLaws.{and-left, and-right, test-cases}
 use Rattle.spec_decimal.specs.Decimal.{digit, digits, decimal, signedDecimal, isDigit, isNumeral, numberWith, readDecimal, positive, negative, readSignedDecimal}
 use Rattle.spec_decimal.specs.DecimalLaws.{digits-last, digits-more, digits-same, length-digits, length-digits-positive, all-digits, isDigit-range, isNumeral-digits, numberWith-digits, numeral-digits}
@@ -41,12 +41,12 @@ pub readDecimal-printed : (bs : List ℕ) (n : ℕ) → readDecimal bs ≡ some 
 unfolding decimal readDecimal
 readDecimal-printed bs n e =
     test-cases (isNumeral bs && ltb (numberWith 0 bs) (2 ^ 64))
-        (λ t.
-            let same : numberWith 0 bs ≡ n = cc (rw t at e) in
-            let below : numberWith 0 bs < 2 ^ 64 = ltb-true _ _ (and-right (isNumeral bs) (ltb (numberWith 0 bs) (2 ^ 64)) t) in
-            let spelled = numeral-digits bs 19 (and-left (isNumeral bs) (ltb (numberWith 0 bs) (2 ^ 64)) t) (u64-digits (numberWith 0 bs) below) in
-            (spelled ∙ ap (digits 20) same, rw same at below))
-        (λ t. let z : _≡_ {A = ℕ} 0 1 = cc (rw t at e) in absurd (omega arith))
+    (λ t.
+    let same : numberWith 0 bs ≡ n = cc (rw t at e) in
+    let below : numberWith 0 bs < 2 ^ 64 = ltb-true _ _ (and-right (isNumeral bs) (ltb (numberWith 0 bs) (2 ^ 64)) t) in
+    let spelled = numeral-digits bs 19 (and-left (isNumeral bs) (ltb (numberWith 0 bs) (2 ^ 64)) t) (u64-digits (numberWith 0 bs) below) in
+    (spelled ∙ ap (digits 20) same, rw same at below))
+    (λ t. let z : _≡_ {A = ℕ} 0 1 = cc (rw t at e) in absurd (omega arith))
 
 -- two numbers of 64 bits that are printed alike are equal
 pub decimal-injective : (m n : ℕ) → m < 2 ^ 64 → n < 2 ^ 64 → decimal m ≡ decimal n → m ≡ n
@@ -92,10 +92,10 @@ positive-some bs z = go (readDecimal bs) refl
     go none r e = let y : _≡_ {A = ℕ} 0 1 = cc in absurd (omega arith)
     go (some n) r e =
         test-cases (ltb n (2 ^ 63))
-            (λ t.
-                let same : pos n ≡ z = cc (rw t at e) in
-                rw (sym same) (readDecimal-printed bs n r .0, record { sfits = ltb-true n (2 ^ 63) t }))
-            (λ t. let y : _≡_ {A = ℕ} 0 1 = cc (rw t at e) in absurd (omega arith))
+        (λ t.
+        let same : pos n ≡ z = cc (rw t at e) in
+        rw (sym same) (readDecimal-printed bs n r .0, record { sfits = ltb-true n (2 ^ 63) t }))
+        (λ t. let y : _≡_ {A = ℕ} 0 1 = cc (rw t at e) in absurd (omega arith))
 
 negative-some : (bs : List ℕ) (z : ℤ) → negative (readDecimal bs) ≡ some z → (45 ∷ bs ≡ signedDecimal z) × SFits w64 z
 unfolding negative signedDecimal
@@ -106,10 +106,10 @@ negative-some bs z = go (readDecimal bs) refl
     go (some zero) r e = let y : _≡_ {A = ℕ} 0 1 = cc in absurd (omega arith)
     go (some (suc n)) r e =
         test-cases (ltb n (2 ^ 63))
-            (λ t.
-                let same : negsuc n ≡ z = cc (rw t at e) in
-                rw (sym same) (ap (λ (l : List ℕ). 45 ∷ l) (readDecimal-printed bs (suc n) r .0), record { sfits = ltb-true n (2 ^ 63) t }))
-            (λ t. let y : _≡_ {A = ℕ} 0 1 = cc (rw t at e) in absurd (omega arith))
+        (λ t.
+        let same : negsuc n ≡ z = cc (rw t at e) in
+        rw (sym same) (ap (λ (l : List ℕ). 45 ∷ l) (readDecimal-printed bs (suc n) r .0), record { sfits = ltb-true n (2 ^ 63) t }))
+        (λ t. let y : _≡_ {A = ℕ} 0 1 = cc (rw t at e) in absurd (omega arith))
 
 -- whatever is read was printed
 pub readSignedDecimal-printed : (bs : List ℕ) (z : ℤ) → readSignedDecimal bs ≡ some z → (bs ≡ signedDecimal z) × SFits w64 z
@@ -117,10 +117,10 @@ unfolding readSignedDecimal
 readSignedDecimal-printed [] z e = let y : _≡_ {A = ℕ} 0 1 = cc in absurd (omega arith)
 readSignedDecimal-printed (b ∷ bs) z e =
     test-cases (eqb b 45)
-        (λ t.
-            let r = negative-some bs z (rw t at e) in
-            (ap (λ (x : ℕ). x ∷ bs) (eqb-true b 45 t) ∙ r .0, r .1))
-        (λ t. positive-some (b ∷ bs) z (rw t at e))
+    (λ t.
+    let r = negative-some bs z (rw t at e) in
+    (ap (λ (x : ℕ). x ∷ bs) (eqb-true b 45 t) ∙ r .0, r .1))
+    (λ t. positive-some (b ∷ bs) z (rw t at e))
 
 -- two numbers that are printed alike are equal
 pub signedDecimal-injective : (x y : ℤ) → SFits w64 x → SFits w64 y → signedDecimal x ≡ signedDecimal y → x ≡ y
