@@ -11,7 +11,7 @@ use Rattle.spec_patch.specs.Read.{SetReading, patches, fault, readSet}
 use Rattle.spec_checks.specs.Findings.{findings}
 use Rattle.spec_projection.specs.Projection.{Binding, NodeAvailability, Entry, Projection, empty}
 use Rattle.spec_projection.specs.Apply.{Outcome, done, stopped, operationFaultNumber, applySteps, replaySteps}
-use Rattle.spec_listing.specs.Decimal.{decimal, signedDecimal}
+use Rattle.spec_decimal.specs.Decimal.{decimal, signedDecimal}
 
 abbrev pub tab : ℕ
 tab = 9

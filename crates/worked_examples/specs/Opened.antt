@@ -25,7 +25,7 @@ use Rattle.spec_session.specs.Session
 use Rattle.spec_session.specs.Diagnostics
 use Rattle.spec_session.specs.Lifecycle
 use Rattle.spec_session.specs.Batch
-use Rattle.spec_listing.specs.Decimal
+use Rattle.spec_decimal.specs.Decimal
 use Rattle.spec_listing.specs.Listing
 
 unfoldable pub opened : Unit {0}
@@ -194,9 +194,9 @@ unfolding
     Rattle.spec_session.specs.Batch.commit
     Rattle.spec_session.specs.Batch.concludeBatch
     Rattle.spec_session.specs.Batch.batch
-    Rattle.spec_listing.specs.Decimal.digits
-    Rattle.spec_listing.specs.Decimal.decimal
-    Rattle.spec_listing.specs.Decimal.signedDecimal
+    Rattle.spec_decimal.specs.Decimal.digits
+    Rattle.spec_decimal.specs.Decimal.decimal
+    Rattle.spec_decimal.specs.Decimal.signedDecimal
     Rattle.spec_listing.specs.Listing.fields
     Rattle.spec_listing.specs.Listing.valueFields
     Rattle.spec_listing.specs.Listing.bindingLine
