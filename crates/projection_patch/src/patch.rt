@@ -166,6 +166,7 @@ pub struct ProjectionPatchSet {
 impl ProjectionPatchSet {
     // The most patches of a set, and the most bytes.
     pub const PATCHES: usize = 64;
+
     pub const BYTES: usize = 32768;
     // 10 bytes at least for an operation, and 61 for each patch of at most 128.
     pub const PLACES: usize = 3120;

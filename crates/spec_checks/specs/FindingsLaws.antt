@@ -1,9 +1,9 @@
 -- What is given is sorted by kind, domain and secondary, has no repeats and is what was found; and where the check ends.
 use Prim.Native.Nat.{ℕ, suc, _+_, _<_}
-use mathlib.Core.Path.{_≡_, refl, sym, ap, _∙_}
+use mathlib.Core.Path.{_≡_, refl, ap, _∙_}
 use mathlib.Core.Bool.{true}
-use mathlib.Core.List.{List, [], _∷_, _++_, List·Memᴰ, List·Nodup}
-use mathlib.Core.Logic.{_⊎_, inl, inr, ⊎-elim, _↔_, _≢_}
+use mathlib.Core.List.{List, [], _∷_, _++_, List·Nodup}
+use mathlib.Core.Logic.{_⊎_, inl, inr, _≢_}
 use native.Mathlib.Omega.{arith}
 use lib.ListN.{length}
 use Rattle.spec_lists.specs.Lists.{All}
@@ -34,9 +34,11 @@ precedes f g h = kinds (lexLess-cases _ _ _ _ h)
     secondaries : f .kind ≡ g .kind → f .domain ≡ g .domain → (f .secondary < g .secondary) ⊎ ((f .secondary ≡ g .secondary) × (lexLess [] [] ≡ true)) → Precedes f g
     secondaries k d (inl l) = bySecondary k d l
     secondaries k d (inr e) = absurd (lexLess-irreflexive [] (e .1))
+
     domains : f .kind ≡ g .kind → (f .domain < g .domain) ⊎ ((f .domain ≡ g .domain) × (lexLess (f .secondary ∷ []) (g .secondary ∷ []) ≡ true)) → Precedes f g
     domains k (inl l) = byDomain k l
     domains k (inr e) = secondaries k (e .0) (lexLess-cases _ _ _ _ (e .1))
+
     kinds : (f .kind < g .kind) ⊎ ((f .kind ≡ g .kind) × (lexLess (f .domain ∷ f .secondary ∷ []) (g .domain ∷ g .secondary ∷ []) ≡ true)) → Precedes f g
     kinds (inl l) = byKind l
     kinds (inr e) = domains (e .0) (lexLess-cases _ _ _ _ (e .1))
@@ -64,7 +66,7 @@ reported raw =
       sorted = sorted-ascending (sortUnique findingKey raw) ascending;
       nodup = ascending-nodup findingKey (sortUnique findingKey raw) ascending;
       only = λ f m. sortUnique-member findingKey f raw m;
-      every = λ f m. member-sortUnique findingKey findingKey-injective f raw m
+      every = λ f m. member-sortUnique findingKey findingKey-injective f raw m;
     }
 
 pub patch-reported : (p : Patch) → Reported (rawPatchFindings p) (patchFindings p)
@@ -85,17 +87,16 @@ reported-unique raw a b h k =
 first-clean : (i : ℕ) (ps : List Patch) (set : Findings) → All CleanPatch ps → firstFindings i ps set ≡ set
 unfolding firstFindings
 first-clean i [] set h = refl
-first-clean i (p ∷ ps) set h = rw (h .0, firstFindings) (first-clean (i + 1) ps set (h .1))
+first-clean i (p ∷ ps) set h = rw (h .0, firstFindings) (first-clean _ ps set (h .1))
 
 first-found : (i : ℕ) (a : List Patch) (p : Patch) (b : List Patch) (set : Findings) → All CleanPatch a → patchFindings p ≢ []
     → firstFindings i (a ++ (p ∷ b)) set ≡ record { place = inPatch (i + length a); found = patchFindings p }
 unfolding firstFindings
 first-found i [] p b set h n = go (patchFindings p) refl
   where
-    go : (l : List Finding) → patchFindings p ≡ l
-        → _≡_ {A = Findings} (elim l as (λ x. Findings) [ [] ↦ firstFindings (i + 1) b set | f ∷ fs ↦ record { place = inPatch i; found = f ∷ fs } ]) (record { place = inPatch (i + 0); found = l })
+    go : (l : List Finding) → patchFindings p ≡ l → firstFindings i (p ∷ b) set ≡ record { place = inPatch (i + 0); found = patchFindings p }
     go [] e = absurd (n e)
-    go (f ∷ fs) e = let index : i ≡ i + 0 = omega arith in λ j. record { place = inPatch (index j); found = f ∷ fs }
+    go (f ∷ fs) e = let index : i ≡ i + 0 = omega arith in rw (e, firstFindings) (λ j. record { place = inPatch (index j); found = f ∷ fs })
 first-found i (q ∷ a) p b set h n =
     let index : i + 1 + length a ≡ i + suc (length a) = omega arith in
     rw (h .0, firstFindings) (first-found (i + 1) a p b set (h .1) n ∙ λ j. record { place = inPatch (index j); found = patchFindings p })
@@ -124,6 +125,7 @@ findings-ended ps = go (first-or-none ps)
   where
     set : Findings
     set = record { place = inSet; found = setFindings ps }
+
     go : First ps ⊎ All CleanPatch ps → Ended ps (firstFindings 0 ps set)
     go (inl s) =
         let index : 0 + length (s .before) ≡ length (s .before) = omega arith in

@@ -1,14 +1,12 @@
 -- A patch list has no findings exactly if no patch has any and the set has none; and a contiguous part of such a list has none.
-use Prim.Native.Nat.{ℕ}
-use mathlib.Core.Path.{_≡_, refl, sym, ap, _∙_, subst}
+use mathlib.Core.Path.{_≡_, sym, ap, _∙_, subst}
 use mathlib.Core.List.{List, [], _∷_, _++_, append-assoc, append-nil, List·Memᴰ, List·Memᴰ·not-nil, Memᴰ·append-right}
 use mathlib.Core.Logic.{_↔_}
 use Rattle.spec_lists.specs.Lists.{All}
 use Rattle.spec_lists.specs.ListLaws.{all-left, all-right, no-members}
 use Rattle.spec_patch.specs.Patch.{Patch}
 use Rattle.spec_checks.specs.Finding.{Finding}
-use Rattle.spec_checks.specs.PatchChecks.{patchFindings}
-use Rattle.spec_checks.specs.SetChecks.{rawSetFindings, setFindings}
+use Rattle.spec_checks.specs.SetChecks.{setFindings}
 use Rattle.spec_checks.specs.Findings.{inSet, Findings, findings, CleanPatch, Clean}
 use Rattle.spec_checks.specs.Rules.{SetFinding, sameId, neighbours, Ended, atPatch, atSet}
 use Rattle.spec_checks.specs.RulesLaws.{set-rule}

@@ -1,6 +1,6 @@
 -- The findings of one patch, kinds 2, 3, 6, 10, 13 and 14: 01, 'Patch checks'; `validate_patch` of the Rust. Domain is the patch id.
 use Prim.Native.Nat.{ℕ}
-use mathlib.Core.Bool.{Bool, true, false}
+use mathlib.Core.Bool.{Bool, false}
 use mathlib.Core.List.{List, [], _++_}
 use mathlib.Core.Option.{Option, none, some}
 use lib.Dec.{leb, eqb}
@@ -38,7 +38,7 @@ envelopeFindings e =
     ++ (report (eqb (e .id) 0) (finding zeroPatchId (e .id) 0)
     ++ report (eqb (e .stream) 0) (finding zeroStreamId (e .id) 0))
 
--- one patch, in the order of the checks; kind 6 has secondary 0
+-- one patch; kind 6 has secondary 0
 unfoldable pub rawPatchFindings : Patch → List Finding
 rawPatchFindings p =
     let id = p .envelope .id in

@@ -1,60 +1,24 @@
 -- The checks find exactly what the rules say: of one patch, of two neighbours, and of a set.
-use Prim.Native.Nat.{ℕ, _+_, _≤_}
+use Prim.Native.Nat.{ℕ}
 use mathlib.Core.Path.{_≡_, refl, sym, ap, _∙_, subst}
-use mathlib.Core.Bool.{Bool, true, false, not, _&&_, false≢true}
-use mathlib.Core.List.{List, [], _∷_, _++_, append-assoc, reverse, reverseAux, reverse-append, reverse-reverse, reverse-cons}
-use mathlib.Core.List.{List·Memᴰ, List·Memᴰ·head, List·Memᴰ·tail, List·Memᴰ·not-nil, List·Memᴰ·eq-of-singleton, List·Memᴰ·append-cases, Memᴰ·append-left, Memᴰ·append-right, Memᴰ·cast}
-use mathlib.Core.Logic.{_⊎_, inl, inr, ⊎-elim, _↔_, _≢_}
-use mathlib.Core.Option.{Option, none, some}
+use mathlib.Core.Bool.{true, not, _&&_, false≢true}
+use mathlib.Core.List.{List, [], _∷_, _++_, append-assoc, reverse, reverse-append, reverse-reverse, reverse-cons}
+use mathlib.Core.List.{List·Memᴰ, List·Memᴰ·head, List·Memᴰ·not-nil, List·Memᴰ·eq-of-singleton, List·Memᴰ·append-cases, Memᴰ·append-left, Memᴰ·append-right}
+use mathlib.Core.Logic.{⊎-elim, _↔_, _≢_}
+use mathlib.Core.Option.{none, some}
 use native.Mathlib.Omega.{arith}
 use borrow.Author.Tests.{leb-true, le-leb, eqb-true, eqb-false, eq-eqb, ne-eqb, not-true}
-use lib.Dec.{leb, eqb}
-use lib.ListN.{length, length-reverse}
-use Rattle.spec_lists.specs.Lists.{any, isEmpty, if_then_else_}
-use Rattle.spec_lists.specs.ListLaws.{and-left, and-right, isEmpty-true, any-member, member-any, reverse-member, member-reverse}
-use Rattle.spec_patch.specs.Sizes.{largestU64}
+use lib.Dec.{eqb}
+use lib.ListN.{length-reverse}
+use Rattle.spec_lists.specs.Lists.{isEmpty}
+use Rattle.spec_lists.specs.ListLaws.{if-cases, and-left, and-right, isEmpty-true, any-member, member-any, reverse-member, member-reverse}
 use Rattle.spec_patch.specs.Patch.{Operation, setBinding, setAvailability, insert, update, remove, move, Envelope, Patch}
-use Rattle.spec_checks.specs.Finding.{Finding, finding, report, checkEach, brokenRevisionChain, collectionBeforeSelf, duplicateMutationTarget, duplicatePatchId, duplicateSequence, emptyOperations, mixedDocument, mixedEpoch, mixedStream, nonIncreasingRevision, outOfOrderSequence, sequenceOverflow, zeroPatchId, zeroStreamId}
+use Rattle.spec_checks.specs.Finding.{Finding, finding, checkEach, collectionBeforeSelf, duplicateMutationTarget}
+use Rattle.spec_checks.specs.FindingLaws.{report-member, report-cases, report-here, report-there, checkEach-member, member-checkEach}
 use Rattle.spec_checks.specs.Target.{MutationTarget, mutationTarget, sameTarget}
 use Rattle.spec_checks.specs.PatchChecks.{isSelf, beforeSelf, operationFindings, envelopeFindings, rawPatchFindings}
-use Rattle.spec_checks.specs.SetChecks.{sequenceFindings, pairFindings, duplicateIdFindings, previousFindings, afterFindings, rawSetFindings}
+use Rattle.spec_checks.specs.SetChecks.{isLastSequence, isSameSequence, isNextSequence, sequenceFindings, pairFindings, duplicateIdFindings, previousFindings, afterFindings, rawSetFindings}
 use Rattle.spec_checks.specs.Rules.{BeforeSelf, inserted, moved, PatchFinding, beforeSelfAt, repeatedAt, noOperations, notAbove, noId, noStream, PairFinding, otherDocument, otherEpoch, otherStream, overflow, sameSequence, outOfOrder, brokenChain, SetFinding, sameId, neighbours}
-
--- ---- reports, and checks of each element
-
-pub report-member : (t : Bool) (f g : Finding) → List·Memᴰ f (report t g) ↔ ((t ≡ true) × (f ≡ g))
-unfolding report
-report-member true f g = (λ m. (refl, List·Memᴰ·eq-of-singleton m), λ h. List·Memᴰ·head (h .1))
-report-member false f g = (λ m. absurd (List·Memᴰ·not-nil m), λ h. absurd (false≢true (h .0)))
-
--- a finding of a report and others is the report's, or one of the others
-report-cases : {C : Type 0} (t : Bool) (g : Finding) (others : List Finding) (f : Finding) → (t ≡ true → f ≡ g → C) → (List·Memᴰ f others → C) → List·Memᴰ f (report t g ++ others) → C
-report-cases t g others f here there m = ⊎-elim (λ (n : List·Memᴰ f (report t g)). let h = report-member t f g .0 n in here (h .0) (h .1)) there (List·Memᴰ·append-cases (report t g) m)
-
-report-here : (t : Bool) (g : Finding) (others : List Finding) (f : Finding) → t ≡ true → f ≡ g → List·Memᴰ f (report t g ++ others)
-report-here t g others f h e = Memᴰ·append-left others (report-member t f g .1 (h, e))
-
-report-there : (t : Bool) (g : Finding) (others : List Finding) (f : Finding) → List·Memᴰ f others → List·Memᴰ f (report t g ++ others)
-report-there t g others f m = Memᴰ·append-right (report t g) m
-
--- a finding of each is one of some element after those before it
-pub checkEach-member : {A : Type 0} (check : List A → A → List Finding) (earlier xs : List A) (f : Finding) → List·Memᴰ f (checkEach check earlier xs)
-    → (a : List A) × (x : A) × (b : List A) × (xs ≡ a ++ (x ∷ b)) × List·Memᴰ f (check (reverseAux a earlier) x)
-unfolding checkEach
-checkEach-member check earlier [] f m = absurd (List·Memᴰ·not-nil m)
-checkEach-member {A} check earlier (x ∷ xs) f m =
-    ⊎-elim (λ (h : List·Memᴰ f (check earlier x)). ([], x, xs, refl, h)) (λ (h : List·Memᴰ f (checkEach check (x ∷ earlier) xs)). later (checkEach-member check (x ∷ earlier) xs f h))
-    (List·Memᴰ·append-cases (check earlier x) m)
-  where
-    later : (a : List A) × (y : A) × (b : List A) × (xs ≡ a ++ (y ∷ b)) × List·Memᴰ f (check (reverseAux a (x ∷ earlier)) y)
-        → (a : List A) × (y : A) × (b : List A) × (x ∷ xs ≡ a ++ (y ∷ b)) × List·Memᴰ f (check (reverseAux a earlier) y)
-    later s = (x ∷ s .0, s .1, s .2, ap (λ l. x ∷ l) (s .3), s .4)
-
-pub member-checkEach : {A : Type 0} (check : List A → A → List Finding) (earlier a : List A) (x : A) (b : List A) (f : Finding)
-    → List·Memᴰ f (check (reverseAux a earlier) x) → List·Memᴰ f (checkEach check earlier (a ++ (x ∷ b)))
-unfolding checkEach
-member-checkEach check earlier [] x b f m = Memᴰ·append-left (checkEach check (x ∷ earlier) b) m
-member-checkEach check earlier (y ∷ a) x b f m = Memᴰ·append-right (check earlier y) (member-checkEach check (y ∷ earlier) a x b f m)
 
 -- ---- one patch
 
@@ -139,18 +103,12 @@ module _ (p : Patch) (f : Finding) where
 
 module _ (q e : Envelope) (f : Finding) where
   sequence-to : List·Memᴰ f (sequenceFindings q e) → PairFinding q e f
-  unfolding sequenceFindings
-  sequence-to m = go (eqb (q .sequence) largestU64) refl (eqb (e .sequence) (q .sequence)) refl (eqb (e .sequence) (q .sequence + 1)) refl m
-    where
-      go : (s : Bool) → eqb (q .sequence) largestU64 ≡ s → (t : Bool) → eqb (e .sequence) (q .sequence) ≡ t → (u : Bool) → eqb (e .sequence) (q .sequence + 1) ≡ u
-          → List·Memᴰ f (if s then finding sequenceOverflow (q .id) (q .sequence) ∷ [] else
-          if t then finding duplicateSequence (e .id) (e .sequence) ∷ [] else
-          if u then report (not (eqb (e .previous) (q .revision))) (finding brokenRevisionChain (e .id) (q .id)) else
-          finding outOfOrderSequence (e .id) (e .sequence) ∷ []) → PairFinding q e f
-      go true h t k u l m = overflow (eqb-true _ _ h) (List·Memᴰ·eq-of-singleton m)
-      go false h true k u l m = sameSequence (eqb-false _ _ h) (eqb-true _ _ k) (List·Memᴰ·eq-of-singleton m)
-      go false h false k true l m = let r = report-member _ _ _ .0 m in brokenChain (eqb-false _ _ h) (eqb-true _ _ l) (eqb-false _ _ (not-true _ (r .0))) (r .1)
-      go false h false k false l m = outOfOrder (eqb-false _ _ h) (eqb-false _ _ k) (eqb-false _ _ l) (List·Memᴰ·eq-of-singleton m)
+  unfolding sequenceFindings isLastSequence isSameSequence isNextSequence
+  sequence-to =
+      if-cases (λ l. List·Memᴰ f l → PairFinding q e f) _ _ _ (λ t m. overflow (eqb-true _ _ t) (List·Memᴰ·eq-of-singleton m)) λ n.
+      if-cases (λ l. List·Memᴰ f l → PairFinding q e f) _ _ _ (λ t m. sameSequence (eqb-false _ _ n) (eqb-true _ _ t) (List·Memᴰ·eq-of-singleton m)) λ k.
+      if-cases (λ l. List·Memᴰ f l → PairFinding q e f) _ _ _ (λ t m. let h = report-member _ _ _ .0 m in brokenChain (eqb-false _ _ n) (eqb-true _ _ t) (eqb-false _ _ (not-true _ (h .0))) (h .1)) λ l m.
+      outOfOrder (eqb-false _ _ n) (eqb-false _ _ k) (eqb-false _ _ l) (List·Memᴰ·eq-of-singleton m)
 
   pair-to : List·Memᴰ f (pairFindings q e) → PairFinding q e f
   unfolding pairFindings
@@ -166,7 +124,7 @@ module _ (q e : Envelope) (f : Finding) where
   sequence-from m = report-there _ _ _ f (report-there _ _ _ f (report-there _ _ _ f m))
 
   pair-from : PairFinding q e f → List·Memᴰ f (pairFindings q e)
-  unfolding pairFindings sequenceFindings
+  unfolding pairFindings sequenceFindings isLastSequence isSameSequence isNextSequence
   pair-from (otherDocument n h) = report-here _ _ _ f (differs _ _ n) h
   pair-from (otherEpoch n h) = report-there _ _ _ f (report-here _ _ _ f (differs _ _ n) h)
   pair-from (otherStream n h) = report-there _ _ _ f (report-there _ _ _ f (report-here _ _ _ f (differs _ _ n) h))
@@ -198,8 +156,8 @@ module _ (ps : List Patch) (f : Finding) where
       let s = checkEach-member afterFindings [] ps f m in
       let p = s .1 in
       report-cases _ _ _ f (λ t h.
-          let w = any-member (λ (q : Patch). eqb (q .envelope .id) (p .envelope .id)) (reverse (s .0)) t in
-          sameId (s .0) p (s .2) (s .3) (w .0) (reverse-member (s .0) (w .1)) (eqb-true _ _ (w .2)) h)
+      let w = any-member (λ (q : Patch). eqb (q .envelope .id) (p .envelope .id)) (reverse (s .0)) t in
+      sameId (s .0) p (s .2) (s .3) (w .0) (reverse-member (s .0) (w .1)) (eqb-true _ _ (w .2)) h)
       (previous-to (s .0) p (s .2) (s .3)) (s .4)
 
   after-from : (a : List Patch) (p : Patch) (b : List Patch) → ps ≡ a ++ (p ∷ b) → List·Memᴰ f (afterFindings (reverse a) p) → List·Memᴰ f (rawSetFindings ps)

@@ -86,3 +86,10 @@ littleEndian-signed bs h e =
     ap (littleEndian 8) (ofZ-toZ {w = w64} (record { fits = numberOf-lt 8 bs h (omega arith) }))
     ∙ ap (λ (n : ℕ). littleEndian n (numberOf bs)) (sym e)
     ∙ littleEndian-numberOf bs h
+
+-- ---- the number of two runs of bytes
+
+pub numberOf-append : (a b : List ℕ) → numberOf (a ++ b) ≡ numberOf a + numberOf b * 256 ^ length a
+unfolding numberOf
+numberOf-append [] b = omega arith
+numberOf-append (x ∷ a) b = rw pow-suc (omega (arith, numberOf-append a b))

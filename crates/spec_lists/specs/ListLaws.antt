@@ -1,14 +1,15 @@
 -- Laws of tests, and of properties of all elements.
 use mathlib.Core.Path.{_≡_, refl, sym, ap, _∙_, subst}
 use mathlib.Core.Bool.{Bool, true, false, _&&_, _||_}
-use mathlib.Core.List.{List, [], _∷_, _++_, append-assoc, flatMap, reverse, reverse-cons, reverse-reverse}
+use mathlib.Core.List.{List, [], _∷_, _++_, append-assoc, map, flatMap, reverse, reverse-cons, reverse-reverse}
 use mathlib.Core.List.{List·Memᴰ, List·Memᴰ·head, List·Memᴰ·tail, List·Memᴰ·append-cases, List·Memᴰ·eq-of-singleton}
 use mathlib.Core.Logic.{⊎-elim}
-use Prim.Native.Nat.{ℕ}
+use Prim.Native.Nat.{ℕ, zero, suc, _<_}
 use native.Mathlib.Omega.{arith}
 use lib.Dec.{T, eqb}
-use borrow.Author.Tests.{eqb-true}
-use Rattle.spec_lists.specs.Lists.{all, any, equalLists, isEmpty, All}
+use lib.ListN.{length, getD, take, drop}
+use borrow.Author.Tests.{eqb-true, eq-eqb}
+use Rattle.spec_lists.specs.Lists.{if_then_else_, all, any, equalLists, isEmpty, All}
 
 -- ---- tests
 
@@ -36,6 +37,11 @@ or-second false b e f = e
 pub or-true : (a b : Bool) → b ≡ true → (a || b) ≡ true
 or-true true b e = refl
 or-true false b e = e
+
+-- what holds of both branches holds of the choice
+pub if-cases : {A : Type 0} (P : A → Type 0) (t : Bool) (a b : A) → (t ≡ true → P a) → (t ≡ false → P b) → P (if t then a else b)
+if-cases P true a b h k = h refl
+if-cases P false a b h k = k refl
 
 -- ---- lists
 
@@ -138,3 +144,28 @@ reverse-member {x} (y ∷ l) m =
 
 pub member-reverse : {A : Type 0} {x : A} (l : List A) → List·Memᴰ x l → List·Memᴰ x (reverse l)
 member-reverse {x} l m = reverse-member (reverse l) (subst (List·Memᴰ x) (sym (reverse-reverse l)) m)
+
+pub getD-member : {A : Type 0} (l : List A) (i : ℕ) (d : A) → i < length l → List·Memᴰ (getD l i d) l
+getD-member [] i d h = absurd (omega arith)
+getD-member (x ∷ l) zero d h = List·Memᴰ·head refl
+getD-member (x ∷ l) (suc i) d h = List·Memᴰ·tail (getD-member l i d (omega arith))
+
+-- two maps that agree on a list agree at its members
+pub map-member : {A B : Type 0} (f g : A → B) {x : A} (l : List A) → map f l ≡ map g l → List·Memᴰ x l → f x ≡ g x
+map-member f g (y ∷ l) h (List·Memᴰ·head e) = cc
+map-member f g (y ∷ l) h (List·Memᴰ·tail m) = map-member f g l (cc) m
+
+-- a list of numbers passes the test against itself
+pub equalLists-refl : (a : List ℕ) → equalLists eqb a a ≡ true
+equalLists-refl [] = refl
+equalLists-refl (x ∷ a) = rw (eq-eqb x x refl) (equalLists-refl a)
+
+pub all-take : {A : Type 0} (P : A → Type 0) (n : ℕ) (l : List A) → All P l → All P (take n l)
+all-take P zero l h = tt
+all-take P (suc n) [] h = tt
+all-take P (suc n) (x ∷ l) h = (h .0, all-take P n l (h .1))
+
+pub all-drop : {A : Type 0} (P : A → Type 0) (n : ℕ) (l : List A) → All P l → All P (drop n l)
+all-drop P zero l h = h
+all-drop P (suc n) [] h = tt
+all-drop P (suc n) (x ∷ l) h = all-drop P n l (h .1)

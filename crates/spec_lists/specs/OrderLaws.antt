@@ -1,16 +1,17 @@
 -- The order of keys is strict and total, and an ascending list stays ascending when an element is inserted.
 use Prim.Native.Nat.{ℕ, suc, _≤_, _<_}
 use mathlib.Core.Path.{_≡_, refl, sym, ap, _∙_}
-use mathlib.Core.Bool.{Bool, true, false, _&&_, _||_}
+use mathlib.Core.Bool.{Bool, true, false, false≢true, _&&_, _||_}
 use mathlib.Core.HLevel.{⊥-prop}
-use mathlib.Core.List.{List, [], _∷_, List·Memᴰ, List·Memᴰ·head, List·Memᴰ·tail, List·Memᴰ·cases-cons, List·Memᴰ·not-nil, List·Memᴰ·eq-of-singleton, Memᴰ·cast, List·Nodup, Pairwise·nil, Pairwise·cons}
+use mathlib.Core.List.{List, [], _∷_, _++_, List·Nodup, Pairwise·nil, Pairwise·cons}
+use mathlib.Core.List.{List·Memᴰ, List·Memᴰ·head, List·Memᴰ·tail, List·Memᴰ·cases-cons, List·Memᴰ·not-nil, List·Memᴰ·eq-of-singleton, List·Memᴰ·append-cases, Memᴰ·append-left, Memᴰ·append-right, Memᴰ·cast}
 use mathlib.Core.Logic.{_⊎_, inl, inr, ⊎-elim, ∥∥₁-elim}
 use native.Mathlib.Omega.{arith}
-use borrow.Author.Tests.{ltb-true, ltb-false, lt-ltb, eqb-true, eqb-false, eq-eqb}
+use borrow.Author.Tests.{ltb-true, ltb-false, lt-ltb, le-ltb, eqb-true, eqb-false, eq-eqb}
 use lib.Dec.{ltb, eqb}
 use lib.ListN.{length}
-use Rattle.spec_lists.specs.Lists.{if_then_else_, All}
-use Rattle.spec_lists.specs.ListLaws.{all-member}
+use Rattle.spec_lists.specs.Lists.{All}
+use Rattle.spec_lists.specs.ListLaws.{if-cases, all-member}
 use Rattle.spec_lists.specs.Order.{lexLess, upsert, sortUnique, Ascending}
 
 -- what `lexLess` says of two keys with a first number each
@@ -72,12 +73,18 @@ lexLess-total (x ∷ a) (y ∷ b) p q = go (ltb x y) refl (ltb y x) refl (eqb x 
 -- ---- ascending lists
 
 module _ {A : Type 0} (key : A → List ℕ) where
+  -- where an element is inserted: before one of a larger key, behind one of a smaller key, or in place of one of the same key
+  pub upsert-cases : (P : List A → Type 0) (a x : A) (l : List A) → (lexLess (key a) (key x) ≡ true → P (a ∷ x ∷ l)) → (lexLess (key x) (key a) ≡ true → P (x ∷ upsert key a l))
+      → (key a ≡ key x → P (a ∷ l)) → P (upsert key a (x ∷ l))
+  unfolding upsert
+  upsert-cases P a x l before behind same = if-cases P _ _ _ before (λ e. if-cases P _ _ _ behind (λ f. same (lexLess-total (key a) (key x) e f)))
+
   -- a key below one element is below all that follow it
-  above : (a x : A) (l : List A) → lexLess (key a) (key x) ≡ true → All (λ y. lexLess (key x) (key y) ≡ true) l → All (λ y. lexLess (key a) (key y) ≡ true) l
+  pub above : (a x : A) (l : List A) → lexLess (key a) (key x) ≡ true → All (λ y. lexLess (key x) (key y) ≡ true) l → All (λ y. lexLess (key a) (key y) ≡ true) l
   above a x [] h k = tt
   above a x (y ∷ l) h k = (lexLess-trans (key a) (key x) (key y) h (k .0), above a x l h (k .1))
 
-  alike : (a x : A) (l : List A) → key a ≡ key x → All (λ y. lexLess (key x) (key y) ≡ true) l → All (λ y. lexLess (key a) (key y) ≡ true) l
+  pub alike : (a x : A) (l : List A) → key a ≡ key x → All (λ y. lexLess (key x) (key y) ≡ true) l → All (λ y. lexLess (key a) (key y) ≡ true) l
   alike a x [] h k = tt
   alike a x (y ∷ l) h k = (rw h (k .0), alike a x l h (k .1))
 
@@ -85,23 +92,14 @@ module _ {A : Type 0} (key : A → List ℕ) where
   pub upsert-all : (P : A → Type 0) (a : A) (l : List A) → P a → All P l → All P (upsert key a l)
   unfolding upsert
   upsert-all P a [] p h = (p, tt)
-  upsert-all P a (x ∷ l) p h = go (lexLess (key a) (key x)) (lexLess (key x) (key a)) (upsert-all P a l p (h .1))
-    where
-      go : (s t : Bool) → All P (upsert key a l) → All P (if s then a ∷ x ∷ l else if t then x ∷ upsert key a l else a ∷ l)
-      go true t ih = (p, h)
-      go false true ih = (h .0, ih)
-      go false false ih = (p, h .1)
+  upsert-all P a (x ∷ l) p h = upsert-cases (All P) a x l (λ e. (p, h)) (λ e. (h .0, upsert-all P a l p (h .1))) (λ e. (p, h .1))
 
   pub upsert-ascending : (a : A) (l : List A) → Ascending key l → Ascending key (upsert key a l)
   unfolding upsert
   upsert-ascending a [] h = (tt, tt)
-  upsert-ascending a (x ∷ l) h = go (lexLess (key a) (key x)) refl (lexLess (key x) (key a)) refl (upsert-ascending a l (h .1))
-    where
-      go : (s : Bool) → lexLess (key a) (key x) ≡ s → (t : Bool) → lexLess (key x) (key a) ≡ t → Ascending key (upsert key a l)
-          → Ascending key (if s then a ∷ x ∷ l else if t then x ∷ upsert key a l else a ∷ l)
-      go true e t f ih = ((e, above a x l e (h .0)), h)
-      go false e true f ih = (upsert-all (λ y. lexLess (key x) (key y) ≡ true) a l f (h .0), ih)
-      go false e false f ih = (alike a x l (lexLess-total (key a) (key x) e f) (h .0), h .1)
+  upsert-ascending a (x ∷ l) h =
+      upsert-cases (Ascending key) a x l (λ e. ((e, above a x l e (h .0)), h)) (λ e. (upsert-all (λ y. lexLess (key x) (key y) ≡ true) a l e (h .0), upsert-ascending a l (h .1)))
+      (λ e. (alike a x l e (h .0), h .1))
 
   pub sortUnique-ascending : (l : List A) → Ascending key (sortUnique key l)
   unfolding sortUnique
@@ -110,38 +108,32 @@ module _ {A : Type 0} (key : A → List ℕ) where
 
 -- ---- members
 
-pub lexLess-irreflexive : (a : List ℕ) → lexLess a a ≡ true → ⊥
+-- no key is below itself
+pub lexLess-self : (a : List ℕ) → lexLess a a ≡ false
 unfolding lexLess
-lexLess-irreflexive [] h = let z : _≡_ {A = ℕ} 0 1 = cc in omega arith
-lexLess-irreflexive (x ∷ a) h = ⊎-elim (λ (l : x < x). omega arith) (λ (e : (x ≡ x) × (lexLess a a ≡ true)). lexLess-irreflexive a (e .1)) (lexLess-cases x x a a h)
+lexLess-self [] = refl
+lexLess-self (x ∷ a) = rw (le-ltb x x (omega arith), eq-eqb x x refl, lexLess-self a)
+
+pub lexLess-irreflexive : (a : List ℕ) → lexLess a a ≡ true → ⊥
+lexLess-irreflexive a e = false≢true (sym (lexLess-self a) ∙ e)
 
 module _ {A : Type 0} (key : A → List ℕ) where
-  upsert-member : (x a : A) (l : List A) → List·Memᴰ x (upsert key a l) → (x ≡ a) ⊎ List·Memᴰ x l
+  pub upsert-member : (x a : A) (l : List A) → List·Memᴰ x (upsert key a l) → (x ≡ a) ⊎ List·Memᴰ x l
   unfolding upsert
-  upsert-member x a [] m = inl (List·Memᴰ·eq-of-singleton m)
-  upsert-member x a (y ∷ l) m = go (lexLess (key a) (key y)) (lexLess (key y) (key a)) (upsert-member x a l) m
+  upsert-member x a [] = λ m. inl (List·Memᴰ·eq-of-singleton m)
+  upsert-member x a (y ∷ l) =
+      upsert-cases key (λ r. List·Memᴰ x r → (x ≡ a) ⊎ List·Memᴰ x (y ∷ l)) a y l (λ e m. List·Memᴰ·cases-cons m)
+      (λ e m. ⊎-elim (λ (h : x ≡ y). inr (List·Memᴰ·head h)) (λ (d : List·Memᴰ x (upsert key a l)). behind (upsert-member x a l d)) (List·Memᴰ·cases-cons m))
+      (λ e m. behind (List·Memᴰ·cases-cons m))
     where
-      later : (x ≡ a) ⊎ List·Memᴰ x l → (x ≡ a) ⊎ List·Memᴰ x (y ∷ l)
-      later (inl e) = inl e
-      later (inr d) = inr (List·Memᴰ·tail d)
-      behind : (List·Memᴰ x (upsert key a l) → (x ≡ a) ⊎ List·Memᴰ x l) → (x ≡ y) ⊎ List·Memᴰ x (upsert key a l) → (x ≡ a) ⊎ List·Memᴰ x (y ∷ l)
-      behind ih (inl e) = inr (List·Memᴰ·head e)
-      behind ih (inr d) = later (ih d)
-      go : (s t : Bool) → (List·Memᴰ x (upsert key a l) → (x ≡ a) ⊎ List·Memᴰ x l)
-          → List·Memᴰ x (if s then a ∷ y ∷ l else if t then y ∷ upsert key a l else a ∷ l) → (x ≡ a) ⊎ List·Memᴰ x (y ∷ l)
-      go true t ih m = List·Memᴰ·cases-cons m
-      go false true ih m = behind ih (List·Memᴰ·cases-cons m)
-      go false false ih m = later (List·Memᴰ·cases-cons m)
+      behind : (x ≡ a) ⊎ List·Memᴰ x l → (x ≡ a) ⊎ List·Memᴰ x (y ∷ l)
+      behind (inl e) = inl e
+      behind (inr d) = inr (List·Memᴰ·tail d)
 
-  upsert-new : (a : A) (l : List A) → List·Memᴰ a (upsert key a l)
+  pub upsert-new : (a : A) (l : List A) → List·Memᴰ a (upsert key a l)
   unfolding upsert
   upsert-new a [] = List·Memᴰ·head refl
-  upsert-new a (y ∷ l) = go (lexLess (key a) (key y)) (lexLess (key y) (key a)) (upsert-new a l)
-    where
-      go : (s t : Bool) → List·Memᴰ a (upsert key a l) → List·Memᴰ a (if s then a ∷ y ∷ l else if t then y ∷ upsert key a l else a ∷ l)
-      go true t ih = List·Memᴰ·head refl
-      go false true ih = List·Memᴰ·tail ih
-      go false false ih = List·Memᴰ·head refl
+  upsert-new a (y ∷ l) = upsert-cases key (List·Memᴰ a) a y l (λ e. List·Memᴰ·head refl) (λ e. List·Memᴰ·tail (upsert-new a l)) (λ e. List·Memᴰ·head refl)
 
   -- what is sorted holds nothing new
   pub sortUnique-member : (x : A) (l : List A) → List·Memᴰ x (sortUnique key l) → List·Memᴰ x l
@@ -153,12 +145,7 @@ module _ {A : Type 0} (key : A → List ℕ) where
   upsert-length : (a : A) (l : List A) → length (upsert key a l) ≤ suc (length l)
   unfolding upsert
   upsert-length a [] = omega arith
-  upsert-length a (y ∷ l) = go (lexLess (key a) (key y)) (lexLess (key y) (key a)) (upsert-length a l)
-    where
-      go : (s t : Bool) → length (upsert key a l) ≤ suc (length l) → length (if s then a ∷ y ∷ l else if t then y ∷ upsert key a l else a ∷ l) ≤ suc (suc (length l))
-      go true t ih = omega arith
-      go false true ih = omega arith
-      go false false ih = omega arith
+  upsert-length a (y ∷ l) = upsert-cases key (λ r. length r ≤ suc (suc (length l))) a y l (λ e. omega arith) (λ e. omega (arith, upsert-length a l)) (λ e. omega arith)
 
   pub sortUnique-length : (l : List A) → length (sortUnique key l) ≤ length l
   unfolding sortUnique
@@ -198,19 +185,13 @@ module _ {A : Type 0} (key : A → List ℕ) where
 
 -- a key that tells the elements apart
 module _ {A : Type 0} (key : A → List ℕ) (injective : (a b : A) → key a ≡ key b → a ≡ b) where
-  upsert-old : (x a : A) (l : List A) → List·Memᴰ x l → List·Memᴰ x (upsert key a l)
+  pub upsert-old : (x a : A) (l : List A) → List·Memᴰ x l → List·Memᴰ x (upsert key a l)
   unfolding upsert
   upsert-old x a [] m = absurd (List·Memᴰ·not-nil m)
-  upsert-old x a (y ∷ l) m = go (lexLess (key a) (key y)) refl (lexLess (key y) (key a)) refl (upsert-old x a l) (List·Memᴰ·cases-cons m)
-    where
-      go : (s : Bool) → lexLess (key a) (key y) ≡ s → (t : Bool) → lexLess (key y) (key a) ≡ t → (List·Memᴰ x l → List·Memᴰ x (upsert key a l)) → (x ≡ y) ⊎ List·Memᴰ x l
-          → List·Memᴰ x (if s then a ∷ y ∷ l else if t then y ∷ upsert key a l else a ∷ l)
-      go true e t f ih (inl h) = List·Memᴰ·tail (List·Memᴰ·head h)
-      go true e t f ih (inr d) = List·Memᴰ·tail (List·Memᴰ·tail d)
-      go false e true f ih (inl h) = List·Memᴰ·head h
-      go false e true f ih (inr d) = List·Memᴰ·tail (ih d)
-      go false e false f ih (inl h) = List·Memᴰ·head (h ∙ sym (injective a y (lexLess-total (key a) (key y) e f)))
-      go false e false f ih (inr d) = List·Memᴰ·tail d
+  upsert-old x a (y ∷ l) m =
+      upsert-cases key (List·Memᴰ x) a y l (λ e. List·Memᴰ·tail m)
+      (λ e. ⊎-elim (λ (h : x ≡ y). List·Memᴰ·head h) (λ (d : List·Memᴰ x l). List·Memᴰ·tail (upsert-old x a l d)) (List·Memᴰ·cases-cons m))
+      (λ e. ⊎-elim (λ (h : x ≡ y). List·Memᴰ·head (h ∙ sym (injective a y e))) (λ (d : List·Memᴰ x l). List·Memᴰ·tail d) (List·Memᴰ·cases-cons m))
 
   -- what is sorted has lost nothing
   pub member-sortUnique : (x : A) (l : List A) → List·Memᴰ x l → List·Memᴰ x (sortUnique key l)
@@ -218,3 +199,12 @@ module _ {A : Type 0} (key : A → List ℕ) (injective : (a b : A) → key a �
   member-sortUnique x [] m = m
   member-sortUnique x (a ∷ l) m =
       ⊎-elim (λ (e : x ≡ a). Memᴰ·cast e (upsert-new key a (sortUnique key l))) (λ (d : List·Memᴰ x l). upsert-old x a (sortUnique key l) (member-sortUnique x l d)) (List·Memᴰ·cases-cons m)
+
+  -- sorting may go from either end
+  pub sortUnique-snoc : (l : List A) (x : A) → sortUnique key (l ++ (x ∷ [])) ≡ upsert key x (sortUnique key l)
+  sortUnique-snoc l x =
+      ascending-unique key _ _ (sortUnique-ascending key (l ++ (x ∷ []))) (upsert-ascending key x (sortUnique key l) (sortUnique-ascending key l))
+      (λ y m. ⊎-elim (λ (d : List·Memᴰ y l). upsert-old y x (sortUnique key l) (member-sortUnique y l d)) (λ (d : List·Memᴰ y (x ∷ [])). Memᴰ·cast (List·Memᴰ·eq-of-singleton d) (upsert-new key x (sortUnique key l)))
+      (List·Memᴰ·append-cases l (sortUnique-member key y (l ++ (x ∷ [])) m)))
+      (λ y m. member-sortUnique y (l ++ (x ∷ [])) (⊎-elim (λ (e : y ≡ x). Memᴰ·append-right l (List·Memᴰ·head e)) (λ (d : List·Memᴰ y (sortUnique key l)). Memᴰ·append-left (x ∷ []) (sortUnique-member key y l d))
+      (upsert-member key y x (sortUnique key l) m)))

@@ -1,6 +1,6 @@
 -- The six operations on a projection, and patches applied as steps: 01, 'Projection', and step 9 of a batch.
 use Prim.Native.Nat.{ℕ}
-use mathlib.Core.Bool.{Bool, not}
+use mathlib.Core.Bool.{not}
 use mathlib.Core.List.{List, [], _∷_, map, flatMap}
 use mathlib.Core.Option.{Option, none, some}
 use lib.Dec.{leb}
@@ -8,7 +8,7 @@ use lib.ListN.{length}
 use Rattle.spec_lists.specs.Lists.{if_then_else_}
 use Rattle.spec_lists.specs.Order.{upsert}
 use Rattle.spec_patch.specs.Sizes.{projectionBindings, projectionAvailabilities, projectionEntries}
-use Rattle.spec_patch.specs.Patch.{Value, Availability, Operation, setBinding, setAvailability, insert, update, remove, move, Patch}
+use Rattle.spec_patch.specs.Patch.{Operation, setBinding, setAvailability, insert, update, remove, move, Patch}
 use Rattle.spec_projection.specs.Projection.{Binding, NodeAvailability, Entry, Projection, bindingKey, availabilityKey}
 use Rattle.spec_projection.specs.FirstMatch.{findFirst}
 use Rattle.spec_projection.specs.Entries.{isEntry, contains, containsNeighbour, insertEntry, replaceEntry, removeEntry}
@@ -91,9 +91,12 @@ pub record ReplayStep : Type 0 where
   pub patch : ℕ
   pub operation : Operation
 
+abbrev pub stepOf : ℕ → Operation → ReplayStep
+stepOf id o = record { patch = id; operation = o }
+
 -- the steps of one patch
 unfoldable pub patchSteps : Patch → List ReplayStep
-patchSteps p = map (λ (o : Operation). record { patch = p .envelope .id; operation = o }) (p .operations)
+patchSteps p = map (stepOf (p .envelope .id)) (p .operations)
 
 -- the steps of all patches, in order
 unfoldable pub replaySteps : List Patch → List ReplayStep

@@ -1,5 +1,5 @@
 -- Steps applied in two runs, the steps of patches, and the first step that fails.
-use Prim.Native.Nat.{ℕ, suc, _+_}
+use Prim.Native.Nat.{ℕ}
 use mathlib.Core.Path.{_≡_, refl, sym, ap, _∙_}
 use mathlib.Core.List.{List, [], _∷_, _++_, map, flatMap}
 use native.Mathlib.Omega.{arith}
@@ -7,7 +7,7 @@ use lib.ListN.{length, length-map}
 use Rattle.spec_lists.specs.ListLaws.{flatMap-append}
 use Rattle.spec_patch.specs.Patch.{Operation, Patch}
 use Rattle.spec_projection.specs.Projection.{Projection}
-use Rattle.spec_projection.specs.Apply.{OperationFault, Outcome, done, stopped, ReplayStep, patchSteps, replaySteps, operationsOf, applyStep, andThen, applySteps}
+use Rattle.spec_projection.specs.Apply.{OperationFault, Outcome, done, stopped, ReplayStep, stepOf, patchSteps, replaySteps, operationsOf, applyStep, andThen, applySteps}
 
 -- ---- outcomes
 
@@ -51,7 +51,7 @@ replaySteps-operations [] = refl
 replaySteps-operations (p ∷ ps) = map-steps (p .operations) (replaySteps ps) ∙ ap (λ l. p .operations ++ l) (replaySteps-operations ps)
   where
     map-steps : (os : List Operation) (rest : List ReplayStep)
-        → map (λ (s : ReplayStep). s .operation) (map (λ (o : Operation). record { patch = p .envelope .id; operation = o }) os ++ rest) ≡ os ++ map (λ (s : ReplayStep). s .operation) rest
+        → map (λ (s : ReplayStep). s .operation) (map (stepOf (p .envelope .id)) os ++ rest) ≡ os ++ map (λ (s : ReplayStep). s .operation) rest
     map-steps [] rest = refl
     map-steps (o ∷ os) rest = ap (λ l. o ∷ l) (map-steps os rest)
 

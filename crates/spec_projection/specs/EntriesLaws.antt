@@ -1,14 +1,14 @@
 -- Inserting, replacing and removing an entry keep the stored order of entries.
-use Prim.Native.Nat.{ℕ, zero, suc, _≤_, _<_}
-use mathlib.Core.Path.{_≡_, refl, sym, ap, _∙_}
-use mathlib.Core.Bool.{Bool, true, false, false≢true, _&&_, _||_}
+use Prim.Native.Nat.{ℕ, suc, _≤_, _<_}
+use mathlib.Core.Path.{_≡_, refl, sym}
+use mathlib.Core.Bool.{Bool, true, false, false≢true}
 use mathlib.Core.List.{List, [], _∷_}
 use mathlib.Core.Option.{Option, none, some}
 use native.Mathlib.Omega.{arith}
 use borrow.Author.Tests.{ltb-true, ltb-false, eqb-true, eq-eqb}
-use lib.Dec.{ltb, eqb}
+use lib.Dec.{eqb}
 use lib.ListN.{length}
-use Rattle.spec_lists.specs.Lists.{if_then_else_, any, All}
+use Rattle.spec_lists.specs.Lists.{any, All}
 use Rattle.spec_lists.specs.ListLaws.{and-left, and-right, or-left, or-right, or-second, all-map, test-cases}
 use Rattle.spec_projection.specs.Projection.{Entry}
 use Rattle.spec_projection.specs.FirstMatch.{findFirst, insertBeforeFirst, replaceFirst, removeFirst}
@@ -30,11 +30,21 @@ pub entry-is : (c k : ℕ) (e : Entry) → e .collection ≡ c → e .key ≡ k 
 unfolding isEntry
 entry-is c k e p q = rw (eq-eqb (e .collection) c p, eq-eqb (e .key) k q)
 
+-- ---- being of a later collection
+
+pub later-above : (c : ℕ) (e : Entry) → isLater c e ≡ true → c < e .collection
+unfolding isLater
+later-above c e h = ltb-true c (e .collection) h
+
+pub not-later-below : (c : ℕ) (e : Entry) → isLater c e ≡ false → e .collection ≤ c
+unfolding isLater
+not-later-below c e h = ltb-false c (e .collection) h
+
+-- ---- an entry that is inserted
+
 -- two entries differ, seen from either
 entry-sym : (x e : Entry) → isEntry (e .collection) (e .key) x ≡ false → isEntry (x .collection) (x .key) e ≡ false
 entry-sym x e h = test-cases (isEntry (x .collection) (x .key) e) (λ f. cc (f, h, entry-is (e .collection) (e .key) x (sym (entry-collection (x .collection) (x .key) e f)) (sym (entry-key (x .collection) (x .key) e f)))) (λ f. f)
-
--- ---- an entry that is inserted
 
 -- first of a list whose collections are not earlier
 insert-here : (e x : Entry) (l : List Entry) → e .collection ≤ x .collection → contains (e .collection) (e .key) (x ∷ l) ≡ false → Grouped (x ∷ l) → Grouped (e ∷ x ∷ l)
@@ -54,11 +64,11 @@ insert-further : (test : Entry → Bool) (e x : Entry) (l : List Entry) → x .c
 insert-further test e x l le n h g = (insertBeforeFirst-all test (Behind x) e l (record { collection = le; other = entry-sym x e n }) h, g)
 
 pub insertLast-grouped : (e : Entry) (l : List Entry) → contains (e .collection) (e .key) l ≡ false → Grouped l → Grouped (insertLast e l)
-unfolding insertLast insertBeforeFirst isLater contains
+unfolding insertLast insertBeforeFirst contains
 insertLast-grouped e [] n h = (tt, tt)
-insertLast-grouped e (x ∷ l) n h = test-cases (ltb (e .collection) (x .collection))
-    (λ f. rw f (insert-here e x l (omega (arith, ltb-true (e .collection) (x .collection) f)) n h))
-    (λ f. rw f (insert-further (isLater (e .collection)) e x l (ltb-false (e .collection) (x .collection) f) (or-left _ _ n) (h .0) (insertLast-grouped e l (or-right (isEntry (e .collection) (e .key) x) _ n) (h .1))))
+insertLast-grouped e (x ∷ l) n h = test-cases (isLater (e .collection) x)
+    (λ f. rw f (insert-here e x l (omega (arith, later-above (e .collection) x f)) n h))
+    (λ f. rw f (insert-further (isLater (e .collection)) e x l (not-later-below (e .collection) x f) (or-left _ _ n) (h .0) (insertLast-grouped e l (or-right (isEntry (e .collection) (e .key) x) _ n) (h .1))))
 
 -- an entry that stands behind another is of no earlier collection
 behind-collection : (x : Entry) (c k : ℕ) (l : List Entry) → contains c k l ≡ true → All (Behind x) l → x .collection ≤ c

@@ -1,34 +1,16 @@
--- What edits at the first match keep: properties of all elements, and lengths.
-use Prim.Native.Nat.{ℕ, zero, suc, _≤_}
-use mathlib.Core.Path.{_≡_, refl, sym, ap, subst}
-use mathlib.Core.Bool.{Bool, true, false}
+-- Edits at the first match: lengths, properties of all elements, and what is found.
+use Prim.Native.Nat.{ℕ, suc}
+use mathlib.Core.Path.{_≡_, refl, ap, subst}
+use mathlib.Core.Bool.{Bool, true}
 use mathlib.Core.List.{List, [], _∷_}
-use mathlib.Core.Option.{Option, none, some, Option·some-injective}
+use mathlib.Core.Option.{some, Option·some-injective}
 use native.Mathlib.Omega.{arith}
 use lib.ListN.{length}
-use Rattle.spec_lists.specs.Lists.{if_then_else_, any, All}
+use Rattle.spec_lists.specs.Lists.{any, All}
 use Rattle.spec_lists.specs.ListLaws.{test-cases}
 use Rattle.spec_projection.specs.FirstMatch.{findFirst, insertBeforeFirst, replaceFirst, removeFirst}
 
 module _ {A : Type 0} (test : A → Bool) where
-  -- ---- properties of all elements
-
-  pub insertBeforeFirst-all : (P : A → Type 0) (a : A) (l : List A) → P a → All P l → All P (insertBeforeFirst test a l)
-  unfolding insertBeforeFirst
-  insertBeforeFirst-all P a [] p h = (p, tt)
-  insertBeforeFirst-all P a (x ∷ l) p h = test-cases (test x) (λ f. rw f (p, h)) (λ f. rw f (h .0, insertBeforeFirst-all P a l p (h .1)))
-
-  -- the new element has what the one that it replaces gives it
-  pub replaceFirst-all : (P : A → Type 0) (a : A) (l : List A) → ((y : A) → test y ≡ true → P y → P a) → All P l → All P (replaceFirst test a l)
-  unfolding replaceFirst
-  replaceFirst-all P a [] p h = tt
-  replaceFirst-all P a (x ∷ l) p h = test-cases (test x) (λ f. rw f (p x f (h .0), h .1)) (λ f. rw f (h .0, replaceFirst-all P a l p (h .1)))
-
-  pub removeFirst-all : (P : A → Type 0) (l : List A) → All P l → All P (removeFirst test l)
-  unfolding removeFirst
-  removeFirst-all P [] h = tt
-  removeFirst-all P (x ∷ l) h = test-cases (test x) (λ f. rw f (h .1)) (λ f. rw f (h .0, removeFirst-all P l (h .1)))
-
   -- ---- lengths
 
   pub insertBeforeFirst-length : (a : A) (l : List A) → length (insertBeforeFirst test a l) ≡ suc (length l)
@@ -46,6 +28,24 @@ module _ {A : Type 0} (test : A → Bool) where
   unfolding removeFirst
   removeFirst-length [] h = cc
   removeFirst-length (x ∷ l) h = test-cases (test x) (λ f. rw f) (λ f. rw f (ap suc (removeFirst-length l (rw f at h))))
+
+  -- ---- properties of all elements
+
+  pub insertBeforeFirst-all : (P : A → Type 0) (a : A) (l : List A) → P a → All P l → All P (insertBeforeFirst test a l)
+  unfolding insertBeforeFirst
+  insertBeforeFirst-all P a [] p h = (p, tt)
+  insertBeforeFirst-all P a (x ∷ l) p h = test-cases (test x) (λ f. rw f (p, h)) (λ f. rw f (h .0, insertBeforeFirst-all P a l p (h .1)))
+
+  -- the new element has what the one that it replaces gives it
+  pub replaceFirst-all : (P : A → Type 0) (a : A) (l : List A) → ((y : A) → test y ≡ true → P y → P a) → All P l → All P (replaceFirst test a l)
+  unfolding replaceFirst
+  replaceFirst-all P a [] p h = tt
+  replaceFirst-all P a (x ∷ l) p h = test-cases (test x) (λ f. rw f (p x f (h .0), h .1)) (λ f. rw f (h .0, replaceFirst-all P a l p (h .1)))
+
+  pub removeFirst-all : (P : A → Type 0) (l : List A) → All P l → All P (removeFirst test l)
+  unfolding removeFirst
+  removeFirst-all P [] h = tt
+  removeFirst-all P (x ∷ l) h = test-cases (test x) (λ f. rw f (h .1)) (λ f. rw f (h .0, removeFirst-all P l (h .1)))
 
   -- ---- what is found
 

@@ -4,8 +4,13 @@ pub mod Projection
 pub mod Entries
 pub mod Lookups
 pub mod Apply
+pub mod ApplyExamples
+pub mod ApplyLaws
 pub mod Valid
 pub mod EntriesLaws
-pub mod ApplyLaws
 pub mod OperationLaws
 pub mod ValidLaws
+pub mod Effects
+pub mod CollectionLaws
+pub mod Determined
+pub mod EffectsLaws

@@ -1,18 +1,16 @@
 -- What is known of an operation that applied: its tests held, and the projection afterwards.
 use Prim.Native.Nat.{ℕ, _≤_}
-use mathlib.Core.Path.{_≡_, refl, sym, ap, _∙_}
-use mathlib.Core.Bool.{Bool, true, false, not}
-use mathlib.Core.List.{List, [], _∷_}
+use mathlib.Core.Path.{_≡_, refl}
+use mathlib.Core.Bool.{Bool, true, false}
 use mathlib.Core.Option.{Option, none, some}
 use borrow.Author.Tests.{leb-true, not-false}
-use lib.Dec.{leb}
 use lib.ListN.{length}
 use Rattle.spec_lists.specs.Lists.{if_then_else_}
 use Rattle.spec_lists.specs.Order.{upsert}
 use Rattle.spec_patch.specs.Sizes.{projectionBindings, projectionAvailabilities, projectionEntries}
 use Rattle.spec_projection.specs.Projection.{Binding, NodeAvailability, Entry, Projection, bindingKey, availabilityKey}
 use Rattle.spec_projection.specs.Entries.{contains, containsNeighbour, insertEntry, replaceEntry, removeEntry}
-use Rattle.spec_projection.specs.Apply.{OperationFault, keyRule, projectionFull, Outcome, done, stopped, withBindings, withAvailabilities, withEntries, applyBinding, applyAvailability, applyInsert, applyUpdate, applyRemove, applyMove}
+use Rattle.spec_projection.specs.Apply.{OperationFault, Outcome, done, stopped, withBindings, withAvailabilities, withEntries, applyBinding, applyAvailability, applyInsert, applyUpdate, applyRemove, applyMove}
 use Rattle.spec_projection.specs.ApplyLaws.{stopped-not-done}
 
 -- a test that must hold did
@@ -29,14 +27,14 @@ pub applied-binding : (p : Projection) (b : Binding) (q : Projection) → applyB
     → (length (upsert bindingKey b (p .bindings)) ≤ projectionBindings) × (q ≡ withBindings p (upsert bindingKey b (p .bindings)))
 unfolding applyBinding
 applied-binding p b q e =
-    let h = held (leb (length (upsert bindingKey b (p .bindings))) projectionBindings) _ projectionFull q e in
+    let h = held _ _ _ q e in
     (leb-true (length (upsert bindingKey b (p .bindings))) projectionBindings (h .0), h .1)
 
 pub applied-availability : (p : Projection) (a : NodeAvailability) (q : Projection) → applyAvailability p a ≡ done q
     → (length (upsert availabilityKey a (p .availabilities)) ≤ projectionAvailabilities) × (q ≡ withAvailabilities p (upsert availabilityKey a (p .availabilities)))
 unfolding applyAvailability
 applied-availability p a q e =
-    let h = held (leb (length (upsert availabilityKey a (p .availabilities))) projectionAvailabilities) _ projectionFull q e in
+    let h = held _ _ _ q e in
     (leb-true (length (upsert availabilityKey a (p .availabilities))) projectionAvailabilities (h .0), h .1)
 
 pub record AppliedInsert (p : Projection) (before : Option ℕ) (e : Entry) (q : Projection) : Type 0 where
@@ -48,21 +46,20 @@ pub record AppliedInsert (p : Projection) (before : Option ℕ) (e : Entry) (q :
 pub applied-insert : (p : Projection) (before : Option ℕ) (e : Entry) (q : Projection) → applyInsert p before e ≡ done q → AppliedInsert p before e q
 unfolding applyInsert
 applied-insert p before e q h =
-    let es = insertEntry before e (p .entries) in
-    let h₁ = not-held (contains (e .collection) (e .key) (p .entries)) _ keyRule q h in
-    let h₂ = not-held (not (containsNeighbour (e .collection) before (p .entries))) _ keyRule q (h₁ .1) in
-    let h₃ = held (leb (length es) projectionEntries) _ projectionFull q (h₂ .1) in
-    record { absent = h₁ .0; neighbour = not-false _ (h₂ .0); room = leb-true (length es) projectionEntries (h₃ .0); result = h₃ .1 }
+    let h₁ = not-held _ _ _ q h in
+    let h₂ = not-held _ _ _ q (h₁ .1) in
+    let h₃ = held _ _ _ q (h₂ .1) in
+    record { absent = h₁ .0; neighbour = not-false _ (h₂ .0); room = leb-true (length (insertEntry before e (p .entries))) projectionEntries (h₃ .0); result = h₃ .1 }
 
 pub applied-update : (p : Projection) (e : Entry) (q : Projection) → applyUpdate p e ≡ done q
     → (contains (e .collection) (e .key) (p .entries) ≡ true) × (q ≡ withEntries p (replaceEntry e (p .entries)))
 unfolding applyUpdate
-applied-update p e q h = held (contains (e .collection) (e .key) (p .entries)) _ keyRule q h
+applied-update p e q h = held _ _ _ q h
 
 pub applied-remove : (p : Projection) (c k : ℕ) (q : Projection) → applyRemove p c k ≡ done q
     → (contains c k (p .entries) ≡ true) × (q ≡ withEntries p (removeEntry c k (p .entries)))
 unfolding applyRemove
-applied-remove p c k q h = held (contains c k (p .entries)) _ keyRule q h
+applied-remove p c k q h = held _ _ _ q h
 
 pub record AppliedMove (p : Projection) (before : Option ℕ) (found : Option Entry) (q : Projection) : Type 0 where
   pub entry : Entry
@@ -74,5 +71,5 @@ pub applied-move : (p : Projection) (before : Option ℕ) (found : Option Entry)
 unfolding applyMove
 applied-move p before none q h = absurd (stopped-not-done h)
 applied-move p before (some e) q h =
-    let tested = held (containsNeighbour (e .collection) before (removeEntry (e .collection) (e .key) (p .entries))) _ keyRule q h in
+    let tested = held _ _ _ q h in
     record { entry = e; found-entry = refl; neighbour = tested .0; result = tested .1 }

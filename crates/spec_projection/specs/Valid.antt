@@ -1,5 +1,5 @@
 -- The invariant of a projection: stored order, capacities, and values that can be stored. 01, 'Projection' and 'Sizes'.
-use Prim.Native.Nat.{ℕ, _≤_}
+use Prim.Native.Nat.{_≤_}
 use mathlib.Core.Path.{_≡_}
 use mathlib.Core.Bool.{false}
 use mathlib.Core.List.{List, [], _∷_}

@@ -6,11 +6,12 @@ use lib.Dec.{leb, ltb, eqb}
 use lib.ListN.{length}
 use Rattle.spec_lists.specs.Lists.{if_then_else_, any, isEmpty}
 use Rattle.spec_patch.specs.Sizes.{largestU64}
-use Rattle.spec_patch.specs.Patch.{Operation, setBinding, setAvailability, insert, update, remove, move, Patch}
+use Rattle.spec_patch.specs.Patch.{Operation, Patch}
 use Rattle.spec_patch.specs.Edition.{v1}
 use Rattle.spec_patch.specs.Read.{SetReading, patches, fault, readSet}
 use Rattle.spec_checks.specs.Findings.{findings}
 use Rattle.spec_projection.specs.Projection.{Projection}
+use Rattle.spec_projection.specs.Effects.{Target, bindingTarget, nodeTarget, collectionTarget, targetOf}
 use Rattle.spec_projection.specs.Apply.{Outcome, done, stopped, applySteps, replaySteps, operationsOf}
 use Rattle.spec_session.specs.Session.{Cursor, uninitialized, at, Limits, BindingPair, Catalogue, Session}
 use Rattle.spec_session.specs.Diagnostics.{SessionRefusal, sessionMismatch, sessionClosed, limitExceeded, countsDiffer, unknownTarget, cursorMismatch, checksFailed, ofReading, ofOperation, Diagnostics, noDiagnostics, diagnosticsOf}
@@ -60,19 +61,16 @@ unfoldable pub readable : SetReading → Check (List Patch)
 readable (patches ps) = pass ps
 readable (fault f) = refuse (ofReading f) 1
 
--- the operation's target is in the catalogue: a binding (node, slot), a node or a collection
-unfoldable pub inCatalogue : Catalogue → Operation → Bool
-inCatalogue c (setBinding node slot v) = any (λ (b : BindingPair). eqb (b .node) node && eqb (b .slot) slot) (c .bindings)
-inCatalogue c (setAvailability node a) = any (eqb node) (c .nodes)
-inCatalogue c (insert collection key before v) = any (eqb collection) (c .collections)
-inCatalogue c (update collection key v) = any (eqb collection) (c .collections)
-inCatalogue c (remove collection key) = any (eqb collection) (c .collections)
-inCatalogue c (move collection key before) = any (eqb collection) (c .collections)
+-- the manifest has one target for each operation; a target is in the catalogue as a binding (node, slot), a node or a collection
+unfoldable pub inCatalogue : Catalogue → Target → Bool
+inCatalogue c (bindingTarget node slot) = any (λ (b : BindingPair). eqb (b .node) node && eqb (b .slot) slot) (c .bindings)
+inCatalogue c (nodeTarget node) = any (eqb node) (c .nodes)
+inCatalogue c (collectionTarget collection) = any (eqb collection) (c .collections)
 
 -- how many operations have an absent target, repeats included
 unfoldable pub absentTargets : Catalogue → List Operation → ℕ
 absentTargets c [] = 0
-absentTargets c (o ∷ os) = (if inCatalogue c o then 0 else 1) + absentTargets c os
+absentTargets c (o ∷ os) = (if inCatalogue c (targetOf o) then 0 else 1) + absentTargets c os
 
 -- step 7: every target is known, else 6 with one diagnostic for each that is absent
 unfoldable pub knownTargets : ℕ → Check (Unit {0})

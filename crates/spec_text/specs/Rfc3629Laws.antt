@@ -1,6 +1,6 @@
 -- RFC 3629 defines UTF-8 twice, and both say the same: the syntax of section 4 takes exactly the encodings of scalar values by section 3,
 -- and counts as many characters as there are scalar values.
-use Prim.Native.Nat.{ℕ, suc, _+_}
+use Prim.Native.Nat.{ℕ, suc}
 use mathlib.Core.Path.{_≡_, refl, sym, ap, _∙_}
 use mathlib.Core.Logic.{_↔_}
 use mathlib.Core.Bool.{true}

@@ -48,11 +48,11 @@ utf8-matches (r ∷ rs) [] rest m = absurd m
 utf8-matches (r ∷ rs) (x ∷ xs) rest m =
     ap (λ (a : After). isUtf8After a (xs ++ rest)) (advance-in r rs x (m .0) (m .1)) ∙ utf8-matches rs xs rest (m .2)
 
--- what an octet before counts, and what is counted after it
+-- the count from an octet on that leads to `a`: one if it ends a character, and what follows
 abbrev countedFrom : After → List ℕ → ℕ
 countedFrom a bs = (if whole a then 1 else 0) + charactersAfter a bs
 
--- Their character counts as one where it ends.
+-- The character that they end counts as one.
 count-matches : (rs : List Range) (xs rest : List ℕ) → Matches rs xs → countedFrom (expects rs) (xs ++ rest) ≡ countedFrom (expects []) rest
 count-matches [] [] rest m = refl
 count-matches [] (x ∷ xs) rest m = absurd m

@@ -18,7 +18,7 @@ pub inside-true : (r : Range) (b : ℕ) → inside r b ≡ true → (r .low ≤ 
 inside-true r b e =
     (leb-true (r .low) b (and-left (leb (r .low) b) (leb b (r .high)) e), leb-true b (r .high) (and-right (leb (r .low) b) (leb b (r .high)) e))
 
--- what is refused stays refused
+-- no octets make good what is refused
 pub refused-stays : (text : List ℕ) → isUtf8After refused text ≡ false
 refused-stays [] = refl
 refused-stays (b ∷ bs) = refused-stays bs

@@ -11,7 +11,6 @@ use lib.ListN.{length, take, drop, length-append}
 use lib.Seq.{length-paste, take-length, take-at, drop-at, drop-drop, length-take-le}
 use mir.Syntax.{w64}
 use mir.Val.{SFits, ofZ}
-use Rattle.spec_lists.specs.Lists.{if_then_else_}
 use Rattle.spec_lists.specs.Bytes.{Bytes, littleEndian}
 use Rattle.spec_lists.specs.BytesLaws.{bytes-take, bytes-drop, bytes-append, length-littleEndian}
 use Rattle.wire.specs.Read.{firstNumber, firstSigned}

@@ -1,7 +1,7 @@
 // Little-endian numbers in lent slices. Every position may be asked for: where a number does not fit, reading answers Short, and writing
 // answers false and changes nothing.
 ghost use mathlib.Core.Path.{_≡_};
-ghost use Prim.Native.Nat.{_+_, _-_, _≤_};
+ghost use Prim.Native.Nat.{_+_, _-_, _≤_, _<_};
 ghost use lib.Dec.{leb};
 ghost use lib.ListN.{length, take, drop};
 ghost use mir.Syntax.{w64};
@@ -49,7 +49,7 @@ fn has_room(len: usize, at: usize, n: usize) -> bool
 }
 
 fn wide(x: u8) -> u64
-    ensures { λ r. ⌜ r ≡ x ⌝ }
+    ensures { λ r. ⌜ (r ≡ x) × (r < 256) ⌝ }
 {
     x as u64
 }
@@ -60,10 +60,10 @@ fn number_at(part: &[u8], at: usize, n: usize) -> u64
     ensures { λ r. ⌜ r ≡ numberOf (take n (drop at (now (part .entry)))) ⌝ }
 {
     let mut x: u64 = 0;
-    let mut i = n;
-    while 0 < i {
-        i -= 1;
-        x = x * 256 + wide(part[at + i]);
+    let mut i = 0;
+    while i < n {
+        i += 1;
+        x = x * 256 + wide(part[at + (n - i)]);
     }
     x
 }

@@ -20,6 +20,7 @@ use Rattle.spec_projection.specs.Projection
 use Rattle.spec_projection.specs.Entries
 use Rattle.spec_projection.specs.Lookups
 use Rattle.spec_projection.specs.Apply
+use Rattle.spec_projection.specs.Effects
 use Rattle.spec_session.specs.Session
 use Rattle.spec_session.specs.Diagnostics
 use Rattle.spec_session.specs.Lifecycle
@@ -98,6 +99,9 @@ unfolding
     Rattle.spec_checks.specs.PatchChecks.envelopeFindings
     Rattle.spec_checks.specs.PatchChecks.rawPatchFindings
     Rattle.spec_checks.specs.PatchChecks.patchFindings
+    Rattle.spec_checks.specs.SetChecks.isLastSequence
+    Rattle.spec_checks.specs.SetChecks.isSameSequence
+    Rattle.spec_checks.specs.SetChecks.isNextSequence
     Rattle.spec_checks.specs.SetChecks.sequenceFindings
     Rattle.spec_checks.specs.SetChecks.pairFindings
     Rattle.spec_checks.specs.SetChecks.duplicateIdFindings
@@ -150,6 +154,11 @@ unfolding
     Rattle.spec_projection.specs.Apply.operationsOf
     Rattle.spec_projection.specs.Apply.applyStep
     Rattle.spec_projection.specs.Apply.applySteps
+    Rattle.spec_projection.specs.Effects.targetOf
+    Rattle.spec_projection.specs.Effects.hasKey
+    Rattle.spec_projection.specs.Effects.insertKeyed
+    Rattle.spec_projection.specs.Effects.moveKeyed
+    Rattle.spec_projection.specs.Effects.collectionAfter
     Rattle.spec_session.specs.Session.newSession
     Rattle.spec_session.specs.Session.creationNumber
     Rattle.spec_session.specs.Session.anchorsFit

@@ -1,4 +1,4 @@
--- `wire::number_at` meets its contract. The invariant: x is the number of the bytes from i up to n. The measure is i.
+-- `wire::number_at` meets its contract. The invariant: x is the number of the last i of the n bytes. The measure is what is left of n.
 use Prim.Native.Nat.{ℕ, suc, _+_, _-_, _*_, _^_, _≤_, _<_}
 use mathlib.Core.Path.{_≡_, sym, ap, _∙_}
 use mathlib.Core.List.{List}
@@ -12,24 +12,24 @@ use Rattle.wire.proofs.number_at.Statement.{statement}
 use Rattle.wire.proofs.number_at.Tie as tie
 
 abbrev Inv-loop : tie.InvT-loop
-Inv-loop part at n x₀ i₀ x i = (i ≤ n) × (x ≡ numberOf (drop i (take n (drop at part))))
+Inv-loop part at n x₀ i₀ x i = (i ≤ n) × (x ≡ numberOf (drop (n - i) (take n (drop at part))))
 
 abbrev μ-loop : tie.MeasureT-loop
-μ-loop part at n x₀ i₀ x i = i
+μ-loop part at n x₀ i₀ x i = n - i
 
-module _ (l : List ℕ) (n i : ℕ) (more : 0 < i) (within : i ≤ n) (long : n ≤ length l) where
+module _ (l : List ℕ) (n i : ℕ) (more : i < n) (long : n ≤ length l) where
   -- one byte more in front
-  step : numberOf (drop (i - 1) (take n l)) ≡ numberOf (drop i (take n l)) * 256 + getD l (i - 1) 0
+  step : numberOf (drop (n - (i + 1)) (take n l)) ≡ numberOf (drop (n - i) (take n l)) * 256 + getD l (n - (i + 1)) 0
   unfolding numberOf
   step =
-      let next : suc (i - 1) ≡ i = omega arith in
-      ap numberOf (slice-cons (i - 1) n l 0 (omega arith) long)
+      let next : suc (n - (i + 1)) ≡ n - i = omega arith in
+      ap numberOf (slice-cons (n - (i + 1)) n l 0 (omega arith) long)
       ∙ omega (arith, ap (λ (j : ℕ). numberOf (drop j (take n l))) next)
 
-  -- at most seven bytes are read before the last one
-  small : Bytes l → n ≤ 8 → numberOf (drop i (take n l)) < 256 ^ 7
+  -- at most seven bytes are read before the first one
+  small : Bytes l → n ≤ 8 → numberOf (drop (n - i) (take n l)) < 256 ^ 7
   small b e =
-      numberOf-lt 7 (drop i (take n l)) (bytes-drop i (take n l) (bytes-take n l b)) (omega (arith, length-slice i n l long))
+      numberOf-lt 7 (drop (n - i) (take n l)) (bytes-drop (n - i) (take n l) (bytes-take n l b)) (omega (arith, length-slice (n - i) n l long))
 
 abbrev tail : tie.In-loop Inv-loop μ-loop → List ℕ
 tail c = let args = c .before .before .before .args in drop (args .at) (args .part .now)
@@ -42,19 +42,24 @@ under c =
     let known = c .before .before in
     let args = known .before .args in
     let all : Bytes (args .part .now) = bytes-of (args .part .now) (λ j. known .shared-slice-known .given j .fits) in
-    omega (arith, small (tail c) (args .n) (c .before .loop .i) (omega arith) (omega arith) (long c) (bytes-drop (args .at) (args .part .now) all) (omega arith))
+    omega (arith, small (tail c) (args .n) (c .before .loop .i) (omega arith) (long c) (bytes-drop (args .at) (args .part .now) all) (omega arith))
 
 loop-holds : tie.Need-loop-holds Inv-loop μ-loop
 unfolding numberOf
 loop-holds c =
     let args = c .before .args in
-    (omega arith, sym (ap numberOf (slice-empty (args .n) (drop (args .at) (args .part .now)))))
+    let l = drop (args .at) (args .part .now) in
+    let none : args .n ≡ args .n - 0 = omega arith in
+    (omega arith, sym (ap numberOf (slice-empty (args .n) l)) ∙ ap (λ (j : ℕ). numberOf (drop j (take (args .n) l))) none)
 
-sub-i : tie.Need-sub-i Inv-loop μ-loop
-sub-i c = search needs
+add-i : tie.Need-add-i Inv-loop μ-loop
+add-i c = search needs
 
 mul-x : tie.Need-mul-x Inv-loop μ-loop
 mul-x c = omega (arith, under c)
+
+sub-wide : tie.Need-sub-wide Inv-loop μ-loop
+sub-wide c = search needs
 
 add-wide : tie.Need-add-wide Inv-loop μ-loop
 add-wide c = search needs
@@ -66,10 +71,7 @@ wide-requires : tie.Need-wide-requires Inv-loop μ-loop
 wide-requires c κs = search needs
 
 add-x : tie.Need-add-x Inv-loop μ-loop
-add-x c =
-    let turn = c .before .before in
-    let at = turn .before .before .before .args .at in
-    omega (arith, under turn, c .before .shared-slice-known2 .given (at + (turn .before .loop .i - 1)))
+add-x c = omega (arith, under (c .before .before))
 
 loop-less : tie.Need-loop-less Inv-loop μ-loop
 loop-less c = search needs
@@ -80,17 +82,17 @@ loop-again c =
     let args = turn .before .before .before .args in
     let i = turn .before .loop .i in (
       omega arith,
-      omega (arith, step (tail turn) (args .n) i (omega arith) (omega arith) (long turn), getD-drop (args .at) (args .part .now) (i - 1) 0),
+      omega (arith, step (tail turn) (args .n) i (omega arith) (long turn), getD-drop (args .at) (args .part .now) (args .n - (i + 1)) 0),
     )
 
 returns : tie.Need-returns Inv-loop μ-loop
 returns c =
     let at-loop = c .before in
     let args = at-loop .before .before .args in
-    let none : at-loop .loop .i ≡ 0 = omega arith in
+    let none : args .n - at-loop .loop .i ≡ 0 = omega arith in
     at-loop .loop .inv .1 ∙ ap (λ (j : ℕ). numberOf (drop j (take (args .n) (drop (args .at) (args .part .now))))) none
 
 pub number-at-spec : {M : Type 1} → statement M
 number-at-spec =
     tie.close
-    (tie.spec Inv-loop μ-loop loop-holds sub-i mul-x add-wide shared-slice-read-wide wide-requires add-x loop-less loop-again returns)
+    (tie.spec Inv-loop μ-loop loop-holds add-i mul-x sub-wide add-wide shared-slice-read-wide wide-requires add-x loop-less loop-again returns)

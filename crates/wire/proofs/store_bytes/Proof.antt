@@ -1,5 +1,5 @@
 -- `wire::store_bytes` meets its contract. The invariant: the first i bytes are in place. The measure is what is left of them.
-use Prim.Native.Nat.{ℕ, _+_, _-_, _≤_}
+use Prim.Native.Nat.{_+_, _-_, _≤_}
 use mathlib.Core.Path.{_≡_, refl, _∙_}
 use native.Mathlib.Omega.{arith}
 use borrow.Author.Needs.{needs}

@@ -1,0 +1,3 @@
+pub mod Offsets
+pub mod Changes
+pub mod Searches

@@ -1,0 +1,139 @@
+-- What a search over the rows of a table has found at each turn, by the lent part that is the row.
+use mathlib.Core.Path.{_≡_, refl, sym, ap, _∙_}
+use mathlib.Core.Bool.{Bool, true, false}
+use mathlib.Core.List.{List, [], _∷_}
+use Prim.Native.Nat.{ℕ, zero, suc, _+_, _-_, _*_, _≤_, _<_}
+use native.Mathlib.Nat.{add-zero, zero-add}
+use native.Mathlib.Omega.{arith}
+use lib.ListN.{length, take, drop, getD, drop-of-length-le}
+use lib.Seq.{take-take}
+use borrow.Rule.Slice.PartMut.{midOf}
+use Rattle.spec_lists.specs.Lists.{if_then_else_, All}
+use Rattle.spec_lists.specs.Order.{lexLess}
+use Rattle.record_table.specs.Positions.{firstIndex}
+use Rattle.record_table.specs.PositionsLaws.{Passed, passed-more, passed-first, passed-all}
+use Rattle.record_table.specs.Table.{Wide, Holds}
+use Rattle.record_table.specs.TableLaws.{row-at, row-cons}
+use Rattle.record_keys.specs.Keys.{startsWith, orderOf}
+use Rattle.record_keys.specs.KeysLaws.{starts-long}
+use Rattle.record_table.specs.Search.{nextPlace, placeOf}
+use Rattle.record_table.specs.declared.Place.{Place}
+use Rattle.record_table.specs.declared.Place.the-variants.{Taken, Before}
+use Rattle.record_keys.specs.declared.Order.{Order}
+use Rattle.record_keys.specs.declared.Order.the-variants.{Below, Same, Above}
+use Rattle.record_table.proofs.Changes.{row-is}
+
+-- no row begins with a key that is longer than it
+pub long-key : (w : ℕ) (key : List ℕ) (m : List (List ℕ)) → w < length key → All (Wide w) m → firstIndex (startsWith key) m ≡ length m
+unfolding firstIndex
+long-key w key [] h k = refl
+long-key w key (r ∷ m) h k = rw (starts-long key r (omega (arith, k .0)), long-key w key m h (k .1))
+
+-- ---- the first row that passes a test
+
+module _ {w n : ℕ} {l : List ℕ} (m : List (List ℕ)) (t : Holds w n l m) (test : List ℕ → Bool) (i : ℕ) (passed : Passed test i m) where
+  module _ (below : i < n) where
+    more : i < length m
+    more = omega (arith, t .counted)
+
+    pub search-more : test (getD m i []) ≡ false → Passed test (i + 1) m
+    search-more e = passed-more test m i [] more passed e
+
+    pub search-first : test (getD m i []) ≡ true → firstIndex test m ≡ i
+    search-first e = passed-first test m i [] more passed e
+
+  pub search-all : n ≤ i → i ≤ n → firstIndex test m ≡ length m
+  search-all past within = passed-all test m i (omega (arith, t .counted)) (omega (arith, t .counted)) passed
+
+-- the lent part that is the row's first eight bytes
+pub head-is : {w n : ℕ} {l : List ℕ} (m : List (List ℕ)) (t : Holds w n l m) (i : ℕ) → i < n → 8 ≤ w
+    → midOf (i * w) (i * w + 8 - i * w) l ≡ take 8 (getD m i [])
+head-is {w} {n} {l} m t i below wide =
+    let k : i * w + 8 - i * w ≡ 8 = omega arith in
+    rw (k, ← row-at t i below, take-take)
+
+-- ---- the place of a key
+
+-- the same place with i elements in front
+abbrev later : ℕ → Place → Place
+later i (Taken j) = Taken (i + j)
+later i (Before j) = Before (i + j)
+
+later-none : (p : Place) → p ≡ later 0 p
+later-none (Taken j) = rw zero-add
+later-none (Before j) = rw zero-add
+
+later-next : (i : ℕ) (p : Place) → later i (nextPlace p) ≡ later (i + 1) p
+unfolding nextPlace
+later-next i (Taken j) = ap Taken (omega arith)
+later-next i (Before j) = ap Before (omega arith)
+
+-- which test decided how a key stands to another
+module _ (a b : List ℕ) where
+  below-tests : orderOf a b ≡ Below → (lexLess b a ≡ false) × (lexLess a b ≡ true)
+  unfolding orderOf
+  below-tests e = go (lexLess b a) (lexLess a b) e
+    where
+      go : (s t : Bool) → (if s then Above else if t then Below else Same) ≡ Below → (s ≡ false) × (t ≡ true)
+      go true t e = let z : _≡_ {A = ℕ} 0 1 = cc in absurd (omega arith)
+      go false true e = (refl, refl)
+      go false false e = let z : _≡_ {A = ℕ} 0 1 = cc in absurd (omega arith)
+
+  same-tests : orderOf a b ≡ Same → (lexLess b a ≡ false) × (lexLess a b ≡ false)
+  unfolding orderOf
+  same-tests e = go (lexLess b a) (lexLess a b) e
+    where
+      go : (s t : Bool) → (if s then Above else if t then Below else Same) ≡ Same → (s ≡ false) × (t ≡ false)
+      go true t e = let z : _≡_ {A = ℕ} 0 1 = cc in absurd (omega arith)
+      go false true e = let z : _≡_ {A = ℕ} 0 1 = cc in absurd (omega arith)
+      go false false e = (refl, refl)
+
+  above-tests : orderOf a b ≡ Above → lexLess b a ≡ true
+  unfolding orderOf
+  above-tests e = go (lexLess b a) (lexLess a b) e
+    where
+      go : (s t : Bool) → (if s then Above else if t then Below else Same) ≡ Above → s ≡ true
+      go true t e = refl
+      go false true e = let z : _≡_ {A = ℕ} 0 1 = cc in absurd (omega arith)
+      go false false e = let z : _≡_ {A = ℕ} 0 1 = cc in absurd (omega arith)
+
+module _ (key : List ℕ → List ℕ) (k : List ℕ) where
+  -- every row before position i is below the key
+  pub Placed : ℕ → List (List ℕ) → Type 0
+  Placed i m = placeOf key k m ≡ later i (placeOf key k (drop i m))
+
+  pub placed-none : (m : List (List ℕ)) → Placed 0 m
+  unfolding Placed
+  placed-none m = later-none (placeOf key k m)
+
+  module _ {w n : ℕ} {l : List ℕ} (m : List (List ℕ)) (t : Holds w n l m) (i : ℕ) (placed : Placed i m) where
+    -- the place from position i on, by the row there
+    module _ (below : i < n) where
+      here : placeOf key k (drop i m) ≡ placeOf key k (getD m i [] ∷ drop (i + 1) m)
+      here = ap (placeOf key k) (row-cons t i below)
+
+      pub placed-more : orderOf (key (getD m i [])) k ≡ Below → Placed (i + 1) m
+      unfolding placeOf Placed
+      placed-more e =
+          let tests = below-tests (key (getD m i [])) k e in
+          let on : placeOf key k (drop i m) ≡ nextPlace (placeOf key k (drop (i + 1) m)) = here ∙ rw (tests .0, tests .1) in
+          placed ∙ ap (later i) on ∙ later-next i (placeOf key k (drop (i + 1) m))
+
+      pub placed-taken : orderOf (key (getD m i [])) k ≡ Same → placeOf key k m ≡ Taken i
+      unfolding placeOf Placed
+      placed-taken e =
+          let tests = same-tests (key (getD m i [])) k e in
+          let on : placeOf key k (drop i m) ≡ Taken 0 = here ∙ rw (tests .0, tests .1) in
+          placed ∙ ap (later i) on ∙ ap Taken (add-zero i)
+
+      pub placed-before : orderOf (key (getD m i [])) k ≡ Above → placeOf key k m ≡ Before i
+      unfolding placeOf Placed
+      placed-before e =
+          let on : placeOf key k (drop i m) ≡ Before 0 = here ∙ rw (above-tests (key (getD m i [])) k e) in
+          placed ∙ ap (later i) on ∙ ap Before (add-zero i)
+
+    pub placed-all : n ≤ i → i ≤ n → placeOf key k m ≡ Before n
+    unfolding placeOf Placed
+    placed-all past within =
+        let gone : length m ≤ i = omega (arith, t .counted) in
+        placed ∙ ap (λ (rest : List (List ℕ)). later i (placeOf key k rest)) (drop-of-length-le m gone) ∙ ap Before (omega arith)
