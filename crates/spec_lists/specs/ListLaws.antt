@@ -169,3 +169,15 @@ pub all-drop : {A : Type 0} (P : A → Type 0) (n : ℕ) (l : List A) → All P 
 all-drop P zero l h = h
 all-drop P (suc n) [] h = tt
 all-drop P (suc n) (x ∷ l) h = all-drop P n l (h .1)
+
+-- a test of some element is one of the reversed list
+pub any-reverse : {A : Type 0} (test : A → Bool) (l : List A) → any test (reverse l) ≡ any test l
+any-reverse test l =
+    alike (any test (reverse l)) (any test l)
+    (λ e. let w = any-member test (reverse l) e in member-any test l (reverse-member l (w .1)) (w .2))
+    (λ e. let w = any-member test l e in member-any test (reverse l) (member-reverse l (w .1)) (w .2))
+  where
+    alike : (a b : Bool) → (a ≡ true → b ≡ true) → (b ≡ true → a ≡ true) → a ≡ b
+    alike true b f g = sym (f refl)
+    alike false true f g = g refl
+    alike false false f g = refl

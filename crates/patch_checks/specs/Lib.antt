@@ -1,0 +1,3 @@
+pub mod Targets
+pub mod Threes
+pub mod TargetsLaws

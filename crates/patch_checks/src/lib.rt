@@ -1,0 +1,2 @@
+// The checks of patches and of sets, after `validate_patch` and `validate_patch_set` of crates/prom-ui/src/projection_patch.rs.
+pub mod targets;
