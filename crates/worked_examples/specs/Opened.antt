@@ -3,6 +3,7 @@ use mathlib.Core.List
 use Rattle.spec_lists.specs.Order
 use Rattle.spec_lists.specs.Bytes
 use Rattle.spec_text.specs.Scalars
+use Rattle.spec_decimal.specs.Decimal
 use Rattle.spec_patch.specs.Edition
 use Rattle.spec_patch.specs.Encode
 use Rattle.spec_patch.specs.Fits
@@ -25,7 +26,6 @@ use Rattle.spec_session.specs.Session
 use Rattle.spec_session.specs.Diagnostics
 use Rattle.spec_session.specs.Lifecycle
 use Rattle.spec_session.specs.Batch
-use Rattle.spec_decimal.specs.Decimal
 use Rattle.spec_listing.specs.Listing
 
 unfoldable pub opened : Unit {0}
@@ -39,6 +39,15 @@ unfolding
     Rattle.spec_lists.specs.Bytes.numberOf
     Rattle.spec_text.specs.Scalars.encodeScalar
     Rattle.spec_text.specs.Scalars.encode
+    Rattle.spec_decimal.specs.Decimal.digits
+    Rattle.spec_decimal.specs.Decimal.decimal
+    Rattle.spec_decimal.specs.Decimal.signedDecimal
+    Rattle.spec_decimal.specs.Decimal.isNumeral
+    Rattle.spec_decimal.specs.Decimal.numberWith
+    Rattle.spec_decimal.specs.Decimal.readDecimal
+    Rattle.spec_decimal.specs.Decimal.positive
+    Rattle.spec_decimal.specs.Decimal.negative
+    Rattle.spec_decimal.specs.Decimal.readSignedDecimal
     Rattle.spec_patch.specs.Edition.v1
     Rattle.spec_patch.specs.Edition.hasKind
     Rattle.spec_patch.specs.Encode.encodeOptional
@@ -194,9 +203,6 @@ unfolding
     Rattle.spec_session.specs.Batch.commit
     Rattle.spec_session.specs.Batch.concludeBatch
     Rattle.spec_session.specs.Batch.batch
-    Rattle.spec_decimal.specs.Decimal.digits
-    Rattle.spec_decimal.specs.Decimal.decimal
-    Rattle.spec_decimal.specs.Decimal.signedDecimal
     Rattle.spec_listing.specs.Listing.fields
     Rattle.spec_listing.specs.Listing.valueFields
     Rattle.spec_listing.specs.Listing.bindingLine
