@@ -1,6 +1,6 @@
 // Patches and their canonical bytes. After crates/prom-ui/src/projection_patch.rs.
-pub mod contract_primitives;
 pub mod binding_graph;
+pub mod contract_primitives;
 pub mod patch;
-pub mod read_values;
 pub mod read_operations;
+pub mod read_values;
