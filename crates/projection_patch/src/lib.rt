@@ -2,5 +2,5 @@
 pub mod binding_graph;
 pub mod contract_primitives;
 pub mod patch;
-pub mod read_values;
 pub mod read_operations;
+pub mod read_values;

@@ -14,10 +14,10 @@ ghost use Rattle.projection_patch.specs.ReadAnswers.{faultOf, numbersAns
 use crate::patch::ProjectionNodeAvailability;
 use crate::patch::ProjectionPatchValue;
 use crate::patch::ProjectionQuadState;
+use utf8::Utf8Check;
 use wire::ReadI64;
 use wire::ReadU32;
 use wire::ReadU64;
-use utf8::Utf8Check;
 
 // Why bytes are not read.
 pub enum ProjectionPatchReadFault {
@@ -212,7 +212,10 @@ fn text_from(part: &[u8], start: usize, len: usize) -> ValueRead
     }
     let end = start + len;
     match utf8::check(&part[start..end]) {
-        Utf8Check::Valid { characters: _ } => ValueRead::Read(ProjectionPatchValue::Text { start, len }, end),
+        Utf8Check::Valid { characters: _ } => ValueRead::Read(
+            ProjectionPatchValue::Text { start, len },
+            end,
+        ),
         Utf8Check::Invalid => ValueRead::Refused(ProjectionPatchReadFault::Malformed),
     }
 }

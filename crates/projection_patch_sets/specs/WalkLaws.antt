@@ -70,12 +70,14 @@ module _ (set : List ℕ) (all : Bytes set) (ps : List Patch) (readable : readSe
       let count : n ≡ length ps = cc same in
       let end : length (encodeHeading (length ps)) ≡ at = cc same in
       let a = advance set 0 (omega arith) (encodeHeading (length ps)) (flatMap encodePatch ps) set-is at end in
-      let sum : 0 + at ≡ at = omega arith in
-      (count, record {
-        inside = omega (arith, a .inside);
-        fit = was-encoded v1 set ps all readable .1 .patches;
-        left = ap (λ (k : ℕ). drop k set) (sym sum) ∙ a .left;
-      })
+      let sum : 0 + at ≡ at = omega arith in (
+        count,
+        record {
+          inside = omega (arith, a .inside);
+          fit = was-encoded v1 set ps all readable .1 .patches;
+          left = ap (λ (k : ℕ). drop k set) (sym sum) ∙ a .left;
+        },
+      )
 
   pub walk-heading-reads : (f : ProjectionPatchReadFault) → r ≡ count-read.Refused f → ⊥
   walk-heading-reads f e = let z : _≡_ {A = ℕ} 0 1 = cc (sym e ∙ heading-is) in omega arith

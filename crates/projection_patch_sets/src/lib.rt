@@ -51,7 +51,10 @@ pub enum OperationsRead {
 }
 
 pub enum SetRead {
-    Read { patch_count: usize, operation_count: usize },
+    Read {
+        patch_count: usize,
+        operation_count: usize,
+    },
     Refused(ProjectionPatchReadFault),
 }
 
@@ -64,7 +67,16 @@ fn surface_of(number: OptionalNumber) -> OptionalSurfaceId
     }
 }
 
-fn envelope_of(patch: u64, stream: u64, document: u64, surface: OptionalNumber, previous: u64, revision: u64, epoch: u64, sequence: u64) -> ProjectionPatchEnvelope
+fn envelope_of(
+    patch: u64,
+    stream: u64,
+    document: u64,
+    surface: OptionalNumber,
+    previous: u64,
+    revision: u64,
+    epoch: u64,
+    sequence: u64,
+) -> ProjectionPatchEnvelope
     ensures { λ r. ⌜ r ≡ envelopeTo (toEnvelope (patch, (stream, (document, (optionalOf surface, (previous, (revision, (epoch, sequence)))))))) ⌝ }
 {
     ProjectionPatchEnvelope {
@@ -100,7 +112,16 @@ fn envelope(part: &[u8]) -> EnvelopeRead
     };
     let end = next + 16;
     EnvelopeRead::Read(
-        envelope_of(patch, stream, document, surface, previous, revision, epoch, sequence),
+        envelope_of(
+            patch,
+            stream,
+            document,
+            surface,
+            previous,
+            revision,
+            epoch,
+            sequence,
+        ),
         end,
     )
 }
@@ -110,7 +131,11 @@ pub fn read_patch_head(part: &[u8]) -> PatchHeadRead
     ensures { λ r. ⌜ r ≡ headAnswer (length (now (part .entry))) (readHead (now (part .entry))) ⌝ }
 {
     match envelope(part) {
-        EnvelopeRead::Read(envelope, at) => match read_values::count_at(part, at, ProjectionPatch::OPERATIONS) {
+        EnvelopeRead::Read(envelope, at) => match read_values::count_at(
+            part,
+            at,
+            ProjectionPatch::OPERATIONS,
+        ) {
             CountRead::Read(count, end) => PatchHeadRead::Read(
                 ProjectionPatch {
                     envelope,
@@ -174,7 +199,11 @@ fn patch_at(set: &[u8], at: usize) -> CountRead
     ensures { λ r. ⌜ r ≡ patchAnswer (length (now (set .entry))) (readPatch v1 (drop at (now (set .entry)))) ⌝ }
 {
     match read_patch_head(&set[at..]) {
-        PatchHeadRead::Read(head, taken) => match operations_from(set, at + taken, head.operation_count) {
+        PatchHeadRead::Read(head, taken) => match operations_from(
+            set,
+            at + taken,
+            head.operation_count,
+        ) {
             OperationsRead::At(end) => CountRead::Read(head.operation_count, end),
             OperationsRead::Refused(fault) => CountRead::Refused(fault),
         },

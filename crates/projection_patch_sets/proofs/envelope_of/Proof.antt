@@ -63,14 +63,16 @@ returns c =
     let c2 = c3 .before in
     let c1 = c2 .before in
     let a = c1 .before .args in
-    rw (patch-is (c1 .new .result) (a .patch) (c1 .new .ensures),
+    rw (
+      patch-is (c1 .new .result) (a .patch) (c1 .new .ensures),
       stream-is (c2 .new2 .result) (a .stream) (c2 .new2 .ensures),
       document-is (c3 .new3 .result) (a .document) (c3 .new3 .ensures),
       s .surface-of .ensures,
       revision-is (c4 .new4 .result) (a .previous) (c4 .new4 .ensures),
       revision-is (c5 .new5 .result) (a .revision) (c5 .new5 .ensures),
       epoch-is (c6 .new6 .result) (a .epoch) (c6 .new6 .ensures),
-      sequence-is (c .new7 .result) (a .sequence) (c .new7 .ensures))
+      sequence-is (c .new7 .result) (a .sequence) (c .new7 .ensures),
+    )
 
 pub envelope-of-spec : {M : Type 1} → statement M
 envelope-of-spec =
