@@ -1,11 +1,12 @@
 -- Findings as three numbers each of a list, in order and without repeats: 01, 'Patch checks'.
 use Prim.Native.Nat.{ℕ, _+_, _*_}
+use mathlib.Core.Path.{_≡_}
 use mathlib.Core.Bool.{Bool}
 use mathlib.Core.List.{List, [], _∷_, _++_}
 use lib.Dec.{leb}
 use lib.ListN.{length, take, drop}
 use Rattle.spec_lists.specs.Lists.{if_then_else_}
-use Rattle.spec_lists.specs.Order.{upsert}
+use Rattle.spec_lists.specs.Order.{upsert, sortUnique}
 use Rattle.spec_checks.specs.Finding as model
 use Rattle.spec_checks.specs.Answer.{recordLength, findingWords}
 use Rattle.patch_checks.specs.declared.finding_table.Finding.{Finding}
@@ -37,3 +38,8 @@ unfoldable pub insertedNumbers : model.Finding → ℕ → List ℕ → List ℕ
 insertedNumbers f count ns =
     let fs = insertedFindings f count ns in
     if hasRoom count ns then findingWords fs ++ drop (recordLength * length fs) ns else ns
+
+-- the table holds the findings so far, sorted and without repeats
+pub record Kept (raw : List model.Finding) (count : ℕ) (ns : List ℕ) : Type 0 where
+  pub counted : count ≡ length (sortUnique model.findingKey raw)
+  pub words : take (recordLength * count) ns ≡ findingWords (sortUnique model.findingKey raw)

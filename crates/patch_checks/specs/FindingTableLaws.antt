@@ -11,8 +11,8 @@ use borrow.Rule.Slice.PartMut.{midOf, putMid}
 use borrow.Author.Tests.{le-leb, lt-leb}
 use Rattle.spec_lists.specs.Lists.{if_then_else_}
 use Rattle.spec_lists.specs.ListLaws.{flatMap-append}
-use Rattle.spec_lists.specs.Order.{lexLess, upsert}
-use Rattle.spec_lists.specs.OrderLaws.{lexLess-total}
+use Rattle.spec_lists.specs.Order.{lexLess, upsert, sortUnique}
+use Rattle.spec_lists.specs.OrderLaws.{lexLess-total, sortUnique-length, sortUnique-snoc}
 use Rattle.byte_moves.specs.Moves.{pushFront}
 use Rattle.byte_moves.proofs.Parts.{lent}
 use Rattle.record_keys.specs.Keys.{orderOf}
@@ -27,7 +27,7 @@ use Rattle.spec_checks.specs.Finding.{Finding, findingKey}
 use Rattle.spec_checks.specs.Answer.{recordLength, findingWords}
 use Rattle.spec_checks.specs.AnswerLaws.{findingWords-length}
 use Rattle.patch_checks.specs.Threes.{three-at}
-use Rattle.patch_checks.specs.FindingTable.{findingsIn, hasRoom, insertedFindings, insertedCount, insertedNumbers}
+use Rattle.patch_checks.specs.FindingTable.{findingsIn, hasRoom, insertedFindings, insertedCount, insertedNumbers, Kept}
 
 -- ---- records and their numbers
 
@@ -258,3 +258,34 @@ module _ (f : Finding) (count : ℕ) (ns : List ℕ) where
         let more = upsert-before f held i e in
         (omega (arith, length-insertAt i f held, held-count) ∙ count-is (insertAt i f held) more,
         inserted ns count i f held (sym held-words) held-count below room ys h ∙ numbers-are (insertAt i f held) more)
+
+-- ---- the findings one after the other
+
+pub kept-none : (ns : List ℕ) → Kept [] 0 ns
+unfolding sortUnique findingWords flatMap
+kept-none ns = record { counted = refl; words = refl }
+
+-- one finding more; there is room where the slice has three places for each finding so far and for this one
+module _ (f : Finding) (raw : List Finding) (count : ℕ) (ns : List ℕ) (kept : Kept raw count ns) (room : recordLength * length raw + recordLength ≤ length ns) where
+  abbrev sorted : List Finding
+  sorted = sortUnique findingKey (raw ++ (f ∷ []))
+
+  kept-room : recordLength * count + recordLength ≤ length ns
+  kept-room = omega (arith, kept .counted, sortUnique-length findingKey raw)
+
+  sorted-is : insertedFindings f count ns ≡ sorted
+  unfolding insertedFindings
+  sorted-is =
+      ap (λ l. upsert findingKey f (findingsIn l)) (kept .words) ∙ ap (upsert findingKey f) (findings-words (sortUnique findingKey raw))
+      ∙ sym (sortUnique-snoc findingKey findingKey-injective raw f)
+
+  pub kept-snoc : Kept (raw ++ (f ∷ [])) (insertedCount f count ns) (insertedNumbers f count ns)
+  kept-snoc =
+      let counts = count-is f count ns kept-room sorted sorted-is in
+      let numbers = numbers-are f count ns kept-room sorted sorted-is in
+      record {
+        counted = sym counts;
+        words =
+          ap (λ n. take (recordLength * n) (insertedNumbers f count ns)) (sym counts) ∙ ap (take (recordLength * length sorted)) (sym numbers)
+          ∙ take-at (findingWords sorted) (drop (recordLength * length sorted) ns) _ (findingWords-length sorted);
+      }
