@@ -78,7 +78,7 @@ pub fn before_self(operation: ProjectionPatchOperation) -> bool
     }
 }
 
-pub fn same_target(a: MutationTarget, b: MutationTarget) -> bool
+fn same_target(a: MutationTarget, b: MutationTarget) -> bool
     ensures { λ r. ⌜ r ≡ equalTargets (targetOf a) (targetOf b) ⌝ }
 {
     if a.kind != b.kind {
