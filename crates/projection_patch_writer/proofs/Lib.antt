@@ -1,6 +1,4 @@
 -- Laws that belong to no one function.
-mod Flags
-mod Stored
 mod Elements
 mod Surveyed
 mod Verdict

@@ -8,10 +8,10 @@ use lib.ListN.{length, take, drop, length-append, take-append-drop}
 use Rattle.spec_patch.specs.Write as model
 use Rattle.wire.specs.Write.{hasRoom, overwrite}
 use Rattle.wire.specs.WriteLaws.{has-room, length-overwrite, overwrite-append, overwrite-in-place}
-use Rattle.projection_patch_writer.specs.declared.written.Written.{Written}
-use Rattle.projection_patch_writer.specs.declared.written.Written.the-variants.{Wrote, Refused}
-use Rattle.projection_patch_writer.specs.declared.written.WriteRefusal.{WriteRefusal}
-use Rattle.projection_patch_writer.specs.Answer.{answerAt, outputAt}
+use Rattle.patch_part_writer.specs.declared.written.Written.{Written}
+use Rattle.patch_part_writer.specs.declared.written.Written.the-variants.{Wrote, Refused}
+use Rattle.patch_part_writer.specs.declared.written.WriteRefusal.{WriteRefusal}
+use Rattle.patch_part_writer.specs.Answer.{answerAt, outputAt}
 
 pub record Progress (start : List ℕ) (at : ℕ) (whole out : List ℕ) (next : ℕ) (rest : List ℕ) : Type 0 where
   pub same : overwrite out next rest ≡ overwrite start at whole

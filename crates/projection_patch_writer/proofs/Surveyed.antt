@@ -11,10 +11,10 @@ use Rattle.spec_lists.specs.Lists.{if_then_else_, all}
 use Rattle.spec_patch.specs.Sizes.{patchOperations, textBytes}
 use Rattle.projection_patch.specs.declared.patch.ProjectionPatch.{ProjectionPatch}
 use Rattle.projection_patch.specs.declared.patch.OperationPlace.{OperationPlace}
-use Rattle.projection_patch_writer.specs.declared.set.HeadSurvey.the-variants as ofHeads
-use Rattle.projection_patch_writer.specs.declared.set.OperationSurvey.the-variants as ofOperations
-use Rattle.projection_patch_writer.specs.Extent.{headSize, operationSize, operationText}
-use Rattle.projection_patch_writer.specs.ExtentLaws.{surface-small, operation-small}
+use Rattle.projection_patch_writer.specs.declared.survey.HeadSurvey.the-variants as ofHeads
+use Rattle.projection_patch_writer.specs.declared.survey.OperationSurvey.the-variants as ofOperations
+use Rattle.patch_part_writer.specs.Extent.{headSize, operationSize, operationText}
+use Rattle.patch_part_writer.specs.ExtentLaws.{surface-small, operation-small}
 use Rattle.projection_patch_writer.specs.Set.{operationTotal, headSizes, operationSizes, fewOperations, shortAt, allowedAt}
 use Rattle.projection_patch_writer.specs.Survey.{headSurvey, operationSurvey}
 

@@ -16,9 +16,9 @@ use Rattle.projection_patch.specs.Meaning.{envelopeOf, operationOf}
 use Rattle.projection_patch.specs.declared.patch.ProjectionPatch.{ProjectionPatch}
 use Rattle.projection_patch.specs.declared.patch.OperationPlace.{OperationPlace}
 use Rattle.projection_patch.specs.declared.patch.ProjectionPatchSet.{ProjectionPatchSet}
-use Rattle.projection_patch_writer.specs.Extent.{operationText}
-use Rattle.projection_patch_writer.specs.Parts.{headBytes, operationBytes}
-use Rattle.projection_patch_writer.specs.PartsLaws.{head-wrote, operation-wrote}
+use Rattle.patch_part_writer.specs.Extent.{operationText}
+use Rattle.patch_part_writer.specs.Parts.{headBytes, operationBytes}
+use Rattle.patch_part_writer.specs.PartsLaws.{head-wrote, operation-wrote}
 use Rattle.projection_patch_writer.specs.Set.{operationAt, listFrom, heads, operationTotal, fewOperations, shortAt, insideAt}
 use Rattle.projection_patch_writer.specs.CallLaws.{Arrays, few-patches, few-operations, enough-places, many-heads}
 use Rattle.projection_patch_writer.specs.Survey.{Ready}

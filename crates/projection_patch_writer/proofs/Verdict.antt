@@ -16,14 +16,14 @@ use Rattle.spec_patch.specs.Write as model
 use Rattle.projection_patch.specs.declared.patch.ProjectionPatch.{ProjectionPatch}
 use Rattle.projection_patch.specs.declared.patch.OperationPlace.{OperationPlace}
 use Rattle.projection_patch.specs.declared.patch.ProjectionPatchSet.{ProjectionPatchSet}
-use Rattle.projection_patch_writer.specs.declared.written.WriteRefusal.{WriteRefusal}
-use Rattle.projection_patch_writer.specs.declared.written.WriteRefusal.the-variants as refusal
-use Rattle.projection_patch_writer.specs.declared.set.HeadSurvey.the-variants as ofHeads
-use Rattle.projection_patch_writer.specs.declared.set.OperationSurvey.the-variants as ofOperations
-use Rattle.projection_patch_writer.specs.declared.set.Survey.the-variants as ofSet
-use Rattle.projection_patch_writer.specs.Answer.{refusalOf}
-use Rattle.projection_patch_writer.specs.Extent.{operationText}
-use Rattle.projection_patch_writer.specs.ExtentLaws.{operation-small}
+use Rattle.patch_part_writer.specs.declared.written.WriteRefusal.{WriteRefusal}
+use Rattle.patch_part_writer.specs.declared.written.WriteRefusal.the-variants as refusal
+use Rattle.projection_patch_writer.specs.declared.survey.HeadSurvey.the-variants as ofHeads
+use Rattle.projection_patch_writer.specs.declared.survey.OperationSurvey.the-variants as ofOperations
+use Rattle.projection_patch_writer.specs.declared.survey.Survey.the-variants as ofSet
+use Rattle.patch_part_writer.specs.Answer.{refusalOf}
+use Rattle.patch_part_writer.specs.Extent.{operationText}
+use Rattle.patch_part_writer.specs.ExtentLaws.{operation-small}
 use Rattle.projection_patch_writer.specs.Set.{setPlaces, heads, listOf, used, operationTotal, headSizes, operationSizes, setSize, fewOperations, shortAt, insideAt, allowedAt, countsFit, capacitiesKept, patchSetBytes}
 use Rattle.projection_patch_writer.specs.CallLaws.{allowed-inside}
 use Rattle.projection_patch_writer.specs.Survey.{headSurvey, operationSurvey, judged, setSurvey}

@@ -25,10 +25,10 @@ use Rattle.wire.specs.Write.{hasRoom, overwrite}
 use Rattle.wire.specs.WriteLaws.{room-true, take-overwrite, overwrite-in-place, overwrite-refused}
 use Rattle.projection_patch.specs.declared.patch.OperationPlace.{OperationPlace}
 use Rattle.projection_patch.specs.declared.patch.ProjectionPatchSet.{ProjectionPatchSet}
-use Rattle.projection_patch_writer.specs.declared.written.Written.the-variants.{Wrote, Refused}
-use Rattle.projection_patch_writer.specs.declared.written.WriteRefusal.the-variants.{OutputTooShort}
-use Rattle.projection_patch_writer.specs.Answer.{refusalTo, answerAt, outputAt, withRoom, answerOf, outputOf}
-use Rattle.projection_patch_writer.specs.ExtentLaws.{length-heading}
+use Rattle.patch_part_writer.specs.declared.written.Written.the-variants.{Wrote, Refused}
+use Rattle.patch_part_writer.specs.declared.written.WriteRefusal.the-variants.{OutputTooShort}
+use Rattle.patch_part_writer.specs.Answer.{refusalTo, answerAt, outputAt, withRoom, answerOf, outputOf}
+use Rattle.patch_part_writer.specs.ExtentLaws.{length-heading}
 use Rattle.projection_patch_writer.specs.Set.{setPlaces, heads, listOf, operationTotal, used, headSizes, operationSizes, setSize, fewOperations, countsFit, shortAt, insideAt, capacitiesKept, textAllowed, allowedAt, patchSetBytes}
 use Rattle.projection_patch_writer.specs.SetLaws.{length-list, counts-list, values-list, size-list, place-short, place-allowed}
 

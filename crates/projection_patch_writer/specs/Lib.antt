@@ -1,8 +1,3 @@
-pub mod Extent
-pub mod ExtentLaws
-pub mod Answer
-pub mod Parts
-pub mod PartsLaws
 pub mod Set
 pub mod SetLaws
 pub mod CallLaws

@@ -16,9 +16,9 @@ use Rattle.projection_patch.specs.Meaning.{envelopeOf, operationOf}
 use Rattle.projection_patch.specs.declared.patch.ProjectionPatch.{ProjectionPatch}
 use Rattle.projection_patch.specs.declared.patch.OperationPlace.{OperationPlace}
 use Rattle.projection_patch.specs.declared.patch.ProjectionPatchSet.{ProjectionPatchSet}
-use Rattle.projection_patch_writer.specs.declared.operation.TextPlace.{TextPlace}
-use Rattle.projection_patch_writer.specs.Extent.{headSize, operationSize, operationText}
-use Rattle.projection_patch_writer.specs.Parts.{shortText, insideTexts}
+use Rattle.patch_part_writer.specs.declared.extent.TextPlace.{TextPlace}
+use Rattle.patch_part_writer.specs.Extent.{headSize, operationSize, operationText}
+use Rattle.patch_part_writer.specs.Parts.{shortText, insideTexts}
 
 -- the operations that a set has places for
 abbrev pub setPlaces : ℕ

@@ -28,9 +28,9 @@ use Rattle.projection_patch.specs.declared.patch.ProjectionPatchValue.{Projecti
 use Rattle.projection_patch.specs.declared.patch.ProjectionPatchValue.the-variants.{Quad, SignedScalar, UnsignedScalar, Text}
 use Rattle.projection_patch.specs.declared.patch.ProjectionPatchOperation.{ProjectionPatchOperation}
 use Rattle.projection_patch.specs.declared.patch.ProjectionPatchOperation.the-variants.{SetBindingValue, SetNodeAvailability, CollectionInsert, CollectionUpdate, CollectionRemove, CollectionMove}
-use Rattle.projection_patch_writer.specs.Extent.{headSize, operationSize, valueText, operationText}
-use Rattle.projection_patch_writer.specs.ExtentLaws.{length-text, length-operation, length-head, length-heading}
-use Rattle.projection_patch_writer.specs.Parts.{shortText, insideTexts}
+use Rattle.patch_part_writer.specs.Extent.{headSize, operationSize, valueText, operationText}
+use Rattle.patch_part_writer.specs.ExtentLaws.{length-text, length-operation, length-head, length-heading}
+use Rattle.patch_part_writer.specs.Parts.{shortText, insideTexts}
 use Rattle.projection_patch_writer.specs.Set.{setPlaces, operationAt, listFrom, heads, listOf, operationTotal, used, headSizes, operationSizes, setSize, fewOperations, countsFit, shortAt, insideAt, capacitiesKept, textAllowed, allowedAt, patchSetBytes}
 
 -- ---- tests of lists

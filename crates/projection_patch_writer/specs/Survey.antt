@@ -11,13 +11,13 @@ use Rattle.spec_patch.specs.Encode.{encodePatch}
 use Rattle.projection_patch.specs.declared.patch.ProjectionPatch.{ProjectionPatch}
 use Rattle.projection_patch.specs.declared.patch.OperationPlace.{OperationPlace}
 use Rattle.projection_patch.specs.declared.patch.ProjectionPatchSet.{ProjectionPatchSet}
-use Rattle.projection_patch_writer.specs.declared.written.WriteRefusal.the-variants as refusal
-use Rattle.projection_patch_writer.specs.declared.set.HeadSurvey.{HeadSurvey}
-use Rattle.projection_patch_writer.specs.declared.set.HeadSurvey.the-variants as ofHeads
-use Rattle.projection_patch_writer.specs.declared.set.OperationSurvey.{OperationSurvey}
-use Rattle.projection_patch_writer.specs.declared.set.OperationSurvey.the-variants as ofOperations
-use Rattle.projection_patch_writer.specs.declared.set.Survey.{Survey}
-use Rattle.projection_patch_writer.specs.declared.set.Survey.the-variants as ofSet
+use Rattle.patch_part_writer.specs.declared.written.WriteRefusal.the-variants as refusal
+use Rattle.projection_patch_writer.specs.declared.survey.HeadSurvey.{HeadSurvey}
+use Rattle.projection_patch_writer.specs.declared.survey.HeadSurvey.the-variants as ofHeads
+use Rattle.projection_patch_writer.specs.declared.survey.OperationSurvey.{OperationSurvey}
+use Rattle.projection_patch_writer.specs.declared.survey.OperationSurvey.the-variants as ofOperations
+use Rattle.projection_patch_writer.specs.declared.survey.Survey.{Survey}
+use Rattle.projection_patch_writer.specs.declared.survey.Survey.the-variants as ofSet
 use Rattle.projection_patch_writer.specs.Set.{listOf, heads, used, operationTotal, headSizes, operationSizes, setSize, fewOperations, shortAt, insideAt, allowedAt, countsFit, capacitiesKept}
 
 unfoldable pub headSurvey : List ProjectionPatch → HeadSurvey

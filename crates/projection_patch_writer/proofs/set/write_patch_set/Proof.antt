@@ -11,10 +11,10 @@ use Rattle.spec_patch.specs.Edition.{v1}
 use Rattle.spec_patch.specs.Encode.{u32, heading, encodePatch, encode}
 use Rattle.wire.specs.Write.{overwrite}
 use Rattle.wire.specs.WriteLaws.{length-overwrite, overwrite-append}
-use Rattle.projection_patch_writer.specs.declared.written.Written.the-variants.{Wrote}
-use Rattle.projection_patch_writer.specs.Answer.{outputAt}
-use Rattle.projection_patch_writer.specs.ExtentLaws.{length-heading}
-use Rattle.projection_patch_writer.specs.PartsLaws.{answers-refusal, answers-short, answers-wrote, heading-wrote}
+use Rattle.patch_part_writer.specs.declared.written.Written.the-variants.{Wrote}
+use Rattle.patch_part_writer.specs.Answer.{outputAt}
+use Rattle.patch_part_writer.specs.ExtentLaws.{length-heading}
+use Rattle.patch_part_writer.specs.PartsLaws.{answers-refusal, answers-short, answers-wrote, heading-wrote}
 use Rattle.projection_patch_writer.specs.Set.{listOf, setSize}
 use Rattle.projection_patch_writer.specs.CallLaws.{Arrays, few-patches, encode-parts, patches-fit, encode-size}
 use Rattle.projection_patch_writer.proofs.Elements.{unmapped}

@@ -7,8 +7,8 @@ use borrow.Author.Needs.{needs}
 use denote.Ref.{now}
 use lib.ListN.{length, getD}
 use Rattle.spec_patch.specs.Encode.{encodeOperation, encodePatch}
-use Rattle.projection_patch_writer.specs.declared.written.Written.the-variants.{Wrote}
-use Rattle.projection_patch_writer.specs.Parts.{headBytes, operationBytes}
+use Rattle.patch_part_writer.specs.declared.written.Written.the-variants.{Wrote}
+use Rattle.patch_part_writer.specs.Parts.{headBytes, operationBytes}
 use Rattle.projection_patch_writer.specs.Set.{operationAt, heads, listOf}
 use Rattle.projection_patch_writer.specs.CallLaws.{Arrays}
 use Rattle.projection_patch_writer.proofs.Elements.{noPatch, noPlace, unmapped}

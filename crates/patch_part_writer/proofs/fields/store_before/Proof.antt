@@ -1,0 +1,73 @@
+-- `fields::store_before` meets its contract: byte 0, or 1 and the number.
+use Prim.Native.Nat.{ℕ}
+use Prim.Native.Nat.{ℕ, _+_, _≤_}
+use mathlib.Core.List.{List, [], _∷_, _++_}
+use mathlib.Core.Path.{sym, ap, subst, _∙_}
+use native.Mathlib.Omega.{arith}
+use borrow.Author.Needs.{needs}
+use denote.Ref.{now}
+use lib.ListN.{length}
+use Rattle.wire.specs.Write.{overwrite}
+use Rattle.spec_patch.specs.Encode.{u64, encodeOptional}
+use Rattle.projection_patch.specs.declared.patch.OptionalKey.{OptionalKey}
+use Rattle.projection_patch.specs.Meaning.{beforeOf}
+use Rattle.patch_part_writer.specs.Extent.{beforeSize}
+use Rattle.patch_part_writer.proofs.Stored.{one-byte}
+use Rattle.patch_part_writer.proofs.fields.store_before.Statement.{statement}
+use Rattle.patch_part_writer.proofs.fields.store_before.Tie as tie
+
+enum-told : tie.Need-enum-told
+enum-told c = search needs
+
+write-u8-at-requires : tie.Need-write-u8-at-requires
+write-u8-at-requires c κs = search needs
+
+enum-known-before : tie.Need-enum-known-before
+enum-known-before c = search needs
+
+raw-requires : tie.Need-raw-requires
+raw-requires c κs = search needs
+
+store-tagged-requires : tie.Need-store-tagged-requires
+store-tagged-requires c κs =
+    let start = c .before .before .before .before .before .before in
+    let args = start .args in
+    subst (λ (w : OptionalKey). args .at + beforeSize w ≤ length (now (args .out))) (c .before .before .before .before2 .given .1) (start .pre)
+
+same-length : tie.Need-same-length
+same-length c = search needs
+
+returns : tie.Need-returns
+unfolding encodeOptional
+returns c =
+    let args = c .before .before .before .before .before .before .before .args in
+    let l = now (args .out) in
+    c .before .before .write-u8-at .ensures .1
+    ∙ ap (overwrite l (args .at)) (one-byte 0 (omega arith))
+    ∙ sym (ap (λ (w : OptionalKey). overwrite l (args .at) (encodeOptional (beforeOf w))) (c .before .before .before .before .enum-told .given .1))
+
+same-length-2 : tie.Need-same-length-2
+same-length-2 c = search needs
+
+returns-2 : tie.Need-returns-2
+unfolding encodeOptional
+returns-2 c =
+    let args = c .before .before .before .before .before .before .before .before .before .args in
+    let l = now (args .out) in
+    c .before .before .store-tagged .ensures
+    ∙ ap (λ (x : ℕ). overwrite l (args .at) (1 ∷ u64 x)) (c .before .before .before .raw .ensures)
+    ∙ sym (ap (λ (w : OptionalKey). overwrite l (args .at) (encodeOptional (beforeOf w))) (c .before .before .before .before .before .before .before2 .given .1))
+
+pub store-before-spec : {M : Type 1} → statement M
+store-before-spec =
+    tie.close
+    (tie.spec
+    enum-told
+    write-u8-at-requires
+    enum-known-before
+    raw-requires
+    store-tagged-requires
+    same-length
+    returns
+    same-length-2
+    returns-2)

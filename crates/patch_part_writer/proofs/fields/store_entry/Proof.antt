@@ -1,0 +1,35 @@
+-- `fields::store_entry` meets its contract: the key behind the tag and the collection.
+use Prim.Native.Nat.{ℕ}
+use Prim.Native.Nat.{ℕ, suc}
+use mathlib.Core.List.{List, [], _∷_, _++_}
+use mathlib.Core.Path.{ap}
+use native.Mathlib.Omega.{arith}
+use borrow.Author.Needs.{needs}
+use denote.Ref.{now}
+use Rattle.patch_part_writer.proofs.Stored.{first, next-number}
+use Rattle.spec_patch.specs.Encode.{u64}
+use Rattle.spec_lists.specs.BytesLaws.{length-littleEndian}
+use Rattle.patch_part_writer.proofs.fields.store_entry.Statement.{statement}
+use Rattle.patch_part_writer.proofs.fields.store_entry.Tie as tie
+
+store-tagged-requires : tie.Need-store-tagged-requires
+store-tagged-requires c κs = search needs
+
+add-write-u64-at : tie.Need-add-write-u64-at
+add-write-u64-at c = search needs
+
+write-u64-at-requires : tie.Need-write-u64-at-requires
+write-u64-at-requires c κs = search needs
+
+same-length : tie.Need-same-length
+same-length c = search needs
+
+returns : tie.Need-returns
+returns c =
+    let args = c .before .before .before .before .before .before .before .before .before .args in
+    next-number (first (now (args .out)) (args .at) 9 (args .tag ∷ u64 (args .collection)) (ap suc (length-littleEndian 8 (args .collection))) (c .before .before .before .before .before .before .store-tagged .ensures)) 8 (args .key) (omega arith) (c .before .before .write-u64-at .ensures .1) .is
+
+pub store-entry-spec : {M : Type 1} → statement M
+store-entry-spec =
+    tie.close
+    (tie.spec store-tagged-requires add-write-u64-at write-u64-at-requires same-length returns)

@@ -1,0 +1,41 @@
+-- `fields::store_signed` meets its contract: the two's complement behind the tag.
+use Prim.Native.Nat.{ℕ, _+_}
+use mathlib.Core.List.{List, [], _∷_, _++_}
+use mathlib.Core.Path.{ap, ap₂, _∙_}
+use native.Mathlib.Omega.{arith}
+use borrow.Author.Needs.{needs}
+use denote.Ref.{now}
+use lib.IntN.{ℤ}
+use mir.Syntax.{w64}
+use mir.Val.{ofZ}
+use mir.Facts.{toZ-ofZ}
+use Rattle.patch_part_writer.proofs.Stored.{first-number, next-number, one-byte}
+use Rattle.wire.specs.Write.{overwrite}
+use Rattle.spec_patch.specs.Encode.{u64}
+use Rattle.patch_part_writer.proofs.fields.store_signed.Statement.{statement}
+use Rattle.patch_part_writer.proofs.fields.store_signed.Tie as tie
+
+write-u8-at-requires : tie.Need-write-u8-at-requires
+write-u8-at-requires c κs = search needs
+
+add-write-i64-at : tie.Need-add-write-i64-at
+add-write-i64-at c = search needs
+
+write-i64-at-requires : tie.Need-write-i64-at-requires
+write-i64-at-requires c κs = search needs
+
+same-length : tie.Need-same-length
+same-length c = search needs
+
+returns : tie.Need-returns
+returns c =
+    let start = c .before .before .before .before .before .before .before .before .before in
+    let args = start .args in
+    let l = now (args .out) in
+    let stored = next-number (first-number l (args .at) 1 (args .tag) (c .before .before .before .before .before .before .write-u8-at .ensures .1)) 8 (ofZ w64 (args .z)) (omega arith) (c .before .before .write-i64-at .ensures .1 ∙ ap (λ (z : ℤ). overwrite (c .before .before .before .before .before .before .write-u8-at .last .0) (args .at + 1) (u64 (ofZ w64 z))) (toZ-ofZ (start .fits .z))) in
+    stored .is ∙ ap (λ (x : List ℕ). overwrite l (args .at) (x ++ u64 (ofZ w64 (args .z)))) (one-byte (args .tag) (start .fits .tag .fits))
+
+pub store-signed-spec : {M : Type 1} → statement M
+store-signed-spec =
+    tie.close
+    (tie.spec write-u8-at-requires add-write-i64-at write-i64-at-requires same-length returns)

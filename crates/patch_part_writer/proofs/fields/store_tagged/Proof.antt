@@ -1,0 +1,37 @@
+-- `fields::store_tagged` meets its contract: the number behind the tag.
+use Prim.Native.Nat.{ℕ}
+use mathlib.Core.List.{List, [], _∷_, _++_}
+use mathlib.Core.Path.{ap, _∙_}
+use native.Mathlib.Omega.{arith}
+use borrow.Author.Needs.{needs}
+use denote.Ref.{now}
+use Rattle.patch_part_writer.proofs.Stored.{first-number, next-number, one-byte}
+use Rattle.wire.specs.Write.{overwrite}
+use Rattle.spec_patch.specs.Encode.{u64}
+use Rattle.patch_part_writer.proofs.fields.store_tagged.Statement.{statement}
+use Rattle.patch_part_writer.proofs.fields.store_tagged.Tie as tie
+
+write-u8-at-requires : tie.Need-write-u8-at-requires
+write-u8-at-requires c κs = search needs
+
+add-write-u64-at : tie.Need-add-write-u64-at
+add-write-u64-at c = search needs
+
+write-u64-at-requires : tie.Need-write-u64-at-requires
+write-u64-at-requires c κs = search needs
+
+same-length : tie.Need-same-length
+same-length c = search needs
+
+returns : tie.Need-returns
+returns c =
+    let start = c .before .before .before .before .before .before .before .before .before in
+    let args = start .args in
+    let l = now (args .out) in
+    let stored = next-number (first-number l (args .at) 1 (args .tag) (c .before .before .before .before .before .before .write-u8-at .ensures .1)) 8 (args .x) (omega arith) (c .before .before .write-u64-at .ensures .1) in
+    stored .is ∙ ap (λ (x : List ℕ). overwrite l (args .at) (x ++ u64 (args .x))) (one-byte (args .tag) (start .fits .tag .fits))
+
+pub store-tagged-spec : {M : Type 1} → statement M
+store-tagged-spec =
+    tie.close
+    (tie.spec write-u8-at-requires add-write-u64-at write-u64-at-requires same-length returns)

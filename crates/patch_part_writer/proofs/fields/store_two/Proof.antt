@@ -1,0 +1,36 @@
+-- `fields::store_two` meets its contract: one byte behind the other.
+use Prim.Native.Nat.{ℕ}
+use mathlib.Core.List.{List, [], _∷_, _++_}
+use mathlib.Core.Path.{ap₂, _∙_}
+use native.Mathlib.Omega.{arith}
+use borrow.Author.Needs.{needs}
+use denote.Ref.{now}
+use Rattle.patch_part_writer.proofs.Stored.{first-number, next-number, one-byte}
+use Rattle.wire.specs.Write.{overwrite}
+use Rattle.patch_part_writer.proofs.fields.store_two.Statement.{statement}
+use Rattle.patch_part_writer.proofs.fields.store_two.Tie as tie
+
+write-u8-at-requires : tie.Need-write-u8-at-requires
+write-u8-at-requires c κs = search needs
+
+add-write-u8-at : tie.Need-add-write-u8-at
+add-write-u8-at c = search needs
+
+write-u8-at-requires-2 : tie.Need-write-u8-at-requires-2
+write-u8-at-requires-2 c κs = search needs
+
+same-length : tie.Need-same-length
+same-length c = search needs
+
+returns : tie.Need-returns
+returns c =
+    let start = c .before .before .before .before .before .before .before .before .before in
+    let args = start .args in
+    let l = now (args .out) in
+    let stored = next-number (first-number l (args .at) 1 (args .a) (c .before .before .before .before .before .before .write-u8-at .ensures .1)) 1 (args .b) (omega arith) (c .before .before .write-u8-at2 .ensures .1) in
+    stored .is ∙ ap₂ (λ (x y : List ℕ). overwrite l (args .at) (x ++ y)) (one-byte (args .a) (start .fits .a .fits)) (one-byte (args .b) (start .fits .b .fits))
+
+pub store-two-spec : {M : Type 1} → statement M
+store-two-spec =
+    tie.close
+    (tie.spec write-u8-at-requires add-write-u8-at write-u8-at-requires-2 same-length returns)

@@ -1,0 +1,81 @@
+-- `head::store_course` meets its contract: five numbers, one behind the other.
+use Prim.Native.Nat.{ℕ, _+_}
+use mathlib.Core.List.{List, _++_}
+use mathlib.Core.Path.{_≡_, refl, ap, ap₂, _∙_}
+use native.Mathlib.Omega.{arith}
+use borrow.Author.Needs.{needs}
+use denote.Ref.{now}
+use lib.ListN.{length, length-append}
+use Rattle.wire.specs.Write.{overwrite}
+use Rattle.spec_patch.specs.Encode.{u32, u64}
+use Rattle.spec_lists.specs.BytesLaws.{length-littleEndian}
+use Rattle.patch_part_writer.proofs.Stored.{first, next-number}
+use Rattle.patch_part_writer.proofs.head.store_course.Statement.{statement}
+use Rattle.patch_part_writer.proofs.head.store_course.Tie as tie
+
+long : (a b c : ℕ) → length (u64 a ++ (u64 b ++ u64 c)) ≡ 24
+long a b c = simp (length-append, length-littleEndian)
+
+same : (l : List ℕ) (at : ℕ) {a b c a′ b′ c′ : ℕ} → a ≡ a′ → b ≡ b′ → c ≡ c′ → overwrite l at (u64 a ++ (u64 b ++ u64 c)) ≡ overwrite l at (u64 a′ ++ (u64 b′ ++ u64 c′))
+same l at p q r = cc
+
+raw-requires : tie.Need-raw-requires
+raw-requires c κs = search needs
+
+raw-requires-2 : tie.Need-raw-requires-2
+raw-requires-2 c κs = search needs
+
+raw-requires-3 : tie.Need-raw-requires-3
+raw-requires-3 c κs = search needs
+
+store-three-requires : tie.Need-store-three-requires
+store-three-requires c κs = search needs
+
+add-write-u64-at : tie.Need-add-write-u64-at
+add-write-u64-at c = search needs
+
+raw-requires-4 : tie.Need-raw-requires-4
+raw-requires-4 c κs = search needs
+
+write-u64-at-requires : tie.Need-write-u64-at-requires
+write-u64-at-requires c κs = search needs
+
+add-write-u32-at : tie.Need-add-write-u32-at
+add-write-u32-at c = search needs
+
+cast-write-u32-at : tie.Need-cast-write-u32-at
+cast-write-u32-at c = search needs
+
+write-u32-at-requires : tie.Need-write-u32-at-requires
+write-u32-at-requires c κs = search needs
+
+same-length : tie.Need-same-length
+same-length c = search needs
+
+returns : tie.Need-returns
+returns c =
+    let args = c .before .before .before .before .before .before .before .before .before .before .before .before .before .before .before .before .before .before .before .before .before .args in
+    let l = now (args .out) in
+    let previous = args .envelope .«previous_projection_revision» .0 in
+    let revision = args .envelope .«projection_revision» .0 in
+    let epoch = args .envelope .epoch .0 in
+    let three = first l (args .at) 24 (u64 previous ++ (u64 revision ++ u64 epoch)) (long previous revision epoch) (c .before .before .before .before .before .before .before .before .before .before .before .store-three .ensures ∙ same l (args .at) (c .before .before .before .before .before .before .before .before .before .before .before .before .before .before .raw .ensures) (c .before .before .before .before .before .before .before .before .before .before .before .before .before .raw2 .ensures) (c .before .before .before .before .before .before .before .before .before .before .before .before .raw3 .ensures)) in
+    let four = next-number three 8 (args .envelope .sequence .0) (omega arith) (c .before .before .before .before .before .before .write-u64-at .ensures .1 ∙ ap (λ (x : ℕ). overwrite (c .before .before .before .before .before .before .before .before .before .before .before .store-three .last .0) (args .at + 24) (u64 x)) (c .before .before .before .before .before .before .before .raw4 .ensures)) in
+    next-number four 4 (args .operation-count) (omega arith) (c .before .before .write-u32-at .ensures .1) .is
+
+pub store-course-spec : {M : Type 1} → statement M
+store-course-spec =
+    tie.close
+    (tie.spec
+    raw-requires
+    raw-requires-2
+    raw-requires-3
+    store-three-requires
+    add-write-u64-at
+    raw-requires-4
+    write-u64-at-requires
+    add-write-u32-at
+    cast-write-u32-at
+    write-u32-at-requires
+    same-length
+    returns)

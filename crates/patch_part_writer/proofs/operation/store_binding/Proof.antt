@@ -1,0 +1,62 @@
+-- `operation::store_binding` meets its contract: the slot behind the tag and the node, and the value behind them.
+use Prim.Native.Nat.{ℕ, suc}
+use mathlib.Core.List.{List, _∷_, _++_, append-assoc}
+use mathlib.Core.Path.{ap, _∙_}
+use native.Mathlib.Omega.{arith}
+use borrow.Author.Needs.{needs}
+use denote.Ref.{now}
+use Rattle.wire.specs.Write.{overwrite}
+use Rattle.spec_patch.specs.Encode.{u32, u64, encodeValue}
+use Rattle.spec_lists.specs.BytesLaws.{length-littleEndian}
+use Rattle.projection_patch.specs.Meaning.{valueOf}
+use Rattle.patch_part_writer.specs.Extent.{valueSize}
+use Rattle.patch_part_writer.specs.ExtentLaws.{length-value}
+use Rattle.patch_part_writer.proofs.Stored.{first, next, next-number}
+use Rattle.patch_part_writer.proofs.operation.store_binding.Statement.{statement}
+use Rattle.patch_part_writer.proofs.operation.store_binding.Tie as tie
+
+raw-requires : tie.Need-raw-requires
+raw-requires c κs = search needs
+
+store-tagged-requires : tie.Need-store-tagged-requires
+store-tagged-requires c κs = search needs
+
+add-write-u32-at : tie.Need-add-write-u32-at
+add-write-u32-at c = search needs
+
+write-u32-at-requires : tie.Need-write-u32-at-requires
+write-u32-at-requires c κs = search needs
+
+add-store-value : tie.Need-add-store-value
+add-store-value c = search needs
+
+store-value-requires : tie.Need-store-value-requires
+store-value-requires c κs = search needs
+
+same-length : tie.Need-same-length
+same-length c = search needs
+
+returns : tie.Need-returns
+returns c =
+    let start = c .before .before .before .before .before .before .before .before .before .before .before .before .before .before .before .before .before in
+    let args = start .args in
+    let l = now (args .out) in
+    let node = args .target .node .0 in
+    let value = encodeValue (valueOf (now (args .texts)) (args .value)) in
+    let tagged = first l (args .at) 9 (1 ∷ u64 node) (ap suc (length-littleEndian 8 node)) (c .before .before .before .before .before .before .before .before .before .before .store-tagged .ensures ∙ ap (λ (x : ℕ). overwrite l (args .at) (1 ∷ u64 x)) (c .before .before .before .before .before .before .before .before .before .before .before .raw .ensures)) in
+    let slot = next-number tagged 4 (args .target .slot .0) (omega arith) (c .before .before .before .before .before .before .write-u32-at .ensures .1) in
+    next slot (valueSize (args .value)) value (length-value (now (args .texts)) (args .value) (start .pre .1 .inside)) (omega arith) (c .before .before .store-value .ensures) .is
+    ∙ ap (λ (b : List ℕ). overwrite l (args .at) (1 ∷ b)) (append-assoc (u64 node) (u32 (args .target .slot .0)) value)
+
+pub store-binding-spec : {M : Type 1} → statement M
+store-binding-spec =
+    tie.close
+    (tie.spec
+    raw-requires
+    store-tagged-requires
+    add-write-u32-at
+    write-u32-at-requires
+    add-store-value
+    store-value-requires
+    same-length
+    returns)

@@ -1,0 +1,42 @@
+-- `operation::store_update` meets its contract: the value behind the entry.
+use Prim.Native.Nat.{ℕ}
+use mathlib.Core.List.{List, _∷_, _++_, append-assoc}
+use mathlib.Core.Path.{ap, _∙_}
+use native.Mathlib.Omega.{arith}
+use borrow.Author.Needs.{needs}
+use denote.Ref.{now}
+use Rattle.wire.specs.Write.{overwrite}
+use Rattle.spec_patch.specs.Encode.{u64, encodeValue}
+use Rattle.projection_patch.specs.Meaning.{valueOf}
+use Rattle.patch_part_writer.specs.Extent.{valueSize}
+use Rattle.patch_part_writer.specs.ExtentLaws.{length-value}
+use Rattle.patch_part_writer.proofs.Stored.{first, next, length-entry}
+use Rattle.patch_part_writer.proofs.operation.store_update.Statement.{statement}
+use Rattle.patch_part_writer.proofs.operation.store_update.Tie as tie
+
+store-entry-requires : tie.Need-store-entry-requires
+store-entry-requires c κs = search needs
+
+add-store-value : tie.Need-add-store-value
+add-store-value c = search needs
+
+store-value-requires : tie.Need-store-value-requires
+store-value-requires c κs = search needs
+
+same-length : tie.Need-same-length
+same-length c = search needs
+
+returns : tie.Need-returns
+returns c =
+    let start = c .before .before .before .before .before .before .before .before .before .before in
+    let args = start .args in
+    let l = now (args .out) in
+    let value = encodeValue (valueOf (now (args .texts)) (args .value)) in
+    let entry = first l (args .at) 17 (4 ∷ u64 (args .collection) ++ u64 (args .key)) (length-entry 4 (args .collection) (args .key)) (c .before .before .before .before .before .before .store-entry .ensures) in
+    next entry (valueSize (args .value)) value (length-value (now (args .texts)) (args .value) (start .pre .1 .inside)) (omega arith) (c .before .before .store-value .ensures) .is
+    ∙ ap (λ (b : List ℕ). overwrite l (args .at) (4 ∷ b)) (append-assoc (u64 (args .collection)) (u64 (args .key)) value)
+
+pub store-update-spec : {M : Type 1} → statement M
+store-update-spec =
+    tie.close
+    (tie.spec store-entry-requires add-store-value store-value-requires same-length returns)

@@ -1,0 +1,118 @@
+// Writing of a set's heading and of a patch's head.
+ghost use mathlib.Core.Path.{_≡_};
+ghost use mathlib.Core.List.{_++_};
+ghost use Prim.Native.Nat.{_+_, _≤_};
+ghost use lib.ListN.{length};
+ghost use Rattle.spec_patch.specs.Sizes.{setPatches, patchOperations};
+ghost use Rattle.spec_patch.specs.Edition.{v1};
+ghost use Rattle.spec_patch.specs.Encode.{u32, u64, encodeOptional, encodeEnvelope, heading};
+ghost use Rattle.wire.specs.Write.{overwrite};
+ghost use Rattle.projection_patch.specs.Meaning.{surfaceOf, envelopeOf};
+ghost use Rattle.patch_part_writer.specs.Extent.{surfaceSize, headSize};
+ghost use Rattle.patch_part_writer.specs.Answer.{answerAt, outputAt};
+ghost use Rattle.patch_part_writer.specs.Parts.{headingBytes, headBytes};
+use crate::extent::head_size;
+use crate::extent::reaches;
+use crate::extent::surface_size;
+use crate::fields::store_tagged;
+use crate::written::WriteRefusal;
+use crate::written::Written;
+use projection_patch::patch::OptionalSurfaceId;
+use projection_patch::patch::ProjectionPatch;
+use projection_patch::patch::ProjectionPatchEnvelope;
+use projection_patch::patch::ProjectionPatchSet;
+
+fn store_heading(out: &mut [u8], at: usize, patch_count: usize)
+    requires { ⌜ (at + 35 ≤ length (now out)) × («patch_count» ≤ setPatches) ⌝ }
+    ensures { λ _. ⌜ now (out .exit) ≡ overwrite (now (out .entry)) at (heading v1 ++ u32 «patch_count») ⌝ }
+{
+    wire::write_u32_at(out, at, 27);
+    wire::write_bytes_at(out, at + 4, b"UI_DNA2_PROJECTION_PATCH_V1");
+    wire::write_u32_at(out, at + 31, patch_count as u32);
+}
+
+// Writes a set's heading and its patch count from index at on: 12 for more patches than a set may have, then 14.
+pub fn write_heading(patch_count: usize, out: &mut [u8], at: usize) -> Written
+    ensures { λ r. ⌜ r ≡ answerAt (now (out .entry)) at (headingBytes «patch_count») ⌝ }
+    ensures { λ _. ⌜ now (out .exit) ≡ outputAt (now (out .entry)) at (headingBytes «patch_count») ⌝ }
+{
+    if ProjectionPatchSet::PATCHES < patch_count {
+        return Written::Refused(WriteRefusal::OverCapacity);
+    }
+    if !reaches(out.len(), at, 35) {
+        return Written::Refused(WriteRefusal::OutputTooShort);
+    }
+    store_heading(out, at, patch_count);
+    Written::Wrote(at + 35)
+}
+
+fn store_surface(out: &mut [u8], at: usize, surface: OptionalSurfaceId)
+    requires { ⌜ at + surfaceSize surface ≤ length (now out) ⌝ }
+    ensures { λ _. ⌜ now (out .exit) ≡ overwrite (now (out .entry)) at (encodeOptional (surfaceOf surface)) ⌝ }
+{
+    match surface {
+        OptionalSurfaceId::None => {
+            wire::write_u8_at(out, at, 0);
+        }
+        OptionalSurfaceId::Some(id) => store_tagged(out, at, 1, id.raw()),
+    }
+}
+
+fn store_three(out: &mut [u8], at: usize, a: u64, b: u64, c: u64)
+    requires { ⌜ at + 24 ≤ length (now out) ⌝ }
+    ensures { λ _. ⌜ now (out .exit) ≡ overwrite (now (out .entry)) at (u64 a ++ (u64 b ++ u64 c)) ⌝ }
+{
+    wire::write_u64_at(out, at, a);
+    wire::write_u64_at(out, at + 8, b);
+    wire::write_u64_at(out, at + 16, c);
+}
+
+// The numbers behind the surface, and the operation count.
+fn store_course(
+    out: &mut [u8],
+    at: usize,
+    envelope: ProjectionPatchEnvelope,
+    operation_count: usize,
+)
+    requires { ⌜ (at + 36 ≤ length (now out)) × («operation_count» ≤ patchOperations) ⌝ }
+    ensures { λ _. ⌜ now (out .exit) ≡ overwrite (now (out .entry)) at (u64 (envelope .«previous_projection_revision» .0) ++ (u64 (envelope .«projection_revision» .0) ++ u64 (envelope .epoch .0)) ++ u64 (envelope .sequence .0) ++ u32 «operation_count») ⌝ }
+{
+    let previous = envelope.previous_projection_revision;
+    let revision = envelope.projection_revision;
+    let epoch = envelope.epoch;
+    let sequence = envelope.sequence;
+    store_three(out, at, previous.raw(), revision.raw(), epoch.raw());
+    wire::write_u64_at(out, at + 24, sequence.raw());
+    wire::write_u32_at(out, at + 32, operation_count as u32);
+}
+
+fn store_head(out: &mut [u8], at: usize, patch: ProjectionPatch)
+    requires { ⌜ (at + headSize patch ≤ length (now out)) × (patch .«operation_count» ≤ patchOperations) ⌝ }
+    ensures { λ _. ⌜ now (out .exit) ≡ overwrite (now (out .entry)) at (encodeEnvelope (envelopeOf (patch .envelope)) ++ u32 (patch .«operation_count»)) ⌝ }
+{
+    let envelope = patch.envelope;
+    let id = envelope.patch_id;
+    let stream = envelope.stream_id;
+    let document = envelope.document_id;
+    let surface = envelope.surface_id;
+    store_three(out, at, id.raw(), stream.raw(), document.raw());
+    store_surface(out, at + 24, surface);
+    let count = patch.operation_count;
+    store_course(out, at + 24 + surface_size(surface), envelope, count);
+}
+
+// Writes a patch's head from index at on: 12 for more operations than a patch may have, then 14.
+pub fn write_patch_head(patch: ProjectionPatch, out: &mut [u8], at: usize) -> Written
+    ensures { λ r. ⌜ r ≡ answerAt (now (out .entry)) at (headBytes patch) ⌝ }
+    ensures { λ _. ⌜ now (out .exit) ≡ outputAt (now (out .entry)) at (headBytes patch) ⌝ }
+{
+    if ProjectionPatch::OPERATIONS < patch.operation_count {
+        return Written::Refused(WriteRefusal::OverCapacity);
+    }
+    let size = head_size(patch);
+    if !reaches(out.len(), at, size) {
+        return Written::Refused(WriteRefusal::OutputTooShort);
+    }
+    store_head(out, at, patch);
+    Written::Wrote(at + size)
+}
