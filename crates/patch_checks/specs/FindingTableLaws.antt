@@ -246,18 +246,20 @@ module _ (f : Finding) (count : ℕ) (ns : List ℕ) where
     pub there-already : (i : ℕ) → placeOf findingKey (findingKey f) held ≡ Taken i → (count ≡ insertedCount f count ns) × (ns ≡ insertedNumbers f count ns)
     unfolding insertedFindings
     there-already i e =
-        let same = upsert-taken f held i e in
-        (sym held-count ∙ count-is held same,
-        sym (ap (λ l. l ++ drop (recordLength * length held) ns) held-words ∙ ap (λ n. take (recordLength * count) ns ++ drop (recordLength * n) ns) held-count ∙ take-append-drop (recordLength * count) ns) ∙ numbers-are held same)
+        let same = upsert-taken f held i e in (
+          sym held-count ∙ count-is held same,
+          sym (ap (λ l. l ++ drop (recordLength * length held) ns) held-words ∙ ap (λ n. take (recordLength * count) ns ++ drop (recordLength * n) ns) held-count ∙ take-append-drop (recordLength * count) ns) ∙ numbers-are held same,
+        )
 
     pub one-more : (i : ℕ) → placeOf findingKey (findingKey f) held ≡ Before i → i ≤ count → (ys : List ℕ)
         → ys ≡ pushFront (findingKey f) (midOf (recordLength * i) (recordLength * count + recordLength - recordLength * i) ns)
         → (count + 1 ≡ insertedCount f count ns) × (putMid (recordLength * i) (recordLength * count + recordLength - recordLength * i) ns ys ≡ insertedNumbers f count ns)
     unfolding insertedFindings
     one-more i e below ys h =
-        let more = upsert-before f held i e in
-        (omega (arith, length-insertAt i f held, held-count) ∙ count-is (insertAt i f held) more,
-        inserted ns count i f held (sym held-words) held-count below room ys h ∙ numbers-are (insertAt i f held) more)
+        let more = upsert-before f held i e in (
+          omega (arith, length-insertAt i f held, held-count) ∙ count-is (insertAt i f held) more,
+          inserted ns count i f held (sym held-words) held-count below room ys h ∙ numbers-are (insertAt i f held) more,
+        )
 
 -- ---- the findings one after the other
 
@@ -286,6 +288,6 @@ module _ (f : Finding) (raw : List Finding) (count : ℕ) (ns : List ℕ) (kept 
       record {
         counted = sym counts;
         words =
-          ap (λ n. take (recordLength * n) (insertedNumbers f count ns)) (sym counts) ∙ ap (take (recordLength * length sorted)) (sym numbers)
-          ∙ take-at (findingWords sorted) (drop (recordLength * length sorted) ns) _ (findingWords-length sorted);
+            ap (λ n. take (recordLength * n) (insertedNumbers f count ns)) (sym counts) ∙ ap (take (recordLength * length sorted)) (sym numbers)
+            ∙ take-at (findingWords sorted) (drop (recordLength * length sorted) ns) _ (findingWords-length sorted);
       }

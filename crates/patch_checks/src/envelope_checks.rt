@@ -56,7 +56,10 @@ pub fn envelope_findings(envelope: ProjectionPatchEnvelope) -> EnvelopeFindings
 }
 
 // The finding of an envelope's sequence and previous revision after those of the envelope before it.
-fn sequence_finding(before: ProjectionPatchEnvelope, envelope: ProjectionPatchEnvelope) -> OptionalFinding
+fn sequence_finding(
+    before: ProjectionPatchEnvelope,
+    envelope: ProjectionPatchEnvelope,
+) -> OptionalFinding
     ensures { λ r. ⌜ optionalOf r ≡ sequenceFindings (envelopeOf before) (envelopeOf envelope) ⌝ }
 {
     let last = before.sequence.raw();
@@ -77,15 +80,28 @@ fn sequence_finding(before: ProjectionPatchEnvelope, envelope: ProjectionPatchEn
     report_if(true, 11, id, sequence)
 }
 
-pub fn pair_findings(before: ProjectionPatchEnvelope, envelope: ProjectionPatchEnvelope) -> PairFindings
+pub fn pair_findings(
+    before: ProjectionPatchEnvelope,
+    envelope: ProjectionPatchEnvelope,
+) -> PairFindings
     ensures { λ r. ⌜ pairListed r ≡ pairFindings (envelopeOf before) (envelopeOf envelope) ⌝ }
 {
     let id = envelope.patch_id.raw();
     let last_id = before.patch_id.raw();
     PairFindings {
-        document: report_if(envelope.document_id.raw() != before.document_id.raw(), 7, id, last_id),
+        document: report_if(
+            envelope.document_id.raw() != before.document_id.raw(),
+            7,
+            id,
+            last_id,
+        ),
         epoch: report_if(envelope.epoch.raw() != before.epoch.raw(), 8, id, last_id),
-        stream: report_if(envelope.stream_id.raw() != before.stream_id.raw(), 9, id, last_id),
+        stream: report_if(
+            envelope.stream_id.raw() != before.stream_id.raw(),
+            9,
+            id,
+            last_id,
+        ),
         sequence: sequence_finding(before, envelope),
     }
 }

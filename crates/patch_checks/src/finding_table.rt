@@ -53,7 +53,14 @@ fn finding_place(records: &[u64], finding: Finding) -> Place
         let kind = records[at];
         let domain = records[at + 1];
         let secondary = records[at + 2];
-        match compare(Finding { kind, domain, secondary }, finding) {
+        match compare(
+            Finding {
+                kind,
+                domain,
+                secondary,
+            },
+            finding,
+        ) {
             Order::Below => {}
             Order::Same => {
                 return Place::Taken(place);

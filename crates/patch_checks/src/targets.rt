@@ -26,17 +26,29 @@ pub fn mutation_target(operation: ProjectionPatchOperation) -> MutationTarget
             first: target.node.raw(),
             second: target.slot.0 as u64,
         },
-        ProjectionPatchOperation::SetNodeAvailability { node, availability: _ } => MutationTarget {
+        ProjectionPatchOperation::SetNodeAvailability {
+            node,
+            availability: _,
+        } => MutationTarget {
             kind: 2,
             first: node.raw(),
             second: 0,
         },
-        ProjectionPatchOperation::CollectionInsert { collection, key, before: _, value: _ } => MutationTarget {
+        ProjectionPatchOperation::CollectionInsert {
+            collection,
+            key,
+            before: _,
+            value: _,
+        } => MutationTarget {
             kind: 3,
             first: collection.raw(),
             second: key.raw(),
         },
-        ProjectionPatchOperation::CollectionUpdate { collection, key, value: _ } => MutationTarget {
+        ProjectionPatchOperation::CollectionUpdate {
+            collection,
+            key,
+            value: _,
+        } => MutationTarget {
             kind: 4,
             first: collection.raw(),
             second: key.raw(),
@@ -46,7 +58,11 @@ pub fn mutation_target(operation: ProjectionPatchOperation) -> MutationTarget
             first: collection.raw(),
             second: key.raw(),
         },
-        ProjectionPatchOperation::CollectionMove { collection, key, before: _ } => MutationTarget {
+        ProjectionPatchOperation::CollectionMove {
+            collection,
+            key,
+            before: _,
+        } => MutationTarget {
             kind: 6,
             first: collection.raw(),
             second: key.raw(),
@@ -69,12 +85,34 @@ pub fn before_self(operation: ProjectionPatchOperation) -> bool
     ensures { λ r. ⌜ ((texts : List ℕ) → r ≡ beforeSelf (operationOf texts operation)) ⌝ }
 {
     match operation {
-        ProjectionPatchOperation::SetBindingValue { target: _, value: _ } => false,
-        ProjectionPatchOperation::SetNodeAvailability { node: _, availability: _ } => false,
-        ProjectionPatchOperation::CollectionInsert { collection: _, key, before, value: _ } => is_self(key, before),
-        ProjectionPatchOperation::CollectionUpdate { collection: _, key: _, value: _ } => false,
-        ProjectionPatchOperation::CollectionRemove { collection: _, key: _ } => false,
-        ProjectionPatchOperation::CollectionMove { collection: _, key, before } => is_self(key, before),
+        ProjectionPatchOperation::SetBindingValue {
+            target: _,
+            value: _,
+        } => false,
+        ProjectionPatchOperation::SetNodeAvailability {
+            node: _,
+            availability: _,
+        } => false,
+        ProjectionPatchOperation::CollectionInsert {
+            collection: _,
+            key,
+            before,
+            value: _,
+        } => is_self(key, before),
+        ProjectionPatchOperation::CollectionUpdate {
+            collection: _,
+            key: _,
+            value: _,
+        } => false,
+        ProjectionPatchOperation::CollectionRemove {
+            collection: _,
+            key: _,
+        } => false,
+        ProjectionPatchOperation::CollectionMove {
+            collection: _,
+            key,
+            before,
+        } => is_self(key, before),
     }
 }
 
@@ -99,7 +137,14 @@ pub fn target_seen(targets: &[u64], target: MutationTarget) -> bool
         let kind = targets[at];
         let first = targets[at + 1];
         let second = targets[at + 2];
-        if same_target(target, MutationTarget { kind, first, second }) {
+        if same_target(
+            target,
+            MutationTarget {
+                kind,
+                first,
+                second,
+            },
+        ) {
             return true;
         }
         at += 3;

@@ -50,9 +50,20 @@ returns c =
     let epochs = streams .before .before .before in
     let documents = epochs .before .before .before in
     let ids = documents .before .before .before in
-    rw (documents .report-if .ensures, epochs .report-if2 .ensures, streams .report-if3 .ensures, c .sequence-finding .ensures,
-      streams .before .raw8 .ensures, streams .before .before .raw7 .ensures, epochs .before .raw6 .ensures, epochs .before .before .raw5 .ensures,
-      documents .before .raw4 .ensures, documents .before .before .raw3 .ensures, ids .raw2 .ensures, ids .before .raw .ensures)
+    rw (
+      documents .report-if .ensures,
+      epochs .report-if2 .ensures,
+      streams .report-if3 .ensures,
+      c .sequence-finding .ensures,
+      streams .before .raw8 .ensures,
+      streams .before .before .raw7 .ensures,
+      epochs .before .raw6 .ensures,
+      epochs .before .before .raw5 .ensures,
+      documents .before .raw4 .ensures,
+      documents .before .before .raw3 .ensures,
+      ids .raw2 .ensures,
+      ids .before .raw .ensures,
+    )
 
 pub pair-findings-spec : {M : Type 1} → statement M
 pair-findings-spec =
