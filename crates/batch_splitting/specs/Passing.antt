@@ -1,18 +1,17 @@
 -- What a batch has to have to pass steps 1 to 8, and that the parts of such a batch have it.
 use Prim.Native.Nat.{ℕ, _+_, _≤_}
 use mathlib.Core.Path.{_≡_, refl, sym, ap, _∙_}
-use mathlib.Core.Bool.{Bool, true, false, not, _&&_, _||_}
+use mathlib.Core.Bool.{true, false, _||_}
 use mathlib.Core.List.{List, [], _∷_, _++_}
 use native.Mathlib.Omega.{arith}
 use borrow.Author.Tests.{leb-true, le-leb, eq-eqb, not-true}
 use lib.Dec.{leb, eqb}
 use lib.ListN.{length, length-append}
-use Rattle.spec_lists.specs.Lists.{if_then_else_, isEmpty}
 use Rattle.spec_lists.specs.ListLaws.{and-left, and-right, isEmpty-true}
 use Rattle.spec_patch.specs.Patch.{Operation, Patch}
 use Rattle.spec_patch.specs.Edition.{v1}
 use Rattle.spec_patch.specs.Encode.{encode}
-use Rattle.spec_patch.specs.Read.{patches, readSet}
+use Rattle.spec_patch.specs.Read.{patches}
 use Rattle.spec_patch.specs.Fits.{Fits, InRange}
 use Rattle.spec_patch.specs.FitsLaws.{fits-left, fits-right}
 use Rattle.spec_patch.specs.SetLaws.{reads-back, patches-inj}
@@ -23,8 +22,8 @@ use Rattle.spec_projection.specs.Apply.{operationsOf}
 use Rattle.spec_projection.specs.ApplyLaws.{operationsOf-append}
 use Rattle.spec_session.specs.Session.{Limits, Catalogue, Session}
 use Rattle.spec_session.specs.Lifecycle.{isClosed}
-use Rattle.spec_session.specs.Batch.{pass, _>>=_, _>>_, require, readable, inCatalogue, absentTargets, knownTargets, takesNumber, batchChecks}
-use Rattle.spec_session.specs.BatchLaws.{ChecksPassed, checks-passed}
+use Rattle.spec_session.specs.Batch.{pass, require, readable, absentTargets, knownTargets, takesNumber, batchChecks}
+use Rattle.spec_session.specs.BatchLaws.{checks-passed}
 use Rattle.batch_splitting.specs.Splitting.{Piece, envelopeOf, references}
 
 -- ---- a patch list that a session with these limits and this catalogue takes

@@ -1,24 +1,24 @@
 -- One piece, and a list of pieces, sent to a session that is ready for them.
 use Prim.Native.Nat.{ℕ, zero, suc, _+_, _-_, _≤_, _<_, _^_}
 use mathlib.Core.Path.{_≡_, refl, sym, ap, _∙_}
-use mathlib.Core.Bool.{Bool, true, false, _||_}
+use mathlib.Core.Bool.{true, false}
 use mathlib.Core.List.{List, [], _∷_, _++_, append-assoc, flatMap}
 use native.Mathlib.Omega.{arith}
 use borrow.Author.Tests.{eq-eqb, ne-eqb, lt-ltb}
 use lib.Dec.{eqb}
 use lib.ListN.{length}
-use Rattle.spec_lists.specs.Lists.{if_then_else_, All}
+use Rattle.spec_lists.specs.Lists.{All}
 use Rattle.spec_lists.specs.ListLaws.{or-true}
 use Rattle.spec_patch.specs.Sizes.{largestU64}
 use Rattle.spec_patch.specs.Patch.{Patch}
 use Rattle.spec_projection.specs.Projection.{Projection}
-use Rattle.spec_projection.specs.Apply.{OperationFault, Outcome, done, stopped, ReplayStep, replaySteps, applyStep, andThen, applySteps}
-use Rattle.spec_projection.specs.ApplyLaws.{done-injective, stopped-not-done, applySteps-append, replaySteps-append, Failure, failure}
+use Rattle.spec_projection.specs.Apply.{OperationFault, Outcome, done, stopped, ReplayStep, replaySteps, andThen, applySteps}
+use Rattle.spec_projection.specs.ApplyLaws.{done-injective, stopped-not-done, applySteps-append, replaySteps-append}
 use Rattle.spec_session.specs.Session.{Cursor, at, Session}
-use Rattle.spec_session.specs.Diagnostics.{ofOperation, diagnosticsOf}
+use Rattle.spec_session.specs.Diagnostics.{ofOperation}
 use Rattle.spec_session.specs.Lifecycle.{isClosed}
 use Rattle.spec_session.specs.Batch.{takesNumber, rejectBatch, advanced, applyBatch, candidate, commit, concludeBatch, batch}
-use Rattle.batch_splitting.specs.Splitting.{Piece, envelopeOf, references, send, Run, isRejected, continue, sendAll, patchesOf, Applies, AlikeBeside, cursorAfter, StopsAtPiece}
+use Rattle.batch_splitting.specs.Splitting.{Piece, envelopeOf, send, Run, isRejected, continue, sendAll, patchesOf, Applies, AlikeBeside, cursorAfter}
 use Rattle.batch_splitting.specs.Passing.{Acceptable, acceptable-left, acceptable-right, Passes, checks-pass}
 
 -- ---- a list of pieces that a session is ready for, from number n on

@@ -1,26 +1,24 @@
 -- The theorem on split batches: 01, 'Whole and pieces', over every session, sequence number, patch list and list of pieces cut from it.
-use Prim.Native.Nat.{ℕ, zero, suc, _+_, _-_, _≤_, _<_}
+use Prim.Native.Nat.{ℕ, zero, suc, _+_, _-_, _<_}
 use mathlib.Core.Path.{_≡_, refl, sym, ap, _∙_}
-use mathlib.Core.Bool.{_||_}
 use mathlib.Core.List.{List, [], _∷_, _++_, flatMap}
 use native.Mathlib.Omega.{arith}
 use borrow.Author.Tests.{ne-eqb}
-use lib.Dec.{eqb}
 use lib.ListN.{length, length-append}
 use Rattle.spec_lists.specs.Lists.{All}
 use Rattle.spec_lists.specs.ListLaws.{or-second}
 use Rattle.spec_patch.specs.Edition.{v1}
 use Rattle.spec_patch.specs.Encode.{encode}
 use Rattle.spec_projection.specs.Projection.{Projection}
-use Rattle.spec_projection.specs.Apply.{OperationFault, Outcome, done, stopped, ReplayStep, replaySteps, applySteps}
+use Rattle.spec_projection.specs.Apply.{OperationFault, Outcome, done, stopped, replaySteps, applySteps}
 use Rattle.spec_projection.specs.ApplyLaws.{stopped-not-done, failure}
 use Rattle.spec_session.specs.Session.{Cursor, at, Session}
 use Rattle.spec_session.specs.Diagnostics.{ofOperation, diagnosticsOf}
-use Rattle.spec_session.specs.Batch.{takesNumber, rejectBatch, advanced, applyBatch, candidate, commit, concludeBatch, batch}
+use Rattle.spec_session.specs.Batch.{rejectBatch, advanced, applyBatch, candidate, commit, concludeBatch, batch}
 use Rattle.spec_session.specs.BatchLaws.{Applied, batch-applied}
-use Rattle.batch_splitting.specs.Splitting.{Piece, envelopeOf, references, send, Run, sendAll, patchesOf, Given, Applies, AlikeBeside, AllApply, FailsAtOperation, cursorAfter, StopsAtPiece, WholeAndPieces}
+use Rattle.batch_splitting.specs.Splitting.{Piece, envelopeOf, references, send, sendAll, patchesOf, Given, Applies, AllApply, FailsAtOperation, cursorAfter, StopsAtPiece, WholeAndPieces}
 use Rattle.batch_splitting.specs.Passing.{Passes, passes-of-checks}
-use Rattle.batch_splitting.specs.Runs.{Ready, ready-passes, ready-next, goes-on, stops, ran-on, first-place, later-place, cursor-next, send-done, send-stopped, sendAll-done, sendAll-stopped, beside-refl, beside-advanced, Ends, run-applies}
+use Rattle.batch_splitting.specs.Runs.{Ready, ready-passes, ready-next, goes-on, stops, ran-on, first-place, later-place, cursor-next, send-done, send-stopped, sendAll-done, sendAll-stopped, beside-refl, beside-advanced, run-applies}
 
 -- ---- one piece is refused
 

@@ -3,7 +3,7 @@ use Prim.Native.Nat.{ℕ, _+_}
 use mathlib.Core.List.{List, [], _∷_, _++_, flatMap}
 use lib.ListN.{length}
 use Rattle.spec_lists.specs.Lists.{if_then_else_, isEmpty}
-use Rattle.spec_patch.specs.Patch.{Value, quad, signed, text, unsigned, Patch}
+use Rattle.spec_patch.specs.Patch.{Value, quad, signed, text, unsigned}
 use Rattle.spec_patch.specs.Edition.{v1}
 use Rattle.spec_patch.specs.Encode.{quadByte, availabilityByte}
 use Rattle.spec_patch.specs.Reader.{faultNumber}

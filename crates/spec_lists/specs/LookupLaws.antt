@@ -1,17 +1,15 @@
 -- Lookups: after an insertion in order, and that they determine an ascending list.
-use Prim.Native.Nat.{ℕ, suc, _≤_, _<_}
+use Prim.Native.Nat.{ℕ}
 use mathlib.Core.Path.{_≡_, refl, sym, ap, _∙_}
-use mathlib.Core.Bool.{Bool, true, false, false≢true, _&&_, _||_}
+use mathlib.Core.Bool.{true, false, false≢true}
 use mathlib.Core.List.{List, [], _∷_}
 use mathlib.Core.Option.{none, some, Option·map, Option·some-injective, Option·some-ne-none}
-use mathlib.Core.Logic.{_⊎_, inl, inr, _≢_}
-use native.Mathlib.Omega.{arith}
-use borrow.Author.Tests.{ltb-true, ltb-false, lt-ltb, le-ltb, eqb-true, eqb-false, eq-eqb}
-use lib.Dec.{ltb, eqb}
-use Rattle.spec_lists.specs.Lists.{if_then_else_, equalLists, All}
+use mathlib.Core.Logic.{_≢_}
+use lib.Dec.{eqb}
+use Rattle.spec_lists.specs.Lists.{equalLists, All}
 use Rattle.spec_lists.specs.ListLaws.{equalLists-refl, equalLists-true, test-cases}
-use Rattle.spec_lists.specs.Order.{lexLess, upsert, sortUnique, lookup, Ascending}
-use Rattle.spec_lists.specs.OrderLaws.{lexLess-self, lexLess-trans, lexLess-total, above, alike}
+use Rattle.spec_lists.specs.Order.{lexLess, upsert, lookup, Ascending}
+use Rattle.spec_lists.specs.OrderLaws.{lexLess-self, lexLess-total, above, alike}
 
 module _ {A : Type 0} (key : A → List ℕ) where
   pub lookup-here : (x : A) (l : List A) → lookup key (key x) (x ∷ l) ≡ some x

@@ -1,28 +1,27 @@
 -- The readers of values, operations, patches and sets read what was encoded and nothing else: by the laws of `Codec`, a line or two each.
 use Prim.Native.Nat.{ℕ, _+_, _-_, _^_, _≤_, _<_}
 use mathlib.Core.Path.{_≡_, refl, sym, ap, _∙_}
-use mathlib.Core.List.{List, [], _∷_, _++_, append-nil, append-assoc, flatMap, head-eq-of-cons-eq}
+use mathlib.Core.List.{List, [], _∷_, _++_, flatMap, head-eq-of-cons-eq}
 use mathlib.Core.Option.{Option, none, some}
-use mathlib.Core.Bool.{Bool, true, false}
+use mathlib.Core.Bool.{true}
 use native.Mathlib.Omega.{arith}
 use borrow.Author.Tests.{leb-true, le-leb}
 use lib.ListN.{length}
-use lib.Dec.{leb, lit<}
+use lib.Dec.{lit<}
 use lib.IntN.{ℤ}
 use mir.Syntax.{w64}
 use mir.Val.{SFits, toZ, ofZ}
 use mir.Facts.{toZ-ofZ, ofZ-toZ, fits-ofZ, sfits-toZ}
-use Rattle.spec_lists.specs.Lists.{if_then_else_, All}
-use Rattle.spec_lists.specs.Bytes.{Bytes, littleEndian}
+use Rattle.spec_lists.specs.Lists.{All}
 use Rattle.spec_text.specs.Syntax.{isUtf8}
 use Rattle.spec_patch.specs.Sizes.{setPatches, patchOperations, textBytes}
-use Rattle.spec_patch.specs.Patch.{Quad, N, F, T, S, Availability, available, unavailable, hidden, pending, stale, Value, quad, signed, text, unsigned, Operation, setBinding, setAvailability, insert, update, remove, move, Envelope, Patch}
+use Rattle.spec_patch.specs.Patch.{Quad, N, F, T, S, Availability, available, unavailable, hidden, pending, stale, Value, quad, signed, text, unsigned, Operation, setBinding, setAvailability, insert, update, remove, move, Patch}
 use Rattle.spec_patch.specs.Edition.{Edition, hasKind}
 use Rattle.spec_patch.specs.Encode.{u32, u64, encodeOptional, quadByte, availabilityByte, encodeText, kindOf, valueBody, encodeValue, encodeOperation, encodeEnvelope, encodeCounted, encodePatch, heading, encode}
-use Rattle.spec_patch.specs.Reader.{malformed, overCapacity, Result, read, refused, Reader, onward, followed, mapped, pair, checked, many, bytes, literal}
+use Rattle.spec_patch.specs.Reader.{malformed, overCapacity, read, Reader, pair, checked, many, bytes}
 use Rattle.spec_patch.specs.Read.{readU32, readU64, readI64, withinCapacity, readCount, readCounted, optionalAfter, readOptional, quadAfter, readQuad, availabilityAfter, readAvailability, readText, valueAfter, inEdition, readValue, toSetBinding, toSetAvailability, toInsert, toUpdate, toRemove, toMove, operationAfter, readOperation, toEnvelope, readEnvelope, toPatch, readPatch, readPatches}
 use Rattle.spec_patch.specs.Fits.{U64, U32, OptionalU64, OperationHolds, InRangeEnvelope, FitsText, Storable, FitsValue, FitsOperation, FitsPatch}
-use Rattle.spec_patch.specs.Codec.{Codec, never, Passed, if-read, nothing-codec, bytes-codec, number-codec, iso-codec, checked-codec, good-codec, followed-codec, pair-codec, many-codec, literal-codec, OnlyAfter, only-none, only-tag, back-after, tag-codec}
+use Rattle.spec_patch.specs.Codec.{Codec, if-read, nothing-codec, bytes-codec, number-codec, iso-codec, checked-codec, good-codec, followed-codec, pair-codec, many-codec, literal-codec, OnlyAfter, only-none, only-tag, back-after, tag-codec}
 
 -- ---- numbers
 

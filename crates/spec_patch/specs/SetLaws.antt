@@ -3,20 +3,20 @@
 use Prim.Native.Nat.{ℕ, _≤_}
 use mathlib.Core.Path.{_≡_, refl, sym, ap, subst, _∙_}
 use mathlib.Core.Bool.{Bool, true, false}
-use mathlib.Core.List.{List, [], _∷_, _++_, append-nil}
+use mathlib.Core.List.{List, [], _∷_, append-nil}
 use native.Mathlib.Omega.{arith}
 use borrow.Author.Tests.{le-leb, leb-true}
 use lib.Dec.{leb}
 use lib.ListN.{length}
-use Rattle.spec_lists.specs.Lists.{if_then_else_, All}
+use Rattle.spec_lists.specs.Lists.{if_then_else_}
 use Rattle.spec_lists.specs.Bytes.{Bytes}
-use Rattle.spec_patch.specs.Sizes.{setBytes, setPatches}
+use Rattle.spec_patch.specs.Sizes.{setBytes}
 use Rattle.spec_patch.specs.Patch.{Patch}
 use Rattle.spec_patch.specs.Edition.{Edition}
 use Rattle.spec_patch.specs.Encode.{encode}
-use Rattle.spec_patch.specs.Fits.{FitsPatch, Fits}
-use Rattle.spec_patch.specs.Reader.{Fault, malformed, overCapacity, Result, read, refused}
-use Rattle.spec_patch.specs.Read.{readPatches, SetReading, patches, fault, ended, readSet}
+use Rattle.spec_patch.specs.Fits.{Fits}
+use Rattle.spec_patch.specs.Reader.{Fault, overCapacity, Result, read, refused}
+use Rattle.spec_patch.specs.Read.{readPatches, patches, fault, ended, readSet}
 use Rattle.spec_patch.specs.ReadLaws.{patches-codec}
 
 -- a fault is no list of patches

@@ -1,10 +1,10 @@
 -- The reader is strict: a patch list in range whose canonical bytes are read at all fits. So a reader that passes is proof of the
 -- capacities, and nothing has to be asked of the list beforehand.
-use Prim.Native.Nat.{ℕ, zero, suc, _+_, _≤_, _<_, _^_}
-use mathlib.Core.Path.{_≡_, refl, sym, ap, _∙_}
+use Prim.Native.Nat.{ℕ, suc, _+_, _≤_, _<_, _^_}
+use mathlib.Core.Path.{_≡_, refl}
 use mathlib.Core.Bool.{Bool, true, false}
 use mathlib.Core.List.{List, [], _∷_, _++_, append-assoc, append-nil, flatMap}
-use mathlib.Core.Option.{Option, none, some}
+use mathlib.Core.Option.{some}
 use native.Mathlib.Omega.{arith}
 use borrow.Author.Tests.{leb-true}
 use lib.Dec.{leb, lit<}
@@ -13,14 +13,14 @@ use Rattle.spec_lists.specs.Lists.{if_then_else_, All}
 use Rattle.spec_lists.specs.BytesLaws.{length-littleEndian}
 use Rattle.spec_text.specs.Syntax.{isUtf8}
 use Rattle.spec_patch.specs.Sizes.{setBytes, setPatches, patchOperations, textBytes}
-use Rattle.spec_patch.specs.Patch.{Value, quad, signed, text, unsigned, Operation, setBinding, setAvailability, insert, update, remove, move, Envelope, Patch}
+use Rattle.spec_patch.specs.Patch.{Value, quad, signed, text, unsigned, Operation, setBinding, setAvailability, insert, update, remove, move, Patch}
 use Rattle.spec_patch.specs.Edition.{Edition, hasKind}
 use Rattle.spec_patch.specs.Encode.{u32, u64, encodeOptional, encodeText, kindOf, valueBody, encodeValue, encodeOperation, encodeEnvelope, encodeCounted, encodePatch, heading, encode}
 use Rattle.spec_patch.specs.Fits.{U64, U32, OptionalU64, InRangeValue, OperationHolds, InRangeEnvelope, InRangePatch, InRange, FitsText, Storable, FitsValue, FitsOperation, FitsPatch, Fits}
-use Rattle.spec_patch.specs.Reader.{Fault, malformed, overCapacity, Result, read, refused, Reader, onward, followed, mapped, pair, checked, many, byte, bytes, literal}
-use Rattle.spec_patch.specs.Read.{readU64, readU32, readOptional, readCount, readCounted, readText, valueAfter, inEdition, readValue, toSetBinding, toInsert, toUpdate, operationAfter, readOperation, readEnvelope, toPatch, readPatch, readPatches, SetReading, patches, fault, ended, readSet}
-use Rattle.spec_patch.specs.Codec.{Codec, many-back}
-use Rattle.spec_patch.specs.ReadLaws.{u64-codec, u32-codec, optional-codec, count-codec, text-codec, operation-codec, envelope-codec, patch-codec}
+use Rattle.spec_patch.specs.Reader.{malformed, overCapacity, Result, read, refused, Reader, onward, pair, checked, many, bytes, literal}
+use Rattle.spec_patch.specs.Read.{readU64, readU32, readOptional, readCount, readCounted, readText, valueAfter, inEdition, readValue, operationAfter, readOperation, readEnvelope, readPatch, readPatches, patches, fault, ended, readSet}
+use Rattle.spec_patch.specs.Codec.{Codec}
+use Rattle.spec_patch.specs.ReadLaws.{u64-codec, u32-codec, optional-codec, count-codec, operation-codec, envelope-codec, patch-codec}
 use Rattle.spec_patch.specs.Codec.{bytes-codec, literal-codec}
 use Rattle.spec_patch.specs.SetLaws.{no-patches}
 

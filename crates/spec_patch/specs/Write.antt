@@ -1,7 +1,7 @@
 -- The writer: 01, 'Rejections': it tests 12, then 10, then 14.
 use Prim.Native.Nat.{ℕ}
-use mathlib.Core.Bool.{Bool, true, false, _&&_}
-use mathlib.Core.List.{List, [], _∷_}
+use mathlib.Core.Bool.{Bool, true, _&&_}
+use mathlib.Core.List.{List}
 use lib.Dec.{leb}
 use lib.ListN.{length}
 use Rattle.spec_lists.specs.Lists.{if_then_else_, all}

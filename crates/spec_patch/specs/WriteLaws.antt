@@ -1,8 +1,8 @@
 -- Given room, the writer succeeds exactly for the lists that fit, and reading its bytes gives the list back.
 use Prim.Native.Nat.{ℕ, _≤_}
-use mathlib.Core.Path.{_≡_, refl, sym, ap, _∙_}
-use mathlib.Core.Bool.{Bool, true, false, _&&_}
-use mathlib.Core.List.{List, [], _∷_}
+use mathlib.Core.Path.{_≡_, refl, ap, _∙_}
+use mathlib.Core.Bool.{Bool, true, false}
+use mathlib.Core.List.{List}
 use mathlib.Core.Logic.{_↔_}
 use native.Mathlib.Omega.{arith}
 use borrow.Author.Tests.{leb-true, le-leb}
@@ -10,14 +10,13 @@ use lib.Dec.{leb}
 use lib.ListN.{length}
 use Rattle.spec_lists.specs.Lists.{if_then_else_, all, All}
 use Rattle.spec_lists.specs.ListLaws.{and-left, and-right, all-map, all-of-test, test-of-all}
-use Rattle.spec_text.specs.Syntax.{isUtf8}
 use Rattle.spec_patch.specs.Sizes.{setBytes, setPatches, patchOperations, textBytes}
 use Rattle.spec_patch.specs.Patch.{Value, quad, signed, text, unsigned, Operation, setBinding, setAvailability, insert, update, remove, move, Patch}
 use Rattle.spec_patch.specs.Edition.{Edition, hasKind}
 use Rattle.spec_patch.specs.Encode.{kindOf, encode}
-use Rattle.spec_patch.specs.Fits.{InRangeValue, OperationHolds, InRangePatch, InRange, Storable, FitsText, FitsValue, FitsOperation, FitsPatch, Fits}
+use Rattle.spec_patch.specs.Fits.{InRangeValue, OperationHolds, InRangePatch, InRange, Storable, FitsValue, FitsOperation, FitsPatch, Fits}
 use Rattle.spec_patch.specs.Read.{patches, readSet}
-use Rattle.spec_patch.specs.Write.{WriteRefusal, overCapacity, malformed, outputTooShort, valuePasses, allValues, shortEnough, withinCapacities, allowedText, wellFormed, Written, wrote, refused, write}
+use Rattle.spec_patch.specs.Write.{WriteRefusal, overCapacity, malformed, outputTooShort, valuePasses, allValues, shortEnough, withinCapacities, allowedText, wellFormed, wrote, refused, write}
 use Rattle.spec_patch.specs.SetLaws.{reads-back}
 
 -- ---- a property of an operation's value, and a test of it

@@ -13,7 +13,7 @@ use Rattle.spec_checks.specs.Findings.{findings}
 use Rattle.spec_projection.specs.Projection.{Projection}
 use Rattle.spec_projection.specs.Effects.{Target, bindingTarget, nodeTarget, collectionTarget, targetOf}
 use Rattle.spec_projection.specs.Apply.{Outcome, done, stopped, applySteps, replaySteps, operationsOf}
-use Rattle.spec_session.specs.Session.{Cursor, uninitialized, at, Limits, BindingPair, Catalogue, Session}
+use Rattle.spec_session.specs.Session.{Cursor, uninitialized, at, BindingPair, Catalogue, Session}
 use Rattle.spec_session.specs.Diagnostics.{SessionRefusal, sessionMismatch, sessionClosed, limitExceeded, countsDiffer, unknownTarget, cursorMismatch, checksFailed, ofReading, ofOperation, Diagnostics, noDiagnostics, diagnosticsOf}
 use Rattle.spec_session.specs.Lifecycle.{isClosed, Disposition, applied, noChange, rejected}
 

@@ -1,7 +1,7 @@
 -- What follows from steps 1 to 8 that passed; a batch that is applied has run all its operations, and any other leaves the session as it
 -- was.
 use Prim.Native.Nat.{ℕ}
-use mathlib.Core.Path.{_≡_, refl, sym, ap, _∙_}
+use mathlib.Core.Path.{_≡_, refl, ap, _∙_}
 use mathlib.Core.Bool.{Bool, true, false, not, _&&_, _||_}
 use mathlib.Core.List.{List}
 use native.Mathlib.Omega.{arith}
@@ -17,8 +17,8 @@ use Rattle.spec_projection.specs.Projection.{Projection}
 use Rattle.spec_projection.specs.Apply.{Outcome, done, stopped, applySteps, replaySteps, operationsOf}
 use Rattle.spec_session.specs.Session.{Session}
 use Rattle.spec_session.specs.Diagnostics.{SessionRefusal, sessionMismatch, sessionClosed, limitExceeded, countsDiffer, unknownTarget, cursorMismatch, checksFailed}
-use Rattle.spec_session.specs.Lifecycle.{isClosed, Disposition, applied, noChange, rejected}
-use Rattle.spec_session.specs.Batch.{BatchEnvelope, BatchStep, Check, pass, refuse, _>>=_, _>>_, require, readable, absentTargets, knownTargets, takesNumber, batchChecks, rejectBatch, keepSession, applyBatch, candidate, commit, concludeBatch, batch}
+use Rattle.spec_session.specs.Lifecycle.{isClosed, Disposition, applied, rejected}
+use Rattle.spec_session.specs.Batch.{BatchEnvelope, Check, pass, refuse, _>>=_, _>>_, require, readable, absentTargets, knownTargets, takesNumber, batchChecks, rejectBatch, keepSession, applyBatch, candidate, commit, concludeBatch, batch}
 
 -- ---- one check
 

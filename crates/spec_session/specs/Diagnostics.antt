@@ -1,6 +1,5 @@
 -- Refusals in session answers, their numbers and stages, and diagnostics under the cap: 01, 'Rejections' and 'Diagnostics under the cap'.
 use Prim.Native.Nat.{ℕ, zero, suc, min}
-use mathlib.Core.Bool.{Bool}
 use mathlib.Core.List.{List, [], _∷_}
 use mathlib.Core.Option.{Option, none, some}
 use lib.Dec.{eqb}

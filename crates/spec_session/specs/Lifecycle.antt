@@ -4,7 +4,7 @@ use mathlib.Core.Bool.{Bool, true, false}
 use mathlib.Core.Option.{Option, none, some}
 use lib.Dec.{leb}
 use Rattle.spec_lists.specs.Lists.{if_then_else_}
-use Rattle.spec_session.specs.Session.{Lifecycle, created, active, suspended, closed, Cursor, Limits, Session}
+use Rattle.spec_session.specs.Session.{Lifecycle, created, active, suspended, closed, Cursor, Session}
 use Rattle.spec_session.specs.Diagnostics.{SessionRefusal, sessionClosed, wrongLifecycle, limitExceeded, Diagnostics, noDiagnostics, diagnosticsOf}
 
 -- the four commands, and the explicit no-op

@@ -1,6 +1,5 @@
 -- The invariant of a session: what holds of every session that creation and the session's calls can give. 01, 'Conditions of acceptance'.
-use Prim.Native.Nat.{ℕ, _≤_}
-use mathlib.Core.List.{List}
+use Prim.Native.Nat.{_≤_}
 use lib.ListN.{length}
 use Rattle.spec_lists.specs.Lists.{All}
 use Rattle.spec_patch.specs.Sizes.{anchors}

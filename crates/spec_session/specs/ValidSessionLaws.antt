@@ -1,8 +1,8 @@
 -- The invariant holds at creation and after every lifecycle and batch step; and a lifecycle step that is rejected leaves the session as it
 -- was.
-use Prim.Native.Nat.{ℕ, _≤_}
+use Prim.Native.Nat.{ℕ}
 use mathlib.Core.Path.{_≡_, refl, sym, ap, subst}
-use mathlib.Core.Bool.{Bool, true, false, _&&_}
+use mathlib.Core.Bool.{Bool, true, false}
 use mathlib.Core.List.{List}
 use mathlib.Core.Option.{Option, none, some}
 use native.Mathlib.Omega.{arith}
@@ -21,13 +21,13 @@ use Rattle.spec_projection.specs.Projection.{Projection}
 use Rattle.spec_projection.specs.Apply.{Outcome, done, stopped, applySteps, replaySteps}
 use Rattle.spec_projection.specs.Valid.{Valid}
 use Rattle.spec_projection.specs.ValidLaws.{empty-valid, applySteps-valid, replaySteps-fit}
-use Rattle.spec_session.specs.Session.{Lifecycle, Limits, Catalogue, Session, CreationRefusal, tooManyAnchors, Creation, made, refused, newSession, anchorsFit, create}
+use Rattle.spec_session.specs.Session.{Lifecycle, Limits, Catalogue, Session, tooManyAnchors, made, refused, newSession, anchorsFit, create}
 use Rattle.spec_session.specs.Diagnostics.{sessionClosed, wrongLifecycle, limitExceeded}
-use Rattle.spec_session.specs.Lifecycle.{Stimulus, Disposition, applied, LifecycleStep, isClosed, transition, dispositionOf, withLifecycle, rejectLifecycle, enterLifecycle, lifecycleStep}
+use Rattle.spec_session.specs.Lifecycle.{Stimulus, applied, LifecycleStep, isClosed, transition, dispositionOf, withLifecycle, rejectLifecycle, enterLifecycle, lifecycleStep}
 use Rattle.spec_session.specs.Lifecycle as lifecycle
 use Rattle.spec_session.specs.Batch.{BatchEnvelope, Check, pass, refuse, batchChecks, rejectBatch, keepSession, advanced, applyBatch, candidate, commit, concludeBatch, batch}
 use Rattle.spec_session.specs.BatchLaws.{checks-passed}
-use Rattle.spec_session.specs.ValidSession.{CursorFits, LimitsFit, AnchorsInRange, FewAnchors, ValidSession}
+use Rattle.spec_session.specs.ValidSession.{LimitsFit, AnchorsInRange, FewAnchors, ValidSession}
 
 -- ---- at creation
 

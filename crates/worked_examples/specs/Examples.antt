@@ -1,22 +1,22 @@
 -- The twelve starred examples of 01, 'Settled examples', as one table of computed tests.
 use Prim.Native.Nat.{ℕ, zero, suc, _+_, _^_, _-_}
 use mathlib.Core.Bool.{Bool, true, false, _&&_}
-use mathlib.Core.List.{List, [], _∷_, _++_, map}
-use mathlib.Core.Option.{Option, none, some}
+use mathlib.Core.List.{List, [], _∷_, map}
+use mathlib.Core.Option.{none, some}
 use lib.Dec.{T, eqb}
 use lib.IntN.{negsuc}
 use lib.ListN.{length, replicate}
 use Rattle.spec_lists.specs.Lists.{all, equalLists, isEmpty}
 use Rattle.spec_patch.specs.Patch as patch
-use Rattle.spec_patch.specs.Patch.{Operation, Envelope, Patch, quad, signed, text, unsigned, setBinding, setAvailability, insert, update, move, pending}
+use Rattle.spec_patch.specs.Patch.{Operation, Patch, quad, signed, text, unsigned, setBinding, setAvailability, insert, update, move, pending}
 use Rattle.spec_patch.specs.Edition.{v1}
 use Rattle.spec_patch.specs.Encode.{encodeValue, encode}
 use Rattle.spec_patch.specs.Reader.{faultNumber}
 use Rattle.spec_patch.specs.Read.{SetReading, patches, fault, readSet}
-use Rattle.spec_checks.specs.Finding.{Finding, findingKey}
+use Rattle.spec_checks.specs.Finding.{findingKey}
 use Rattle.spec_checks.specs.Findings.{findings}
 use Rattle.spec_projection.specs.Projection.{Entry, empty}
-use Rattle.spec_projection.specs.Apply.{Outcome, done, stopped, operationFaultNumber, ReplayStep, applySteps, operationsOf}
+use Rattle.spec_projection.specs.Apply.{Outcome, done, stopped, operationFaultNumber, applySteps, operationsOf}
 use Rattle.spec_session.specs.Session.{Cursor, uninitialized, at, Session, active}
 use Rattle.spec_session.specs.Lifecycle.{Disposition, applied, noChange, rejected}
 use Rattle.spec_session.specs.Batch.{BatchAnswer, batch}

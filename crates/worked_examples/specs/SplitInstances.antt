@@ -1,6 +1,6 @@
 -- The theorem on split batches speaks of something: a list of two patches that applies whole and in two pieces, and one that fails only at
 -- an operation, which stands in the second piece.
-use Prim.Native.Nat.{ℕ, _+_, _≤_, _<_, _^_}
+use Prim.Native.Nat.{ℕ, _+_}
 use mathlib.Core.Path.{_≡_, refl}
 use mathlib.Core.List.{List, [], _∷_}
 use mathlib.Core.Option.{none}
