@@ -1,0 +1,94 @@
+//! Times of both sides on the same sets. The proved program is timed as a process at two repeat counts, and the
+//! difference is taken; the original is timed in this process, without what it takes to copy its arguments.
+use std::hint::black_box;
+use std::io::Write;
+use std::process::{Command, Stdio};
+use std::time::Instant;
+
+use prom_ui::shell_bridge::glue::{self, BuiltPatch, Checked, RawPatch};
+
+use crate::{bench_sets, sets};
+
+const RUNS: usize = 7;
+
+/// Seconds that the program takes for so many repeats of one way of using a set.
+fn process_seconds(program: &str, way: char, count: u64, set: &[u8]) -> f64 {
+    let start = Instant::now();
+    let mut child =
+        Command::new(program).stdin(Stdio::piped()).stdout(Stdio::null()).spawn().expect("the program starts");
+    let mut input = format!("{way} {count}\n").into_bytes();
+    input.extend(set);
+    child.stdin.take().unwrap().write_all(&input).unwrap();
+    assert!(child.wait().unwrap().success());
+    start.elapsed().as_secs_f64()
+}
+
+fn least(runs: impl Fn() -> f64) -> f64 {
+    (0..RUNS).map(|_| runs()).fold(f64::INFINITY, f64::min)
+}
+
+/// Nanoseconds of the proved program for one repeat.
+pub fn proved(program: &str, way: char, set: &[u8]) -> f64 {
+    let mut count = 1_000;
+    while process_seconds(program, way, count, set) < 0.1 {
+        count *= 4;
+    }
+    let long = least(|| process_seconds(program, way, 2 * count, set));
+    let short = least(|| process_seconds(program, way, count, set));
+    (long - short) / count as f64 * 1e9
+}
+
+/// Nanoseconds of one call, over arguments that were made before.
+pub fn original<A, B>(make: impl Fn() -> A, call: impl Fn(A) -> B) -> f64 {
+    const CALLS: usize = 200;
+    least(|| {
+        let arguments: Vec<A> = (0..CALLS).map(|_| make()).collect();
+        let mut answers = Vec::with_capacity(CALLS);
+        let start = Instant::now();
+        for argument in arguments {
+            answers.push(call(black_box(argument)));
+        }
+        let seconds = start.elapsed().as_secs_f64();
+        black_box(answers);
+        seconds / CALLS as f64 * 1e9
+    })
+}
+
+fn built(patches: &[RawPatch]) -> Vec<BuiltPatch> {
+    patches.iter().map(|p| glue::build(p).expect("ids above 0")).collect()
+}
+
+fn admitted(checked: Checked) -> prom_ui::shell_bridge::AdmittedProjectionPatchBatch {
+    match checked {
+        Checked::Admitted(batch) => batch,
+        _ => panic!("the benchmark sets have no findings"),
+    }
+}
+
+fn show(what: &str, proved: f64, original: f64) {
+    println!("{what:40} {proved:12.0} ns {original:12.0} ns {:8.2}", proved / original);
+}
+
+/// Reading, beside building the same list from values and giving its canonical bytes.
+pub fn reading(program: &str) {
+    let patches = bench_sets::texts();
+    let set = sets::encode(&patches);
+    let ours = proved(program, 'r', &set);
+    let theirs = original(|| (), |_| glue::canonical_bytes(&admitted(glue::check(built(&patches)))));
+    show(&format!("read {} bytes", set.len()), ours, theirs);
+    println!("{:40} {:12.0} MB/s {:10.0} MB/s", "", set.len() as f64 / ours * 1e3, set.len() as f64 / theirs * 1e3);
+}
+
+/// The patch checks (with reading; with and without a list of findings), beside the constructors of patches and sets.
+pub fn checking(program: &str) {
+    for patches in [1, 20] {
+        for operations in [1, 16, 128] {
+            let list = bench_sets::grid(patches, operations);
+            let set = sets::encode(&list);
+            let theirs = original(|| built(&list), |b| admitted(glue::check(b)));
+            for (way, name) in [('q', "quick check"), ('k', "check")] {
+                show(&format!("{name} {patches} x {operations}"), proved(program, way, &set), theirs);
+            }
+        }
+    }
+}

@@ -1,0 +1,73 @@
+//! The sets that the benchmarks use: all readable and without findings, the first patch with a surface.
+use prom_ui::shell_bridge::glue::RawPatch;
+use prom_ui::shell_bridge::{BridgePatchEnvelope, BridgePatchOperation, BridgeValue};
+
+use crate::sets;
+
+const ASCII: &str = "Tighten the four hexagon bolts of the pump cover crosswise to 45 Nm; replace the sealing ring each time.";
+const GREEK: &str = "Σφίξτε τα τέσσερα μπουλόνια του καλύμματος της αντλίας σταυρωτά.";
+const JAPANESE: &str = "ポンプカバーの六角ボルト四本を対角線の順に締め付けてください。";
+
+fn envelope(index: u64) -> BridgePatchEnvelope {
+    BridgePatchEnvelope {
+        patch_id: 100 + index,
+        stream_id: 1,
+        document_id: 1,
+        previous_revision: index,
+        revision: index + 1,
+        epoch: 1,
+        sequence: index,
+    }
+}
+
+fn patch(index: u64, operations: Vec<BridgePatchOperation>) -> RawPatch {
+    RawPatch { envelope: envelope(index), surface: (index == 0).then_some(1), operations }
+}
+
+fn text(i: u64) -> BridgeValue {
+    BridgeValue::Text([ASCII, GREEK, JAPANESE][(i % 3) as usize].to_string())
+}
+
+/// A set of inserts with texts, as near below 32,768 bytes as they come.
+pub fn texts() -> Vec<RawPatch> {
+    let mut patches: Vec<RawPatch> = Vec::new();
+    loop {
+        let index = patches.len() as u64;
+        let insert = |i: u64| BridgePatchOperation::CollectionInsert {
+            collection: 9,
+            key: index * 10 + i + 1,
+            before: None,
+            value: text(i),
+        };
+        patches.push(patch(index, (0..10).map(insert).collect()));
+        if sets::encode(&patches).len() > 32_768 {
+            patches.pop();
+            return patches;
+        }
+    }
+}
+
+fn mixed(i: u64) -> BridgePatchOperation {
+    let (collection, key, before) = (9, i + 1, Some(i + 2));
+    match i % 6 {
+        0 => BridgePatchOperation::SetBindingValue { node: i, slot: 1, value: BridgeValue::Unsigned(i) },
+        1 => BridgePatchOperation::SetNodeAvailability { node: i, availability: sets::availability((i % 5) as u8) },
+        2 => BridgePatchOperation::CollectionInsert { collection, key, before, value: BridgeValue::Signed(-1) },
+        3 => BridgePatchOperation::CollectionUpdate { collection, key, value: BridgeValue::Quad(sets::quad(2)) },
+        4 => BridgePatchOperation::CollectionRemove { collection, key },
+        _ => BridgePatchOperation::CollectionMove { collection, key, before },
+    }
+}
+
+/// So many patches of so many operations with different targets; of all six kinds where 32,768 bytes suffice, else
+/// availabilities alone.
+pub fn grid(patches: u64, operations: u64) -> Vec<RawPatch> {
+    let of = |make: &dyn Fn(u64) -> BridgePatchOperation| -> Vec<RawPatch> {
+        (0..patches).map(|p| patch(p, (1..=operations).map(|i| make(i)).collect())).collect()
+    };
+    let all = of(&mixed);
+    if sets::encode(&all).len() <= 32_768 {
+        return all;
+    }
+    of(&|i| BridgePatchOperation::SetNodeAvailability { node: i, availability: sets::availability(0) })
+}
