@@ -1,0 +1,76 @@
+// Uses one set many times. The input is a letter for the use, a space, how often in decimal, a line end and the set. The last answer is
+// printed, so that no use can be left out.
+ghost use Prim.Native.Nat.{_≤_};
+ghost use lib.ListN.{length};
+use decimal::ReadU64;
+use libc::STDIN_FILENO;
+use libc::STDOUT_FILENO;
+use projection_patch_sets::SetRead;
+
+// The surface of the first patch, which no rule looks at; a new one for each use keeps the uses apart.
+const SURFACE: usize = 60;
+
+// The number of operations, or the refusal's number.
+fn read(set: &[u8]) -> u64 {
+    match projection_patch_sets::read_set(set) {
+        SetRead::Read {
+            patch_count: _,
+            operation_count,
+        } => operation_count as u64,
+        SetRead::Refused(fault) => fault.number(),
+    }
+}
+
+fn read_often(set: &mut [u8], times: u64) -> u64 {
+    let mut last = 0;
+    let mut left = times;
+    while 0 < left {
+        wire::write_u64_at(set, SURFACE, left);
+        last = read(set);
+        left -= 1;
+    }
+    last
+}
+
+// The position of the first line end, or the length.
+fn line_end(input: &[u8]) -> usize
+    ensures { λ r. ⌜ r ≤ length (now (input .entry)) ⌝ }
+{
+    let mut at = 0;
+    while at < input.len() {
+        if input[at] == b'\n' {
+            return at;
+        }
+        at += 1;
+    }
+    at
+}
+
+fn use_often(way: u8, set: &mut [u8], times: u64) -> u64 {
+    if way == b'r' {
+        return read_often(set, times);
+    }
+    0
+}
+
+fn run(input: &mut [u8]) -> u64 {
+    let end = line_end(input);
+    if end < 3 {
+        return 0;
+    }
+    if input.len() - end < 1 {
+        return 0;
+    }
+    let way = input[0];
+    match decimal::read_u64(&input[2..end]) {
+        ReadU64::Read(times) => use_often(way, &mut input[end + 1..], times),
+        ReadU64::Malformed => 0,
+    }
+}
+
+fn main() {
+    let mut input = io::large_buffer();
+    let n = io::read_full(STDIN_FILENO, &mut input);
+    io::print_decimal(STDOUT_FILENO, run(&mut input[..n]));
+    io::write_all(STDOUT_FILENO, b"\n");
+}
