@@ -1,0 +1,31 @@
+-- What the catalogue's fields stand for in spec_session: 01, step 7 of a batch, and 'Sizes'.
+use Prim.Native.Nat.{ℕ, _-_}
+use mathlib.Core.Path.{_≡_}
+use mathlib.Core.Bool.{Bool, false, _&&_, _||_}
+use mathlib.Core.List.{List, [], _∷_, _++_, map}
+use lib.Dec.{eqb}
+use lib.ListN.{length, take}
+use Rattle.spec_session.specs.Session as model
+use Rattle.active_projection_target_catalog.specs.declared.catalog.BindingPair.{BindingPair}
+use Rattle.active_projection_target_catalog.specs.declared.catalog.ActiveProjectionTargetCatalog.{ActiveProjectionTargetCatalog}
+
+abbrev pub pairOf : BindingPair → model.BindingPair
+pairOf b = record { node = b .node; slot = b .slot }
+
+-- the anchors that the counts name; the rest of the arrays is unused
+unfoldable pub catalogueOf : ActiveProjectionTargetCatalog → model.Catalogue
+catalogueOf c = record {
+  nodes = take (c .«node_count») (c .«node_anchors»);
+  bindings = map pairOf (take (c .«binding_count») (c .«binding_anchors»));
+  collections = take (c .«collection_count») (c .«collection_anchors»);
+}
+
+-- a pair as two numbers
+unfoldable pub pairNumbers : BindingPair → List ℕ
+pairNumbers b = b .node ∷ b .slot ∷ []
+
+-- the pair is one of those in the list, two numbers each
+unfoldable pub pairSeen : ℕ → ℕ → List ℕ → Bool
+pairSeen node slot [] = false
+pairSeen node slot (n ∷ []) = false
+pairSeen node slot (n ∷ s ∷ ns) = (eqb n node && eqb s slot) || pairSeen node slot ns

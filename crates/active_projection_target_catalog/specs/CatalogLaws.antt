@@ -1,0 +1,86 @@
+-- The scan over the numbers of pairs says what step 7 asks of the pairs.
+use Prim.Native.Nat.{ℕ, zero, suc, _+_, _-_, _*_, _≤_, _<_}
+use mathlib.Core.Path.{_≡_, refl, sym, ap, _∙_}
+use mathlib.Core.Bool.{Bool, true, false, _&&_, _||_}
+use mathlib.Core.List.{List, [], _∷_, _++_, map, flatMap}
+use native.Mathlib.Omega.{arith}
+use lib.Dec.{eqb}
+use borrow.Author.Tests.{eq-eqb, ne-eqb}
+use lib.ListN.{length, take, drop, getD, set}
+use lib.Seq.{drop-cons, take-suc, take-all}
+use Rattle.spec_lists.specs.Lists.{any}
+use Rattle.spec_lists.specs.ListLaws.{flatMap-append}
+use Rattle.spec_session.specs.Session as model
+use Rattle.active_projection_target_catalog.specs.Catalog.{pairOf, pairNumbers, pairSeen}
+use Rattle.active_projection_target_catalog.specs.declared.catalog.BindingPair.{BindingPair}
+
+pub seen-pairs : (node slot : ℕ) (bs : List BindingPair) → pairSeen node slot (flatMap pairNumbers bs) ≡ any (λ (b : model.BindingPair). eqb (b .node) node && eqb (b .slot) slot) (map pairOf bs)
+unfolding pairSeen pairNumbers flatMap
+seen-pairs node slot [] = refl
+seen-pairs node slot (b ∷ bs) = ap (λ t. (eqb (b .node) node && eqb (b .slot) slot) || t) (seen-pairs node slot bs)
+
+-- two numbers stored at a position, as the taking apart of one more pair does
+stored-two : (ns : List ℕ) (at a b : ℕ) → at + 2 ≤ length ns → take (suc (suc at)) (set (set ns at a) (suc at) b) ≡ take at ns ++ (a ∷ b ∷ [])
+stored-two [] at a b h = absurd (omega arith)
+stored-two (x ∷ []) at a b h = absurd (omega arith)
+stored-two (x ∷ y ∷ ns) zero a b h = refl
+stored-two (x ∷ y ∷ ns) (suc at) a b h = ap (λ l. x ∷ l) (stored-two (y ∷ ns) at a b (omega arith))
+
+pub one-more-pair : (bs : List BindingPair) (ns : List ℕ) (i : ℕ) (d : BindingPair) → i < length bs → 2 * i + 2 ≤ length ns → take (2 * i) ns ≡ flatMap pairNumbers (take i bs)
+    → take (2 * (i + 1)) (set (set ns (2 * i) (getD bs i d .node)) (2 * i + 1) (getD bs i d .slot)) ≡ flatMap pairNumbers (take (i + 1) bs)
+unfolding pairNumbers flatMap
+one-more-pair bs ns i d below room e =
+    let next : 2 * (i + 1) ≡ suc (suc (2 * i)) = omega arith in
+    let odd : 2 * i + 1 ≡ suc (2 * i) = omega arith in
+    let more : i + 1 ≡ suc i = omega arith in
+    rw (next, odd, more) (
+      stored-two ns (2 * i) (getD bs i d .node) (getD bs i d .slot) room
+      ∙ ap (λ l. l ++ (getD bs i d .node ∷ getD bs i d .slot ∷ [])) e
+      ∙ sym (ap (flatMap pairNumbers) (take-suc bs i d below) ∙ flatMap-append pairNumbers (take i bs) (getD bs i d ∷ []))
+    )
+
+pub all-pairs : (bs : List BindingPair) (ns : List ℕ) (i : ℕ) → length ns ≤ 2 * i → length bs ≤ i → take (2 * i) ns ≡ flatMap pairNumbers (take i bs) → ns ≡ flatMap pairNumbers bs
+all-pairs bs ns i numbers pairs e = sym (take-all (2 * i) ns numbers) ∙ e ∙ ap (flatMap pairNumbers) (take-all i bs pairs)
+
+-- ---- the turns of the scans
+
+two-at : (ns : List ℕ) (at : ℕ) → at + 2 ≤ length ns → drop at ns ≡ getD ns at 0 ∷ getD ns (at + 1) 0 ∷ drop (at + 2) ns
+two-at ns at h =
+    let one : at + 1 ≡ suc at = omega arith in
+    let two : at + 2 ≡ suc (suc at) = omega arith in
+    rw (one, two, drop-cons ns at 0 (omega arith), drop-cons ns (suc at) 0 (omega arith))
+
+seen-turn : (node slot : ℕ) (ns : List ℕ) (at : ℕ) → at + 2 ≤ length ns
+    → pairSeen node slot (drop at ns) ≡ ((eqb (getD ns at 0) node && eqb (getD ns (at + 1) 0) slot) || pairSeen node slot (drop (at + 2) ns))
+unfolding pairSeen
+seen-turn node slot ns at h = ap (pairSeen node slot) (two-at ns at h)
+
+module _ (node slot : ℕ) (ns : List ℕ) (at : ℕ) (within : at + 2 ≤ length ns) where
+  pub seen-here : (eqb (getD ns at 0) node && eqb (getD ns (at + 1) 0) slot) ≡ true → pairSeen node slot (drop at ns) ≡ true
+  seen-here e = seen-turn node slot ns at within ∙ rw e
+
+  pub seen-on : (eqb (getD ns at 0) node && eqb (getD ns (at + 1) 0) slot) ≡ false → pairSeen node slot (drop at ns) ≡ pairSeen node slot (drop (at + 2) ns)
+  seen-on e = seen-turn node slot ns at within ∙ rw e
+
+-- fewer than two numbers are no pair
+pub seen-end : (node slot : ℕ) (ns : List ℕ) → length ns < 2 → pairSeen node slot ns ≡ false
+unfolding pairSeen
+seen-end node slot [] h = refl
+seen-end node slot (n ∷ []) h = refl
+seen-end node slot (n ∷ s ∷ ns) h = absurd (omega arith)
+
+any-turn : (test : ℕ → Bool) (ns : List ℕ) (at : ℕ) → at < length ns → any test (drop at ns) ≡ (test (getD ns at 0) || any test (drop (at + 1) ns))
+any-turn test ns at h = let one : at + 1 ≡ suc at = omega arith in rw one (ap (any test) (drop-cons ns at 0 h))
+
+module _ (id : ℕ) (ns : List ℕ) (at : ℕ) (within : at < length ns) where
+  pub id-here : id ≡ getD ns at 0 → any (eqb id) (drop at ns) ≡ true
+  id-here e = any-turn (eqb id) ns at within ∙ rw (eq-eqb id (getD ns at 0) e)
+
+  pub id-on : (id ≡ getD ns at 0 → ⊥) → any (eqb id) (drop at ns) ≡ any (eqb id) (drop (at + 1) ns)
+  id-on n = any-turn (eqb id) ns at within ∙ rw (ne-eqb id (getD ns at 0) n)
+
+pub id-end : (id : ℕ) (ns : List ℕ) (at : ℕ) → length ns ≤ at → any (eqb id) (drop at ns) ≡ false
+id-end id [] zero h = refl
+id-end id [] (suc at) h = refl
+id-end id (n ∷ ns) zero h = absurd (omega arith)
+id-end id (n ∷ ns) (suc at) h = id-end id ns at (omega arith)
