@@ -4,7 +4,8 @@ use mathlib.Core.Path.{_≡_}
 use mathlib.Core.Bool.{Bool, false, _&&_, _||_}
 use mathlib.Core.List.{List, [], _∷_, _++_, map}
 use lib.Dec.{eqb}
-use lib.ListN.{length, take}
+use lib.ListN.{length, take, replicate}
+use Rattle.spec_patch.specs.Sizes.{anchors}
 use Rattle.spec_session.specs.Session as model
 use Rattle.active_projection_target_catalog.specs.declared.catalog.BindingPair.{BindingPair}
 use Rattle.active_projection_target_catalog.specs.declared.catalog.ActiveProjectionTargetCatalog.{ActiveProjectionTargetCatalog}
@@ -19,6 +20,35 @@ catalogueOf c = record {
   bindings = map pairOf (take (c .«binding_count») (c .«binding_anchors»));
   collections = take (c .«collection_count») (c .«collection_anchors»);
 }
+
+-- ---- an array of anchors: the first that there is room for, and zeros behind them
+
+abbrev pub noPair : BindingPair
+noPair = record { node = 0; slot = 0 }
+
+unfoldable pub padded : {A : Type 0} → A → List A → List A
+padded none l = take anchors l ++ replicate (anchors - length l) none
+
+-- the catalogue of given anchors
+unfoldable pub catalogWith : List ℕ → List BindingPair → ℕ → List ℕ → ActiveProjectionTargetCatalog
+catalogWith nodes pairs count collections = record {
+  «node_count» = length nodes;
+  «binding_count» = count;
+  «collection_count» = length collections;
+  «node_anchors» = padded 0 nodes;
+  «binding_anchors» = padded noPair (take count pairs);
+  «collection_anchors» = padded 0 collections;
+}
+
+-- a pair of the model
+abbrev pub pairTo : model.BindingPair → BindingPair
+pairTo b = record { node = b .node; slot = b .slot }
+
+-- the one catalogue that stores the anchors of a session
+unfoldable pub catalogTo : model.Catalogue → ActiveProjectionTargetCatalog
+catalogTo m = catalogWith (m .nodes) (map pairTo (m .bindings)) (length (m .bindings)) (m .collections)
+
+-- ---- pairs taken apart
 
 -- a pair as two numbers
 unfoldable pub pairNumbers : BindingPair → List ℕ

@@ -2,16 +2,19 @@
 use Prim.Native.Nat.{ℕ, zero, suc, _+_, _-_, _*_, _≤_, _<_}
 use mathlib.Core.Path.{_≡_, refl, sym, ap, _∙_}
 use mathlib.Core.Bool.{Bool, true, false, _&&_, _||_}
-use mathlib.Core.List.{List, [], _∷_, _++_, map, flatMap}
+use mathlib.Core.List.{List, [], _∷_, _++_, map, flatMap, append-assoc}
 use native.Mathlib.Omega.{arith}
 use lib.Dec.{eqb}
 use borrow.Author.Tests.{eq-eqb, ne-eqb}
-use lib.ListN.{length, take, drop, getD, set}
-use lib.Seq.{drop-cons, take-suc, take-all}
+use lib.ListN.{length, take, drop, getD, set, replicate, drop-of-length-le, length-map}
+use lib.Seq.{drop-cons, take-suc, take-all, take-at, length-take-le, set-at}
 use Rattle.spec_lists.specs.Lists.{any}
 use Rattle.spec_lists.specs.ListLaws.{flatMap-append}
+use Rattle.spec_patch.specs.Sizes.{anchors}
 use Rattle.spec_session.specs.Session as model
-use Rattle.active_projection_target_catalog.specs.Catalog.{pairOf, pairNumbers, pairSeen}
+use Rattle.spec_session.specs.Session.{Catalogue}
+use Rattle.spec_session.specs.ValidSession.{FewAnchors}
+use Rattle.active_projection_target_catalog.specs.Catalog.{pairOf, pairTo, noPair, padded, catalogueOf, catalogWith, catalogTo, pairNumbers, pairSeen}
 use Rattle.active_projection_target_catalog.specs.declared.catalog.BindingPair.{BindingPair}
 
 pub seen-pairs : (node slot : ℕ) (bs : List BindingPair) → pairSeen node slot (flatMap pairNumbers bs) ≡ any (λ (b : model.BindingPair). eqb (b .node) node && eqb (b .slot) slot) (map pairOf bs)
@@ -34,9 +37,9 @@ one-more-pair bs ns i d below room e =
     let odd : 2 * i + 1 ≡ suc (2 * i) = omega arith in
     let more : i + 1 ≡ suc i = omega arith in
     rw (next, odd, more) (
-      stored-two ns (2 * i) (getD bs i d .node) (getD bs i d .slot) room
-      ∙ ap (λ l. l ++ (getD bs i d .node ∷ getD bs i d .slot ∷ [])) e
-      ∙ sym (ap (flatMap pairNumbers) (take-suc bs i d below) ∙ flatMap-append pairNumbers (take i bs) (getD bs i d ∷ []))
+    stored-two ns (2 * i) (getD bs i d .node) (getD bs i d .slot) room
+    ∙ ap (λ l. l ++ (getD bs i d .node ∷ getD bs i d .slot ∷ [])) e
+    ∙ sym (ap (flatMap pairNumbers) (take-suc bs i d below) ∙ flatMap-append pairNumbers (take i bs) (getD bs i d ∷ []))
     )
 
 pub all-pairs : (bs : List BindingPair) (ns : List ℕ) (i : ℕ) → length ns ≤ 2 * i → length bs ≤ i → take (2 * i) ns ≡ flatMap pairNumbers (take i bs) → ns ≡ flatMap pairNumbers bs
@@ -80,7 +83,52 @@ module _ (id : ℕ) (ns : List ℕ) (at : ℕ) (within : at < length ns) where
   id-on n = any-turn (eqb id) ns at within ∙ rw (ne-eqb id (getD ns at 0) n)
 
 pub id-end : (id : ℕ) (ns : List ℕ) (at : ℕ) → length ns ≤ at → any (eqb id) (drop at ns) ≡ false
-id-end id [] zero h = refl
-id-end id [] (suc at) h = refl
-id-end id (n ∷ ns) zero h = absurd (omega arith)
-id-end id (n ∷ ns) (suc at) h = id-end id ns at (omega arith)
+id-end id ns at h = ap (any (eqb id)) (drop-of-length-le ns h)
+
+-- ---- an array of anchors, filled one by one
+
+module _ {A : Type 0} (z : A) (l : List A) (i : ℕ) where
+  pub padded-turn : (d : A) → i < length l → i < anchors → set (take i l ++ replicate (anchors - i) z) i (getD l i d) ≡ take (i + 1) l ++ replicate (anchors - (i + 1)) z
+  padded-turn d below room =
+      let more : i + 1 ≡ suc i = omega arith in
+      let places : anchors - i ≡ suc (anchors - (i + 1)) = omega arith in
+      ap (λ n. set (take i l ++ replicate n z) i (getD l i d)) places
+      ∙ set-at (take i l) z (replicate (anchors - (i + 1)) z) (getD l i d) i (length-take-le i l (omega arith))
+      ∙ sym (append-assoc (take i l) (getD l i d ∷ []) (replicate (anchors - (i + 1)) z))
+      ∙ ap (λ t. t ++ replicate (anchors - (i + 1)) z) (sym (take-suc l i d below) ∙ ap (λ n. take n l) (sym more))
+
+  pub padded-short : length l ≡ i → i ≤ anchors → take i l ++ replicate (anchors - i) z ≡ padded z l
+  unfolding padded
+  padded-short e room =
+      ap (λ t. t ++ replicate (anchors - i) z) (take-all i l (omega arith) ∙ sym (take-all anchors l (omega arith)))
+      ∙ ap (λ n. take anchors l ++ replicate (anchors - n) z) (sym e)
+
+  pub padded-full : i ≡ anchors → anchors ≤ length l → take i l ++ replicate (anchors - i) z ≡ padded z l
+  unfolding padded
+  padded-full e full =
+      ap (λ n. take n l ++ replicate (anchors - n) z) e
+      ∙ ap (λ n. take anchors l ++ replicate n z) (let same : anchors - anchors ≡ anchors - length l = omega arith in same)
+
+-- ---- the catalogue of given anchors
+
+-- so many anchors as there is room for are those that the catalogue names
+padded-take : {A : Type 0} (z : A) (l : List A) → length l ≤ anchors → take (length l) (padded z l) ≡ l
+unfolding padded
+padded-take z l few = ap (λ t. take (length l) (t ++ replicate (anchors - length l) z)) (take-all anchors l few) ∙ take-at l (replicate (anchors - length l) z) (length l) refl
+
+pub catalogue-back : (m : Catalogue) → FewAnchors m → catalogueOf (catalogTo m) ≡ m
+unfolding catalogueOf catalogTo catalogWith
+catalogue-back m few =
+    let pairs = map pairTo (m .bindings) in
+    let count = length (m .bindings) in
+    let counted : length pairs ≡ count = length-map (m .bindings) pairTo in
+    let kept : take count (padded noPair (take count pairs)) ≡ pairs =
+    ap (λ l. take count (padded noPair l)) (take-all count pairs (omega (arith, counted))) ∙ ap (λ n. take n (padded noPair pairs)) (sym counted)
+    ∙ padded-take noPair pairs (omega (arith, counted, few .bindings)) in
+    let nodes = padded-take 0 (m .nodes) (few .nodes) in
+    let collections = padded-take 0 (m .collections) (few .collections) in
+    λ i. record { nodes = nodes i; bindings = (ap (map pairOf) kept ∙ there-and-back (m .bindings)) i; collections = collections i }
+  where
+    there-and-back : (bs : List model.BindingPair) → map pairOf (map pairTo bs) ≡ bs
+    there-and-back [] = refl
+    there-and-back (b ∷ bs) = ap (λ l. b ∷ l) (there-and-back bs)

@@ -1,8 +1,8 @@
 // The catalogue by value: fixed arrays with their counts, and zeros in every unused place.
 ghost use mathlib.Core.Path.{_≡_};
-ghost use mathlib.Core.List.{List, _++_, flatMap, map};
-ghost use Prim.Native.Nat.{ℕ};
-ghost use Rattle.active_projection_target_catalog.specs.Catalog.{pairOf, pairNumbers};
+ghost use mathlib.Core.List.{flatMap};
+ghost use lib.ListN.{take};
+ghost use Rattle.active_projection_target_catalog.specs.Catalog.{pairNumbers, noPair, padded, catalogWith};
 
 pub struct BindingPair {
     pub node: u64,
@@ -21,6 +21,26 @@ pub struct ActiveProjectionTargetCatalog {
 impl ActiveProjectionTargetCatalog {
     // The most anchors of each kind.
     pub const ANCHORS: usize = 128;
+
+    // The catalogue of these anchors, the pairs being the first given ones. Anchors past the capacity are left out; creation refuses
+    // them before.
+    pub fn from_snapshot(
+        nodes: &[u64],
+        pairs: [BindingPair; ActiveProjectionTargetCatalog::ANCHORS],
+        given: usize,
+        collections: &[u64],
+    ) -> ActiveProjectionTargetCatalog
+        ensures { λ r. ⌜ r ≡ catalogWith (now (nodes .entry)) pairs given (now (collections .entry)) ⌝ }
+    {
+        ActiveProjectionTargetCatalog {
+            node_count: nodes.len(),
+            binding_count: given,
+            collection_count: collections.len(),
+            node_anchors: padded_ids(nodes),
+            binding_anchors: padded_pairs(pairs, given),
+            collection_anchors: padded_ids(collections),
+        }
+    }
 }
 
 // The pairs taken apart, node and slot of each in turn, so that they can be lent.
@@ -36,4 +56,40 @@ pub fn pair_numbers(pairs: [BindingPair; ActiveProjectionTargetCatalog::ANCHORS]
         i += 1;
     }
     numbers
+}
+
+// The ids that fit an array of anchors, and zeros in every other place.
+pub fn padded_ids(ids: &[u64]) -> [u64; ActiveProjectionTargetCatalog::ANCHORS]
+    ensures { λ r. ⌜ r ≡ padded 0 (now (ids .entry)) ⌝ }
+{
+    let mut anchors = [0u64; ActiveProjectionTargetCatalog::ANCHORS];
+    let mut i = 0;
+    while i < ActiveProjectionTargetCatalog::ANCHORS {
+        if ids.len() <= i {
+            return anchors;
+        }
+        anchors[i] = ids[i];
+        i += 1;
+    }
+    anchors
+}
+
+// The first count pairs, and zeros in every other place.
+pub fn padded_pairs(
+    pairs: [BindingPair; ActiveProjectionTargetCatalog::ANCHORS],
+    count: usize,
+) -> [BindingPair; ActiveProjectionTargetCatalog::ANCHORS]
+    ensures { λ r. ⌜ r ≡ padded noPair (take count pairs) ⌝ }
+{
+    let mut anchors = [BindingPair { node: 0, slot: 0 }; ActiveProjectionTargetCatalog::ANCHORS];
+    let mut i = 0;
+    while i < ActiveProjectionTargetCatalog::ANCHORS {
+        if count <= i {
+            return anchors;
+        }
+        let pair = pairs[i];
+        anchors[i] = pair;
+        i += 1;
+    }
+    anchors
 }

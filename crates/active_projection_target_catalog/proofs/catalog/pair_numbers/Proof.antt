@@ -1,9 +1,9 @@
 use Prim.Native.Nat.{_+_, _-_, _*_, _≤_, _<_}
 use mathlib.Core.Path.{_≡_, refl, sym, ap, _∙_}
 use native.Mathlib.Omega.{arith}
-use Prim.Native.Nat.{ℕ}
-use mathlib.Core.List.{List, map, flatMap}
-use lib.ListN.{length, take, set, length-map}
+use mathlib.Core.List.{flatMap}
+use lib.ListN.{length, take}
+use Rattle.active_projection_target_catalog.proofs.Arrays.{unmapped}
 use Rattle.active_projection_target_catalog.specs.Catalog.{pairNumbers}
 use Rattle.active_projection_target_catalog.specs.CatalogLaws.{one-more-pair, all-pairs}
 use borrow.Author.Needs.{needs}
@@ -11,10 +11,6 @@ use Rattle.active_projection_target_catalog.proofs.catalog.pair_numbers
   statement,
 }
 use Rattle.active_projection_target_catalog.proofs.catalog.pair_numbers.Tie as tie
-
--- the length of an array, whose elements a relation holds at a map over them
-unmapped : (X Y : Type 0) (f : X → Y) (l : List X) (n : ℕ) → length (map f l) ≡ n → length l ≡ n
-unmapped X Y f l n e = sym (length-map l f) ∙ e
 
 abbrev Inv-loop : tie.InvT-loop
 Inv-loop pairs numbers₀ i₀ numbers i = (i ≤ 128) × ((length numbers ≡ 256) × (take (2 * i) numbers ≡ flatMap pairNumbers (take i pairs)))
