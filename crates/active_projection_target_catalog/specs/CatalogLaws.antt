@@ -116,6 +116,10 @@ padded-take : {A : Type 0} (z : A) (l : List A) → length l ≤ anchors → tak
 unfolding padded
 padded-take z l few = ap (λ t. take (length l) (t ++ replicate (anchors - length l) z)) (take-all anchors l few) ∙ take-at l (replicate (anchors - length l) z) (length l) refl
 
+pub pairs-back : (bs : List model.BindingPair) → map pairOf (map pairTo bs) ≡ bs
+pairs-back [] = refl
+pairs-back (b ∷ bs) = ap (λ l. b ∷ l) (pairs-back bs)
+
 pub catalogue-back : (m : Catalogue) → FewAnchors m → catalogueOf (catalogTo m) ≡ m
 unfolding catalogueOf catalogTo catalogWith
 catalogue-back m few =
@@ -127,8 +131,4 @@ catalogue-back m few =
     ∙ padded-take noPair pairs (omega (arith, counted, few .bindings)) in
     let nodes = padded-take 0 (m .nodes) (few .nodes) in
     let collections = padded-take 0 (m .collections) (few .collections) in
-    λ i. record { nodes = nodes i; bindings = (ap (map pairOf) kept ∙ there-and-back (m .bindings)) i; collections = collections i }
-  where
-    there-and-back : (bs : List model.BindingPair) → map pairOf (map pairTo bs) ≡ bs
-    there-and-back [] = refl
-    there-and-back (b ∷ bs) = ap (λ l. b ∷ l) (there-and-back bs)
+    λ i. record { nodes = nodes i; bindings = (ap (map pairOf) kept ∙ pairs-back (m .bindings)) i; collections = collections i }

@@ -23,7 +23,7 @@ use Rattle.spec_projection.specs.ApplyLaws.{operationsOf-append}
 use Rattle.spec_session.specs.Session.{Limits, Catalogue, Session}
 use Rattle.spec_session.specs.Lifecycle.{isClosed}
 use Rattle.spec_session.specs.Batch.{pass, require, readable, absentTargets, knownTargets, takesNumber, batchChecks}
-use Rattle.spec_session.specs.BatchLaws.{checks-passed}
+use Rattle.spec_session.specs.BatchLaws.{checks-passed, absent-append}
 use Rattle.batch_splitting.specs.Splitting.{Piece, envelopeOf, references}
 
 -- ---- a patch list that a session with these limits and this catalogue takes
@@ -34,11 +34,6 @@ pub record Acceptable (l : Limits) (c : Catalogue) (ps : List Patch) : Type 0 wh
   pub few : length ps ≤ l .patches
   pub references : length (operationsOf ps) ≤ l .references
   pub known : absentTargets c (operationsOf ps) ≡ 0
-
-absent-append : (c : Catalogue) (a b : List Operation) → absentTargets c (a ++ b) ≡ absentTargets c a + absentTargets c b
-unfolding absentTargets
-absent-append c [] b = omega arith
-absent-append c (o ∷ a) b = omega (arith, absent-append c a b)
 
 -- counts of two parts add up to those of the whole
 module _ (l : Limits) (c : Catalogue) (a b : List Patch) (h : Acceptable l c (a ++ b)) where

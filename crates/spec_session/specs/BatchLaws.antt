@@ -1,21 +1,21 @@
 -- What follows from steps 1 to 8 that passed; a batch that is applied has run all its operations, and any other leaves the session as it
 -- was.
-use Prim.Native.Nat.{ℕ}
+use Prim.Native.Nat.{ℕ, _+_}
 use mathlib.Core.Path.{_≡_, refl, ap, _∙_}
 use mathlib.Core.Bool.{Bool, true, false, not, _&&_, _||_}
-use mathlib.Core.List.{List}
+use mathlib.Core.List.{List, [], _∷_, _++_}
 use native.Mathlib.Omega.{arith}
 use borrow.Author.Tests.{eqb-true, eqb-false}
 use lib.Dec.{leb, eqb}
 use lib.ListN.{length}
 use Rattle.spec_lists.specs.Lists.{if_then_else_, isEmpty}
-use Rattle.spec_patch.specs.Patch.{Patch}
+use Rattle.spec_patch.specs.Patch.{Operation, Patch}
 use Rattle.spec_patch.specs.Edition.{v1}
 use Rattle.spec_patch.specs.Read.{SetReading, patches, fault, readSet}
 use Rattle.spec_checks.specs.Findings.{findings}
 use Rattle.spec_projection.specs.Projection.{Projection}
 use Rattle.spec_projection.specs.Apply.{Outcome, done, stopped, applySteps, replaySteps, operationsOf}
-use Rattle.spec_session.specs.Session.{Session}
+use Rattle.spec_session.specs.Session.{Catalogue, Session}
 use Rattle.spec_session.specs.Diagnostics.{SessionRefusal, sessionMismatch, sessionClosed, limitExceeded, countsDiffer, unknownTarget, cursorMismatch, checksFailed}
 use Rattle.spec_session.specs.Lifecycle.{isClosed, Disposition, applied, rejected}
 use Rattle.spec_session.specs.Batch.{BatchEnvelope, Check, pass, refuse, _>>=_, _>>_, require, readable, absentTargets, knownTargets, takesNumber, batchChecks, rejectBatch, keepSession, applyBatch, candidate, commit, concludeBatch, batch}
@@ -139,3 +139,9 @@ batch-applied s e references set a = by-checks (batchChecks s e references set) 
     by-checks : (c : Check (List Patch)) → batchChecks s e references set ≡ c → concludeBatch s e c .answer .disposition ≡ applied → Applied s e references set
     by-checks (refuse r n) c a = never refl a
     by-checks (pass ps) c a = by-outcome ps (applySteps (s .projection) (replaySteps ps)) c refl a
+
+-- absent targets are counted part by part
+pub absent-append : (c : Catalogue) (a b : List Operation) → absentTargets c (a ++ b) ≡ absentTargets c a + absentTargets c b
+unfolding absentTargets
+absent-append c [] b = omega arith
+absent-append c (o ∷ a) b = omega (arith, absent-append c a b)
