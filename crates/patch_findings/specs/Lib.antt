@@ -9,3 +9,5 @@ pub mod InsertFindings
 pub mod InsertFindingsLaws
 pub mod Found
 pub mod FoundLaws
+pub mod Ids
+pub mod IdsLaws

@@ -2,5 +2,6 @@
 pub mod envelope_checks;
 pub mod finding_table;
 pub mod found;
+pub mod ids;
 pub mod insert_findings;
 pub mod targets;
