@@ -5,11 +5,11 @@ use mathlib.Core.List.{List, [], _∷_, _++_}
 use mathlib.Core.Option.{Option, none, some}
 use lib.Dec.{eqb}
 use lib.ListN.{length}
-use Rattle.spec_lists.specs.Lists.{any}
 use Rattle.spec_patch.specs.Patch.{Operation, Envelope, Patch}
 use Rattle.spec_checks.specs.Target.{mutationTarget}
 use Rattle.spec_checks.specs.PatchChecks.{beforeSelf, envelopeFindings}
 use Rattle.spec_checks.specs.SetChecks.{pairFindings}
+use Rattle.patch_findings.specs.Ids.{idSeen}
 use Rattle.patch_findings.specs.Targets.{targetNumbers, targetSeen}
 use Rattle.patch_findings.specs.Found.{isFound}
 
@@ -32,15 +32,12 @@ headFound e count = eqb count 0 || isFound (envelopeFindings e)
 unfoldable pub patchFound : Patch → Bool
 patchFound p = headFound (p .envelope) (length (p .operations)) || operationsFound (p .operations)
 
--- kind 4: the id is among those of earlier patches
-unfoldable pub idSeen : ℕ → List ℕ → Bool
-idSeen id ids = any (λ n. eqb n id) ids
-
 -- the kinds of neighbours
 unfoldable pub previousFound : Option Envelope → Envelope → Bool
 previousFound none e = false
 previousFound (some q) e = isFound (pairFindings q e)
 
+-- kind 4, and these
 unfoldable pub afterFound : List ℕ → Option Envelope → Envelope → Bool
 afterFound ids previous e = idSeen (e .id) ids || previousFound previous e
 

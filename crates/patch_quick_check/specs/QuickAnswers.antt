@@ -3,6 +3,7 @@ use Prim.Native.Nat.{ℕ}
 use mathlib.Core.Bool.{Bool}
 use mathlib.Core.List.{List}
 use mathlib.Core.Option.{Option, none, some}
+use lib.Dec.{ltb}
 use lib.ListN.{length}
 use Rattle.spec_lists.specs.Lists.{if_then_else_}
 use Rattle.spec_patch.specs.Patch.{Operation, Envelope, Patch}
@@ -11,6 +12,7 @@ use Rattle.spec_patch.specs.Read.{SetReading, patches, fault}
 use Rattle.spec_checks.specs.Findings.{findings}
 use Rattle.projection_patch.specs.Meaning.{envelopeOf}
 use Rattle.projection_patch.specs.ReadAnswers.{faultTo, answer, anywhere}
+use Rattle.projection_patch.specs.declared.read_values.ProjectionPatchReadFault.the-variants.{Malformed}
 use Rattle.projection_patch_sets.specs.Walk.{headOf}
 use Rattle.projection_patch_sets.specs.SetAnswers.{headTo, operationCount}
 use Rattle.patch_findings.specs.Found.{isFound}
@@ -42,3 +44,10 @@ patchAnswer = answer (anywhere checkedTo) patch-read.Read patch-read.Refused
 abbrev pub quickAnswer : SetReading → QuickCheck
 quickAnswer (patches ps) = if isFound (findings ps .found) then quick.Found else quick.Clean (length ps) (operationCount ps)
 quickAnswer (fault f) = quick.Refused (faultTo f)
+
+-- the answer behind the last patch: bytes left are 10
+abbrev pub endAnswer : ℕ → Bool → ℕ → ℕ → QuickCheck
+endAnswer left found count operations =
+    if ltb 0 left then quick.Refused Malformed else
+    if found then quick.Found else
+    quick.Clean count operations

@@ -3,6 +3,7 @@ use crate::quick_operations;
 use crate::quick_operations::OperationsChecked;
 use patch_findings::envelope_checks;
 use patch_findings::found;
+use patch_findings::ids;
 use projection_patch::patch::ProjectionPatch;
 use projection_patch::patch::ProjectionPatchEnvelope;
 use projection_patch::read_values::ProjectionPatchReadFault;
@@ -11,12 +12,12 @@ ghost use mathlib.Core.Path.{_≡_};
 ghost use mathlib.Core.Bool.{_||_};
 ghost use mathlib.Core.List.{List};
 ghost use Prim.Native.Nat.{ℕ, _*_, _≤_, _<_};
-ghost use lib.ListN.{length, take, drop};
+ghost use lib.ListN.{length, take, drop, set};
 ghost use Rattle.spec_patch.specs.Sizes.{patchOperations};
 ghost use Rattle.spec_patch.specs.Edition.{v1};
 ghost use Rattle.spec_patch.specs.Read.{readPatch};
 ghost use Rattle.projection_patch.specs.Meaning.{envelopeOf};
-ghost use Rattle.patch_quick_check.specs.Quick.{headFound, idSeen, previousFound, afterFound};
+ghost use Rattle.patch_quick_check.specs.Quick.{headFound, previousFound, afterFound};
 ghost use Rattle.patch_quick_check.specs.QuickAnswers.{previousOf, patchAnswer};
 
 pub enum PreviousEnvelope {
@@ -36,10 +37,13 @@ pub enum PatchCheckRead {
     Refused(ProjectionPatchReadFault),
 }
 
-// Whether a patch's head has a finding.
-fn head_found(head: ProjectionPatch) -> bool
-    ensures { λ r. ⌜ r ≡ headFound (envelopeOf (head .envelope)) (head .«operation_count») ⌝ }
+// Whether a patch has a finding, by its head and by what its operations told.
+fn patch_found(head: ProjectionPatch, operations: bool) -> bool
+    ensures { λ r. ⌜ r ≡ (headFound (envelopeOf (head .envelope)) (head .«operation_count») || operations) ⌝ }
 {
+    if operations {
+        return true;
+    }
     if head.operation_count == 0 {
         return true;
     }
@@ -59,10 +63,10 @@ pub fn check_patch(set: &[u8], at: usize, targets: &mut [u64]) -> PatchCheckRead
             head.operation_count,
             targets,
         ) {
-            OperationsChecked::Read(operations_found, end) => PatchCheckRead::Read(
+            OperationsChecked::Read(found, end) => PatchCheckRead::Read(
                 PatchChecked {
                     head,
-                    found: head_found(head) || operations_found,
+                    found: patch_found(head, found),
                 },
                 end,
             ),
@@ -70,4 +74,43 @@ pub fn check_patch(set: &[u8], at: usize, targets: &mut [u64]) -> PatchCheckRead
         },
         PatchHeadRead::Refused(fault) => PatchCheckRead::Refused(fault),
     }
+}
+
+// Whether an envelope has a finding after that of the patch just before it.
+fn previous_found(previous: PreviousEnvelope, envelope: ProjectionPatchEnvelope) -> bool
+    ensures { λ r. ⌜ r ≡ previousFound (previousOf previous) (envelopeOf envelope) ⌝ }
+{
+    match previous {
+        PreviousEnvelope::None => false,
+        PreviousEnvelope::Some(last) => {
+            found::pair_found(envelope_checks::pair_findings(last, envelope))
+        }
+    }
+}
+
+// Whether there was a finding before, or in the patch itself, or in its envelope after those before it. Its id is put behind the first
+// used numbers.
+pub fn after_found(
+    earlier: bool,
+    own: bool,
+    ids: &mut [u64],
+    used: usize,
+    previous: PreviousEnvelope,
+    envelope: ProjectionPatchEnvelope,
+) -> bool
+    requires { ⌜ used < length (now ids) ⌝ }
+    ensures found { λ r. ⌜ r ≡ ((earlier || own) || afterFound (take used (now (ids .entry))) (previousOf previous) (envelopeOf envelope)) ⌝ }
+    ensures kept { λ _. ⌜ now (ids .exit) ≡ set (now (ids .entry)) used (envelopeOf envelope .id) ⌝ }
+{
+    let seen = ids::id_before(ids, used, envelope.patch_id.raw());
+    if earlier {
+        return true;
+    }
+    if own {
+        return true;
+    }
+    if seen {
+        return true;
+    }
+    previous_found(previous, envelope)
 }

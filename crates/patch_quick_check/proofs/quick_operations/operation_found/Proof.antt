@@ -1,47 +1,50 @@
+-- `patch_quick_check::quick_operations::operation_found` meets its contract: the tests in their order.
+use mathlib.Core.Path.{_≡_, refl, sym, ap, _∙_}
+use mathlib.Core.Bool.{true, false}
+use lib.ListN.{take}
+use Rattle.patch_findings.specs.Targets.{targetSeen, withTarget}
+use Rattle.patch_quick_check.specs.Quick.{operationFound}
 use borrow.Author.Needs.{needs}
 use Rattle.patch_quick_check.proofs.quick_operations.operation_found.Statement.{statement}
 use Rattle.patch_quick_check.proofs.quick_operations.operation_found.Tie as tie
-use Rattle.patch_quick_check.proofs.quick_operations.operation_found.Reads as reads
-use Rattle.patch_quick_check.proofs.quick_operations.operation_found.Lts as lts
-use Rattle.patch_findings.proofs.targets.before_self.Reads as before-self-reads
-use Rattle.patch_findings.proofs.targets.mutation_target.Reads as mutation-target-reads
-use Rattle.patch_findings.proofs.targets.seen_before.Reads as seen-before-reads
 
--- src/quick_operations.rt:38:9
 mutation-target-requires : tie.Need-mutation-target-requires
 mutation-target-requires c κs = search needs
 
--- src/quick_operations.rt:39:9
 seen-before-requires : tie.Need-seen-before-requires
 seen-before-requires c κs = search needs
 
--- src/quick_operations.rt:41:9
 same-length : tie.Need-same-length
 same-length c = search needs
 
--- src/quick_operations.rt:41:9
 returns : tie.Need-returns
-returns c = ?
+returns c =
+    let call = c .before .before .before in
+    let a = call .before .before .before .before .args in
+    (λ texts. rw (c .if1 .taken), λ texts. call .seen-before .ensures .1 ∙ ap (λ t. withTarget (a .used) t (a .targets .now)) (call .before .before .mutation-target .ensures texts))
 
--- src/quick_operations.rt:44:9
 same-length-2 : tie.Need-same-length-2
 same-length-2 c = search needs
 
--- src/quick_operations.rt:44:9
 returns-2 : tie.Need-returns-2
-returns-2 c = ?
+unfolding operationFound
+returns-2 c =
+    let call = c .before .before .before .before in
+    let a = call .before .before .before .before .args in
+    (λ texts. rw (c .before .if1 .left, sym (call .seen-before .ensures .0 ∙ ap (λ t. targetSeen t (take (a .used) (a .targets .now))) (call .before .before .mutation-target .ensures texts)) ∙ c .if2 .taken), λ texts. call .seen-before .ensures .1 ∙ ap (λ t. withTarget (a .used) t (a .targets .now)) (call .before .before .mutation-target .ensures texts))
 
--- src/quick_operations.rt:46:5
 before-self-requires : tie.Need-before-self-requires
 before-self-requires c κs = search needs
 
--- src/quick_operations.rt:28:1
 same-length-3 : tie.Need-same-length-3
 same-length-3 c = search needs
 
--- src/quick_operations.rt:28:1
 returns-3 : tie.Need-returns-3
-returns-3 c = ?
+unfolding operationFound
+returns-3 c =
+    let call = c .before .before .before .before .before in
+    let a = call .before .before .before .before .args in
+    (λ texts. c .before-self .ensures texts ∙ rw (c .before .before .if1 .left, sym (call .seen-before .ensures .0 ∙ ap (λ t. targetSeen t (take (a .used) (a .targets .now))) (call .before .before .mutation-target .ensures texts)) ∙ c .before .if2 .left), λ texts. call .seen-before .ensures .1 ∙ ap (λ t. withTarget (a .used) t (a .targets .now)) (call .before .before .mutation-target .ensures texts))
 
 pub operation-found-spec : {M : Type 1} → statement M
 operation-found-spec =
