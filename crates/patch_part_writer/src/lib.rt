@@ -1,6 +1,6 @@
 // Writing of the parts of canonical bytes: the heading, a patch's head and an operation. After crates/prom-ui/src/projection_patch.rs.
 pub mod extent;
-mod fields;
+pub mod fields;
 pub mod head;
 pub mod operation;
 pub mod written;

@@ -1,0 +1,2 @@
+pub mod Upserts
+pub mod Settings

@@ -1,0 +1,48 @@
+-- A row that is taken out of a table and inserted again at another position.
+use Prim.Native.Nat.{ℕ, suc, _+_, _-_, _*_, _≤_, _<_}
+use mathlib.Core.Path.{_≡_, refl, sym, ap, ap₂, _∙_, subst}
+use mathlib.Core.Bool.{Bool}
+use mathlib.Core.List.{List, [], append-nil, _++_}
+use native.Mathlib.Nat.{suc-mul}
+use native.Mathlib.Omega.{arith}
+use borrow.Author.Tests.{lt-ltb, le-ltb}
+use lib.ListN.{length, drop, getD, length-replicate, drop-of-length-le}
+use Rattle.byte_moves.specs.Moves.{zeros, overwrite}
+use Rattle.record_table.specs.Positions.{insertAt, removeAt}
+use Rattle.record_table.specs.Table.{Holds, Changed, canInsert, canRemove}
+use Rattle.record_table.specs.TableLaws.{row-width, fitting, can-insert}
+use Rattle.binding_tables.specs.RowChanges.{removed}
+use Rattle.collection_tables.specs.Places.{withoutAt}
+
+pub without-before : (from to : ℕ) → from < to → withoutAt from to ≡ to - 1
+unfolding withoutAt
+without-before from to h = rw (lt-ltb from to h)
+
+pub without-behind : (from to : ℕ) → to ≤ from → withoutAt from to ≡ to
+unfolding withoutAt
+without-behind from to h = rw (le-ltb from to h)
+
+-- a part that fills what it is copied over
+copied : (w : ℕ) (part : List ℕ) → length part ≡ w → overwrite part (zeros w) ≡ part
+copied w part e =
+    let none : length (zeros w) ≤ length part = omega (arith, length-zeros w) in
+    ap (λ (l : List ℕ). part ++ l) (drop-of-length-le (zeros w) none) ∙ append-nil part
+  where
+    length-zeros : (n : ℕ) → length (zeros n) ≡ n
+    length-zeros n = length-replicate n 0
+
+module _ {w n from : ℕ} (to place : ℕ) {table middle exit part row : List ℕ} {a b : Bool} (below : from < n) (within : to ≤ n) (same : length middle ≡ length table) (is : withoutAt from to ≡ place) (inside : place + 1 ≤ n)
+    (told : (rows : List (List ℕ)) → Holds w n table rows → part ≡ getD rows from []) (copy : row ≡ overwrite part (zeros w))
+    (out : Changed w n (n - 1) (removeAt from) (canRemove (length table) w n from) table middle a)
+    (in-again : Changed w (n - 1) (n - 1 + 1) (insertAt place row) (canInsert (length middle) w (n - 1) place row) middle exit b) where
+  pub moved-row : (rows : List (List ℕ)) → Holds w n table rows → Holds w n exit (insertAt (withoutAt from to) (getD rows from []) (removeAt from rows))
+  moved-row rows t =
+      let wide = row-width t from below in
+      let own : row ≡ getD rows from [] = copy ∙ ap (λ (l : List ℕ). overwrite l (zeros w)) (told rows t) ∙ copied w (getD rows from []) wide in
+      let less : suc (n - 1) ≡ n = omega arith in
+      let rest = removed t from below out in
+      let used : (n - 1) * w + w ≡ n * w = sym (suc-mul (n - 1) w) ∙ ap (λ (k : ℕ). k * w) less in
+      let can = can-insert rest place row (omega arith) (ap length own ∙ wide) (omega (arith, fitting t)) in
+      let count : n - 1 + 1 ≡ n = omega arith in
+      subst (λ (k : ℕ). Holds w k exit (insertAt (withoutAt from to) (getD rows from []) (removeAt from rows))) count
+      (subst (Holds w (n - 1 + 1) exit) (ap₂ (λ (i : ℕ) (r : List ℕ). insertAt i r (removeAt from rows)) (sym is) own) (in-again .made (in-again .told ∙ can) (removeAt from rows) rest))

@@ -1,0 +1,4 @@
+pub mod Rows
+pub mod RowsLaws
+pub mod Stores
+pub mod StoresLaws

@@ -1,0 +1,127 @@
+-- Laws of rows: their widths, that a row tells its record, and that the searches in a table see the model's keys.
+use Prim.Native.Nat.{ℕ, _+_, _-_, _^_, _≤_, _<_}
+use mathlib.Core.Path.{_≡_, refl, sym, ap, _∙_}
+use mathlib.Core.Bool.{true, _&&_}
+use mathlib.Core.List.{List, [], _∷_, _++_, append-assoc}
+use native.Mathlib.Omega.{arith}
+use lib.Dec.{ltb, eqb}
+use lib.ListN.{length, take, drop, length-append, length-replicate}
+use lib.Seq.{take-at, drop-at}
+use Rattle.spec_lists.specs.Lists.{All}
+use Rattle.spec_lists.specs.Bytes.{littleEndian, numberOf}
+use Rattle.spec_lists.specs.BytesLaws.{length-littleEndian, numberOf-littleEndian}
+use Rattle.spec_patch.specs.Patch.{Quad, Availability, Value, quad, signed, text, unsigned}
+use Rattle.spec_patch.specs.Edition.{v1, hasKind}
+use Rattle.spec_patch.specs.Encode.{u32, u64, quadByte, availabilityByte, encodeText, kindOf, valueBody, encodeValue}
+use Rattle.spec_patch.specs.Fits.{U64, U32, Storable, FitsText, FitsValue}
+use Rattle.spec_patch.specs.Reader.{Result, read, Reader, pair, number}
+use Rattle.spec_patch.specs.Read.{readU64, readU32, readValue, readAvailability}
+use Rattle.spec_patch.specs.Codec.{Codec, pair-codec, injective}
+use Rattle.spec_patch.specs.ReadLaws.{Any, availabilityBytes, u64-codec, value-codec, binding-fields, update-fields, availability-codec}
+use Rattle.spec_projection.specs.Projection.{Binding, NodeAvailability, Entry, bindingKey, availabilityKey}
+use Rattle.spec_projection.specs.Entries.{isEntry, isLater}
+use Rattle.spec_projection.specs.Valid.{FitsBinding, FitsNodeAvailability, FitsEntry}
+use Rattle.byte_moves.specs.Moves.{zeros}
+use Rattle.record_keys.specs.Keys.{startsWith, leadingNumbers}
+use Rattle.record_keys.specs.KeysLaws.{starts-number, starts-last, leading-number}
+use Rattle.record_table.specs.Table.{Wide}
+use Rattle.record_table.specs.Search.{isAbove}
+use Rattle.local_projection_state.specs.Rows.{valueWidth, bindingWidth, availabilityWidth, entryWidth, padded, bindingRow, availabilityRow, entryRow, entryKey}
+
+-- ---- widths
+
+value-fits : (v : Value) → Storable v → length (encodeValue v) ≤ valueWidth
+unfolding encodeValue valueBody encodeText Storable
+value-fits (quad q) h = omega arith
+value-fits (signed z) h = simp length-littleEndian (omega arith)
+value-fits (text t) h = simp (length-append, length-littleEndian) (omega (arith, h .short))
+value-fits (unsigned x) h = simp length-littleEndian (omega arith)
+
+pub length-padded : (v : Value) → Storable v → length (padded v) ≡ valueWidth
+unfolding padded
+length-padded v h = simp (length-append, length-replicate) (omega (arith, value-fits v h))
+
+pub binding-wide : (b : Binding) → FitsBinding b → Wide bindingWidth (bindingRow b)
+unfolding bindingRow
+binding-wide b h = simp (length-append, length-littleEndian) (omega (arith, length-padded (b .value) (h .value)))
+
+pub availability-wide : (a : NodeAvailability) → FitsNodeAvailability a → Wide availabilityWidth (availabilityRow a)
+unfolding availabilityRow
+availability-wide a h = simp (length-append, length-littleEndian)
+
+pub entry-wide : (e : Entry) → FitsEntry e → Wide entryWidth (entryRow e)
+unfolding entryRow
+entry-wide e h = simp (length-append, length-littleEndian) (omega (arith, length-padded (e .value) (h .value)))
+
+-- ---- a row tells its record
+
+-- the edition of 01 has every kind of value
+every-kind : (v : Value) → hasKind v1 (kindOf v) ≡ true
+unfolding hasKind v1 kindOf
+every-kind (quad q) = refl
+every-kind (signed z) = refl
+every-kind (text t) = refl
+every-kind (unsigned x) = refl
+
+pub storable-fits : (v : Value) → Storable v → FitsValue v1 v
+storable-fits v h = record { kind = every-kind v; storable = h }
+
+-- the reader of values reads a stored value
+pub read-padded : (v : Value) → Storable v → readValue v1 (padded v) ≡ read v (zeros (valueWidth - length (encodeValue v)))
+unfolding padded
+read-padded v h = value-codec v1 .back v (storable-fits v h) _
+
+-- two values that are read from the same bytes are the same
+same-read : {A : Type 0} {x y : A} {r s : List ℕ} → _≡_ {A = Result A} (read x r) (read y s) → x ≡ y
+same-read e = cc
+
+-- bytes that a codec's values begin with tell the value
+tells : {A : Type 0} {e : A → List ℕ} {Good : A → Type 0} {p : Reader A} → Codec e Good p → (x y : A) → Good x → Good y → (r s : List ℕ) → e x ++ r ≡ e y ++ s → x ≡ y
+tells {p = p} codec x y g h r s q = same-read (sym (codec .back x g r) ∙ ap p q ∙ codec .back y h s)
+
+regroup : (a b c d : List ℕ) → (a ++ (b ++ c)) ++ d ≡ a ++ (b ++ (c ++ d))
+regroup a b c d = simp append-assoc
+
+pub binding-tells : (a b : Binding) → FitsBinding a → FitsBinding b → bindingRow a ≡ bindingRow b → a ≡ b
+unfolding bindingRow padded
+binding-tells a b g h e =
+    let fields = tells (binding-fields v1) (a .node, (a .slot, a .value)) (b .node, (b .slot, b .value))
+    (g .node, (g .slot, storable-fits (a .value) (g .value))) (h .node, (h .slot, storable-fits (b .value) (h .value)))
+    (zeros (valueWidth - length (encodeValue (a .value)))) (zeros (valueWidth - length (encodeValue (b .value))))
+    (regroup (u64 (a .node)) (u32 (a .slot)) (encodeValue (a .value)) _ ∙ e ∙ sym (regroup (u64 (b .node)) (u32 (b .slot)) (encodeValue (b .value)) _)) in
+    λ i. record { node = fields i .0; slot = fields i .1 .0; value = fields i .1 .1 }
+
+pub availability-tells : (a b : NodeAvailability) → FitsNodeAvailability a → FitsNodeAvailability b → availabilityRow a ≡ availabilityRow b → a ≡ b
+unfolding availabilityRow
+availability-tells a b g h e =
+    let fields = injective (pair-codec u64-codec availability-codec) (a .node, a .availability) (b .node, b .availability) (g .node, tt) (h .node, tt) e in
+    λ i. record { node = fields i .0; availability = fields i .1 }
+
+pub entry-tells : (a b : Entry) → FitsEntry a → FitsEntry b → entryRow a ≡ entryRow b → a ≡ b
+unfolding entryRow padded
+entry-tells a b g h e =
+    let fields = tells (update-fields v1) (a .collection, (a .key, a .value)) (b .collection, (b .key, b .value))
+    (g .collection, (g .key, storable-fits (a .value) (g .value))) (h .collection, (h .key, storable-fits (b .value) (h .value)))
+    (zeros (valueWidth - length (encodeValue (a .value)))) (zeros (valueWidth - length (encodeValue (b .value))))
+    (regroup (u64 (a .collection)) (u64 (a .key)) (encodeValue (a .value)) _ ∙ e ∙ sym (regroup (u64 (b .collection)) (u64 (b .key)) (encodeValue (b .value)) _)) in
+    λ i. record { collection = fields i .0; key = fields i .1 .0; value = fields i .1 .1 }
+
+-- ---- the keys of rows
+
+pub binding-key : (b : Binding) → FitsBinding b → leadingNumbers (8 ∷ 4 ∷ []) (bindingRow b) ≡ bindingKey b
+unfolding bindingRow bindingKey leadingNumbers
+binding-key b h = leading-number 8 (b .node) (4 ∷ []) _ (h .node) ∙ ap (λ l. b .node ∷ l) (leading-number 4 (b .slot) [] _ (h .slot))
+
+pub availability-key : (a : NodeAvailability) → FitsNodeAvailability a → leadingNumbers (8 ∷ []) (availabilityRow a) ≡ availabilityKey a
+unfolding availabilityRow availabilityKey leadingNumbers
+availability-key a h = leading-number 8 (a .node) [] _ (h .node)
+
+pub entry-starts : (c k : ℕ) → U64 c → U64 k → (e : Entry) → FitsEntry e → startsWith (entryKey c k) (entryRow e) ≡ isEntry c k e
+unfolding entryRow entryKey isEntry
+entry-starts c k hc hk e h =
+    starts-number 8 (e .collection) c (u64 k) (u64 (e .key) ++ padded (e .value)) (h .collection) hc
+    ∙ ap (λ t. eqb (e .collection) c && t) (starts-last 8 (e .key) k (padded (e .value)) (h .key) hk)
+
+pub entry-above : (c : ℕ) (e : Entry) → FitsEntry e → isAbove c (entryRow e) ≡ isLater c e
+unfolding entryRow isLater
+entry-above c e h = rw (take-at _ _ _ (length-littleEndian 8 (e .collection)), numberOf-littleEndian 8 (e .collection) (h .collection))

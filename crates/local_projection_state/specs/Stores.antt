@@ -1,0 +1,41 @@
+-- What a state stores: its tables are the rows of a projection's lists, its counts their lengths, and every unused place is zero.
+use Prim.Native.Nat.{ℕ, _*_}
+use mathlib.Core.Path.{_≡_}
+use mathlib.Core.List.{List, map}
+use lib.ListN.{length}
+use Rattle.spec_patch.specs.Sizes.{projectionBindings, projectionAvailabilities, projectionEntries}
+use Rattle.spec_projection.specs.Projection.{Projection}
+use Rattle.spec_projection.specs.Valid.{Valid}
+use Rattle.record_table.specs.Table.{tableBytes, Holds}
+use Rattle.local_projection_state.specs.Rows.{bindingWidth, availabilityWidth, entryWidth, bindingRow, availabilityRow, entryRow}
+use Rattle.local_projection_state.specs.declared.LocalProjectionState.{LocalProjectionState}
+use Rattle.local_projection_state.specs.declared.ProjectionCounts.{ProjectionCounts}
+
+-- a table of so many places stores a list: one row for each element, in order
+pub record Stored {A : Type 0} (row : A → List ℕ) (width capacity count : ℕ) (table : List ℕ) (l : List A) : Type 0 where
+  pub size : length table ≡ capacity * width
+  pub rows : Holds width count table (map row l)
+
+-- three tables store a projection
+pub record StoredTables (counts : ProjectionCounts) (bindingTable availabilityTable entryTable : List ℕ) (p : Projection) : Type 0 where
+  pub bindings : Stored bindingRow bindingWidth projectionBindings (counts .bindings) bindingTable (p .bindings)
+  pub availabilities : Stored availabilityRow availabilityWidth projectionAvailabilities (counts .availabilities) availabilityTable (p .availabilities)
+  pub entries : Stored entryRow entryWidth projectionEntries (counts .entries) entryTable (p .entries)
+  pub valid : Valid p
+
+-- the state stores the projection, byte for byte
+abbrev pub Stores : LocalProjectionState → Projection → Type 0
+Stores s p = StoredTables (s .counts) (s .bindings) (s .availability) (s .entries) p
+
+-- the counts of a projection
+abbrev pub countsOf : Projection → ProjectionCounts
+countsOf p = record { bindings = length (p .bindings); availabilities = length (p .availabilities); entries = length (p .entries) }
+
+-- the state that stores a projection
+unfoldable pub stateOf : Projection → LocalProjectionState
+stateOf p = record {
+  counts = countsOf p;
+  bindings = tableBytes (projectionBindings * bindingWidth) (map bindingRow (p .bindings));
+  availability = tableBytes (projectionAvailabilities * availabilityWidth) (map availabilityRow (p .availabilities));
+  entries = tableBytes (projectionEntries * entryWidth) (map entryRow (p .entries));
+}

@@ -1,0 +1,61 @@
+// What a session stores of a panel: three tables of fixed-width rows. After crates/prom-ui/src/local_projection_state.rs.
+ghost use Rattle.spec_projection.specs.Projection.{empty};
+ghost use Rattle.local_projection_state.specs.Stores.{Stores};
+
+// How many rows of each table are used.
+pub struct ProjectionCounts {
+    pub bindings: usize,
+    pub availabilities: usize,
+    pub entries: usize,
+}
+
+// Each table has its rows in stored order, and zeros in every unused place.
+pub struct LocalProjectionState {
+    pub counts: ProjectionCounts,
+    pub bindings: [u8; LocalProjectionState::BINDING_BYTES],
+    pub availability: [u8; LocalProjectionState::AVAILABILITY_BYTES],
+    pub entries: [u8; LocalProjectionState::ENTRY_BYTES],
+}
+
+impl LocalProjectionState {
+    // The most bindings, availabilities and entries of all collections.
+    pub const BINDINGS: usize = 64;
+
+    pub const AVAILABILITIES: usize = 64;
+
+    pub const ENTRIES: usize = 128;
+
+    // A value's canonical bytes: a kind, a length and the longest text.
+    pub const VALUE_WIDTH: usize = 165;
+    // A node, a slot and a value; a node and its availability; a collection, a key and a value.
+    pub const BINDING_WIDTH: usize = 12 + LocalProjectionState::VALUE_WIDTH;
+
+    pub const AVAILABILITY_WIDTH: usize = 9;
+
+    pub const ENTRY_WIDTH: usize = 16 + LocalProjectionState::VALUE_WIDTH;
+
+    pub const BINDING_BYTES: usize = LocalProjectionState::BINDINGS
+        * LocalProjectionState::BINDING_WIDTH;
+
+    pub const AVAILABILITY_BYTES: usize = LocalProjectionState::AVAILABILITIES
+        * LocalProjectionState::AVAILABILITY_WIDTH;
+
+    pub const ENTRY_BYTES: usize = LocalProjectionState::ENTRIES
+        * LocalProjectionState::ENTRY_WIDTH;
+
+    // A panel without records.
+    pub fn empty() -> LocalProjectionState
+        ensures { λ r. ⌜ Stores r empty ⌝ }
+    {
+        LocalProjectionState {
+            counts: ProjectionCounts {
+                bindings: 0,
+                availabilities: 0,
+                entries: 0,
+            },
+            bindings: [0u8; LocalProjectionState::BINDING_BYTES],
+            availability: [0u8; LocalProjectionState::AVAILABILITY_BYTES],
+            entries: [0u8; LocalProjectionState::ENTRY_BYTES],
+        }
+    }
+}
