@@ -23,7 +23,7 @@ use Rattle.spec_projection.specs.Valid.{Valid}
 use Rattle.spec_projection.specs.ValidLaws.{empty-valid, applySteps-valid, replaySteps-fit}
 use Rattle.spec_session.specs.Session.{Lifecycle, Limits, Catalogue, Session, tooManyAnchors, made, refused, newSession, anchorsFit, create}
 use Rattle.spec_session.specs.Diagnostics.{sessionClosed, wrongLifecycle, limitExceeded}
-use Rattle.spec_session.specs.Lifecycle.{Stimulus, applied, LifecycleStep, isClosed, transition, dispositionOf, withLifecycle, rejectLifecycle, enterLifecycle, lifecycleStep}
+use Rattle.spec_session.specs.Lifecycle.{Stimulus, applied, LifecycleStep, isClosed, transition, dispositionOf, withLifecycle, stateOf, rejectLifecycle, enterLifecycle, lifecycleStep}
 use Rattle.spec_session.specs.Lifecycle as lifecycle
 use Rattle.spec_session.specs.Batch.{BatchEnvelope, Check, pass, refuse, batchChecks, rejectBatch, keepSession, advanced, applyBatch, candidate, commit, concludeBatch, batch}
 use Rattle.spec_session.specs.BatchLaws.{checks-passed}
@@ -89,6 +89,15 @@ lifecycleStep-unchanged s u b =
       where
         same : s .lifecycle ≡ l
         same = cc
+
+-- the answer tells the state of the session that the step leads to, which differs in its lifecycle alone
+pub lifecycleStep-told : (s : Session) (u : Stimulus) (b : ℕ) → stateOf (lifecycleStep s u b .next) ≡ lifecycleStep s u b .answer .state
+unfolding rejectLifecycle enterLifecycle
+lifecycleStep-told s u b = step-cases (λ (x : LifecycleStep). stateOf (x .next) ≡ x .answer .state) s u b refl refl refl (λ l e. refl)
+
+pub lifecycleStep-rest : (s : Session) (u : Stimulus) (b : ℕ) → lifecycleStep s u b .next ≡ withLifecycle s (lifecycleStep s u b .answer .state .lifecycle)
+unfolding rejectLifecycle enterLifecycle withLifecycle stateOf
+lifecycleStep-rest s u b = step-cases (λ (x : LifecycleStep). x .next ≡ withLifecycle s (x .answer .state .lifecycle)) s u b refl refl refl (λ l e. refl)
 
 -- ---- after a batch step
 

@@ -1,0 +1,1 @@
+// Creation of a session from its anchors.
