@@ -1,2 +1,2 @@
 -- Laws that belong to no one function.
-mod Arrays
+pub mod Arrays

@@ -34,7 +34,7 @@ use Rattle.spec_session.specs.ValidSession.{LimitsFit, AnchorsInRange, F
 made-is : (s t : Session) → made s ≡ made t → s ≡ t
 made-is s t e = cc
 
-few-anchors : (c : Catalogue) → anchorsFit c ≡ true → FewAnchors c
+pub few-anchors : (c : Catalogue) → anchorsFit c ≡ true → FewAnchors c
 unfolding anchorsFit
 few-anchors c f =
     let rest = and-right (leb (length (c .nodes)) anchors) _ f in
