@@ -1,0 +1,4 @@
+pub mod Gates
+pub mod GatesLaws
+pub mod Seen
+pub mod StepLaws
