@@ -1,4 +1,4 @@
 -- Laws that belong to no one function.
-mod PatchAnswers
+pub mod PatchAnswers
 mod Heads
-mod Runs
+pub mod Runs

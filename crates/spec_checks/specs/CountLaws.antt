@@ -45,7 +45,7 @@ envelope-length : (e : Envelope) → length (envelopeFindings e) ≤ 3
 unfolding envelopeFindings
 envelope-length e = report-more _ _ _ 2 (report-more _ _ _ 1 (report-length _ _))
 
-raw-patch-length : (p : Patch) → length (rawPatchFindings p) ≤ 2 * length (p .operations) + 4
+pub raw-patch-length : (p : Patch) → length (rawPatchFindings p) ≤ 2 * length (p .operations) + 4
 unfolding rawPatchFindings
 raw-patch-length p =
     let each = checkEach (operationFindings (p .envelope .id)) [] (p .operations) in
@@ -85,7 +85,7 @@ after-length : (earlier : List Patch) (p : Patch) → length (afterFindings earl
 unfolding afterFindings duplicateIdFindings
 after-length earlier p = report-more _ _ _ 4 (previous-length earlier p)
 
-raw-set-length : (ps : List Patch) → length (rawSetFindings ps) ≤ 5 * (length ps - 1)
+pub raw-set-length : (ps : List Patch) → length (rawSetFindings ps) ≤ 5 * (length ps - 1)
 unfolding rawSetFindings checkEach afterFindings duplicateIdFindings previousFindings report
 raw-set-length [] = omega arith
 raw-set-length (p ∷ ps) = omega (arith, checkEach-length afterFindings 5 after-length (p ∷ []) ps)

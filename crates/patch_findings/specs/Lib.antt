@@ -1,0 +1,13 @@
+pub mod Targets
+pub mod Threes
+pub mod TargetsLaws
+pub mod FindingTable
+pub mod FindingTableLaws
+pub mod EnvelopeChecks
+pub mod EnvelopeChecksLaws
+pub mod InsertFindings
+pub mod InsertFindingsLaws
+pub mod Found
+pub mod FoundLaws
+pub mod Ids
+pub mod IdsLaws

@@ -1,0 +1,3 @@
+pub mod Quick
+pub mod QuickAnswers
+pub mod QuickLaws
