@@ -1,0 +1,2 @@
+pub mod Application
+pub mod ApplicationLaws
