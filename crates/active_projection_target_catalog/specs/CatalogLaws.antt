@@ -1,15 +1,15 @@
 -- The scan over the numbers of pairs says what step 7 asks of the pairs.
-use Prim.Native.Nat.{ℕ, zero, suc, _+_, _-_, _*_, _≤_, _<_}
+use Prim.Native.Nat.{ℕ, zero, suc, _+_, _-_, _*_, _≤_, _<_, min}
 use mathlib.Core.Path.{_≡_, refl, sym, ap, _∙_}
 use mathlib.Core.Bool.{Bool, true, false, _&&_, _||_}
 use mathlib.Core.List.{List, [], _∷_, _++_, map, flatMap, append-assoc}
 use native.Mathlib.Omega.{arith}
-use lib.Dec.{eqb}
-use borrow.Author.Tests.{eq-eqb, ne-eqb}
+use lib.Dec.{leb, eqb}
+use borrow.Author.Tests.{eq-eqb, ne-eqb, leb-true, leb-false}
 use lib.ListN.{length, take, drop, getD, set, replicate, drop-of-length-le, length-map}
 use lib.Seq.{drop-cons, take-suc, take-all, take-at, length-take-le, set-at}
 use Rattle.spec_lists.specs.Lists.{any}
-use Rattle.spec_lists.specs.ListLaws.{flatMap-append}
+use Rattle.spec_lists.specs.ListLaws.{flatMap-append, test-cases}
 use Rattle.spec_patch.specs.Sizes.{anchors}
 use Rattle.spec_session.specs.Session as model
 use Rattle.spec_session.specs.Session.{Catalogue}
@@ -120,6 +120,10 @@ pub pairs-back : (bs : List model.BindingPair) → map pairOf (map pairTo bs) �
 pairs-back [] = refl
 pairs-back (b ∷ bs) = ap (λ l. b ∷ l) (pairs-back bs)
 
+pub pairs-again : (bs : List BindingPair) → map pairTo (map pairOf bs) ≡ bs
+pairs-again [] = refl
+pairs-again (b ∷ bs) = ap (λ l. b ∷ l) (pairs-again bs)
+
 pub catalogue-back : (m : Catalogue) → FewAnchors m → catalogueOf (catalogTo m) ≡ m
 unfolding catalogueOf catalogTo catalogWith
 catalogue-back m few =
@@ -132,3 +136,24 @@ catalogue-back m few =
     let nodes = padded-take 0 (m .nodes) (few .nodes) in
     let collections = padded-take 0 (m .collections) (few .collections) in
     λ i. record { nodes = nodes i; bindings = (ap (map pairOf) kept ∙ pairs-back (m .bindings)) i; collections = collections i }
+
+-- ---- the anchors that are lent
+
+-- a count that the array can't hold names all of it
+pub take-held : {A : Type 0} (l : List A) (count : ℕ) → length l ≡ anchors → take (min count anchors) l ≡ take count l
+take-held l count long =
+    test-cases (leb count anchors)
+    (λ e. let same : min count anchors ≡ count = omega (arith, leb-true count anchors e) in ap (λ n. take n l) same)
+    (λ e.
+      let over = leb-false count anchors e in
+      take-all (min count anchors) l (omega (arith, over)) ∙ sym (take-all count l (omega (arith, over)))
+    )
+
+-- the numbers of the first pairs
+pub pairs-taken : (n : ℕ) (bs : List BindingPair) → take (2 * n) (flatMap pairNumbers bs) ≡ flatMap pairNumbers (take n bs)
+unfolding pairNumbers flatMap
+pairs-taken zero bs = refl
+pairs-taken (suc n) [] = take-all (2 * suc n) [] (omega arith)
+pairs-taken (suc n) (b ∷ bs) =
+    let twice : 2 * suc n ≡ suc (suc (2 * n)) = omega arith in
+    ap (λ m. take m (flatMap pairNumbers (b ∷ bs))) twice ∙ ap (λ l. b .node ∷ b .slot ∷ l) (pairs-taken n bs)

@@ -1,0 +1,7 @@
+pub mod Holds
+pub mod Steps
+pub mod StepsLaws
+pub mod Creation
+pub mod CreationLaws
+pub mod Batches
+pub mod BatchesLaws

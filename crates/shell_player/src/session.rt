@@ -1,0 +1,86 @@
+// The session by value, and its lifecycle step.
+use active_projection_target_catalog::catalog::ActiveProjectionTargetCatalog;
+use local_projection_state::LocalProjectionState;
+use shell_lifecycle::lifecycle;
+use shell_lifecycle::lifecycle::ShellTransitionDisposition;
+use shell_lifecycle::lifecycle::ShellTransitionInput;
+use shell_lifecycle::lifecycle::ShellTransitionResult;
+use shell_lifecycle::state::ProjectionReplayCursor;
+use shell_lifecycle::state::ShellLifecycle;
+use shell_lifecycle::state::ShellLifecycleLimits;
+use shell_lifecycle::state::ShellLocalState;
+use shell_lifecycle::state::ShellSessionId;
+ghost use mathlib.Core.Path.{_≡_};
+ghost use Rattle.spec_session.specs.Session.{Session};
+ghost use Rattle.spec_session.specs.Lifecycle.{lifecycleStep};
+ghost use Rattle.shell_lifecycle.specs.Meaning.{stimulusOf, answerOf, bare, limitsOf, stateTold};
+ghost use Rattle.shell_player.specs.Holds.{Holds};
+ghost use Rattle.shell_player.specs.Steps.{newState, afterTransition};
+
+pub struct ActivatedShellSessionContext {
+    pub session_id: ShellSessionId,
+    pub limits: ShellLifecycleLimits,
+    pub catalog: ActiveProjectionTargetCatalog,
+}
+
+pub struct ShellSession {
+    pub context: ActivatedShellSessionContext,
+    pub state: ShellLocalState,
+    pub local_projection: LocalProjectionState,
+}
+
+// The session after a lifecycle step, and the step's answer.
+pub struct ShellTransition {
+    pub session: ShellSession,
+    pub result: ShellTransitionResult,
+}
+
+impl ShellSession {
+    // A session that was just activated: Created and Uninitialized, with an empty projection.
+    pub fn new(context: ActivatedShellSessionContext) -> ShellSession
+        ensures { λ r. ⌜ r ≡ newState context ⌝ }
+    {
+        let session_id = context.session_id;
+        let state = ShellLocalState {
+            session_id,
+            lifecycle: ShellLifecycle::Created,
+            replay_cursor: ProjectionReplayCursor::Uninitialized,
+        };
+        let local_projection = LocalProjectionState::empty();
+        ShellSession {
+            context,
+            state,
+            local_projection,
+        }
+    }
+
+    // The lifecycle step: the session that it leads to, which is the old one unless it was applied.
+    pub fn transition(self, input: ShellTransitionInput) -> ShellTransition
+        ensures whatever { λ r. ⌜ r ≡ afterTransition self (r .result) ⌝ }
+        ensures holding { λ r. ⌜ ((m : Session) → Holds self m → (answerOf (r .result) ≡ lifecycleStep m (stimulusOf (input .stimulus)) (input .«stimulus_bytes») .answer)
+            × Holds (r .session) (lifecycleStep m (stimulusOf (input .stimulus)) (input .«stimulus_bytes») .next)) ⌝ }
+        ensures answered { λ r. ⌜ answerOf (r .result) ≡ lifecycleStep (bare (limitsOf (self .context .limits)) (stateTold (self .state))) (stimulusOf (input .stimulus)) (input .«stimulus_bytes») .answer ⌝ }
+    {
+        let context = self.context;
+        let limits = context.limits;
+        let state = self.state;
+        let result = lifecycle::evaluate_lifecycle_transition(limits, state, input);
+        let disposition = result.disposition;
+        match disposition {
+            ShellTransitionDisposition::Applied => {
+                let mut session = self;
+                let next = result.state;
+                session.state = next;
+                ShellTransition { session, result }
+            }
+            ShellTransitionDisposition::NoChange => ShellTransition {
+                session: self,
+                result,
+            },
+            ShellTransitionDisposition::Rejected => ShellTransition {
+                session: self,
+                result,
+            },
+        }
+    }
+}

@@ -1,5 +1,0 @@
-pub mod Holds
-pub mod Steps
-pub mod StepsLaws
-pub mod Creation
-pub mod CreationLaws
