@@ -145,8 +145,8 @@ take-held l count long =
     test-cases (leb count anchors)
     (λ e. let same : min count anchors ≡ count = omega (arith, leb-true count anchors e) in ap (λ n. take n l) same)
     (λ e.
-      let over = leb-false count anchors e in
-      take-all (min count anchors) l (omega (arith, over)) ∙ sym (take-all count l (omega (arith, over)))
+    let over = leb-false count anchors e in
+    take-all (min count anchors) l (omega (arith, over)) ∙ sym (take-all count l (omega (arith, over)))
     )
 
 -- the numbers of the first pairs

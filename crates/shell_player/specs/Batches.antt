@@ -1,11 +1,20 @@
 -- What a batch looks at in a session's struct, and what it hands back.
 use Prim.Native.Nat.{ℕ}
 use mathlib.Core.Path.{_≡_}
-use Rattle.spec_session.specs.Session.{Session}
-use Rattle.shell_lifecycle.specs.Meaning.{limitsOf, lifecycleOf, cursorOf}
+use Rattle.spec_session.specs.Session.{Cursor, at, Session}
+use Rattle.spec_session.specs.Diagnostics.{SessionRefusal, noDiagnostics, diagnosticsOf}
+use Rattle.spec_session.specs.Lifecycle.{Disposition, applied, noChange, rejected, LocalState}
+use Rattle.spec_session.specs.Batch.{BatchAnswer, BatchStep}
+use Rattle.shell_lifecycle.specs.Meaning.{limitsOf, lifecycleOf, cursorOf, diagnosticsMean}
 use Rattle.shell_lifecycle.specs.declared.state.ShellLocalState.{ShellLocalState}
 use Rattle.active_projection_target_catalog.specs.Catalog.{catalogueOf}
 use Rattle.shell_player.specs.declared.session.ActivatedShellSessionContext.{ActivatedShellSessionContext}
+use Rattle.shell_player.specs.declared.session.ShellSession.{ShellSession}
+use Rattle.shell_player.specs.declared.batch.ProjectionPatchApplicationDisposition.{ProjectionPatchApplicationDisposition}
+use Rattle.shell_player.specs.declared.batch.ProjectionPatchApplicationDisposition.the-variants.{Applied, NoChange, Rejected}
+use Rattle.shell_player.specs.declared.batch.ProjectionPatchApplicationResult.{ProjectionPatchApplicationResult}
+use Rattle.shell_player.specs.declared.batch.ProjectionPatchBatch.{ProjectionPatchBatch}
+use Rattle.shell_player.specs.Holds.{Holds}
 
 -- a session of the model that a batch can't tell from the struct before it applies the operations
 pub record SeenSession (context : ActivatedShellSessionContext) (state : ShellLocalState) (s : Session) : Type 0 where
@@ -14,3 +23,35 @@ pub record SeenSession (context : ActivatedShellSessionContext) (state : ShellLo
   pub lifecycle-is : lifecycleOf (state .lifecycle) ≡ s .lifecycle
   pub cursor-is : cursorOf (state .«replay_cursor») ≡ s .cursor
   pub catalogue-is : catalogueOf (context .catalog) ≡ s .catalogue
+
+-- ---- the answers
+
+unfoldable pub dispositionTold : ProjectionPatchApplicationDisposition → Disposition
+dispositionTold Applied = applied
+dispositionTold NoChange = noChange
+dispositionTold Rejected = rejected
+
+abbrev pub batchAnswerOf : ProjectionPatchApplicationResult → BatchAnswer
+batchAnswerOf r = record { disposition = dispositionTold (r .disposition); diagnostics = diagnosticsMean (r .diagnostics); cursor = cursorOf (r .«replay_cursor») }
+
+-- a rejection at a cursor, under a cap
+abbrev pub rejectedAt : ℕ → SessionRefusal → ℕ → Cursor → BatchAnswer
+rejectedAt cap r n c = record { disposition = rejected; diagnostics = diagnosticsOf cap r n; cursor = c }
+
+-- an answer without diagnostics
+abbrev pub answerAt : Disposition → Cursor → BatchAnswer
+answerAt d c = record { disposition = d; diagnostics = noDiagnostics; cursor = c }
+
+-- the state with its cursor at a number
+abbrev pub movedTo : LocalState → ℕ → LocalState
+movedTo t n = record { id = t .id; lifecycle = t .lifecycle; cursor = at n }
+
+-- ---- the relation of a batch call: the answer is the step's, and the session handed back stores the next one
+
+pub record BatchBecame (r : ProjectionPatchBatch) (step : BatchStep) : Type 0 where
+  pub answer : batchAnswerOf (r .result) ≡ step .answer
+  pub next : Holds (r .session) (step .next)
+
+-- a batch that is not applied hands back the session that came in
+abbrev pub KeptUnlessApplied : ShellSession → ProjectionPatchBatch → Type 0
+KeptUnlessApplied s r = (r .result .disposition ≡ Applied → ⊥) → r .session ≡ s

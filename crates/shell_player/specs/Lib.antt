@@ -5,3 +5,4 @@ pub mod Creation
 pub mod CreationLaws
 pub mod Batches
 pub mod BatchesLaws
+pub mod CommitLaws

@@ -14,15 +14,23 @@ use shell_lifecycle::diagnostics::ShellRefusal;
 use shell_lifecycle::state::ProjectionReplayCursor;
 use shell_lifecycle::state::ShellLocalState;
 ghost use mathlib.Core.Path.{_≡_};
+ghost use mathlib.Core.List.{List};
+ghost use lib.ListN.{length};
+ghost use Rattle.spec_patch.specs.Patch.{Patch};
+ghost use Rattle.spec_patch.specs.Edition.{v1};
+ghost use Rattle.spec_patch.specs.Read.{patches, readSet};
 ghost use Prim.Native.Nat.{_≤_, min};
 ghost use Rattle.spec_patch.specs.Sizes.{anchors};
 ghost use Rattle.spec_session.specs.Session.{Session};
-ghost use Rattle.spec_session.specs.Diagnostics.{diagnosticsOf, ofOperation};
-ghost use Rattle.spec_session.specs.Batch.{batchChecks};
+ghost use Rattle.spec_session.specs.Diagnostics.{ofOperation};
+ghost use Rattle.spec_session.specs.Batch.{batchChecks, candidate, commit, batch as modelBatch};
 ghost use Rattle.binding_tables.specs.Change.{faultOf};
-ghost use Rattle.shell_lifecycle.specs.Meaning.{refusalOf, diagnosticsMean};
+ghost use Rattle.shell_lifecycle.specs.Meaning.{refusalOf, cursorOf, stateTold};
 ghost use Rattle.shell_gates.specs.Gates.{gateOf, envelopeMeans, erased};
-ghost use Rattle.shell_player.specs.Batches.{SeenSession};
+ghost use Rattle.spec_session.specs.Session.{at};
+ghost use Rattle.spec_session.specs.Lifecycle.{applied, noChange};
+ghost use Rattle.shell_player.specs.Batches.{SeenSession, batchAnswerOf, rejectedAt, answerAt, movedTo, BatchBecame, KeptUnlessApplied};
+ghost use Rattle.shell_player.specs.Holds.{Holds};
 
 pub enum ProjectionPatchApplicationDisposition {
     Applied,
@@ -91,5 +99,131 @@ fn refusal_of(error: LocalProjectionApplicationError) -> ShellRefusal
     match error {
         LocalProjectionApplicationError::KeyRule => ShellRefusal::KeyRule,
         LocalProjectionApplicationError::ProjectionFull => ShellRefusal::ProjectionFull,
+    }
+}
+
+fn rejected(
+    cap: u64,
+    refusal: ShellRefusal,
+    logical: u64,
+    cursor: ProjectionReplayCursor,
+) -> ProjectionPatchApplicationResult
+    ensures { λ r. ⌜ batchAnswerOf r ≡ rejectedAt cap (refusalOf refusal) logical (cursorOf cursor) ⌝ }
+{
+    ProjectionPatchApplicationResult {
+        disposition: ProjectionPatchApplicationDisposition::Rejected,
+        diagnostics: diagnostics::apply_diagnostic_cap(cap, refusal, logical),
+        replay_cursor: cursor,
+    }
+}
+
+fn unchanged(cursor: ProjectionReplayCursor) -> ProjectionPatchApplicationResult
+    ensures { λ r. ⌜ batchAnswerOf r ≡ answerAt noChange (cursorOf cursor) ⌝ }
+{
+    ProjectionPatchApplicationResult {
+        disposition: ProjectionPatchApplicationDisposition::NoChange,
+        diagnostics: diagnostics::no_diagnostics(),
+        replay_cursor: cursor,
+    }
+}
+
+fn applied_at(number: u64) -> ProjectionPatchApplicationResult
+    ensures { λ r. ⌜ batchAnswerOf r ≡ answerAt applied (at number) ⌝ }
+{
+    ProjectionPatchApplicationResult {
+        disposition: ProjectionPatchApplicationDisposition::Applied,
+        diagnostics: diagnostics::no_diagnostics(),
+        replay_cursor: ProjectionReplayCursor::At(number),
+    }
+}
+
+// The state with its cursor at a number.
+fn advanced(state: ShellLocalState, number: u64) -> ShellLocalState
+    ensures { λ r. ⌜ stateTold r ≡ movedTo (stateTold state) number ⌝ }
+{
+    let session_id = state.session_id;
+    let lifecycle = state.lifecycle;
+    ShellLocalState {
+        session_id,
+        lifecycle,
+        replay_cursor: ProjectionReplayCursor::At(number),
+    }
+}
+
+impl ShellSession {
+    // Step 9 for a batch that passed the others: all operations apply to a copy, or none.
+    fn apply_checked(
+        self,
+        envelope: OrderedProjectionPatchBatchEnvelope,
+        set: &[u8],
+    ) -> ProjectionPatchBatch
+        ensures became { λ r. ⌜ ((m : Session) (ps : List Patch) → Holds self m → readSet v1 (now (set .entry)) ≡ patches ps → envelope .«patch_count» ≡ length ps
+            → BatchBecame r (commit m (envelopeMeans envelope) (candidate m ps))) ⌝ }
+        ensures kept { λ r. ⌜ KeptUnlessApplied self r ⌝ }
+    {
+        let context = self.context;
+        let limits = context.limits;
+        let cap = limits.max_diagnostics_per_transition;
+        let state = self.state;
+        let cursor = state.replay_cursor;
+        let number = envelope.sequence_no;
+        if envelope.patch_count == 0 {
+            return ProjectionPatchBatch {
+                session: self,
+                result: unchanged(cursor),
+            };
+        }
+        let projection = self.local_projection;
+        let application = projection_application::apply_readable(projection, set);
+        let outcome = application.outcome;
+        match outcome {
+            ProjectionOutcome::Applied => {
+                let mut session = self;
+                let next = application.state;
+                session.local_projection = next;
+                let moved = advanced(state, number);
+                session.state = moved;
+                ProjectionPatchBatch {
+                    session,
+                    result: applied_at(number),
+                }
+            }
+            ProjectionOutcome::Refused(error) => ProjectionPatchBatch {
+                session: self,
+                result: rejected(cap, refusal_of(error), 1, cursor),
+            },
+            ProjectionOutcome::Findings => ProjectionPatchBatch {
+                session: self,
+                result: rejected(cap, ShellRefusal::ChecksFailed, 1, cursor),
+            },
+            ProjectionOutcome::Unreadable(_) => ProjectionPatchBatch {
+                session: self,
+                result: rejected(cap, ShellRefusal::Malformed, 1, cursor),
+            },
+        }
+    }
+
+    // One batch: steps 1 to 9. A batch that is not applied hands the session back as it came.
+    pub fn apply_projection_patch_batch(
+        self,
+        envelope: OrderedProjectionPatchBatchEnvelope,
+        declared: u64,
+        set: &[u8],
+    ) -> ProjectionPatchBatch
+        ensures became { λ r. ⌜ ((m : Session) → Holds self m → BatchBecame r (modelBatch m (envelopeMeans envelope) declared (now (set .entry)))) ⌝ }
+        ensures kept { λ r. ⌜ KeptUnlessApplied self r ⌝ }
+    {
+        let context = self.context;
+        let limits = context.limits;
+        let cap = limits.max_diagnostics_per_transition;
+        let state = self.state;
+        let cursor = state.replay_cursor;
+        match check_session(context, state, envelope, declared, set) {
+            BatchGate::Refused(refusal, logical) => ProjectionPatchBatch {
+                session: self,
+                result: rejected(cap, refusal, logical, cursor),
+            },
+            BatchGate::Passed => self.apply_checked(envelope, set),
+        }
     }
 }

@@ -74,13 +74,13 @@ returns c = λ s seen.
     let start = c .before .before .before .before .before .before .before .before .before .before .before .before .before .before .before .before .before .before in
     let asked = c .before .before .before .before .before .before in
     c .check-batch .ensures s (
-      record {
-        id-is = seen .id-is;
-        limits-are = seen .limits-are;
-        lifecycle-is = seen .lifecycle-is;
-        cursor-is = seen .cursor-is;
-        anchors-are = lent-anchors (start .args .context .catalog) (long-nodes start) (long-pairs start) (long-collections start) (s .catalogue) (seen .catalogue-is) _ _ _ (asked .before .before .before .held .ensures) (asked .before .before .held2 .ensures) (asked .before .held3 .ensures) _ (asked .before .before .before .before .before .pair-numbers .ensures);
-      }
+    record {
+      id-is = seen .id-is;
+      limits-are = seen .limits-are;
+      lifecycle-is = seen .lifecycle-is;
+      cursor-is = seen .cursor-is;
+      anchors-are = lent-anchors (start .args .context .catalog) (long-nodes start) (long-pairs start) (long-collections start) (s .catalogue) (seen .catalogue-is) _ _ _ (asked .before .before .before .held .ensures) (asked .before .before .held2 .ensures) (asked .before .held3 .ensures) _ (asked .before .before .before .before .before .pair-numbers .ensures);
+    }
     )
 
 pub check-session-spec : {M : Type 1} → statement M

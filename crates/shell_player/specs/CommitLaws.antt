@@ -1,0 +1,139 @@
+-- What a batch hands back is what the batch of the model hands back.
+use Prim.Native.Nat.{ℕ, _<_}
+use mathlib.Core.Path.{_≡_, refl, sym, ap, ap₂, subst, _∙_}
+use mathlib.Core.Bool.{Bool, true, false, _&&_}
+use mathlib.Core.List.{List, [], _∷_, flatMap}
+use native.Mathlib.Omega.{arith}
+use borrow.Author.Tests.{eq-eqb, ne-eqb, eqb-true}
+use lib.Dec.{eqb}
+use lib.ListN.{length}
+use Rattle.spec_lists.specs.Lists.{if_then_else_}
+use Rattle.spec_lists.specs.ListLaws.{and-left}
+use Rattle.spec_patch.specs.Patch.{Patch}
+use Rattle.spec_patch.specs.Edition.{v1}
+use Rattle.spec_patch.specs.Read.{patches, readSet}
+use Rattle.spec_projection.specs.Projection.{Projection}
+use Rattle.spec_projection.specs.Apply.{Outcome, done, stopped, operationsOf, replaySteps, applySteps}
+use Rattle.spec_session.specs.Session.{Limits, Cursor, at, Session}
+use Rattle.spec_session.specs.Diagnostics.{SessionRefusal, ofOperation}
+use Rattle.spec_session.specs.Lifecycle.{Disposition, applied, noChange, rejected, LocalState, stateOf}
+use Rattle.spec_session.specs.Batch.{BatchEnvelope, BatchAnswer, BatchStep, Check, pass, refuse, batchChecks, rejectBatch, keepSession, advanced, applyBatch, candidate, commit, concludeBatch, batch}
+use Rattle.spec_session.specs.BatchLaws.{checks-passed}
+use Rattle.shell_lifecycle.specs.Meaning.{cursorOf, limitsOf, stateTold}
+use Rattle.shell_lifecycle.specs.declared.state.ShellLocalState.{ShellLocalState}
+use Rattle.active_projection_target_catalog.specs.Catalog.{catalogueOf}
+use Rattle.active_projection_target_catalog.specs.CatalogLaws.{catalogue-back}
+use Rattle.local_projection_state.specs.declared.LocalProjectionState.{LocalProjectionState}
+use Rattle.binding_tables.specs.Change.{faultOf}
+use Rattle.binding_tables.specs.declared.LocalProjectionApplicationError.{LocalProjectionApplicationError}
+use Rattle.projection_application.specs.Application.{StepsBecame}
+use Rattle.projection_application.specs.declared.ProjectionOutcome.the-variants as outcome
+use Rattle.shell_gates.specs.Gates.{erased}
+use Rattle.shell_player.specs.declared.session.ShellSession.{ShellSession}
+use Rattle.shell_player.specs.declared.batch.ProjectionPatchApplicationDisposition.{ProjectionPatchApplicationDisposition}
+use Rattle.shell_player.specs.declared.batch.ProjectionPatchApplicationDisposition.the-variants.{Applied, NoChange, Rejected}
+use Rattle.shell_player.specs.declared.batch.ProjectionPatchApplicationResult.{ProjectionPatchApplicationResult}
+use Rattle.shell_player.specs.declared.batch.ProjectionPatchBatch.{ProjectionPatchBatch}
+use Rattle.shell_player.specs.Holds.{Holds}
+use Rattle.shell_player.specs.Batches.{SeenSession, dispositionTold, batchAnswerOf, rejectedAt, answerAt, movedTo, BatchBecame, KeptUnlessApplied}
+
+-- ---- what is handed back unless the batch is applied
+
+applied-told : (d : ProjectionPatchApplicationDisposition) → dispositionTold d ≡ applied → d ≡ Applied
+unfolding dispositionTold
+applied-told Applied e = refl
+applied-told NoChange e = absurd (let z : _≡_ {A = ℕ} 0 1 = cc in omega arith)
+applied-told Rejected e = absurd (let z : _≡_ {A = ℕ} 0 1 = cc in omega arith)
+
+pub kept-applied : (s : ShellSession) (r : ProjectionPatchBatch) (c : Cursor) → batchAnswerOf (r .result) ≡ answerAt applied c → KeptUnlessApplied s r
+kept-applied s r c e not = absurd (not (applied-told (r .result .disposition) (ap (λ (a : BatchAnswer). a .disposition) e)))
+
+-- ---- what passed and what was refused
+
+erased-refused : (c : Check (List Patch)) (f : SessionRefusal) (n : ℕ) → refuse f n ≡ erased c → c ≡ refuse f n
+erased-refused (pass ps) f n e = absurd (let z : _≡_ {A = ℕ} 0 1 = cc in omega arith)
+erased-refused (refuse g k) f n e =
+    let same : f ≡ g = cc e in
+    let count : n ≡ k = cc e in
+    ap₂ (λ a b. refuse a b) (sym same) (sym count)
+
+erased-passed : (c : Check (List Patch)) → pass tt ≡ erased c → (ps : List Patch) × (c ≡ pass ps)
+erased-passed (pass ps) e = (ps, refl)
+erased-passed (refuse g k) e = absurd (let z : _≡_ {A = ℕ} 0 1 = cc in omega arith)
+
+module _ (s : ShellSession) (m : Session) (holds : Holds s m) where
+  -- a batch sees the session that the struct stores
+  pub seen : SeenSession (s .context) (s .state) m
+  unfolding stateOf
+  seen = record {
+    id-is = holds .id;
+    limits-are = holds .limits;
+    lifecycle-is = ap (λ (t : LocalState). t .lifecycle) (holds .state);
+    cursor-is = ap (λ (t : LocalState). t .cursor) (holds .state);
+    catalogue-is = ap catalogueOf (holds .catalogue) ∙ catalogue-back (m .catalogue) (holds .few);
+  }
+
+  abbrev cap : ℕ
+  cap = s .context .limits .«max_diagnostics_per_transition»
+
+  abbrev cursor : Cursor
+  cursor = cursorOf (s .state .«replay_cursor»)
+
+  pub rejects : (r : ProjectionPatchApplicationResult) (f : SessionRefusal) (n : ℕ) → batchAnswerOf r ≡ rejectedAt cap f n cursor → BatchBecame (record { session = s; result = r }) (rejectBatch m f n)
+  unfolding rejectBatch
+  rejects r f n h = record { answer = h ∙ ap₂ (λ (k : Limits) (c : Cursor). rejectedAt (k .diagnostics) f n c) (holds .limits) (seen .cursor-is); next = holds }
+
+  module _ (e : BatchEnvelope) (ps : List Patch) where
+    -- without patches nothing changes
+    pub commits-none : (r : ProjectionPatchApplicationResult) → batchAnswerOf r ≡ answerAt noChange cursor → e .patches ≡ 0 → e .patches ≡ length ps → BatchBecame (record { session = s; result = r }) (commit m e (candidate m ps))
+    unfolding commit candidate replaySteps applySteps flatMap keepSession
+    commits-none r h none count = go ps count
+      where
+        go : (qs : List Patch) → e .patches ≡ length qs → BatchBecame (record { session = s; result = r }) (commit m e (candidate m qs))
+        go [] c = rw (eq-eqb (e .patches) 0 none) (record { answer = h ∙ ap (λ (k : Cursor). answerAt noChange k) (seen .cursor-is); next = holds })
+        go (q ∷ qs) c = absurd (omega arith)
+
+    pub commits-refused : (f : LocalProjectionApplicationError) (next : LocalProjectionState) (r : ProjectionPatchApplicationResult) (told : SessionRefusal) → StepsBecame next (outcome.Refused f) (candidate m ps) → told ≡ ofOperation (faultOf f) → batchAnswerOf r ≡ rejectedAt cap told 1 cursor
+        → BatchBecame (record { session = s; result = r }) (commit m e (candidate m ps))
+    unfolding commit
+    commits-refused f next r told became of h = go (candidate m ps) became
+      where
+        go : (x : Outcome) → StepsBecame next (outcome.Refused f) x → BatchBecame (record { session = s; result = r }) (commit m e x)
+        go (done q) b = absurd b
+        go (stopped g) b = rejects r (ofOperation g) 1 (h ∙ ap (λ k. rejectedAt cap k 1 cursor) (of ∙ ap ofOperation b))
+
+    pub commits-applied : (next : LocalProjectionState) (t : ShellLocalState) (r : ProjectionPatchApplicationResult) → (e .patches ≡ 0 → ⊥) → StepsBecame next outcome.Applied (candidate m ps) → stateTold t ≡ movedTo (stateTold (s .state)) (e .sequence)
+        → batchAnswerOf r ≡ answerAt applied (at (e .sequence)) → BatchBecame (record { session = record { context = s .context; state = t; «local_projection» = next }; result = r }) (commit m e (candidate m ps))
+    unfolding commit applyBatch advanced stateOf
+    commits-applied next t r some became moved h = go (candidate m ps) became
+      where
+        go : (x : Outcome) → StepsBecame next outcome.Applied x → BatchBecame (record { session = record { context = s .context; state = t; «local_projection» = next }; result = r }) (commit m e x)
+        go (done q) b = rw (ne-eqb (e .patches) 0 some) (
+            record {
+              answer = h;
+              next = record {
+                id = holds .id;
+                limits = holds .limits;
+                catalogue = holds .catalogue;
+                few = holds .few;
+                state = moved ∙ ap (λ (k : LocalState). movedTo k (e .sequence)) (holds .state);
+                projection = b;
+              };
+            }
+            )
+        go (stopped g) b = absurd b
+
+  module _ (e : BatchEnvelope) (declared : ℕ) (set : List ℕ) where
+    pub batch-rejects : (r : ProjectionPatchApplicationResult) (f : SessionRefusal) (n : ℕ) → refuse f n ≡ erased (batchChecks m e declared set) → batchAnswerOf r ≡ rejectedAt cap f n cursor
+        → BatchBecame (record { session = s; result = r }) (batch m e declared set)
+    unfolding batch concludeBatch
+    batch-rejects r f n h a = subst (λ (c : Check (List Patch)). BatchBecame (record { session = s; result = r }) (concludeBatch m e c)) (sym (erased-refused (batchChecks m e declared set) f n h)) (rejects r f n a)
+
+    pub batch-commits : (b : ProjectionPatchBatch) → pass tt ≡ erased (batchChecks m e declared set)
+        → ((ps : List Patch) → readSet v1 set ≡ patches ps → e .patches ≡ length ps → BatchBecame b (commit m e (candidate m ps))) → BatchBecame b (batch m e declared set)
+    unfolding batch concludeBatch
+    batch-commits b h f =
+        let p = erased-passed (batchChecks m e declared set) h in
+        let c = checks-passed m e declared set (p .0) (p .1) in
+        let count = eqb-true (e .patches) (length (p .0)) (and-left (eqb (e .patches) (length (p .0))) _ (c .counts)) in
+        subst (λ (k : Check (List Patch)). BatchBecame b (concludeBatch m e k)) (sym (p .1)) (f (p .0) (c .reads) count)
