@@ -1,11 +1,13 @@
-// Runs the writer on patch lists within and over each capacity, and prints its answers with the Adler-32 (RFC 1950) of the whole output, which
-// held the byte aa everywhere: a refusal leaves it as in the first line. Two lists are printed byte for byte. The file stdout was made by an
-// encoder of 01's canonical bytes, written for this from its text, with the Adler-32 of zlib.
-mod cases;
+// Runs the writer on the lists that the rows of standard input describe (`set_of`; the last number is the places of the output), and prints its
+// answers with the Adler-32 of the whole output, which held the byte aa everywhere: a refusal leaves it as in the first line. Two lists are
+// printed byte for byte. The file stdout was made by an encoder of canonical bytes that was written for it from 01's text alone.
 mod sets;
+mod show;
 
-use cases::CASES;
-use cases::Case;
+ghost use Prim.Native.Nat.{_≤_, _<_};
+ghost use lib.ListN.{length};
+use decimal::ReadU64;
+use libc::STDIN_FILENO;
 use libc::STDOUT_FILENO;
 use patch_part_writer::written::WriteRefusal;
 use patch_part_writer::written::Written;
@@ -14,44 +16,9 @@ use projection_patch_writer::set::write_patch_set;
 use sets::every_kind;
 use sets::listing;
 use sets::set_of;
-ghost use Prim.Native.Nat.{_<_};
-
-fn wide(byte: u8) -> u32
-    ensures { λ r. ⌜ r < 256 ⌝ }
-{
-    byte as u32
-}
-
-fn adler32(bytes: &[u8]) -> u64 {
-    let mut a: u32 = 1;
-    let mut b: u32 = 0;
-    let mut i: usize = 0;
-    while i < bytes.len() {
-        a = (a + wide(bytes[i])) % 65521;
-        b = (b + a) % 65521;
-        i += 1;
-    }
-    (b as u64) * 65536 + (a as u64)
-}
-
-fn show_digest(bytes: &[u8]) {
-    io::write_all(STDOUT_FILENO, b" ");
-    io::print_hex(STDOUT_FILENO, adler32(bytes), 8);
-    io::write_all(STDOUT_FILENO, b"\n");
-}
-
-fn show_answer(written: Written) {
-    match written {
-        Written::Wrote(n) => {
-            io::write_all(STDOUT_FILENO, b"wrote ");
-            io::print_decimal(STDOUT_FILENO, n as u64);
-        }
-        Written::Refused(refusal) => {
-            io::write_all(STDOUT_FILENO, b"refused ");
-            io::print_decimal(STDOUT_FILENO, refusal.number());
-        }
-    }
-}
+use show::show_answer;
+use show::show_bytes;
+use show::show_digest;
 
 // The texts: the letter a, but for a surrogate at 0, the last scalar value at 10 and a character of two bytes at 20.
 fn texts() -> [u8; 220] {
@@ -70,33 +37,55 @@ fn write_front(set: ProjectionPatchSet, lent: &[u8], out: &mut [u8], room: usize
     write_patch_set(set, lent, &mut out[0..room])
 }
 
-fn run(case: Case) {
+fn run(row: [usize; 9]) {
     let lent = texts();
     let mut out = [0xaau8; 32800];
-    show_answer(write_front(set_of(case), &lent, &mut out, case.8));
+    show_answer(write_front(set_of(row), &lent, &mut out, row[8]));
     show_digest(&out);
 }
 
-fn run_all() {
-    let cases = CASES;
-    let mut i: usize = 0;
-    while i < 54 {
-        run(cases[i]);
-        i += 1;
+fn number(text: &[u8]) -> usize {
+    match decimal::read_u64(text) {
+        ReadU64::Read(n) => n as usize,
+        ReadU64::Malformed => 0,
     }
 }
 
-fn show_byte(byte: u8) {
-    io::print_hex(STDOUT_FILENO, byte as u64, 2);
+// Where the number ends that begins at an index.
+fn number_end(text: &[u8], from: usize) -> usize
+    requires { ⌜ from ≤ length (now text) ⌝ }
+    ensures { λ r. ⌜ (from ≤ r) × (r ≤ length (now (text .entry))) ⌝ }
+{
+    let mut end = from;
+    while end < text.len() {
+        if text[end] < b'0' {
+            return end;
+        }
+        end += 1;
+    }
+    end
 }
 
-fn show_bytes(bytes: &[u8]) {
-    let mut i: usize = 0;
-    while i < bytes.len() {
-        show_byte(bytes[i]);
-        i += 1;
+fn place_after(k: usize) -> usize
+    ensures { λ r. ⌜ r < 9 ⌝ }
+{
+    if k < 8 { k + 1 } else { 0 }
+}
+
+// Numbers are nine to a row, each with one byte behind it.
+fn run_all(text: &[u8]) {
+    let mut row = [0usize; 9];
+    let mut k: usize = 0;
+    let mut at: usize = 0;
+    while at < text.len() {
+        let end = number_end(text, at);
+        row[k] = number(&text[at..end]);
+        if k == 8 {
+            run(row);
+        }
+        k = place_after(k);
+        at = end + 1;
     }
-    io::write_all(STDOUT_FILENO, b"\n");
 }
 
 // The bytes of a list, in hexadecimal, with its texts lent.
@@ -113,7 +102,9 @@ fn main() {
     let untouched = [0xaau8; 32800];
     io::write_all(STDOUT_FILENO, b"untouched");
     show_digest(&untouched);
-    run_all();
+    let mut text = io::buffer();
+    let n = io::read_full(STDIN_FILENO, &mut text);
+    run_all(&text[..n]);
     show_set(listing(), b"Ok");
     show_set(every_kind(), b"\xc3\xa9");
 }

@@ -1,5 +1,4 @@
 // The patch lists that are written.
-use crate::cases::Case;
 use projection_patch::binding_graph::BindingSlot;
 use projection_patch::binding_graph::BindingTarget;
 use projection_patch::contract_primitives::CollectionKey;
@@ -107,24 +106,31 @@ fn text(start: usize, len: usize) -> OperationPlace {
     binding(5, 0, ProjectionPatchValue::Text { start, len })
 }
 
-// The list of a row.
-pub(crate) fn set_of(case: Case) -> ProjectionPatchSet {
-    let mut patches = [head(OptionalSurfaceId::None, case.1); 64];
-    let later = head(OptionalSurfaceId::None, case.2);
+// The heads of patches with so many operations each, the first 24 and the later ones.
+fn heads(first: usize, later: usize) -> [ProjectionPatch; 64] {
+    let mut patches = [head(OptionalSurfaceId::None, first); 64];
+    let other = head(OptionalSurfaceId::None, later);
     let mut p: usize = 24;
     while p < 64 {
-        patches[p] = later;
+        patches[p] = other;
         p += 1;
     }
+    patches
+}
+
+// The list of a row: its patches; the operations of each of the first 24, and of each later one; how many of the first operations set a text,
+// all others being alike; start and length of the first text, and of the second.
+pub(crate) fn set_of(row: [usize; 9]) -> ProjectionPatchSet {
+    let patches = heads(row[1], row[2]);
     let mut operations = [availability(5, ProjectionNodeAvailability::Pending); 3120];
-    if 0 < case.3 {
-        operations[0] = text(case.4, case.5);
+    if 0 < row[3] {
+        operations[0] = text(row[4], row[5]);
     }
-    if 1 < case.3 {
-        operations[1] = text(case.6, case.7);
+    if 1 < row[3] {
+        operations[1] = text(row[6], row[7]);
     }
     ProjectionPatchSet {
-        patch_count: case.0,
+        patch_count: row[0],
         patches,
         operations,
     }

@@ -1,29 +1,49 @@
 -- `projection_patch_writer_vectors::run_all` ends.
-use Prim.Native.Nat.{_-_, _≤_}
+use Prim.Native.Nat.{_-_, _<_}
+use mathlib.Core.Path.{_≡_}
 use borrow.Author.Needs.{needs}
+use lib.ListN.{length}
 use Rattle.projection_patch_writer_vectors.proofs.run_all.Statement.{statement}
 use Rattle.projection_patch_writer_vectors.proofs.run_all.Tie as tie
 
 abbrev Inv-loop : tie.InvT-loop
-Inv-loop cases i₀ i = i ≤ 54
+Inv-loop text row₀ k₀ at₀ row k at = (k < 9) × (length row ≡ 9)
 
 abbrev μ-loop : tie.MeasureT-loop
-μ-loop cases i₀ i = 54 - i
+μ-loop text row₀ k₀ at₀ row k at = length text - at
 
 loop-holds : tie.Need-loop-holds Inv-loop μ-loop
 loop-holds c = search needs
 
-mul-run : tie.Need-mul-run Inv-loop μ-loop
-mul-run c = search needs
+number-end-requires : tie.Need-number-end-requires Inv-loop μ-loop
+number-end-requires c κs = search needs
 
-array-copy-out-run : tie.Need-array-copy-out-run Inv-loop μ-loop
-array-copy-out-run c = search needs
+sub-number : tie.Need-sub-number Inv-loop μ-loop
+sub-number c = search needs
+
+part-number-start : tie.Need-part-number-start Inv-loop μ-loop
+part-number-start c = search needs
+
+part-number-end : tie.Need-part-number-end Inv-loop μ-loop
+part-number-end c = search needs
+
+number-requires : tie.Need-number-requires Inv-loop μ-loop
+number-requires c κs = search needs
+
+mul-row : tie.Need-mul-row Inv-loop μ-loop
+mul-row c = search needs
+
+array-write-row : tie.Need-array-write-row Inv-loop μ-loop
+array-write-row c = search needs
 
 run-requires : tie.Need-run-requires Inv-loop μ-loop
 run-requires c κs = search needs
 
-add-i : tie.Need-add-i Inv-loop μ-loop
-add-i c = search needs
+place-after-requires : tie.Need-place-after-requires Inv-loop μ-loop
+place-after-requires c κs = search needs
+
+add-at : tie.Need-add-at Inv-loop μ-loop
+add-at c = search needs
 
 loop-less : tie.Need-loop-less Inv-loop μ-loop
 loop-less c = search needs
@@ -41,10 +61,16 @@ run-all-spec =
     Inv-loop
     μ-loop
     loop-holds
-    mul-run
-    array-copy-out-run
+    number-end-requires
+    sub-number
+    part-number-start
+    part-number-end
+    number-requires
+    mul-row
+    array-write-row
     run-requires
-    add-i
+    place-after-requires
+    add-at
     loop-less
     loop-again
     returns)

@@ -1,9 +1,9 @@
--- `projection_patch_writer_vectors::show_bytes` ends.
+-- `projection_patch_writer_vectors::show::show_bytes` ends.
 use Prim.Native.Nat.{_-_, _≤_}
 use borrow.Author.Needs.{needs}
 use lib.ListN.{length}
-use Rattle.projection_patch_writer_vectors.proofs.show_bytes.Statement.{statement}
-use Rattle.projection_patch_writer_vectors.proofs.show_bytes.Tie as tie
+use Rattle.projection_patch_writer_vectors.proofs.show.show_bytes.Statement.{statement}
+use Rattle.projection_patch_writer_vectors.proofs.show.show_bytes.Tie as tie
 
 abbrev Inv-loop : tie.InvT-loop
 Inv-loop bytes i₀ t3 i = i ≤ length bytes

@@ -1,9 +1,9 @@
--- `projection_patch_writer_vectors::adler32` runs: both sums stay below the prime.
+-- `projection_patch_writer_vectors::show::adler32` runs: both sums stay below the prime.
 use Prim.Native.Nat.{_-_, _≤_, _<_}
 use borrow.Author.Needs.{needs}
 use lib.ListN.{length}
-use Rattle.projection_patch_writer_vectors.proofs.adler32.Statement.{statement}
-use Rattle.projection_patch_writer_vectors.proofs.adler32.Tie as tie
+use Rattle.projection_patch_writer_vectors.proofs.show.adler32.Statement.{statement}
+use Rattle.projection_patch_writer_vectors.proofs.show.adler32.Tie as tie
 
 abbrev Inv-loop : tie.InvT-loop
 Inv-loop bytes a₀ b₀ i₀ a b i = (a < 65521) × ((b < 65521) × (i ≤ length bytes))
