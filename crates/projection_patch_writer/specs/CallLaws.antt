@@ -8,11 +8,11 @@ use native.Mathlib.Omega.{arith}
 use borrow.Author.Tests.{leb-true, le-leb}
 use lib.Dec.{leb}
 use lib.ListN.{length, take, drop, length-append, length-map}
-use lib.Seq.{length-take-le, take-at}
+use lib.Seq.{length-take-le}
 use Rattle.spec_lists.specs.Lists.{if_then_else_, all}
 use Rattle.spec_lists.specs.ListLaws.{and-left, and-right}
 use Rattle.spec_lists.specs.Bytes.{Bytes}
-use Rattle.spec_patch.specs.Sizes.{setBytes, setPatches, patchOperations}
+use Rattle.spec_patch.specs.Sizes.{setPatches, patchOperations}
 use Rattle.spec_patch.specs.Patch as model
 use Rattle.spec_patch.specs.Edition.{v1}
 use Rattle.spec_patch.specs.Encode.{u32, heading, encodeCounted, encodePatch, encode}
@@ -22,7 +22,7 @@ use Rattle.spec_patch.specs.SetLaws.{reads-back, was-encoded}
 use Rattle.spec_patch.specs.Write.{WriteRefusal, overCapacity, malformed, outputTooShort, Written, wrote, refused, write, allValues, shortEnough, wellFormed, withinCapacities}
 use Rattle.spec_patch.specs.WriteLaws.{fits-of-tests, capacities-of-fits, well-formed-of-fits}
 use Rattle.wire.specs.Write.{hasRoom, overwrite}
-use Rattle.wire.specs.WriteLaws.{room-true, take-overwrite, overwrite-in-place, overwrite-refused}
+use Rattle.wire.specs.WriteLaws.{take-overwrite, overwrite-in-place, overwrite-refused}
 use Rattle.projection_patch.specs.declared.patch.OperationPlace.{OperationPlace}
 use Rattle.projection_patch.specs.declared.patch.ProjectionPatchSet.{ProjectionPatchSet}
 use Rattle.patch_part_writer.specs.declared.written.Written as call

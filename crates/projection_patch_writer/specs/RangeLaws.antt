@@ -1,5 +1,5 @@
 -- A set that a function is passed is a value of its type, so that every number of its list fits its field.
-use Prim.Native.Nat.{ℕ, zero, suc}
+use Prim.Native.Nat.{ℕ}
 use mathlib.Core.List.{List, [], _∷_, map}
 use lib.ListN.{take, drop}
 use mir.Val.{Val}
@@ -11,7 +11,7 @@ use denote.Struct.Declared as structs
 use denote.Enum.Declared as enums
 use Rattle.spec_lists.specs.Lists.{All}
 use Rattle.spec_lists.specs.ListLaws.{all-take, all-drop}
-use Rattle.spec_patch.specs.Fits.{OptionalU64, InRangeValue, OperationHolds, InRangeEnvelope, InRangePatch, InRange}
+use Rattle.spec_patch.specs.Fits.{OptionalU64, InRangeValue, OperationHolds, InRangeEnvelope, InRange}
 use Rattle.projection_patch.specs.Meaning.{surfaceOf, beforeOf, envelopeOf, valueOf, operationOf}
 use Rattle.projection_patch.specs.declared.patch.OptionalSurfaceId.{OptionalSurfaceId}
 use Rattle.projection_patch.specs.declared.patch.OptionalSurfaceId.the-variants as surface

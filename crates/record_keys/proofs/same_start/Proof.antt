@@ -1,7 +1,6 @@
 -- `record_keys::same_start` meets its contract. The invariant: row begins with key exactly where the rest of row begins with the rest of key.
 use mathlib.Core.Path.{_≡_, sym, _∙_}
-use mathlib.Core.List.{List}
-use Prim.Native.Nat.{ℕ, _+_, _-_, _≤_}
+use Prim.Native.Nat.{_-_, _≤_}
 use native.Mathlib.Omega.{arith}
 use lib.ListN.{length, drop, length-take, length-drop}
 use borrow.Author.Needs.{needs}

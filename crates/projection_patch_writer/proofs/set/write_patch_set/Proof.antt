@@ -9,7 +9,7 @@ use denote.Ref.{now}
 use lib.ListN.{length, take}
 use Rattle.spec_patch.specs.Edition.{v1}
 use Rattle.spec_patch.specs.Read.{patches, readSet}
-use Rattle.spec_patch.specs.Encode.{u32, heading, encodePatch, encode}
+use Rattle.spec_patch.specs.Encode.{u32, heading, encodePatch}
 use Rattle.wire.specs.Write.{overwrite}
 use Rattle.wire.specs.WriteLaws.{length-overwrite, overwrite-append}
 use Rattle.patch_part_writer.specs.declared.written.Written.{Written}
@@ -17,7 +17,7 @@ use Rattle.patch_part_writer.specs.declared.written.Written.the-variants.{Wrote
 use Rattle.patch_part_writer.specs.Answer.{answerAt, outputAt}
 use Rattle.patch_part_writer.specs.ExtentLaws.{length-heading}
 use Rattle.patch_part_writer.specs.PartsLaws.{answers-refusal, answers-short, answers-wrote, heading-wrote}
-use Rattle.projection_patch_writer.specs.Set.{listOf, setSize, patchSetBytes}
+use Rattle.projection_patch_writer.specs.Set.{listOf, patchSetBytes}
 use Rattle.projection_patch_writer.specs.CallLaws.{Arrays, few-patches, encode-parts, patches-fit, encode-size, written-read}
 use Rattle.projection_patch_writer.proofs.Elements.{unmapped}
 use Rattle.projection_patch_writer.proofs.Verdict.{survey-refused, survey-within}
