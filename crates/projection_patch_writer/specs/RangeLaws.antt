@@ -35,6 +35,9 @@ use Rattle.projection_patch.proofs.patch.ProjectionPatchEnvelope as envelopeTyp
 use Rattle.projection_patch.proofs.patch.ProjectionPatchValue as valueType
 use Rattle.projection_patch.proofs.patch.ProjectionPatchOperation as operationType
 
+-- The relation `Is` computes to nested pairs. A number has its machine value and its bound. A struct has its machine values, their form, and
+-- behind both the relations of its fields in order; an enum has the same twice, for its tag and for the fields of its variant. So in a path
+-- `.1 .1` goes to a struct's fields, `.1 .1 .1 .1` to a variant's, and a last `.1` to a bound.
 surface-in-range : (s : OptionalSurfaceId) (vs : List Val) → Is (enums.row surfaceType.the-type) s vs → OptionalU64 (surfaceOf s)
 unfolding OptionalU64
 surface-in-range surface.None vs h = tt
