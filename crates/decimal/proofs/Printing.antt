@@ -13,7 +13,8 @@ use borrow.Author.Tests.{ltb-true, le-leb, lt-leb}
 use Rattle.spec_lists.specs.ListLaws.{test-cases}
 use Rattle.spec_decimal.specs.Decimal.{digit, digits, decimal}
 use Rattle.spec_decimal.specs.ReadLaws.{decimal-last, decimal-more}
-use Rattle.decimal.specs.Print.{overwrite, nextPosition}
+use Rattle.wire.specs.Write.{hasRoom, overwrite}
+use Rattle.decimal.specs.Print.{nextPosition}
 
 -- ---- how many digits
 
@@ -51,7 +52,7 @@ abbrev pub stored : List ℕ → ℕ → ℕ → ℕ → List ℕ
 stored l at i n = take at l ++ lastDigits (i - at) n ++ drop i l
 
 pub stored-start : (l : List ℕ) (at count n : ℕ) → count ≡ length (decimal n) → at + count ≤ length l → stored l at (at + count) n ≡ overwrite l at (decimal n)
-unfolding overwrite
+unfolding overwrite hasRoom
 stored-start l at count n e h =
     let k : (at + length (decimal n)) - at ≡ length (decimal n) = omega arith in
     let room : at + length (decimal n) ≤ length l = omega arith in
@@ -81,7 +82,7 @@ stored-end l at n = rw (sub-self at, append-nil (take at l)) (take-drop at l)
 -- ---- a sign before the digits
 
 pub sign-first : (l bs : List ℕ) (at sign : ℕ) → at + 1 + length bs ≤ length l → overwrite (set l at sign) (at + 1) bs ≡ overwrite l at (sign ∷ bs)
-unfolding overwrite
+unfolding overwrite hasRoom
 sign-first l bs at sign h =
     let k : at + suc (length bs) ≡ at + 1 + length bs = omega arith in
     let room : at + 1 + length bs ≤ length (set l at sign) = simp length-set h in
@@ -93,13 +94,13 @@ sign-first l bs at sign h =
 
 module _ (l bs : List ℕ) (at count : ℕ) (size : count ≡ length bs) where
   pub room-position : at + count ≤ length l → some (at + count) ≡ nextPosition l at bs
-  unfolding nextPosition
+  unfolding nextPosition hasRoom
   room-position h = rw (sym size, le-leb (at + count) (length l) h)
 
   pub no-room-position : length l < at + count → none ≡ nextPosition l at bs
-  unfolding nextPosition
+  unfolding nextPosition hasRoom
   no-room-position h = rw (sym size, lt-leb (at + count) (length l) h)
 
   pub no-room : length l < at + count → l ≡ overwrite l at bs
-  unfolding overwrite
+  unfolding overwrite hasRoom
   no-room h = rw (sym size, lt-leb (at + count) (length l) h)

@@ -1,17 +1,16 @@
--- A number with its sign: what is read of a magnitude, and -1 - z, by which the code makes a number negative and takes its magnitude.
+-- A number with its sign: what is read of a magnitude, and what is printed of a number below 0 and of any other.
 use Prim.Native.Nat.{ℕ, zero, suc, _+_, _-_, _^_, _≤_, _<_}
 use mathlib.Core.Path.{_≡_, refl, sym, ap, _∙_}
-use mathlib.Core.Bool.{true, false}
 use mathlib.Core.List.{List, [], _∷_}
 use mathlib.Core.Option.{none, some}
 use native.Mathlib.Omega.{arith}
-use borrow.Author.Tests.{ltb-true, lt-ltb, le-ltb, eq-eqb, ne-eqb}
-use lib.Signed.{ltZ}
+use borrow.Author.Tests.{lt-ltb, le-ltb, eq-eqb, ne-eqb}
 use mir.Syntax.{w64}
 use mir.Val.{SFits, toZ, ofZ}
-use mir.Facts.{toZ-ofZ, toZ-pos}
-use lib.IntN.{ℤ, pos, negsuc, natAbs, _-ℤ_}
+use mir.Facts.{toZ-ofZ}
+use lib.IntN.{ℤ, pos, negsuc, natAbs}
 use lib.ListN.{length, getD, drop}
+use Rattle.wire.specs.Complement.{flip, Below, AtLeast}
 use Rattle.spec_decimal.specs.Decimal.{decimal, signedDecimal, readDecimal, positive, negative, readSignedDecimal}
 
 -- ---- the sign of a magnitude
@@ -64,49 +63,6 @@ pub signed-other : (text : List ℕ) → (length text ≡ 0 → ⊥) → (getD t
 unfolding readSignedDecimal
 signed-other [] h e = absurd (h refl)
 signed-other (b ∷ bs) h e = rw (ne-eqb b 45 e)
-
--- ---- -1 - z
-
--- as the code computes it
-abbrev pub flip : ℤ → ℤ
-flip z = negsuc 0 -ℤ z
-
-pub flip-pos : (n : ℕ) → flip (pos n) ≡ negsuc n
-flip-pos zero = refl
-flip-pos (suc n) = ap negsuc (omega arith)
-
-pub flip-negsuc : (n : ℕ) → flip (negsuc n) ≡ pos n
-flip-negsuc n = rw (le-ltb (suc n) 1 (omega arith)) (ap pos (omega arith))
-
--- what is known of a number below 0
-pub record Below (z : ℤ) : Type 0 where
-  pub k : ℕ
-  pub is : z ≡ negsuc k
-  pub small : k < 2 ^ 63
-  pub flipped : flip (toZ w64 (ofZ w64 z)) ≡ pos k
-  pub stored : toZ w64 (ofZ w64 (flip (toZ w64 (ofZ w64 z)))) ≡ pos k
-
-pub below : (z : ℤ) → SFits w64 z → ltZ z (pos 0) ≡ true → Below z
-below (pos n) f e = absurd (omega (arith, ltb-true n 0 e))
-below (negsuc k) f e =
-    let flipped : flip (toZ w64 (ofZ w64 (negsuc k))) ≡ pos k = ap flip (toZ-ofZ f) ∙ flip-negsuc k in
-    record {
-      k = k;
-      is = refl;
-      small = f .sfits;
-      flipped = flipped;
-      stored = ap (λ (y : ℤ). toZ w64 (ofZ w64 y)) flipped ∙ toZ-pos w64 (f .sfits);
-    }
-
--- what is known of any other number
-pub record AtLeast (z : ℤ) : Type 0 where
-  pub n : ℕ
-  pub small : n < 2 ^ 63
-  pub is : z ≡ pos n
-
-pub at-least : (z : ℤ) → SFits w64 z → ltZ z (pos 0) ≡ false → AtLeast z
-at-least (pos n) f e = record { n = n; small = f .sfits; is = refl }
-at-least (negsuc k) f e = absurd (let e′ : true ≡ false = e in let z : _≡_ {A = ℕ} 0 1 = cc in omega arith)
 
 -- ---- what is printed of either
 

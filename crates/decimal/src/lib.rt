@@ -3,11 +3,11 @@ ghost use mathlib.Core.Path.{_≡_};
 ghost use mathlib.Core.List.{_∷_};
 ghost use mathlib.Core.Option.{some};
 ghost use Prim.Native.Nat.{_+_, _≤_};
-ghost use lib.Dec.{leb};
 ghost use lib.ListN.{length, drop};
 ghost use Rattle.spec_decimal.specs.Decimal.{decimal, signedDecimal, readDecimal, positive, negative, readSignedDecimal};
 ghost use Rattle.decimal.specs.Read.{withDigit, readDigits, numberU64, numberI64};
-ghost use Rattle.decimal.specs.Print.{overwrite, nextPosition, positionOf};
+ghost use Rattle.wire.specs.Write.{overwrite};
+ghost use Rattle.decimal.specs.Print.{nextPosition, positionOf};
 
 pub enum ReadU64 {
     Read(u64),
@@ -138,16 +138,6 @@ fn digit_count(n: u64) -> usize
     count
 }
 
-// Whether len elements reach to index at and n further.
-fn has_room(len: usize, at: usize, n: usize) -> bool
-    ensures { λ r. ⌜ r ≡ leb (at + n) len ⌝ }
-{
-    if len < at {
-        return false;
-    }
-    n <= len - at
-}
-
 // Stores the digits of n from index at on, the last first.
 fn store_digits(out: &mut [u8], at: usize, count: usize, n: u64)
     requires { ⌜ (count ≡ length (decimal n)) × (at + count ≤ length (now out)) ⌝ }
@@ -167,7 +157,7 @@ pub fn print_u64(out: &mut [u8], at: usize, n: u64) -> Printed
     ensures { λ _. ⌜ now (out .exit) ≡ overwrite (now (out .entry)) at (decimal n) ⌝ }
 {
     let count = digit_count(n);
-    if has_room(out.len(), at, count) {
+    if wire::has_room(out.len(), at, count) {
         store_digits(out, at, count, n);
         Printed::Next(at + count)
     } else {
@@ -181,7 +171,7 @@ fn print_negative(out: &mut [u8], at: usize, n: u64) -> Printed
     ensures { λ _. ⌜ now (out .exit) ≡ overwrite (now (out .entry)) at (45 ∷ decimal n) ⌝ }
 {
     let count = digit_count(n);
-    if has_room(out.len(), at, count + 1) {
+    if wire::has_room(out.len(), at, count + 1) {
         out[at] = 45;
         store_digits(out, at + 1, count, n);
         Printed::Next(at + 1 + count)

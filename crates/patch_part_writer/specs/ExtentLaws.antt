@@ -1,17 +1,15 @@
 -- The bytes of a part of a patch list are as many as its extent says, where its text stands within the texts.
 use Prim.Native.Nat.{ℕ, _+_, _≤_}
-use mathlib.Core.Path.{_≡_, refl, sym, ap, _∙_}
+use mathlib.Core.Path.{_≡_, refl}
 use mathlib.Core.List.{List, _++_}
 use native.Mathlib.Omega.{arith}
 use lib.ListN.{length, take, drop, length-append, length-drop}
 use lib.Seq.{length-take-le}
-use mir.Syntax.{w64}
-use mir.Val.{ofZ}
 use Rattle.spec_lists.specs.BytesLaws.{length-littleEndian}
 use Rattle.spec_patch.specs.Sizes.{textBytes}
 use Rattle.spec_patch.specs.Edition.{v1}
-use Rattle.spec_patch.specs.Encode.{u32, u64, encodeOptional, encodeText, kindOf, valueBody, encodeValue, encodeOperation, encodeEnvelope, heading}
-use Rattle.projection_patch.specs.Meaning.{beforeOf, surfaceOf, quadOf, valueOf, operationOf, envelopeOf}
+use Rattle.spec_patch.specs.Encode.{u32, encodeOptional, encodeText, kindOf, valueBody, encodeValue, encodeOperation, encodeEnvelope, heading}
+use Rattle.projection_patch.specs.Meaning.{beforeOf, surfaceOf, valueOf, operationOf, envelopeOf}
 use Rattle.projection_patch.specs.declared.patch.OptionalSurfaceId.{OptionalSurfaceId}
 use Rattle.projection_patch.specs.declared.patch.OptionalSurfaceId.the-variants as surface
 use Rattle.projection_patch.specs.declared.patch.OptionalKey.{OptionalKey}

@@ -1,7 +1,6 @@
 // How many bytes an operation and a patch's head take, and where an operation's text stands.
 ghost use mathlib.Core.Path.{_≡_};
 ghost use Prim.Native.Nat.{_+_, _≤_};
-ghost use lib.Dec.{leb};
 ghost use Rattle.spec_patch.specs.Sizes.{textBytes};
 ghost use Rattle.patch_part_writer.specs.Extent.{beforeSize, surfaceSize, headSize, valueSize, operationSize, valueText, operationText};
 ghost use Rattle.patch_part_writer.specs.Parts.{sizeWithin};
@@ -10,16 +9,6 @@ use projection_patch::patch::OptionalSurfaceId;
 use projection_patch::patch::ProjectionPatch;
 use projection_patch::patch::ProjectionPatchOperation;
 use projection_patch::patch::ProjectionPatchValue;
-
-// Whether limit elements reach to index start and len further.
-pub fn reaches(limit: usize, start: usize, len: usize) -> bool
-    ensures { λ r. ⌜ r ≡ leb (start + len) limit ⌝ }
-{
-    if limit < start {
-        return false;
-    }
-    len <= limit - start
-}
 
 // The len bytes from start on, of the texts that are lent beside an operation.
 pub struct TextPlace {

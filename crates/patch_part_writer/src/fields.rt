@@ -6,7 +6,7 @@ ghost use lib.ListN.{length, take, drop};
 ghost use mir.Syntax.{w64};
 ghost use mir.Val.{ofZ};
 ghost use Rattle.spec_patch.specs.Sizes.{textBytes};
-ghost use Rattle.spec_patch.specs.Encode.{u32, u64, encodeOptional, encodeText, encodeValue, quadByte, availabilityByte};
+ghost use Rattle.spec_patch.specs.Encode.{u32, u64, encodeOptional, encodeValue, quadByte, availabilityByte};
 ghost use Rattle.wire.specs.Write.{overwrite};
 ghost use Rattle.projection_patch.specs.Meaning.{beforeOf, quadOf, availabilityOf, valueOf};
 ghost use Rattle.patch_part_writer.specs.Extent.{beforeSize, valueSize, valueText, Within};

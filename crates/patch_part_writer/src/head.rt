@@ -12,7 +12,6 @@ ghost use Rattle.patch_part_writer.specs.Extent.{surfaceSize, headSize};
 ghost use Rattle.patch_part_writer.specs.Answer.{answerAt, outputAt};
 ghost use Rattle.patch_part_writer.specs.Parts.{headingBytes, headBytes};
 use crate::extent::head_size;
-use crate::extent::reaches;
 use crate::extent::surface_size;
 use crate::fields::store_tagged;
 use crate::written::WriteRefusal;
@@ -39,7 +38,7 @@ pub fn write_heading(patch_count: usize, out: &mut [u8], at: usize) -> Written
     if ProjectionPatchSet::PATCHES < patch_count {
         return Written::Refused(WriteRefusal::OverCapacity);
     }
-    if !reaches(out.len(), at, 35) {
+    if !wire::has_room(out.len(), at, 35) {
         return Written::Refused(WriteRefusal::OutputTooShort);
     }
     store_heading(out, at, patch_count);
@@ -110,7 +109,7 @@ pub fn write_patch_head(patch: ProjectionPatch, out: &mut [u8], at: usize) -> Wr
         return Written::Refused(WriteRefusal::OverCapacity);
     }
     let size = head_size(patch);
-    if !reaches(out.len(), at, size) {
+    if !wire::has_room(out.len(), at, size) {
         return Written::Refused(WriteRefusal::OutputTooShort);
     }
     store_head(out, at, patch);

@@ -12,7 +12,6 @@ ghost use Rattle.patch_part_writer.specs.Parts.{operationBytes};
 use crate::extent::before_size;
 use crate::extent::operation_size;
 use crate::extent::operation_text;
-use crate::extent::reaches;
 use crate::fields::availability_byte;
 use crate::fields::store_before;
 use crate::fields::store_entry;
@@ -145,11 +144,11 @@ pub fn write_operation(
     if ProjectionPatchValue::TEXT_BYTES < text.len {
         return Written::Refused(WriteRefusal::OverCapacity);
     }
-    if !reaches(texts.len(), text.start, text.len) {
+    if !wire::has_room(texts.len(), text.start, text.len) {
         return Written::Refused(WriteRefusal::Malformed);
     }
     let size = operation_size(operation);
-    if !reaches(out.len(), at, size) {
+    if !wire::has_room(out.len(), at, size) {
         return Written::Refused(WriteRefusal::OutputTooShort);
     }
     store_operation(out, at, operation, texts);

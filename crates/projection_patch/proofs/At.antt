@@ -1,6 +1,6 @@
 -- Reading at a position of a list: what the code tests and reads there, as the readers of spec_patch have it.
 use Prim.Native.Nat.{ℕ, _+_, _-_, _≤_, _<_}
-use mathlib.Core.Path.{_≡_, refl, sym, ap, ap₂, _∙_}
+use mathlib.Core.Path.{_≡_, refl, sym, ap, _∙_}
 use mathlib.Core.List.{List}
 use mathlib.Core.Option.{Option, none, some}
 use native.Mathlib.Numerals.{add-one}
@@ -9,7 +9,7 @@ use lib.ListN.{length, getD, take, drop, length-drop, drop-of-length-le}
 use lib.Seq.{drop-cons, drop-drop, take-all}
 use lib.Dec.{lit<}
 use lib.IntN.{ℤ}
-use Rattle.spec_patch.specs.Reader.{Fault, read, refused, malformed, Result, Reader, onward, mapped, pair, byte, number}
+use Rattle.spec_patch.specs.Reader.{Fault, read, refused, malformed, Result, Reader, onward, pair, byte, number}
 use Rattle.spec_patch.specs.Read.{readU32, readU64, readI64}
 use Rattle.wire.specs.Read.{firstNumber, firstSigned, numberU32, numberU64, numberI64}
 use Rattle.wire.specs.ReadLaws as wire

@@ -1,17 +1,17 @@
 -- A text of a length that was read, at a position.
 use Prim.Native.Nat.{ℕ, _+_, _-_, _≤_, _<_}
-use mathlib.Core.Path.{_≡_, refl, sym, ap, _∙_}
+use mathlib.Core.Path.{_≡_, refl, sym, _∙_}
 use mathlib.Core.Bool.{Bool, true, false}
 use mathlib.Core.List.{List, []}
 use native.Mathlib.Omega.{arith}
 use borrow.Author.Tests.{le-leb, lt-leb}
 use lib.Dec.{leb}
-use lib.ListN.{length, take, drop, length-drop, drop-of-length-le}
+use lib.ListN.{length, take, drop, length-drop}
 use lib.Seq.{length-take-le, drop-drop}
 use Rattle.spec_lists.specs.Lists.{if_then_else_}
 use Rattle.spec_text.specs.Syntax.{isUtf8, characters}
 use Rattle.spec_patch.specs.Patch.{text}
-use Rattle.spec_patch.specs.Reader.{read, refused, malformed, mapped, checked, bytes}
+use Rattle.spec_patch.specs.Reader.{refused, malformed, mapped, checked, bytes}
 use Rattle.utf8.specs.Answer as utf8
 use Rattle.utf8.specs.declared.Utf8Check.{Utf8Check}
 use Rattle.utf8.specs.declared.Utf8Check.the-variants.{Valid, Invalid}

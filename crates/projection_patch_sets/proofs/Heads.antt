@@ -1,15 +1,15 @@
 -- The heading of a set, and ids of an envelope, as the code finds them.
 use Prim.Native.Nat.{ℕ, _+_}
-use mathlib.Core.Path.{_≡_, refl, sym, ap, ap₂, _∙_}
+use mathlib.Core.Path.{_≡_, refl, sym, ap, _∙_}
 use mathlib.Core.Bool.{Bool, true, false}
 use mathlib.Core.List.{List, [], _∷_, _++_, append-assoc}
-use mathlib.Core.Option.{Option, none, some}
+use mathlib.Core.Option.{none, some}
 use native.Mathlib.Omega.{arith}
 use lib.Dec.{eqb, leb, lit<}
 use lib.ListN.{length, take, drop}
 use lib.Seq.{drop-at, drop-drop}
 use Rattle.spec_lists.specs.Lists.{if_then_else_}
-use Rattle.spec_lists.specs.Bytes.{Bytes, numberOf, littleEndian}
+use Rattle.spec_lists.specs.Bytes.{Bytes, numberOf}
 use Rattle.spec_lists.specs.BytesLaws.{length-littleEndian}
 use Rattle.spec_patch.specs.Edition.{v1}
 use Rattle.spec_patch.specs.Encode.{u32, heading}

@@ -12,13 +12,13 @@ use Rattle.spec_patch.specs.Sizes.{setBytes, patchOperations}
 use Rattle.spec_patch.specs.Patch.{Operation, Envelope, Patch}
 use Rattle.spec_patch.specs.Edition.{v1}
 use Rattle.spec_patch.specs.Reader.{Fault, Result, read, refused, onward, followed, many}
-use Rattle.spec_patch.specs.Read.{readOperation, toPatch, readPatch, readPatches, SetReading, patches, fault, ended, readSet}
+use Rattle.spec_patch.specs.Read.{readOperation, toPatch, readPatch, SetReading, patches, fault, ended, readSet}
 use Rattle.spec_patch.specs.Codec.{many-codec}
 use Rattle.spec_patch.specs.ReadLaws.{operation-codec, patch-codec}
 use Rattle.projection_patch.specs.Meaning.{operationTo}
 use Rattle.projection_patch_sets.specs.Walk.{readHeading, readHead}
 use Rattle.projection_patch_sets.specs.HeadLaws.{patches-by-heading, patch-by-head}
-use Rattle.projection_patch.specs.ReadAnswers.{faultTo, anywhere}
+use Rattle.projection_patch.specs.ReadAnswers.{faultTo}
 use Rattle.projection_patch_sets.specs.SetAnswers.{operationsAnswer, operationCount, setAnswer}
 use Rattle.projection_patch.specs.declared.patch.ProjectionPatchOperation.{ProjectionPatchOperation}
 use Rattle.projection_patch.specs.declared.read_values.ProjectionPatchReadFault.{ProjectionPatchReadFault}

@@ -1,16 +1,16 @@
 -- On a readable set a walk visits exactly the patches and the operations of the definition. Each law takes the answer of one call: it is no
 -- refusal, it is of the first patch or operation that is left, and behind the bytes that it took one fewer is left.
 use Prim.Native.Nat.{ℕ, _+_, _-_, _≤_}
-use mathlib.Core.Path.{_≡_, refl, sym, ap, ap₂, _∙_, subst}
+use mathlib.Core.Path.{_≡_, sym, ap, ap₂, _∙_}
 use mathlib.Core.List.{List, [], _∷_, _++_, append-assoc, flatMap}
 use native.Mathlib.Omega.{arith}
 use lib.ListN.{length, drop, length-append, length-drop}
 use lib.Seq.{drop-at, drop-drop}
 use Rattle.spec_lists.specs.Bytes.{Bytes}
-use Rattle.spec_patch.specs.Patch.{Operation, Envelope, Patch}
+use Rattle.spec_patch.specs.Patch.{Operation, Patch}
 use Rattle.spec_patch.specs.Edition.{v1}
 use Rattle.spec_patch.specs.Encode.{u32, encodeOperation, encodeEnvelope, encodeCounted, encodePatch, heading, encode}
-use Rattle.spec_patch.specs.Reader.{Result, read, Reader}
+use Rattle.spec_patch.specs.Reader.{read, Reader}
 use Rattle.spec_patch.specs.Read.{readOperation, patches, readSet}
 use Rattle.spec_patch.specs.Codec.{Codec}
 use Rattle.spec_patch.specs.ReadLaws.{operation-codec}

@@ -158,10 +158,60 @@ fn two_faults() {
     show(answer_with_byte(&mut second, 133, 0xff));
 }
 
-// 32,768 bytes are looked at, 32,769 are not.
-fn sizes() {
-    let set = [0u8; 32769];
-    show(answer(&set[..32768]));
+fn put_heading(set: &mut [u8], patch_count: u32) {
+    wire::write_bytes_at(set, 0, b"\x1b\x00\x00\x00UI_DNA2_PROJECTION_PATCH_V1");
+    wire::write_u32_at(set, 31, patch_count);
+}
+
+// Puts a patch of at most 128 availabilities, and answers where the next one begins.
+fn put_patch(set: &mut [u8], at: usize, operation_count: u32) -> usize {
+    if 32768 < at {
+        return 0;
+    }
+    if 128 < operation_count {
+        return 0;
+    }
+    wire::write_bytes_at(
+        set,
+        at,
+        b"\x01\x00\x00\x00\x00\x00\x00\x00\x01\x00\x00\x00\x00\x00\x00\x00\x01\x00\x00\x00\x00\x00\x00\x00\x00\x00\x00\x00\x00\x00\x00\x00\x00\x01\x00\x00\x00\x00\x00\x00\x00\x01\x00\x00\x00\x00\x00\x00\x00\x01\x00\x00\x00\x00\x00\x00\x00",
+    );
+    wire::write_u32_at(set, at + 57, operation_count);
+    let mut next = at + 61;
+    let mut i: u32 = 0;
+    while i < operation_count {
+        wire::write_bytes_at(set, next, b"\x02\x05\x00\x00\x00\x00\x00\x00\x00\x03");
+        next += 10;
+        i += 1;
+    }
+    next
+}
+
+fn put_patches(set: &mut [u8], at: usize, patch_count: u32, operation_count: u32) -> usize {
+    let mut next = at;
+    let mut p: u32 = 0;
+    while p < patch_count {
+        next = put_patch(set, next, operation_count);
+        p += 1;
+    }
+    next
+}
+
+// 64 patches are read, and 65 are not; 24 patches of 128 operations and nine of none are 32,768 bytes, which are read, and a byte more is not
+// looked at.
+fn capacities() {
+    let mut set = [0u8; 32769];
+    put_heading(&mut set, 64);
+    let many = put_patches(&mut set, 35, 64, 0);
+    show(answer_of_front(&set, many));
+    put_heading(&mut set, 65);
+    let more = put_patches(&mut set, many, 1, 0);
+    show(answer_of_front(&set, more));
+    put_heading(&mut set, 33);
+    let full = put_patches(&mut set, 35, 24, 128);
+    let end = put_patches(&mut set, full, 9, 0);
+    show(end as u64);
+    show(answer_of_front(&set, end));
     show(answer(&set));
 }
 
@@ -178,7 +228,7 @@ fn main() {
     texts();
     io::write_all(STDOUT_FILENO, b"\ntwo faults:");
     two_faults();
-    io::write_all(STDOUT_FILENO, b"\nsizes:");
-    sizes();
+    io::write_all(STDOUT_FILENO, b"\ncapacities:");
+    capacities();
     io::write_all(STDOUT_FILENO, b"\n");
 }

@@ -1,13 +1,12 @@
 -- The two passes of a survey: what is known after the first p heads, and after the first i operations.
-use Prim.Native.Nat.{ℕ, suc, _+_, _*_, _≤_, _<_}
+use Prim.Native.Nat.{ℕ, _+_, _*_, _≤_, _<_}
 use mathlib.Core.Path.{_≡_, refl, sym, ap, _∙_}
 use mathlib.Core.Bool.{Bool, true, false, _&&_}
 use mathlib.Core.List.{List, [], _∷_}
 use native.Mathlib.Omega.{arith}
 use borrow.Author.Tests.{le-leb, lt-leb}
-use lib.Dec.{leb}
-use lib.ListN.{length, drop}
-use Rattle.spec_lists.specs.Lists.{if_then_else_, all}
+use lib.ListN.{drop}
+use Rattle.spec_lists.specs.Lists.{all}
 use Rattle.spec_patch.specs.Sizes.{patchOperations, textBytes}
 use Rattle.projection_patch.specs.declared.patch.ProjectionPatch.{ProjectionPatch}
 use Rattle.projection_patch.specs.declared.patch.OperationPlace.{OperationPlace}

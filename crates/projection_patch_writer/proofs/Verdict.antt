@@ -1,8 +1,8 @@
 -- What the passes of a survey say together, and what follows for the writing.
 use Prim.Native.Nat.{ℕ, _+_, _*_, _≤_, _<_}
-use mathlib.Core.Path.{_≡_, refl, sym, ap, ap₂, _∙_}
+use mathlib.Core.Path.{_≡_, refl, sym, ap, _∙_}
 use mathlib.Core.Bool.{Bool, true, false, _&&_}
-use mathlib.Core.List.{List, [], _∷_, _++_, flatMap}
+use mathlib.Core.List.{List, [], _∷_}
 use native.Mathlib.Omega.{arith}
 use borrow.Author.Tests.{leb-true, le-leb, lt-leb}
 use lib.Dec.{leb}
@@ -11,7 +11,7 @@ use Rattle.spec_lists.specs.Lists.{if_then_else_, all}
 use Rattle.spec_lists.specs.ListLaws.{and-left, and-right}
 use Rattle.spec_patch.specs.Sizes.{setBytes, setPatches, textBytes}
 use Rattle.spec_patch.specs.Edition.{v1}
-use Rattle.spec_patch.specs.Encode.{encodePatch, encode}
+use Rattle.spec_patch.specs.Encode.{encode}
 use Rattle.spec_patch.specs.Write as model
 use Rattle.projection_patch.specs.declared.patch.ProjectionPatch.{ProjectionPatch}
 use Rattle.projection_patch.specs.declared.patch.OperationPlace.{OperationPlace}

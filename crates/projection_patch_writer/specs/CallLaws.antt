@@ -7,12 +7,12 @@ use mathlib.Core.List.{List, [], _∷_, _++_, flatMap, append-assoc}
 use native.Mathlib.Omega.{arith}
 use borrow.Author.Tests.{leb-true, le-leb}
 use lib.Dec.{leb}
-use lib.ListN.{length, take, drop, length-append}
-use lib.Seq.{length-take-le, take-at}
+use lib.ListN.{length, take, drop, length-append, length-map}
+use lib.Seq.{length-take-le}
 use Rattle.spec_lists.specs.Lists.{if_then_else_, all}
 use Rattle.spec_lists.specs.ListLaws.{and-left, and-right}
 use Rattle.spec_lists.specs.Bytes.{Bytes}
-use Rattle.spec_patch.specs.Sizes.{setBytes, setPatches, patchOperations}
+use Rattle.spec_patch.specs.Sizes.{setPatches, patchOperations}
 use Rattle.spec_patch.specs.Patch as model
 use Rattle.spec_patch.specs.Edition.{v1}
 use Rattle.spec_patch.specs.Encode.{u32, heading, encodeCounted, encodePatch, encode}
@@ -22,20 +22,27 @@ use Rattle.spec_patch.specs.SetLaws.{reads-back, was-encoded}
 use Rattle.spec_patch.specs.Write.{WriteRefusal, overCapacity, malformed, outputTooShort, Written, wrote, refused, write, allValues, shortEnough, wellFormed, withinCapacities}
 use Rattle.spec_patch.specs.WriteLaws.{fits-of-tests, capacities-of-fits, well-formed-of-fits}
 use Rattle.wire.specs.Write.{hasRoom, overwrite}
-use Rattle.wire.specs.WriteLaws.{room-true, take-overwrite, overwrite-in-place, overwrite-refused}
+use Rattle.wire.specs.WriteLaws.{take-overwrite, overwrite-in-place, overwrite-refused}
 use Rattle.projection_patch.specs.declared.patch.OperationPlace.{OperationPlace}
 use Rattle.projection_patch.specs.declared.patch.ProjectionPatchSet.{ProjectionPatchSet}
+use Rattle.patch_part_writer.specs.declared.written.Written as call
 use Rattle.patch_part_writer.specs.declared.written.Written.the-variants.{Wrote, Refused}
 use Rattle.patch_part_writer.specs.declared.written.WriteRefusal.the-variants.{OutputTooShort}
 use Rattle.patch_part_writer.specs.Answer.{refusalTo, answerAt, outputAt, withRoom, answerOf, outputOf}
 use Rattle.patch_part_writer.specs.ExtentLaws.{length-heading}
 use Rattle.projection_patch_writer.specs.Set.{setPlaces, heads, listOf, operationTotal, used, headSizes, operationSizes, setSize, fewOperations, countsFit, shortAt, insideAt, capacitiesKept, textAllowed, allowedAt, patchSetBytes}
+use Rattle.projection_patch_writer.specs.RangeLaws.{Passed, passed-in-range}
 use Rattle.projection_patch_writer.specs.SetLaws.{length-list, counts-list, values-list, size-list, place-short, place-allowed}
 
 -- the arrays of a set have their lengths, as those of every set that is passed have
 pub record Arrays (set : ProjectionPatchSet) : Type 0 where
   pub patches : length (set .patches) ≡ setPatches
   pub operations : length (set .operations) ≡ setPlaces
+
+pub passed-arrays : (set : ProjectionPatchSet) → Passed set → Arrays set
+passed-arrays set p =
+    let fields = p .known .1 .1 in
+    record { patches = sym (length-map (set .patches) _) ∙ fields .1 .0 .1 .0 .1; operations = sym (length-map (set .operations) _) ∙ fields .1 .1 .0 .1 .0 .1 }
 
 -- ---- from the start of the output
 
@@ -179,9 +186,9 @@ module _ (texts : List ℕ) (set : ProjectionPatchSet) where
   counted e = and-left (countsFit set) _ e
 
   -- what the call wrote, the reader reads as the same list
-  pub written-read : Arrays set → InRange (listOf texts set) → (out : List ℕ) (n : ℕ) → answerAt out 0 (patchSetBytes texts set) ≡ Wrote n
-      → readSet v1 (take n (outputAt out 0 (patchSetBytes texts set))) ≡ patches (listOf texts set)
-  written-read arrays range out n e = by-result (patchSetBytes texts set) refl e
+  pub written-read : Passed set → (out : List ℕ) (r : call.Written) (o : List ℕ) → r ≡ answerAt out 0 (patchSetBytes texts set) → o ≡ outputAt out 0 (patchSetBytes texts set)
+      → (n : ℕ) → r ≡ Wrote n → readSet v1 (take n o) ≡ patches (listOf texts set)
+  written-read passed out r o answer output n e = ap (λ (l : List ℕ). readSet v1 (take n l)) output ∙ by-result (patchSetBytes texts set) refl (sym answer ∙ e)
     where
       never : {C : Type 0} (w : WriteRefusal) → Refused (refusalTo w) ≡ Wrote n → C
       never w e = absurd (let z : _≡_ {A = ℕ} 0 1 = cc in omega arith)
@@ -191,10 +198,21 @@ module _ (texts : List ℕ) (set : ProjectionPatchSet) where
       by-room bs is true room e =
           let s = success bs is in
           let position : n ≡ 0 + length bs = cc in
-          let fits = fits-list texts set arrays (counted (s .kept)) (allowed-inside texts (used set) (s .allowed)) range (s .kept) (s .allowed) in
+          let fits = fits-list texts set (passed-arrays set passed) (counted (s .kept)) (allowed-inside texts (used set) (s .allowed)) (passed-in-range texts set passed) (s .kept) (s .allowed) in
           ap (readSet v1) (ap (λ (k : ℕ). take k (overwrite out 0 bs)) position ∙ take-overwrite out 0 bs (length bs) refl room ∙ s .bytes) ∙ reads-back v1 (listOf texts set) fits
       by-room bs is false room e = never outputTooShort e
 
       by-result : (w : Written) → patchSetBytes texts set ≡ w → answerAt out 0 w ≡ Wrote n → readSet v1 (take n (outputAt out 0 w)) ≡ patches (listOf texts set)
       by-result (wrote bs) is e = by-room bs is (hasRoom out 0 (length bs)) refl e
       by-result (refused w) is e = never w e
+
+  -- what the reader read as the list of a set, the call writes back byte for byte, given room
+  pub read-written : Passed set → countsFit set ≡ true → all (insideAt texts) (used set) ≡ true → (bs : List ℕ) → Bytes bs → readSet v1 bs ≡ patches (listOf texts set)
+      → (out : List ℕ) → length bs ≤ length out → (answerAt out 0 (patchSetBytes texts set) ≡ Wrote (length bs)) × (take (length bs) (outputAt out 0 (patchSetBytes texts set)) ≡ bs)
+  read-written passed fit inside bs all-bytes e out enough =
+      let back = written-back texts set (passed-arrays set passed) fit inside bs all-bytes e in
+      let room = from-start out (length bs) ∙ le-leb (length bs) (length out) enough in
+      let position : 0 + length bs ≡ length bs = omega arith in (
+        ap (answerAt out 0) back ∙ rw room (ap Wrote position),
+        ap (λ (w : Written). take (length bs) (outputAt out 0 w)) back ∙ ap (λ (k : ℕ). take k (overwrite out 0 bs)) (sym position) ∙ take-overwrite out 0 bs (length bs) refl room,
+      )

@@ -1,17 +1,16 @@
 -- The patch list that a set by value stands for, its texts lent beside it, and what writing it gives: 01, 'Rejections': 12, then 10, then 14.
-use Prim.Native.Nat.{ℕ, _+_, _≤_}
-use mathlib.Core.Path.{_≡_}
-use mathlib.Core.Bool.{Bool, true, _&&_}
-use mathlib.Core.List.{List, [], _∷_, map, flatMap}
+use Prim.Native.Nat.{ℕ, _+_}
+use mathlib.Core.Bool.{Bool, _&&_}
+use mathlib.Core.List.{List, [], _∷_, map}
 use lib.Dec.{leb}
-use lib.ListN.{length, take, drop}
+use lib.ListN.{take, drop}
 use Rattle.spec_lists.specs.Lists.{if_then_else_, all}
 use Rattle.spec_text.specs.Syntax.{isUtf8}
 use Rattle.spec_patch.specs.Sizes.{setBytes, setPatches, patchOperations}
 use Rattle.spec_patch.specs.Patch as model
 use Rattle.spec_patch.specs.Edition.{v1}
-use Rattle.spec_patch.specs.Encode.{encodePatch, encode}
-use Rattle.spec_patch.specs.Write.{WriteRefusal, overCapacity, malformed, Written, wrote, refused}
+use Rattle.spec_patch.specs.Encode.{encode}
+use Rattle.spec_patch.specs.Write.{overCapacity, malformed, Written, wrote, refused}
 use Rattle.projection_patch.specs.Meaning.{envelopeOf, operationOf}
 use Rattle.projection_patch.specs.declared.patch.ProjectionPatch.{ProjectionPatch}
 use Rattle.projection_patch.specs.declared.patch.OperationPlace.{OperationPlace}

@@ -2,36 +2,32 @@
 use Prim.Native.Nat.{ℕ, suc, _+_, _≤_}
 use mathlib.Core.Path.{_≡_, refl, sym, ap, ap₂, _∙_}
 use mathlib.Core.Bool.{Bool, true, false, _&&_}
-use mathlib.Core.List.{List, [], _∷_, _++_, map, flatMap, append-assoc}
+use mathlib.Core.List.{List, [], _∷_, _++_, map, flatMap}
 use native.Mathlib.Omega.{arith}
-use borrow.Author.Tests.{leb-true, le-leb}
+use borrow.Author.Tests.{leb-true}
 use lib.Dec.{leb}
 use lib.ListN.{length, take, drop, length-append, length-drop, length-map}
 use lib.Seq.{length-take-le, take-add}
-use Rattle.spec_lists.specs.Lists.{if_then_else_, all}
+use Rattle.spec_lists.specs.Lists.{all}
 use Rattle.spec_lists.specs.ListLaws.{and-left, and-right}
-use Rattle.spec_lists.specs.Bytes.{Bytes}
 use Rattle.spec_lists.specs.BytesLaws.{length-littleEndian}
-use Rattle.spec_text.specs.Syntax.{isUtf8}
 use Rattle.spec_text.specs.SyntaxLaws.{isUtf8-empty}
-use Rattle.spec_patch.specs.Sizes.{setBytes, setPatches, patchOperations, textBytes}
+use Rattle.spec_patch.specs.Sizes.{patchOperations, textBytes}
 use Rattle.spec_patch.specs.Patch as model
 use Rattle.spec_patch.specs.Edition.{v1, hasKind}
-use Rattle.spec_patch.specs.Encode.{u32, heading, encodeOperation, encodeEnvelope, encodeCounted, encodePatch, encode, kindOf}
-use Rattle.spec_patch.specs.Fits.{InRange}
-use Rattle.spec_patch.specs.Write.{WriteRefusal, overCapacity, malformed, outputTooShort, Written, wrote, refused, write, valuePasses, allValues, shortEnough, allowedText, wellFormed, withinCapacities}
+use Rattle.spec_patch.specs.Encode.{u32, encodeOperation, encodeEnvelope, encodeCounted, encodePatch, kindOf}
+use Rattle.spec_patch.specs.Write.{valuePasses, allValues, shortEnough, allowedText, wellFormed}
 use Rattle.projection_patch.specs.Meaning.{valueOf, operationOf, envelopeOf}
 use Rattle.projection_patch.specs.declared.patch.ProjectionPatch.{ProjectionPatch}
 use Rattle.projection_patch.specs.declared.patch.OperationPlace.{OperationPlace}
-use Rattle.projection_patch.specs.declared.patch.ProjectionPatchSet.{ProjectionPatchSet}
 use Rattle.projection_patch.specs.declared.patch.ProjectionPatchValue.{ProjectionPatchValue}
 use Rattle.projection_patch.specs.declared.patch.ProjectionPatchValue.the-variants.{Quad, SignedScalar, UnsignedScalar, Text}
 use Rattle.projection_patch.specs.declared.patch.ProjectionPatchOperation.{ProjectionPatchOperation}
 use Rattle.projection_patch.specs.declared.patch.ProjectionPatchOperation.the-variants.{SetBindingValue, SetNodeAvailability, CollectionInsert, CollectionUpdate, CollectionRemove, CollectionMove}
-use Rattle.patch_part_writer.specs.Extent.{headSize, operationSize, valueText, operationText}
-use Rattle.patch_part_writer.specs.ExtentLaws.{length-text, length-operation, length-head, length-heading}
+use Rattle.patch_part_writer.specs.Extent.{valueText, operationText}
+use Rattle.patch_part_writer.specs.ExtentLaws.{length-text, length-operation, length-head}
 use Rattle.patch_part_writer.specs.Parts.{shortText, insideTexts}
-use Rattle.projection_patch_writer.specs.Set.{setPlaces, operationAt, listFrom, heads, listOf, operationTotal, used, headSizes, operationSizes, setSize, fewOperations, countsFit, shortAt, insideAt, capacitiesKept, textAllowed, allowedAt, patchSetBytes}
+use Rattle.projection_patch_writer.specs.Set.{operationAt, listFrom, operationTotal, headSizes, operationSizes, fewOperations, shortAt, insideAt, textAllowed, allowedAt}
 
 -- ---- tests of lists
 

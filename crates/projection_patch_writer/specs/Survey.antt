@@ -1,7 +1,7 @@
 -- What the passes over a set answer before anything is written.
 use Prim.Native.Nat.{ℕ, _+_, _≤_}
 use mathlib.Core.Path.{_≡_}
-use mathlib.Core.Bool.{Bool, true, _&&_}
+use mathlib.Core.Bool.{Bool, true}
 use mathlib.Core.List.{List, flatMap}
 use lib.Dec.{leb}
 use lib.ListN.{length}

@@ -2,9 +2,11 @@
 // over its operations stands in a function that takes it by value once, and heads and operations are written by one loop.
 ghost use mathlib.Core.Path.{_≡_};
 ghost use mathlib.Core.List.{flatMap};
-ghost use Prim.Native.Nat.{_+_};
-ghost use lib.ListN.{length};
+ghost use Prim.Native.Nat.{ℕ, _+_};
+ghost use lib.ListN.{length, take};
+ghost use Rattle.spec_patch.specs.Edition.{v1};
 ghost use Rattle.spec_patch.specs.Encode.{encodePatch};
+ghost use Rattle.spec_patch.specs.Read.{patches, readSet};
 ghost use Rattle.wire.specs.Write.{overwrite};
 ghost use Rattle.patch_part_writer.specs.declared.written.Written.the-variants.{Wrote};
 ghost use Rattle.patch_part_writer.specs.Answer.{answerAt, outputAt};
@@ -62,9 +64,11 @@ fn write_patches(
 
 // Writes a patch list from the start of the output on: 12 for any capacity, then 10 for a text that RFC 3629 forbids or that is not within the
 // texts, then 14. A refusal leaves every byte of the output as it was, and what is behind the list stays.
+// What was written is read back as the same list.
 pub fn write_patch_set(set: ProjectionPatchSet, texts: &[u8], out: &mut [u8]) -> Written
     ensures { λ r. ⌜ r ≡ answerAt (now (out .entry)) 0 (patchSetBytes (now (texts .entry)) set) ⌝ }
     ensures { λ _. ⌜ now (out .exit) ≡ outputAt (now (out .entry)) 0 (patchSetBytes (now (texts .entry)) set) ⌝ }
+    ensures { λ r. ⌜ ((n : ℕ) → r ≡ Wrote n → readSet v1 (take n (now (out .exit))) ≡ patches (listOf (now (texts .entry)) set)) ⌝ }
 {
     match survey_set(set, texts) {
         Survey::Refused(refusal) => Written::Refused(refusal),

@@ -11,7 +11,6 @@ use patch_part_writer::extent::TextPlace;
 use patch_part_writer::extent::head_size;
 use patch_part_writer::extent::operation_size;
 use patch_part_writer::extent::operation_text;
-use patch_part_writer::extent::reaches;
 use patch_part_writer::written::WriteRefusal;
 use projection_patch::patch::ProjectionPatch;
 use projection_patch::patch::ProjectionPatchSet;
@@ -48,7 +47,7 @@ fn text_allowed(text: TextPlace, texts: &[u8]) -> bool
 {
     let start = text.start;
     let len = text.len;
-    if !reaches(texts.len(), start, len) {
+    if !wire::has_room(texts.len(), start, len) {
         return false;
     }
     match utf8::check(&texts[start..start + len]) {

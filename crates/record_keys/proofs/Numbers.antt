@@ -1,12 +1,12 @@
 -- What the loop that reads a number has read at each turn, and a number in two halves.
 use mathlib.Core.Path.{_≡_, sym, ap, _∙_}
-use mathlib.Core.List.{List, _++_}
+use mathlib.Core.List.{List}
 use Prim.Native.Nat.{ℕ, suc, _+_, _-_, _*_, _^_, _≤_, _<_}
 use native.Mathlib.Omega.{arith}
 use lib.ListN.{length, take, drop, getD, length-drop, length-take, take-append-drop}
 use lib.Seq.{drop-cons, drop-length, take-all}
 use Rattle.spec_lists.specs.Bytes.{Bytes, numberOf}
-use Rattle.spec_lists.specs.BytesLaws.{bytes-take, bytes-drop, numberOf-lt, numberOf-append}
+use Rattle.spec_lists.specs.BytesLaws.{bytes-drop, numberOf-lt, numberOf-append}
 
 -- no byte is read
 pub number-start : (l : List ℕ) → 0 ≡ numberOf (drop (length l) l)

@@ -1,5 +1,5 @@
 // The bytes that a record begins with, compared as a key and as little-endian numbers.
-ghost use mathlib.Core.List.{List, [], _∷_};
+ghost use mathlib.Core.List.{[], _∷_};
 ghost use mathlib.Core.Path.{_≡_};
 ghost use Prim.Native.Nat.{_+_, _≤_};
 ghost use lib.ListN.{length};
@@ -60,7 +60,7 @@ fn same_bytes(row: &[u8], key: &[u8]) -> bool
 }
 
 // Whether row begins with key, compared eight bytes at a time.
-pub fn starts_with(row: &[u8], key: &[u8]) -> bool
+fn same_start(row: &[u8], key: &[u8]) -> bool
     requires { ⌜ length (now key) ≤ length (now row) ⌝ }
     ensures { λ r. ⌜ r ≡ startsWith (now (key .entry)) (now (row .entry)) ⌝ }
 {
@@ -73,6 +73,16 @@ pub fn starts_with(row: &[u8], key: &[u8]) -> bool
         i = end;
     }
     same_bytes(&row[i..], &key[i..])
+}
+
+// Whether row begins with key; a shorter row does not.
+pub fn starts_with(row: &[u8], key: &[u8]) -> bool
+    ensures { λ r. ⌜ r ≡ startsWith (now (key .entry)) (now (row .entry)) ⌝ }
+{
+    if row.len() < key.len() {
+        return false;
+    }
+    same_start(row, key)
 }
 
 // How the two numbers that row begins with stand to id and second: eight bytes, and so many behind them.

@@ -1,8 +1,8 @@
 -- What a search over the rows of a table has found at each turn, by the lent part that is the row.
-use mathlib.Core.Path.{_≡_, refl, sym, ap, _∙_}
+use mathlib.Core.Path.{_≡_, refl, ap, _∙_}
 use mathlib.Core.Bool.{Bool, true, false}
 use mathlib.Core.List.{List, [], _∷_}
-use Prim.Native.Nat.{ℕ, zero, suc, _+_, _-_, _*_, _≤_, _<_}
+use Prim.Native.Nat.{ℕ, _+_, _-_, _*_, _≤_, _<_}
 use native.Mathlib.Nat.{add-zero, zero-add}
 use native.Mathlib.Omega.{arith}
 use lib.ListN.{length, take, drop, getD, drop-of-length-le}
@@ -19,9 +19,7 @@ use Rattle.record_keys.specs.KeysLaws.{starts-long}
 use Rattle.record_table.specs.Search.{nextPlace, placeOf}
 use Rattle.record_table.specs.declared.Place.{Place}
 use Rattle.record_table.specs.declared.Place.the-variants.{Taken, Before}
-use Rattle.record_keys.specs.declared.Order.{Order}
 use Rattle.record_keys.specs.declared.Order.the-variants.{Below, Same, Above}
-use Rattle.record_table.proofs.Changes.{row-is}
 
 -- no row begins with a key that is longer than it
 pub long-key : (w : ℕ) (key : List ℕ) (m : List (List ℕ)) → w < length key → All (Wide w) m → firstIndex (startsWith key) m ≡ length m

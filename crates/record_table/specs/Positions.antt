@@ -1,6 +1,6 @@
 -- Positions in a list: what it is to insert, remove and replace there, and to look for the first element that passes a test.
 use Prim.Native.Nat.{ℕ, zero, suc, _+_}
-use mathlib.Core.Bool.{Bool, true, false}
+use mathlib.Core.Bool.{Bool}
 use mathlib.Core.List.{List, [], _∷_, _++_}
 use lib.ListN.{take, drop}
 use Rattle.spec_lists.specs.Lists.{if_then_else_}

@@ -1,6 +1,6 @@
 -- Laws of searches: what an answer says, under a map, and how a place serves `upsert`.
-use Prim.Native.Nat.{ℕ, zero, suc, _<_}
-use mathlib.Core.Path.{_≡_, refl, sym, ap, _∙_}
+use Prim.Native.Nat.{ℕ, zero, _<_}
+use mathlib.Core.Path.{_≡_, refl, ap}
 use mathlib.Core.Bool.{Bool, true, false}
 use mathlib.Core.List.{List, [], _∷_, map}
 use native.Mathlib.Numerals.{add-one}
@@ -12,11 +12,10 @@ use Rattle.spec_lists.specs.Lists.{if_then_else_, any, All}
 use Rattle.spec_lists.specs.ListLaws.{all-map}
 use Rattle.spec_lists.specs.Bytes.{numberOf}
 use Rattle.spec_lists.specs.Order.{lexLess, upsert}
-use Rattle.record_table.specs.Positions.{insertAt, replaceAt, firstIndex}
+use Rattle.record_table.specs.Positions.{firstIndex}
 use Rattle.record_table.specs.PositionsLaws.{firstIndex-map, any-lt, any-none, map-insertAt, map-replaceAt}
 use Rattle.record_keys.specs.Keys.{leadingNumbers}
 use Rattle.record_table.specs.Search.{findFirst, nextPlace, placeOf, upsertAt}
-use Rattle.record_table.specs.declared.Found.{Found}
 use Rattle.record_table.specs.declared.Found.the-variants.{At, Absent}
 use Rattle.record_table.specs.declared.Place.{Place}
 use Rattle.record_table.specs.declared.Place.the-variants.{Taken, Before}

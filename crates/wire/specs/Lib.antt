@@ -4,3 +4,4 @@ pub mod Write
 pub mod WriteLaws
 pub mod Prefix
 pub mod PrefixLaws
+pub mod Complement

@@ -39,7 +39,7 @@ fn remaining(len: usize, at: usize) -> usize
 }
 
 // Whether len elements reach to index at and n further.
-fn has_room(len: usize, at: usize, n: usize) -> bool
+pub fn has_room(len: usize, at: usize, n: usize) -> bool
     ensures { λ r. ⌜ r ≡ leb (at + n) len ⌝ }
 {
     if len < at {

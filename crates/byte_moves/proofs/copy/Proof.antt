@@ -1,7 +1,6 @@
 -- `byte_moves::copy` meets its contract. The invariant: the first i bytes are the source's, and the rest are as they were.
 use mathlib.Core.Path.{_≡_}
 use Prim.Native.Nat.{_≤_, _-_}
-use native.Mathlib.Omega.{arith}
 use lib.ListN.{length, length-set}
 use borrow.Author.Needs.{needs}
 use Rattle.byte_moves.proofs.Turns.{copied, copied-turn, copied-end}

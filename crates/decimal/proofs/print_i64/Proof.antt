@@ -5,8 +5,10 @@ use lib.IntN.{ℤ, pos}
 use lib.Signed.{ltZ}
 use mir.Facts.{toZ-ofZ}
 use borrow.Author.Needs.{needs}
-use Rattle.decimal.specs.Print.{nextPosition, overwrite}
-use Rattle.decimal.proofs.Signs.{Below, below, AtLeast, at-least, signed-below, signed-at-least}
+use Rattle.wire.specs.Write.{overwrite}
+use Rattle.decimal.specs.Print.{nextPosition}
+use Rattle.wire.specs.Complement.{Below, below, AtLeast, at-least}
+use Rattle.decimal.proofs.Signs.{signed-below, signed-at-least}
 use Rattle.decimal.proofs.print_i64.Statement.{statement}
 use Rattle.decimal.proofs.print_i64.Tie as tie
 

@@ -5,7 +5,7 @@ use native.Mathlib.Omega.{arith}
 use lib.ListN.{length, length-set}
 use borrow.Author.Needs.{needs}
 use Rattle.spec_decimal.specs.Decimal.{decimal}
-use Rattle.decimal.specs.Print.{overwrite}
+use Rattle.wire.specs.Write.{overwrite}
 use Rattle.decimal.proofs.Printing.{stored, stored-start, stored-turn, stored-end}
 use Rattle.decimal.proofs.store_digits.Statement.{statement}
 use Rattle.decimal.proofs.store_digits.Tie as tie

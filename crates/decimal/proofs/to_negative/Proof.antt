@@ -8,7 +8,8 @@ use mir.Syntax.{w64}
 use mir.Val.{toZ, ofZ}
 use mir.Facts.{toZ-ofZ, toZ-pos}
 use borrow.Author.Needs.{needs}
-use Rattle.decimal.proofs.Signs.{flip, flip-pos, negative-zero, negative-fits, negative-exceeds}
+use Rattle.wire.specs.Complement.{flip, flip-pos}
+use Rattle.decimal.proofs.Signs.{negative-zero, negative-fits, negative-exceeds}
 use Rattle.decimal.proofs.to_negative.Statement.{statement}
 use Rattle.decimal.proofs.to_negative.Tie as tie
 

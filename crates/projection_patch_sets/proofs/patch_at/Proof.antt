@@ -6,8 +6,7 @@ use native.Mathlib.Omega.{arith}
 use lib.ListN.{length, drop, length-drop}
 use Rattle.spec_lists.specs.Bytes.{Bytes}
 use Rattle.spec_lists.specs.BytesLaws.{bytes-of, bytes-drop}
-use Rattle.spec_patch.specs.Edition.{v1}
-use Rattle.spec_patch.specs.Reader.{read, refused, onward}
+use Rattle.spec_patch.specs.Reader.{read, refused}
 use Rattle.projection_patch_sets.specs.Walk.{readHead}
 use Rattle.projection_patch.specs.ReadAnswers.{anywhere}
 use Rattle.projection_patch_sets.specs.SetAnswers.{headTo, headAnswer}

@@ -1,5 +1,5 @@
 -- `record_keys::half_number` meets its contract. The invariant: the number is that of the bytes from i on.
-use mathlib.Core.Path.{_≡_, _∙_}
+use mathlib.Core.Path.{_≡_}
 use Prim.Native.Nat.{_-_, _≤_, _<_}
 use native.Mathlib.Omega.{arith}
 use lib.ListN.{length, drop}

@@ -1,5 +1,5 @@
 -- `record_table::record_at` meets its contract: the part that is lent is the row, and there is none past the last.
-use mathlib.Core.Path.{_≡_, sym, _∙_}
+use mathlib.Core.Path.{sym}
 use Prim.Native.Nat.{_+_, _*_, _≤_}
 use native.Mathlib.Omega.{arith}
 use lib.ListN.{length, length-take}

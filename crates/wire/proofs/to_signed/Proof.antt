@@ -7,7 +7,7 @@ use lib.IntN.{negsuc}
 use mir.Syntax.{w64}
 use mir.Val.{toZ}
 use mir.Facts.{toZ-pos}
-use Rattle.wire.proofs.Complement.{flip, flip-pos}
+use Rattle.wire.specs.Complement.{flip, flip-pos}
 use Rattle.wire.proofs.to_signed.Statement.{statement}
 use Rattle.wire.proofs.to_signed.Tie as tie
 

@@ -6,7 +6,7 @@ use lib.Signed.{ltZ}
 use mir.Syntax.{w64}
 use mir.Val.{ofZ}
 use mir.Facts.{toZ-ofZ}
-use Rattle.wire.proofs.Complement.{Below, below, AtLeast, at-least}
+use Rattle.wire.specs.Complement.{Below, below, AtLeast, at-least}
 use Rattle.wire.proofs.to_unsigned.Statement.{statement}
 use Rattle.wire.proofs.to_unsigned.Tie as tie
 

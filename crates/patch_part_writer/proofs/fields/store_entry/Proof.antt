@@ -1,7 +1,6 @@
 -- `fields::store_entry` meets its contract: the key behind the tag and the collection.
-use Prim.Native.Nat.{ℕ}
-use Prim.Native.Nat.{ℕ, suc}
-use mathlib.Core.List.{List, [], _∷_, _++_}
+use Prim.Native.Nat.{suc}
+use mathlib.Core.List.{_∷_}
 use mathlib.Core.Path.{ap}
 use native.Mathlib.Omega.{arith}
 use borrow.Author.Needs.{needs}

@@ -1,7 +1,7 @@
 -- `fields::store_text` meets its contract: the bytes behind the tag and the length.
 use Prim.Native.Nat.{ℕ, _+_, _-_}
-use mathlib.Core.List.{List, [], _∷_, _++_}
-use mathlib.Core.Path.{_≡_, refl, sym, ap, _∙_}
+use mathlib.Core.List.{[], _∷_}
+use mathlib.Core.Path.{_≡_, refl, ap, _∙_}
 use native.Mathlib.Omega.{arith}
 use borrow.Author.Needs.{needs}
 use denote.Ref.{now}
@@ -9,7 +9,6 @@ use lib.ListN.{length, take, drop, length-drop}
 use lib.Seq.{length-take-le}
 use Rattle.patch_part_writer.proofs.Stored.{first, next, next-number, one-byte}
 use Rattle.wire.specs.Write.{overwrite}
-use Rattle.spec_patch.specs.Encode.{u32}
 use Rattle.patch_part_writer.proofs.fields.store_text.Statement.{statement}
 use Rattle.patch_part_writer.proofs.fields.store_text.Tie as tie
 

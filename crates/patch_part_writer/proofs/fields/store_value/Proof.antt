@@ -1,7 +1,7 @@
 -- `fields::store_value` meets its contract: an arm for each kind.
 use Prim.Native.Nat.{ℕ}
 use Prim.Native.Nat.{ℕ, _+_, _≤_}
-use mathlib.Core.List.{List, [], _∷_, _++_}
+use mathlib.Core.List.{[], _∷_, _++_}
 use mathlib.Core.Path.{sym, ap, subst, _∙_}
 use borrow.Author.Needs.{needs, sfits-of}
 use denote.Ref.{now}

@@ -1,13 +1,13 @@
 -- `head::store_course` meets its contract: five numbers, one behind the other.
 use Prim.Native.Nat.{ℕ, _+_}
 use mathlib.Core.List.{List, _++_}
-use mathlib.Core.Path.{_≡_, refl, ap, ap₂, _∙_}
+use mathlib.Core.Path.{_≡_, ap, _∙_}
 use native.Mathlib.Omega.{arith}
 use borrow.Author.Needs.{needs}
 use denote.Ref.{now}
 use lib.ListN.{length, length-append}
 use Rattle.wire.specs.Write.{overwrite}
-use Rattle.spec_patch.specs.Encode.{u32, u64}
+use Rattle.spec_patch.specs.Encode.{u64}
 use Rattle.spec_lists.specs.BytesLaws.{length-littleEndian}
 use Rattle.patch_part_writer.proofs.Stored.{first, next-number}
 use Rattle.patch_part_writer.proofs.head.store_course.Statement.{statement}

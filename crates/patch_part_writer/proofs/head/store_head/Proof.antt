@@ -1,7 +1,7 @@
 -- `head::store_head` meets its contract: the surface behind the first three numbers, and the other numbers behind it.
 use Prim.Native.Nat.{ℕ, _+_}
 use mathlib.Core.List.{List, _++_, append-assoc}
-use mathlib.Core.Path.{_≡_, refl, ap, ap₂, _∙_}
+use mathlib.Core.Path.{_≡_, ap, _∙_}
 use native.Mathlib.Omega.{arith}
 use borrow.Author.Needs.{needs}
 use denote.Ref.{now}

@@ -1,5 +1,4 @@
 -- `head::store_three` meets its contract: three numbers, one behind the other.
-use Prim.Native.Nat.{ℕ}
 use mathlib.Core.List.{append-assoc}
 use mathlib.Core.Path.{ap, _∙_}
 use native.Mathlib.Omega.{arith}

@@ -1,6 +1,6 @@
 -- `operation::store_binding` meets its contract: the slot behind the tag and the node, and the value behind them.
 use Prim.Native.Nat.{ℕ, suc}
-use mathlib.Core.List.{List, _∷_, _++_, append-assoc}
+use mathlib.Core.List.{List, _∷_, append-assoc}
 use mathlib.Core.Path.{ap, _∙_}
 use native.Mathlib.Omega.{arith}
 use borrow.Author.Needs.{needs}

@@ -1,6 +1,6 @@
 -- `operation::store_operation` meets its contract: an arm for each kind of operation.
 use Prim.Native.Nat.{ℕ, _+_, _≤_}
-use mathlib.Core.List.{List, [], _∷_, _++_}
+use mathlib.Core.List.{[], _∷_, _++_}
 use mathlib.Core.Path.{sym, ap, ap₂, subst, _∙_}
 use borrow.Author.Needs.{needs}
 use denote.Ref.{now}

@@ -1,6 +1,6 @@
 -- `operation::write_operation` meets its contract: each test in turn, by the place of the text.
-use Prim.Native.Nat.{ℕ, _+_, _≤_}
-use mathlib.Core.Path.{_≡_, sym, ap, subst, _∙_}
+use Prim.Native.Nat.{_+_, _≤_}
+use mathlib.Core.Path.{sym, subst, _∙_}
 use native.Mathlib.Omega.{arith}
 use borrow.Author.Tests.{leb-true}
 use borrow.Author.Needs.{needs}
@@ -9,7 +9,7 @@ use lib.ListN.{length}
 use Rattle.spec_patch.specs.Sizes.{textBytes}
 use Rattle.patch_part_writer.specs.declared.extent.TextPlace.{TextPlace}
 use Rattle.patch_part_writer.specs.PartsLaws.{answers-refused, answers-short, answers-wrote, operation-over, operation-outside, operation-wrote, size-kept}
-use Rattle.patch_part_writer.specs.Extent.{operationSize, operationText, Within}
+use Rattle.patch_part_writer.specs.Extent.{Within}
 use Rattle.patch_part_writer.specs.ExtentLaws.{length-operation}
 use Rattle.patch_part_writer.proofs.Flags.{fails, holds}
 use Rattle.patch_part_writer.proofs.operation.write_operation.Statement.{statement}
@@ -26,8 +26,8 @@ returns c =
     let out = now (args .out) in
     answers-refused out (args .at) (operation-over texts (args .operation) (text .result) (text .ensures) (c .if1 .taken))
 
-reaches-requires : tie.Need-reaches-requires
-reaches-requires c κs = search needs
+has-room-requires : tie.Need-has-room-requires
+has-room-requires c κs = search needs
 
 returns-2 : tie.Need-returns-2
 returns-2 c =
@@ -35,13 +35,13 @@ returns-2 c =
     let text = c .before .before .before .before .operation-text in
     let texts = now (args .texts) in
     let out = now (args .out) in
-    answers-refused out (args .at) (operation-outside texts (args .operation) (text .result) (text .ensures) (c .before .before .if1 .left) (sym (c .before .reaches .ensures) ∙ fails (c .before .reaches .result) (c .if2 .taken)))
+    answers-refused out (args .at) (operation-outside texts (args .operation) (text .result) (text .ensures) (c .before .before .if1 .left) (sym (c .before .has-room .ensures) ∙ fails (c .before .has-room .result) (c .if2 .taken)))
 
 operation-size-requires : tie.Need-operation-size-requires
 operation-size-requires c κs = search needs
 
-reaches-requires-2 : tie.Need-reaches-requires-2
-reaches-requires-2 c κs = search needs
+has-room-requires-2 : tie.Need-has-room-requires-2
+has-room-requires-2 c κs = search needs
 
 returns-3 : tie.Need-returns-3
 returns-3 c =
@@ -51,9 +51,9 @@ returns-3 c =
     let sized = c .before .before .operation-size .ensures ∙ size-kept (args .operation) short in
     let texts = now (args .texts) in
     let out = now (args .out) in
-    let inside = sym (c .before .before .before .before .reaches .ensures) ∙ holds (c .before .before .before .before .reaches .result) (c .before .before .before .if2 .left) in
+    let inside = sym (c .before .before .before .before .has-room .ensures) ∙ holds (c .before .before .before .before .has-room .result) (c .before .before .before .if2 .left) in
     let is = subst (λ (t : TextPlace). t .start + t .len ≤ length texts) (text .ensures) (leb-true (text .result .start + text .result .len) (length texts) inside) in
-    answers-short out (args .at) (operation-wrote texts (args .operation) (text .result) (text .ensures) (c .before .before .before .before .before .if1 .left) inside) (c .before .before .operation-size .result) (length-operation texts (args .operation) is ∙ sym sized) (sym (c .before .reaches2 .ensures) ∙ fails (c .before .reaches2 .result) (c .if3 .taken))
+    answers-short out (args .at) (operation-wrote texts (args .operation) (text .result) (text .ensures) (c .before .before .before .before .before .if1 .left) inside) (c .before .before .operation-size .result) (length-operation texts (args .operation) is ∙ sym sized) (sym (c .before .has-room2 .ensures) ∙ fails (c .before .has-room2 .result) (c .if3 .taken))
 
 store-operation-requires : tie.Need-store-operation-requires
 store-operation-requires c κs =
@@ -63,14 +63,14 @@ store-operation-requires c κs =
     let sized = c .before .before .before .operation-size .ensures ∙ size-kept (args .operation) short in
     let texts = now (args .texts) in
     let out = now (args .out) in
-    let inside = leb-true (text .result .start + text .result .len) (length texts) (sym (c .before .before .before .before .before .reaches .ensures) ∙ holds (c .before .before .before .before .before .reaches .result) (c .before .before .before .before .if2 .left)) in
-    let room = leb-true (args .at + c .before .before .before .operation-size .result) (length out) (sym (c .before .before .reaches2 .ensures) ∙ holds (c .before .before .reaches2 .result) (c .before .if3 .left)) in
+    let inside = leb-true (text .result .start + text .result .len) (length texts) (sym (c .before .before .before .before .before .has-room .ensures) ∙ holds (c .before .before .before .before .before .has-room .result) (c .before .before .before .before .if2 .left)) in
+    let room = leb-true (args .at + c .before .before .before .operation-size .result) (length out) (sym (c .before .before .has-room2 .ensures) ∙ holds (c .before .before .has-room2 .result) (c .before .if3 .left)) in
     (omega (arith, sized), subst (Within texts) (text .ensures) (record { inside = inside; short = c .before .before .before .before .before .before .if1 .left }))
 
 add-t9 : tie.Need-add-t9
 add-t9 c =
     let args = c .before .before .before .before .before .before .before .before .before .before .before .before .before .before .args in
-    omega (arith, leb-true (args .at + c .before .before .before .before .before .before .operation-size .result) (length (now (args .out))) (sym (c .before .before .before .before .before .reaches2 .ensures) ∙ holds (c .before .before .before .before .before .reaches2 .result) (c .before .before .before .before .if3 .left)))
+    omega (arith, leb-true (args .at + c .before .before .before .before .before .before .operation-size .result) (length (now (args .out))) (sym (c .before .before .before .before .before .has-room2 .ensures) ∙ holds (c .before .before .before .before .before .has-room2 .result) (c .before .before .before .before .if3 .left)))
 
 same-length : tie.Need-same-length
 same-length c = search needs
@@ -83,9 +83,9 @@ returns-4 c =
     let sized = c .before .before .before .before .before .before .operation-size .ensures ∙ size-kept (args .operation) short in
     let texts = now (args .texts) in
     let out = now (args .out) in
-    let inside = sym (c .before .before .before .before .before .before .before .before .reaches .ensures) ∙ holds (c .before .before .before .before .before .before .before .before .reaches .result) (c .before .before .before .before .before .before .before .if2 .left) in
+    let inside = sym (c .before .before .before .before .before .before .before .before .has-room .ensures) ∙ holds (c .before .before .before .before .before .before .before .before .has-room .result) (c .before .before .before .before .before .before .before .if2 .left) in
     let is = subst (λ (t : TextPlace). t .start + t .len ≤ length texts) (text .ensures) (leb-true (text .result .start + text .result .len) (length texts) inside) in
-    answers-wrote out (args .at) (operation-wrote texts (args .operation) (text .result) (text .ensures) (c .before .before .before .before .before .before .before .before .before .if1 .left) inside) (c .before .before .before .before .before .before .operation-size .result) (length-operation texts (args .operation) is ∙ sym sized) (sym (c .before .before .before .before .before .reaches2 .ensures) ∙ holds (c .before .before .before .before .before .reaches2 .result) (c .before .before .before .before .if3 .left)) (c .before .before .store-operation .last .0) (c .before .before .store-operation .ensures)
+    answers-wrote out (args .at) (operation-wrote texts (args .operation) (text .result) (text .ensures) (c .before .before .before .before .before .before .before .before .before .if1 .left) inside) (c .before .before .before .before .before .before .operation-size .result) (length-operation texts (args .operation) is ∙ sym sized) (sym (c .before .before .before .before .before .has-room2 .ensures) ∙ holds (c .before .before .before .before .before .has-room2 .result) (c .before .before .before .before .if3 .left)) (c .before .before .store-operation .last .0) (c .before .before .store-operation .ensures)
 
 pub write-operation-spec : {M : Type 1} → statement M
 write-operation-spec =
@@ -93,10 +93,10 @@ write-operation-spec =
     (tie.spec
     operation-text-requires
     returns
-    reaches-requires
+    has-room-requires
     returns-2
     operation-size-requires
-    reaches-requires-2
+    has-room-requires-2
     returns-3
     store-operation-requires
     add-t9

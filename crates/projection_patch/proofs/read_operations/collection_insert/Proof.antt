@@ -1,6 +1,6 @@
 -- `projection_patch::read_operations::collection_insert` meets its contract: a collection, a key, a neighbour, then a value.
 use Prim.Native.Nat.{ℕ}
-use mathlib.Core.Path.{_≡_, sym, ap}
+use mathlib.Core.Path.{sym, ap}
 use mathlib.Core.List.{List}
 use lib.ListN.{length}
 use Rattle.spec_lists.specs.Bytes.{Bytes}

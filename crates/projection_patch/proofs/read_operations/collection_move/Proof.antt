@@ -1,11 +1,10 @@
 -- `projection_patch::read_operations::collection_move` meets its contract: a collection, a key, then a neighbour.
 use Prim.Native.Nat.{ℕ}
-use mathlib.Core.Path.{_≡_, sym, ap}
+use mathlib.Core.Path.{sym, ap}
 use mathlib.Core.List.{List}
 use lib.ListN.{length}
 use Rattle.spec_lists.specs.Bytes.{Bytes}
 use Rattle.spec_lists.specs.BytesLaws.{bytes-of}
-use Rattle.spec_patch.specs.Edition.{v1}
 use Rattle.projection_patch.specs.ReadAnswers.{operationAnswer}
 use Rattle.spec_patch.specs.Read.{readOptional, toMove, operationAfter}
 use Rattle.projection_patch.proofs.Answers.{optional-got, no-optional}

@@ -1,6 +1,6 @@
 -- `projection_patch::read_operations::collection_remove` meets its contract: a collection and a key.
 use Prim.Native.Nat.{ℕ}
-use mathlib.Core.Path.{_≡_, sym, ap}
+use mathlib.Core.Path.{sym, ap}
 use mathlib.Core.List.{List}
 use lib.ListN.{length}
 use Rattle.spec_patch.specs.Read.{toRemove, operationAfter}

@@ -1,5 +1,5 @@
 -- `projection_patch::read_operations::key_of` meets its contract: none, or a key.
-use mathlib.Core.Path.{_≡_, sym, ap, _∙_}
+use mathlib.Core.Path.{sym, ap, _∙_}
 use Rattle.projection_patch.specs.Meaning.{beforeTo}
 use Rattle.projection_patch.specs.ReadAnswers.{optionalOf}
 use Rattle.projection_patch.specs.declared.patch.OptionalKey.the-variants as key

@@ -1,6 +1,5 @@
 -- `projection_patch::read_operations::place` meets its contract: two numbers of eight bytes, as ids.
-use Prim.Native.Nat.{ℕ}
-use mathlib.Core.Path.{_≡_, sym, ap, ap₂, _∙_}
+use mathlib.Core.Path.{sym, ap, ap₂, _∙_}
 use Rattle.projection_patch.specs.ReadAnswers.{placeTo}
 use Rattle.projection_patch.specs.declared.read_operations.PlaceRead.the-variants as place-read
 use Rattle.projection_patch.proofs.Places.{node-is, key-is}

@@ -1,5 +1,5 @@
 -- `projection_patch::read_values::text_from` meets its contract: as many bytes, and RFC 3629's rule of them.
-use Prim.Native.Nat.{ℕ, _+_}
+use Prim.Native.Nat.{ℕ}
 use mathlib.Core.Path.{_≡_, ap, _∙_}
 use native.Mathlib.Omega.{arith}
 use native.Mathlib.Nat.{add-sub-cancel-left}

@@ -1,11 +1,11 @@
 -- `set::write_patches` meets its contract. The invariant: what is still to write, written from here, gives what the whole gives from the start. The measure is the turns left.
-use Prim.Native.Nat.{ℕ, _+_, _-_, _<_}
-use mathlib.Core.Path.{_≡_, sym, ap, _∙_}
+use Prim.Native.Nat.{_+_, _-_, _<_}
+use mathlib.Core.Path.{sym, ap, _∙_}
 use mathlib.Core.List.{flatMap}
 use native.Mathlib.Omega.{arith}
 use borrow.Author.Needs.{needs}
 use denote.Ref.{now}
-use lib.ListN.{length, getD}
+use lib.ListN.{getD}
 use Rattle.spec_patch.specs.Encode.{encodeOperation, encodePatch}
 use Rattle.patch_part_writer.specs.declared.written.Written.the-variants.{Wrote}
 use Rattle.patch_part_writer.specs.Parts.{headBytes, operationBytes}

@@ -1,6 +1,5 @@
 -- `survey::judge` meets its contract: the bytes first, then the texts.
-use mathlib.Core.Path.{sym, ap, _∙_}
-use mathlib.Core.Bool.{Bool}
+use mathlib.Core.Path.{sym}
 use borrow.Author.Tests.{le-leb, lt-leb}
 use Rattle.spec_patch.specs.Sizes.{setBytes}
 use Rattle.projection_patch_writer.specs.Survey.{judged}

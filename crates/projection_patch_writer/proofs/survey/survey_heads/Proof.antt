@@ -4,7 +4,6 @@ use mathlib.Core.Path.{_≡_, sym, subst}
 use native.Mathlib.Omega.{arith}
 use borrow.Author.Needs.{needs}
 use lib.ListN.{length, getD, take}
-use Rattle.patch_part_writer.specs.Extent.{headSize}
 use Rattle.projection_patch_writer.proofs.Elements.{noPatch, left-cons, left-none}
 use Rattle.projection_patch_writer.proofs.Surveyed.{HeadsSeen, head-small, heads-start, heads-next, heads-over, heads-end}
 use Rattle.projection_patch_writer.proofs.survey.survey_heads.Statement.{statement}

@@ -1,6 +1,6 @@
 -- `survey::survey_operations` meets its contract. The invariant: what is left of the operations answers as the whole does. The measure is what is left.
 use Prim.Native.Nat.{ℕ, _+_, _-_, _≤_, _<_}
-use mathlib.Core.Path.{_≡_, sym, ap, ap₂, subst, _∙_}
+use mathlib.Core.Path.{_≡_, sym, ap, subst, _∙_}
 use mathlib.Core.Bool.{Bool, _&&_}
 use mathlib.Core.List.{List}
 use native.Mathlib.Omega.{arith}
@@ -10,7 +10,6 @@ use lib.ListN.{length, getD, take}
 use Rattle.spec_patch.specs.Sizes.{textBytes}
 use Rattle.projection_patch.specs.declared.patch.OperationPlace.{OperationPlace}
 use Rattle.patch_part_writer.specs.declared.extent.TextPlace.{TextPlace}
-use Rattle.patch_part_writer.specs.Extent.{operationSize, operationText}
 use Rattle.patch_part_writer.specs.ExtentLaws.{operation-small}
 use Rattle.patch_part_writer.specs.PartsLaws.{size-kept}
 use Rattle.projection_patch_writer.specs.Set.{textAllowed}

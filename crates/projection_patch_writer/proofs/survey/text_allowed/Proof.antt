@@ -1,7 +1,7 @@
 -- `survey::text_allowed` meets its contract: the place first, then the bytes there.
 use Prim.Native.Nat.{ℕ, _+_, _-_}
 use mathlib.Core.Path.{_≡_, refl, sym, ap, _∙_}
-use mathlib.Core.Bool.{Bool, true, false, _&&_}
+use mathlib.Core.Bool.{Bool, true, false}
 use mathlib.Core.List.{List}
 use native.Mathlib.Omega.{arith}
 use borrow.Author.Tests.{leb-true}
@@ -32,15 +32,15 @@ invalid text e = go (isUtf8 text) e
     go true e = absurd (let z : _≡_ {A = ℕ} 0 1 = cc in omega arith)
     go false e = refl
 
-reaches-requires : tie.Need-reaches-requires
-reaches-requires c κs = search needs
+has-room-requires : tie.Need-has-room-requires
+has-room-requires c κs = search needs
 
 returns : tie.Need-returns
 unfolding textAllowed
-returns c = sym (rw (sym (c .before .reaches .ensures) ∙ fails (c .before .reaches .result) (c .if1 .taken)))
+returns c = sym (rw (sym (c .before .has-room .ensures) ∙ fails (c .before .has-room .result) (c .if1 .taken)))
 
 add-check : tie.Need-add-check
-add-check c = let args = c .before .before .before .args in omega (arith, leb-true (args .text .start + args .text .len) (length (now (args .texts))) (sym (c .before .reaches .ensures) ∙ holds (c .before .reaches .result) (c .if1 .left)))
+add-check c = let args = c .before .before .before .args in omega (arith, leb-true (args .text .start + args .text .len) (length (now (args .texts))) (sym (c .before .has-room .ensures) ∙ holds (c .before .has-room .result) (c .if1 .left)))
 
 sub-check : tie.Need-sub-check
 sub-check c = search needs
@@ -49,7 +49,7 @@ part-check-start : tie.Need-part-check-start
 part-check-start c = search needs
 
 part-check-end : tie.Need-part-check-end
-part-check-end c = let args = c .before .before .before .args in omega (arith, leb-true (args .text .start + args .text .len) (length (now (args .texts))) (sym (c .before .reaches .ensures) ∙ holds (c .before .reaches .result) (c .if1 .left)))
+part-check-end c = let args = c .before .before .before .args in omega (arith, leb-true (args .text .start + args .text .len) (length (now (args .texts))) (sym (c .before .has-room .ensures) ∙ holds (c .before .has-room .result) (c .if1 .left)))
 
 check-requires : tie.Need-check-requires
 check-requires c κs = search needs
@@ -67,7 +67,7 @@ returns-2 c =
     let part : args .text .start + args .text .len - args .text .start ≡ args .text .len = omega arith in
     let bytes = drop (args .text .start) (now (args .texts)) in
     let is = valid (take (args .text .len) bytes) _ (ap (λ (n : ℕ). answer (take n bytes)) (sym part) ∙ sym (c .before .before .check .ensures) ∙ c .enum-told .given .1) in
-    sym (rw (sym (c .before .before .before .before .before .reaches .ensures) ∙ holds (c .before .before .before .before .before .reaches .result) (c .before .before .before .before .if1 .left)) is)
+    sym (rw (sym (c .before .before .before .before .before .has-room .ensures) ∙ holds (c .before .before .before .before .before .has-room .result) (c .before .before .before .before .if1 .left)) is)
 
 returns-3 : tie.Need-returns-3
 unfolding textAllowed
@@ -76,13 +76,13 @@ returns-3 c =
     let part : args .text .start + args .text .len - args .text .start ≡ args .text .len = omega arith in
     let bytes = drop (args .text .start) (now (args .texts)) in
     let is = invalid (take (args .text .len) bytes) (ap (λ (n : ℕ). answer (take n bytes)) (sym part) ∙ sym (c .before .before .check .ensures) ∙ c .enum-told2 .given .1) in
-    sym (rw (sym (c .before .before .before .before .before .reaches .ensures) ∙ holds (c .before .before .before .before .before .reaches .result) (c .before .before .before .before .if1 .left)) is)
+    sym (rw (sym (c .before .before .before .before .before .has-room .ensures) ∙ holds (c .before .before .before .before .before .has-room .result) (c .before .before .before .before .if1 .left)) is)
 
 pub text-allowed-spec : {M : Type 1} → statement M
 text-allowed-spec =
     tie.close
     (tie.spec
-    reaches-requires
+    has-room-requires
     returns
     add-check
     sub-check

@@ -1,0 +1,2 @@
+pub mod SetFor
+pub mod SetForLaws
