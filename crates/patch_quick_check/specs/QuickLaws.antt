@@ -9,7 +9,7 @@ use lib.ListN.{length}
 use native.Mathlib.Omega.{arith}
 use borrow.Author.Tests.{ne-eqb}
 use Rattle.spec_lists.specs.Lists.{any, isEmpty}
-use Rattle.spec_lists.specs.ListLaws.{flatMap-append, any-reverse}
+use Rattle.spec_lists.specs.ListLaws.{any-reverse}
 use Rattle.spec_lists.specs.Order.{upsert, sortUnique}
 use Rattle.spec_lists.specs.OrderLaws.{upsert-cases}
 use Rattle.spec_patch.specs.Patch.{Operation, Envelope, Patch}
@@ -20,7 +20,7 @@ use Rattle.spec_checks.specs.SetChecks.{duplicateIdFindings, previousFindings, 
 use Rattle.spec_checks.specs.Findings.{inSet, Findings, firstFindings, findings}
 use Rattle.patch_findings.specs.Ids.{idSeen}
 use Rattle.patch_findings.specs.Targets.{targetNumbers}
-use Rattle.patch_findings.specs.TargetsLaws.{seen-earlier}
+use Rattle.patch_findings.specs.TargetsLaws.{seen-earlier, targets-snoc}
 use Rattle.patch_findings.specs.Found.{isFound}
 use Rattle.patch_findings.specs.FoundLaws.{found-append, found-report}
 use Rattle.patch_quick_check.specs.Quick.{operationFound, foundFrom, headFound, patchFound, previousFound, afterFound, patchesFound}
@@ -62,10 +62,6 @@ unfolding operationFound operationFindings
 operation-found id done o =
     ap (λ t. t || beforeSelf o) (seen-earlier o done) ∙ or-comm (any (sameTarget o) (reverse done)) (beforeSelf o)
     ∙ sym (found-append (report (beforeSelf o) _) (report (any (sameTarget o) (reverse done)) _) ∙ ap₂ _||_ (found-report (beforeSelf o) _) (found-report (any (sameTarget o) (reverse done)) _))
-
-targets-snoc : (done : List Operation) (o : Operation) → flatMap targetNumbers (done ++ (o ∷ [])) ≡ flatMap targetNumbers done ++ targetNumbers o
-unfolding flatMap targetNumbers
-targets-snoc done o = flatMap-append targetNumbers done (o ∷ [])
 
 operations-found : (id : ℕ) (done os : List Operation) → foundFrom (flatMap targetNumbers done) os ≡ isFound (checkEach (operationFindings id) (reverse done) os)
 unfolding foundFrom checkEach isFound
