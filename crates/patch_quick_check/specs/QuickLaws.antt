@@ -90,10 +90,10 @@ patch-found p = raw-found p ∙ sym (sorted-found (rawPatchFindings p))
 
 -- ---- the set
 
-abbrev idOf : Patch → ℕ
+abbrev pub idOf : Patch → ℕ
 idOf p = p .envelope .id
 
-abbrev lastOf : List Patch → Option Envelope
+abbrev pub lastOf : List Patch → Option Envelope
 lastOf [] = none
 lastOf (q ∷ earlier) = some (q .envelope)
 
@@ -102,11 +102,11 @@ abbrev afterEach : List ℕ → Option Envelope → List Patch → Bool
 afterEach ids previous [] = false
 afterEach ids previous (p ∷ ps) = afterFound ids previous (p .envelope) || afterEach (ids ++ (p .envelope .id ∷ [])) (some (p .envelope)) ps
 
-any-map : (test : ℕ → Bool) (l : List Patch) → any test (map idOf l) ≡ any (λ (q : Patch). test (idOf q)) l
+pub any-map : (test : ℕ → Bool) (l : List Patch) → any test (map idOf l) ≡ any (λ (q : Patch). test (idOf q)) l
 any-map test [] = refl
 any-map test (q ∷ l) = ap (λ t. test (idOf q) || t) (any-map test l)
 
-map-snoc : (l : List Patch) (p : Patch) → map idOf (l ++ (p ∷ [])) ≡ map idOf l ++ (idOf p ∷ [])
+pub map-snoc : (l : List Patch) (p : Patch) → map idOf (l ++ (p ∷ [])) ≡ map idOf l ++ (idOf p ∷ [])
 map-snoc [] p = refl
 map-snoc (q ∷ l) p = ap (λ m. idOf q ∷ m) (map-snoc l p)
 
