@@ -14,7 +14,7 @@ ghost use Rattle.spec_patch.specs.Edition.{v1};
 ghost use Rattle.spec_patch.specs.Read.{patches, readSet};
 ghost use Rattle.spec_checks.specs.Findings.{findings};
 ghost use Rattle.spec_checks.specs.Answer.{writeFindings, checked};
-ghost use Rattle.patch_checks.specs.CheckAnswers.{checkedTo, checkAnswer, checkNumbers};
+ghost use Rattle.patch_checks.specs.CheckAnswers.{writtenAnswer, writtenNumbers, checkedTo, checkAnswer, checkNumbers};
 
 // Where the findings are: in the patch of an index from 0, or in the set.
 pub enum CheckPlace {
@@ -32,6 +32,24 @@ pub enum PatchSetCheck {
     Refused(ProjectionPatchReadFault),
 }
 
+// The answer at a place, after the records that fit have been written.
+fn write_answer(
+    place: CheckPlace,
+    logical: usize,
+    records: &[u64],
+    out: &mut [u64],
+) -> PatchSetCheck
+    ensures answered { λ r. ⌜ r ≡ writtenAnswer place logical (now (records .entry)) (now (out .entry)) ⌝ }
+    ensures written { λ _. ⌜ now (out .exit) ≡ writtenNumbers logical (now (records .entry)) (now (out .entry)) ⌝ }
+{
+    let written = write_findings::write_findings(records, logical, out);
+    PatchSetCheck::Checked {
+        place,
+        logical,
+        written,
+    }
+}
+
 // Lists the findings of a readable set and writes those that fit.
 fn find(set: &[u8], out: &mut [u64]) -> PatchSetCheck
     ensures answered { λ r. ⌜ ((ps : List Patch) → readSet v1 (now (set .entry)) ≡ patches ps → r ≡ checkedTo (checked ps (length (now (out .entry))))) ⌝ }
@@ -41,21 +59,9 @@ fn find(set: &[u8], out: &mut [u64]) -> PatchSetCheck
     match projection_patch_sets::read_heading(set) {
         CountRead::Read(count, at) => match list_set::list_patches(set, at, count, &mut records) {
             FindingsListed::Patch(index, logical) => {
-                let written = write_findings::write_findings(&records, logical, out);
-                PatchSetCheck::Checked {
-                    place: CheckPlace::Patch(index),
-                    logical,
-                    written,
-                }
+                write_answer(CheckPlace::Patch(index), logical, &records, out)
             }
-            FindingsListed::Set(logical) => {
-                let written = write_findings::write_findings(&records, logical, out);
-                PatchSetCheck::Checked {
-                    place: CheckPlace::Set,
-                    logical,
-                    written,
-                }
-            }
+            FindingsListed::Set(logical) => write_answer(CheckPlace::Set, logical, &records, out),
             FindingsListed::Refused(fault) => PatchSetCheck::Refused(fault),
         },
         CountRead::Refused(fault) => PatchSetCheck::Refused(fault),

@@ -61,20 +61,20 @@ list-patches-requires c κs = let k = c .before in (omega (arith, front k .there
 enum-known-index : tie.Need-enum-known-index
 enum-known-index c = search needs
 
-slice-aggregate-write-findings : tie.Need-slice-aggregate-write-findings
-slice-aggregate-write-findings c = search needs
+slice-aggregate-write-answer : tie.Need-slice-aggregate-write-answer
+slice-aggregate-write-answer c = search needs
 
-write-findings-requires : tie.Need-write-findings-requires
-write-findings-requires c κs = search needs
+write-answer-requires : tie.Need-write-answer-requires
+write-answer-requires c κs = search needs
 
 enum-known-logical : tie.Need-enum-known-logical
 enum-known-logical c = search needs
 
-slice-aggregate-write-findings-2 : tie.Need-slice-aggregate-write-findings-2
-slice-aggregate-write-findings-2 c = search needs
+slice-aggregate-write-answer-2 : tie.Need-slice-aggregate-write-answer-2
+slice-aggregate-write-answer-2 c = search needs
 
-write-findings-requires-2 : tie.Need-write-findings-requires-2
-write-findings-requires-2 c κs = search needs
+write-answer-requires-2 : tie.Need-write-answer-requires-2
+write-answer-requires-2 c κs = search needs
 
 enum-known-fault : tie.Need-enum-known-fault
 enum-known-fault c = search needs
@@ -97,8 +97,8 @@ returns c =
     let bound = w .before .before .before .before .index .given in
     let call = w .before .before .before .before .before .before .before in
     let lent = call .before .before .before .before .before .before .before .before .args .out .now in (
-      λ ps e. answer-is ps (call .list-patches .result) _ (listed-findings call ps e) (inPatch (bound .0 .0)) _ (w .write-findings .result) (bound .1) lent (w .write-findings .ensures .0),
-      λ ps e. w .write-findings .ensures .1 ∙ numbers-are ps (call .list-patches .result) _ (listed-findings call ps e) (inPatch (bound .0 .0)) _ (w .write-findings .result) (bound .1) lent (w .write-findings .ensures .0),
+      λ ps e. w .write-answer .ensures .0 ∙ answer-is ps (call .list-patches .result) _ (listed-findings call ps e) (inPatch (bound .0 .0)) _ _ (bound .1) lent refl,
+      λ ps e. w .write-answer .ensures .1 ∙ numbers-are ps (call .list-patches .result) _ (listed-findings call ps e) (inPatch (bound .0 .0)) _ _ (bound .1) lent refl,
     )
 
 same-length-2 : tie.Need-same-length-2
@@ -110,8 +110,8 @@ returns-2 c =
     let bound = w .before .before .before .before .logical .given in
     let call = w .before .before .before .before .before .before .before in
     let lent = call .before .before .before .before .before .before .before .before .args .out .now in (
-      λ ps e. answer-is ps (call .list-patches .result) _ (listed-findings call ps e) inSet _ (w .write-findings2 .result) (bound .1) lent (w .write-findings2 .ensures .0),
-      λ ps e. w .write-findings2 .ensures .1 ∙ numbers-are ps (call .list-patches .result) _ (listed-findings call ps e) inSet _ (w .write-findings2 .result) (bound .1) lent (w .write-findings2 .ensures .0),
+      λ ps e. w .write-answer2 .ensures .0 ∙ answer-is ps (call .list-patches .result) _ (listed-findings call ps e) inSet _ _ (bound .1) lent refl,
+      λ ps e. w .write-answer2 .ensures .1 ∙ numbers-are ps (call .list-patches .result) _ (listed-findings call ps e) inSet _ _ (bound .1) lent refl,
     )
 
 returns-3 : tie.Need-returns-3
@@ -135,11 +135,11 @@ find-spec =
     slice-aggregate-list-patches
     list-patches-requires
     enum-known-index
-    slice-aggregate-write-findings
-    write-findings-requires
+    slice-aggregate-write-answer
+    write-answer-requires
     enum-known-logical
-    slice-aggregate-write-findings-2
-    write-findings-requires-2
+    slice-aggregate-write-answer-2
+    write-answer-requires-2
     enum-known-fault
     enum-known-fault-2
     same-length
