@@ -11,3 +11,4 @@ pub mod Found
 pub mod FoundLaws
 pub mod Ids
 pub mod IdsLaws
+pub mod ToldLaws

@@ -7,7 +7,7 @@ use native.Mathlib.Omega.{arith}
 use lib.ListN.{length, take, drop, getD, set, length-append, length-take, length-drop}
 use lib.Seq.{take-at}
 use Rattle.spec_lists.specs.Lists.{any}
-use Rattle.spec_lists.specs.ListLaws.{any-reverse}
+use Rattle.spec_lists.specs.ListLaws.{flatMap-append, any-reverse}
 use Rattle.spec_patch.specs.Patch.{Operation}
 use Rattle.spec_checks.specs.Target.{MutationTarget, mutationTarget, sameTarget}
 use Rattle.patch_findings.specs.Targets.{equalTargets, numbersOf, targetNumbers, targetSeen, withTarget}
@@ -68,3 +68,8 @@ with-target-front used t ns h =
 pub with-target-length : (used : ℕ) (t : MutationTarget) (ns : List ℕ) → used + 3 ≤ length ns → length (withTarget used t ns) ≡ length ns
 unfolding withTarget
 with-target-length used t ns h = omega (arith, length-append (take used ns) (numbersOf t ++ drop (used + 3) ns), length-append (numbersOf t) (drop (used + 3) ns), length-take used ns, length-drop (used + 3) ns)
+
+-- the numbers of one operation more
+pub targets-snoc : (done : List Operation) (o : Operation) → flatMap targetNumbers (done ++ (o ∷ [])) ≡ flatMap targetNumbers done ++ targetNumbers o
+unfolding flatMap targetNumbers
+targets-snoc done o = flatMap-append targetNumbers done (o ∷ [])

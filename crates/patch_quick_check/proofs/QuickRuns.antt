@@ -3,20 +3,19 @@ use Prim.Native.Nat.{ℕ, suc, _+_, _-_, _≤_}
 use mathlib.Core.Path.{_≡_, refl, sym, ap, ap₂, _∙_}
 use mathlib.Core.Bool.{Bool, true, false, _||_}
 use mathlib.Core.List.{List, [], _∷_, _++_}
-use mathlib.Core.Option.{Option, none, some}
 use native.Mathlib.Omega.{arith}
 use lib.ListN.{length, take, drop}
 use lib.Seq.{drop-drop}
 use Rattle.spec_lists.specs.Bytes.{Bytes}
-use Rattle.spec_patch.specs.Patch.{Envelope, Operation, setBinding, setAvailability, insert, update, remove, move}
+use Rattle.spec_patch.specs.Patch.{Envelope, Operation}
 use Rattle.spec_patch.specs.Edition.{v1}
 use Rattle.spec_patch.specs.Reader.{Result, read, refused, onward, many}
 use Rattle.spec_patch.specs.Read.{readOperation, toPatch, readPatch}
 use Rattle.spec_patch.specs.Codec.{many-codec}
 use Rattle.spec_patch.specs.ReadLaws.{operation-codec}
 use Rattle.spec_checks.specs.Target.{mutationTarget}
-use Rattle.spec_checks.specs.PatchChecks.{isSelf, beforeSelf}
-use Rattle.projection_patch.specs.Meaning.{surfaceTo, envelopeTo, operationTo, surfaceOf, envelopeOf, operationOf}
+use Rattle.spec_checks.specs.PatchChecks.{beforeSelf}
+use Rattle.projection_patch.specs.Meaning.{operationTo, envelopeOf, operationOf}
 use Rattle.projection_patch.specs.ReadAnswers.{anywhere}
 use Rattle.projection_patch.specs.declared.patch.ProjectionPatch.{ProjectionPatch}
 use Rattle.projection_patch.specs.declared.patch.ProjectionPatchOperation.{ProjectionPatchOperation}
@@ -28,6 +27,7 @@ use Rattle.projection_patch_sets.specs.SetAnswers.{headTo}
 use Rattle.projection_patch_sets.proofs.Runs as runs
 use Rattle.patch_findings.specs.Targets.{targetNumbers, targetSeen, withTarget}
 use Rattle.patch_findings.specs.TargetsLaws.{with-target-front}
+use Rattle.patch_findings.specs.ToldLaws.{target-told, self-told, envelope-back}
 use Rattle.patch_quick_check.specs.Quick.{operationFound, foundFrom, operationsFound, headFound, patchFound}
 use Rattle.patch_quick_check.specs.QuickLaws.{or-assoc, or-false}
 use Rattle.patch_quick_check.specs.QuickAnswers.{operationsAnswer, checkedTo, patchAnswer}
@@ -37,26 +37,6 @@ use Rattle.patch_quick_check.specs.declared.quick_patches.PatchChecked.{
 use Rattle.patch_quick_check.specs.declared.quick_patches.PatchCheckRead.the-variants as patch-read
 
 -- ---- what is found of an operation does not depend on where its text stands
-
-target-told : (texts : List ℕ) (end : ℕ) (o : Operation) → mutationTarget (operationOf texts (operationTo end o)) ≡ mutationTarget o
-unfolding mutationTarget
-target-told texts end (setBinding n s v) = refl
-target-told texts end (setAvailability n a) = refl
-target-told texts end (insert c k b v) = refl
-target-told texts end (update c k v) = refl
-target-told texts end (remove c k) = refl
-target-told texts end (move c k b) = refl
-
-self-told : (texts : List ℕ) (end : ℕ) (o : Operation) → beforeSelf (operationOf texts (operationTo end o)) ≡ beforeSelf o
-unfolding beforeSelf isSelf
-self-told texts end (setBinding n s v) = refl
-self-told texts end (setAvailability n a) = refl
-self-told texts end (insert c k none v) = refl
-self-told texts end (insert c k (some b) v) = refl
-self-told texts end (update c k v) = refl
-self-told texts end (remove c k) = refl
-self-told texts end (move c k none) = refl
-self-told texts end (move c k (some b)) = refl
 
 found-told : (ts : List ℕ) (end : ℕ) (o : Operation) → operationFound ts (operationOf [] (operationTo end o)) ≡ operationFound ts o
 unfolding operationFound
@@ -127,14 +107,6 @@ module _ (l : List ℕ) (at n : ℕ) (r : OperationsChecked) (ensured : r ≡ op
 
   pub no-operations : (f : ProjectionPatchReadFault) → r ≡ operations-checked.Refused f → NotGot (many n (readOperation v1)) l at f
   no-operations = not-got (anywhere operationsFound) (many-codec (operation-codec v1) n) operations-told l at r ensured
-
-surface-back : (s : Option ℕ) → surfaceOf (surfaceTo s) ≡ s
-surface-back none = refl
-surface-back (some n) = refl
-
-pub envelope-back : (e : Envelope) → envelopeOf (envelopeTo e) ≡ e
-envelope-back e = let same = surface-back (e .surface) in
-    λ i. record { id = e .id; stream = e .stream; document = e .document; surface = same i; previous = e .previous; revision = e .revision; epoch = e .epoch; sequence = e .sequence }
 
 module _ (set : List ℕ) (at taken : ℕ) (h : Envelope × ℕ) (head : ProjectionPatch) (is : readHead (drop at set) ≡ read h (drop taken (drop at set))) (same : headTo h ≡ head) where
   pub counts : h .1 ≡ head .«operation_count»

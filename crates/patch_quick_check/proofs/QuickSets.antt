@@ -23,6 +23,7 @@ use Rattle.projection_patch.proofs.Answers.{Told, Got, NotGot, got, not-got}
 use Rattle.projection_patch_sets.specs.SetAnswers.{operationCount}
 use Rattle.patch_findings.specs.Found.{isFound}
 use Rattle.patch_findings.specs.IdsLaws.{ids-snoc}
+use Rattle.patch_findings.specs.ToldLaws.{envelope-back}
 use Rattle.patch_quick_check.specs.Quick.{patchFound, afterFound, patchesFound}
 use Rattle.patch_quick_check.specs.QuickLaws.{or-assoc, or-false, quick-found}
 use Rattle.patch_quick_check.specs.QuickAnswers.{checkedTo, patchAnswer, quickAnswer, endAnswer}
@@ -31,7 +32,6 @@ use Rattle.patch_quick_check.specs.declared.quick_patches.PatchCheckRead
 use Rattle.patch_quick_check.specs.declared.quick_patches.PatchCheckRead.the-variants as patch-read
 use Rattle.patch_quick_check.specs.declared.quick_set.QuickCheck.{QuickCheck}
 use Rattle.patch_quick_check.specs.declared.quick_set.QuickCheck.the-variants as quick
-use Rattle.patch_quick_check.proofs.QuickRuns.{envelope-back}
 
 -- ---- a patch's answer taken apart
 

@@ -9,7 +9,7 @@ use lib.ListN.{length}
 use native.Mathlib.Omega.{arith}
 use borrow.Author.Tests.{ne-eqb}
 use Rattle.spec_lists.specs.Lists.{any, isEmpty}
-use Rattle.spec_lists.specs.ListLaws.{flatMap-append, any-reverse}
+use Rattle.spec_lists.specs.ListLaws.{any-reverse}
 use Rattle.spec_lists.specs.Order.{upsert, sortUnique}
 use Rattle.spec_lists.specs.OrderLaws.{upsert-cases}
 use Rattle.spec_patch.specs.Patch.{Operation, Envelope, Patch}
@@ -20,7 +20,7 @@ use Rattle.spec_checks.specs.SetChecks.{duplicateIdFindings, previousFindings, 
 use Rattle.spec_checks.specs.Findings.{inSet, Findings, firstFindings, findings}
 use Rattle.patch_findings.specs.Ids.{idSeen}
 use Rattle.patch_findings.specs.Targets.{targetNumbers}
-use Rattle.patch_findings.specs.TargetsLaws.{seen-earlier}
+use Rattle.patch_findings.specs.TargetsLaws.{seen-earlier, targets-snoc}
 use Rattle.patch_findings.specs.Found.{isFound}
 use Rattle.patch_findings.specs.FoundLaws.{found-append, found-report}
 use Rattle.patch_quick_check.specs.Quick.{operationFound, foundFrom, headFound, patchFound, previousFound, afterFound, patchesFound}
@@ -63,10 +63,6 @@ operation-found id done o =
     ap (λ t. t || beforeSelf o) (seen-earlier o done) ∙ or-comm (any (sameTarget o) (reverse done)) (beforeSelf o)
     ∙ sym (found-append (report (beforeSelf o) _) (report (any (sameTarget o) (reverse done)) _) ∙ ap₂ _||_ (found-report (beforeSelf o) _) (found-report (any (sameTarget o) (reverse done)) _))
 
-targets-snoc : (done : List Operation) (o : Operation) → flatMap targetNumbers (done ++ (o ∷ [])) ≡ flatMap targetNumbers done ++ targetNumbers o
-unfolding flatMap targetNumbers
-targets-snoc done o = flatMap-append targetNumbers done (o ∷ [])
-
 operations-found : (id : ℕ) (done os : List Operation) → foundFrom (flatMap targetNumbers done) os ≡ isFound (checkEach (operationFindings id) (reverse done) os)
 unfolding foundFrom checkEach isFound
 operations-found id done [] = refl
@@ -94,10 +90,10 @@ patch-found p = raw-found p ∙ sym (sorted-found (rawPatchFindings p))
 
 -- ---- the set
 
-abbrev idOf : Patch → ℕ
+abbrev pub idOf : Patch → ℕ
 idOf p = p .envelope .id
 
-abbrev lastOf : List Patch → Option Envelope
+abbrev pub lastOf : List Patch → Option Envelope
 lastOf [] = none
 lastOf (q ∷ earlier) = some (q .envelope)
 
@@ -106,11 +102,11 @@ abbrev afterEach : List ℕ → Option Envelope → List Patch → Bool
 afterEach ids previous [] = false
 afterEach ids previous (p ∷ ps) = afterFound ids previous (p .envelope) || afterEach (ids ++ (p .envelope .id ∷ [])) (some (p .envelope)) ps
 
-any-map : (test : ℕ → Bool) (l : List Patch) → any test (map idOf l) ≡ any (λ (q : Patch). test (idOf q)) l
+pub any-map : (test : ℕ → Bool) (l : List Patch) → any test (map idOf l) ≡ any (λ (q : Patch). test (idOf q)) l
 any-map test [] = refl
 any-map test (q ∷ l) = ap (λ t. test (idOf q) || t) (any-map test l)
 
-map-snoc : (l : List Patch) (p : Patch) → map idOf (l ++ (p ∷ [])) ≡ map idOf l ++ (idOf p ∷ [])
+pub map-snoc : (l : List Patch) (p : Patch) → map idOf (l ++ (p ∷ [])) ≡ map idOf l ++ (idOf p ∷ [])
 map-snoc [] p = refl
 map-snoc (q ∷ l) p = ap (λ m. idOf q ∷ m) (map-snoc l p)
 

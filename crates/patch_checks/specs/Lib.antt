@@ -1,0 +1,3 @@
+pub mod SetListed
+pub mod SetListedLaws
+pub mod CheckAnswers
