@@ -10,7 +10,6 @@ ghost use Rattle.patch_part_writer.specs.Extent.{valueText, Within};
 ghost use Rattle.projection_patch.specs.Meaning.{quadOf, valueOf};
 ghost use Rattle.local_projection_state.specs.Rows.{padded};
 ghost use Rattle.stored_values.specs.Lookup.{noValue, foundValue};
-use patch_part_writer::extent;
 use projection_patch::patch::ProjectionPatchValue;
 use projection_patch::patch::ProjectionQuadState;
 use projection_patch::read_values;
@@ -113,7 +112,7 @@ fn value_lookup(row: &[u8], value: ProjectionPatchValue) -> ValueLookup
             if ProjectionPatchValue::TEXT_BYTES < len {
                 return lookup;
             }
-            if !extent::reaches(row.len(), start, len) {
+            if !wire::has_room(row.len(), start, len) {
                 return lookup;
             }
             text_value(row, start, len)

@@ -43,17 +43,17 @@ returns c =
     let text = subst (λ v. Within (now (c .before .before .before .before .before .before .args .row)) (valueText v)) (c .before .before .value4 .given .1) w in
     absurd (omega (arith, text .short, c .if1 .taken))
 
-reaches-requires : tie.Need-reaches-requires
-reaches-requires c κs = search needs
+has-room-requires : tie.Need-has-room-requires
+has-room-requires c κs = search needs
 
 returns-2 : tie.Need-returns-2
 returns-2 c =
     λ w.
     let text = subst (λ v. Within (now (c .before .before .before .before .before .before .before .before .args .row)) (valueText v)) (c .before .before .before .before .value4 .given .1) w in
-    absurd (omega (arith, text .inside, leb-false (c .before .before .before .before .value4 .given .0 .0 + c .before .before .before .before .value4 .given .0 .1 .0) (length (now (c .before .before .before .before .before .before .before .before .args .row))) (sym (c .before .reaches .ensures) ∙ fails (c .before .reaches .result) (c .if2 .taken))))
+    absurd (omega (arith, text .inside, leb-false (c .before .before .before .before .value4 .given .0 .0 + c .before .before .before .before .value4 .given .0 .1 .0) (length (now (c .before .before .before .before .before .before .before .before .args .row))) (sym (c .before .has-room .ensures) ∙ fails (c .before .has-room .result) (c .if2 .taken))))
 
 text-value-requires : tie.Need-text-value-requires
-text-value-requires c κs = (leb-true _ _ (sym (c .before .reaches .ensures) ∙ holds (c .before .reaches .result) (c .if2 .left)), search needs)
+text-value-requires c κs = (leb-true _ _ (sym (c .before .has-room .ensures) ∙ holds (c .before .has-room .result) (c .if2 .left)), search needs)
 
 returns-3 : tie.Need-returns-3
 returns-3 c =
@@ -87,7 +87,7 @@ value-lookup-spec =
     enum-known-value-3
     enum-known-value-4
     returns
-    reaches-requires
+    has-room-requires
     returns-2
     text-value-requires
     returns-3
