@@ -1,7 +1,7 @@
 -- The scan over the numbers of earlier operations says what kind 3 asks of them.
 use Prim.Native.Nat.{ℕ, zero, suc, _+_, _-_, _≤_, _<_}
 use mathlib.Core.Path.{_≡_, refl, sym, ap, _∙_}
-use mathlib.Core.Bool.{Bool, true, false, _||_}
+use mathlib.Core.Bool.{Bool, true, false, _&&_, _||_}
 use mathlib.Core.List.{List, [], _∷_, _++_, append-assoc, flatMap, reverse}
 use native.Mathlib.Omega.{arith}
 use lib.ListN.{length, take, drop, getD, set, length-append, length-take, length-drop}
@@ -73,3 +73,13 @@ with-target-length used t ns h = omega (arith, length-append (take used ns) (num
 pub targets-snoc : (done : List Operation) (o : Operation) → flatMap targetNumbers (done ++ (o ∷ [])) ≡ flatMap targetNumbers done ++ targetNumbers o
 unfolding flatMap targetNumbers
 targets-snoc done o = flatMap-append targetNumbers done (o ∷ [])
+
+-- ---- tests in another order
+
+pub and-false : (a : Bool) → (a && false) ≡ false
+and-false true = refl
+and-false false = refl
+
+pub and-true : (a : Bool) → (a && true) ≡ a
+and-true true = refl
+and-true false = refl

@@ -117,16 +117,17 @@ pub fn before_self(operation: ProjectionPatchOperation) -> bool
     }
 }
 
+// The key or slot is tested first: operations of a patch mostly differ there.
 fn same_target(a: MutationTarget, b: MutationTarget) -> bool
     ensures { λ r. ⌜ r ≡ equalTargets (targetOf a) (targetOf b) ⌝ }
 {
-    if a.kind != b.kind {
+    if a.second != b.second {
         return false;
     }
     if a.first != b.first {
         return false;
     }
-    a.second == b.second
+    a.kind == b.kind
 }
 
 // Whether the target is among those that stand in targets, three numbers each.
