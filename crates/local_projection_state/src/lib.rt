@@ -1,6 +1,7 @@
 // What a session stores of a panel: three tables of fixed-width rows. After crates/prom-ui/src/local_projection_state.rs.
 ghost use Rattle.spec_projection.specs.Projection.{empty};
 ghost use Rattle.local_projection_state.specs.Stores.{Stores};
+use projection_patch::patch::ProjectionPatchValue;
 
 // How many rows of each table are used.
 pub struct ProjectionCounts {
@@ -26,7 +27,7 @@ impl LocalProjectionState {
     pub const ENTRIES: usize = 128;
 
     // A value's canonical bytes: a kind, a length and the longest text.
-    pub const VALUE_WIDTH: usize = 165;
+    pub const VALUE_WIDTH: usize = 5 + ProjectionPatchValue::TEXT_BYTES;
     // A node, a slot and a value; a node and its availability; a collection, a key and a value.
     pub const BINDING_WIDTH: usize = 12 + LocalProjectionState::VALUE_WIDTH;
 
