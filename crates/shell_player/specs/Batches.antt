@@ -1,13 +1,16 @@
 -- What a batch looks at in a session's struct, and what it hands back.
 use Prim.Native.Nat.{ℕ}
 use mathlib.Core.Path.{_≡_}
+use mathlib.Core.List.{List}
 use Rattle.spec_session.specs.Session.{Cursor, at, Session}
 use Rattle.spec_session.specs.Diagnostics.{SessionRefusal, noDiagnostics, diagnosticsOf}
 use Rattle.spec_session.specs.Lifecycle.{Disposition, applied, noChange, rejected, LocalState}
-use Rattle.spec_session.specs.Batch.{BatchAnswer, BatchStep}
+use Rattle.spec_session.specs.Batch.{BatchAnswer, BatchStep, batch}
 use Rattle.shell_lifecycle.specs.Meaning.{limitsOf, lifecycleOf, cursorOf, diagnosticsMean}
 use Rattle.shell_lifecycle.specs.declared.state.ShellLocalState.{ShellLocalState}
 use Rattle.active_projection_target_catalog.specs.Catalog.{catalogueOf}
+use Rattle.shell_gates.specs.Gates.{envelopeMeans}
+use Rattle.shell_gates.specs.declared.gates.OrderedProjectionPatchBatchEnvelope.{OrderedProjectionPatchBatchEnvelope}
 use Rattle.shell_player.specs.declared.session.ActivatedShellSessionContext.{ActivatedShellSessionContext}
 use Rattle.shell_player.specs.declared.session.ShellSession.{ShellSession}
 use Rattle.shell_player.specs.declared.batch.ProjectionPatchApplicationDisposition.{ProjectionPatchApplicationDisposition}
@@ -46,8 +49,9 @@ answerAt d c = record { disposition = d; diagnostics = noDiagnostics; cursor = c
 abbrev pub movedTo : LocalState → ℕ → LocalState
 movedTo t n = record { id = t .id; lifecycle = t .lifecycle; cursor = at n }
 
--- ---- the relation of a batch call: the answer is the step's, and the session handed back stores the next one
+-- ---- the relation of a batch call
 
+-- the answer is the step's, and the session handed back stores the next one
 pub record BatchBecame (r : ProjectionPatchBatch) (step : BatchStep) : Type 0 where
   pub answer : batchAnswerOf (r .result) ≡ step .answer
   pub next : Holds (r .session) (step .next)
@@ -55,3 +59,8 @@ pub record BatchBecame (r : ProjectionPatchBatch) (step : BatchStep) : Type 0 wh
 -- a batch that is not applied hands back the session that came in
 abbrev pub KeptUnlessApplied : ShellSession → ProjectionPatchBatch → Type 0
 KeptUnlessApplied s r = (r .result .disposition ≡ Applied → ⊥) → r .session ≡ s
+
+-- what a call with this envelope, declared count and set hands back: for every session that the struct stores, what the model's batch gives
+pub record BatchCall (s : ShellSession) (e : OrderedProjectionPatchBatchEnvelope) (declared : ℕ) (set : List ℕ) (r : ProjectionPatchBatch) : Type 0 where
+  pub became : (m : Session) → Holds s m → BatchBecame r (batch m (envelopeMeans e) declared set)
+  pub kept : KeptUnlessApplied s r

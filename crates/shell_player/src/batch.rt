@@ -23,13 +23,13 @@ ghost use Prim.Native.Nat.{_≤_, min};
 ghost use Rattle.spec_patch.specs.Sizes.{anchors};
 ghost use Rattle.spec_session.specs.Session.{Session};
 ghost use Rattle.spec_session.specs.Diagnostics.{ofOperation};
-ghost use Rattle.spec_session.specs.Batch.{batchChecks, candidate, commit, batch as modelBatch};
+ghost use Rattle.spec_session.specs.Batch.{batchChecks, candidate, commit};
 ghost use Rattle.binding_tables.specs.Change.{faultOf};
 ghost use Rattle.shell_lifecycle.specs.Meaning.{refusalOf, cursorOf, stateTold};
 ghost use Rattle.shell_gates.specs.Gates.{gateOf, envelopeMeans, erased};
 ghost use Rattle.spec_session.specs.Session.{at};
 ghost use Rattle.spec_session.specs.Lifecycle.{applied, noChange};
-ghost use Rattle.shell_player.specs.Batches.{SeenSession, batchAnswerOf, rejectedAt, answerAt, movedTo, BatchBecame, KeptUnlessApplied};
+ghost use Rattle.shell_player.specs.Batches.{SeenSession, batchAnswerOf, rejectedAt, answerAt, movedTo, BatchBecame, KeptUnlessApplied, BatchCall};
 ghost use Rattle.shell_player.specs.Holds.{Holds};
 
 pub enum ProjectionPatchApplicationDisposition {
@@ -210,8 +210,7 @@ impl ShellSession {
         declared: u64,
         set: &[u8],
     ) -> ProjectionPatchBatch
-        ensures became { λ r. ⌜ ((m : Session) → Holds self m → BatchBecame r (modelBatch m (envelopeMeans envelope) declared (now (set .entry)))) ⌝ }
-        ensures kept { λ r. ⌜ KeptUnlessApplied self r ⌝ }
+        ensures { λ r. ⌜ BatchCall self envelope declared (now (set .entry)) r ⌝ }
     {
         let context = self.context;
         let limits = context.limits;

@@ -25,17 +25,17 @@ apply-checked-requires c κs = search needs
 
 returns : tie.Need-returns
 unfolding gateOf
-returns c = (
-  λ m h. batch-rejects _ m h _ _ _ _ _ _ (ap gateOf (sym (c .before .before .refusal .given .1)) ∙ c .before .before .before .before .check-session .ensures m (seen _ m h)) (c .rejected .ensures),
-  λ n. refl,
-)
+returns c = record {
+  became = λ m h. batch-rejects _ m h _ _ _ _ _ _ (ap gateOf (sym (c .before .before .refusal .given .1)) ∙ c .before .before .before .before .check-session .ensures m (seen _ m h)) (c .rejected .ensures);
+  kept = λ n. refl;
+}
 
 returns-2 : tie.Need-returns-2
 unfolding gateOf
-returns-2 c = (
-  λ m h. batch-commits _ m h _ _ _ _ (ap gateOf (sym (c .before .enum-told .given .1)) ∙ c .before .before .before .check-session .ensures m (seen _ m h)) (λ ps reads count. c .apply-checked .ensures .0 m ps h reads count),
-  c .apply-checked .ensures .1,
-)
+returns-2 c = record {
+  became = λ m h. batch-commits _ m h _ _ _ _ (ap gateOf (sym (c .before .enum-told .given .1)) ∙ c .before .before .before .check-session .ensures m (seen _ m h)) (λ ps reads count. c .apply-checked .ensures .0 m ps h reads count);
+  kept = c .apply-checked .ensures .1;
+}
 
 pub apply-projection-patch-batch-spec : {M : Type 1} → statement M
 apply-projection-patch-batch-spec =

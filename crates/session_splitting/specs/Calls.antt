@@ -1,0 +1,45 @@
+-- Batches sent to a session's struct one after the other, linked by the relation that the batch call promises: 01, 'Whole and pieces'.
+use Prim.Native.Nat.{ℕ, _+_}
+use mathlib.Core.Path.{_≡_}
+use mathlib.Core.Bool.{Bool, true, false}
+use mathlib.Core.List.{List, [], _∷_}
+use lib.ListN.{length}
+use Rattle.spec_patch.specs.Edition.{v1}
+use Rattle.spec_patch.specs.Encode.{encode}
+use Rattle.batch_splitting.specs.Splitting.{Piece, references}
+use Rattle.shell_gates.specs.declared.gates.OrderedProjectionPatchBatchEnvelope.{OrderedProjectionPatchBatchEnvelope}
+use Rattle.shell_player.specs.declared.session.ShellSession.{ShellSession}
+use Rattle.shell_player.specs.declared.batch.ProjectionPatchApplicationDisposition.{ProjectionPatchApplicationDisposition}
+use Rattle.shell_player.specs.declared.batch.ProjectionPatchApplicationDisposition.the-variants.{Applied, NoChange, Rejected}
+use Rattle.shell_player.specs.declared.batch.ProjectionPatchBatch.{ProjectionPatchBatch}
+use Rattle.shell_player.specs.Batches.{BatchCall}
+
+-- the session's own id, a sequence number, the true patch count, the piece's byte figure
+abbrev pub envelopeFor : ShellSession → ℕ → Piece → OrderedProjectionPatchBatchEnvelope
+envelopeFor s n p = record { «session_id» = s .context .«session_id»; «sequence_no» = n; «patch_count» = length (p .patches); «stimulus_bytes» = p .stimulusBytes }
+
+-- a call of the session with a piece: that envelope, the true counts and the canonical bytes
+abbrev pub Sent : ShellSession → ℕ → Piece → ProjectionPatchBatch → Type 0
+Sent s n p b = BatchCall s (envelopeFor s n p) (references p) (encode v1 (p .patches)) b
+
+unfoldable pub refused : ProjectionPatchApplicationDisposition → Bool
+refused Applied = false
+refused NoChange = false
+refused Rejected = true
+
+-- nothing follows a refusal
+abbrev pub Onward : Bool → List ProjectionPatchBatch → Type 0 → Type 0
+Onward true bs on = bs ≡ []
+Onward false bs on = on
+
+-- piece i, from 0, carries the number n + i; each goes to the session just handed back, until one is refused
+abbrev pub Calls : ShellSession → ℕ → List Piece → List ProjectionPatchBatch → Type 0
+Calls s n [] [] = Unit {0}
+Calls s n [] (b ∷ bs) = ⊥
+Calls s n (p ∷ ps) [] = ⊥
+Calls s n (p ∷ ps) (b ∷ bs) = Sent s n p b × Onward (refused (b .result .disposition)) bs (Calls (b .session) (n + 1) ps bs)
+
+-- the session that was handed back last
+unfoldable pub lastOf : ShellSession → List ProjectionPatchBatch → ShellSession
+lastOf s [] = s
+lastOf s (b ∷ bs) = lastOf (b .session) bs

@@ -1,0 +1,59 @@
+-- Calls that follow one another on a struct give what the sending of the pieces to its session gives.
+use Prim.Native.Nat.{ℕ, _+_}
+use mathlib.Core.Path.{_≡_, refl, sym, ap, ap₂, subst, _∙_}
+use mathlib.Core.Bool.{Bool, true, false}
+use mathlib.Core.List.{List, [], _∷_, map}
+use lib.ListN.{length}
+use Rattle.spec_lists.specs.Lists.{if_then_else_}
+use Rattle.spec_patch.specs.Edition.{v1}
+use Rattle.spec_patch.specs.Encode.{encode}
+use Rattle.spec_session.specs.Session.{Session}
+use Rattle.spec_session.specs.Batch.{BatchAnswer, batch}
+use Rattle.batch_splitting.specs.Splitting.{Piece, Run, references, envelopeOf, send, isRejected, continue, sendAll}
+use Rattle.shell_player.specs.declared.session.ShellSession.{ShellSession}
+use Rattle.shell_player.specs.declared.batch.ProjectionPatchApplicationDisposition.{ProjectionPatchApplicationDisposition}
+use Rattle.shell_player.specs.declared.batch.ProjectionPatchApplicationDisposition.the-variants.{Applied, NoChange, Rejected}
+use Rattle.shell_player.specs.declared.batch.ProjectionPatchBatch.{ProjectionPatchBatch}
+use Rattle.shell_player.specs.Holds.{Holds}
+use Rattle.shell_player.specs.Batches.{dispositionTold, batchAnswerOf, BatchBecame}
+use Rattle.session_splitting.specs.Calls.{Sent, refused, Onward, Calls, lastOf}
+
+abbrev pub answersOf : List ProjectionPatchBatch → List BatchAnswer
+answersOf bs = map (λ (b : ProjectionPatchBatch). batchAnswerOf (b .result)) bs
+
+-- a call with a piece is the sending of that piece
+pub sent-is : (s : ShellSession) (m : Session) → Holds s m → (n : ℕ) (p : Piece) (b : ProjectionPatchBatch) → Sent s n p b → BatchBecame b (send m n p)
+unfolding send envelopeOf
+sent-is s m h n p b sent =
+    subst (λ i. BatchBecame b (batch m (record { session = i; sequence = n; patches = length (p .patches); stimulusBytes = p .stimulusBytes }) (references p) (encode v1 (p .patches)))) (h .id) (sent .became m h)
+
+refused-told : (d : ProjectionPatchApplicationDisposition) → isRejected (dispositionTold d) ≡ refused d
+unfolding isRejected dispositionTold refused
+refused-told Applied = refl
+refused-told NoChange = refl
+refused-told Rejected = refl
+
+pub record Follows (s : ShellSession) (bs : List ProjectionPatchBatch) (r : Run) : Type 0 where
+  pub answers : answersOf bs ≡ r .answers
+  pub last : Holds (lastOf s bs) (r .last)
+
+pub calls-follow : (ps : List Piece) (bs : List ProjectionPatchBatch) (s : ShellSession) (m : Session) (n : ℕ) → Holds s m → Calls s n ps bs → Follows s bs (sendAll m n ps)
+unfolding sendAll continue lastOf
+calls-follow [] [] s m n h c = record { answers = refl; last = h }
+calls-follow [] (b ∷ bs) s m n h c = absurd c
+calls-follow (p ∷ ps) [] s m n h c = absurd c
+calls-follow (p ∷ ps) (b ∷ bs) s m n h c = go (refused (b .result .disposition)) refl (c .1) (λ k on. calls-follow ps bs (b .session) (send m n p .next) (n + 1) k on)
+  where
+    step : BatchBecame b (send m n p)
+    step = sent-is s m h n p b (c .0)
+
+    told : isRejected (send m n p .answer .disposition) ≡ refused (b .result .disposition)
+    told = ap (λ (a : BatchAnswer). isRejected (a .disposition)) (sym (step .answer)) ∙ refused-told (b .result .disposition)
+
+    go : (t : Bool) → refused (b .result .disposition) ≡ t → Onward t bs (Calls (b .session) (n + 1) ps bs)
+        → (Holds (b .session) (send m n p .next) → Calls (b .session) (n + 1) ps bs → Follows (b .session) bs (sendAll (send m n p .next) (n + 1) ps))
+        → Follows s (b ∷ bs) (continue (send m n p) (sendAll (send m n p .next) (n + 1) ps))
+    go true e none ih = rw (told ∙ e, none) (record { answers = ap (λ (a : BatchAnswer). a ∷ []) (step .answer); last = step .next })
+    go false e on ih =
+        let rest = ih (step .next) on in
+        rw (told ∙ e) (record { answers = ap₂ (λ (a : BatchAnswer) (l : List BatchAnswer). a ∷ l) (step .answer) (rest .answers); last = rest .last })

@@ -1,0 +1,4 @@
+pub mod Calls
+pub mod Claim
+pub mod CallsLaws
+pub mod Theorem
