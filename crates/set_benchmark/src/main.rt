@@ -1,10 +1,14 @@
-// Uses one set many times. The input is a letter for the use, a space, how often in decimal, a line end and the set. The last answer is
+// Uses one set many times. The input is a letter for the use (r for reading, q for the quick check, k for the check), a space, how often in decimal, a line end and the set. The last answer is
 // printed, so that no use can be left out.
 ghost use Prim.Native.Nat.{_≤_};
 ghost use lib.ListN.{length};
 use decimal::ReadU64;
 use libc::STDIN_FILENO;
 use libc::STDOUT_FILENO;
+use patch_checks::check_set;
+use patch_checks::check_set::PatchSetCheck;
+use patch_quick_check::quick_set;
+use patch_quick_check::quick_set::QuickCheck;
 use projection_patch_sets::SetRead;
 
 // The surface of the first patch, which no rule looks at; a new one for each use keeps the uses apart.
@@ -32,6 +36,53 @@ fn read_often(set: &mut [u8], times: u64) -> u64 {
     last
 }
 
+// The number of operations where there is no finding, or the refusal's number.
+fn quick_check(set: &[u8]) -> u64 {
+    match quick_set::quick_check(set) {
+        QuickCheck::Clean {
+            patch_count: _,
+            operation_count,
+        } => operation_count as u64,
+        QuickCheck::Found => 11,
+        QuickCheck::Refused(fault) => fault.number(),
+    }
+}
+
+fn quick_check_often(set: &mut [u8], times: u64) -> u64 {
+    let mut last = 0;
+    let mut left = times;
+    while 0 < left {
+        wire::write_u64_at(set, SURFACE, left);
+        last = quick_check(set);
+        left -= 1;
+    }
+    last
+}
+
+// The number of findings, or the refusal's number.
+fn check(set: &[u8], findings: &mut [u64]) -> u64 {
+    match check_set::check(set, findings) {
+        PatchSetCheck::Checked {
+            place: _,
+            logical,
+            written: _,
+        } => logical as u64,
+        PatchSetCheck::Refused(fault) => fault.number(),
+    }
+}
+
+fn check_often(set: &mut [u8], times: u64) -> u64 {
+    let mut findings = [0u64; 945];
+    let mut last = 0;
+    let mut left = times;
+    while 0 < left {
+        wire::write_u64_at(set, SURFACE, left);
+        last = check(set, &mut findings);
+        left -= 1;
+    }
+    last
+}
+
 // The position of the first line end, or the length.
 fn line_end(input: &[u8]) -> usize
     ensures { λ r. ⌜ r ≤ length (now (input .entry)) ⌝ }
@@ -49,6 +100,12 @@ fn line_end(input: &[u8]) -> usize
 fn use_often(way: u8, set: &mut [u8], times: u64) -> u64 {
     if way == b'r' {
         return read_often(set, times);
+    }
+    if way == b'q' {
+        return quick_check_often(set, times);
+    }
+    if way == b'k' {
+        return check_often(set, times);
     }
     0
 }

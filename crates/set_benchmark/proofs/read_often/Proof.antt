@@ -1,6 +1,5 @@
-use Prim.Native.Nat.{_+_, _-_, _*_, _≤_, _<_}
-use mathlib.Core.Path.{_≡_, refl}
-use native.Mathlib.Omega.{arith}
+-- `set_benchmark::read_often` runs: the set keeps its length, and the measure is what is left.
+use mathlib.Core.Path.{_≡_}
 use lib.ListN.{length}
 use borrow.Author.Needs.{needs}
 use Rattle.set_benchmark.proofs.read_often.Statement.{statement}
