@@ -24,9 +24,9 @@ use Rattle.projection_patch_sets.specs.Walk.{readHead, headOf}
 use Rattle.projection_patch_sets.specs.SetAnswers.{headTo}
 use Rattle.projection_patch_sets.proofs.Runs as runs
 use Rattle.patch_findings.specs.EnvelopeChecks.{row}
-use Rattle.patch_findings.specs.Targets.{targetNumbers, targetSeen, withTarget}
-use Rattle.patch_findings.specs.TargetsLaws.{with-target-front}
-use Rattle.patch_findings.specs.ToldLaws.{target-told, self-told, envelope-back}
+use Rattle.mutation_targets.specs.Targets.{targetNumbers, targetSeen, withTarget}
+use Rattle.mutation_targets.specs.TargetsLaws.{with-target-front}
+use Rattle.mutation_targets.specs.ToldLaws.{target-told, self-told, envelope-back}
 use Rattle.patch_findings.specs.InsertFindings.{insertedAll}
 use Rattle.patch_findings.specs.InsertFindingsLaws.{insertedAll-append, Inserted, inserted-then}
 use Rattle.one_patch_checks.specs.Listed.{listedOperation, listedFrom, RunListedAs, OperationsListedAs, headFindings, PatchListedAs}

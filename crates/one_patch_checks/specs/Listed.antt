@@ -12,7 +12,7 @@ use Rattle.spec_checks.specs.PatchChecks.{beforeSelf, envelopeFindings, rawPatc
 use Rattle.projection_patch.specs.ReadAnswers.{faultTo}
 use Rattle.projection_patch_sets.specs.Walk.{headOf}
 use Rattle.projection_patch_sets.specs.SetAnswers.{headTo}
-use Rattle.patch_findings.specs.Targets.{targetNumbers, targetSeen}
+use Rattle.mutation_targets.specs.Targets.{targetNumbers, targetSeen}
 use Rattle.patch_findings.specs.InsertFindings.{insertedAll}
 use Rattle.one_patch_checks.specs.declared.list_operations.OperationsListed.{OperationsListed}
 use Rattle.one_patch_checks.specs.declared.list_operations.OperationsListed.the-variants as operations-listed

@@ -12,8 +12,8 @@ use Rattle.spec_lists.specs.Lists.{isEmpty}
 use Rattle.spec_patch.specs.Patch.{Operation, Envelope, Patch}
 use Rattle.spec_checks.specs.Finding.{Finding, finding, report, checkEach, emptyOperations, collectionBeforeSelf, duplicateMutationTarget}
 use Rattle.spec_checks.specs.PatchChecks.{beforeSelf, operationFindings, envelopeFindings, rawPatchFindings}
-use Rattle.patch_findings.specs.Targets.{targetNumbers}
-use Rattle.patch_findings.specs.TargetsLaws.{seen-earlier, targets-snoc}
+use Rattle.mutation_targets.specs.Targets.{targetNumbers}
+use Rattle.mutation_targets.specs.TargetsLaws.{seen-earlier, targets-snoc}
 use Rattle.one_patch_checks.specs.Listed.{listedOperation, listedFrom, headFindings}
 
 listed-operation : (id : ℕ) (done : List Operation) (o : Operation) → listedOperation id (flatMap targetNumbers done) (length done) o ≡ operationFindings id (reverse done) o

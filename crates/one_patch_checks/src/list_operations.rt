@@ -1,7 +1,6 @@
 // The findings of a patch's operations.
 use patch_findings::envelope_checks;
 use patch_findings::insert_findings;
-use patch_findings::targets;
 use projection_patch::read_operations;
 use projection_patch::read_operations::OperationRead;
 use projection_patch::read_values::ProjectionPatchReadFault;
@@ -63,9 +62,9 @@ pub fn list_operations(
     while 0 < left {
         match read_operations::read_operation(&set[at..]) {
             OperationRead::Read(operation, taken) => {
-                let target = targets::mutation_target(operation);
-                let seen = targets::seen_before(targets, used, target);
-                let before_self = targets::before_self(operation);
+                let target = mutation_targets::mutation_target(operation);
+                let seen = mutation_targets::seen_before(targets, used, target);
+                let before_self = mutation_targets::before_self(operation);
                 kept = insert_operation(records, kept, id, index, before_self, seen);
                 used = used + 3;
                 index = index + 1;

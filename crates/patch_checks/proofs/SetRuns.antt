@@ -21,7 +21,7 @@ use Rattle.projection_patch_sets.specs.Walk.{headOf}
 use Rattle.projection_patch_sets.specs.SetAnswers.{headTo}
 use Rattle.projection_patch_sets.proofs.Runs as runs
 use Rattle.patch_findings.specs.IdsLaws.{ids-snoc}
-use Rattle.patch_findings.specs.ToldLaws.{envelope-back}
+use Rattle.mutation_targets.specs.ToldLaws.{envelope-back}
 use Rattle.patch_findings.specs.InsertFindings.{insertedAll}
 use Rattle.patch_findings.specs.InsertFindingsLaws.{Inserted}
 use Rattle.one_patch_checks.specs.Listed.{PatchListedAs}

@@ -21,8 +21,8 @@ use Rattle.spec_checks.specs.Findings.{Place, inPatch, inSet, Findings, firstFi
 use Rattle.spec_checks.specs.Answer.{recordLength, findingWords}
 use Rattle.spec_checks.specs.CountLaws.{raw-patch-length, raw-set-length}
 use Rattle.patch_findings.specs.Ids.{idSeen}
-use Rattle.patch_findings.specs.FindingTable.{insertedCount, insertedNumbers, Kept}
-use Rattle.patch_findings.specs.FindingTableLaws.{kept-none, kept-snoc, inserted-length}
+use Rattle.finding_table.specs.FindingTable.{insertedCount, insertedNumbers, Kept}
+use Rattle.finding_table.specs.FindingTableLaws.{kept-none, kept-snoc, inserted-length}
 use Rattle.patch_findings.specs.InsertFindings.{insertedAll}
 use Rattle.patch_findings.specs.InsertFindingsLaws.{kept-all}
 use Rattle.patch_quick_check.specs.QuickLaws.{idOf, lastOf, any-map, map-snoc}

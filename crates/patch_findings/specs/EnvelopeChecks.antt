@@ -2,7 +2,7 @@
 use Prim.Native.Nat.{ℕ}
 use mathlib.Core.List.{List, [], _∷_, _++_}
 use Rattle.spec_checks.specs.Finding.{Finding}
-use Rattle.patch_findings.specs.FindingTable.{findingOf}
+use Rattle.finding_table.specs.FindingTable.{findingOf}
 use Rattle.patch_findings.specs.declared.envelope_checks.OptionalFinding.{OptionalFinding}
 use Rattle.patch_findings.specs.declared.envelope_checks.OptionalFinding.the-variants.{None, Some}
 use Rattle.patch_findings.specs.declared.envelope_checks.EnvelopeFindings.{EnvelopeFindings}

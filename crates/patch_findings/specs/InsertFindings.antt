@@ -2,7 +2,7 @@
 use Prim.Native.Nat.{ℕ}
 use mathlib.Core.List.{List, [], _∷_}
 use Rattle.spec_checks.specs.Finding.{Finding}
-use Rattle.patch_findings.specs.FindingTable.{insertedCount, insertedNumbers}
+use Rattle.finding_table.specs.FindingTable.{insertedCount, insertedNumbers}
 
 -- how many records there are then, and the whole list of numbers
 unfoldable pub insertedAll : List Finding → ℕ → List ℕ → ℕ × List ℕ

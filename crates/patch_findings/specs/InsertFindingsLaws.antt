@@ -6,8 +6,8 @@ use native.Mathlib.Omega.{arith}
 use lib.ListN.{length, length-append}
 use Rattle.spec_checks.specs.Finding.{Finding}
 use Rattle.spec_checks.specs.Answer.{recordLength}
-use Rattle.patch_findings.specs.FindingTable.{insertedCount, insertedNumbers, Kept}
-use Rattle.patch_findings.specs.FindingTableLaws.{kept-snoc, inserted-length}
+use Rattle.finding_table.specs.FindingTable.{insertedCount, insertedNumbers, Kept}
+use Rattle.finding_table.specs.FindingTableLaws.{kept-snoc, inserted-length}
 use Rattle.patch_findings.specs.InsertFindings.{insertedAll}
 
 pub insertedAll-append : (a b : List Finding) (count : ℕ) (ns : List ℕ) → insertedAll (a ++ b) count ns ≡ insertedAll b (insertedAll a count ns .0) (insertedAll a count ns .1)

@@ -1,8 +1,3 @@
-pub mod Targets
-pub mod Threes
-pub mod TargetsLaws
-pub mod FindingTable
-pub mod FindingTableLaws
 pub mod EnvelopeChecks
 pub mod EnvelopeChecksLaws
 pub mod InsertFindings
@@ -11,4 +6,3 @@ pub mod Found
 pub mod FoundLaws
 pub mod Ids
 pub mod IdsLaws
-pub mod ToldLaws

@@ -1,5 +1,5 @@
 // The checks of a patch's envelope, alone and after that of the patch just before it.
-use crate::finding_table::Finding;
+use finding_table::Finding;
 use projection_patch::patch::ProjectionPatchEnvelope;
 ghost use mathlib.Core.Path.{_≡_};
 ghost use Rattle.projection_patch.specs.Meaning.{envelopeOf};

@@ -2,7 +2,6 @@
 use crate::envelope_checks::EnvelopeFindings;
 use crate::envelope_checks::OptionalFinding;
 use crate::envelope_checks::PairFindings;
-use crate::finding_table;
 ghost use mathlib.Core.Path.{_≡_};
 ghost use Rattle.patch_findings.specs.EnvelopeChecks.{optionalOf, envelopeListed, pairListed};
 ghost use Rattle.patch_findings.specs.InsertFindings.{insertedAll};

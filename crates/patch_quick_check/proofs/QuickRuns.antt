@@ -25,9 +25,9 @@ use Rattle.projection_patch.proofs.Answers.{Told, Got, NotGot, got, not-got}
 use Rattle.projection_patch_sets.specs.Walk.{readHead, headOf}
 use Rattle.projection_patch_sets.specs.SetAnswers.{headTo}
 use Rattle.projection_patch_sets.proofs.Runs as runs
-use Rattle.patch_findings.specs.Targets.{targetNumbers, targetSeen, withTarget}
-use Rattle.patch_findings.specs.TargetsLaws.{with-target-front}
-use Rattle.patch_findings.specs.ToldLaws.{target-told, self-told, envelope-back}
+use Rattle.mutation_targets.specs.Targets.{numbersOf, targetNumbers, targetSeen, withTarget}
+use Rattle.mutation_targets.specs.TargetsLaws.{with-target-front}
+use Rattle.mutation_targets.specs.ToldLaws.{target-told, self-told, envelope-back}
 use Rattle.patch_quick_check.specs.Quick.{operationFound, foundFrom, operationsFound, headFound, patchFound}
 use Rattle.patch_quick_check.specs.QuickLaws.{or-assoc, or-false}
 use Rattle.patch_quick_check.specs.QuickAnswers.{operationsAnswer, checkedTo, patchAnswer}
@@ -73,9 +73,13 @@ module _ (set : List ℕ) (at n : ℕ) (found : Bool) where
     module _ (found′ : Bool) (targets targets′ : List ℕ) (used : ℕ) (room : used + 3 ≤ length targets)
         (found-now : found′ ≡ (found || operationFound (take used targets) (operationOf [] x)))
         (targets-now : targets′ ≡ withTarget used (mutationTarget (operationOf [] x)) targets) where
+      pub put : take (used + 3) targets′ ≡ take used targets ++ targetNumbers (operationOf [] x)
+      unfolding targetNumbers
+      put = ap (take (used + 3)) targets-now ∙ with-target-front used (mutationTarget (operationOf [] x)) targets room
+
       front : take (used + 3) targets′ ≡ take used targets ++ targetNumbers o
       unfolding targetNumbers
-      front = ap (take (used + 3)) (targets-now ∙ ap (λ t. withTarget used t targets) target-is) ∙ with-target-front used (mutationTarget o) targets room
+      front = put ∙ ap (λ t. take used targets ++ numbersOf t) target-is
 
       pub turn : operationsAnswer (λ os. found′ || foundFrom (take (used + 3) targets′) os) (length set) (many n (readOperation v1) (drop (at + taken) set))
           ≡ operationsAnswer (λ os. found || foundFrom (take used targets) os) (length set) (many (suc n) (readOperation v1) (drop at set))

@@ -23,7 +23,7 @@ use Rattle.projection_patch.proofs.Answers.{Told, Got, NotGot, got, not-got}
 use Rattle.projection_patch_sets.specs.SetAnswers.{operationCount}
 use Rattle.patch_findings.specs.Found.{isFound}
 use Rattle.patch_findings.specs.IdsLaws.{ids-snoc}
-use Rattle.patch_findings.specs.ToldLaws.{envelope-back}
+use Rattle.mutation_targets.specs.ToldLaws.{envelope-back}
 use Rattle.patch_quick_check.specs.Quick.{patchFound, afterFound, patchesFound}
 use Rattle.patch_quick_check.specs.QuickLaws.{or-assoc, or-false, quick-found}
 use Rattle.patch_quick_check.specs.QuickAnswers.{checkedTo, patchAnswer, quickAnswer, endAnswer}

@@ -10,7 +10,7 @@ use Rattle.spec_checks.specs.Target.{mutationTarget}
 use Rattle.spec_checks.specs.PatchChecks.{beforeSelf, envelopeFindings}
 use Rattle.spec_checks.specs.SetChecks.{pairFindings}
 use Rattle.patch_findings.specs.Ids.{idSeen}
-use Rattle.patch_findings.specs.Targets.{targetNumbers, targetSeen}
+use Rattle.mutation_targets.specs.Targets.{targetNumbers, targetSeen}
 use Rattle.patch_findings.specs.Found.{isFound}
 
 -- kinds 2 and 3 of an operation; the targets of earlier ones are three numbers each

@@ -19,8 +19,8 @@ use Rattle.spec_checks.specs.PatchChecks.{beforeSelf, operationFindings, envelo
 use Rattle.spec_checks.specs.SetChecks.{duplicateIdFindings, previousFindings, afterFindings, rawSetFindings, setFindings}
 use Rattle.spec_checks.specs.Findings.{inSet, Findings, firstFindings, findings}
 use Rattle.patch_findings.specs.Ids.{idSeen}
-use Rattle.patch_findings.specs.Targets.{targetNumbers}
-use Rattle.patch_findings.specs.TargetsLaws.{seen-earlier, targets-snoc}
+use Rattle.mutation_targets.specs.Targets.{targetNumbers}
+use Rattle.mutation_targets.specs.TargetsLaws.{seen-earlier, targets-snoc}
 use Rattle.patch_findings.specs.Found.{isFound}
 use Rattle.patch_findings.specs.FoundLaws.{found-append, found-report}
 use Rattle.patch_quick_check.specs.Quick.{operationFound, foundFrom, headFound, patchFound, previousFound, afterFound, patchesFound}

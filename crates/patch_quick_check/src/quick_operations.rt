@@ -1,12 +1,12 @@
 // The operations of a patch, read and checked one after the other.
-use patch_findings::targets;
+use mutation_targets::MutationTarget;
 use projection_patch::patch::ProjectionPatchOperation;
 use projection_patch::read_operations;
 use projection_patch::read_operations::OperationRead;
 use projection_patch::read_values::ProjectionPatchReadFault;
 ghost use mathlib.Core.Path.{_≡_};
 ghost use mathlib.Core.Bool.{_||_};
-ghost use mathlib.Core.List.{List};
+ghost use mathlib.Core.List.{List, _++_};
 ghost use Prim.Native.Nat.{ℕ, _+_, _*_, _≤_};
 ghost use lib.ListN.{length, take, drop};
 ghost use Rattle.spec_patch.specs.Edition.{v1};
@@ -14,7 +14,9 @@ ghost use Rattle.spec_patch.specs.Reader.{many};
 ghost use Rattle.spec_patch.specs.Read.{readOperation};
 ghost use Rattle.spec_checks.specs.Target.{mutationTarget};
 ghost use Rattle.projection_patch.specs.Meaning.{operationOf};
-ghost use Rattle.patch_findings.specs.Targets.{withTarget};
+ghost use Rattle.mutation_targets.specs.Targets.{targetNumbers, withTarget};
+ghost use Rattle.mutation_targets.specs.Marks.{Marked};
+ghost use Rattle.spec_patch.specs.Sizes.{patchOperations};
 ghost use Rattle.patch_quick_check.specs.Quick.{operationFound, operationsFound};
 ghost use Rattle.patch_quick_check.specs.QuickAnswers.{operationsAnswer};
 
@@ -24,36 +26,39 @@ pub enum OperationsChecked {
     Refused(ProjectionPatchReadFault),
 }
 
-// Whether there was a finding before, or the operation is one. Its target is put behind the first used numbers.
+// Whether there was a finding before, or the operation is one. Its target is put behind the first used numbers, with its mark.
 fn operation_found(
     found: bool,
     targets: &mut [u64],
+    marks: &mut [u8],
     used: usize,
     operation: ProjectionPatchOperation,
 ) -> bool
-    requires { ⌜ used + 3 ≤ length (now targets) ⌝ }
+    requires { ⌜ (used + 3 ≤ length (now targets)) × Marked (now marks) (take used (now targets)) ⌝ }
     ensures found { λ r. ⌜ ((texts : List ℕ) → r ≡ (found || operationFound (take used (now (targets .entry))) (operationOf texts operation))) ⌝ }
     ensures kept { λ _. ⌜ ((texts : List ℕ) → now (targets .exit) ≡ withTarget used (mutationTarget (operationOf texts operation)) (now (targets .entry))) ⌝ }
+    ensures marked { λ _. ⌜ ((texts : List ℕ) → Marked (now (marks .exit)) (take used (now (targets .entry)) ++ targetNumbers (operationOf texts operation))) ⌝ }
 {
-    let target = targets::mutation_target(operation);
-    let seen = targets::seen_before(targets, used, target);
+    let target = mutation_targets::mutation_target(operation);
+    let seen = mutation_targets::seen_by_mark(targets, marks, used, target);
     if found {
         return true;
     }
     if seen {
         return true;
     }
-    targets::before_self(operation)
+    mutation_targets::before_self(operation)
 }
 
-// Reads count operations of a set, the first of them at from.
-pub fn check_operations(
+// Reads count operations of a set, the first of them at from, with room lent for their targets and marks.
+fn check_with(
     set: &[u8],
     from: usize,
     count: usize,
     targets: &mut [u64],
+    marks: &mut [u8],
 ) -> OperationsChecked
-    requires { ⌜ (from ≤ length (now set)) × (3 * count ≤ length (now targets)) ⌝ }
+    requires { ⌜ (from ≤ length (now set)) × ((3 * count ≤ length (now targets)) × (length (now marks) ≡ 512)) ⌝ }
     ensures { λ r. ⌜ r ≡ operationsAnswer operationsFound (length (now (set .entry))) (many count (readOperation v1) (drop from (now (set .entry)))) ⌝ }
 {
     let mut at = from;
@@ -63,7 +68,7 @@ pub fn check_operations(
     while 0 < left {
         match read_operations::read_operation(&set[at..]) {
             OperationRead::Read(operation, taken) => {
-                found = operation_found(found, targets, used, operation);
+                found = operation_found(found, targets, marks, used, operation);
                 used = used + 3;
                 at = at + taken;
                 left = left - 1;
@@ -74,4 +79,18 @@ pub fn check_operations(
         }
     }
     OperationsChecked::Read(found, at)
+}
+
+// Reads count operations of a set, the first of them at from. Most patches have few, and little is cleared for them.
+pub fn check_operations(set: &[u8], from: usize, count: usize) -> OperationsChecked
+    requires { ⌜ (from ≤ length (now set)) × (count ≤ patchOperations) ⌝ }
+    ensures { λ r. ⌜ r ≡ operationsAnswer operationsFound (length (now (set .entry))) (many count (readOperation v1) (drop from (now (set .entry)))) ⌝ }
+{
+    let mut marks = [0u8; MutationTarget::MARKS];
+    if count <= 16 {
+        let mut few = [0u64; 48];
+        return check_with(set, from, count, &mut few, &mut marks);
+    }
+    let mut targets = [0u64; 384];
+    check_with(set, from, count, &mut targets, &mut marks)
 }

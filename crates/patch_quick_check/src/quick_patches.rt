@@ -10,10 +10,8 @@ use projection_patch::read_values::ProjectionPatchReadFault;
 use projection_patch_sets::PatchHeadRead;
 ghost use mathlib.Core.Path.{_≡_};
 ghost use mathlib.Core.Bool.{_||_};
-ghost use mathlib.Core.List.{List};
-ghost use Prim.Native.Nat.{ℕ, _*_, _≤_, _<_};
+ghost use Prim.Native.Nat.{_≤_, _<_};
 ghost use lib.ListN.{length, take, drop, set};
-ghost use Rattle.spec_patch.specs.Sizes.{patchOperations};
 ghost use Rattle.spec_patch.specs.Edition.{v1};
 ghost use Rattle.spec_patch.specs.Read.{readPatch};
 ghost use Rattle.projection_patch.specs.Meaning.{envelopeOf};
@@ -52,8 +50,8 @@ fn patch_found(head: ProjectionPatch, operations: bool) -> bool
 }
 
 // Reads and checks the patch at a position.
-pub fn check_patch(set: &[u8], at: usize, targets: &mut [u64]) -> PatchCheckRead
-    requires { ⌜ (at ≤ length (now set)) × (3 * patchOperations ≤ length (now targets)) ⌝ }
+pub fn check_patch(set: &[u8], at: usize) -> PatchCheckRead
+    requires { ⌜ at ≤ length (now set) ⌝ }
     ensures { λ r. ⌜ r ≡ patchAnswer (length (now (set .entry))) (readPatch v1 (drop at (now (set .entry)))) ⌝ }
 {
     match projection_patch_sets::read_patch_head(&set[at..]) {
@@ -61,7 +59,6 @@ pub fn check_patch(set: &[u8], at: usize, targets: &mut [u64]) -> PatchCheckRead
             set,
             at + taken,
             head.operation_count,
-            targets,
         ) {
             OperationsChecked::Read(found, end) => PatchCheckRead::Read(
                 PatchChecked {

@@ -45,7 +45,6 @@ fn check_patches(set: &[u8], from: usize, count: usize) -> QuickCheck
     requires { ⌜ (from ≤ length (now set)) × (count ≤ setPatches) ⌝ }
     ensures { λ r. ⌜ r ≡ quickAnswer (ended (many count (readPatch v1) (drop from (now (set .entry))))) ⌝ }
 {
-    let mut targets = [0u64; 384];
     let mut ids = [0u64; 64];
     let mut previous = PreviousEnvelope::None;
     let mut at = from;
@@ -54,7 +53,7 @@ fn check_patches(set: &[u8], from: usize, count: usize) -> QuickCheck
     let mut operations: usize = 0;
     let mut found = false;
     while 0 < left {
-        match quick_patches::check_patch(set, at, &mut targets) {
+        match quick_patches::check_patch(set, at) {
             PatchCheckRead::Read(patch, end) => {
                 let own = patch.found;
                 let head = patch.head;

@@ -14,7 +14,7 @@ use Rattle.projection_patch.specs.ReadAnswers.{operationAnswer}
 use Rattle.projection_patch.proofs.At.{from}
 use Rattle.projection_patch.proofs.Answers.{Got, operation-got, no-operation}
 use Rattle.projection_patch_sets.proofs.Runs.{inside}
-use Rattle.patch_findings.specs.TargetsLaws.{with-target-length}
+use Rattle.mutation_targets.specs.TargetsLaws.{with-target-length}
 use Rattle.one_patch_checks.specs.Listed.{RunListedAs, OperationsListedAs}
 use Rattle.one_patch_checks.specs.declared.list_operations.OperationsListed.{OperationsListed}
 use Rattle.one_patch_checks.specs.declared.list_operations.OperationsListed.the-variants as operations-listed

@@ -25,13 +25,13 @@ use Rattle.patch_quick_check.proofs.quick_patches.check_patch.Statement
 use Rattle.patch_quick_check.proofs.quick_patches.check_patch.Tie as tie
 
 abbrev set : tie.After-read-patch-head → List ℕ
-set c = c .before .before .before .before .args .set .now
+set c = c .before .before .before .args .set .now
 
 abbrev at : tie.After-read-patch-head → ℕ
-at c = c .before .before .before .before .args .at
+at c = c .before .before .before .args .at
 
 all-bytes : (c : tie.After-read-patch-head) → Bytes (set c)
-all-bytes c = bytes-of (set c) (λ j. c .before .before .before .shared-slice-known .given j .fits)
+all-bytes c = bytes-of (set c) (λ j. c .before .before .shared-slice-known .given j .fits)
 
 -- the answer is of the bytes from the position on
 ensured : (c : tie.After-read-patch-head) → c .read-patch-head .result ≡ headAnswer (length (drop (at c) (set c))) (readHead (drop (at c) (set c)))
@@ -78,7 +78,7 @@ add-check-operations : tie.Need-add-check-operations
 add-check-operations c = omega (arith, within c)
 
 check-operations-requires : tie.Need-check-operations-requires
-check-operations-requires c κs = (within (c .before), omega (arith, few (c .before)))
+check-operations-requires c κs = (within c, few c)
 
 enum-known-found : tie.Need-enum-known-found
 enum-known-found c = search needs
@@ -92,13 +92,10 @@ enum-known-fault c = search needs
 enum-known-fault-2 : tie.Need-enum-known-fault-2
 enum-known-fault-2 c = search needs
 
-same-length : tie.Need-same-length
-same-length c = search needs
-
 returns : tie.Need-returns
 returns c =
-    let call = c .before .before .before .before .before .before in
-    let k = call .before .before in
+    let call = c .before .before .before .before in
+    let k = call .before in
     let start = k .before .before .before in
     let g = front k in
     let n = head k .«operation_count» in
@@ -108,13 +105,10 @@ returns c =
     patch-checked (set start) (at start) (taken k) (g .a) (head k) (g .is) (g .same) (os .a) (bound .0 .1 .0) (os .is) long (os .there) (c .patch-found .result)
     (c .patch-found .ensures ∙ ap (λ (b : Bool). headFound (envelopeOf (head k .envelope)) n || b) (sym (os .same)))
 
-same-length-2 : tie.Need-same-length-2
-same-length-2 c = search needs
-
 returns-2 : tie.Need-returns-2
 returns-2 c =
-    let call = c .before .before .before .before .before in
-    let k = call .before .before in
+    let call = c .before .before .before in
+    let k = call .before in
     let start = k .before .before .before in
     let g = front k in
     let bound = c .before .fault .given in
@@ -143,8 +137,6 @@ check-patch-spec =
     patch-found-requires
     enum-known-fault
     enum-known-fault-2
-    same-length
     returns
-    same-length-2
     returns-2
     returns-3)

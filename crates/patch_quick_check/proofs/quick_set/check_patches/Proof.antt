@@ -21,17 +21,17 @@ use Rattle.patch_quick_check.proofs.quick_set.check_patches.Statement.{
 use Rattle.patch_quick_check.proofs.quick_set.check_patches.Tie as tie
 
 abbrev Inv-loop : tie.InvT-loop
-Inv-loop set first count targets₀ ids₀ previous₀ at₀ left₀ done₀ operations₀ found₀ targets ids previous at left done operations found =
+Inv-loop set first count ids₀ previous₀ at₀ left₀ done₀ operations₀ found₀ ids previous at left done operations found =
     (at ≤ length set) × ((done + left ≡ count) × ((operations + left * patchOperations ≤ count * patchOperations)
-    × ((length targets ≡ 384) × ((length ids ≡ 64)
-    × (counted done operations found (take done ids) (previousOf previous) (ended (many left (readPatch v1) (drop at set))) ≡ quickAnswer (ended (many count (readPatch v1) (drop first set))))))))
+    × ((length ids ≡ 64)
+    × (counted done operations found (take done ids) (previousOf previous) (ended (many left (readPatch v1) (drop at set))) ≡ quickAnswer (ended (many count (readPatch v1) (drop first set)))))))
 
 abbrev μ-loop : tie.MeasureT-loop
-μ-loop set first count targets₀ ids₀ previous₀ at₀ left₀ done₀ operations₀ found₀ targets ids previous at left done operations found = left
+μ-loop set first count ids₀ previous₀ at₀ left₀ done₀ operations₀ found₀ ids previous at left done operations found = left
 
 -- what the loop has in hand where a patch has been read
 abbrev head : tie.After-check-patch Inv-loop μ-loop → tie.At-loop Inv-loop μ-loop
-head c = c .before .before .before
+head c = c .before .before
 
 abbrev set : tie.After-check-patch Inv-loop μ-loop → List ℕ
 set c = head c .before .before .args .set .now
@@ -48,14 +48,14 @@ patch c = c .before .patch .given .0 .0
 abbrev end : tie.After-known-told Inv-loop μ-loop → ℕ
 end c = c .before .patch .given .0 .1 .0
 
-one : (c : tie.After-known-told Inv-loop μ-loop) → let k = c .before .before .before .before in Got (readPatch v1) (anywhere checkedTo) (set k) (head k .loop .at) (patch c) (end c)
+one : (c : tie.After-known-told Inv-loop μ-loop) → let k = c .before .before .before in Got (readPatch v1) (anywhere checkedTo) (set k) (head k .loop .at) (patch c) (end c)
 one c =
-    let k = c .before .before .before .before in
+    let k = c .before .before .before in
     patch-got (set k) (head k .loop .at) (k .check-patch .result) (k .check-patch .ensures) (all-bytes k) (patch c) (end c) (c .before .patch .given .1)
 
 small : (c : tie.After-known-told Inv-loop μ-loop) → patch c .head .«operation_count» ≤ patchOperations
 small c =
-    let k = c .before .before .before .before in
+    let k = c .before .before .before in
     let l = head k .loop in
     let g = one c in
     rw (count-is (set k) (l .at) (l .left) (l .done) (l .operations) (l .found) (previousOf (l .previous)) (patch c) (end c) g)
@@ -69,15 +69,12 @@ again c =
     let l = head c .loop in
     let same : suc (l .left - 1) ≡ l .left = omega arith in
     ap (λ (m : ℕ). counted (l .done) (l .operations) (l .found) (take (l .done) (l .ids)) (previousOf (l .previous)) (ended (many m (readPatch v1) (drop (l .at) (set c))))) same
-    ∙ l .inv .1 .1 .1 .1 .1
+    ∙ l .inv .1 .1 .1 .1
 
 loop-holds : tie.Need-loop-holds Inv-loop μ-loop
 loop-holds c =
     let a = c .before .args in
-    (omega arith, (omega arith, (omega arith, (search needs, (search needs, counted-none (ended (many (a .count) (readPatch v1) (drop (a .from) (a .set .now)))))))))
-
-slice-aggregate-check-patch : tie.Need-slice-aggregate-check-patch Inv-loop μ-loop
-slice-aggregate-check-patch c = search needs
+    (omega arith, (omega arith, (omega arith, (search needs, counted-none (ended (many (a .count) (readPatch v1) (drop (a .from) (a .set .now))))))))
 
 check-patch-requires : tie.Need-check-patch-requires Inv-loop μ-loop
 check-patch-requires c κs = search needs
@@ -107,7 +104,7 @@ loop-again : tie.Need-loop-again Inv-loop μ-loop
 loop-again c =
     let call = c .before .before in
     let known = call .before .before .before .before in
-    let k = known .before .before .before .before in
+    let k = known .before .before .before in
     let l = head k .loop in
     let g = one known in (
       omega (arith, g .there),
@@ -115,7 +112,7 @@ loop-again c =
         omega arith,
         (
           omega (arith, small known),
-          (search needs, (ap length (call .after-found .ensures .1) ∙ length-set (l .ids) (l .done) _ ∙ l .inv .1 .1 .1 .1 .0, turn (set k) (l .at) (l .left - 1) (l .done) (l .operations) (l .found) (previousOf (l .previous)) (patch known) (end known) g _ (l .ids) _ (search needs) (call .after-found .ensures .0) (call .after-found .ensures .1) ∙ again k)),
+          (ap length (call .after-found .ensures .1) ∙ length-set (l .ids) (l .done) _ ∙ l .inv .1 .1 .1 .0, turn (set k) (l .at) (l .left - 1) (l .done) (l .operations) (l .found) (previousOf (l .previous)) (patch known) (end known) g _ (l .ids) _ (search needs) (call .after-found .ensures .0) (call .after-found .ensures .1) ∙ again k),
         ),
       ),
     )
@@ -125,7 +122,7 @@ enum-known-fault c = search needs
 
 returns : tie.Need-returns Inv-loop μ-loop
 returns c =
-    let k = c .before .before .before .before in
+    let k = c .before .before .before in
     let l = head k .loop in
     let bound = c .before .fault .given in
     patch-refused (set k) (l .at) (l .left - 1) (l .done) (l .operations) (l .found) (previousOf (l .previous)) (take (l .done) (l .ids)) (bound .0 .0)
@@ -147,7 +144,7 @@ returns-2 c =
     c .at-end .ensures
     ∙ end-is (a .set .now) (l .at) (l .done) (l .operations) (l .found) (take (l .done) (l .ids)) (previousOf (l .previous)) (a .count) (omega arith)
     ∙ ap (λ (m : ℕ). counted (l .done) (l .operations) (l .found) (take (l .done) (l .ids)) (previousOf (l .previous)) (ended (many m (readPatch v1) (drop (l .at) (a .set .now))))) none
-    ∙ l .inv .1 .1 .1 .1 .1
+    ∙ l .inv .1 .1 .1 .1
 
 pub check-patches-spec : {M : Type 1} → statement M
 check-patches-spec =
@@ -156,7 +153,6 @@ check-patches-spec =
     Inv-loop
     μ-loop
     loop-holds
-    slice-aggregate-check-patch
     check-patch-requires
     enum-known-patch
     slice-aggregate-after-found

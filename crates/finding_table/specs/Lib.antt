@@ -1,0 +1,2 @@
+pub mod FindingTable
+pub mod FindingTableLaws
