@@ -34,7 +34,7 @@ fn half_number(part: &[u8]) -> u64
 }
 
 // The number that at most eight bytes spell, read in halves: the compiler makes one load of them.
-pub fn number(part: &[u8]) -> u64
+pub fn number_of(part: &[u8]) -> u64
     requires { ⌜ length (now part) ≤ 8 ⌝ }
     ensures { λ r. ⌜ r ≡ numberOf (now (part .entry)) ⌝ }
 {
@@ -67,7 +67,7 @@ fn same_start(row: &[u8], key: &[u8]) -> bool
     let mut i = 0;
     while 8 <= key.len() - i {
         let end = i + 8;
-        if number(&row[i..end]) != number(&key[i..end]) {
+        if number_of(&row[i..end]) != number_of(&key[i..end]) {
             return false;
         }
         i = end;
@@ -90,7 +90,7 @@ pub fn compare(row: &[u8], id: u64, size: usize, second: u64) -> Order
     requires { ⌜ (size ≤ 8) × (8 + size ≤ length (now row)) ⌝ }
     ensures { λ r. ⌜ r ≡ orderOf (leadingNumbers (8 ∷ size ∷ []) (now (row .entry))) (id ∷ second ∷ []) ⌝ }
 {
-    let own = number(&row[..8]);
+    let own = number_of(&row[..8]);
     if own < id {
         return Order::Below;
     }
@@ -98,7 +98,7 @@ pub fn compare(row: &[u8], id: u64, size: usize, second: u64) -> Order
         return Order::Above;
     }
     let end = 8 + size;
-    let behind = number(&row[8..end]);
+    let behind = number_of(&row[8..end]);
     if behind < second {
         return Order::Below;
     }

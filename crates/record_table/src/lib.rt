@@ -140,7 +140,7 @@ pub fn find_above(table: &[u8], width: usize, count: usize, id: u64) -> usize
     while i < count {
         let from = i * width;
         let end = from + 8;
-        if id < record_keys::number(&table[from..end]) {
+        if id < record_keys::number_of(&table[from..end]) {
             return i;
         }
         i += 1;

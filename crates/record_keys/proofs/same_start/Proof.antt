@@ -26,29 +26,29 @@ sub-loop c = search needs
 add-end : tie.Need-add-end Inv-loop μ-loop
 add-end c = search needs
 
-sub-number : tie.Need-sub-number Inv-loop μ-loop
-sub-number c = search needs
+sub-number-of : tie.Need-sub-number-of Inv-loop μ-loop
+sub-number-of c = search needs
 
-part-number-start : tie.Need-part-number-start Inv-loop μ-loop
-part-number-start c = search needs
+part-number-of-start : tie.Need-part-number-of-start Inv-loop μ-loop
+part-number-of-start c = search needs
 
-part-number-end : tie.Need-part-number-end Inv-loop μ-loop
-part-number-end c = search needs
+part-number-of-end : tie.Need-part-number-of-end Inv-loop μ-loop
+part-number-of-end c = search needs
 
-number-requires : tie.Need-number-requires Inv-loop μ-loop
-number-requires c κs = search needs
+number-of-requires : tie.Need-number-of-requires Inv-loop μ-loop
+number-of-requires c κs = search needs
 
-sub-number-2 : tie.Need-sub-number-2 Inv-loop μ-loop
-sub-number-2 c = search needs
+sub-number-of-2 : tie.Need-sub-number-of-2 Inv-loop μ-loop
+sub-number-of-2 c = search needs
 
-part-number-start-2 : tie.Need-part-number-start-2 Inv-loop μ-loop
-part-number-start-2 c = search needs
+part-number-of-start-2 : tie.Need-part-number-of-start-2 Inv-loop μ-loop
+part-number-of-start-2 c = search needs
 
-part-number-end-2 : tie.Need-part-number-end-2 Inv-loop μ-loop
-part-number-end-2 c = search needs
+part-number-of-end-2 : tie.Need-part-number-of-end-2 Inv-loop μ-loop
+part-number-of-end-2 c = search needs
 
-number-requires-2 : tie.Need-number-requires-2 Inv-loop μ-loop
-number-requires-2 c κs = search needs
+number-of-requires-2 : tie.Need-number-of-requires-2 Inv-loop μ-loop
+number-of-requires-2 c κs = search needs
 
 -- the bytes of the two slices, as they are known at the loop
 row-bytes : (c : tie.At-loop Inv-loop μ-loop) → Bytes (c .before .before .before .args .row .now)
@@ -63,7 +63,7 @@ returns c =
     let at-loop = read .before .before .before .before .before in
     sym
     (at-loop .loop .inv .1
-    ∙ eight-other _ _ (at-loop .loop .i) _ _ (key-bytes at-loop) (row-bytes at-loop) (search needs) (search needs) (read .before .before .number .ensures) (read .number2 .ensures) (c .if1 .taken))
+    ∙ eight-other _ _ (at-loop .loop .i) _ _ (key-bytes at-loop) (row-bytes at-loop) (search needs) (search needs) (read .before .before .number-of .ensures) (read .number-of2 .ensures) (c .if1 .taken))
 
 loop-less : tie.Need-loop-less Inv-loop μ-loop
 loop-less c = search needs
@@ -74,7 +74,7 @@ loop-again c =
     let at-loop = read .before .before .before .before .before in (
       search needs,
       at-loop .loop .inv .1
-          ∙ eight-same _ _ (at-loop .loop .i) _ _ (key-bytes at-loop) (row-bytes at-loop) (search needs) (search needs) (read .before .before .number .ensures) (read .number2 .ensures) (c .if1 .left),
+          ∙ eight-same _ _ (at-loop .loop .i) _ _ (key-bytes at-loop) (row-bytes at-loop) (search needs) (search needs) (read .before .before .number-of .ensures) (read .number-of2 .ensures) (c .if1 .left),
     )
 
 sub-same-bytes : tie.Need-sub-same-bytes Inv-loop μ-loop
@@ -112,14 +112,14 @@ same-start-spec =
     loop-holds
     sub-loop
     add-end
-    sub-number
-    part-number-start
-    part-number-end
-    number-requires
-    sub-number-2
-    part-number-start-2
-    part-number-end-2
-    number-requires-2
+    sub-number-of
+    part-number-of-start
+    part-number-of-end
+    number-of-requires
+    sub-number-of-2
+    part-number-of-start-2
+    part-number-of-end-2
+    number-of-requires-2
     returns
     loop-less
     loop-again

@@ -47,30 +47,30 @@ mul-from c = omega (arith, placed c)
 add-end : tie.Need-add-end Inv-loop μ-loop
 add-end c = omega (arith, placed c)
 
-sub-number : tie.Need-sub-number Inv-loop μ-loop
-sub-number c = search needs
+sub-number-of : tie.Need-sub-number-of Inv-loop μ-loop
+sub-number-of c = search needs
 
-part-number-start : tie.Need-part-number-start Inv-loop μ-loop
-part-number-start c = search needs
+part-number-of-start : tie.Need-part-number-of-start Inv-loop μ-loop
+part-number-of-start c = search needs
 
-part-number-end : tie.Need-part-number-end Inv-loop μ-loop
-part-number-end c = omega (arith, placed c)
+part-number-of-end : tie.Need-part-number-of-end Inv-loop μ-loop
+part-number-of-end c = omega (arith, placed c)
 
-number-requires : tie.Need-number-requires Inv-loop μ-loop
-number-requires c κs = search needs
+number-of-requires : tie.Need-number-of-requires Inv-loop μ-loop
+number-of-requires c κs = search needs
 
 -- the number that was read is that of the row at position i
-read-row : (c : tie.After-number Inv-loop μ-loop) (m : List (List ℕ)) → let at-loop = c .before .before .before in
+read-row : (c : tie.After-number-of Inv-loop μ-loop) (m : List (List ℕ)) → let at-loop = c .before .before .before in
     let args = at-loop .before .before .before .args in
-    Holds (args .width) (args .count) (args .table .now) m → c .number .result ≡ numberOf (take 8 (getD m (at-loop .loop .i) []))
+    Holds (args .width) (args .count) (args .table .now) m → c .number-of .result ≡ numberOf (take 8 (getD m (at-loop .loop .i) []))
 read-row c m t =
     let in-loop = c .before .before in
-    c .number .ensures ∙ ap numberOf (head-is m t (in-loop .before .loop .i) (in-loop .loop-test .taken) (search needs))
+    c .number-of .ensures ∙ ap numberOf (head-is m t (in-loop .before .loop .i) (in-loop .loop-test .taken) (search needs))
 
 returns-2 : tie.Need-returns-2 Inv-loop μ-loop
 returns-2 c =
     let in-loop = c .before .before .before in
-    ((λ m t. sym (search-first m t (isAbove _) (in-loop .before .loop .i) (in-loop .before .loop .inv .1 m t) (in-loop .loop-test .taken) (rw (← read-row (c .before) m t) (lt-ltb _ (c .before .number .result) (search needs))))), search needs)
+    ((λ m t. sym (search-first m t (isAbove _) (in-loop .before .loop .i) (in-loop .before .loop .inv .1 m t) (in-loop .loop-test .taken) (rw (← read-row (c .before) m t) (lt-ltb _ (c .before .number-of .result) (search needs))))), search needs)
 
 add-i : tie.Need-add-i Inv-loop μ-loop
 add-i c = search needs
@@ -81,7 +81,7 @@ loop-less c = search needs
 loop-again : tie.Need-loop-again Inv-loop μ-loop
 loop-again c =
     let in-loop = c .before .before .before in
-    (search needs, λ m t. search-more m t (isAbove _) (in-loop .before .loop .i) (in-loop .before .loop .inv .1 m t) (in-loop .loop-test .taken) (rw (← read-row (c .before) m t) (le-ltb _ (c .before .number .result) (search needs))))
+    (search needs, λ m t. search-more m t (isAbove _) (in-loop .before .loop .i) (in-loop .before .loop .inv .1 m t) (in-loop .loop-test .taken) (rw (← read-row (c .before) m t) (le-ltb _ (c .before .number-of .result) (search needs))))
 
 returns-3 : tie.Need-returns-3 Inv-loop μ-loop
 returns-3 c =
@@ -98,10 +98,10 @@ find-above-spec =
     loop-holds
     mul-from
     add-end
-    sub-number
-    part-number-start
-    part-number-end
-    number-requires
+    sub-number-of
+    part-number-of-start
+    part-number-of-end
+    number-of-requires
     returns-2
     add-i
     loop-less

@@ -1,4 +1,4 @@
--- `record_keys::number` meets its contract: the two halves are the number, and it fits.
+-- `record_keys::number_of` meets its contract: the two halves are the number, and it fits.
 use Prim.Native.Nat.{_+_, _*_, _^_, _<_}
 use native.Mathlib.Omega.{arith}
 use lib.ListN.{length-take}
@@ -6,8 +6,8 @@ use borrow.Author.Needs.{needs}
 use Rattle.spec_lists.specs.Bytes.{Bytes}
 use Rattle.spec_lists.specs.BytesLaws.{bytes-of}
 use Rattle.record_keys.proofs.Numbers.{number-halves, number-fits}
-use Rattle.record_keys.proofs.number.Statement.{statement}
-use Rattle.record_keys.proofs.number.Tie as tie
+use Rattle.record_keys.proofs.number_of.Statement.{statement}
+use Rattle.record_keys.proofs.number_of.Tie as tie
 
 half-number-requires : tie.Need-half-number-requires
 half-number-requires c κs = search needs
@@ -52,8 +52,8 @@ returns-2 c =
     let at-start = at-low .before .before .before .before in
     omega (arith, number-halves (at-start .args .part .now) _ _ (search needs) (at-low .half-number2 .ensures) (c .half-number3 .ensures))
 
-pub number-spec : {M : Type 1} → statement M
-number-spec =
+pub number-of-spec : {M : Type 1} → statement M
+number-of-spec =
     tie.close
     (tie.spec
     half-number-requires
