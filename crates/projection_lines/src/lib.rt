@@ -23,7 +23,7 @@ pub const LISTING_BYTES: usize = 6
     + LocalProjectionState::AVAILABILITIES * 25
     + LocalProjectionState::ENTRIES * (47 + ProjectionPatchValue::TEXT_BYTES);
 
-// The line of each row of a table of bindings. A table that is too short for its count prints nothing.
+// The line of each row of a table of bindings. A table that is too short for its count answers NoRoom.
 fn print_bindings(out: &mut [u8], from: Printed, table: &[u8], count: usize) -> Printed
     ensures { λ r. ⌜ ((xs : List Binding) → All FitsBinding xs → Holds bindingWidth count (now (table .entry)) (map bindingRow xs) → Within (now (out .entry)) from
         → Prints (now (out .entry)) from (flatMap bindingLine xs) (now (out .exit)) r) ⌝ }
