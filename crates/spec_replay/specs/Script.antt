@@ -148,7 +148,7 @@ w ⇒ a = record { word = w; meaning = a }
 -- the meaning of the first row that has the word
 unfoldable pub byWord : {A : Type 0} → List (Row A) → List ℕ → Option A
 byWord [] w = none
-byWord (r ∷ rows) w = if equalLists eqb w (r .word) then some (r .meaning) else byWord rows w
+byWord (r ∷ rows) w = if equalLists eqb (r .word) w then some (r .meaning) else byWord rows w
 
 -- ---- the table of commands
 
