@@ -1,0 +1,96 @@
+-- What each call of a replay prints, as bytes: a letter, then fields with a tab before each, and the newline.
+use Prim.Native.Nat.{ℕ}
+use mathlib.Core.List.{List, [], _∷_, _++_, flatMap}
+use mathlib.Core.Option.{Option, none, some}
+use lib.ListN.{length}
+use Rattle.spec_patch.specs.Patch.{Value, Availability}
+use Rattle.spec_patch.specs.Encode.{availabilityByte}
+use Rattle.spec_patch.specs.Reader.{faultNumber}
+use Rattle.spec_patch.specs.Read.{SetReading, patches, fault}
+use Rattle.spec_checks.specs.Finding.{Finding}
+use Rattle.spec_checks.specs.Findings.{Place, inPatch, inSet, Findings, findings}
+use Rattle.spec_session.specs.Session.{Lifecycle, created, active, suspended, closed, Cursor, uninitialized, at, Creation, made, refused, creationNumber}
+use Rattle.spec_session.specs.Diagnostics.{Diagnostics}
+use Rattle.spec_session.specs.Lifecycle.{Disposition, applied, noChange, rejected, LifecycleAnswer}
+use Rattle.spec_session.specs.Batch.{BatchAnswer}
+use Rattle.spec_decimal.specs.Decimal.{decimal}
+use Rattle.spec_listing.specs.Listing.{fields, valueFields}
+use Rattle.spec_replay.specs.Script.{ascii}
+
+-- ---- fields
+
+-- the character - for none
+abbrev pub dash : List ℕ
+dash = ascii "-"
+
+unfoldable pub dispositionField : Disposition → List ℕ
+dispositionField applied = ascii "applied"
+dispositionField noChange = ascii "no-change"
+dispositionField rejected = ascii "rejected"
+
+unfoldable pub lifecycleField : Lifecycle → List ℕ
+lifecycleField created = ascii "created"
+lifecycleField active = ascii "active"
+lifecycleField suspended = ascii "suspended"
+lifecycleField closed = ascii "closed"
+
+-- - while Uninitialized
+unfoldable pub cursorField : Cursor → List ℕ
+cursorField uninitialized = dash
+cursorField (at n) = decimal n
+
+-- the patch's index, or the word set
+unfoldable pub placeField : Place → List ℕ
+placeField (inPatch i) = decimal i
+placeField inSet = ascii "set"
+
+-- disposition, code, stage, logical, emitted, and further fields
+unfoldable pub sessionFields : Disposition → Diagnostics → List (List ℕ) → List (List ℕ)
+sessionFields d g more = dispositionField d ∷ decimal (g .code) ∷ decimal (g .stage) ∷ decimal (g .logical) ∷ decimal (g .emitted) ∷ more
+
+-- ---- lines
+
+-- create: S and 0, or S and 13
+unfoldable pub creationLine : Creation → List ℕ
+creationLine (made s) = 83 ∷ fields (decimal 0 ∷ [])
+creationLine (refused r) = 83 ∷ fields (decimal (creationNumber r) ∷ [])
+
+-- apply: L, disposition, code, stage, logical, emitted, lifecycle, cursor, bytes
+unfoldable pub lifecycleLine : LifecycleAnswer → List ℕ
+lifecycleLine a =
+    76 ∷ fields (sessionFields (a .disposition) (a .diagnostics) (lifecycleField (a .state .lifecycle) ∷ cursorField (a .state .cursor) ∷ decimal (a .stimulusBytes) ∷ []))
+
+-- batch: R, disposition, code, stage, logical, emitted, cursor
+unfoldable pub batchLine : BatchAnswer → List ℕ
+batchLine a = 82 ∷ fields (sessionFields (a .disposition) (a .diagnostics) (cursorField (a .cursor) ∷ []))
+
+-- F, kind, domain, secondary
+unfoldable pub findingLine : Finding → List ℕ
+findingLine f = 70 ∷ fields (decimal (f .kind) ∷ decimal (f .domain) ∷ decimal (f .secondary) ∷ [])
+
+-- K, 0, the place, the logical count
+unfoldable pub checkedLine : Findings → List ℕ
+checkedLine f = 75 ∷ fields (decimal 0 ∷ placeField (f .place) ∷ decimal (length (f .found)) ∷ [])
+
+-- K and 10 or 12; else the line above, and a line for each record
+unfoldable pub checkLines : SetReading → List ℕ
+checkLines (fault f) = 75 ∷ fields (decimal (faultNumber f) ∷ [])
+checkLines (patches ps) = checkedLine (findings ps) ++ flatMap findingLine (findings ps .found)
+
+-- value binding, value entry: V, kind, value, or V and -
+unfoldable pub valueLine : Option Value → List ℕ
+valueLine none = 86 ∷ fields (dash ∷ [])
+valueLine (some v) = 86 ∷ fields (valueFields v)
+
+-- value node: V, A, the byte, or V and -
+unfoldable pub availabilityLine : Option Availability → List ℕ
+availabilityLine none = 86 ∷ fields (dash ∷ [])
+availabilityLine (some a) = 86 ∷ fields ((65 ∷ []) ∷ decimal (availabilityByte a) ∷ [])
+
+-- N: there is no session
+unfoldable pub noSessionLine : List ℕ
+noSessionLine = 78 ∷ fields []
+
+-- any other line: ? and its number
+unfoldable pub otherLine : ℕ → List ℕ
+otherLine n = 63 ∷ fields (decimal n ∷ [])

@@ -1,0 +1,4 @@
+pub mod Script
+pub mod Answers
+pub mod Replay
+pub mod ReplayExamples

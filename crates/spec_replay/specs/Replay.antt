@@ -1,0 +1,130 @@
+-- The replay of a script: a set-up, the session of the latest creation, and what each line prints.
+use Prim.Native.Nat.{ℕ, _+_}
+use mathlib.Core.List.{List, [], _∷_, _++_}
+use mathlib.Core.Option.{Option, none, some}
+use lib.Dec.{ltb}
+use lib.ListN.{length}
+use Rattle.spec_lists.specs.Lists.{if_then_else_, isEmpty}
+use Rattle.spec_patch.specs.Sizes.{anchors}
+use Rattle.spec_patch.specs.Edition.{v1}
+use Rattle.spec_patch.specs.Read.{readSet}
+use Rattle.spec_projection.specs.Lookups.{bindingOf, availabilityOf, entryOf}
+use Rattle.spec_session.specs.Session as sessions
+use Rattle.spec_session.specs.Session.{Limits, BindingPair, Catalogue, Session, Creation, made, refused}
+use Rattle.spec_session.specs.Lifecycle.{LifecycleStep, lifecycleStep}
+use Rattle.spec_session.specs.Batch as batches
+use Rattle.spec_session.specs.Batch.{BatchStep}
+use Rattle.spec_listing.specs.Listing.{projectionLines, listing}
+use Rattle.spec_replay.specs.Script.{Command, nothing, session, node, binding, collection, create, apply, batch, check, list, show, valueBinding, valueNode, valueEntry, other, newline, split, command}
+use Rattle.spec_replay.specs.Answers.{creationLine, lifecycleLine, batchLine, checkLines, valueLine, availabilityLine, noSessionLine, otherLine}
+
+-- what a creation takes
+pub record Setup : Type 0 where
+  pub id : ℕ
+  pub limits : Limits
+  pub catalogue : Catalogue
+
+pub record State : Type 0 where
+  pub setup : Setup
+  pub session : Option Session
+
+-- ---- the set-up
+
+unfoldable pub noAnchors : Catalogue
+noAnchors = record { nodes = []; bindings = []; collections = [] }
+
+-- before the first session line: id 0, limits 0, no anchors, no session
+unfoldable pub start : State
+start = record {
+  setup = record { id = 0; limits = record { stimulusBytes = 0; diagnostics = 0; patches = 0; references = 0 }; catalogue = noAnchors };
+  session = none;
+}
+
+-- the first 129 of a kind are kept, so that 13 can be shown
+abbrev pub keptAnchors : ℕ
+keptAnchors = anchors + 1
+
+unfoldable pub keep : {A : Type 0} → List A → A → List A
+keep l a = if ltb (length l) keptAnchors then l ++ (a ∷ []) else l
+
+-- a new set-up; the session stays
+unfoldable pub withSetup : State → ℕ → Limits → Catalogue → State
+withSetup s i l c = record { setup = record { id = i; limits = l; catalogue = c }; session = s .session }
+
+-- the same set-up with other anchors
+unfoldable pub withAnchors : State → Catalogue → State
+withAnchors s c = withSetup s (s .setup .id) (s .setup .limits) c
+
+unfoldable pub withNode : Catalogue → ℕ → Catalogue
+withNode c n = record { nodes = keep (c .nodes) n; bindings = c .bindings; collections = c .collections }
+
+unfoldable pub withBinding : Catalogue → BindingPair → Catalogue
+withBinding c b = record { nodes = c .nodes; bindings = keep (c .bindings) b; collections = c .collections }
+
+unfoldable pub withCollection : Catalogue → ℕ → Catalogue
+withCollection c n = record { nodes = c .nodes; bindings = c .bindings; collections = keep (c .collections) n }
+
+-- ---- one line
+
+-- the state after a line and what it prints, or what is printed where the program stops
+pub data Step : Type 0 where
+  onward : State → (printed : List ℕ) → Step
+  stops : (printed : List ℕ) → Step
+
+unfoldable pub withSession : State → Option Session → State
+withSession s x = record { setup = s .setup; session = x }
+
+-- a call of the session; without one, N
+unfoldable pub asked : State → (Session → Step) → Step
+asked s f = elim (s .session) [ none ↦ onward s noSessionLine | some x ↦ f x ]
+
+-- 13 leaves no session, and not the earlier one either
+unfoldable pub created : State → Creation → Step
+created s (made x) = onward (withSession s (some x)) (creationLine (made x))
+created s (refused r) = onward (withSession s none) (creationLine (refused r))
+
+unfoldable pub applied : State → LifecycleStep → Step
+applied s r = onward (withSession s (some (r .next))) (lifecycleLine (r .answer))
+
+unfoldable pub batched : State → BatchStep → Step
+batched s r = onward (withSession s (some (r .next))) (batchLine (r .answer))
+
+-- the line of a number, from 1
+unfoldable pub replayLine : ℕ → State → Command → Step
+replayLine n s nothing = onward s []
+replayLine n s (session i l) = onward (withSetup s i l noAnchors) []
+replayLine n s (node i) = onward (withAnchors s (withNode (s .setup .catalogue) i)) []
+replayLine n s (binding b) = onward (withAnchors s (withBinding (s .setup .catalogue) b)) []
+replayLine n s (collection i) = onward (withAnchors s (withCollection (s .setup .catalogue) i)) []
+replayLine n s create = created s (sessions.create (s .setup .id) (s .setup .limits) (s .setup .catalogue))
+replayLine n s (apply u bytes) = asked s (λ x. applied s (lifecycleStep x u bytes))
+replayLine n s (batch e references set) = asked s (λ x. batched s (batches.batch x e references set))
+replayLine n s (check set) = onward s (checkLines (readSet v1 set))
+replayLine n s (list set) = onward s (listing set)
+replayLine n s show = asked s (λ x. onward s (projectionLines (x .projection)))
+replayLine n s (valueBinding i slot) = asked s (λ x. onward s (valueLine (bindingOf (x .projection) i slot)))
+replayLine n s (valueNode i) = asked s (λ x. onward s (availabilityLine (availabilityOf (x .projection) i)))
+replayLine n s (valueEntry c k) = asked s (λ x. onward s (valueLine (entryOf (x .projection) c k)))
+replayLine n s other = stops (otherLine n)
+
+-- ---- the whole script
+
+-- goes on with the state, unless stopped
+abbrev pub andThen : Step → (State → List ℕ) → List ℕ
+andThen (onward s printed) f = printed ++ f s
+andThen (stops printed) f = printed
+
+-- the lines from a number on
+unfoldable pub replayLines : ℕ → State → List Command → List ℕ
+replayLines n s [] = []
+replayLines n s (c ∷ cs) = andThen (replayLine n s c) (λ t. replayLines (n + 1) t cs)
+
+-- the parts that LF ends are lines; behind the last LF there is nothing, or any other line
+unfoldable pub commandsOf : List (List ℕ) → List Command
+commandsOf [] = []
+commandsOf (rest ∷ []) = if isEmpty rest then [] else other ∷ []
+commandsOf (line ∷ part ∷ parts) = command line ∷ commandsOf (part ∷ parts)
+
+-- what the program prints of its input
+unfoldable pub replay : List ℕ → List ℕ
+replay script = replayLines 1 start (commandsOf (split newline script))

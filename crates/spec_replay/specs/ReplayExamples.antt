@@ -1,0 +1,74 @@
+-- Short scripts and what they print, as one table that the checker computes.
+use Prim.Native.Nat.{ℕ}
+use Prim.Native.String.{String}
+use mathlib.Core.Bool.{Bool}
+use mathlib.Core.List.{List, [], _∷_, flatMap}
+use lib.Dec.{T, eqb}
+use Rattle.spec_lists.specs.Lists.{all, equalLists}
+use Rattle.spec_lists.specs.Bytes.{littleEndian, numberOf}
+use Rattle.spec_decimal.specs.Decimal.{digits, decimal, isNumeral, numberWith, readDecimal}
+use Rattle.spec_patch.specs.Edition.{v1}
+use Rattle.spec_patch.specs.Encode.{heading}
+use Rattle.spec_patch.specs.Reader.{faultNumber, many, literal}
+use Rattle.spec_patch.specs.Read.{readPatch, readPatches, ended, readSet}
+use Rattle.spec_checks.specs.SetChecks.{afterFindings, rawSetFindings, setFindings}
+use Rattle.spec_checks.specs.Findings.{firstFindings, findings}
+use Rattle.spec_checks.specs.Finding.{checkEach}
+use Rattle.spec_lists.specs.Order.{sortUnique, lookup}
+use Rattle.spec_projection.specs.Projection.{empty}
+use Rattle.spec_projection.specs.Apply.{replaySteps, applySteps, operationsOf}
+use Rattle.spec_projection.specs.Lookups.{availabilityOf}
+use Rattle.spec_session.specs.Session.{newSession, creationNumber, anchorsFit, create}
+use Rattle.spec_session.specs.Diagnostics.{sessionNumber, stages, stageOf, orZero, noDiagnostics, diagnosticsOf}
+use Rattle.spec_session.specs.Lifecycle.{transition, isClosed, dispositionOf, stateOf, withLifecycle, rejectLifecycle, enterLifecycle, lifecycleStep}
+use Rattle.spec_session.specs.Batch.{require, readable, absentTargets, knownTargets, batchChecks, rejectBatch, keepSession, candidate, commit, concludeBatch, batch}
+use Rattle.spec_listing.specs.Listing.{fields, recordCount, projectionLines, refusalLine, outcomeLines, readingLines, listing}
+use Rattle.spec_replay.specs.Script.{ascii, prepend, split, hexDigit, hexByte, consByte, hexPairs, readHex, end, given, readBy, slotOf, byWord, stimuli, sessionArguments, bindingArguments, applyArguments, batchArguments, valueBindingArguments, valueEntryArguments, values, valueArguments, commands, fieldsCommand, isRemark, command}
+use Rattle.spec_replay.specs.Answers.{dispositionField, lifecycleField, cursorField, placeField, sessionFields, creationLine, lifecycleLine, batchLine, checkedLine, checkLines, availabilityLine, noSessionLine, otherLine}
+use Rattle.spec_replay.specs.Replay.{noAnchors, start, keep, withSetup, withAnchors, withNode, withBinding, withSession, asked, created, applied, batched, replayLine, replayLines, commandsOf, replay}
+
+prints : String → String → Bool
+prints script answers = equalLists eqb (replay (ascii script)) (ascii answers)
+
+-- a script prints nothing of remarks, an answer of each call, and stops at the first other line
+pub examples : List Bool
+examples =
+    -- comments and empty lines print nothing, but count
+    prints "" ""
+    ∷ prints "# a comment\n\n" ""
+    ∷ prints "# a comment\n\nstart\n" "?\t3\n"
+    -- without a session
+    ∷ prints "apply activate 0\nshow\nvalue node 5\nbatch 1 1 0 0 0 -\n" "N\nN\nN\nN\n"
+    -- creation, and lifecycle steps
+    ∷ prints "session 7 100 4 8 8\nnode 5\ncreate\napply activate 3\napply activate 3\napply noop 101\n"
+    "S\t0\nL\tapplied\t0\t0\t0\t0\tactive\t-\t3\nL\trejected\t3\t2\t1\t1\tactive\t-\t3\nL\trejected\t4\t4\t1\t1\tactive\t-\t101\n"
+    -- the empty set
+    ∷ prints "session 7 100 4 8 8\ncreate\nbatch 7 77 0 0 0 1b00000055495f444e41325f50524f4a454354494f4e5f50415443485f563100000000\nshow\nvalue node 5\n"
+    "S\t0\nR\tno-change\t0\t0\t0\t0\t-\nP\t0\nV\t-\n"
+    ∷ prints "check 1b00000055495f444e41325f50524f4a454354494f4e5f50415443485f563100000000\ncheck -\nlist -\n" "K\t0\tset\t0\nK\t10\nE\t10\n"
+    -- any other line ends the replay
+    ∷ prints "create \nshow\n" "?\t1\n"
+    ∷ prints "node 01\n" "?\t1\n"
+    ∷ prints "node 18446744073709551615\nnode 18446744073709551616\n" "?\t2\n"
+    ∷ prints "binding 1 4294967295\nbinding 1 4294967296\n" "?\t2\n"
+    ∷ prints "check 0A\n" "?\t1\n"
+    ∷ prints "check 0\n" "?\t1\n"
+    ∷ prints "check \n" "?\t1\n"
+    -- a line that no LF ends
+    ∷ prints "show\nshow" "N\n?\t2\n"
+    ∷ []
+
+-- all rows hold
+pub replay-examples : T (all (λ (b : Bool). b) examples)
+unfolding examples prints
+    flatMap littleEndian numberOf digits decimal isNumeral numberWith readDecimal v1 heading faultNumber many literal readPatch readPatches ended readSet
+    afterFindings rawSetFindings setFindings firstFindings findings checkEach sortUnique lookup empty replaySteps applySteps operationsOf availabilityOf
+    newSession creationNumber anchorsFit create sessionNumber stages stageOf orZero noDiagnostics diagnosticsOf
+    transition isClosed dispositionOf stateOf withLifecycle rejectLifecycle enterLifecycle lifecycleStep
+    require readable absentTargets knownTargets batchChecks rejectBatch keepSession candidate commit concludeBatch batch
+    fields recordCount projectionLines refusalLine outcomeLines readingLines listing
+    prepend split hexDigit hexByte consByte hexPairs readHex end given readBy slotOf byWord stimuli sessionArguments bindingArguments applyArguments batchArguments
+    valueBindingArguments valueEntryArguments values valueArguments commands fieldsCommand isRemark command
+    dispositionField lifecycleField cursorField placeField sessionFields creationLine lifecycleLine batchLine checkedLine checkLines availabilityLine noSessionLine otherLine
+    noAnchors start keep withSetup withAnchors withNode withBinding withSession asked created applied batched replayLine replayLines commandsOf replay
+replay-examples = tt

@@ -1,0 +1,258 @@
+-- The commands of a replay script, one to a line, as bytes: issue 7, 'replay'. The points that it leaves open are decided in docs/DECISIONS.md.
+use Prim.Native.Nat.{ℕ, _+_, _-_, _*_}
+use Prim.Native.Char.{code}
+use Prim.Native.String.{String, [] as noText, _∷_ as _before_}
+use mathlib.Core.Bool.{Bool, true}
+use mathlib.Core.List.{List, [], _∷_}
+use mathlib.Core.Option.{Option, none, some, Option·map}
+use lib.Dec.{leb, eqb}
+use lib.ListN.{length}
+use Rattle.spec_lists.specs.Lists.{if_then_else_, between, equalLists}
+use Rattle.spec_decimal.specs.Decimal.{isDigit, readDecimal}
+use Rattle.spec_session.specs.Session.{Limits, BindingPair}
+use Rattle.spec_session.specs.Lifecycle.{Stimulus, activate, suspend, resume, close, noOp}
+use Rattle.spec_session.specs.Batch.{BatchEnvelope}
+
+-- what a line asks for; `nothing` is a comment or an empty line, and `other` is any other line
+pub data Command : Type 0 where
+  nothing : Command
+  session : (id : ℕ) → Limits → Command
+  node : ℕ → Command
+  binding : BindingPair → Command
+  collection : ℕ → Command
+  create : Command
+  apply : Stimulus → (stimulusBytes : ℕ) → Command
+  batch : BatchEnvelope → (references : ℕ) → (set : List ℕ) → Command
+  check : (set : List ℕ) → Command
+  list : (set : List ℕ) → Command
+  show : Command
+  valueBinding : (node slot : ℕ) → Command
+  valueNode : (node : ℕ) → Command
+  valueEntry : (collection key : ℕ) → Command
+  other : Command
+
+-- a line has at most 131,072 bytes without its LF
+abbrev pub lineBytes : ℕ
+lineBytes = 131072
+
+-- ---- lines and fields
+
+abbrev pub newline : ℕ
+newline = 10
+
+abbrev pub space : ℕ
+space = 32
+
+-- the character # before a comment
+abbrev pub commentMark : ℕ
+commentMark = 35
+
+-- a byte before the first part
+unfoldable pub prepend : ℕ → List (List ℕ) → List (List ℕ)
+prepend b [] = (b ∷ []) ∷ []
+prepend b (part ∷ parts) = (b ∷ part) ∷ parts
+
+-- the parts between the separators; two separators in a row have an empty part between them
+unfoldable pub split : ℕ → List ℕ → List (List ℕ)
+split separator [] = [] ∷ []
+split separator (b ∷ bs) = if eqb b separator then [] ∷ split separator bs else prepend b (split separator bs)
+
+-- ---- lower-case hex
+
+-- 0 to 9 are the characters 48 to 57, a to f are 97 to 102
+unfoldable pub hexDigit : ℕ → Option ℕ
+hexDigit b = if isDigit b then some (b - 48) else if between 97 102 b then some (b - 87) else none
+
+-- the byte of two digits
+unfoldable pub hexByte : Option ℕ → Option ℕ → Option ℕ
+hexByte none low = none
+hexByte (some h) none = none
+hexByte (some h) (some l) = some (16 * h + l)
+
+unfoldable pub consByte : Option ℕ → Option (List ℕ) → Option (List ℕ)
+consByte none rest = none
+consByte (some b) rest = Option·map (λ (bs : List ℕ). b ∷ bs) rest
+
+-- pairs of digits
+unfoldable pub hexPairs : List ℕ → Option (List ℕ)
+hexPairs [] = some []
+hexPairs (h ∷ []) = none
+hexPairs (h ∷ l ∷ rest) = consByte (hexByte (hexDigit h) (hexDigit l)) (hexPairs rest)
+
+-- the character - alone spells the empty set; the empty field is no hex
+unfoldable pub readHex : List ℕ → Option (List ℕ)
+readHex [] = none
+readHex (b ∷ bs) = if equalLists eqb (b ∷ bs) (45 ∷ []) then some [] else hexPairs (b ∷ bs)
+
+-- ---- the fields behind a command's word
+
+-- what the fields that are left ask for
+abbrev pub Arguments : Type 0
+Arguments = List (List ℕ) → Command
+
+-- one field, and what follows with its value
+abbrev pub Field : Type 0 → Type 0
+Field A = (A → Arguments) → Arguments
+
+infixl 10 _>>=_
+abbrev pub _>>=_ : {A : Type 0} → Field A → (A → Arguments) → Arguments
+field >>= next = field next
+
+-- no field is left
+unfoldable pub end : Command → Arguments
+end c [] = c
+end c (f ∷ fs) = other
+
+-- a value that was read, or any other line
+unfoldable pub given : {A : Type 0} → Option A → (A → Command) → Command
+given none next = other
+given (some a) next = next a
+
+-- a field that is read so; a missing field is any other line
+unfoldable pub readBy : {A : Type 0} → (List ℕ → Option A) → Field A
+readBy read next [] = other
+readBy read next (f ∷ fs) = given (read f) (λ a. next a fs)
+
+-- a u64 in decimal, without sign or leading zeros
+abbrev pub number : Field ℕ
+number = readBy readDecimal
+
+-- a number that is a u32
+unfoldable pub slotOf : Option ℕ → Option ℕ
+slotOf none = none
+slotOf (some n) = if leb n 4294967295 then some n else none
+
+abbrev pub slot : Field ℕ
+slot = readBy (λ f. slotOf (readDecimal f))
+
+-- bytes in lower-case hex
+abbrev pub hex : Field (List ℕ)
+hex = readBy readHex
+
+-- ---- words
+
+-- the bytes of a word in ASCII
+abbrev pub ascii : String → List ℕ
+ascii noText = []
+ascii (c before s) = code c ∷ ascii s
+
+-- a row of a table of words
+pub record Row (A : Type 0) : Type 0 where
+  pub word : List ℕ
+  pub meaning : A
+
+infix 8 _⇒_
+abbrev pub _⇒_ : {A : Type 0} → List ℕ → A → Row A
+w ⇒ a = record { word = w; meaning = a }
+
+-- the meaning of the first row that has the word
+unfoldable pub byWord : {A : Type 0} → List (Row A) → List ℕ → Option A
+byWord [] w = none
+byWord (r ∷ rows) w = if equalLists eqb (r .word) w then some (r .meaning) else byWord rows w
+
+-- ---- the table of commands
+
+-- activate, suspend, resume, close, noop
+unfoldable pub stimuli : List (Row Stimulus)
+stimuli =
+    (ascii "activate" ⇒ activate)
+    ∷ (ascii "suspend" ⇒ suspend)
+    ∷ (ascii "resume" ⇒ resume)
+    ∷ (ascii "close" ⇒ close)
+    ∷ (ascii "noop" ⇒ noOp)
+    ∷ []
+
+abbrev pub stimulus : Field Stimulus
+stimulus = readBy (byWord stimuli)
+
+-- session ID BYTES DIAGNOSTICS PATCHES REFERENCES
+unfoldable pub sessionArguments : Arguments
+sessionArguments = do
+  id ← number
+  bytes ← number
+  diagnostics ← number
+  patches ← number
+  references ← number
+  end (session id (record { stimulusBytes = bytes; diagnostics = diagnostics; patches = patches; references = references }))
+
+-- binding N SLOT
+unfoldable pub bindingArguments : Arguments
+bindingArguments = do
+  n ← number
+  s ← slot
+  end (binding (record { node = n; slot = s }))
+
+-- apply COMMAND BYTES
+unfoldable pub applyArguments : Arguments
+applyArguments = do
+  s ← stimulus
+  bytes ← number
+  end (apply s bytes)
+
+-- batch ID SEQUENCE PATCHES BYTES REFERENCES HEX
+unfoldable pub batchArguments : Arguments
+batchArguments = do
+  id ← number
+  sequence ← number
+  patches ← number
+  bytes ← number
+  references ← number
+  set ← hex
+  end (batch (record { session = id; sequence = sequence; patches = patches; stimulusBytes = bytes }) references set)
+
+-- value binding N SLOT
+unfoldable pub valueBindingArguments : Arguments
+valueBindingArguments = do
+  n ← number
+  s ← slot
+  end (valueBinding n s)
+
+-- value entry COLLECTION KEY
+unfoldable pub valueEntryArguments : Arguments
+valueEntryArguments = do
+  c ← number
+  k ← number
+  end (valueEntry c k)
+
+-- value binding .. | value node N | value entry ..
+unfoldable pub values : List (Row Arguments)
+values =
+    (ascii "binding" ⇒ valueBindingArguments)
+    ∷ (ascii "node" ⇒ number (λ n. end (valueNode n)))
+    ∷ (ascii "entry" ⇒ valueEntryArguments)
+    ∷ []
+
+unfoldable pub valueArguments : Arguments
+valueArguments = readBy (byWord values) (λ a. a)
+
+-- every command by its first word
+unfoldable pub commands : List (Row Arguments)
+commands =
+    (ascii "session" ⇒ sessionArguments)
+    ∷ (ascii "node" ⇒ number (λ n. end (node n)))
+    ∷ (ascii "binding" ⇒ bindingArguments)
+    ∷ (ascii "collection" ⇒ number (λ n. end (collection n)))
+    ∷ (ascii "create" ⇒ end create)
+    ∷ (ascii "apply" ⇒ applyArguments)
+    ∷ (ascii "batch" ⇒ batchArguments)
+    ∷ (ascii "check" ⇒ hex (λ set. end (check set)))
+    ∷ (ascii "list" ⇒ hex (λ set. end (list set)))
+    ∷ (ascii "show" ⇒ end show)
+    ∷ (ascii "value" ⇒ valueArguments)
+    ∷ []
+
+-- the fields of a line: a known word and its arguments
+unfoldable pub fieldsCommand : Arguments
+fieldsCommand = readBy (byWord commands) (λ a. a)
+
+-- an empty line, or one whose first byte is #
+unfoldable pub isRemark : List ℕ → Bool
+isRemark [] = true
+isRemark (b ∷ bs) = eqb b commentMark
+
+-- what a line without its LF asks for; a longer one is any other line
+unfoldable pub command : List ℕ → Command
+command line =
+    if leb (length line) lineBytes then
+    (if isRemark line then nothing else fieldsCommand (split space line))
+    else other
