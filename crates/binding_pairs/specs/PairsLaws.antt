@@ -1,6 +1,6 @@
 -- What the loop has copied after i turns.
-use Prim.Native.Nat.{ℕ, _+_, _-_, _≤_, _<_, min}
-use mathlib.Core.Path.{_≡_, refl, ap, _∙_}
+use Prim.Native.Nat.{ℕ, _+_, _-_, _<_, min}
+use mathlib.Core.Path.{_≡_, refl, ap}
 use mathlib.Core.List.{List, _++_}
 use native.Mathlib.Omega.{arith}
 use lib.Dec.{leb}
@@ -8,7 +8,7 @@ use borrow.Author.Tests.{leb-true, leb-false}
 use lib.ListN.{length, replicate, take, getD}
 use Rattle.spec_lists.specs.ListLaws.{test-cases}
 use Rattle.spec_patch.specs.Sizes.{anchors}
-use Rattle.active_projection_target_catalog.specs.Catalog.{noPair, padded}
+use Rattle.active_projection_target_catalog.specs.Catalog.{noPair}
 use Rattle.active_projection_target_catalog.specs.CatalogLaws.{padded-turn, padded-short, padded-full}
 use Rattle.active_projection_target_catalog.specs.declared.catalog.BindingPair.{BindingPair}
 use Rattle.binding_pairs.specs.declared.BindingAnchors.{BindingAnchors}

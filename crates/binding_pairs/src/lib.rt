@@ -2,7 +2,7 @@
 use active_projection_target_catalog::catalog::ActiveProjectionTargetCatalog;
 use active_projection_target_catalog::catalog::BindingPair;
 ghost use mathlib.Core.Path.{_≡_};
-ghost use Prim.Native.Nat.{_<_, min};
+ghost use Prim.Native.Nat.{min};
 ghost use Rattle.spec_patch.specs.Sizes.{anchors};
 ghost use Rattle.binding_pairs.specs.Pairs.{noAnchors, withPair, anchorsOf};
 
@@ -24,13 +24,16 @@ impl BindingAnchors {
         }
     }
 
+    // The pair at its place; there is none past the capacity.
     fn put(self, i: usize, pair: BindingPair) -> BindingAnchors
-        requires { ⌜ i < anchors ⌝ }
         ensures { λ r. ⌜ r ≡ withPair self i pair ⌝ }
     {
-        let mut next = self;
-        next.pairs[i] = pair;
-        next
+        if i < ActiveProjectionTargetCatalog::ANCHORS {
+            let mut next = self;
+            next.pairs[i] = pair;
+            return next;
+        }
+        self
     }
 }
 

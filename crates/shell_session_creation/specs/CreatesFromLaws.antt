@@ -1,23 +1,24 @@
 -- Creation from the copied pairs is creation from the lent list.
-use Prim.Native.Nat.{ℕ, _+_, _-_, _≤_, _<_, min}
-use mathlib.Core.Path.{_≡_, refl, sym, ap, ap₂, subst, _∙_}
-use mathlib.Core.Bool.{Bool, true, false, _&&_}
-use mathlib.Core.List.{List, _++_, map}
+use Prim.Native.Nat.{ℕ, _+_, _-_, _≤_}
+use mathlib.Core.Path.{_≡_, refl, sym, ap, subst, _∙_}
+use mathlib.Core.Bool.{Bool, true, false, _&&_, false≢true}
+use mathlib.Core.List.{List, _++_}
 use native.Mathlib.Omega.{arith}
 use lib.Dec.{leb}
-use borrow.Author.Tests.{leb-true, leb-false}
+use borrow.Author.Tests.{leb-true}
 use lib.ListN.{length, replicate, take, length-map, length-replicate, length-append, length-take}
 use lib.Seq.{take-all, take-at}
-use Rattle.spec_lists.specs.Lists.{if_then_else_}
 use Rattle.spec_lists.specs.ListLaws.{test-cases}
 use Rattle.spec_patch.specs.Sizes.{anchors}
 use Rattle.spec_session.specs.Session as model
-use Rattle.spec_session.specs.Session.{anchorsFit, newSession, create}
+use Rattle.spec_session.specs.Session.{anchorsFit, create}
 use Rattle.shell_lifecycle.specs.declared.state.ShellLifecycleLimits.{ShellLifecycleLimits}
 use Rattle.shell_lifecycle.specs.Meaning.{limitsOf}
 use Rattle.active_projection_target_catalog.specs.Catalog.{pairOf, noPair, padded, catalogWith}
 use Rattle.active_projection_target_catalog.specs.declared.catalog.BindingPair.{BindingPair}
 use Rattle.shell_player.specs.Creation.{anchorsWithin, creationWith, createWith, Creates}
+use Rattle.active_projection_target_catalog.specs.declared.catalog.ActiveProjectionTargetCatalog.{ActiveProjectionTargetCatalog}
+use Rattle.shell_player.specs.Steps.{newState}
 use Rattle.shell_player.specs.CreationLaws.{creates}
 use Rattle.shell_player.specs.declared.create.ShellSessionCreation.{ShellSessionCreation}
 use Rattle.shell_session_creation.specs.CreatesFrom.{catalogueFrom, CreatesFrom}
@@ -63,3 +64,14 @@ module _ (id : ℕ) (limits : ShellLifecycleLimits) (nodes : List ℕ) (ps : Lis
     e ∙ same-answer,
     subst (Creates (create id (limitsOf limits) (catalogueFrom nodes ps collections))) (sym e) (subst (λ (m : model.Creation). Creates m (creationWith id limits nodes (padded noPair ps) (length ps) collections)) same-model (creates id limits nodes (padded noPair ps) (length ps) collections (padded-long ps))),
   )
+
+  abbrev kept : ActiveProjectionTargetCatalog
+  kept = creationWith id limits nodes ps (length ps) collections .session .context .catalog
+
+  kept-few : anchorsWithin (length nodes) (length ps) (length collections) ≡ true → length ps ≤ anchors → (kept .«binding_anchors» ≡ ps ++ replicate (anchors - length ps) noPair) × (kept .«binding_count» ≡ length ps)
+  unfolding creationWith newState catalogWith padded
+  kept-few w few = rw (kept, w) (rw (take-all (length ps) ps (omega arith), take-all anchors ps few), refl)
+
+  -- a created session's array of binding anchors is the lent list followed by zero pairs, and their count is its length
+  pub keeps-pairs : anchorsWithin (length nodes) (length ps) (length collections) ≡ true → (kept .«binding_anchors» ≡ ps ++ replicate (anchors - length ps) noPair) × (kept .«binding_count» ≡ length ps)
+  keeps-pairs w = test-cases (leb (length ps) anchors) (λ e. kept-few w (leb-true (length ps) anchors e)) (λ e. absurd (false≢true (sym (over e) ∙ w)))

@@ -7,7 +7,7 @@ use native.Mathlib.Nat.{eq-or-lt-of-le, lt-irrefl}
 use native.Mathlib.Numerals.{add-one-le, add-one-dec}
 use native.Mathlib.Omega.{arith}
 use mathlib.Core.WellFounded.{WellFounded, InvImage·wf}
-use mathlib.Core.Logic.{_⊎_, inl, inr}
+use mathlib.Core.Logic.{inl, inr}
 use mathlib.Core.Bool.{Bool, true, false}
 use mathlib.Core.List.{[], _∷_, List}
 use lib.ListN.{length, getD}
@@ -137,13 +137,10 @@ module _ {M : Type 1} (𝓤 : URA M) (H : Heap 𝓤) (A : Atoms 𝓤) (at-mem : 
   abbrev to-put : BindingAnchors → ℕ → BindingPair → Put .Ghost
   to-put c i p = ((tt, tt, tt, (c, (i, (p, tt))), (cp-vals c, (vint w64 i ∷ [], (bp-vals p, tt)))), tt)
 
-  goes-put : Given 𝓤 H A → (c : BindingAnchors) (i : ℕ) (p : BindingPair) → Is Cp.the-row c (cp-vals c) → i < anchors → Is Bp.the-row p (bp-vals p) → ent 𝓤 (emp 𝓤) (Put .pre (to-put c i p))
-  goes-put W c i p is-c small is-p =
-      qed W [] ∵ says ! small $ nothing ! $ owned ! Bp.the-row (Is Bp.the-row) (LL.makes Bp.the-type Bp′.the-plain 𝓤 H A) p _ is-p $ fjoin ! $ owned ! usize (Is usize) (uint-makes 𝓤 H A W w64) i _ (refl, fits) $ fjoin ! $
-      owned ! Cp.the-row (Is Cp.the-row) (LL.makes Cp.the-type Cp′.the-plain 𝓤 H A) c _ is-c $ fjoin ! $ nothing ! $ done !
-    where
-      fits : i < 2 ^ 64
-      fits = omega arith
+  goes-put : Given 𝓤 H A → (c : BindingAnchors) (i : ℕ) (p : BindingPair) → Is Cp.the-row c (cp-vals c) → i < 2 ^ 64 → Is Bp.the-row p (bp-vals p) → ent 𝓤 (emp 𝓤) (Put .pre (to-put c i p))
+  goes-put W c i p is-c fits is-p =
+      qed W [] ∵ nothing ! $ nothing ! $ owned ! Bp.the-row (Is Bp.the-row) (LL.makes Bp.the-type Bp′.the-plain 𝓤 H A) p _ is-p $ fjoin ! $ owned ! usize (Is usize) (uint-makes 𝓤 H A W w64) i _ (refl, fits) $ fjoin ! $
+      owned ! Cp.the-row (Is Cp.the-row) (LL.makes Cp.the-type Cp′.the-plain 𝓤 H A) c _ is-c $ fjoin ! $ nothing ! $ join ! $ frame ! $ done !
 
 module _ {M : Type 1} (𝓤 : URA M) (H : Heap 𝓤) (A : Atoms 𝓤) (W : Given 𝓤 H A) (at-mem : Memory → SProp 𝓤) (run : Routine → Fun 𝓤) (κ : Lft) (q : Share) (b o : ℕ) (γ : GName) (ys : List BindingPair) (room : Room Bp.the-row (length ys)) where
   abbrev n : ℕ
@@ -226,7 +223,7 @@ module _ {M : Type 1} (𝓤 : URA M) (H : Heap 𝓤) (A : Atoms 𝓤) (W : Given
           assigns ! (of-opd ! (load ! (from ! (hop ! (look ! 11 refl) (stop !))) (look-raw ! 0 refl))) (from ! (stop !)) (init ! 9 refl (LL.lawful Bp.the-type Bp′.the-laws 𝓤 H A W .typed pair _ is-p .0)) $
           assigns ! (of-opd ! (load ! (from ! (stop !)) (look ! 9 refl))) (from ! (stop !)) (init ! 17 refl (LL.lawful Bp.the-type Bp′.the-laws 𝓤 H A W .typed pair _ is-p .0)) $
           elem-back ! Bp.the-row q′ ys (i .0) noPair (bp-vals pair) b o within $
-          calls-plain ! (fmOf 𝓤 H (W .laws) 𝓣) (Put 𝓤 H A at-mem run) known-put to (goes-put 𝓤 H A at-mem run W (upTo ys (i .0)) (i .0) pair (i .1 .1) below is-p) (and-then ! (load ! (from ! (stop !)) (look ! 19 refl)) (and-then ! (load ! (from ! (stop !)) (look ! 17 refl)) (and-then ! (load ! (from ! (stop !)) (look ! 15 refl)) (no-more !))))
+          calls-plain ! (fmOf 𝓤 H (W .laws) 𝓣) (Put 𝓤 H A at-mem run) known-put to (goes-put 𝓤 H A at-mem run W (upTo ys (i .0)) (i .0) pair (i .1 .1) fits is-p) (and-then ! (load ! (from ! (stop !)) (look ! 19 refl)) (and-then ! (load ! (from ! (stop !)) (look ! 17 refl)) (and-then ! (load ! (from ! (stop !)) (look ! 15 refl)) (no-more !))))
           Cp.the-row cp-vals (LL.tells Cp.the-type Cp′.the-laws) (ensured 𝓤 H A put.ended (put.clauses 𝓤 H A at-mem run) tt (upTo ys (i .0), (i .0, (pair, tt))) tt) (λ r. r ≡ withPair (upTo ys (i .0)) (i .0) pair) (put-of 𝓤 H A at-mem run (upTo ys (i .0)) (i .0) pair) (λ v. id⊢ 𝓤 _) (λ r e is-r.
           land ! (from ! (stop !)) (store ! 19 refl (LL.lawful Cp.the-type Cp′.the-laws 𝓤 H A W .typed r _ is-r .0)) $
           rewrite ! 19 (λ (c : BindingAnchors). ‵ (fat fullShare Cp′.mir l₄ 0 (only (cp-vals c)))) (e ∙ steps ys (i .0) within below) refl $
@@ -245,6 +242,9 @@ module _ {M : Type 1} (𝓤 : URA M) (H : Heap 𝓤) (A : Atoms 𝓤) (W : Given
 
           below : i .0 < anchors
           below = omega (arith, less)
+
+          fits : i .0 < 2 ^ 64
+          fits = omega (arith, below)
 
           scaled : i .0 * 16 < 2 ^ 64
           scaled = omega (arith, below)

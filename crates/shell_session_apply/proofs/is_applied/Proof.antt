@@ -1,5 +1,4 @@
 -- `is_applied` meets its contract.
-use mathlib.Core.Path.{_≡_, refl}
 use Rattle.shell_session_apply.specs.Applied.{isApplied}
 use borrow.Author.Needs.{needs}
 use Rattle.shell_session_apply.proofs.is_applied.Statement.{statement}

@@ -39,7 +39,6 @@ use denote.Triple.Clauses.{ensured, lasts}
 use denote.Exit.{yes}
 use Rattle.shell_lifecycle.specs.declared.state.ShellLifecycleLimits.{ShellLifecycleLimits}
 use Rattle.active_projection_target_catalog.specs.declared.catalog.BindingPair.{BindingPair}
-use Rattle.active_projection_target_catalog.specs.Catalog.{noPair, padded}
 use Rattle.binding_pairs.specs.declared.BindingAnchors.{BindingAnchors}
 use Rattle.binding_pairs.specs.Pairs.{anchorsOf}
 use Rattle.shell_player.specs.declared.create.ShellSessionCreation.{ShellSessionCreation}

@@ -1,5 +1,4 @@
 -- `BindingAnchors::none` meets its contract.
-use mathlib.Core.Path.{_≡_, refl}
 use Rattle.binding_pairs.specs.Pairs.{noAnchors}
 use borrow.Author.Needs.{needs}
 use Rattle.binding_pairs.proofs.BindingAnchors.none.Statement.{statement}
