@@ -56,6 +56,7 @@ use Rattle.shell_session_apply.proofs.apply.Key.{name as #apply}
 use Rattle.shell_session_apply.proofs.apply as f
 use Rattle.shell_session_apply.proofs.apply.Statement as stated
 use Rattle.shell_session_apply.proofs.apply.Code as code
+use Rattle.shell_session_apply.proofs.apply.Code.Mir as mir
 use Rattle.shell_session_apply.proofs.apply.Proof.End.{stayed, t-vals, st-vals, in-vals, Step, Applied, stepped-of, x, at, Post, to-step, goes-step, judges}
 
 module _ {M : Type 1} (𝓤 : URA M) (H : Heap 𝓤) (A : Atoms 𝓤) (W : Given 𝓤 H A) (at-mem : Memory → SProp 𝓤) (run : Routine → Fun 𝓤) (κ : Lft) (q : Share) (b o : ℕ) (γ : GName) (h : ShellSession) (i : ShellTransitionInput) (is-i : Is In.the-row i (in-vals i)) where
@@ -70,10 +71,12 @@ module _ {M : Type 1} (𝓤 : URA M) (H : Heap 𝓤) (A : Atoms 𝓤) (W : Given
         move ! (16 ∷ 17 ∷ 18 ∷ []) $ opens ! tt T.the-row {h = h} b o (λ vs. spelt ! T.the-row (Is T.the-row) (shows 𝓤 H A T.the-row) t-vals (LL.tells T.the-type T′.the-laws) fullShare h vs b o $
         move ! (1 ∷ []) $ peeks ! T.the-row (Is T.the-row) (shows 𝓤 H A T.the-row) h (t-vals h) (λ is-h. move ! (1 ∷ 0 ∷ []) $
         -- the session is copied out, and the step by value is called. The places are those of the branch
-        assigns ! (of-opd ! (load ! (from ! {i = 1} (hop ! {τ = T′.mir} {b = b} {o = o} (look ! 17 refl) (stop !))) (look-raw ! 0 refl))) (from ! (stop !)) (init ! 13 refl (LL.lawful T.the-type T′.the-laws 𝓤 H A W .typed h _ is-h .0)) $
-        calls-plain ! fm (Step 𝓤 H A at-mem run) known-step (to-step 𝓤 H A W at-mem run κ q b o γ h i is-i) (goes-step 𝓤 H A W at-mem run κ q b o γ h i is-i is-h) (and-then ! (load ! (from ! (stop !)) (look ! 13 refl)) (and-then ! (load ! (from ! (stop !)) (look ! 15 refl)) (no-more !)))
+        assigns ! {rest = mir.t-2} {v = only (t-vals h)} {sp = (T′.mir, l₃, 0)} (of-opd ! (load ! {sp = (T′.mir, b, o)} {v = only (t-vals h)} (from ! {i = 1} (hop ! {τ = T′.mir} {b = b} {o = o} (look ! 17 refl) (stop !))) (look-raw ! 0 {τ = T′.mir} {b = b} {o = o} refl))) (from ! {i = 3} (stop !))
+        (init ! 13 {τ = T′.mir} {b = l₃} {o = 0} refl (LL.lawful T.the-type T′.the-laws 𝓤 H A W .typed h _ is-h .0)) $
+        calls-plain ! fm {rest = mir.t-3} (Step 𝓤 H A at-mem run) known-step (to-step 𝓤 H A W at-mem run κ q b o γ h i is-i) (goes-step 𝓤 H A W at-mem run κ q b o γ h i is-i is-h)
+        (and-then ! (load ! {sp = (T′.mir, l₃, 0)} {v = only (t-vals h)} (from ! {i = 3} (stop !)) (look ! 13 refl)) (and-then ! (load ! {sp = (In′.mir, l₂, 0)} {v = only (in-vals i)} (from ! {i = 2} (stop !)) (look ! 15 refl)) (no-more !)))
         St.the-row st-vals (LL.tells St.the-type St′.the-laws) (ensured 𝓤 H A step.ended (step.clauses 𝓤 H A at-mem run) tt (h, (i, tt)) tt) (Stepped h i) (stepped-of 𝓤 H A at-mem run h i) (λ v. id⊢ 𝓤 _) (λ r e is-r.
-        land ! (from ! (stop !)) (init ! 11 refl (LL.lawful St.the-type St′.the-laws 𝓤 H A W .typed r _ is-r .0)) $
+        land ! {rest = mir.t-3} {sp = (St′.mir, l₄, 0)} (from ! {i = 4} (stop !)) (init ! 11 {τ = St′.mir} {b = l₄} {o = 0} refl (LL.lawful St.the-type St′.the-laws 𝓤 H A W .typed r _ is-r .0)) $
         judges 𝓤 H A W at-mem run κ q b o γ h i is-i C Λ l₀ l₁ l₂ l₃ l₄ l₅ l₆ l₇ fm known-applied r e is-r)))))))))))
 
 module _ {M : Type 1} (𝓤 : URA M) (H : Heap 𝓤) (A : Atoms 𝓤) (W : Given 𝓤 H A) (at-mem : Memory → SProp 𝓤) (run : Routine → Fun 𝓤) where

@@ -168,8 +168,8 @@ module _ {M : Type 1} (𝓤 : URA M) (H : Heap 𝓤) (A : Atoms 𝓤) (W : Given
       pub leaves : (r : ShellTransition) (y : Bool) (h′ : ShellSession) → Left h i (r .result) h′ → Is St.the-row r (st-vals r)
           → Sq W (‵ (fobs γ (T.the-row .coded .code h′)) ∷ ‵ (fbor κ (Body (mem T.the-row) b o γ)) ∷ ‵ (flft κ q) ∷ Tested r y) (runs C Λ (En l₀ l₁ l₂ l₃ l₄ l₅ l₆ l₇) mir.t-7 (atRet (En l₀ l₁ l₂ l₃ l₄ l₅ l₆ l₇) Post))
       leaves r y h′ e is-r =
-          assigns ! (of-opd ! (load ! (from ! (stop !)) (look ! 7 refl))) (from ! (stop !)) (init ! 17 refl (LL.lawful An.the-type An′.the-laws 𝓤 H A W .typed (r .result) _ (is-an r is-r) .0)) $
-          returns ! (look ! 17 refl) $ forget ! 3 refl $ forget ! 5 refl $ forget ! 7 refl $ forget ! 9 refl $ forget ! 11 refl $ forget ! 13 refl $ forget ! 15 refl $ forget ! 17 refl $
+          assigns ! {rest = mir.t-8} {v = only (an-vals (r .result))} {sp = (An′.mir, l₀, 0)} (of-opd ! (load ! {sp = (An′.mir, l₅, 0)} {v = only (an-vals (r .result))} (from ! {i = 5} (stop !)) (look ! 7 refl))) (from ! {i = 0} (stop !)) (init ! 17 {τ = An′.mir} {b = l₀} {o = 0} refl (LL.lawful An.the-type An′.the-laws 𝓤 H A W .typed (r .result) _ (is-an r is-r) .0)) $
+          returns ! {r = only (an-vals (r .result))} (look ! 17 refl) $ forget ! 3 refl $ forget ! 5 refl $ forget ! 7 refl $ forget ! 9 refl $ forget ! 11 refl $ forget ! 13 refl $ forget ! 15 refl $ forget ! 17 refl $
           move ! (17 ∷ 18 ∷ []) $ free1 ! $ move ! (15 ∷ 16 ∷ []) $ free1 ! $ move ! (13 ∷ 14 ∷ []) $ free1 ! $ move ! (11 ∷ 12 ∷ []) $ free1 ! $ move ! (9 ∷ 10 ∷ []) $ free1 ! $ move ! (7 ∷ 8 ∷ []) $ free1 ! $ move ! (5 ∷ 6 ∷ []) $ free1 ! $ move ! (3 ∷ 4 ∷ []) $ free1 ! $ free0 ! $
           by ! (exits (r .result) h′ e (is-an r is-r))
 
