@@ -32,7 +32,7 @@ abbrev pub Stepped : ShellSession → ShellTransitionInput → ShellTransition �
 Stepped s i r = (r ≡ afterTransition s (r .result)) × (StepsTo s i (r .result) (r .session) × Answers s i (r .result))
 
 -- what the step behind a reference says of its answer and of the session that it leaves there
-pub record Left (s : ShellSession) (i : ShellTransitionInput) (r : ShellTransitionResult) (t : ShellSession) : Type 0 where
+pub record StepsInPlace (s : ShellSession) (i : ShellTransitionInput) (r : ShellTransitionResult) (t : ShellSession) : Type 0 where
   -- the new state where the step was applied, and everything as it was otherwise
   pub stored : t ≡ nextSession s (r .disposition) (r .state)
   pub holding : StepsTo s i r t

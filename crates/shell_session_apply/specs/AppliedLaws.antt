@@ -10,7 +10,7 @@ use Rattle.shell_lifecycle.specs.declared.state.ShellLocalState.{ShellLocalStat
 use Rattle.shell_player.specs.declared.session.ShellSession.{ShellSession}
 use Rattle.shell_player.specs.declared.session.ShellTransition.{ShellTransition}
 use Rattle.shell_player.specs.Steps.{nextSession, afterTransition}
-use Rattle.shell_session_apply.specs.Applied.{isApplied, StepsTo, Stepped, Left}
+use Rattle.shell_session_apply.specs.Applied.{isApplied, StepsTo, Stepped, StepsInPlace}
 
 next-is : (s : ShellSession) (r : ShellTransition) → r ≡ afterTransition s (r .result) → r .session ≡ nextSession s (r .result .disposition) (r .result .state)
 unfolding afterTransition
@@ -27,19 +27,19 @@ untrue : (y : Bool) → T (not y) → y ≡ false
 untrue true z = absurd z
 untrue false z = refl
 
-left-at : (s : ShellSession) (i : ShellTransitionInput) (r : ShellTransition) (t : ShellSession) → Stepped s i r → t ≡ r .session → Left s i (r .result) t
-left-at s i r t h e = record { stored = e ∙ next-is s r (h .0); holding = subst (StepsTo s i (r .result)) (sym e) (h .1 .0); answered = h .1 .1 }
+in-place-at : (s : ShellSession) (i : ShellTransitionInput) (r : ShellTransition) (t : ShellSession) → Stepped s i r → t ≡ r .session → StepsInPlace s i (r .result) t
+in-place-at s i r t h e = record { stored = e ∙ next-is s r (h .0); holding = subst (StepsTo s i (r .result)) (sym e) (h .1 .0); answered = h .1 .1 }
 
 module _ (s : ShellSession) (i : ShellTransitionInput) (r : ShellTransition) (by-value : Stepped s i r) where
   -- the next session is stored
-  pub left-next : Left s i (r .result) (r .session)
-  left-next = left-at s i r (r .session) by-value refl
+  pub in-place-next : StepsInPlace s i (r .result) (r .session)
+  in-place-next = in-place-at s i r (r .session) by-value refl
 
   -- and nothing is, where the test of the answer fails
-  pub left-same : (y : Bool) → y ≡ isApplied (r .result .disposition) → T (not y) → Left s i (r .result) s
-  left-same y e z = left-at s i r s by-value (unstored s (r .result .disposition) (r .result .state) (sym e ∙ untrue y z) ∙ sym (next-is s r (by-value .0)))
+  pub in-place-same : (y : Bool) → y ≡ isApplied (r .result .disposition) → T (not y) → StepsInPlace s i (r .result) s
+  in-place-same y e z = in-place-at s i r s by-value (unstored s (r .result .disposition) (r .result .state) (sym e ∙ untrue y z) ∙ sym (next-is s r (by-value .0)))
 
 -- the same as a step by value
-pub stepped : (s : ShellSession) (i : ShellTransitionInput) (r : ShellTransitionResult) (t : ShellSession) → Left s i r t → Stepped s i (record { session = t; result = r })
+pub stepped : (s : ShellSession) (i : ShellTransitionInput) (r : ShellTransitionResult) (t : ShellSession) → StepsInPlace s i r t → Stepped s i (record { session = t; result = r })
 unfolding afterTransition
 stepped s i r t h = (ap (λ (u : ShellSession). record { session = u; result = r }) (h .stored), (h .holding, h .answered))

@@ -6,7 +6,7 @@ use shell_lifecycle::lifecycle::ShellTransitionResult;
 use shell_player::session::ShellSession;
 use shell_player::session::ShellTransition;
 ghost use mathlib.Core.Path.{_≡_};
-ghost use Rattle.shell_session_apply.specs.Applied.{isApplied, Stepped, Left};
+ghost use Rattle.shell_session_apply.specs.Applied.{isApplied, Stepped, StepsInPlace};
 
 fn is_applied(disposition: ShellTransitionDisposition) -> bool
     ensures { λ r. ⌜ r ≡ isApplied disposition ⌝ }
@@ -20,7 +20,7 @@ fn is_applied(disposition: ShellTransitionDisposition) -> bool
 
 // The lifecycle step; the next session is stored where it was applied.
 pub fn apply(session: &mut ShellSession, input: ShellTransitionInput) -> ShellTransitionResult
-    ensures { λ r. ⌜ Left (now (session .entry)) input r (now (session .exit)) ⌝ }
+    ensures { λ r. ⌜ StepsInPlace (now (session .entry)) input r (now (session .exit)) ⌝ }
 {
     let found = *session;
     let step = found.transition(input);

@@ -41,7 +41,7 @@ use Rattle.shell_lifecycle.specs.declared.lifecycle.ShellTransitionInput.{Shell
 use Rattle.shell_lifecycle.specs.declared.lifecycle.ShellTransitionResult.{ShellTransitionResult}
 use Rattle.shell_player.specs.declared.session.ShellSession.{ShellSession}
 use Rattle.shell_player.specs.declared.session.ShellTransition.{ShellTransition}
-use Rattle.shell_session_apply.specs.Applied.{Left}
+use Rattle.shell_session_apply.specs.Applied.{StepsInPlace}
 use Rattle.shell_session_apply.specs.AppliedLaws.{stepped}
 use Rattle.shell_player.proofs.session.ShellSession as T
 use Rattle.shell_player.proofs.session.ShellSession.Laws as T′
@@ -113,7 +113,7 @@ module _ {M : Type 1} (𝓤 : URA M) (H : Heap 𝓤) (A : Atoms 𝓤) (W : Given
   abbrev Post : Val → SProp 𝓤
   Post = walkOf 𝓤 H A f.ended stayed (f.clauses 𝓤 H A at-mem run) .post ((tt, tt, tt, (h, (i, tt)), at), tt)
 
-  exits : (s : ShellSession) (a : ShellTransitionResult) → Left h i a s → Is St.the-row (both s a) (st-vals (both s a)) → ent 𝓤 (emp 𝓤) (Post (only (st-vals (both s a))))
+  exits : (s : ShellSession) (a : ShellTransitionResult) → StepsInPlace h i a s → Is St.the-row (both s a) (st-vals (both s a)) → ent 𝓤 (emp 𝓤) (Post (only (st-vals (both s a))))
   exits s a e is-r =
       qed W [] ∵ suffices ! _ (ends-at 𝓤 H A f.ended stayed (f.clauses 𝓤 H A at-mem run) W ((tt, tt, tt, (h, (i, tt)), at), tt) (only (st-vals (both s a))) (both s a) (tt, (tt, tt)) (tt, (tt, tt))) $ says ! (stepped h i a s e) $
       owned ! St.the-row (Is St.the-row) (LL.makes St.the-type St′.the-plain 𝓤 H A) (both s a) _ is-r $ nothing ! $ owned ! In.the-row (Is In.the-row) (LL.makes In.the-type In′.the-plain 𝓤 H A) i _ is-i $ fjoin ! $
@@ -153,7 +153,7 @@ module _ {M : Type 1} (𝓤 : URA M) (H : Heap 𝓤) (A : Atoms 𝓤) (W : Given
       Early = ‵ (fat fullShare In′.mir l₂ 0 (only (in-vals i))) ∷ ‵ (fdies In′.mir l₂) ∷ ‵ (fat fullShare T′.mir l₁ 0 (only (t-vals h))) ∷ ‵ (fdies T′.mir l₁) ∷ ‵ (froom St′.mir l₀ 0) ∷ ‵ (fdies St′.mir l₀) ∷ []
 
       -- after the call: next and the answer are handed back. [_3; _6 at 1; _5 at 3; _4 at 5; _3's end at 7; _2 at 8; _1 at 10; _0 at 12]
-      hands-back : (s : ShellSession) (r : ShellTransitionResult) → Left h i r s → Is T.the-row s (t-vals s) → Is An.the-row r (an-vals r)
+      hands-back : (s : ShellSession) (r : ShellTransitionResult) → StepsInPlace h i r s → Is T.the-row s (t-vals s) → Is An.the-row r (an-vals r)
           → Sq W (‵ (fat fullShare T′.mir l₃ 0 (only (t-vals s))) ∷ ‵ (froom T′.mir l₆ 0) ∷ ‵ (fdies T′.mir l₆) ∷ ‵ (fat fullShare Ref l₅ 0 (vptr l₃ 0)) ∷ ‵ (fdies Ref l₅) ∷ ‵ (fat fullShare An′.mir l₄ 0 (only (an-vals r))) ∷ ‵ (fdies An′.mir l₄) ∷ ‵ (fdies T′.mir l₃) ∷ Early)
           (runs C Λ En mir.t-4 (atRet En Post))
       hands-back s r e is-s is-r =
@@ -178,8 +178,8 @@ module _ {M : Type 1} (𝓤 : URA M) (H : Heap 𝓤) (A : Atoms 𝓤) (W : Given
             -- [what `apply` asks; the lender's part; _6 at 2; _5 at 4; _4 at 6; _3's end at 8; _2 at 9; _1 at 11; _0 at 13]
             calls-at ! fm {rest = mir.t-4} (Applies 𝓤 H A at-mem run) known (to l₃ α γ) (and-then ! (load ! {sp = (Ref, l₅, 0)} {v = vptr l₃ 0} (from ! {i = 5} (stop !)) (look ! 4 refl)) (and-then ! (load ! {sp = (In′.mir, l₂, 0)} {v = only (in-vals i)} (from ! {i = 2} (stop !)) (look ! 9 refl)) (no-more !))) (λ v.
             use1 W (later (some (λ (r : ShellTransitionResult). ((‵ (flft (α ∷ []) fullShare) ⊛ ‵ ftrue) ⊛ ‵ (An.the-row .own r (v ∷ []))) ⊛ raw (ensured 𝓤 H A applies.ended (applies.clauses 𝓤 H A at-mem run) (α ∷ [], tt) (ref l₃ α γ, (i, tt)) tt r)))) (id⊢ 𝓤 _) $ await ! tt $ pick ! (λ r.
-            split ! $ move ! (1 ∷ []) $ use1 W (some (λ (zs : ShellSession × (Unit {0} × Unit {0})). ‵ (lasts applies.ended (α ∷ [], tt) (ref l₃ α γ, (i, tt)) zs) ⊛ raw (fact 𝓤 (Left h i r (zs .0))))) (id⊢ 𝓤 _) $ pick ! (λ zs.
-            split ! $ move ! (1 ∷ []) $ heard ! (Left h i r (zs .0)) (λ e.
+            split ! $ move ! (1 ∷ []) $ use1 W (some (λ (zs : ShellSession × (Unit {0} × Unit {0})). ‵ (lasts applies.ended (α ∷ [], tt) (ref l₃ α γ, (i, tt)) zs) ⊛ raw (fact 𝓤 (StepsInPlace h i r (zs .0))))) (id⊢ 𝓤 _) $ pick ! (λ zs.
+            split ! $ move ! (1 ∷ []) $ heard ! (StepsInPlace h i r (zs .0)) (λ e.
             -- [the last value; the token and the answer; the lender's part; …]: the lifetime ends, and the local is had back
             fsplit ! $ move ! (2 ∷ []) $ split ! $ split ! $ lft-end ! tt $ move ! (0 ∷ 5 ∷ 3 ∷ []) $ use3 W (later (‵ (mem T.the-row .lies (zs .0) l₃ 0))) (ref-back 𝓤 H A W T.the-row (α ∷ []) γ (zs .0) l₃ 0) $ await ! tt $
             use1 W (given (Is T.the-row (zs .0) (t-vals (zs .0))) (‵ (fat fullShare T′.mir l₃ 0 (only (t-vals (zs .0)))))) (lies-out 𝓤 H A at-mem run W l₃ (zs .0)) $ learn ! (λ is-s.

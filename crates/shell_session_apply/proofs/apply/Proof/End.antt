@@ -40,8 +40,8 @@ use Rattle.shell_lifecycle.specs.declared.lifecycle.ShellTransitionResult.{Shel
 use Rattle.shell_player.specs.declared.session.ShellSession.{ShellSession}
 use Rattle.shell_player.specs.declared.session.ShellTransition.{ShellTransition}
 use Rattle.shell_player.specs.Steps.{afterTransition}
-use Rattle.shell_session_apply.specs.Applied.{isApplied, Answers, StepsTo, Stepped, Left}
-use Rattle.shell_session_apply.specs.AppliedLaws.{left-next, left-same}
+use Rattle.shell_session_apply.specs.Applied.{isApplied, Answers, StepsTo, Stepped, StepsInPlace}
+use Rattle.shell_session_apply.specs.AppliedLaws.{in-place-next, in-place-same}
 use Rattle.walk_steps.proofs.Walk.{guards, assigns-then, calls-plain, and-fact}
 use Rattle.shell_player.proofs.session.ShellSession as T
 use Rattle.shell_player.proofs.session.ShellSession.Laws as T′
@@ -121,7 +121,7 @@ module _ {M : Type 1} (𝓤 : URA M) (H : Heap 𝓤) (A : Atoms 𝓤) (W : Given
   Post = walkOf 𝓤 H A f.ended stayed (f.clauses 𝓤 H A at-mem run) .post (((κ, tt), (q, tt), tt, x, at), tt)
 
   -- at exit: the session behind the reference is h′, and the answer is r
-  pub exits : (r : ShellTransitionResult) (h′ : ShellSession) → Left h i r h′ → Is An.the-row r (an-vals r)
+  pub exits : (r : ShellTransitionResult) (h′ : ShellSession) → StepsInPlace h i r h′ → Is An.the-row r (an-vals r)
       → ent 𝓤 (sep 𝓤 (A .obs γ (T.the-row .coded .code h′)) (sep 𝓤 (A .bor κ (Body (mem T.the-row) b o γ)) (A .lft κ q))) (Post (only (an-vals r)))
   exits r h′ e is-r =
       qed W (‵ (fobs γ (T.the-row .coded .code h′)) ∷ ‵ (fbor κ (Body (mem T.the-row) b o γ)) ∷ ‵ (flft κ q) ∷ []) ∵
@@ -165,7 +165,7 @@ module _ {M : Type 1} (𝓤 : URA M) (H : Heap 𝓤) (A : Atoms 𝓤) (W : Given
           ∷ ‵ (fat fullShare An′.mir l₅ 0 (only (an-vals (r .result)))) ∷ ‵ (fdies An′.mir l₅) ∷ ‵ (fat fullShare St′.mir l₄ 0 (only (st-vals r))) ∷ ‵ (fdies St′.mir l₄) ∷ Early
 
       -- what follows the branch: the borrow is closed at h′. [obs; the borrow; the token; _7 at 3; _6 at 5; _5 at 7; _4 at 9; _3 at 11; _2 at 13; _1 at 15; room for _0 at 17]
-      pub leaves : (r : ShellTransition) (y : Bool) (h′ : ShellSession) → Left h i (r .result) h′ → Is St.the-row r (st-vals r)
+      pub leaves : (r : ShellTransition) (y : Bool) (h′ : ShellSession) → StepsInPlace h i (r .result) h′ → Is St.the-row r (st-vals r)
           → Sq W (‵ (fobs γ (T.the-row .coded .code h′)) ∷ ‵ (fbor κ (Body (mem T.the-row) b o γ)) ∷ ‵ (flft κ q) ∷ Tested r y) (runs C Λ (En l₀ l₁ l₂ l₃ l₄ l₅ l₆ l₇) mir.t-7 (atRet (En l₀ l₁ l₂ l₃ l₄ l₅ l₆ l₇) Post))
       leaves r y h′ e is-r =
           assigns ! {rest = mir.t-8} {v = only (an-vals (r .result))} {sp = (An′.mir, l₀, 0)} (of-opd ! (load ! {sp = (An′.mir, l₅, 0)} {v = only (an-vals (r .result))} (from ! {i = 5} (stop !)) (look ! 7 refl))) (from ! {i = 0} (stop !)) (init ! 17 {τ = An′.mir} {b = l₀} {o = 0} refl (LL.lawful An.the-type An′.the-laws 𝓤 H A W .typed (r .result) _ (is-an r is-r) .0)) $
@@ -179,10 +179,10 @@ module _ {M : Type 1} (𝓤 : URA M) (H : Heap 𝓤) (A : Atoms 𝓤) (W : Given
           (runs C Λ (En l₀ l₁ l₂ l₃ l₄ l₅ l₆ l₇) mir.t-7 (atRet (En l₀ l₁ l₂ l₃ l₄ l₅ l₆ l₇) Post))
       closes-next r y e is-r =
           move ! (1 ∷ []) $ drop ! $ owned ! T.the-row (Is T.the-row) (LL.makes T.the-type T′.the-plain 𝓤 H A) (r .session) _ (is-t r is-r) $ move ! (1 ∷ 0 ∷ []) $ closes ! tt T.the-row (r .session) (t-vals (r .session)) b o $
-          leaves r y (r .session) (left-next h i r e) is-r
+          leaves r y (r .session) (in-place-next h i r e) is-r
 
       -- else: the borrow is closed at the session as it was
-      pub closes-same : (r : ShellTransition) (y : Bool) → Left h i (r .result) h → Is St.the-row r (st-vals r)
+      pub closes-same : (r : ShellTransition) (y : Bool) → StepsInPlace h i (r .result) h → Is St.the-row r (st-vals r)
           → Sq W (Opened (Tested r y)) (runs C Λ (En l₀ l₁ l₂ l₃ l₄ l₅ l₆ l₇) mir.t-7 (atRet (En l₀ l₁ l₂ l₃ l₄ l₅ l₆ l₇) Post))
       closes-same r y e is-r = closes ! tt T.the-row h (t-vals h) b o $ leaves r y h e is-r
 
@@ -200,7 +200,7 @@ module _ {M : Type 1} (𝓤 : URA M) (H : Heap 𝓤) (A : Atoms 𝓤) (W : Given
 
       pub stores : (r : ShellTransition) (y : Bool) → Stepped h i r → y ≡ isApplied (r .result .disposition) → Is St.the-row r (st-vals r)
           → Sq W (Opened (Tested r y)) (runs C Λ (En l₀ l₁ l₂ l₃ l₄ l₅ l₆ l₇) mir.t-6 (atRet (En l₀ l₁ l₂ l₃ l₄ l₅ l₆ l₇) Post))
-      stores r y e e′ is-r = guards ! {c = copy (place 7 [])} {a = Arm} {rest = mir.t-7} {y = y} (load ! (from ! (stop !)) (look ! 5 refl)) (λ z. stores-next r y e is-r) (λ z. closes-same r y (left-same h i r e y e′ z) is-r)
+      stores r y e e′ is-r = guards ! {c = copy (place 7 [])} {a = Arm} {rest = mir.t-7} {y = y} (load ! (from ! (stop !)) (look ! 5 refl)) (λ z. stores-next r y e is-r) (λ z. closes-same r y (in-place-same h i r e y e′ z) is-r)
 
       module _ (fm : FmC 𝓤 H (W .laws) C) (known-applied : Triple 𝓤 (C #applied) (Applied 𝓤 H A at-mem run)) (r : ShellTransition) (e : Stepped h i r) (is-r : Is St.the-row r (st-vals r)) where
         -- the step by value is done, and _4 has what it gave
