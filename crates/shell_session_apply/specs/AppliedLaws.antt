@@ -10,7 +10,8 @@ use Rattle.shell_lifecycle.specs.declared.state.ShellLocalState.{ShellLocalStat
 use Rattle.shell_player.specs.declared.session.ShellSession.{ShellSession}
 use Rattle.shell_player.specs.declared.session.ShellTransition.{ShellTransition}
 use Rattle.shell_player.specs.Steps.{nextSession, afterTransition}
-use Rattle.shell_session_apply.specs.Applied.{isApplied, StepsTo, Stepped, StepsInPlace}
+use Rattle.transition_dispositions.specs.Dispositions.{isApplied}
+use Rattle.shell_session_apply.specs.Applied.{StepsTo, Stepped, StepsInPlace}
 
 next-is : (s : ShellSession) (r : ShellTransition) → r ≡ afterTransition s (r .result) → r .session ≡ nextSession s (r .result .disposition) (r .result .state)
 unfolding afterTransition

@@ -1,22 +1,12 @@
 // The outermost lifecycle call: the session stands behind a mutable reference, as `ShellSession::apply` of
 // crates/prom-ui-runtime/src/shell_player.rs takes it.
-use shell_lifecycle::lifecycle::ShellTransitionDisposition;
 use shell_lifecycle::lifecycle::ShellTransitionInput;
 use shell_lifecycle::lifecycle::ShellTransitionResult;
 use shell_player::session::ShellSession;
 use shell_player::session::ShellTransition;
+use transition_dispositions::is_applied;
 ghost use mathlib.Core.Path.{_≡_};
-ghost use Rattle.shell_session_apply.specs.Applied.{isApplied, Stepped, StepsInPlace};
-
-fn is_applied(disposition: ShellTransitionDisposition) -> bool
-    ensures { λ r. ⌜ r ≡ isApplied disposition ⌝ }
-{
-    match disposition {
-        ShellTransitionDisposition::Applied => true,
-        ShellTransitionDisposition::NoChange => false,
-        ShellTransitionDisposition::Rejected => false,
-    }
-}
+ghost use Rattle.shell_session_apply.specs.Applied.{Stepped, StepsInPlace};
 
 // The lifecycle step; the next session is stored where it was applied.
 pub fn apply(session: &mut ShellSession, input: ShellTransitionInput) -> ShellTransitionResult

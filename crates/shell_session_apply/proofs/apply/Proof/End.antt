@@ -40,7 +40,8 @@ use Rattle.shell_lifecycle.specs.declared.lifecycle.ShellTransitionResult.{Shel
 use Rattle.shell_player.specs.declared.session.ShellSession.{ShellSession}
 use Rattle.shell_player.specs.declared.session.ShellTransition.{ShellTransition}
 use Rattle.shell_player.specs.Steps.{afterTransition}
-use Rattle.shell_session_apply.specs.Applied.{isApplied, Answers, StepsTo, Stepped, StepsInPlace}
+use Rattle.transition_dispositions.specs.Dispositions.{isApplied}
+use Rattle.shell_session_apply.specs.Applied.{Answers, StepsTo, Stepped, StepsInPlace}
 use Rattle.shell_session_apply.specs.AppliedLaws.{in-place-next, in-place-same}
 use Rattle.walk_steps.proofs.Walk.{guards, assigns-then, calls-plain, and-fact}
 use Rattle.shell_player.proofs.session.ShellSession as T
@@ -54,8 +55,8 @@ use Rattle.shell_lifecycle.proofs.lifecycle.ShellTransitionInput.Laws as In′
 use Rattle.shell_lifecycle.proofs.lifecycle.ShellTransitionDisposition as Di
 use Rattle.shell_lifecycle.proofs.lifecycle.ShellTransitionDisposition.Laws as Di′
 use Rattle.shell_player.proofs.session.ShellSession.transition as step
-use Rattle.shell_session_apply.proofs.is_applied as applied
-use Rattle.shell_session_apply.proofs.is_applied.Symbol.{name as #applied}
+use Rattle.transition_dispositions.proofs.is_applied as applied
+use Rattle.transition_dispositions.proofs.is_applied.Symbol.{name as #applied}
 use Rattle.shell_session_apply.proofs.apply as f
 use Rattle.shell_session_apply.proofs.apply.Code as code
 use Rattle.shell_session_apply.proofs.apply.Code.Mir as mir

@@ -1,9 +1,9 @@
 -- `is_applied` meets its contract.
 use mathlib.Core.Path.{sym, ap}
-use Rattle.shell_session_apply.specs.Applied.{isApplied}
+use Rattle.transition_dispositions.specs.Dispositions.{isApplied}
 use borrow.Author.Needs.{needs}
-use Rattle.shell_session_apply.proofs.is_applied.Statement.{statement}
-use Rattle.shell_session_apply.proofs.is_applied.Tie as tie
+use Rattle.transition_dispositions.proofs.is_applied.Statement.{statement}
+use Rattle.transition_dispositions.proofs.is_applied.Tie as tie
 
 enum-told : tie.Need-enum-told
 enum-told c = search needs
