@@ -2,7 +2,6 @@
 --     guards           `if c { a }`, and then the rest: a premise for each outcome of the test. `rest` is a variable here, so antt compares no `Wp` of it, as it would at `exec`
 --     assigns-then     the arm a is one assignment: it is made, and the rest runs
 --     calls-plain      a call of a function that has no lifetime and no `&mut`, whose `requires` and arguments are had for nothing (`Makes`): the result r comes with what the contract says of it (φ r) and its relation, its machine value written out. No entry of the context moves
---     calls-plain-last the same where the call is the last statement of its part
 --     calls-lent       a call of a function that also takes a `&` or a `&[T]`: the head i of the context gives what the callee asks (a lifetime's token and a copy of what the reference owns), and j, the token, is the head once it has returned
 --     and-fact         of several `ensures` of a callee: the first and what the others say are one fact
 -- Assumes `Given`, and `FmC` of the table of calls where there is a call.
@@ -20,7 +19,7 @@ use ghost.Atoms.{Atoms}
 use contract.Monad.{fact, fact-mono, fact-use}
 use sound.WpLaws.{FmC}
 use types.Kit as Kit
-use types.Kit.{Given, Item, ‵, raw, _⊛_, some, later, mean, ⋆, push, anyQ, post, Goal, Soaks, runs, lands, settles, aim, Seq, Step, step, _$_, move, use1, split, pick, drop, await, regoal}
+use types.Kit.{Given, Item, ‵, raw, _⊛_, some, later, mean, ⋆, push, anyQ, post, Goal, Soaks, runs, lands, aim, Seq, Step, step, _$_, move, use1, split, pick, drop, await, regoal}
 use types.Run.{Opd, Opds, Rv, Finds, Writes, first, branches, skips, assigns-last}
 use denote.RattleType.{RattleType}
 use denote.Laws.{Is, Tells, shows}
@@ -69,13 +68,6 @@ module _ {M : Type 1} {𝓤 : URA M} {H : Heap 𝓤} {A : Atoms 𝓤} {K : Type 
         → ((r : R .Denot) → φ r → Is R r (vals r) → Seq K W Γ (lands C Λ E d (only (vals r)) rest p)) → Seq K W Γ (runs C Λ E (seq (call f xs d) rest) p)
     calls-plain t fm {rest = rest} c met x pre os R vals tl Ens φ says-φ same k =
         record { prf = called fm c met x pre os (λ v. lands C Λ E d v rest p) (gave R vals tl Ens φ says-φ (‵ ftrue) (c .post x) same t (λ v. lands C Λ E d v rest p) (λ v. tt) (λ r e is. drop t $ k r e is)) }
-
-    pub calls-plain-last : K → FmC 𝓤 H (W .laws) C → {f : Name} {xs : List Operand} (c : Contract 𝓤) → Triple 𝓤 (C f) c → (x : c .Ghost) → ent 𝓤 (emp 𝓤) (c .pre x) → Opds K W Γ E xs (c .args x)
-        → (R : RattleType) (vals : R .Denot → List Val) → Tells R (Is R) vals → (Ens : R .Denot → SProp 𝓤) (φ : R .Denot → Type 0) → ((r : R .Denot) → ent 𝓤 (Ens r) (fact 𝓤 (φ r)))
-        → ((v : Val) → ent 𝓤 (c .post x v) (mean 𝓤 H A (later (some (λ (r : R .Denot). (‵ ftrue ⊛ ‵ (R .own r (v ∷ []))) ⊛ raw (Ens r))))))
-        → ((r : R .Denot) → φ r → Is R r (vals r) → Seq K W Γ (settles E d (only (vals r)) p)) → Seq K W Γ (runs C Λ E (call f xs d) p)
-    calls-plain-last t fm c met x pre os R vals tl Ens φ says-φ same k =
-        record { prf = called fm c met x pre os (λ v. settles E d v p) (gave R vals tl Ens φ says-φ (‵ ftrue) (c .post x) same t (λ v. settles E d v p) (λ v. tt) (λ r e is. drop t $ k r e is)) }
 
     pub calls-lent : K → FmC 𝓤 H (W .laws) C → {f : Name} {xs : List Operand} {rest : Body} (c : Contract 𝓤) → Triple 𝓤 (C f) c → (x : c .Ghost) (i j : Item 𝓤) → ent 𝓤 (mean 𝓤 H A i) (c .pre x) → Opds K W (i ∷ Γ) E xs (c .args x)
         → (R : RattleType) (vals : R .Denot → List Val) → Tells R (Is R) vals → (Ens : R .Denot → SProp 𝓤) (φ : R .Denot → Type 0) → ((r : R .Denot) → ent 𝓤 (Ens r) (fact 𝓤 (φ r)))
