@@ -1,17 +1,18 @@
 -- The steps of a batch, by what each of them looks at: 01, 'One batch, from entry to leaf'. `GatesLaws.antt` proves that in their order they are
 -- `batchChecks`.
 use Prim.Native.Nat.{ℕ}
-use mathlib.Core.Bool.{Bool, not, _&&_, _||_}
+use mathlib.Core.Path.{_≡_}
+use mathlib.Core.Bool.{Bool, true, not, _&&_, _||_}
 use mathlib.Core.List.{List}
-use lib.Dec.{leb, eqb}
+use lib.Dec.{leb, ltb, eqb}
 use lib.ListN.{length}
-use Rattle.spec_lists.specs.Lists.{isEmpty}
+use Rattle.spec_lists.specs.Lists.{if_then_else_, isEmpty}
 use Rattle.spec_patch.specs.Patch.{Patch}
 use Rattle.spec_patch.specs.Read.{SetReading, patches, fault}
 use Rattle.spec_checks.specs.Findings.{findings}
 use Rattle.spec_projection.specs.Apply.{operationsOf}
 use Rattle.spec_session.specs.Session.{Lifecycle, Cursor, Limits, Catalogue, Session}
-use Rattle.spec_session.specs.Diagnostics.{sessionMismatch, sessionClosed, limitExceeded, countsDiffer, cursorMismatch, checksFailed, ofReading}
+use Rattle.spec_session.specs.Diagnostics.{SessionRefusal, sessionNumber, sessionMismatch, sessionClosed, limitExceeded, countsDiffer, cursorMismatch, checksFailed, ofReading}
 use Rattle.spec_session.specs.Lifecycle.{isClosed}
 use Rattle.spec_session.specs.Batch.{BatchEnvelope, Check, pass, refuse, _>>_, require, absentTargets, knownTargets, takesNumber}
 use Rattle.shell_lifecycle.specs.Meaning.{refusalOf}
@@ -58,3 +59,17 @@ setBy s e declared (fault f) = refuse (ofReading f) 1
 abbrev pub erased : Check (List Patch) → Check (Unit {0})
 erased (pass ps) = pass tt
 erased (refuse r n) = refuse r n
+
+-- ---- what holds of an answer for any values whatever
+
+-- 01, 'Diagnostics under the cap': the logical count of a rejection is 1, but for 6, which has one for each absent target
+unfoldable pub countFits : SessionRefusal → ℕ → Bool
+countFits r n = if eqb (sessionNumber r) 6 then ltb 0 n else eqb n 1
+
+unfoldable pub counted : Check (Unit {0}) → Bool
+counted (pass u) = true
+counted (refuse r n) = countFits r n
+
+-- where the first of two checks refuses, that is the answer
+abbrev pub Decides : Check (Unit {0}) → Check (Unit {0}) → Type 0
+Decides first answer = (r : SessionRefusal) (n : ℕ) → first ≡ refuse r n → answer ≡ refuse r n

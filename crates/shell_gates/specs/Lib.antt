@@ -2,3 +2,4 @@ pub mod Gates
 pub mod GatesLaws
 pub mod Seen
 pub mod StepLaws
+pub mod CountedLaws

@@ -10,6 +10,7 @@ use shell_lifecycle::state::ProjectionReplayCursor;
 use shell_lifecycle::state::ShellLifecycleLimits;
 use shell_lifecycle::state::ShellLocalState;
 ghost use mathlib.Core.Path.{_≡_};
+ghost use mathlib.Core.Bool.{true};
 ghost use mathlib.Core.List.{List};
 ghost use lib.ListN.{length};
 ghost use Rattle.spec_patch.specs.Patch.{Patch};
@@ -21,8 +22,8 @@ ghost use Rattle.spec_session.specs.Diagnostics.{ofReading};
 ghost use Rattle.spec_session.specs.Batch.{batchChecks};
 ghost use Rattle.projection_patch.specs.ReadAnswers.{faultOf};
 ghost use Rattle.batch_targets.specs.Lent.{Lent};
-ghost use Rattle.shell_lifecycle.specs.Meaning.{refusalOf, cursorOf, limitsOf};
-ghost use Rattle.shell_gates.specs.Gates.{gateOf, envelopeMeans, targetsBy, patchesBy, setBy, erased};
+ghost use Rattle.shell_lifecycle.specs.Meaning.{refusalOf, lifecycleOf, cursorOf, limitsOf};
+ghost use Rattle.shell_gates.specs.Gates.{gateOf, envelopeMeans, preflightBy, targetsBy, patchesBy, setBy, erased, counted, Decides};
 ghost use Rattle.shell_gates.specs.Seen.{Seen};
 
 // The refusal of a set that does not read.
@@ -44,8 +45,9 @@ fn check_targets(
     envelope: OrderedProjectionPatchBatchEnvelope,
     set: &[u8],
 ) -> BatchGate
-    ensures { λ r. ⌜ ((k : Catalogue) (ps : List Patch) → Lent k (now (nodes .entry)) (now (bindings .entry)) (now (collections .entry))
+    ensures checked { λ r. ⌜ ((k : Catalogue) (ps : List Patch) → Lent k (now (nodes .entry)) (now (bindings .entry)) (now (collections .entry))
         → readSet v1 (now (set .entry)) ≡ patches ps → gateOf r ≡ targetsBy k (cursorOf cursor) (envelopeMeans envelope) ps) ⌝ }
+    ensures whatever { λ r. ⌜ counted (gateOf r) ≡ true ⌝ }
 {
     let absent = batch_targets::absent_targets(nodes, bindings, collections, set);
     if 0 < absent {
@@ -65,9 +67,10 @@ fn check_set(
     declared: u64,
     set: &[u8],
 ) -> BatchGate
-    ensures { λ r. ⌜ ((s : Session) → limitsOf limits ≡ s .limits → cursorOf cursor ≡ s .cursor
+    ensures checked { λ r. ⌜ ((s : Session) → limitsOf limits ≡ s .limits → cursorOf cursor ≡ s .cursor
         → Lent (s .catalogue) (now (nodes .entry)) (now (bindings .entry)) (now (collections .entry))
         → gateOf r ≡ setBy s (envelopeMeans envelope) declared (readSet v1 (now (set .entry)))) ⌝ }
+    ensures whatever { λ r. ⌜ counted (gateOf r) ≡ true ⌝ }
 {
     match quick_set::quick_check(set) {
         QuickCheck::Refused(fault) => BatchGate::Refused(refusal_of(fault), 1),
@@ -102,8 +105,10 @@ pub fn check_batch(
     declared: u64,
     set: &[u8],
 ) -> BatchGate
-    ensures { λ r. ⌜ ((s : Session) → Seen s id limits state (now (nodes .entry)) (now (bindings .entry)) (now (collections .entry))
+    ensures checked { λ r. ⌜ ((s : Session) → Seen s id limits state (now (nodes .entry)) (now (bindings .entry)) (now (collections .entry))
         → gateOf r ≡ erased (batchChecks s (envelopeMeans envelope) declared (now (set .entry)))) ⌝ }
+    ensures whatever { λ r. ⌜ counted (gateOf r) ≡ true ⌝ }
+    ensures preflight { λ r. ⌜ Decides (preflightBy id (limitsOf limits) (lifecycleOf (state .lifecycle)) (envelopeMeans envelope)) (gateOf r) ⌝ }
 {
     let lifecycle = state.lifecycle;
     let cursor = state.replay_cursor;

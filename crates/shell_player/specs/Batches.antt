@@ -1,15 +1,16 @@
 -- What a batch looks at in a session's struct, and what it hands back.
 use Prim.Native.Nat.{ℕ}
 use mathlib.Core.Path.{_≡_}
+use mathlib.Core.Bool.{true}
 use mathlib.Core.List.{List}
 use Rattle.spec_session.specs.Session.{Cursor, at, Session}
 use Rattle.spec_session.specs.Diagnostics.{SessionRefusal, noDiagnostics, diagnosticsOf}
 use Rattle.spec_session.specs.Lifecycle.{Disposition, applied, noChange, rejected, LocalState}
-use Rattle.spec_session.specs.Batch.{BatchAnswer, BatchStep, batch}
+use Rattle.spec_session.specs.Batch.{BatchAnswer, BatchStep, Check, refuse, batch}
 use Rattle.shell_lifecycle.specs.Meaning.{limitsOf, lifecycleOf, cursorOf, diagnosticsMean}
 use Rattle.shell_lifecycle.specs.declared.state.ShellLocalState.{ShellLocalState}
 use Rattle.active_projection_target_catalog.specs.Catalog.{catalogueOf}
-use Rattle.shell_gates.specs.Gates.{envelopeMeans}
+use Rattle.shell_gates.specs.Gates.{envelopeMeans, preflightBy, countFits}
 use Rattle.shell_gates.specs.declared.gates.OrderedProjectionPatchBatchEnvelope.{OrderedProjectionPatchBatchEnvelope}
 use Rattle.shell_player.specs.declared.session.ActivatedShellSessionContext.{ActivatedShellSessionContext}
 use Rattle.shell_player.specs.declared.session.ShellSession.{ShellSession}
@@ -63,4 +64,26 @@ KeptUnlessApplied s r = (r .result .disposition ≡ Applied → ⊥) → r .sess
 -- what a call with this envelope, declared count and set hands back: for every session that the struct stores, what the model's batch gives
 pub record BatchCall (s : ShellSession) (e : OrderedProjectionPatchBatchEnvelope) (declared : ℕ) (set : List ℕ) (r : ProjectionPatchBatch) : Type 0 where
   pub became : (m : Session) → Holds s m → BatchBecame r (batch m (envelopeMeans e) declared set)
+
+-- ---- the relation of a batch call for every struct whatever
+
+-- a rejection of 01's table under the cap at the cursor, NoChange there, or Applied at the batch's number
+pub data AnswerRow (cap : ℕ) (c : Cursor) (n : ℕ) (a : BatchAnswer) : Type 0 where
+  rejectedRow : (r : SessionRefusal) (logical : ℕ) → countFits r logical ≡ true → a ≡ rejectedAt cap r logical c → AnswerRow cap c n a
+  unchangedRow : a ≡ answerAt noChange c → AnswerRow cap c n a
+  appliedRow : a ≡ answerAt applied (at n) → AnswerRow cap c n a
+
+-- the row of a call, by the struct's own limit and cursor
+abbrev pub CallRow : ShellSession → OrderedProjectionPatchBatchEnvelope → ProjectionPatchBatch → Type 0
+CallRow s e r = AnswerRow (s .context .limits .«max_diagnostics_per_transition») (cursorOf (s .state .«replay_cursor»)) (e .«sequence_no») (batchAnswerOf (r .result))
+
+-- steps 1 to 3 on the struct's own fields: where they refuse, that is the answer
+abbrev pub PreflightFirst : ShellSession → OrderedProjectionPatchBatchEnvelope → ProjectionPatchBatch → Type 0
+PreflightFirst s e r =
+    (f : SessionRefusal) (n : ℕ) → preflightBy (s .context .«session_id» .0) (limitsOf (s .context .limits)) (lifecycleOf (s .state .lifecycle)) (envelopeMeans e) ≡ refuse f n
+    → batchAnswerOf (r .result) ≡ rejectedAt (s .context .limits .«max_diagnostics_per_transition») f n (cursorOf (s .state .«replay_cursor»))
+
+pub record AnyBatchCall (s : ShellSession) (e : OrderedProjectionPatchBatchEnvelope) (r : ProjectionPatchBatch) : Type 0 where
   pub kept : KeptUnlessApplied s r
+  pub row : CallRow s e r
+  pub preflight : PreflightFirst s e r

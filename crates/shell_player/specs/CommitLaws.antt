@@ -13,9 +13,10 @@ use Rattle.spec_patch.specs.Patch.{Patch}
 use Rattle.spec_patch.specs.Edition.{v1}
 use Rattle.spec_patch.specs.Read.{patches, readSet}
 use Rattle.spec_projection.specs.Projection.{Projection}
-use Rattle.spec_projection.specs.Apply.{Outcome, done, stopped, operationsOf, replaySteps, applySteps}
+use Rattle.spec_projection.specs.Apply as applying
+use Rattle.spec_projection.specs.Apply.{OperationFault, Outcome, done, stopped, operationsOf, replaySteps, applySteps}
 use Rattle.spec_session.specs.Session.{Limits, Cursor, at, Session}
-use Rattle.spec_session.specs.Diagnostics.{SessionRefusal, ofOperation}
+use Rattle.spec_session.specs.Diagnostics.{SessionRefusal, sessionNumber, ofOperation}
 use Rattle.spec_session.specs.Lifecycle.{Disposition, applied, noChange, rejected, LocalState, stateOf}
 use Rattle.spec_session.specs.Batch.{BatchEnvelope, BatchAnswer, BatchStep, Check, pass, refuse, batchChecks, rejectBatch, keepSession, advanced, applyBatch, candidate, commit, concludeBatch, batch}
 use Rattle.spec_session.specs.BatchLaws.{checks-passed}
@@ -28,7 +29,7 @@ use Rattle.binding_tables.specs.Change.{faultOf}
 use Rattle.binding_tables.specs.declared.LocalProjectionApplicationError.{LocalProjectionApplicationError}
 use Rattle.projection_application.specs.Application.{StepsBecame}
 use Rattle.projection_application.specs.declared.ProjectionOutcome.the-variants as outcome
-use Rattle.shell_gates.specs.Gates.{erased}
+use Rattle.shell_gates.specs.Gates.{erased, countFits}
 use Rattle.shell_player.specs.declared.session.ShellSession.{ShellSession}
 use Rattle.shell_player.specs.declared.batch.ProjectionPatchApplicationDisposition.{ProjectionPatchApplicationDisposition}
 use Rattle.shell_player.specs.declared.batch.ProjectionPatchApplicationDisposition.the-variants.{Applied, NoChange, Rejected}
@@ -47,6 +48,19 @@ applied-told Rejected e = absurd (let z : _≡_ {A = ℕ} 0 1 = cc in omega arit
 
 pub kept-applied : (s : ShellSession) (r : ProjectionPatchBatch) (c : Cursor) → batchAnswerOf (r .result) ≡ answerAt applied c → KeptUnlessApplied s r
 kept-applied s r c e not = absurd (not (applied-told (r .result .disposition) (ap (λ (a : BatchAnswer). a .disposition) e)))
+
+-- ---- what every struct is answered
+
+pub operation-counted : (f : OperationFault) → countFits (ofOperation f) 1 ≡ true
+unfolding countFits sessionNumber ofOperation
+operation-counted applying.keyRule = refl
+operation-counted applying.projectionFull = refl
+
+pub same-rejection : {f g : SessionRefusal} {n k : ℕ} (limit : ℕ) (c : Cursor) → _≡_ {A = Check (Unit {0})} (refuse f n) (refuse g k) → rejectedAt limit f n c ≡ rejectedAt limit g k c
+same-rejection {f = f} {g = g} {n = n} {k = k} limit c e =
+    let same : f ≡ g = cc e in
+    let count : n ≡ k = cc e in
+    ap₂ (λ a b. rejectedAt limit a b c) same count
 
 -- ---- what passed and what was refused
 

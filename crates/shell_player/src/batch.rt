@@ -14,6 +14,7 @@ use shell_lifecycle::diagnostics::ShellRefusal;
 use shell_lifecycle::state::ProjectionReplayCursor;
 use shell_lifecycle::state::ShellLocalState;
 ghost use mathlib.Core.Path.{_≡_};
+ghost use mathlib.Core.Bool.{true};
 ghost use mathlib.Core.List.{List};
 ghost use lib.ListN.{length};
 ghost use Rattle.spec_patch.specs.Patch.{Patch};
@@ -25,11 +26,11 @@ ghost use Rattle.spec_session.specs.Session.{Session};
 ghost use Rattle.spec_session.specs.Diagnostics.{ofOperation};
 ghost use Rattle.spec_session.specs.Batch.{batchChecks, candidate, commit};
 ghost use Rattle.binding_tables.specs.Change.{faultOf};
-ghost use Rattle.shell_lifecycle.specs.Meaning.{refusalOf, cursorOf, stateTold};
-ghost use Rattle.shell_gates.specs.Gates.{gateOf, envelopeMeans, erased};
+ghost use Rattle.shell_lifecycle.specs.Meaning.{refusalOf, lifecycleOf, cursorOf, limitsOf, stateTold};
+ghost use Rattle.shell_gates.specs.Gates.{gateOf, envelopeMeans, preflightBy, erased, counted, Decides};
 ghost use Rattle.spec_session.specs.Session.{at};
 ghost use Rattle.spec_session.specs.Lifecycle.{applied, noChange};
-ghost use Rattle.shell_player.specs.Batches.{SeenSession, batchAnswerOf, rejectedAt, answerAt, movedTo, BatchBecame, KeptUnlessApplied, BatchCall};
+ghost use Rattle.shell_player.specs.Batches.{SeenSession, batchAnswerOf, rejectedAt, answerAt, movedTo, BatchBecame, KeptUnlessApplied, BatchCall, CallRow, AnyBatchCall};
 ghost use Rattle.shell_player.specs.Holds.{Holds};
 
 pub enum ProjectionPatchApplicationDisposition {
@@ -68,7 +69,9 @@ fn check_session(
     declared: u64,
     set: &[u8],
 ) -> BatchGate
-    ensures { λ r. ⌜ ((s : Session) → SeenSession context state s → gateOf r ≡ erased (batchChecks s (envelopeMeans envelope) declared (now (set .entry)))) ⌝ }
+    ensures checked { λ r. ⌜ ((s : Session) → SeenSession context state s → gateOf r ≡ erased (batchChecks s (envelopeMeans envelope) declared (now (set .entry)))) ⌝ }
+    ensures whatever { λ r. ⌜ counted (gateOf r) ≡ true ⌝ }
+    ensures preflight { λ r. ⌜ Decides (preflightBy (context .«session_id» .0) (limitsOf (context .limits)) (lifecycleOf (state .lifecycle)) (envelopeMeans envelope)) (gateOf r) ⌝ }
 {
     let session_id = context.session_id;
     let limits = context.limits;
@@ -160,13 +163,13 @@ impl ShellSession {
         ensures became { λ r. ⌜ ((m : Session) (ps : List Patch) → Holds self m → readSet v1 (now (set .entry)) ≡ patches ps → envelope .«patch_count» ≡ length ps
             → BatchBecame r (commit m (envelopeMeans envelope) (candidate m ps))) ⌝ }
         ensures kept { λ r. ⌜ KeptUnlessApplied self r ⌝ }
+        ensures row { λ r. ⌜ CallRow self envelope r ⌝ }
     {
         let context = self.context;
         let limits = context.limits;
         let cap = limits.max_diagnostics_per_transition;
         let state = self.state;
         let cursor = state.replay_cursor;
-        let number = envelope.sequence_no;
         if envelope.patch_count == 0 {
             return ProjectionPatchBatch {
                 session: self,
@@ -181,11 +184,11 @@ impl ShellSession {
                 let mut session = self;
                 let next = application.state;
                 session.local_projection = next;
-                let moved = advanced(state, number);
+                let moved = advanced(state, envelope.sequence_no);
                 session.state = moved;
                 ProjectionPatchBatch {
                     session,
-                    result: applied_at(number),
+                    result: applied_at(envelope.sequence_no),
                 }
             }
             ProjectionOutcome::Refused(error) => ProjectionPatchBatch {
@@ -210,7 +213,8 @@ impl ShellSession {
         declared: u64,
         set: &[u8],
     ) -> ProjectionPatchBatch
-        ensures { λ r. ⌜ BatchCall self envelope declared (now (set .entry)) r ⌝ }
+        ensures holding { λ r. ⌜ BatchCall self envelope declared (now (set .entry)) r ⌝ }
+        ensures whatever { λ r. ⌜ AnyBatchCall self envelope r ⌝ }
     {
         let context = self.context;
         let limits = context.limits;

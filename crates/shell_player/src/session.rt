@@ -12,8 +12,8 @@ use shell_lifecycle::state::ShellLocalState;
 use shell_lifecycle::state::ShellSessionId;
 ghost use mathlib.Core.Path.{_≡_};
 ghost use Rattle.spec_session.specs.Session.{Session};
-ghost use Rattle.spec_session.specs.Lifecycle.{lifecycleStep};
-ghost use Rattle.shell_lifecycle.specs.Meaning.{stimulusOf, answerOf, bare, limitsOf, stateTold};
+ghost use Rattle.spec_session.specs.Lifecycle.{stateOf, lifecycleStep};
+ghost use Rattle.shell_lifecycle.specs.Meaning.{stimulusOf, answerOf, bare, limitsOf, lifecycleOf, cursorOf, stateTold};
 ghost use Rattle.shell_player.specs.Holds.{Holds};
 ghost use Rattle.shell_player.specs.Steps.{newState, afterTransition};
 
@@ -52,6 +52,29 @@ impl ShellSession {
             state,
             local_projection,
         }
+    }
+
+    pub fn state(self) -> ShellLocalState
+        ensures whatever { λ r. ⌜ r ≡ self .state ⌝ }
+        ensures holding { λ r. ⌜ ((m : Session) → Holds self m → stateTold r ≡ stateOf m) ⌝ }
+    {
+        self.state
+    }
+
+    pub fn lifecycle(self) -> ShellLifecycle
+        ensures whatever { λ r. ⌜ r ≡ self .state .lifecycle ⌝ }
+        ensures holding { λ r. ⌜ ((m : Session) → Holds self m → lifecycleOf r ≡ m .lifecycle) ⌝ }
+    {
+        let state = self.state;
+        state.lifecycle
+    }
+
+    pub fn replay_cursor(self) -> ProjectionReplayCursor
+        ensures whatever { λ r. ⌜ r ≡ self .state .«replay_cursor» ⌝ }
+        ensures holding { λ r. ⌜ ((m : Session) → Holds self m → cursorOf r ≡ m .cursor) ⌝ }
+    {
+        let state = self.state;
+        state.replay_cursor
     }
 
     // The lifecycle step: the session that it leads to, which is the old one unless it was applied.

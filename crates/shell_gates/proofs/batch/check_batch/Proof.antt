@@ -1,7 +1,9 @@
 -- `check_batch` meets its contract: the preflight, then what the set must pass.
 use mathlib.Core.Path.{_≡_, sym, ap, _∙_}
-use Rattle.shell_gates.specs.Gates.{gateOf}
+use Rattle.spec_session.specs.BatchLaws.{never-passes}
+use Rattle.shell_gates.specs.Gates.{gateOf, counted}
 use Rattle.shell_gates.specs.StepLaws.{batch-refused, batch-on}
+use Rattle.shell_gates.specs.CountedLaws.{preflight-counted}
 use borrow.Author.Needs.{needs}
 use Rattle.shell_gates.proofs.batch.check_batch.Statement.{statement}
 use Rattle.shell_gates.proofs.batch.check_batch.Tie as tie
@@ -20,11 +22,17 @@ check-set-requires c κs = search needs
 
 returns : tie.Need-returns
 unfolding gateOf
-returns c = λ s seen. batch-refused s _ _ _ _ _ _ seen _ _ _ _ _ (ap gateOf (sym (c .before .refusal .given .1)) ∙ c .before .before .before .evaluate-preflight .ensures)
+returns c =
+    let answer = ap gateOf (sym (c .before .refusal .given .1)) ∙ c .before .before .before .evaluate-preflight .ensures in
+    (λ s seen. batch-refused s _ _ _ _ _ _ seen _ _ _ _ _ answer, (ap counted answer ∙ preflight-counted _ _ _ _, λ r n h. answer ∙ h))
 
 returns-2 : tie.Need-returns-2
 unfolding gateOf
-returns-2 c = λ s seen. batch-on s _ _ _ _ _ _ seen _ _ _ _ (ap gateOf (sym (c .before .enum-told .given .1)) ∙ c .before .before .before .evaluate-preflight .ensures) (c .check-set .ensures s (seen .limits-are) (seen .cursor-is) (seen .anchors-are))
+returns-2 c =
+    let passes = ap gateOf (sym (c .before .enum-told .given .1)) ∙ c .before .before .before .evaluate-preflight .ensures in (
+      λ s seen. batch-on s _ _ _ _ _ _ seen _ _ _ _ passes (c .check-set .ensures .0 s (seen .limits-are) (seen .cursor-is) (seen .anchors-are)),
+      (c .check-set .ensures .1, λ r n h. never-passes (sym (passes ∙ h))),
+    )
 
 pub check-batch-spec : {M : Type 1} → statement M
 check-batch-spec =

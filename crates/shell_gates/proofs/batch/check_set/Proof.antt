@@ -1,9 +1,11 @@
 -- `check_set` meets its contract: the quick check, then the counts, then the targets and the cursor.
-use mathlib.Core.Path.{_≡_, sym, ap, _∙_}
+use mathlib.Core.Path.{_≡_, refl, sym, ap, _∙_}
+use Rattle.spec_session.specs.Diagnostics.{sessionNumber}
 use Rattle.spec_session.specs.Batch.{refuse}
 use Rattle.shell_lifecycle.specs.Meaning.{refusalOf}
-use Rattle.shell_gates.specs.Gates.{gateOf}
+use Rattle.shell_gates.specs.Gates.{gateOf, countFits, counted}
 use Rattle.shell_gates.specs.StepLaws.{set-unread, set-found, set-counts, set-targets}
+use Rattle.shell_gates.specs.CountedLaws.{counts-counted, reading-counted}
 use borrow.Author.Needs.{needs}
 use Rattle.shell_gates.proofs.batch.check_set.Statement.{statement}
 use Rattle.shell_gates.proofs.batch.check_set.Tie as tie
@@ -36,25 +38,30 @@ check-targets-requires : tie.Need-check-targets-requires
 check-targets-requires c κs = search needs
 
 returns : tie.Need-returns
-unfolding gateOf
-returns c = λ s l u lent. ap (λ r. refuse r 1) (c .refusal-of .ensures) ∙ set-unread s _ _ _ _ (sym (c .before .before .before .before .quick-check .ensures) ∙ c .before .before .fault .given .1)
+unfolding gateOf counted
+returns c = (
+  λ s l u lent. ap (λ r. refuse r 1) (c .refusal-of .ensures) ∙ set-unread s _ _ _ _ (sym (c .before .before .before .before .quick-check .ensures) ∙ c .before .before .fault .given .1),
+  ap (λ r. countFits r 1) (c .refusal-of .ensures) ∙ reading-counted _,
+)
 
 returns-2 : tie.Need-returns-2
-unfolding gateOf refusalOf
-returns-2 c = λ s l u lent. set-found s _ _ _ (sym (c .before .before .quick-check .ensures) ∙ c .enum-told .given .1)
+unfolding gateOf refusalOf counted countFits sessionNumber
+returns-2 c = (λ s l u lent. set-found s _ _ _ (sym (c .before .before .quick-check .ensures) ∙ c .enum-told .given .1), refl)
 
 returns-3 : tie.Need-returns-3
 unfolding gateOf
 returns-3 c =
     let told = sym (c .before .before .before .before .before .before .before .quick-check .ensures) ∙ c .before .before .before .before .before .patch-count .given .1 in
-    λ s l u lent. set-counts s _ _ _ _ _ told _ l _ _ (ap gateOf (sym (c .before .refusal .given .1)) ∙ c .before .before .before .evaluate-counts .ensures)
+    let answer = ap gateOf (sym (c .before .refusal .given .1)) ∙ c .before .before .before .evaluate-counts .ensures in
+    (λ s l u lent. set-counts s _ _ _ _ _ told _ l _ _ answer, ap counted answer ∙ counts-counted _ _ _ _ _)
 
 returns-4 : tie.Need-returns-4
 unfolding gateOf
 returns-4 c =
-    let told = sym (c .before .before .before .before .before .before .before .quick-check .ensures) ∙ c .before .before .before .before .before .patch-count .given .1 in
-    λ s l u lent. set-targets s _ _ _ _ _ told _ l _ u _ (ap gateOf (sym (c .before .enum-told2 .given .1)) ∙ c .before .before .before .evaluate-counts .ensures)
-    (λ ps reads. c .check-targets .ensures (s .catalogue) ps lent reads)
+    let told = sym (c .before .before .before .before .before .before .before .quick-check .ensures) ∙ c .before .before .before .before .before .patch-count .given .1 in (
+      λ s l u lent. set-targets s _ _ _ _ _ told _ l _ u _ (ap gateOf (sym (c .before .enum-told2 .given .1)) ∙ c .before .before .before .evaluate-counts .ensures) (λ ps reads. c .check-targets .ensures .0 (s .catalogue) ps lent reads),
+      c .check-targets .ensures .1,
+    )
 
 pub check-set-spec : {M : Type 1} → statement M
 check-set-spec =

@@ -70,17 +70,19 @@ check-batch-requires : tie.Need-check-batch-requires
 check-batch-requires c κs = search needs
 
 returns : tie.Need-returns
-returns c = λ s seen.
+returns c =
     let start = c .before .before .before .before .before .before .before .before .before .before .before .before .before .before .before .before .before .before in
-    let asked = c .before .before .before .before .before .before in
-    c .check-batch .ensures s (
-    record {
-      id-is = seen .id-is;
-      limits-are = seen .limits-are;
-      lifecycle-is = seen .lifecycle-is;
-      cursor-is = seen .cursor-is;
-      anchors-are = lent-anchors (start .args .context .catalog) (long-nodes start) (long-pairs start) (long-collections start) (s .catalogue) (seen .catalogue-is) _ _ _ (asked .before .before .before .held .ensures) (asked .before .before .held2 .ensures) (asked .before .held3 .ensures) _ (asked .before .before .before .before .before .pair-numbers .ensures);
-    }
+    let asked = c .before .before .before .before .before .before in (
+      λ s seen. c .check-batch .ensures .0 s (
+          record {
+            id-is = seen .id-is;
+            limits-are = seen .limits-are;
+            lifecycle-is = seen .lifecycle-is;
+            cursor-is = seen .cursor-is;
+            anchors-are = lent-anchors (start .args .context .catalog) (long-nodes start) (long-pairs start) (long-collections start) (s .catalogue) (seen .catalogue-is) _ _ _ (asked .before .before .before .held .ensures) (asked .before .before .held2 .ensures) (asked .before .held3 .ensures) _ (asked .before .before .before .before .before .pair-numbers .ensures);
+          }
+          ),
+      c .check-batch .ensures .1,
     )
 
 pub check-session-spec : {M : Type 1} → statement M

@@ -1,0 +1,58 @@
+// Lookups in the projection of a session. Without a record every field of the answer is zero.
+use crate::session::ShellSession;
+use collection_lookups::EntryLookup;
+use stored_values::AvailabilityLookup;
+use stored_values::ValueLookup;
+ghost use mathlib.Core.Path.{_≡_};
+ghost use Rattle.spec_projection.specs.Lookups.{bindingOf, availabilityOf, entryOf, entryAt, entryCount};
+ghost use Rattle.spec_session.specs.Session.{Session};
+ghost use Rattle.stored_values.specs.Lookup.{valueLookup, availabilityLookup};
+ghost use Rattle.collection_lookups.specs.Nth.{entryLookup};
+ghost use Rattle.shell_player.specs.Holds.{Holds};
+
+impl ShellSession {
+    // The value of a binding.
+    pub fn binding_value(self, node: u64, slot: u32) -> ValueLookup
+        ensures { λ r. ⌜ ((m : Session) → Holds self m → r ≡ valueLookup (bindingOf (m .projection) node slot)) ⌝ }
+    {
+        let table = self.local_projection.bindings;
+        let counts = self.local_projection.counts;
+        projection_lookups::binding_value(&table, counts.bindings, node, slot)
+    }
+
+    // A node's availability.
+    pub fn node_availability(self, node: u64) -> AvailabilityLookup
+        ensures { λ r. ⌜ ((m : Session) → Holds self m → r ≡ availabilityLookup (availabilityOf (m .projection) node)) ⌝ }
+    {
+        let table = self.local_projection.availability;
+        let counts = self.local_projection.counts;
+        projection_lookups::node_availability(&table, counts.availabilities, node)
+    }
+
+    // The value of a collection's key.
+    pub fn entry_value(self, collection: u64, key: u64) -> ValueLookup
+        ensures { λ r. ⌜ ((m : Session) → Holds self m → r ≡ valueLookup (entryOf (m .projection) collection key)) ⌝ }
+    {
+        let table = self.local_projection.entries;
+        let counts = self.local_projection.counts;
+        projection_lookups::entry_value(&table, counts.entries, collection, key)
+    }
+
+    // How many entries a collection has.
+    pub fn entry_count(self, collection: u64) -> usize
+        ensures { λ r. ⌜ ((m : Session) → Holds self m → r ≡ entryCount (m .projection) collection) ⌝ }
+    {
+        let table = self.local_projection.entries;
+        let counts = self.local_projection.counts;
+        collection_lookups::entry_count(&table, counts.entries, collection)
+    }
+
+    // The entry at a position of its collection, from 0.
+    pub fn entry_at(self, collection: u64, position: usize) -> EntryLookup
+        ensures { λ r. ⌜ ((m : Session) → Holds self m → r ≡ entryLookup (entryAt (m .projection) collection position)) ⌝ }
+    {
+        let table = self.local_projection.entries;
+        let counts = self.local_projection.counts;
+        collection_lookups::entry_at(&table, counts.entries, collection, position)
+    }
+}
