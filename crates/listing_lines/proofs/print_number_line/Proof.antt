@@ -1,0 +1,36 @@
+-- `listing_lines::print_number_line` meets its contract: the letter, one field and the end of the line.
+use borrow.Author.Needs.{needs}
+use Rattle.spec_listing.specs.Listing.{fields}
+use Rattle.field_printer.specs.PrintsLaws.{_⨾_}
+use Rattle.listing_lines.proofs.print_number_line.Statement.{statement}
+use Rattle.listing_lines.proofs.print_number_line.Tie as tie
+
+print-byte-requires : tie.Need-print-byte-requires
+print-byte-requires c κs = search needs
+
+print-field-u64-requires : tie.Need-print-field-u64-requires
+print-field-u64-requires c κs = search needs
+
+print-newline-requires : tie.Need-print-newline-requires
+print-newline-requires c κs = search needs
+
+same-length : tie.Need-same-length
+same-length c = search needs
+
+returns : tie.Need-returns
+unfolding fields
+returns c =
+    let end = c .before .before in
+    let first = end .before .before .before .before in
+    let letter = first .before .before .before .before in
+    letter .print-byte .ensures ⨾ first .print-field-u64 .ensures ⨾ end .print-newline .ensures
+
+pub print-number-line-spec : {M : Type 1} → statement M
+print-number-line-spec =
+    tie.close
+    (tie.spec
+    print-byte-requires
+    print-field-u64-requires
+    print-newline-requires
+    same-length
+    returns)

@@ -1,0 +1,41 @@
+-- `listing_lines::print_record` meets its contract: the letter, two fields and the value.
+use borrow.Author.Needs.{needs}
+use Rattle.spec_listing.specs.Listing.{fields}
+use Rattle.field_printer.specs.PrintsLaws.{_⨾_}
+use Rattle.listing_lines.proofs.print_record.Statement.{statement}
+use Rattle.listing_lines.proofs.print_record.Tie as tie
+
+print-byte-requires : tie.Need-print-byte-requires
+print-byte-requires c κs = search needs
+
+print-field-u64-requires : tie.Need-print-field-u64-requires
+print-field-u64-requires c κs = search needs
+
+print-field-u64-requires-2 : tie.Need-print-field-u64-requires-2
+print-field-u64-requires-2 c κs = search needs
+
+print-value-requires : tie.Need-print-value-requires
+print-value-requires c κs = search needs
+
+same-length : tie.Need-same-length
+same-length c = search needs
+
+returns : tie.Need-returns
+unfolding fields
+returns c =
+    let value = c .before .before in
+    let second = value .before .before .before .before in
+    let first = second .before .before .before .before in
+    let letter = first .before .before .before .before in
+    λ v is. letter .print-byte .ensures ⨾ first .print-field-u64 .ensures ⨾ second .print-field-u642 .ensures ⨾ value .print-value .ensures v is
+
+pub print-record-spec : {M : Type 1} → statement M
+print-record-spec =
+    tie.close
+    (tie.spec
+    print-byte-requires
+    print-field-u64-requires
+    print-field-u64-requires-2
+    print-value-requires
+    same-length
+    returns)

@@ -1,0 +1,2 @@
+pub mod ListingBytes
+pub mod ListingBytesLaws
