@@ -1,5 +1,5 @@
 -- A line for each row of a table: the row at a position is that of the list's element there.
-use Prim.Native.Nat.{ℕ, zero, suc, _+_, _*_, _/_, _≤_, _<_}
+use Prim.Native.Nat.{ℕ, zero, suc, _+_, _*_, _/_, _<_}
 use mathlib.Core.Path.{_≡_, refl, sym, ap, _∙_}
 use mathlib.Core.List.{List, [], _∷_, _++_, append-nil, map, flatMap}
 use native.Mathlib.Nat.{div-lt-iff-lt-mul}

@@ -1,6 +1,6 @@
 -- Every listing is within its size.
 use Prim.Native.Nat.{ℕ, suc, _+_, _*_, _^_, _≤_, _<_}
-use mathlib.Core.Path.{_≡_, refl, sym, ap, _∙_}
+use mathlib.Core.Path.{_≡_, refl, ap}
 use mathlib.Core.Bool.{Bool, true, false}
 use mathlib.Core.List.{List, [], _∷_, _++_, flatMap}
 use native.Mathlib.Nat.{zero-mul, suc-mul}
@@ -22,9 +22,9 @@ use Rattle.spec_projection.specs.Valid.{FitsBinding, FitsNodeAvailability, Fits
 use Rattle.spec_projection.specs.ValidLaws.{empty-valid, applySteps-valid, replaySteps-fit}
 use Rattle.spec_decimal.specs.Decimal.{digits, decimal, signedDecimal}
 use Rattle.spec_decimal.specs.DecimalLaws.{length-digits, digits-same}
-use Rattle.spec_decimal.specs.ReadLaws.{decimal-last, length-decimal, length-signedDecimal}
+use Rattle.spec_decimal.specs.ReadLaws.{length-decimal, length-signedDecimal}
 use Rattle.spec_listing.specs.Listing.{fields, valueFields, bindingLine, availabilityLine, entryLine, recordCount, projectionLines, refusalLine, outcomeLines, readingLines, listing}
-use Rattle.projection_lines.specs.ListingBytes.{countLineBytes, refusalLineBytes, valueFieldBytes, bindingLineBytes, availabilityLineBytes, entryLineBytes, listingBytes}
+use Rattle.projection_lines.specs.ListingBytes.{refusalLineBytes, valueFieldBytes, bindingLineBytes, availabilityLineBytes, entryLineBytes, listingBytes}
 
 -- ---- numbers
 
