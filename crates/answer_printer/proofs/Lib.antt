@@ -1,0 +1,2 @@
+pub mod Creations
+pub mod Lookups

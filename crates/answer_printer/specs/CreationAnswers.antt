@@ -1,0 +1,18 @@
+-- The answer that a creation in the model is told by.
+use mathlib.Core.Path.{_≡_}
+use Rattle.spec_session.specs.Session.{Creation, made, refused}
+use Rattle.shell_player.specs.Creation.{Creates}
+use Rattle.shell_player.specs.declared.create.CreationRefusal.the-variants.{AnchorsOverCapacity}
+use Rattle.shell_player.specs.declared.create.CreationAnswer.{CreationAnswer}
+use Rattle.shell_player.specs.declared.create.CreationAnswer.the-variants.{Created, Refused}
+use Rattle.shell_player.specs.declared.create.ShellSessionCreation.{ShellSessionCreation}
+
+unfoldable pub creationTo : Creation → CreationAnswer
+creationTo (made s) = Created
+creationTo (refused r) = Refused AnchorsOverCapacity
+
+-- it is what the creation call answers
+pub creation-told : (c : Creation) (r : ShellSessionCreation) → Creates c r → r .answer ≡ creationTo c
+unfolding Creates creationTo
+creation-told (made s) r h = h .0
+creation-told (refused f) r h = h .0

@@ -1,0 +1,3 @@
+pub mod OpenFields
+pub mod OpenFieldsLaws
+pub mod CreationAnswers
