@@ -1,0 +1,2 @@
+pub mod CreatesFrom
+pub mod CreatesFromLaws
