@@ -28,7 +28,7 @@ pub record ReplayHolds (s : ReplayState) (m : State) : Type 0 where
   pub session-is : SessionHeld (s .exists) (s .session) (m .session)
 
 -- the state afterwards and what stands printed from the slice's start, or that alone where the replay stops
-abbrev pub Stepped : List ℕ → List ℕ → ReplayStep → Step → Type 0
+unfoldable pub Stepped : List ℕ → List ℕ → ReplayStep → Step → Type 0
 Stepped before after r (onward m printed) = (r .stopped ≡ false) × (ReplayHolds (r .state) m × Prints before (Next 0) printed after (r .printed))
 Stepped before after r (stops printed) = (r .stopped ≡ true) × Prints before (Next 0) printed after (r .printed)
 

@@ -69,12 +69,7 @@ pub fn node_availability(state: ReplayState, node: u64, out: &mut [u8]) -> Repla
 }
 
 // The value of a collection's key.
-pub fn entry_value(
-    state: ReplayState,
-    collection: u64,
-    key: u64,
-    out: &mut [u8],
-) -> ReplayStep
+pub fn entry_value(state: ReplayState, collection: u64, key: u64, out: &mut [u8]) -> ReplayStep
     ensures { λ r. ⌜ ((m : State) → ReplayHolds state m
         → Stepped (now (out .entry)) (now (out .exit)) r (asked m (λ (x : Session). onward m (valueLine (entryOf (x .projection) collection key))))) ⌝ }
 {
