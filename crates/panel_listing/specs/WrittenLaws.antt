@@ -1,13 +1,13 @@
 -- Lines that were printed are written whole, or not at all.
 use Prim.Native.Nat.{ℕ, _+_, _-_, _≤_}
 use mathlib.Core.Path.{_≡_, refl, sym, ap, _∙_, subst}
-use mathlib.Core.Bool.{true, false}
+use mathlib.Core.Bool.{Bool, true, false}
 use mathlib.Core.List.{List}
 use native.Mathlib.Omega.{arith}
 use lib.ListN.{length, take, drop, length-take}
-use Rattle.spec_patch.specs.Write as model
+use Rattle.spec_lists.specs.Lists.{if_then_else_}
 use Rattle.wire.specs.Write.{hasRoom, overwrite}
-use Rattle.wire.specs.WriteLaws.{overwrite-refused, drop-past-overwrite}
+use Rattle.wire.specs.WriteLaws.{room-true, has-room, overwrite-refused, take-overwrite, drop-past-overwrite}
 use Rattle.decimal.specs.declared.Printed.{Printed}
 use Rattle.decimal.specs.declared.Printed.the-variants.{Next, NoRoom}
 use Rattle.field_printer.specs.Prints.{Prints}
@@ -61,3 +61,23 @@ module _ (before bytes after : List ℕ) (is : after ≡ overwrite before 0 byte
 
   pub kept-all : hasRoom before 0 (length bytes) ≡ false → after ≡ before
   kept-all full = is ∙ overwrite-refused before 0 bytes (length bytes) refl full
+
+-- ---- what a caller has of lines that were written
+
+module _ {before lines after : List ℕ} {r : Written} (w : Writes before lines after r) where
+  -- an answer counts bytes of the slice
+  pub wrote-within : (n : ℕ) → r ≡ Wrote n → n ≤ length before
+  wrote-within n e = go (hasRoom before 0 (length lines)) refl (sym e ∙ w .answer)
+    where
+      go : (t : Bool) → hasRoom before 0 (length lines) ≡ t → Wrote n ≡ (if t then Wrote (0 + length lines) else Refused OutputTooShort) → n ≤ length before
+      go true room q = let same : n ≡ 0 + length lines = cc in omega (arith, room-true before 0 (length lines) room)
+      go false full q = absurd (let z : _≡_ {A = ℕ} 0 1 = cc in omega arith)
+
+  -- where there is room the lines are written
+  pub whole-written : length lines ≤ length before → (r ≡ Wrote (length lines)) × (take (length lines) after ≡ lines)
+  whole-written h =
+      let room : hasRoom before 0 (length lines) ≡ true = has-room before 0 (length lines) (omega arith) in
+      let none-before : 0 + length lines ≡ length lines = omega arith in (
+        w .answer ∙ rw room (ap Wrote none-before),
+        ap (λ (n : ℕ). take n after) (sym none-before) ∙ ap (take (0 + length lines)) (w .output) ∙ take-overwrite before 0 lines (length lines) refl room,
+      )
