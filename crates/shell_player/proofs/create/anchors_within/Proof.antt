@@ -9,11 +9,11 @@ use Rattle.shell_player.proofs.create.anchors_within.Tie as tie
 
 returns : tie.Need-returns
 unfolding anchorsWithin
-returns c = rw (lt-leb _ _ (c .if1 .taken))
+returns c = rw (lt-leb (c .before .args .nodes) anchors (c .if1 .taken))
 
 returns-2 : tie.Need-returns-2
 unfolding anchorsWithin
-returns-2 c = let a = c .before .before .args in rw (le-leb (a .nodes) anchors (search needs), lt-leb _ _ (c .if2 .taken))
+returns-2 c = let a = c .before .before .args in rw (le-leb (a .nodes) anchors (search needs), lt-leb (a .pairs) anchors (c .if2 .taken))
 
 returns-3 : tie.Need-returns-3
 unfolding anchorsWithin

@@ -12,7 +12,7 @@ use Rattle.spec_session.specs.Batch.{candidate}
 use Rattle.projection_application.specs.Application.{StepsBecame}
 use Rattle.projection_application.specs.declared.ProjectionOutcome.{ProjectionOutcome}
 use Rattle.shell_lifecycle.specs.Meaning.{refusalOf}
-use Rattle.shell_gates.specs.Gates.{countFits}
+use Rattle.shell_gates.specs.Gates.{envelopeMeans, countFits}
 use Rattle.shell_player.specs.Holds.{Holds}
 use Rattle.shell_player.specs.Batches.{rejectedRow, unchangedRow, appliedRow}
 use Rattle.shell_player.specs.CommitLaws.{kept-applied, operation-counted, commits-none, commits-refused, commits-applied}
@@ -66,10 +66,12 @@ rejected-requires-3 : tie.Need-rejected-requires-3
 rejected-requires-3 c κs = search needs
 
 returns-2 : tie.Need-returns-2
-returns-2 c = (
-  λ m ps h reads count. commits-applied _ m h _ ps _ _ _ (c .before .before .before .before .before .before .before .if1 .left) (steps (c .before .before .before .before .before) m ps h reads (c .before .before .before .enum-told .given .1)) (c .before .advanced .ensures) (c .applied-at .ensures),
-  (kept-applied _ _ _ (c .applied-at .ensures), appliedRow (c .applied-at .ensures)),
-)
+returns-2 c =
+    let run = c .before .before .before .before .before in
+    let a = run .before .before .before .before .before .before .before .before .args in (
+      λ m ps h reads count. commits-applied (a .self) m h (envelopeMeans (a .envelope)) ps (run .apply-readable .result .state) _ _ (c .before .before .before .before .before .before .before .if1 .left) (steps run m ps h reads (c .before .before .before .enum-told .given .1)) (c .before .advanced .ensures) (c .applied-at .ensures),
+      (kept-applied _ _ _ (c .applied-at .ensures), appliedRow (c .applied-at .ensures)),
+    )
 
 returns-3 : tie.Need-returns-3
 returns-3 c = (
