@@ -1,0 +1,2 @@
+pub mod ReplayHolds
+pub mod ReplayHoldsLaws

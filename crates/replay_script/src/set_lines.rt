@@ -1,0 +1,125 @@
+// Lines with a set in hex: a batch, a check and a listing.
+use crate::setup_lines;
+use decimal::Printed;
+use hex::Decoded;
+use patch_checks::check_set;
+use patch_part_writer::written::Written;
+use replay_calls::calls;
+use replay_calls::state::ReplayState;
+use replay_calls::state::ReplayStep;
+use script_parser::BatchLine;
+use shell_gates::gates::OrderedProjectionPatchBatchEnvelope;
+use shell_lifecycle::state::ShellSessionId;
+ghost use mathlib.Core.Path.{_≡_};
+ghost use Prim.Native.Nat.{_≤_};
+ghost use lib.ListN.{length};
+ghost use Rattle.spec_patch.specs.Edition.{v1};
+ghost use Rattle.spec_patch.specs.Read.{readSet};
+ghost use Rattle.spec_listing.specs.Listing.{listing};
+ghost use Rattle.spec_replay.specs.Script as script;
+ghost use Rattle.spec_replay.specs.Script.{lineBytes};
+ghost use Rattle.spec_replay.specs.Answers.{checkLines};
+ghost use Rattle.spec_replay.specs.Replay.{State, replayLine};
+ghost use Rattle.decimal.specs.declared.Printed.the-variants.{Next};
+ghost use Rattle.field_printer.specs.Prints.{Prints};
+ghost use Rattle.script_parser.specs.Meaning.{envelopeOf, setFrom};
+ghost use Rattle.replay_calls.specs.ReplayHolds.{ReplayHolds, Stepped};
+ghost use Rattle.replay_script.specs.Silent.{printedOf};
+
+// The longest set that a line can spell.
+const SET_BYTES: usize = 65536;
+
+fn print_checked(set: &[u8], out: &mut [u8]) -> Printed
+    ensures { λ r. ⌜ Prints (now (out .entry)) (Next 0) (checkLines (readSet v1 (now (set .entry)))) (now (out .exit)) r ⌝ }
+{
+    let mut records = [0u64; 945];
+    let answer = check_set::check(set, &mut records);
+    let start = Printed::Next(0);
+    check_printer::print_check(out, start, answer, &records)
+}
+
+fn printed_of(written: Written) -> Printed
+    ensures { λ r. ⌜ r ≡ printedOf written ⌝ }
+{
+    match written {
+        Written::Wrote(end) => Printed::Next(end),
+        Written::Refused(_) => Printed::NoRoom,
+    }
+}
+
+fn print_listing(set: &[u8], out: &mut [u8]) -> Printed
+    ensures { λ r. ⌜ Prints (now (out .entry)) (Next 0) (listing (now (set .entry))) (now (out .exit)) r ⌝ }
+{
+    let written = panel_listing::write_listing(set, out);
+    printed_of(written)
+}
+
+pub fn check(
+    state: ReplayState,
+    from: usize,
+    number: u64,
+    line: &[u8],
+    out: &mut [u8],
+) -> ReplayStep
+    ensures { λ r. ⌜ ((m : State) → ReplayHolds state m → length (now (line .entry)) ≤ lineBytes
+        → Stepped (now (out .entry)) (now (out .exit)) r (replayLine number m (setFrom (now (line .entry)) from script.check))) ⌝ }
+{
+    let mut set = [0u8; SET_BYTES];
+    match script_parser::decode_set(line, from, &mut set) {
+        Decoded::Bytes(len) => {
+            let printed = print_checked(&set[0..len], out);
+            ReplayStep {
+                state,
+                printed,
+                stopped: false,
+            }
+        }
+        Decoded::Malformed => setup_lines::other(state, number, out),
+        Decoded::NoRoom => setup_lines::other(state, number, out),
+    }
+}
+
+pub fn list(state: ReplayState, from: usize, number: u64, line: &[u8], out: &mut [u8]) -> ReplayStep
+    ensures { λ r. ⌜ ((m : State) → ReplayHolds state m → length (now (line .entry)) ≤ lineBytes
+        → Stepped (now (out .entry)) (now (out .exit)) r (replayLine number m (setFrom (now (line .entry)) from script.list))) ⌝ }
+{
+    let mut set = [0u8; SET_BYTES];
+    match script_parser::decode_set(line, from, &mut set) {
+        Decoded::Bytes(len) => {
+            let printed = print_listing(&set[0..len], out);
+            ReplayStep {
+                state,
+                printed,
+                stopped: false,
+            }
+        }
+        Decoded::Malformed => setup_lines::other(state, number, out),
+        Decoded::NoRoom => setup_lines::other(state, number, out),
+    }
+}
+
+pub fn batch(
+    state: ReplayState,
+    batch: BatchLine,
+    number: u64,
+    line: &[u8],
+    out: &mut [u8],
+) -> ReplayStep
+    ensures { λ r. ⌜ ((m : State) → ReplayHolds state m → length (now (line .entry)) ≤ lineBytes
+        → Stepped (now (out .entry)) (now (out .exit)) r (replayLine number m (setFrom (now (line .entry)) (batch .set) (script.batch (envelopeOf batch) (batch .«target_references»))))) ⌝ }
+{
+    let envelope = OrderedProjectionPatchBatchEnvelope {
+        session_id: ShellSessionId(batch.session_id),
+        sequence_no: batch.sequence_no,
+        patch_count: batch.patch_count,
+        stimulus_bytes: batch.stimulus_bytes,
+    };
+    let mut set = [0u8; SET_BYTES];
+    match script_parser::decode_set(line, batch.set, &mut set) {
+        Decoded::Bytes(len) => {
+            calls::apply_batch(state, envelope, batch.target_references, &set[0..len], out)
+        }
+        Decoded::Malformed => setup_lines::other(state, number, out),
+        Decoded::NoRoom => setup_lines::other(state, number, out),
+    }
+}

@@ -1,0 +1,2 @@
+pub mod SetsUp
+pub mod SetsUpLaws
