@@ -3,7 +3,7 @@
 from sizes import LAST_U64
 
 
-def _target(operation):
+def mutation_target(operation):
     """What an operation changes: the kind of operation, and the ids that tell it apart."""
     if operation.number == 1:
         return (1, operation.node, operation.slot)
@@ -27,7 +27,7 @@ def patch_findings(patch):
     for index, operation in enumerate(patch.operations):
         if operation.number in (3, 6) and operation.before == operation.key:
             found.add((2, patch.id, index))
-        target = _target(operation)
+        target = mutation_target(operation)
         if target in seen:
             found.add((3, patch.id, index))
         seen.add(target)

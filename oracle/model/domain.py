@@ -1,0 +1,67 @@
+"""Whether the Rust decides every answer of a script: 01's domain, with the capacities that the Rust does not have."""
+
+from canonical import Fault, read_set
+from checks import findings
+from replay import BadLine, Replay, set_bytes
+
+
+def _ids(patch):
+    """Every number of a patch that a constructor of the Rust refuses where it is 0."""
+    yield from (patch.id, patch.stream, patch.document)
+    if patch.surface is not None:
+        yield patch.surface
+    for operation in patch.operations:
+        if operation.number in (1, 2):
+            yield operation.node
+        else:
+            yield from (operation.collection, operation.key)
+            before = getattr(operation, "before", None)
+            if before is not None:
+                yield before
+
+
+def _set_outside(data, with_checks):
+    try:
+        patches = read_set(data)
+    except Fault:
+        return "bytes that do not read"
+    if any(number == 0 for patch in patches for number in _ids(patch)):
+        return "an id of 0"
+    if with_checks and findings(patches)[1]:
+        return "a batch or listing with findings"
+    return None
+
+
+def _line_outside(state, fields):
+    """Why the line is outside the domain, or None."""
+    command = fields[0]
+    if command in (b"node", b"binding", b"collection") and fields[1] == b"0":
+        return "an id of 0"
+    if command == b"value" and (fields[2] == b"0" or fields[1] == b"entry" and fields[3] == b"0"):
+        return "an id of 0"
+    if command in (b"check", b"list", b"batch"):
+        return _set_outside(set_bytes(fields[-1]), command != b"check")
+    return None
+
+
+def outside(script):
+    """Why the script is outside the domain, or None where the Rust decides it all."""
+    state = Replay()
+    lines = script.split(b"\n")
+    if lines.pop():
+        return "a line that is no command"
+    for text in lines:
+        if text == b"" or text.startswith(b"#"):
+            continue
+        try:
+            answer = state.answer(text)
+        except BadLine:
+            return "a line that is no command"
+        why = _line_outside(state, text.split(b" "))
+        if why:
+            return why
+        if answer == b"S\t13\n":
+            return "129 anchors"
+        if answer == b"E\t9\n" or b"\trejected\t9\t" in answer:
+            return "a full panel"
+    return None
