@@ -2,7 +2,9 @@
 
 from canonical import Fault, read_set
 from checks import findings
-from replay import BadLine, Replay, set_bytes
+from replay import LINE_BYTES, BadLine, Replay, set_bytes
+
+NO_COMMAND = "a line that is no command"
 
 
 def _ids(patch):
@@ -32,7 +34,7 @@ def _set_outside(data, with_checks):
     return None
 
 
-def _line_outside(state, fields):
+def _line_outside(fields):
     """Why the line is outside the domain, or None."""
     command = fields[0]
     if command in (b"node", b"binding", b"collection") and fields[1] == b"0":
@@ -44,24 +46,36 @@ def _line_outside(state, fields):
     return None
 
 
+def split_script(script):
+    """The part of a script up to its first line that the Rust does not decide, and why that line is outside; else None."""
+    state = Replay()
+    inside = b""
+    for text in script.split(b"\n")[:-1]:
+        why = _answer_outside(state, text)
+        if why:
+            return inside, why
+        inside += text + b"\n"
+    return inside, None if inside == script else NO_COMMAND
+
+
+def _answer_outside(state, text):
+    """Answers the line; why it is outside the domain, or None."""
+    if len(text) > LINE_BYTES:
+        return NO_COMMAND
+    try:
+        answer = state.answer(text)
+    except BadLine:
+        return NO_COMMAND
+    if answer == b"N\n":
+        return "a call without a session"
+    if answer == b"S\t13\n":
+        return "129 anchors"
+    why = _line_outside(text.split(b" "))
+    if why is None and (answer == b"E\t9\n" or b"\trejected\t9\t" in answer):
+        return "a full panel"
+    return why
+
+
 def outside(script):
     """Why the script is outside the domain, or None where the Rust decides it all."""
-    state = Replay()
-    lines = script.split(b"\n")
-    if lines.pop():
-        return "a line that is no command"
-    for text in lines:
-        if text == b"" or text.startswith(b"#"):
-            continue
-        try:
-            answer = state.answer(text)
-        except BadLine:
-            return "a line that is no command"
-        why = _line_outside(state, text.split(b" "))
-        if why:
-            return why
-        if answer == b"S\t13\n":
-            return "129 anchors"
-        if answer == b"E\t9\n" or b"\trejected\t9\t" in answer:
-            return "a full panel"
-    return None
+    return split_script(script)[1]
