@@ -150,7 +150,7 @@ insert 9 2 U 92
 insert 8 2 U 82
 insert 9 3 U 93
 """)
-case("collections_interleaved", "operations on three collections in turn leave the others as they are", "spec_projection Effects; Apply.applyOperation",
+case("collections_interleaved", "operations on three collections in turn leave the others as they are", "spec_projection Apply.applyOperation",
      set_up(collections=(8, 9, 10)) + [batch(1, INTERLEAVED), "show", batch(2, patches_of([move(9, 3, 1), remove(8, 1), update(10, 1, quad(0)), move(8, 2), insert(9, 4, quad(1), before=2)])), "show"],
      ["S 0", APPLIED % 1, "P 7", "C 8 1 U 81", "C 8 2 U 82", "C 9 1 U 91", "C 9 2 U 92", "C 9 3 U 93", "C 10 1 U 101", "C 10 2 U 102",
       APPLIED % 2, "P 7", "C 8 2 U 82", "C 9 3 U 93", "C 9 1 U 91", "C 9 4 Q 1", "C 9 2 U 92", "C 10 1 Q 0", "C 10 2 U 102"])
