@@ -2,11 +2,10 @@
 
 from itertools import combinations
 
-from build import quad, unsigned
+from build import patch, quad, unsigned
 from canonical import encode_set
 from kit import batch, on_panel
 from patch import availability, binding, insert, operations_of, remove, update
-from build import patch
 
 # the steps, the fault that each case makes for it, and 01's answer to it, by hand
 STEPS = {
@@ -32,7 +31,8 @@ def faulty(faults):
     patches = [patch(1, operations, previous=1 if "step4_checks" in faults else 0)]
     data = encode_set(patches) + (b"\0" if "step4_reading" in faults else b"")
     call = batch(
-        9 if "step8" in faults else 4, patches, session=8 if "step1" in faults else 7, stimulus=101 if "step3" in faults else 10,
+        9 if "step8" in faults else 4, patches, session=8 if "step1" in faults else 7,
+        stimulus=101 if "step3" in faults else 10,
         references=len(operations_of(patches)) + (1 if "step5" in faults else 0), data=data,
     )
     return (["apply close 0"] if "step2" in faults else []) + [call]
@@ -45,16 +45,17 @@ def answers(faults, answer):
 for first, second in combinations(STEPS, 2):
     on_panel(
         "order_%s_before_%s" % (first, second),
-        "the first failing check ends the call: %s and %s together give the answer of the first" % (STEPS[first][0], STEPS[second][0]),
-        "spec_session Batch.batchChecks and concludeBatch, order of the steps",
-        faulty({first, second}), answers({first, second}, STEPS[first][1]), references=4,
+        "the first failing check ends the call: %s comes before %s" % (STEPS[first][0], STEPS[second][0]),
+        "spec_session Batch.batchChecks and concludeBatch, order of the steps", faulty({first, second}),
+        answers({first, second}, STEPS[first][1]), references=4,
     )
 on_panel(
-    "order_all_faults_at_once", "a call with a fault for every step gives the answer of step 1", "spec_session Batch.batchChecks",
-    faulty(set(STEPS)), answers(set(STEPS), STEPS["step1"][1]), references=4,
+    "order_all_faults_at_once", "a call with a fault for every step gives the answer of step 1",
+    "spec_session Batch.batchChecks", faulty(set(STEPS)), answers(set(STEPS), STEPS["step1"][1]), references=4,
 )
 on_panel(
-    "order_faults_mended_one_by_one", "mended from the front, the call meets the next step's answer each time, and then applies",
+    "order_faults_mended_one_by_one",
+    "mended from the front, the call meets the next step's answer each time, and then applies",
     "spec_session Batch.batchChecks, all steps",
     [faulty({step for step in list(STEPS)[at:] if step != "step2"})[0] for at in (0, 2, 3, 4, 5, 6, 7, 8, 9, 10)],
     [STEPS[step][1] for step in STEPS if step != "step2"] + ["R applied 0 0 0 0 4"], references=4,

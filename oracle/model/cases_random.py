@@ -12,6 +12,10 @@ BEGIN = set_up(patches=16, references=600, nodes=NODES, bindings=SLOTS, collecti
 CLAIM = "batch_splitting Splitting; session_splitting Claim"
 
 
+def answers_to(lines):
+    return answered("".join(text + "\n" for text in lines).encode()).splitlines()
+
+
 def cut(chance, patches):
     """The list in pieces, none of them empty."""
     pieces, piece = [], []
@@ -37,14 +41,14 @@ def split_run(chance, fill, number, faults, keys):
     sent = []
     for piece in pieces:
         sent.append(piece)
-        if b"rejected" in answered("".join(text + "\n" for text in BEGIN + begin + sent).encode()).splitlines()[-1]:
+        if b"rejected" in answers_to(BEGIN + begin + sent)[-1]:
             break
     return whole, begin + sent + ["show"], len(sent) == len(pieces), len(begin)
 
 
 def check_claim(whole, pieces, all_sent, begun):
     """What the claim says of the answers to one run."""
-    of_whole, of_pieces = (answered("".join(text + "\n" for text in BEGIN[:-1] + lines).encode()).splitlines() for lines in (whole, pieces))
+    of_whole, of_pieces = answers_to(BEGIN[:-1] + whole), answers_to(BEGIN[:-1] + pieces)
     result, last = of_whole[begun].split(b"\t"), of_pieces[len(pieces) - 2].split(b"\t")
     earlier = [line.split(b"\t")[1] for line in of_pieces[begun : len(pieces) - 2]]
     assert all(disposition == b"applied" for disposition in earlier)
@@ -76,12 +80,21 @@ def some_entries(chance):
 
 def nearly_full(chance):
     """127 or 128 entries."""
-    return [patches_of([insert(10, key, quad(0)) for key in range(100, 100 + chance.between(121, 122))]), patches_of([insert(9, key, quad(1)) for key in range(1, 7)])]
+    return [
+        patches_of([insert(10, key, quad(0)) for key in range(100, 100 + chance.between(121, 122))]),
+        patches_of([insert(9, key, quad(1)) for key in range(1, 7)]),
+    ]
 
 
-random_case("random_whole_and_pieces", "300 random patch lists, each sent whole and in random pieces to two sessions that start alike; about half break off at an operation",
-            CLAIM, split_script(20261115, 300, some_entries, 10, 6))
-random_case("random_whole_and_pieces_nearly_full", "20 such lists on panels with few places left, so that 9 occurs as well", CLAIM, split_script(7, 20, nearly_full, 9, 9))
+random_case(
+    "random_whole_and_pieces",
+    "300 random patch lists, each sent whole and in random pieces to two sessions that start alike; many break off",
+    CLAIM, split_script(20261115, 300, some_entries, 10, 6),
+)
+random_case(
+    "random_whole_and_pieces_nearly_full", "20 such lists on panels with few places left, so that 9 occurs as well",
+    CLAIM, split_script(7, 20, nearly_full, 9, 9),
+)
 
 
 def long_run(seed, batches, keys, faults):
@@ -102,4 +115,7 @@ def long_run(seed, batches, keys, faults):
     return lines
 
 
-random_case("random_long_run", "300 random batches on one session; a rejected one leaves its number to the next", "spec_session Batch.batch", long_run(1, 300, 12, 40))
+random_case(
+    "random_long_run", "300 random batches on one session; a rejected one leaves its number to the next",
+    "spec_session Batch.batch", long_run(1, 300, 12, 40),
+)

@@ -33,7 +33,8 @@ def main(folder, *oracle):
         counts[result] += 1
         lines += answered
         print("%-9s %5d  %s" % (result, answered, name))
-    print("%(whole)d held whole, %(beginning)d up to their first line outside the domain, %(none)d not at all, %(differs)d differ" % counts)
+    print("%(whole)d held whole, %(beginning)d up to their first line outside the domain," % counts, end=" ")
+    print("%(none)d not at all, %(differs)d differ" % counts)
     print("%d lines of answers are the original's" % lines)
     sys.exit(counts["differs"] != 0)
 

@@ -14,10 +14,12 @@ SUBJECTS = {
     "examples": "The settled examples",
     "creation": "Creation",
     "lifecycle": "Lifecycle",
-    "batch": "One batch, step by step",
+    "batch": "One batch, steps 1 to 6",
+    "panel": "One batch, steps 7 to 9, and the cap",
     "order": "Two faults at once",
     "checks": "Patch checks",
-    "projection": "Projection and lookups",
+    "projection": "Bindings, availabilities, values and lookups",
+    "entries": "Entries of collections",
     "reading": "Canonical bytes",
     "text": "Texts",
     "listing": "Listing",
@@ -25,6 +27,9 @@ SUBJECTS = {
     "split": "Whole and pieces",
     "random": "Random runs",
 }
+
+
+COLUMNS = "| Case | Rule | Definition | Answers from | Outside the Rust's domain |\n|---|---|---|---|---|\n"
 
 
 def load():
@@ -63,8 +68,7 @@ def row(case):
 def write_list(page, loaded):
     text = "# The cases\n\nMade by `oracle/model/write_kit.py`. The last column says why the Rust does not decide a case.\n"
     for title, cases in loaded.items():
-        text += "\n## %s: %d\n\n| Case | Rule | Definition | Answers from | Outside the Rust's domain |\n|---|---|---|---|---|\n" % (title, len(cases))
-        text += "".join(map(row, sorted(cases)))
+        text += "\n## %s: %d\n\n%s%s" % (title, len(cases), COLUMNS, "".join(map(row, sorted(cases))))
     page.parent.mkdir(parents=True, exist_ok=True)
     page.write_text(text)
 
