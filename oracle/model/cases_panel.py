@@ -41,7 +41,7 @@ on_panel(
     nodes=(5, 6),
 )
 REPEATS = patches_of(
-    [availability(6, 1), availability(5, 1)], [availability(6, 2)], [availability(6, 3), binding(5, 9, quad(0))],
+    [availability(6, 1), availability(5, 1)], [availability(6, 1)], [availability(6, 1), binding(5, 9, quad(0))],
 )
 on_panel(
     "step7_repeats_count", "one diagnostic for each operation whose target is absent, repeats included", CATALOGUE,

@@ -40,7 +40,7 @@ refused("read_no_bytes_10", "no bytes are too few: 10", READ % "readSet", 10, b"
 refused(
     "read_heading_length_10", "a heading length other than 27 is another heading: 10", READ % "readPatches", 10,
     u32(26) + HEADING[:26] + u32(0), u32(28) + HEADING + b"1" + u32(0), u32(0) + u32(0),
-    b"\0\0\0\x1b" + HEADING + u32(0),
+    u32(26) + HEADING + u32(0), u32(28) + HEADING + u32(0), b"\0\0\0\x1b" + HEADING + u32(0),
 )
 refused(
     "read_heading_letters_10", "any other letters are another heading: 10", READ % "readPatches", 10,
