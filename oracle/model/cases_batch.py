@@ -2,9 +2,11 @@
 
 from build import patch, patches_of, quad, text, unsigned
 from canonical import encode_set
-from kit import batch, case, on_panel, set_up
+from kit import batch, case, on_panel, rules_of, set_up
 from patch import availability, binding, update
 from sizes import LAST_U64
+
+rules_of("One batch, from entry to leaf")
 
 STEP = "spec_session Batch.batchChecks, step %d"
 ONE = patches_of([availability(5, 1)])

@@ -3,9 +3,11 @@
 from itertools import combinations
 
 from build import patch, patches_of, quad
-from kit import batch, case, check, on_panel
+from kit import batch, case, check, on_panel, rules_of
 from patch import availability, binding, insert, move, remove, update
 from sizes import LAST_U64
+
+rules_of("Patch checks")
 
 ONE = [availability(5, 1)]
 PATCH = "spec_checks PatchChecks.patchFindings, kind %s"

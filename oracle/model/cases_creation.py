@@ -1,8 +1,10 @@
 """Creation: anchors, 13, and what a new session is."""
 
 from build import patches_of
-from kit import PANEL, STARTED, batch, case, set_up, started
+from kit import PANEL, STARTED, batch, case, rules_of, set_up, started
 from patch import availability
+
+rules_of("Lifecycle")
 
 ANCHORS_128 = range(1, 129)
 CREATE = "spec_session Session.create and anchorsFit"
@@ -13,6 +15,7 @@ case(
     ["S 0", "L no-change 0 0 0 0 created - 0", "P 0"],
 )
 
+rules_of("Rejections born of the input")
 KINDS = {
     "nodes": (dict(nodes=ANCHORS_128), "node 129"),
     "bindings": (dict(bindings=[(node, 0) for node in ANCHORS_128]), "binding 129 0"),
@@ -44,12 +47,13 @@ case(
     started(diagnostics=0) + ["show"] + set_up(diagnostics=0, nodes=range(1, 130)) + ["show"],
     STARTED + PANEL + ["S 13", "N"],
 )
+rules_of("the script's format in kit/README.md")
 case(
     "create_anchors_past_129_are_ignored",
     "a script keeps 129 anchors of a kind, so that 13 can be shown; a new set-up has none",
     "spec_replay Replay.keep; spec_session Session.create",
-    set_up(nodes=range(1, 136)) + ["show", "session 7 100 10 8 64", "node 5", "create", "show"],
-    ["S 13", "N", "S 0", "P 0"],
+    started() + set_up(nodes=range(1, 136)) + ["show", "session 7 100 10 8 64", "node 5", "create", "show"],
+    STARTED + ["S 13", "N", "S 0", "P 0"],
 )
 case(
     "create_again_makes_the_same_session_anew", "a second create takes the same set-up again",

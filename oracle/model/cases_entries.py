@@ -2,8 +2,10 @@
 
 from build import patches_of, quad, read_notation, signed, text, unsigned
 from cases_projection import APPLIED, APPLY, FULL, KEY_RULE, one
-from kit import PANEL, batch, case, on_panel, set_up
+from kit import PANEL, batch, case, on_panel, rules_of, set_up
 from patch import availability, binding, insert, move, remove, update
+
+rules_of("Projection")
 
 # ---- insert
 
@@ -49,8 +51,12 @@ on_five(
 case(
     "insert_first_before_absent_8",
     "in an empty collection there is no neighbour: 8, and nothing is left of the collection", INSERT,
-    set_up() + [batch(1, one(insert(9, 1, quad(0), before=2))), "show", batch(1, one(insert(9, 1, quad(0)))), "show"],
-    ["S 0", KEY_RULE % "-", "P 0", APPLIED % 1, "P 1", "C 9 1 Q 0"],
+    set_up()
+    + [
+        batch(1, one(availability(5, 2))), batch(2, one(insert(9, 1, quad(0), before=2))), "show",
+        batch(2, one(insert(9, 1, quad(0)))), "show",
+    ],
+    ["S 0", APPLIED % 1, KEY_RULE % 1, "P 1", "A 5 2", APPLIED % 2, "P 2", "A 5 2", "C 9 1 Q 0"],
 )
 on_panel(
     "insert_key_of_another_collection", "a key in another collection is no obstacle", INSERT,

@@ -2,9 +2,11 @@
 
 from build import patch, patches_of, read_notation, text, unsigned
 from canonical import encode_set, encode_value
-from kit import PANEL, PANEL_SET, batch, case, check, listed, on_panel, set_up
+from kit import PANEL, PANEL_SET, batch, case, check, listed, on_panel, rules_of, set_up
 from patch import availability, binding, insert
 from sizes import LAST_U64
+
+rules_of("Settled examples")
 
 EMPTY = encode_set([])
 assert len(EMPTY) == 35
@@ -132,8 +134,9 @@ case(
 
 case(
     "example_13_anchors_of_a_kind", "settled example: 128 anchors of a kind pass, 129 give 13",
-    "spec_session Session.create", set_up(nodes=range(1, 129)) + ["show", "node 129", "create", "show"],
-    ["S 0", "P 0", "S 13", "N"],
+    "spec_session Session.create",
+    set_up(nodes=range(1, 129)) + [batch(3, PANEL_SET), "show", "node 129", "create", "show"],
+    ["S 0", "R applied 0 0 0 0 3"] + PANEL + ["S 13", "N"],
 )
 
 on_panel(

@@ -1,6 +1,8 @@
 """Lifecycle: every pair of state and command, the order of refusals, the byte figure, the cap."""
 
-from kit import on_panel
+from kit import on_panel, rules_of
+
+rules_of("Lifecycle")
 
 TRANSITION = "spec_session Lifecycle.transition and lifecycleStep"
 
@@ -97,6 +99,7 @@ on_panel(
     "lifecycle_limit_of_2_64_1_refuses_nothing", "a byte limit of 2^64-1 refuses nothing", STEP,
     ["apply activate 18446744073709551615"], ["L applied 0 0 0 0 active 3 18446744073709551615"], stimulus=2**64 - 1,
 )
+rules_of("Diagnostics under the cap")
 CAP = "spec_session Diagnostics.diagnosticsOf"
 on_panel(
     "lifecycle_cap_0_hides_the_code",

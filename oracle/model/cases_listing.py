@@ -1,8 +1,10 @@
 """The listing: a set on an empty projection, without a session."""
 
 from build import patch, patches_of, quad, read_notation, signed, text, unsigned
-from kit import PANEL, STARTED, case, listed, on_panel, started
+from kit import PANEL, STARTED, case, listed, on_panel, rules_of, started
 from patch import availability, binding, insert, move, remove, update
+
+rules_of("Listing")
 
 LISTING = "spec_listing Listing.listing"
 

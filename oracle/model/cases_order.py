@@ -4,8 +4,10 @@ from itertools import combinations
 
 from build import patch, quad, unsigned
 from canonical import encode_set
-from kit import batch, on_panel
+from kit import batch, on_panel, rules_of
 from patch import availability, binding, insert, operations_of, remove, update
+
+rules_of("One batch, from entry to leaf")
 
 # the steps, the fault that each case makes for it, and 01's answer to it, by hand
 STEPS = {

@@ -2,9 +2,11 @@
 
 from build import patch, patches_of, quad, read_notation, text, unsigned
 from cases_batch import APPLIED, FOUND, LOOSE, ONE, panel_with
-from kit import PANEL, PANEL_SET, batch, case, on_panel, set_up
+from kit import PANEL, PANEL_SET, batch, case, on_panel, rules_of, set_up
 from patch import availability, binding, insert, move, remove, update
 from sizes import LAST_U64
+
+rules_of("One batch, from entry to leaf")
 
 # ---- step 7
 
@@ -47,6 +49,7 @@ on_panel(
     "step7_repeats_count", "one diagnostic for each operation whose target is absent, repeats included", CATALOGUE,
     [batch(4, REPEATS)], ["R rejected 6 5 4 4 3"],
 )
+rules_of("Diagnostics under the cap")
 CAP = "spec_session Diagnostics.diagnosticsOf, step 7"
 for cap, answer in [(0, "R rejected 0 0 4 0 3"), (1, "R rejected 6 5 4 1 3"), (3, "R rejected 6 5 4 3 3"),
     (4, "R rejected 6 5 4 4 3"), (5, "R rejected 6 5 4 4 3")]:
@@ -54,6 +57,7 @@ for cap, answer in [(0, "R rejected 0 0 4 0 3"), (1, "R rejected 6 5 4 1 3"), (3
         "cap_%d_of_4_absent_targets" % cap, "the emitted count is the smaller of logical count and cap", CAP,
         [batch(4, REPEATS)], [answer], diagnostics=cap,
     )
+rules_of("One batch, from entry to leaf")
 on_panel(
     "step7_128_absent_targets", "as many diagnostics as operations", CATALOGUE,
     [batch(4, patches_of([availability(node, 1) for node in range(100, 228)]))], ["R rejected 6 5 128 10 3"],
@@ -201,6 +205,8 @@ on_panel(
 )
 
 # ---- the cap, for numbers other than 6
+
+rules_of("Diagnostics under the cap")
 
 for number, lines in {
     1: [batch(4, ONE, session=8)], 4: [batch(4, ONE, stimulus=101)], 5: [batch(4, ONE, references=9)], 7: [batch(9, ONE)],

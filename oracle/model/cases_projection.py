@@ -1,8 +1,10 @@
 """The projection: bindings and availabilities, values, ids, lookups."""
 
 from build import patches_of, quad, read_notation, signed, text, unsigned
-from kit import PANEL, STARTED, batch, case, on_panel, set_up, started
+from kit import PANEL, STARTED, batch, case, on_panel, rules_of, set_up, started
 from patch import availability, binding, insert, move, remove, update
+
+rules_of("Projection")
 
 APPLIED = "R applied 0 0 0 0 %d"
 KEY_RULE = "R rejected 8 8 1 1 %s"
@@ -255,7 +257,7 @@ case(
     started()
     + [
         batch(4, patches_of([update(9, 1, quad(0)), remove(9, 2)])), "value entry 9 1", "value entry 9 2",
-        batch(5, patches_of([update(9, 1, quad(1)), remove(9, 2)])), "value entry 9 1",
+        batch(5, patches_of([update(9, 1, quad(1)), remove(9, 2)])), "value entry 9 1", "show",
     ],
-    STARTED + [APPLIED % 4, "V Q 0", "V -", KEY_RULE % 4, "V Q 0"],
+    STARTED + [APPLIED % 4, "V Q 0", "V -", KEY_RULE % 4, "V Q 0", "P 3", "B 5 0 Q 2", "A 5 3", "C 9 1 Q 0"],
 )

@@ -2,11 +2,13 @@
 
 from chance import Chance
 from checks import findings
-from kit import answered, batch, random_case, set_up
+from kit import answered, batch, random_case, rules_of, set_up
 from patch import insert
 from build import patches_of, quad
 from projection import Projection, Stopped, apply_operations
 from random_sets import COLLECTIONS, NODES, SLOTS, patch_list
+
+rules_of("Whole and pieces")
 
 BEGIN = set_up(patches=16, references=600, nodes=NODES, bindings=SLOTS, collections=COLLECTIONS)
 CLAIM = "batch_splitting Splitting; session_splitting Claim"
@@ -115,6 +117,7 @@ def long_run(seed, batches, keys, faults):
     return lines
 
 
+rules_of("One batch, from entry to leaf")
 random_case(
     "random_long_run", "300 random batches on one session; a rejected one leaves its number to the next",
     "spec_session Batch.batch", long_run(1, 300, 12, 40),

@@ -2,8 +2,10 @@
 
 from build import patch, patches_of, quad, read_notation, signed, text, unsigned
 from canonical import HEADING, encode_head, encode_operation, encode_set, u32, u64
-from kit import PANEL, batch, on_panel
+from kit import PANEL, batch, on_panel, rules_of
 from patch import availability, binding, insert, move, remove, update
+
+rules_of("Canonical bytes")
 
 READ = "spec_patch Read.%s"
 HEAD = u32(27) + HEADING

@@ -1,7 +1,9 @@
 """The script's own rules: lines, fields, numbers, hex, and calls without a session."""
 
 from build import hex_of
-from kit import PANEL, PANEL_SET, STARTED, batch, case, set_up, started
+from kit import PANEL, PANEL_SET, STARTED, batch, case, rules_of, set_up, started
+
+rules_of("the script's format in kit/README.md")
 
 COMMAND = "spec_replay Script.command"
 HEX = "spec_replay Script.readHex"
@@ -148,7 +150,8 @@ bad("hex_dashes", "- stands alone", HEX, "check --")
 bad("hex_dash_behind", "- stands alone", HEX, "check 1b-")
 case(
     "script_hex_dash", "- is the empty byte string, which is no set", HEX,
-    BEGIN + ["check -", "list -", batch(4, [], data=b"")], BEGUN + ["K 10", "E 10", "R rejected 10 4 1 1 3"],
+    BEGIN + ["check -", "list -", batch(4, [], data=b""), "show"],
+    BEGUN + ["K 10", "E 10", "R rejected 10 4 1 1 3"] + PANEL,
 )
 
 # ---- line ends and lengths
@@ -171,7 +174,7 @@ case(
 )
 case(
     "script_long_hex_line", "the longest hex that a line can hold is over 32,768 bytes: 12",
-    "spec_replay Script.lineBytes", BEGIN + ["check " + "00" * 65533], BEGUN + ["K 12"],
+    "spec_replay Script.lineBytes", BEGIN + ["check " + "00" * 65533, "show"], BEGUN + ["K 12"] + PANEL,
 )
 assert len("check " + "00" * 65533) == 131072
 case(

@@ -1,9 +1,11 @@
 """Whole and pieces: a patch list sent as one batch, and the same list in pieces to a second session alike."""
 
 from build import patch, patches_of, quad, read_notation
-from kit import PANEL, STARTED, batch, case, set_up, started
+from kit import PANEL, STARTED, batch, case, rules_of, set_up, started
 from patch import availability, insert, move, remove, update
 from sizes import LAST_U64
+
+rules_of("Whole and pieces")
 
 CLAIM = "batch_splitting Splitting; session_splitting Claim"
 

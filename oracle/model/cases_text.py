@@ -3,8 +3,10 @@
 from build import patches_of, text
 from canonical import u32, u64
 from cases_reading import refused, with_operations
-from kit import batch, on_panel
+from kit import batch, on_panel, rules_of
 from patch import update
+
+rules_of("Canonical bytes")
 
 READ = "spec_patch Read.readText"
 SYNTAX = "spec_text Syntax.isUtf8"

@@ -15,6 +15,14 @@ Case = namedtuple("Case", "name rule definition script answers by_hand")
 
 CASES = {}
 
+# where the rules of the cases that follow stand
+_source = []
+
+
+def rules_of(section):
+    """The cases that follow show rules of this section of 01, or of another paper if it is named."""
+    _source[:] = [section if " in " in section else "01, '%s'" % section]
+
 
 def _bytes(lines):
     return b"".join(text if isinstance(text, bytes) else text.encode("utf-8") + b"\n" for text in lines)
@@ -27,7 +35,7 @@ def _answers(lines):
 def _add(name, rule, definition, lines, answers):
     """The comments come first in the script."""
     assert name not in CASES, name
-    script = _bytes(["# %s" % name, "# Rule: %s" % rule, "# Definition: %s" % definition] + list(lines))
+    script = _bytes(["# %s" % name, "# Rule: %s: %s" % (_source[0], rule), "# Definition: %s" % definition] + list(lines))
     if answers is None:
         CASES[name] = Case(name, rule, definition, script, answered(script), False)
     else:
