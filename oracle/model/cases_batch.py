@@ -22,7 +22,7 @@ def panel_with(byte):
 # ---- step 1
 
 on_panel(
-    "step1_own_session_passes", "the envelope's session id is the session's", STEP % 1, [batch(4, ONE)], [APPLIED],
+    "step1_own_session_passes", "a batch that names its session passes", STEP % 1, [batch(4, ONE)], [APPLIED],
     panel=panel_with(1),
 )
 on_panel(
@@ -171,8 +171,8 @@ on_panel(
     [batch(4, TWO, count=1, references=1)], ["R rejected 5 4 1 1 3"],
 )
 on_panel(
-    "step5_references_are_operations_of_all_patches", "target references are the operations of all patches", STEP % 5,
-    [batch(4, TWO, references=2)], [APPLIED], panel=panel_with(2),
+    "step5_references_are_operations_of_all_patches", "references are counted over the operations of every patch",
+    STEP % 5, [batch(4, TWO, references=2)], [APPLIED], panel=panel_with(2),
 )
 
 # ---- step 6

@@ -266,7 +266,7 @@ clean(
 
 found(
     "place_first_patch_with_findings",
-    "the first patch with findings ends the check: later patches and the set are not looked at",
+    "only the first patch with findings is reported, whatever later patches or the set have",
     "spec_checks Findings.firstFindings", [patch(1, ONE, id=40), patch(2, [], id=40), patch(3, [], stream=0)], 1,
     (6, 40, 0),
 )

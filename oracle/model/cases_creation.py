@@ -10,7 +10,7 @@ ANCHORS_128 = range(1, 129)
 CREATE = "spec_session Session.create and anchorsFit"
 
 case(
-    "create_new_session", "a new session is Created and Uninitialized, and its panel is empty",
+    "create_new_session", "what a new session begins with: Created, no number yet, an empty panel",
     "spec_session Session.newSession", set_up() + ["apply noop 0", "show"],
     ["S 0", "L no-change 0 0 0 0 created - 0", "P 0"],
 )

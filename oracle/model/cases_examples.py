@@ -120,7 +120,7 @@ update 9 3 U 2
 """)
 on_panel(
     "example_11_insert_and_update_of_one_key",
-    "settled example: insert and update of one key in a patch give no finding",
+    "settled example: a patch may insert a key and update it, and nothing is found",
     "spec_checks Target.sameTarget; worked_examples Examples", [check(BOTH), batch(4, BOTH)],
     ["K 0 set 0", "R applied 0 0 0 0 4"], panel=["P 5", "B 5 0 Q 2", "A 5 3", "C 9 1 T Ok", "C 9 2 S -4", "C 9 3 U 2"],
 )
@@ -133,7 +133,8 @@ case(
 )
 
 case(
-    "example_13_anchors_of_a_kind", "settled example: 128 anchors of a kind pass, 129 give 13",
+    "example_13_anchors_of_a_kind",
+    "settled example: with 128 anchors of a kind there is a session, with one more there is 13",
     "spec_session Session.create",
     set_up(nodes=range(1, 129)) + [batch(3, PANEL_SET), "show", "node 129", "create", "show"],
     ["S 0", "R applied 0 0 0 0 3"] + PANEL + ["S 13", "N"],

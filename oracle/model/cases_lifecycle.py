@@ -102,9 +102,8 @@ on_panel(
 rules_of("Diagnostics under the cap")
 CAP = "spec_session Diagnostics.diagnosticsOf"
 on_panel(
-    "lifecycle_cap_0_hides_the_code",
-    "with 0 emitted, code and stage are 0 and only the disposition shows the rejection", CAP, ["apply resume 0"],
-    ["L rejected 0 0 1 0 created 3 0"], diagnostics=0,
+    "lifecycle_cap_0_hides_the_code", "a cap of 0 shows neither number nor stage; the disposition still tells", CAP,
+    ["apply resume 0"], ["L rejected 0 0 1 0 created 3 0"], diagnostics=0,
 )
 on_panel(
     "lifecycle_cap_1", "a cap equal to the logical count emits all of it", CAP, ["apply resume 0"],

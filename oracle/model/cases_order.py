@@ -47,7 +47,7 @@ def answers(faults, answer):
 for first, second in combinations(STEPS, 2):
     on_panel(
         "order_%s_before_%s" % (first, second),
-        "the first failing check ends the call: %s comes before %s" % (STEPS[first][0], STEPS[second][0]),
+        "two faults, one answer: %s is met before %s" % (STEPS[first][0], STEPS[second][0]),
         "spec_session Batch.batchChecks and concludeBatch, order of the steps", faulty({first, second}),
         answers({first, second}, STEPS[first][1]), references=4,
     )

@@ -46,7 +46,7 @@ REPEATS = patches_of(
     [availability(6, 1), availability(5, 1)], [availability(6, 1)], [availability(6, 1), binding(5, 9, quad(0))],
 )
 on_panel(
-    "step7_repeats_count", "one diagnostic for each operation whose target is absent, repeats included", CATALOGUE,
+    "step7_repeats_count", "every operation with an absent target counts, also one that is repeated", CATALOGUE,
     [batch(4, REPEATS)], ["R rejected 6 5 4 4 3"],
 )
 rules_of("Diagnostics under the cap")
@@ -54,8 +54,9 @@ CAP = "spec_session Diagnostics.diagnosticsOf, step 7"
 for cap, answer in [(0, "R rejected 0 0 4 0 3"), (1, "R rejected 6 5 4 1 3"), (3, "R rejected 6 5 4 3 3"),
     (4, "R rejected 6 5 4 4 3"), (5, "R rejected 6 5 4 4 3")]:
     on_panel(
-        "cap_%d_of_4_absent_targets" % cap, "the emitted count is the smaller of logical count and cap", CAP,
-        [batch(4, REPEATS)], [answer], diagnostics=cap,
+        "cap_%d_of_4_absent_targets" % cap,
+        "no more diagnostics are emitted than there are, nor than the cap lets through", CAP, [batch(4, REPEATS)],
+        [answer], diagnostics=cap,
     )
 rules_of("One batch, from entry to leaf")
 on_panel(
@@ -132,8 +133,7 @@ case(
     ["S 0", "R applied 0 0 0 0 18446744073709551615", "R no-change 0 0 0 0 18446744073709551615"] + PANEL,
 )
 on_panel(
-    "step8_envelope_number_has_no_tie_to_patches", "the envelope's number has no tie to the patches' own sequences",
-    CURSOR,
+    "step8_envelope_number_has_no_tie_to_patches", "batches and the patches in them are numbered apart", CURSOR,
     [
         batch(4, [patch(1, [availability(5, 1)], sequence=900), patch(2, [availability(5, 2)], sequence=901)]),
         batch(5, [patch(1, [availability(5, 4)], sequence=0)]),

@@ -174,7 +174,7 @@ case(
     ["S 0", APPLIED % 1, APPLIED % 2, "P 1", "C 9 1 T z", APPLIED % 3, "P 1", b"C\t9\t1\tT\t"],
 )
 case(
-    "availability_bytes", "the five availabilities: Available 0, Unavailable 1, Hidden 2, Pending 3, Stale 4",
+    "availability_bytes", "each of the five availability bytes is kept as it came",
     "spec_patch Encode.availabilityByte",
     set_up(nodes=range(1, 6)) + [batch(1, patches_of([availability(node, node - 1) for node in range(1, 6)])), "show"]
     + ["value node %d" % node for node in range(1, 7)],

@@ -41,8 +41,8 @@ def with_operations(*operations, count=None):
 refused("read_no_bytes_10", "no bytes are too few: 10", READ % "readSet", 10, b"")
 refused(
     "read_heading_length_10", "a heading length other than 27 is another heading: 10", READ % "readPatches", 10,
-    u32(26) + HEADING[:26] + u32(0), u32(28) + HEADING + b"1" + u32(0), u32(0) + u32(0),
-    u32(26) + HEADING + u32(0), u32(28) + HEADING + u32(0), b"\0\0\0\x1b" + HEADING + u32(0),
+    u32(26) + HEADING[:26] + u32(0), u32(28) + HEADING + b"1" + u32(0), u32(0) + u32(0), u32(26) + HEADING + u32(0),
+    u32(28) + HEADING + u32(0), b"\0\0\0\x1b" + HEADING + u32(0),
 )
 refused(
     "read_heading_letters_10", "any other letters are another heading: 10", READ % "readPatches", 10,
@@ -180,12 +180,12 @@ on_panel(
     panel=["P 67"] + ["B 5 %d T %s" % (slot, "y" * 136 if slot == 54 else "x" * 160) for slot in range(64)] + PANEL[2:],
 )
 refused(
-    "read_32769_bytes_is_12", "more than 32,768 bytes is 12 before any reading: one byte behind a good set",
-    READ % "readSet", 12, encode_set(LARGEST) + b"\0",
+    "read_32769_bytes_is_12", "one byte too many for a set is 12, here behind a good one", READ % "readSet", 12,
+    encode_set(LARGEST) + b"\0",
 )
 refused(
-    "read_32769_bytes_wrong_heading_is_12",
-    "more than 32,768 bytes is 12 before any reading, also behind a wrong heading", READ % "readSet", 12, bytes(32769),
+    "read_32769_bytes_wrong_heading_is_12", "one byte too many for a set is 12, and no heading is looked at",
+    READ % "readSet", 12, bytes(32769),
 )
 refused(
     "read_32768_bytes_malformed_10", "32,768 bytes are read, and what is wrong with them is 10", READ % "readSet", 10,
