@@ -219,6 +219,16 @@ for number, lines in {
         "spec_session Diagnostics.diagnosticsOf", lines, ["R rejected 0 0 1 0 3"], diagnostics=0,
     )
 on_panel(
+    "cap_0_hides_2", "under a cap of 0 a Closed session shows in the disposition and the logical count alone",
+    "spec_session Diagnostics.diagnosticsOf", ["apply close 0", batch(4, ONE), "apply resume 0"],
+    ["L applied 0 0 0 0 closed 3 0", "R rejected 0 0 1 0 3", "L rejected 0 0 1 0 closed 3 0"], diagnostics=0,
+)
+on_panel(
+    "cap_0_hides_9", "under a cap of 0 a full panel shows in the disposition and the logical count alone",
+    "spec_session Diagnostics.diagnosticsOf", [batch(4, FILL_126), batch(5, patches_of([insert(9, 129, quad(0))]))],
+    [APPLIED, "R rejected 0 0 1 0 4"], panel=FULL_ROWS, references=128, diagnostics=0,
+)
+on_panel(
     "cap_1_shows_one", "a cap of 1 emits the one diagnostic", "spec_session Diagnostics.diagnosticsOf", [batch(9, ONE)],
     ["R rejected 7 6 1 1 3"], diagnostics=1,
 )

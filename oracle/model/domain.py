@@ -2,6 +2,8 @@
 
 from canonical import Fault, read_set
 from checks import findings
+from patch import operations_of
+from projection import Stopped, apply_operations
 from replay import LINE_BYTES, BadLine, Replay, set_bytes
 
 NO_COMMAND = "a line that is no command"
@@ -71,9 +73,20 @@ def _answer_outside(state, text):
     if answer == b"S\t13\n":
         return "129 anchors"
     why = _line_outside(text.split(b" "))
-    if why is None and (answer == b"E\t9\n" or b"\trejected\t9\t" in answer):
+    if why is None and (answer == b"E\t9\n" or b"\trejected\t9\t" in answer or _hides_9(state, text, answer)):
         return "a full panel"
     return why
+
+
+def _hides_9(state, text, answer):
+    """Whether a batch under a cap of 0 may have met a full panel."""
+    if not (text.startswith(b"batch ") and b"\trejected\t0\t" in answer):
+        return False
+    try:
+        apply_operations(state.session.projection, operations_of(read_set(set_bytes(text.split(b" ")[-1]))))
+    except Stopped as stopped:
+        return stopped.number == 9
+    return False
 
 
 def outside(script):
