@@ -328,8 +328,8 @@ found(
 ORDER = "spec_checks Finding.findingKey; spec_lists Order.sortUnique"
 found(
     "order_by_kind_first", "findings are sorted by kind before domain", ORDER,
-    [patch(1, ONE, id=50), patch(2, ONE, id=40, stream=2), patch(3, ONE, id=30, stream=2, epoch=2)], "set", (8, 30, 40),
-    (9, 40, 50),
+    [patch(1, ONE, id=50), patch(2, ONE, id=40, epoch=2), patch(3, ONE, id=30, epoch=2, stream=2)], "set", (8, 40, 50),
+    (9, 30, 40),
 )
 found(
     "order_by_domain", "findings of one kind are sorted by domain, and as numbers", ORDER,
