@@ -1,0 +1,124 @@
+//! Fixed scripts: every lifecycle input, and every limit of a batch met and passed by one.
+use prom_ui::shell_bridge::BridgePatchOperation as Operation;
+use prom_ui_runtime::shell_player::ShellLifecycleStimulus;
+
+use super::recorder::{Recorded, Recorder};
+use super::{patches, setups, Scale};
+use crate::original::Setup;
+use crate::rng::Rng;
+use crate::script::{Batch, Command, Limits, STIMULI};
+use crate::sets;
+use crate::tally::Tally;
+
+/// The commands that lead to each of the four states.
+fn paths() -> [Vec<ShellLifecycleStimulus>; 4] {
+    let [activate, suspend, _, close, _] = STIMULI.map(|(_, stimulus)| stimulus);
+    [vec![], vec![activate], vec![activate, suspend], vec![close]]
+}
+
+/// Figures around a limit, and both ends.
+fn around(limit: u64) -> Vec<u64> {
+    let mut figures = vec![0, limit.saturating_sub(1), limit, limit.saturating_add(1), u64::MAX];
+    figures.sort();
+    figures.dedup();
+    figures
+}
+
+/// Every state, command and byte figure around a limit, under one limit and one cap.
+fn lifecycle_table(bytes: u64, diagnostics: u64, tally: &mut Tally) -> Recorded {
+    let mut recorder = Recorder::new(tally);
+    recorder.add(Command::Session(7, Limits { bytes, diagnostics, patches: 1, references: 1 }));
+    for path in paths() {
+        for (_, stimulus) in STIMULI {
+            for figure in around(bytes) {
+                recorder.add(Command::Create);
+                path.iter().for_each(|step| recorder.add(Command::Apply(*step, 0)));
+                recorder.add(Command::Apply(stimulus, figure));
+            }
+        }
+    }
+    recorder.recorded
+}
+
+fn availabilities(rng: &mut Rng, nodes: impl Iterator<Item = u64>, patch_count: usize) -> Vec<u8> {
+    let one = |node| Operation::SetNodeAvailability { node, availability: sets::availability(3) };
+    let all: Vec<Operation> = nodes.map(one).collect();
+    let size = all.len().div_ceil(patch_count).max(1);
+    let mut list = patches::chain(rng, all.chunks(size).map(<[_]>::to_vec).collect());
+    patches::canonical(&mut list)
+}
+
+/// Patch, byte and reference limits, each met and passed by one.
+fn limit_table(limit: u64, diagnostics: u64, tally: &mut Tally) -> Recorded {
+    let rng = &mut Rng::new(limit ^ diagnostics);
+    let limits = Limits { bytes: limit, diagnostics, patches: limit, references: limit };
+    let setup = Setup { id: u64::MAX, limits, nodes: (1..=12).collect(), ..Setup::default() };
+    let mut recorder = Recorder::new(tally);
+    setups::commands(&setup).into_iter().for_each(|command| recorder.add(command));
+    let mut sequence = 0;
+    for patch_count in 0..=limit.min(8) + 1 {
+        for references in [patch_count, patch_count + 1] {
+            for bytes in around(limit) {
+                let set = availabilities(rng, 1..=references.min(12), patch_count.max(1) as usize);
+                let id = setup.id;
+                recorder.add(Command::Batch(Batch { id, sequence, patches: patch_count, bytes, references, set }));
+                sequence += 1;
+            }
+        }
+    }
+    recorder.add(Command::Show);
+    recorder.recorded
+}
+
+/// Absent targets below, at and above the cap, repeats included.
+fn target_table(cap: u64, tally: &mut Tally) -> Recorded {
+    let rng = &mut Rng::new(cap);
+    let limits = Limits { bytes: 0, diagnostics: cap, patches: 64, references: 128 };
+    let setup = Setup { id: 0, limits, nodes: (1..=8).collect(), ..Setup::default() };
+    let mut recorder = Recorder::new(tally);
+    setups::commands(&setup).into_iter().for_each(|command| recorder.add(command));
+    for absent in 0..=6 {
+        for patch_count in 1..=3 {
+            let nodes = (1..=4).chain(9..9 + absent);
+            let set = availabilities(rng, nodes, patch_count);
+            let patches = (4 + absent).div_ceil((4 + absent).div_ceil(patch_count as u64));
+            let sequence = (absent * 3 + patch_count as u64) / 2;
+            recorder.add(Command::Batch(Batch { id: 0, sequence, patches, bytes: 0, references: 4 + absent, set }));
+        }
+    }
+    recorder.recorded
+}
+
+/// Sequence numbers at both ends, from every cursor near them, and no patches with any number.
+fn cursor_table(first: u64, tally: &mut Tally) -> Recorded {
+    let rng = &mut Rng::new(first);
+    let limits = Limits { bytes: 0, diagnostics: 1, patches: 1, references: 1 };
+    let setup = Setup { id: 1, limits, nodes: vec![1], ..Setup::default() };
+    let mut recorder = Recorder::new(tally);
+    for second in around(first).into_iter().chain([first.wrapping_add(1), first.wrapping_add(2)]) {
+        setups::commands(&setup).into_iter().for_each(|command| recorder.add(command));
+        for sequence in [first, second, second.wrapping_add(1)] {
+            for count in [0, 1] {
+                let set = availabilities(rng, 1..=count, 1);
+                recorder.add(Command::Batch(Batch { id: 1, sequence, patches: count, bytes: 0, references: count, set }));
+            }
+        }
+    }
+    recorder.recorded
+}
+
+/// All fixed scripts.
+pub fn edges(scale: Scale, tally: &mut Tally) -> Vec<Recorded> {
+    let (limits, caps): (&[u64], &[u64]) = match scale {
+        Scale::Full => (&[0, 1, 2, 5, 4_096, u64::MAX - 1, u64::MAX], &[0, 1, 2, u64::MAX]),
+        Scale::Compact => (&[0, 2, u64::MAX], &[0, 1]),
+    };
+    let mut all = Vec::new();
+    for cap in caps {
+        all.extend(limits.iter().map(|limit| lifecycle_table(*limit, *cap, tally)));
+        all.extend([0, 1, 4].map(|limit| limit_table(limit, *cap, tally)));
+    }
+    all.extend([0, 1, 2, 3, 6, 7, u64::MAX].map(|cap| target_table(cap, tally)));
+    all.extend([0, 1, 1 << 63, u64::MAX - 1, u64::MAX].map(|first| cursor_table(first, tally)));
+    all
+}

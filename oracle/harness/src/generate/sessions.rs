@@ -1,0 +1,163 @@
+//! Whole random sessions: a set-up, a first fill, then calls of all kinds.
+use prom_ui_runtime::shell_player::{ShellLifecycle, ShellLifecycleCommand, ShellLifecycleStimulus};
+
+use super::operations::Steering;
+use super::recorder::{Recorded, Recorder};
+use super::{batches, faults, numbers, setups, Scale};
+use crate::rng::Rng;
+use crate::script::{Command, STIMULI};
+use crate::tally::Tally;
+
+#[derive(Clone, Copy)]
+enum Call {
+    Batch,
+    Empty,
+    Lifecycle,
+    Value,
+    Check,
+    Show,
+    List,
+}
+
+const FULL: [(u64, Call); 7] = [
+    (46, Call::Batch),
+    (2, Call::Empty),
+    (13, Call::Lifecycle),
+    (24, Call::Value),
+    (11, Call::Check),
+    (2, Call::Show),
+    (2, Call::List),
+];
+
+const COMPACT: [(u64, Call); 7] = [
+    (34, Call::Batch),
+    (2, Call::Empty),
+    (14, Call::Lifecycle),
+    (33, Call::Value),
+    (14, Call::Check),
+    (1, Call::Show),
+    (2, Call::List),
+];
+
+/// One session in the making: its steering, the first sequence number, and how far it is.
+struct Session<'a, 'b> {
+    rng: &'a mut Rng,
+    recorder: Recorder<'b>,
+    steering: Steering,
+    start: u64,
+}
+
+/// A first sequence number: mostly with room above it, sometimes at the end of its numbers.
+fn first_sequence(rng: &mut Rng) -> u64 {
+    match rng.below(20) {
+        0 => u64::MAX,
+        1 => u64::MAX - rng.below(6),
+        2..=6 => 0,
+        _ => numbers::any(rng).min(u64::MAX - 1_000),
+    }
+}
+
+/// The command that leads on from a state, so that closing stays rare.
+fn usual_command(rng: &mut Rng, lifecycle: ShellLifecycle) -> ShellLifecycleStimulus {
+    let command = match lifecycle {
+        ShellLifecycle::Created => ShellLifecycleCommand::Activate,
+        ShellLifecycle::Active => ShellLifecycleCommand::Suspend,
+        ShellLifecycle::Suspended => ShellLifecycleCommand::Resume,
+        ShellLifecycle::Closed => return rng.pick(&STIMULI).1,
+    };
+    ShellLifecycleStimulus::Command(command)
+}
+
+impl Session<'_, '_> {
+    fn lifecycle(&mut self, may_close: bool) {
+        let lifecycle = self.recorder.session().session.lifecycle();
+        let mut stimulus = usual_command(self.rng, lifecycle);
+        if self.rng.percent(50) {
+            stimulus = self.rng.pick(&STIMULI).1;
+        }
+        let limit = self.recorder.session().setup.limits.bytes;
+        let mut bytes = numbers::within(self.rng, limit);
+        if self.rng.percent(20) {
+            bytes = numbers::over(self.rng, limit).unwrap_or(bytes);
+        }
+        if stimulus == STIMULI[3].1 && !may_close && bytes <= limit {
+            stimulus = STIMULI[4].1;
+        }
+        self.recorder.add(Command::Apply(stimulus, bytes));
+    }
+
+    fn batch(&mut self, sound: u64) {
+        let faults = batches::faults(self.rng, sound);
+        let batch = batches::batch(self.rng, self.recorder.session(), &self.steering, self.start, &faults);
+        self.recorder.add(Command::Batch(batch));
+    }
+
+    /// A look-up at a place that is set, at an anchor, or anywhere.
+    fn value(&mut self) {
+        let (panel, targets) = (&self.recorder.session().panel, &self.steering.targets);
+        let rng = &mut *self.rng;
+        let stray = rng.percent(12);
+        let command = match rng.below(4) {
+            0 if stray => Command::ValueBinding(numbers::any(rng), numbers::slot(rng)),
+            1 if stray => Command::ValueNode(numbers::any(rng)),
+            _ if stray => Command::ValueEntry(numbers::any(rng), numbers::any(rng)),
+            0 if !targets.bindings.is_empty() => {
+                let (node, slot) = rng.pick(&targets.bindings);
+                Command::ValueBinding(node, slot)
+            }
+            1 if !targets.nodes.is_empty() => Command::ValueNode(rng.pick(&targets.nodes)),
+            _ if panel.entries > 0 => {
+                let (collection, key) = panel.entry(rng.index(panel.entries));
+                Command::ValueEntry(collection, key)
+            }
+            _ => Command::ValueEntry(numbers::any(rng), numbers::any(rng)),
+        };
+        self.recorder.add(command);
+    }
+
+    fn call(&mut self, may_close: bool) {
+        let scale = self.steering.scale;
+        let calls = if scale == Scale::Full { &FULL } else { &COMPACT };
+        match self.rng.weighted(calls) {
+            Call::Batch => self.batch(66),
+            Call::Empty => {
+                let batch = batches::empty(self.rng, self.recorder.session());
+                self.recorder.add(Command::Batch(batch));
+            }
+            Call::Lifecycle => self.lifecycle(may_close),
+            Call::Value => self.value(),
+            Call::Check => self.recorder.add(Command::Check(faults::set_to_check(self.rng, scale))),
+            Call::Show => self.recorder.add(Command::Show),
+            Call::List => self.recorder.add(Command::List(faults::set_to_list(self.rng, scale))),
+        }
+    }
+
+    /// Batches without faults until the panel is near its aim, so long as they help.
+    fn fill(&mut self) {
+        for _ in 0..6 {
+            let entries = self.recorder.session().panel.entries;
+            if entries + 8 >= self.steering.aim {
+                return;
+            }
+            let missing = (self.steering.aim - entries) as u64;
+            let batch = batches::fill(self.rng, self.recorder.session(), &self.steering, self.start, missing);
+            self.recorder.add(Command::Batch(batch));
+        }
+    }
+}
+
+/// One random session with the original's answers.
+pub fn session(rng: &mut Rng, scale: Scale, tally: &mut Tally) -> Recorded {
+    let setup = setups::setup(rng, scale);
+    let steering = setups::steering(rng, &setup, scale);
+    let start = first_sequence(rng);
+    let mut session = Session { rng, recorder: Recorder::new(tally), steering, start };
+    setups::commands(&setup).into_iter().for_each(|command| session.recorder.add(command));
+    session.fill();
+    let calls = session.rng.between(60, 140);
+    for call in 0..calls {
+        session.call(call + 12 > calls);
+    }
+    session.recorder.add(Command::Show);
+    session.recorder.recorded
+}

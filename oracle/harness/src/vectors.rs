@@ -1,0 +1,29 @@
+//! A fixed sample: one script, and the original's answers to it.
+use std::fs;
+use std::path::Path;
+
+use crate::generate::{edges, sessions, Scale};
+use crate::rng::Rng;
+use crate::tally::Tally;
+
+/// Writes a script of at least so many answers, and the answers.
+pub fn write(count: u64, seed: u64, folder: &str) {
+    let mut tally = Tally::default();
+    let mut recorded = edges::edges(Scale::Compact, &mut tally);
+    for index in 0.. {
+        if tally.calls() >= count {
+            break;
+        }
+        recorded.push(sessions::session(&mut Rng::of_session(seed, index), Scale::Compact, &mut tally));
+        tally.note_session();
+    }
+    let (mut script, mut answers) = (Vec::new(), Vec::new());
+    for session in &recorded {
+        session.print(&mut script);
+        answers.extend_from_slice(&session.answers);
+    }
+    fs::create_dir_all(folder).unwrap();
+    fs::write(Path::new(folder).join("vectors.script"), script).unwrap();
+    fs::write(Path::new(folder).join("vectors.answers"), answers).unwrap();
+    tally.print();
+}
