@@ -67,8 +67,11 @@ impl Chunk {
         for session in &self.sessions {
             match rest.strip_prefix(session.answers.as_slice()) {
                 Some(more) => rest = more,
-                None if differs(program, &session.commands) => return Some(session.commands.clone()),
-                None => return Some([before, session.commands.clone()].concat()),
+                None => {
+                    let alone = up_to_difference(session, rest);
+                    let whole = [before, alone.clone()].concat();
+                    return Some(if differs(program, &alone) { alone } else { whole });
+                }
             }
             before.extend_from_slice(&session.commands);
         }
@@ -78,6 +81,13 @@ impl Chunk {
 
 fn differs(program: &[&str], script: &[Command]) -> bool {
     original_answers(script).is_some_and(|answers| answers != replay(program, printed(script)))
+}
+
+/// The commands up to the first whose answer differs.
+fn up_to_difference(session: &Recorded, answers: &[u8]) -> Vec<Command> {
+    let agreed = session.answers.iter().zip(answers).take_while(|(ours, theirs)| ours == theirs).count();
+    let last = session.ends.iter().position(|end| *end > agreed).unwrap_or(session.ends.len() - 1);
+    session.commands[..=last].to_vec()
 }
 
 /// Prints the smallest differing script with both sides' answers.

@@ -1,4 +1,4 @@
-//! The smallest script that still differs: first whole lines are dropped, then operations and patches of its sets.
+//! The smallest script that still differs: first whole lines are dropped, then operations of its sets.
 use prom_ui::shell_bridge::glue::RawPatch;
 
 use crate::decode::decode;
@@ -42,45 +42,46 @@ fn with_patches(command: &Command, before: &[RawPatch], after: &[RawPatch]) -> C
     }
 }
 
-/// Lists without the first patch, without the last, and without one operation each.
-fn smaller_lists(patches: &[RawPatch]) -> Vec<Vec<RawPatch>> {
-    let mut lists = Vec::new();
-    if !patches.is_empty() {
-        lists.push(patches[1..].to_vec());
-        lists.push(patches[..patches.len() - 1].to_vec());
+/// The list without a run of its operations; a patch that loses all of them goes too.
+fn without(patches: &[RawPatch], from: u64, run: u64) -> Vec<RawPatch> {
+    let (mut list, mut number) = (patches.to_vec(), 0);
+    for patch in &mut list {
+        patch.operations.retain(|_| {
+            number += 1;
+            number <= from || number > from + run
+        });
     }
-    for (at, patch) in patches.iter().enumerate() {
-        for operation in (0..patch.operations.len()).filter(|_| patch.operations.len() > 1) {
-            let mut list = patches.to_vec();
-            list[at].operations.remove(operation);
-            lists.push(list);
-        }
-    }
-    lists
+    let kept = |(before, after): &(&RawPatch, RawPatch)| before.operations.is_empty() || !after.operations.is_empty();
+    patches.iter().zip(list).filter(kept).map(|(_, after)| after).collect()
 }
 
-/// The first way to make one command's set smaller that still differs.
-fn smaller_set(script: &[Command], at: usize, differs: &mut impl FnMut(&[Command]) -> bool) -> Option<Vec<Command>> {
-    let patches = decode(script[at].set()?)?;
-    for list in smaller_lists(&patches) {
-        let mut smaller = script.to_vec();
-        smaller[at] = with_patches(&script[at], &patches, &list);
-        if differs(&smaller) {
-            return Some(smaller);
+/// Drops runs of operations from one command's set, long ones first, so long as the script differs.
+fn fewer_operations(script: &mut [Command], at: usize, differs: &mut impl FnMut(&[Command]) -> bool) {
+    let Some(mut patches) = script[at].set().and_then(decode) else { return };
+    let mut run = operation_count(&patches).div_ceil(2);
+    while run > 0 {
+        let mut from = 0;
+        while from < operation_count(&patches) {
+            let fewer = without(&patches, from, run);
+            let before = std::mem::replace(&mut script[at], Command::Show);
+            script[at] = with_patches(&before, &patches, &fewer);
+            if differs(script) {
+                patches = fewer;
+            } else {
+                script[at] = before;
+                from += run;
+            }
         }
+        run /= 2;
     }
-    None
 }
 
+/// A script from which no command can be dropped, nor an operation of its sets.
 pub fn shrink(mut script: Vec<Command>, mut differs: impl FnMut(&[Command]) -> bool) -> Vec<Command> {
     loop {
         let length = script.len();
         fewer_commands(&mut script, &mut differs);
-        for at in 0..script.len() {
-            while let Some(smaller) = smaller_set(&script, at, &mut differs) {
-                script = smaller;
-            }
-        }
+        (0..script.len()).for_each(|at| fewer_operations(&mut script, at, &mut differs));
         if script.len() == length {
             return script;
         }

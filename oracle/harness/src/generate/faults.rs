@@ -1,9 +1,10 @@
 //! Sets for the patch checks: without findings, with one kind, or with several at once. All ids are above 0.
-use prom_ui::shell_bridge::glue::RawPatch;
+use prom_ui::shell_bridge::glue::{self, RawPatch};
 use prom_ui::shell_bridge::BridgePatchOperation as Operation;
 
 use super::operations::{self, Steering, Targets};
 use super::{numbers, patches, values, Scale};
+use crate::decode::decode;
 use crate::panel::Panel;
 use crate::rng::Rng;
 
@@ -138,8 +139,28 @@ fn put_finding(rng: &mut Rng, list: &mut Vec<RawPatch>, kind: u64) {
     }
 }
 
-/// A set for `check`.
+/// A copy with some bytes changed, if it is still readable and inside the domain.
+fn damaged(rng: &mut Rng, set: &[u8]) -> Option<Vec<u8>> {
+    let mut copy = set.to_vec();
+    for _ in 0..rng.pick(&[1, 1, 2, 5]) {
+        let at = rng.index(copy.len());
+        copy[at] = match rng.below(2) {
+            0 => rng.next() as u8,
+            _ => rng.pick(&[0, 1, 2, 3, 4, 255]),
+        };
+    }
+    let patches = decode(&copy)?;
+    patches.iter().all(|patch| glue::build(patch).is_some()).then_some(copy)
+}
+
+/// A set for `check`: made for its findings, or a damaged copy of such a set.
 pub fn set_to_check(rng: &mut Rng, scale: Scale) -> Vec<u8> {
+    let set = made_set(rng, scale);
+    let copy = rng.percent(15).then(|| damaged(rng, &set)).flatten();
+    copy.unwrap_or(set)
+}
+
+fn made_set(rng: &mut Rng, scale: Scale) -> Vec<u8> {
     let groups = sound(rng, scale).2;
     let mut list = patches::chain(rng, groups);
     if !list.is_empty() && !rng.percent(12) {

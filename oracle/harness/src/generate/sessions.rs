@@ -30,13 +30,13 @@ const FULL: [(u64, Call); 7] = [
 ];
 
 const COMPACT: [(u64, Call); 7] = [
-    (34, Call::Batch),
+    (30, Call::Batch),
     (2, Call::Empty),
-    (14, Call::Lifecycle),
-    (33, Call::Value),
-    (14, Call::Check),
+    (15, Call::Lifecycle),
+    (42, Call::Value),
+    (9, Call::Check),
     (1, Call::Show),
-    (2, Call::List),
+    (1, Call::List),
 ];
 
 /// One session in the making: its steering, the first sequence number, and how far it is.
@@ -154,7 +154,7 @@ pub fn session(rng: &mut Rng, scale: Scale, tally: &mut Tally) -> Recorded {
     let mut session = Session { rng, recorder: Recorder::new(tally), steering, start };
     setups::commands(&setup).into_iter().for_each(|command| session.recorder.add(command));
     session.fill();
-    let calls = session.rng.between(60, 140);
+    let calls = session.rng.between(60, if scale == Scale::Full { 140 } else { 240 });
     for call in 0..calls {
         session.call(call + 12 > calls);
     }
