@@ -104,3 +104,40 @@ pub fn decode(set: &[u8]) -> Option<Vec<RawPatch>> {
     let patches = (0..input.count(PATCHES)?).map(|_| input.patch()).collect::<Option<_>>()?;
     input.0.is_empty().then_some(patches)
 }
+
+#[cfg(test)]
+mod tests {
+    use super::decode;
+    use crate::generate::{faults, Scale};
+    use crate::rng::Rng;
+    use crate::sets;
+    use prom_ui::shell_bridge::glue::{self, Checked};
+
+    #[test]
+    fn inverts_the_encoder() {
+        let rng = &mut Rng::new(5);
+        for _ in 0..500 {
+            let set = faults::set_to_check(rng, Scale::Full);
+            assert_eq!(sets::encode(&decode(&set).unwrap()), set);
+        }
+    }
+
+    #[test]
+    fn inverts_the_original() {
+        let rng = &mut Rng::new(6);
+        for _ in 0..500 {
+            let set = faults::set_to_list(rng, Scale::Full);
+            let built = decode(&set).unwrap().iter().map(|p| glue::build(p).unwrap()).collect();
+            let Checked::Admitted(batch) = glue::check(built) else { panic!("a listed set has no findings") };
+            assert_eq!(glue::canonical_bytes(&batch), set);
+        }
+    }
+
+    #[test]
+    fn refuses_parts_and_more() {
+        let rng = &mut Rng::new(7);
+        let set = faults::set_to_list(rng, Scale::Compact);
+        assert!((0..set.len()).all(|length| decode(&set[..length]).is_none()));
+        assert!(decode(&[set.as_slice(), &[0]].concat()).is_none());
+    }
+}

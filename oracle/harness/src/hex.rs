@@ -29,3 +29,25 @@ pub fn read(field: &[u8]) -> Option<Vec<u8>> {
     }
     field.chunks(2).map(|pair| Some(digit(pair[0])? << 4 | digit(pair[1])?)).collect()
 }
+
+#[cfg(test)]
+mod tests {
+    use super::{read, write};
+
+    #[test]
+    fn reads_what_it_writes() {
+        let bytes: Vec<u8> = (0..=255).collect();
+        for bytes in [bytes.as_slice(), &[0], &[]] {
+            let mut field = Vec::new();
+            write(bytes, &mut field);
+            assert_eq!(read(&field).as_deref(), Some(bytes));
+        }
+    }
+
+    #[test]
+    fn refuses_other_fields() {
+        for field in ["", "0", "0A", "0g", "--", "00 ", "-0"] {
+            assert_eq!(read(field.as_bytes()), None, "{field}");
+        }
+    }
+}

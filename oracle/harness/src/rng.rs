@@ -59,3 +59,23 @@ impl Rng {
         unreachable!("the weights' sum bounds the number")
     }
 }
+
+#[cfg(test)]
+mod tests {
+    use super::Rng;
+
+    #[test]
+    fn gives_the_published_numbers() {
+        let mut rng = Rng::new(0);
+        assert_eq!([rng.next(), rng.next()], [0xe220_a839_7b1d_cdaf, 0x6e78_9e6a_a1b9_65f4]);
+    }
+
+    #[test]
+    fn stays_inside_its_bounds() {
+        let mut rng = Rng::new(1);
+        assert!((0..1_000).all(|_| rng.below(7) < 7));
+        assert!((0..1_000).all(|_| (5..=9).contains(&rng.between(5, 9))));
+        assert_eq!(rng.between(u64::MAX, u64::MAX), u64::MAX);
+        assert_eq!(rng.weighted(&[(0, 'a'), (3, 'b'), (0, 'c')]), 'b');
+    }
+}

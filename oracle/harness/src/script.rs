@@ -151,3 +151,35 @@ pub fn parse(line: &[u8]) -> Option<Command> {
         _ => return None,
     })
 }
+
+#[cfg(test)]
+mod tests {
+    use super::parse;
+    use crate::generate::{edges, sessions, Scale};
+    use crate::rng::Rng;
+    use crate::tally::Tally;
+
+    #[test]
+    fn reads_what_it_prints() {
+        let mut tally = Tally::default();
+        let mut scripts = edges::edges(Scale::Compact, &mut tally);
+        scripts.extend((0..20).map(|i| sessions::session(&mut Rng::new(i), Scale::Full, &mut tally)));
+        for command in scripts.iter().flat_map(|script| &script.commands) {
+            let mut line = Vec::new();
+            command.print(&mut line);
+            assert_eq!(parse(line.strip_suffix(b"\n").unwrap()).as_ref(), Some(command));
+        }
+    }
+
+    #[test]
+    fn refuses_other_lines() {
+        let lines = [
+            "", " ", "show ", " show", "shows", "node", "node 01", "node +1", "node -1", "node 18446744073709551616",
+            "node  1", "node 1 2", "binding 1 4294967296", "apply open 0", "batch 1 1 1 1 1 0", "batch 1 1 1 1 1",
+            "check", "check 0A", "value 1 2", "session 1 2 3 4", "session 1 2 3 4 5 6", "create\r",
+        ];
+        for line in lines {
+            assert_eq!(parse(line.as_bytes()), None, "{line}");
+        }
+    }
+}

@@ -87,3 +87,39 @@ pub fn shrink(mut script: Vec<Command>, mut differs: impl FnMut(&[Command]) -> b
         }
     }
 }
+
+#[cfg(test)]
+mod tests {
+    use super::{operation_count, shrink};
+    use crate::decode::decode;
+    use crate::generate::{sessions, Scale};
+    use crate::rng::Rng;
+    use crate::script::Command;
+    use crate::tally::Tally;
+
+    fn batches(script: &[Command]) -> Vec<&Command> {
+        script.iter().filter(|command| matches!(command, Command::Batch(_))).collect()
+    }
+
+    /// Pretends that a script differs if a look-up stands behind two batches of three operations or more.
+    fn differs(script: &[Command]) -> bool {
+        let Some(last) = script.iter().rposition(|command| matches!(command, Command::ValueNode(_))) else {
+            return false;
+        };
+        let large = |command: &&&Command| operation_count(&decode(command.set().unwrap()).unwrap()) >= 3;
+        batches(&script[..last]).iter().filter(large).count() >= 2
+    }
+
+    #[test]
+    fn leaves_what_the_difference_needs() {
+        let script = sessions::session(&mut Rng::new(4), Scale::Full, &mut Tally::default()).commands;
+        assert!(differs(&script));
+        let small = shrink(script, differs);
+        assert_eq!((small.len(), batches(&small).len()), (3, 2));
+        for command in batches(&small) {
+            let Command::Batch(batch) = command else { unreachable!() };
+            let patches = decode(&batch.set).unwrap();
+            assert_eq!(operation_count(&patches), 3);
+        }
+    }
+}

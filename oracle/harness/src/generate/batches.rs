@@ -149,7 +149,7 @@ fn miscount(rng: &mut Rng, batch: &mut Batch, limit: u64) {
         batch.references = numbers::other(rng, batch.references);
     }
     if way != 1 {
-        let near = [batch.patches.wrapping_sub(1), batch.patches + 1, 0, limit];
+        let near = [batch.patches.wrapping_sub(1), batch.patches.wrapping_add(1), 0, limit];
         let wrong = rng.pick(&near);
         if wrong != batch.patches && wrong <= limit {
             batch.patches = wrong;

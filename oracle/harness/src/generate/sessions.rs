@@ -161,3 +161,53 @@ pub fn session(rng: &mut Rng, scale: Scale, tally: &mut Tally) -> Recorded {
     session.recorder.add(Command::Show);
     session.recorder.recorded
 }
+
+#[cfg(test)]
+mod tests {
+    use super::session;
+    use crate::generate::{edges, Scale};
+    use crate::rng::Rng;
+    use crate::tally::Tally;
+
+    /// Every answer that is possible inside the domain.
+    fn rows() -> Vec<String> {
+        let mut rows: Vec<String> = ["create 0", "show", "list", "list refused 8", "check nothing found"]
+            .map(String::from)
+            .to_vec();
+        rows.extend(["applied 0", "no-change 0"].map(|row| format!("apply {row}")));
+        rows.extend(["applied 0", "no-change 0"].map(|row| format!("batch {row}")));
+        rows.extend([0, 2, 3, 4].map(|number| format!("apply rejected {number}")));
+        rows.extend([0, 1, 2, 4, 5, 6, 7, 8].map(|number| format!("batch rejected {number}")));
+        rows.extend((1..=12).flat_map(|kind| [format!("check kind {kind:2}"), format!("check kind {kind:2} alone")]));
+        rows.extend(["Q", "S", "T", "U", "-"].map(|kind| format!("value entry {kind}")));
+        rows.extend(["Q", "S", "T", "U", "-"].map(|kind| format!("value binding {kind}")));
+        rows.extend(["A 0", "A 1", "A 2", "A 3", "A 4", "-"].map(|kind| format!("value node {kind}")));
+        rows
+    }
+
+    fn spreads(scale: Scale) {
+        let mut tally = Tally::default();
+        edges::edges(scale, &mut tally);
+        for index in 0..200 {
+            session(&mut Rng::of_session(1, index), scale, &mut tally);
+        }
+        // One call in ten thousand, as a run of ten million asks; a small run is held to more.
+        let least = tally.calls() / 5_000;
+        let rare: Vec<String> = rows().into_iter().filter(|row| tally.of(row) < least).collect();
+        assert!(rare.is_empty(), "{rare:?}");
+        assert!(tally.large_share() > 1.0 / 3.0);
+    }
+
+    #[test]
+    fn spreads_over_all_answers() {
+        spreads(Scale::Full);
+        spreads(Scale::Compact);
+    }
+
+    #[test]
+    fn repeats_by_seed() {
+        let script = || session(&mut Rng::of_session(9, 3), Scale::Full, &mut Tally::default());
+        let (first, second) = (script(), script());
+        assert!(first.commands == second.commands && first.answers == second.answers);
+    }
+}
