@@ -2,6 +2,7 @@
 mod answer;
 mod bench;
 mod bench_sets;
+mod codes;
 mod compare;
 mod decode;
 mod generate;
@@ -9,8 +10,10 @@ mod hex;
 mod listing;
 mod original;
 mod panel;
+mod printing;
 mod rng;
 mod script;
+mod set_calls;
 mod sets;
 mod shrink;
 mod tally;

@@ -174,9 +174,28 @@ mod tests {
     #[test]
     fn refuses_other_lines() {
         let lines = [
-            "", " ", "show ", " show", "shows", "node", "node 01", "node +1", "node -1", "node 18446744073709551616",
-            "node  1", "node 1 2", "binding 1 4294967296", "apply open 0", "batch 1 1 1 1 1 0", "batch 1 1 1 1 1",
-            "check", "check 0A", "value 1 2", "session 1 2 3 4", "session 1 2 3 4 5 6", "create\r",
+            "",
+            " ",
+            "show ",
+            " show",
+            "shows",
+            "node",
+            "node 01",
+            "node +1",
+            "node -1",
+            "node 18446744073709551616",
+            "node  1",
+            "node 1 2",
+            "binding 1 4294967296",
+            "apply open 0",
+            "batch 1 1 1 1 1 0",
+            "batch 1 1 1 1 1",
+            "check",
+            "check 0A",
+            "value 1 2",
+            "session 1 2 3 4",
+            "session 1 2 3 4 5 6",
+            "create\r",
         ];
         for line in lines {
             assert_eq!(parse(line.as_bytes()), None, "{line}");

@@ -100,7 +100,14 @@ fn cursor_table(first: u64, tally: &mut Tally) -> Recorded {
         for sequence in [first, second, second.wrapping_add(1)] {
             for count in [0, 1] {
                 let set = availabilities(rng, 1..=count, 1);
-                recorder.add(Command::Batch(Batch { id: 1, sequence, patches: count, bytes: 0, references: count, set }));
+                recorder.add(Command::Batch(Batch {
+                    id: 1,
+                    sequence,
+                    patches: count,
+                    bytes: 0,
+                    references: count,
+                    set,
+                }));
             }
         }
     }
@@ -148,20 +155,20 @@ fn wide_setup() -> Setup {
 fn capacity_table(tally: &mut Tally) -> Recorded {
     let (mut recorder, rng) = (start(&wide_setup(), tally), &mut Rng::new(9));
     let number = BridgeValue::Unsigned;
-    let places = || vec![(1..=64).map(bind).collect(), (1..=64).map(mark).collect()];
-    for operation in [insert, update] {
-        let mut groups: Vec<Vec<Operation>> = places();
-        groups.insert(1, (0..128).map(|i| operation(i, number(i))).collect());
-        let sequence = groups[1].len() as u64 + matches!(groups[1][0], Operation::CollectionUpdate { .. }) as u64;
+    let all: fn(u64, BridgeValue) -> Operation = insert;
+    for (sequence, entry) in [(1, all), (2, update)] {
+        let entries = (0..128).map(|i| entry(i, number(i + sequence))).collect();
+        let groups = vec![(1..=64).map(bind).collect(), entries, (1..=64).map(mark).collect()];
         add_sound(&mut recorder, sequence, patches::chain(rng, groups));
         recorder.add(Command::Show);
     }
     let remove = Operation::CollectionRemove { collection: 4, key: 1 };
     let (again, twice) = (insert(1, number(7)), insert(0, number(8)));
-    for (sequence, group) in [(130, vec![remove]), (131, vec![again.clone(), twice]), (131, vec![again])] {
+    for (sequence, group) in [(3, vec![remove]), (4, vec![again.clone(), twice]), (4, vec![again])] {
         add_sound(&mut recorder, sequence, patches::chain(rng, vec![group]));
         recorder.add(Command::Show);
     }
+    add_sound(&mut recorder, 5, patches::chain(rng, (1..=64).map(|i| vec![bind(i)]).collect()));
     recorder.recorded
 }
 

@@ -116,9 +116,7 @@ pub fn fitting(rng: &mut Rng, steering: &Steering, panel: &Panel) -> Option<Oper
     }
     let (collection, key) = panel.entry(rng.index(panel.entries));
     Some(match kind {
-        Kind::Update => {
-            Operation::CollectionUpdate { collection, key, value: values::value(rng, steering.scale) }
-        }
+        Kind::Update => Operation::CollectionUpdate { collection, key, value: values::value(rng, steering.scale) },
         Kind::Remove => Operation::CollectionRemove { collection, key },
         _ => Operation::CollectionMove { collection, key, before: neighbour(rng, panel, collection, key) },
     })
@@ -166,9 +164,10 @@ pub fn foreign(rng: &mut Rng, steering: &Steering) -> Operation {
                 Operation::SetNodeAvailability { node, availability: sets::availability(rng.below(5) as u8) },
                 targets.nodes.contains(&node),
             ),
-            2 => {
-                (Operation::CollectionInsert { collection, key, before: None, value }, targets.collections.contains(&node))
-            }
+            2 => (
+                Operation::CollectionInsert { collection, key, before: None, value },
+                targets.collections.contains(&node),
+            ),
             3 => (Operation::CollectionUpdate { collection, key, value }, targets.collections.contains(&node)),
             4 => (Operation::CollectionRemove { collection, key }, targets.collections.contains(&node)),
             _ => (Operation::CollectionMove { collection, key, before: None }, targets.collections.contains(&node)),

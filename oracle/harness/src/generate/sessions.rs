@@ -171,9 +171,8 @@ mod tests {
 
     /// Every answer that is possible inside the domain.
     fn rows() -> Vec<String> {
-        let mut rows: Vec<String> = ["create 0", "show", "list", "list refused 8", "check nothing found"]
-            .map(String::from)
-            .to_vec();
+        let mut rows: Vec<String> =
+            ["create 0", "show", "list", "list refused 8", "check nothing found"].map(String::from).to_vec();
         rows.extend(["applied 0", "no-change 0"].map(|row| format!("apply {row}")));
         rows.extend(["applied 0", "no-change 0"].map(|row| format!("batch {row}")));
         rows.extend([0, 2, 3, 4].map(|number| format!("apply rejected {number}")));

@@ -7,7 +7,17 @@ use crate::sets;
 
 /// The last characters of one, two, three and four bytes stand among the edges.
 const EDGES: [char; 12] = [
-    '\t', '\n', '\u{1}', '\u{7f}', '\u{80}', '\u{7ff}', '\u{800}', '\u{d7ff}', '\u{e000}', '\u{ffff}', '\u{10000}',
+    '\t',
+    '\n',
+    '\u{1}',
+    '\u{7f}',
+    '\u{80}',
+    '\u{7ff}',
+    '\u{800}',
+    '\u{d7ff}',
+    '\u{e000}',
+    '\u{ffff}',
+    '\u{10000}',
     '\u{10ffff}',
 ];
 
