@@ -99,17 +99,15 @@ fn report(program: &[&str], script: Vec<Command>) {
     println!("# {}\n{}", program.join(" "), String::from_utf8_lossy(&replay(program, text)));
 }
 
-/// The fixed scripts, then so many random sessions.
-fn all_sessions<'a>(count: u64, seed: u64, tally: &'a mut Tally, mut take: impl FnMut(Recorded, &Tally) -> bool) {
-    for session in edges::edges(Scale::Full, tally) {
-        if !take(session, tally) {
-            return;
-        }
+/// Hands on the fixed scripts, then so many random sessions, until one is not taken.
+fn all_sessions(count: u64, seed: u64, tally: &mut Tally, mut take: impl FnMut(Recorded) -> bool) {
+    if !edges::edges(Scale::Full, tally).into_iter().all(&mut take) {
+        return;
     }
     for index in 0..count {
         let session = sessions::session(&mut Rng::of_session(seed, index), Scale::Full, tally);
         tally.note_session();
-        if !take(session, tally) {
+        if !take(session) {
             return;
         }
     }
@@ -118,14 +116,14 @@ fn all_sessions<'a>(count: u64, seed: u64, tally: &'a mut Tally, mut take: impl 
 /// The table of the original alone.
 pub fn count(sessions: u64, seed: u64) {
     let mut tally = Tally::default();
-    all_sessions(sessions, seed, &mut tally, |_, _| true);
+    all_sessions(sessions, seed, &mut tally, |_| true);
     tally.print();
 }
 
-/// Whether both sides gave the same answers throughout; prints the table, or the smallest difference.
+/// Whether both sides gave the same answers throughout; prints the table, and the smallest difference.
 pub fn compare(sessions: u64, seed: u64, program: &[&str]) -> bool {
     let (mut tally, mut chunk, mut found) = (Tally::default(), Chunk::default(), None);
-    all_sessions(sessions, seed, &mut tally, |session, _| {
+    all_sessions(sessions, seed, &mut tally, |session| {
         chunk.add(session);
         if chunk.script.len() >= CHUNK {
             found = std::mem::take(&mut chunk).first_difference(program);

@@ -27,6 +27,7 @@ oracle answer < SCRIPT
 oracle count SESSIONS SEED
 oracle compare SESSIONS SEED --replay PROGRAM...
 oracle vectors ANSWERS SEED FOLDER
+oracle sets COUNT SEED
 oracle bench-read PROGRAM | bench-check PROGRAM | bench-set texts | bench-set PATCHES OPERATIONS";
 
 fn main() {
@@ -39,6 +40,7 @@ fn main() {
             exit(!compare::compare(number(sessions), number(seed), program) as i32)
         }
         ["vectors", answers, seed, folder] => vectors::write(number(answers), number(seed), folder),
+        ["sets", count, seed] => vectors::sets(number(count), number(seed)),
         ["bench-read", program] => bench::reading(program),
         ["bench-check", program] => bench::checking(program),
         ["bench-set", "texts"] => put(&sets::encode(&bench_sets::texts())),

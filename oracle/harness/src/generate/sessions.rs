@@ -39,7 +39,7 @@ const COMPACT: [(u64, Call); 7] = [
     (1, Call::List),
 ];
 
-/// One session in the making: its steering, the first sequence number, and how far it is.
+/// One session in the making: where its batches tend to, and its first sequence number.
 struct Session<'a, 'b> {
     rng: &'a mut Rng,
     recorder: Recorder<'b>,
