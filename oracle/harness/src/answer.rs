@@ -18,7 +18,7 @@ pub fn run() {
     let mut original = Original::default();
     for (index, line) in input.split_inclusive(|c| *c == b'\n').enumerate() {
         let Some(line) = line.strip_suffix(b"\n") else { stop(index + 1, "the line has no end") };
-        if line.is_empty() || line.starts_with(b"#") {
+        if script::is_silent(line) {
             continue;
         }
         let Some(command) = script::parse(line) else { stop(index + 1, "not a command (the format's own ?)") };

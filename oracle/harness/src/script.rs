@@ -128,6 +128,11 @@ fn session(fields: &[&[u8]; 5]) -> Option<Command> {
     Some(Command::Session(id?, limits))
 }
 
+/// Whether a line without its LF is empty or a comment, and no longer than lines may be.
+pub fn is_silent(line: &[u8]) -> bool {
+    line.is_empty() || line.starts_with(b"#") && line.len() <= LONGEST_LINE
+}
+
 /// The command of a line without its LF, or none for any other line.
 pub fn parse(line: &[u8]) -> Option<Command> {
     if line.len() > LONGEST_LINE {
