@@ -44,6 +44,12 @@ fn operation_count(rng: &mut Rng, scale: Scale) -> u64 {
     rng.between(least, most)
 }
 
+/// How many operations name a target that is absent, before repeats.
+fn absent_count(rng: &mut Rng, scale: Scale) -> u64 {
+    let counts = [(20, 1), (10, 2), (10, 3), (10, 5), (5, 9), (2, 40), (1, 100), (1, 260)];
+    rng.weighted(if scale == Scale::Full { &counts } else { &counts[..5] })
+}
+
 fn patch_count(rng: &mut Rng, operations: u64) -> u64 {
     let (least, most) = rng.weighted(&[(60, (1, 1)), (30, (2, 4)), (8, (5, 16)), (2, (17, 64))]);
     let least_patches = operations.div_ceil(OPERATIONS as u64);
@@ -107,7 +113,7 @@ fn groups(rng: &mut Rng, session: &Current, steering: &Steering, faults: &[Fault
     };
     let mut groups = patches::fitting_groups(rng, steering, &mut panel, &sizes);
     if faults.contains(&Fault::Targets) {
-        for _ in 0..rng.pick(&[1, 1, 2, 3, 5, 9]) {
+        for _ in 0..absent_count(rng, steering.scale) {
             let operation = operations::foreign(rng, steering);
             put_anywhere(rng, &mut groups, operation.clone());
             if rng.percent(40) {

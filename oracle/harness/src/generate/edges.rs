@@ -71,14 +71,14 @@ fn limit_table(limit: u64, diagnostics: u64, tally: &mut Tally) -> Recorded {
     recorder.recorded
 }
 
-/// Absent targets below, at and above the cap, repeats included.
-fn target_table(cap: u64, tally: &mut Tally) -> Recorded {
+/// Absent targets below, at and above the cap, in one patch to three.
+fn target_table(cap: u64, many: &[u64], tally: &mut Tally) -> Recorded {
     let rng = &mut Rng::new(cap);
-    let limits = Limits { bytes: 0, diagnostics: cap, patches: 64, references: 128 };
+    let limits = Limits { bytes: 0, diagnostics: cap, patches: 64, references: 400 };
     let setup = Setup { id: 0, limits, nodes: (1..=8).collect(), ..Setup::default() };
     let mut recorder = start(&setup, tally);
-    for absent in 0..=6 {
-        for patch_count in 1..=3 {
+    for absent in (0..=6).chain(many.iter().copied()) {
+        for patch_count in [1, 2, 3].into_iter().filter(|count| absent < 100 || *count == 3) {
             let nodes = (1..=4).chain(9..9 + absent);
             let set = availabilities(rng, nodes, patch_count);
             let patches = (4 + absent).div_ceil((4 + absent).div_ceil(patch_count as u64));
@@ -192,16 +192,21 @@ fn longest_set(tally: &mut Tally) -> Recorded {
 
 /// All fixed scripts.
 pub fn edges(scale: Scale, tally: &mut Tally) -> Vec<Recorded> {
-    let (limits, caps): (&[u64], &[u64]) = match scale {
-        Scale::Full => (&[0, 1, 2, 5, 4_096, u64::MAX - 1, u64::MAX], &[0, 1, 2, u64::MAX]),
-        Scale::Compact => (&[0, 2, u64::MAX], &[0, 1]),
+    type Figures<'a> = &'a [u64];
+    let (limits, caps, many): (Figures, Figures, Figures) = match scale {
+        Scale::Full => (
+            &[0, 1, 2, 5, 4_096, u64::MAX - 1, u64::MAX],
+            &[0, 1, 2, u64::MAX],
+            &[63, 64, 65, 127, 128, 129, 255, 256, 257, 300],
+        ),
+        Scale::Compact => (&[0, 2, u64::MAX], &[0, 1], &[65, 256]),
     };
     let mut all = Vec::new();
     for cap in caps {
         all.extend(limits.iter().map(|limit| lifecycle_table(*limit, *cap, tally)));
         all.extend([0, 1, 4].map(|limit| limit_table(limit, *cap, tally)));
     }
-    all.extend([0, 1, 2, 3, 6, 7, u64::MAX].map(|cap| target_table(cap, tally)));
+    all.extend([0, 1, 2, 3, 6, 7, 64, 256, u64::MAX].map(|cap| target_table(cap, many, tally)));
     all.extend([0, 1, 1 << 63, u64::MAX - 1, u64::MAX].map(|first| cursor_table(first, tally)));
     all.push(capacity_table(tally));
     all.push(longest_set(tally));

@@ -119,8 +119,36 @@ fn mix(rng: &mut Rng, list: &mut [RawPatch], at: usize, field: impl Fn(&mut RawP
     list[at..end].iter_mut().for_each(|patch| *field(patch) = wrong);
 }
 
-/// Puts a finding of this kind into a list that has patches, so far as the list allows it.
-fn put_finding(rng: &mut Rng, list: &mut Vec<RawPatch>, kind: u64) {
+/// Numbers from a few in every patch, so that most pairs have several findings, many of them alike.
+fn scramble(rng: &mut Rng, list: &mut [RawPatch]) {
+    for patch in list {
+        let envelope = &mut patch.envelope;
+        (envelope.patch_id, envelope.stream_id) = (rng.between(1, 9), rng.between(1, 2));
+        (envelope.document_id, envelope.epoch) = (rng.between(1, 2), rng.below(2));
+        envelope.previous_revision = rng.below(3);
+        envelope.revision = envelope.previous_revision + rng.between(1, 2);
+        envelope.sequence = rng.pick(&[0, 1, 2, u64::MAX - 1, u64::MAX]);
+    }
+}
+
+/// A patch full of operations on a few keys, many before themselves.
+fn crowd(rng: &mut Rng, patch: &mut RawPatch, scale: Scale) {
+    let most = if scale == Scale::Full { 128 } else { 12 };
+    for _ in 0..rng.between(2, most) {
+        let (collection, key) = (rng.between(1, 2), rng.between(1, 4));
+        let before = rng.percent(70).then(|| rng.between(1, 4));
+        let operation = match rng.below(4) {
+            0 => Operation::CollectionRemove { collection, key },
+            1 => Operation::CollectionInsert { collection, key, before, value: values::value(rng, Scale::Compact) },
+            2 => Operation::CollectionUpdate { collection, key, value: values::value(rng, Scale::Compact) },
+            _ => Operation::CollectionMove { collection, key, before },
+        };
+        put(rng, patch, operation);
+    }
+}
+
+/// Puts a finding of this kind into a list that has patches, so far as the list allows it; above 12 stand many at once.
+fn put_finding(rng: &mut Rng, list: &mut Vec<RawPatch>, kind: u64, scale: Scale) {
     let (any, at) = (rng.index(list.len()), later(rng, list));
     match kind {
         1 => break_chain(rng, &mut list[at]),
@@ -135,7 +163,9 @@ fn put_finding(rng: &mut Rng, list: &mut Vec<RawPatch>, kind: u64) {
         10 => lower_revision(rng, &mut list[any]),
         11 => list[at].envelope.sequence = numbers::other(rng, list[at].envelope.sequence),
         12 => overflow(rng, list, at),
-        _ => repeat_patch(rng, list, any),
+        13 => repeat_patch(rng, list, any),
+        14 => scramble(rng, list),
+        _ => crowd(rng, &mut list[any], scale),
     }
 }
 
@@ -165,8 +195,8 @@ fn made_set(rng: &mut Rng, scale: Scale) -> Vec<u8> {
     let mut list = patches::chain(rng, groups);
     if !list.is_empty() && !rng.percent(12) {
         for _ in 0..rng.weighted(&[(60, 1), (20, 2), (10, 3), (8, 5), (2, 12)]) {
-            let kind = rng.between(1, 13);
-            put_finding(rng, &mut list, kind);
+            let kind = rng.between(1, 15);
+            put_finding(rng, &mut list, kind, scale);
         }
     }
     patches::canonical(&mut list)
