@@ -122,14 +122,17 @@ pub fn count(sessions: u64, seed: u64) {
 
 /// Whether both sides gave the same answers throughout; prints the table, and the smallest difference.
 pub fn compare(sessions: u64, seed: u64, program: &[&str]) -> bool {
-    let (mut tally, mut chunk, mut found) = (Tally::default(), Chunk::default(), None);
+    let (mut tally, mut chunk, mut found, mut chunks) = (Tally::default(), Chunk::default(), None, 0);
     all_sessions(sessions, seed, &mut tally, |session| {
         chunk.add(session);
         if chunk.script.len() >= CHUNK {
             found = std::mem::take(&mut chunk).first_difference(program);
+            chunks += 1;
+            eprint!("\r{} MB of scripts compared", chunks * CHUNK >> 20);
         }
         found.is_none()
     });
+    eprintln!();
     let found = found.or_else(|| chunk.first_difference(program));
     tally.print();
     match found {

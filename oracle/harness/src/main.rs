@@ -26,7 +26,7 @@ const USAGE: &str = "\
 oracle answer < SCRIPT
 oracle count SESSIONS SEED
 oracle compare SESSIONS SEED --replay PROGRAM...
-oracle vectors ANSWERS SEED FOLDER
+oracle vectors ANSWERS SEED FOLDER [SCRIPT_BYTES]
 oracle sets COUNT SEED
 oracle bench-read PROGRAM | bench-check PROGRAM | bench-set texts | bench-set PATCHES OPERATIONS";
 
@@ -39,7 +39,10 @@ fn main() {
         ["compare", sessions, seed, "--replay", program @ ..] if !program.is_empty() => {
             exit(!compare::compare(number(sessions), number(seed), program) as i32)
         }
-        ["vectors", answers, seed, folder] => vectors::write(number(answers), number(seed), folder),
+        ["vectors", answers, seed, folder] => vectors::write(number(answers), number(seed), folder, None),
+        ["vectors", answers, seed, folder, longest] => {
+            vectors::write(number(answers), number(seed), folder, Some(number(longest)))
+        }
         ["sets", count, seed] => vectors::sets(number(count), number(seed)),
         ["bench-read", program] => bench::reading(program),
         ["bench-check", program] => bench::checking(program),
