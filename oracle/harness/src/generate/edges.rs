@@ -1,11 +1,9 @@
 //! Fixed scripts: every lifecycle input, and every limit of a batch met and passed by one.
-use prom_ui::shell_bridge::glue::RawPatch;
-use prom_ui::shell_bridge::{BridgePatchOperation as Operation, BridgeValue};
+use prom_ui::shell_bridge::BridgePatchOperation as Operation;
 use prom_ui_runtime::shell_player::ShellLifecycleStimulus;
 
 use super::recorder::{Recorded, Recorder};
-use super::{patches, setups, Scale};
-use crate::decode::{SET_BYTES, TEXT_BYTES};
+use super::{capacities, patches, setups, Scale};
 use crate::original::Setup;
 use crate::rng::Rng;
 use crate::script::{Batch, Command, Limits, STIMULI};
@@ -55,15 +53,13 @@ fn limit_table(limit: u64, diagnostics: u64, tally: &mut Tally) -> Recorded {
     let rng = &mut Rng::new(limit ^ diagnostics);
     let limits = Limits { bytes: limit, diagnostics, patches: limit, references: limit };
     let setup = Setup { id: u64::MAX, limits, nodes: (1..=12).collect(), ..Setup::default() };
-    let mut recorder = start(&setup, tally);
-    let mut sequence = 0;
-    for patch_count in 0..=limit.min(8) + 1 {
-        for references in [patch_count, patch_count + 1] {
+    let mut recorder = Recorder::started(&setup, tally);
+    for patches in 0..=limit + 1 {
+        for references in [patches, patches + 1] {
             for bytes in around(limit) {
-                let set = availabilities(rng, 1..=references.min(12), patch_count.max(1) as usize);
-                let id = setup.id;
-                recorder.add(Command::Batch(Batch { id, sequence, patches: patch_count, bytes, references, set }));
-                sequence += 1;
+                let set = availabilities(rng, 1..=references, patches.max(1) as usize);
+                let (id, sequence) = (setup.id, recorder.next_sequence());
+                recorder.add(Command::Batch(Batch { id, sequence, patches, bytes, references, set }));
             }
         }
     }
@@ -76,14 +72,14 @@ fn target_table(cap: u64, many: &[u64], tally: &mut Tally) -> Recorded {
     let rng = &mut Rng::new(cap);
     let limits = Limits { bytes: 0, diagnostics: cap, patches: 64, references: 400 };
     let setup = Setup { id: 0, limits, nodes: (1..=8).collect(), ..Setup::default() };
-    let mut recorder = start(&setup, tally);
+    let mut recorder = Recorder::started(&setup, tally);
     for absent in (0..=6).chain(many.iter().copied()) {
         for patch_count in [1, 2, 3].into_iter().filter(|count| absent < 100 || *count == 3) {
             let nodes = (1..=4).chain(9..9 + absent);
             let set = availabilities(rng, nodes, patch_count);
             let patches = (4 + absent).div_ceil((4 + absent).div_ceil(patch_count as u64));
-            let sequence = (absent * 3 + patch_count as u64) / 2;
-            recorder.add(Command::Batch(Batch { id: 0, sequence, patches, bytes: 0, references: 4 + absent, set }));
+            let (sequence, references) = (recorder.next_sequence(), 4 + absent);
+            recorder.add(Command::Batch(Batch { id: 0, sequence, patches, bytes: 0, references, set }));
         }
     }
     recorder.recorded
@@ -98,95 +94,12 @@ fn cursor_table(first: u64, tally: &mut Tally) -> Recorded {
     for second in around(first).into_iter().chain([first.wrapping_add(1), first.wrapping_add(2)]) {
         setups::commands(&setup).into_iter().for_each(|command| recorder.add(command));
         for sequence in [first, second, second.wrapping_add(1)] {
-            for count in [0, 1] {
-                let set = availabilities(rng, 1..=count, 1);
-                recorder.add(Command::Batch(Batch {
-                    id: 1,
-                    sequence,
-                    patches: count,
-                    bytes: 0,
-                    references: count,
-                    set,
-                }));
+            for patches in [0, 1] {
+                let (set, references) = (availabilities(rng, 1..=patches, 1), patches);
+                recorder.add(Command::Batch(Batch { id: 1, sequence, patches, bytes: 0, references, set }));
             }
         }
     }
-    recorder.recorded
-}
-
-fn start<'a>(setup: &Setup, tally: &'a mut Tally) -> Recorder<'a> {
-    let mut recorder = Recorder::new(tally);
-    setups::commands(setup).into_iter().for_each(|command| recorder.add(command));
-    recorder
-}
-
-/// Adds a batch with true counts.
-fn add_sound(recorder: &mut Recorder, sequence: u64, mut list: Vec<RawPatch>) {
-    let set = patches::canonical(&mut list);
-    let references = list.iter().map(|p| p.operations.len() as u64).sum();
-    let (id, patches) = (recorder.session().setup.id, list.len() as u64);
-    recorder.add(Command::Batch(Batch { id, sequence, patches, bytes: 0, references, set }));
-}
-
-fn bind(i: u64) -> Operation {
-    Operation::SetBindingValue { node: 65 - i, slot: i as u32, value: BridgeValue::Unsigned(i) }
-}
-
-fn mark(i: u64) -> Operation {
-    Operation::SetNodeAvailability { node: i, availability: sets::availability((i % 5) as u8) }
-}
-
-/// Entries of three collections in turn, each before its collection's first one.
-fn insert(i: u64, value: BridgeValue) -> Operation {
-    Operation::CollectionInsert { collection: 3 + i % 3, key: 1 + i / 3, before: (i > 2).then_some(1), value }
-}
-
-fn update(i: u64, value: BridgeValue) -> Operation {
-    Operation::CollectionUpdate { collection: 3 + i % 3, key: 1 + i / 3, value }
-}
-
-fn wide_setup() -> Setup {
-    let limits = Limits { bytes: 0, diagnostics: 3, patches: 64, references: 400 };
-    let bindings = (1..=64).map(|i| (65 - i, i as u32)).collect();
-    Setup { id: 5, limits, nodes: (1..=64).collect(), bindings, collections: vec![5, 3, 4] }
-}
-
-/// All bindings, availabilities and entries that fit, set twice over; then a place is freed and taken again.
-fn capacity_table(tally: &mut Tally) -> Recorded {
-    let (mut recorder, rng) = (start(&wide_setup(), tally), &mut Rng::new(9));
-    let number = BridgeValue::Unsigned;
-    let all: fn(u64, BridgeValue) -> Operation = insert;
-    for (sequence, entry) in [(1, all), (2, update)] {
-        let entries = (0..128).map(|i| entry(i, number(i + sequence))).collect();
-        let groups = vec![(1..=64).map(bind).collect(), entries, (1..=64).map(mark).collect()];
-        add_sound(&mut recorder, sequence, patches::chain(rng, groups));
-        recorder.add(Command::Show);
-    }
-    let remove = Operation::CollectionRemove { collection: 4, key: 1 };
-    let (again, twice) = (insert(1, number(7)), insert(0, number(8)));
-    for (sequence, group) in [(3, vec![remove]), (4, vec![again.clone(), twice]), (4, vec![again])] {
-        add_sound(&mut recorder, sequence, patches::chain(rng, vec![group]));
-        recorder.add(Command::Show);
-    }
-    add_sound(&mut recorder, 5, patches::chain(rng, (1..=64).map(|i| vec![bind(i)]).collect()));
-    recorder.recorded
-}
-
-/// A set of exactly 32,768 bytes, checked, listed and applied.
-fn longest_set(tally: &mut Tally) -> Recorded {
-    let (mut recorder, rng) = (start(&wide_setup(), tally), &mut Rng::new(9));
-    let long = || BridgeValue::Text("é".repeat(TEXT_BYTES as usize / 2));
-    let inserts = (0..128).map(|i| insert(i, long())).collect();
-    let updates = (0..45).map(|i| update(i, if i == 44 { BridgeValue::Text(String::new()) } else { long() })).collect();
-    let mut list = patches::chain(rng, vec![inserts, updates]);
-    let missing = SET_BYTES - sets::encode(&list).len();
-    *list[1].operations.last_mut().unwrap() = update(44, BridgeValue::Text("e".repeat(missing)));
-    let set = patches::canonical(&mut list);
-    assert!(set.len() == SET_BYTES && list.len() == 2);
-    recorder.add(Command::Check(set.clone()));
-    recorder.add(Command::List(set));
-    add_sound(&mut recorder, 0, list);
-    recorder.add(Command::Show);
     recorder.recorded
 }
 
@@ -208,7 +121,7 @@ pub fn edges(scale: Scale, tally: &mut Tally) -> Vec<Recorded> {
     }
     all.extend([0, 1, 2, 3, 6, 7, 64, 256, u64::MAX].map(|cap| target_table(cap, many, tally)));
     all.extend([0, 1, 1 << 63, u64::MAX - 1, u64::MAX].map(|first| cursor_table(first, tally)));
-    all.push(capacity_table(tally));
-    all.push(longest_set(tally));
+    all.push(capacities::full_panel(tally));
+    all.push(capacities::longest_set(tally));
     all
 }

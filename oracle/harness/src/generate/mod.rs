@@ -1,5 +1,6 @@
 //! Random and edge scripts inside the original's domain, each line with the original's answer.
 pub mod batches;
+pub mod capacities;
 pub mod edges;
 pub mod faults;
 pub mod numbers;

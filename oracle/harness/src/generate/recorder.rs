@@ -1,5 +1,8 @@
 //! A script in the making: each command goes to the original at once, so that the next can follow from its state.
-use crate::original::{Current, Original};
+use prom_ui_runtime::shell_player::ProjectionReplayCursor;
+
+use super::setups;
+use crate::original::{Current, Original, Setup};
 use crate::script::Command;
 use crate::tally::Tally;
 
@@ -27,6 +30,21 @@ pub struct Recorder<'a> {
 impl<'a> Recorder<'a> {
     pub fn new(tally: &'a mut Tally) -> Self {
         Recorder { original: Original::default(), recorded: Recorded::default(), tally }
+    }
+
+    /// A script that starts with a session of this set-up.
+    pub fn started(setup: &Setup, tally: &'a mut Tally) -> Self {
+        let mut recorder = Recorder::new(tally);
+        setups::commands(setup).into_iter().for_each(|command| recorder.add(command));
+        recorder
+    }
+
+    /// The number that the cursor takes next, from 0.
+    pub fn next_sequence(&self) -> u64 {
+        match self.session().session.replay_cursor() {
+            ProjectionReplayCursor::Uninitialized => 0,
+            ProjectionReplayCursor::At(number) => number.wrapping_add(1),
+        }
     }
 
     /// Adds a command, unless the original has no answer to it: a refusal under a cap of 0 hides whether a batch

@@ -151,8 +151,7 @@ pub fn session(rng: &mut Rng, scale: Scale, tally: &mut Tally) -> Recorded {
     let setup = setups::setup(rng, scale);
     let steering = setups::steering(rng, &setup, scale);
     let start = first_sequence(rng);
-    let mut session = Session { rng, recorder: Recorder::new(tally), steering, start };
-    setups::commands(&setup).into_iter().for_each(|command| session.recorder.add(command));
+    let mut session = Session { rng, recorder: Recorder::started(&setup, tally), steering, start };
     session.fill();
     let calls = session.rng.between(60, if scale == Scale::Full { 140 } else { 240 });
     for call in 0..calls {
