@@ -24,7 +24,7 @@ pub enum Fault {
     Operation,
 }
 
-const FAULTS: [(u64, Fault); 8] = [
+pub const FAULTS: [(u64, Fault); 8] = [
     (4, Fault::Session),
     (4, Fault::PatchLimit),
     (4, Fault::ByteLimit),

@@ -3,7 +3,7 @@ use prom_ui::shell_bridge::BridgePatchOperation as Operation;
 use prom_ui_runtime::shell_player::ShellLifecycleStimulus;
 
 use super::recorder::{Recorded, Recorder};
-use super::{capacities, patches, setups, Scale};
+use super::{batches, capacities, patches, setups, Scale};
 use crate::original::Setup;
 use crate::rng::Rng;
 use crate::script::{Batch, Command, Limits, STIMULI};
@@ -103,6 +103,31 @@ fn cursor_table(first: u64, tally: &mut Tally) -> Recorded {
     recorder.recorded
 }
 
+/// Every two faults of a batch together, in every state of the session, on a panel with a few entries.
+fn fault_table(diagnostics: u64, tally: &mut Tally) -> Recorded {
+    let rng = &mut Rng::new(diagnostics);
+    let limits = Limits { bytes: 10, diagnostics, patches: 5, references: 9 };
+    let (nodes, bindings) = (vec![1, 2], vec![(1, 0), (2, 9)]);
+    let setup = Setup { id: 77, limits, nodes, bindings, collections: vec![4, 5] };
+    let mut steering = setups::steering(rng, &setup, Scale::Compact);
+    steering.aim = 6;
+    let mut recorder = Recorder::new(tally);
+    for path in paths() {
+        setups::commands(&setup).into_iter().for_each(|command| recorder.add(command));
+        let first = batches::fill(rng, recorder.session(), &steering, 3, 6);
+        recorder.add(Command::Batch(first));
+        path.iter().for_each(|step| recorder.add(Command::Apply(*step, 10)));
+        for (one, (_, fault)) in batches::FAULTS.into_iter().enumerate() {
+            for (_, other) in &batches::FAULTS[..=one] {
+                let batch = batches::batch(rng, recorder.session(), &steering, 3, &[fault, *other]);
+                recorder.add(Command::Batch(batch));
+            }
+        }
+        recorder.add(Command::Show);
+    }
+    recorder.recorded
+}
+
 /// All fixed scripts.
 pub fn edges(scale: Scale, tally: &mut Tally) -> Vec<Recorded> {
     type Figures<'a> = &'a [u64];
@@ -118,6 +143,7 @@ pub fn edges(scale: Scale, tally: &mut Tally) -> Vec<Recorded> {
     for cap in caps {
         all.extend(limits.iter().map(|limit| lifecycle_table(*limit, *cap, tally)));
         all.extend([0, 1, 4].map(|limit| limit_table(limit, *cap, tally)));
+        all.push(fault_table(*cap, tally));
     }
     all.extend([0, 1, 2, 3, 6, 7, 64, 256, u64::MAX].map(|cap| target_table(cap, many, tally)));
     all.extend([0, 1, 1 << 63, u64::MAX - 1, u64::MAX].map(|first| cursor_table(first, tally)));

@@ -50,10 +50,38 @@ fn place<T: Copy>(rng: &mut Rng, anchors: &[T], set: &[T], most: usize) -> Optio
     (!from.is_empty()).then(|| rng.pick(from))
 }
 
+/// The number with one bit changed, above 0.
+fn flipped(rng: &mut Rng, number: u64) -> u64 {
+    (number ^ (1 << rng.below(64))).max(1)
+}
+
+/// A node and a slot: often an anchor of one kind, or one bit away from it.
+pub fn stray(rng: &mut Rng, targets: &Targets) -> (u64, u32) {
+    let slot = numbers::slot(rng);
+    let (node, slot) = match rng.below(4) {
+        0 if !targets.bindings.is_empty() => rng.pick(&targets.bindings),
+        1 if !targets.nodes.is_empty() => (rng.pick(&targets.nodes), slot),
+        2 if !targets.collections.is_empty() => (rng.pick(&targets.collections), slot),
+        _ => return (numbers::id(rng), slot),
+    };
+    match rng.below(3) {
+        0 => (node, slot),
+        1 => (flipped(rng, node), slot),
+        _ => (node, slot ^ (1 << rng.below(32))),
+    }
+}
+
 /// A key that the collection does not hold.
 fn absent_key(rng: &mut Rng, panel: &Panel, collection: u64) -> u64 {
     loop {
-        let key = if rng.percent(80) { rng.between(1, 400) } else { numbers::id(rng) };
+        let key = match rng.below(10) {
+            0 => numbers::id(rng),
+            1 if panel.entries > 0 => {
+                let (_, present) = panel.entry(rng.index(panel.entries));
+                flipped(rng, present)
+            }
+            _ => rng.between(1, 400),
+        };
         if !panel.holds(collection, key) {
             return key;
         }
@@ -156,7 +184,7 @@ pub fn breaking(rng: &mut Rng, steering: &Steering, panel: &Panel) -> Option<Ope
 pub fn foreign(rng: &mut Rng, steering: &Steering) -> Operation {
     let targets = &steering.targets;
     loop {
-        let (node, slot, key) = (numbers::id(rng), numbers::slot(rng), numbers::id(rng));
+        let ((node, slot), key) = (stray(rng, targets), numbers::id(rng));
         let (collection, value) = (node, values::value(rng, Scale::Compact));
         let (operation, known) = match rng.below(6) {
             0 => (Operation::SetBindingValue { node, slot, value }, targets.bindings.contains(&(node, slot))),

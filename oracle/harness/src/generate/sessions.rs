@@ -1,7 +1,7 @@
 //! Whole random sessions: a set-up, a first fill, then calls of all kinds.
 use prom_ui_runtime::shell_player::{ShellLifecycle, ShellLifecycleCommand, ShellLifecycleStimulus};
 
-use super::operations::Steering;
+use super::operations::{self, Steering};
 use super::recorder::{Recorded, Recorder};
 use super::{batches, faults, numbers, setups, Scale};
 use crate::rng::Rng;
@@ -92,15 +92,15 @@ impl Session<'_, '_> {
         self.recorder.add(Command::Batch(batch));
     }
 
-    /// A look-up at a place that is set, at an anchor, or anywhere.
+    /// A look-up at an anchor, at an entry that is set, or anywhere.
     fn value(&mut self) {
         let (panel, targets) = (&self.recorder.session().panel, &self.steering.targets);
         let rng = &mut *self.rng;
-        let stray = rng.percent(12);
+        let (anywhere, (node, slot)) = (rng.percent(12), operations::stray(rng, targets));
         let command = match rng.below(4) {
-            0 if stray => Command::ValueBinding(numbers::any(rng), numbers::slot(rng)),
-            1 if stray => Command::ValueNode(numbers::any(rng)),
-            _ if stray => Command::ValueEntry(numbers::any(rng), numbers::any(rng)),
+            0 if anywhere => Command::ValueBinding(node, slot),
+            1 if anywhere => Command::ValueNode(if rng.percent(3) { 0 } else { node }),
+            _ if anywhere => Command::ValueEntry(node, numbers::any(rng)),
             0 if !targets.bindings.is_empty() => {
                 let (node, slot) = rng.pick(&targets.bindings);
                 Command::ValueBinding(node, slot)
