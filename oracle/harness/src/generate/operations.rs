@@ -50,9 +50,15 @@ fn place<T: Copy>(rng: &mut Rng, anchors: &[T], set: &[T], most: usize) -> Optio
     (!from.is_empty()).then(|| rng.pick(from))
 }
 
+/// The place of a bit in a number of so many bits, often the lowest, the middle or the highest.
+fn bit(rng: &mut Rng, width: u64) -> u64 {
+    let anywhere = rng.below(width);
+    rng.pick(&[0, width / 2, width - 1, anywhere])
+}
+
 /// The number with one bit changed, above 0.
 fn flipped(rng: &mut Rng, number: u64) -> u64 {
-    (number ^ (1 << rng.below(64))).max(1)
+    (number ^ (1 << bit(rng, 64))).max(1)
 }
 
 /// A node and a slot: often an anchor of one kind, or one bit away from it.
@@ -67,7 +73,7 @@ pub fn stray(rng: &mut Rng, targets: &Targets) -> (u64, u32) {
     match rng.below(3) {
         0 => (node, slot),
         1 => (flipped(rng, node), slot),
-        _ => (node, slot ^ (1 << rng.below(32))),
+        _ => (node, slot ^ (1 << bit(rng, 32))),
     }
 }
 
