@@ -13,7 +13,8 @@ use crate::tally::Tally;
 /// Scripts are sent to one process until they have so many bytes.
 const CHUNK: usize = 8 << 20;
 
-/// What the program prints for a script. A thread feeds it, so that neither side waits for the other.
+/// What the program prints for a script, and how it ended if not well. A thread feeds it, so that neither side waits
+/// for the other.
 fn replay(program: &[&str], script: Vec<u8>) -> Vec<u8> {
     let mut child = Process::new(program[0])
         .args(&program[1..])
@@ -27,7 +28,10 @@ fn replay(program: &[&str], script: Vec<u8>) -> Vec<u8> {
     let mut answers = Vec::new();
     child.stdout.take().unwrap().read_to_end(&mut answers).unwrap();
     feeder.join().unwrap();
-    child.wait().unwrap();
+    let status = child.wait().unwrap();
+    if !status.success() {
+        writeln!(answers, "({status})").unwrap();
+    }
     answers
 }
 
@@ -63,19 +67,22 @@ impl Chunk {
     fn first_difference(&mut self, program: &[&str]) -> Option<Vec<Command>> {
         let answers = replay(program, std::mem::take(&mut self.script));
         let mut rest = answers.as_slice();
-        let mut before = Vec::new();
-        for session in &self.sessions {
+        for (index, session) in self.sessions.iter().enumerate() {
             match rest.strip_prefix(session.answers.as_slice()) {
                 Some(more) => rest = more,
                 None => {
                     let alone = up_to_difference(session, rest);
-                    let whole = [before, alone.clone()].concat();
+                    let whole = [self.commands(index), alone.clone()].concat();
                     return Some(if differs(program, &alone) { alone } else { whole });
                 }
             }
-            before.extend_from_slice(&session.commands);
         }
-        (!rest.is_empty()).then_some(before)
+        (!rest.is_empty()).then(|| self.commands(self.sessions.len()))
+    }
+
+    /// The commands of the first sessions.
+    fn commands(&self, sessions: usize) -> Vec<Command> {
+        self.sessions[..sessions].iter().flat_map(|session| session.commands.iter().cloned()).collect()
     }
 }
 
