@@ -8,10 +8,10 @@ use native.Mathlib.Omega.{arith}
 use lib.Dec.{leb, eqb}
 use lib.ListN.{length, getD, take, drop}
 use borrow.Author.Tests.{le-leb, lt-leb, leb-true, leb-false, eq-eqb, ne-eqb, eqb-true, eqb-false}
-use Rattle.spec_lists.specs.Lists.{if_then_else_, between, all}
+use Rattle.spec_lists.specs.Lists.{if_then_else_, between, all, equalLists}
 use Rattle.spec_lists.specs.ListLaws.{and-left, and-right, test-cases}
 use Rattle.spec_decimal.specs.Decimal.{isDigit}
-use Rattle.spec_replay.specs.Script.{hexDigit, hexByte, consByte, hexPairs}
+use Rattle.spec_replay.specs.Script.{hexDigit, hexByte, consByte, hexPairs, readHex}
 use Rattle.wire.specs.Write.{hasRoom, overwrite}
 use Rattle.wire.specs.WriteLaws.{has-room, take-overwrite}
 use Rattle.hex.specs.declared.Decoded.{Decoded}
@@ -78,3 +78,36 @@ decoded-part out (some bs) n e =
     let whole : 0 + n ≡ n = omega arith in
     ap some (sym (take-overwrite out 0 bs n same room) ∙ ap (λ (k : ℕ). take k (overwrite out 0 bs)) whole))
     (λ t. cc (rw t at e))
+
+pairs-length : (text bs : List ℕ) → hexPairs text ≡ some bs → 2 * length bs ≤ length text
+pairs-length text bs e =
+    test-cases (isPairs text)
+    (λ t.
+    let spelled : some (pairBytes text) ≡ some bs = rw t at (sym (hexPairs-is text) ∙ e) in
+    let same : pairBytes text ≡ bs = cc in
+    omega (arith, length-pairBytes text, ap length same))
+    (λ t.
+    let spelled : none ≡ some bs = rw t at (sym (hexPairs-is text) ∙ e) in
+    let z : _≡_ {A = ℕ} 0 1 = cc in
+    absurd (omega arith))
+
+-- a text is at least twice as long as its bytes
+pub decoded-length : (text bs : List ℕ) → readHex text ≡ some bs → 2 * length bs ≤ length text
+unfolding readHex
+decoded-length [] bs e = absurd (let z : _≡_ {A = ℕ} 0 1 = cc in omega arith)
+decoded-length (b ∷ text) bs e =
+    test-cases (equalLists eqb (b ∷ text) (45 ∷ []))
+    (λ t. let same : [] ≡ bs = cc (rw t at e) in omega (arith, ap length same))
+    (λ t. pairs-length (b ∷ text) bs (rw t at e))
+
+-- with room for half of a text there is always room
+pub always-room : (text : List ℕ) (room : ℕ) → length text ≤ 2 * room → decoding room (readHex text) ≡ Answer.NoRoom → ⊥
+unfolding decoding
+always-room text room h = by-reading (readHex text) refl
+  where
+    by-reading : (x : Option (List ℕ)) → readHex text ≡ x → decoding room x ≡ Answer.NoRoom → ⊥
+    by-reading none e n = let z : _≡_ {A = ℕ} 0 1 = cc in omega arith
+    by-reading (some bs) e n =
+        let room-left : length bs ≤ room = omega (arith, decoded-length text bs e) in
+        let z : _≡_ {A = ℕ} 0 1 = cc (rw (le-leb (length bs) room room-left) at n) in
+        omega arith

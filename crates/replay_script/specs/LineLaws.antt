@@ -1,16 +1,16 @@
 -- Laws of the lines: what is silent, what a decoded set is, and where a listing ends.
-use Prim.Native.Nat.{ℕ, _+_, _-_, _/_, _≤_, _<_}
+use Prim.Native.Nat.{ℕ, _+_, _-_, _≤_, _<_}
 use mathlib.Core.Path.{_≡_, refl, sym, ap, subst, _∙_}
 use mathlib.Core.Bool.{Bool, true, false}
 use mathlib.Core.List.{List, [], _∷_}
 use mathlib.Core.Option.{Option, none, some}
 use native.Mathlib.Omega.{arith}
-use borrow.Author.Tests.{le-leb, lt-leb, leb-true}
-use lib.Dec.{leb, eqb}
+use borrow.Author.Tests.{lt-leb, leb-true}
+use lib.Dec.{leb}
 use lib.ListN.{length, take, drop, length-drop}
-use Rattle.spec_lists.specs.Lists.{if_then_else_, equalLists}
+use Rattle.spec_lists.specs.Lists.{if_then_else_}
 use Rattle.spec_lists.specs.ListLaws.{test-cases}
-use Rattle.spec_replay.specs.Script.{Command, other, lineBytes, hexPairs, readHex, given, command}
+use Rattle.spec_replay.specs.Script.{Command, other, lineBytes, readHex, given, command}
 use Rattle.spec_replay.specs.Replay.{Setup, State, onward, replayLine}
 use Rattle.decimal.specs.declared.Printed.{Printed}
 use Rattle.decimal.specs.declared.Printed.the-variants.{Next, NoRoom}
@@ -20,8 +20,8 @@ use Rattle.field_printer.specs.Prints.{Prints}
 use Rattle.field_printer.specs.PrintsLaws.{written, refused, nothing-printed}
 use Rattle.hex.specs.declared.Decoded.{Decoded}
 use Rattle.hex.specs.declared.Decoded.the-variants as decoded
-use Rattle.hex.specs.Decoding.{isPairs, pairBytes, decoding, decodedInto}
-use Rattle.hex.specs.DecodingLaws.{hexPairs-is, length-pairBytes, decoded-part}
+use Rattle.hex.specs.Decoding.{decoding, decodedInto}
+use Rattle.hex.specs.DecodingLaws.{decoded-part, always-room}
 use Rattle.script_parser.specs.Meaning.{setFrom, commandOf}
 use Rattle.script_parser.specs.declared.ScriptCommand.{ScriptCommand}
 use Rattle.replay_setup.specs.SetsUp.{SetsUp}
@@ -64,23 +64,6 @@ long-other line h = rw (lt-leb (length line) lineBytes h)
 pub parsed-as : (line : List ℕ) (p c : ScriptCommand) → commandOf line p ≡ command line → p ≡ c → commandOf line c ≡ command line
 parsed-as line p c told e = ap (commandOf line) (sym e) ∙ told
 
--- a text spells at most half as many bytes as it has
-pairs-short : (text bs : List ℕ) → hexPairs text ≡ some bs → length bs ≤ length text / 2
-pairs-short text bs e = go (isPairs text) (sym (hexPairs-is text) ∙ e)
-  where
-    go : (t : Bool) → (if t then some (pairBytes text) else none) ≡ some bs → length bs ≤ length text / 2
-    go true h = let same : pairBytes text ≡ bs = cc in omega (arith, ap length same, length-pairBytes text)
-    go false h = absurd (let z : _≡_ {A = ℕ} 0 1 = cc in omega arith)
-
-readHex-short : (text bs : List ℕ) → readHex text ≡ some bs → length bs ≤ length text / 2
-unfolding readHex
-readHex-short [] bs e = absurd (let z : _≡_ {A = ℕ} 0 1 = cc in omega arith)
-readHex-short (b ∷ text) bs e = go (equalLists eqb (b ∷ text) (45 ∷ [])) e
-  where
-    go : (t : Bool) → (if t then some [] else hexPairs (b ∷ text)) ≡ some bs → length bs ≤ length (b ∷ text) / 2
-    go true h = let same : _≡_ {A = List ℕ} [] bs = cc in omega (arith, ap length same)
-    go false h = pairs-short (b ∷ text) bs h
-
 -- ---- sets in hex
 
 module _ (line : List ℕ) (from : ℕ) (next : List ℕ → Command) (lent after : List ℕ) (r : Decoded)
@@ -120,15 +103,7 @@ module _ (line : List ℕ) (from : ℕ) (next : List ℕ → Command) (lent afte
 
   -- there is always room for what a line spells
   pub has-room : 65536 ≤ length lent → length line ≤ lineBytes → r ≡ decoded.NoRoom → ⊥
-  unfolding decoding
-  has-room room short e = go (readHex (drop from line)) refl (sym told ∙ e)
-    where
-      go : (o : Option (List ℕ)) → readHex (drop from line) ≡ o → decoding (length lent) o ≡ decoded.NoRoom → ⊥
-      go none h e = let z : _≡_ {A = ℕ} 0 1 = cc in omega arith
-      go (some bs) h e =
-          let few : length bs ≤ length lent = omega (arith, readHex-short (drop from line) bs h, length-drop from line) in
-          let bytes : decoded.Bytes (length bs) ≡ decoded.NoRoom = ap (λ (t : Bool). if t then decoded.Bytes (length bs) else decoded.NoRoom) (sym (le-leb (length bs) (length lent) few)) ∙ e in
-          let z : _≡_ {A = ℕ} 0 1 = cc in omega arith
+  has-room room short e = always-room (drop from line) (length lent) (omega (arith, length-drop from line)) (sym told ∙ e)
 
 -- where a listing ends
 pub listing-printed : (before lines after : List ℕ) (r : Written) → Writes before lines after r → Prints before (Next 0) lines after (printedOf r)

@@ -1,4 +1,5 @@
 pub mod Script
 pub mod Answers
 pub mod Replay
+pub mod ReplayLaws
 pub mod ReplayExamples

@@ -125,6 +125,10 @@ commandsOf [] = []
 commandsOf (rest ∷ []) = if isEmpty rest then [] else other ∷ []
 commandsOf (line ∷ part ∷ parts) = command line ∷ commandsOf (part ∷ parts)
 
+-- what is printed of a script from a line's number and a state on
+unfoldable pub replayFrom : ℕ → State → List ℕ → List ℕ
+replayFrom n s script = replayLines n s (commandsOf (split newline script))
+
 -- what the program prints of its input
 unfoldable pub replay : List ℕ → List ℕ
-replay script = replayLines 1 start (commandsOf (split newline script))
+replay script = replayFrom 1 start script

@@ -25,7 +25,7 @@ use Rattle.spec_session.specs.Batch.{require, readable, absentTargets, knownTar
 use Rattle.spec_listing.specs.Listing.{fields, recordCount, projectionLines, refusalLine, outcomeLines, readingLines, listing}
 use Rattle.spec_replay.specs.Script.{ascii, prepend, split, hexDigit, hexByte, consByte, hexPairs, readHex, end, given, readBy, slotOf, byWord, stimuli, sessionArguments, bindingArguments, applyArguments, batchArguments, valueBindingArguments, valueEntryArguments, values, valueArguments, commands, fieldsCommand, isRemark, command}
 use Rattle.spec_replay.specs.Answers.{dispositionField, lifecycleField, cursorField, placeField, sessionFields, creationLine, lifecycleLine, batchLine, checkedLine, checkLines, availabilityLine, noSessionLine, otherLine}
-use Rattle.spec_replay.specs.Replay.{noAnchors, start, keep, withSetup, withAnchors, withNode, withBinding, withSession, asked, created, applied, batched, replayLine, replayLines, commandsOf, replay}
+use Rattle.spec_replay.specs.Replay.{noAnchors, start, keep, withSetup, withAnchors, withNode, withBinding, withSession, asked, created, applied, batched, replayLine, replayLines, commandsOf, replayFrom, replay}
 
 prints : String → String → Bool
 prints script answers = equalLists eqb (replay (ascii script)) (ascii answers)
@@ -70,5 +70,5 @@ unfolding examples prints
     prepend split hexDigit hexByte consByte hexPairs readHex end given readBy slotOf byWord stimuli sessionArguments bindingArguments applyArguments batchArguments
     valueBindingArguments valueEntryArguments values valueArguments commands fieldsCommand isRemark command
     dispositionField lifecycleField cursorField placeField sessionFields creationLine lifecycleLine batchLine checkedLine checkLines availabilityLine noSessionLine otherLine
-    noAnchors start keep withSetup withAnchors withNode withBinding withSession asked created applied batched replayLine replayLines commandsOf replay
+    noAnchors start keep withSetup withAnchors withNode withBinding withSession asked created applied batched replayLine replayLines commandsOf replayFrom replay
 replay-examples = tt

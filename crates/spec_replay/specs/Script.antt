@@ -1,4 +1,4 @@
--- The commands of a replay script, one to a line, as bytes: issue 7, 'replay'. The points that it leaves open are decided in docs/DECISIONS.md.
+-- The commands of a replay script, one to a line, as bytes: the table `commands`, and the fields of each above it.
 use Prim.Native.Nat.{ℕ, _+_, _-_, _*_}
 use Prim.Native.Char.{code}
 use Prim.Native.String.{String, [] as noText, _∷_ as _before_}
