@@ -1,24 +1,64 @@
 //! The original beside the proved code: see the oracle's README.
+mod answer;
 mod bench;
 mod bench_sets;
+mod codes;
+mod compare;
+mod decode;
+mod generate;
+mod hex;
+mod listing;
+mod original;
+mod panel;
+mod printing;
+mod rng;
+mod script;
+mod set_calls;
 mod sets;
+mod shrink;
+mod tally;
+mod vectors;
 
 use std::io::Write;
+use std::process::exit;
 
-const USAGE: &str = "oracle bench-read PROGRAM | bench-check PROGRAM | bench-set texts | bench-set PATCHES OPERATIONS";
+const USAGE: &str = "\
+oracle answer < SCRIPT
+oracle count SESSIONS SEED
+oracle compare SESSIONS SEED --replay PROGRAM...
+oracle vectors ANSWERS SEED FOLDER [SCRIPT_BYTES]
+oracle sets COUNT SEED
+oracle bench-read PROGRAM | bench-check PROGRAM | bench-set texts | bench-set PATCHES OPERATIONS";
 
 fn main() {
     let arguments: Vec<String> = std::env::args().skip(1).collect();
     let words: Vec<&str> = arguments.iter().map(String::as_str).collect();
     match words.as_slice() {
+        ["answer"] => answer::run(),
+        ["count", sessions, seed] | ["compare", sessions, seed] => compare::count(number(sessions), number(seed)),
+        ["compare", sessions, seed, "--replay", program @ ..] if !program.is_empty() => {
+            exit(!compare::compare(number(sessions), number(seed), program) as i32)
+        }
+        ["vectors", answers, seed, folder] => vectors::write(number(answers), number(seed), folder, None),
+        ["vectors", answers, seed, folder, longest] => {
+            vectors::write(number(answers), number(seed), folder, Some(number(longest)))
+        }
+        ["sets", count, seed] => vectors::sets(number(count), number(seed)),
         ["bench-read", program] => bench::reading(program),
         ["bench-check", program] => bench::checking(program),
         ["bench-set", "texts"] => put(&sets::encode(&bench_sets::texts())),
         ["bench-set", patches, operations] => {
-            put(&sets::encode(&bench_sets::grid(patches.parse().unwrap(), operations.parse().unwrap())))
+            put(&sets::encode(&bench_sets::grid(number(patches), number(operations))))
         }
         _ => eprintln!("{USAGE}"),
     }
+}
+
+fn number(word: &str) -> u64 {
+    word.parse().unwrap_or_else(|_| {
+        eprintln!("not a number: {word}");
+        exit(2)
+    })
 }
 
 fn put(bytes: &[u8]) {

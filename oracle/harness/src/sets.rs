@@ -3,7 +3,7 @@
 use prom_ui::shell_bridge::glue::RawPatch;
 use prom_ui::shell_bridge::{BridgeAvailability, BridgePatchOperation, BridgeQuad, BridgeValue};
 
-const HEADING: &[u8] = b"UI_DNA2_PROJECTION_PATCH_V1";
+pub const HEADING: &[u8] = b"UI_DNA2_PROJECTION_PATCH_V1";
 const QUADS: [BridgeQuad; 4] = [BridgeQuad::N, BridgeQuad::F, BridgeQuad::T, BridgeQuad::S];
 const AVAILABILITIES: [BridgeAvailability; 5] = [
     BridgeAvailability::Available,
