@@ -23,7 +23,7 @@ fn process_seconds(program: &str, way: char, count: u64, set: &[u8]) -> f64 {
     start.elapsed().as_secs_f64()
 }
 
-fn least(runs: impl Fn() -> f64) -> f64 {
+pub fn least(runs: impl Fn() -> f64) -> f64 {
     (0..RUNS).map(|_| runs()).fold(f64::INFINITY, f64::min)
 }
 
@@ -54,24 +54,24 @@ pub fn original<A, B>(make: impl Fn() -> A, call: impl Fn(A) -> B) -> f64 {
     })
 }
 
-fn built(patches: &[RawPatch]) -> Vec<BuiltPatch> {
+pub fn built(patches: &[RawPatch]) -> Vec<BuiltPatch> {
     patches.iter().map(|p| glue::build(p).expect("ids above 0")).collect()
 }
 
-fn admitted(checked: Checked) -> prom_ui::shell_bridge::AdmittedProjectionPatchBatch {
+pub fn admitted(checked: Checked) -> prom_ui::shell_bridge::AdmittedProjectionPatchBatch {
     match checked {
         Checked::Admitted(batch) => batch,
         _ => panic!("the benchmark sets have no findings"),
     }
 }
 
-fn show(what: &str, proved: f64, original: f64) {
+pub fn show(what: &str, proved: f64, original: f64) {
     println!("{what:40} {proved:12.0} ns {original:12.0} ns {:8.2}", proved / original);
 }
 
 /// Reading, beside building the same list from values and giving its canonical bytes.
 pub fn reading(program: &str) {
-    let patches = bench_sets::texts();
+    let patches = bench_sets::texts(32_768);
     let set = sets::encode(&patches);
     let ours = proved(program, 'r', &set);
     let theirs = original(|| (), |_| glue::canonical_bytes(&admitted(glue::check(built(&patches)))));
@@ -90,5 +90,15 @@ pub fn checking(program: &str) {
                 show(&format!("{name} {patches} x {operations}"), proved(program, way, &set), theirs);
             }
         }
+    }
+}
+
+/// Reading and the quick check of texts, beside the constructors, for a small and a large set.
+pub fn sizes(program: &str) {
+    for most in [1_024, 32_768] {
+        let list = bench_sets::texts(most);
+        let set = sets::encode(&list);
+        let theirs = original(|| built(&list), |b| admitted(glue::check(b)));
+        show(&format!("read and check {} bytes", set.len()), proved(program, 'q', &set), theirs);
     }
 }

@@ -1,0 +1,156 @@
+//! A panel and two sets that are applied to it in turn: the second takes back what the first does.
+use prom_ui::shell_bridge::glue::RawPatch;
+use prom_ui::shell_bridge::{BridgePatchOperation as Operation, BridgeValue};
+
+use crate::bench_sets::{patch, text};
+use crate::panel::{Panel, Step};
+use crate::sets;
+
+pub const COLLECTIONS: u64 = 4;
+pub const NODES: u64 = 64;
+
+/// The most operations of a patch that has its inverse beside it: a panel of 32 entries has so many targets.
+const HALF: u64 = 64;
+
+pub struct PanelSets {
+    pub fill: Vec<RawPatch>,
+    pub forth: Vec<RawPatch>,
+    pub back: Vec<RawPatch>,
+}
+
+fn collection(key: u64) -> u64 {
+    1 + key % COLLECTIONS
+}
+
+/// Texts of all three scripts, and numbers, one of each in turn.
+fn value(i: u64) -> BridgeValue {
+    match i % 4 {
+        3 => BridgeValue::Unsigned(i),
+        _ => text(i),
+    }
+}
+
+fn insert(key: u64, before: Option<u64>) -> Operation {
+    Operation::CollectionInsert { collection: collection(key), key, before, value: value(key) }
+}
+
+fn binding(node: u64, x: u64) -> Operation {
+    Operation::SetBindingValue { node, slot: 1, value: BridgeValue::Unsigned(x) }
+}
+
+fn availability(node: u64, tag: u8) -> Operation {
+    Operation::SetNodeAvailability { node, availability: sets::availability(tag) }
+}
+
+fn entries(count: u64) -> Vec<Operation> {
+    (1..=count).map(|key| insert(key, None)).collect()
+}
+
+/// The middle key of a collection.
+fn middle(panel: &Panel, collection: u64) -> Option<u64> {
+    let keys = panel.keys(collection);
+    keys.get(keys.len() / 2).copied()
+}
+
+/// The key behind a key.
+fn follower(panel: &Panel, collection: u64, key: u64) -> Option<u64> {
+    let keys = panel.keys(collection);
+    let at = keys.iter().position(|k| *k == key).expect("the key is present");
+    keys.get(at + 1).copied()
+}
+
+/// Number i of a mix of the six kinds, each with a target of its own.
+fn mixed(panel: &Panel, entries: u64, i: u64) -> Operation {
+    let (round, spread) = (i / 6, entries / 32);
+    let key = |kind: u64| 1 + (3 * round + kind) * spread;
+    let at = |kind: u64| (collection(key(kind)), key(kind));
+    match i % 6 {
+        0 => insert(1000 + round, middle(panel, collection(1000 + round))),
+        1 => Operation::CollectionUpdate { collection: at(0).0, key: at(0).1, value: value(i) },
+        2 => binding(1 + round, i),
+        3 => availability(1 + round, (i % 5) as u8),
+        4 => Operation::CollectionRemove { collection: at(1).0, key: at(1).1 },
+        _ => {
+            let before = panel.keys(at(2).0).first().copied().filter(|first| *first != at(2).1);
+            Operation::CollectionMove { collection: at(2).0, key: at(2).1, before }
+        }
+    }
+}
+
+/// Number i of a panel without entries.
+fn plain(i: u64) -> Operation {
+    let node = 1 + i / 2;
+    if i % 2 == 0 {
+        binding(node, i)
+    } else {
+        availability(node, (i % 5) as u8)
+    }
+}
+
+/// What takes an operation back.
+fn inverse(panel: &Panel, operation: &Operation) -> Operation {
+    match operation.clone() {
+        Operation::CollectionInsert { collection, key, .. } => Operation::CollectionRemove { collection, key },
+        Operation::CollectionRemove { collection, key } => {
+            let before = follower(panel, collection, key);
+            Operation::CollectionInsert { collection, key, before, value: value(key) }
+        }
+        Operation::CollectionMove { collection, key, .. } => {
+            Operation::CollectionMove { collection, key, before: follower(panel, collection, key) }
+        }
+        Operation::CollectionUpdate { collection, key, .. } => {
+            Operation::CollectionUpdate { collection, key, value: value(key) }
+        }
+        replaced => replaced,
+    }
+}
+
+/// So many operations, and those that take them back.
+fn pair(count: u64, operations: u64) -> (Vec<Operation>, Vec<Operation>) {
+    let mut panel = Panel::default();
+    entries(count).iter().for_each(|o| assert_eq!(panel.apply(o), Step::Fits));
+    let (mut forth, mut back) = (Vec::new(), Vec::new());
+    for i in 0..operations {
+        let operation = if count == 0 { plain(i) } else { mixed(&panel, count, i) };
+        back.insert(0, inverse(&panel, &operation));
+        assert_eq!(panel.apply(&operation), Step::Fits);
+        forth.push(operation);
+    }
+    (forth, back)
+}
+
+fn fill(count: u64) -> RawPatch {
+    let mut operations = entries(count);
+    operations.push(availability(1, 0));
+    patch(0, operations)
+}
+
+/// A panel of so many entries in four collections, and sets of so many operations. Where a set has more than 64 on a
+/// panel with entries, its second half takes back the first, and both sets are the same.
+pub fn panel(entries: u64, operations: u64) -> PanelSets {
+    let fill = vec![fill(entries)];
+    if entries == 0 || operations <= HALF {
+        let (forth, back) = pair(entries, operations);
+        return PanelSets { fill, forth: vec![patch(0, forth)], back: vec![patch(0, back)] };
+    }
+    let (forth, back) = pair(entries, operations / 2);
+    let both = vec![patch(0, forth), patch(1, back)];
+    PanelSets { fill, forth: both.clone(), back: both }
+}
+
+/// A panel of 120 entries, 64 bindings and 64 availabilities, for look-ups.
+pub fn full() -> PanelSets {
+    let others = (0..2 * NODES).map(plain).collect();
+    PanelSets { fill: vec![fill(120), patch(1, others)], forth: Vec::new(), back: Vec::new() }
+}
+
+/// The data of the benchmark program: each set after its length.
+pub fn data(panel: &PanelSets) -> Vec<u8> {
+    let mut out = Vec::new();
+    for list in [&panel.fill, &panel.forth, &panel.back] {
+        let set = sets::encode(list);
+        out.extend((set.len() as u32).to_le_bytes());
+        out.extend(set);
+    }
+    out
+}
