@@ -3,24 +3,23 @@
 use std::hint::black_box;
 use std::io::Write;
 use std::process::{Command, Stdio};
-use std::time::Instant;
 
 use prom_ui::shell_bridge::glue::{self, BuiltPatch, Checked, RawPatch};
 
-use crate::{bench_sets, sets};
+use crate::{bench_sets, processor, sets};
 
 const RUNS: usize = 7;
 
 /// Seconds that the program takes for so many repeats of one way of using a set.
 fn process_seconds(program: &str, way: char, count: u64, set: &[u8]) -> f64 {
-    let start = Instant::now();
+    let start = processor::children();
     let mut child =
         Command::new(program).stdin(Stdio::piped()).stdout(Stdio::null()).spawn().expect("the program starts");
     let mut input = format!("{way} {count}\n").into_bytes();
     input.extend(set);
     child.stdin.take().unwrap().write_all(&input).unwrap();
     assert!(child.wait().unwrap().success());
-    start.elapsed().as_secs_f64()
+    processor::children() - start
 }
 
 pub fn least(runs: impl Fn() -> f64) -> f64 {
@@ -40,15 +39,15 @@ pub fn proved(program: &str, way: char, set: &[u8]) -> f64 {
 
 /// Nanoseconds of one call, over arguments that were made before.
 pub fn original<A, B>(make: impl Fn() -> A, call: impl Fn(A) -> B) -> f64 {
-    const CALLS: usize = 200;
+    const CALLS: usize = 1_000;
     least(|| {
         let arguments: Vec<A> = (0..CALLS).map(|_| make()).collect();
         let mut answers = Vec::with_capacity(CALLS);
-        let start = Instant::now();
+        let start = processor::own();
         for argument in arguments {
             answers.push(call(black_box(argument)));
         }
-        let seconds = start.elapsed().as_secs_f64();
+        let seconds = processor::own() - start;
         black_box(answers);
         seconds / CALLS as f64 * 1e9
     })

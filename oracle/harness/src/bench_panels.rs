@@ -18,8 +18,11 @@ pub struct PanelSets {
     pub back: Vec<RawPatch>,
 }
 
-fn collection(key: u64) -> u64 {
-    1 + key % COLLECTIONS
+/// How many entries a panel has, and in how many collections.
+#[derive(Clone, Copy)]
+pub struct Layout {
+    pub entries: u64,
+    pub collections: u64,
 }
 
 /// Texts of all three scripts, and numbers, one of each in turn.
@@ -30,20 +33,12 @@ fn value(i: u64) -> BridgeValue {
     }
 }
 
-fn insert(key: u64, before: Option<u64>) -> Operation {
-    Operation::CollectionInsert { collection: collection(key), key, before, value: value(key) }
-}
-
 fn binding(node: u64, x: u64) -> Operation {
     Operation::SetBindingValue { node, slot: 1, value: BridgeValue::Unsigned(x) }
 }
 
 fn availability(node: u64, tag: u8) -> Operation {
     Operation::SetNodeAvailability { node, availability: sets::availability(tag) }
-}
-
-fn entries(count: u64) -> Vec<Operation> {
-    (1..=count).map(|key| insert(key, None)).collect()
 }
 
 /// The middle key of a collection.
@@ -59,21 +54,71 @@ fn follower(panel: &Panel, collection: u64, key: u64) -> Option<u64> {
     keys.get(at + 1).copied()
 }
 
-/// Number i of a mix of the six kinds, each with a target of its own.
-fn mixed(panel: &Panel, entries: u64, i: u64) -> Operation {
-    let (round, spread) = (i / 6, entries / 32);
-    let key = |kind: u64| 1 + (3 * round + kind) * spread;
-    let at = |kind: u64| (collection(key(kind)), key(kind));
-    match i % 6 {
-        0 => insert(1000 + round, middle(panel, collection(1000 + round))),
-        1 => Operation::CollectionUpdate { collection: at(0).0, key: at(0).1, value: value(i) },
-        2 => binding(1 + round, i),
-        3 => availability(1 + round, (i % 5) as u8),
-        4 => Operation::CollectionRemove { collection: at(1).0, key: at(1).1 },
-        _ => {
-            let before = panel.keys(at(2).0).first().copied().filter(|first| *first != at(2).1);
-            Operation::CollectionMove { collection: at(2).0, key: at(2).1, before }
+impl Layout {
+    fn collection(self, key: u64) -> u64 {
+        1 + key % self.collections
+    }
+
+    fn insert(self, key: u64, before: Option<u64>) -> Operation {
+        Operation::CollectionInsert { collection: self.collection(key), key, before, value: value(key) }
+    }
+
+    fn inserts(self) -> Vec<Operation> {
+        (1..=self.entries).map(|key| self.insert(key, None)).collect()
+    }
+
+    /// Number i of a mix of the six kinds, each with a target of its own.
+    fn mixed(self, panel: &Panel, i: u64) -> Operation {
+        let (round, spread) = (i / 6, self.entries / 32);
+        let target = |kind: u64| {
+            let key = 1 + (3 * round + kind) * spread;
+            (self.collection(key), key)
+        };
+        let ((updated_in, updated), (removed_from, removed), (moved_in, moved)) = (target(0), target(1), target(2));
+        match i % 6 {
+            0 => self.insert(1000 + round, middle(panel, self.collection(1000 + round))),
+            1 => Operation::CollectionUpdate { collection: updated_in, key: updated, value: value(i) },
+            2 => binding(1 + round, i),
+            3 => availability(1 + round, (i % 5) as u8),
+            4 => Operation::CollectionRemove { collection: removed_from, key: removed },
+            _ => {
+                let before = panel.keys(moved_in).first().copied().filter(|first| *first != moved);
+                Operation::CollectionMove { collection: moved_in, key: moved, before }
+            }
         }
+    }
+
+    /// So many operations, and those that take them back.
+    fn pair(self, operations: u64) -> (Vec<Operation>, Vec<Operation>) {
+        let mut panel = Panel::default();
+        self.inserts().iter().for_each(|o| assert_eq!(panel.apply(o), Step::Fits));
+        let (mut forth, mut back) = (Vec::new(), Vec::new());
+        for i in 0..operations {
+            let operation = if self.entries == 0 { plain(i) } else { self.mixed(&panel, i) };
+            back.insert(0, inverse(&panel, &operation));
+            assert_eq!(panel.apply(&operation), Step::Fits);
+            forth.push(operation);
+        }
+        (forth, back)
+    }
+
+    fn fill(self) -> RawPatch {
+        let mut operations = self.inserts();
+        operations.push(availability(1, 0));
+        patch(0, operations)
+    }
+
+    /// The panel, and sets of so many operations. Where a set has more than 64 on a panel with entries, its second
+    /// half takes back the first, and both sets are the same.
+    pub fn panel(self, operations: u64) -> PanelSets {
+        let fill = vec![self.fill()];
+        if self.entries == 0 || operations <= HALF {
+            let (forth, back) = self.pair(operations);
+            return PanelSets { fill, forth: vec![patch(0, forth)], back: vec![patch(0, back)] };
+        }
+        let (forth, back) = self.pair(operations / 2);
+        let both = vec![patch(0, forth), patch(1, back)];
+        PanelSets { fill, forth: both.clone(), back: both }
     }
 }
 
@@ -105,43 +150,11 @@ fn inverse(panel: &Panel, operation: &Operation) -> Operation {
     }
 }
 
-/// So many operations, and those that take them back.
-fn pair(count: u64, operations: u64) -> (Vec<Operation>, Vec<Operation>) {
-    let mut panel = Panel::default();
-    entries(count).iter().for_each(|o| assert_eq!(panel.apply(o), Step::Fits));
-    let (mut forth, mut back) = (Vec::new(), Vec::new());
-    for i in 0..operations {
-        let operation = if count == 0 { plain(i) } else { mixed(&panel, count, i) };
-        back.insert(0, inverse(&panel, &operation));
-        assert_eq!(panel.apply(&operation), Step::Fits);
-        forth.push(operation);
-    }
-    (forth, back)
-}
-
-fn fill(count: u64) -> RawPatch {
-    let mut operations = entries(count);
-    operations.push(availability(1, 0));
-    patch(0, operations)
-}
-
-/// A panel of so many entries in four collections, and sets of so many operations. Where a set has more than 64 on a
-/// panel with entries, its second half takes back the first, and both sets are the same.
-pub fn panel(entries: u64, operations: u64) -> PanelSets {
-    let fill = vec![fill(entries)];
-    if entries == 0 || operations <= HALF {
-        let (forth, back) = pair(entries, operations);
-        return PanelSets { fill, forth: vec![patch(0, forth)], back: vec![patch(0, back)] };
-    }
-    let (forth, back) = pair(entries, operations / 2);
-    let both = vec![patch(0, forth), patch(1, back)];
-    PanelSets { fill, forth: both.clone(), back: both }
-}
-
 /// A panel of 120 entries, 64 bindings and 64 availabilities, for look-ups.
 pub fn full() -> PanelSets {
+    let layout = Layout { entries: 120, collections: COLLECTIONS };
     let others = (0..2 * NODES).map(plain).collect();
-    PanelSets { fill: vec![fill(120), patch(1, others)], forth: Vec::new(), back: Vec::new() }
+    PanelSets { fill: vec![layout.fill(), patch(1, others)], forth: Vec::new(), back: Vec::new() }
 }
 
 /// The data of the benchmark program: each set after its length.

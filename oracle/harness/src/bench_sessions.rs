@@ -1,6 +1,5 @@
 //! Times of sessions, projections, look-ups, texts and writing, on both sides.
 use std::hint::black_box;
-use std::time::Instant;
 
 use prom_ui::shell_bridge::glue::{self, RawPatch};
 use prom_ui::shell_bridge::{initial_local_projection_state, prepare_patch_submission};
@@ -8,12 +7,12 @@ use prom_ui::shell_bridge::{LocalProjectionStateHandle, PreparedPatchSubmission}
 use prom_ui_runtime::shell_player::*;
 
 use crate::bench::{admitted, built, least, original, proved, show};
-use crate::bench_panels::{self, PanelSets};
-use crate::bench_sets;
+use crate::bench_panels::{self, Layout, PanelSets};
+use crate::{bench_sets, processor};
 
 const ENTRIES: [u64; 3] = [0, 32, 120];
 const OPERATIONS: [u64; 4] = [1, 10, 50, 128];
-const CALLS: u64 = 400;
+const CALLS: u64 = 4_000;
 
 /// A batch of the original, with its counts.
 struct Prepared {
@@ -60,12 +59,12 @@ fn original_batch(panel: &PanelSets) -> f64 {
     let (forth, back) = (prepare(&panel.forth), prepare(&panel.back));
     least(|| {
         let mut session = filled(panel);
-        let start = Instant::now();
+        let start = processor::own();
         for i in 0..CALLS {
             apply(&mut session, 2 * i + 2, black_box(&forth));
             apply(&mut session, 2 * i + 3, black_box(&back));
         }
-        start.elapsed().as_secs_f64() / (2 * CALLS) as f64 * 1e9
+        (processor::own() - start) / (2 * CALLS) as f64 * 1e9
     })
 }
 
@@ -76,11 +75,11 @@ fn admission(panel: &PanelSets) -> f64 {
 }
 
 /// Batches on sessions; the original's with and without its admission, which the proved call has inside.
-pub fn batches(program: &str) {
+pub fn batches(program: &str, collections: u64) {
     println!("entries operations       proved     original  ratio    admitted  ratio");
     for entries in ENTRIES {
         for operations in OPERATIONS {
-            let panel = bench_panels::panel(entries, operations);
+            let panel = Layout { entries, collections }.panel(operations);
             let ours = proved(program, 'b', &bench_panels::data(&panel)) / 2.0;
             let theirs = original_batch(&panel);
             let whole = theirs + admission(&panel);
@@ -99,20 +98,20 @@ fn original_set(panel: &PanelSets) -> f64 {
     least(|| {
         let mut state: LocalProjectionStateHandle =
             glue::apply_batch(&initial_local_projection_state(), &fill).expect("the first set applies");
-        let start = Instant::now();
+        let start = processor::own();
         for _ in 0..CALLS {
             state = glue::apply_batch(black_box(&state), &forth).expect("the set applies");
             state = glue::apply_batch(black_box(&state), &back).expect("the set applies");
         }
-        start.elapsed().as_secs_f64() / (2 * CALLS) as f64 * 1e9
+        (processor::own() - start) / (2 * CALLS) as f64 * 1e9
     })
 }
 
 /// Sets on projections without a session.
-pub fn projections(program: &str) {
+pub fn projections(program: &str, collections: u64) {
     for entries in ENTRIES {
         for operations in OPERATIONS {
-            let panel = bench_panels::panel(entries, operations);
+            let panel = Layout { entries, collections }.panel(operations);
             let ours = proved(program, 'p', &bench_panels::data(&panel)) / 2.0;
             show(&format!("{operations} operations at {entries} entries"), ours, original_set(&panel));
         }
@@ -120,9 +119,9 @@ pub fn projections(program: &str) {
 }
 
 /// One operation in place, averaged over 128 of the six kinds; the original's loop without its copy of the state.
-pub fn operation(program: &str) {
+pub fn operation(program: &str, collections: u64) {
     for entries in [32, 120] {
-        let panel = bench_panels::panel(entries, 128);
+        let panel = Layout { entries, collections }.panel(128);
         let copy = PanelSets { fill: panel.fill.clone(), forth: Vec::new(), back: Vec::new() };
         let ours = proved(program, 'o', &bench_panels::data(&panel)) / 128.0;
         let theirs = (original_set(&panel) - original_set(&copy)) / 128.0;
@@ -133,11 +132,11 @@ pub fn operation(program: &str) {
 fn original_lookup<A>(look_up: impl Fn(&ShellSession, u64) -> A) -> f64 {
     let session = filled(&bench_panels::full());
     least(|| {
-        let start = Instant::now();
+        let start = processor::own();
         for i in 0..4 * CALLS {
             black_box(look_up(black_box(&session), i));
         }
-        start.elapsed().as_secs_f64() / (4 * CALLS) as f64 * 1e9
+        (processor::own() - start) / (4 * CALLS) as f64 * 1e9
     })
 }
 
@@ -170,12 +169,12 @@ fn repeated(character: char) -> Vec<u8> {
 fn original_text(text: &[u8]) -> f64 {
     let mut text = text.to_vec();
     let mut run = || {
-        let start = Instant::now();
-        for i in 0..100 * CALLS {
+        let start = processor::own();
+        for i in 0..10 * CALLS {
             text[0] = b'0' + (i % 8) as u8;
             black_box(std::str::from_utf8(black_box(&text)).is_ok());
         }
-        start.elapsed().as_secs_f64() / (100 * CALLS) as f64 * 1e9
+        (processor::own() - start) / (10 * CALLS) as f64 * 1e9
     };
     (0..7).map(|_| run()).fold(f64::INFINITY, f64::min)
 }

@@ -4,7 +4,8 @@ use prom_ui::shell_bridge::{BridgePatchEnvelope, BridgePatchOperation, BridgeVal
 
 use crate::sets;
 
-pub const ASCII: &str = "Tighten the four hexagon bolts of the pump cover crosswise to 45 Nm; replace the sealing ring each time.";
+pub const ASCII: &str =
+    "Tighten the four hexagon bolts of the pump cover crosswise to 45 Nm; replace the sealing ring each time.";
 pub const GREEK: &str = "Σφίξτε τα τέσσερα μπουλόνια του καλύμματος της αντλίας σταυρωτά.";
 pub const JAPANESE: &str = "ポンプカバーの六角ボルト四本を対角線の順に締め付けてください。";
 
@@ -30,10 +31,14 @@ pub fn text(i: u64) -> BridgeValue {
 
 /// A set of patches of ten inserts with texts, as near below so many bytes as they come; the last patch may have fewer.
 pub fn texts(most: usize) -> Vec<RawPatch> {
-    let insert = |key: u64| BridgePatchOperation::CollectionInsert { collection: 9, key, before: None, value: text(key) };
+    let insert =
+        |key: u64| BridgePatchOperation::CollectionInsert { collection: 9, key, before: None, value: text(key) };
     let list = |inserts: u64| -> Vec<RawPatch> {
         let keys: Vec<u64> = (1..=inserts).collect();
-        keys.chunks(10).enumerate().map(|(p, keys)| patch(p as u64, keys.iter().map(|k| insert(*k)).collect())).collect()
+        keys.chunks(10)
+            .enumerate()
+            .map(|(p, keys)| patch(p as u64, keys.iter().map(|k| insert(*k)).collect()))
+            .collect()
     };
     let fits = |inserts: &u64| sets::encode(&list(*inserts)).len() <= most;
     list((1..).take_while(fits).last().unwrap_or(0))
