@@ -167,3 +167,27 @@ pub fn data(panel: &PanelSets) -> Vec<u8> {
     }
     out
 }
+
+#[cfg(test)]
+mod tests {
+    use super::{Layout, Panel, RawPatch, Step};
+
+    fn applied(panel: &mut Panel, list: &[RawPatch]) {
+        list.iter().flat_map(|p| &p.operations).for_each(|o| assert_eq!(panel.apply(o), Step::Fits));
+    }
+
+    #[test]
+    fn the_second_set_takes_back_the_first() {
+        for entries in [32, 120] {
+            for (collections, operations) in [(1, 1), (4, 10), (1, 50), (4, 128)] {
+                let sets = Layout { entries, collections }.panel(operations);
+                let mut panel = Panel::default();
+                applied(&mut panel, &sets.fill);
+                let before = panel.collections.clone();
+                applied(&mut panel, &sets.forth);
+                applied(&mut panel, &sets.back);
+                assert_eq!(panel.collections, before);
+            }
+        }
+    }
+}
