@@ -29,12 +29,12 @@ pub fn least(runs: impl Fn() -> f64) -> f64 {
 /// Nanoseconds of the proved program for one repeat.
 pub fn proved(program: &str, way: char, set: &[u8]) -> f64 {
     let mut count = 1_000;
-    while process_seconds(program, way, count, set) < 0.1 {
+    while process_seconds(program, way, count, set) < 0.06 {
         count *= 4;
     }
-    let long = least(|| process_seconds(program, way, 2 * count, set));
+    let long = least(|| process_seconds(program, way, 5 * count, set));
     let short = least(|| process_seconds(program, way, count, set));
-    (long - short) / count as f64 * 1e9
+    (long - short) / (4 * count) as f64 * 1e9
 }
 
 /// Nanoseconds of one call, over arguments that were made before.
