@@ -3,75 +3,74 @@
 use std::hint::black_box;
 use std::io::Write;
 use std::process::{Command, Stdio};
-use std::time::Instant;
 
 use prom_ui::shell_bridge::glue::{self, BuiltPatch, Checked, RawPatch};
 
-use crate::{bench_sets, sets};
+use crate::{bench_sets, processor, sets};
 
 const RUNS: usize = 7;
 
 /// Seconds that the program takes for so many repeats of one way of using a set.
 fn process_seconds(program: &str, way: char, count: u64, set: &[u8]) -> f64 {
-    let start = Instant::now();
+    let start = processor::children();
     let mut child =
         Command::new(program).stdin(Stdio::piped()).stdout(Stdio::null()).spawn().expect("the program starts");
     let mut input = format!("{way} {count}\n").into_bytes();
     input.extend(set);
     child.stdin.take().unwrap().write_all(&input).unwrap();
     assert!(child.wait().unwrap().success());
-    start.elapsed().as_secs_f64()
+    processor::children() - start
 }
 
-fn least(runs: impl Fn() -> f64) -> f64 {
+pub fn least(runs: impl Fn() -> f64) -> f64 {
     (0..RUNS).map(|_| runs()).fold(f64::INFINITY, f64::min)
 }
 
 /// Nanoseconds of the proved program for one repeat.
 pub fn proved(program: &str, way: char, set: &[u8]) -> f64 {
     let mut count = 1_000;
-    while process_seconds(program, way, count, set) < 0.1 {
+    while process_seconds(program, way, count, set) < 0.06 {
         count *= 4;
     }
-    let long = least(|| process_seconds(program, way, 2 * count, set));
+    let long = least(|| process_seconds(program, way, 5 * count, set));
     let short = least(|| process_seconds(program, way, count, set));
-    (long - short) / count as f64 * 1e9
+    (long - short) / (4 * count) as f64 * 1e9
 }
 
 /// Nanoseconds of one call, over arguments that were made before.
 pub fn original<A, B>(make: impl Fn() -> A, call: impl Fn(A) -> B) -> f64 {
-    const CALLS: usize = 200;
+    const CALLS: usize = 1_000;
     least(|| {
         let arguments: Vec<A> = (0..CALLS).map(|_| make()).collect();
         let mut answers = Vec::with_capacity(CALLS);
-        let start = Instant::now();
+        let start = processor::own();
         for argument in arguments {
             answers.push(call(black_box(argument)));
         }
-        let seconds = start.elapsed().as_secs_f64();
+        let seconds = processor::own() - start;
         black_box(answers);
         seconds / CALLS as f64 * 1e9
     })
 }
 
-fn built(patches: &[RawPatch]) -> Vec<BuiltPatch> {
+pub fn built(patches: &[RawPatch]) -> Vec<BuiltPatch> {
     patches.iter().map(|p| glue::build(p).expect("ids above 0")).collect()
 }
 
-fn admitted(checked: Checked) -> prom_ui::shell_bridge::AdmittedProjectionPatchBatch {
+pub fn admitted(checked: Checked) -> prom_ui::shell_bridge::AdmittedProjectionPatchBatch {
     match checked {
         Checked::Admitted(batch) => batch,
         _ => panic!("the benchmark sets have no findings"),
     }
 }
 
-fn show(what: &str, proved: f64, original: f64) {
+pub fn show(what: &str, proved: f64, original: f64) {
     println!("{what:40} {proved:12.0} ns {original:12.0} ns {:8.2}", proved / original);
 }
 
 /// Reading, beside building the same list from values and giving its canonical bytes.
 pub fn reading(program: &str) {
-    let patches = bench_sets::texts();
+    let patches = bench_sets::texts(32_768);
     let set = sets::encode(&patches);
     let ours = proved(program, 'r', &set);
     let theirs = original(|| (), |_| glue::canonical_bytes(&admitted(glue::check(built(&patches)))));
@@ -90,5 +89,15 @@ pub fn checking(program: &str) {
                 show(&format!("{name} {patches} x {operations}"), proved(program, way, &set), theirs);
             }
         }
+    }
+}
+
+/// Reading and the quick check of texts, beside the constructors, for a small and a large set.
+pub fn sizes(program: &str) {
+    for most in [1_024, 32_768] {
+        let list = bench_sets::texts(most);
+        let set = sets::encode(&list);
+        let theirs = original(|| built(&list), |b| admitted(glue::check(b)));
+        show(&format!("read and check {} bytes", set.len()), proved(program, 'q', &set), theirs);
     }
 }

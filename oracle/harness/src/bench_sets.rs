@@ -4,9 +4,10 @@ use prom_ui::shell_bridge::{BridgePatchEnvelope, BridgePatchOperation, BridgeVal
 
 use crate::sets;
 
-const ASCII: &str = "Tighten the four hexagon bolts of the pump cover crosswise to 45 Nm; replace the sealing ring each time.";
-const GREEK: &str = "Σφίξτε τα τέσσερα μπουλόνια του καλύμματος της αντλίας σταυρωτά.";
-const JAPANESE: &str = "ポンプカバーの六角ボルト四本を対角線の順に締め付けてください。";
+pub const ASCII: &str =
+    "Tighten the four hexagon bolts of the pump cover crosswise to 45 Nm; replace the sealing ring each time.";
+pub const GREEK: &str = "Σφίξτε τα τέσσερα μπουλόνια του καλύμματος της αντλίας σταυρωτά.";
+pub const JAPANESE: &str = "ポンプカバーの六角ボルト四本を対角線の順に締め付けてください。";
 
 fn envelope(index: u64) -> BridgePatchEnvelope {
     BridgePatchEnvelope {
@@ -20,31 +21,27 @@ fn envelope(index: u64) -> BridgePatchEnvelope {
     }
 }
 
-fn patch(index: u64, operations: Vec<BridgePatchOperation>) -> RawPatch {
+pub fn patch(index: u64, operations: Vec<BridgePatchOperation>) -> RawPatch {
     RawPatch { envelope: envelope(index), surface: (index == 0).then_some(1), operations }
 }
 
-fn text(i: u64) -> BridgeValue {
+pub fn text(i: u64) -> BridgeValue {
     BridgeValue::Text([ASCII, GREEK, JAPANESE][(i % 3) as usize].to_string())
 }
 
-/// A set of inserts with texts, as near below 32,768 bytes as they come.
-pub fn texts() -> Vec<RawPatch> {
-    let mut patches: Vec<RawPatch> = Vec::new();
-    loop {
-        let index = patches.len() as u64;
-        let insert = |i: u64| BridgePatchOperation::CollectionInsert {
-            collection: 9,
-            key: index * 10 + i + 1,
-            before: None,
-            value: text(i),
-        };
-        patches.push(patch(index, (0..10).map(insert).collect()));
-        if sets::encode(&patches).len() > 32_768 {
-            patches.pop();
-            return patches;
-        }
-    }
+/// A set of patches of ten inserts with texts, as near below so many bytes as they come; the last patch may have fewer.
+pub fn texts(most: usize) -> Vec<RawPatch> {
+    let insert =
+        |key: u64| BridgePatchOperation::CollectionInsert { collection: 9, key, before: None, value: text(key) };
+    let list = |inserts: u64| -> Vec<RawPatch> {
+        let keys: Vec<u64> = (1..=inserts).collect();
+        keys.chunks(10)
+            .enumerate()
+            .map(|(p, keys)| patch(p as u64, keys.iter().map(|k| insert(*k)).collect()))
+            .collect()
+    };
+    let fits = |inserts: &u64| sets::encode(&list(*inserts)).len() <= most;
+    list((1..).take_while(fits).last().unwrap_or(0))
 }
 
 fn mixed(i: u64) -> BridgePatchOperation {
@@ -70,4 +67,14 @@ pub fn grid(patches: u64, operations: u64) -> Vec<RawPatch> {
         return all;
     }
     of(&|i| BridgePatchOperation::SetNodeAvailability { node: i, availability: sets::availability(0) })
+}
+
+/// One patch of 128 bindings with a text each.
+pub fn bindings() -> Vec<RawPatch> {
+    let binding = |node: u64| BridgePatchOperation::SetBindingValue {
+        node,
+        slot: 1,
+        value: BridgeValue::Text(ASCII.to_string()),
+    };
+    vec![RawPatch { surface: None, ..patch(0, (1..=128).map(binding).collect()) }]
 }

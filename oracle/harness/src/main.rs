@@ -1,6 +1,8 @@
 //! The original beside the proved code: see the oracle's README.
 mod answer;
 mod bench;
+mod bench_panels;
+mod bench_sessions;
 mod bench_sets;
 mod codes;
 mod compare;
@@ -11,6 +13,7 @@ mod listing;
 mod original;
 mod panel;
 mod printing;
+mod processor;
 mod rng;
 mod script;
 mod set_calls;
@@ -22,13 +25,20 @@ mod vectors;
 use std::io::Write;
 use std::process::exit;
 
+use bench_panels::Layout;
+
 const USAGE: &str = "\
 oracle answer < SCRIPT
 oracle count SESSIONS SEED
 oracle compare SESSIONS SEED --replay PROGRAM...
 oracle vectors ANSWERS SEED FOLDER [SCRIPT_BYTES]
 oracle sets COUNT SEED
-oracle bench-read PROGRAM | bench-check PROGRAM | bench-set texts | bench-set PATCHES OPERATIONS";
+oracle bench-read PROGRAM | bench-check PROGRAM | bench-sizes PROGRAM
+oracle bench-set texts | bench-set PATCHES OPERATIONS
+oracle bench-session PROGRAM COLLECTIONS
+oracle bench-projection PROGRAM COLLECTIONS | bench-operation PROGRAM COLLECTIONS
+oracle bench-lookup PROGRAM | bench-text PROGRAM | bench-write PROGRAM
+oracle bench-panel full | bench-panel ENTRIES COLLECTIONS OPERATIONS";
 
 fn main() {
     let arguments: Vec<String> = std::env::args().skip(1).collect();
@@ -46,7 +56,19 @@ fn main() {
         ["sets", count, seed] => vectors::sets(number(count), number(seed)),
         ["bench-read", program] => bench::reading(program),
         ["bench-check", program] => bench::checking(program),
-        ["bench-set", "texts"] => put(&sets::encode(&bench_sets::texts())),
+        ["bench-sizes", program] => bench::sizes(program),
+        ["bench-session", program, collections] => bench_sessions::batches(program, number(collections)),
+        ["bench-projection", program, collections] => bench_sessions::projections(program, number(collections)),
+        ["bench-operation", program, collections] => bench_sessions::operation(program, number(collections)),
+        ["bench-lookup", program] => bench_sessions::lookups(program),
+        ["bench-text", program] => bench_sessions::texts(program),
+        ["bench-write", program] => bench_sessions::writing(program),
+        ["bench-panel", "full"] => put(&bench_panels::data(&bench_panels::full())),
+        ["bench-panel", entries, collections, operations] => {
+            let layout = Layout { entries: number(entries), collections: number(collections) };
+            put(&bench_panels::data(&layout.panel(number(operations))))
+        }
+        ["bench-set", "texts"] => put(&sets::encode(&bench_sets::texts(32_768))),
         ["bench-set", patches, operations] => {
             put(&sets::encode(&bench_sets::grid(number(patches), number(operations))))
         }

@@ -146,7 +146,7 @@ mod tests {
     #[test]
     fn encodes_as_the_original() {
         assert!(agrees(&[]));
-        assert!(agrees(&bench_sets::texts()));
+        assert!(agrees(&bench_sets::texts(32_768)));
         assert!(agrees(&bench_sets::grid(20, 16)));
     }
 }
