@@ -1,0 +1,124 @@
+"""Seeded random runs: whole and pieces alike, and long runs on one session."""
+
+from chance import Chance
+from checks import findings
+from kit import answered, batch, random_case, rules_of, set_up
+from patch import insert
+from build import patches_of, quad
+from projection import Projection, Stopped, apply_operations
+from random_sets import COLLECTIONS, NODES, SLOTS, patch_list
+
+rules_of("Whole and pieces")
+
+BEGIN = set_up(patches=16, references=600, nodes=NODES, bindings=SLOTS, collections=COLLECTIONS)
+CLAIM = "batch_splitting Splitting; session_splitting Claim"
+
+
+def answers_to(lines):
+    return answered("".join(text + "\n" for text in lines).encode()).splitlines()
+
+
+def cut(chance, patches):
+    """The list in pieces, none of them empty."""
+    pieces, piece = [], []
+    for patch in patches:
+        if piece and chance.once_in(2):
+            pieces.append(piece)
+            piece = []
+        piece.append(patch)
+    return pieces + [piece]
+
+
+def split_run(chance, fill, number, faults, keys):
+    """A patch list sent whole and in pieces on two sessions that start alike. Pieces end with the first that is refused."""
+    start = Projection()
+    begin = ["create"]
+    for at, filling in enumerate(fill):
+        begin.append(batch(number - len(fill) + at, filling))
+        start = apply_operations(start, [made for patch in filling for made in patch.operations])
+    patches = patch_list(chance, start, 6, 5, keys, faults)
+    assert not findings(patches)[1]
+    whole = begin + [batch(number, patches), "show"]
+    pieces = [batch(number + at, piece) for at, piece in enumerate(cut(chance, patches))]
+    sent = []
+    for piece in pieces:
+        sent.append(piece)
+        if b"rejected" in answers_to(BEGIN + begin + sent)[-1]:
+            break
+    return whole, begin + sent + ["show"], len(sent) == len(pieces), len(begin)
+
+
+def check_claim(whole, pieces, all_sent, begun):
+    """What the claim says of the answers to one run."""
+    of_whole, of_pieces = answers_to(BEGIN[:-1] + whole), answers_to(BEGIN[:-1] + pieces)
+    result, last = of_whole[begun].split(b"\t"), of_pieces[len(pieces) - 2].split(b"\t")
+    earlier = [line.split(b"\t")[1] for line in of_pieces[begun : len(pieces) - 2]]
+    assert all(disposition == b"applied" for disposition in earlier)
+    if result[1] == b"applied":
+        assert all_sent and last[1] == b"applied" and of_whole[begun + 1 :] == of_pieces[len(pieces) - 1 :]
+        return True
+    assert result[1] == b"rejected" and result[2] in (b"8", b"9") and last[1:6] == result[1:6]
+    return False
+
+
+def split_script(seed, runs, fill_of, faults, keys):
+    chance = Chance(seed)
+    lines, good = BEGIN[:-1], 0
+    for run in range(runs):
+        number = chance.one_of((50, 2**32, 2**64 - 8))
+        whole, pieces, all_sent, begun = split_run(chance, fill_of(chance), number, faults, keys)
+        good += check_claim(whole, pieces, all_sent, begun)
+        lines = lines + ["# run %d, whole" % (run + 1)] + whole + ["# run %d, pieces" % (run + 1)] + pieces
+    assert runs // 4 < good < runs - runs // 4, good
+    return lines
+
+
+def some_entries(chance):
+    """No first fill, or one of a few entries."""
+    if chance.once_in(2):
+        return []
+    return [patches_of([insert(9, key, quad(key % 4)) for key in range(1, chance.between(2, 5))])]
+
+
+def nearly_full(chance):
+    """127 or 128 entries."""
+    return [
+        patches_of([insert(10, key, quad(0)) for key in range(100, 100 + chance.between(121, 122))]),
+        patches_of([insert(9, key, quad(1)) for key in range(1, 7)]),
+    ]
+
+
+random_case(
+    "random_whole_and_pieces",
+    "300 random patch lists, each sent whole and in random pieces to two sessions that start alike; many break off",
+    CLAIM, split_script(20261115, 300, some_entries, 10, 6),
+)
+random_case(
+    "random_whole_and_pieces_nearly_full", "20 such lists on panels with few places left, so that 9 occurs as well",
+    CLAIM, split_script(7, 20, nearly_full, 9, 9),
+)
+
+
+def long_run(seed, batches, keys, faults):
+    """Batch after batch on one session, which is shown after every twentieth."""
+    chance, projection, number = Chance(seed), Projection(), 0
+    lines = list(BEGIN)
+    for at in range(1, batches + 1):
+        patches = patch_list(chance, projection, 3, 6, keys, faults)
+        lines.append(batch(number, patches))
+        made = [operation for patch in patches for operation in patch.operations]
+        try:
+            projection = apply_operations(projection, made)
+            number += 1
+        except Stopped:
+            pass
+        if at % 20 == 0:
+            lines.append("show")
+    return lines
+
+
+rules_of("One batch, from entry to leaf")
+random_case(
+    "random_long_run", "300 random batches on one session; a rejected one leaves its number to the next",
+    "spec_session Batch.batch", long_run(1, 300, 12, 40),
+)

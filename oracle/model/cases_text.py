@@ -1,0 +1,92 @@
+"""Texts: their length, and what RFC 3629 allows."""
+
+from build import patches_of, text
+from canonical import u32, u64
+from cases_reading import refused, with_operations
+from kit import batch, on_panel, rules_of
+from patch import update
+
+rules_of("Canonical bytes")
+
+READ = "spec_patch Read.readText"
+SYNTAX = "spec_text Syntax.isUtf8"
+
+
+def update_bytes(length, content):
+    """An update of entry 9, 1 with a text whose length field is as given."""
+    return b"\4" + u64(9) + u64(1) + b"\3" + u32(length) + content
+
+
+def forbidden(name, rule, *texts):
+    """Texts in hex that give 10."""
+    refused(
+        "text_%s_10" % name, rule, SYNTAX, 10,
+        *(with_operations(update_bytes(len(bytes.fromhex(t)), bytes.fromhex(t))) for t in texts),
+    )
+
+
+def allowed(name, rule, *texts):
+    """Texts in hex that are stored as they are, one batch after the other."""
+    lines, answers = [], []
+    for number, digits in enumerate(texts, 4):
+        content = bytes.fromhex(digits)
+        lines += [batch(number, patches_of([update(9, 1, text(content))])), "value entry 9 1"]
+        answers += ["R applied 0 0 0 0 %d" % number, b"V\tT\t" + content]
+    last = bytes.fromhex(texts[-1])
+    on_panel(
+        "text_%s" % name, rule, SYNTAX, lines, answers,
+        panel=["P 4", "B 5 0 Q 2", "A 5 3", b"C\t9\t1\tT\t" + last, "C 9 2 S -4"],
+    )
+
+
+# ---- length
+
+refused(
+    "text_161_bytes_is_12", "a text length over 160 is 12 at its field, whatever follows", READ, 12,
+    with_operations(update_bytes(161, b"x" * 161)), with_operations(update_bytes(161, b"")),
+    with_operations(update_bytes(161, b"\xff" * 161)), with_operations(update_bytes(2**32 - 1, b"")),
+)
+refused(
+    "text_cut_10", "fewer bytes than the text's length: 10", READ, 10, with_operations(update_bytes(160, b"x" * 159)),
+    with_operations(update_bytes(1, b"")),
+)
+refused(
+    "text_length_cut_10", "a text length of fewer than four bytes: 10", READ, 10,
+    with_operations(b"\4" + u64(9) + u64(1) + b"\3\0\0\0"),
+)
+allowed("of_160_bytes", "a text of 160 bytes passes, also with characters of four bytes", "78" * 160, "f09f9aab" * 40)
+allowed("of_0_bytes", "a text of no bytes passes", "")
+refused(
+    "text_161_bytes_in_characters_is_12",
+    "the capacity counts bytes and not characters: 54 characters of three bytes are 162", READ, 12,
+    with_operations(update_bytes(162, "€".encode() * 54)),
+)
+refused(
+    "text_character_across_its_end_10",
+    "a character may not run on past the text's length, though the bytes behind would complete it", SYNTAX, 10,
+    with_operations(update_bytes(1, b"\xc3"), b"\xa9"),
+)
+
+# ---- RFC 3629
+
+allowed("one_byte_characters", "U+0000 to U+007F are one byte", "00", "7f", "41427a")
+allowed("two_byte_characters", "U+0080 and U+07FF, the ends of two bytes", "c280", "dfbf")
+allowed(
+    "three_byte_characters", "U+0800, U+D7FF, U+E000 and U+FFFF, the ends of three bytes", "e0a080", "ed9fbf", "ee8080",
+    "efbfbf",
+)
+allowed("four_byte_characters", "U+10000 and U+10FFFF, the ends of four bytes", "f0908080", "f48fbfbf")
+allowed("byte_order_mark", "a byte order mark is a character as any other and stays", "efbbbf41")
+allowed("tab_and_newline", "a tab or a newline inside a text prints as it is", "0961", "610a62")
+forbidden("overlong_2", "two bytes for what fits one", "c080", "c1bf")
+forbidden("overlong_3", "three bytes for what fits two", "e08080", "e09fbf")
+forbidden("overlong_4", "four bytes for what fits three", "f0808080", "f08fbfbf")
+forbidden("surrogates", "U+D800 to U+DFFF, alone or in pairs", "eda080", "edbfbf", "eda080edb080")
+forbidden("beyond_u_10ffff", "above U+10FFFF", "f4908080", "f5808080", "f7bfbfbf")
+forbidden("continuation_alone", "a continuation byte that nothing leads", "80", "bf", "4180")
+forbidden("character_cut", "a character that ends early", "c3", "e282", "f09f98", "e28241", "41c3")
+forbidden("continuation_missing", "a letter where a continuation is due", "c341", "e24182", "f09f4180")
+forbidden(
+    "bytes_that_never_occur", "C0, C1 and F5 to FF never occur", "fe", "ff", "f880808080", "fc8080808080", "c0", "c1",
+    "f5",
+)

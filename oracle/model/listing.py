@@ -1,0 +1,48 @@
+"""01, 'Listing': a projection, or a set applied to an empty one, as tab-parted lines of bytes."""
+
+import sys
+
+from canonical import Fault, read_set
+from checks import findings
+from patch import operations_of
+from projection import Projection, Stopped, apply_operations
+from sizes import SET_BYTES
+
+KINDS = {1: b"Q", 2: b"S", 3: b"T", 4: b"U"}
+
+
+def line(*fields):
+    """One line; a number prints in decimal, bytes as they are."""
+    return b"\t".join(field if isinstance(field, bytes) else str(field).encode("ascii") for field in fields) + b"\n"
+
+
+def value_fields(value):
+    kind, content = value
+    return KINDS[kind], content
+
+
+def projection_lines(projection):
+    lines = [line(b"P", projection.record_count())]
+    for node, slot in sorted(projection.bindings):
+        lines.append(line(b"B", node, slot, *value_fields(projection.bindings[node, slot])))
+    for node in sorted(projection.availability):
+        lines.append(line(b"A", node, projection.availability[node]))
+    for collection in sorted(projection.collections):
+        for key, value in projection.collections[collection]:
+            lines.append(line(b"C", collection, key, *value_fields(value)))
+    return b"".join(lines)
+
+
+def listing(data):
+    """What the program prints of its input."""
+    try:
+        patches = read_set(data)
+        if findings(patches)[1]:
+            return line(b"E", 11)
+        return projection_lines(apply_operations(Projection(), operations_of(patches)))
+    except (Fault, Stopped) as refusal:
+        return line(b"E", refusal.number)
+
+
+if __name__ == "__main__":
+    sys.stdout.buffer.write(listing(sys.stdin.buffer.read(SET_BYTES + 1)))

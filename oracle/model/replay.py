@@ -1,0 +1,177 @@
+"""Answers a replay script: python3 replay.py < SCRIPT. Lines are read one by one; nothing is kept but the session."""
+
+import re
+import sys
+
+from canonical import Fault, read_set
+from checks import findings
+from listing import line, listing, projection_lines, value_fields
+from session import Limits, Session, TooManyAnchors
+from sizes import ANCHORS, LAST_U32, LAST_U64
+
+LINE_BYTES = 131072
+COMMANDS = (b"activate", b"suspend", b"resume", b"close", b"noop")
+DECIMAL = re.compile(rb"0|[1-9][0-9]{0,19}")
+HEX = re.compile(rb"(?:[0-9a-f]{2})+")
+
+
+class BadLine(Exception):
+    """A line that is no command; the program stops there."""
+
+
+def number(field, last=LAST_U64):
+    if not DECIMAL.fullmatch(field) or int(field) > last:
+        raise BadLine
+    return int(field)
+
+
+def set_bytes(field):
+    if field == b"-":
+        return b""
+    if not HEX.fullmatch(field):
+        raise BadLine
+    return bytes.fromhex(field.decode("ascii"))
+
+
+def check_lines(data):
+    try:
+        place, found = findings(read_set(data))
+    except Fault as fault:
+        return line(b"K", fault.number)
+    place = b"set" if place == "set" else place
+    return line(b"K", 0, place, len(found)) + b"".join(line(b"F", *finding) for finding in found)
+
+
+class Replay:
+    """The set-up for the next session, and the current session, if there is one."""
+
+    def __init__(self):
+        self.session = None
+        self._set_up(0, Limits(0, 0, 0, 0))
+
+    def _set_up(self, session, limits):
+        self.id = session
+        self.limits = limits
+        self.nodes, self.bindings, self.collections = [], [], []
+
+    @staticmethod
+    def _keep(anchors, anchor):
+        if len(anchors) <= ANCHORS:
+            anchors.append(anchor)
+        return b""
+
+    # ---- the commands; each takes its fields apart before it does anything
+
+    def do_session(self, session, *limits):
+        self._set_up(number(session), Limits(*map(number, limits)))
+        return b""
+
+    def do_node(self, node):
+        return self._keep(self.nodes, number(node))
+
+    def do_binding(self, node, slot):
+        return self._keep(self.bindings, (number(node), number(slot, LAST_U32)))
+
+    def do_collection(self, collection):
+        return self._keep(self.collections, number(collection))
+
+    def do_create(self):
+        try:
+            self.session = Session(self.id, self.limits, self.nodes, self.bindings, self.collections)
+        except TooManyAnchors:
+            self.session = None
+            return line(b"S", 13)
+        return line(b"S", 0)
+
+    def _cursor(self):
+        return b"-" if self.session.cursor is None else self.session.cursor
+
+    def do_apply(self, command, stimulus_bytes):
+        stimulus_bytes = number(stimulus_bytes)
+        if command not in COMMANDS:
+            raise BadLine
+        if self.session is None:
+            return line(b"N")
+        disposition, diagnostics = self.session.apply(command.decode("ascii"), stimulus_bytes)
+        lifecycle = self.session.lifecycle.encode("ascii")
+        return line(b"L", disposition.encode("ascii"), *diagnostics, lifecycle, self._cursor(), stimulus_bytes)
+
+    def do_batch(self, session, sequence, patches, stimulus_bytes, references, data):
+        numbers = [number(field) for field in (session, sequence, patches, stimulus_bytes, references)]
+        data = set_bytes(data)
+        if self.session is None:
+            return line(b"N")
+        disposition, diagnostics = self.session.batch(*numbers, data)
+        return line(b"R", disposition.encode("ascii"), *diagnostics, self._cursor())
+
+    def do_check(self, data):
+        return check_lines(set_bytes(data))
+
+    def do_list(self, data):
+        return listing(set_bytes(data))
+
+    def do_show(self):
+        return line(b"N") if self.session is None else projection_lines(self.session.projection)
+
+    def do_value_binding(self, node, slot):
+        node, slot = number(node), number(slot, LAST_U32)
+        return self._value(lambda projection: projection.binding_value(node, slot))
+
+    def do_value_node(self, node):
+        node = number(node)
+        if self.session is None:
+            return line(b"N")
+        byte = self.session.projection.node_availability(node)
+        return line(b"V", b"-") if byte is None else line(b"V", b"A", byte)
+
+    def do_value_entry(self, collection, key):
+        collection, key = number(collection), number(key)
+        return self._value(lambda projection: projection.entry_value(collection, key))
+
+    def _value(self, lookup):
+        if self.session is None:
+            return line(b"N")
+        value = lookup(self.session.projection)
+        return line(b"V", b"-") if value is None else line(b"V", *value_fields(value))
+
+    # ---- one line
+
+    # how many fields follow each command
+    FIELDS = {
+        b"session": 5, b"node": 1, b"binding": 2, b"collection": 1, b"create": 0, b"apply": 2, b"batch": 6,
+        b"check": 1, b"list": 1, b"show": 0, b"value binding": 2, b"value node": 1, b"value entry": 2,
+    }
+
+    def answer(self, text):
+        """The answer to a line without its LF."""
+        if text == b"" or text.startswith(b"#"):
+            return b""
+        fields = text.split(b" ")
+        if fields[0] == b"value" and len(fields) > 1:
+            fields[0:2] = [b"value " + fields[1]]
+        command = fields.pop(0)
+        if self.FIELDS.get(command) != len(fields):
+            raise BadLine
+        return getattr(self, "do_" + command.decode("ascii").replace(" ", "_"))(*fields)
+
+
+def replay(script, out):
+    """Answers the script, up to its end or its first bad line."""
+    state = Replay()
+    count = 0
+    while True:
+        text = script.readline(LINE_BYTES + 1)
+        if not text:
+            return
+        count += 1
+        try:
+            if not text.endswith(b"\n"):
+                raise BadLine
+            out.write(state.answer(text[:-1]))
+        except BadLine:
+            out.write(line(b"?", count))
+            return
+
+
+if __name__ == "__main__":
+    replay(sys.stdin.buffer, sys.stdout.buffer)

@@ -1,0 +1,171 @@
+"""Writes the examples: python3 write_examples.py FOLDER. The answers of the session are the model's, held to those below."""
+
+import sys
+from pathlib import Path
+
+from build import read_notation
+from canonical import encode_set
+from kit import PANEL_SET, answered, batch
+
+SCRIPT = []
+
+
+def say(*lines):
+    """Comments."""
+    SCRIPT.extend(["# " + text if text else "#" for text in lines])
+
+
+def call(line):
+    SCRIPT.append(line)
+
+
+def send(number, notation, **declared):
+    """A batch to session 4711, its patches told above it in comments."""
+    say(*("    " + text for text in notation.strip().splitlines()))
+    call(batch(number, read_notation(notation), session=4711, **declared))
+
+
+say("A match panel beside a pump manual that is being translated, as its memory fills it.", "",
+    "Node 5 is the segment in work: slot 0 its sentence, slot 1 the number of matches, slot 2 the best score.",
+    "Node 6 is the panel, collection 9 its list of matches: key and translation.", "",
+    "The session: id 4711; at most 4096 stimulus bytes, 4 diagnostics, 4 patches and 16 target references a call.")
+call("session 4711 4096 4 4 16")
+for anchor in ("node 5", "node 6", "binding 5 0", "binding 5 1", "binding 5 2", "collection 9", "create"):
+    call(anchor)
+SCRIPT.append("")
+say("The editor opens the panel.")
+call("apply activate 16")
+SCRIPT.append("")
+say("The first fill: the sentence, three matches, the panel still Pending (3).")
+send(1, """
+patch sequence=1 previous=0 revision=1
+availability 6 3
+binding 5 0 T Vor dem Anfahren der Pumpe ist das Saugventil vollständig zu öffnen.
+insert 9 101 T Fully open the suction valve before starting the pump.
+insert 9 102 T Before start-up, the suction valve must be open.
+insert 9 103 T Check the oil level before starting the pump.
+binding 5 1 U 3
+""", stimulus=620)
+call("show")
+SCRIPT.append("")
+say("An update in two patches: a corrected translation, the best score, the panel Available (0).")
+send(2, """
+patch id=2 sequence=2 previous=1 revision=2
+update 9 102 T Before start-up, the suction valve must be fully open.
+patch id=3 sequence=3 previous=2 revision=3
+binding 5 2 U 94
+availability 6 0
+""", stimulus=310)
+SCRIPT.append("")
+say("The corrected match is the better one: it goes before 101.")
+send(3, """
+patch id=4 sequence=4 previous=3 revision=4
+move 9 102 before 101
+""", stimulus=120)
+call("show")
+call("value entry 9 102")
+call("value node 6")
+SCRIPT.append("")
+say("A batch of six operations that breaks off at its fifth: match 105 is not in the list.",
+    "Nothing of the first four stays, nor does the cursor move.")
+send(4, """
+patch id=5 sequence=5 previous=4 revision=5
+binding 5 0 T Die Pumpe nie gegen geschlossenes Druckventil fahren.
+remove 9 103
+insert 9 104 before 102 T Never run the pump against a closed discharge valve.
+binding 5 2 U 100
+move 9 105 before 104
+binding 5 1 U 3
+""", stimulus=540)
+call("show")
+SCRIPT.append("")
+say("A batch that passes two limits at once: five patches where four are allowed, 5000 bytes where 4096 are.",
+    "It is one rejection with one diagnostic.")
+FIVE = """
+patch id=5 sequence=5 previous=4 revision=5
+remove 9 103
+patch id=6 sequence=6 previous=5 revision=6
+insert 9 104 before 102 T Never run the pump against a closed discharge valve.
+patch id=7 sequence=7 previous=6 revision=7
+binding 5 0 T Die Pumpe nie gegen geschlossenes Druckventil fahren.
+patch id=8 sequence=8 previous=7 revision=8
+binding 5 2 U 100
+patch id=9 sequence=9 previous=8 revision=9
+availability 6 4
+"""
+send(4, FIVE, stimulus=5000)
+SCRIPT.append("")
+say("The same patches in two batches, each within the limits; the panel ends Stale (4), for the memory has moved on.")
+at = FIVE.index("patch id=8")
+send(4, FIVE[:at], stimulus=400)
+send(5, FIVE[at:], stimulus=180)
+call("show")
+SCRIPT.append("")
+say("The memory sends the last batch once more; the cursor stands at 5, so 5 is not the next number.")
+send(5, FIVE[at:], stimulus=180)
+SCRIPT.append("")
+say("A set that its author wants to see checked before it is sent: the second patch repeats an id and skips a sequence.")
+CHECKED = """
+patch id=10 sequence=10 previous=9 revision=10
+availability 6 0
+patch id=10 sequence=12 previous=10 revision=11
+remove 9 101
+"""
+say(*("    " + text for text in CHECKED.strip().splitlines()))
+call("check " + encode_set(read_notation(CHECKED)).hex())
+SCRIPT.append("")
+say("The editor closes the panel; what comes later is refused, and the list can still be read.")
+call("apply close 16")
+call("batch 4711 6 0 0 0 " + encode_set([]).hex())
+call("show")
+
+SOURCE = "Vor dem Anfahren der Pumpe ist das Saugventil vollständig zu öffnen."
+NEXT = "Die Pumpe nie gegen geschlossenes Druckventil fahren."
+FIRST = "Fully open the suction valve before starting the pump."
+SECOND = "Before start-up, the suction valve must be fully open."
+THIRD = "Check the oil level before starting the pump."
+FOURTH = "Never run the pump against a closed discharge valve."
+FILLED = """P|6
+B|5|0|T|%s
+B|5|1|U|3
+A|6|3
+C|9|101|T|%s
+C|9|102|T|Before start-up, the suction valve must be open.
+C|9|103|T|%s
+""" % (SOURCE, FIRST, THIRD)
+MOVED = """P|7
+B|5|0|T|%s
+B|5|1|U|3
+B|5|2|U|94
+A|6|0
+C|9|102|T|%s
+C|9|101|T|%s
+C|9|103|T|%s
+""" % (SOURCE, SECOND, FIRST, THIRD)
+LAST = """P|7
+B|5|0|T|%s
+B|5|1|U|3
+B|5|2|U|100
+A|6|4
+C|9|104|T|%s
+C|9|102|T|%s
+C|9|101|T|%s
+""" % (NEXT, FOURTH, SECOND, FIRST)
+ANSWERS = (
+    "S|0\nL|applied|0|0|0|0|active|-|16\nR|applied|0|0|0|0|1\n" + FILLED
+    + "R|applied|0|0|0|0|2\nR|applied|0|0|0|0|3\n" + MOVED + "V|T|%s\nV|A|0\n" % SECOND
+    + "R|rejected|8|8|1|1|3\n" + MOVED + "R|rejected|4|4|1|1|3\nR|applied|0|0|0|0|4\nR|applied|0|0|0|0|5\n" + LAST
+    + "R|rejected|7|6|1|1|5\nK|0|set|2\nF|4|10|12\nF|11|10|12\nL|applied|0|0|0|0|closed|5|16\nR|rejected|2|2|1|1|5\n" + LAST
+).replace("|", "\t").encode()
+
+
+def main(folder):
+    script = "".join(line + "\n" for line in SCRIPT).encode()
+    assert answered(script) == ANSWERS, answered(script).decode()
+    (folder / "pump_manual.script").write_bytes(script)
+    (folder / "pump_manual.answers").write_bytes(ANSWERS)
+    (folder / "panel.set").write_bytes(encode_set(PANEL_SET))
+
+
+if __name__ == "__main__":
+    main(Path(sys.argv[1]))
