@@ -10,7 +10,6 @@ use script_parser::ScriptCommand;
 ghost use Rattle.spec_replay.specs.Script.{command};
 ghost use Rattle.spec_replay.specs.Replay.{State, replayLine};
 ghost use Rattle.replay_calls.specs.ReplayHolds.{ReplayHolds, Stepped};
-
 pub use setup_lines::start;
 
 // Runs the line of a number, from 1, without its LF. What is printed stands from the start of out.

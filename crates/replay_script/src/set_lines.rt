@@ -79,13 +79,7 @@ pub fn check(
     }
 }
 
-pub fn list(
-    state: ReplayState,
-    from: usize,
-    number: u64,
-    line: &[u8],
-    out: &mut [u8],
-) -> ReplayStep
+pub fn list(state: ReplayState, from: usize, number: u64, line: &[u8], out: &mut [u8]) -> ReplayStep
     ensures { λ r. ⌜ ((m : State) → ReplayHolds state m → length (now (line .entry)) ≤ lineBytes
         → Stepped (now (out .entry)) (now (out .exit)) r (replayLine number m (setFrom (now (line .entry)) from script.list))) ⌝ }
 {

@@ -1,260 +1,251 @@
+-- `replay_script::run_line` meets its contract: each command in its turn.
+use Prim.Native.Nat.{ℕ}
+use mathlib.Core.Path.{_≡_, refl, sym, subst}
+use Rattle.spec_replay.specs.Replay.{replayLine}
+use Rattle.replay_script.specs.LineLaws.{line-step, silent-step, long-other, parsed-as}
 use borrow.Author.Needs.{needs}
 use Rattle.replay_script.proofs.run_line.Statement.{statement}
 use Rattle.replay_script.proofs.run_line.Tie as tie
-use Rattle.replay_script.proofs.run_line.Reads as reads
-use Rattle.replay_script.proofs.run_line.Lts as lts
-use Rattle.replay_calls.proofs.calls.apply.Reads as apply-reads
-use Rattle.replay_calls.proofs.calls.create_latest.Reads as create-latest-reads
-use Rattle.replay_calls.proofs.views.binding_value.Reads as binding-value-reads
-use Rattle.replay_calls.proofs.views.entry_value.Reads as entry-value-reads
-use Rattle.replay_calls.proofs.views.node_availability.Reads as node-availability-reads
-use Rattle.replay_calls.proofs.views.show.Reads as show-reads
-use Rattle.replay_script.proofs.set_lines.batch.Reads as batch-reads
-use Rattle.replay_script.proofs.set_lines.check.Reads as check-reads
-use Rattle.replay_script.proofs.set_lines.list.Reads as list-reads
-use Rattle.replay_script.proofs.setup_lines.binding.Reads as binding-reads
-use Rattle.replay_script.proofs.setup_lines.collection.Reads as collection-reads
-use Rattle.replay_script.proofs.setup_lines.node.Reads as node-reads
-use Rattle.replay_script.proofs.setup_lines.nothing.Reads as nothing-reads
-use Rattle.replay_script.proofs.setup_lines.other.Reads as other-reads
-use Rattle.replay_script.proofs.setup_lines.session.Reads as session-reads
-use Rattle.script_parser.proofs.parse_line.Reads as parse-line-reads
 
--- src/lib.rt:21:9
 other-requires : tie.Need-other-requires
 other-requires c κs = search needs
 
--- src/lib.rt:21:9
 same-length : tie.Need-same-length
 same-length c = search needs
 
--- src/lib.rt:21:9
 returns : tie.Need-returns
-returns c = ?
+unfolding replayLine
+returns c =
+    let a = c .before .before .before .before .before .before .before .args in
+    λ m h. line-step _ _ _ (a .number) m _ _ (sym (long-other (a .line .now) (c .before .before .before .before .if1 .taken))) (c .before .before .other .ensures)
 
--- src/lib.rt:23:11
 parse-line-requires : tie.Need-parse-line-requires
 parse-line-requires c κs = search needs
 
--- src/lib.rt:24:35
 enum-told : tie.Need-enum-told
 enum-told c = search needs
 
--- src/lib.rt:24:35
 nothing-requires : tie.Need-nothing-requires
 nothing-requires c κs = search needs
 
--- src/lib.rt:25:32
 enum-known-id : tie.Need-enum-known-id
 enum-known-id c = search needs
 
--- src/lib.rt:25:47
 session-requires : tie.Need-session-requires
 session-requires c κs = search needs
 
--- src/lib.rt:26:29
 enum-known-node : tie.Need-enum-known-node
 enum-known-node c = search needs
 
--- src/lib.rt:26:38
 node-requires : tie.Need-node-requires
 node-requires c κs = search needs
 
--- src/lib.rt:27:32
 enum-known-node-2 : tie.Need-enum-known-node-2
 enum-known-node-2 c = search needs
 
--- src/lib.rt:27:47
 binding-requires : tie.Need-binding-requires
 binding-requires c κs = search needs
 
--- src/lib.rt:28:35
 enum-known-collection : tie.Need-enum-known-collection
 enum-known-collection c = search needs
 
--- src/lib.rt:28:50
 collection-requires : tie.Need-collection-requires
 collection-requires c κs = search needs
 
--- src/lib.rt:29:62
 enum-told-2 : tie.Need-enum-told-2
 enum-told-2 c = search needs
 
--- src/lib.rt:29:34
 create-latest-requires : tie.Need-create-latest-requires
 create-latest-requires c κs = search needs
 
--- src/lib.rt:30:30
 enum-known-input : tie.Need-enum-known-input
 enum-known-input c = search needs
 
--- src/lib.rt:30:40
 apply-requires : tie.Need-apply-requires
 apply-requires c κs = search needs
 
--- src/lib.rt:31:30
 enum-known-batch : tie.Need-enum-known-batch
 enum-known-batch c = search needs
 
--- src/lib.rt:31:40
 batch-requires : tie.Need-batch-requires
 batch-requires c κs = search needs
 
--- src/lib.rt:32:30
 enum-known-from : tie.Need-enum-known-from
 enum-known-from c = search needs
 
--- src/lib.rt:32:39
 check-requires : tie.Need-check-requires
 check-requires c κs = search needs
 
--- src/lib.rt:33:29
 enum-known-from-2 : tie.Need-enum-known-from-2
 enum-known-from-2 c = search needs
 
--- src/lib.rt:33:38
 list-requires : tie.Need-list-requires
 list-requires c κs = search needs
 
--- src/lib.rt:34:51
 enum-told-3 : tie.Need-enum-told-3
 enum-told-3 c = search needs
 
--- src/lib.rt:34:32
 show-requires : tie.Need-show-requires
 show-requires c κs = search needs
 
--- src/lib.rt:35:37
 enum-known-node-3 : tie.Need-enum-known-node-3
 enum-known-node-3 c = search needs
 
--- src/lib.rt:35:52
 binding-value-requires : tie.Need-binding-value-requires
 binding-value-requires c κs = search needs
 
--- src/lib.rt:36:34
 enum-known-node-4 : tie.Need-enum-known-node-4
 enum-known-node-4 c = search needs
 
--- src/lib.rt:36:43
 node-availability-requires : tie.Need-node-availability-requires
 node-availability-requires c κs = search needs
 
--- src/lib.rt:37:35
 enum-known-collection-2 : tie.Need-enum-known-collection-2
 enum-known-collection-2 c = search needs
 
--- src/lib.rt:38:13
 entry-value-requires : tie.Need-entry-value-requires
 entry-value-requires c κs = search needs
 
--- src/lib.rt:40:67
 enum-told-4 : tie.Need-enum-told-4
 enum-told-4 c = search needs
 
--- src/lib.rt:40:33
 other-requires-2 : tie.Need-other-requires-2
 other-requires-2 c κs = search needs
 
--- src/lib.rt:17:1
 returns-2 : tie.Need-returns-2
-returns-2 c = ?
+unfolding replayLine
+returns-2 c =
+    let a = c .before .before .before .before .before .before .before .args in
+    let p = c .before .before .before .parse-line in
+    λ m h. line-step _ _ _ (a .number) m _ _ (parsed-as (a .line .now) (p .result) _ (p .ensures) (c .before .enum-told .given .1)) (silent-step _ _ m (c .nothing .ensures m h))
 
--- src/lib.rt:17:1
 returns-3 : tie.Need-returns-3
-returns-3 c = ?
+unfolding replayLine
+returns-3 c =
+    let a = c .before .before .before .before .before .before .before .before .args in
+    let p = c .before .before .before .before .parse-line in
+    λ m h. line-step _ _ _ (a .number) m _ _ (parsed-as (a .line .now) (p .result) _ (p .ensures) (c .before .before .id .given .1)) (silent-step _ _ _ (c .session .ensures m h))
 
--- src/lib.rt:17:1
 returns-4 : tie.Need-returns-4
-returns-4 c = ?
+unfolding replayLine
+returns-4 c =
+    let a = c .before .before .before .before .before .before .before .before .args in
+    let p = c .before .before .before .before .parse-line in
+    λ m h. line-step _ _ _ (a .number) m _ _ (parsed-as (a .line .now) (p .result) _ (p .ensures) (c .before .before .node .given .1)) (silent-step _ _ _ (c .node2 .ensures m h))
 
--- src/lib.rt:17:1
 returns-5 : tie.Need-returns-5
-returns-5 c = ?
+unfolding replayLine
+returns-5 c =
+    let a = c .before .before .before .before .before .before .before .before .args in
+    let p = c .before .before .before .before .parse-line in
+    λ m h. line-step _ _ _ (a .number) m _ _ (parsed-as (a .line .now) (p .result) _ (p .ensures) (c .before .before .node3 .given .1)) (silent-step _ _ _ (c .binding .ensures m h))
 
--- src/lib.rt:17:1
 returns-6 : tie.Need-returns-6
-returns-6 c = ?
+unfolding replayLine
+returns-6 c =
+    let a = c .before .before .before .before .before .before .before .before .args in
+    let p = c .before .before .before .before .parse-line in
+    λ m h. line-step _ _ _ (a .number) m _ _ (parsed-as (a .line .now) (p .result) _ (p .ensures) (c .before .before .collection .given .1)) (silent-step _ _ _ (c .collection2 .ensures m h))
 
--- src/lib.rt:17:1
 same-length-2 : tie.Need-same-length-2
 same-length-2 c = search needs
 
--- src/lib.rt:17:1
 returns-7 : tie.Need-returns-7
-returns-7 c = ?
+unfolding replayLine
+returns-7 c =
+    let a = c .before .before .before .before .before .before .before .before .before .before .args in
+    let p = c .before .before .before .before .before .before .parse-line in
+    λ m h. line-step _ _ _ (a .number) m _ _ (parsed-as (a .line .now) (p .result) _ (p .ensures) (c .before .before .before .before .enum-told2 .given .1)) (c .before .before .create-latest .ensures m h)
 
--- src/lib.rt:17:1
 same-length-3 : tie.Need-same-length-3
 same-length-3 c = search needs
 
--- src/lib.rt:17:1
 returns-8 : tie.Need-returns-8
-returns-8 c = ?
+unfolding replayLine
+returns-8 c =
+    let a = c .before .before .before .before .before .before .before .before .before .before .before .args in
+    let p = c .before .before .before .before .before .before .before .parse-line in
+    λ m h. line-step _ _ _ (a .number) m _ _ (parsed-as (a .line .now) (p .result) _ (p .ensures) (c .before .before .before .before .before .input .given .1)) (c .before .before .apply .ensures m h)
 
--- src/lib.rt:17:1
 same-length-4 : tie.Need-same-length-4
 same-length-4 c = search needs
 
--- src/lib.rt:17:1
 returns-9 : tie.Need-returns-9
-returns-9 c = ?
+unfolding replayLine
+returns-9 c =
+    let a = c .before .before .before .before .before .before .before .before .before .before .before .args in
+    let p = c .before .before .before .before .before .before .before .parse-line in
+    λ m h. line-step _ _ _ (a .number) m _ _ (parsed-as (a .line .now) (p .result) _ (p .ensures) (c .before .before .before .before .before .batch .given .1)) (c .before .before .batch2 .ensures m h (c .before .before .before .before .before .before .before .before .if1 .left))
 
--- src/lib.rt:17:1
 same-length-5 : tie.Need-same-length-5
 same-length-5 c = search needs
 
--- src/lib.rt:17:1
 returns-10 : tie.Need-returns-10
-returns-10 c = ?
+unfolding replayLine
+returns-10 c =
+    let a = c .before .before .before .before .before .before .before .before .before .before .before .args in
+    let p = c .before .before .before .before .before .before .before .parse-line in
+    λ m h. line-step _ _ _ (a .number) m _ _ (parsed-as (a .line .now) (p .result) _ (p .ensures) (c .before .before .before .before .before .from .given .1)) (c .before .before .check .ensures m h (c .before .before .before .before .before .before .before .before .if1 .left))
 
--- src/lib.rt:17:1
 same-length-6 : tie.Need-same-length-6
 same-length-6 c = search needs
 
--- src/lib.rt:17:1
 returns-11 : tie.Need-returns-11
-returns-11 c = ?
+unfolding replayLine
+returns-11 c =
+    let a = c .before .before .before .before .before .before .before .before .before .before .before .args in
+    let p = c .before .before .before .before .before .before .before .parse-line in
+    λ m h. line-step _ _ _ (a .number) m _ _ (parsed-as (a .line .now) (p .result) _ (p .ensures) (c .before .before .before .before .before .from2 .given .1)) (c .before .before .list .ensures m h (c .before .before .before .before .before .before .before .before .if1 .left))
 
--- src/lib.rt:17:1
 same-length-7 : tie.Need-same-length-7
 same-length-7 c = search needs
 
--- src/lib.rt:17:1
 returns-12 : tie.Need-returns-12
-returns-12 c = ?
+unfolding replayLine
+returns-12 c =
+    let a = c .before .before .before .before .before .before .before .before .before .before .args in
+    let p = c .before .before .before .before .before .before .parse-line in
+    λ m h. line-step _ _ _ (a .number) m _ _ (parsed-as (a .line .now) (p .result) _ (p .ensures) (c .before .before .before .before .enum-told3 .given .1)) (c .before .before .show .ensures m h)
 
--- src/lib.rt:17:1
 same-length-8 : tie.Need-same-length-8
 same-length-8 c = search needs
 
--- src/lib.rt:17:1
 returns-13 : tie.Need-returns-13
-returns-13 c = ?
+unfolding replayLine
+returns-13 c =
+    let a = c .before .before .before .before .before .before .before .before .before .before .before .args in
+    let p = c .before .before .before .before .before .before .before .parse-line in
+    λ m h. line-step _ _ _ (a .number) m _ _ (parsed-as (a .line .now) (p .result) _ (p .ensures) (c .before .before .before .before .before .node4 .given .1)) (c .before .before .binding-value .ensures m h)
 
--- src/lib.rt:17:1
 same-length-9 : tie.Need-same-length-9
 same-length-9 c = search needs
 
--- src/lib.rt:17:1
 returns-14 : tie.Need-returns-14
-returns-14 c = ?
+unfolding replayLine
+returns-14 c =
+    let a = c .before .before .before .before .before .before .before .before .before .before .before .args in
+    let p = c .before .before .before .before .before .before .before .parse-line in
+    λ m h. line-step _ _ _ (a .number) m _ _ (parsed-as (a .line .now) (p .result) _ (p .ensures) (c .before .before .before .before .before .node5 .given .1)) (c .before .before .node-availability .ensures m h)
 
--- src/lib.rt:17:1
 same-length-10 : tie.Need-same-length-10
 same-length-10 c = search needs
 
--- src/lib.rt:17:1
 returns-15 : tie.Need-returns-15
-returns-15 c = ?
+unfolding replayLine
+returns-15 c =
+    let a = c .before .before .before .before .before .before .before .before .before .before .before .args in
+    let p = c .before .before .before .before .before .before .before .parse-line in
+    λ m h. line-step _ _ _ (a .number) m _ _ (parsed-as (a .line .now) (p .result) _ (p .ensures) (c .before .before .before .before .before .collection3 .given .1)) (c .before .before .entry-value .ensures m h)
 
--- src/lib.rt:17:1
 same-length-11 : tie.Need-same-length-11
 same-length-11 c = search needs
 
--- src/lib.rt:17:1
 returns-16 : tie.Need-returns-16
-returns-16 c = ?
+unfolding replayLine
+returns-16 c =
+    let a = c .before .before .before .before .before .before .before .before .before .before .args in
+    let p = c .before .before .before .before .before .before .parse-line in
+    λ m h. line-step _ _ _ (a .number) m _ _ (parsed-as (a .line .now) (p .result) _ (p .ensures) (c .before .before .before .before .enum-told4 .given .1)) (c .before .before .other2 .ensures)
 
 pub run-line-spec : {M : Type 1} → statement M
 run-line-spec =

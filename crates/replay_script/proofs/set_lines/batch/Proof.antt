@@ -1,79 +1,82 @@
+-- `replay_script::set_lines::batch` meets its contract: the bytes that the hex spells, or any other line.
+use Prim.Native.Nat.{ℕ, _≤_}
+use mathlib.Core.Path.{_≡_, refl, sym, subst}
+use mathlib.Core.List.{List}
+use native.Mathlib.Omega.{arith}
+use lib.ListN.{length, replicate}
+use Rattle.spec_replay.specs.Script as script
+use Rattle.spec_replay.specs.Replay.{replayLine}
+use Rattle.script_parser.specs.Meaning.{envelopeOf}
+use Rattle.replay_script.specs.LineLaws.{line-step, set-is, set-within, no-set, has-room}
 use borrow.Author.Needs.{needs}
 use Rattle.replay_script.proofs.set_lines.batch.Statement.{statement}
 use Rattle.replay_script.proofs.set_lines.batch.Tie as tie
-use Rattle.replay_script.proofs.set_lines.batch.Reads as reads
-use Rattle.replay_script.proofs.set_lines.batch.Lts as lts
-use Rattle.replay_calls.proofs.calls.apply_batch.Reads as apply-batch-reads
-use Rattle.replay_script.proofs.setup_lines.other.Reads as other-reads
-use Rattle.script_parser.proofs.decode_set.Reads as decode-set-reads
 
--- src/set_lines.rt:124:54
 slice-aggregate-decode-set : tie.Need-slice-aggregate-decode-set
 slice-aggregate-decode-set c = search needs
 
--- src/set_lines.rt:124:11
 decode-set-requires : tie.Need-decode-set-requires
 decode-set-requires c κs = search needs
 
--- src/set_lines.rt:125:24
 enum-known-len : tie.Need-enum-known-len
 enum-known-len c = search needs
 
--- src/set_lines.rt:126:74
 sub-apply-batch : tie.Need-sub-apply-batch
 sub-apply-batch c = search needs
 
--- src/set_lines.rt:126:74
 part-apply-batch-start : tie.Need-part-apply-batch-start
 part-apply-batch-start c = search needs
 
--- src/set_lines.rt:126:74
 part-apply-batch-end : tie.Need-part-apply-batch-end
-part-apply-batch-end c = ?
+part-apply-batch-end c =
+    let a = c .before .before .before .before .before .before .before .before .before .args in
+    omega (arith, set-within (a .line .now) (a .batch .set) (script.batch (envelopeOf (a .batch)) (a .batch .«target_references»)) (replicate 65536 0) (replicate 65536 0) _ (c .before .before .before .before .before .decode-set .ensures .0) (c .before .before .len .given .0 .0) (c .before .before .len .given .1))
 
--- src/set_lines.rt:126:13
 apply-batch-requires : tie.Need-apply-batch-requires
 apply-batch-requires c κs = search needs
 
--- src/set_lines.rt:128:65
 enum-told : tie.Need-enum-told
 enum-told c = search needs
 
--- src/set_lines.rt:128:31
 other-requires : tie.Need-other-requires
 other-requires c κs = search needs
 
--- src/set_lines.rt:129:62
 enum-told-2 : tie.Need-enum-told-2
 enum-told-2 c = search needs
 
--- src/set_lines.rt:129:28
 other-requires-2 : tie.Need-other-requires-2
 other-requires-2 c κs = search needs
 
--- src/set_lines.rt:107:1
 same-length : tie.Need-same-length
 same-length c = search needs
 
--- src/set_lines.rt:107:1
 returns : tie.Need-returns
-returns c = ?
+unfolding replayLine
+returns c =
+    let a = c .before .before .before .before .before .before .before .before .before .before .before .before .before .before .args in
+    let d = c .before .before .before .before .before .before .before .before .before .before .decode-set in
+    λ m h short. line-step _ _ _ (a .number) m _ _
+    (sym (set-is (a .line .now) (a .batch .set) (script.batch (envelopeOf (a .batch)) (a .batch .«target_references»)) (replicate 65536 0) _ (d .result) (d .ensures .0) (d .ensures .1) (c .before .before .before .before .before .before .before .len .given .0 .0) (c .before .before .before .before .before .before .before .len .given .1)))
+    (c .before .before .apply-batch .ensures m h)
 
--- src/set_lines.rt:107:1
 same-length-2 : tie.Need-same-length-2
 same-length-2 c = search needs
 
--- src/set_lines.rt:107:1
 returns-2 : tie.Need-returns-2
-returns-2 c = ?
+unfolding replayLine
+returns-2 c =
+    let a = c .before .before .before .before .before .before .before .before .before .before .before .args in
+    let d = c .before .before .before .before .before .before .before .decode-set in
+    λ m h short. line-step _ _ _ (a .number) m _ _ (sym (no-set (a .line .now) (a .batch .set) (script.batch (envelopeOf (a .batch)) (a .batch .«target_references»)) (replicate 65536 0) (a .line .now) (d .result) (d .ensures .0) (c .before .before .before .before .enum-told .given .1))) (c .before .before .other .ensures)
 
--- src/set_lines.rt:107:1
 same-length-3 : tie.Need-same-length-3
 same-length-3 c = search needs
 
--- src/set_lines.rt:107:1
 returns-3 : tie.Need-returns-3
-returns-3 c = ?
+returns-3 c =
+    let a = c .before .before .before .before .before .before .before .before .before .before .before .args in
+    let d = c .before .before .before .before .before .before .before .decode-set in
+    λ m h short. absurd (has-room (a .line .now) (a .batch .set) (script.batch (envelopeOf (a .batch)) (a .batch .«target_references»)) (replicate 65536 0) (a .line .now) (d .result) (d .ensures .0) (search needs) short (c .before .before .before .before .enum-told2 .given .1))
 
 pub batch-spec : {M : Type 1} → statement M
 batch-spec =
