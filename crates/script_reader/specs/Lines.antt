@@ -1,0 +1,12 @@
+-- The first line of bytes: the first of the parts that spec_replay's `split` gives.
+use Prim.Native.Nat.{ℕ}
+use mathlib.Core.List.{List, [], _∷_}
+use Rattle.spec_replay.specs.Script.{newline, split}
+
+unfoldable pub firstPart : List (List ℕ) → List ℕ
+firstPart [] = []
+firstPart (part ∷ parts) = part
+
+-- the bytes before the first LF
+unfoldable pub firstLine : List ℕ → List ℕ
+firstLine l = firstPart (split newline l)
