@@ -106,6 +106,11 @@ fn compare(printed: Printed, out: &[u8], answers: &[u8], from: usize) -> Compare
     compared
 }
 
+// One more, of lines or of cases; no file has as many as there are numbers.
+fn one_more(count: u64) -> u64 {
+    if count < u64::MAX { count + 1 } else { count }
+}
+
 // Whether a script is answered with these answers, and no others.
 fn is_answered(script: &[u8], answers: &[u8], out: &mut [u8]) -> bool {
     let mut state = replay_script::start();
@@ -114,7 +119,7 @@ fn is_answered(script: &[u8], answers: &[u8], out: &mut [u8]) -> bool {
     let mut done = 0;
     while start < script.len() {
         let end = script_reader::line_end(script, start);
-        number += 1;
+        number = one_more(number);
         let step = run_part(state, number, script, start, end, out);
         let printed = step.printed;
         let compared = compare(printed, out, answers, done);
@@ -168,9 +173,9 @@ fn run_cases(index: &[u8], script: &mut [u8], answers: &mut [u8], out: &mut [u8]
         let name = &index[start..end];
         let is_passed = passes(name, script, answers, out);
         print_case(name, is_passed);
-        cases += 1;
+        cases = one_more(cases);
         if !is_passed {
-            differing += 1;
+            differing = one_more(differing);
         }
         start = next_start(index, end);
     }
@@ -185,9 +190,13 @@ fn run_index(name: &[u8], script: &mut [u8], answers: &mut [u8]) {
     run_cases(&index[0..len], script, answers, &mut out);
 }
 
+fn run_both(script: &mut [u8], answers: &mut [u8]) {
+    run_index(b"index", script, answers);
+    run_index(b"rust_index", script, answers);
+}
+
 fn main() {
     let mut script = [0u8; SCRIPT_BYTES];
     let mut answers = [0u8; ANSWERS_BYTES];
-    run_index(b"index", &mut script, &mut answers);
-    run_index(b"rust_index", &mut script, &mut answers);
+    run_both(&mut script, &mut answers);
 }

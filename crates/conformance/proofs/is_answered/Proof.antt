@@ -8,7 +8,7 @@ use Rattle.conformance.proofs.is_answered.Tie as tie
 
 abbrev Inv-loop : tie.InvT-loop
 Inv-loop script answers out₀ state₀ number₀ start₀ done₀ out state number start done =
-    (number ≤ start) × ((start ≤ length script) × ((done ≤ length answers) × (length out ≡ length out₀)))
+    (start ≤ length script) × ((done ≤ length answers) × (length out ≡ length out₀))
 
 abbrev μ-loop : tie.MeasureT-loop
 μ-loop script answers out₀ state₀ number₀ start₀ done₀ out state number start done =
@@ -23,8 +23,8 @@ loop-holds c = search needs
 line-end-requires : tie.Need-line-end-requires Inv-loop μ-loop
 line-end-requires c κs = search needs
 
-add-number : tie.Need-add-number Inv-loop μ-loop
-add-number c = search needs
+one-more-requires : tie.Need-one-more-requires Inv-loop μ-loop
+one-more-requires c κs = search needs
 
 run-part-requires : tie.Need-run-part-requires Inv-loop μ-loop
 run-part-requires c κs = search needs
@@ -68,7 +68,7 @@ is-answered-spec =
     start-requires
     loop-holds
     line-end-requires
-    add-number
+    one-more-requires
     run-part-requires
     compare-requires
     same-length

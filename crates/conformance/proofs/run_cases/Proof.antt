@@ -8,7 +8,7 @@ use Rattle.conformance.proofs.run_cases.Tie as tie
 
 abbrev Inv-loop : tie.InvT-loop
 Inv-loop index script₀ answers₀ out₀ cases₀ differing₀ start₀ script answers out cases differing start =
-    (cases ≤ start) × ((differing ≤ cases) × ((start ≤ length index) × ((length script ≡ length script₀) × ((length answers ≡ length answers₀) × (length out ≡ length out₀)))))
+    (start ≤ length index) × ((length script ≡ length script₀) × ((length answers ≡ length answers₀) × (length out ≡ length out₀)))
 
 abbrev μ-loop : tie.MeasureT-loop
 μ-loop index script₀ answers₀ out₀ cases₀ differing₀ start₀ script answers out cases differing start =
@@ -35,11 +35,11 @@ passes-requires c κs = search needs
 print-case-requires : tie.Need-print-case-requires Inv-loop μ-loop
 print-case-requires c κs = search needs
 
-add-cases : tie.Need-add-cases Inv-loop μ-loop
-add-cases c = search needs
+one-more-requires : tie.Need-one-more-requires Inv-loop μ-loop
+one-more-requires c κs = search needs
 
-add-differing : tie.Need-add-differing Inv-loop μ-loop
-add-differing c = search needs
+one-more-requires-2 : tie.Need-one-more-requires-2 Inv-loop μ-loop
+one-more-requires-2 c κs = search needs
 
 next-start-requires : tie.Need-next-start-requires Inv-loop μ-loop
 next-start-requires c κs = search needs
@@ -78,8 +78,8 @@ run-cases-spec =
     part-name-end
     passes-requires
     print-case-requires
-    add-cases
-    add-differing
+    one-more-requires
+    one-more-requires-2
     next-start-requires
     loop-less
     loop-again
