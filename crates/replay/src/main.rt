@@ -59,13 +59,7 @@ fn next_number(number: u64) -> u64 {
 }
 
 // Runs the lines that an LF ends, and writes their answers. Before index seen there is no LF.
-fn run_lines(
-    before: ReplayState,
-    first: u64,
-    input: &[u8],
-    seen: usize,
-    out: &mut [u8],
-) -> Progress
+fn run_lines(before: ReplayState, first: u64, input: &[u8], seen: usize, out: &mut [u8]) -> Progress
     requires { ⌜ seen ≤ length (now input) ⌝ }
     ensures { λ r. ⌜ r .start ≤ length (now (input .entry)) ⌝ }
 {
