@@ -95,6 +95,16 @@ pub none-left : (set : List ℕ) (at : ℕ) (found : Bool) (ts : List ℕ) → a
 unfolding many foundFrom
 none-left set at found ts h = rw (position set at h, or-false found)
 
+-- ---- where there is one operation
+
+pub alone : (set : List ℕ) (at : ℕ) (x : ProjectionPatchOperation) (taken : ℕ) (g : Got (readOperation v1) operationTo (drop at set) 0 x taken) → at + taken ≤ length set
+    → operations-checked.Read (beforeSelf (operationOf [] x)) (at + taken) ≡ operationsAnswer operationsFound (length set) (many 1 (readOperation v1) (drop at set))
+unfolding operationFound targetSeen
+alone set at x taken g h =
+    ap (λ b. operations-checked.Read b (at + taken)) (found-is set at 0 false x taken g [])
+    ∙ none-left set (at + taken) (operationFound [] (g .a)) (targetNumbers (g .a)) h
+    ∙ step set at 0 false x taken g []
+
 -- ---- a patch: its head, then its operations
 
 operations-told : Told operations-checked.Read operations-checked.Refused

@@ -81,11 +81,27 @@ fn check_with(
     OperationsChecked::Read(found, at)
 }
 
+// Reads the one operation of a patch, which repeats no target.
+fn check_one(set: &[u8], at: usize) -> OperationsChecked
+    requires { ⌜ at ≤ length (now set) ⌝ }
+    ensures { λ r. ⌜ r ≡ operationsAnswer operationsFound (length (now (set .entry))) (many 1 (readOperation v1) (drop at (now (set .entry)))) ⌝ }
+{
+    match read_operations::read_operation(&set[at..]) {
+        OperationRead::Read(operation, taken) => {
+            OperationsChecked::Read(mutation_targets::before_self(operation), at + taken)
+        }
+        OperationRead::Refused(fault) => OperationsChecked::Refused(fault),
+    }
+}
+
 // Reads count operations of a set, the first of them at from. Most patches have few, and little is cleared for them.
 pub fn check_operations(set: &[u8], from: usize, count: usize) -> OperationsChecked
     requires { ⌜ (from ≤ length (now set)) × (count ≤ patchOperations) ⌝ }
     ensures { λ r. ⌜ r ≡ operationsAnswer operationsFound (length (now (set .entry))) (many count (readOperation v1) (drop from (now (set .entry)))) ⌝ }
 {
+    if count == 1 {
+        return check_one(set, from);
+    }
     let mut marks = [0u8; MutationTarget::MARKS];
     if count <= 16 {
         let mut few = [0u64; 48];
