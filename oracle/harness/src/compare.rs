@@ -15,13 +15,13 @@ const CHUNK: usize = 8 << 20;
 
 /// What the program prints for a script, and how it ended if not well. A thread feeds it, so that neither side waits
 /// for the other.
-fn replay(program: &[&str], script: Vec<u8>) -> Vec<u8> {
+pub fn replay(program: &[&str], script: Vec<u8>) -> Vec<u8> {
     let mut child = Process::new(program[0])
         .args(&program[1..])
         .stdin(Stdio::piped())
         .stdout(Stdio::piped())
         .spawn()
-        .expect("the replay program starts");
+        .expect("the program starts");
     let mut input = child.stdin.take().unwrap();
     // A program that ends early leaves the pipe broken; its answers then end early too, which is a difference.
     let feeder = std::thread::spawn(move || drop(input.write_all(&script)));

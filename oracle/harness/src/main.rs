@@ -33,6 +33,7 @@ oracle count SESSIONS SEED
 oracle compare SESSIONS SEED --replay PROGRAM...
 oracle vectors ANSWERS SEED FOLDER [SCRIPT_BYTES]
 oracle sets COUNT SEED
+oracle rewrite COUNT SEED PROGRAM...
 oracle bench-read PROGRAM | bench-check PROGRAM | bench-sizes PROGRAM
 oracle bench-set texts | bench-set PATCHES OPERATIONS
 oracle bench-session PROGRAM COLLECTIONS
@@ -54,6 +55,9 @@ fn main() {
             vectors::write(number(answers), number(seed), folder, Some(number(longest)))
         }
         ["sets", count, seed] => vectors::sets(number(count), number(seed)),
+        ["rewrite", count, seed, program @ ..] if !program.is_empty() => {
+            exit(!vectors::rewrite(number(count), number(seed), program) as i32)
+        }
         ["bench-read", program] => bench::reading(program),
         ["bench-check", program] => bench::checking(program),
         ["bench-sizes", program] => bench::sizes(program),

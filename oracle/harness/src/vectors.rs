@@ -3,11 +3,16 @@ use std::fs;
 use std::io::Write;
 use std::path::Path;
 
+use crate::compare;
 use crate::generate::recorder::Recorded;
 use crate::generate::{edges, faults, sessions, Scale};
 use crate::hex;
 use crate::rng::Rng;
 use crate::tally::Tally;
+
+/// The most bytes that the rewriting program reads, and the most of a line.
+const REWRITTEN_AT_ONCE: usize = 1 << 20;
+const LONGEST_LINE: usize = 2 * 32_768 + 1;
 
 /// One script and its answers.
 #[derive(Default)]
@@ -59,14 +64,43 @@ pub fn write(count: u64, seed: u64, folder: &str, longest: Option<u64>) {
     tally.print();
 }
 
+/// A line of a run: a set without findings as the original writes it, in hex.
+fn set_line(seed: u64, index: u64) -> Vec<u8> {
+    let mut line = Vec::new();
+    hex::write(&faults::set_to_list(&mut Rng::of_session(seed, index), Scale::Full), &mut line);
+    line.push(b'\n');
+    line
+}
+
 /// Prints sets without findings, as the original writes them, one in each line. A program that reads each line's set and
 /// writes it with the writer must print the same lines.
 pub fn sets(count: u64, seed: u64) {
     let mut out = std::io::BufWriter::new(std::io::stdout());
     for index in 0..count {
-        let mut line = Vec::new();
-        hex::write(&faults::set_to_list(&mut Rng::of_session(seed, index), Scale::Full), &mut line);
-        line.push(b'\n');
-        out.write_all(&line).unwrap();
+        out.write_all(&set_line(seed, index)).unwrap();
     }
+}
+
+/// Sends so many such lines to a program that rewrites them, as many at a time as it takes at once, and compares what it
+/// prints. Says at which set they first differ, and how many bytes were compared otherwise.
+pub fn rewrite(count: u64, seed: u64, program: &[&str]) -> bool {
+    let mut lines: Vec<Vec<u8>> = Vec::new();
+    let mut bytes = 0;
+    for index in 0..count {
+        lines.push(set_line(seed, index));
+        if index + 1 == count || lines.iter().map(Vec::len).sum::<usize>() + LONGEST_LINE > REWRITTEN_AT_ONCE {
+            let printed = compare::replay(program, lines.concat());
+            let mut printed = printed.split_inclusive(|byte| *byte == b'\n');
+            for (place, line) in lines.iter().enumerate() {
+                if printed.next() != Some(line.as_slice()) {
+                    println!("set {} of seed {seed} differs", index + 1 - (lines.len() - place) as u64);
+                    return false;
+                }
+                bytes += line.len() / 2;
+            }
+            lines.clear();
+        }
+    }
+    println!("{count} sets of seed {seed}, {bytes} bytes, no difference");
+    true
 }
