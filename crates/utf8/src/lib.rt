@@ -142,16 +142,15 @@ fn ascii_end(text: &[u8], from: usize) -> usize
     i
 }
 
-// The check of a text whose bytes before the position are below 0x80.
-fn check_from(text: &[u8], from: usize) -> Utf8Check
-    requires { ⌜ AsciiBetween (now text) 0 from ⌝ }
+// The check of a text whose bytes before the position are below 0x80. Those that follow a character of one byte are passed in a row.
+fn check_from(classes: &[u8; 256], text: &[u8], from: usize) -> Utf8Check
+    requires { ⌜ IsClassTable (now classes) × AsciiBetween (now text) 0 from ⌝ }
     ensures { λ r. ⌜ r ≡ answer (now (text .entry)) ⌝ }
 {
-    let classes = CLASSES;
     let mut characters = from;
     let mut i = from;
     while i < text.len() {
-        let length = character_length(&classes, &text[i..]);
+        let length = character_length(classes, &text[i..]);
         if length == 0 {
             return Utf8Check::Invalid;
         }
@@ -174,5 +173,6 @@ pub fn check(text: &[u8]) -> Utf8Check
     if ascii == text.len() {
         return Utf8Check::Valid { characters: ascii };
     }
-    check_from(text, ascii)
+    let classes = CLASSES;
+    check_from(&classes, text, ascii)
 }

@@ -1,7 +1,9 @@
--- `utf8::check` meets its contract: a text of bytes below 0x80 has as many characters as bytes.
-use mathlib.Core.Path.{sym}
+-- `utf8::check` meets its contract: a text of bytes below 0x80 has as many characters as bytes, and the table for any other is right.
+use mathlib.Core.Path.{refl, sym}
 use native.Mathlib.Omega.{arith}
 use borrow.Author.Needs.{needs}
+use Rattle.utf8.specs.Classes.{classOf}
+use Rattle.utf8.proofs.TableLaws.{class-table}
 use Rattle.utf8.proofs.Reached.{reached-front, reached-end}
 use Rattle.utf8.proofs.check.Statement.{statement}
 use Rattle.utf8.proofs.check.Tie as tie
@@ -13,7 +15,8 @@ returns : tie.Need-returns
 returns c = sym (reached-end (reached-front (c .before .ascii-end .ensures)) (omega arith))
 
 check-from-requires : tie.Need-check-from-requires
-check-from-requires c κs = search needs
+unfolding classOf
+check-from-requires c κs = (class-table _ refl, c .before .before .ascii-end .ensures)
 
 returns-2 : tie.Need-returns-2
 returns-2 c = search needs
