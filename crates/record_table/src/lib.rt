@@ -5,8 +5,8 @@ ghost use mathlib.Core.List.{List, [], _∷_};
 ghost use mathlib.Core.Path.{_≡_};
 ghost use Prim.Native.Nat.{ℕ, _+_, _-_, _*_, _≤_, _<_};
 ghost use lib.ListN.{length, getD};
-ghost use Rattle.record_table.specs.Positions.{insertAt, removeAt, replaceAt, firstIndex};
-ghost use Rattle.record_table.specs.Table.{Holds, Changed, canInsert, canRemove, canReplace};
+ghost use Rattle.record_table.specs.Positions.{insertAt, removeAt, replaceAt, moveAt, firstIndex};
+ghost use Rattle.record_table.specs.Table.{Holds, Changed, canInsert, canRemove, canReplace, canMove};
 ghost use Rattle.record_keys.specs.Keys.{startsWith, leadingNumbers};
 ghost use Rattle.record_table.specs.Search.{isAbove, findFirst, Within, placeOf, PlaceWithin};
 
@@ -80,6 +80,44 @@ pub fn replace_record(table: &mut [u8], width: usize, count: usize, at: usize, r
     let from = at * width;
     let end = from + width;
     byte_moves::copy(row, &mut table[from..end]);
+    true
+}
+
+// Takes the record at position `from` out, and inserts row to stand at position `to`. Only the bytes from the one position
+// to the other are moved. Answers whether there are such positions, and row is one record wide.
+pub fn move_record(
+    table: &mut [u8],
+    width: usize,
+    count: usize,
+    from: usize,
+    to: usize,
+    row: &[u8],
+) -> bool
+    requires { ⌜ 0 < width ⌝ }
+    ensures { λ r. ⌜ Changed width count count (moveAt from to (now (row .entry)))
+        (canMove (length (now (table .entry))) width count from to (now (row .entry))) (now (table .entry)) (now (table .exit)) r ⌝ }
+{
+    if count <= from {
+        return false;
+    }
+    if count <= to {
+        return false;
+    }
+    if row.len() != width {
+        return false;
+    }
+    if table.len() / width < count {
+        return false;
+    }
+    if from < to {
+        let start = from * width;
+        let end = to * width + width;
+        byte_moves::push_back(&mut table[start..end], row);
+    } else {
+        let start = to * width;
+        let end = from * width + width;
+        byte_moves::push_front(&mut table[start..end], row);
+    }
     true
 }
 
