@@ -61,7 +61,7 @@ matches-past r rs (b ∷ bs) zero h = absurd (omega arith)
 matches-past r rs (b ∷ bs) (suc at) h = matches-past r rs bs at (omega arith)
 
 -- one octet by itself
-pub matches-one : (r : Range) (text : List ℕ) (at : ℕ) → at < length text → matches (r ∷ []) (drop at text) ≡ inside r (getD text at 0)
+matches-one : (r : Range) (text : List ℕ) (at : ℕ) → at < length text → matches (r ∷ []) (drop at text) ≡ inside r (getD text at 0)
 unfolding matches
 matches-one r text at h = rw (drop-cons text at 0) (and-true (inside r (getD text at 0)))
 
@@ -85,22 +85,25 @@ matches-at : (r : Range) (rs : List Range) (text : List ℕ) (at : ℕ)
 matches-at r rs text at = matches-first r rs (drop at text) ∙ rw (drop-drop 1 at text)
 
 -- an octet of the range at the position
-abbrev pub hasAt : List ℕ → Range → ℕ → Bool
+abbrev hasAt : List ℕ → Range → ℕ → Bool
 hasAt text r at = matches (r ∷ []) (drop at text)
 
-pub length-2 : (text : List ℕ) (a : Range) → lengthAfter (expects (a ∷ [])) (drop 1 text) ≡ (if hasAt text a 1 then 2 else 0)
+-- The length by tests v, w and x of the octets one after the other, of which the outcomes are t, u and o.
+pub length-2 : (text : List ℕ) (a : Range) (t : Bool) {v : Bool} → v ≡ hasAt text a 1 → v ≡ t
+    → (if t then 2 else 0) ≡ lengthAfter (expects (a ∷ [])) (drop 1 text)
 unfolding lengthAfter
-length-2 text a = refl
+length-2 text a t e f = rw (sym e ∙ f)
 
-pub length-3 : (text : List ℕ) (a b : Range)
-    → lengthAfter (expects (a ∷ b ∷ [])) (drop 1 text) ≡ (if hasAt text a 1 && hasAt text b 2 then 3 else 0)
+pub length-3 : (text : List ℕ) (a b : Range) (t u : Bool) {v w : Bool} → v ≡ hasAt text a 1 → v ≡ t → w ≡ hasAt text b 2 → w ≡ u
+    → (if t && u then 3 else 0) ≡ lengthAfter (expects (a ∷ b ∷ [])) (drop 1 text)
 unfolding lengthAfter
-length-3 text a b = rw (matches-at a (b ∷ []) text 1)
+length-3 text a b t u e f g h = rw (matches-at a (b ∷ []) text 1, sym e ∙ f, sym g ∙ h)
 
-pub length-4 : (text : List ℕ) (a b d : Range)
-    → lengthAfter (expects (a ∷ b ∷ d ∷ [])) (drop 1 text) ≡ (if hasAt text a 1 && (hasAt text b 2 && hasAt text d 3) then 4 else 0)
+pub length-4 : (text : List ℕ) (a b d : Range) (t u o : Bool) {v w x : Bool} → v ≡ hasAt text a 1 → v ≡ t → w ≡ hasAt text b 2 → w ≡ u
+    → x ≡ hasAt text d 3 → x ≡ o → (if t && (u && o) then 4 else 0) ≡ lengthAfter (expects (a ∷ b ∷ d ∷ [])) (drop 1 text)
 unfolding lengthAfter
-length-4 text a b d = rw (matches-at a (b ∷ d ∷ []) text 1, matches-at b (d ∷ []) text 2)
+length-4 text a b d t u o e f g h i j =
+    rw (matches-at a (b ∷ d ∷ []) text 1, matches-at b (d ∷ []) text 2, sym e ∙ f, sym g ∙ h, sym i ∙ j)
 
 -- ---- the first character of a text
 

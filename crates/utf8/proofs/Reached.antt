@@ -1,13 +1,12 @@
 -- What holds of the check after i bytes of a text and with a count of characters: at the start, after one character more, after bytes below
 -- 0x80 in a row, and at the end.
 use Prim.Native.Nat.{ℕ, zero, suc, _+_, _-_, _≤_, _<_, zero-le}
-use mathlib.Core.Path.{_≡_, refl, sym, _∙_, ap, subst}
+use mathlib.Core.Path.{_≡_, refl, sym, _∙_, subst}
 use mathlib.Core.List.{List, []}
 use native.Mathlib.Nat.{zero-add, add-zero, add-assoc, le-refl, le-antisymm}
 use native.Mathlib.Omega.{arith}
 use lib.ListN.{length, getD, take, drop, length-drop}
 use lib.Seq.{take-all, drop-length, drop-drop, getD-drop}
-use Rattle.spec_lists.specs.Lists.{if_then_else_}
 use Rattle.spec_text.specs.Syntax.{isUtf8, characters}
 use Rattle.utf8.specs.Characters.{characterLength, AsciiBetween}
 use Rattle.utf8.specs.Answer.{answer}
@@ -46,7 +45,7 @@ reached-character {text} {count} {i} n r e ne =
 
 reached-ascii-by : {text : List ℕ} {count i : ℕ} (n : ℕ) → Reached text count i → i + n ≤ length text
     → ((k : ℕ) → k < n → getD text (i + k) 0 < 0x80) → Reached text (count + n) (i + n)
-reached-ascii-by {text} {count} {i} zero r h a = rw (add-zero, add-zero) r
+reached-ascii-by {text} {count} {i} zero r h a = rw (add-zero count, add-zero i) r
 reached-ascii-by {text} {count} {i} (suc n) r h a =
     let s = reached-ascii-by n r (omega arith) (λ k l. a k (omega arith)) in
     let first : getD (drop (i + n) text) 0 0 < 0x80 = rw (getD-drop (i + n) text 0 0, add-zero) (a n (omega arith)) in

@@ -96,7 +96,7 @@ fn character_length(classes: &[u8; 256], text: &[u8]) -> usize
     }
 }
 
-// Whether every byte of the group is below 0x80, by the largest: one vector operation for a group of known length.
+// Whether every byte of the group is below 0x80: told by the largest, which for a group of known length takes a few vector operations.
 fn is_ascii(group: &[u8]) -> bool
     ensures { λ r. ⌜ (r ≡ true → AsciiBetween (now (group .entry)) 0 (length (now (group .entry)))) ⌝ }
 {
