@@ -6,7 +6,7 @@ use native.Mathlib.Numerals.{add-one}
 use native.Mathlib.Nat.{add-comm, sub-self}
 use native.Mathlib.Omega.{arith}
 use lib.ListN.{length, take, drop, getD, set, length-take, length-drop, drop-of-length-le, length-append, List·getD-append}
-use Rattle.byte_moves.specs.Moves.{zeros, overwrite, pushFront, popFront}
+use Rattle.byte_moves.specs.Moves.{zeros, overwrite, pushFront, pushBack, popFront}
 use Rattle.byte_moves.proofs.Parts.{lent}
 use borrow.Rule.Slice.PartMut.{midOf, putMid}
 use lib.Seq.{take-suc, take-all, take-length, drop-length, drop-cons, append-snoc, set-at, drop-at, getD-take, getD-drop, getD-append-add}
@@ -108,15 +108,34 @@ pushed s r s₁ s₂ room shifted written =
     let n : length (take (length r) s) ≡ length r = simp length-take (omega arith) in
     rw (written, shifted, drop-at)
 
--- zeros in the place that `shift_down` leaves free
+-- the place that `shift_down` leaves free at the end is lent, and comes back as what f makes of it
+module _ (s s₁ z : List ℕ) (by : ℕ) (room : by ≤ length s) (shifted : s₁ ≡ drop by s ++ drop (length s - by) s) (f : List ℕ → List ℕ)
+    (filled : z ≡ f (midOf (length s₁ - by) (length s₁ - (length s₁ - by)) s₁)) where
+  freed : length (drop (length s - by) s) ≡ by
+  freed = simp length-drop (omega arith)
+
+  freed-lent : putMid (length s₁ - by) (length s₁ - (length s₁ - by)) s₁ z ≡ drop by s ++ f (drop (length s - by) s)
+  freed-lent =
+      let n : length s₁ ≡ length s = ap length shifted ∙ simp (length-append, length-drop) (omega arith) in
+      let front : length (drop by s) ≡ length s₁ - by = simp length-drop (omega arith) in
+      let size : length (drop (length s - by) s) ≡ length s₁ - (length s₁ - by) = simp length-drop (omega arith) in
+      let split : s₁ ≡ drop by s ++ (drop (length s - by) s ++ []) = rw append-nil shifted in
+      lent s₁ (drop by s) (drop (length s - by) s) [] _ _ split front size f z filled ∙ rw append-nil
+
+-- zeros in that place
 pub popped : (s s₁ z : List ℕ) (by : ℕ) → by ≤ length s → s₁ ≡ drop by s ++ drop (length s - by) s
     → z ≡ zeros (length (midOf (length s₁ - by) (length s₁ - (length s₁ - by)) s₁))
     → putMid (length s₁ - by) (length s₁ - (length s₁ - by)) s₁ z ≡ popFront by s
 popped s s₁ z by room shifted cleared =
-    let n : length s₁ ≡ length s = ap length shifted ∙ simp (length-append, length-drop) (omega arith) in
-    let front : length (drop by s) ≡ length s₁ - by = simp length-drop (omega arith) in
-    let size : length (drop (length s - by) s) ≡ length s₁ - (length s₁ - by) = simp length-drop (omega arith) in
-    let split : s₁ ≡ drop by s ++ (drop (length s - by) s ++ []) = rw append-nil shifted in
-    let freed : length (drop (length s - by) s) ≡ by = simp length-drop (omega arith) in
-    lent s₁ (drop by s) (drop (length s - by) s) [] _ _ split front size (λ (p : List ℕ). zeros (length p)) z cleared
-    ∙ rw (freed, append-nil)
+    let f : List ℕ → List ℕ = λ p. zeros (length p) in
+    freed-lent s s₁ z by room shifted f cleared ∙ rw (freed s s₁ z by room shifted f cleared)
+
+-- a copy over that place
+pub pushed-back : (s r s₁ z : List ℕ) → length r ≤ length s → s₁ ≡ drop (length r) s ++ drop (length s - length r) s
+    → z ≡ overwrite r (midOf (length s₁ - length r) (length s₁ - (length s₁ - length r)) s₁)
+    → putMid (length s₁ - length r) (length s₁ - (length s₁ - length r)) s₁ z ≡ pushBack r s
+pushed-back s r s₁ z room shifted written =
+    let size = freed s s₁ z (length r) room shifted (overwrite r) written in
+    let h : length (drop (length s - length r) s) ≤ length r = omega arith in
+    freed-lent s s₁ z (length r) room shifted (overwrite r) written
+    ∙ rw (drop-of-length-le (drop (length s - length r) s) h, append-nil)

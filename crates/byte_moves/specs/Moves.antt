@@ -15,6 +15,10 @@ overwrite s t = s ++ drop (length s) t
 abbrev pub pushFront : List ℕ → List ℕ → List ℕ
 pushFront s t = s ++ take (length t - length s) t
 
+-- s behind the bytes of t, whose first ones are lost
+abbrev pub pushBack : List ℕ → List ℕ → List ℕ
+pushBack s t = drop (length s) t ++ s
+
 -- without the first n bytes, and with n zeros at the end
 abbrev pub popFront : ℕ → List ℕ → List ℕ
 popFront n t = drop n t ++ zeros n

@@ -4,7 +4,7 @@ ghost use mathlib.Core.Path.{_≡_};
 ghost use mathlib.Core.List.{_++_};
 ghost use Prim.Native.Nat.{_-_, _≤_};
 ghost use lib.ListN.{length, take, drop};
-ghost use Rattle.byte_moves.specs.Moves.{zeros, overwrite, pushFront, popFront};
+ghost use Rattle.byte_moves.specs.Moves.{zeros, overwrite, pushFront, pushBack, popFront};
 
 // Copies source over the first bytes of target.
 pub fn copy(source: &[u8], target: &mut [u8])
@@ -63,6 +63,16 @@ pub fn push_front(s: &mut [u8], r: &[u8])
 {
     shift_up(s, r.len());
     copy(r, s);
+}
+
+// Inserts r behind the bytes of s, whose first ones are lost.
+pub fn push_back(s: &mut [u8], r: &[u8])
+    requires { ⌜ length (now r) ≤ length (now s) ⌝ }
+    ensures { λ _. ⌜ now (s .exit) ≡ pushBack (now (r .entry)) (now (s .entry)) ⌝ }
+{
+    shift_down(s, r.len());
+    let end = s.len() - r.len();
+    copy(r, &mut s[end..]);
 }
 
 // Removes the first `by` bytes of s, and sets as many to 0 at its end.

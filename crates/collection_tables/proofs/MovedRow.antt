@@ -1,17 +1,15 @@
 -- A row that is taken out of a table and inserted again at another position.
-use Prim.Native.Nat.{ℕ, suc, _+_, _-_, _*_, _≤_, _<_}
-use mathlib.Core.Path.{_≡_, refl, sym, ap, ap₂, _∙_, subst}
+use Prim.Native.Nat.{ℕ, _-_, _≤_, _<_}
+use mathlib.Core.Path.{_≡_, sym, ap, ap₂, _∙_, subst}
 use mathlib.Core.Bool.{Bool}
 use mathlib.Core.List.{List, [], append-nil, _++_}
-use native.Mathlib.Nat.{suc-mul}
 use native.Mathlib.Omega.{arith}
 use borrow.Author.Tests.{lt-ltb, le-ltb}
 use lib.ListN.{length, drop, getD, length-replicate, drop-of-length-le}
 use Rattle.byte_moves.specs.Moves.{zeros, overwrite}
-use Rattle.record_table.specs.Positions.{insertAt, removeAt}
-use Rattle.record_table.specs.Table.{Holds, Changed, canInsert, canRemove}
-use Rattle.record_table.specs.TableLaws.{row-width, fitting, can-insert}
-use Rattle.binding_tables.specs.RowChanges.{removed}
+use Rattle.record_table.specs.Positions.{insertAt, removeAt, moveAt}
+use Rattle.record_table.specs.Table.{Holds, Changed, canMove}
+use Rattle.record_table.specs.TableLaws.{row-width, can-move}
 use Rattle.collection_tables.specs.Places.{withoutAt}
 
 pub without-before : (from to : ℕ) → from < to → withoutAt from to ≡ to - 1
@@ -31,18 +29,12 @@ copied w part e =
     length-zeros : (n : ℕ) → length (zeros n) ≡ n
     length-zeros n = length-replicate n 0
 
-module _ {w n from : ℕ} (to place : ℕ) {table middle exit part row : List ℕ} {a b : Bool} (below : from < n) (within : to ≤ n) (same : length middle ≡ length table) (is : withoutAt from to ≡ place) (inside : place + 1 ≤ n)
+module _ {w n from : ℕ} (to place : ℕ) {table exit part row : List ℕ} {b : Bool} (below : from < n) (is : withoutAt from to ≡ place) (inside : place < n)
     (told : (rows : List (List ℕ)) → Holds w n table rows → part ≡ getD rows from []) (copy : row ≡ overwrite part (zeros w))
-    (out : Changed w n (n - 1) (removeAt from) (canRemove (length table) w n from) table middle a)
-    (in-again : Changed w (n - 1) (n - 1 + 1) (insertAt place row) (canInsert (length middle) w (n - 1) place row) middle exit b) where
+    (change : Changed w n n (moveAt from place row) (canMove (length table) w n from place row) table exit b) where
   pub moved-row : (rows : List (List ℕ)) → Holds w n table rows → Holds w n exit (insertAt (withoutAt from to) (getD rows from []) (removeAt from rows))
   moved-row rows t =
       let wide = row-width t from below in
       let own : row ≡ getD rows from [] = copy ∙ ap (λ (l : List ℕ). overwrite l (zeros w)) (told rows t) ∙ copied w (getD rows from []) wide in
-      let less : suc (n - 1) ≡ n = omega arith in
-      let rest = removed t from below out in
-      let used : (n - 1) * w + w ≡ n * w = sym (suc-mul (n - 1) w) ∙ ap (λ (k : ℕ). k * w) less in
-      let can = can-insert rest place row (omega arith) (ap length own ∙ wide) (omega (arith, fitting t)) in
-      let count : n - 1 + 1 ≡ n = omega arith in
-      subst (λ (k : ℕ). Holds w k exit (insertAt (withoutAt from to) (getD rows from []) (removeAt from rows))) count
-      (subst (Holds w (n - 1 + 1) exit) (ap₂ (λ (i : ℕ) (r : List ℕ). insertAt i r (removeAt from rows)) (sym is) own) (in-again .made (in-again .told ∙ can) (removeAt from rows) rest))
+      let can = can-move t from place row below inside (ap length own ∙ wide) in
+      subst (Holds w n exit) (ap₂ (λ (i : ℕ) (r : List ℕ). insertAt i r (removeAt from rows)) (sym is) own) (change .made (change .told ∙ can) rows t)

@@ -4,7 +4,7 @@ ghost use mathlib.Core.List.{List, map};
 ghost use Rattle.spec_lists.specs.Lists.{All};
 ghost use Rattle.spec_projection.specs.Projection.{Entry};
 ghost use Rattle.spec_projection.specs.Entries.{isEntry};
-ghost use Rattle.spec_projection.specs.Valid.{FitsEntry};
+ghost use Rattle.spec_projection.specs.Valid.{FitsEntry, Grouped};
 ghost use Rattle.record_table.specs.Table.{Holds};
 ghost use Rattle.record_table.specs.Search.{findFirst, Within};
 ghost use Rattle.projection_patch.specs.Meaning.{beforeOf};
@@ -16,17 +16,22 @@ use record_table::Found;
 
 // The position of a collection's key.
 pub fn find_entry(table: &[u8], count: usize, collection: u64, key: u64) -> Found
-    ensures first { λ r. ⌜ ((es : List Entry) → All FitsEntry es → Holds entryWidth count (now (table .entry)) (map entryRow es)
+    ensures first { λ r. ⌜ ((es : List Entry) → All FitsEntry es → Grouped es → Holds entryWidth count (now (table .entry)) (map entryRow es)
         → r ≡ findFirst (isEntry collection key) es) ⌝ }
     ensures within { λ r. ⌜ Within count r ⌝ }
 {
-    let bytes = projection_rows::entry_key(collection, key);
-    record_table::find_record(table, LocalProjectionState::ENTRY_WIDTH, count, &bytes)
+    record_table::find_pair(
+        table,
+        LocalProjectionState::ENTRY_WIDTH,
+        count,
+        collection,
+        key,
+    )
 }
 
 // Where an entry goes: before its neighbour, or last of its collection.
 pub fn place_before(table: &[u8], count: usize, collection: u64, before: OptionalKey) -> Found
-    ensures first { λ r. ⌜ ((es : List Entry) → All FitsEntry es → Holds entryWidth count (now (table .entry)) (map entryRow es)
+    ensures first { λ r. ⌜ ((es : List Entry) → All FitsEntry es → Grouped es → Holds entryWidth count (now (table .entry)) (map entryRow es)
         → r ≡ placeBefore collection (beforeOf before) es) ⌝ }
     ensures within { λ r. ⌜ PositionWithin count r ⌝ }
 {
@@ -58,7 +63,7 @@ pub fn place_before_other(
     key: u64,
     before: OptionalKey,
 ) -> Found
-    ensures first { λ r. ⌜ ((es : List Entry) → All FitsEntry es → Holds entryWidth count (now (table .entry)) (map entryRow es)
+    ensures first { λ r. ⌜ ((es : List Entry) → All FitsEntry es → Grouped es → Holds entryWidth count (now (table .entry)) (map entryRow es)
         → r ≡ placeBeforeOther collection key (beforeOf before) es) ⌝ }
     ensures within { λ r. ⌜ PositionWithin count r ⌝ }
 {

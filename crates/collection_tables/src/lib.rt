@@ -113,11 +113,10 @@ fn move_row(table: &mut [u8], count: usize, from: usize, to: usize)
     let width = LocalProjectionState::ENTRY_WIDTH;
     let mut row = [0u8; LocalProjectionState::ENTRY_WIDTH];
     byte_moves::copy(record_table::record_at(table, width, count, from), &mut row);
-    record_table::remove_record(table, width, count, from);
     if from < to {
-        record_table::insert_record(table, width, count - 1, to - 1, &row);
+        record_table::move_record(table, width, count, from, to - 1, &row);
     } else {
-        record_table::insert_record(table, width, count - 1, to, &row);
+        record_table::move_record(table, width, count, from, to, &row);
     }
 }
 

@@ -37,7 +37,3 @@ availabilityRow a = u64 (a .node) ++ (availabilityByte (a .availability) ∷ [])
 
 unfoldable pub entryRow : Entry → List ℕ
 entryRow e = u64 (e .collection) ++ (u64 (e .key) ++ padded (e .value))
-
--- what the row of a collection's key begins with
-unfoldable pub entryKey : ℕ → ℕ → List ℕ
-entryKey c k = u64 c ++ u64 k

@@ -1,8 +1,8 @@
 -- Laws of rows: their widths, that a row tells its record, and that the searches in a table see the model's keys.
 use Prim.Native.Nat.{ℕ, _+_, _-_, _^_, _≤_, _<_}
-use mathlib.Core.Path.{_≡_, refl, sym, ap, _∙_}
+use mathlib.Core.Path.{_≡_, refl, sym, ap, ap₂, _∙_}
 use mathlib.Core.Bool.{true, _&&_}
-use mathlib.Core.List.{List, [], _∷_, _++_, append-assoc}
+use mathlib.Core.List.{List, [], _∷_, _++_, map, append-assoc}
 use native.Mathlib.Omega.{arith}
 use lib.Dec.{ltb, eqb}
 use lib.ListN.{length, take, drop, length-append, length-replicate}
@@ -20,13 +20,13 @@ use Rattle.spec_patch.specs.Codec.{Codec, pair-codec, injective}
 use Rattle.spec_patch.specs.ReadLaws.{Any, availabilityBytes, u64-codec, value-codec, binding-fields, update-fields, availability-codec}
 use Rattle.spec_projection.specs.Projection.{Binding, NodeAvailability, Entry, bindingKey, availabilityKey}
 use Rattle.spec_projection.specs.Entries.{isEntry, isLater}
-use Rattle.spec_projection.specs.Valid.{FitsBinding, FitsNodeAvailability, FitsEntry}
+use Rattle.spec_projection.specs.Valid.{Behind, Grouped, FitsBinding, FitsNodeAvailability, FitsEntry}
 use Rattle.byte_moves.specs.Moves.{zeros}
-use Rattle.record_keys.specs.Keys.{startsWith, leadingNumbers}
-use Rattle.record_keys.specs.KeysLaws.{starts-number, starts-last, leading-number}
+use Rattle.record_keys.specs.Keys.{leadingNumbers}
+use Rattle.record_keys.specs.KeysLaws.{leading-number}
 use Rattle.record_table.specs.Table.{Wide}
-use Rattle.record_table.specs.Search.{isAbove}
-use Rattle.local_projection_state.specs.Rows.{valueWidth, bindingWidth, availabilityWidth, entryWidth, padded, bindingRow, availabilityRow, entryRow, entryKey}
+use Rattle.record_table.specs.Search.{firstNumber, secondNumber, isAbove, isPair, Rising}
+use Rattle.local_projection_state.specs.Rows.{valueWidth, bindingWidth, availabilityWidth, entryWidth, padded, bindingRow, availabilityRow, entryRow}
 
 -- ---- widths
 
@@ -116,12 +116,30 @@ pub availability-key : (a : NodeAvailability) → FitsNodeAvailability a → lea
 unfolding availabilityRow availabilityKey leadingNumbers
 availability-key a h = leading-number 8 (a .node) [] _ (h .node)
 
-pub entry-starts : (c k : ℕ) → U64 c → U64 k → (e : Entry) → FitsEntry e → startsWith (entryKey c k) (entryRow e) ≡ isEntry c k e
-unfolding entryRow entryKey isEntry
-entry-starts c k hc hk e h =
-    starts-number 8 (e .collection) c (u64 k) (u64 (e .key) ++ padded (e .value)) (h .collection) hc
-    ∙ ap (λ t. eqb (e .collection) c && t) (starts-last 8 (e .key) k (padded (e .value)) (h .key) hk)
+-- the numbers that an entry's row begins with
+module _ (e : Entry) (h : FitsEntry e) where
+  entry-collection : firstNumber (entryRow e) ≡ e .collection
+  unfolding entryRow
+  entry-collection = rw (take-at _ _ _ (length-littleEndian 8 (e .collection)), numberOf-littleEndian 8 (e .collection) (h .collection))
+
+  entry-key : secondNumber (entryRow e) ≡ e .key
+  unfolding entryRow
+  entry-key = rw (drop-at _ _ _ (length-littleEndian 8 (e .collection)), take-at _ _ _ (length-littleEndian 8 (e .key)), numberOf-littleEndian 8 (e .key) (h .key))
+
+pub entry-pair : (c k : ℕ) (e : Entry) → FitsEntry e → isPair c k (entryRow e) ≡ isEntry c k e
+unfolding isEntry
+entry-pair c k e h = ap₂ (λ x y. eqb x c && eqb y k) (entry-collection e h) (entry-key e h)
 
 pub entry-above : (c : ℕ) (e : Entry) → FitsEntry e → isAbove c (entryRow e) ≡ isLater c e
-unfolding entryRow isLater
-entry-above c e h = rw (take-at _ _ _ (length-littleEndian 8 (e .collection)), numberOf-littleEndian 8 (e .collection) (h .collection))
+unfolding isLater
+entry-above c e h = ap (λ x. ltb c x) (entry-collection e h)
+
+-- rows of grouped entries rise by their collections
+behind-rows : (x : Entry) → FitsEntry x → (es : List Entry) → All FitsEntry es → All (Behind x) es → All (λ later. firstNumber (entryRow x) ≤ firstNumber later) (map entryRow es)
+behind-rows x h [] fit behind = tt
+behind-rows x h (e ∷ es) fit behind =
+    (omega (arith, entry-collection x h, entry-collection e (fit .0), behind .0 .collection), behind-rows x h es (fit .1) (behind .1))
+
+pub entries-rising : (es : List Entry) → All FitsEntry es → Grouped es → Rising (map entryRow es)
+entries-rising [] fit grouped = tt
+entries-rising (e ∷ es) fit grouped = (behind-rows e (fit .0) es (fit .1) (grouped .0), entries-rising es (fit .1) (grouped .1))

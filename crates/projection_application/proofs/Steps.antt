@@ -15,25 +15,24 @@ use Rattle.projection_replay.specs.declared.ReplayRun.the-variants as run
 use Rattle.projection_application.specs.Application.{StepsBecame}
 use Rattle.projection_application.specs.declared.ProjectionOutcome.the-variants.{Applied, Refused}
 
--- where the run ended, and what is stored then
-abbrev pub Last : (ℕ → Type 0) → List ℕ → List ℕ → List ℕ → ℕ → ProjectionCounts → Projection → Type 0
-Last Here b a e end n q = Here end × StoredTables n b a e q
+-- what is stored where the run ended
+abbrev pub Last : List ℕ → List ℕ → List ℕ → ℕ → ProjectionCounts → Projection → Type 0
+Last b a e end n q = StoredTables n b a e q
 
-module _ (Here : ℕ → Type 0) (b a e : List ℕ) {r : ReplayRun} (x : Outcome) where
-  pub run-applied : (end : ℕ) (n : ProjectionCounts) → r ≡ run.At end n → RunBecame (Last Here b a e) r x
-      → StepsBecame (record { counts = n; bindings = b; availability = a; entries = e }) Applied x
-  run-applied end n is h = go x (subst (λ z. RunBecame (Last Here b a e) z x) is h)
+module _ (b a e : List ℕ) {r : ReplayRun} (x : Outcome) where
+  pub run-applied : (end : ℕ) (n : ProjectionCounts) → r ≡ run.At end n → RunBecame (Last b a e) r x → StepsBecame (record { counts = n; bindings = b; availability = a; entries = e }) Applied x
+  run-applied end n is h = go x (subst (λ z. RunBecame (Last b a e) z x) is h)
     where
-      go : (x : Outcome) → RunBecame (Last Here b a e) (run.At end n) x → StepsBecame (record { counts = n; bindings = b; availability = a; entries = e }) Applied x
-      go (done q) h = h .1
-      go (stopped f) h = h
-
-  pub run-refused : (state : LocalProjectionState) (fault : LocalProjectionApplicationError) → r ≡ run.Refused fault → RunBecame (Last Here b a e) r x → StepsBecame state (Refused fault) x
-  run-refused state fault is h = go x (subst (λ z. RunBecame (Last Here b a e) z x) is h)
-    where
-      go : (x : Outcome) → RunBecame (Last Here b a e) (run.Refused fault) x → StepsBecame state (Refused fault) x
+      go : (x : Outcome) → RunBecame (Last b a e) (run.At end n) x → StepsBecame (record { counts = n; bindings = b; availability = a; entries = e }) Applied x
       go (done q) h = h
       go (stopped f) h = h
 
-  pub run-reads : (fault : ProjectionPatchReadFault) → r ≡ run.Unreadable fault → RunBecame (Last Here b a e) r x → ⊥
-  run-reads fault is h = subst (λ z. RunBecame (Last Here b a e) z x) is h
+  pub run-refused : (state : LocalProjectionState) (fault : LocalProjectionApplicationError) → r ≡ run.Refused fault → RunBecame (Last b a e) r x → StepsBecame state (Refused fault) x
+  run-refused state fault is h = go x (subst (λ z. RunBecame (Last b a e) z x) is h)
+    where
+      go : (x : Outcome) → RunBecame (Last b a e) (run.Refused fault) x → StepsBecame state (Refused fault) x
+      go (done q) h = h
+      go (stopped f) h = h
+
+  pub run-reads : (fault : ProjectionPatchReadFault) → r ≡ run.Unreadable fault → RunBecame (Last b a e) r x → ⊥
+  run-reads fault is h = subst (λ z. RunBecame (Last b a e) z x) is h

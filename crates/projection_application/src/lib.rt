@@ -1,18 +1,17 @@
 // A set applied to a state, whole or not at all. After crates/prom-ui/src/local_projection_state.rs.
 ghost use mathlib.Core.Path.{_≡_};
 ghost use mathlib.Core.List.{List};
-ghost use Prim.Native.Nat.{_≤_};
-ghost use lib.ListN.{length};
 ghost use Rattle.spec_patch.specs.Patch.{Patch};
 ghost use Rattle.spec_patch.specs.Edition.{v1};
 ghost use Rattle.spec_patch.specs.Read.{patches, readSet};
 ghost use Rattle.spec_projection.specs.Projection.{Projection};
 ghost use Rattle.spec_projection.specs.Apply.{replaySteps, applySteps};
-ghost use Rattle.projection_patch_sets.specs.Walk.{AtPatches};
-ghost use Rattle.local_projection_state.specs.Stores.{Stores};
+ghost use Rattle.local_projection_state.specs.Stores.{StoredTables, Stores};
+ghost use Rattle.projection_replay.specs.Replay.{RunBecame};
 ghost use Rattle.projection_application.specs.Application.{applySet, outcomeNumber, StepsBecame, SetBecame, KeptUnlessApplied};
 use binding_tables::LocalProjectionApplicationError;
 use local_projection_state::LocalProjectionState;
+use local_projection_state::ProjectionCounts;
 use patch_quick_check::quick_set;
 use patch_quick_check::quick_set::QuickCheck;
 use projection_patch::read_values::CountRead;
@@ -47,15 +46,35 @@ pub struct ProjectionApplication {
     pub outcome: ProjectionOutcome,
 }
 
-// Applies count patches, the first of them at from, to a copy of the state.
-fn apply_patches(
-    state: LocalProjectionState,
+// Applies all operations of a set that is known to be readable to the lent tables.
+pub fn replay_readable(
+    bindings: &mut [u8],
+    availability: &mut [u8],
+    entries: &mut [u8],
+    counts: ProjectionCounts,
     set: &[u8],
-    from: usize,
-    count: usize,
-) -> ProjectionApplication
-    requires { ⌜ from ≤ length (now set) ⌝ }
-    ensures steps { λ r. ⌜ ((ps : List Patch) (p : Projection) → AtPatches (now (set .entry)) from ps → length ps ≡ count → Stores state p
+) -> ReplayRun
+    ensures { λ r. ⌜ ((ps : List Patch) (p : Projection) → readSet v1 (now (set .entry)) ≡ patches ps
+        → StoredTables counts (now (bindings .entry)) (now (availability .entry)) (now (entries .entry)) p
+        → RunBecame (λ end n q. StoredTables n (now (bindings .exit)) (now (availability .exit)) (now (entries .exit)) q) r (applySteps p (replaySteps ps))) ⌝ }
+{
+    match projection_patch_sets::read_heading(set) {
+        CountRead::Read(count, from) => projection_replay::replay_patches(
+            bindings,
+            availability,
+            entries,
+            counts,
+            set,
+            from,
+            count,
+        ),
+        CountRead::Refused(fault) => ReplayRun::Unreadable(fault),
+    }
+}
+
+// Applies all operations of a readable set to a copy of the state's tables. The first that fails hands the state back as it came.
+fn apply_readable(state: LocalProjectionState, set: &[u8]) -> ProjectionApplication
+    ensures steps { λ r. ⌜ ((ps : List Patch) (p : Projection) → readSet v1 (now (set .entry)) ≡ patches ps → Stores state p
         → StepsBecame (r .state) (r .outcome) (applySteps p (replaySteps ps))) ⌝ }
     ensures kept { λ r. ⌜ KeptUnlessApplied state (r .state) (r .outcome) ⌝ }
 {
@@ -63,15 +82,7 @@ fn apply_patches(
     let mut bindings = state.bindings;
     let mut availability = state.availability;
     let mut entries = state.entries;
-    match projection_replay::replay_patches(
-        &mut bindings,
-        &mut availability,
-        &mut entries,
-        counts,
-        set,
-        from,
-        count,
-    ) {
+    match replay_readable(&mut bindings, &mut availability, &mut entries, counts, set) {
         ReplayRun::At(_, held) => ProjectionApplication {
             state: LocalProjectionState {
                 counts: held,
@@ -86,21 +97,6 @@ fn apply_patches(
             outcome: ProjectionOutcome::Refused(error),
         },
         ReplayRun::Unreadable(fault) => ProjectionApplication {
-            state,
-            outcome: ProjectionOutcome::Unreadable(fault),
-        },
-    }
-}
-
-// Applies all operations of a set that is known to be readable. The first that fails hands the state back as it came.
-pub fn apply_readable(state: LocalProjectionState, set: &[u8]) -> ProjectionApplication
-    ensures steps { λ r. ⌜ ((ps : List Patch) (p : Projection) → readSet v1 (now (set .entry)) ≡ patches ps → Stores state p
-        → StepsBecame (r .state) (r .outcome) (applySteps p (replaySteps ps))) ⌝ }
-    ensures kept { λ r. ⌜ KeptUnlessApplied state (r .state) (r .outcome) ⌝ }
-{
-    match projection_patch_sets::read_heading(set) {
-        CountRead::Read(count, from) => apply_patches(state, set, from, count),
-        CountRead::Refused(fault) => ProjectionApplication {
             state,
             outcome: ProjectionOutcome::Unreadable(fault),
         },

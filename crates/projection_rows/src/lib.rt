@@ -2,21 +2,11 @@
 ghost use mathlib.Core.Path.{_≡_};
 ghost use Rattle.patch_part_writer.specs.Extent.{valueText, Within};
 ghost use Rattle.projection_patch.specs.Meaning.{valueOf, availabilityOf};
-ghost use Rattle.local_projection_state.specs.Rows.{bindingRow, availabilityRow, entryRow, entryKey};
+ghost use Rattle.local_projection_state.specs.Rows.{bindingRow, availabilityRow, entryRow};
 use local_projection_state::LocalProjectionState;
 use patch_part_writer::fields;
 use projection_patch::patch::ProjectionNodeAvailability;
 use projection_patch::patch::ProjectionPatchValue;
-
-// What the row of a collection's key begins with.
-pub fn entry_key(collection: u64, key: u64) -> [u8; 16]
-    ensures { λ r. ⌜ r ≡ entryKey collection key ⌝ }
-{
-    let mut bytes = [0u8; 16];
-    wire::write_u64_at(&mut bytes, 0, collection);
-    wire::write_u64_at(&mut bytes, 8, key);
-    bytes
-}
 
 pub fn entry_row(
     collection: u64,

@@ -1,10 +1,10 @@
-// The bytes that a record begins with, compared as a key and as little-endian numbers.
+// The little-endian numbers that a record begins with, read and compared.
 ghost use mathlib.Core.List.{[], _∷_};
 ghost use mathlib.Core.Path.{_≡_};
 ghost use Prim.Native.Nat.{_+_, _≤_};
 ghost use lib.ListN.{length};
 ghost use Rattle.spec_lists.specs.Bytes.{numberOf};
-ghost use Rattle.record_keys.specs.Keys.{startsWith, leadingNumbers, orderOf};
+ghost use Rattle.record_keys.specs.Keys.{leadingNumbers, orderOf};
 
 // How one key stands to another.
 pub enum Order {
@@ -42,47 +42,6 @@ pub fn number_of(part: &[u8]) -> u64
         return half_number(part);
     }
     half_number(&part[..4]) + half_number(&part[4..]) * 0x1_0000_0000
-}
-
-// Whether row begins with key, of fewer than eight bytes or more.
-fn same_bytes(row: &[u8], key: &[u8]) -> bool
-    requires { ⌜ length (now key) ≤ length (now row) ⌝ }
-    ensures { λ r. ⌜ r ≡ startsWith (now (key .entry)) (now (row .entry)) ⌝ }
-{
-    let mut i = 0;
-    while i < key.len() {
-        if row[i] != key[i] {
-            return false;
-        }
-        i += 1;
-    }
-    true
-}
-
-// Whether row begins with key, compared eight bytes at a time.
-fn same_start(row: &[u8], key: &[u8]) -> bool
-    requires { ⌜ length (now key) ≤ length (now row) ⌝ }
-    ensures { λ r. ⌜ r ≡ startsWith (now (key .entry)) (now (row .entry)) ⌝ }
-{
-    let mut i = 0;
-    while 8 <= key.len() - i {
-        let end = i + 8;
-        if number_of(&row[i..end]) != number_of(&key[i..end]) {
-            return false;
-        }
-        i = end;
-    }
-    same_bytes(&row[i..], &key[i..])
-}
-
-// Whether row begins with key; a shorter row does not.
-pub fn starts_with(row: &[u8], key: &[u8]) -> bool
-    ensures { λ r. ⌜ r ≡ startsWith (now (key .entry)) (now (row .entry)) ⌝ }
-{
-    if row.len() < key.len() {
-        return false;
-    }
-    same_start(row, key)
 }
 
 // How the two numbers that row begins with stand to id and second: eight bytes, and so many behind them.

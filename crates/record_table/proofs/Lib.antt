@@ -1,3 +1,4 @@
 pub mod Offsets
 pub mod Changes
+pub mod Moved
 pub mod Searches

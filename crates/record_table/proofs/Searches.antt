@@ -1,47 +1,29 @@
 -- What a search over the rows of a table has found at each turn, by the lent part that is the row.
-use mathlib.Core.Path.{_≡_, refl, ap, _∙_}
+use mathlib.Core.Path.{_≡_, refl, sym, ap, _∙_}
 use mathlib.Core.Bool.{Bool, true, false}
-use mathlib.Core.List.{List, [], _∷_}
+use mathlib.Core.List.{List, [], _∷_, _++_}
 use Prim.Native.Nat.{ℕ, _+_, _-_, _*_, _≤_, _<_}
 use native.Mathlib.Nat.{add-zero, zero-add}
 use native.Mathlib.Omega.{arith}
-use lib.ListN.{length, take, drop, getD, drop-of-length-le}
-use lib.Seq.{take-take}
+use lib.Dec.{ltb}
+use lib.ListN.{length, take, drop, getD, length-take, length-drop, drop-of-length-le}
+use lib.Seq.{take-take, take-add, drop-at, drop-drop}
+use borrow.Author.Tests.{ltb-true, ltb-false, eqb-true}
 use borrow.Rule.Slice.PartMut.{midOf}
-use Rattle.spec_lists.specs.Lists.{if_then_else_, All}
+use Rattle.spec_lists.specs.Lists.{if_then_else_}
+use Rattle.spec_lists.specs.ListLaws.{and-left}
 use Rattle.spec_lists.specs.Order.{lexLess}
 use Rattle.record_table.specs.Positions.{firstIndex}
-use Rattle.record_table.specs.PositionsLaws.{Passed, passed-more, passed-first, passed-all}
-use Rattle.record_table.specs.Table.{Wide, Holds}
-use Rattle.record_table.specs.TableLaws.{row-at, row-cons}
-use Rattle.record_keys.specs.Keys.{startsWith, orderOf}
-use Rattle.record_keys.specs.KeysLaws.{starts-long}
-use Rattle.record_table.specs.Search.{nextPlace, placeOf}
+use Rattle.record_table.specs.PositionsLaws.{firstIndex-le, first-passes}
+use Rattle.record_table.specs.Table.{Holds}
+use Rattle.record_table.specs.TableLaws.{fitting, row-at, row-cons}
+use Rattle.record_keys.specs.Keys.{orderOf}
+use Rattle.record_table.specs.Search.{firstNumber, isPair, Rising, Starts, nextPlace, placeOf}
+use Rattle.record_table.specs.SearchLaws.{rising-at}
 use Rattle.record_table.specs.declared.Place.{Place}
 use Rattle.record_table.specs.declared.Place.the-variants.{Taken, Before}
 use Rattle.record_keys.specs.declared.Order.the-variants.{Below, Same, Above}
-
--- no row begins with a key that is longer than it
-pub long-key : (w : ℕ) (key : List ℕ) (m : List (List ℕ)) → w < length key → All (Wide w) m → firstIndex (startsWith key) m ≡ length m
-unfolding firstIndex
-long-key w key [] h k = refl
-long-key w key (r ∷ m) h k = rw (starts-long key r (omega (arith, k .0)), long-key w key m h (k .1))
-
--- ---- the first row that passes a test
-
-module _ {w n : ℕ} {l : List ℕ} (m : List (List ℕ)) (t : Holds w n l m) (test : List ℕ → Bool) (i : ℕ) (passed : Passed test i m) where
-  module _ (below : i < n) where
-    more : i < length m
-    more = omega (arith, t .counted)
-
-    pub search-more : test (getD m i []) ≡ false → Passed test (i + 1) m
-    search-more e = passed-more test m i [] more passed e
-
-    pub search-first : test (getD m i []) ≡ true → firstIndex test m ≡ i
-    search-first e = passed-first test m i [] more passed e
-
-  pub search-all : n ≤ i → i ≤ n → firstIndex test m ≡ length m
-  search-all past within = passed-all test m i (omega (arith, t .counted)) (omega (arith, t .counted)) passed
+use Rattle.record_table.proofs.Offsets.{end-le}
 
 -- the lent part that is the row's first eight bytes
 pub head-is : {w n : ℕ} {l : List ℕ} (m : List (List ℕ)) (t : Holds w n l m) (i : ℕ) → i < n → 8 ≤ w
@@ -49,6 +31,44 @@ pub head-is : {w n : ℕ} {l : List ℕ} (m : List (List ℕ)) (t : Holds w n l 
 head-is {w} {n} {l} m t i below wide =
     let k : i * w + 8 - i * w ≡ 8 = omega arith in
     rw (k, ← row-at t i below, take-take)
+
+-- the lent part that is the eight bytes behind these
+pub second-is : {w n : ℕ} {l : List ℕ} (m : List (List ℕ)) (t : Holds w n l m) (i : ℕ) → i < n → 16 ≤ w
+    → midOf (i * w + 8) (i * w + 8 + 8 - (i * w + 8)) l ≡ take 8 (drop 8 (getD m i []))
+second-is {w} {n} {l} m t i below wide =
+    let k : i * w + 8 + 8 - (i * w + 8) ≡ 8 = omega arith in
+    let whole : w ≡ 8 + (w - 8) = omega arith in
+    let more : 8 ≤ w - 8 = omega arith in
+    let front : length (take 8 (drop (i * w) l)) ≡ 8 = simp (length-take, length-drop) (omega (arith, fitting t, end-le w i n below)) in
+    let row : getD m i [] ≡ take 8 (drop (i * w) l) ++ take (w - 8) (drop 8 (drop (i * w) l)) = sym (row-at t i below) ∙ ap (λ (j : ℕ). take j (drop (i * w) l)) whole ∙ take-add 8 (w - 8) (drop (i * w) l) in
+    rw (k, row, drop-at _ _ 8 front, take-take, drop-drop)
+
+-- ---- two numbers, in rows that rise by the first
+
+module _ (m : List (List ℕ)) (rising : Rising m) (id second : ℕ) where
+  pair-id : firstIndex (isPair id second) m < length m → firstNumber (getD m (firstIndex (isPair id second) m) []) ≡ id
+  pair-id some = eqb-true _ id (and-left _ _ (first-passes (isPair id second) m [] some))
+
+  module _ (start : ℕ) (starts : Starts id start m) where
+    -- the search begins where the id's rows begin
+    pub pair-start : start ≤ length m → start ≤ firstIndex (isPair id second) m
+    pair-start within = go (ltb (firstIndex (isPair id second) m) start) refl
+      where
+        go : (t : Bool) → ltb (firstIndex (isPair id second) m) start ≡ t → start ≤ firstIndex (isPair id second) m
+        go true e =
+            let h = ltb-true (firstIndex (isPair id second) m) start e in
+            absurd (omega (arith, pair-id (omega arith), starts .below (firstIndex (isPair id second) m) h))
+        go false e = ltb-false (firstIndex (isPair id second) m) start e
+
+    -- and ends behind them
+    pub pair-gone : (i : ℕ) → start ≤ i → i < length m → i ≤ firstIndex (isPair id second) m → (firstNumber (getD m i []) ≡ id → ⊥) → firstIndex (isPair id second) m ≡ length m
+    pair-gone i behind below passed other = go (ltb (firstIndex (isPair id second) m) (length m)) refl
+      where
+        go : (t : Bool) → ltb (firstIndex (isPair id second) m) (length m) ≡ t → firstIndex (isPair id second) m ≡ length m
+        go true e =
+            let h = ltb-true (firstIndex (isPair id second) m) (length m) e in
+            absurd (other (omega (arith, pair-id h, starts .from i behind below, rising-at m rising i (firstIndex (isPair id second) m) passed h)))
+        go false e = omega (arith, ltb-false (firstIndex (isPair id second) m) (length m) e, firstIndex-le (isPair id second) m)
 
 -- ---- the place of a key
 

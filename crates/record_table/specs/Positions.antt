@@ -17,6 +17,10 @@ removeAt i l = take i l ++ drop (i + 1) l
 abbrev pub replaceAt : {A : Type 0} → ℕ → A → List A → List A
 replaceAt i a l = take i l ++ a ∷ drop (i + 1) l
 
+-- without the element at from, and with a to stand at to
+abbrev pub moveAt : {A : Type 0} → ℕ → ℕ → A → List A → List A
+moveAt from to a l = insertAt to a (removeAt from l)
+
 -- the position of the first element that passes the test, or the length where none does
 unfoldable pub firstIndex : {A : Type 0} → (A → Bool) → List A → ℕ
 firstIndex test [] = zero

@@ -1,12 +1,13 @@
 -- Laws of positions: what the first element that passes a test is in a part, under a map, and to a function that goes by it.
 use Prim.Native.Nat.{ℕ, zero, suc, _+_, _≤_, _<_}
-use mathlib.Core.Path.{_≡_, refl, ap, _∙_}
-use mathlib.Core.Bool.{Bool, true, false, _||_}
+use mathlib.Core.Path.{_≡_, refl, sym, ap, _∙_}
+use mathlib.Core.Bool.{Bool, true, false, false≢true, _||_}
 use mathlib.Core.List.{List, [], _∷_, map, map-append}
 use native.Mathlib.Numerals.{add-one}
 use native.Mathlib.Omega.{arith}
-use lib.ListN.{length, take, drop, getD, length-drop}
-use lib.Seq.{drop-cons}
+use borrow.Author.Tests.{ltb-true, ltb-false}
+use lib.Dec.{ltb}
+use lib.ListN.{length, take, drop, getD}
 use Rattle.spec_lists.specs.Lists.{if_then_else_, any, All}
 use Rattle.record_table.specs.Positions.{insertAt, removeAt, replaceAt, firstIndex}
 
@@ -50,6 +51,28 @@ module _ {A : Type 0} (test : A → Bool) where
       go true h = omega arith
       go false h = omega arith
 
+  -- the first that passes does, and none before it
+  pub first-passes : (l : List A) (d : A) → firstIndex test l < length l → test (getD l (firstIndex test l) d) ≡ true
+  unfolding firstIndex
+  first-passes [] d h = absurd (omega arith)
+  first-passes (x ∷ l) d h = go (test x) refl (first-passes l d) h
+    where
+      go : (t : Bool) → test x ≡ t → (firstIndex test l < length l → test (getD l (firstIndex test l) d) ≡ true)
+          → (if t then zero else suc (firstIndex test l)) < suc (length l)
+          → test (getD (x ∷ l) (if t then zero else suc (firstIndex test l)) d) ≡ true
+      go true e ih h = e
+      go false e ih h = ih (omega arith)
+
+  pub first-le : (l : List A) (i : ℕ) (d : A) → i < length l → test (getD l i d) ≡ true → firstIndex test l ≤ i
+  unfolding firstIndex
+  first-le [] i d h e = absurd (omega arith)
+  first-le (x ∷ l) zero d h e = rw e (omega arith)
+  first-le (x ∷ l) (suc i) d h e = go (test x) (first-le l i d (omega arith) e)
+    where
+      go : (t : Bool) → firstIndex test l ≤ i → (if t then zero else suc (firstIndex test l)) ≤ suc i
+      go true k = omega arith
+      go false k = omega arith
+
   -- some element passes exactly where the first is one of them
   pub any-lt : (l : List A) → any test l ≡ true → firstIndex test l < length l
   unfolding firstIndex
@@ -69,31 +92,20 @@ module _ {A : Type 0} (test : A → Bool) where
       go true ih h = cc
       go false ih h = ap suc (ih h)
 
-  -- what is first from position i on, by the element there
-  first-from : (l : List A) (i : ℕ) (d : A) → i < length l → firstIndex test (drop i l) ≡ (if test (getD l i d) then zero else suc (firstIndex test (drop (i + 1) l)))
-  unfolding firstIndex
-  first-from l i d h = rw (add-one, drop-cons l i d)
+  -- a search that has come to position i: none before it passes
+  module _ (l : List A) (i : ℕ) (d : A) (below : i < length l) (passed : i ≤ firstIndex test l) where
+    pub first-here : test (getD l i d) ≡ true → firstIndex test l ≡ i
+    first-here e = omega (arith, first-le l i d below e)
 
-  -- no element before position i passes
-  abbrev pub Passed : ℕ → List A → Type 0
-  Passed i l = firstIndex test l ≡ i + firstIndex test (drop i l)
-
-  pub passed-none : (l : List A) → Passed 0 l
-  passed-none l = omega arith
-
-  module _ (l : List A) (i : ℕ) (d : A) (below : i < length l) (passed : Passed i l) where
-    pub passed-more : test (getD l i d) ≡ false → Passed (i + 1) l
-    passed-more e =
-        let h : firstIndex test (drop i l) ≡ suc (firstIndex test (drop (i + 1) l)) = first-from l i d below ∙ rw e in
-        omega arith
-
-    pub passed-first : test (getD l i d) ≡ true → firstIndex test l ≡ i
-    passed-first e =
-        let h : firstIndex test (drop i l) ≡ 0 = first-from l i d below ∙ rw e in
-        omega arith
-
-  pub passed-all : (l : List A) (i : ℕ) → length l ≤ i → i ≤ length l → Passed i l → firstIndex test l ≡ length l
-  passed-all l i past within passed = omega (arith, firstIndex-le (drop i l), length-drop i l)
+    pub first-more : test (getD l i d) ≡ false → i + 1 ≤ firstIndex test l
+    first-more e = go (ltb i (firstIndex test l)) refl
+      where
+        go : (t : Bool) → ltb i (firstIndex test l) ≡ t → i + 1 ≤ firstIndex test l
+        go true f = omega (arith, ltb-true i (firstIndex test l) f)
+        go false f =
+            let same : firstIndex test l ≡ i = omega (arith, ltb-false i (firstIndex test l) f) in
+            let some : firstIndex test l < length l = omega arith in
+            absurd (false≢true (sym e ∙ ap (λ k. test (getD l k d)) (sym same) ∙ first-passes l d some))
 
 -- ---- functions that go through a list to the first element that passes a test
 

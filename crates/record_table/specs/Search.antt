@@ -1,10 +1,10 @@
 -- Searches in a list: for the first element that passes a test, and for the place of a key.
 use Prim.Native.Nat.{ℕ, zero, suc, _≤_, _<_}
-use mathlib.Core.Bool.{Bool}
+use mathlib.Core.Bool.{Bool, _&&_}
 use mathlib.Core.List.{List, [], _∷_}
-use lib.Dec.{ltb}
-use lib.ListN.{length, take}
-use Rattle.spec_lists.specs.Lists.{if_then_else_}
+use lib.Dec.{ltb, eqb}
+use lib.ListN.{length, take, drop, getD}
+use Rattle.spec_lists.specs.Lists.{if_then_else_, All}
 use Rattle.spec_lists.specs.Bytes.{numberOf}
 use Rattle.spec_lists.specs.Order.{lexLess}
 use Rattle.record_table.specs.Positions.{insertAt, replaceAt, firstIndex}
@@ -13,9 +13,31 @@ use Rattle.record_table.specs.declared.Found.the-variants.{At, Absent}
 use Rattle.record_table.specs.declared.Place.{Place}
 use Rattle.record_table.specs.declared.Place.the-variants.{Taken, Before}
 
--- the number of eight bytes that a row begins with is above the id
+-- ---- the numbers of eight bytes that a row begins with
+
+abbrev pub firstNumber : List ℕ → ℕ
+firstNumber row = numberOf (take 8 row)
+
+abbrev pub secondNumber : List ℕ → ℕ
+secondNumber row = numberOf (take 8 (drop 8 row))
+
+-- the first number is above the id
 abbrev pub isAbove : ℕ → List ℕ → Bool
-isAbove id row = ltb id (numberOf (take 8 row))
+isAbove id row = ltb id (firstNumber row)
+
+-- the numbers are these two
+abbrev pub isPair : ℕ → ℕ → List ℕ → Bool
+isPair id second row = eqb (firstNumber row) id && eqb (secondNumber row) second
+
+-- no row's first number is below that of an earlier row
+abbrev pub Rising : List (List ℕ) → Type 0
+Rising [] = Unit {0}
+Rising (row ∷ rows) = All (λ later. firstNumber row ≤ firstNumber later) rows × Rising rows
+
+-- the rows from a position on are those whose first number is not below the id
+pub record Starts (id at : ℕ) (rows : List (List ℕ)) : Type 0 where
+  pub below : (i : ℕ) → i < at → firstNumber (getD rows i []) < id
+  pub from : (i : ℕ) → at ≤ i → i < length rows → id ≤ firstNumber (getD rows i [])
 
 -- ---- the first element that passes a test
 

@@ -1,21 +1,21 @@
 -- Laws of searches: what an answer says, under a map, and how a place serves `upsert`.
-use Prim.Native.Nat.{ℕ, zero, _<_}
+use Prim.Native.Nat.{ℕ, zero, suc, _-_, _≤_, _<_}
 use mathlib.Core.Path.{_≡_, refl, ap}
 use mathlib.Core.Bool.{Bool, true, false}
 use mathlib.Core.List.{List, [], _∷_, map}
 use native.Mathlib.Numerals.{add-one}
 use native.Mathlib.Omega.{arith}
 use lib.Dec.{ltb}
-use lib.ListN.{length, length-map}
+use lib.ListN.{length, getD, length-map}
 use borrow.Author.Tests.{lt-ltb, le-ltb, ltb-true, ltb-false}
 use Rattle.spec_lists.specs.Lists.{if_then_else_, any, All}
-use Rattle.spec_lists.specs.ListLaws.{all-map}
+use Rattle.spec_lists.specs.ListLaws.{all-map, all-member, getD-member}
 use Rattle.spec_lists.specs.Bytes.{numberOf}
 use Rattle.spec_lists.specs.Order.{lexLess, upsert}
 use Rattle.record_table.specs.Positions.{firstIndex}
-use Rattle.record_table.specs.PositionsLaws.{firstIndex-map, any-lt, any-none, map-insertAt, map-replaceAt}
+use Rattle.record_table.specs.PositionsLaws.{firstIndex-map, firstIndex-le, first-passes, first-le, any-lt, any-none, map-insertAt, map-replaceAt}
 use Rattle.record_keys.specs.Keys.{leadingNumbers}
-use Rattle.record_table.specs.Search.{findFirst, nextPlace, placeOf, upsertAt}
+use Rattle.record_table.specs.Search.{firstNumber, isAbove, Rising, Starts, findFirst, nextPlace, placeOf, upsertAt}
 use Rattle.record_table.specs.declared.Found.the-variants.{At, Absent}
 use Rattle.record_table.specs.declared.Place.{Place}
 use Rattle.record_table.specs.declared.Place.the-variants.{Taken, Before}
@@ -58,6 +58,43 @@ module _ {A : Type 0} (test : A → Bool) (l : List A) where
 pub find-map : {A B : Type 0} (f : A → B) (test : B → Bool) (own : A → Bool) (l : List A) → All (λ x. test (f x) ≡ own x) l → findFirst test (map f l) ≡ findFirst own l
 unfolding findFirst
 find-map f test own l h = rw (firstIndex-map f test own l h, length-map)
+
+-- ---- rows that rise by their first number
+
+pub rising-at : (rows : List (List ℕ)) → Rising rows → (i j : ℕ) → i ≤ j → j < length rows → firstNumber (getD rows i []) ≤ firstNumber (getD rows j [])
+rising-at [] h i j order below = absurd (omega arith)
+rising-at (row ∷ rows) h zero zero order below = omega arith
+rising-at (row ∷ rows) h zero (suc j) order below = all-member (λ later. firstNumber row ≤ firstNumber later) rows (h .0) (getD-member rows j [] (omega arith))
+rising-at (row ∷ rows) h (suc i) zero order below = absurd (omega arith)
+rising-at (row ∷ rows) h (suc i) (suc j) order below = rising-at rows (h .1) i j (omega arith) (omega arith)
+
+module _ (rows : List (List ℕ)) (rising : Rising rows) where
+  -- the rows above the id follow all others
+  pub above-later : (id i : ℕ) → i < length rows → firstNumber (getD rows i []) ≤ id → i < firstIndex (isAbove id) rows
+  above-later id i below h = go (ltb i (firstIndex (isAbove id) rows)) refl
+    where
+      go : (t : Bool) → ltb i (firstIndex (isAbove id) rows) ≡ t → i < firstIndex (isAbove id) rows
+      go true e = ltb-true i (firstIndex (isAbove id) rows) e
+      go false e =
+          let k : firstIndex (isAbove id) rows ≤ i = ltb-false i (firstIndex (isAbove id) rows) e in
+          let passes = first-passes (isAbove id) rows [] (omega arith) in
+          absurd (omega (arith, ltb-true id _ passes, rising-at rows rising (firstIndex (isAbove id) rows) i k below))
+
+  pub starts-above : (id : ℕ) → 0 < id → Starts id (firstIndex (isAbove (id - 1)) rows) rows
+  starts-above id some =
+      record {
+        below = λ i h. below i h;
+        from = λ i h k.
+            let passes = first-passes (isAbove (id - 1)) rows [] (omega arith) in
+            omega (arith, ltb-true (id - 1) _ passes, rising-at rows rising (firstIndex (isAbove (id - 1)) rows) i h k);
+      }
+    where
+      below : (i : ℕ) → i < firstIndex (isAbove (id - 1)) rows → firstNumber (getD rows i []) < id
+      below i h = go (ltb (id - 1) (firstNumber (getD rows i []))) refl
+        where
+          go : (t : Bool) → ltb (id - 1) (firstNumber (getD rows i [])) ≡ t → firstNumber (getD rows i []) < id
+          go true e = absurd (omega (arith, first-le (isAbove (id - 1)) rows i [] (omega (arith, firstIndex-le (isAbove (id - 1)) rows)) e))
+          go false e = omega (arith, ltb-false (id - 1) (firstNumber (getD rows i [])) e)
 
 -- ---- places
 

@@ -36,6 +36,10 @@ canRemove size width count at = ltb at count && leb (count * width) size
 unfoldable pub canReplace : (size width count at : ℕ) → List ℕ → Bool
 canReplace size width count at row = ltb at count && (eqb (length row) width && leb (count * width) size)
 
+-- there are such rows, and the new one is as wide
+unfoldable pub canMove : (size width count from to : ℕ) → List ℕ → Bool
+canMove size width count from to row = ltb from count && (ltb to count && (eqb (length row) width && leb (count * width) size))
+
 -- what a change of a table answers, and what the table is afterwards: it is made where it can be, and nothing changes otherwise
 pub record Changed (width count newCount : ℕ) (change : List (List ℕ) → List (List ℕ)) (can : Bool) (entry exit : List ℕ) (answer : Bool) : Type 0 where
   pub told : answer ≡ can

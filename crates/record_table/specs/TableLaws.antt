@@ -12,7 +12,7 @@ use borrow.Author.Tests.{le-leb, lt-leb, lt-ltb, eq-eqb}
 use Rattle.spec_lists.specs.Lists.{All}
 use Rattle.spec_lists.specs.ListLaws.{all-append, all-take, all-drop}
 use Rattle.byte_moves.specs.Moves.{zeros}
-use Rattle.record_table.specs.Table.{Wide, tableBytes, Holds, canInsert, canRemove, canReplace}
+use Rattle.record_table.specs.Table.{Wide, tableBytes, Holds, canInsert, canRemove, canReplace, canMove}
 
 -- ---- rows one after the other
 
@@ -135,6 +135,10 @@ module _ {w n : ℕ} {l : List ℕ} {m : List (List ℕ)} (t : Holds w n l m) (a
   pub can-replace : (row : List ℕ) → at < n → length row ≡ w → canReplace (length l) w n at row ≡ true
   unfolding canReplace
   can-replace row h e = rw (lt-ltb at n h, eq-eqb (length row) w e, le-leb (n * w) (length l) (fitting t))
+
+  pub can-move : (to : ℕ) (row : List ℕ) → at < n → to < n → length row ≡ w → canMove (length l) w n at to row ≡ true
+  unfolding canMove
+  can-move to row h k e = rw (lt-ltb at n h, lt-ltb to n k, eq-eqb (length row) w e, le-leb (n * w) (length l) (fitting t))
 
   pub can-insert : (row : List ℕ) → at ≤ n → length row ≡ w → n * w + w ≤ length l → canInsert (length l) w n at row ≡ true
   unfolding canInsert

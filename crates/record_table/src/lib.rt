@@ -5,10 +5,10 @@ ghost use mathlib.Core.List.{List, [], _∷_};
 ghost use mathlib.Core.Path.{_≡_};
 ghost use Prim.Native.Nat.{ℕ, _+_, _-_, _*_, _≤_, _<_};
 ghost use lib.ListN.{length, getD};
-ghost use Rattle.record_table.specs.Positions.{insertAt, removeAt, replaceAt, firstIndex};
-ghost use Rattle.record_table.specs.Table.{Holds, Changed, canInsert, canRemove, canReplace};
-ghost use Rattle.record_keys.specs.Keys.{startsWith, leadingNumbers};
-ghost use Rattle.record_table.specs.Search.{isAbove, findFirst, Within, placeOf, PlaceWithin};
+ghost use Rattle.record_table.specs.Positions.{insertAt, removeAt, replaceAt, moveAt, firstIndex};
+ghost use Rattle.record_table.specs.Table.{Holds, Changed, canInsert, canRemove, canReplace, canMove};
+ghost use Rattle.record_keys.specs.Keys.{leadingNumbers};
+ghost use Rattle.record_table.specs.Search.{isAbove, isPair, Rising, Starts, findFirst, Within, placeOf, PlaceWithin};
 
 // The position of a record, if there is one.
 pub enum Found {
@@ -83,6 +83,44 @@ pub fn replace_record(table: &mut [u8], width: usize, count: usize, at: usize, r
     true
 }
 
+// Takes the record at position `from` out, and inserts row to stand at position `to`. Only the bytes from the one position
+// to the other are moved. Answers whether there are such positions, and row is one record wide.
+pub fn move_record(
+    table: &mut [u8],
+    width: usize,
+    count: usize,
+    from: usize,
+    to: usize,
+    row: &[u8],
+) -> bool
+    requires { ⌜ 0 < width ⌝ }
+    ensures { λ r. ⌜ Changed width count count (moveAt from to (now (row .entry)))
+        (canMove (length (now (table .entry))) width count from to (now (row .entry))) (now (table .entry)) (now (table .exit)) r ⌝ }
+{
+    if count <= from {
+        return false;
+    }
+    if count <= to {
+        return false;
+    }
+    if row.len() != width {
+        return false;
+    }
+    if table.len() / width < count {
+        return false;
+    }
+    if from < to {
+        let start = from * width;
+        let end = to * width + width;
+        byte_moves::push_back(&mut table[start..end], row);
+    } else {
+        let start = to * width;
+        let end = from * width + width;
+        byte_moves::push_front(&mut table[start..end], row);
+    }
+    true
+}
+
 // The record at position `at`, or no bytes where there is none.
 pub fn record_at(table: &[u8], width: usize, count: usize, at: usize) -> &[u8]
     requires { ⌜ 0 < width ⌝ }
@@ -100,52 +138,69 @@ pub fn record_at(table: &[u8], width: usize, count: usize, at: usize) -> &[u8]
     &table[start..stop]
 }
 
-// The first record that begins with key.
-pub fn find_record(table: &[u8], width: usize, count: usize, key: &[u8]) -> Found
-    requires { ⌜ 0 < width ⌝ }
-    ensures first { λ r. ⌜ ((rows : List (List ℕ)) → Holds width count (now (table .entry)) rows
-        → r ≡ findFirst (startsWith (now (key .entry))) rows) ⌝ }
-    ensures within { λ r. ⌜ Within count r ⌝ }
-{
-    if width < key.len() {
-        return Found::Absent;
-    }
-    if table.len() / width < count {
-        return Found::Absent;
-    }
-    let mut at = 0;
-    while at < count {
-        let from = at * width;
-        let end = from + width;
-        if record_keys::starts_with(&table[from..end], key) {
-            return Found::At(at);
-        }
-        at += 1;
-    }
-    Found::Absent
-}
-
-// The position of the first record whose number is above id, or the count: where a record of that id goes to stand last
-// among those of the same id.
+// The position of the first record whose first number is above id, or the count, in a table that rises by it: where a
+// record of that id goes to stand last among those of the same id.
 pub fn find_above(table: &[u8], width: usize, count: usize, id: u64) -> usize
     requires { ⌜ 8 ≤ width ⌝ }
-    ensures first { λ r. ⌜ ((rows : List (List ℕ)) → Holds width count (now (table .entry)) rows
+    ensures first { λ r. ⌜ ((rows : List (List ℕ)) → Holds width count (now (table .entry)) rows → Rising rows
         → r ≡ firstIndex (isAbove id) rows) ⌝ }
     ensures within { λ r. ⌜ r ≤ count ⌝ }
 {
     if table.len() / width < count {
         return count;
     }
-    let mut i = 0;
-    while i < count {
-        let from = i * width;
+    let mut low = 0;
+    let mut high = count;
+    while low < high {
+        let middle = low + (high - low) / 2;
+        let from = middle * width;
         let end = from + 8;
         if id < record_keys::number_of(&table[from..end]) {
-            return i;
+            high = middle;
+        } else {
+            low = middle + 1;
         }
-        i += 1;
     }
-    count
+    low
+}
+
+// The position of the first record whose first number is not below id, or the count, in a table that rises by it.
+fn find_start(table: &[u8], width: usize, count: usize, id: u64) -> usize
+    requires { ⌜ 8 ≤ width ⌝ }
+    ensures start { λ r. ⌜ ((rows : List (List ℕ)) → Holds width count (now (table .entry)) rows → Rising rows
+        → Starts id r rows) ⌝ }
+    ensures within { λ r. ⌜ r ≤ count ⌝ }
+{
+    if id == 0 {
+        return 0;
+    }
+    find_above(table, width, count, id - 1)
+}
+
+// The first record that begins with the numbers id and second, in a table that rises by the first.
+pub fn find_pair(table: &[u8], width: usize, count: usize, id: u64, second: u64) -> Found
+    requires { ⌜ 16 ≤ width ⌝ }
+    ensures first { λ r. ⌜ ((rows : List (List ℕ)) → Holds width count (now (table .entry)) rows → Rising rows
+        → r ≡ findFirst (isPair id second) rows) ⌝ }
+    ensures within { λ r. ⌜ Within count r ⌝ }
+{
+    if table.len() / width < count {
+        return Found::Absent;
+    }
+    let mut at = find_start(table, width, count, id);
+    while at < count {
+        let from = at * width;
+        let middle = from + 8;
+        let end = middle + 8;
+        if record_keys::number_of(&table[from..middle]) != id {
+            return Found::Absent;
+        }
+        if record_keys::number_of(&table[middle..end]) == second {
+            return Found::At(at);
+        }
+        at += 1;
+    }
+    Found::Absent
 }
 
 // The place of a record that begins with the number id and, behind it, the number second of so many bytes, in a table

@@ -82,24 +82,59 @@ fn replace_two_bytes() {
     );
 }
 
-// Present, absent, the first of two, a key as wide as a record and one that is wider, and no key; zeros that are unused
-// are not found, and a zero that is used is.
-fn find_two_bytes() {
-    let table = b"\x01\x02\x03\x04\x01\x06\x00\x00\x00\x00";
-    label(b"width 2, find\n");
-    found(record_table::find_record(table, 2, 3, b"\x03"));
-    found(record_table::find_record(table, 2, 3, b"\x01"));
-    found(record_table::find_record(table, 2, 3, b"\x01\x06"));
-    found(record_table::find_record(table, 2, 3, b"\x01\x04"));
-    found(record_table::find_record(table, 2, 3, b"\x01\x02\x03"));
-    found(record_table::find_record(table, 2, 3, b""));
-    found(record_table::find_record(table, 2, 0, b""));
-    found(record_table::find_record(table, 2, 3, b"\x00"));
-    found(record_table::find_record(table, 2, 3, b"\x00\x00"));
-    found(record_table::find_record(table, 2, 4, b"\x00\x00"));
-    found(record_table::find_record(table, 2, 6, b"\x01"));
-    row(record_table::record_at(table, 2, 3, 1));
-    row(record_table::record_at(table, 2, 3, 3));
+// To a later position, to an earlier one and to its own; there is no such position; too narrow; outside the table.
+fn move_two_bytes() {
+    let mut table = *b"\x01\x02\x03\x04\x05\x06\x07\x08\x00\x00";
+    label(b"width 2, move\n");
+    changed(
+        record_table::move_record(&mut table, 2, 4, 0, 2, b"\x01\x02"),
+        &table,
+    );
+    changed(
+        record_table::move_record(&mut table, 2, 4, 3, 1, b"\x07\x08"),
+        &table,
+    );
+    changed(
+        record_table::move_record(&mut table, 2, 4, 2, 2, b"\x09\x09"),
+        &table,
+    );
+    changed(
+        record_table::move_record(&mut table, 2, 4, 4, 0, b"\x09\x09"),
+        &table,
+    );
+    changed(
+        record_table::move_record(&mut table, 2, 4, 0, 4, b"\x09\x09"),
+        &table,
+    );
+    changed(
+        record_table::move_record(&mut table, 2, 4, 0, 1, b"\x09"),
+        &table,
+    );
+    changed(
+        record_table::move_record(&mut table, 2, 6, 0, 1, b"\x09\x09"),
+        &table,
+    );
+}
+
+// The pairs (0, 0), (1, 3), (1, 2) and (1, 2) again, and (256, 0): the second number does not rise. Present and absent,
+// the first of two; unused zeros are not found.
+fn find_pairs() {
+    let table =
+        b"\x00\x00\x00\x00\x00\x00\x00\x00\x00\x00\x00\x00\x00\x00\x00\x00\x01\x00\x00\x00\x00\x00\x00\x00\x03\x00\x00\x00\x00\x00\x00\x00\x01\x00\x00\x00\x00\x00\x00\x00\x02\x00\x00\x00\x00\x00\x00\x00\x01\x00\x00\x00\x00\x00\x00\x00\x02\x00\x00\x00\x00\x00\x00\x00\x00\x01\x00\x00\x00\x00\x00\x00\x00\x00\x00\x00\x00\x00\x00\x00";
+    label(b"width 16, find\n");
+    found(record_table::find_pair(table, 16, 5, 0, 0));
+    found(record_table::find_pair(table, 16, 0, 0, 0));
+    found(record_table::find_pair(table, 16, 5, 0, 2));
+    found(record_table::find_pair(table, 16, 5, 1, 2));
+    found(record_table::find_pair(table, 16, 5, 1, 3));
+    found(record_table::find_pair(table, 16, 5, 1, 0));
+    found(record_table::find_pair(table, 16, 5, 2, 2));
+    found(record_table::find_pair(table, 16, 5, 256, 0));
+    found(record_table::find_pair(table, 16, 4, 256, 0));
+    found(record_table::find_pair(table, 16, 5, 0xffff_ffff_ffff_ffff, 0));
+    found(record_table::find_pair(table, 16, 6, 0, 0));
+    row(record_table::record_at(table, 16, 5, 2));
+    row(record_table::record_at(table, 16, 5, 5));
 }
 
 // Numbers 1, 256 and 2^56, which ascend as numbers and not as bytes, and a byte behind each.
@@ -165,31 +200,12 @@ fn change_entries() {
 
 fn find_entries(table: &[u8]) {
     label(b"width 181, find\n");
-    found(record_table::find_record(
-        table,
-        181,
-        3,
-        b"\x09\x09\x09\x09\x09\x09\x09\x09\x09\x09\x09\x09\x09\x09\x09\x09",
-    ));
-    found(record_table::find_record(
-        table,
-        181,
-        3,
-        b"\x09\x09\x09\x09\x09\x09\x09\x09\x09\x09\x09\x09\x09\x09\x09\x01",
-    ));
-    found(record_table::find_record(
-        table,
-        181,
-        3,
-        b"\x0a\x09\x09\x09\x09\x09\x09\x09\x09\x09\x09\x09",
-    ));
-    found(record_table::find_record(table, 181, 3, b"\x09\x09\x09\x09\x09\x09\x09\x0a"));
-    found(record_table::find_record(
-        table,
-        181,
-        3,
-        b"\x00\x00\x00\x00\x00\x00\x00\x00\x00\x00\x00\x00\x00\x00\x00\x00",
-    ));
+    let nines = 0x0909_0909_0909_0909;
+    found(record_table::find_pair(table, 181, 3, nines, nines));
+    found(record_table::find_pair(table, 181, 3, nines, 0x0109_0909_0909_0909));
+    found(record_table::find_pair(table, 181, 3, 0x0909_0909_0909_090a, nines));
+    found(record_table::find_pair(table, 181, 3, 0x0a09_0909_0909_0909, nines));
+    found(record_table::find_pair(table, 181, 3, 0, 0));
 }
 
 fn order_entries(table: &[u8]) {
@@ -215,7 +231,8 @@ fn main() {
     insert_one_byte();
     remove_two_bytes();
     replace_two_bytes();
-    find_two_bytes();
+    move_two_bytes();
+    find_pairs();
     place_nine_bytes();
     place_pairs();
     change_entries();

@@ -4,12 +4,16 @@ use mathlib.Core.Path.{_≡_}
 use mathlib.Core.Bool.{true}
 use mathlib.Core.List.{List}
 use Rattle.spec_session.specs.Session.{Cursor, at, Session}
-use Rattle.spec_session.specs.Diagnostics.{SessionRefusal, noDiagnostics, diagnosticsOf}
+use Rattle.spec_session.specs.Diagnostics.{SessionRefusal, malformed, ofOperation, noDiagnostics, diagnosticsOf}
 use Rattle.spec_session.specs.Lifecycle.{Disposition, applied, noChange, rejected, LocalState}
 use Rattle.spec_session.specs.Batch.{BatchAnswer, BatchStep, Check, refuse, batch}
 use Rattle.shell_lifecycle.specs.Meaning.{limitsOf, lifecycleOf, cursorOf, diagnosticsMean}
 use Rattle.shell_lifecycle.specs.declared.state.ShellLocalState.{ShellLocalState}
 use Rattle.active_projection_target_catalog.specs.Catalog.{catalogueOf}
+use Rattle.local_projection_state.specs.declared.ProjectionCounts.{ProjectionCounts}
+use Rattle.binding_tables.specs.Change.{faultOf}
+use Rattle.projection_replay.specs.declared.ReplayRun.{ReplayRun}
+use Rattle.projection_replay.specs.declared.ReplayRun.the-variants.{At, Refused, Unreadable}
 use Rattle.shell_gates.specs.Gates.{envelopeMeans, preflightBy, countFits}
 use Rattle.shell_gates.specs.declared.gates.OrderedProjectionPatchBatchEnvelope.{OrderedProjectionPatchBatchEnvelope}
 use Rattle.shell_player.specs.declared.session.ActivatedShellSessionContext.{ActivatedShellSessionContext}
@@ -46,9 +50,25 @@ rejectedAt cap r n c = record { disposition = rejected; diagnostics = diagnostic
 abbrev pub answerAt : Disposition → Cursor → BatchAnswer
 answerAt d c = record { disposition = d; diagnostics = noDiagnostics; cursor = c }
 
+-- the answer of step 9, by what came of the operations
+unfoldable pub runAnswer : ℕ → Cursor → ℕ → ReplayRun → BatchAnswer
+runAnswer cap c n (At end counts) = answerAt applied (at n)
+runAnswer cap c n (Refused e) = rejectedAt cap (ofOperation (faultOf e)) 1 c
+runAnswer cap c n (Unreadable f) = rejectedAt cap malformed 1 c
+
+-- some operation was not applied
+abbrev pub Stopped : ReplayRun → Type 0
+Stopped (At end counts) = ⊥
+Stopped (Refused e) = Unit {0}
+Stopped (Unreadable f) = Unit {0}
+
 -- the state with its cursor at a number
 abbrev pub movedTo : LocalState → ℕ → LocalState
 movedTo t n = record { id = t .id; lifecycle = t .lifecycle; cursor = at n }
+
+-- the session of these parts
+abbrev pub sessionOf : ActivatedShellSessionContext → ShellLocalState → ProjectionCounts → List ℕ → List ℕ → List ℕ → ShellSession
+sessionOf c t n b a e = record { context = c; state = t; «local_projection» = record { counts = n; bindings = b; availability = a; entries = e } }
 
 -- ---- the relation of a batch call
 

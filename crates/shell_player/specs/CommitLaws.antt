@@ -16,7 +16,7 @@ use Rattle.spec_projection.specs.Projection.{Projection}
 use Rattle.spec_projection.specs.Apply as applying
 use Rattle.spec_projection.specs.Apply.{OperationFault, Outcome, done, stopped, operationsOf, replaySteps, applySteps}
 use Rattle.spec_session.specs.Session.{Limits, Cursor, at, Session}
-use Rattle.spec_session.specs.Diagnostics.{SessionRefusal, sessionNumber, ofOperation}
+use Rattle.spec_session.specs.Diagnostics.{SessionRefusal, sessionNumber, malformed, ofOperation}
 use Rattle.spec_session.specs.Lifecycle.{Disposition, applied, noChange, rejected, LocalState, stateOf}
 use Rattle.spec_session.specs.Batch.{BatchEnvelope, BatchAnswer, BatchStep, Check, pass, refuse, batchChecks, rejectBatch, keepSession, advanced, applyBatch, candidate, commit, concludeBatch, batch}
 use Rattle.spec_session.specs.BatchLaws.{checks-passed}
@@ -24,11 +24,12 @@ use Rattle.shell_lifecycle.specs.Meaning.{cursorOf, limitsOf, stateTold}
 use Rattle.shell_lifecycle.specs.declared.state.ShellLocalState.{ShellLocalState}
 use Rattle.active_projection_target_catalog.specs.Catalog.{catalogueOf}
 use Rattle.active_projection_target_catalog.specs.CatalogLaws.{catalogue-back}
-use Rattle.local_projection_state.specs.declared.LocalProjectionState.{LocalProjectionState}
+use Rattle.local_projection_state.specs.Stores.{StoredTables}
+use Rattle.local_projection_state.specs.declared.ProjectionCounts.{ProjectionCounts}
 use Rattle.binding_tables.specs.Change.{faultOf}
-use Rattle.binding_tables.specs.declared.LocalProjectionApplicationError.{LocalProjectionApplicationError}
-use Rattle.projection_application.specs.Application.{StepsBecame}
-use Rattle.projection_application.specs.declared.ProjectionOutcome.the-variants as outcome
+use Rattle.projection_replay.specs.Replay.{RunBecame}
+use Rattle.projection_replay.specs.declared.ReplayRun.{ReplayRun}
+use Rattle.projection_replay.specs.declared.ReplayRun.the-variants.{At, Refused, Unreadable}
 use Rattle.shell_gates.specs.Gates.{erased, countFits}
 use Rattle.shell_player.specs.declared.session.ShellSession.{ShellSession}
 use Rattle.shell_player.specs.declared.batch.ProjectionPatchApplicationDisposition.{ProjectionPatchApplicationDisposition}
@@ -36,7 +37,7 @@ use Rattle.shell_player.specs.declared.batch.ProjectionPatchApplicationD
 use Rattle.shell_player.specs.declared.batch.ProjectionPatchApplicationResult.{ProjectionPatchApplicationResult}
 use Rattle.shell_player.specs.declared.batch.ProjectionPatchBatch.{ProjectionPatchBatch}
 use Rattle.shell_player.specs.Holds.{Holds}
-use Rattle.shell_player.specs.Batches.{SeenSession, dispositionTold, batchAnswerOf, rejectedAt, answerAt, movedTo, BatchBecame, KeptUnlessApplied}
+use Rattle.shell_player.specs.Batches.{SeenSession, dispositionTold, batchAnswerOf, rejectedAt, answerAt, runAnswer, Stopped, movedTo, sessionOf, BatchBecame, KeptUnlessApplied, AnswerRow, rejectedRow, appliedRow}
 
 -- ---- what is handed back unless the batch is applied
 
@@ -51,10 +52,17 @@ kept-applied s r c e not = absurd (not (applied-told (r .result .disposition) (a
 
 -- ---- what every struct is answered
 
-pub operation-counted : (f : OperationFault) → countFits (ofOperation f) 1 ≡ true
+operation-counted : (f : OperationFault) → countFits (ofOperation f) 1 ≡ true
 unfolding countFits sessionNumber ofOperation
 operation-counted applying.keyRule = refl
 operation-counted applying.projectionFull = refl
+
+-- whatever came of the operations, the answer has its row
+pub run-row : (limit : ℕ) (c : Cursor) (n : ℕ) (a : BatchAnswer) (run : ReplayRun) → a ≡ runAnswer limit c n run → AnswerRow limit c n a
+unfolding runAnswer countFits sessionNumber
+run-row limit c n a (At end k) h = appliedRow h
+run-row limit c n a (Refused f) h = rejectedRow (ofOperation (faultOf f)) 1 (operation-counted (faultOf f)) h
+run-row limit c n a (Unreadable f) h = rejectedRow malformed 1 refl h
 
 pub same-rejection : {f g : SessionRefusal} {n k : ℕ} (limit : ℕ) (c : Cursor) → _≡_ {A = Check (Unit {0})} (refuse f n) (refuse g k) → rejectedAt limit f n c ≡ rejectedAt limit g k c
 same-rejection {f = f} {g = g} {n = n} {k = k} limit c e =
@@ -107,22 +115,26 @@ module _ (s : ShellSession) (m : Session) (holds : Holds s m) where
         go [] c = rw (eq-eqb (e .patches) 0 none) (record { answer = h ∙ ap (λ (k : Cursor). answerAt noChange k) (seen .cursor-is); next = holds })
         go (q ∷ qs) c = absurd (omega arith)
 
-    pub commits-refused : (f : LocalProjectionApplicationError) (next : LocalProjectionState) (r : ProjectionPatchApplicationResult) (told : SessionRefusal) → StepsBecame next (outcome.Refused f) (candidate m ps) → told ≡ ofOperation (faultOf f) → batchAnswerOf r ≡ rejectedAt cap told 1 cursor
+    -- a run that stopped hands the session back
+    pub commits-stopped : (run : ReplayRun) (Next : ℕ → ProjectionCounts → Projection → Type 0) (r : ProjectionPatchApplicationResult) → Stopped run → RunBecame Next run (candidate m ps) → batchAnswerOf r ≡ runAnswer cap cursor (e .sequence) run
         → BatchBecame (record { session = s; result = r }) (commit m e (candidate m ps))
-    unfolding commit
-    commits-refused f next r told became of h = go (candidate m ps) became
+    unfolding commit runAnswer
+    commits-stopped run Next r stop became h = go run (candidate m ps) stop became h
       where
-        go : (x : Outcome) → StepsBecame next (outcome.Refused f) x → BatchBecame (record { session = s; result = r }) (commit m e x)
-        go (done q) b = absurd b
-        go (stopped g) b = rejects r (ofOperation g) 1 (h ∙ ap (λ k. rejectedAt cap k 1 cursor) (of ∙ ap ofOperation b))
+        go : (u : ReplayRun) (x : Outcome) → Stopped u → RunBecame Next u x → batchAnswerOf r ≡ runAnswer cap cursor (e .sequence) u → BatchBecame (record { session = s; result = r }) (commit m e x)
+        go (At end n) x stop b h = absurd stop
+        go (Refused f) (done q) stop b h = absurd b
+        go (Refused f) (stopped g) stop b h = rejects r (ofOperation g) 1 (h ∙ ap (λ k. rejectedAt cap (ofOperation k) 1 cursor) b)
+        go (Unreadable f) x stop b h = absurd b
 
-    pub commits-applied : (next : LocalProjectionState) (t : ShellLocalState) (r : ProjectionPatchApplicationResult) → (e .patches ≡ 0 → ⊥) → StepsBecame next outcome.Applied (candidate m ps) → stateTold t ≡ movedTo (stateTold (s .state)) (e .sequence)
-        → batchAnswerOf r ≡ answerAt applied (at (e .sequence)) → BatchBecame (record { session = record { context = s .context; state = t; «local_projection» = next }; result = r }) (commit m e (candidate m ps))
+    -- a run that ended stores what the tables hold
+    pub commits-applied : (end : ℕ) (n : ProjectionCounts) (b a y : List ℕ) (t : ShellLocalState) (r : ProjectionPatchApplicationResult) → (e .patches ≡ 0 → ⊥) → RunBecame (λ i k q. StoredTables k b a y q) (At end n) (candidate m ps)
+        → stateTold t ≡ movedTo (stateTold (s .state)) (e .sequence) → batchAnswerOf r ≡ answerAt applied (at (e .sequence)) → BatchBecame (record { session = sessionOf (s .context) t n b a y; result = r }) (commit m e (candidate m ps))
     unfolding commit applyBatch advanced stateOf
-    commits-applied next t r some became moved h = go (candidate m ps) became
+    commits-applied end n b a y t r some became moved h = go (candidate m ps) became
       where
-        go : (x : Outcome) → StepsBecame next outcome.Applied x → BatchBecame (record { session = record { context = s .context; state = t; «local_projection» = next }; result = r }) (commit m e x)
-        go (done q) b = rw (ne-eqb (e .patches) 0 some) (
+        go : (x : Outcome) → RunBecame (λ i k q. StoredTables k b a y q) (At end n) x → BatchBecame (record { session = sessionOf (s .context) t n b a y; result = r }) (commit m e x)
+        go (done q) stored = rw (ne-eqb (e .patches) 0 some) (
             record {
               answer = h;
               next = record {
@@ -131,11 +143,11 @@ module _ (s : ShellSession) (m : Session) (holds : Holds s m) where
                 catalogue = holds .catalogue;
                 few = holds .few;
                 state = moved ∙ ap (λ (k : LocalState). movedTo k (e .sequence)) (holds .state);
-                projection = b;
+                projection = stored;
               };
             }
             )
-        go (stopped g) b = absurd b
+        go (stopped g) stored = absurd stored
 
   module _ (e : BatchEnvelope) (declared : ℕ) (set : List ℕ) where
     pub batch-rejects : (r : ProjectionPatchApplicationResult) (f : SessionRefusal) (n : ℕ) → refuse f n ≡ erased (batchChecks m e declared set) → batchAnswerOf r ≡ rejectedAt cap f n cursor

@@ -4,7 +4,9 @@ use crate::session::ShellSession;
 use active_projection_target_catalog::catalog;
 use active_projection_target_catalog::catalog::ActiveProjectionTargetCatalog;
 use binding_tables::LocalProjectionApplicationError;
-use projection_application::ProjectionOutcome;
+use local_projection_state::LocalProjectionState;
+use local_projection_state::ProjectionCounts;
+use projection_replay::ReplayRun;
 use shell_gates::batch;
 use shell_gates::gates::BatchGate;
 use shell_gates::gates::OrderedProjectionPatchBatchEnvelope;
@@ -15,23 +17,17 @@ use shell_lifecycle::state::ProjectionReplayCursor;
 use shell_lifecycle::state::ShellLocalState;
 ghost use mathlib.Core.Path.{_≡_};
 ghost use mathlib.Core.Bool.{true};
-ghost use mathlib.Core.List.{List};
-ghost use lib.ListN.{length};
-ghost use Rattle.spec_patch.specs.Patch.{Patch};
-ghost use Rattle.spec_patch.specs.Edition.{v1};
-ghost use Rattle.spec_patch.specs.Read.{patches, readSet};
-ghost use Prim.Native.Nat.{_≤_, min};
+ghost use Prim.Native.Nat.{min};
 ghost use Rattle.spec_patch.specs.Sizes.{anchors};
 ghost use Rattle.spec_session.specs.Session.{Session};
 ghost use Rattle.spec_session.specs.Diagnostics.{ofOperation};
-ghost use Rattle.spec_session.specs.Batch.{batchChecks, candidate, commit};
+ghost use Rattle.spec_session.specs.Batch.{batchChecks};
 ghost use Rattle.binding_tables.specs.Change.{faultOf};
 ghost use Rattle.shell_lifecycle.specs.Meaning.{refusalOf, lifecycleOf, cursorOf, limitsOf, stateTold};
 ghost use Rattle.shell_gates.specs.Gates.{gateOf, envelopeMeans, preflightBy, erased, counted, Decides};
 ghost use Rattle.spec_session.specs.Session.{at};
 ghost use Rattle.spec_session.specs.Lifecycle.{applied, noChange};
-ghost use Rattle.shell_player.specs.Batches.{SeenSession, batchAnswerOf, rejectedAt, answerAt, movedTo, BatchBecame, KeptUnlessApplied, BatchCall, CallRow, AnyBatchCall};
-ghost use Rattle.shell_player.specs.Holds.{Holds};
+ghost use Rattle.shell_player.specs.Batches.{SeenSession, batchAnswerOf, rejectedAt, answerAt, runAnswer, sessionOf, movedTo, BatchCall, AnyBatchCall};
 
 pub enum ProjectionPatchApplicationDisposition {
     Applied,
@@ -153,60 +149,47 @@ fn advanced(state: ShellLocalState, number: u64) -> ShellLocalState
     }
 }
 
-impl ShellSession {
-    // Step 9 for a batch that passed the others: all operations apply to a copy, or none.
-    fn apply_checked(
-        self,
-        envelope: OrderedProjectionPatchBatchEnvelope,
-        set: &[u8],
-    ) -> ProjectionPatchBatch
-        ensures became { λ r. ⌜ ((m : Session) (ps : List Patch) → Holds self m → readSet v1 (now (set .entry)) ≡ patches ps → envelope .«patch_count» ≡ length ps
-            → BatchBecame r (commit m (envelopeMeans envelope) (candidate m ps))) ⌝ }
-        ensures kept { λ r. ⌜ KeptUnlessApplied self r ⌝ }
-        ensures row { λ r. ⌜ CallRow self envelope r ⌝ }
-    {
-        let context = self.context;
-        let limits = context.limits;
-        let cap = limits.max_diagnostics_per_transition;
-        let state = self.state;
-        let cursor = state.replay_cursor;
-        if envelope.patch_count == 0 {
-            return ProjectionPatchBatch {
-                session: self,
-                result: unchanged(cursor),
-            };
-        }
-        let projection = self.local_projection;
-        let application = projection_application::apply_readable(projection, set);
-        let outcome = application.outcome;
-        match outcome {
-            ProjectionOutcome::Applied => {
-                let mut session = self;
-                let next = application.state;
-                session.local_projection = next;
-                let moved = advanced(state, envelope.sequence_no);
-                session.state = moved;
-                ProjectionPatchBatch {
-                    session,
-                    result: applied_at(envelope.sequence_no),
-                }
-            }
-            ProjectionOutcome::Refused(error) => ProjectionPatchBatch {
-                session: self,
-                result: rejected(cap, refusal_of(error), 1, cursor),
-            },
-            ProjectionOutcome::Findings => ProjectionPatchBatch {
-                session: self,
-                result: rejected(cap, ShellRefusal::ChecksFailed, 1, cursor),
-            },
-            ProjectionOutcome::Unreadable(_) => ProjectionPatchBatch {
-                session: self,
-                result: rejected(cap, ShellRefusal::Malformed, 1, cursor),
-            },
-        }
+// The answer of step 9, by what came of the operations.
+fn concluded(
+    cap: u64,
+    run: ReplayRun,
+    cursor: ProjectionReplayCursor,
+    number: u64,
+) -> ProjectionPatchApplicationResult
+    ensures { λ r. ⌜ batchAnswerOf r ≡ runAnswer cap (cursorOf cursor) number run ⌝ }
+{
+    match run {
+        ReplayRun::At(_, _) => applied_at(number),
+        ReplayRun::Refused(error) => rejected(cap, refusal_of(error), 1, cursor),
+        ReplayRun::Unreadable(_) => rejected(cap, ShellRefusal::Malformed, 1, cursor),
     }
+}
 
-    // One batch: steps 1 to 9. A batch that is not applied hands the session back as it came.
+// The session of these parts. As a call it copies each table once.
+fn session_of(
+    context: ActivatedShellSessionContext,
+    state: ShellLocalState,
+    counts: ProjectionCounts,
+    bindings: [u8; LocalProjectionState::BINDING_BYTES],
+    availability: [u8; LocalProjectionState::AVAILABILITY_BYTES],
+    entries: [u8; LocalProjectionState::ENTRY_BYTES],
+) -> ShellSession
+    ensures { λ r. ⌜ r ≡ sessionOf context state counts bindings availability entries ⌝ }
+{
+    ShellSession {
+        context,
+        state,
+        local_projection: LocalProjectionState {
+            counts,
+            bindings,
+            availability,
+            entries,
+        },
+    }
+}
+
+impl ShellSession {
+    // One batch: steps 1 to 9. The operations change a copy of the tables; a batch that is not applied hands the session back as it came.
     pub fn apply_projection_patch_batch(
         self,
         envelope: OrderedProjectionPatchBatchEnvelope,
@@ -221,12 +204,39 @@ impl ShellSession {
         let cap = limits.max_diagnostics_per_transition;
         let state = self.state;
         let cursor = state.replay_cursor;
-        match check_session(context, state, envelope, declared, set) {
-            BatchGate::Refused(refusal, logical) => ProjectionPatchBatch {
+        let gate = check_session(context, state, envelope, declared, set);
+        if let BatchGate::Refused(refusal, logical) = gate {
+            return ProjectionPatchBatch {
                 session: self,
                 result: rejected(cap, refusal, logical, cursor),
-            },
-            BatchGate::Passed => self.apply_checked(envelope, set),
+            };
         }
+        if envelope.patch_count == 0 {
+            return ProjectionPatchBatch {
+                session: self,
+                result: unchanged(cursor),
+            };
+        }
+        let counts = self.local_projection.counts;
+        let mut bindings = self.local_projection.bindings;
+        let mut availability = self.local_projection.availability;
+        let mut entries = self.local_projection.entries;
+        let run = projection_application::replay_readable(
+            &mut bindings,
+            &mut availability,
+            &mut entries,
+            counts,
+            set,
+        );
+        let result = concluded(cap, run, cursor, envelope.sequence_no);
+        let ReplayRun::At(_, held) = run else {
+            return ProjectionPatchBatch {
+                session: self,
+                result,
+            };
+        };
+        let moved = advanced(state, envelope.sequence_no);
+        let session = session_of(context, moved, held, bindings, availability, entries);
+        ProjectionPatchBatch { session, result }
     }
 }

@@ -1,4 +1,6 @@
 pub mod Below
 pub mod TableLaws
+pub mod CharacterLaws
+pub mod AsciiLaws
 pub mod Reached
 pub mod Answers

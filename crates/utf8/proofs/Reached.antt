@@ -1,109 +1,84 @@
--- What holds of the check after i bytes of a text, in a state and with a count of characters: at the start, after one byte more, and at the
--- end.
-use Prim.Native.Nat.{ℕ, _+_, _*_, _/_, _≤_, _<_, zero-le}
-use mathlib.Core.Path.{_≡_, refl, _∙_, subst}
-use mathlib.Core.Bool.{Bool, true, false, Bool·beq}
+-- What holds of the check after i bytes of a text and with a count of characters: at the start, after one character more, after bytes below
+-- 0x80 in a row, and at the end.
+use Prim.Native.Nat.{ℕ, zero, suc, _+_, _-_, _≤_, _<_, zero-le}
+use mathlib.Core.Path.{_≡_, refl, sym, _∙_, subst}
 use mathlib.Core.List.{List, []}
-use native.Mathlib.Nat.{zero-add, add-zero, add-assoc, le-antisymm}
-use native.Mathlib.Numerals.{add-one}
+use native.Mathlib.Nat.{zero-add, add-zero, add-assoc, le-refl, le-antisymm}
 use native.Mathlib.Omega.{arith}
-use lib.Dec.{eqb}
-use lib.ListN.{length, getD, drop}
-use lib.Seq.{drop-cons, drop-length}
-use borrow.Author.Tests.{eq-eqb, ne-eqb}
-use Rattle.spec_lists.specs.Lists.{if_then_else_}
-use Rattle.spec_text.specs.Syntax.{After, advance, whole, isUtf8After, charactersAfter, isUtf8, characters}
-use Rattle.utf8.specs.Classes.{meaning, IsState, Follows}
+use lib.ListN.{length, getD, take, drop, length-drop}
+use lib.Seq.{take-all, drop-length, drop-drop, getD-drop}
+use Rattle.spec_text.specs.Syntax.{isUtf8, characters}
+use Rattle.utf8.specs.Characters.{characterLength, AsciiBetween}
 use Rattle.utf8.specs.Answer.{answer}
 use Rattle.utf8.specs.declared.Utf8Check.the-variants.{Valid, Invalid}
-use Rattle.utf8.proofs.Below.{pass}
+use Rattle.utf8.proofs.CharacterLaws.{character-read, character-refused, character-ascii}
 
--- From the state, the bytes from i on give the text's answer.
-pub record Reached (text : List ℕ) (state count i : ℕ) : Type 0 where
+-- The bytes from i on decide the text, and have the characters that are not counted yet.
+pub record Reached (text : List ℕ) (count i : ℕ) : Type 0 where
   pub within : i ≤ length text
-  pub is-state : IsState state
   pub few : count ≤ i
-  pub same-utf8 : isUtf8After (meaning state) (drop i text) ≡ isUtf8 text
-  pub same-count : count + charactersAfter (meaning state) (drop i text) ≡ characters text
+  pub same-utf8 : isUtf8 (drop i text) ≡ isUtf8 text
+  pub same-count : count + characters (drop i text) ≡ characters text
 
-pub reached-start : (text : List ℕ) → Reached text 0 0 0
-unfolding meaning
-reached-start text =
+reached-start : (text : List ℕ) → Reached text 0 0
+reached-start text = record { within = zero-le; few = zero-le; same-utf8 = refl; same-count = zero-add (characters text) }
+
+-- ---- one character more
+
+-- the part of a text from a position to its end
+pub part-from : (i : ℕ) (text : List ℕ) → take (length text - i) (drop i text) ≡ drop i text
+part-from i text = take-all (length text - i) (drop i text) (rw (length-drop i text) (le-refl _))
+
+pub reached-character : {text : List ℕ} {count i : ℕ} (n : ℕ) → Reached text count i → n ≡ characterLength (drop i text) → (n ≡ 0 → ⊥)
+    → Reached text (count + 1) (i + n)
+reached-character {text} {count} {i} n r e ne =
+    let c = character-read (drop i text) n (sym e) ne in
+    let fits : n ≤ length text - i = subst (λ (m : ℕ). n ≤ m) (length-drop i text) (c .0) in
     record {
-      within = zero-le;
-      is-state = record { is-multiple = refl; in-range = omega arith };
-      few = zero-le;
-      same-utf8 = refl;
-      same-count = zero-add (characters text);
+      within = omega (arith, r .within);
+      few = omega (arith, r .few);
+      same-utf8 = rw (← drop-drop n i text, ← c .1) (r .same-utf8);
+      same-count = rw (← drop-drop n i text, add-assoc, ← c .2) (r .same-count);
     }
 
--- ---- one byte more
+-- ---- bytes below 0x80
 
--- what a byte adds to the count, by whether it ends a character
-abbrev pub counted : Bool → ℕ
-counted ends = if ends then 1 else 0
+reached-ascii-by : {text : List ℕ} {count i : ℕ} (n : ℕ) → Reached text count i → i + n ≤ length text
+    → ((k : ℕ) → k < n → getD text (i + k) 0 < 0x80) → Reached text (count + n) (i + n)
+reached-ascii-by {text} {count} {i} zero r h a = rw (add-zero count, add-zero i) r
+reached-ascii-by {text} {count} {i} (suc n) r h a =
+    let s = reached-ascii-by n r (omega arith) (λ k l. a k (omega arith)) in
+    let first : getD (drop (i + n) text) 0 0 < 0x80 = rw (getD-drop (i + n) text 0 0, add-zero) (a n (omega arith)) in
+    let one : characterLength (drop (i + n) text) ≡ 1 = character-ascii (drop (i + n) text) (rw (length-drop (i + n) text) (omega arith)) first in
+    let t : Reached text (count + n + 1) (i + n + 1) = reached-character 1 s (sym one) (λ e. omega arith) in
+    let c : count + n + 1 ≡ count + suc n = omega arith in
+    let j : i + n + 1 ≡ i + suc n = omega arith in
+    rw (← c, ← j) t
 
-utf8-next : (a : After) (text : List ℕ) (i : ℕ) → i < length text
-    → isUtf8After a (drop i text) ≡ isUtf8After (advance a (getD text i 0)) (drop (i + 1) text)
-utf8-next a text i h = rw (add-one, drop-cons text i 0)
+pub reached-ascii : {text : List ℕ} {count i to : ℕ} → Reached text count i → AsciiBetween text i to → Reached text (count + (to - i)) to
+reached-ascii {text} {count} {i} {to} r a =
+    let n : i + (to - i) ≡ to = omega (arith, a .ascends) in
+    subst (λ (j : ℕ). Reached text (count + (to - i)) j) n
+    (reached-ascii-by (to - i) r (omega (arith, a .within)) (λ k h. a .ascii (i + k) (omega arith) (omega arith)))
 
-count-next : (a : After) (text : List ℕ) (i : ℕ) → i < length text
-    → charactersAfter a (drop i text)
-    ≡ counted (whole (advance a (getD text i 0))) + charactersAfter (advance a (getD text i 0)) (drop (i + 1) text)
-count-next a text i h = rw (add-one, drop-cons text i 0)
-
-counted-le : (ends : Bool) → counted ends ≤ 1
-counted-le true = omega arith
-counted-le false = omega arith
-
-pub reached-next : {text : List ℕ} {state count i next : ℕ} → Reached text state count i → i < length text
-    → Follows state (getD text i 0) next → Reached text next (count + counted (whole (meaning next))) (i + 1)
-reached-next {text} {state} {count} {i} {next} r h f =
-    let e : meaning next ≡ advance (meaning state) (getD text i 0) = f .follows in
-    record {
-      within = omega arith;
-      is-state = f .is-state;
-      few = omega (arith, counted-le (whole (meaning next)));
-      same-utf8 = rw (e, ← utf8-next (meaning state) text i h) (r .same-utf8);
-      same-count = rw (e, add-assoc, ← count-next (meaning state) text i h) (r .same-count);
-    }
-
--- ---- the state where no character is begun is that of number 0
-
-starts : ℕ → Bool
-starts k = Bool·beq (whole (meaning (12 * k))) (eqb (12 * k) 0)
-
-beq-equal : (a b : Bool) → Bool·beq a b ≡ true → a ≡ b
-beq-equal false false e = refl
-beq-equal false true e = cc
-beq-equal true false e = cc
-beq-equal true true e = refl
-
-whole-at : (k : ℕ) → k < 9 → whole (meaning (12 * k)) ≡ eqb (12 * k) 0
-unfolding starts meaning
-whole-at k h = beq-equal (whole (meaning (12 * k))) (eqb (12 * k) 0) (pass starts 9 refl k h)
-
-whole-is-start : {state : ℕ} → IsState state → whole (meaning state) ≡ eqb state 0
-whole-is-start {state} st = subst (λ (s : ℕ). whole (meaning s) ≡ eqb s 0) (omega arith) (whole-at (state / 12) (omega arith))
-
--- a character ends, and none does
-pub reached-whole : {text : List ℕ} {state : ℕ} (count : ℕ) {i : ℕ} → Reached text state (count + counted (whole (meaning state))) i → state ≡ 0
-    → Reached text state (count + 1) i
-reached-whole {text} {state} count {i} r e =
-    subst (λ (b : Bool). Reached text state (count + counted b) i) (whole-is-start (r .is-state) ∙ eq-eqb state 0 e) r
-
-pub reached-part : {text : List ℕ} {state : ℕ} (count : ℕ) {i : ℕ} → Reached text state (count + counted (whole (meaning state))) i → (state ≡ 0 → ⊥)
-    → Reached text state count i
-reached-part {text} {state} count {i} r ne =
-    rw add-zero at (subst (λ (b : Bool). Reached text state (count + counted b) i) (whole-is-start (r .is-state) ∙ ne-eqb state 0 ne) r)
+-- such bytes at the start
+pub reached-front : {text : List ℕ} {to : ℕ} → AsciiBetween text 0 to → Reached text to to
+reached-front {text} {to} a =
+    let n : 0 + (to - 0) ≡ to = omega arith in
+    subst (λ (j : ℕ). Reached text j to) n (reached-ascii (reached-start text) a)
 
 -- ---- the end
 
-pub reached-end : {text : List ℕ} {state count i : ℕ} → Reached text state count i → length text ≤ i
-    → answer text ≡ (if eqb state 0 then Valid count else Invalid)
-reached-end {text} {state} {count} {i} r h =
+pub reached-end : {text : List ℕ} {count i : ℕ} → Reached text count i → length text ≤ i → answer text ≡ Valid count
+reached-end {text} {count} {i} r h =
     let e : i ≡ length text = le-antisymm (r .within) h in
     let done : drop i text ≡ [] = rw e (drop-length text) in
-    let u : whole (meaning state) ≡ isUtf8 text = rw done at (r .same-utf8) in
+    let u : _ ≡ isUtf8 text = rw done at (r .same-utf8) in
     let n : count + 0 ≡ characters text = rw done at (r .same-count) in
-    rw (← u, whole-is-start (r .is-state), ← n, add-zero)
+    rw (← u, ← n, add-zero)
+
+pub reached-refused : {text : List ℕ} {count i : ℕ} → Reached text count i → i < length text → 0 ≡ characterLength (drop i text)
+    → answer text ≡ Invalid
+reached-refused {text} {count} {i} r h e =
+    let f = character-refused (drop i text) (rw (length-drop i text) (omega arith)) (sym e) in
+    rw (sym (r .same-utf8) ∙ f)

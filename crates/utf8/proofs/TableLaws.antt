@@ -1,32 +1,25 @@
--- The two tables are right if a test passes that reads all their entries: one at each byte, and one at each state and byte.
-use Prim.Native.Nat.{ℕ, _+_, _*_, _/_, _%_, _<_}
+-- The table is right if a test passes that reads all its entries, and what the syntax says of a byte it says of its class: a test at each byte.
+use Prim.Native.Nat.{ℕ, suc, _-_, _<_}
 use mathlib.Core.Path.{_≡_, refl, ap, ap₂, subst}
-use mathlib.Core.Bool.{Bool, true, false, _&&_}
+use mathlib.Core.Bool.{Bool, true, false, _&&_, Bool·beq}
 use mathlib.Core.List.{List}
 use native.Mathlib.Omega.{arith}
-use lib.Dec.{eqb, ltb}
+use lib.Dec.{eqb, leb}
 use lib.ListN.{getD}
-use borrow.Author.Tests.{eqb-true, ltb-true}
+use borrow.Author.Tests.{eqb-true}
 use Rattle.spec_lists.specs.Lists.{equalLists}
 use Rattle.spec_lists.specs.ListLaws.{and-left, and-right, equalLists-equal}
-use Rattle.spec_text.specs.Syntax.{Range, _⋯_, After, expects, refused, advance}
-use Rattle.utf8.specs.Classes.{classOf, meaning, IsState, Follows, IsClassTable, IsStepTable}
+use Rattle.spec_text.specs.Syntax.{Range, _⋯_, inside, sequences, After, expects, refused, lead}
+use Rattle.utf8.specs.Classes.{classOf, afterClass, tails, IsTailClass, IsClassTable}
 use Rattle.utf8.proofs.Below.{allBelow, pass}
 
--- ---- the classes
+-- ---- the table
 
 abbrev pub classesRight : List ℕ → Bool
 classesRight classes = allBelow (λ b. eqb (getD classes b 0) (classOf b)) 256
 
 pub class-table : (classes : List ℕ) → classesRight classes ≡ true → IsClassTable classes
 class-table classes e = record { class-at = λ b h. eqb-true (getD classes b 0) (classOf b) (pass (λ b. eqb (getD classes b 0) (classOf b)) 256 e b h) }
-
-classBelow : ℕ → Bool
-classBelow b = ltb (classOf b) 12
-
-pub class-below : (b : ℕ) → b < 256 → classOf b < 12
-unfolding classBelow classOf
-class-below b h = ltb-true (classOf b) 12 (pass classBelow 256 refl b h)
 
 -- ---- whether two states of the syntax are the same
 
@@ -51,51 +44,41 @@ same-equal (expects rs) refused e = cc
 same-equal refused (expects ss) e = cc
 same-equal refused refused e = refl
 
--- ---- the steps
+-- ---- first bytes
 
-abbrev pub followsTo : ℕ → ℕ → ℕ → Bool
-followsTo state b next = eqb (next % 12) 0 && (ltb next 108 && same (meaning next) (advance (meaning state) b))
+leadsRight : ℕ → Bool
+leadsRight b = same (lead sequences b) (afterClass (classOf b))
 
-follows-to : (state b next : ℕ) → followsTo state b next ≡ true → Follows state b next
-follows-to state b next e =
-    let multiple = eqb (next % 12) 0 in
-    let low = ltb next 108 in
-    let alike = same (meaning next) (advance (meaning state) b) in
-    record {
-      is-state =
-          record {
-            is-multiple = eqb-true (next % 12) 0 (and-left multiple (low && alike) e);
-            in-range = ltb-true next 108 (and-left low alike (and-right multiple (low && alike) e));
-          };
-      follows = same-equal (meaning next) (advance (meaning state) b) (and-right low alike (and-right multiple (low && alike) e));
-    }
+-- What a first byte leads to, its class says.
+pub lead-class : (b : ℕ) → b < 256 → lead sequences b ≡ afterClass (classOf b)
+unfolding leadsRight classOf afterClass
+lead-class b h = same-equal (lead sequences b) (afterClass (classOf b)) (pass leadsRight 256 refl b h)
 
--- at the k-th state and the byte
-abbrev pub stepRight : List ℕ → ℕ → ℕ → Bool
-stepRight steps b k = followsTo (12 * k) b (getD steps (12 * k + classOf b) 0)
+-- ---- the bytes that follow
 
-abbrev pub stepsRight : List ℕ → Bool
-stepsRight steps = allBelow (λ b. allBelow (stepRight steps b) 9) 256
+beq-equal : (a b : Bool) → Bool·beq a b ≡ true → a ≡ b
+beq-equal false false e = refl
+beq-equal false true e = cc
+beq-equal true false e = cc
+beq-equal true true e = refl
 
-pub step-table : (steps : List ℕ) → stepsRight steps ≡ true → IsStepTable steps
-step-table steps e =
-    record {
-      step-at =
-          λ state b st h.
-          subst (λ (s : ℕ). Follows s b (getD steps (s + classOf b) 0)) (omega arith)
-          (follows-to (12 * (state / 12)) b (getD steps (12 * (state / 12) + classOf b) 0)
-          (pass (stepRight steps b) 9 (pass (λ b. allBelow (stepRight steps b) 9) 256 e b h) (state / 12) (omega arith)));
-    }
+-- from the classes low + 1 to high + 1
+tailRight : ℕ → ℕ → ℕ → Bool
+tailRight b low high = Bool·beq (inside (tails (suc low) (suc high)) b) (leb (suc low) (classOf b) && leb (classOf b) (suc high))
 
--- the entry for a byte's class
-pub step-follows : (steps : List ℕ) (state b class : ℕ) → IsStepTable steps → IsState state → b < 256 → class ≡ classOf b
-    → Follows state b (getD steps (state + class) 0)
-step-follows steps state b class t st h e = rw e (t .step-at state b st h)
+tailsRight : ℕ → Bool
+tailsRight b = allBelow (λ low. allBelow (tailRight b low) 3) 3
 
--- a byte below 0x80 is a character by itself
-ascii : ℕ → Bool
-ascii b = followsTo 0 b 0
+tail-class-suc : (b low high : ℕ) → b < 256 → low < 3 → high < 3
+    → inside (tails (suc low) (suc high)) b ≡ (leb (suc low) (classOf b) && leb (classOf b) (suc high))
+unfolding tailsRight tailRight classOf
+tail-class-suc b low high h l g =
+    beq-equal _ _ (pass (tailRight b low) 3 (pass (λ low. allBelow (tailRight b low) 3) 3 (pass tailsRight 256 refl b h) low l) high g)
 
-pub ascii-follows : (b : ℕ) → b < 0x80 → Follows 0 b 0
-unfolding ascii meaning
-ascii-follows b h = follows-to 0 b 0 (pass ascii 0x80 refl b h)
+-- A byte is in the range of such classes exactly if its class is among them.
+pub tail-class : (b low high : ℕ) → b < 256 → IsTailClass low → IsTailClass high
+    → inside (tails low high) b ≡ (leb low (classOf b) && leb (classOf b) high)
+tail-class b low high h l g =
+    subst (λ (m : ℕ). inside (tails m high) b ≡ (leb m (classOf b) && leb (classOf b) high)) (omega arith)
+    (subst (λ (n : ℕ). inside (tails (suc (low - 1)) n) b ≡ (leb (suc (low - 1)) (classOf b) && leb (classOf b) n)) (omega arith)
+    (tail-class-suc b (low - 1) (high - 1) h (omega arith) (omega arith)))

@@ -1,12 +1,11 @@
--- The classes of bytes, the states of the check, and the tables of both. A state stands for what the syntax allows next, and bytes of one
--- class lead from it to the same state.
-use Prim.Native.Nat.{ℕ, _+_, _/_, _%_, _<_}
+-- The classes of bytes, the table of them, and what the syntax allows after a byte of each class.
+use Prim.Native.Nat.{ℕ, _≤_, _<_}
 use mathlib.Core.Path.{_≡_}
 use mathlib.Core.List.{List, [], _∷_}
-use lib.Dec.{ltb}
+use lib.Dec.{eqb, ltb}
 use lib.ListN.{getD}
 use Rattle.spec_lists.specs.Lists.{if_then_else_}
-use Rattle.spec_text.specs.Syntax.{After, expects, refused, _⋯_, tail, advance}
+use Rattle.spec_text.specs.Syntax.{Range, _⋯_, tail, After, expects, refused}
 
 -- The class of a byte. Class 11 is of the bytes that stand in no sequence: 0xc0, 0xc1 and from 0xf5 on.
 unfoldable pub classOf : ℕ → ℕ
@@ -25,37 +24,26 @@ classOf b =
     if ltb b 0xf4 then 9 else
     if ltb b 0xf5 then 10 else 11
 
--- What the states 0, 12, 24 and so on stand for.
-abbrev pub meanings : List After
-meanings =
-    expects []
-    ∷ refused
-    ∷ expects (tail ∷ [])
-    ∷ expects (tail ∷ tail ∷ [])
-    ∷ expects ((0xa0 ⋯ 0xbf) ∷ tail ∷ [])
-    ∷ expects ((0x80 ⋯ 0x9f) ∷ tail ∷ [])
-    ∷ expects (tail ∷ tail ∷ tail ∷ [])
-    ∷ expects ((0x90 ⋯ 0xbf) ∷ tail ∷ tail ∷ [])
-    ∷ expects ((0x80 ⋯ 0x8f) ∷ tail ∷ tail ∷ [])
-    ∷ []
-
-unfoldable pub meaning : ℕ → After
-meaning state = getD meanings (state / 12) refused
-
--- a state's number
-pub record IsState (state : ℕ) : Type 0 where
-  pub is-multiple : state % 12 ≡ 0
-  pub in-range : state < 108
-
--- From the state, the byte leads to the next state.
-pub record Follows (state byte next : ℕ) : Type 0 where
-  pub is-state : IsState next
-  pub follows : meaning next ≡ advance (meaning state) byte
-
 -- a table of the classes of all bytes
 pub record IsClassTable (classes : List ℕ) : Type 0 where
   pub class-at : (b : ℕ) → b < 256 → getD classes b 0 ≡ classOf b
 
--- a table of the next state, at the sum of a state and a class
-pub record IsStepTable (steps : List ℕ) : Type 0 where
-  pub step-at : (state b : ℕ) → IsState state → b < 256 → Follows state b (getD steps (state + classOf b) 0)
+-- a class of the bytes that follow a first byte
+abbrev pub IsTailClass : ℕ → Type 0
+IsTailClass c = (1 ≤ c) × (c ≤ 3)
+
+-- the bytes of such classes, from one to another
+abbrev pub tails : ℕ → ℕ → Range
+tails low high = getD (0 ∷ 0x80 ∷ 0x90 ∷ 0xa0 ∷ []) low 0 ⋯ getD (0 ∷ 0x8f ∷ 0x9f ∷ 0xbf ∷ []) high 0
+
+-- what the syntax allows after a first byte of the class
+unfoldable pub afterClass : ℕ → After
+afterClass c =
+    if eqb c 0 then expects [] else
+    if eqb c 4 then expects (tails 1 3 ∷ []) else
+    if eqb c 5 then expects (tails 3 3 ∷ tail ∷ []) else
+    if eqb c 6 then expects (tails 1 3 ∷ tail ∷ []) else
+    if eqb c 7 then expects (tails 1 2 ∷ tail ∷ []) else
+    if eqb c 8 then expects (tails 2 3 ∷ tail ∷ tail ∷ []) else
+    if eqb c 9 then expects (tails 1 3 ∷ tail ∷ tail ∷ []) else
+    if eqb c 10 then expects (tails 1 1 ∷ tail ∷ tail ∷ []) else refused

@@ -23,7 +23,7 @@ returns : tie.Need-returns
 returns c =
     let find = c .before .before in (
       (λ p s v.
-          key-present (now (c .before .before .before .before .before .before .args .table)) p _ _ _ (sym (find .find-entry .ensures .0 (p .entries) (v .fitEntries) (s .rows)) ∙ c .enum-told .given .1)),
+          key-present (now (c .before .before .before .before .before .before .args .table)) p _ _ _ (sym (find .find-entry .ensures .0 (p .entries) (v .fitEntries) (v .entries) (s .rows)) ∙ c .enum-told .given .1)),
       refl,
     )
 
@@ -62,8 +62,8 @@ returns-2 c =
     let find = c .before .before .before .before .before .before .before .before .before .before .before .before .before .before in (
       (λ p s v.
           inserted-there (call .insert-record .last .0) (search needs) p s _ (c .before .before .before .before .before .before .entry-row .result) (c .before .before .before .before .before .before .entry-row .ensures) (row-wide (c .before .before .before .before .before .before)) _ _
-          (sym (find .find-entry .ensures .0 (p .entries) (v .fitEntries) (s .rows)) ∙ c .before .before .before .before .before .before .before .before .before .before .before .before .enum-told2 .given .1)
-          (sym (place .place-before .ensures .0 (p .entries) (v .fitEntries) (s .rows)) ∙ c .before .before .before .before .before .before .before .before .at .given .1) (call .insert-record .ensures) (c .if1 .taken)),
+          (sym (find .find-entry .ensures .0 (p .entries) (v .fitEntries) (v .entries) (s .rows)) ∙ c .before .before .before .before .before .before .before .before .before .before .before .before .enum-told2 .given .1)
+          (sym (place .place-before .ensures .0 (p .entries) (v .fitEntries) (v .entries) (s .rows)) ∙ c .before .before .before .before .before .before .before .before .at .given .1) (call .insert-record .ensures) (c .if1 .taken)),
       tt,
     )
 
@@ -80,8 +80,8 @@ returns-3 c =
     let find = c .before .before .before .before .before .before .before .before .before .before .before .before .before .before in (
       (λ p s v.
           insert-full (call .insert-record .last .0) (search needs) p s _ (c .before .before .before .before .before .before .entry-row .result) (c .before .before .before .before .before .before .entry-row .ensures) (row-wide (c .before .before .before .before .before .before)) _ _
-          (sym (find .find-entry .ensures .0 (p .entries) (v .fitEntries) (s .rows)) ∙ c .before .before .before .before .before .before .before .before .before .before .before .before .enum-told2 .given .1)
-          (sym (place .place-before .ensures .0 (p .entries) (v .fitEntries) (s .rows)) ∙ c .before .before .before .before .before .before .before .before .at .given .1) (call .insert-record .ensures)
+          (sym (find .find-entry .ensures .0 (p .entries) (v .fitEntries) (v .entries) (s .rows)) ∙ c .before .before .before .before .before .before .before .before .before .before .before .before .enum-told2 .given .1)
+          (sym (place .place-before .ensures .0 (p .entries) (v .fitEntries) (v .entries) (s .rows)) ∙ c .before .before .before .before .before .before .before .before .at .given .1) (call .insert-record .ensures)
           (position-at _ _ (c .before .before .before .before .before .before .before .before .at .given .1) (place .place-before .ensures .1)) (c .if1 .left)),
       call .insert-record .ensures .kept (c .if1 .left),
     )
@@ -95,8 +95,8 @@ returns-4 c =
     let find = c .before .before .before .before .before .before in (
       (λ p s v.
           neighbour-missing (now (c .before .before .before .before .before .before .before .before .before .before .args .table)) p _ _
-          (sym (find .find-entry .ensures .0 (p .entries) (v .fitEntries) (s .rows)) ∙ c .before .before .before .before .enum-told2 .given .1)
-          (sym (place .place-before .ensures .0 (p .entries) (v .fitEntries) (s .rows)) ∙ c .enum-told3 .given .1)),
+          (sym (find .find-entry .ensures .0 (p .entries) (v .fitEntries) (v .entries) (s .rows)) ∙ c .before .before .before .before .enum-told2 .given .1)
+          (sym (place .place-before .ensures .0 (p .entries) (v .fitEntries) (v .entries) (s .rows)) ∙ c .enum-told3 .given .1)),
       refl,
     )
 

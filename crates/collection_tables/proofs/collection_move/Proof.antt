@@ -37,8 +37,8 @@ returns c =
     let find = c .before .before .before .before .before .before .before .before .before .before .before .before in (
       (λ p s v.
           moved-there (call .move-row .last .0) (search needs) p s v _ _ _ _ _
-          (sym (find .find-entry .ensures .0 (p .entries) (v .fitEntries) (s .rows)) ∙ c .before .before .before .before .before .before .before .before .before .before .from .given .1)
-          (sym (place .place-before-other .ensures .0 (p .entries) (v .fitEntries) (s .rows)) ∙ c .before .before .before .before .before .to .given .1) (call .move-row .ensures)),
+          (sym (find .find-entry .ensures .0 (p .entries) (v .fitEntries) (v .entries) (s .rows)) ∙ c .before .before .before .before .before .before .before .before .before .before .from .given .1)
+          (sym (place .place-before-other .ensures .0 (p .entries) (v .fitEntries) (v .entries) (s .rows)) ∙ c .before .before .before .before .before .to .given .1) (call .move-row .ensures)),
       tt,
     )
 
@@ -51,8 +51,8 @@ returns-2 c =
     let find = c .before .before .before .before .before .before .before in (
       (λ p s v.
           no-other (now (c .before .before .before .before .before .before .before .before .before .before .args .table)) p v _ _ _ _
-          (sym (find .find-entry .ensures .0 (p .entries) (v .fitEntries) (s .rows)) ∙ c .before .before .before .before .before .from .given .1)
-          (sym (place .place-before-other .ensures .0 (p .entries) (v .fitEntries) (s .rows)) ∙ c .enum-told .given .1)),
+          (sym (find .find-entry .ensures .0 (p .entries) (v .fitEntries) (v .entries) (s .rows)) ∙ c .before .before .before .before .before .from .given .1)
+          (sym (place .place-before-other .ensures .0 (p .entries) (v .fitEntries) (v .entries) (s .rows)) ∙ c .enum-told .given .1)),
       refl,
     )
 
@@ -63,7 +63,7 @@ returns-3 : tie.Need-returns-3
 returns-3 c =
     let find = c .before .before in (
       (λ p s v.
-          not-moved (now (c .before .before .before .before .before .args .table)) p v _ _ _ (sym (find .find-entry .ensures .0 (p .entries) (v .fitEntries) (s .rows)) ∙ c .enum-told2 .given .1)),
+          not-moved (now (c .before .before .before .before .before .args .table)) p v _ _ _ (sym (find .find-entry .ensures .0 (p .entries) (v .fitEntries) (v .entries) (s .rows)) ∙ c .enum-told2 .given .1)),
       refl,
     )
 

@@ -31,7 +31,7 @@ returns c =
     let find = c .before .before .before .before .before .before .before in (
       (λ p s v.
           removed-there (call .remove-record .last .0) (search needs) p s _ _ _
-          (sym (find .find-entry .ensures .0 (p .entries) (v .fitEntries) (s .rows)) ∙ c .before .before .before .before .before .at .given .1) (call .remove-record .ensures)),
+          (sym (find .find-entry .ensures .0 (p .entries) (v .fitEntries) (v .entries) (s .rows)) ∙ c .before .before .before .before .before .at .given .1) (call .remove-record .ensures)),
       tt,
     )
 
@@ -42,7 +42,7 @@ returns-2 : tie.Need-returns-2
 returns-2 c =
     let find = c .before .before in (
       (λ p s v.
-          not-removed (now (c .before .before .before .before .before .args .table)) p _ _ (sym (find .find-entry .ensures .0 (p .entries) (v .fitEntries) (s .rows)) ∙ c .enum-told .given .1)),
+          not-removed (now (c .before .before .before .before .before .args .table)) p _ _ (sym (find .find-entry .ensures .0 (p .entries) (v .fitEntries) (v .entries) (s .rows)) ∙ c .enum-told .given .1)),
       refl,
     )
 

@@ -34,7 +34,7 @@ returns c =
     let a = c .before .before .before .before .before .before .before .before .before .before .before .before .before .args in (
       (λ p s v.
           updated (call .replace-record .last .0) (search needs) p s _ (c .before .before .before .before .before .entry-row .result) (c .before .before .before .before .before .entry-row .ensures) (search needs) _
-          (sym (find .find-entry .ensures .0 (p .entries) (v .fitEntries) (s .rows)) ∙ c .before .before .before .before .before .before .before .at .given .1) (call .replace-record .ensures)),
+          (sym (find .find-entry .ensures .0 (p .entries) (v .fitEntries) (v .entries) (s .rows)) ∙ c .before .before .before .before .before .before .before .at .given .1) (call .replace-record .ensures)),
       tt,
     )
 
@@ -45,7 +45,7 @@ returns-2 : tie.Need-returns-2
 returns-2 c =
     let find = c .before .before in (
       (λ p s v.
-          not-updated (now (c .before .before .before .before .before .before .args .table)) p _ (sym (find .find-entry .ensures .0 (p .entries) (v .fitEntries) (s .rows)) ∙ c .enum-told .given .1)),
+          not-updated (now (c .before .before .before .before .before .before .args .table)) p _ (sym (find .find-entry .ensures .0 (p .entries) (v .fitEntries) (v .entries) (s .rows)) ∙ c .enum-told .given .1)),
       refl,
     )
 

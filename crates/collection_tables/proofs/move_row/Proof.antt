@@ -1,4 +1,4 @@
--- `move_row` meets its contract: the row is copied, taken out and inserted again.
+-- `move_row` meets its contract: the row is copied, and put at its new place.
 use Prim.Native.Nat.{_-_}
 use native.Mathlib.Omega.{arith}
 use borrow.Author.Needs.{needs}
@@ -15,49 +15,44 @@ slice-aggregate-copy c = search needs
 copy-requires : tie.Need-copy-requires
 copy-requires c κs = search needs
 
-remove-record-requires : tie.Need-remove-record-requires
-remove-record-requires c κs = search needs
+sub-move-record : tie.Need-sub-move-record
+sub-move-record c = search needs
 
-sub-insert-record : tie.Need-sub-insert-record
-sub-insert-record c = search needs
+slice-aggregate-move-record : tie.Need-slice-aggregate-move-record
+slice-aggregate-move-record c = search needs
 
-sub-insert-record-2 : tie.Need-sub-insert-record-2
-sub-insert-record-2 c = search needs
+move-record-requires : tie.Need-move-record-requires
+move-record-requires c κs = search needs
 
-slice-aggregate-insert-record : tie.Need-slice-aggregate-insert-record
-slice-aggregate-insert-record c = search needs
+slice-aggregate-move-record-2 : tie.Need-slice-aggregate-move-record-2
+slice-aggregate-move-record-2 c = search needs
 
-insert-record-requires : tie.Need-insert-record-requires
-insert-record-requires c κs = search needs
-
-sub-insert-record-3 : tie.Need-sub-insert-record-3
-sub-insert-record-3 c = search needs
-
-slice-aggregate-insert-record-2 : tie.Need-slice-aggregate-insert-record-2
-slice-aggregate-insert-record-2 c = search needs
-
-insert-record-requires-2 : tie.Need-insert-record-requires-2
-insert-record-requires-2 c κs = search needs
+move-record-requires-2 : tie.Need-move-record-requires-2
+move-record-requires-2 c κs = search needs
 
 same-length : tie.Need-same-length
 same-length c = search needs
 
 returns : tie.Need-returns
 returns c =
-    let start = c .before .before .before .before .before .before .before .before .before .before .before .before .before .before .before .before in
+    let copied = c .before .before .before .before .before .before .before in
+    let read = copied .before .before in
+    let start = read .before .before .before in
     let from = start .args .from in
     let to = start .args .to in
-    moved-row to (to - 1) (search needs) (search needs) (search needs) (without-before from to (search needs)) (omega arith) (c .before .before .before .before .before .before .before .before .before .before .before .before .before .record-at .ensures .0) (c .before .before .before .before .before .before .before .before .before .before .before .copy .ensures) (c .before .before .before .before .before .before .before .before .remove-record .ensures) (c .before .before .insert-record .ensures)
+    moved-row to (to - 1) (search needs) (without-before from to (search needs)) (omega arith) (read .record-at .ensures .0) (copied .copy .ensures) (c .before .before .move-record .ensures)
 
 same-length-2 : tie.Need-same-length-2
 same-length-2 c = search needs
 
 returns-2 : tie.Need-returns-2
 returns-2 c =
-    let start = c .before .before .before .before .before .before .before .before .before .before .before .before .before .before .before .before in
+    let copied = c .before .before .before .before .before .before .before in
+    let read = copied .before .before in
+    let start = read .before .before .before in
     let from = start .args .from in
     let to = start .args .to in
-    moved-row to to (search needs) (search needs) (search needs) (without-behind from to (search needs)) (omega arith) (c .before .before .before .before .before .before .before .before .before .before .before .before .before .record-at .ensures .0) (c .before .before .before .before .before .before .before .before .before .before .before .copy .ensures) (c .before .before .before .before .before .before .before .before .remove-record .ensures) (c .before .before .insert-record2 .ensures)
+    moved-row to to (search needs) (without-behind from to (search needs)) (omega arith) (read .record-at .ensures .0) (copied .copy .ensures) (c .before .before .move-record2 .ensures)
 
 pub move-row-spec : {M : Type 1} → statement M
 move-row-spec =
@@ -66,14 +61,11 @@ move-row-spec =
     record-at-requires
     slice-aggregate-copy
     copy-requires
-    remove-record-requires
-    sub-insert-record
-    sub-insert-record-2
-    slice-aggregate-insert-record
-    insert-record-requires
-    sub-insert-record-3
-    slice-aggregate-insert-record-2
-    insert-record-requires-2
+    sub-move-record
+    slice-aggregate-move-record
+    move-record-requires
+    slice-aggregate-move-record-2
+    move-record-requires-2
     same-length
     returns
     same-length-2

@@ -31,14 +31,14 @@ returns c =
     let find = c .before .before .before .before .before in
     let a = c .before .before .before .before .before .before .before .args in
     λ p s v.
-    entry-found p v (a .collection) (a .key) (find .find-entry .result) (find .find-entry .ensures .0 (p .entries) (v .fitEntries) (s .rows)) _ (c .before .before .before .at .given .1) (now (c .before .record-at .result)) (c .before .record-at .ensures .0 (map entryRow (p .entries)) (s .rows)) (c .stored-value .result) (c .stored-value .ensures)
+    entry-found p v (a .collection) (a .key) (find .find-entry .result) (find .find-entry .ensures .0 (p .entries) (v .fitEntries) (v .entries) (s .rows)) _ (c .before .before .before .at .given .1) (now (c .before .record-at .result)) (c .before .record-at .ensures .0 (map entryRow (p .entries)) (s .rows)) (c .stored-value .result) (c .stored-value .ensures)
 
 returns-2 : tie.Need-returns-2
 returns-2 c =
     let find = c .before .before .before in
     let a = c .before .before .before .before .before .args in
     λ p s v.
-    entry-absent p v (a .collection) (a .key) (find .find-entry .result) (find .find-entry .ensures .0 (p .entries) (v .fitEntries) (s .rows)) (c .before .enum-told .given .1) (c .no-value .result) (c .no-value .ensures)
+    entry-absent p v (a .collection) (a .key) (find .find-entry .result) (find .find-entry .ensures .0 (p .entries) (v .fitEntries) (v .entries) (s .rows)) (c .before .enum-told .given .1) (c .no-value .result) (c .no-value .ensures)
 
 pub entry-value-spec : {M : Type 1} → statement M
 entry-value-spec =

@@ -10,7 +10,7 @@ use Rattle.record_table.specs.Search.{isAbove, findFirst}
 use Rattle.record_table.specs.declared.Found.the-variants.{At}
 use Rattle.projection_patch.specs.Meaning.{beforeOf}
 use Rattle.local_projection_state.specs.Rows.{entryRow}
-use Rattle.local_projection_state.specs.RowsLaws.{entry-above}
+use Rattle.local_projection_state.specs.RowsLaws.{entry-above, entries-rising}
 use Rattle.collection_tables.specs.Places.{placeBefore, PositionWithin}
 use Rattle.collection_tables.proofs.Entries.{within-position}
 use Rattle.collection_tables.proofs.find.place_before.Statement.{statement}
@@ -35,8 +35,8 @@ returns : tie.Need-returns
 unfolding placeBefore PositionWithin
 returns c =
     let a = c .before .before .before .before .args in (
-      (λ es fit t.
-          ap At (c .find-above .ensures .0 (map entryRow es) t ∙ firstIndex-map entryRow (isAbove (a .collection)) (isLater (a .collection)) es (all-map FitsEntry _ (entry-above (a .collection)) es fit))
+      (λ es fit grouped t.
+          ap At (c .find-above .ensures .0 (map entryRow es) t (entries-rising es fit grouped) ∙ firstIndex-map entryRow (isAbove (a .collection)) (isLater (a .collection)) es (all-map FitsEntry _ (entry-above (a .collection)) es fit))
           ∙ sym (ap (λ b. placeBefore (a .collection) (beforeOf b) es) (c .before .enum-told .given .1))),
       c .find-above .ensures .1,
     )
@@ -45,8 +45,8 @@ returns-2 : tie.Need-returns-2
 unfolding placeBefore
 returns-2 c =
     let a = c .before .before .before .before .before .before .args in (
-      (λ es fit t.
-          c .find-entry .ensures .0 es fit t
+      (λ es fit grouped t.
+          c .find-entry .ensures .0 es fit grouped t
           ∙ ap (λ n. findFirst (isEntry (a .collection) n) es) (c .before .raw .ensures)
           ∙ sym (ap (λ b. placeBefore (a .collection) (beforeOf b) es) (c .before .before .before .before2 .given .1))),
       within-position (a .count) _ (c .find-entry .ensures .1),

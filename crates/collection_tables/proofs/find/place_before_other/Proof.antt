@@ -10,14 +10,14 @@ is-itself-requires c κs = search needs
 
 returns : tie.Need-returns
 unfolding placeBeforeOther PositionWithin
-returns c = ((λ es fit t. rw (sym (c .before .is-itself .ensures) ∙ c .if1 .taken)), tt)
+returns c = ((λ es fit grouped t. rw (sym (c .before .is-itself .ensures) ∙ c .if1 .taken)), tt)
 
 place-before-requires : tie.Need-place-before-requires
 place-before-requires c κs = search needs
 
 returns-2 : tie.Need-returns-2
 unfolding placeBeforeOther
-returns-2 c = ((λ es fit t. rw (sym (c .before .before .is-itself .ensures) ∙ c .before .if1 .left) (c .place-before .ensures .0 es fit t)), c .place-before .ensures .1)
+returns-2 c = ((λ es fit grouped t. rw (sym (c .before .before .is-itself .ensures) ∙ c .before .if1 .left) (c .place-before .ensures .0 es fit grouped t)), c .place-before .ensures .1)
 
 pub place-before-other-spec : {M : Type 1} → statement M
 place-before-other-spec =

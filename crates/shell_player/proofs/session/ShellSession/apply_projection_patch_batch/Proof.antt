@@ -1,34 +1,73 @@
--- `ShellSession::apply_projection_patch_batch` meets its contract: steps 1 to 8, then step 9.
-use mathlib.Core.Path.{_≡_, refl, sym, ap, _∙_}
+-- `ShellSession::apply_projection_patch_batch` meets its contract: steps 1 to 8, then step 9, by what came of the operations.
+use mathlib.Core.Path.{_≡_, refl, sym, ap, subst, _∙_}
+use mathlib.Core.List.{List, [], _∷_}
+use mathlib.Core.Logic.{inl, inr}
+use lib.ListN.{length}
+use denote.Enum.Declared.{tagOf}
+use denote.Ref.{now}
+use types.Run.{OneOf}
+use native.Mathlib.Omega.{arith}
+use Rattle.spec_patch.specs.Patch.{Patch}
+use Rattle.spec_patch.specs.Edition.{v1}
+use Rattle.spec_patch.specs.Read.{patches, readSet}
+use Rattle.spec_projection.specs.Apply.{replaySteps, applySteps}
+use Rattle.spec_session.specs.Session.{at, Session}
+use Rattle.spec_session.specs.Lifecycle.{applied}
+use Rattle.spec_session.specs.Batch.{candidate, commit}
 use Rattle.spec_session.specs.BatchLaws.{never-passes}
-use Rattle.shell_gates.specs.Gates.{gateOf, counted}
-use Rattle.shell_player.specs.Batches.{rejectedRow}
-use Rattle.shell_player.specs.CommitLaws.{same-rejection, seen, batch-rejects, batch-commits}
+use Rattle.local_projection_state.specs.Stores.{StoredTables}
+use Rattle.projection_replay.proofs.ReplayRun as replay-run
+use Rattle.projection_replay.specs.Replay.{RunBecame}
+use Rattle.projection_replay.specs.declared.ReplayRun.{ReplayRun}
+use Rattle.projection_replay.specs.declared.ReplayRun.the-variants.{At, Refused, Unreadable}
+use Rattle.shell_lifecycle.specs.Meaning.{cursorOf}
+use Rattle.shell_gates.specs.Gates.{gateOf, counted, envelopeMeans}
+use Rattle.shell_player.specs.declared.session.ShellSession.{ShellSession}
+use Rattle.shell_player.specs.Holds.{Holds}
+use Rattle.shell_player.specs.Batches.{batchAnswerOf, answerAt, runAnswer, Stopped, BatchBecame, rejectedRow, unchangedRow, appliedRow}
+use Rattle.shell_player.specs.CommitLaws.{kept-applied, same-rejection, run-row, seen, commits-none, commits-stopped, commits-applied, batch-rejects, batch-commits}
 use borrow.Author.Needs.{needs}
 use Rattle.shell_player.proofs.session.ShellSession.apply_projection_patch_batch.Statement.{
   statement,
 }
 use Rattle.shell_player.proofs.session.ShellSession.apply_projection_patch_batch.Tie as tie
 
+-- what is lent is as long as its table
+long-bindings : (c : tie.Start) → length (c .args .self .«local_projection» .bindings) ≡ 11328
+long-bindings c = search needs
+
+long-availability : (c : tie.Start) → length (c .args .self .«local_projection» .availability) ≡ 576
+long-availability c = search (needs, c .good .0 .1 .1 .1 .1 .0 .1 .1 .1 .1 .0)
+
+long-entries : (c : tie.Start) → length (c .args .self .«local_projection» .entries) ≡ 23168
+long-entries c = search (needs, c .good .0 .1 .1 .1 .1 .0 .1 .1 .1 .1 .1 .0)
+
+-- what the run says of the operations
+became : (c : tie.After-replay-readable) → let a = c .before .before .before .before .before .before .before .before .before .before .before .before .before .before .before .before .before .args in (m : Session) (ps : List Patch) → Holds (a .self) m → readSet v1 (now (a .set)) ≡ patches ps
+    → RunBecame (λ i k q. StoredTables k (c .replay-readable .last .0) (c .replay-readable .last .1 .0) (c .replay-readable .last .1 .1 .0) q) (c .replay-readable .result) (candidate m ps)
+unfolding candidate
+became c m ps h reads = c .replay-readable .ensures ps (m .projection) reads (h .projection)
+
+-- a run of another variant than At
+other : (r : ReplayRun) → OneOf (1 ∷ 2 ∷ []) (tagOf replay-run.the-type r) → Stopped r
+other (At end n) (inl e) = absurd (omega arith)
+other (At end n) (inr e) = absurd (omega arith)
+other (Refused e) k = tt
+other (Unreadable f) k = tt
+
 check-session-requires : tie.Need-check-session-requires
 check-session-requires c κs = search needs
 
-enum-known-refusal : tie.Need-enum-known-refusal
-enum-known-refusal c = search needs
+enum-known-gate : tie.Need-enum-known-gate
+enum-known-gate c = search needs
 
 rejected-requires : tie.Need-rejected-requires
 rejected-requires c κs = search needs
 
-enum-told : tie.Need-enum-told
-enum-told c = search needs
-
-apply-checked-requires : tie.Need-apply-checked-requires
-apply-checked-requires c κs = search needs
-
 returns : tie.Need-returns
 unfolding gateOf counted
 returns c =
-    let gate = ap gateOf (sym (c .before .before .refusal .given .1)) in
+    let gate = ap gateOf (sym (c .before .before .gate .given .1)) in
     let checked = c .before .before .before .before .check-session .ensures in (
       record { became = λ m h. batch-rejects _ m h _ _ _ _ _ _ (gate ∙ checked .0 m (seen _ m h)) (c .rejected .ensures) },
       record {
@@ -38,15 +77,94 @@ returns c =
       },
     )
 
+enum-told : tie.Need-enum-told
+enum-told c = search needs
+
+unchanged-requires : tie.Need-unchanged-requires
+unchanged-requires c κs = search needs
+
 returns-2 : tie.Need-returns-2
 unfolding gateOf
 returns-2 c =
-    let gate = ap gateOf (sym (c .before .enum-told .given .1)) in
-    let checked = c .before .before .before .check-session .ensures in (
-      record { became = λ m h. batch-commits _ m h _ _ _ _ (gate ∙ checked .0 m (seen _ m h)) (λ ps reads count. c .apply-checked .ensures .0 m ps h reads count) },
+    let gate = ap gateOf (sym (c .before .before .before .enum-told .given .1)) in
+    let checked = c .before .before .before .before .before .check-session .ensures in (
+      record { became = λ m h. batch-commits _ m h _ _ _ _ (gate ∙ checked .0 m (seen _ m h)) (λ ps reads count. commits-none _ m h _ ps _ (c .unchanged .ensures) (c .before .if1 .taken) count) },
       record {
-        kept = c .apply-checked .ensures .1 .0;
-        row = c .apply-checked .ensures .1 .1;
+        kept = λ n. refl;
+        row = unchangedRow (c .unchanged .ensures);
+        preflight = λ f n h. never-passes (sym (gate ∙ checked .1 .1 f n h));
+      },
+    )
+
+slice-aggregate-replay-readable : tie.Need-slice-aggregate-replay-readable
+slice-aggregate-replay-readable c = sym (long-bindings (c .before .before .before .before .before .before .before .before .before .before .before .before .before .before))
+
+slice-aggregate-replay-readable-2 : tie.Need-slice-aggregate-replay-readable-2
+slice-aggregate-replay-readable-2 c = sym (long-availability (c .before .before .before .before .before .before .before .before .before .before .before .before .before .before .before))
+
+slice-aggregate-replay-readable-3 : tie.Need-slice-aggregate-replay-readable-3
+slice-aggregate-replay-readable-3 c = sym (long-entries (c .before .before .before .before .before .before .before .before .before .before .before .before .before .before .before .before))
+
+replay-readable-requires : tie.Need-replay-readable-requires
+replay-readable-requires c κs = search needs
+
+concluded-requires : tie.Need-concluded-requires
+concluded-requires c κs = search needs
+
+enum-known-run : tie.Need-enum-known-run
+enum-known-run c = search needs
+
+returns-3 : tie.Need-returns-3
+unfolding gateOf
+returns-3 c =
+    let gate = ap gateOf (sym (c .before .before .before .before .before .before .before .before .before .before .before .before .before .before .before .enum-told .given .1)) in
+    let checked = c .before .before .before .before .before .before .before .before .before .before .before .before .before .before .before .before .before .check-session .ensures in
+    let run = c .before .before .before .before .before .replay-readable .result in (
+      record {
+        became = λ m h. batch-commits _ m h _ _ _ _ (gate ∙ checked .0 m (seen _ m h)) (λ ps reads count. commits-stopped _ m h _ ps run _ _ (other run (c .match2 .keys2)) (became (c .before .before .before .before .before) m ps h reads) (c .before .concluded .ensures));
+      },
+      record {
+        kept = λ n. refl;
+        row = run-row _ _ _ _ run (c .before .concluded .ensures);
+        preflight = λ f n h. never-passes (sym (gate ∙ checked .1 .1 f n h));
+      },
+    )
+
+advanced-requires : tie.Need-advanced-requires
+advanced-requires c κs = search needs
+
+session-of-requires : tie.Need-session-of-requires
+session-of-requires c κs = search needs
+
+-- the answer where the run ended
+answered : (c : tie.After-session-of) → let a = c .before .before .before .before .before .before .before .before .before .before .before .before .before .before .before .before .before .before .before .before .before .before .before .before .before .before .args in batchAnswerOf (c .before .before .before .before .before .concluded .result) ≡ answerAt applied (at (a .envelope .«sequence_no»))
+unfolding runAnswer
+answered c =
+    let a = c .before .before .before .before .before .before .before .before .before .before .before .before .before .before .before .before .before .before .before .before .before .before .before .before .before .before .args in
+    c .before .before .before .before .before .concluded .ensures ∙ ap (runAnswer (a .self .context .limits .«max_diagnostics_per_transition») (cursorOf (a .self .state .«replay_cursor»)) (a .envelope .«sequence_no»)) (c .before .before .before .run .given .1)
+
+-- a run that ended, with the session that was made of the tables
+handed : (c : tie.After-session-of) → let a = c .before .before .before .before .before .before .before .before .before .before .before .before .before .before .before .before .before .before .before .before .before .before .before .before .before .before .args in (m : Session) (ps : List Patch) → Holds (a .self) m → readSet v1 (now (a .set)) ≡ patches ps
+    → BatchBecame (record { session = c .session-of .result; result = c .before .before .before .before .before .concluded .result }) (commit m (envelopeMeans (a .envelope)) (candidate m ps))
+unfolding runAnswer
+handed c m ps h reads =
+    let a = c .before .before .before .before .before .before .before .before .before .before .before .before .before .before .before .before .before .before .before .before .before .before .before .before .before .before .args in
+    let call = c .before .before .before .before .before .before .before .before .before in
+    let result = c .before .before .before .before .before .concluded .result in
+    let ended = c .before .before .before .run .given in
+    let stored = subst (λ (r : ReplayRun). RunBecame (λ i k q. StoredTables k (call .replay-readable .last .0) (call .replay-readable .last .1 .0) (call .replay-readable .last .1 .1 .0) q) r (candidate m ps)) (ended .1) (became call m ps h reads) in
+    subst (λ (s : ShellSession). BatchBecame (record { session = s; result = result }) (commit m (envelopeMeans (a .envelope)) (candidate m ps))) (sym (c .session-of .ensures))
+    (commits-applied (a .self) m h (envelopeMeans (a .envelope)) ps (ended .0 .0) (ended .0 .1 .0) (call .replay-readable .last .0) (call .replay-readable .last .1 .0) (call .replay-readable .last .1 .1 .0) (c .before .advanced .result) result (c .before .before .before .before .before .before .before .before .before .before .before .before .before .before .before .before .before .if1 .left) stored (c .before .advanced .ensures) (answered c))
+
+returns-4 : tie.Need-returns-4
+unfolding gateOf
+returns-4 c =
+    let gate = ap gateOf (sym (c .before .before .before .before .before .before .before .before .before .before .before .before .before .before .before .before .before .before .before .enum-told .given .1)) in
+    let checked = c .before .before .before .before .before .before .before .before .before .before .before .before .before .before .before .before .before .before .before .before .before .check-session .ensures in (
+      record { became = λ m h. batch-commits _ m h _ _ _ _ (gate ∙ checked .0 m (seen _ m h)) (λ ps reads count. handed c m ps h reads) },
+      record {
+        kept = kept-applied _ _ _ (answered c);
+        row = appliedRow (answered c);
         preflight = λ f n h. never-passes (sym (gate ∙ checked .1 .1 f n h));
       },
     )
@@ -56,9 +174,19 @@ apply-projection-patch-batch-spec =
     tie.close
     (tie.spec
     check-session-requires
-    enum-known-refusal
+    enum-known-gate
     rejected-requires
-    enum-told
-    apply-checked-requires
     returns
-    returns-2)
+    enum-told
+    unchanged-requires
+    returns-2
+    slice-aggregate-replay-readable
+    slice-aggregate-replay-readable-2
+    slice-aggregate-replay-readable-3
+    replay-readable-requires
+    concluded-requires
+    enum-known-run
+    returns-3
+    advanced-requires
+    session-of-requires
+    returns-4)
