@@ -25,6 +25,8 @@ use Rattle.projection_patch_sets.specs.WalkLaws.{walk-head, walk-head-reads, wa
 use Rattle.projection_patch_sets.specs.SetAnswers.{headAnswer}
 use Rattle.projection_patch_sets.specs.declared.PatchHeadRead.{PatchHeadRead}
 use Rattle.projection_patch_sets.specs.declared.PatchHeadRead.the-variants as head-read
+use Rattle.readable_operations.specs.Rereading.{Again}
+use Rattle.readable_operations.specs.WalkedLaws.{walked-again}
 use Rattle.batch_targets.specs.Counted.{PastOperations, CountsOperations}
 
 pub record Progress (c : Catalogue) (set : List ℕ) (os : List Operation) (ps : List Patch) (at left absent : ℕ) : Type 0 where
@@ -46,7 +48,7 @@ ended c set os ps at absent p = go (p .todo) (p .here) (p .long) (p .sum)
     go (o ∷ os′) h e s = absurd (omega arith)
 
 module _ (c : Catalogue) (set : List ℕ) (os : List Operation) (ps : List Patch) (at left absent : ℕ) (p : Progress c set os ps at left absent) (more : 0 < left)
-    (r : OperationRead) (answer-is : r ≡ operationAnswer (length (lentFrom set at)) (readOperation v1 (lentFrom set at))) where
+    (r : OperationRead) (again : Again (operationAnswer (length (lentFrom set at))) (readOperation v1 (lentFrom set at)) r) where
   -- one operation more
   pub turned : (x : ProjectionPatchOperation) (taken one : ℕ) → r ≡ operation-read.Read x taken → one ≡ (if inCatalogue c (targetOf (operationOf (lentFrom set at) x)) then 0 else 1)
       → Progress c set os ps (at + taken) (left - 1) (absent + one)
@@ -56,7 +58,7 @@ module _ (c : Catalogue) (set : List ℕ) (os : List Operation) (ps : List Patch
       go : (todo : List Operation) → AtOperations set at todo ps → length todo ≡ left → absent + absentTargets c todo ≡ absentTargets c os → Progress c set os ps (at + taken) (left - 1) (absent + one)
       go [] h l s = absurd (omega arith)
       go (o ∷ todo) h l s =
-          let v = walk-operation set at o todo ps h r answer-is x taken e in
+          let v = walk-operation set at o todo ps h r (walked-again set at o todo ps h r again) x taken e in
           let first : one ≡ (if inCatalogue c (targetOf o) then 0 else 1) = counts ∙ ap (λ (y : Operation). if inCatalogue c (targetOf y) then 0 else 1) (v .means) in
           record { todo = todo; here = v .next; long = omega arith; sum = omega (arith, s, first) }
 
@@ -66,7 +68,7 @@ module _ (c : Catalogue) (set : List ℕ) (os : List Operation) (ps : List Patch
     where
       go : (todo : List Operation) → AtOperations set at todo ps → length todo ≡ left → ⊥
       go [] h l = omega arith
-      go (o ∷ todo) h l = walk-operation-reads set at o todo ps h r answer-is f e
+      go (o ∷ todo) h l = walk-operation-reads set at o todo ps h r (walked-again set at o todo ps h r again) f e
 
 -- ---- the patches of a set
 

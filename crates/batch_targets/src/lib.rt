@@ -2,7 +2,6 @@
 // pair is two of them.
 use active_projection_target_catalog::membership;
 use projection_patch::patch::ProjectionPatchOperation;
-use projection_patch::read_operations;
 use projection_patch::read_operations::OperationRead;
 use projection_patch::read_values::CountRead;
 use projection_patch_sets::PatchHeadRead;
@@ -99,7 +98,7 @@ fn absent_in_patch(
     let mut left = count;
     let mut absent: usize = 0;
     while 0 < left {
-        match read_operations::read_operation(&set[at..]) {
+        match readable_operations::reread_operation(&set[at..]) {
             OperationRead::Read(operation, taken) => {
                 absent = absent + one_if_absent(nodes, bindings, collections, operation);
                 at = at + taken;

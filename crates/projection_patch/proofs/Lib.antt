@@ -1,5 +1,5 @@
 -- Laws that belong to no one function. The readers of patches and sets cite them too.
 pub mod At
 pub mod Answers
-mod Texts
+pub mod Texts
 pub mod Places

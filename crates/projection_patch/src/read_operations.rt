@@ -35,7 +35,7 @@ pub enum PlaceRead {
 }
 
 // The collection and the key behind the tag.
-fn place(part: &[u8]) -> PlaceRead
+pub fn place(part: &[u8]) -> PlaceRead
     ensures { λ r. ⌜ r ≡ placeTo (numbersAnswer (firstNumber 8 (drop 1 (now (part .entry)))) (firstNumber 8 (drop 9 (now (part .entry))))) ⌝ }
 {
     match read_values::numbers_at(part, 1) {
@@ -47,7 +47,7 @@ fn place(part: &[u8]) -> PlaceRead
     }
 }
 
-fn key_of(number: OptionalNumber) -> OptionalKey
+pub fn key_of(number: OptionalNumber) -> OptionalKey
     ensures { λ r. ⌜ r ≡ beforeTo (optionalOf number) ⌝ }
 {
     match number {

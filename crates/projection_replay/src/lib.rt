@@ -13,7 +13,6 @@ ghost use Rattle.projection_replay.specs.Replay.{RunBecame, EndWithin};
 use binding_tables::LocalProjectionApplicationError;
 use local_projection_state::ProjectionCounts;
 use projection_operations::OperationChange;
-use projection_patch::read_operations;
 use projection_patch::read_operations::OperationRead;
 use projection_patch::read_values::ProjectionPatchReadFault;
 use projection_patch_sets::PatchHeadRead;
@@ -41,7 +40,7 @@ fn replay_operation(
         (applyOperation p o)) ⌝ }
     ensures within { λ r. ⌜ EndWithin (length (now (set .entry))) r ⌝ }
 {
-    match read_operations::read_operation(&set[at..]) {
+    match readable_operations::reread_operation(&set[at..]) {
         OperationRead::Read(operation, taken) => match projection_operations::apply_operation(
             bindings,
             availability,

@@ -1,20 +1,14 @@
 -- `batch_targets::absent_in_patch` meets its contract: what was counted, with the operations that are left, is the whole; the measure is what is left.
 use Prim.Native.Nat.{ℕ, _+_, _-_, _≤_, _<_}
-use mathlib.Core.Path.{_≡_, refl, sym, ap, _∙_}
+use mathlib.Core.Path.{_≡_, subst}
 use mathlib.Core.List.{List}
 use native.Mathlib.Omega.{arith}
-use lib.ListN.{length, drop, length-drop}
-use Rattle.spec_lists.specs.Bytes.{Bytes}
-use Rattle.spec_lists.specs.BytesLaws.{bytes-of, bytes-drop}
+use lib.ListN.{length, drop, length-take, length-drop}
 use Rattle.spec_patch.specs.Patch.{Operation, Patch}
-use Rattle.spec_patch.specs.Edition.{v1}
-use Rattle.spec_patch.specs.Read.{readOperation}
 use Rattle.spec_session.specs.Session.{Catalogue}
-use Rattle.projection_patch.specs.Meaning.{operationTo}
-use Rattle.projection_patch.specs.ReadAnswers.{operationAnswer}
-use Rattle.projection_patch.proofs.At.{from}
-use Rattle.projection_patch.proofs.Answers.{Got, operation-got, no-operation}
+use Rattle.projection_patch.specs.ReadAnswers.{lentFrom}
 use Rattle.projection_patch_sets.specs.Walk.{AtOperations}
+use Rattle.readable_operations.specs.Rereading.{OperationWithin}
 use Rattle.batch_targets.specs.Lent.{Lent}
 use Rattle.batch_targets.proofs.Progress.{Progress, started, turned, not-refused, ended}
 use borrow.Author.Needs.{needs}
@@ -29,20 +23,14 @@ abbrev μ-loop : tie.MeasureT-loop
 μ-loop nodes bindings collections set from count at₀ left₀ absent₀ at left absent = left
 
 -- what the loop has in hand where the operation has been read
-abbrev head : tie.After-read-operation Inv-loop μ-loop → tie.At-loop Inv-loop μ-loop
+abbrev head : tie.After-reread-operation Inv-loop μ-loop → tie.At-loop Inv-loop μ-loop
 head c = c .before .before .before
 
-abbrev set : tie.After-read-operation Inv-loop μ-loop → List ℕ
+abbrev set : tie.After-reread-operation Inv-loop μ-loop → List ℕ
 set c = head c .before .before .before .before .before .args .set .now
 
-abbrev at : tie.After-read-operation Inv-loop μ-loop → ℕ
+abbrev at : tie.After-reread-operation Inv-loop μ-loop → ℕ
 at c = head c .loop .at
-
-rest-bytes : (c : tie.After-read-operation Inv-loop μ-loop) → Bytes (drop (at c) (set c))
-rest-bytes c = bytes-drop (at c) (set c) (bytes-of (set c) (λ j. head c .before .shared-slice-known4 .given j .fits))
-
-ensured : (c : tie.After-read-operation Inv-loop μ-loop) → c .read-operation .result ≡ operationAnswer (length (drop (at c) (set c))) (readOperation v1 (drop (at c) (set c)))
-ensured c = c .read-operation .ensures ∙ ap (λ (l : List ℕ). operationAnswer (length l) (readOperation v1 l)) (from (set c) (at c))
 
 abbrev taken : tie.After-one-if-absent Inv-loop μ-loop → ℕ
 taken c = c .before .before .operation .given .0 .1 .0
@@ -50,24 +38,23 @@ taken c = c .before .before .operation .given .0 .1 .0
 within : (c : tie.After-one-if-absent Inv-loop μ-loop) → let k = c .before .before .before .before in at k + taken c ≤ length (set k)
 within c =
     let k = c .before .before .before .before in
-    let g = c .before .before .operation .given in
-    let one : Got (readOperation v1) operationTo (drop (at k) (set k)) 0 (g .0 .0) (taken c) = operation-got (drop (at k) (set k)) 0 (k .read-operation .result) (ensured k) (rest-bytes k) (g .0 .0) (taken c) (g .1) in
-    omega (arith, length-drop (at k) (set k), one .there)
+    let here = subst (OperationWithin (lentFrom (set k) (at k))) (c .before .before .operation .given .1) (k .reread-operation .ensures .1) in
+    omega (arith, here .taken, length-take (length (set k) - at k) (drop (at k) (set k)), length-drop (at k) (set k))
 
 loop-holds : tie.Need-loop-holds Inv-loop μ-loop
 loop-holds c = (search needs, (search needs, λ m lent os ps h e. started m _ os ps _ _ h e))
 
-sub-read-operation : tie.Need-sub-read-operation Inv-loop μ-loop
-sub-read-operation c = search needs
+sub-reread-operation : tie.Need-sub-reread-operation Inv-loop μ-loop
+sub-reread-operation c = search needs
 
-part-read-operation-start : tie.Need-part-read-operation-start Inv-loop μ-loop
-part-read-operation-start c = search needs
+part-reread-operation-start : tie.Need-part-reread-operation-start Inv-loop μ-loop
+part-reread-operation-start c = search needs
 
-part-read-operation-end : tie.Need-part-read-operation-end Inv-loop μ-loop
-part-read-operation-end c = search needs
+part-reread-operation-end : tie.Need-part-reread-operation-end Inv-loop μ-loop
+part-reread-operation-end c = search needs
 
-read-operation-requires : tie.Need-read-operation-requires Inv-loop μ-loop
-read-operation-requires c κs = search needs
+reread-operation-requires : tie.Need-reread-operation-requires Inv-loop μ-loop
+reread-operation-requires c κs = search needs
 
 enum-known-operation : tie.Need-enum-known-operation Inv-loop μ-loop
 enum-known-operation c = search needs
@@ -94,7 +81,7 @@ loop-again c =
       within c,
       (
         omega (arith, c .one-if-absent .ensures .0),
-        λ m lent os ps h e. turned m (set k) os ps (at k) (l .left) (l .absent) (l .inv .1 .1 m lent os ps h e) (omega arith) (k .read-operation .result) (k .read-operation .ensures) _ (taken c) _ (c .before .before .operation .given .1) (c .one-if-absent .ensures .1 m _ lent),
+        λ m lent os ps h e. turned m (set k) os ps (at k) (l .left) (l .absent) (l .inv .1 .1 m lent os ps h e) (omega arith) (k .reread-operation .result) (k .reread-operation .ensures .0) _ (taken c) _ (c .before .before .operation .given .1) (c .one-if-absent .ensures .1 m _ lent),
       ),
     )
 
@@ -106,7 +93,7 @@ returns c =
     let k = c .before .before in
     let l = head k .loop in (
       (omega arith, omega arith),
-      λ m lent os ps h e. absurd (not-refused m (set k) os ps (at k) (l .left) (l .absent) (l .inv .1 .1 m lent os ps h e) (omega arith) (k .read-operation .result) (k .read-operation .ensures) _ (c .enum-told .given .1)),
+      λ m lent os ps h e. absurd (not-refused m (set k) os ps (at k) (l .left) (l .absent) (l .inv .1 .1 m lent os ps h e) (omega arith) (k .reread-operation .result) (k .reread-operation .ensures .0) _ (c .enum-told .given .1)),
     )
 
 returns-2 : tie.Need-returns-2 Inv-loop μ-loop
@@ -124,10 +111,10 @@ absent-in-patch-spec =
     Inv-loop
     μ-loop
     loop-holds
-    sub-read-operation
-    part-read-operation-start
-    part-read-operation-end
-    read-operation-requires
+    sub-reread-operation
+    part-reread-operation-start
+    part-reread-operation-end
+    reread-operation-requires
     enum-known-operation
     one-if-absent-requires
     add-absent

@@ -6,42 +6,39 @@ use native.Mathlib.Omega.{arith}
 use borrow.Author.Needs.{needs}
 use denote.Ref.{now}
 use lib.ListN.{length, take, drop, length-take, length-drop}
-use Rattle.spec_lists.specs.Bytes.{Bytes}
-use Rattle.spec_lists.specs.BytesLaws.{bytes-of, bytes-take, bytes-drop}
 use Rattle.spec_patch.specs.Edition.{v1}
 use Rattle.spec_patch.specs.Patch.{Operation, Patch}
 use Rattle.spec_patch.specs.Fits.{FitsOperation}
 use Rattle.spec_patch.specs.Read.{readOperation}
 use Rattle.spec_projection.specs.Projection.{Projection}
 use Rattle.spec_projection.specs.Apply.{applyOperation}
-use Rattle.projection_patch.specs.Meaning.{operationTo}
-use Rattle.projection_patch.specs.ReadAnswers.{lentFrom}
-use Rattle.projection_patch.proofs.Answers.{Got, operation-got}
+use Rattle.projection_patch.specs.ReadAnswers.{lentFrom, operationAnswer}
 use Rattle.projection_patch_sets.specs.Walk.{AtOperations}
 use Rattle.projection_patch_sets.specs.WalkLaws.{walk-operation, walk-operation-reads}
+use Rattle.patch_part_writer.specs.Extent.{operationText}
+use Rattle.readable_operations.specs.Rereading.{Inside, OperationWithin}
+use Rattle.readable_operations.specs.WalkedLaws.{walked-again}
 use Rattle.local_projection_state.specs.Stores.{StoredTables}
 use Rattle.projection_operations.specs.OperationChange.{OperationBecame}
 use Rattle.projection_replay.proofs.Runs.{operation-run, operation-stop}
-use Rattle.projection_replay.proofs.Texts.{read-within}
 use Rattle.projection_replay.proofs.replay_operation.Statement.{statement}
 use Rattle.projection_replay.proofs.replay_operation.Tie as tie
 
--- the part that is lent, and what was read from it
-abbrev part : tie.After-read-operation → List ℕ
+-- the part that is lent, and where in it stands what was read from it
+abbrev part : tie.After-reread-operation → List ℕ
 part c = lentFrom (now (c .before .before .before .before .before .before .args .set)) (c .before .before .before .before .before .before .args .at)
 
-part-bytes : (c : tie.After-read-operation) → Bytes (part c)
-part-bytes c =
-    let set = now (c .before .before .before .before .before .before .args .set) in
-    bytes-take (length set - c .before .before .before .before .before .before .args .at) (drop (c .before .before .before .before .before .before .args .at) set) (bytes-drop (c .before .before .before .before .before .before .args .at) set (bytes-of set (λ j. c .before .before .shared-slice-known .given j .fits)))
-
-one : (c : tie.After-known-told) → Got (readOperation v1) operationTo (part (c .before .before .before)) 0 (c .before .operation .given .0 .0) (c .before .operation .given .0 .1 .0)
-one c = operation-got (part (c .before .before .before)) 0 (c .before .before .before .read-operation .result) (c .before .before .before .read-operation .ensures) (part-bytes (c .before .before .before)) _ _ (c .before .operation .given .1)
+read-inside : (c : tie.After-known-told) → Inside (part (c .before .before .before)) (operationText (c .before .operation .given .0 .0)) (c .before .operation .given .0 .1 .0)
+read-inside c = let k = c .before .before .before in subst (OperationWithin (part k)) (c .before .operation .given .1) (k .reread-operation .ensures .1)
 
 inside : (c : tie.After-known-told) → c .before .before .before .before .before .before .before .before .before .args .at + c .before .operation .given .0 .1 .0 ≤ length (now (c .before .before .before .before .before .before .before .before .before .args .set))
 inside c =
     let set = now (c .before .before .before .before .before .before .before .before .before .args .set) in
-    omega (arith, one c .there, length-take (length set - c .before .before .before .before .before .before .before .before .before .args .at) (drop (c .before .before .before .before .before .before .before .before .before .args .at) set), length-drop (c .before .before .before .before .before .before .before .before .before .args .at) set)
+    omega (arith, read-inside c .taken, length-take (length set - c .before .before .before .before .before .before .before .before .before .args .at) (drop (c .before .before .before .before .before .before .before .before .before .args .at) set), length-drop (c .before .before .before .before .before .before .before .before .before .args .at) set)
+
+-- the answer of reading, where an operation stands at the position
+answered : (c : tie.After-reread-operation) (o : Operation) (os : List Operation) (ps : List Patch) → AtOperations (now (c .before .before .before .before .before .before .args .set)) (c .before .before .before .before .before .before .args .at) (o ∷ os) ps → c .reread-operation .result ≡ operationAnswer (length (part c)) (readOperation v1 (part c))
+answered c o os ps h = walked-again (now (c .before .before .before .before .before .before .args .set)) (c .before .before .before .before .before .before .args .at) o os ps h (c .reread-operation .result) (c .reread-operation .ensures .0)
 
 -- the answer of the call, for an operation that stands at the position
 applied : (c : tie.After-apply-operation) (o : Operation) (os : List Operation) (ps : List Patch) (p : Projection) → let start = c .before .before .before .before .before .before .before .before .before .before .before .before .before .before in AtOperations (now (start .args .set)) (start .args .at) (o ∷ os) ps
@@ -51,21 +48,21 @@ applied c o os ps p h s =
     let start = c .before .before .before .before .before .before .before .before .before .before .before .before .before .before in
     let read = c .before .before .before .before .before .before .before .before in
     let set = now (start .args .set) in
-    let visited = walk-operation set (start .args .at) o os ps h (read .read-operation .result) (read .read-operation .ensures) _ _ (c .before .before .before .before .before .before .operation .given .1) in
+    let visited = walk-operation set (start .args .at) o os ps h (read .reread-operation .result) (answered read o os ps h) _ _ (c .before .before .before .before .before .before .operation .given .1) in
     subst (λ y. OperationBecame (λ m q. StoredTables m (c .apply-operation .last .0) (c .apply-operation .last .1 .0) (c .apply-operation .last .1 .1 .0) q) (c .apply-operation .result) (applyOperation p y)) (visited .means)
     (c .apply-operation .ensures p s (subst (FitsOperation v1) (sym (visited .means)) (h .fit .0)))
 
-sub-read-operation : tie.Need-sub-read-operation
-sub-read-operation c = search needs
+sub-reread-operation : tie.Need-sub-reread-operation
+sub-reread-operation c = search needs
 
-part-read-operation-start : tie.Need-part-read-operation-start
-part-read-operation-start c = search needs
+part-reread-operation-start : tie.Need-part-reread-operation-start
+part-reread-operation-start c = search needs
 
-part-read-operation-end : tie.Need-part-read-operation-end
-part-read-operation-end c = search needs
+part-reread-operation-end : tie.Need-part-reread-operation-end
+part-reread-operation-end c = search needs
 
-read-operation-requires : tie.Need-read-operation-requires
-read-operation-requires c κs = search needs
+reread-operation-requires : tie.Need-reread-operation-requires
+reread-operation-requires c κs = search needs
 
 enum-known-operation : tie.Need-enum-known-operation
 enum-known-operation c = search needs
@@ -80,7 +77,7 @@ part-apply-operation-end : tie.Need-part-apply-operation-end
 part-apply-operation-end c = search needs
 
 apply-operation-requires : tie.Need-apply-operation-requires
-apply-operation-requires c κs = read-within (part (c .before .before .before .before .before .before .before)) (part-bytes (c .before .before .before .before .before .before .before)) _ _ (one (c .before .before .before .before))
+apply-operation-requires c κs = read-inside (c .before .before .before .before) .text
 
 enum-known-n : tie.Need-enum-known-n
 enum-known-n c = search needs
@@ -107,9 +104,10 @@ returns : tie.Need-returns
 returns c =
     let start = c .before .before .before .before .before .before .before .before .before .before .before .before .before .before .before .before .before .before .before .before .before .before .before in
     let set = now (start .args .set) in
-    let call = c .before .before .before .before .before .before .before .before .before in (
+    let call = c .before .before .before .before .before .before .before .before .before in
+    let read = call .before .before .before .before .before .before .before .before in (
       (λ o os ps p h s.
-          let visited = walk-operation set (start .args .at) o os ps h (c .before .before .before .before .before .before .before .before .before .before .before .before .before .before .before .before .before .read-operation .result) (c .before .before .before .before .before .before .before .before .before .before .before .before .before .before .before .before .before .read-operation .ensures) _ _ (c .before .before .before .before .before .before .before .before .before .before .before .before .before .before .before .operation .given .1) in
+          let visited = walk-operation set (start .args .at) o os ps h (read .reread-operation .result) (answered read o os ps h) _ _ (c .before .before .before .before .before .before .before .before .before .before .before .before .before .before .before .operation .given .1) in
           operation-run (λ m q. StoredTables m (call .apply-operation .last .0) (call .apply-operation .last .1 .0) (call .apply-operation .last .1 .1 .0) q) (applyOperation p o) (λ e. AtOperations set e os ps) _ _ (visited .next) (c .before .n .given .1) (applied call o os ps p h s)),
       inside (c .before .before .before .before .before .before .before .before .before .before .before .before .before .before),
     )
@@ -134,16 +132,16 @@ returns-2 c =
 returns-3 : tie.Need-returns-3
 returns-3 c =
     let start = c .before .before .before .before .before .before .before .before .before in
-    ((λ o os ps p h s. absurd (walk-operation-reads (now (start .args .set)) (start .args .at) o os ps h (c .before .before .before .read-operation .result) (c .before .before .before .read-operation .ensures) _ (c .before .fault .given .1))), tt)
+    ((λ o os ps p h s. absurd (walk-operation-reads (now (start .args .set)) (start .args .at) o os ps h (c .before .before .before .reread-operation .result) (answered (c .before .before .before) o os ps h) _ (c .before .fault .given .1))), tt)
 
 pub replay-operation-spec : {M : Type 1} → statement M
 replay-operation-spec =
     tie.close
     (tie.spec
-    sub-read-operation
-    part-read-operation-start
-    part-read-operation-end
-    read-operation-requires
+    sub-reread-operation
+    part-reread-operation-start
+    part-reread-operation-end
+    reread-operation-requires
     enum-known-operation
     sub-apply-operation
     part-apply-operation-start
