@@ -7,8 +7,8 @@ use Rattle.spec_session.specs.Session.{Creation, made, refused, tooManyAnchors,
 use Rattle.spec_decimal.specs.Decimal.{decimal}
 use Rattle.spec_listing.specs.Listing.{fields}
 use Rattle.spec_replay.specs.Answers.{creationLine}
-use Rattle.shell_player.specs.declared.create.CreationRefusal.{CreationRefusal}
-use Rattle.shell_player.specs.declared.create.CreationAnswer.the-variants.{Created, Refused}
+use Rattle.shell_creation.specs.declared.CreationRefusal.{CreationRefusal}
+use Rattle.shell_creation.specs.declared.CreationAnswer.the-variants.{Created, Refused}
 use Rattle.answer_printer.specs.CreationAnswers.{creationTo}
 
 pub made-line : (c : Creation) → Created ≡ creationTo c → 83 ∷ fields (decimal 0 ∷ []) ≡ creationLine c

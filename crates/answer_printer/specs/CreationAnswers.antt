@@ -1,11 +1,11 @@
 -- The answer that a creation in the model is told by.
 use mathlib.Core.Path.{_≡_}
 use Rattle.spec_session.specs.Session.{Creation, made, refused}
-use Rattle.shell_player.specs.Creation.{Creates}
-use Rattle.shell_player.specs.declared.create.CreationRefusal.the-variants.{AnchorsOverCapacity}
-use Rattle.shell_player.specs.declared.create.CreationAnswer.{CreationAnswer}
-use Rattle.shell_player.specs.declared.create.CreationAnswer.the-variants.{Created, Refused}
-use Rattle.shell_player.specs.declared.create.ShellSessionCreation.{ShellSessionCreation}
+use Rattle.shell_creation.specs.Creation.{Creates}
+use Rattle.shell_creation.specs.declared.CreationRefusal.the-variants.{AnchorsOverCapacity}
+use Rattle.shell_creation.specs.declared.CreationAnswer.{CreationAnswer}
+use Rattle.shell_creation.specs.declared.CreationAnswer.the-variants.{Created, Refused}
+use Rattle.shell_creation.specs.declared.ShellSessionCreation.{ShellSessionCreation}
 
 unfoldable pub creationTo : Creation → CreationAnswer
 creationTo (made s) = Created

@@ -5,14 +5,14 @@ ghost use Rattle.spec_session.specs.Session.{Creation};
 ghost use Rattle.spec_replay.specs.Answers.{creationLine, lifecycleLine, batchLine, noSessionLine, otherLine};
 ghost use Rattle.field_printer.specs.Prints.{Prints};
 ghost use Rattle.shell_lifecycle.specs.Meaning.{dispositionMeans, answerOf};
-ghost use Rattle.shell_player.specs.Batches.{dispositionTold, batchAnswerOf};
+ghost use Rattle.shell_steps.specs.Answers.{dispositionTold, batchAnswerOf};
 ghost use Rattle.answer_printer.specs.CreationAnswers.{creationTo};
 use decimal::Printed;
+use shell_creation::CreationAnswer;
 use shell_lifecycle::lifecycle::ShellTransitionDisposition;
 use shell_lifecycle::lifecycle::ShellTransitionResult;
-use shell_player::batch::ProjectionPatchApplicationDisposition;
-use shell_player::batch::ProjectionPatchApplicationResult;
-use shell_player::create::CreationAnswer;
+use shell_steps::answers::ProjectionPatchApplicationDisposition;
+use shell_steps::answers::ProjectionPatchApplicationResult;
 
 pub fn print_creation(out: &mut [u8], at: Printed, answer: CreationAnswer) -> Printed
     ensures { λ r. ⌜ ((c : Creation) → answer ≡ creationTo c → Prints (now (out .entry)) at (creationLine c) (now (out .exit)) r) ⌝ }

@@ -10,8 +10,8 @@ use Rattle.decimal.specs.declared.Printed.the-variants.{Next}
 use Rattle.field_printer.specs.Prints.{Prints}
 use Rattle.shell_player.specs.Holds.{Holds}
 use Rattle.shell_player.specs.declared.session.ShellSession.{ShellSession}
-use Rattle.shell_player.specs.declared.create.CreationAnswer.{CreationAnswer}
-use Rattle.shell_player.specs.declared.create.CreationAnswer.the-variants.{Created, Refused}
+use Rattle.shell_creation.specs.declared.CreationAnswer.{CreationAnswer}
+use Rattle.shell_creation.specs.declared.CreationAnswer.the-variants.{Created, Refused}
 use Rattle.replay_setup.specs.SetsUp.{SetsUp}
 use Rattle.replay_calls.specs.declared.state.ReplayState.{ReplayState}
 use Rattle.replay_calls.specs.declared.state.ReplayStep.{ReplayStep}

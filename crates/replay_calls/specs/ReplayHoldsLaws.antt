@@ -13,9 +13,9 @@ use Rattle.decimal.specs.declared.Printed.{Printed}
 use Rattle.decimal.specs.declared.Printed.the-variants.{Next}
 use Rattle.field_printer.specs.Prints.{Prints}
 use Rattle.shell_player.specs.Holds.{Holds}
-use Rattle.shell_player.specs.Creation.{Creates}
+use Rattle.shell_creation.specs.Creation.{Creates}
 use Rattle.shell_player.specs.declared.session.ShellSession.{ShellSession}
-use Rattle.shell_player.specs.declared.create.ShellSessionCreation.{ShellSessionCreation}
+use Rattle.shell_creation.specs.declared.ShellSessionCreation.{ShellSessionCreation}
 use Rattle.shell_lifecycle.specs.Meaning.{limitsOf}
 use Rattle.active_projection_target_catalog.specs.Catalog.{pairOf}
 use Rattle.shell_session_creation.specs.CreatesFrom.{catalogueFrom}

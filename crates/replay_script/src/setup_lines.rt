@@ -7,7 +7,6 @@ use replay_calls::state::ReplayState;
 use replay_calls::state::ReplayStep;
 use replay_setup::ReplaySetup;
 use shell_lifecycle::state::ShellLifecycleLimits;
-use shell_player::create;
 ghost use mathlib.Core.Path.{_≡_};
 ghost use mathlib.Core.Bool.{false};
 ghost use Rattle.decimal.specs.declared.Printed.the-variants.{Next};
@@ -30,7 +29,7 @@ pub fn start() -> ReplayState
     };
     let setup = ReplaySetup::new(0, limits);
     let pairs = [BindingPair { node: 0, slot: 0 }; ActiveProjectionTargetCatalog::ANCHORS];
-    let creation = create::create_shell_session(0, limits, &[], pairs, 0, &[]);
+    let creation = shell_creation::create_shell_session(0, limits, &[], pairs, 0, &[]);
     let session = creation.session;
     ReplayState {
         setup,

@@ -7,10 +7,9 @@ use projection_patch_sets::SetRead;
 use shell_gates::gates::OrderedProjectionPatchBatchEnvelope;
 use shell_lifecycle::state::ShellLifecycleLimits;
 use shell_lifecycle::state::ShellSessionId;
-use shell_player::batch::ProjectionPatchApplicationDisposition;
-use shell_player::batch::ProjectionPatchApplicationResult;
-use shell_player::create;
 use shell_player::session::ShellSession;
+use shell_steps::answers::ProjectionPatchApplicationDisposition;
+use shell_steps::answers::ProjectionPatchApplicationResult;
 
 // How many patches and operations a set has.
 struct SetCounts {
@@ -80,7 +79,14 @@ fn created() -> ShellSession {
     };
     let anchors = nodes();
     let collections = [1u64, 2, 3, 4];
-    let creation = create::create_shell_session(1, limits, &anchors, pairs(), 64, &collections);
+    let creation = shell_creation::create_shell_session(
+        1,
+        limits,
+        &anchors,
+        pairs(),
+        64,
+        &collections,
+    );
     creation.session
 }
 

@@ -11,11 +11,12 @@ use Rattle.spec_session.specs.Session.{Session}
 use Rattle.spec_session.specs.Batch.{BatchAnswer, batch}
 use Rattle.batch_splitting.specs.Splitting.{Piece, Run, references, envelopeOf, send, isRejected, continue, sendAll}
 use Rattle.shell_player.specs.declared.session.ShellSession.{ShellSession}
-use Rattle.shell_player.specs.declared.batch.ProjectionPatchApplicationDisposition.{ProjectionPatchApplicationDisposition}
-use Rattle.shell_player.specs.declared.batch.ProjectionPatchApplicationDisposition.the-variants.{Applied, NoChange, Rejected}
+use Rattle.shell_steps.specs.declared.answers.ProjectionPatchApplicationDisposition.{ProjectionPatchApplicationDisposition}
+use Rattle.shell_steps.specs.declared.answers.ProjectionPatchApplicationDisposition.the-variants.{Applied, NoChange, Rejected}
 use Rattle.shell_player.specs.declared.batch.ProjectionPatchBatch.{ProjectionPatchBatch}
 use Rattle.shell_player.specs.Holds.{Holds}
-use Rattle.shell_player.specs.Batches.{dispositionTold, batchAnswerOf, BatchBecame}
+use Rattle.shell_steps.specs.Answers.{dispositionTold, batchAnswerOf}
+use Rattle.shell_player.specs.Batches.{BatchBecame}
 use Rattle.session_splitting.specs.Calls.{Sent, refused, Onward, Calls, lastOf}
 
 abbrev pub answersOf : List ProjectionPatchBatch → List BatchAnswer

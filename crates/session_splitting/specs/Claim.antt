@@ -12,7 +12,7 @@ use Rattle.shell_lifecycle.specs.Meaning.{cursorOf}
 use Rattle.shell_lifecycle.specs.declared.state.ProjectionReplayCursor.the-variants.{At}
 use Rattle.local_projection_state.specs.Stores.{stateOf}
 use Rattle.shell_player.specs.declared.session.ShellSession.{ShellSession}
-use Rattle.shell_player.specs.declared.batch.ProjectionPatchApplicationDisposition.the-variants.{Applied, Rejected}
+use Rattle.shell_steps.specs.declared.answers.ProjectionPatchApplicationDisposition.the-variants.{Applied, Rejected}
 use Rattle.shell_player.specs.declared.batch.ProjectionPatchBatch.{ProjectionPatchBatch}
 use Rattle.session_splitting.specs.Calls.{lastOf}
 

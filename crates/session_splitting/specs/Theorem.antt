@@ -27,11 +27,12 @@ use Rattle.local_projection_state.specs.Stores.{Stores, stateOf}
 use Rattle.local_projection_state.specs.StoresLaws.{one-state, some-state}
 use Rattle.local_projection_state.specs.declared.LocalProjectionState.{LocalProjectionState}
 use Rattle.shell_player.specs.declared.session.ShellSession.{ShellSession}
-use Rattle.shell_player.specs.declared.batch.ProjectionPatchApplicationDisposition.{ProjectionPatchApplicationDisposition}
-use Rattle.shell_player.specs.declared.batch.ProjectionPatchApplicationDisposition.the-variants.{Applied, NoChange, Rejected}
+use Rattle.shell_steps.specs.declared.answers.ProjectionPatchApplicationDisposition.{ProjectionPatchApplicationDisposition}
+use Rattle.shell_steps.specs.declared.answers.ProjectionPatchApplicationDisposition.the-variants.{Applied, NoChange, Rejected}
 use Rattle.shell_player.specs.declared.batch.ProjectionPatchBatch.{ProjectionPatchBatch}
 use Rattle.shell_player.specs.Holds.{Holds}
-use Rattle.shell_player.specs.Batches.{dispositionTold, batchAnswerOf, BatchBecame}
+use Rattle.shell_steps.specs.Answers.{dispositionTold, batchAnswerOf}
+use Rattle.shell_player.specs.Batches.{BatchBecame}
 use Rattle.session_splitting.specs.Calls.{Sent, Calls, lastOf}
 use Rattle.session_splitting.specs.Claim.{WasApplied, AllApplied, StopsAtRefusal, WholeAndPieces}
 use Rattle.session_splitting.specs.CallsLaws.{answersOf, sent-is, Follows, calls-follow}

@@ -1,74 +1,46 @@
 -- What a batch hands back is what the batch of the model hands back.
-use Prim.Native.Nat.{ℕ, _<_}
+use Prim.Native.Nat.{ℕ}
 use mathlib.Core.Path.{_≡_, refl, sym, ap, ap₂, subst, _∙_}
-use mathlib.Core.Bool.{Bool, true, false, _&&_}
 use mathlib.Core.List.{List, [], _∷_, flatMap}
 use native.Mathlib.Omega.{arith}
 use borrow.Author.Tests.{eq-eqb, ne-eqb, eqb-true}
 use lib.Dec.{eqb}
 use lib.ListN.{length}
-use Rattle.spec_lists.specs.Lists.{if_then_else_}
 use Rattle.spec_lists.specs.ListLaws.{and-left}
 use Rattle.spec_patch.specs.Patch.{Patch}
 use Rattle.spec_patch.specs.Edition.{v1}
 use Rattle.spec_patch.specs.Read.{patches, readSet}
 use Rattle.spec_projection.specs.Projection.{Projection}
-use Rattle.spec_projection.specs.Apply as applying
-use Rattle.spec_projection.specs.Apply.{OperationFault, Outcome, done, stopped, operationsOf, replaySteps, applySteps}
+use Rattle.spec_projection.specs.Apply.{Outcome, done, stopped, replaySteps, applySteps}
 use Rattle.spec_session.specs.Session.{Limits, Cursor, at, Session}
-use Rattle.spec_session.specs.Diagnostics.{SessionRefusal, sessionNumber, malformed, ofOperation}
-use Rattle.spec_session.specs.Lifecycle.{Disposition, applied, noChange, rejected, LocalState, stateOf}
-use Rattle.spec_session.specs.Batch.{BatchEnvelope, BatchAnswer, BatchStep, Check, pass, refuse, batchChecks, rejectBatch, keepSession, advanced, applyBatch, candidate, commit, concludeBatch, batch}
+use Rattle.spec_session.specs.Diagnostics.{SessionRefusal, ofOperation}
+use Rattle.spec_session.specs.Lifecycle.{applied, noChange, LocalState, stateOf}
+use Rattle.spec_session.specs.Batch.{BatchEnvelope, BatchAnswer, Check, pass, refuse, batchChecks, rejectBatch, keepSession, advanced, applyBatch, candidate, commit, concludeBatch, batch}
 use Rattle.spec_session.specs.BatchLaws.{checks-passed}
-use Rattle.shell_lifecycle.specs.Meaning.{cursorOf, limitsOf, stateTold}
+use Rattle.shell_lifecycle.specs.Meaning.{cursorOf, stateTold}
 use Rattle.shell_lifecycle.specs.declared.state.ShellLocalState.{ShellLocalState}
 use Rattle.active_projection_target_catalog.specs.Catalog.{catalogueOf}
 use Rattle.active_projection_target_catalog.specs.CatalogLaws.{catalogue-back}
 use Rattle.local_projection_state.specs.Stores.{StoredTables}
 use Rattle.local_projection_state.specs.declared.ProjectionCounts.{ProjectionCounts}
-use Rattle.binding_tables.specs.Change.{faultOf}
 use Rattle.projection_replay.specs.Replay.{RunBecame}
 use Rattle.projection_replay.specs.declared.ReplayRun.{ReplayRun}
 use Rattle.projection_replay.specs.declared.ReplayRun.the-variants.{At, Refused, Unreadable}
-use Rattle.shell_gates.specs.Gates.{erased, countFits}
+use Rattle.shell_gates.specs.Gates.{erased}
 use Rattle.shell_player.specs.declared.session.ShellSession.{ShellSession}
-use Rattle.shell_player.specs.declared.batch.ProjectionPatchApplicationDisposition.{ProjectionPatchApplicationDisposition}
-use Rattle.shell_player.specs.declared.batch.ProjectionPatchApplicationDisposition.the-variants.{Applied, NoChange, Rejected}
-use Rattle.shell_player.specs.declared.batch.ProjectionPatchApplicationResult.{ProjectionPatchApplicationResult}
+use Rattle.shell_steps.specs.declared.answers.ProjectionPatchApplicationResult.{ProjectionPatchApplicationResult}
 use Rattle.shell_player.specs.declared.batch.ProjectionPatchBatch.{ProjectionPatchBatch}
 use Rattle.shell_player.specs.Holds.{Holds}
-use Rattle.shell_player.specs.Batches.{SeenSession, dispositionTold, batchAnswerOf, rejectedAt, answerAt, runAnswer, Stopped, movedTo, sessionOf, BatchBecame, KeptUnlessApplied, AnswerRow, rejectedRow, appliedRow}
+use Rattle.shell_steps.specs.Answers.{batchAnswerOf, rejectedAt, answerAt, runAnswer, Stopped}
+use Rattle.shell_steps.specs.AnswersLaws.{applied-told}
+use Rattle.shell_steps.specs.Checks.{SeenSession}
+use Rattle.shell_steps.specs.States.{movedTo}
+use Rattle.shell_player.specs.Batches.{sessionOf, BatchBecame, KeptUnlessApplied}
 
 -- ---- what is handed back unless the batch is applied
 
-applied-told : (d : ProjectionPatchApplicationDisposition) → dispositionTold d ≡ applied → d ≡ Applied
-unfolding dispositionTold
-applied-told Applied e = refl
-applied-told NoChange e = absurd (let z : _≡_ {A = ℕ} 0 1 = cc in omega arith)
-applied-told Rejected e = absurd (let z : _≡_ {A = ℕ} 0 1 = cc in omega arith)
-
 pub kept-applied : (s : ShellSession) (r : ProjectionPatchBatch) (c : Cursor) → batchAnswerOf (r .result) ≡ answerAt applied c → KeptUnlessApplied s r
 kept-applied s r c e not = absurd (not (applied-told (r .result .disposition) (ap (λ (a : BatchAnswer). a .disposition) e)))
-
--- ---- what every struct is answered
-
-operation-counted : (f : OperationFault) → countFits (ofOperation f) 1 ≡ true
-unfolding countFits sessionNumber ofOperation
-operation-counted applying.keyRule = refl
-operation-counted applying.projectionFull = refl
-
--- whatever came of the operations, the answer has its row
-pub run-row : (limit : ℕ) (c : Cursor) (n : ℕ) (a : BatchAnswer) (run : ReplayRun) → a ≡ runAnswer limit c n run → AnswerRow limit c n a
-unfolding runAnswer countFits sessionNumber
-run-row limit c n a (At end k) h = appliedRow h
-run-row limit c n a (Refused f) h = rejectedRow (ofOperation (faultOf f)) 1 (operation-counted (faultOf f)) h
-run-row limit c n a (Unreadable f) h = rejectedRow malformed 1 refl h
-
-pub same-rejection : {f g : SessionRefusal} {n k : ℕ} (limit : ℕ) (c : Cursor) → _≡_ {A = Check (Unit {0})} (refuse f n) (refuse g k) → rejectedAt limit f n c ≡ rejectedAt limit g k c
-same-rejection {f = f} {g = g} {n = n} {k = k} limit c e =
-    let same : f ≡ g = cc e in
-    let count : n ≡ k = cc e in
-    ap₂ (λ a b. rejectedAt limit a b c) same count
 
 -- ---- what passed and what was refused
 

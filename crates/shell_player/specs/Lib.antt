@@ -1,8 +1,5 @@
 pub mod Holds
 pub mod Steps
 pub mod StepsLaws
-pub mod Creation
-pub mod CreationLaws
 pub mod Batches
-pub mod BatchesLaws
 pub mod CommitLaws

@@ -7,7 +7,7 @@ use Rattle.shell_lifecycle.specs.declared.state.ShellLifecycle.the-variants.{Cr
 use Rattle.shell_lifecycle.specs.declared.state.ProjectionReplayCursor.the-variants.{Uninitialized}
 use Rattle.spec_projection.specs.Projection.{empty}
 use Rattle.local_projection_state.specs.Stores.{stateOf}
-use Rattle.shell_player.specs.declared.session.ActivatedShellSessionContext.{ActivatedShellSessionContext}
+use Rattle.shell_steps.specs.declared.checks.ActivatedShellSessionContext.{ActivatedShellSessionContext}
 use Rattle.shell_player.specs.declared.session.ShellSession.{ShellSession}
 use Rattle.shell_player.specs.declared.session.ShellTransition.{ShellTransition}
 

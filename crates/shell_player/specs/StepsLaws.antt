@@ -10,12 +10,21 @@ use Rattle.shell_lifecycle.specs.MeaningLaws.{bare-answers}
 use Rattle.shell_lifecycle.specs.declared.lifecycle.ShellTransitionDisposition.{ShellTransitionDisposition}
 use Rattle.shell_lifecycle.specs.declared.lifecycle.ShellTransitionDisposition.the-variants.{Applied, NoChange, Rejected}
 use Rattle.shell_lifecycle.specs.declared.lifecycle.ShellTransitionResult.{ShellTransitionResult}
+use Rattle.shell_lifecycle.specs.declared.state.ShellLocalState.{ShellLocalState}
 use Rattle.spec_session.specs.ValidSession.{FewAnchors}
 use Rattle.active_projection_target_catalog.specs.Catalog.{catalogTo}
 use Rattle.local_projection_state.specs.Stores.{Stores}
+use Rattle.shell_steps.specs.States.{nextState}
 use Rattle.shell_player.specs.declared.session.ShellSession.{ShellSession}
 use Rattle.shell_player.specs.Holds.{Holds}
 use Rattle.shell_player.specs.Steps.{withState, nextSession}
+
+-- the struct with the state after the step
+pub stored : (s : ShellSession) (d : ShellTransitionDisposition) (t : ShellLocalState) → withState s (nextState (s .state) d t) ≡ nextSession s d t
+unfolding nextState nextSession
+stored s Applied t = refl
+stored s NoChange t = refl
+stored s Rejected t = refl
 
 module _ (s : ShellSession) (m : model.Session) (holds : Holds s m) (u : Stimulus) (b : ℕ) (r : ShellTransitionResult)
     (answered : answerOf r ≡ lifecycleStep (bare (limitsOf (s .context .limits)) (stateTold (s .state))) u b .answer) where

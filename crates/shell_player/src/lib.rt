@@ -1,5 +1,4 @@
-// A session of a panel: its creation, its lifecycle step, its batches and its lookups. After crates/prom-ui-runtime/src/shell_player.rs.
+// A session of a panel: its lifecycle step, its batches and its lookups. After crates/prom-ui-runtime/src/shell_player.rs.
 pub mod batch;
-pub mod create;
 pub mod lookups;
 pub mod session;

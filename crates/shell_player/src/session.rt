@@ -1,27 +1,19 @@
 // The session by value, and its lifecycle step.
-use active_projection_target_catalog::catalog::ActiveProjectionTargetCatalog;
 use local_projection_state::LocalProjectionState;
 use shell_lifecycle::lifecycle;
-use shell_lifecycle::lifecycle::ShellTransitionDisposition;
 use shell_lifecycle::lifecycle::ShellTransitionInput;
 use shell_lifecycle::lifecycle::ShellTransitionResult;
 use shell_lifecycle::state::ProjectionReplayCursor;
 use shell_lifecycle::state::ShellLifecycle;
-use shell_lifecycle::state::ShellLifecycleLimits;
 use shell_lifecycle::state::ShellLocalState;
-use shell_lifecycle::state::ShellSessionId;
+use shell_steps::checks::ActivatedShellSessionContext;
+use shell_steps::states;
 ghost use mathlib.Core.Path.{_≡_};
 ghost use Rattle.spec_session.specs.Session.{Session};
 ghost use Rattle.spec_session.specs.Lifecycle.{stateOf, lifecycleStep};
 ghost use Rattle.shell_lifecycle.specs.Meaning.{stimulusOf, answerOf, bare, limitsOf, lifecycleOf, cursorOf, stateTold};
 ghost use Rattle.shell_player.specs.Holds.{Holds};
 ghost use Rattle.shell_player.specs.Steps.{newState, afterTransition};
-
-pub struct ActivatedShellSessionContext {
-    pub session_id: ShellSessionId,
-    pub limits: ShellLifecycleLimits,
-    pub catalog: ActiveProjectionTargetCatalog,
-}
 
 pub struct ShellSession {
     pub context: ActivatedShellSessionContext,
@@ -88,22 +80,9 @@ impl ShellSession {
         let limits = context.limits;
         let state = self.state;
         let result = lifecycle::evaluate_lifecycle_transition(limits, state, input);
-        let disposition = result.disposition;
-        match disposition {
-            ShellTransitionDisposition::Applied => {
-                let mut session = self;
-                let next = result.state;
-                session.state = next;
-                ShellTransition { session, result }
-            }
-            ShellTransitionDisposition::NoChange => ShellTransition {
-                session: self,
-                result,
-            },
-            ShellTransitionDisposition::Rejected => ShellTransition {
-                session: self,
-                result,
-            },
-        }
+        let next = states::next_state(state, result);
+        let mut session = self;
+        session.state = next;
+        ShellTransition { session, result }
     }
 }

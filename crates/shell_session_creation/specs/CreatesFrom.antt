@@ -8,8 +8,8 @@ use Rattle.shell_lifecycle.specs.declared.state.ShellLifecycleLimits.{ShellLife
 use Rattle.shell_lifecycle.specs.Meaning.{limitsOf}
 use Rattle.active_projection_target_catalog.specs.Catalog.{pairOf}
 use Rattle.active_projection_target_catalog.specs.declared.catalog.BindingPair.{BindingPair}
-use Rattle.shell_player.specs.Creation.{creationWith, Creates}
-use Rattle.shell_player.specs.declared.create.ShellSessionCreation.{ShellSessionCreation}
+use Rattle.shell_creation.specs.Creation.{creationWith, Creates}
+use Rattle.shell_creation.specs.declared.ShellSessionCreation.{ShellSessionCreation}
 
 -- the anchors in the model
 abbrev pub catalogueFrom : List ℕ → List BindingPair → List ℕ → model.Catalogue

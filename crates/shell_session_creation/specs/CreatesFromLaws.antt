@@ -16,11 +16,11 @@ use Rattle.shell_lifecycle.specs.declared.state.ShellLifecycleLimits.{ShellLife
 use Rattle.shell_lifecycle.specs.Meaning.{limitsOf}
 use Rattle.active_projection_target_catalog.specs.Catalog.{pairOf, noPair, padded, catalogWith}
 use Rattle.active_projection_target_catalog.specs.declared.catalog.BindingPair.{BindingPair}
-use Rattle.shell_player.specs.Creation.{anchorsWithin, creationWith, createWith, Creates}
+use Rattle.shell_creation.specs.Creation.{anchorsWithin, creationWith, createWith, Creates}
 use Rattle.active_projection_target_catalog.specs.declared.catalog.ActiveProjectionTargetCatalog.{ActiveProjectionTargetCatalog}
 use Rattle.shell_player.specs.Steps.{newState}
-use Rattle.shell_player.specs.CreationLaws.{creates}
-use Rattle.shell_player.specs.declared.create.ShellSessionCreation.{ShellSessionCreation}
+use Rattle.shell_creation.specs.CreationLaws.{creates}
+use Rattle.shell_creation.specs.declared.ShellSessionCreation.{ShellSessionCreation}
 use Rattle.shell_session_creation.specs.CreatesFrom.{catalogueFrom, CreatesFrom}
 
 module _ (ps : List BindingPair) where

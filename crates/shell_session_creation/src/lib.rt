@@ -2,13 +2,13 @@
 use active_projection_target_catalog::catalog::BindingPair;
 use binding_pairs::BindingAnchors;
 use binding_pairs::copy_binding_pairs;
+use shell_creation::ShellSessionCreation;
+use shell_creation::create_shell_session;
 use shell_lifecycle::state::ShellLifecycleLimits;
-use shell_player::create::ShellSessionCreation;
-use shell_player::create::create_shell_session;
 ghost use mathlib.Core.Path.{_≡_};
 ghost use Prim.Native.Nat.{min};
 ghost use lib.ListN.{take};
-ghost use Rattle.shell_player.specs.Creation.{creationWith};
+ghost use Rattle.shell_creation.specs.Creation.{creationWith};
 ghost use Rattle.shell_session_creation.specs.CreatesFrom.{CreatesFrom};
 
 fn create_with_anchors(

@@ -45,7 +45,7 @@ use denote.Triple.Clauses.{ensured, lasts}
 use denote.Exit.{yes}
 use Rattle.shell_lifecycle.specs.declared.state.ShellLifecycleLimits.{ShellLifecycleLimits}
 use Rattle.active_projection_target_catalog.specs.declared.catalog.BindingPair.{BindingPair}
-use Rattle.shell_player.specs.declared.create.ShellSessionCreation.{ShellSessionCreation}
+use Rattle.shell_creation.specs.declared.ShellSessionCreation.{ShellSessionCreation}
 use Rattle.shell_session_creation.specs.CreatesFrom.{CreatesFrom}
 use Rattle.walk_steps.proofs.Walk.{calls-plain, calls-lent}
 use Rattle.shell_session_creation.proofs.Parts.{Row, Front, Back, cut-row, join-row}
@@ -53,8 +53,8 @@ use Rattle.active_projection_target_catalog.proofs.catalog.BindingPair as Bp
 use Rattle.active_projection_target_catalog.proofs.catalog.BindingPair.Laws as Bp′
 use Rattle.shell_lifecycle.proofs.state.ShellLifecycleLimits as Li
 use Rattle.shell_lifecycle.proofs.state.ShellLifecycleLimits.Laws as Li′
-use Rattle.shell_player.proofs.create.ShellSessionCreation as Cr
-use Rattle.shell_player.proofs.create.ShellSessionCreation.Laws as Cr′
+use Rattle.shell_creation.proofs.ShellSessionCreation as Cr
+use Rattle.shell_creation.proofs.ShellSessionCreation.Laws as Cr′
 use Rattle.shell_session_creation.proofs.lent_count as counts
 use Rattle.shell_session_creation.proofs.lent_count.Symbol as counts-def
 use Rattle.shell_session_creation.proofs.lent_count.Symbol.{name as #counts}

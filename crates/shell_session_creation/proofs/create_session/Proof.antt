@@ -41,8 +41,8 @@ use Rattle.shell_lifecycle.specs.declared.state.ShellLifecycleLimits.{ShellLife
 use Rattle.active_projection_target_catalog.specs.declared.catalog.BindingPair.{BindingPair}
 use Rattle.binding_pairs.specs.declared.BindingAnchors.{BindingAnchors}
 use Rattle.binding_pairs.specs.Pairs.{anchorsOf}
-use Rattle.shell_player.specs.declared.create.ShellSessionCreation.{ShellSessionCreation}
-use Rattle.shell_player.specs.Creation.{creationWith}
+use Rattle.shell_creation.specs.declared.ShellSessionCreation.{ShellSessionCreation}
+use Rattle.shell_creation.specs.Creation.{creationWith}
 use Rattle.shell_session_creation.specs.CreatesFrom.{CreatesFrom}
 use Rattle.shell_session_creation.specs.CreatesFromLaws.{copied-creates}
 use Rattle.walk_steps.proofs.Walk.{calls-lent}
@@ -51,8 +51,8 @@ use Rattle.shell_lifecycle.proofs.state.ShellLifecycleLimits as Li
 use Rattle.shell_lifecycle.proofs.state.ShellLifecycleLimits.Laws as Li′
 use Rattle.binding_pairs.proofs.BindingAnchors as Cp
 use Rattle.binding_pairs.proofs.BindingAnchors.Laws as Cp′
-use Rattle.shell_player.proofs.create.ShellSessionCreation as Cr
-use Rattle.shell_player.proofs.create.ShellSessionCreation.Laws as Cr′
+use Rattle.shell_creation.proofs.ShellSessionCreation as Cr
+use Rattle.shell_creation.proofs.ShellSessionCreation.Laws as Cr′
 use Rattle.binding_pairs.proofs.copy_binding_pairs as copies
 use Rattle.binding_pairs.proofs.copy_binding_pairs.Symbol as copies-def
 use Rattle.binding_pairs.proofs.copy_binding_pairs.Symbol.{name as #copies}

@@ -2,7 +2,7 @@
 use mathlib.Core.Path.{sym, ap}
 use borrow.Author.Needs.{needs}
 use Rattle.shell_lifecycle.specs.Meaning.{dispositionMeans}
-use Rattle.shell_player.specs.Batches.{dispositionTold}
+use Rattle.shell_steps.specs.Answers.{dispositionTold}
 use Rattle.answer_printer.proofs.session.transition_disposition.Statement.{statement}
 use Rattle.answer_printer.proofs.session.transition_disposition.Tie as tie
 

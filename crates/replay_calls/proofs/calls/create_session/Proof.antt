@@ -4,7 +4,7 @@ use mathlib.Core.Path.{_≡_, subst}
 use native.Mathlib.Omega.{arith}
 use lib.ListN.{length}
 use Rattle.spec_session.specs.Session.{Creation}
-use Rattle.shell_player.specs.Creation.{Creates}
+use Rattle.shell_creation.specs.Creation.{Creates}
 use Rattle.replay_calls.specs.ReplayHoldsLaws.{setup-creates}
 use borrow.Author.Needs.{needs}
 use Rattle.replay_calls.proofs.calls.create_session.Statement.{statement}

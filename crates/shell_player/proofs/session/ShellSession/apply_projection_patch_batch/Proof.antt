@@ -1,5 +1,7 @@
 -- `ShellSession::apply_projection_patch_batch` meets its contract: steps 1 to 8, then step 9, by what came of the operations.
+use borrow.Author.Tests.{eq-eqb, eqb-true}
 use mathlib.Core.Path.{_≡_, refl, sym, ap, subst, _∙_}
+use mathlib.Core.Bool.{false≢true}
 use mathlib.Core.List.{List, [], _∷_}
 use mathlib.Core.Logic.{inl, inr}
 use lib.ListN.{length}
@@ -10,7 +12,6 @@ use native.Mathlib.Omega.{arith}
 use Rattle.spec_patch.specs.Patch.{Patch}
 use Rattle.spec_patch.specs.Edition.{v1}
 use Rattle.spec_patch.specs.Read.{patches, readSet}
-use Rattle.spec_projection.specs.Apply.{replaySteps, applySteps}
 use Rattle.spec_session.specs.Session.{at, Session}
 use Rattle.spec_session.specs.Lifecycle.{applied}
 use Rattle.spec_session.specs.Batch.{candidate, commit}
@@ -24,8 +25,10 @@ use Rattle.shell_lifecycle.specs.Meaning.{cursorOf}
 use Rattle.shell_gates.specs.Gates.{gateOf, counted, envelopeMeans}
 use Rattle.shell_player.specs.declared.session.ShellSession.{ShellSession}
 use Rattle.shell_player.specs.Holds.{Holds}
-use Rattle.shell_player.specs.Batches.{batchAnswerOf, answerAt, runAnswer, Stopped, BatchBecame, rejectedRow, unchangedRow, appliedRow}
-use Rattle.shell_player.specs.CommitLaws.{kept-applied, same-rejection, run-row, seen, commits-none, commits-stopped, commits-applied, batch-rejects, batch-commits}
+use Rattle.shell_steps.specs.Answers.{batchAnswerOf, answerAt, runAnswer, Stopped, rejectedRow, unchangedRow, appliedRow}
+use Rattle.shell_steps.specs.AnswersLaws.{same-rejection, run-row}
+use Rattle.shell_player.specs.Batches.{BatchBecame}
+use Rattle.shell_player.specs.CommitLaws.{kept-applied, seen, commits-none, commits-stopped, commits-applied, batch-rejects, batch-commits}
 use borrow.Author.Needs.{needs}
 use Rattle.shell_player.proofs.session.ShellSession.apply_projection_patch_batch.Statement.{
   statement,
@@ -80,6 +83,9 @@ returns c =
 enum-told : tie.Need-enum-told
 enum-told c = search needs
 
+is-empty-requires : tie.Need-is-empty-requires
+is-empty-requires c κs = search needs
+
 unchanged-requires : tie.Need-unchanged-requires
 unchanged-requires c κs = search needs
 
@@ -88,7 +94,7 @@ unfolding gateOf
 returns-2 c =
     let gate = ap gateOf (sym (c .before .before .before .enum-told .given .1)) in
     let checked = c .before .before .before .before .before .check-session .ensures in (
-      record { became = λ m h. batch-commits _ m h _ _ _ _ (gate ∙ checked .0 m (seen _ m h)) (λ ps reads count. commits-none _ m h _ ps _ (c .unchanged .ensures) (c .before .if1 .taken) count) },
+      record { became = λ m h. batch-commits _ m h _ _ _ _ (gate ∙ checked .0 m (seen _ m h)) (λ ps reads count. commits-none _ m h _ ps _ (c .unchanged .ensures) (eqb-true _ 0 (sym (c .before .before .is-empty .ensures) ∙ c .before .if1 .taken)) count) },
       record {
         kept = λ n. refl;
         row = unchangedRow (c .unchanged .ensures);
@@ -154,7 +160,7 @@ handed c m ps h reads =
     let ended = c .before .before .before .run .given in
     let stored = subst (λ (r : ReplayRun). RunBecame (λ i k q. StoredTables k (call .replay-readable .last .0) (call .replay-readable .last .1 .0) (call .replay-readable .last .1 .1 .0) q) r (candidate m ps)) (ended .1) (became call m ps h reads) in
     subst (λ (s : ShellSession). BatchBecame (record { session = s; result = result }) (commit m (envelopeMeans (a .envelope)) (candidate m ps))) (sym (c .session-of .ensures))
-    (commits-applied (a .self) m h (envelopeMeans (a .envelope)) ps (ended .0 .0) (ended .0 .1 .0) (call .replay-readable .last .0) (call .replay-readable .last .1 .0) (call .replay-readable .last .1 .1 .0) (c .before .advanced .result) result (c .before .before .before .before .before .before .before .before .before .before .before .before .before .before .before .before .before .if1 .left) stored (c .before .advanced .ensures) (answered c))
+    (commits-applied (a .self) m h (envelopeMeans (a .envelope)) ps (ended .0 .0) (ended .0 .1 .0) (call .replay-readable .last .0) (call .replay-readable .last .1 .0) (call .replay-readable .last .1 .1 .0) (c .before .advanced .result) result (λ none. false≢true (sym (sym (c .before .before .before .before .before .before .before .before .before .before .before .before .before .before .before .before .before .before .is-empty .ensures) ∙ c .before .before .before .before .before .before .before .before .before .before .before .before .before .before .before .before .before .if1 .left) ∙ eq-eqb (a .envelope .«patch_count») 0 none)) stored (c .before .advanced .ensures) (answered c))
 
 returns-4 : tie.Need-returns-4
 unfolding gateOf
@@ -178,6 +184,7 @@ apply-projection-patch-batch-spec =
     rejected-requires
     returns
     enum-told
+    is-empty-requires
     unchanged-requires
     returns-2
     slice-aggregate-replay-readable

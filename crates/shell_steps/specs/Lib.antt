@@ -1,0 +1,5 @@
+pub mod Answers
+pub mod AnswersLaws
+pub mod Checks
+pub mod ChecksLaws
+pub mod States
