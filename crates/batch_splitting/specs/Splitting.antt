@@ -108,14 +108,8 @@ unfoldable pub cursorAfter : Cursor → ℕ → ℕ → Cursor
 cursorAfter c n zero = c
 cursorAfter c n (suc k) = at (n + k)
 
--- the failing operation stands in one piece; those before it apply, that piece is refused as the whole is, nothing more is sent, and the
--- projection is the starting one with just the earlier pieces' operations
-pub record StopsAtPiece (s : Session) (n : ℕ) (whole : Piece) (fault : OperationFault) (diagnostics : Diagnostics) (pieces : List Piece) (r : Run) : Type 0 where
-  pub before : List Piece
-  pub piece : Piece
-  pub after : List Piece
-  pub parts : pieces ≡ before ++ piece ∷ after
-  -- the operation is the piece's, and the first of the whole's that fails
+-- the operation at which the whole fails stands in this piece, behind these pieces: the first of the whole's that fails
+pub record FailsIn (s : Session) (whole : Piece) (fault : OperationFault) (before : List Piece) (piece : Piece) : Type 0 where
   pub ownBefore : List ReplayStep
   pub step : ReplayStep
   pub ownAfter : List ReplayStep
@@ -125,6 +119,15 @@ pub record StopsAtPiece (s : Session) (n : ℕ) (whole : Piece) (fault : Operati
   pub reached : Projection
   pub ran : applySteps (s .projection) (replaySteps (patchesOf before) ++ ownBefore) ≡ done reached
   pub fails : applyStep reached step ≡ stopped fault
+
+-- the failing operation stands in one piece; those before it apply, that piece is refused as the whole is, nothing more is sent, and the
+-- projection is the starting one with just the earlier pieces' operations
+pub record StopsAtPiece (s : Session) (n : ℕ) (whole : Piece) (fault : OperationFault) (diagnostics : Diagnostics) (pieces : List Piece) (r : Run) : Type 0 where
+  pub before : List Piece
+  pub piece : Piece
+  pub after : List Piece
+  pub parts : pieces ≡ before ++ piece ∷ after
+  pub operation : FailsIn s whole fault before piece
   -- the pieces before it apply; that piece is refused; there is no further answer
   pub firsts : List BatchAnswer
   pub refusal : BatchAnswer

@@ -36,15 +36,17 @@ module _ (p : Piece) (ps : List Piece) (s : Session) (n : ℕ) (f : OperationFau
         piece = p;
         after = ps;
         parts = refl;
-        ownBefore = w .earlier;
-        step = w .step;
-        ownAfter = w .later;
-        inPiece = w .parts;
-        rest = w .later ++ replaySteps (patchesOf ps);
-        inWhole = ap replaySteps cut ∙ first-place (p .patches) (patchesOf ps) (w .earlier) (w .step) (w .later) (w .parts);
-        reached = w .reached;
-        ran = w .ran;
-        fails = w .fails;
+        operation = record {
+          ownBefore = w .earlier;
+          step = w .step;
+          ownAfter = w .later;
+          inPiece = w .parts;
+          rest = w .later ++ replaySteps (patchesOf ps);
+          inWhole = ap replaySteps cut ∙ first-place (p .patches) (patchesOf ps) (w .earlier) (w .step) (w .later) (w .parts);
+          reached = w .reached;
+          ran = w .ran;
+          fails = w .fails;
+        };
         firsts = [];
         refusal = rejectBatch s (ofOperation f) 1 .answer;
         answers = refl;
@@ -65,21 +67,24 @@ module _ (p : Piece) (ps : List Piece) (s : Session) (n : ℕ) (f : OperationFau
       → StopsAtPiece s n whole f (diagnosticsOf (s .limits .diagnostics) (ofOperation f) 1) (p ∷ ps) (sendAll s n (p ∷ ps))
   unfolding patchesOf flatMap applyBatch advanced cursorAfter
   stops-later q g later cutLater w whole cut =
+      let o = w .operation in
       rw (sendAll-done s n p ps q (send-done s n p q (ready-passes s n p ps r) (r .nonEmpty .0) g))
       (record {
         before = p ∷ w .before;
         piece = w .piece;
         after = w .after;
         parts = ap (λ l. p ∷ l) (w .parts);
-        ownBefore = w .ownBefore;
-        step = w .step;
-        ownAfter = w .ownAfter;
-        inPiece = w .inPiece;
-        rest = w .rest;
-        inWhole = ap replaySteps cut ∙ later-place (p .patches) (patchesOf ps) (patchesOf (w .before)) (w .ownBefore) (w .step) (w .rest) (ap replaySteps (sym cutLater) ∙ w .inWhole);
-        reached = w .reached;
-        ran = ran-on (s .projection) (p .patches) (patchesOf (w .before)) q (w .ownBefore) g ∙ w .ran;
-        fails = w .fails;
+        operation = record {
+          ownBefore = o .ownBefore;
+          step = o .step;
+          ownAfter = o .ownAfter;
+          inPiece = o .inPiece;
+          rest = o .rest;
+          inWhole = ap replaySteps cut ∙ later-place (p .patches) (patchesOf ps) (patchesOf (w .before)) (o .ownBefore) (o .step) (o .rest) (ap replaySteps (sym cutLater) ∙ o .inWhole);
+          reached = o .reached;
+          ran = ran-on (s .projection) (p .patches) (patchesOf (w .before)) q (o .ownBefore) g ∙ o .ran;
+          fails = o .fails;
+        };
         firsts = applyBatch s n q .answer ∷ w .firsts;
         refusal = w .refusal;
         answers = ap (λ l. applyBatch s n q .answer ∷ l) (w .answers);

@@ -1,4 +1,5 @@
 pub mod Holds
+pub mod HoldsLaws
 pub mod Steps
 pub mod StepsLaws
 pub mod Batches

@@ -3,7 +3,7 @@ use Prim.Native.Nat.{ℕ}
 use mathlib.Core.Path.{_≡_, refl, sym, ap, ap₂, subst, _∙_}
 use native.Mathlib.Omega.{arith}
 use Rattle.spec_session.specs.Session as model
-use Rattle.spec_session.specs.Lifecycle.{Stimulus, Disposition, applied, noChange, rejected, LocalState, LifecycleAnswer, stateOf, withLifecycle, lifecycleStep}
+use Rattle.spec_session.specs.Lifecycle.{Stimulus, applied, noChange, rejected, LocalState, LifecycleAnswer, stateOf, withLifecycle, lifecycleStep}
 use Rattle.spec_session.specs.ValidSessionLaws.{lifecycleStep-unchanged, lifecycleStep-told, lifecycleStep-rest}
 use Rattle.shell_lifecycle.specs.Meaning.{dispositionMeans, answerOf, limitsOf, stateTold, bare}
 use Rattle.shell_lifecycle.specs.MeaningLaws.{bare-answers}

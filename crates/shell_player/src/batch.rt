@@ -48,10 +48,10 @@ impl ShellSession {
     pub fn apply_projection_patch_batch(
         self,
         envelope: OrderedProjectionPatchBatchEnvelope,
-        declared: u64,
+        declared_target_reference_count: u64,
         set: &[u8],
     ) -> ProjectionPatchBatch
-        ensures holding { λ r. ⌜ BatchCall self envelope declared (now (set .entry)) r ⌝ }
+        ensures holding { λ r. ⌜ BatchCall self envelope «declared_target_reference_count» (now (set .entry)) r ⌝ }
         ensures whatever { λ r. ⌜ AnyBatchCall self envelope r ⌝ }
     {
         let context = self.context;
@@ -59,7 +59,13 @@ impl ShellSession {
         let cap = limits.max_diagnostics_per_transition;
         let state = self.state;
         let cursor = state.replay_cursor;
-        let gate = checks::check_session(context, state, envelope, declared, set);
+        let gate = checks::check_session(
+            context,
+            state,
+            envelope,
+            declared_target_reference_count,
+            set,
+        );
         if let BatchGate::Refused(refusal, logical) = gate {
             return ProjectionPatchBatch {
                 session: self,
