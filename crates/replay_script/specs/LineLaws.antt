@@ -2,20 +2,18 @@
 use Prim.Native.Nat.{ℕ, _+_, _-_, _≤_, _<_}
 use mathlib.Core.Path.{_≡_, refl, sym, ap, subst, _∙_}
 use mathlib.Core.Bool.{Bool, true, false}
-use mathlib.Core.List.{List, [], _∷_}
+use mathlib.Core.List.{List, []}
 use mathlib.Core.Option.{Option, none, some}
 use native.Mathlib.Omega.{arith}
 use borrow.Author.Tests.{lt-leb, leb-true}
 use lib.Dec.{leb}
 use lib.ListN.{length, take, drop, length-drop}
 use Rattle.spec_lists.specs.Lists.{if_then_else_}
-use Rattle.spec_lists.specs.ListLaws.{test-cases}
 use Rattle.spec_replay.specs.Script.{Command, other, lineBytes, readHex, given, command}
 use Rattle.spec_replay.specs.Replay.{Setup, State, onward, replayLine}
 use Rattle.decimal.specs.declared.Printed.{Printed}
 use Rattle.decimal.specs.declared.Printed.the-variants.{Next, NoRoom}
-use Rattle.decimal.specs.Print.{nextPosition, positionOf}
-use Rattle.wire.specs.Write.{hasRoom, overwrite}
+use Rattle.wire.specs.Write.{hasRoom}
 use Rattle.field_printer.specs.Prints.{Prints}
 use Rattle.field_printer.specs.PrintsLaws.{written, refused, nothing-printed}
 use Rattle.hex.specs.declared.Decoded.{Decoded}

@@ -7,6 +7,7 @@ use replay_calls::state::ReplayState;
 use replay_calls::state::ReplayStep;
 use replay_calls::views;
 use script_parser::ScriptCommand;
+use set_lines::SetUse;
 ghost use Rattle.spec_replay.specs.Script.{command};
 ghost use Rattle.spec_replay.specs.Replay.{State, replayLine};
 ghost use Rattle.replay_calls.specs.ReplayHolds.{ReplayHolds, Stepped};
@@ -27,9 +28,16 @@ pub fn run_line(state: ReplayState, number: u64, line: &[u8], out: &mut [u8]) ->
         ScriptCommand::Collection(collection) => setup_lines::collection(state, collection),
         ScriptCommand::Create => calls::create_latest(state, out),
         ScriptCommand::Apply(input) => calls::apply(state, input, out),
-        ScriptCommand::Batch(batch) => set_lines::batch(state, batch, number, line, out),
-        ScriptCommand::Check(from) => set_lines::check(state, from, number, line, out),
-        ScriptCommand::List(from) => set_lines::list(state, from, number, line, out),
+        ScriptCommand::Batch(batch) => {
+            let wanted = set_lines::batch_of(batch);
+            set_lines::run_with_set(state, wanted, batch.set, number, line, out)
+        }
+        ScriptCommand::Check(from) => {
+            set_lines::run_with_set(state, SetUse::Checked, from, number, line, out)
+        }
+        ScriptCommand::List(from) => {
+            set_lines::run_with_set(state, SetUse::Listed, from, number, line, out)
+        }
         ScriptCommand::Show => views::show(state, out),
         ScriptCommand::ValueBinding(node, slot) => views::binding_value(state, node, slot, out),
         ScriptCommand::ValueNode(node) => views::node_availability(state, node, out),

@@ -11,7 +11,7 @@ use script_parser::BatchLine;
 use shell_gates::gates::OrderedProjectionPatchBatchEnvelope;
 use shell_lifecycle::state::ShellSessionId;
 ghost use mathlib.Core.Path.{_≡_};
-ghost use Prim.Native.Nat.{_≤_};
+ghost use Prim.Native.Nat.{ℕ, _≤_};
 ghost use lib.ListN.{length};
 ghost use Rattle.spec_patch.specs.Edition.{v1};
 ghost use Rattle.spec_patch.specs.Read.{readSet};
@@ -25,9 +25,17 @@ ghost use Rattle.field_printer.specs.Prints.{Prints};
 ghost use Rattle.script_parser.specs.Meaning.{envelopeOf, setFrom};
 ghost use Rattle.replay_calls.specs.ReplayHolds.{ReplayHolds, Stepped};
 ghost use Rattle.replay_script.specs.Silent.{printedOf};
+ghost use Rattle.replay_script.specs.SetUses.{commandWith};
 
 // The longest set that a line can spell.
 const SET_BYTES: usize = 65536;
+
+// What a line asks for with its set.
+pub enum SetUse {
+    Batch(OrderedProjectionPatchBatchEnvelope, u64),
+    Checked,
+    Listed,
+}
 
 fn print_checked(set: &[u8], out: &mut [u8]) -> Printed
     ensures { λ r. ⌜ Prints (now (out .entry)) (Next 0) (checkLines (readSet v1 (now (set .entry)))) (now (out .exit)) r ⌝ }
@@ -54,72 +62,62 @@ fn print_listing(set: &[u8], out: &mut [u8]) -> Printed
     printed_of(written)
 }
 
-pub fn check(
+fn use_set(state: ReplayState, wanted: SetUse, set: &[u8], out: &mut [u8]) -> ReplayStep
+    ensures { λ r. ⌜ ((m : State) → ReplayHolds state m → (number : ℕ)
+        → Stepped (now (out .entry)) (now (out .exit)) r (replayLine number m (commandWith wanted (now (set .entry))))) ⌝ }
+{
+    match wanted {
+        SetUse::Batch(envelope, references) => {
+            calls::apply_batch(state, envelope, references, set, out)
+        }
+        SetUse::Checked => {
+            let printed = print_checked(set, out);
+            ReplayStep {
+                state,
+                printed,
+                stopped: false,
+            }
+        }
+        SetUse::Listed => {
+            let printed = print_listing(set, out);
+            ReplayStep {
+                state,
+                printed,
+                stopped: false,
+            }
+        }
+    }
+}
+
+// Uses the set whose hex starts at an index of the line. What is no hex makes it any other line.
+pub fn run_with_set(
     state: ReplayState,
+    wanted: SetUse,
     from: usize,
     number: u64,
     line: &[u8],
     out: &mut [u8],
 ) -> ReplayStep
     ensures { λ r. ⌜ ((m : State) → ReplayHolds state m → length (now (line .entry)) ≤ lineBytes
-        → Stepped (now (out .entry)) (now (out .exit)) r (replayLine number m (setFrom (now (line .entry)) from script.check))) ⌝ }
+        → Stepped (now (out .entry)) (now (out .exit)) r (replayLine number m (setFrom (now (line .entry)) from (commandWith wanted)))) ⌝ }
 {
     let mut set = [0u8; SET_BYTES];
     match script_parser::decode_set(line, from, &mut set) {
-        Decoded::Bytes(len) => {
-            let printed = print_checked(&set[0..len], out);
-            ReplayStep {
-                state,
-                printed,
-                stopped: false,
-            }
-        }
+        Decoded::Bytes(len) => use_set(state, wanted, &set[0..len], out),
         Decoded::Malformed => setup_lines::other(state, number, out),
         Decoded::NoRoom => setup_lines::other(state, number, out),
     }
 }
 
-pub fn list(state: ReplayState, from: usize, number: u64, line: &[u8], out: &mut [u8]) -> ReplayStep
-    ensures { λ r. ⌜ ((m : State) → ReplayHolds state m → length (now (line .entry)) ≤ lineBytes
-        → Stepped (now (out .entry)) (now (out .exit)) r (replayLine number m (setFrom (now (line .entry)) from script.list))) ⌝ }
-{
-    let mut set = [0u8; SET_BYTES];
-    match script_parser::decode_set(line, from, &mut set) {
-        Decoded::Bytes(len) => {
-            let printed = print_listing(&set[0..len], out);
-            ReplayStep {
-                state,
-                printed,
-                stopped: false,
-            }
-        }
-        Decoded::Malformed => setup_lines::other(state, number, out),
-        Decoded::NoRoom => setup_lines::other(state, number, out),
-    }
-}
-
-pub fn batch(
-    state: ReplayState,
-    batch: BatchLine,
-    number: u64,
-    line: &[u8],
-    out: &mut [u8],
-) -> ReplayStep
-    ensures { λ r. ⌜ ((m : State) → ReplayHolds state m → length (now (line .entry)) ≤ lineBytes
-        → Stepped (now (out .entry)) (now (out .exit)) r (replayLine number m (setFrom (now (line .entry)) (batch .set) (script.batch (envelopeOf batch) (batch .«target_references»))))) ⌝ }
+// The batch that a line asks for.
+pub fn batch_of(line: BatchLine) -> SetUse
+    ensures { λ r. ⌜ commandWith r ≡ script.batch (envelopeOf line) (line .«target_references») ⌝ }
 {
     let envelope = OrderedProjectionPatchBatchEnvelope {
-        session_id: ShellSessionId(batch.session_id),
-        sequence_no: batch.sequence_no,
-        patch_count: batch.patch_count,
-        stimulus_bytes: batch.stimulus_bytes,
+        session_id: ShellSessionId(line.session_id),
+        sequence_no: line.sequence_no,
+        patch_count: line.patch_count,
+        stimulus_bytes: line.stimulus_bytes,
     };
-    let mut set = [0u8; SET_BYTES];
-    match script_parser::decode_set(line, batch.set, &mut set) {
-        Decoded::Bytes(len) => {
-            calls::apply_batch(state, envelope, batch.target_references, &set[0..len], out)
-        }
-        Decoded::Malformed => setup_lines::other(state, number, out),
-        Decoded::NoRoom => setup_lines::other(state, number, out),
-    }
+    SetUse::Batch(envelope, line.target_references)
 }

@@ -1,7 +1,7 @@
 -- `replay_script::run_line` meets its contract: each command in its turn.
-use Prim.Native.Nat.{ℕ}
-use mathlib.Core.Path.{_≡_, refl, sym, subst}
+use mathlib.Core.Path.{sym, ap, _∙_}
 use Rattle.spec_replay.specs.Replay.{replayLine}
+use Rattle.script_parser.specs.Meaning.{setFrom}
 use Rattle.replay_script.specs.LineLaws.{line-step, silent-step, long-other, parsed-as}
 use borrow.Author.Needs.{needs}
 use Rattle.replay_script.proofs.run_line.Statement.{statement}
@@ -67,20 +67,23 @@ apply-requires c κs = search needs
 enum-known-batch : tie.Need-enum-known-batch
 enum-known-batch c = search needs
 
-batch-requires : tie.Need-batch-requires
-batch-requires c κs = search needs
+batch-of-requires : tie.Need-batch-of-requires
+batch-of-requires c κs = search needs
+
+run-with-set-requires : tie.Need-run-with-set-requires
+run-with-set-requires c κs = search needs
 
 enum-known-from : tie.Need-enum-known-from
 enum-known-from c = search needs
 
-check-requires : tie.Need-check-requires
-check-requires c κs = search needs
+run-with-set-requires-2 : tie.Need-run-with-set-requires-2
+run-with-set-requires-2 c κs = search needs
 
 enum-known-from-2 : tie.Need-enum-known-from-2
 enum-known-from-2 c = search needs
 
-list-requires : tie.Need-list-requires
-list-requires c κs = search needs
+run-with-set-requires-3 : tie.Need-run-with-set-requires-3
+run-with-set-requires-3 c κs = search needs
 
 enum-told-3 : tie.Need-enum-told-3
 enum-told-3 c = search needs
@@ -173,9 +176,9 @@ same-length-4 c = search needs
 returns-9 : tie.Need-returns-9
 unfolding replayLine
 returns-9 c =
-    let a = c .before .before .before .before .before .before .before .before .before .before .before .args in
-    let p = c .before .before .before .before .before .before .before .parse-line in
-    λ m h. line-step _ _ _ (a .number) m _ _ (parsed-as (a .line .now) (p .result) _ (p .ensures) (c .before .before .before .before .before .batch .given .1)) (c .before .before .batch2 .ensures m h (c .before .before .before .before .before .before .before .before .if1 .left))
+    let a = c .before .before .before .before .before .before .before .before .before .before .before .before .args in
+    let p = c .before .before .before .before .before .before .before .before .parse-line in
+    λ m h. line-step _ _ _ (a .number) m _ _ (ap (setFrom (a .line .now) (c .before .before .before .before .before .before .batch .given .0 .0 .set)) (c .before .before .before .before .batch-of .ensures) ∙ parsed-as (a .line .now) (p .result) _ (p .ensures) (c .before .before .before .before .before .before .batch .given .1)) (c .before .before .run-with-set .ensures m h (c .before .before .before .before .before .before .before .before .before .if1 .left))
 
 same-length-5 : tie.Need-same-length-5
 same-length-5 c = search needs
@@ -185,7 +188,7 @@ unfolding replayLine
 returns-10 c =
     let a = c .before .before .before .before .before .before .before .before .before .before .before .args in
     let p = c .before .before .before .before .before .before .before .parse-line in
-    λ m h. line-step _ _ _ (a .number) m _ _ (parsed-as (a .line .now) (p .result) _ (p .ensures) (c .before .before .before .before .before .from .given .1)) (c .before .before .check .ensures m h (c .before .before .before .before .before .before .before .before .if1 .left))
+    λ m h. line-step _ _ _ (a .number) m _ _ (parsed-as (a .line .now) (p .result) _ (p .ensures) (c .before .before .before .before .before .from .given .1)) (c .before .before .run-with-set2 .ensures m h (c .before .before .before .before .before .before .before .before .if1 .left))
 
 same-length-6 : tie.Need-same-length-6
 same-length-6 c = search needs
@@ -195,7 +198,7 @@ unfolding replayLine
 returns-11 c =
     let a = c .before .before .before .before .before .before .before .before .before .before .before .args in
     let p = c .before .before .before .before .before .before .before .parse-line in
-    λ m h. line-step _ _ _ (a .number) m _ _ (parsed-as (a .line .now) (p .result) _ (p .ensures) (c .before .before .before .before .before .from2 .given .1)) (c .before .before .list .ensures m h (c .before .before .before .before .before .before .before .before .if1 .left))
+    λ m h. line-step _ _ _ (a .number) m _ _ (parsed-as (a .line .now) (p .result) _ (p .ensures) (c .before .before .before .before .before .from2 .given .1)) (c .before .before .run-with-set3 .ensures m h (c .before .before .before .before .before .before .before .before .if1 .left))
 
 same-length-7 : tie.Need-same-length-7
 same-length-7 c = search needs
@@ -270,11 +273,12 @@ run-line-spec =
     enum-known-input
     apply-requires
     enum-known-batch
-    batch-requires
+    batch-of-requires
+    run-with-set-requires
     enum-known-from
-    check-requires
+    run-with-set-requires-2
     enum-known-from-2
-    list-requires
+    run-with-set-requires-3
     enum-told-3
     show-requires
     enum-known-node-3

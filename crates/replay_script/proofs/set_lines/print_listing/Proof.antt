@@ -1,5 +1,4 @@
 -- `replay_script::set_lines::print_listing` meets its contract.
-use mathlib.Core.Path.{_≡_}
 use Rattle.replay_script.specs.LineLaws.{listing-printed}
 use borrow.Author.Needs.{needs}
 use Rattle.replay_script.proofs.set_lines.print_listing.Statement.{statement}

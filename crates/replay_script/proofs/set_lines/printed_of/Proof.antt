@@ -1,5 +1,4 @@
 -- `replay_script::set_lines::printed_of` meets its contract.
-use mathlib.Core.Path.{_≡_}
 use Rattle.replay_script.specs.Silent.{printedOf}
 use borrow.Author.Needs.{needs}
 use Rattle.replay_script.proofs.set_lines.printed_of.Statement.{statement}

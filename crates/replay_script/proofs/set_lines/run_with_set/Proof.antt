@@ -1,16 +1,13 @@
--- `replay_script::set_lines::check` meets its contract: the bytes that the hex spells, or any other line.
-use Prim.Native.Nat.{ℕ, _≤_}
-use mathlib.Core.Path.{_≡_, refl, sym, subst}
-use mathlib.Core.List.{List}
+-- `replay_script::set_lines::run_with_set` meets its contract: the bytes that the hex spells, or any other line.
+use mathlib.Core.Path.{sym}
 use native.Mathlib.Omega.{arith}
-use lib.ListN.{length, replicate}
-use Rattle.spec_replay.specs.Script as script
+use lib.ListN.{replicate}
 use Rattle.spec_replay.specs.Replay.{replayLine}
-use Rattle.replay_calls.specs.ReplayHoldsLaws.{goes-on}
+use Rattle.replay_script.specs.SetUses.{commandWith}
 use Rattle.replay_script.specs.LineLaws.{line-step, set-is, set-within, no-set, has-room}
 use borrow.Author.Needs.{needs}
-use Rattle.replay_script.proofs.set_lines.check.Statement.{statement}
-use Rattle.replay_script.proofs.set_lines.check.Tie as tie
+use Rattle.replay_script.proofs.set_lines.run_with_set.Statement.{statement}
+use Rattle.replay_script.proofs.set_lines.run_with_set.Tie as tie
 
 slice-aggregate-decode-set : tie.Need-slice-aggregate-decode-set
 slice-aggregate-decode-set c = search needs
@@ -21,19 +18,19 @@ decode-set-requires c κs = search needs
 enum-known-len : tie.Need-enum-known-len
 enum-known-len c = search needs
 
-sub-print-checked : tie.Need-sub-print-checked
-sub-print-checked c = search needs
+sub-use-set : tie.Need-sub-use-set
+sub-use-set c = search needs
 
-part-print-checked-start : tie.Need-part-print-checked-start
-part-print-checked-start c = search needs
+part-use-set-start : tie.Need-part-use-set-start
+part-use-set-start c = search needs
 
-part-print-checked-end : tie.Need-part-print-checked-end
-part-print-checked-end c =
+part-use-set-end : tie.Need-part-use-set-end
+part-use-set-end c =
     let a = c .before .before .before .before .before .before .before .before .before .args in
-    omega (arith, set-within (a .line .now) (a .from) script.check (replicate 65536 0) (replicate 65536 0) _ (c .before .before .before .before .before .decode-set .ensures .0) (c .before .before .len .given .0 .0) (c .before .before .len .given .1))
+    omega (arith, set-within (a .line .now) (a .from) (commandWith (a .wanted)) (replicate 65536 0) (replicate 65536 0) _ (c .before .before .before .before .before .decode-set .ensures .0) (c .before .before .len .given .0 .0) (c .before .before .len .given .1))
 
-print-checked-requires : tie.Need-print-checked-requires
-print-checked-requires c κs = search needs
+use-set-requires : tie.Need-use-set-requires
+use-set-requires c κs = search needs
 
 enum-told : tie.Need-enum-told
 enum-told c = search needs
@@ -56,8 +53,8 @@ returns c =
     let a = c .before .before .before .before .before .before .before .before .before .before .before .before .before .before .args in
     let d = c .before .before .before .before .before .before .before .before .before .before .decode-set in
     λ m h short. line-step _ _ _ (a .number) m _ _
-    (sym (set-is (a .line .now) (a .from) script.check (replicate 65536 0) _ (d .result) (d .ensures .0) (d .ensures .1) (c .before .before .before .before .before .before .before .len .given .0 .0) (c .before .before .before .before .before .before .before .len .given .1)))
-    (goes-on refl h (c .before .before .print-checked .ensures))
+    (sym (set-is (a .line .now) (a .from) (commandWith (a .wanted)) (replicate 65536 0) _ (d .result) (d .ensures .0) (d .ensures .1) (c .before .before .before .before .before .before .before .len .given .0 .0) (c .before .before .before .before .before .before .before .len .given .1)))
+    (c .before .before .use-set .ensures m h (a .number))
 
 same-length-2 : tie.Need-same-length-2
 same-length-2 c = search needs
@@ -67,7 +64,7 @@ unfolding replayLine
 returns-2 c =
     let a = c .before .before .before .before .before .before .before .before .before .before .before .args in
     let d = c .before .before .before .before .before .before .before .decode-set in
-    λ m h short. line-step _ _ _ (a .number) m _ _ (sym (no-set (a .line .now) (a .from) script.check (replicate 65536 0) (a .line .now) (d .result) (d .ensures .0) (c .before .before .before .before .enum-told .given .1))) (c .before .before .other .ensures)
+    λ m h short. line-step _ _ _ (a .number) m _ _ (sym (no-set (a .line .now) (a .from) (commandWith (a .wanted)) (replicate 65536 0) (a .line .now) (d .result) (d .ensures .0) (c .before .before .before .before .enum-told .given .1))) (c .before .before .other .ensures)
 
 same-length-3 : tie.Need-same-length-3
 same-length-3 c = search needs
@@ -76,19 +73,19 @@ returns-3 : tie.Need-returns-3
 returns-3 c =
     let a = c .before .before .before .before .before .before .before .before .before .before .before .args in
     let d = c .before .before .before .before .before .before .before .decode-set in
-    λ m h short. absurd (has-room (a .line .now) (a .from) script.check (replicate 65536 0) (a .line .now) (d .result) (d .ensures .0) (search needs) short (c .before .before .before .before .enum-told2 .given .1))
+    λ m h short. absurd (has-room (a .line .now) (a .from) (commandWith (a .wanted)) (replicate 65536 0) (a .line .now) (d .result) (d .ensures .0) (search needs) short (c .before .before .before .before .enum-told2 .given .1))
 
-pub check-spec : {M : Type 1} → statement M
-check-spec =
+pub run-with-set-spec : {M : Type 1} → statement M
+run-with-set-spec =
     tie.close
     (tie.spec
     slice-aggregate-decode-set
     decode-set-requires
     enum-known-len
-    sub-print-checked
-    part-print-checked-start
-    part-print-checked-end
-    print-checked-requires
+    sub-use-set
+    part-use-set-start
+    part-use-set-end
+    use-set-requires
     enum-told
     other-requires
     enum-told-2
