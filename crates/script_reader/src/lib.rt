@@ -1,4 +1,4 @@
-// The lines of a replay script, in bytes of it that were read.
+// Lines, in bytes that were read.
 ghost use mathlib.Core.Path.{_≡_};
 ghost use Prim.Native.Nat.{_+_, _-_, _≤_};
 ghost use lib.ListN.{length, drop};

@@ -14,20 +14,6 @@ use libc::STDIN_FILENO;
 use libc::STDOUT_FILENO;
 use wire::ReadU32;
 
-// The position of the first line end, or the length.
-fn line_end(input: &[u8]) -> usize
-    ensures { λ r. ⌜ r ≤ length (now (input .entry)) ⌝ }
-{
-    let mut at = 0;
-    while at < input.len() {
-        if input[at] == b'\n' {
-            return at;
-        }
-        at += 1;
-    }
-    at
-}
-
 // The length of the set that the data begins with, or 0 where it does not fit.
 fn set_length(rest: &[u8]) -> usize
     requires { ⌜ 4 ≤ length (now rest) ⌝ }
@@ -107,7 +93,7 @@ fn use_often(way: u8, data: &mut [u8], times: u64) -> u64 {
 }
 
 fn run(input: &mut [u8]) -> u64 {
-    let end = line_end(input);
+    let end = script_reader::line_end(input, 0);
     if end < 3 {
         return 0;
     }

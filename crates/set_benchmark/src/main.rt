@@ -1,7 +1,5 @@
 // Uses one set many times. The input is a letter for the use (r for reading, q for the quick check, k for the check), a space, how often in decimal, a line end and the set. The last answer is
 // printed, so that no use can be left out.
-ghost use Prim.Native.Nat.{_≤_};
-ghost use lib.ListN.{length};
 use decimal::ReadU64;
 use libc::STDIN_FILENO;
 use libc::STDOUT_FILENO;
@@ -83,20 +81,6 @@ fn check_often(set: &mut [u8], times: u64) -> u64 {
     last
 }
 
-// The position of the first line end, or the length.
-fn line_end(input: &[u8]) -> usize
-    ensures { λ r. ⌜ r ≤ length (now (input .entry)) ⌝ }
-{
-    let mut at = 0;
-    while at < input.len() {
-        if input[at] == b'\n' {
-            return at;
-        }
-        at += 1;
-    }
-    at
-}
-
 fn use_often(way: u8, set: &mut [u8], times: u64) -> u64 {
     if way == b'r' {
         return read_often(set, times);
@@ -111,7 +95,7 @@ fn use_often(way: u8, set: &mut [u8], times: u64) -> u64 {
 }
 
 fn run(input: &mut [u8]) -> u64 {
-    let end = line_end(input);
+    let end = script_reader::line_end(input, 0);
     if end < 3 {
         return 0;
     }
