@@ -1,6 +1,5 @@
 -- What the catalogue's fields stand for in spec_session: 01, step 7 of a batch, and 'Sizes'.
 use Prim.Native.Nat.{ℕ, _-_}
-use mathlib.Core.Path.{_≡_}
 use mathlib.Core.Bool.{Bool, false, _&&_, _||_}
 use mathlib.Core.List.{List, [], _∷_, _++_, map}
 use lib.Dec.{eqb}

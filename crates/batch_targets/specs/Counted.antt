@@ -1,5 +1,5 @@
 -- What is counted on a walk over a set: the operations whose target is absent. 01, step 7 of a batch.
-use Prim.Native.Nat.{ℕ, _+_}
+use Prim.Native.Nat.{ℕ}
 use mathlib.Core.Path.{_≡_}
 use mathlib.Core.List.{List, []}
 use lib.ListN.{length}

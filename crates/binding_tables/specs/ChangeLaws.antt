@@ -1,19 +1,16 @@
 -- Laws of what an operation answers, and of rows that ascend by a key.
-use Prim.Native.Nat.{ℕ, _+_, _*_, _≤_, _<_}
+use Prim.Native.Nat.{ℕ, _*_, _≤_, _<_}
 use mathlib.Core.Path.{_≡_, refl, sym, ap, _∙_, subst}
-use mathlib.Core.Bool.{Bool, true, false}
 use mathlib.Core.List.{List, map}
 use native.Mathlib.Omega.{arith}
 use borrow.Author.Tests.{le-leb, lt-leb}
 use lib.Dec.{leb}
 use lib.ListN.{length, length-map}
 use Rattle.spec_lists.specs.Lists.{if_then_else_, All}
-use Rattle.spec_lists.specs.ListLaws.{all-map}
 use Rattle.spec_lists.specs.Order.{upsert}
 use Rattle.spec_projection.specs.Projection.{Projection}
-use Rattle.spec_projection.specs.Apply.{OperationFault, projectionFull, Outcome, done, stopped}
-use Rattle.record_table.specs.Table.{Wide, Holds}
-use Rattle.record_table.specs.Search.{placeOf, upsertAt, PlaceWithin}
+use Rattle.spec_projection.specs.Apply.{projectionFull, Outcome, done, stopped}
+use Rattle.record_table.specs.Search.{placeOf, upsertAt}
 use Rattle.record_table.specs.SearchLaws.{place-map, upsert-place, map-upsertAt}
 use Rattle.record_table.specs.declared.Place.{Place}
 use Rattle.local_projection_state.specs.Stores.{Stored}

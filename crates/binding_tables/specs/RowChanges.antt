@@ -1,13 +1,13 @@
 -- What a change of a table's rows gives, for a table that holds rows and has so many places.
 use Prim.Native.Nat.{ℕ, suc, _+_, _*_, _≤_, _<_}
-use mathlib.Core.Path.{_≡_, refl, sym, ap, _∙_}
-use mathlib.Core.Bool.{Bool, true, false, false≢true, _&&_}
-use mathlib.Core.List.{List, _∷_, _++_}
+use mathlib.Core.Path.{_≡_, sym, _∙_}
+use mathlib.Core.Bool.{Bool, true, false, false≢true}
+use mathlib.Core.List.{List}
 use native.Mathlib.Nat.{suc-mul, le-of-mul-le-mul-right, lt-of-mul-lt-mul-right, le-mul-of-pos-right}
 use native.Mathlib.Omega.{arith}
 use borrow.Author.Tests.{leb-true, leb-false}
 use lib.Dec.{leb, eqb}
-use lib.ListN.{length, take, drop, length-append, length-take, length-drop}
+use lib.ListN.{length, length-append, length-take, length-drop}
 use Rattle.spec_lists.specs.ListLaws.{and-right, test-cases}
 use Rattle.record_table.specs.Positions.{insertAt, removeAt, replaceAt}
 use Rattle.record_table.specs.Table.{Wide, Holds, Changed, canInsert, canRemove, canReplace}

@@ -6,7 +6,7 @@ use native.Mathlib.Omega.{arith}
 use lib.ListN.{length, take}
 use Rattle.spec_patch.specs.Patch.{Patch}
 use Rattle.spec_patch.specs.Edition.{v1}
-use Rattle.spec_patch.specs.Reader.{Fault, malformed, overCapacity, faultNumber}
+use Rattle.spec_patch.specs.Reader.{Fault, faultNumber}
 use Rattle.spec_patch.specs.Read.{SetReading, patches, fault, readSet}
 use Rattle.spec_patch.specs.SetLaws.{was-encoded}
 use Rattle.spec_checks.specs.Finding.{Finding}
@@ -19,11 +19,11 @@ use Rattle.spec_listing.specs.Listing.{fields}
 use Rattle.spec_replay.specs.Answers.{placeField, findingLine, checkedLine, checkLines}
 use Rattle.decimal.specs.declared.Printed.{Printed}
 use Rattle.field_printer.specs.Prints.{field, Prints, Within}
-use Rattle.field_printer.specs.PrintsLaws.{_⨾_, same-bytes, ends-within}
+use Rattle.field_printer.specs.PrintsLaws.{_⨾_, ends-within}
 use Rattle.projection_patch.specs.ReadAnswers.{faultTo, faultOf}
+use Rattle.projection_patch.specs.FaultLaws.{fault-back}
 use Rattle.projection_patch.specs.declared.read_values.ProjectionPatchReadFault.{ProjectionPatchReadFault}
-use Rattle.patch_checks.specs.SetListed.{tableLength}
-use Rattle.patch_checks.specs.CheckAnswers.{placeTo, checkedTo, checkAnswer, checkNumbers}
+use Rattle.patch_checks.specs.CheckAnswers.{placeTo, checkAnswer, checkNumbers}
 use Rattle.patch_checks.specs.declared.check_set.CheckPlace.{CheckPlace}
 use Rattle.patch_checks.specs.declared.check_set.CheckPlace.the-variants as place
 use Rattle.patch_checks.specs.declared.check_set.PatchSetCheck.{PatchSetCheck}
@@ -42,10 +42,6 @@ set-place (inPatch j) is = absurd (let z : _≡_ {A = ℕ} 0 1 = cc in omega ari
 set-place inSet is = refl
 
 -- ---- a refusal
-
-fault-back : (f : Fault) → faultOf (faultTo f) ≡ f
-fault-back malformed = refl
-fault-back overCapacity = refl
 
 abbrev refusal : ProjectionPatchReadFault → List ℕ
 refusal f = 75 ∷ fields (decimal (faultNumber (faultOf f)) ∷ [])

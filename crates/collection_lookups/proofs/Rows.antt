@@ -1,11 +1,11 @@
 -- What is read from the row of an entry, and how many rows a table holds.
-use Prim.Native.Nat.{ℕ, _*_, _/_, _≤_, _<_}
-use mathlib.Core.Path.{_≡_, refl, sym, ap, _∙_}
-use mathlib.Core.List.{List, [], _∷_, _++_, append-assoc, map}
-use mathlib.Core.Option.{Option, none, some, Option·some-injective}
+use Prim.Native.Nat.{ℕ, _*_, _/_, _<_}
+use mathlib.Core.Path.{_≡_, sym, ap, _∙_}
+use mathlib.Core.List.{List, _++_, map}
+use mathlib.Core.Option.{some, Option·some-injective}
 use native.Mathlib.Nat.{div-lt-iff-lt-mul}
 use native.Mathlib.Omega.{arith}
-use lib.ListN.{length, drop, length-map, length-append}
+use lib.ListN.{length, drop, length-map}
 use lib.Seq.{drop-at}
 use Rattle.spec_lists.specs.BytesLaws.{length-littleEndian}
 use Rattle.spec_patch.specs.Patch.{unsigned}
@@ -19,6 +19,7 @@ use Rattle.wire.specs.ReadLaws.{first-of-littleEndian}
 use Rattle.wire.specs.declared.ReadU64.{ReadU64}
 use Rattle.wire.specs.declared.ReadU64.the-variants as U64
 use Rattle.local_projection_state.specs.Rows.{entryWidth, padded, entryRow}
+use Rattle.local_projection_state.specs.RowsLaws.{entry-behind}
 
 -- an entry that stands for none
 unfoldable pub noEntry : Entry
@@ -65,7 +66,4 @@ module _ (row : List ℕ) (e : Entry) (fits : FitsEntry e) (is : row ≡ entryRo
   key-reads t f = no-number (e .key) (key-told t) f
 
   pub value-behind : drop 16 row ≡ padded (e .value)
-  unfolding entryRow
-  value-behind =
-      let front : length (u64 (e .collection) ++ u64 (e .key)) ≡ 16 = simp (length-append, length-littleEndian) in
-      ap (drop 16) (is ∙ sym (append-assoc (u64 (e .collection)) (u64 (e .key)) (padded (e .value)))) ∙ drop-at (u64 (e .collection) ++ u64 (e .key)) (padded (e .value)) 16 front
+  value-behind = ap (drop 16) is ∙ entry-behind e

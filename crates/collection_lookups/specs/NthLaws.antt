@@ -1,21 +1,21 @@
 -- One entry after the other: how many of a collection are passed, and which is the n-th.
 use Prim.Native.Nat.{ℕ, zero, suc, _+_, _-_, _≤_, _<_}
-use mathlib.Core.Path.{_≡_, refl, sym, ap, _∙_, subst}
-use mathlib.Core.Bool.{Bool, true, false}
+use mathlib.Core.Path.{_≡_, refl, sym, ap, _∙_}
+use mathlib.Core.Bool.{true, false}
 use mathlib.Core.List.{List, [], _∷_, map}
 use mathlib.Core.Option.{Option, none, some}
 use native.Mathlib.Numerals.{add-one}
 use native.Mathlib.Omega.{arith}
 use lib.Dec.{eqb}
-use lib.ListN.{length, drop, getD, getElem?, drop-of-length-le, length-map}
+use lib.ListN.{length, drop, getD, getElem?, drop-of-length-le}
 use lib.Seq.{drop-cons}
-use Rattle.spec_lists.specs.Lists.{if_then_else_, All}
+use Rattle.spec_lists.specs.Lists.{All}
 use Rattle.spec_lists.specs.ListLaws.{test-cases}
 use Rattle.spec_projection.specs.Projection.{Entry}
 use Rattle.spec_projection.specs.Lookups.{KeyedValue, keyedValue, entriesIn}
 use Rattle.spec_projection.specs.Valid.{FitsEntry}
 use Rattle.local_projection_state.specs.Rows.{entryRow}
-use Rattle.collection_lookups.specs.Nth.{countsFor, NthAt}
+use Rattle.collection_lookups.specs.Nth.{countsFor}
 
 pub counts-one : (c : ℕ) (e : Entry) → countsFor c e ≤ 1
 unfolding entriesIn

@@ -1,6 +1,6 @@
 -- A change of the rows of a table of entries is the operation on the projection's entries.
 use Prim.Native.Nat.{ℕ, _+_, _-_, _≤_, _<_}
-use mathlib.Core.Path.{_≡_, refl, sym, ap, ap₂, _∙_, subst}
+use mathlib.Core.Path.{_≡_, sym, ap, ap₂, _∙_, subst}
 use mathlib.Core.Bool.{Bool, true, false}
 use mathlib.Core.List.{List, [], map}
 use mathlib.Core.Option.{Option}
@@ -28,7 +28,7 @@ use Rattle.binding_tables.specs.RowChanges.{length-insertAt, few, replaced, rem
 use Rattle.binding_tables.specs.declared.LocalProjectionApplicationError.the-variants.{KeyRule, ProjectionFull}
 use Rattle.binding_tables.specs.declared.TableChange.the-variants.{Applied, Refused}
 use Rattle.collection_tables.specs.Places.{placeBefore, PositionWithin, placeBeforeOther, withoutAt}
-use Rattle.collection_tables.specs.PlacesLaws.{FoundAt, update-found, update-absent, remove-found, remove-absent, insert-present, insert-no-neighbour, insert-there, moved, move-absent, move-no-neighbour, move-there}
+use Rattle.collection_tables.specs.PlacesLaws.{update-found, update-absent, remove-found, remove-absent, insert-present, insert-no-neighbour, insert-there, moved, move-absent, move-no-neighbour, move-there}
 
 -- ---- what the answer of a search says of a position
 

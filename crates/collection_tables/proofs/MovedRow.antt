@@ -5,8 +5,9 @@ use mathlib.Core.Bool.{Bool}
 use mathlib.Core.List.{List, [], append-nil, _++_}
 use native.Mathlib.Omega.{arith}
 use borrow.Author.Tests.{lt-ltb, le-ltb}
-use lib.ListN.{length, drop, getD, length-replicate, drop-of-length-le}
+use lib.ListN.{length, getD, drop-of-length-le}
 use Rattle.byte_moves.specs.Moves.{zeros, overwrite}
+use Rattle.byte_moves.specs.MovesLaws.{length-zeros}
 use Rattle.record_table.specs.Positions.{insertAt, removeAt, moveAt}
 use Rattle.record_table.specs.Table.{Holds, Changed, canMove}
 use Rattle.record_table.specs.TableLaws.{row-width, can-move}
@@ -25,9 +26,6 @@ copied : (w : ℕ) (part : List ℕ) → length part ≡ w → overwrite part (z
 copied w part e =
     let none : length (zeros w) ≤ length part = omega (arith, length-zeros w) in
     ap (λ (l : List ℕ). part ++ l) (drop-of-length-le (zeros w) none) ∙ append-nil part
-  where
-    length-zeros : (n : ℕ) → length (zeros n) ≡ n
-    length-zeros n = length-replicate n 0
 
 module _ {w n from : ℕ} (to place : ℕ) {table exit part row : List ℕ} {b : Bool} (below : from < n) (is : withoutAt from to ≡ place) (inside : place < n)
     (told : (rows : List (List ℕ)) → Holds w n table rows → part ≡ getD rows from []) (copy : row ≡ overwrite part (zeros w))

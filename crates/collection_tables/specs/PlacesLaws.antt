@@ -1,15 +1,15 @@
 -- The definitions of the operations on a collection, by positions among the stored entries.
-use Prim.Native.Nat.{ℕ, zero, suc, _+_, _-_, _≤_, _<_}
+use Prim.Native.Nat.{ℕ, zero, suc, _-_, _≤_, _<_}
 use mathlib.Core.Path.{_≡_, refl, sym, ap, ap₂, _∙_, subst}
-use mathlib.Core.Bool.{Bool, true, false, not, _||_, false≢true}
-use mathlib.Core.List.{List, [], _∷_, _++_, map}
+use mathlib.Core.Bool.{Bool, true, false, _||_, false≢true}
+use mathlib.Core.List.{List, [], _∷_, map}
 use mathlib.Core.Option.{Option, none, some}
 use native.Mathlib.Numerals.{add-one}
 use native.Mathlib.Omega.{arith}
-use borrow.Author.Tests.{eq-eqb, eqb-true, eqb-false, ltb-true, ltb-false, lt-ltb, le-ltb}
+use borrow.Author.Tests.{eqb-true, eqb-false, ltb-true, ltb-false, lt-ltb, le-ltb}
 use lib.Dec.{eqb, ltb, leb}
-use lib.ListN.{length, take, drop, getD}
-use Rattle.spec_lists.specs.Lists.{if_then_else_, any, All}
+use lib.ListN.{length, getD}
+use Rattle.spec_lists.specs.Lists.{if_then_else_, any}
 use Rattle.spec_lists.specs.ListLaws.{test-cases, or-left, or-right}
 use Rattle.spec_patch.specs.Sizes.{projectionEntries}
 use Rattle.spec_projection.specs.Projection.{Entry, Projection}
@@ -18,12 +18,11 @@ use Rattle.spec_projection.specs.FirstMatch.{insertBeforeFirst, replaceFirst, r
 use Rattle.spec_projection.specs.Entries.{isEntry, isLater, contains, containsNeighbour, insertLast, insertBefore, insertEntry, replaceEntry, removeEntry}
 use Rattle.spec_projection.specs.EntriesLaws.{entry-collection, entry-key, removeEntry-gone}
 use Rattle.spec_projection.specs.Valid.{Grouped}
-use Rattle.spec_projection.specs.Apply.{keyRule, projectionFull, Outcome, done, stopped, withEntries, applyInsert, applyUpdate, applyRemove, applyMove}
+use Rattle.spec_projection.specs.Apply.{keyRule, projectionFull, done, stopped, withEntries, applyInsert, applyUpdate, applyRemove, applyMove}
 use Rattle.record_table.specs.Positions.{insertAt, removeAt, replaceAt, firstIndex}
 use Rattle.record_table.specs.PositionsLaws.{insert-first, remove-first, replace-first, any-lt}
 use Rattle.record_table.specs.Search.{findFirst}
 use Rattle.record_table.specs.SearchLaws.{find-at, find-absent, find-stopped}
-use Rattle.record_table.specs.declared.Found.{Found}
 use Rattle.record_table.specs.declared.Found.the-variants.{At, Absent}
 use Rattle.local_projection_state.specs.Rows.{entryRow}
 use Rattle.collection_tables.specs.Places.{placeBefore, isItself, placeBeforeOther, withoutAt}

@@ -2,7 +2,6 @@
 // every byte. After crates/prom-ui/src/local_projection_state.rs.
 pub mod find;
 
-ghost use mathlib.Core.Path.{_≡_};
 ghost use mathlib.Core.List.{List, []};
 ghost use Prim.Native.Nat.{ℕ, _≤_, _<_};
 ghost use lib.ListN.{getD};

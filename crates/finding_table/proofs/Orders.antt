@@ -6,7 +6,6 @@ use native.Mathlib.Omega.{arith}
 use borrow.Author.Tests.{lt-ltb, le-ltb, eq-eqb, ne-eqb}
 use Rattle.spec_lists.specs.Order.{lexLess}
 use Rattle.record_keys.specs.Keys.{orderOf}
-use Rattle.record_keys.specs.declared.Order.{Order}
 use Rattle.record_keys.specs.declared.Order.the-variants.{Below, Same, Above}
 
 module _ (x y : ℕ) (xs ys : List ℕ) where

@@ -3,10 +3,10 @@ use Prim.Native.Nat.{ℕ, zero, suc, _+_, _*_, _-_, _≤_, _<_}
 use mathlib.Core.Path.{_≡_, refl, sym, ap, _∙_}
 use mathlib.Core.Bool.{Bool, true, false}
 use mathlib.Core.List.{List, [], _∷_, _++_, append-assoc, flatMap}
-use native.Mathlib.Nat.{add-zero, zero-add}
+use native.Mathlib.Nat.{add-zero}
 use native.Mathlib.Omega.{arith}
 use lib.ListN.{length, take, drop, getD, set, length-take, length-drop, take-append-drop, length-append}
-use lib.Seq.{take-at, drop-at, drop-drop}
+use lib.Seq.{take-at, drop-drop}
 use borrow.Rule.Slice.PartMut.{midOf, putMid}
 use borrow.Author.Tests.{le-leb, lt-leb}
 use Rattle.spec_lists.specs.Lists.{if_then_else_}
@@ -19,13 +19,14 @@ use Rattle.record_keys.specs.Keys.{orderOf}
 use Rattle.record_keys.specs.declared.Order.{Order}
 use Rattle.record_keys.specs.declared.Order.the-variants.{Below, Same, Above}
 use Rattle.record_table.specs.Positions.{insertAt}
-use Rattle.record_table.specs.Search.{nextPlace, placeOf, upsertAt, PlaceWithin}
-use Rattle.record_table.specs.SearchLaws.{upsert-place}
+use Rattle.record_table.specs.Search.{nextPlace, placeOf, upsertAt, PlaceWithin, later}
+use Rattle.record_table.specs.SearchLaws.{upsert-place, later-next}
 use Rattle.record_table.specs.declared.Place.{Place}
 use Rattle.record_table.specs.declared.Place.the-variants.{Taken, Before}
 use Rattle.spec_checks.specs.Finding.{Finding, findingKey}
 use Rattle.spec_checks.specs.Answer.{recordLength, findingWords}
 use Rattle.spec_checks.specs.AnswerLaws.{findingWords-length}
+use Rattle.spec_checks.specs.FindingsLaws.{findingKey-injective}
 use Rattle.mutation_targets.specs.Threes.{three-at}
 use Rattle.finding_table.specs.FindingTable.{findingsIn, hasRoom, insertedFindings, insertedCount, insertedNumbers, Kept}
 
@@ -55,20 +56,6 @@ findings-few (k ∷ d ∷ []) h = refl
 findings-few (k ∷ d ∷ s ∷ ns) h = absurd (omega arith)
 
 -- ---- the place of a finding
-
--- the same place with i elements in front
-abbrev pub later : ℕ → Place → Place
-later i (Taken j) = Taken (i + j)
-later i (Before j) = Before (i + j)
-
-pub later-none : (p : Place) → p ≡ later 0 p
-later-none (Taken j) = rw zero-add
-later-none (Before j) = rw zero-add
-
-later-next : (i : ℕ) (p : Place) → later i (nextPlace p) ≡ later (i + 1) p
-unfolding nextPlace
-later-next i (Taken j) = ap Taken (omega arith)
-later-next i (Before j) = ap Before (omega arith)
 
 -- the place by how the first element stands to the key, given the place among the others
 abbrev byOrder : Order → Place → Place
@@ -115,14 +102,6 @@ module _ (f : Finding) (ns : List ℕ) (at i : ℕ) where
   placed-last p h = p ∙ ap (λ l. later i (placeOf findingKey (findingKey f) l)) (findings-few (drop at ns) h) ∙ ap Before (add-zero i)
 
 -- ---- a finding that is there already
-
-findingKey-injective : (f g : Finding) → findingKey f ≡ findingKey g → f ≡ g
-unfolding findingKey
-findingKey-injective f g e =
-    let kinds : f .kind ≡ g .kind = cc in
-    let domains : f .domain ≡ g .domain = cc in
-    let secondaries : f .secondary ≡ g .secondary = cc in
-    λ i. record { kind = kinds i; domain = domains i; secondary = secondaries i }
 
 abbrev IsTaken : Place → Type 0
 IsTaken (Taken i) = Unit {0}

@@ -1,20 +1,19 @@
 -- Pairs of digits as the steps read them, and what a caller knows of decoded bytes.
 use Prim.Native.Nat.{ℕ, zero, suc, _+_, _-_, _*_, _/_, _%_, _≤_, _<_}
 use mathlib.Core.Path.{_≡_, refl, sym, ap, _∙_}
-use mathlib.Core.Bool.{Bool, true, false, _&&_, _||_}
-use mathlib.Core.List.{List, [], _∷_, _++_}
+use mathlib.Core.Bool.{Bool, true, false, _&&_}
+use mathlib.Core.List.{List, [], _∷_}
 use mathlib.Core.Option.{Option, none, some}
 use native.Mathlib.Omega.{arith}
 use lib.Dec.{leb, eqb}
-use lib.ListN.{length, getD, take, drop}
-use borrow.Author.Tests.{le-leb, lt-leb, leb-true, leb-false, eq-eqb, ne-eqb, eqb-true, eqb-false}
-use Rattle.spec_lists.specs.Lists.{if_then_else_, between, all, equalLists}
-use Rattle.spec_lists.specs.ListLaws.{and-left, and-right, test-cases}
+use lib.ListN.{length, getD, take}
+use borrow.Author.Tests.{le-leb, leb-true}
+use Rattle.spec_lists.specs.Lists.{if_then_else_, all, equalLists}
+use Rattle.spec_lists.specs.ListLaws.{test-cases}
 use Rattle.spec_decimal.specs.Decimal.{isDigit}
 use Rattle.spec_replay.specs.Script.{hexDigit, hexByte, consByte, hexPairs, readHex}
 use Rattle.wire.specs.Write.{hasRoom, overwrite}
 use Rattle.wire.specs.WriteLaws.{has-room, take-overwrite}
-use Rattle.hex.specs.declared.Decoded.{Decoded}
 use Rattle.hex.specs.declared.Decoded.the-variants as Answer
 use Rattle.hex.specs.Decoding.{isHexDigit, hexValue, isPairs, pairBytes, decoding, decodedInto}
 

@@ -1,10 +1,10 @@
 -- The numbers that stand in the row of a record, and where its value begins.
 use Prim.Native.Nat.{ℕ, _^_, _<_}
-use mathlib.Core.Path.{_≡_, refl, sym, ap, _∙_}
-use mathlib.Core.List.{List, [], _∷_, _++_, append-assoc}
+use mathlib.Core.Path.{_≡_, refl, ap, _∙_}
+use mathlib.Core.List.{List, [], _∷_, _++_}
 use mathlib.Core.Option.{Option, none, some, Option·some-injective}
 use native.Mathlib.Omega.{arith}
-use lib.ListN.{length, drop, length-append}
+use lib.ListN.{length, drop}
 use lib.Seq.{drop-at}
 use Rattle.spec_lists.specs.Bytes.{littleEndian, numberOf}
 use Rattle.spec_lists.specs.BytesLaws.{length-littleEndian}
@@ -15,6 +15,7 @@ use Rattle.spec_projection.specs.Valid.{FitsBinding, FitsNodeAvailability, Fits
 use Rattle.wire.specs.Read.{firstNumber}
 use Rattle.wire.specs.ReadLaws.{first-of-littleEndian}
 use Rattle.local_projection_state.specs.Rows.{padded, bindingRow, availabilityRow, entryRow}
+use Rattle.local_projection_state.specs.RowsLaws.{binding-behind, entry-behind}
 
 -- ---- what a read answers
 
@@ -31,10 +32,6 @@ module _ (a : List ℕ) (k : ℕ) (long : length a ≡ k) where
   second : (n x : ℕ) (rest : List ℕ) → x < 256 ^ n → firstNumber n (drop k (a ++ (littleEndian n x ++ rest))) ≡ some x
   second n x rest h = ap (firstNumber n) (drop-at a (littleEndian n x ++ rest) k long) ∙ first-of-littleEndian n x rest h
 
--- what stands behind two fields
-third : (n : ℕ) (a b c : List ℕ) → length (a ++ b) ≡ n → drop n (a ++ (b ++ c)) ≡ c
-third n a b c long = ap (drop n) (sym (append-assoc a b c)) ∙ drop-at (a ++ b) c n long
-
 module _ (row : List ℕ) (b : Binding) (fits : FitsBinding b) (is : row ≡ bindingRow b) where
   pub binding-node : firstNumber 8 (drop 0 row) ≡ some (b .node)
   unfolding bindingRow
@@ -45,8 +42,7 @@ module _ (row : List ℕ) (b : Binding) (fits : FitsBinding b) (is : row ≡ bin
   binding-slot = ap (λ (l : List ℕ). firstNumber 4 (drop 8 l)) is ∙ second (u64 (b .node)) 8 (length-littleEndian 8 (b .node)) 4 (b .slot) (padded (b .value)) (fits .slot)
 
   pub binding-value : drop 12 row ≡ padded (b .value)
-  unfolding bindingRow
-  binding-value = ap (drop 12) is ∙ third 12 (u64 (b .node)) (u32 (b .slot)) (padded (b .value)) (simp (length-append, length-littleEndian))
+  binding-value = ap (drop 12) is ∙ binding-behind b
 
 module _ (row : List ℕ) (e : Entry) (fits : FitsEntry e) (is : row ≡ entryRow e) where
   pub entry-collection : firstNumber 8 (drop 0 row) ≡ some (e .collection)
@@ -58,8 +54,7 @@ module _ (row : List ℕ) (e : Entry) (fits : FitsEntry e) (is : row ≡ entryRo
   entry-key = ap (λ (l : List ℕ). firstNumber 8 (drop 8 l)) is ∙ second (u64 (e .collection)) 8 (length-littleEndian 8 (e .collection)) 8 (e .key) (padded (e .value)) (fits .key)
 
   pub entry-value : drop 16 row ≡ padded (e .value)
-  unfolding entryRow
-  entry-value = ap (drop 16) is ∙ third 16 (u64 (e .collection)) (u64 (e .key)) (padded (e .value)) (simp (length-append, length-littleEndian))
+  entry-value = ap (drop 16) is ∙ entry-behind e
 
 one-byte : (a : Availability) → firstNumber 1 (availabilityByte a ∷ []) ≡ some (availabilityByte a)
 unfolding firstNumber numberOf availabilityByte

@@ -1,23 +1,23 @@
 -- Laws of rows: their widths, that a row tells its record, and that the searches in a table see the model's keys.
-use Prim.Native.Nat.{ℕ, _+_, _-_, _^_, _≤_, _<_}
+use Prim.Native.Nat.{ℕ, _+_, _-_, _≤_}
 use mathlib.Core.Path.{_≡_, refl, sym, ap, ap₂, _∙_}
 use mathlib.Core.Bool.{true, _&&_}
 use mathlib.Core.List.{List, [], _∷_, _++_, map, append-assoc}
 use native.Mathlib.Omega.{arith}
 use lib.Dec.{ltb, eqb}
-use lib.ListN.{length, take, drop, length-append, length-replicate}
+use lib.ListN.{length, length-append, length-replicate, drop}
 use lib.Seq.{take-at, drop-at}
 use Rattle.spec_lists.specs.Lists.{All}
-use Rattle.spec_lists.specs.Bytes.{littleEndian, numberOf}
+use Rattle.spec_lists.specs.ListLaws.{drop-behind}
 use Rattle.spec_lists.specs.BytesLaws.{length-littleEndian, numberOf-littleEndian}
-use Rattle.spec_patch.specs.Patch.{Quad, Availability, Value, quad, signed, text, unsigned}
+use Rattle.spec_patch.specs.Patch.{Value, quad, signed, text, unsigned}
 use Rattle.spec_patch.specs.Edition.{v1, hasKind}
-use Rattle.spec_patch.specs.Encode.{u32, u64, quadByte, availabilityByte, encodeText, kindOf, valueBody, encodeValue}
-use Rattle.spec_patch.specs.Fits.{U64, U32, Storable, FitsText, FitsValue}
-use Rattle.spec_patch.specs.Reader.{Result, read, Reader, pair, number}
-use Rattle.spec_patch.specs.Read.{readU64, readU32, readValue, readAvailability}
+use Rattle.spec_patch.specs.Encode.{u32, u64, encodeText, kindOf, valueBody, encodeValue}
+use Rattle.spec_patch.specs.Fits.{Storable, FitsValue}
+use Rattle.spec_patch.specs.Reader.{Result, read, Reader}
+use Rattle.spec_patch.specs.Read.{readValue}
 use Rattle.spec_patch.specs.Codec.{Codec, pair-codec, injective}
-use Rattle.spec_patch.specs.ReadLaws.{Any, availabilityBytes, u64-codec, value-codec, binding-fields, update-fields, availability-codec}
+use Rattle.spec_patch.specs.ReadLaws.{u64-codec, value-codec, binding-fields, update-fields, availability-codec}
 use Rattle.spec_projection.specs.Projection.{Binding, NodeAvailability, Entry, bindingKey, availabilityKey}
 use Rattle.spec_projection.specs.Entries.{isEntry, isLater}
 use Rattle.spec_projection.specs.Valid.{Behind, Grouped, FitsBinding, FitsNodeAvailability, FitsEntry}
@@ -52,6 +52,16 @@ availability-wide a h = simp (length-append, length-littleEndian)
 pub entry-wide : (e : Entry) → FitsEntry e → Wide entryWidth (entryRow e)
 unfolding entryRow
 entry-wide e h = simp (length-append, length-littleEndian) (omega (arith, length-padded (e .value) (h .value)))
+
+-- ---- where a row holds its value
+
+pub binding-behind : (b : Binding) → drop 12 (bindingRow b) ≡ padded (b .value)
+unfolding bindingRow
+binding-behind b = drop-behind 12 (u64 (b .node)) (u32 (b .slot)) (padded (b .value)) (simp (length-append, length-littleEndian))
+
+pub entry-behind : (e : Entry) → drop 16 (entryRow e) ≡ padded (e .value)
+unfolding entryRow
+entry-behind e = drop-behind 16 (u64 (e .collection)) (u64 (e .key)) (padded (e .value)) (simp (length-append, length-littleEndian))
 
 -- ---- a row tells its record
 

@@ -1,13 +1,13 @@
 -- A state stores at most one projection, and a projection is stored by exactly one state.
 use Prim.Native.Nat.{ℕ, _-_, _*_, _≤_}
 use mathlib.Core.Path.{_≡_, refl, sym, ap, _∙_, subst}
-use mathlib.Core.List.{List, [], _∷_, _++_, map, flatten, cons≢nil, head-eq-of-cons-eq, tail-eq-of-cons-eq}
+use mathlib.Core.List.{List, [], _∷_, map, flatten, cons≢nil, head-eq-of-cons-eq, tail-eq-of-cons-eq}
 use native.Mathlib.Nat.{mul-le-mul-right}
 use native.Mathlib.Omega.{arith}
 use lib.ListN.{length, length-append, length-replicate, length-map}
 use Rattle.spec_lists.specs.Lists.{All}
 use Rattle.spec_patch.specs.Sizes.{projectionBindings, projectionAvailabilities, projectionEntries}
-use Rattle.spec_projection.specs.Projection.{Binding, NodeAvailability, Entry, Projection, empty}
+use Rattle.spec_projection.specs.Projection.{Projection, empty}
 use Rattle.spec_projection.specs.Valid.{FitsBinding, FitsNodeAvailability, FitsEntry, Valid}
 use Rattle.spec_projection.specs.ValidLaws.{empty-valid}
 use Rattle.byte_moves.specs.Moves.{zeros}
@@ -17,7 +17,6 @@ use Rattle.local_projection_state.specs.Rows.{bindingWidth, availability
 use Rattle.local_projection_state.specs.RowsLaws.{binding-wide, availability-wide, entry-wide, binding-tells, availability-tells, entry-tells}
 use Rattle.local_projection_state.specs.Stores.{Stored, StoredTables, Stores, stateOf}
 use Rattle.local_projection_state.specs.declared.LocalProjectionState.{LocalProjectionState}
-use Rattle.local_projection_state.specs.declared.ProjectionCounts.{ProjectionCounts}
 
 -- ---- one table
 

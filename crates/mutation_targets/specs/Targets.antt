@@ -1,7 +1,7 @@
 -- What an operation changes, as three numbers of a list: 01, 'Patch checks', kind 3.
 use Prim.Native.Nat.{ℕ, _+_}
 use mathlib.Core.Bool.{Bool, false, _&&_, _||_}
-use mathlib.Core.List.{List, [], _∷_, _++_, flatMap}
+use mathlib.Core.List.{List, [], _∷_, _++_}
 use lib.Dec.{eqb}
 use lib.ListN.{take, drop}
 use Rattle.spec_patch.specs.Patch.{Operation}

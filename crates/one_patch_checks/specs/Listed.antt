@@ -16,7 +16,6 @@ use Rattle.mutation_targets.specs.Targets.{targetNumbers, targetSeen}
 use Rattle.patch_findings.specs.InsertFindings.{insertedAll}
 use Rattle.one_patch_checks.specs.declared.list_operations.OperationsListed.{OperationsListed}
 use Rattle.one_patch_checks.specs.declared.list_operations.OperationsListed.the-variants as operations-listed
-use Rattle.one_patch_checks.specs.declared.list_patch.PatchListed.{PatchListed}
 use Rattle.one_patch_checks.specs.declared.list_patch.PatchListRead.{PatchListRead}
 use Rattle.one_patch_checks.specs.declared.list_patch.PatchListRead.the-variants as patch-listed
 

@@ -6,10 +6,8 @@ use mathlib.Core.List.{List, [], _∷_, _++_, append-assoc, flatMap, reverse, re
 use lib.ListN.{length-reverse}
 use lib.ListN.{length, length-append}
 use lib.Dec.{eqb}
-use native.Mathlib.Omega.{arith}
-use borrow.Author.Tests.{ne-eqb}
-use Rattle.spec_lists.specs.Lists.{isEmpty}
-use Rattle.spec_patch.specs.Patch.{Operation, Envelope, Patch}
+use Rattle.spec_lists.specs.ListLaws.{empty-count}
+use Rattle.spec_patch.specs.Patch.{Operation, Patch}
 use Rattle.spec_checks.specs.Finding.{Finding, finding, report, checkEach, emptyOperations, collectionBeforeSelf, duplicateMutationTarget}
 use Rattle.spec_checks.specs.PatchChecks.{beforeSelf, operationFindings, envelopeFindings, rawPatchFindings}
 use Rattle.mutation_targets.specs.Targets.{targetNumbers}
@@ -30,10 +28,6 @@ listed-run id done (o ∷ os) =
     (ap₂ (λ (ts : List ℕ) (i : ℕ). listedFrom id ts i os) (sym (targets-snoc done o)) more
     ∙ listed-run id (done ++ (o ∷ [])) os
     ∙ ap (λ e. checkEach (operationFindings id) e os) (reverse-append done (o ∷ [])))
-
-empty-count : (os : List Operation) → eqb (length os) 0 ≡ isEmpty os
-empty-count [] = refl
-empty-count (o ∷ os) = ne-eqb (length (o ∷ os)) 0 (omega arith)
 
 -- a patch: of its head, then of its operations
 pub listed-patch : (p : Patch) → headFindings (p .envelope) (length (p .operations)) ++ listedFrom (p .envelope .id) [] 0 (p .operations) ≡ rawPatchFindings p

@@ -2,15 +2,14 @@
 use Prim.Native.Nat.{ℕ, suc, _+_, _-_, _≤_, _<_}
 use mathlib.Core.Path.{_≡_, refl, sym, ap, ap₂, _∙_, subst}
 use mathlib.Core.List.{List, [], _∷_, _++_}
-use mathlib.Core.Option.{Option, none, some}
+use mathlib.Core.Option.{Option, some}
 use native.Mathlib.Omega.{arith}
 use lib.ListN.{length, take, drop, set}
 use Rattle.spec_lists.specs.Bytes.{Bytes}
-use Rattle.spec_patch.specs.Sizes.{patchOperations}
 use Rattle.spec_patch.specs.Patch.{Envelope, Patch}
 use Rattle.spec_patch.specs.Edition.{v1}
 use Rattle.spec_patch.specs.Reader.{Result, read, refused, onward, many}
-use Rattle.spec_patch.specs.Read.{readPatch, SetReading, patches, fault, ended}
+use Rattle.spec_patch.specs.Read.{readPatch, ended}
 use Rattle.spec_patch.specs.Codec.{suffix}
 use Rattle.spec_patch.specs.ReadLaws.{patch-codec}
 use Rattle.spec_checks.specs.Finding.{Finding}

@@ -1,6 +1,6 @@
 -- Which finding of the sequence there is, by the tests that are made one after the other.
-use Prim.Native.Nat.{ℕ, _+_}
-use mathlib.Core.Path.{_≡_, refl}
+use Prim.Native.Nat.{_+_}
+use mathlib.Core.Path.{_≡_}
 use mathlib.Core.Bool.{true, not}
 use mathlib.Core.Logic.{_≢_}
 use lib.Dec.{eqb}

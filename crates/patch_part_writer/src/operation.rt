@@ -20,10 +20,8 @@ use crate::fields::store_value;
 use crate::written::WriteRefusal;
 use crate::written::Written;
 use projection_patch::binding_graph::BindingTarget;
-use projection_patch::contract_primitives::CollectionKey;
 use projection_patch::contract_primitives::StaticNodeId;
 use projection_patch::patch::OptionalKey;
-use projection_patch::patch::ProjectionNodeAvailability;
 use projection_patch::patch::ProjectionPatchOperation;
 use projection_patch::patch::ProjectionPatchValue;
 

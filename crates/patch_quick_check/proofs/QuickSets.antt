@@ -1,7 +1,7 @@
 -- Runs of patches that are read and checked, one turn at a time: what is left, after what was counted and found, answers as the whole does.
-use Prim.Native.Nat.{ℕ, suc, _+_, _-_, _≤_, _<_}
+use Prim.Native.Nat.{ℕ, suc, _+_, _-_, _<_}
 use mathlib.Core.Path.{_≡_, refl, sym, ap, ap₂, _∙_}
-use mathlib.Core.Bool.{Bool, true, false, _||_}
+use mathlib.Core.Bool.{Bool, false, _||_}
 use mathlib.Core.List.{List, [], _∷_, _++_}
 use mathlib.Core.Option.{Option, none, some}
 use native.Mathlib.Omega.{arith}
@@ -14,14 +14,11 @@ use Rattle.spec_patch.specs.Edition.{v1}
 use Rattle.spec_patch.specs.Reader.{Result, read, refused, onward, many}
 use Rattle.spec_patch.specs.Read.{readPatch, SetReading, patches, fault, ended}
 use Rattle.spec_patch.specs.ReadLaws.{patch-codec}
-use Rattle.spec_checks.specs.Findings.{findings}
 use Rattle.projection_patch.specs.Meaning.{envelopeOf}
 use Rattle.projection_patch.specs.ReadAnswers.{faultTo, anywhere}
-use Rattle.projection_patch.specs.declared.patch.ProjectionPatch.{ProjectionPatch}
 use Rattle.projection_patch.specs.declared.read_values.ProjectionPatchReadFault.{ProjectionPatchReadFault}
 use Rattle.projection_patch.proofs.Answers.{Told, Got, NotGot, got, not-got}
 use Rattle.projection_patch_sets.specs.SetAnswers.{operationCount}
-use Rattle.patch_findings.specs.Found.{isFound}
 use Rattle.patch_findings.specs.IdsLaws.{ids-snoc}
 use Rattle.mutation_targets.specs.ToldLaws.{envelope-back}
 use Rattle.patch_quick_check.specs.Quick.{patchFound, afterFound, patchesFound}

@@ -6,10 +6,8 @@ use mathlib.Core.List.{List, [], _∷_, _++_, map, flatMap, reverse, reverse-app
 use mathlib.Core.Option.{Option, none, some}
 use lib.Dec.{eqb}
 use lib.ListN.{length}
-use native.Mathlib.Omega.{arith}
-use borrow.Author.Tests.{ne-eqb}
 use Rattle.spec_lists.specs.Lists.{any, isEmpty}
-use Rattle.spec_lists.specs.ListLaws.{any-reverse}
+use Rattle.spec_lists.specs.ListLaws.{any-reverse, empty-count}
 use Rattle.spec_lists.specs.Order.{upsert, sortUnique}
 use Rattle.spec_lists.specs.OrderLaws.{upsert-cases}
 use Rattle.spec_patch.specs.Patch.{Operation, Envelope, Patch}
@@ -69,10 +67,6 @@ operations-found id done [] = refl
 operations-found id done (o ∷ os) =
     ap₂ _||_ (operation-found id done o) (ap (λ ts. foundFrom ts os) (sym (targets-snoc done o)) ∙ operations-found id (done ++ (o ∷ [])) os ∙ ap (λ e. isFound (checkEach (operationFindings id) e os)) (reverse-append done (o ∷ [])))
     ∙ sym (found-append (operationFindings id (reverse done) o) (checkEach (operationFindings id) (o ∷ reverse done) os))
-
-empty-count : (os : List Operation) → eqb (length os) 0 ≡ isEmpty os
-empty-count [] = refl
-empty-count (o ∷ os) = ne-eqb (length (o ∷ os)) 0 (omega arith)
 
 raw-found : (p : Patch) → patchFound p ≡ isFound (rawPatchFindings p)
 unfolding patchFound headFound rawPatchFindings flatMap

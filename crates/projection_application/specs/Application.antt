@@ -15,7 +15,6 @@ use Rattle.local_projection_state.specs.declared.LocalProjectionState.{LocalPro
 use Rattle.binding_tables.specs.Change as change
 use Rattle.projection_application.specs.declared.ProjectionOutcome.{ProjectionOutcome}
 use Rattle.projection_application.specs.declared.ProjectionOutcome.the-variants.{Applied, Refused, Findings, Unreadable}
-use Rattle.projection_application.specs.declared.ProjectionApplication.{ProjectionApplication}
 
 -- the projection afterwards, or the number of the refusal
 pub data SetOutcome : Type 0 where

@@ -9,12 +9,13 @@ use lib.ListN.{length}
 use Rattle.spec_lists.specs.Lists.{if_then_else_, any, isEmpty}
 use Rattle.spec_patch.specs.Patch.{Patch}
 use Rattle.spec_patch.specs.Edition.{v1}
-use Rattle.spec_patch.specs.Reader.{Fault, malformed, overCapacity, faultNumber}
+use Rattle.spec_patch.specs.Reader.{faultNumber}
 use Rattle.spec_patch.specs.Read.{SetReading, patches, fault, readSet}
 use Rattle.spec_checks.specs.Findings.{findings}
 use Rattle.spec_projection.specs.Projection.{Projection}
 use Rattle.spec_projection.specs.Apply.{Outcome, done, stopped, operationFaultNumber, replaySteps, applySteps}
 use Rattle.projection_patch.specs.ReadAnswers as reading
+use Rattle.projection_patch.specs.FaultLaws.{fault-back}
 use Rattle.projection_patch.specs.declared.read_values.ProjectionPatchReadFault.{ProjectionPatchReadFault}
 use Rattle.projection_patch.specs.declared.read_values.ProjectionPatchReadFault.the-variants.{Malformed, OverCapacity}
 use Rattle.patch_findings.specs.Found.{isFound}
@@ -23,9 +24,8 @@ use Rattle.patch_quick_check.specs.declared.quick_set.QuickCheck.{QuickCheck}
 use Rattle.patch_quick_check.specs.declared.quick_set.QuickCheck.the-variants as quick
 use Rattle.projection_patch_sets.specs.SetAnswers.{operationCount}
 use Rattle.local_projection_state.specs.declared.LocalProjectionState.{LocalProjectionState}
-use Rattle.binding_tables.specs.Change as change
 use Rattle.binding_tables.specs.declared.LocalProjectionApplicationError.the-variants.{KeyRule, ProjectionFull}
-use Rattle.projection_application.specs.Application.{SetOutcome, applied, refused, setOutcome, applyReading, applySet, outcomeNumber, StepsBecame, SetBecame}
+use Rattle.projection_application.specs.Application.{refused, setOutcome, applyReading, applySet, outcomeNumber, StepsBecame, SetBecame}
 use Rattle.projection_application.specs.declared.ProjectionOutcome.{ProjectionOutcome}
 use Rattle.projection_application.specs.declared.ProjectionOutcome.the-variants.{Applied, Refused, Findings, Unreadable}
 
@@ -56,10 +56,6 @@ record Clean (p : Projection) (r : SetReading) : Type 0 where
   pub ps : List Patch
   pub readable : r ≡ patches ps
   pub outcome : applyReading p r ≡ setOutcome (applySteps p (replaySteps ps))
-
-fault-back : (f : Fault) → reading.faultOf (reading.faultTo f) ≡ f
-fault-back malformed = refl
-fault-back overCapacity = refl
 
 module _ (p : Projection) where
   clean-reading : (r : SetReading) (n m : ℕ) → quick.Clean n m ≡ quickAnswer r → Clean p r

@@ -1,20 +1,16 @@
 -- Lookups of the model, by the place or the position that a search in a table found.
-use Prim.Native.Nat.{ℕ, _<_}
-use mathlib.Core.Path.{_≡_, refl, sym, ap, _∙_}
+use Prim.Native.Nat.{ℕ}
+use mathlib.Core.Path.{_≡_, sym, ap, _∙_}
 use mathlib.Core.List.{List, [], _∷_, map}
-use mathlib.Core.Option.{Option, none, some, Option·map}
-use native.Mathlib.Omega.{arith}
+use mathlib.Core.Option.{none, some, Option·map}
 use lib.ListN.{length, drop, getD, length-append}
 use lib.Seq.{getD-at}
-use Rattle.spec_lists.specs.Lists.{All}
 use Rattle.spec_lists.specs.ListLaws.{all-map}
 use Rattle.spec_lists.specs.BytesLaws.{length-littleEndian}
-use Rattle.spec_lists.specs.Order.{lookup}
 use Rattle.spec_patch.specs.Patch.{Value}
 use Rattle.spec_patch.specs.Encode.{u64, availabilityByte}
 use Rattle.spec_patch.specs.Fits.{Storable}
 use Rattle.spec_projection.specs.Projection.{Binding, NodeAvailability, Entry, Projection, bindingKey, availabilityKey}
-use Rattle.spec_projection.specs.FirstMatch as first
 use Rattle.spec_projection.specs.FirstMatchLaws.{findFirst-all}
 use Rattle.spec_projection.specs.Entries.{isEntry}
 use Rattle.spec_projection.specs.Lookups.{bindingOf, availabilityOf, entryOf}
@@ -27,12 +23,12 @@ use Rattle.record_table.specs.declared.Place.the-variants.{Taken, Before}
 use Rattle.record_table.specs.declared.Found.{Found}
 use Rattle.record_table.specs.declared.Found.the-variants.{At, Absent}
 use Rattle.local_projection_state.specs.Rows.{padded, bindingRow, availabilityRow, entryRow}
-use Rattle.local_projection_state.specs.RowsLaws.{binding-key, availability-key}
+use Rattle.local_projection_state.specs.RowsLaws.{binding-key, availability-key, binding-behind, entry-behind}
 use Rattle.collection_tables.specs.PlacesLaws.{found-at, found-none}
 use Rattle.stored_values.specs.Lookup.{noValue, foundValue, valueLookup, availabilityLookup}
 use Rattle.stored_values.specs.declared.ValueLookup.{ValueLookup}
 use Rattle.stored_values.specs.declared.AvailabilityLookup.{AvailabilityLookup}
-use Rattle.projection_lookups.specs.LookupLaws.{FoundBy, place-taken, place-before, binding-behind, entry-behind, availability-behind}
+use Rattle.projection_lookups.specs.LookupLaws.{place-taken, place-before}
 
 -- what reading a row's value answers
 abbrev pub ReadsAt : ℕ → List ℕ → ValueLookup → Type 0

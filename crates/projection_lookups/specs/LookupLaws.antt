@@ -1,25 +1,20 @@
 -- A place in a table that ascends by a key is the lookup's, and where a row holds its value.
-use Prim.Native.Nat.{ℕ, zero, suc, _<_}
-use mathlib.Core.Path.{_≡_, refl, sym, ap, _∙_, subst}
+use Prim.Native.Nat.{ℕ, zero, suc}
+use mathlib.Core.Path.{_≡_, refl, _∙_, subst}
 use mathlib.Core.Logic.{_≢_}
-use mathlib.Core.Bool.{Bool, true, false, false≢true}
-use mathlib.Core.List.{List, [], _∷_, _++_, map, append-assoc}
-use mathlib.Core.Option.{Option, none, some}
+use mathlib.Core.Bool.{Bool, true, false}
+use mathlib.Core.List.{List, [], _∷_, map}
+use mathlib.Core.Option.{none, some}
 use native.Mathlib.Omega.{arith}
-use lib.ListN.{length, drop, getD, length-append}
-use lib.Seq.{drop-at}
+use lib.ListN.{getD}
 use Rattle.spec_lists.specs.Lists.{if_then_else_, All}
 use Rattle.spec_lists.specs.ListLaws.{all-map}
-use Rattle.spec_lists.specs.BytesLaws.{length-littleEndian}
 use Rattle.spec_lists.specs.Order.{lexLess, lookup, Ascending}
 use Rattle.spec_lists.specs.OrderLaws.{lexLess-trans, lexLess-total, lexLess-irreflexive}
 use Rattle.spec_lists.specs.LookupLaws.{lookup-here, lookup-past, lookup-below}
-use Rattle.spec_patch.specs.Encode.{u32, u64, availabilityByte}
-use Rattle.spec_projection.specs.Projection.{Binding, NodeAvailability, Entry}
 use Rattle.record_table.specs.Search.{nextPlace, placeOf}
 use Rattle.record_table.specs.declared.Place.{Place}
 use Rattle.record_table.specs.declared.Place.the-variants.{Taken, Before}
-use Rattle.local_projection_state.specs.Rows.{padded, bindingRow, availabilityRow, entryRow}
 
 -- ---- places
 
@@ -65,20 +60,3 @@ module _ {A : Type 0} (key : A → List ℕ) {B : Type 0} (f : A → B) (P : A �
       go false s true u (Taken j) is e ih = absurd (let z : _≡_ {A = ℕ} 0 1 = cc in omega arith)
       go false s true u (Before j) is e ih = lookup-past key k x l (other x u) ∙ ih j is
       go false s false u p is e ih = absurd (let z : _≡_ {A = ℕ} 0 1 = cc in omega arith)
-
--- ---- where a row holds its value
-
-behind : (n : ℕ) (a b c : List ℕ) → length (a ++ b) ≡ n → drop n (a ++ (b ++ c)) ≡ c
-behind n a b c e = ap (drop n) (sym (append-assoc a b c)) ∙ drop-at (a ++ b) c n e
-
-pub binding-behind : (b : Binding) → drop 12 (bindingRow b) ≡ padded (b .value)
-unfolding bindingRow
-binding-behind b = behind 12 (u64 (b .node)) (u32 (b .slot)) (padded (b .value)) (simp (length-append, length-littleEndian))
-
-pub entry-behind : (e : Entry) → drop 16 (entryRow e) ≡ padded (e .value)
-unfolding entryRow
-entry-behind e = behind 16 (u64 (e .collection)) (u64 (e .key)) (padded (e .value)) (simp (length-append, length-littleEndian))
-
-pub availability-behind : (a : NodeAvailability) → drop 8 (availabilityRow a) ≡ availabilityByte (a .availability) ∷ []
-unfolding availabilityRow
-availability-behind a = drop-at (u64 (a .node)) (availabilityByte (a .availability) ∷ []) 8 (length-littleEndian 8 (a .node))

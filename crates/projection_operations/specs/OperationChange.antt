@@ -6,7 +6,7 @@ use Rattle.spec_patch.specs.Sizes.{projectionBindings, projectionAvailabilities
 use Rattle.spec_projection.specs.Projection.{Projection}
 use Rattle.spec_projection.specs.Apply.{Outcome, done, stopped}
 use Rattle.local_projection_state.specs.Rows.{bindingWidth, availabilityWidth, entryWidth, bindingRow, availabilityRow, entryRow}
-use Rattle.local_projection_state.specs.Stores.{Stored, StoredTables}
+use Rattle.local_projection_state.specs.Stores.{Stored}
 use Rattle.local_projection_state.specs.declared.ProjectionCounts.{ProjectionCounts}
 use Rattle.binding_tables.specs.Change.{faultOf}
 use Rattle.binding_tables.specs.declared.TableChange.{TableChange}

@@ -1,3 +1,4 @@
 pub mod Meaning
 pub mod ReadAnswers
+pub mod FaultLaws
 pub mod TextLaws

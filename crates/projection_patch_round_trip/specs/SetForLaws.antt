@@ -1,14 +1,15 @@
 -- The set for a list stands for it, and its arrays hold every list that fits: so whatever is read is written back byte for byte.
-use Prim.Native.Nat.{ℕ, zero, suc, _+_, _*_, _-_, _≤_}
+use Prim.Native.Nat.{ℕ, suc, _+_, _*_, _-_, _≤_}
 use mathlib.Core.Path.{_≡_, refl, sym, ap, ap₂, _∙_}
 use mathlib.Core.Bool.{Bool, true, _&&_}
-use mathlib.Core.List.{List, [], _∷_, _++_, map, flatMap, append-assoc, append-nil}
+use mathlib.Core.List.{List, [], _∷_, _++_, map, flatMap, append-assoc, append-nil, map-append}
 use mathlib.Core.Option.{Option, none, some}
 use native.Mathlib.Omega.{arith}
 use borrow.Author.Tests.{le-leb}
 use lib.ListN.{length, take, drop, length-append, length-map, length-replicate}
 use lib.Seq.{take-at, drop-at, drop-drop, take-length}
 use Rattle.spec_lists.specs.Lists.{All, all}
+use Rattle.spec_lists.specs.ListLaws.{map-take, map-drop}
 use Rattle.spec_lists.specs.Bytes.{Bytes}
 use Rattle.spec_patch.specs.Sizes.{setPatches, patchOperations}
 use Rattle.spec_patch.specs.Patch as model
@@ -124,21 +125,6 @@ few-operations [] h = omega arith
 few-operations (p ∷ ps) h = omega (arith, length-append (p .operations) (operationsOf ps), few-operations ps (h .1), h .0 .few)
 
 -- ---- the list
-
-module _ {A B : Type 0} (f : A → B) where
-  map-take : (n : ℕ) (l : List A) → map f (take n l) ≡ take n (map f l)
-  map-take zero l = refl
-  map-take (suc n) [] = refl
-  map-take (suc n) (x ∷ l) = ap (λ (r : List B). f x ∷ r) (map-take n l)
-
-  map-drop : (n : ℕ) (l : List A) → map f (drop n l) ≡ drop n (map f l)
-  map-drop zero l = refl
-  map-drop (suc n) [] = refl
-  map-drop (suc n) (x ∷ l) = map-drop n l
-
-  map-append : (a b : List A) → map f (a ++ b) ≡ map f a ++ map f b
-  map-append [] b = refl
-  map-append (x ∷ a) b = ap (λ (r : List B). f x ∷ r) (map-append a b)
 
 -- heads and places stand for the list, whatever is in the places behind
 list-back : (texts : List ℕ) (ps : List model.Patch) (places : List OperationPlace) (more : List model.Operation) → map (operationAt texts) places ≡ operationsOf ps ++ more

@@ -10,7 +10,7 @@ use Rattle.spec_lists.specs.Bytes.{Bytes}
 use Rattle.spec_patch.specs.Patch.{Operation, Patch}
 use Rattle.spec_patch.specs.Edition.{v1}
 use Rattle.spec_patch.specs.Encode.{u32, encodeOperation, encodeEnvelope, encodeCounted, encodePatch, heading, encode}
-use Rattle.spec_patch.specs.Reader.{read, Reader}
+use Rattle.spec_patch.specs.Reader.{Reader}
 use Rattle.spec_patch.specs.Read.{readOperation, patches, readSet}
 use Rattle.spec_patch.specs.Codec.{Codec}
 use Rattle.spec_patch.specs.ReadLaws.{operation-codec}

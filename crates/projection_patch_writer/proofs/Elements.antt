@@ -2,10 +2,10 @@
 use Prim.Native.Nat.{ℕ, zero, suc, _+_, _≤_, _<_}
 use mathlib.Core.Path.{_≡_, sym, ap, ap₂, _∙_}
 use mathlib.Core.Bool.{Bool, true}
-use mathlib.Core.List.{List, [], _∷_, map}
+use mathlib.Core.List.{List, [], _∷_}
 use native.Mathlib.Numerals.{add-one}
 use native.Mathlib.Omega.{arith}
-use lib.ListN.{length, getD, take, drop, length-map}
+use lib.ListN.{length, getD, take, drop}
 use lib.Seq.{drop-cons, getD-take, length-take-le, drop-length}
 use Rattle.spec_lists.specs.Lists.{all}
 use Rattle.spec_lists.specs.ListLaws.{and-left, and-right}
@@ -42,10 +42,6 @@ module _ {A : Type 0} where
   pub each : (test : A → Bool) (n : ℕ) (l : List A) (i : ℕ) (d : A) → all test (take n l) ≡ true → i < n → n ≤ length l → test (getD l i d) ≡ true
   each test n l i d e more within =
       ap test (sym (getD-take n l i d more)) ∙ all-getD test (take n l) i d e (omega (arith, length-take-le n l within))
-
--- the length of an array, whose elements a relation holds at a map over them
-pub unmapped : (X Y : Type 0) (f : X → Y) (l : List X) (n : ℕ) → length (map f l) ≡ n → length l ≡ n
-unmapped X Y f l n e = sym (length-map l f) ∙ e
 
 -- ---- what a read past the end of an array would give
 

@@ -1,7 +1,7 @@
 -- A run over a list of operations or patches, one turn at a time: what is left, from the projection that is stored now, gives what the whole gives.
 use Prim.Native.Nat.{ℕ, _-_, _≤_, _<_}
 use mathlib.Core.Path.{_≡_, refl, sym, ap, _∙_, subst}
-use mathlib.Core.List.{List, [], _∷_, _++_, map, flatMap}
+use mathlib.Core.List.{List, [], _∷_, map, flatMap}
 use native.Mathlib.Omega.{arith}
 use lib.ListN.{length}
 use Rattle.spec_patch.specs.Patch.{Operation}
@@ -10,7 +10,6 @@ use Rattle.spec_projection.specs.Apply.{Outcome, done, stopped, ReplayStep, ste
 use Rattle.spec_projection.specs.ApplyLaws.{applySteps-append}
 use Rattle.local_projection_state.specs.Stores.{StoredTables}
 use Rattle.local_projection_state.specs.declared.ProjectionCounts.{ProjectionCounts}
-use Rattle.binding_tables.specs.Change.{faultOf}
 use Rattle.binding_tables.specs.declared.LocalProjectionApplicationError.{LocalProjectionApplicationError}
 use Rattle.projection_patch.specs.declared.read_values.ProjectionPatchReadFault.{ProjectionPatchReadFault}
 use Rattle.projection_operations.specs.OperationChange.{OperationBecame}

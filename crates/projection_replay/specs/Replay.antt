@@ -1,11 +1,8 @@
 -- What a run over a set answers, and what becomes of the tables.
 use Prim.Native.Nat.{ℕ, _≤_}
 use mathlib.Core.Path.{_≡_}
-use mathlib.Core.List.{List, [], _∷_, flatMap}
-use lib.ListN.{length}
 use Rattle.spec_projection.specs.Projection.{Projection}
-use Rattle.spec_projection.specs.Apply.{Outcome, done, stopped, ReplayStep, applySteps}
-use Rattle.local_projection_state.specs.Stores.{StoredTables}
+use Rattle.spec_projection.specs.Apply.{Outcome, done, stopped}
 use Rattle.local_projection_state.specs.declared.ProjectionCounts.{ProjectionCounts}
 use Rattle.binding_tables.specs.Change.{faultOf}
 use Rattle.projection_replay.specs.declared.ReplayRun.{ReplayRun}

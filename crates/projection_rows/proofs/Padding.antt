@@ -1,24 +1,16 @@
 -- Fields written one behind another over zeros are a row, with zeros behind them.
 use Prim.Native.Nat.{ℕ, _+_, _-_, _≤_}
-use mathlib.Core.Path.{_≡_, refl, sym, ap, _∙_}
-use mathlib.Core.List.{List, [], _∷_, _++_, append-assoc, append-nil}
+use mathlib.Core.Path.{_≡_, ap, _∙_}
+use mathlib.Core.List.{List, _++_, append-assoc, append-nil}
 use native.Mathlib.Omega.{arith}
-use lib.ListN.{length, drop, length-append, length-replicate, replicate-append-replicate}
-use lib.Seq.{drop-at}
+use lib.ListN.{length, drop, length-append}
 use Rattle.spec_patch.specs.Patch.{Value}
 use Rattle.spec_patch.specs.Encode.{encodeValue}
 use Rattle.byte_moves.specs.Moves.{zeros}
+use Rattle.byte_moves.specs.MovesLaws.{length-zeros, drop-zeros}
 use Rattle.wire.specs.Write.{overwrite}
 use Rattle.wire.specs.WriteLaws.{has-room, overwrite-in-place, overwrite-append}
 use Rattle.local_projection_state.specs.Rows.{valueWidth, padded}
-
-pub length-zeros : (n : ℕ) → length (zeros n) ≡ n
-length-zeros n = length-replicate n 0
-
-drop-zeros : (k n : ℕ) → k ≤ n → drop k (zeros n) ≡ zeros (n - k)
-drop-zeros k n h =
-    let e : k + (n - k) ≡ n = omega arith in
-    ap (λ (m : ℕ). drop k (zeros m)) (sym e) ∙ ap (drop k) (sym (replicate-append-replicate k (n - k) 0)) ∙ drop-at (zeros k) (zeros (n - k)) k (length-zeros k)
 
 -- the first bytes over zeros
 over-zeros : (n k : ℕ) (bs : List ℕ) → length bs ≡ k → k ≤ n → overwrite (zeros n) 0 bs ≡ bs ++ zeros (n - k)

@@ -3,7 +3,7 @@ use mathlib.Core.Path.{_≡_, refl, sym, ap, _∙_}
 use mathlib.Core.Bool.{Bool, true, false}
 use mathlib.Core.List.{List, [], _∷_, _++_}
 use Prim.Native.Nat.{ℕ, _+_, _-_, _*_, _≤_, _<_}
-use native.Mathlib.Nat.{add-zero, zero-add}
+use native.Mathlib.Nat.{add-zero}
 use native.Mathlib.Omega.{arith}
 use lib.Dec.{ltb}
 use lib.ListN.{length, take, drop, getD, length-take, length-drop, drop-of-length-le}
@@ -18,9 +18,8 @@ use Rattle.record_table.specs.PositionsLaws.{firstIndex-le, first-passes
 use Rattle.record_table.specs.Table.{Holds}
 use Rattle.record_table.specs.TableLaws.{fitting, row-at, row-cons}
 use Rattle.record_keys.specs.Keys.{orderOf}
-use Rattle.record_table.specs.Search.{firstNumber, isPair, Rising, Starts, nextPlace, placeOf}
-use Rattle.record_table.specs.SearchLaws.{rising-at}
-use Rattle.record_table.specs.declared.Place.{Place}
+use Rattle.record_table.specs.Search.{firstNumber, isPair, Rising, Starts, nextPlace, placeOf, later}
+use Rattle.record_table.specs.SearchLaws.{rising-at, later-none, later-next}
 use Rattle.record_table.specs.declared.Place.the-variants.{Taken, Before}
 use Rattle.record_keys.specs.declared.Order.the-variants.{Below, Same, Above}
 use Rattle.record_table.proofs.Offsets.{end-le}
@@ -71,20 +70,6 @@ module _ (m : List (List ℕ)) (rising : Rising m) (id second : ℕ) where
         go false e = omega (arith, ltb-false (firstIndex (isPair id second) m) (length m) e, firstIndex-le (isPair id second) m)
 
 -- ---- the place of a key
-
--- the same place with i elements in front
-abbrev later : ℕ → Place → Place
-later i (Taken j) = Taken (i + j)
-later i (Before j) = Before (i + j)
-
-later-none : (p : Place) → p ≡ later 0 p
-later-none (Taken j) = rw zero-add
-later-none (Before j) = rw zero-add
-
-later-next : (i : ℕ) (p : Place) → later i (nextPlace p) ≡ later (i + 1) p
-unfolding nextPlace
-later-next i (Taken j) = ap Taken (omega arith)
-later-next i (Before j) = ap Before (omega arith)
 
 -- which test decided how a key stands to another
 module _ (a b : List ℕ) where

@@ -9,21 +9,12 @@ use borrow.Author.Tests.{ltb-true, ltb-false}
 use lib.Dec.{ltb}
 use lib.ListN.{length, take, drop, getD}
 use Rattle.spec_lists.specs.Lists.{if_then_else_, any, All}
+use Rattle.spec_lists.specs.ListLaws.{map-take, map-drop}
 use Rattle.record_table.specs.Positions.{insertAt, removeAt, replaceAt, firstIndex}
 
 -- ---- under a map
 
 module _ {A B : Type 0} (f : A → B) where
-  pub map-take : (i : ℕ) (l : List A) → map f (take i l) ≡ take i (map f l)
-  map-take zero l = refl
-  map-take (suc i) [] = refl
-  map-take (suc i) (x ∷ l) = ap (λ m. f x ∷ m) (map-take i l)
-
-  pub map-drop : (i : ℕ) (l : List A) → map f (drop i l) ≡ drop i (map f l)
-  map-drop zero l = refl
-  map-drop (suc i) [] = refl
-  map-drop (suc i) (x ∷ l) = map-drop i l
-
   pub map-insertAt : (i : ℕ) (a : A) (l : List A) → map f (insertAt i a l) ≡ insertAt i (f a) (map f l)
   map-insertAt i a l = map-append f (take i l) (a ∷ drop i l) ∙ rw (map-take, map-drop)
 

@@ -1,5 +1,5 @@
 -- Searches in a list: for the first element that passes a test, and for the place of a key.
-use Prim.Native.Nat.{ℕ, zero, suc, _≤_, _<_}
+use Prim.Native.Nat.{ℕ, zero, suc, _≤_, _<_, _+_}
 use mathlib.Core.Bool.{Bool, _&&_}
 use mathlib.Core.List.{List, [], _∷_}
 use lib.Dec.{ltb, eqb}
@@ -55,6 +55,11 @@ Within n Absent = Unit {0}
 unfoldable pub nextPlace : Place → Place
 nextPlace (Taken i) = Taken (suc i)
 nextPlace (Before i) = Before (suc i)
+
+-- the same place with i elements in front
+abbrev pub later : ℕ → Place → Place
+later i (Taken j) = Taken (i + j)
+later i (Before j) = Before (i + j)
 
 -- the first element that is not below the key: it has that key, or an element of the key goes before it
 unfoldable pub placeOf : {A : Type 0} → (A → List ℕ) → List ℕ → List A → Place

@@ -1,9 +1,10 @@
 -- Laws of searches: what an answer says, under a map, and how a place serves `upsert`.
-use Prim.Native.Nat.{ℕ, zero, suc, _-_, _≤_, _<_}
+use Prim.Native.Nat.{ℕ, zero, suc, _-_, _≤_, _<_, _+_}
 use mathlib.Core.Path.{_≡_, refl, ap}
 use mathlib.Core.Bool.{Bool, true, false}
 use mathlib.Core.List.{List, [], _∷_, map}
 use native.Mathlib.Numerals.{add-one}
+use native.Mathlib.Nat.{zero-add}
 use native.Mathlib.Omega.{arith}
 use lib.Dec.{ltb}
 use lib.ListN.{length, getD, length-map}
@@ -15,7 +16,7 @@ use Rattle.spec_lists.specs.Order.{lexLess, upsert}
 use Rattle.record_table.specs.Positions.{firstIndex}
 use Rattle.record_table.specs.PositionsLaws.{firstIndex-map, firstIndex-le, first-passes, first-le, any-lt, any-none, map-insertAt, map-replaceAt}
 use Rattle.record_keys.specs.Keys.{leadingNumbers}
-use Rattle.record_table.specs.Search.{firstNumber, isAbove, Rising, Starts, findFirst, nextPlace, placeOf, upsertAt}
+use Rattle.record_table.specs.Search.{firstNumber, isAbove, Rising, Starts, findFirst, nextPlace, placeOf, upsertAt, later}
 use Rattle.record_table.specs.declared.Found.the-variants.{At, Absent}
 use Rattle.record_table.specs.declared.Place.{Place}
 use Rattle.record_table.specs.declared.Place.the-variants.{Taken, Before}
@@ -139,3 +140,14 @@ pub place-one : (n x : ℕ) (rows : List (List ℕ))
 unfolding placeOf leadingNumbers lexLess numberOf
 place-one n x [] = refl
 place-one n x (row ∷ rows) = rw (place-one n x rows)
+
+-- ---- places with elements in front
+
+pub later-none : (p : Place) → p ≡ later 0 p
+later-none (Taken j) = rw zero-add
+later-none (Before j) = rw zero-add
+
+pub later-next : (i : ℕ) (p : Place) → later i (nextPlace p) ≡ later (i + 1) p
+unfolding nextPlace
+later-next i (Taken j) = ap Taken (omega arith)
+later-next i (Before j) = ap Before (omega arith)

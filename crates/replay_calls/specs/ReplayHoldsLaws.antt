@@ -1,11 +1,12 @@
 -- A session is asked for: there is one and it answers, or there is none.
-use Prim.Native.Nat.{ℕ, zero, suc, _-_, min}
+use Prim.Native.Nat.{ℕ, _-_, min}
 use mathlib.Core.Path.{_≡_, refl, sym, ap, ap₂, subst, _∙_}
 use mathlib.Core.Bool.{Bool, true, false}
-use mathlib.Core.List.{List, [], _∷_, map}
+use mathlib.Core.List.{List, map}
 use mathlib.Core.Option.{Option, none, some}
 use native.Mathlib.Omega.{arith}
 use lib.ListN.{take}
+use Rattle.spec_lists.specs.ListLaws.{map-take}
 use Rattle.spec_session.specs.Session.{Session, Limits, Creation, made, refused, create}
 use Rattle.spec_replay.specs.Answers.{noSessionLine, creationLine}
 use Rattle.spec_replay.specs.Replay.{Setup, State, Step, onward, stops, asked, created, withSession, keptAnchors}
@@ -79,11 +80,6 @@ pub created-step : (s : ReplayState) (m : State) → ReplayHolds s m → (c : Cr
 unfolding created Creates isCreated withSession
 created-step s m h (made x) r k b e before after p printed = goes-on refl (record { setup-is = h .setup-is; session-is = rw (e, k .0) (k .1) }) printed
 created-step s m h (refused f) r k b e before after p printed = goes-on refl (record { setup-is = h .setup-is; session-is = rw (e, k .0) tt }) printed
-
-map-take : {A B : Type 0} (f : A → B) (n : ℕ) (l : List A) → map f (take n l) ≡ take n (map f l)
-map-take f zero l = refl
-map-take f (suc n) [] = refl
-map-take {B = B} f (suc n) (x ∷ l) = ap (λ (m : List B). f x ∷ m) (map-take f n l)
 
 -- the anchors that a set-up keeps are those of the definitions
 pub setup-creates : (s : ReplaySetup) (m : Setup) → SetsUp s m → (n k : ℕ) → n ≡ min (s .«node_count») keptAnchors → k ≡ min (s .«collection_count») keptAnchors

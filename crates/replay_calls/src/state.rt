@@ -4,7 +4,6 @@ use decimal::Printed;
 use replay_setup::ReplaySetup;
 use shell_player::session::ShellSession;
 ghost use mathlib.Core.Path.{_≡_};
-ghost use mathlib.Core.Option.{none};
 ghost use Rattle.spec_replay.specs.Replay.{State, onward};
 ghost use Rattle.spec_replay.specs.Answers.{noSessionLine};
 ghost use Rattle.replay_calls.specs.ReplayHolds.{ReplayHolds, Stepped, withLatest};

@@ -5,9 +5,8 @@ use mathlib.Core.List.{List, [], _∷_, _++_, map}
 use native.Mathlib.Omega.{arith}
 use borrow.Author.Tests.{ltb-true, ltb-false}
 use lib.Dec.{ltb}
-use lib.ListN.{length, take, set, length-set, length-take}
+use lib.ListN.{length, take, set, length-set}
 use lib.Seq.{set-out, length-take-le}
-use Rattle.spec_lists.specs.Lists.{if_then_else_}
 use Rattle.spec_lists.specs.ListLaws.{test-cases}
 use Rattle.spec_replay.specs.Replay.{keptAnchors, keep}
 use Rattle.replay_setup.specs.SetsUp.{keptCount, Keeps}

@@ -17,7 +17,6 @@ use Rattle.active_projection_target_catalog.specs.declared.catalog.BindingPair.
 use Rattle.local_projection_state.specs.Stores.{stateOf}
 use Rattle.shell_player.specs.declared.session.ShellSession.{ShellSession}
 use Rattle.shell_creation.specs.declared.CreationRefusal.the-variants.{AnchorsOverCapacity}
-use Rattle.shell_creation.specs.declared.CreationAnswer.{CreationAnswer}
 use Rattle.shell_creation.specs.declared.CreationAnswer.the-variants.{Created, Refused}
 use Rattle.shell_creation.specs.declared.ShellSessionCreation.{ShellSessionCreation}
 use Rattle.shell_player.specs.Holds.{Holds}

@@ -1,11 +1,11 @@
 -- The steps by what they look at are the steps of a batch.
 use Prim.Native.Nat.{ℕ}
 use mathlib.Core.Path.{_≡_, refl, sym, ap, _∙_}
-use mathlib.Core.Bool.{Bool, true, false, not, _&&_, _||_}
+use mathlib.Core.Bool.{not, _&&_, _||_}
 use mathlib.Core.List.{List}
 use lib.Dec.{leb, eqb}
 use lib.ListN.{length}
-use Rattle.spec_lists.specs.Lists.{if_then_else_, isEmpty}
+use Rattle.spec_lists.specs.Lists.{isEmpty}
 use Rattle.spec_patch.specs.Patch.{Patch}
 use Rattle.spec_patch.specs.Edition.{v1}
 use Rattle.spec_patch.specs.Reader.{Fault}
@@ -13,7 +13,7 @@ use Rattle.spec_patch.specs.Read.{SetReading, patches, fault, readSet}
 use Rattle.spec_checks.specs.Findings.{findings}
 use Rattle.spec_projection.specs.Apply.{operationsOf}
 use Rattle.spec_session.specs.Session.{Session}
-use Rattle.spec_session.specs.Diagnostics.{SessionRefusal, sessionMismatch, sessionClosed, limitExceeded, countsDiffer, unknownTarget, cursorMismatch, checksFailed}
+use Rattle.spec_session.specs.Diagnostics.{sessionMismatch, sessionClosed, limitExceeded, countsDiffer, cursorMismatch, checksFailed}
 use Rattle.spec_session.specs.Lifecycle.{isClosed}
 use Rattle.spec_session.specs.Batch.{BatchEnvelope, Check, pass, refuse, _>>=_, _>>_, require, readable, absentTargets, knownTargets, takesNumber, batchChecks}
 use Rattle.shell_gates.specs.Gates.{preflightBy, countsBy, replayBy, targetsBy, patchesBy, setBy, erased}

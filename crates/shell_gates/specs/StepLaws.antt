@@ -1,16 +1,13 @@
 -- Each step's answer, by what the code found.
 use Prim.Native.Nat.{ℕ, _+_, _<_, _≤_}
-use mathlib.Core.Path.{_≡_, refl, sym, ap, ap₂, subst, _∙_}
+use mathlib.Core.Path.{_≡_, refl, sym, ap, ap₂, _∙_}
 use mathlib.Core.Bool.{Bool, true, false, not}
 use mathlib.Core.List.{List, [], _∷_, flatMap}
 use native.Mathlib.Omega.{arith}
-use borrow.Author.Tests.{eq-eqb, ne-eqb, not-true, not-false}
-use lib.Dec.{eqb}
+use borrow.Author.Tests.{eq-eqb, ne-eqb}
 use lib.ListN.{length, length-append}
 use Rattle.spec_lists.specs.Lists.{if_then_else_, isEmpty}
 use Rattle.spec_patch.specs.Patch.{Patch}
-use Rattle.spec_patch.specs.Reader.{Fault}
-use Rattle.spec_patch.specs.Reader as reading
 use Rattle.spec_patch.specs.Edition.{v1}
 use Rattle.spec_patch.specs.Read.{SetReading, patches, fault, readSet}
 use Rattle.spec_checks.specs.Findings.{findings}
@@ -19,6 +16,7 @@ use Rattle.spec_session.specs.Session.{Limits, Cursor, Catalogue, Session}
 use Rattle.spec_session.specs.Diagnostics.{SessionRefusal, unknownTarget, checksFailed, ofReading}
 use Rattle.spec_session.specs.Batch.{BatchEnvelope, Check, pass, refuse, _>>_, require, absentTargets, knownTargets, batchChecks}
 use Rattle.projection_patch.specs.ReadAnswers.{faultTo, faultOf}
+use Rattle.projection_patch.specs.FaultLaws.{fault-back}
 use Rattle.projection_patch.specs.declared.read_values.ProjectionPatchReadFault.{ProjectionPatchReadFault}
 use Rattle.projection_patch_sets.specs.SetAnswers.{operationCount}
 use Rattle.patch_findings.specs.Found.{isFound}
@@ -48,10 +46,6 @@ operations-counted : (ps : List Patch) → operationCount ps ≡ length (operati
 unfolding operationCount operationsOf flatMap
 operations-counted [] = refl
 operations-counted (p ∷ ps) = ap (λ n. length (p .operations) + n) (operations-counted ps) ∙ sym (length-append (p .operations) (operationsOf ps))
-
-fault-back : (k : Fault) → faultOf (faultTo k) ≡ k
-fault-back reading.malformed = refl
-fault-back reading.overCapacity = refl
 
 -- a set without findings: its patches, and that they are as many as was told
 record CleanSet (x : SetReading) (n k : ℕ) : Type 0 where

@@ -12,18 +12,16 @@ use shell_lifecycle::state::ShellLocalState;
 ghost use mathlib.Core.Path.{_≡_};
 ghost use mathlib.Core.Bool.{true};
 ghost use mathlib.Core.List.{List};
-ghost use lib.ListN.{length};
 ghost use Rattle.spec_patch.specs.Patch.{Patch};
 ghost use Rattle.spec_patch.specs.Edition.{v1};
 ghost use Rattle.spec_patch.specs.Read.{patches, readSet};
-ghost use Rattle.spec_projection.specs.Apply.{operationsOf};
 ghost use Rattle.spec_session.specs.Session.{Catalogue, Session};
 ghost use Rattle.spec_session.specs.Diagnostics.{ofReading};
 ghost use Rattle.spec_session.specs.Batch.{batchChecks};
 ghost use Rattle.projection_patch.specs.ReadAnswers.{faultOf};
 ghost use Rattle.batch_targets.specs.Lent.{Lent};
 ghost use Rattle.shell_lifecycle.specs.Meaning.{refusalOf, lifecycleOf, cursorOf, limitsOf};
-ghost use Rattle.shell_gates.specs.Gates.{gateOf, envelopeMeans, preflightBy, targetsBy, patchesBy, setBy, erased, counted, Decides};
+ghost use Rattle.shell_gates.specs.Gates.{gateOf, envelopeMeans, preflightBy, targetsBy, setBy, erased, counted, Decides};
 ghost use Rattle.shell_gates.specs.Seen.{Seen};
 
 // The refusal of a set that does not read.

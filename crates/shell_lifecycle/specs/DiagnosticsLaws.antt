@@ -1,7 +1,6 @@
 -- Diagnostics under the cap, by whether any is emitted.
 use Prim.Native.Nat.{ℕ, min}
-use mathlib.Core.Path.{_≡_, refl, sym, ap, _∙_}
-use lib.Dec.{eqb}
+use mathlib.Core.Path.{_≡_, sym, _∙_}
 use borrow.Author.Tests.{eq-eqb, ne-eqb}
 use Rattle.spec_session.specs.Diagnostics.{SessionRefusal, Diagnostics, sessionNumber, stageOf, orZero, diagnosticsOf}
 

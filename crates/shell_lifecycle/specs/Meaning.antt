@@ -1,5 +1,4 @@
 -- What the types of this crate stand for in spec_session.
-use Prim.Native.Nat.{ℕ}
 use mathlib.Core.List.{[]}
 use mathlib.Core.Option.{Option, none, some}
 use Rattle.spec_projection.specs.Projection.{empty}

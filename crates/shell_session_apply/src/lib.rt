@@ -5,7 +5,6 @@ use shell_lifecycle::lifecycle::ShellTransitionResult;
 use shell_player::session::ShellSession;
 use shell_player::session::ShellTransition;
 use transition_dispositions::is_applied;
-ghost use mathlib.Core.Path.{_≡_};
 ghost use Rattle.shell_session_apply.specs.Applied.{Stepped, StepsInPlace};
 
 // The lifecycle step; the next session is stored where it was applied.

@@ -6,7 +6,7 @@ use native.Mathlib.Omega.{arith}
 use lib.ListN.{length, take}
 use Rattle.spec_patch.specs.Sizes.{anchors}
 use Rattle.spec_session.specs.Session.{Catalogue}
-use Rattle.active_projection_target_catalog.specs.Catalog.{pairOf, pairTo, pairNumbers, catalogueOf}
+use Rattle.active_projection_target_catalog.specs.Catalog.{pairTo, pairNumbers, catalogueOf}
 use Rattle.active_projection_target_catalog.specs.CatalogLaws.{pairs-again, take-held, pairs-taken}
 use Rattle.active_projection_target_catalog.specs.declared.catalog.ActiveProjectionTargetCatalog.{ActiveProjectionTargetCatalog}
 use Rattle.batch_targets.specs.Lent.{Lent}

@@ -19,7 +19,7 @@ use Rattle.spec_checks.specs.Rules.{Precedes, byKind, byDomain, bySecond
 
 -- ---- the order
 
-findingKey-injective : (f g : Finding) → findingKey f ≡ findingKey g → f ≡ g
+pub findingKey-injective : (f g : Finding) → findingKey f ≡ findingKey g → f ≡ g
 unfolding findingKey
 findingKey-injective f g e =
     let kinds : f .kind ≡ g .kind = cc in

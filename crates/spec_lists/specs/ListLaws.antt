@@ -7,8 +7,9 @@ use mathlib.Core.Logic.{⊎-elim}
 use Prim.Native.Nat.{ℕ, zero, suc, _<_}
 use native.Mathlib.Omega.{arith}
 use lib.Dec.{eqb}
-use lib.ListN.{length, getD, take, drop}
-use borrow.Author.Tests.{eqb-true, eq-eqb}
+use lib.ListN.{length, getD, take, drop, length-map}
+use lib.Seq.{drop-at}
+use borrow.Author.Tests.{eqb-true, eq-eqb, ne-eqb}
 use Rattle.spec_lists.specs.Lists.{if_then_else_, all, any, equalLists, isEmpty, All}
 
 -- ---- tests
@@ -53,6 +54,30 @@ flatMap-append f (x ∷ a) b = ap (λ l. f x ++ l) (flatMap-append f a b) ∙ sy
 pub isEmpty-true : {A : Type 0} (l : List A) → isEmpty l ≡ true → l ≡ []
 isEmpty-true [] e = refl
 isEmpty-true (x ∷ l) e = cc
+
+-- a count of 0 tells an empty list
+pub empty-count : {A : Type 0} (l : List A) → eqb (length l) 0 ≡ isEmpty l
+empty-count [] = refl
+empty-count (x ∷ l) = ne-eqb (length (x ∷ l)) 0 (omega arith)
+
+-- what stands behind two parts
+pub drop-behind : {A : Type 0} (n : ℕ) (a b c : List A) → length (a ++ b) ≡ n → drop n (a ++ (b ++ c)) ≡ c
+drop-behind n a b c long = ap (drop n) (sym (append-assoc a b c)) ∙ drop-at (a ++ b) c n long
+
+-- the length of a list, by that of a map over it
+pub unmapped : (X Y : Type 0) (f : X → Y) (l : List X) (n : ℕ) → length (map f l) ≡ n → length l ≡ n
+unmapped X Y f l n e = sym (length-map l f) ∙ e
+
+module _ {A B : Type 0} (f : A → B) where
+  pub map-take : (i : ℕ) (l : List A) → map f (take i l) ≡ take i (map f l)
+  map-take zero l = refl
+  map-take (suc i) [] = refl
+  map-take (suc i) (x ∷ l) = ap (λ m. f x ∷ m) (map-take i l)
+
+  pub map-drop : (i : ℕ) (l : List A) → map f (drop i l) ≡ drop i (map f l)
+  map-drop zero l = refl
+  map-drop (suc i) [] = refl
+  map-drop (suc i) (x ∷ l) = map-drop i l
 
 -- two lists that pass a test of their elements are equal, if two elements that pass it are
 pub equalLists-equal : {A : Type 0} (test : A → A → Bool) → ((x y : A) → test x y ≡ true → x ≡ y) → (a b : List A) → equalLists test a b ≡ true → a ≡ b

@@ -1,7 +1,7 @@
 -- Lookups: after an insertion in order, and that they determine an ascending list.
 use Prim.Native.Nat.{ℕ}
 use mathlib.Core.Path.{_≡_, refl, sym, ap, _∙_}
-use mathlib.Core.Bool.{true, false, false≢true}
+use mathlib.Core.Bool.{true, false≢true}
 use mathlib.Core.List.{List, [], _∷_}
 use mathlib.Core.Option.{none, some, Option·map, Option·some-injective, Option·some-ne-none}
 use mathlib.Core.Logic.{_≢_}

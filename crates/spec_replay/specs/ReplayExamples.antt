@@ -1,5 +1,4 @@
 -- Short scripts and what they print, as one table that the checker computes.
-use Prim.Native.Nat.{ℕ}
 use Prim.Native.String.{String}
 use mathlib.Core.Bool.{Bool}
 use mathlib.Core.List.{List, [], _∷_, flatMap}

@@ -1,16 +1,16 @@
 -- A script is replayed line by line: what is printed depends on the line, its number and the state alone.
 use Prim.Native.Nat.{ℕ, _+_}
-use mathlib.Core.Path.{_≡_, refl, sym, ap, _∙_}
+use mathlib.Core.Path.{_≡_, refl}
 use mathlib.Core.Bool.{Bool, true, false, not}
 use mathlib.Core.List.{List, [], _∷_, _++_}
 use native.Mathlib.Omega.{arith}
 use lib.Dec.{eqb}
 use borrow.Author.Tests.{eq-eqb}
-use Rattle.spec_lists.specs.Lists.{if_then_else_, all, isEmpty}
+use Rattle.spec_lists.specs.Lists.{all}
 use Rattle.spec_lists.specs.ListLaws.{and-left, and-right, test-cases}
-use Rattle.spec_replay.specs.Script.{Command, other, newline, prepend, split, command}
+use Rattle.spec_replay.specs.Script.{newline, prepend, split, command}
 use Rattle.spec_replay.specs.Answers.{otherLine}
-use Rattle.spec_replay.specs.Replay.{State, Step, replayLine, andThen, replayLines, commandsOf, replayFrom}
+use Rattle.spec_replay.specs.Replay.{State, replayLine, andThen, replayLines, commandsOf, replayFrom}
 
 -- no byte is a separator
 abbrev pub lacks : ℕ → List ℕ → Bool

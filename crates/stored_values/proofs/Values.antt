@@ -1,11 +1,11 @@
 -- A stored value is read back: its text stands in the row, and copied over zeros it is padded.
 use Prim.Native.Nat.{ℕ, _+_, _-_, _≤_}
-use mathlib.Core.Path.{_≡_, refl, sym, ap, ap₂, _∙_, subst}
+use mathlib.Core.Path.{_≡_, refl, sym, ap, _∙_, subst}
 use mathlib.Core.Bool.{Bool, true, false, not}
-use mathlib.Core.List.{List, [], _∷_, _++_, append-assoc}
+use mathlib.Core.List.{List, _∷_, _++_, append-assoc}
 use native.Mathlib.Omega.{arith}
 use lib.IntN.{pos}
-use lib.ListN.{length, take, drop, length-append, length-take, length-drop, length-replicate, take-append-drop, replicate-append-replicate}
+use lib.ListN.{length, take, drop, length-append, length-drop, take-append-drop}
 use lib.Seq.{take-at, drop-at, length-take-le}
 use Rattle.spec_lists.specs.BytesLaws.{length-littleEndian}
 use Rattle.spec_patch.specs.Sizes.{textBytes}
@@ -13,9 +13,9 @@ use Rattle.spec_patch.specs.Edition.{v1}
 use Rattle.spec_patch.specs.Patch.{Quad, N, F, T, S, Value, quad, signed, text, unsigned}
 use Rattle.spec_patch.specs.Encode.{u32, quadByte, kindOf, valueBody, encodeText, encodeValue}
 use Rattle.spec_patch.specs.Fits.{Storable}
-use Rattle.spec_patch.specs.Reader.{read}
 use Rattle.spec_patch.specs.Read.{readValue}
 use Rattle.byte_moves.specs.Moves.{zeros, overwrite}
+use Rattle.byte_moves.specs.MovesLaws.{drop-zeros}
 use Rattle.projection_patch.specs.Meaning.{quadTo, quadOf, valueTo, valueOf}
 use Rattle.projection_patch.specs.ReadAnswers.{valueAnswer}
 use Rattle.projection_patch.specs.declared.patch.ProjectionPatchValue.{ProjectionPatchValue}
@@ -50,14 +50,6 @@ module _ (l : ValueLookup) (none-is : l ≡ noValue) where
   as-unsigned x = λ i. record { found = true; kind = 4; quad = none-is i .quad; signed = none-is i .signed; unsigned = x; «text_len» = none-is i .«text_len»; text = none-is i .text }
 
 -- ---- a text over zeros
-
-length-zeros : (n : ℕ) → length (zeros n) ≡ n
-length-zeros n = length-replicate n 0
-
-drop-zeros : (k n : ℕ) → k ≤ n → drop k (zeros n) ≡ zeros (n - k)
-drop-zeros k n h =
-    let e : k + (n - k) ≡ n = omega arith in
-    ap (λ (m : ℕ). drop k (zeros m)) (sym e) ∙ ap (drop k) (sym (replicate-append-replicate k (n - k) 0)) ∙ drop-at (zeros k) (zeros (n - k)) k (length-zeros k)
 
 pub as-text : (row : List ℕ) (start len : ℕ) {copied : List ℕ} → start + len ≤ length row → len ≤ textBytes → copied ≡ overwrite (take (start + len - start) (drop start row)) (zeros textBytes)
     → _≡_ {A = ValueLookup} (record { found = true; kind = 3; quad = 0; signed = pos 0; unsigned = 0; «text_len» = len; text = copied }) (foundValue (text (take len (drop start row))))

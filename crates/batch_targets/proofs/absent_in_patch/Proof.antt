@@ -1,5 +1,5 @@
 -- `batch_targets::absent_in_patch` meets its contract: what was counted, with the operations that are left, is the whole; the measure is what is left.
-use Prim.Native.Nat.{ℕ, _+_, _-_, _≤_, _<_}
+use Prim.Native.Nat.{ℕ, _+_, _-_, _≤_}
 use mathlib.Core.Path.{_≡_, subst}
 use mathlib.Core.List.{List}
 use native.Mathlib.Omega.{arith}

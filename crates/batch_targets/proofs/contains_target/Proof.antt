@@ -1,5 +1,5 @@
 -- `batch_targets::contains_target` meets its contract: each kind of operation asks for the anchors of its kind.
-use mathlib.Core.Path.{_≡_, refl, sym, ap, _∙_}
+use mathlib.Core.Path.{ap, _∙_}
 use Rattle.spec_projection.specs.Effects.{targetOf, nodeTarget, collectionTarget}
 use Rattle.spec_session.specs.Batch.{inCatalogue}
 use Rattle.batch_targets.specs.CountedLaws.{binding-in, node-in, collection-in}

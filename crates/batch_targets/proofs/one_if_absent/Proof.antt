@@ -1,5 +1,5 @@
 -- `batch_targets::one_if_absent` meets its contract.
-use mathlib.Core.Path.{_≡_, refl, sym, _∙_}
+use mathlib.Core.Path.{sym, _∙_}
 use borrow.Author.Needs.{needs}
 use Rattle.batch_targets.proofs.one_if_absent.Statement.{statement}
 use Rattle.batch_targets.proofs.one_if_absent.Tie as tie

@@ -1,9 +1,8 @@
 -- `counts_for` meets its contract: the row's collection is compared.
 use Prim.Native.Nat.{_<_}
 use lib.ListN.{length, getD}
-use mathlib.Core.Path.{_≡_, refl, sym, _∙_}
-use mathlib.Core.Bool.{true, false}
-use mathlib.Core.List.{List, map}
+use mathlib.Core.Path.{refl, sym, _∙_}
+use mathlib.Core.List.{map}
 use native.Mathlib.Omega.{arith}
 use borrow.Author.Tests.{eqb-true, eqb-false}
 use borrow.Author.Needs.{needs}

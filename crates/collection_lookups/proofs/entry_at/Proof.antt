@@ -1,8 +1,7 @@
 -- `entry_at` meets its contract: the row at the entry's position, or none.
-use mathlib.Core.Path.{_≡_, sym, ap, _∙_, subst}
+use mathlib.Core.Path.{sym, ap, _∙_, subst}
 use mathlib.Core.List.{map}
 use borrow.Author.Needs.{needs}
-use denote.Ref.{now}
 use Rattle.spec_projection.specs.Lookups.{entriesOf, entryAt}
 use Rattle.local_projection_state.specs.Rows.{entryRow}
 use Rattle.collection_lookups.specs.Nth.{Nth, entryLookup}

@@ -1,10 +1,9 @@
 -- `entry_count` meets its contract: what is counted, with the entries from the position on, is the whole; the measure is the rows left.
-use Prim.Native.Nat.{ℕ, _+_, _-_, _≤_}
-use mathlib.Core.Path.{_≡_, refl, sym, ap, _∙_}
+use Prim.Native.Nat.{_+_, _-_, _≤_}
+use mathlib.Core.Path.{_≡_}
 use mathlib.Core.List.{List, map}
 use native.Mathlib.Omega.{arith}
 use borrow.Author.Needs.{needs}
-use denote.Ref.{now}
 use lib.ListN.{length, drop}
 use Rattle.spec_lists.specs.Lists.{All}
 use Rattle.spec_projection.specs.Projection.{Entry}

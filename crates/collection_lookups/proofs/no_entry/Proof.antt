@@ -1,5 +1,4 @@
 -- `no_entry` meets its contract.
-use mathlib.Core.Path.{_≡_, ap}
 use borrow.Author.Needs.{needs}
 use Rattle.collection_lookups.specs.Nth.{entryLookup}
 use Rattle.collection_lookups.proofs.no_entry.Statement.{statement}

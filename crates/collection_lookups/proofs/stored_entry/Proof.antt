@@ -1,5 +1,4 @@
 -- `stored_entry` meets its contract: the key behind the collection, and the value behind both.
-use mathlib.Core.Path.{_≡_}
 use borrow.Author.Needs.{needs}
 use denote.Ref.{now}
 use Rattle.collection_lookups.specs.Nth.{entryLookup}

@@ -1,5 +1,5 @@
 -- `collection_insert` meets its contract: the key is there, the neighbour is not, there is no room, or the row is inserted.
-use mathlib.Core.Path.{_≡_, refl, sym, _∙_}
+use mathlib.Core.Path.{refl, sym, _∙_}
 use native.Mathlib.Omega.{arith}
 use denote.Ref.{now}
 use borrow.Author.Needs.{needs}

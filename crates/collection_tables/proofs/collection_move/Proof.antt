@@ -1,5 +1,5 @@
 -- `collection_move` meets its contract: the key or its neighbour is not there, or its row is moved.
-use mathlib.Core.Path.{_≡_, refl, sym, _∙_}
+use mathlib.Core.Path.{refl, sym, _∙_}
 use denote.Ref.{now}
 use borrow.Author.Needs.{needs}
 use Rattle.collection_tables.proofs.Entries.{within-at, position-at, not-moved, no-other, moved-there}

@@ -1,5 +1,5 @@
 -- `collection_update` meets its contract: the row of the key is replaced, or there is none.
-use mathlib.Core.Path.{_≡_, refl, sym, _∙_}
+use mathlib.Core.Path.{refl, sym, _∙_}
 use denote.Ref.{now}
 use borrow.Author.Needs.{needs}
 use Rattle.collection_tables.proofs.Entries.{updated, not-updated}

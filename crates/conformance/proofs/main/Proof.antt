@@ -1,6 +1,6 @@
 -- `conformance::main` meets its contract. The length of a large array is told by a law and not computed.
 use Prim.Native.Nat.{ℕ}
-use mathlib.Core.Path.{_≡_, sym}
+use mathlib.Core.Path.{sym}
 use lib.ListN.{length-replicate}
 use borrow.Author.Needs.{needs}
 use Rattle.conformance.proofs.main.Statement.{statement}

@@ -1,12 +1,13 @@
 -- `finding_table::finding_place` meets its contract. The invariant: the records before position `at` are below the finding, and there are `place` of them.
-use mathlib.Core.Path.{_≡_, refl, sym, ap, _∙_}
+use mathlib.Core.Path.{_≡_, sym}
 use borrow.Author.Needs.{needs}
+use Rattle.record_table.specs.SearchLaws.{later-none}
 use Prim.Native.Nat.{_-_, _*_, _≤_}
 use native.Mathlib.Omega.{arith}
 use lib.ListN.{length, length-drop}
 use Rattle.record_table.specs.Search.{PlaceWithin}
 use Rattle.finding_table.specs.FindingTable.{findingOf}
-use Rattle.finding_table.specs.FindingTableLaws.{Placed, later-none, placed-below, placed-same, placed-above, placed-last}
+use Rattle.finding_table.specs.FindingTableLaws.{Placed, placed-below, placed-same, placed-above, placed-last}
 use Rattle.finding_table.proofs.finding_place.Statement.{statement}
 use Rattle.finding_table.proofs.finding_place.Tie as tie
 

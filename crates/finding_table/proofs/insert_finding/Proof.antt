@@ -1,5 +1,5 @@
 -- `finding_table::insert_finding` meets its contract: there is no room, the finding is there already, or it is inserted at its place.
-use mathlib.Core.Path.{_≡_, refl, sym, ap, _∙_}
+use mathlib.Core.Path.{sym, _∙_}
 use Prim.Native.Nat.{_*_, _≤_}
 use native.Mathlib.Omega.{arith}
 use lib.ListN.{length-take, length-drop}

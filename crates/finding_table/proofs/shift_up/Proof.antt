@@ -1,5 +1,5 @@
 -- `finding_table::shift_up` meets its contract. The invariant: the list is `up 3 i` of what it was.
-use mathlib.Core.Path.{_≡_, refl, sym, ap, _∙_}
+use mathlib.Core.Path.{_≡_}
 use borrow.Author.Needs.{needs}
 use Prim.Native.Nat.{_≤_, _-_}
 use lib.ListN.{length}

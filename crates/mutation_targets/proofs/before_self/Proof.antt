@@ -1,5 +1,5 @@
 -- `mutation_targets::before_self` meets its contract.
-use mathlib.Core.Path.{_≡_, refl, sym, ap, _∙_}
+use mathlib.Core.Path.{_∙_}
 use Rattle.spec_checks.specs.PatchChecks.{beforeSelf}
 use borrow.Author.Needs.{needs}
 use Rattle.mutation_targets.proofs.before_self.Statement.{statement}

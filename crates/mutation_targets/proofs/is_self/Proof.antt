@@ -1,5 +1,4 @@
 -- `mutation_targets::is_self` meets its contract.
-use mathlib.Core.Path.{_≡_, refl, sym, ap, _∙_}
 use Rattle.spec_checks.specs.PatchChecks.{isSelf}
 use borrow.Author.Needs.{needs}
 use Rattle.mutation_targets.proofs.is_self.Statement.{statement}

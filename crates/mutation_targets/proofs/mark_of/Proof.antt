@@ -1,5 +1,5 @@
 -- `mutation_targets::mark_of` meets its contract.
-use mathlib.Core.Path.{_≡_, refl, sym, ap, _∙_}
+use mathlib.Core.Path.{refl}
 use Rattle.mutation_targets.specs.Marks.{markOf}
 use borrow.Author.Needs.{needs}
 use Rattle.mutation_targets.proofs.mark_of.Statement.{statement}

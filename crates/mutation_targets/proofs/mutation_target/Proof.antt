@@ -1,5 +1,5 @@
 -- `mutation_targets::mutation_target` meets its contract: each kind of operation with the ids that it names.
-use mathlib.Core.Path.{_≡_, refl, sym, ap, _∙_}
+use mathlib.Core.Path.{_∙_}
 use Rattle.spec_checks.specs.Target.{mutationTarget}
 use borrow.Author.Needs.{needs}
 use Rattle.mutation_targets.proofs.mutation_target.Statement.{statement}

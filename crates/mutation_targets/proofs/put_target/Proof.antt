@@ -1,5 +1,4 @@
 -- `mutation_targets::put_target` meets its contract: three stores.
-use mathlib.Core.Path.{_≡_, refl, sym, ap, _∙_}
 use lib.ListN.{length-set}
 use Rattle.mutation_targets.specs.Targets.{withTarget}
 use Rattle.mutation_targets.specs.TargetsLaws.{three-stored}

@@ -1,5 +1,5 @@
 -- `mutation_targets::same_target` meets its contract: the tests of `equalTargets`, the last first.
-use mathlib.Core.Path.{_≡_, sym, ap, _∙_}
+use mathlib.Core.Path.{sym, ap, _∙_}
 use mathlib.Core.Bool.{Bool, _&&_}
 use lib.Dec.{eqb}
 use borrow.Author.Needs.{needs}

@@ -1,10 +1,10 @@
 -- `mutation_targets::seen_by_mark` meets its contract: a target without a mark was not seen; else the scan tells.
-use mathlib.Core.Path.{_≡_, refl, sym, ap, _∙_}
+use mathlib.Core.Path.{_≡_, sym, ap, _∙_}
 use Prim.Native.Nat.{ℕ, _<_}
 use native.Mathlib.Omega.{arith}
 use lib.ListN.{length, getD, take}
-use Rattle.mutation_targets.specs.Targets.{targetOf, targetSeen}
-use Rattle.mutation_targets.specs.Marks.{markOf, Marked}
+use Rattle.mutation_targets.specs.Targets.{targetOf}
+use Rattle.mutation_targets.specs.Marks.{markOf}
 use Rattle.mutation_targets.specs.MarksLaws.{mark-within, unmarked-unseen, marked-more}
 use borrow.Author.Needs.{needs}
 use Rattle.mutation_targets.proofs.seen_by_mark.Statement.{statement}

@@ -1,8 +1,7 @@
 -- `mutation_targets::target_seen` meets its contract. The invariant: the target is among all exactly if it is among those from position `at` on.
-use mathlib.Core.Path.{_≡_, refl, sym, ap, _∙_}
+use mathlib.Core.Path.{_≡_, sym, _∙_}
 use borrow.Author.Needs.{needs}
 use Prim.Native.Nat.{_-_, _≤_}
-use native.Mathlib.Omega.{arith}
 use lib.ListN.{length, drop, length-drop}
 use Rattle.mutation_targets.specs.Targets.{targetOf, targetSeen}
 use Rattle.mutation_targets.specs.TargetsLaws.{seen-here, seen-on, seen-end}

@@ -1,5 +1,5 @@
 -- `apply_projection_patch_set` meets its contract, by the quick check's answer.
-use mathlib.Core.Path.{_≡_, refl}
+use mathlib.Core.Path.{refl}
 use borrow.Author.Needs.{needs}
 use denote.Ref.{now}
 use Rattle.projection_application.specs.ApplicationLaws.{clean-became, found-became, refused-became}

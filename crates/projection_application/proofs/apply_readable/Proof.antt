@@ -1,5 +1,5 @@
 -- `apply_readable` meets its contract: the tables of the copy are the next state's, or the state goes back as it came.
-use mathlib.Core.Path.{_≡_, refl}
+use mathlib.Core.Path.{refl}
 use borrow.Author.Needs.{needs}
 use Rattle.spec_projection.specs.Apply.{replaySteps, applySteps}
 use Rattle.projection_application.proofs.Steps.{run-applied, run-refused, run-reads}

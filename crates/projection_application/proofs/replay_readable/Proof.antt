@@ -1,5 +1,5 @@
 -- `replay_readable` meets its contract: the heading tells where the patches stand, and how many there are.
-use mathlib.Core.Path.{_≡_, sym}
+use mathlib.Core.Path.{sym}
 use mathlib.Core.List.{[]}
 use native.Mathlib.Omega.{arith}
 use borrow.Author.Needs.{needs}

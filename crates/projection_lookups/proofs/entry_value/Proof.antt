@@ -1,6 +1,5 @@
 -- `entry_value` meets its contract: the row at the key's position, or none.
 use mathlib.Core.List.{map}
-use mathlib.Core.Path.{_≡_}
 use borrow.Author.Needs.{needs}
 use denote.Ref.{now}
 use Rattle.local_projection_state.specs.Rows.{entryRow}

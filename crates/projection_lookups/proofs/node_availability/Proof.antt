@@ -1,6 +1,5 @@
 -- `node_availability` meets its contract: the row at the key's place, or none.
 use mathlib.Core.List.{map}
-use mathlib.Core.Path.{_≡_}
 use borrow.Author.Needs.{needs}
 use denote.Ref.{now}
 use Rattle.local_projection_state.specs.Rows.{availabilityRow}

@@ -1,5 +1,4 @@
 -- `stored_availability` meets its contract: the byte behind the node.
-use mathlib.Core.Path.{_≡_, ap}
 use mathlib.Core.Bool.{true}
 use native.Mathlib.Omega.{arith}
 use borrow.Author.Needs.{needs}

@@ -1,5 +1,5 @@
 -- `apply_operation` meets its contract: each operation changes one table, and the others stay.
-use mathlib.Core.Path.{_≡_, refl, sym, subst}
+use mathlib.Core.Path.{refl, sym, subst}
 use borrow.Author.Needs.{needs}
 use denote.Ref.{now}
 use Rattle.spec_patch.specs.Edition.{v1}

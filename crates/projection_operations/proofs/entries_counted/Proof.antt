@@ -1,5 +1,5 @@
 -- `entries_counted` meets its contract, case by case.
-use mathlib.Core.Path.{_≡_, sym, ap}
+use mathlib.Core.Path.{sym, ap}
 use borrow.Author.Needs.{needs}
 use Rattle.projection_operations.specs.OperationChange.{entriesCounted}
 use Rattle.projection_operations.proofs.entries_counted.Statement.{statement}

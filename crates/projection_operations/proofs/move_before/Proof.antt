@@ -1,8 +1,6 @@
 -- `move_before` meets its contract: the move's answer, with its counts.
 use Prim.Native.Nat.{ℕ}
-use mathlib.Core.Path.{_≡_, refl}
 use borrow.Author.Needs.{needs}
-use denote.Ref.{now}
 use Rattle.spec_projection.specs.Apply.{applyMove}
 use Rattle.spec_projection.specs.FirstMatch.{findFirst}
 use Rattle.spec_projection.specs.Entries.{isEntry}

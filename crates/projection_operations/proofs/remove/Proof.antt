@@ -1,8 +1,6 @@
 -- `remove` meets its contract: the removal's answer, with its counts.
 use Prim.Native.Nat.{ℕ}
-use mathlib.Core.Path.{_≡_, refl}
 use borrow.Author.Needs.{needs}
-use denote.Ref.{now}
 use Rattle.spec_projection.specs.Apply.{applyRemove}
 use Rattle.projection_operations.proofs.Counted.{entries-told}
 use Rattle.projection_operations.proofs.remove.Statement.{statement}

@@ -1,8 +1,6 @@
 -- `set_availability` meets its contract: the availability's answer, with its counts.
 use Prim.Native.Nat.{ℕ}
-use mathlib.Core.Path.{_≡_, refl}
 use borrow.Author.Needs.{needs}
-use denote.Ref.{now}
 use Rattle.spec_projection.specs.Apply.{applyAvailability}
 use Rattle.projection_patch.specs.Meaning.{availabilityOf}
 use Rattle.projection_operations.proofs.Counted.{availabilities-told}

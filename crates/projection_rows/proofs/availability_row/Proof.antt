@@ -1,7 +1,6 @@
 -- `availability_row` meets its contract: one field behind another.
 use mathlib.Core.Path.{_≡_, refl, ap, _∙_}
 use mathlib.Core.List.{[], _∷_}
-use native.Mathlib.Omega.{arith}
 use borrow.Author.Needs.{needs}
 use Rattle.spec_lists.specs.Bytes.{littleEndian}
 use Rattle.spec_lists.specs.BytesLaws.{length-littleEndian}

@@ -1,5 +1,4 @@
 -- `binding_row` meets its contract: two numbers, and the value behind them.
-use mathlib.Core.Path.{_≡_, ap, _∙_}
 use native.Mathlib.Omega.{arith}
 use borrow.Author.Needs.{needs}
 use denote.Ref.{now}

@@ -1,10 +1,9 @@
 -- `entry_row` meets its contract: two numbers, and the value behind them.
-use mathlib.Core.Path.{_≡_, ap, _∙_}
 use native.Mathlib.Omega.{arith}
 use borrow.Author.Needs.{needs}
 use denote.Ref.{now}
 use Rattle.spec_lists.specs.BytesLaws.{length-littleEndian}
-use Rattle.spec_patch.specs.Encode.{u32, u64}
+use Rattle.spec_patch.specs.Encode.{u64}
 use Rattle.projection_patch.specs.Meaning.{valueOf}
 use Rattle.patch_part_writer.specs.Extent.{valueSize}
 use Rattle.patch_part_writer.specs.ExtentLaws.{length-value, value-small}

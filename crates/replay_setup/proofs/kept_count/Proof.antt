@@ -1,5 +1,4 @@
 -- `replay_setup::kept_count` meets its contract.
-use mathlib.Core.Path.{_≡_}
 use borrow.Author.Needs.{needs}
 use borrow.Author.Tests.{lt-ltb, le-ltb}
 use Rattle.spec_replay.specs.Replay.{keptAnchors}

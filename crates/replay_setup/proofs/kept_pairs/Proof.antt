@@ -3,8 +3,8 @@ use mathlib.Core.Path.{_≡_, sym}
 use native.Mathlib.Omega.{arith}
 use lib.ListN.{length}
 use lib.Seq.{set-out}
-use Rattle.active_projection_target_catalog.proofs.Arrays.{unmapped}
 use borrow.Author.Needs.{needs}
+use Rattle.spec_lists.specs.ListLaws.{unmapped}
 use Rattle.replay_setup.proofs.kept_pairs.Statement.{statement}
 use Rattle.replay_setup.proofs.kept_pairs.Tie as tie
 

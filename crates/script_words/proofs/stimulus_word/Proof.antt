@@ -1,5 +1,5 @@
 -- `script_words::stimulus_word` meets its contract: the stimulus of each row, and none.
-use mathlib.Core.Path.{_≡_, refl, sym, ap, _∙_}
+use mathlib.Core.Path.{_≡_, sym, ap, _∙_}
 use borrow.Author.Needs.{needs}
 use lib.ListN.{drop}
 use Rattle.spec_replay.specs.Script.{byWord, stimuli}

@@ -1,5 +1,4 @@
 -- `anchors_within` meets its contract: each list by its own test.
-use mathlib.Core.Path.{_≡_, refl}
 use borrow.Author.Needs.{needs}
 use borrow.Author.Tests.{le-leb, lt-leb}
 use Rattle.spec_patch.specs.Sizes.{anchors}

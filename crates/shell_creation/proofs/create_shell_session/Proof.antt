@@ -2,11 +2,11 @@
 use mathlib.Core.Path.{_≡_, sym, ap, _∙_}
 use lib.ListN.{length}
 use denote.Ref.{now}
-use Rattle.active_projection_target_catalog.proofs.Arrays.{unmapped}
 use Rattle.active_projection_target_catalog.specs.declared.catalog.ActiveProjectionTargetCatalog.{ActiveProjectionTargetCatalog}
 use Rattle.shell_player.specs.Steps.{newState}
 use Rattle.shell_creation.specs.CreationLaws.{refused-is, created-is, answered}
 use borrow.Author.Needs.{needs}
+use Rattle.spec_lists.specs.ListLaws.{unmapped}
 use Rattle.shell_creation.proofs.create_shell_session.Statement.{statement}
 use Rattle.shell_creation.proofs.create_shell_session.Tie as tie
 

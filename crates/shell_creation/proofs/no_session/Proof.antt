@@ -1,5 +1,4 @@
 -- `no_session` meets its contract.
-use mathlib.Core.Path.{_≡_, refl}
 use Rattle.spec_projection.specs.Projection.{empty}
 use Rattle.spec_projection.specs.ValidLaws.{empty-valid}
 use Rattle.active_projection_target_catalog.specs.Catalog.{catalogWith}

@@ -1,5 +1,5 @@
 -- `quad_number` meets its contract, case by case.
-use mathlib.Core.Path.{_≡_, sym, ap}
+use mathlib.Core.Path.{sym, ap}
 use borrow.Author.Needs.{needs}
 use Rattle.spec_patch.specs.Encode.{quadByte}
 use Rattle.projection_patch.specs.Meaning.{quadOf}

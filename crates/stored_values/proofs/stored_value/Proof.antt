@@ -1,5 +1,5 @@
 -- `stored_value` meets its contract: the reader of values reads what is stored.
-use mathlib.Core.Path.{_≡_, ap, _∙_}
+use mathlib.Core.Path.{ap, _∙_}
 use borrow.Author.Needs.{needs}
 use denote.Ref.{now}
 use Rattle.stored_values.specs.Lookup.{foundValue}

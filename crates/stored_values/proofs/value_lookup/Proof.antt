@@ -1,7 +1,7 @@
 -- `value_lookup` meets its contract: one field of no value is set, or the text is copied.
 use Prim.Native.Nat.{_+_}
 use lib.ListN.{length}
-use mathlib.Core.Path.{_≡_, refl, sym, ap, _∙_, subst}
+use mathlib.Core.Path.{sym, ap, _∙_, subst}
 use native.Mathlib.Omega.{arith}
 use borrow.Author.Tests.{leb-true, leb-false}
 use denote.Ref.{now}
@@ -9,7 +9,7 @@ use borrow.Author.Needs.{needs, sfits-of}
 use mir.Syntax.{w64}
 use mir.Facts.{toZ-ofZ}
 use Rattle.spec_patch.specs.Patch.{signed}
-use Rattle.projection_patch.specs.Meaning.{quadOf, valueOf}
+use Rattle.projection_patch.specs.Meaning.{valueOf}
 use Rattle.patch_part_writer.specs.Extent.{valueText, Within}
 use Rattle.stored_values.specs.Lookup.{foundValue}
 use Rattle.stored_values.proofs.Values.{fails, holds, as-quad, as-unsigned}

@@ -1,15 +1,9 @@
 -- `utf8_vectors::show_all` is safe and ends: the position stays within the texts and grows. Assumes nothing.
 use Prim.Native.Nat.{_≤_, _-_}
-use native.Mathlib.Omega.{arith}
 use borrow.Author.Needs.{needs}
 use lib.ListN.{length}
 use Rattle.utf8_vectors.proofs.show_all.Statement.{statement}
 use Rattle.utf8_vectors.proofs.show_all.Tie as tie
-use Rattle.utf8_vectors.proofs.show_all.Reads as reads
-use Rattle.utf8_vectors.proofs.show_all.Lts as lts
-use Rattle.io.proofs.write_all.Reads as write-all-reads
-use Rattle.utf8_vectors.proofs.show.Reads as show-reads
-use Rattle.utf8_vectors.proofs.wide.Reads as wide-reads
 
 abbrev Inv-loop : tie.InvT-loop
 Inv-loop name texts at₀ t7 t8 at = at ≤ length texts

@@ -1,9 +1,7 @@
-use Prim.Native.Nat.{_+_, _-_, _*_, _≤_, _<_}
-use mathlib.Core.Path.{_≡_, refl, sym, ap, _∙_}
-use native.Mathlib.Omega.{arith}
+use Prim.Native.Nat.{_+_, _-_, _≤_}
+use mathlib.Core.Path.{_≡_, ap, _∙_}
 use mathlib.Core.List.{_++_}
 use lib.ListN.{length, take, replicate, set, getD}
-use Rattle.active_projection_target_catalog.specs.Catalog.{padded}
 use Rattle.active_projection_target_catalog.specs.CatalogLaws.{padded-turn, padded-short, padded-full}
 use borrow.Author.Needs.{needs}
 use Rattle.active_projection_target_catalog.proofs.catalog.padded_ids.Statement.{statement}

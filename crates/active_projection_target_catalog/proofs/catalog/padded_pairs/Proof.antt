@@ -1,13 +1,13 @@
-use Prim.Native.Nat.{_+_, _-_, _*_, _≤_, _<_}
-use mathlib.Core.Path.{_≡_, refl, sym, ap, _∙_}
+use Prim.Native.Nat.{_+_, _-_, _≤_}
+use mathlib.Core.Path.{_≡_, sym, ap, _∙_}
 use native.Mathlib.Omega.{arith}
 use mathlib.Core.List.{_++_}
 use lib.Seq.{take-take}
-use Rattle.active_projection_target_catalog.proofs.Arrays.{unmapped}
 use lib.ListN.{length, take, replicate, set, getD, length-take}
-use Rattle.active_projection_target_catalog.specs.Catalog.{noPair, padded}
+use Rattle.active_projection_target_catalog.specs.Catalog.{noPair}
 use Rattle.active_projection_target_catalog.specs.CatalogLaws.{padded-turn, padded-short, padded-full}
 use borrow.Author.Needs.{needs}
+use Rattle.spec_lists.specs.ListLaws.{unmapped}
 use Rattle.active_projection_target_catalog.proofs.catalog.padded_pairs.Statement.{
   statement,
 }

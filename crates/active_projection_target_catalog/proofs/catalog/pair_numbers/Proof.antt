@@ -1,12 +1,12 @@
-use Prim.Native.Nat.{_+_, _-_, _*_, _≤_, _<_}
-use mathlib.Core.Path.{_≡_, refl, sym, ap, _∙_}
+use Prim.Native.Nat.{_-_, _*_, _≤_}
+use mathlib.Core.Path.{_≡_}
 use native.Mathlib.Omega.{arith}
 use mathlib.Core.List.{flatMap}
 use lib.ListN.{length, take}
-use Rattle.active_projection_target_catalog.proofs.Arrays.{unmapped}
 use Rattle.active_projection_target_catalog.specs.Catalog.{pairNumbers}
 use Rattle.active_projection_target_catalog.specs.CatalogLaws.{one-more-pair, all-pairs}
 use borrow.Author.Needs.{needs}
+use Rattle.spec_lists.specs.ListLaws.{unmapped}
 use Rattle.active_projection_target_catalog.proofs.catalog.pair_numbers.Statement.{
   statement,
 }

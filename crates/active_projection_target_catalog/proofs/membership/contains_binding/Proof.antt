@@ -1,6 +1,5 @@
-use Prim.Native.Nat.{_+_, _-_, _*_, _≤_, _<_}
-use mathlib.Core.Path.{_≡_, refl, sym, ap, _∙_}
-use native.Mathlib.Omega.{arith}
+use Prim.Native.Nat.{_-_, _≤_}
+use mathlib.Core.Path.{_≡_, sym, _∙_}
 use lib.ListN.{length, drop, length-drop}
 use Rattle.active_projection_target_catalog.specs.Catalog.{pairSeen}
 use Rattle.active_projection_target_catalog.specs.CatalogLaws.{seen-here, seen-on, seen-end}

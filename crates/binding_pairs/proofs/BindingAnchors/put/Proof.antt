@@ -4,10 +4,10 @@ use mathlib.Core.List.{List}
 use native.Mathlib.Omega.{arith}
 use lib.ListN.{length}
 use lib.Seq.{set-out}
-use Rattle.active_projection_target_catalog.proofs.Arrays.{unmapped}
 use Rattle.active_projection_target_catalog.specs.declared.catalog.BindingPair.{BindingPair}
 use Rattle.binding_pairs.specs.Pairs.{withPair}
 use borrow.Author.Needs.{needs}
+use Rattle.spec_lists.specs.ListLaws.{unmapped}
 use Rattle.binding_pairs.proofs.BindingAnchors.put.Statement.{statement}
 use Rattle.binding_pairs.proofs.BindingAnchors.put.Tie as tie
 

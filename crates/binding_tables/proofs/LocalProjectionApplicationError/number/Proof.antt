@@ -1,5 +1,5 @@
 -- `LocalProjectionApplicationError::number` meets its contract: 8 and 9.
-use mathlib.Core.Path.{_≡_, refl, sym, ap}
+use mathlib.Core.Path.{sym, ap}
 use borrow.Author.Needs.{needs}
 use Rattle.spec_projection.specs.Apply.{operationFaultNumber}
 use Rattle.binding_tables.specs.Change.{faultOf}

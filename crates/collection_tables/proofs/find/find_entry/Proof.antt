@@ -1,5 +1,5 @@
 -- `find::find_entry` meets its contract: a row begins with the two numbers where its entry is the key's.
-use mathlib.Core.Path.{_≡_, _∙_}
+use mathlib.Core.Path.{_∙_}
 use mathlib.Core.List.{map}
 use borrow.Author.Needs.{needs}
 use Rattle.spec_lists.specs.ListLaws.{all-map}

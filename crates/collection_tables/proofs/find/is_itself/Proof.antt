@@ -1,5 +1,5 @@
 -- `find::is_itself` meets its contract: a named neighbour is compared with the key.
-use mathlib.Core.Path.{_≡_, refl, sym, ap, _∙_}
+use mathlib.Core.Path.{sym, ap, _∙_}
 use borrow.Author.Needs.{needs}
 use lib.Dec.{eqb}
 use Rattle.projection_patch.specs.Meaning.{beforeOf}

@@ -1,5 +1,5 @@
 -- `find::place_before` meets its contract: the neighbour's position, or that of the first entry of a later collection.
-use mathlib.Core.Path.{_≡_, refl, sym, ap, _∙_}
+use mathlib.Core.Path.{sym, ap, _∙_}
 use mathlib.Core.List.{map}
 use borrow.Author.Needs.{needs}
 use Rattle.spec_lists.specs.ListLaws.{all-map}

@@ -1,5 +1,5 @@
 -- `find::place_before_other` meets its contract: the entry itself is no neighbour.
-use mathlib.Core.Path.{_≡_, refl, sym, _∙_}
+use mathlib.Core.Path.{sym, _∙_}
 use borrow.Author.Needs.{needs}
 use Rattle.collection_tables.specs.Places.{PositionWithin, placeBeforeOther}
 use Rattle.collection_tables.proofs.find.place_before_other.Statement.{statement}

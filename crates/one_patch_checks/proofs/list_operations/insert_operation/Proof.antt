@@ -1,5 +1,5 @@
 -- `one_patch_checks::list_operations::insert_operation` meets its contract: two findings in their order.
-use mathlib.Core.Path.{_≡_, refl, sym, ap, ap₂, _∙_}
+use mathlib.Core.Path.{ap, ap₂, _∙_}
 use mathlib.Core.List.{List, _++_}
 use Rattle.spec_checks.specs.Finding.{Finding}
 use Rattle.patch_findings.specs.InsertFindings.{insertedAll}

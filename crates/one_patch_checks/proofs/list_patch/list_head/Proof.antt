@@ -1,5 +1,5 @@
 -- `one_patch_checks::list_patch::list_head` meets its contract: the finding of no operations, then those of the envelope.
-use mathlib.Core.Path.{_≡_, refl, sym, ap, ap₂, _∙_}
+use mathlib.Core.Path.{ap, ap₂, _∙_}
 use Prim.Native.Nat.{ℕ}
 use mathlib.Core.List.{List, _++_}
 use lib.Dec.{eqb}

@@ -1,5 +1,5 @@
 -- `patch_checks::check_set::check` meets its contract: the quick check tells whether there is anything to list.
-use mathlib.Core.Path.{_≡_, sym, _∙_}
+use mathlib.Core.Path.{sym, _∙_}
 use Rattle.spec_patch.specs.Edition.{v1}
 use Rattle.spec_patch.specs.Read.{readSet}
 use Rattle.patch_checks.proofs.Written.{clean-is, found-some, refused-is}

@@ -1,6 +1,6 @@
 -- `patch_checks::check_set::write_answer` meets its contract.
 use Prim.Native.Nat.{ℕ, _*_}
-use mathlib.Core.Path.{_≡_, ap, _∙_}
+use mathlib.Core.Path.{ap, _∙_}
 use mathlib.Core.List.{_++_}
 use lib.ListN.{take, drop}
 use Rattle.patch_checks.specs.declared.check_set.PatchSetCheck.the-variants as set-check

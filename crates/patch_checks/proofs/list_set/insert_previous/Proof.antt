@@ -1,5 +1,5 @@
 -- `patch_checks::list_set::insert_previous` meets its contract.
-use mathlib.Core.Path.{_≡_, refl, sym, ap, ap₂, _∙_}
+use mathlib.Core.Path.{ap, _∙_}
 use mathlib.Core.List.{List}
 use Rattle.spec_checks.specs.Finding.{Finding}
 use Rattle.patch_findings.specs.InsertFindings.{insertedAll}

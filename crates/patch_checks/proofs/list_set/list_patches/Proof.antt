@@ -14,7 +14,7 @@ use Rattle.patch_quick_check.specs.QuickAnswers.{previousOf}
 use Rattle.patch_checks.specs.SetListed.{tableLength, ReadListedAs, SetListedAs}
 use Rattle.patch_checks.specs.declared.list_set.FindingsListed.{FindingsListed}
 use Rattle.patch_checks.specs.declared.list_set.FindingsListed.the-variants as listed
-use Rattle.patch_checks.proofs.SetRuns.{PatchGot, patch-got, patch-refused, turn-found, turn-clean, none-left}
+use Rattle.patch_checks.proofs.SetRuns.{patch-got, patch-refused, turn-found, turn-clean, none-left}
 use borrow.Author.Needs.{needs}
 use Rattle.patch_checks.proofs.list_set.list_patches.Statement.{statement}
 use Rattle.patch_checks.proofs.list_set.list_patches.Tie as tie

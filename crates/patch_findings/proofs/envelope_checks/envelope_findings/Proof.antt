@@ -1,5 +1,4 @@
 -- `patch_findings::envelope_checks::envelope_findings` meets its contract.
-use mathlib.Core.Path.{_≡_, refl, sym, ap, _∙_}
 use Rattle.spec_checks.specs.Finding.{kindNumber}
 use Rattle.spec_checks.specs.PatchChecks.{envelopeFindings}
 use Rattle.patch_findings.specs.EnvelopeChecks.{envelopeListed}

@@ -1,5 +1,4 @@
 -- `patch_findings::envelope_checks::pair_findings` meets its contract.
-use mathlib.Core.Path.{_≡_, refl, sym, ap, _∙_}
 use Rattle.spec_checks.specs.Finding.{kindNumber}
 use Rattle.spec_checks.specs.SetChecks.{pairFindings}
 use Rattle.patch_findings.specs.EnvelopeChecks.{pairListed}

@@ -1,5 +1,4 @@
 -- `patch_findings::envelope_checks::report_if` meets its contract.
-use mathlib.Core.Path.{_≡_, refl, sym, ap, _∙_}
 use Rattle.spec_checks.specs.Finding.{report}
 use Rattle.patch_findings.specs.EnvelopeChecks.{optionalOf}
 use Rattle.patch_findings.proofs.envelope_checks.report_if.Statement.{statement}

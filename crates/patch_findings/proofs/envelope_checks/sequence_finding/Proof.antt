@@ -1,5 +1,5 @@
 -- `patch_findings::envelope_checks::sequence_finding` meets its contract: each answer follows from the tests before it.
-use mathlib.Core.Path.{_≡_, refl, sym, ap, _∙_}
+use mathlib.Core.Path.{sym, ap, _∙_}
 use Prim.Native.Nat.{ℕ, _+_}
 use Rattle.patch_findings.specs.EnvelopeChecksLaws.{overflow-is, duplicate-is, chain-is, out-of-order-is}
 use borrow.Author.Needs.{needs}

@@ -1,5 +1,5 @@
 -- `patch_findings::found::envelope_found` meets its contract: the first that is there decides.
-use mathlib.Core.Path.{_≡_, refl, sym, ap, _∙_}
+use mathlib.Core.Path.{sym, _∙_}
 use Rattle.patch_findings.specs.EnvelopeChecks.{envelopeListed}
 use Rattle.patch_findings.specs.FoundLaws.{found-first, found-second}
 use borrow.Author.Needs.{needs}

@@ -1,5 +1,4 @@
 -- `patch_findings::found::is_found` meets its contract.
-use mathlib.Core.Path.{_≡_, refl, sym, ap, _∙_}
 use Rattle.patch_findings.specs.EnvelopeChecks.{optionalOf}
 use Rattle.patch_findings.specs.Found.{isFound}
 use borrow.Author.Needs.{needs}

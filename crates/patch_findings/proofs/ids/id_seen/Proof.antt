@@ -1,7 +1,6 @@
 -- `patch_findings::ids::id_seen` meets its contract. The invariant: the id is among all exactly if it is among those from position `at` on.
 use Prim.Native.Nat.{_-_, _≤_}
-use mathlib.Core.Path.{_≡_, refl, sym, ap, _∙_}
-use native.Mathlib.Omega.{arith}
+use mathlib.Core.Path.{_≡_, sym, _∙_}
 use lib.ListN.{length, drop}
 use Rattle.patch_findings.specs.Ids.{idSeen}
 use Rattle.patch_findings.specs.IdsLaws.{id-here, id-on, id-end}

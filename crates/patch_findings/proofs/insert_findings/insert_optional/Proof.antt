@@ -1,5 +1,5 @@
 -- `patch_findings::insert_findings::insert_optional` meets its contract: nothing, or one finding.
-use mathlib.Core.Path.{_≡_, refl, sym, ap, _∙_}
+use mathlib.Core.Path.{_∙_}
 use Rattle.patch_findings.specs.EnvelopeChecks.{optionalOf}
 use Rattle.patch_findings.specs.InsertFindings.{insertedAll}
 use borrow.Author.Needs.{needs}

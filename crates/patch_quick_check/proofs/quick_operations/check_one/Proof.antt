@@ -15,7 +15,6 @@ use Rattle.projection_patch.specs.ReadAnswers.{operationAnswer}
 use Rattle.projection_patch.proofs.At.{from}
 use Rattle.projection_patch.proofs.Answers.{Got, operation-got, no-operation}
 use Rattle.projection_patch_sets.proofs.Runs.{inside}
-use Rattle.patch_quick_check.specs.QuickAnswers.{operationsAnswer}
 use Rattle.patch_quick_check.specs.declared.quick_operations.OperationsChecked.the-variants as operations-checked
 use Rattle.patch_quick_check.proofs.QuickRuns.{refusal, alone}
 use borrow.Author.Needs.{needs}

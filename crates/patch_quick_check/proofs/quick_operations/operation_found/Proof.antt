@@ -1,7 +1,6 @@
 -- `patch_quick_check::quick_operations::operation_found` meets its contract: the tests in their order.
 use Prim.Native.Nat.{ℕ}
-use mathlib.Core.Path.{_≡_, refl, sym, ap, subst, _∙_}
-use mathlib.Core.Bool.{Bool, true, false}
+use mathlib.Core.Path.{_≡_, sym, ap, subst, _∙_}
 use mathlib.Core.List.{List, _++_}
 use lib.ListN.{take}
 use Rattle.spec_checks.specs.Target.{MutationTarget, mutationTarget}

@@ -1,5 +1,5 @@
 -- `patch_quick_check::quick_patches::after_found` meets its contract: the tests in their order.
-use mathlib.Core.Path.{_≡_, refl, sym, ap, _∙_}
+use mathlib.Core.Path.{sym, ap, _∙_}
 use Prim.Native.Nat.{ℕ}
 use lib.ListN.{take, set}
 use Rattle.patch_findings.specs.Ids.{idSeen}

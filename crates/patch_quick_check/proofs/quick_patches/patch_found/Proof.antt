@@ -1,5 +1,5 @@
 -- `patch_quick_check::quick_patches::patch_found` meets its contract: the tests in their order.
-use mathlib.Core.Path.{_≡_, refl, sym, ap, _∙_}
+use mathlib.Core.Path.{sym, ap, _∙_}
 use borrow.Author.Tests.{eq-eqb, ne-eqb}
 use Rattle.spec_lists.specs.ListLaws.{or-true}
 use Rattle.projection_patch.specs.Meaning.{envelopeOf}

@@ -1,5 +1,5 @@
 -- `patch_quick_check::quick_patches::previous_found` meets its contract.
-use mathlib.Core.Path.{_≡_, refl, sym, ap, _∙_}
+use mathlib.Core.Path.{ap, _∙_}
 use Rattle.patch_findings.specs.Found.{isFound}
 use Rattle.patch_quick_check.specs.Quick.{previousFound}
 use borrow.Author.Needs.{needs}

@@ -1,5 +1,4 @@
 -- `patch_quick_check::quick_set::at_end` meets its contract.
-use mathlib.Core.Path.{_≡_, refl, sym, ap, _∙_}
 use borrow.Author.Needs.{needs}
 use borrow.Author.Tests.{lt-ltb, le-ltb}
 use Rattle.patch_quick_check.proofs.quick_set.at_end.Statement.{statement}

@@ -1,6 +1,6 @@
 -- `patch_quick_check::quick_set::check_patches` meets its contract: what is left, after what was counted and found, answers as the whole does; the measure is the patches left.
 use Prim.Native.Nat.{ℕ, suc, _+_, _-_, _*_, _≤_}
-use mathlib.Core.Path.{_≡_, refl, sym, ap, _∙_}
+use mathlib.Core.Path.{_≡_, ap, _∙_}
 use mathlib.Core.List.{List}
 use native.Mathlib.Omega.{arith}
 use lib.ListN.{length, take, drop, length-set}

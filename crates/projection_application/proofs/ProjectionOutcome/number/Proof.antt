@@ -1,5 +1,5 @@
 -- `ProjectionOutcome::number` meets its contract, case by case.
-use mathlib.Core.Path.{_≡_, refl, sym, ap, _∙_}
+use mathlib.Core.Path.{sym, ap, _∙_}
 use borrow.Author.Needs.{needs}
 use Rattle.projection_application.specs.Application.{outcomeNumber}
 use Rattle.projection_application.proofs.ProjectionOutcome.number.Statement.{statement}

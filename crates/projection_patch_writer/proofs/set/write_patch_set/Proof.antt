@@ -5,6 +5,7 @@ use mathlib.Core.List.{List, _++_, flatMap}
 use native.Mathlib.Omega.{arith}
 use borrow.Author.Tests.{le-leb, lt-leb}
 use borrow.Author.Needs.{needs}
+use Rattle.spec_lists.specs.ListLaws.{unmapped}
 use denote.Ref.{now}
 use lib.ListN.{length, take}
 use Rattle.spec_patch.specs.Edition.{v1}
@@ -19,7 +20,6 @@ use Rattle.patch_part_writer.specs.ExtentLaws.{length-heading}
 use Rattle.patch_part_writer.specs.PartsLaws.{answers-refusal, answers-short, answers-wrote, heading-wrote}
 use Rattle.projection_patch_writer.specs.Set.{listOf, patchSetBytes}
 use Rattle.projection_patch_writer.specs.CallLaws.{Arrays, few-patches, encode-parts, patches-fit, encode-size, written-read}
-use Rattle.projection_patch_writer.proofs.Elements.{unmapped}
 use Rattle.projection_patch_writer.proofs.Verdict.{survey-refused, survey-within}
 use Rattle.projection_patch_writer.proofs.set.write_patch_set.Statement.{statement}
 use Rattle.projection_patch_writer.proofs.set.write_patch_set.Tie as tie

@@ -4,6 +4,7 @@ use mathlib.Core.Path.{sym, ap, _∙_}
 use mathlib.Core.List.{flatMap}
 use native.Mathlib.Omega.{arith}
 use borrow.Author.Needs.{needs}
+use Rattle.spec_lists.specs.ListLaws.{unmapped}
 use denote.Ref.{now}
 use lib.ListN.{getD}
 use Rattle.spec_patch.specs.Encode.{encodeOperation, encodePatch}
@@ -11,7 +12,7 @@ use Rattle.patch_part_writer.specs.declared.written.Written.the-variants.{Wrote
 use Rattle.patch_part_writer.specs.Parts.{headBytes, operationBytes}
 use Rattle.projection_patch_writer.specs.Set.{operationAt, heads, listOf}
 use Rattle.projection_patch_writer.specs.CallLaws.{Arrays}
-use Rattle.projection_patch_writer.proofs.Elements.{noPatch, noPlace, unmapped}
+use Rattle.projection_patch_writer.proofs.Elements.{noPatch, noPlace}
 use Rattle.projection_patch_writer.proofs.Progress.{Progress, progress-start, progress-end, never-refused, progress-next}
 use Rattle.projection_patch_writer.proofs.Turns.{rest, rest-start, head, Counts, few-turns, start-counts, small-head-index, head-rest, head-result, head-counts, small-place-index, operation-rest, operation-result, operation-counts, end-rest}
 use Rattle.projection_patch_writer.proofs.set.write_patches.Statement.{statement}

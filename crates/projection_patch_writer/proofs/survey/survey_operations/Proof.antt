@@ -5,6 +5,7 @@ use mathlib.Core.Bool.{Bool, _&&_}
 use mathlib.Core.List.{List}
 use native.Mathlib.Omega.{arith}
 use borrow.Author.Needs.{needs}
+use Rattle.spec_lists.specs.ListLaws.{unmapped}
 use denote.Ref.{now}
 use lib.ListN.{length, getD, take}
 use Rattle.spec_patch.specs.Sizes.{textBytes}
@@ -13,7 +14,7 @@ use Rattle.patch_part_writer.specs.declared.extent.TextPlace.{TextPlace}
 use Rattle.patch_part_writer.specs.ExtentLaws.{operation-small}
 use Rattle.patch_part_writer.specs.PartsLaws.{size-kept}
 use Rattle.projection_patch_writer.specs.Set.{textAllowed}
-use Rattle.projection_patch_writer.proofs.Elements.{noPlace, left-cons, left-none, unmapped}
+use Rattle.projection_patch_writer.proofs.Elements.{noPlace, left-cons, left-none}
 use Rattle.projection_patch_writer.proofs.Surveyed.{OperationsSeen, operations-start, operations-next, operations-over, operations-end}
 use Rattle.projection_patch_writer.proofs.survey.survey_operations.Statement.{statement}
 use Rattle.projection_patch_writer.proofs.survey.survey_operations.Tie as tie

@@ -3,12 +3,12 @@ use Prim.Native.Nat.{_≤_}
 use mathlib.Core.Path.{sym, _∙_}
 use native.Mathlib.Omega.{arith}
 use borrow.Author.Needs.{needs}
+use Rattle.spec_lists.specs.ListLaws.{unmapped}
 use denote.Ref.{now}
 use lib.ListN.{length, take}
 use lib.Seq.{length-take-le}
 use Rattle.projection_patch_writer.specs.Set.{heads}
 use Rattle.projection_patch_writer.specs.CallLaws.{Arrays}
-use Rattle.projection_patch_writer.proofs.Elements.{unmapped}
 use Rattle.projection_patch_writer.proofs.Verdict.{heads-refused, heads-within, operations-refused, operations-within, head-sizes-small, operation-sizes-small, many-patches, many-operations, many-places, long-text, both-passed}
 use Rattle.projection_patch_writer.proofs.survey.survey_set.Statement.{statement}
 use Rattle.projection_patch_writer.proofs.survey.survey_set.Tie as tie

@@ -1,36 +1,17 @@
 -- `survey::text_allowed` meets its contract: the place first, then the bytes there.
 use Prim.Native.Nat.{ℕ, _+_, _-_}
-use mathlib.Core.Path.{_≡_, refl, sym, ap, _∙_}
-use mathlib.Core.Bool.{Bool, true, false}
-use mathlib.Core.List.{List}
+use mathlib.Core.Path.{_≡_, sym, ap, _∙_}
 use native.Mathlib.Omega.{arith}
 use borrow.Author.Tests.{leb-true}
 use borrow.Author.Needs.{needs}
 use denote.Ref.{now}
 use lib.ListN.{length, take, drop}
-use Rattle.spec_lists.specs.Lists.{if_then_else_}
-use Rattle.spec_text.specs.Syntax.{isUtf8, characters}
-use Rattle.utf8.specs.declared.Utf8Check.the-variants.{Valid, Invalid}
 use Rattle.utf8.specs.Answer.{answer}
 use Rattle.projection_patch_writer.specs.Set.{textAllowed}
 use Rattle.patch_part_writer.proofs.Flags.{fails, holds}
+use Rattle.utf8.proofs.Answers.{answer-valid, answer-invalid}
 use Rattle.projection_patch_writer.proofs.survey.text_allowed.Statement.{statement}
 use Rattle.projection_patch_writer.proofs.survey.text_allowed.Tie as tie
-
--- what the check's answer says of a text
-valid : (text : List ℕ) (n : ℕ) → answer text ≡ Valid n → isUtf8 text ≡ true
-valid text n e = go (isUtf8 text) e
-  where
-    go : (t : Bool) → (if t then Valid (characters text) else Invalid) ≡ Valid n → t ≡ true
-    go true e = refl
-    go false e = absurd (let z : _≡_ {A = ℕ} 0 1 = cc in omega arith)
-
-invalid : (text : List ℕ) → answer text ≡ Invalid → isUtf8 text ≡ false
-invalid text e = go (isUtf8 text) e
-  where
-    go : (t : Bool) → (if t then Valid (characters text) else Invalid) ≡ Invalid → t ≡ false
-    go true e = absurd (let z : _≡_ {A = ℕ} 0 1 = cc in omega arith)
-    go false e = refl
 
 has-room-requires : tie.Need-has-room-requires
 has-room-requires c κs = search needs
@@ -66,7 +47,7 @@ returns-2 c =
     let args = c .before .before .before .before .before .before .before .args in
     let part : args .text .start + args .text .len - args .text .start ≡ args .text .len = omega arith in
     let bytes = drop (args .text .start) (now (args .texts)) in
-    let is = valid (take (args .text .len) bytes) _ (ap (λ (n : ℕ). answer (take n bytes)) (sym part) ∙ sym (c .before .before .check .ensures) ∙ c .enum-told .given .1) in
+    let is = answer-valid (take (args .text .len) bytes) _ (ap (λ (n : ℕ). answer (take n bytes)) (sym part) ∙ sym (c .before .before .check .ensures) ∙ c .enum-told .given .1) .0 in
     sym (rw (sym (c .before .before .before .before .before .has-room .ensures) ∙ holds (c .before .before .before .before .before .has-room .result) (c .before .before .before .before .if1 .left)) is)
 
 returns-3 : tie.Need-returns-3
@@ -75,7 +56,7 @@ returns-3 c =
     let args = c .before .before .before .before .before .before .before .args in
     let part : args .text .start + args .text .len - args .text .start ≡ args .text .len = omega arith in
     let bytes = drop (args .text .start) (now (args .texts)) in
-    let is = invalid (take (args .text .len) bytes) (ap (λ (n : ℕ). answer (take n bytes)) (sym part) ∙ sym (c .before .before .check .ensures) ∙ c .enum-told2 .given .1) in
+    let is = answer-invalid (take (args .text .len) bytes) (ap (λ (n : ℕ). answer (take n bytes)) (sym part) ∙ sym (c .before .before .check .ensures) ∙ c .enum-told2 .given .1) in
     sym (rw (sym (c .before .before .before .before .before .has-room .ensures) ∙ holds (c .before .before .before .before .before .has-room .result) (c .before .before .before .before .if1 .left)) is)
 
 pub text-allowed-spec : {M : Type 1} → statement M

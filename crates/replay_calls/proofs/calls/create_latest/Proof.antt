@@ -1,5 +1,4 @@
 -- `replay_calls::calls::create_latest` meets its contract: the answer is printed, and the session takes its place.
-use mathlib.Core.Path.{_≡_}
 use Rattle.answer_printer.specs.CreationAnswers.{creation-told}
 use Rattle.replay_calls.specs.ReplayHoldsLaws.{created-step}
 use borrow.Author.Needs.{needs}

@@ -1,5 +1,5 @@
 -- `replay_calls::calls::create_session` meets its contract: the kept anchors are lent.
-use Prim.Native.Nat.{ℕ, _-_}
+use Prim.Native.Nat.{_-_}
 use mathlib.Core.Path.{_≡_, subst}
 use native.Mathlib.Omega.{arith}
 use lib.ListN.{length}

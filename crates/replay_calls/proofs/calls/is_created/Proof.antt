@@ -1,5 +1,4 @@
 -- `replay_calls::calls::is_created` meets its contract.
-use mathlib.Core.Path.{_≡_}
 use Rattle.replay_calls.specs.ReplayHolds.{isCreated}
 use borrow.Author.Needs.{needs}
 use Rattle.replay_calls.proofs.calls.is_created.Statement.{statement}

@@ -1,5 +1,5 @@
 -- `ReplaySetup::new` meets its contract: nothing is kept yet.
-use mathlib.Core.Path.{_≡_, refl}
+use mathlib.Core.Path.{refl}
 use native.Mathlib.Omega.{arith}
 use Rattle.spec_replay.specs.Replay.{noAnchors}
 use Rattle.replay_setup.proofs.ReplaySetup.new.Statement.{statement}

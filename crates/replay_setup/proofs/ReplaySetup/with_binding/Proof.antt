@@ -1,5 +1,5 @@
 -- `ReplaySetup::with_binding` meets its contract: the other anchors stay as they were.
-use mathlib.Core.Path.{_≡_, ap, _∙_}
+use mathlib.Core.Path.{ap, _∙_}
 use mathlib.Core.List.{map}
 use Rattle.active_projection_target_catalog.specs.Catalog.{pairOf}
 use Rattle.spec_replay.specs.Replay.{withBinding}

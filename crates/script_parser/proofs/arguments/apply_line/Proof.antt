@@ -6,7 +6,6 @@ use borrow.Author.Needs.{needs}
 use lib.ListN.{drop, length-drop}
 use Rattle.spec_session.specs.Lifecycle.{Stimulus}
 use Rattle.spec_replay.specs.Script.{apply, Arguments, end, number, byWord, stimuli, applyArguments}
-use Rattle.shell_lifecycle.specs.Meaning.{stimulusOf}
 use Rattle.script_fields.specs.FieldsLaws.{length-firstField, missing, read-here, not-read}
 use Rattle.script_words.specs.Words.{stimulusMeant}
 use Rattle.script_parser.proofs.arguments.apply_line.Statement.{statement}

@@ -4,7 +4,7 @@ use mathlib.Core.Path.{sym, ap, _∙_}
 use native.Mathlib.Omega.{arith}
 use borrow.Author.Needs.{needs}
 use lib.ListN.{drop, length-drop}
-use Rattle.spec_replay.specs.Script.{Arguments, byWord, values, valueArguments}
+use Rattle.spec_replay.specs.Script.{byWord, values, valueArguments}
 use Rattle.script_fields.specs.FieldsLaws.{length-firstField, missing, read-here, not-read}
 use Rattle.script_words.specs.Words.{valueMeant}
 use Rattle.script_parser.proofs.arguments.value_line.Statement.{statement}

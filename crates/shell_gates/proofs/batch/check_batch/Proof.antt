@@ -1,5 +1,5 @@
 -- `check_batch` meets its contract: the preflight, then what the set must pass.
-use mathlib.Core.Path.{_≡_, sym, ap, _∙_}
+use mathlib.Core.Path.{sym, ap, _∙_}
 use Rattle.spec_session.specs.BatchLaws.{never-passes}
 use Rattle.shell_gates.specs.Gates.{gateOf, counted}
 use Rattle.shell_gates.specs.StepLaws.{batch-refused, batch-on}

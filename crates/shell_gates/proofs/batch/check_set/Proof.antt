@@ -1,5 +1,5 @@
 -- `check_set` meets its contract: the quick check, then the counts, then the targets and the cursor.
-use mathlib.Core.Path.{_≡_, refl, sym, ap, _∙_}
+use mathlib.Core.Path.{refl, sym, ap, _∙_}
 use Rattle.spec_session.specs.Diagnostics.{sessionNumber}
 use Rattle.spec_session.specs.Batch.{refuse}
 use Rattle.shell_lifecycle.specs.Meaning.{refusalOf}

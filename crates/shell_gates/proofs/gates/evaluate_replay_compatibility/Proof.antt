@@ -1,7 +1,7 @@
 -- `evaluate_replay_compatibility` meets its contract.
-use mathlib.Core.Path.{_≡_, refl, sym, ap, _∙_}
+use mathlib.Core.Path.{sym, _∙_}
 use borrow.Author.Needs.{needs}
-use borrow.Author.Tests.{eq-eqb, ne-eqb, le-leb, lt-leb}
+use borrow.Author.Tests.{eq-eqb, ne-eqb}
 use Rattle.spec_session.specs.Batch.{require}
 use Rattle.shell_lifecycle.specs.Meaning.{refusalOf}
 use Rattle.shell_gates.specs.Gates.{gateOf, replayBy}

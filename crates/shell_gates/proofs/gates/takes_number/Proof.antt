@@ -1,5 +1,4 @@
 -- `takes_number` meets its contract.
-use mathlib.Core.Path.{_≡_, refl, sym, ap, _∙_}
 use borrow.Author.Needs.{needs}
 use borrow.Author.Tests.{lt-ltb}
 use Rattle.spec_patch.specs.Sizes.{largestU64}

@@ -2,7 +2,7 @@
 use mathlib.Core.Path.{_≡_, refl, sym, ap, _∙_}
 use borrow.Author.Needs.{needs}
 use Rattle.spec_session.specs.Lifecycle as step
-use Rattle.spec_session.specs.Lifecycle.{Stimulus, dispositionOf}
+use Rattle.spec_session.specs.Lifecycle.{dispositionOf}
 use Rattle.shell_lifecycle.specs.Meaning.{commandOf, stimulusOf, dispositionMeans}
 use Rattle.shell_lifecycle.specs.declared.lifecycle.ShellLifecycleStimulus.{ShellLifecycleStimulus}
 use Rattle.shell_lifecycle.specs.declared.lifecycle.ShellLifecycleStimulus.the-variants.{Command}

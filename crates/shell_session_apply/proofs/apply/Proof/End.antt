@@ -58,7 +58,6 @@ use Rattle.shell_player.proofs.session.ShellSession.transition as step
 use Rattle.transition_dispositions.proofs.is_applied as applied
 use Rattle.transition_dispositions.proofs.is_applied.Symbol.{name as #applied}
 use Rattle.shell_session_apply.proofs.apply as f
-use Rattle.shell_session_apply.proofs.apply.Code as code
 use Rattle.shell_session_apply.proofs.apply.Code.Mir as mir
 
 abbrev pub stayed : Stays (f.ended .signature .params) (f.ended .kept)

@@ -1,5 +1,4 @@
 -- `applied_at` meets its contract.
-use mathlib.Core.Path.{_≡_, refl}
 use Rattle.shell_lifecycle.specs.Meaning.{cursorOf}
 use Rattle.shell_steps.specs.Answers.{dispositionTold}
 use borrow.Author.Needs.{needs}

@@ -1,5 +1,4 @@
 -- `unchanged` meets its contract.
-use mathlib.Core.Path.{_≡_, refl}
 use Rattle.shell_steps.specs.Answers.{dispositionTold}
 use borrow.Author.Needs.{needs}
 use Rattle.shell_steps.proofs.answers.unchanged.Statement.{statement}

@@ -1,11 +1,11 @@
 -- `check_session` meets its contract: the anchors that the counts name are lent.
-use Prim.Native.Nat.{ℕ, _*_, _≤_, min}
-use mathlib.Core.Path.{_≡_, refl, sym, ap, _∙_}
+use Prim.Native.Nat.{_≤_}
+use mathlib.Core.Path.{_≡_}
 use native.Mathlib.Omega.{arith}
 use lib.ListN.{length}
-use Rattle.active_projection_target_catalog.proofs.Arrays.{unmapped}
 use Rattle.shell_steps.specs.ChecksLaws.{lent-anchors}
 use borrow.Author.Needs.{needs}
+use Rattle.spec_lists.specs.ListLaws.{unmapped}
 use Rattle.shell_steps.proofs.checks.check_session.Statement.{statement}
 use Rattle.shell_steps.proofs.checks.check_session.Tie as tie
 

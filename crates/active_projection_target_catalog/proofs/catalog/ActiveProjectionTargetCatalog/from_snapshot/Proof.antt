@@ -1,4 +1,3 @@
-use mathlib.Core.Path.{_≡_, refl}
 use Rattle.active_projection_target_catalog.specs.Catalog.{catalogWith}
 use borrow.Author.Needs.{needs}
 use Rattle.active_projection_target_catalog.proofs.catalog.ActiveProjectionTargetCatalog.from_snapshot.Statement.{

@@ -1,5 +1,4 @@
 -- `ShellSession::new` meets its contract.
-use mathlib.Core.Path.{_≡_, refl}
 use Rattle.spec_projection.specs.Projection.{empty}
 use Rattle.spec_projection.specs.ValidLaws.{empty-valid}
 use Rattle.local_projection_state.specs.Stores.{stateOf}
