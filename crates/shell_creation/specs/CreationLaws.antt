@@ -16,7 +16,7 @@ use Rattle.spec_session.specs.Session as model
 use Rattle.spec_session.specs.Session.{Catalogue, anchorsFit, newSession, create}
 use Rattle.spec_session.specs.Lifecycle.{stateOf}
 use Rattle.spec_session.specs.ValidSessionLaws.{few-anchors}
-use Rattle.shell_lifecycle.specs.Meaning.{limitsOf, lifecycleOf, cursorOf}
+use Rattle.shell_lifecycle.specs.Meaning.{limitsOf, cursorOf}
 use Rattle.shell_lifecycle.specs.declared.state.ShellLifecycleLimits.{ShellLifecycleLimits}
 use Rattle.active_projection_target_catalog.specs.Catalog.{pairOf, pairTo, noPair, padded, catalogWith, catalogTo}
 use Rattle.active_projection_target_catalog.specs.CatalogLaws.{pairs-again}
@@ -65,7 +65,7 @@ module _ (id : ℕ) (limits : ShellLifecycleLimits) (nodes : List ℕ) (pairs : 
         }) (sym counted) (sym all)
 
     fresh-holds : anchorsFit listed ≡ true → Holds fresh (newSession id (limitsOf limits) listed)
-    unfolding newState newSession stateOf lifecycleOf cursorOf
+    unfolding newState newSession stateOf cursorOf
     fresh-holds fit = record {
       id = refl;
       limits = refl;

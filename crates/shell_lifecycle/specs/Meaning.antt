@@ -26,7 +26,7 @@ use Rattle.shell_lifecycle.specs.declared.lifecycle.LifecycleCandidate.t
 
 -- ---- refusals and diagnostics
 
-unfoldable pub refusalOf : ShellRefusal → refusal.SessionRefusal
+abbrev pub refusalOf : ShellRefusal → refusal.SessionRefusal
 refusalOf SessionMismatch = refusal.sessionMismatch
 refusalOf SessionClosed = refusal.sessionClosed
 refusalOf InvalidLifecycle = refusal.wrongLifecycle
@@ -50,7 +50,7 @@ diagnosticsMean d = record {
 
 -- ---- the state and the limits
 
-unfoldable pub lifecycleOf : ShellLifecycle → model.Lifecycle
+abbrev pub lifecycleOf : ShellLifecycle → model.Lifecycle
 lifecycleOf Created = model.created
 lifecycleOf Active = model.active
 lifecycleOf Suspended = model.suspended

@@ -47,7 +47,7 @@ sessionTo m = record {
 }
 
 lifecycle-back : (l : ShellLifecycle) → l ≡ lifecycleTo (lifecycleOf l)
-unfolding lifecycleTo lifecycleOf
+unfolding lifecycleTo
 lifecycle-back Created = refl
 lifecycle-back Active = refl
 lifecycle-back Suspended = refl

@@ -6,7 +6,7 @@ use native.Mathlib.Omega.{arith}
 use Rattle.spec_projection.specs.Apply as applying
 use Rattle.spec_projection.specs.Apply.{OperationFault}
 use Rattle.spec_session.specs.Session.{Cursor}
-use Rattle.spec_session.specs.Diagnostics.{SessionRefusal, sessionNumber, malformed, ofOperation}
+use Rattle.spec_session.specs.Diagnostics.{SessionRefusal, malformed, ofOperation}
 use Rattle.spec_session.specs.Lifecycle.{applied}
 use Rattle.spec_session.specs.Batch.{BatchAnswer, Check, refuse}
 use Rattle.binding_tables.specs.Change.{faultOf}
@@ -26,13 +26,13 @@ applied-told Rejected e = absurd (let z : _≡_ {A = ℕ} 0 1 = cc in omega arit
 -- ---- what every struct is answered
 
 operation-counted : (f : OperationFault) → countFits (ofOperation f) 1 ≡ true
-unfolding countFits sessionNumber ofOperation
+unfolding countFits
 operation-counted applying.keyRule = refl
 operation-counted applying.projectionFull = refl
 
 -- whatever came of the operations, the answer has its row
 pub run-row : (limit : ℕ) (c : Cursor) (n : ℕ) (a : BatchAnswer) (run : ReplayRun) → a ≡ runAnswer limit c n run → AnswerRow limit c n a
-unfolding runAnswer countFits sessionNumber
+unfolding runAnswer countFits
 run-row limit c n a (At end k) h = appliedRow h
 run-row limit c n a (Refused f) h = rejectedRow (ofOperation (faultOf f)) 1 (operation-counted (faultOf f)) h
 run-row limit c n a (Unreadable f) h = rejectedRow malformed 1 refl h

@@ -17,9 +17,9 @@ use Rattle.spec_lists.specs.Order.{sortUnique, lookup}
 use Rattle.spec_projection.specs.Projection.{empty}
 use Rattle.spec_projection.specs.Apply.{replaySteps, applySteps, operationsOf}
 use Rattle.spec_projection.specs.Lookups.{availabilityOf}
-use Rattle.spec_session.specs.Session.{newSession, creationNumber, anchorsFit, create}
-use Rattle.spec_session.specs.Diagnostics.{sessionNumber, stages, stageOf, orZero, noDiagnostics, diagnosticsOf}
-use Rattle.spec_session.specs.Lifecycle.{transition, isClosed, dispositionOf, stateOf, withLifecycle, rejectLifecycle, enterLifecycle, lifecycleStep}
+use Rattle.spec_session.specs.Session.{newSession, anchorsFit, create}
+use Rattle.spec_session.specs.Diagnostics.{diagnosticsOf}
+use Rattle.spec_session.specs.Lifecycle.{transition, dispositionOf, stateOf, withLifecycle, rejectLifecycle, enterLifecycle, lifecycleStep}
 use Rattle.spec_session.specs.Batch.{require, readable, absentTargets, knownTargets, batchChecks, rejectBatch, keepSession, candidate, commit, concludeBatch, batch}
 use Rattle.spec_listing.specs.Listing.{fields, recordCount, projectionLines, refusalLine, outcomeLines, readingLines, listing}
 use Rattle.spec_replay.specs.Script.{ascii, prepend, split, hexDigit, hexByte, consByte, hexPairs, readHex, end, given, readBy, slotOf, byWord, stimuli, sessionArguments, bindingArguments, applyArguments, batchArguments, valueBindingArguments, valueEntryArguments, values, valueArguments, commands, fieldsCommand, isRemark, command}
@@ -62,8 +62,8 @@ pub replay-examples : T (all (λ (b : Bool). b) examples)
 unfolding examples prints
     flatMap littleEndian numberOf digits decimal isNumeral numberWith readDecimal v1 heading faultNumber many literal readPatch readPatches ended readSet
     afterFindings rawSetFindings setFindings firstFindings findings checkEach sortUnique lookup empty replaySteps applySteps operationsOf availabilityOf
-    newSession creationNumber anchorsFit create sessionNumber stages stageOf orZero noDiagnostics diagnosticsOf
-    transition isClosed dispositionOf stateOf withLifecycle rejectLifecycle enterLifecycle lifecycleStep
+    newSession anchorsFit create diagnosticsOf
+    transition dispositionOf stateOf withLifecycle rejectLifecycle enterLifecycle lifecycleStep
     require readable absentTargets knownTargets batchChecks rejectBatch keepSession candidate commit concludeBatch batch
     fields recordCount projectionLines refusalLine outcomeLines readingLines listing
     prepend split hexDigit hexByte consByte hexPairs readHex end given readBy slotOf byWord stimuli sessionArguments bindingArguments applyArguments batchArguments

@@ -15,7 +15,7 @@ pub data SessionRefusal : Type 0 where
   keyRule projectionFull malformed checksFailed overCapacity : SessionRefusal
 
 -- 01's number of each refusal in a session answer
-unfoldable pub sessionNumber : SessionRefusal → ℕ
+abbrev pub sessionNumber : SessionRefusal → ℕ
 sessionNumber sessionMismatch = 1
 sessionNumber sessionClosed = 2
 sessionNumber wrongLifecycle = 3
@@ -30,26 +30,26 @@ sessionNumber checksFailed = 11
 sessionNumber overCapacity = 12
 
 -- a fault in reading
-unfoldable pub ofReading : Fault → SessionRefusal
+abbrev pub ofReading : Fault → SessionRefusal
 ofReading reading.malformed = malformed
 ofReading reading.overCapacity = overCapacity
 
 -- an operation that failed
-unfoldable pub ofOperation : OperationFault → SessionRefusal
+abbrev pub ofOperation : OperationFault → SessionRefusal
 ofOperation applying.keyRule = keyRule
 ofOperation applying.projectionFull = projectionFull
 
 -- the stages of the numbers 1 to 12
-unfoldable pub stages : List ℕ
+abbrev pub stages : List ℕ
 stages = 1 ∷ 2 ∷ 2 ∷ 4 ∷ 4 ∷ 5 ∷ 6 ∷ 8 ∷ 8 ∷ 4 ∷ 4 ∷ 4 ∷ []
 
 -- the stage of a number; no other number has one
-unfoldable pub stageOf : ℕ → Option ℕ
+abbrev pub stageOf : ℕ → Option ℕ
 stageOf zero = none
 stageOf (suc n) = getElem? stages n
 
 -- a number, and 0 for none
-unfoldable pub orZero : Option ℕ → ℕ
+abbrev pub orZero : Option ℕ → ℕ
 orZero none = 0
 orZero (some n) = n
 
@@ -61,7 +61,7 @@ pub record Diagnostics : Type 0 where
   pub emitted : ℕ
 
 -- without rejection all are 0
-unfoldable pub noDiagnostics : Diagnostics
+abbrev pub noDiagnostics : Diagnostics
 noDiagnostics = record { code = 0; stage = 0; logical = 0; emitted = 0 }
 
 -- so many diagnostics of a refusal under the cap; with 0 emitted, code and stage are 0

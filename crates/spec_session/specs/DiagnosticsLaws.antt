@@ -16,18 +16,17 @@ use Rattle.spec_projection.specs.Apply as applying
 use Rattle.spec_session.specs.Diagnostics.{SessionRefusal, sessionMismatch, sessionClosed, wrongLifecycle, limitExceeded, countsDiffer, unknownTarget, cursorMismatch, keyRule, projectionFull, malformed, checksFailed, overCapacity, sessionNumber, ofReading, ofOperation, stages, stageOf, orZero, Diagnostics, diagnosticsOf}
 
 pub reading-number : (f : Fault) → sessionNumber (ofReading f) ≡ faultNumber f
-unfolding sessionNumber ofReading faultNumber
+unfolding faultNumber
 reading-number reading.malformed = refl
 reading-number reading.overCapacity = refl
 
 pub operation-number : (f : OperationFault) → sessionNumber (ofOperation f) ≡ operationFaultNumber f
-unfolding sessionNumber ofOperation operationFaultNumber
+unfolding operationFaultNumber
 operation-number applying.keyRule = refl
 operation-number applying.projectionFull = refl
 
 -- every refusal has a stage
 pub stage-of-refusal : (r : SessionRefusal) → (k : ℕ) × (stageOf (sessionNumber r) ≡ some k)
-unfolding stageOf stages sessionNumber
 stage-of-refusal sessionMismatch = (_, refl)
 stage-of-refusal sessionClosed = (_, refl)
 stage-of-refusal wrongLifecycle = (_, refl)
@@ -48,7 +47,6 @@ past-end (x ∷ l) (suc i) h = past-end l i (omega arith)
 
 -- no number past 12 has a stage
 pub no-stage-above : (n : ℕ) → 12 < n → stageOf n ≡ none
-unfolding stageOf stages
 no-stage-above zero h = refl
 no-stage-above (suc n) h = past-end stages n (omega arith)
 

@@ -31,7 +31,7 @@ transition closed suspend = none
 transition closed resume = none
 transition closed close = none
 
-unfoldable pub isClosed : Lifecycle → Bool
+abbrev pub isClosed : Lifecycle → Bool
 isClosed created = false
 isClosed active = false
 isClosed suspended = false

@@ -50,7 +50,7 @@ pub data CreationRefusal : Type 0 where
   tooManyAnchors : CreationRefusal
 
 -- 01's number of the refusal at creation
-unfoldable pub creationNumber : CreationRefusal → ℕ
+abbrev pub creationNumber : CreationRefusal → ℕ
 creationNumber tooManyAnchors = 13
 
 pub data Creation : Type 0 where

@@ -169,19 +169,10 @@ unfolding
     Rattle.spec_projection.specs.Effects.moveKeyed
     Rattle.spec_projection.specs.Effects.collectionAfter
     Rattle.spec_session.specs.Session.newSession
-    Rattle.spec_session.specs.Session.creationNumber
     Rattle.spec_session.specs.Session.anchorsFit
     Rattle.spec_session.specs.Session.create
-    Rattle.spec_session.specs.Diagnostics.sessionNumber
-    Rattle.spec_session.specs.Diagnostics.ofReading
-    Rattle.spec_session.specs.Diagnostics.ofOperation
-    Rattle.spec_session.specs.Diagnostics.stages
-    Rattle.spec_session.specs.Diagnostics.stageOf
-    Rattle.spec_session.specs.Diagnostics.orZero
-    Rattle.spec_session.specs.Diagnostics.noDiagnostics
     Rattle.spec_session.specs.Diagnostics.diagnosticsOf
     Rattle.spec_session.specs.Lifecycle.transition
-    Rattle.spec_session.specs.Lifecycle.isClosed
     Rattle.spec_session.specs.Lifecycle.dispositionOf
     Rattle.spec_session.specs.Lifecycle.stateOf
     Rattle.spec_session.specs.Lifecycle.withLifecycle

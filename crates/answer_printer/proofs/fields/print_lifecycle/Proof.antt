@@ -54,7 +54,7 @@ same-length : tie.Need-same-length
 same-length c = search needs
 
 returns : tie.Need-returns
-unfolding lifecycleField lifecycleOf
+unfolding lifecycleField
 returns c =
     let call = c .before .before in
     same-bytes (sym (ap word (call .before .before .before .enum-told .given .1))) (call .print-field-bytes .ensures)
@@ -63,7 +63,7 @@ same-length-2 : tie.Need-same-length-2
 same-length-2 c = search needs
 
 returns-2 : tie.Need-returns-2
-unfolding lifecycleField lifecycleOf
+unfolding lifecycleField
 returns-2 c =
     let call = c .before .before in
     same-bytes (sym (ap word (call .before .before .before .enum-told2 .given .1))) (call .print-field-bytes2 .ensures)
@@ -72,7 +72,7 @@ same-length-3 : tie.Need-same-length-3
 same-length-3 c = search needs
 
 returns-3 : tie.Need-returns-3
-unfolding lifecycleField lifecycleOf
+unfolding lifecycleField
 returns-3 c =
     let call = c .before .before in
     same-bytes (sym (ap word (call .before .before .before .enum-told3 .given .1))) (call .print-field-bytes3 .ensures)
@@ -81,7 +81,7 @@ same-length-4 : tie.Need-same-length-4
 same-length-4 c = search needs
 
 returns-4 : tie.Need-returns-4
-unfolding lifecycleField lifecycleOf
+unfolding lifecycleField
 returns-4 c =
     let call = c .before .before in
     same-bytes (sym (ap word (call .before .before .before .enum-told4 .given .1))) (call .print-field-bytes4 .ensures)

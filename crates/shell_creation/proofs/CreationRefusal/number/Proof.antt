@@ -1,11 +1,9 @@
 -- `CreationRefusal::number` meets its contract.
 use mathlib.Core.Path.{refl}
-use Rattle.spec_session.specs.Session.{creationNumber}
 use Rattle.shell_creation.proofs.CreationRefusal.number.Statement.{statement}
 use Rattle.shell_creation.proofs.CreationRefusal.number.Tie as tie
 
 returns : tie.Need-returns
-unfolding creationNumber
 returns c = refl
 
 pub number-spec : {M : Type 1} → statement M

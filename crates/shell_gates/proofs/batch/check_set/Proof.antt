@@ -1,8 +1,7 @@
 -- `check_set` meets its contract: the quick check, then the counts, then the targets and the cursor.
 use mathlib.Core.Path.{refl, sym, ap, _∙_}
-use Rattle.spec_session.specs.Diagnostics.{sessionNumber}
 use Rattle.spec_session.specs.Batch.{refuse}
-use Rattle.shell_lifecycle.specs.Meaning.{refusalOf}
+use Rattle.projection_patch.specs.ReadAnswers.{faultOf}
 use Rattle.shell_gates.specs.Gates.{gateOf, countFits, counted}
 use Rattle.shell_gates.specs.StepLaws.{set-unread, set-found, set-counts, set-targets}
 use Rattle.shell_gates.specs.CountedLaws.{counts-counted, reading-counted}
@@ -41,11 +40,11 @@ returns : tie.Need-returns
 unfolding gateOf counted
 returns c = (
   λ s l u lent. ap (λ r. refuse r 1) (c .refusal-of .ensures) ∙ set-unread s _ _ _ _ (sym (c .before .before .before .before .quick-check .ensures) ∙ c .before .before .fault .given .1),
-  ap (λ r. countFits r 1) (c .refusal-of .ensures) ∙ reading-counted _,
+  ap (λ r. countFits r 1) (c .refusal-of .ensures) ∙ reading-counted (faultOf (c .before .before .fault .given .0 .0)),
 )
 
 returns-2 : tie.Need-returns-2
-unfolding gateOf refusalOf counted countFits sessionNumber
+unfolding gateOf counted countFits
 returns-2 c = (λ s l u lent. set-found s _ _ _ (sym (c .before .before .quick-check .ensures) ∙ c .enum-told .given .1), refl)
 
 returns-3 : tie.Need-returns-3

@@ -1,6 +1,5 @@
 -- `check_targets` meets its contract.
 use mathlib.Core.Path.{ap, _∙_}
-use Rattle.shell_lifecycle.specs.Meaning.{refusalOf}
 use Rattle.shell_gates.specs.Gates.{gateOf, counted}
 use Rattle.shell_gates.specs.StepLaws.{targets-absent, targets-known}
 use Rattle.shell_gates.specs.CountedLaws.{replay-counted, absent-counted}
@@ -12,7 +11,7 @@ absent-targets-requires : tie.Need-absent-targets-requires
 absent-targets-requires c κs = search needs
 
 returns : tie.Need-returns
-unfolding gateOf refusalOf counted
+unfolding gateOf counted
 returns c = (λ k ps lent reads. targets-absent k _ _ ps _ (c .before .absent-targets .ensures k lent ps reads) (c .if1 .taken), absent-counted _ (c .if1 .taken))
 
 evaluate-replay-compatibility-requires : tie.Need-evaluate-replay-compatibility-requires

@@ -5,7 +5,7 @@ use Rattle.spec_session.specs.Session.{closed}
 use Rattle.shell_lifecycle.specs.declared.lifecycle.ShellLifecycleCommand.{ShellLifecycleCommand}
 use Rattle.shell_lifecycle.specs.declared.lifecycle.ShellLifecycleCommand.the-variants.{Activate, Suspend, Resume, Close}
 use Rattle.spec_session.specs.Lifecycle.{transition}
-use Rattle.shell_lifecycle.specs.Meaning.{commandOf, stimulusOf, lifecycleOf, candidateOf}
+use Rattle.shell_lifecycle.specs.Meaning.{commandOf, stimulusOf, candidateOf}
 use borrow.Author.Needs.{needs}
 use Rattle.shell_lifecycle.proofs.lifecycle.calculate_candidate_lifecycle.Statement.{
   statement,
@@ -47,23 +47,23 @@ enum-told-5 : tie.Need-enum-told-5
 enum-told-5 c = search needs
 
 returns : tie.Need-returns
-unfolding transition stimulusOf lifecycleOf candidateOf
+unfolding transition stimulusOf candidateOf
 returns c = rw (c .enum-told .given .1)
 
 returns-2 : tie.Need-returns-2
-unfolding transition stimulusOf lifecycleOf candidateOf
+unfolding transition stimulusOf candidateOf
 returns-2 c = rw (c .before .enum-told2 .given .1, c .before .before .before .before .stimulus .given .1) (c .from-created .ensures)
 
 returns-3 : tie.Need-returns-3
-unfolding transition stimulusOf lifecycleOf candidateOf
+unfolding transition stimulusOf candidateOf
 returns-3 c = rw (c .before .enum-told3 .given .1, c .before .before .before .before .stimulus .given .1) (c .from-active .ensures)
 
 returns-4 : tie.Need-returns-4
-unfolding transition stimulusOf lifecycleOf candidateOf
+unfolding transition stimulusOf candidateOf
 returns-4 c = rw (c .before .enum-told4 .given .1, c .before .before .before .before .stimulus .given .1) (c .from-suspended .ensures)
 
 returns-5 : tie.Need-returns-5
-unfolding transition stimulusOf lifecycleOf candidateOf
+unfolding transition stimulusOf candidateOf
 returns-5 c = rw (c .enum-told5 .given .1, c .before .before .before .stimulus .given .1) (sym (none-from-closed _))
 
 pub calculate-candidate-lifecycle-spec : {M : Type 1} → statement M

@@ -1,7 +1,7 @@
 -- `evaluate_lifecycle_transition` meets its contract: each answer follows from the tests before it.
 use mathlib.Core.Path.{sym, ap, _∙_}
 use Rattle.spec_session.specs.Lifecycle.{LifecycleStep}
-use Rattle.shell_lifecycle.specs.Meaning.{refusalOf, candidateOf}
+use Rattle.shell_lifecycle.specs.Meaning.{candidateOf}
 use Rattle.shell_lifecycle.specs.MeaningLaws.{closed-step, wrong-step, over-step, entered-step}
 use borrow.Author.Needs.{needs}
 use Rattle.shell_lifecycle.proofs.lifecycle.evaluate_lifecycle_transition.Statement.{
@@ -16,7 +16,6 @@ reject-requires : tie.Need-reject-requires
 reject-requires c κs = search needs
 
 returns : tie.Need-returns
-unfolding refusalOf
 returns c = c .reject .ensures ∙ sym (ap (λ (x : LifecycleStep). x .answer) (closed-step _ _ _ (sym (c .before .before .is-closed .ensures) ∙ c .before .if1 .taken)))
 
 calculate-candidate-lifecycle-requires : tie.Need-calculate-candidate-lifecycle-requires
@@ -35,7 +34,7 @@ reject-requires-3 : tie.Need-reject-requires-3
 reject-requires-3 c κs = search needs
 
 returns-2 : tie.Need-returns-2
-unfolding refusalOf candidateOf
+unfolding candidateOf
 returns-2 c =
     let arm = c .before .before .before .before in
     let asked = arm .before .before in
@@ -47,7 +46,7 @@ enter-requires : tie.Need-enter-requires
 enter-requires c κs = search needs
 
 returns-3 : tie.Need-returns-3
-unfolding refusalOf candidateOf
+unfolding candidateOf
 returns-3 c =
     let asked = c .before .before .before in
     let unclosed = sym (asked .before .before .is-closed .ensures) ∙ asked .before .if1 .left in

@@ -20,19 +20,15 @@ enum-told-4 : tie.Need-enum-told-4
 enum-told-4 c = search needs
 
 returns : tie.Need-returns
-unfolding isClosed lifecycleOf
 returns c = sym (ap (λ (f : ShellLifecycle). isClosed (lifecycleOf f)) (c .enum-told .given .1))
 
 returns-2 : tie.Need-returns-2
-unfolding isClosed lifecycleOf
 returns-2 c = sym (ap (λ (f : ShellLifecycle). isClosed (lifecycleOf f)) (c .enum-told2 .given .1))
 
 returns-3 : tie.Need-returns-3
-unfolding isClosed lifecycleOf
 returns-3 c = sym (ap (λ (f : ShellLifecycle). isClosed (lifecycleOf f)) (c .enum-told3 .given .1))
 
 returns-4 : tie.Need-returns-4
-unfolding isClosed lifecycleOf
 returns-4 c = sym (ap (λ (f : ShellLifecycle). isClosed (lifecycleOf f)) (c .enum-told4 .given .1))
 
 pub is-closed-spec : {M : Type 1} → statement M

@@ -1,6 +1,6 @@
 -- `concluded` meets its contract: each outcome has its answer.
 use mathlib.Core.Path.{sym, ap, _∙_}
-use Rattle.shell_lifecycle.specs.Meaning.{refusalOf, cursorOf}
+use Rattle.shell_lifecycle.specs.Meaning.{cursorOf}
 use Rattle.shell_steps.specs.Answers.{rejectedAt, runAnswer}
 use borrow.Author.Needs.{needs}
 use Rattle.shell_steps.proofs.answers.concluded.Statement.{statement}
@@ -42,7 +42,7 @@ returns-2 c =
     ∙ sym (ap (runAnswer (a .cap) (cursorOf (a .cursor)) (a .number)) (c .before .before .before .run .given .1))
 
 returns-3 : tie.Need-returns-3
-unfolding runAnswer refusalOf
+unfolding runAnswer
 returns-3 c =
     let a = c .before .before .before .args in
     c .rejected2 .ensures ∙ sym (ap (runAnswer (a .cap) (cursorOf (a .cursor)) (a .number)) (c .before .enum-told2 .given .1))
