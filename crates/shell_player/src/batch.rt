@@ -55,17 +55,11 @@ impl ShellSession {
         ensures whatever { λ r. ⌜ AnyBatchCall self envelope r ⌝ }
     {
         let context = self.context;
-        let limits = context.limits;
-        let cap = limits.max_diagnostics_per_transition;
+        let cap = context.limits.max_diagnostics_per_transition;
         let state = self.state;
         let cursor = state.replay_cursor;
-        let gate = checks::check_session(
-            context,
-            state,
-            envelope,
-            declared_target_reference_count,
-            set,
-        );
+        let declared = declared_target_reference_count;
+        let gate = checks::check_session(context, state, envelope, declared, set);
         if let BatchGate::Refused(refusal, logical) = gate {
             return ProjectionPatchBatch {
                 session: self,

@@ -46,7 +46,7 @@ long-entries : (c : tie.Start) → length (c .args .self .«local_projection» .
 long-entries c = search (needs, c .good .0 .1 .1 .1 .1 .0 .1 .1 .1 .1 .1 .0)
 
 -- what the run says of the operations
-became : (c : tie.After-replay-readable) → let a = c .before .before .before .before .before .before .before .before .before .before .before .before .before .before .before .before .before .args in (m : Session) (ps : List Patch) → Holds (a .self) m → readSet v1 (now (a .set)) ≡ patches ps
+became : (c : tie.After-replay-readable) → let a = c .before .before .before .before .before .before .before .before .before .before .before .before .before .before .before .before .args in (m : Session) (ps : List Patch) → Holds (a .self) m → readSet v1 (now (a .set)) ≡ patches ps
     → RunBecame (λ i k q. StoredTables k (c .replay-readable .last .0) (c .replay-readable .last .1 .0) (c .replay-readable .last .1 .1 .0) q) (c .replay-readable .result) (candidate m ps)
 unfolding candidate
 became c m ps h reads = c .replay-readable .ensures ps (m .projection) reads (h .projection)
@@ -103,13 +103,13 @@ returns-2 c =
     )
 
 slice-aggregate-replay-readable : tie.Need-slice-aggregate-replay-readable
-slice-aggregate-replay-readable c = sym (long-bindings (c .before .before .before .before .before .before .before .before .before .before .before .before .before .before))
+slice-aggregate-replay-readable c = sym (long-bindings (c .before .before .before .before .before .before .before .before .before .before .before .before .before))
 
 slice-aggregate-replay-readable-2 : tie.Need-slice-aggregate-replay-readable-2
-slice-aggregate-replay-readable-2 c = sym (long-availability (c .before .before .before .before .before .before .before .before .before .before .before .before .before .before .before))
+slice-aggregate-replay-readable-2 c = sym (long-availability (c .before .before .before .before .before .before .before .before .before .before .before .before .before .before))
 
 slice-aggregate-replay-readable-3 : tie.Need-slice-aggregate-replay-readable-3
-slice-aggregate-replay-readable-3 c = sym (long-entries (c .before .before .before .before .before .before .before .before .before .before .before .before .before .before .before .before))
+slice-aggregate-replay-readable-3 c = sym (long-entries (c .before .before .before .before .before .before .before .before .before .before .before .before .before .before .before))
 
 replay-readable-requires : tie.Need-replay-readable-requires
 replay-readable-requires c κs = search needs
@@ -143,18 +143,18 @@ session-of-requires : tie.Need-session-of-requires
 session-of-requires c κs = search needs
 
 -- the answer where the run ended
-answered : (c : tie.After-session-of) → let a = c .before .before .before .before .before .before .before .before .before .before .before .before .before .before .before .before .before .before .before .before .before .before .before .before .before .before .args in batchAnswerOf (c .before .before .before .before .before .concluded .result) ≡ answerAt applied (at (a .envelope .«sequence_no»))
+answered : (c : tie.After-session-of) → let a = c .before .before .before .before .before .before .before .before .before .before .before .before .before .before .before .before .before .before .before .before .before .before .before .before .before .args in batchAnswerOf (c .before .before .before .before .before .concluded .result) ≡ answerAt applied (at (a .envelope .«sequence_no»))
 unfolding runAnswer
 answered c =
-    let a = c .before .before .before .before .before .before .before .before .before .before .before .before .before .before .before .before .before .before .before .before .before .before .before .before .before .before .args in
+    let a = c .before .before .before .before .before .before .before .before .before .before .before .before .before .before .before .before .before .before .before .before .before .before .before .before .before .args in
     c .before .before .before .before .before .concluded .ensures ∙ ap (runAnswer (a .self .context .limits .«max_diagnostics_per_transition») (cursorOf (a .self .state .«replay_cursor»)) (a .envelope .«sequence_no»)) (c .before .before .before .run .given .1)
 
 -- a run that ended, with the session that was made of the tables
-handed : (c : tie.After-session-of) → let a = c .before .before .before .before .before .before .before .before .before .before .before .before .before .before .before .before .before .before .before .before .before .before .before .before .before .before .args in (m : Session) (ps : List Patch) → Holds (a .self) m → readSet v1 (now (a .set)) ≡ patches ps
+handed : (c : tie.After-session-of) → let a = c .before .before .before .before .before .before .before .before .before .before .before .before .before .before .before .before .before .before .before .before .before .before .before .before .before .args in (m : Session) (ps : List Patch) → Holds (a .self) m → readSet v1 (now (a .set)) ≡ patches ps
     → BatchBecame (record { session = c .session-of .result; result = c .before .before .before .before .before .concluded .result }) (commit m (envelopeMeans (a .envelope)) (candidate m ps))
 unfolding runAnswer
 handed c m ps h reads =
-    let a = c .before .before .before .before .before .before .before .before .before .before .before .before .before .before .before .before .before .before .before .before .before .before .before .before .before .before .args in
+    let a = c .before .before .before .before .before .before .before .before .before .before .before .before .before .before .before .before .before .before .before .before .before .before .before .before .before .args in
     let call = c .before .before .before .before .before .before .before .before .before in
     let result = c .before .before .before .before .before .concluded .result in
     let ended = c .before .before .before .run .given in
