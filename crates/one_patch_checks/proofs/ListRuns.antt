@@ -21,6 +21,7 @@ use Rattle.projection_patch.proofs.At.{position}
 use Rattle.projection_patch.proofs.Answers.{Got, NotGot}
 use Rattle.projection_patch_sets.specs.Walk.{readHead, headOf}
 use Rattle.projection_patch_sets.specs.SetAnswers.{headTo}
+use Rattle.projection_patch_sets.proofs.ReadAt.{HeadAt}
 use Rattle.projection_patch_sets.proofs.Runs as runs
 use Rattle.patch_findings.specs.EnvelopeChecks.{row}
 use Rattle.mutation_targets.specs.Targets.{targetNumbers, targetSeen, withTarget}
@@ -110,15 +111,15 @@ abbrev pub outcome : ProjectionPatch → OperationsListed → PatchListRead
 outcome head (operations-listed.Read count end) = patch-listed.Read (record { head = head; count = count }) end
 outcome head (operations-listed.Refused f) = patch-listed.Refused f
 
-module _ (set : List ℕ) (bytes : Bytes set) (at taken : ℕ) (h : Envelope × ℕ) (head : ProjectionPatch) (is : readHead (drop at set) ≡ read h (drop taken (drop at set))) (same : headTo h ≡ head) where
+module _ {set : List ℕ} (bytes : Bytes set) {at taken : ℕ} {head : ProjectionPatch} (front : HeadAt set at head taken) where
+  abbrev h : Envelope × ℕ
+  h = front .got .a
+
   abbrev count : ℕ
   count = head .«operation_count»
 
-  pub counts : h .1 ≡ count
-  counts = ap (λ (x : ProjectionPatch). x .«operation_count») same
-
   own : envelopeOf (head .envelope) ≡ h .0
-  own = sym (ap (λ (x : ProjectionPatch). envelopeOf (x .envelope)) same) ∙ envelope-back (h .0)
+  own = sym (ap (λ (x : ProjectionPatch). envelopeOf (x .envelope)) (front .got .same)) ∙ envelope-back (h .0)
 
   module _ (id first : ℕ) (before mid after : List ℕ) (r : OperationsListed) (id-now : id ≡ envelopeOf (head .envelope) .id)
       (head-now : Inserted (headFindings (envelopeOf (head .envelope)) count) 0 before first mid) where
@@ -134,7 +135,7 @@ module _ (set : List ℕ) (bytes : Bytes set) (at taken : ℕ) (h : Envelope × 
         ap₂ (λ (v : Envelope) (n : ℕ). headFindings v n ++ listedFrom id [] 0 os) own (sym long)
         ∙ ap (λ (n : ℕ). headFindings (h .0) (length os) ++ listedFrom n [] 0 os) (id-now ∙ ap (λ (v : Envelope). v .id) own)
         ∙ listed-patch p in
-        let heads : head ≡ headTo (headOf p) = sym same ∙ ap (λ (n : ℕ). headTo (h .0, n)) (counts ∙ sym long) in
+        let heads : head ≡ headTo (headOf p) = sym (front .got .same) ∙ ap (λ (n : ℕ). headTo (h .0, n)) (front .counts ∙ sym long) in
         let numbers = whole .0 ∙ ap (λ (l : List Finding). insertedAll l 0 before .0) list in
         let both : _≡_ {A = PatchListed} (record { head = head; count = table .0 }) (record { head = headTo (headOf p); count = insertedAll (rawPatchFindings p) 0 before .0 }) = λ i. record { head = heads i; count = numbers i } in (
           ap (outcome head) (told .0) ∙ ap (λ (x : PatchListed). patch-listed.Read x (length set - length rest)) both,
@@ -145,7 +146,7 @@ module _ (set : List ℕ) (bytes : Bytes set) (at taken : ℕ) (h : Envelope × 
         → PatchListedAs before (length set) (outcome head r′) after (readPatch v1 (drop at set))
     patch-is r′ e told =
         subst (λ (q : OperationsListed). PatchListedAs before (length set) (outcome head q) after (readPatch v1 (drop at set))) e
-        (subst (PatchListedAs before (length set) (outcome head r) after) (sym (runs.patch-read set at h taken count is counts _ refl)) (go (many count (readOperation v1) (drop (at + taken) set)) refl told))
+        (subst (PatchListedAs before (length set) (outcome head r) after) (sym (runs.patch-read set at front _ refl)) (go (many count (readOperation v1) (drop (at + taken) set)) refl told))
 
-pub no-head : (set : List ℕ) (at : ℕ) (f : ProjectionPatchReadFault) → NotGot readHead (drop at set) 0 f → (before after : List ℕ) → PatchListedAs before (length set) (patch-listed.Refused f) after (readPatch v1 (drop at set))
-no-head set at f g before after = rw (runs.head-refused set at (g .fault) (g .is), g .same)
+pub no-head : (set : List ℕ) (at : ℕ) {f : ProjectionPatchReadFault} → NotGot readHead (drop at set) 0 f → (before after : List ℕ) → PatchListedAs before (length set) (patch-listed.Refused f) after (readPatch v1 (drop at set))
+no-head set at g before after = rw (runs.head-refused set at g, g .same)

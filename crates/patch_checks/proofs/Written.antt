@@ -28,7 +28,7 @@ use Rattle.projection_patch.specs.declared.read_values.ProjectionPatchReadFault
 use Rattle.projection_patch.proofs.Answers.{Got}
 use Rattle.projection_patch_sets.specs.Walk.{readHeading}
 use Rattle.projection_patch_sets.specs.SetAnswers.{operationCount}
-use Rattle.projection_patch_sets.proofs.Runs.{set-read-by}
+use Rattle.projection_patch_sets.proofs.Runs.{set-by-patches}
 use Rattle.patch_findings.specs.Found.{isFound}
 use Rattle.patch_quick_check.specs.QuickAnswers.{quickAnswer}
 use Rattle.patch_quick_check.specs.declared.quick_set.QuickCheck.the-variants as quick
@@ -123,7 +123,7 @@ module _ (set : List ℕ) (bytes : Bytes set) (ps : List Patch) (readable : read
   left-is =
       let fits = was-encoded v1 set ps bytes readable in
       let short : length set ≤ setBytes = omega (arith, ap length (fits .0), fits .1 .short) in
-      sym (set-read-by set short (many count (readPatch v1) (drop at set)) (rw (g .is, g .same))) ∙ readable
+      sym (set-by-patches set short g) ∙ readable
 
   pub found-is : (before : List ℕ) (r : FindingsListed) (after : List ℕ) → tableLength ≤ length before → SetListedAs before r after (ended (many count (readPatch v1) (drop at set))) → FindingsListedAs (findings ps) r after
   found-is before r after room told =

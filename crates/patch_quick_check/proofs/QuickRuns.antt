@@ -22,8 +22,9 @@ use Rattle.projection_patch.specs.declared.patch.ProjectionPatchOperation.{Proj
 use Rattle.projection_patch.specs.declared.read_values.ProjectionPatchReadFault.{ProjectionPatchReadFault}
 use Rattle.projection_patch.proofs.At.{position}
 use Rattle.projection_patch.proofs.Answers.{Told, Got, NotGot, got, not-got}
-use Rattle.projection_patch_sets.specs.Walk.{readHead, headOf}
+use Rattle.projection_patch_sets.specs.Walk.{headOf}
 use Rattle.projection_patch_sets.specs.SetAnswers.{headTo}
+use Rattle.projection_patch_sets.proofs.ReadAt.{HeadAt}
 use Rattle.projection_patch_sets.proofs.Runs as runs
 use Rattle.mutation_targets.specs.Targets.{numbersOf, targetNumbers, targetSeen, withTarget}
 use Rattle.mutation_targets.specs.TargetsLaws.{with-target-front}
@@ -122,21 +123,20 @@ module _ (l : List ℕ) (at n : ℕ) (r : OperationsChecked) (ensured : r ≡ op
   pub no-operations : (f : ProjectionPatchReadFault) → r ≡ operations-checked.Refused f → NotGot (many n (readOperation v1)) l at f
   no-operations = not-got (anywhere operationsFound) (many-codec (operation-codec v1) n) operations-told l at r ensured
 
-module _ (set : List ℕ) (at taken : ℕ) (h : Envelope × ℕ) (head : ProjectionPatch) (is : readHead (drop at set) ≡ read h (drop taken (drop at set))) (same : headTo h ≡ head) where
-  pub counts : h .1 ≡ head .«operation_count»
-  counts = ap (λ (x : ProjectionPatch). x .«operation_count») same
-
+module _ {set : List ℕ} {at taken : ℕ} {head : ProjectionPatch} (front : HeadAt set at head taken) where
   pub patch-checked : (os : List Operation) (end : ℕ) → many (head .«operation_count») (readOperation v1) (drop (at + taken) set) ≡ read os (drop end set) → length os ≡ head .«operation_count» → length set - length (drop end set) ≡ end
       → (found : Bool) → found ≡ (headFound (envelopeOf (head .envelope)) (head .«operation_count») || operationsFound os)
       → patch-read.Read (record { head = head; found = found }) end ≡ patchAnswer (length set) (readPatch v1 (drop at set))
   unfolding patchFound
   patch-checked os end run long there found told =
+      let h = front .got .a in
+      let same = front .got .same in
       let p = toPatch (h .0, os) in
-      let heads : head ≡ headTo (headOf p) = sym same ∙ ap (λ (n : ℕ). headTo (h .0, n)) (counts ∙ sym long) in
+      let heads : head ≡ headTo (headOf p) = sym same ∙ ap (λ (n : ℕ). headTo (h .0, n)) (front .counts ∙ sym long) in
       let own : envelopeOf (head .envelope) ≡ h .0 = sym (ap (λ (x : ProjectionPatch). envelopeOf (x .envelope)) same) ∙ envelope-back (h .0) in
       let founds : found ≡ patchFound p = told ∙ ap₂ (λ (e : Envelope) (n : ℕ). headFound e n || operationsFound os) own (sym long) in
       let both : _≡_ {A = PatchChecked} (record { head = head; found = found }) (checkedTo p) = λ i. record { head = heads i; found = founds i } in
-      ap₂ patch-read.Read both (sym there) ∙ sym (ap (patchAnswer (length set)) (runs.patch-read set at h taken (head .«operation_count») is counts (read os (drop end set)) run))
+      ap₂ patch-read.Read both (sym there) ∙ sym (ap (patchAnswer (length set)) (runs.patch-read set at front (read os (drop end set)) run))
 
   pub patch-not-checked : (f : ProjectionPatchReadFault) → NotGot (many (head .«operation_count») (readOperation v1)) set (at + taken) f → patch-read.Refused f ≡ patchAnswer (length set) (readPatch v1 (drop at set))
-  patch-not-checked f g = rw (runs.patch-read set at h taken (head .«operation_count») is counts (refused (g .fault)) (g .is), g .same)
+  patch-not-checked f g = rw (runs.patch-read set at front (refused (g .fault)) (g .is), g .same)

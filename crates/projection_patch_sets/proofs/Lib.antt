@@ -1,4 +1,5 @@
 -- Laws that belong to no one function.
 pub mod PatchAnswers
+pub mod ReadAt
 mod Heads
 pub mod Runs

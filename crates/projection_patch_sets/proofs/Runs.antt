@@ -4,22 +4,23 @@ use mathlib.Core.Path.{_≡_, refl, sym, ap, ap₂, _∙_}
 use mathlib.Core.List.{List, [], _∷_}
 use native.Mathlib.Omega.{arith}
 use borrow.Author.Tests.{le-leb}
-use lib.ListN.{length, drop, length-drop, drop-of-length-le}
+use lib.ListN.{length, drop, drop-of-length-le}
 use lib.Seq.{drop-drop, drop-cons}
 use Rattle.spec_lists.specs.Bytes.{Bytes}
 use Rattle.spec_lists.specs.BytesLaws.{bytes-drop}
 use Rattle.spec_patch.specs.Sizes.{setBytes, patchOperations}
-use Rattle.spec_patch.specs.Patch.{Operation, Envelope, Patch}
+use Rattle.spec_patch.specs.Patch.{Operation, Patch}
 use Rattle.spec_patch.specs.Edition.{v1}
-use Rattle.spec_patch.specs.Reader.{Fault, Result, read, refused, onward, followed, many}
+use Rattle.spec_patch.specs.Reader.{Result, read, refused, onward, followed, many}
 use Rattle.spec_patch.specs.Read.{readOperation, toPatch, readPatch, SetReading, patches, fault, ended, readSet}
 use Rattle.spec_patch.specs.Codec.{many-codec}
 use Rattle.spec_patch.specs.ReadLaws.{operation-codec, patch-codec}
 use Rattle.projection_patch.specs.Meaning.{operationTo}
 use Rattle.projection_patch_sets.specs.Walk.{readHeading, readHead}
 use Rattle.projection_patch_sets.specs.HeadLaws.{patches-by-heading, patch-by-head}
-use Rattle.projection_patch.specs.ReadAnswers.{faultTo}
+use Rattle.projection_patch.specs.ReadAnswers.{faultTo, anywhere}
 use Rattle.projection_patch_sets.specs.SetAnswers.{operationsAnswer, operationCount, setAnswer}
+use Rattle.projection_patch.specs.declared.patch.ProjectionPatch.{ProjectionPatch}
 use Rattle.projection_patch.specs.declared.patch.ProjectionPatchOperation.{ProjectionPatchOperation}
 use Rattle.projection_patch.specs.declared.read_values.ProjectionPatchReadFault.{ProjectionPatchReadFault}
 use Rattle.projection_patch.specs.declared.read_values.ProjectionPatchReadFault.the-variants.{Malformed}
@@ -28,6 +29,7 @@ use Rattle.projection_patch_sets.specs.declared.SetRead.{SetRead}
 use Rattle.projection_patch_sets.specs.declared.SetRead.the-variants as set-read
 use Rattle.projection_patch.proofs.At.{position}
 use Rattle.projection_patch.proofs.Answers.{Got, NotGot}
+use Rattle.projection_patch_sets.proofs.ReadAt.{HeadAt}
 
 -- ---- operations
 
@@ -42,9 +44,6 @@ module _ (set : List ℕ) (at n : ℕ) where
   refusal f g = rw (g .is, g .same)
 
   module _ (o : ProjectionPatchOperation) (taken : ℕ) (g : Got (readOperation v1) operationTo (drop at set) 0 o taken) where
-    pub inside : at ≤ length set → at + taken ≤ length set
-    inside h = omega (arith, length-drop at set, g .there)
-
     pub turn : operationsAnswer (length set) (many n (readOperation v1) (drop (at + taken) set)) ≡ operationsAnswer (length set) (many (suc n) (readOperation v1) (drop at set))
     unfolding many
     turn = rw (g .is, drop-drop taken at set) (sym (front (length set) (g .a) (many n (readOperation v1) (drop (at + taken) set))))
@@ -62,11 +61,12 @@ module _ (set : List ℕ) (at : ℕ) where
   run-length n h os rest e = many-codec (operation-codec v1) n .only (bytes-drop at set h) os rest e .0 .1
 
   -- behind its head, its operations decide
-  pub patch-read : (h : Envelope × ℕ) (taken count : ℕ) → readHead (drop at set) ≡ read h (drop taken (drop at set)) → h .1 ≡ count → (r : Result (List Operation)) → many count (readOperation v1) (drop (at + taken) set) ≡ r → readPatch v1 (drop at set) ≡ onward r (λ os rest. read (toPatch (h .0, os)) rest)
-  patch-read h taken count e same r q = patch-by-head (drop at set) ∙ rw (e, drop-drop taken at set, same, q)
+  pub patch-read : {head : ProjectionPatch} {taken : ℕ} (front : HeadAt set at head taken) (r : Result (List Operation)) → many (head .«operation_count») (readOperation v1) (drop (at + taken) set) ≡ r → readPatch v1 (drop at set) ≡ onward r (λ os rest. read (toPatch (front .got .a .0, os)) rest)
+  patch-read {taken = taken} front r q = patch-by-head (drop at set) ∙ rw (front .got .is, drop-drop taken at set, front .counts, q)
 
-  pub head-refused : (f : Fault) → readHead (drop at set) ≡ refused f → readPatch v1 (drop at set) ≡ refused f
-  head-refused f e = patch-by-head (drop at set) ∙ rw e
+  -- without its head it is refused
+  pub head-refused : {f : ProjectionPatchReadFault} (g : NotGot readHead (drop at set) 0 f) → readPatch v1 (drop at set) ≡ refused (g .fault)
+  head-refused g = patch-by-head (drop at set) ∙ rw (g .is)
 
   -- a patch has no more operations than it may
   pub few : Bytes set → (p : Patch) (rest : List ℕ) → readPatch v1 (drop at set) ≡ read p rest → length (p .operations) ≤ patchOperations
@@ -118,7 +118,16 @@ module _ (set : List ℕ) (at d o : ℕ) where
 
 -- ---- a set
 
--- behind its heading, its patches decide
-pub set-read-by : (set : List ℕ) → length set ≤ setBytes → (r : Result (List Patch)) → followed readHeading (λ n. many n (readPatch v1)) set ≡ r → readSet v1 set ≡ ended r
-unfolding readSet
-set-read-by set h r e = rw (le-leb (length set) setBytes h) (ap ended (patches-by-heading set ∙ e))
+module _ (set : List ℕ) (short : length set ≤ setBytes) where
+  set-read-by : (r : Result (List Patch)) → followed readHeading (λ n. many n (readPatch v1)) set ≡ r → readSet v1 set ≡ ended r
+  unfolding readSet
+  set-read-by r e = rw (le-leb (length set) setBytes short) (ap ended (patches-by-heading set ∙ e))
+
+  -- behind its heading, its patches decide
+  pub set-by-patches : {count at : ℕ} → Got readHeading (anywhere (λ n. n)) set 0 count at → readSet v1 set ≡ ended (many count (readPatch v1) (drop at set))
+  set-by-patches {count} {at} g = set-read-by (many count (readPatch v1) (drop at set)) (rw (g .is, g .same))
+
+  -- without its heading it is refused
+  pub no-set : {f : ProjectionPatchReadFault} (g : NotGot readHeading set 0 f) → readSet v1 set ≡ fault (g .fault)
+  unfolding ended
+  no-set g = set-read-by (refused (g .fault)) (rw (g .is))

@@ -35,38 +35,42 @@ overwrite-nothing l at h =
     ∙ ap (λ (n : ℕ). take at l ++ drop n l) none
     ∙ take-append-drop at l
 
+-- the bytes a are next, b is left behind them, and w writes a
+pub record Next (rest a b : List ℕ) (w : model.Written) : Type 0 where
+  pub parted : rest ≡ a ++ b
+  pub written : w ≡ model.wrote a
+
 module _ {start : List ℕ} {at : ℕ} {whole out : List ℕ} {next : ℕ} {rest : List ℕ} (progress : Progress start at whole out next rest) where
   pub progress-end : rest ≡ [] → (out ≡ overwrite start at whole) × (next ≡ at + length whole)
   progress-end e =
       let here : next ≤ length out = omega (arith, progress .room) in
       (sym (overwrite-nothing out next here) ∙ ap (overwrite out next) (sym e) ∙ progress .same, omega (arith, progress .end, ap length e))
 
-  -- the bytes a are written, and b is left
-  module _ (a b : List ℕ) (parted : rest ≡ a ++ b) (w : model.Written) (result : w ≡ model.wrote a) where
+  module _ {a b : List ℕ} {w : model.Written} (part : Next rest a b w) where
     both : length rest ≡ length a + length b
-    both = ap length parted ∙ length-append a b
+    both = ap length (part .parted) ∙ length-append a b
 
     fits : hasRoom out next (length a) ≡ true
     fits = has-room out next (length a) (omega (arith, progress .room, both))
 
     -- the answer is the next position
     pub answered : answerAt out next w ≡ Wrote (next + length a)
-    answered = ap (answerAt out next) result ∙ rw fits
+    answered = ap (answerAt out next) (part .written) ∙ rw fits
 
-    pub never-refused : {C : Type 0} (n : WriteRefusal) → answerAt out next w ≡ Refused n → C
-    never-refused n e = absurd (let z : _≡_ {A = ℕ} 0 1 = cc (answered) in omega arith)
+    pub never-refused : (n : WriteRefusal) → answerAt out next w ≡ Refused n → ⊥
+    never-refused n e = let z : _≡_ {A = ℕ} 0 1 = cc (answered) in omega arith
 
     pub progress-next : (behind : ℕ) → answerAt out next w ≡ Wrote behind → (after : List ℕ) → after ≡ outputAt out next w → Progress start at whole after behind b
     progress-next behind e after is =
         let position : behind ≡ next + length a = cc (answered) in
-        let wrote : after ≡ overwrite out next a = is ∙ ap (outputAt out next) result in
+        let wrote : after ≡ overwrite out next a = is ∙ ap (outputAt out next) (part .written) in
         let sum : next + (length a + length b) ≤ length out = omega (arith, progress .room, both) in
         record {
           same =
               ap (λ (n : ℕ). overwrite after n b) position
               ∙ ap (λ (o : List ℕ). overwrite o (next + length a) b) wrote
               ∙ overwrite-append out next a b (length a) refl sum
-              ∙ ap (overwrite out next) (sym parted)
+              ∙ ap (overwrite out next) (sym (part .parted))
               ∙ progress .same;
           room = omega (arith, progress .room, both, ap length wrote, length-overwrite out next a);
           end = omega (arith, progress .end, both);

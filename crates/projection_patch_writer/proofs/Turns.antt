@@ -21,6 +21,7 @@ use Rattle.projection_patch_writer.specs.Set.{operationAt, listFrom, hea
 use Rattle.projection_patch_writer.specs.CallLaws.{Arrays, few-patches, few-operations, enough-places, many-heads}
 use Rattle.projection_patch_writer.specs.Survey.{Ready}
 use Rattle.projection_patch_writer.proofs.Elements.{left-cons, whole-cons, each, noPatch, noPlace}
+use Rattle.projection_patch_writer.proofs.Progress.{Next}
 
 -- the bytes of operations
 abbrev pub body : List ℕ → List OperationPlace → List ℕ
@@ -133,63 +134,76 @@ head-passed h few = head-wrote h (leb-true (h .«operation_count») patchOperati
 
 -- ---- the turns over a set
 
-module _ (texts : List ℕ) (set : ProjectionPatchSet) (arrays : Arrays set) {operations room at : ℕ} (ready : Ready texts set operations room at) where
-  few : set .«patch_count» ≤ length (set .patches)
-  few = omega (arith, arrays .patches, few-patches texts set arrays (ready .fit))
+-- where a pass over a set stands: p heads and i operations are written, the last patch lacks `left` operations, and `turns` turns are left
+pub record Standing (texts : List ℕ) (set : ProjectionPatchSet) (operations room at p i left turns : ℕ) : Type 0 where
+  pub arrays : Arrays set
+  pub ready : Ready texts set operations room at
+  pub counts : Counts (heads set) p i left turns
 
+module _ (texts : List ℕ) (set : ProjectionPatchSet) (arrays : Arrays set) {operations room at : ℕ} (ready : Ready texts set operations room at) where
   pub few-turns : set .«patch_count» + operations ≤ 3184
   few-turns = omega (arith, arrays .operations, few-patches texts set arrays (ready .fit), enough-places texts set arrays (ready .fit), ready .counted)
 
   pub start-counts : Counts (heads set) 0 0 0 (set .«patch_count» + operations)
   start-counts = counts-start (heads set) (set .«patch_count») operations (sym (many-heads texts set arrays (ready .fit))) (ready .counted)
 
-  module _ (p i left turns : ℕ) (counts : Counts (heads set) p i left turns) where
-    module _ (more : 0 < turns) (none : left ≡ 0) where
-      pub head-index : p < set .«patch_count»
-      head-index = omega (arith, head-left (heads set) p i left turns counts more none, many-heads texts set arrays (ready .fit))
+module _ {texts : List ℕ} {set : ProjectionPatchSet} {operations room at p i left turns : ℕ} (here : Standing texts set operations room at p i left turns) where
+  few : set .«patch_count» ≤ length (set .patches)
+  few = omega (arith, here .arrays .patches, few-patches texts set (here .arrays) (here .ready .fit))
 
-      pub small-head-index : p < 64
-      small-head-index = omega (arith, head-index, few-patches texts set arrays (ready .fit))
+  enough : operationTotal (heads set) ≤ length (set .operations)
+  enough = enough-places texts set (here .arrays) (here .ready .fit)
 
-      head-parted : drop p (heads set) ≡ getD (set .patches) p noPatch ∷ drop (p + 1) (heads set)
-      head-parted = left-cons (set .«patch_count») (set .patches) p noPatch head-index few
+  module _ (more : 0 < turns) (none : left ≡ 0) where
+    abbrev patch : ProjectionPatch
+    patch = getD (set .patches) p noPatch
 
-      pub head-result : headBytes (getD (set .patches) p noPatch) ≡ model.wrote (head (getD (set .patches) p noPatch))
-      head-result = head-passed (getD (set .patches) p noPatch) (each fewOperations (set .«patch_count») (set .patches) p noPatch (few-operations texts set arrays (ready .fit)) head-index few)
+    head-index : p < set .«patch_count»
+    head-index = omega (arith, head-left (heads set) p i left turns (here .counts) more none, many-heads texts set (here .arrays) (here .ready .fit))
 
-      pub head-rest : rest texts (heads set) (set .operations) p i left
-          ≡ head (getD (set .patches) p noPatch) ++ rest texts (heads set) (set .operations) (p + 1) i (getD (set .patches) p noPatch .«operation_count»)
-      head-rest =
+    pub small-head-index : p < 64
+    small-head-index = omega (arith, head-index, few-patches texts set (here .arrays) (here .ready .fit))
+
+    head-parted : drop p (heads set) ≡ patch ∷ drop (p + 1) (heads set)
+    head-parted = left-cons (set .«patch_count») (set .patches) p noPatch head-index few
+
+    pub head-next : Next (rest texts (heads set) (set .operations) p i left) (head patch) (rest texts (heads set) (set .operations) (p + 1) i (patch .«operation_count»)) (headBytes patch)
+    head-next = record {
+      parted =
           ap (rest texts (heads set) (set .operations) p i) none
-          ∙ rest-head texts (heads set) (set .operations) p i (getD (set .patches) p noPatch) head-parted (patch-places (heads set) p i left turns counts (getD (set .patches) p noPatch) head-parted (set .operations) (enough-places texts set arrays (ready .fit)))
+          ∙ rest-head texts (heads set) (set .operations) p i patch head-parted (patch-places (heads set) p i left turns (here .counts) patch head-parted (set .operations) enough);
+      written = head-passed patch (each fewOperations (set .«patch_count») (set .patches) p noPatch (few-operations texts set (here .arrays) (here .ready .fit)) head-index few);
+    }
 
-      pub head-counts : Counts (heads set) (p + 1) i (getD (set .patches) p noPatch .«operation_count») (turns - 1)
-      head-counts = counts-head (heads set) p i left turns counts (getD (set .patches) p noPatch) head-parted none
+    pub head-counts : Counts (heads set) (p + 1) i (patch .«operation_count») (turns - 1)
+    head-counts = counts-head (heads set) p i left turns (here .counts) patch head-parted none
 
-    module _ (more : 0 < left) where
-      pub place-index : i < operationTotal (heads set)
-      place-index = place-left (heads set) p i left turns counts more
+  module _ (more : 0 < left) where
+    abbrev place : OperationPlace
+    place = getD (set .operations) i noPlace
 
-      pub small-place-index : i < 3120
-      small-place-index = omega (arith, place-index, enough-places texts set arrays (ready .fit), arrays .operations)
+    place-index : i < operationTotal (heads set)
+    place-index = place-left (heads set) p i left turns (here .counts) more
 
-      pub operation-result : operationBytes texts (getD (set .operations) i noPlace .operation) ≡ model.wrote (encodeOperation (operationAt texts (getD (set .operations) i noPlace)))
-      operation-result =
-          operation-passed texts (getD (set .operations) i noPlace)
-          (each shortAt (operationTotal (heads set)) (set .operations) i noPlace (ready .short) place-index (enough-places texts set arrays (ready .fit)))
-          (each (insideAt texts) (operationTotal (heads set)) (set .operations) i noPlace (ready .inside) place-index (enough-places texts set arrays (ready .fit)))
+    pub small-place-index : i < 3120
+    small-place-index = omega (arith, place-index, enough, here .arrays .operations)
 
-      pub operation-rest : rest texts (heads set) (set .operations) p i left
-          ≡ encodeOperation (operationAt texts (getD (set .operations) i noPlace)) ++ rest texts (heads set) (set .operations) p (i + 1) (left - 1)
-      operation-rest =
-          rest-operation texts (heads set) (set .operations) p i left (getD (set .operations) i noPlace) more
-          (whole-cons (set .operations) i noPlace (omega (arith, place-index, enough-places texts set arrays (ready .fit))))
+    pub operation-next : Next (rest texts (heads set) (set .operations) p i left) (encodeOperation (operationAt texts place)) (rest texts (heads set) (set .operations) p (i + 1) (left - 1)) (operationBytes texts (place .operation))
+    operation-next = record {
+      parted =
+          rest-operation texts (heads set) (set .operations) p i left place more
+          (whole-cons (set .operations) i noPlace (omega (arith, place-index, enough)));
+      written =
+          operation-passed texts place
+          (each shortAt (operationTotal (heads set)) (set .operations) i noPlace (here .ready .short) place-index enough)
+          (each (insideAt texts) (operationTotal (heads set)) (set .operations) i noPlace (here .ready .inside) place-index enough);
+    }
 
-      pub operation-counts : Counts (heads set) p (i + 1) (left - 1) (turns - 1)
-      operation-counts = counts-operation (heads set) p i left turns counts more
+    pub operation-counts : Counts (heads set) p (i + 1) (left - 1) (turns - 1)
+    operation-counts = counts-operation (heads set) p i left turns (here .counts) more
 
-    -- the turns are over
-    pub end-rest : turns ≡ 0 → rest texts (heads set) (set .operations) p i left ≡ []
-    end-rest over =
-        let gone = nothing-left (heads set) p i left turns counts over in
-        ap (rest texts (heads set) (set .operations) p i) (gone .0) ∙ rest-end texts (heads set) (set .operations) p i (gone .1)
+  -- the turns are over
+  pub end-rest : turns ≡ 0 → rest texts (heads set) (set .operations) p i left ≡ []
+  end-rest over =
+      let gone = nothing-left (heads set) p i left turns (here .counts) over in
+      ap (rest texts (heads set) (set .operations) p i) (gone .0) ∙ rest-end texts (heads set) (set .operations) p i (gone .1)

@@ -7,6 +7,7 @@ use native.Mathlib.Omega.{arith}
 use borrow.Author.Tests.{leb-true, le-leb, lt-leb}
 use lib.Dec.{leb}
 use lib.ListN.{length, take}
+use lib.Seq.{length-take-le}
 use Rattle.spec_lists.specs.Lists.{if_then_else_, all}
 use Rattle.spec_lists.specs.ListLaws.{and-left, and-right}
 use Rattle.spec_patch.specs.Sizes.{setBytes, setPatches, textBytes}
@@ -25,7 +26,7 @@ use Rattle.patch_part_writer.specs.Answer.{refusalOf}
 use Rattle.patch_part_writer.specs.Extent.{operationText}
 use Rattle.patch_part_writer.specs.ExtentLaws.{operation-small}
 use Rattle.projection_patch_writer.specs.Set.{setPlaces, heads, listOf, used, operationTotal, headSizes, operationSizes, setSize, fewOperations, shortAt, insideAt, allowedAt, countsFit, capacitiesKept, patchSetBytes}
-use Rattle.projection_patch_writer.specs.CallLaws.{allowed-inside}
+use Rattle.projection_patch_writer.specs.CallLaws.{Arrays, allowed-inside}
 use Rattle.projection_patch_writer.specs.Survey.{headSurvey, operationSurvey, judged, setSurvey}
 use Rattle.projection_patch_writer.proofs.Surveyed.{head-small}
 
@@ -75,12 +76,12 @@ operations-within texts ps bytes allowed e = go (all shortAt ps) refl e
 
 -- ---- sums stay small
 
-pub head-sizes-small : (hs : List ProjectionPatch) → headSizes hs ≤ 69 * length hs
+head-sizes-small : (hs : List ProjectionPatch) → headSizes hs ≤ 69 * length hs
 unfolding headSizes
 head-sizes-small [] = omega arith
 head-sizes-small (h ∷ hs) = omega (arith, head-small h, head-sizes-small hs)
 
-pub operation-sizes-small : (ps : List OperationPlace) → all shortAt ps ≡ true → operationSizes ps ≤ 191 * length ps
+operation-sizes-small : (ps : List OperationPlace) → all shortAt ps ≡ true → operationSizes ps ≤ 191 * length ps
 unfolding operationSizes
 operation-sizes-small [] e = omega arith
 operation-sizes-small (p ∷ ps) e =
@@ -125,19 +126,34 @@ module _ (texts : List ℕ) (set : ProjectionPatchSet) where
       let no : all shortAt (used set) ≡ false = ap (λ (n : ℕ). all shortAt (take n (set .operations))) (sym e) ∙ none in
       over (and-no (countsFit set) _ (ap (λ (t : Bool). t && leb (setSize set) setBytes) no))
 
-  -- the counts fit and the texts are short: the bytes and the texts decide
-  pub both-passed : (operations bytes rest : ℕ) (allowed : Bool) → set .«patch_count» ≤ setPatches → operations ≤ setPlaces
-      → HeadsWithin (heads set) operations bytes → OperationsWithin texts (take operations (set .operations)) rest allowed
-      → judged operations (35 + (bytes + rest)) allowed ≡ setSurvey texts set
-  unfolding judged setSurvey capacitiesKept countsFit setSize
-  both-passed operations bytes rest allowed few enough hw ow =
-      let same : take operations (set .operations) ≡ used set = ap (λ (n : ℕ). take n (set .operations)) (hw .counted) in
-      let one : leb (set .«patch_count») setPatches ≡ true = le-leb (set .«patch_count») setPatches few in
-      let two : leb (operationTotal (heads set)) setPlaces ≡ true = le-leb (operationTotal (heads set)) setPlaces (omega (arith, hw .counted)) in
-      let three : all shortAt (used set) ≡ true = ap (all shortAt) (sym same) ∙ ow .short in
-      let size : rest ≡ operationSizes (used set) = ow .sized ∙ ap operationSizes same in
-      let verdict : allowed ≡ all (allowedAt texts) (used set) = ow .verdict ∙ ap (all (allowedAt texts)) same in
-      rw (one, hw .few, two, three, hw .counted, hw .sized, size, verdict)
+  -- the counts fit and the texts are short
+  module _ (operations bytes rest : ℕ) (allowed : Bool) (few : set .«patch_count» ≤ setPatches) (enough : operations ≤ setPlaces) (hw : HeadsWithin (heads set) operations bytes) (ow : OperationsWithin texts (take operations (set .operations)) rest allowed) where
+    -- the bytes and the texts decide
+    pub both-passed : judged operations (35 + (bytes + rest)) allowed ≡ setSurvey texts set
+    unfolding judged setSurvey capacitiesKept countsFit setSize
+    both-passed =
+        let same : take operations (set .operations) ≡ used set = ap (λ (n : ℕ). take n (set .operations)) (hw .counted) in
+        let one : leb (set .«patch_count») setPatches ≡ true = le-leb (set .«patch_count») setPatches few in
+        let two : leb (operationTotal (heads set)) setPlaces ≡ true = le-leb (operationTotal (heads set)) setPlaces (omega (arith, hw .counted)) in
+        let three : all shortAt (used set) ≡ true = ap (all shortAt) (sym same) ∙ ow .short in
+        let size : rest ≡ operationSizes (used set) = ow .sized ∙ ap operationSizes same in
+        let verdict : allowed ≡ all (allowedAt texts) (used set) = ow .verdict ∙ ap (all (allowedAt texts)) same in
+        rw (one, hw .few, two, three, hw .counted, hw .sized, size, verdict)
+
+    -- the bytes are few
+    pub small-sum : Arrays set → bytes + rest ≤ 69 * setPatches + 191 * setPlaces
+    small-sum arrays =
+        let patches : set .«patch_count» ≤ length (set .patches) = omega (arith, arrays .patches) in
+        let places : operations ≤ length (set .operations) = omega (arith, arrays .operations) in
+        omega (
+          arith,
+          hw .sized,
+          head-sizes-small (heads set),
+          length-take-le (set .«patch_count») (set .patches) patches,
+          ow .sized,
+          operation-sizes-small (take operations (set .operations)) (ow .short),
+          length-take-le operations (set .operations) places,
+        )
 
   -- ---- what the survey says of the writing
 

@@ -33,12 +33,16 @@ module _ {Item : Type 0} (Here : ℕ → List Item → Type 0) (steps : Item →
     pub stored : StoredTables n b a e model
     pub same : applySteps model (flatMap steps rest) ≡ whole
 
-  pub run-start : (at left : ℕ) (n : ProjectionCounts) (b a e : List ℕ) (items : List Item) (p : Projection) → Here at items → length items ≡ left → StoredTables n b a e p → Running at left n b a e (applySteps p (flatMap steps items))
-  run-start at left n b a e items p h c s = record { rest = items; here = h; counted = c; model = p; stored = s; same = refl }
+  -- the answer of one turn, whatever item is the first that is left
+  pub record Turn (at : ℕ) (n : ProjectionCounts) (b a e b′ a′ e′ : List ℕ) (r : ReplayRun) : Type 0 where
+    pub told : (x : Item) (xs : List Item) (p : Projection) → Here at (x ∷ xs) → StoredTables n b a e p → RunBecame (Next Here xs b′ a′ e′) r (applySteps p (steps x))
+
+module _ {Item : Type 0} {Here : ℕ → List Item → Type 0} {steps : Item → List ReplayStep} where
+  pub run-start : {at left : ℕ} {n : ProjectionCounts} {b a e : List ℕ} (items : List Item) (p : Projection) → Here at items → length items ≡ left → StoredTables n b a e p → Running Here steps at left n b a e (applySteps p (flatMap steps items))
+  run-start items p h c s = record { rest = items; here = h; counted = c; model = p; stored = s; same = refl }
 
   -- one turn: the first item that is left
-  module _ {at left : ℕ} {n : ProjectionCounts} {b a e : List ℕ} {whole : Outcome} (run : Running at left n b a e whole) (more : 0 < left) (b′ a′ e′ : List ℕ) (r : ReplayRun)
-      (told : (x : Item) (xs : List Item) (p : Projection) → Here at (x ∷ xs) → StoredTables n b a e p → RunBecame (Next Here xs b′ a′ e′) r (applySteps p (steps x))) where
+  module _ {at left : ℕ} {n : ProjectionCounts} {b a e : List ℕ} {whole : Outcome} (run : Running Here steps at left n b a e whole) (more : 0 < left) {b′ a′ e′ : List ℕ} {r : ReplayRun} (turn : Turn Here steps at n b a e b′ a′ e′ r) where
     -- what the turn gives, by the item and the outcome of its steps
     turned : (P : Type 0) → ((x : Item) (xs : List Item) (y : Outcome) → length xs ≡ left - 1 → andThen y (λ q. applySteps q (flatMap steps xs)) ≡ whole → RunBecame (Next Here xs b′ a′ e′) r y → P) → P
     unfolding flatMap
@@ -47,26 +51,26 @@ module _ {Item : Type 0} (Here : ℕ → List Item → Type 0) (steps : Item →
         go : (rest : List Item) → Here at rest → length rest ≡ left → applySteps (run .model) (flatMap steps rest) ≡ whole → P
         go [] h c s = absurd (omega arith)
         go (x ∷ xs) h c s =
-            k x xs (applySteps (run .model) (steps x)) (omega arith) (sym (applySteps-append (run .model) (steps x) (flatMap steps xs)) ∙ s) (told x xs (run .model) h (run .stored))
+            k x xs (applySteps (run .model) (steps x)) (omega arith) (sym (applySteps-append (run .model) (steps x) (flatMap steps xs)) ∙ s) (turn .told x xs (run .model) h (run .stored))
 
-    pub run-on : (end : ℕ) (m : ProjectionCounts) → r ≡ At end m → Running end (left - 1) m b′ a′ e′ whole
-    run-on end m is = turned (Running end (left - 1) m b′ a′ e′ whole) (λ x xs y c s h. go xs y c s (subst (λ z. RunBecame (Next Here xs b′ a′ e′) z y) is h))
+    pub run-on : {end : ℕ} {m : ProjectionCounts} → r ≡ At end m → Running Here steps end (left - 1) m b′ a′ e′ whole
+    run-on {end} {m} is = turned (Running Here steps end (left - 1) m b′ a′ e′ whole) (λ x xs y c s h. go xs y c s (subst (λ z. RunBecame (Next Here xs b′ a′ e′) z y) is h))
       where
-        go : (xs : List Item) (y : Outcome) → length xs ≡ left - 1 → andThen y (λ q. applySteps q (flatMap steps xs)) ≡ whole → RunBecame (Next Here xs b′ a′ e′) (At end m) y → Running end (left - 1) m b′ a′ e′ whole
+        go : (xs : List Item) (y : Outcome) → length xs ≡ left - 1 → andThen y (λ q. applySteps q (flatMap steps xs)) ≡ whole → RunBecame (Next Here xs b′ a′ e′) (At end m) y → Running Here steps end (left - 1) m b′ a′ e′ whole
         go xs (done q) c s h = record { rest = xs; here = h .0; counted = c; model = q; stored = h .1; same = s }
         go xs (stopped f) c s h = absurd h
 
-    pub run-stop : (Last : ℕ → ProjectionCounts → Projection → Type 0) (fault : LocalProjectionApplicationError) → r ≡ Refused fault → RunBecame Last (Refused fault) whole
-    run-stop Last fault is = turned (RunBecame Last (Refused fault) whole) (λ x xs y c s h. go xs y s (subst (λ z. RunBecame (Next Here xs b′ a′ e′) z y) is h))
+    pub run-stop : (Last : ℕ → ProjectionCounts → Projection → Type 0) {fault : LocalProjectionApplicationError} → r ≡ Refused fault → RunBecame Last (Refused fault) whole
+    run-stop Last {fault} is = turned (RunBecame Last (Refused fault) whole) (λ x xs y c s h. go xs y s (subst (λ z. RunBecame (Next Here xs b′ a′ e′) z y) is h))
       where
         go : (xs : List Item) (y : Outcome) → andThen y (λ q. applySteps q (flatMap steps xs)) ≡ whole → RunBecame (Next Here xs b′ a′ e′) (Refused fault) y → RunBecame Last (Refused fault) whole
         go xs (done q) s h = absurd h
         go xs (stopped f) s h = subst (RunBecame Last (Refused fault)) s h
 
-    pub run-reads : (fault : ProjectionPatchReadFault) → r ≡ Unreadable fault → ⊥
-    run-reads fault is = turned ⊥ (λ x xs y c s h. subst (λ z. RunBecame (Next Here xs b′ a′ e′) z y) is h)
+    pub run-reads : {fault : ProjectionPatchReadFault} → r ≡ Unreadable fault → ⊥
+    run-reads is = turned ⊥ (λ x xs y c s h. subst (λ z. RunBecame (Next Here xs b′ a′ e′) z y) is h)
 
-  pub run-end : {at left : ℕ} {n : ProjectionCounts} {b a e : List ℕ} {whole : Outcome} → Running at left n b a e whole → left ≡ 0 → RunBecame (Next Here [] b a e) (At at n) whole
+  pub run-end : {at left : ℕ} {n : ProjectionCounts} {b a e : List ℕ} {whole : Outcome} → Running Here steps at left n b a e whole → left ≡ 0 → RunBecame (Next Here [] b a e) (At at n) whole
   unfolding applySteps flatMap
   run-end {at} {left} {n} {b} {a} {e} {whole} run none = go (run .rest) (run .here) (run .counted) (run .same)
     where
@@ -93,6 +97,13 @@ one-step id o p = go (applyOperation p o)
     go (stopped f) = refl
 
 -- ---- where a run ends
+
+-- a run's place is within the set, and each table is as long as at the start
+pub record Within (set : List ℕ) (at : ℕ) (b₀ a₀ e₀ b a e : List ℕ) : Type 0 where
+  pub place : at ≤ length set
+  pub bindings : length b ≡ length b₀
+  pub availability : length a ≡ length a₀
+  pub entries : length e ≡ length e₀
 
 pub ends-at : (size : ℕ) (r : ReplayRun) (end : ℕ) (n : ProjectionCounts) → r ≡ At end n → EndWithin size r → end ≤ size
 ends-at size r end n e h = subst (EndWithin size) e h

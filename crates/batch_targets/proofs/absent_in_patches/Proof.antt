@@ -1,22 +1,18 @@
 -- `batch_targets::absent_in_patches` meets its contract: what was counted, with the patches that are left, is the whole; the measure is what is left.
 use Prim.Native.Nat.{ℕ, _+_, _-_, _*_, _≤_}
-use mathlib.Core.Path.{_≡_, ap, _∙_}
+use mathlib.Core.Path.{_≡_}
 use mathlib.Core.List.{List}
 use native.Mathlib.Omega.{arith}
-use lib.ListN.{length, drop, length-drop}
+use lib.ListN.{length}
 use Rattle.spec_lists.specs.Bytes.{Bytes}
-use Rattle.spec_lists.specs.BytesLaws.{bytes-of, bytes-drop}
+use Rattle.spec_lists.specs.BytesLaws.{bytes-of}
 use Rattle.spec_patch.specs.Sizes.{setPatches, patchOperations}
 use Rattle.spec_patch.specs.Patch.{Patch}
 use Rattle.spec_session.specs.Session.{Catalogue}
-use Rattle.projection_patch.specs.ReadAnswers.{anywhere}
 use Rattle.projection_patch.specs.declared.patch.ProjectionPatch.{ProjectionPatch}
 use Rattle.projection_patch.proofs.At.{from}
-use Rattle.projection_patch.proofs.Answers.{Got}
-use Rattle.projection_patch_sets.specs.Walk.{readHead, AtPatches}
-use Rattle.projection_patch_sets.specs.HeadLaws.{head-codec}
-use Rattle.projection_patch_sets.specs.SetAnswers.{headTo, headAnswer}
-use Rattle.projection_patch_sets.proofs.PatchAnswers.{head-got}
+use Rattle.projection_patch_sets.specs.Walk.{AtPatches}
+use Rattle.projection_patch_sets.proofs.ReadAt.{HeadAt, head-at}
 use Rattle.batch_targets.specs.Lent.{Lent}
 use Rattle.batch_targets.proofs.Progress.{PatchProgress, patches-started, patch-turned, head-not-refused, patches-ended}
 use mir.Val.{Fits}
@@ -43,11 +39,8 @@ set c = top c .before .before .before .before .before .args .set .now
 abbrev at : tie.After-read-patch-head Inv-loop μ-loop → ℕ
 at c = top c .loop .at
 
-rest-bytes : (c : tie.After-read-patch-head Inv-loop μ-loop) → Bytes (drop (at c) (set c))
-rest-bytes c = bytes-drop (at c) (set c) (bytes-of (set c) (λ j. top c .before .shared-slice-known4 .given j .fits))
-
-ensured : (c : tie.After-read-patch-head Inv-loop μ-loop) → c .read-patch-head .result ≡ headAnswer (length (drop (at c) (set c))) (readHead (drop (at c) (set c)))
-ensured c = c .read-patch-head .ensures ∙ ap (λ (l : List ℕ). headAnswer (length l) (readHead l)) (from (set c) (at c))
+all-bytes : (c : tie.After-read-patch-head Inv-loop μ-loop) → Bytes (set c)
+all-bytes c = bytes-of (set c) (λ j. top c .before .shared-slice-known4 .given j .fits)
 
 abbrev head : tie.After-known-told Inv-loop μ-loop → ProjectionPatch
 head c = c .before .head .given .0 .0
@@ -55,20 +48,8 @@ head c = c .before .head .given .0 .0
 abbrev taken : tie.After-known-told Inv-loop μ-loop → ℕ
 taken c = c .before .head .given .0 .1 .0
 
-front : (c : tie.After-known-told Inv-loop μ-loop) → let k = c .before .before .before in Got readHead (anywhere headTo) (drop (at k) (set k)) 0 (head c) (taken c)
-front c =
-    let k = c .before .before .before in
-    head-got (drop (at k) (set k)) 0 (k .read-patch-head .result) (ensured k) (rest-bytes k) (head c) (taken c) (c .before .head .given .1)
-
-within : (c : tie.After-known-told Inv-loop μ-loop) → let k = c .before .before .before in at k + taken c ≤ length (set k)
-within c = let k = c .before .before .before in omega (arith, length-drop (at k) (set k), front c .there)
-
-small : (c : tie.After-known-told Inv-loop μ-loop) → head c .«operation_count» ≤ patchOperations
-small c =
-    let k = c .before .before .before in
-    let g = front c in
-    let good = head-codec .only (rest-bytes k) (g .a) (drop (taken c) (drop (at k) (set k))) (g .is) .0 .1 in
-    rw (← g .same) good
+front : (c : tie.After-known-told Inv-loop μ-loop) → let k = c .before .before .before in HeadAt (set k) (at k) (head c) (taken c)
+front c = let k = c .before .before .before in head-at (set k) (at k) (k .read-patch-head .ensures) (all-bytes k) (omega arith) (c .before .head .given .1)
 
 few : (c : tie.After-read-patch-head Inv-loop μ-loop) → top c .before .before .before .before .before .args .count ≤ setPatches
 few c = omega arith
@@ -92,17 +73,17 @@ enum-known-head : tie.Need-enum-known-head Inv-loop μ-loop
 enum-known-head c = search needs
 
 add-absent-in-patch : tie.Need-add-absent-in-patch Inv-loop μ-loop
-add-absent-in-patch c = omega (arith, within c)
+add-absent-in-patch c = omega (arith, front c .within)
 
 absent-in-patch-requires : tie.Need-absent-in-patch-requires Inv-loop μ-loop
-absent-in-patch-requires c κs = within c
+absent-in-patch-requires c κs = front c .within
 
 add-absent : tie.Need-add-absent Inv-loop μ-loop
 add-absent c =
     let call = c .before in
     let k = call .before in
     let l = top (k .before .before .before) .loop in
-    let fits : Fits w64 (l .absent + call .absent-in-patch .result .absent) = omega (arith, call .absent-in-patch .ensures .0 .0, small k, few (k .before .before .before)) in
+    let fits : Fits w64 (l .absent + call .absent-in-patch .result .absent) = omega (arith, call .absent-in-patch .ensures .0 .0, front k .few, few (k .before .before .before)) in
     fits
 
 sub-left : tie.Need-sub-left Inv-loop μ-loop
@@ -121,7 +102,7 @@ loop-again c =
       (
         omega arith,
         (
-          omega (arith, call .absent-in-patch .ensures .0 .0, small k),
+          omega (arith, call .absent-in-patch .ensures .0 .0, front k .few),
           λ m lent ps h e. patch-turned m (set r) ps (at r) (l .left) (l .absent) (l .inv .1 .1 .1 m lent ps h e) (omega arith) (r .read-patch-head .result) (r .read-patch-head .ensures) (head k) (taken k) _ _ (k .before .head .given .1) (call .absent-in-patch .ensures .1 m lent),
         ),
       ),

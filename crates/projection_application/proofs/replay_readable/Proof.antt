@@ -1,7 +1,6 @@
 -- `replay_readable` meets its contract: the heading tells where the patches stand, and how many there are.
 use mathlib.Core.Path.{sym}
 use mathlib.Core.List.{[]}
-use native.Mathlib.Omega.{arith}
 use borrow.Author.Needs.{needs}
 use denote.Ref.{now}
 use Rattle.spec_lists.specs.Bytes.{Bytes}
@@ -9,7 +8,7 @@ use Rattle.spec_lists.specs.BytesLaws.{bytes-of}
 use Rattle.spec_projection.specs.Apply.{replaySteps, applySteps}
 use Rattle.projection_patch_sets.specs.Walk.{AtPatches}
 use Rattle.projection_patch_sets.specs.WalkLaws.{walk-heading, walk-heading-reads}
-use Rattle.projection_patch_sets.proofs.PatchAnswers.{heading-got}
+use Rattle.projection_patch_sets.proofs.ReadAt.{heading-at}
 use Rattle.local_projection_state.specs.Stores.{StoredTables}
 use Rattle.projection_replay.proofs.Runs.{run-map}
 use Rattle.projection_application.proofs.replay_readable.Statement.{statement}
@@ -27,7 +26,7 @@ enum-known-count c = search needs
 replay-patches-requires : tie.Need-replay-patches-requires
 replay-patches-requires c κs =
     let read = c .before .before .before .before .before .before in
-    omega (arith, heading-got (now (read .before .before .before .before .before .args .set)) 0 (read .read-heading .result) (read .read-heading .ensures) (all-bytes (read .before)) _ _ (c .before .before .before .before .count .given .1) .there)
+    heading-at (now (read .before .before .before .before .before .args .set)) (all-bytes (read .before)) (read .read-heading .ensures) (c .before .before .before .before .count .given .1) .within
 
 enum-known-fault : tie.Need-enum-known-fault
 enum-known-fault c = search needs

@@ -1,20 +1,17 @@
 -- `projection_patch_sets::operations_from` meets its contract: what is left to read from the present position answers as the whole does; the measure is what is left.
-use Prim.Native.Nat.{ℕ, suc, _+_, _-_, _≤_}
+use Prim.Native.Nat.{ℕ, suc, _-_, _≤_}
 use mathlib.Core.Path.{_≡_, refl, ap, _∙_}
 use mathlib.Core.List.{List}
 use native.Mathlib.Omega.{arith}
 use lib.ListN.{length, drop}
 use Rattle.spec_lists.specs.Bytes.{Bytes}
-use Rattle.spec_lists.specs.BytesLaws.{bytes-of, bytes-drop}
+use Rattle.spec_lists.specs.BytesLaws.{bytes-of}
 use Rattle.spec_patch.specs.Edition.{v1}
 use Rattle.spec_patch.specs.Reader.{many}
 use Rattle.spec_patch.specs.Read.{readOperation}
-use Rattle.projection_patch.specs.Meaning.{operationTo}
-use Rattle.projection_patch.specs.ReadAnswers.{operationAnswer}
 use Rattle.projection_patch_sets.specs.SetAnswers.{operationsAnswer}
-use Rattle.projection_patch.proofs.At.{from}
-use Rattle.projection_patch.proofs.Answers.{Got, operation-got, no-operation}
-use Rattle.projection_patch_sets.proofs.Runs.{refusal, inside, turn, none-left}
+use Rattle.projection_patch_sets.proofs.ReadAt.{OperationAt, operation-at, no-operation-at}
+use Rattle.projection_patch_sets.proofs.Runs.{refusal, turn, none-left}
 use borrow.Author.Needs.{needs}
 use Rattle.projection_patch_sets.proofs.operations_from.Statement.{statement}
 use Rattle.projection_patch_sets.proofs.operations_from.Tie as tie
@@ -39,25 +36,14 @@ at c = head c .loop .at
 abbrev left : tie.After-read-operation Inv-loop μ-loop → ℕ
 left c = head c .loop .left
 
-rest-bytes : (c : tie.After-read-operation Inv-loop μ-loop) → Bytes (drop (at c) (set c))
-rest-bytes c = bytes-drop (at c) (set c) (bytes-of (set c) (λ j. head c .before .shared-slice-known .given j .fits))
-
--- the answer is of the bytes from the position on
-ensured : (c : tie.After-read-operation Inv-loop μ-loop) → c .read-operation .result ≡ operationAnswer (length (drop (at c) (set c))) (readOperation v1 (drop (at c) (set c)))
-ensured c = c .read-operation .ensures ∙ ap (λ (l : List ℕ). operationAnswer (length l) (readOperation v1 l)) (from (set c) (at c))
+all-bytes : (c : tie.After-read-operation Inv-loop μ-loop) → Bytes (set c)
+all-bytes c = bytes-of (set c) (λ j. head c .before .shared-slice-known .given j .fits)
 
 abbrev taken : tie.After-known-told Inv-loop μ-loop → ℕ
 taken c = c .before .taken .given .0 .1 .0
 
-one : (c : tie.After-known-told Inv-loop μ-loop) → let k = c .before .before .before in Got (readOperation v1) operationTo (drop (at k) (set k)) 0 (c .before .taken .given .0 .0) (taken c)
-one c =
-    let k = c .before .before .before in
-    operation-got (drop (at k) (set k)) 0 (k .read-operation .result) (ensured k) (rest-bytes k) (c .before .taken .given .0 .0) (taken c) (c .before .taken .given .1)
-
-within : (c : tie.After-known-told Inv-loop μ-loop) → let k = c .before .before .before in at k + taken c ≤ length (set k)
-within c =
-    let k = c .before .before .before in
-    inside (set k) (at k) (left k) (c .before .taken .given .0 .0) (taken c) (one c) (omega arith)
+one : (c : tie.After-known-told Inv-loop μ-loop) → let k = c .before .before .before in OperationAt (set k) (at k) (c .before .taken .given .0 .0) (taken c)
+one c = let k = c .before .before .before in operation-at (set k) (at k) (k .read-operation .ensures) (all-bytes k) (omega arith) (c .before .taken .given .1)
 
 -- the operations left, one of them counted apart
 again : (c : tie.After-read-operation Inv-loop μ-loop) → operationsAnswer (length (set c)) (many (suc (left c - 1)) (readOperation v1) (drop (at c) (set c))) ≡ operationsAnswer (length (set c)) (many (left c) (readOperation v1) (drop (at c) (set c)))
@@ -84,7 +70,7 @@ enum-known-taken : tie.Need-enum-known-taken Inv-loop μ-loop
 enum-known-taken c = search needs
 
 add-at : tie.Need-add-at Inv-loop μ-loop
-add-at c = omega (arith, within c)
+add-at c = omega (arith, one c .within)
 
 sub-left : tie.Need-sub-left Inv-loop μ-loop
 sub-left c = search needs
@@ -95,8 +81,8 @@ loop-less c = search needs
 loop-again : tie.Need-loop-again Inv-loop μ-loop
 loop-again c =
     let k = c .before .before .before in (
-      within c,
-      turn (set k) (at k) (left k - 1) (c .before .taken .given .0 .0) (taken c) (one c) ∙ again k ∙ head k .loop .inv .1,
+      one c .within,
+      turn (set k) (at k) (left k - 1) (c .before .taken .given .0 .0) (taken c) (one c .got) ∙ again k ∙ head k .loop .inv .1,
     )
 
 enum-known-fault : tie.Need-enum-known-fault Inv-loop μ-loop
@@ -106,7 +92,7 @@ returns : tie.Need-returns Inv-loop μ-loop
 returns c =
     let k = c .before .before .before in
     let bound = c .before .fault .given in
-    refusal (set k) (at k) (left k - 1) (bound .0 .0) (no-operation (drop (at k) (set k)) 0 (k .read-operation .result) (ensured k) (bound .0 .0) (bound .1))
+    refusal (set k) (at k) (left k - 1) (bound .0 .0) (no-operation-at (set k) (at k) (k .read-operation .ensures) (bound .1))
     ∙ again k
     ∙ head k .loop .inv .1
 

@@ -1,23 +1,18 @@
 -- `projection_patch_sets::read_set` meets its contract: the length of the set, its heading, then its patches.
-use Prim.Native.Nat.{ℕ, _≤_}
+use Prim.Native.Nat.{ℕ}
 use mathlib.Core.Path.{sym, ap, _∙_}
 use mathlib.Core.List.{List}
 use native.Mathlib.Omega.{arith}
 use borrow.Author.Tests.{lt-leb}
-use lib.ListN.{length, drop}
+use lib.ListN.{length}
 use Rattle.spec_lists.specs.Bytes.{Bytes}
 use Rattle.spec_lists.specs.BytesLaws.{bytes-of}
-use Rattle.spec_patch.specs.Sizes.{setBytes, setPatches}
-use Rattle.spec_patch.specs.Edition.{v1}
-use Rattle.spec_patch.specs.Reader.{refused, many}
-use Rattle.spec_patch.specs.Read.{readPatch, ended, readSet}
-use Rattle.projection_patch_sets.specs.Walk.{readHeading}
-use Rattle.projection_patch_sets.specs.HeadLaws.{heading-codec}
-use Rattle.projection_patch.specs.ReadAnswers.{anywhere}
+use Rattle.spec_patch.specs.Sizes.{setBytes}
+use Rattle.spec_patch.specs.Read.{readSet}
 use Rattle.projection_patch_sets.specs.SetAnswers.{setAnswer}
-use Rattle.projection_patch.proofs.Answers.{Got}
-use Rattle.projection_patch_sets.proofs.PatchAnswers.{heading-got, no-heading}
-use Rattle.projection_patch_sets.proofs.Runs.{set-read-by}
+use Rattle.projection_patch_sets.proofs.PatchAnswers.{no-heading}
+use Rattle.projection_patch_sets.proofs.ReadAt.{HeadingAt, heading-at}
+use Rattle.projection_patch_sets.proofs.Runs.{set-by-patches, no-set}
 use borrow.Author.Needs.{needs}
 use Rattle.projection_patch_sets.proofs.read_set.Statement.{statement}
 use Rattle.projection_patch_sets.proofs.read_set.Tie as tie
@@ -34,16 +29,8 @@ count c = c .before .count .given .0 .0
 abbrev at : tie.After-known-told → ℕ
 at c = c .before .count .given .0 .1 .0
 
-front : (c : tie.After-known-told) → Got readHeading (anywhere (λ n. n)) (set (c .before .before .before)) 0 (count c) (at c)
-front c =
-    let call = c .before .before .before in
-    heading-got (set call) 0 (call .read-heading .result) (call .read-heading .ensures) (all-bytes call) (count c) (at c) (c .before .count .given .1)
-
-few : (c : tie.After-known-told) → count c ≤ setPatches
-few c =
-    let call = c .before .before .before in
-    let g = front c in
-    rw (← g .same) (heading-codec .only (all-bytes call) (g .a) (drop (at c) (set call)) (g .is) .0)
+front : (c : tie.After-known-told) → HeadingAt (set (c .before .before .before)) (count c) (at c)
+front c = let call = c .before .before .before in heading-at (set call) (all-bytes call) (call .read-heading .ensures) (c .before .count .given .1)
 
 returns : tie.Need-returns
 unfolding readSet
@@ -58,7 +45,7 @@ enum-known-count : tie.Need-enum-known-count
 enum-known-count c = search needs
 
 patches-from-requires : tie.Need-patches-from-requires
-patches-from-requires c κs = (omega (arith, front c .there), few c)
+patches-from-requires c κs = (front c .within, front c .few)
 
 enum-known-fault : tie.Need-enum-known-fault
 enum-known-fault c = search needs
@@ -66,18 +53,15 @@ enum-known-fault c = search needs
 returns-2 : tie.Need-returns-2
 returns-2 c =
     let k = c .before in
-    let l = set (k .before .before .before) in
-    let g = front k in
     c .patches-from .ensures
-    ∙ ap setAnswer (sym (set-read-by l (omega arith) (many (count k) (readPatch v1) (drop (at k) l)) (rw (g .is, g .same))))
+    ∙ ap setAnswer (sym (set-by-patches (set (k .before .before .before)) (omega arith) (front k .got)))
 
 returns-3 : tie.Need-returns-3
-unfolding ended
 returns-3 c =
     let call = c .before .before .before in
     let bound = c .before .fault .given in
     let g = no-heading (set call) 0 (call .read-heading .result) (call .read-heading .ensures) (bound .0 .0) (bound .1) in
-    rw (set-read-by (set call) (omega arith) (refused (g .fault)) (rw (g .is)), g .same)
+    rw (no-set (set call) (omega arith) g, g .same)
 
 pub read-set-spec : {M : Type 1} → statement M
 read-set-spec =

@@ -1,7 +1,7 @@
 -- `replay_operations` meets its contract: what is left, from the projection that is stored now, gives what the whole run gives; the measure is what is left.
-use Prim.Native.Nat.{ℕ, _≤_}
-use mathlib.Core.Path.{_≡_, refl, sym, ap, subst}
-use mathlib.Core.List.{List, _∷_, map}
+use Prim.Native.Nat.{ℕ}
+use mathlib.Core.Path.{_≡_}
+use mathlib.Core.List.{List, map}
 use borrow.Author.Needs.{needs}
 use denote.Ref.{now}
 use lib.ListN.{length}
@@ -10,48 +10,38 @@ use Rattle.spec_projection.specs.Projection.{Projection}
 use Rattle.spec_projection.specs.Apply.{stepOf, applySteps}
 use Rattle.projection_patch_sets.specs.Walk.{AtOperations}
 use Rattle.local_projection_state.specs.Stores.{StoredTables}
-use Rattle.projection_replay.specs.Replay.{RunBecame}
-use Rattle.projection_replay.proofs.Runs.{Next, Running, oneStep, steps-of, one-step, run-start, run-on, run-stop, run-reads, run-end, ends-at}
+use Rattle.projection_replay.proofs.Runs.{Running, Turn, run-start, run-on, run-stop, run-reads, run-end, oneStep, steps-of, one-step, Within, ends-at}
 use Rattle.projection_replay.proofs.replay_operations.Statement.{statement}
 use Rattle.projection_replay.proofs.replay_operations.Tie as tie
 
 abbrev Inv-loop : tie.InvT-loop
 Inv-loop bindings₀ availability₀ entries₀ set from count at₀ left₀ held₀ bindings availability entries at left held =
-    (at ≤ length set) × ((length bindings ≡ length bindings₀) × ((length availability ≡ length availability₀) × ((length entries ≡ length entries₀)
+    Within set at bindings₀ availability₀ entries₀ bindings availability entries
     × ((id : ℕ) (os : List Operation) (ps : List Patch) (p : Projection) → AtOperations set from os ps → length os ≡ count → StoredTables held₀ bindings₀ availability₀ entries₀ p
-    → Running (λ i xs. AtOperations set i xs ps) (oneStep id) at left held bindings availability entries (applySteps p (map (stepOf id) os))))))
+    → Running (λ i xs. AtOperations set i xs ps) (oneStep id) at left held bindings availability entries (applySteps p (map (stepOf id) os)))
 
 abbrev μ-loop : tie.MeasureT-loop
 μ-loop bindings₀ availability₀ entries₀ set from count at₀ left₀ held₀ bindings availability entries at left held = left
 
 loop-holds : tie.Need-loop-holds Inv-loop μ-loop
-loop-holds c =
-    let a = c .before .before .before .before .args in (
-      search needs,
-      (
-        refl,
-        (
-          refl,
-          (
-            refl,
-            λ id os ps p h counted stored.
-                subst (Running (λ i xs. AtOperations (now (a .set)) i xs ps) (oneStep id) (a .from) (a .count) (a .counts) (now (a .bindings)) (now (a .availability)) (now (a .entries))) (ap (applySteps p) (sym (steps-of id os)))
-                (run-start (λ i xs. AtOperations (now (a .set)) i xs ps) (oneStep id) _ _ _ _ _ _ os p h counted stored),
-          ),
-        ),
-      ),
-    )
+loop-holds c = (search needs, λ id os ps p h counted stored. rw (steps-of id os) (run-start os p h counted stored))
 
 replay-operation-requires : tie.Need-replay-operation-requires Inv-loop μ-loop
 replay-operation-requires c κs = search needs
 
+abbrev start : tie.At-loop Inv-loop μ-loop → tie.Start Inv-loop μ-loop
+start k = k .before .before .before .before .before
+
+-- where the turn began, and its call
+abbrev top : tie.After-replay-operation Inv-loop μ-loop → tie.At-loop Inv-loop μ-loop
+top c = c .before .before .before .before .before
+
+abbrev call : tie.After-slice-known6 Inv-loop μ-loop → tie.After-replay-operation Inv-loop μ-loop
+call c = c .before .before .before .before .before .before
+
 -- one turn, whatever its answer
-turn : (c : tie.After-replay-operation Inv-loop μ-loop) (id : ℕ) (ps : List Patch) (x : Operation) (xs : List Operation) (p : Projection) → let h = c .before .before .before .before .before in AtOperations (now (h .before .before .before .before .before .args .set)) (h .loop .at) (x ∷ xs) ps
-    → StoredTables (h .loop .held) (h .loop .bindings) (h .loop .availability) (h .loop .entries) p
-    → RunBecame (Next (λ i ys. AtOperations (now (h .before .before .before .before .before .args .set)) i ys ps) xs (c .replay-operation .last .0) (c .replay-operation .last .1 .0) (c .replay-operation .last .1 .1 .0)) (c .replay-operation .result) (applySteps p (oneStep id x))
-turn c id ps x xs p h s =
-    subst (RunBecame (Next (λ i ys. AtOperations (now (c .before .before .before .before .before .before .before .before .before .before .args .set)) i ys ps) xs (c .replay-operation .last .0) (c .replay-operation .last .1 .0) (c .replay-operation .last .1 .1 .0)) (c .replay-operation .result)) (sym (one-step id x p))
-    (c .replay-operation .ensures .0 x xs ps p h s)
+turn : (c : tie.After-replay-operation Inv-loop μ-loop) (id : ℕ) (ps : List Patch) → let l = top c .loop in let t = c .replay-operation .last in Turn (λ i xs. AtOperations (now (start (top c) .args .set)) i xs ps) (oneStep id) (l .at) (l .held) (l .bindings) (l .availability) (l .entries) (t .0) (t .1 .0) (t .1 .1 .0) (c .replay-operation .result)
+turn c id ps = record { told = λ x xs p h s. rw (one-step id x p) (c .replay-operation .ensures .0 x xs ps p h s) }
 
 enum-known-end : tie.Need-enum-known-end Inv-loop μ-loop
 enum-known-end c = search needs
@@ -64,21 +54,9 @@ loop-less c = search needs
 
 loop-again : tie.Need-loop-again Inv-loop μ-loop
 loop-again c =
-    let call = c .before .before .before .before .before .before .before .before .before in
-    let inv = c .before .before .before .before .before .before .before .before .before .before .before .before .before .before .loop .inv in (
-      ends-at _ _ _ _ (c .before .end .given .1) (call .replay-operation .ensures .1),
-      (
-        search needs,
-        (
-          search needs,
-          (
-            search needs,
-            λ id os ps p h counted stored.
-                run-on (λ i xs. AtOperations (now (c .before .before .before .before .before .before .before .before .before .before .before .before .before .before .before .before .before .before .before .args .set)) i xs ps) (oneStep id) (inv .1 .1 .1 .1 id os ps p h counted stored) (search needs) _ _ _ (call .replay-operation .result) (turn call id ps) _ _ (c .before .end .given .1),
-          ),
-        ),
-      ),
-    )
+    let k = call (c .before .before .before) in
+    let place = ends-at _ _ _ _ (c .before .end .given .1) (k .replay-operation .ensures .1) in
+    (search needs, λ id os ps p h counted stored. run-on (top k .loop .inv .1 id os ps p h counted stored) (search needs) (turn k id ps) (c .before .end .given .1))
 
 enum-known-error : tie.Need-enum-known-error Inv-loop μ-loop
 enum-known-error c = search needs
@@ -93,13 +71,7 @@ same-length-3 : tie.Need-same-length-3 Inv-loop μ-loop
 same-length-3 c = search needs
 
 returns : tie.Need-returns Inv-loop μ-loop
-returns c =
-    let call = c .before .before .before .before .before .before .before .before .before in
-    let inv = c .before .before .before .before .before .before .before .before .before .before .before .before .before .before .loop .inv in (
-      (λ id os ps p h counted stored.
-          run-stop (λ i xs. AtOperations (now (c .before .before .before .before .before .before .before .before .before .before .before .before .before .before .before .before .before .before .before .args .set)) i xs ps) (oneStep id) (inv .1 .1 .1 .1 id os ps p h counted stored) (search needs) _ _ _ (call .replay-operation .result) (turn call id ps) _ _ (c .before .error .given .1)),
-      tt,
-    )
+returns c = let k = call (c .before .before .before) in ((λ id os ps p h counted stored. run-stop (top k .loop .inv .1 id os ps p h counted stored) (search needs) (turn k id ps) _ (c .before .error .given .1)), tt)
 
 enum-known-fault : tie.Need-enum-known-fault Inv-loop μ-loop
 enum-known-fault c = search needs
@@ -114,13 +86,7 @@ same-length-6 : tie.Need-same-length-6 Inv-loop μ-loop
 same-length-6 c = search needs
 
 returns-2 : tie.Need-returns-2 Inv-loop μ-loop
-returns-2 c =
-    let call = c .before .before .before .before .before .before .before .before .before in
-    let inv = c .before .before .before .before .before .before .before .before .before .before .before .before .before .before .loop .inv in (
-      (λ id os ps p h counted stored.
-          absurd (run-reads (λ i xs. AtOperations (now (c .before .before .before .before .before .before .before .before .before .before .before .before .before .before .before .before .before .before .before .args .set)) i xs ps) (oneStep id) (inv .1 .1 .1 .1 id os ps p h counted stored) (search needs) _ _ _ (call .replay-operation .result) (turn call id ps) _ (c .before .fault .given .1))),
-      tt,
-    )
+returns-2 c = let k = call (c .before .before .before) in ((λ id os ps p h counted stored. absurd (run-reads (top k .loop .inv .1 id os ps p h counted stored) (search needs) (turn k id ps) (c .before .fault .given .1))), tt)
 
 same-length-7 : tie.Need-same-length-7 Inv-loop μ-loop
 same-length-7 c = search needs
@@ -132,9 +98,7 @@ same-length-9 : tie.Need-same-length-9 Inv-loop μ-loop
 same-length-9 c = search needs
 
 returns-3 : tie.Need-returns-3 Inv-loop μ-loop
-returns-3 c =
-    let inv = c .before .loop .inv in
-    ((λ id os ps p h counted stored. run-end (λ i xs. AtOperations (now (c .before .before .before .before .before .before .args .set)) i xs ps) (oneStep id) (inv .1 .1 .1 .1 id os ps p h counted stored) (search needs)), inv .0)
+returns-3 c = let inv = c .before .loop .inv in ((λ id os ps p h counted stored. run-end (inv .1 id os ps p h counted stored) (search needs)), inv .0 .place)
 
 pub replay-operations-spec : {M : Type 1} → statement M
 replay-operations-spec =

@@ -5,38 +5,28 @@ use mathlib.Core.List.{List, []}
 use native.Mathlib.Omega.{arith}
 use borrow.Author.Needs.{needs}
 use denote.Ref.{now}
-use lib.ListN.{length, drop, length-take, length-drop}
-use Rattle.spec_lists.specs.Bytes.{Bytes}
-use Rattle.spec_lists.specs.BytesLaws.{bytes-of, bytes-take, bytes-drop}
+use lib.ListN.{length}
+use Rattle.spec_lists.specs.BytesLaws.{bytes-of}
 use Rattle.spec_projection.specs.Apply.{patchSteps, applySteps}
-use Rattle.projection_patch.specs.ReadAnswers.{anywhere, lentFrom}
 use Rattle.projection_patch.specs.declared.patch.ProjectionPatch.{ProjectionPatch}
-use Rattle.projection_patch.proofs.Answers.{Got}
-use Rattle.projection_patch_sets.specs.Walk.{readHead, AtPatches, AtOperations}
+use Rattle.projection_patch_sets.specs.Walk.{AtPatches, AtOperations}
 use Rattle.projection_patch_sets.specs.WalkLaws.{walk-head, walk-head-reads, walk-next-patch}
-use Rattle.projection_patch_sets.specs.SetAnswers.{headTo}
-use Rattle.projection_patch_sets.proofs.PatchAnswers.{head-got}
+use Rattle.projection_patch_sets.proofs.ReadAt.{head-at}
 use Rattle.local_projection_state.specs.Stores.{StoredTables}
 use Rattle.projection_replay.proofs.Runs.{run-map}
 use Rattle.projection_replay.proofs.replay_patch.Statement.{statement}
 use Rattle.projection_replay.proofs.replay_patch.Tie as tie
 
--- the part that is lent, and the head that was read from it
-abbrev part : tie.After-read-patch-head → List ℕ
-part c = lentFrom (now (c .before .before .before .before .before .before .args .set)) (c .before .before .before .before .before .before .args .at)
+abbrev set : tie.After-read-patch-head → List ℕ
+set c = now (c .before .before .before .before .before .before .args .set)
 
-part-bytes : (c : tie.After-read-patch-head) → Bytes (part c)
-part-bytes c =
-    let set = now (c .before .before .before .before .before .before .args .set) in
-    bytes-take (length set - c .before .before .before .before .before .before .args .at) (drop (c .before .before .before .before .before .before .args .at) set) (bytes-drop (c .before .before .before .before .before .before .args .at) set (bytes-of set (λ j. c .before .before .shared-slice-known .given j .fits)))
+abbrev at : tie.After-read-patch-head → ℕ
+at c = c .before .before .before .before .before .before .args .at
 
-one : (c : tie.After-known-told) → Got readHead (anywhere headTo) (part (c .before .before .before)) 0 (c .before .head .given .0 .0) (c .before .head .given .0 .1 .0)
-one c = head-got (part (c .before .before .before)) 0 (c .before .before .before .read-patch-head .result) (c .before .before .before .read-patch-head .ensures) (part-bytes (c .before .before .before)) _ _ (c .before .head .given .1)
-
-inside : (c : tie.After-known-told) → c .before .before .before .before .before .before .before .before .before .args .at + c .before .head .given .0 .1 .0 ≤ length (now (c .before .before .before .before .before .before .before .before .before .args .set))
+inside : (c : tie.After-known-told) → let k = c .before .before .before in at k + c .before .head .given .0 .1 .0 ≤ length (set k)
 inside c =
-    let set = now (c .before .before .before .before .before .before .before .before .before .args .set) in
-    omega (arith, one c .there, length-take (length set - c .before .before .before .before .before .before .before .before .before .args .at) (drop (c .before .before .before .before .before .before .before .before .before .args .at) set), length-drop (c .before .before .before .before .before .before .before .before .before .args .at) set)
+    let k = c .before .before .before in
+    head-at (set k) (at k) (k .read-patch-head .ensures) (bytes-of (set k) (λ j. k .before .before .shared-slice-known .given j .fits)) (omega arith) (c .before .head .given .1) .within
 
 sub-read-patch-head : tie.Need-sub-read-patch-head
 sub-read-patch-head c = search needs

@@ -5,15 +5,12 @@ use mathlib.Core.List.{List, []}
 use native.Mathlib.Omega.{arith}
 use lib.ListN.{length, take, drop}
 use Rattle.spec_lists.specs.Bytes.{Bytes}
-use Rattle.spec_lists.specs.BytesLaws.{bytes-of, bytes-drop}
+use Rattle.spec_lists.specs.BytesLaws.{bytes-of}
 use Rattle.spec_patch.specs.Edition.{v1}
 use Rattle.spec_patch.specs.Reader.{many}
 use Rattle.spec_patch.specs.Read.{readOperation}
-use Rattle.projection_patch.specs.Meaning.{operationTo}
-use Rattle.projection_patch.specs.ReadAnswers.{operationAnswer}
 use Rattle.projection_patch.proofs.At.{from}
-use Rattle.projection_patch.proofs.Answers.{Got, operation-got, no-operation}
-use Rattle.projection_patch_sets.proofs.Runs.{inside}
+use Rattle.projection_patch_sets.proofs.ReadAt.{OperationAt, operation-at, no-operation-at}
 use Rattle.mutation_targets.specs.TargetsLaws.{with-target-length}
 use Rattle.one_patch_checks.specs.Listed.{RunListedAs, OperationsListedAs}
 use Rattle.one_patch_checks.specs.declared.list_operations.OperationsListed.{OperationsListed}
@@ -48,25 +45,14 @@ at c = head c .loop .at
 abbrev left : tie.After-read-operation Inv-loop μ-loop → ℕ
 left c = head c .loop .left
 
-rest-bytes : (c : tie.After-read-operation Inv-loop μ-loop) → Bytes (drop (at c) (set c))
-rest-bytes c = bytes-drop (at c) (set c) (bytes-of (set c) (λ j. head c .before .before .before .shared-slice-known .given j .fits))
-
--- the answer is of the bytes from the position on
-ensured : (c : tie.After-read-operation Inv-loop μ-loop) → c .read-operation .result ≡ operationAnswer (length (drop (at c) (set c))) (readOperation v1 (drop (at c) (set c)))
-ensured c = c .read-operation .ensures ∙ ap (λ (l : List ℕ). operationAnswer (length l) (readOperation v1 l)) (from (set c) (at c))
+all-bytes : (c : tie.After-read-operation Inv-loop μ-loop) → Bytes (set c)
+all-bytes c = bytes-of (set c) (λ j. head c .before .before .before .shared-slice-known .given j .fits)
 
 abbrev taken : tie.After-known-told Inv-loop μ-loop → ℕ
 taken c = c .before .operation .given .0 .1 .0
 
-one : (c : tie.After-known-told Inv-loop μ-loop) → let k = c .before .before .before in Got (readOperation v1) operationTo (drop (at k) (set k)) 0 (c .before .operation .given .0 .0) (taken c)
-one c =
-    let k = c .before .before .before in
-    operation-got (drop (at k) (set k)) 0 (k .read-operation .result) (ensured k) (rest-bytes k) (c .before .operation .given .0 .0) (taken c) (c .before .operation .given .1)
-
-within : (c : tie.After-known-told Inv-loop μ-loop) → let k = c .before .before .before in at k + taken c ≤ length (set k)
-within c =
-    let k = c .before .before .before in
-    inside (set k) (at k) (left k) (c .before .operation .given .0 .0) (taken c) (one c) (omega arith)
+one : (c : tie.After-known-told Inv-loop μ-loop) → let k = c .before .before .before in OperationAt (set k) (at k) (c .before .operation .given .0 .0) (taken c)
+one c = let k = c .before .before .before in operation-at (set k) (at k) (k .read-operation .ensures) (all-bytes k) (omega arith) (c .before .operation .given .1)
 
 -- the operations left, one of them counted apart
 again : (c : tie.After-read-operation Inv-loop μ-loop) → let l = head c .loop in let a = args c .args in (r : OperationsListed) (after : List ℕ)
@@ -114,7 +100,7 @@ add-index : tie.Need-add-index Inv-loop μ-loop
 add-index c = omega arith
 
 add-at : tie.Need-add-at Inv-loop μ-loop
-add-at c = omega (arith, within (c .before .before .before .before .before .before .before .before .before .before))
+add-at c = omega (arith, one (c .before .before .before .before .before .before .before .before .before .before) .within)
 
 sub-left : tie.Need-sub-left Inv-loop μ-loop
 sub-left c = search needs
@@ -134,7 +120,7 @@ loop-again c =
     let room : l .used + 3 ≤ length (l .targets) = omega arith in
     let seen = scan .seen-before .ensures in
     let same = ap length (seen .1) ∙ with-target-length (l .used) _ (l .targets) room in (
-      within k,
+      one k .within,
       (
         omega arith,
         (
@@ -144,7 +130,7 @@ loop-again c =
             (
               search needs,
               λ answer after h. again r answer after
-                  (turn (set r) (at r) (left r - 1) (args r .args .id) answer after _ (taken k) (one k) (l .index) (l .kept) _ (l .used) (l .targets) _ (l .records) _ _ _ _ room (told .mutation-target .ensures []) (own .before-self .ensures []) (seen .0) (seen .1) (call .insert-operation .ensures) h),
+                  (turn (set r) (at r) (left r - 1) (args r .args .id) answer after _ (taken k) (one k .got) (l .index) (l .kept) _ (l .used) (l .targets) _ (l .records) _ _ _ _ room (told .mutation-target .ensures []) (own .before-self .ensures []) (seen .0) (seen .1) (call .insert-operation .ensures) h),
             ),
           ),
         ),
@@ -166,7 +152,7 @@ returns c =
     let l = head r .loop in
     let bound = c .before .fault .given in
     again r _ _ (refusal (set r) (at r) (left r - 1) (args r .args .id) _ _ (take (l .used) (l .targets)) (l .index) (l .kept) (l .records) (bound .0 .0)
-    (no-operation (drop (at r) (set r)) 0 (r .read-operation .result) (ensured r) (bound .0 .0) (bound .1)) refl)
+    (no-operation-at (set r) (at r) (r .read-operation .ensures) (bound .1)) refl)
 
 same-length-3 : tie.Need-same-length-3 Inv-loop μ-loop
 same-length-3 c = search needs

@@ -1,22 +1,13 @@
 -- `one_patch_checks::list_patch::list_patch` meets its contract: its head, then its operations.
-use Prim.Native.Nat.{ℕ, _+_, _≤_}
-use mathlib.Core.Path.{_≡_, ap, _∙_}
+use Prim.Native.Nat.{ℕ}
 use mathlib.Core.List.{List}
 use native.Mathlib.Omega.{arith}
-use lib.ListN.{length, drop, length-drop}
 use Rattle.spec_lists.specs.Bytes.{Bytes}
-use Rattle.spec_lists.specs.BytesLaws.{bytes-of, bytes-drop}
-use Rattle.spec_patch.specs.Sizes.{patchOperations}
-use Rattle.projection_patch.specs.ReadAnswers.{anywhere}
+use Rattle.spec_lists.specs.BytesLaws.{bytes-of}
 use Rattle.projection_patch.specs.declared.patch.ProjectionPatch.{ProjectionPatch}
-use Rattle.projection_patch.proofs.At.{from}
-use Rattle.projection_patch.proofs.Answers.{Got}
-use Rattle.projection_patch_sets.specs.Walk.{readHead}
-use Rattle.projection_patch_sets.specs.HeadLaws.{head-codec}
-use Rattle.projection_patch_sets.specs.SetAnswers.{headTo, headAnswer}
-use Rattle.projection_patch_sets.proofs.PatchAnswers as answers
+use Rattle.projection_patch_sets.proofs.ReadAt.{HeadAt, head-at, no-head-at}
 use Rattle.one_patch_checks.specs.declared.list_operations.OperationsListed.the-variants as operations-listed
-use Rattle.one_patch_checks.proofs.ListRuns.{counts, patch-is, no-head}
+use Rattle.one_patch_checks.proofs.ListRuns.{patch-is, no-head}
 use borrow.Author.Needs.{needs}
 use Rattle.one_patch_checks.proofs.list_patch.list_patch.Statement.{statement}
 use Rattle.one_patch_checks.proofs.list_patch.list_patch.Tie as tie
@@ -30,31 +21,14 @@ at c = c .before .before .before .before .before .args .at
 all-bytes : (c : tie.After-read-patch-head) → Bytes (set c)
 all-bytes c = bytes-of (set c) (λ j. c .before .before .before .before .shared-slice-known .given j .fits)
 
--- the answer is of the bytes from the position on
-ensured : (c : tie.After-read-patch-head) → c .read-patch-head .result ≡ headAnswer (length (drop (at c) (set c))) (readHead (drop (at c) (set c)))
-ensured c = c .read-patch-head .ensures ∙ ap (λ (l : List ℕ). headAnswer (length l) (readHead l)) (from (set c) (at c))
-
 abbrev head : tie.After-known-told → ProjectionPatch
 head c = c .before .head .given .0 .0
 
 abbrev taken : tie.After-known-told → ℕ
 taken c = c .before .head .given .0 .1 .0
 
-front : (c : tie.After-known-told) → let k = c .before .before .before in Got readHead (anywhere headTo) (drop (at k) (set k)) 0 (head c) (taken c)
-front c =
-    let k = c .before .before .before in
-    answers.head-got (drop (at k) (set k)) 0 (k .read-patch-head .result) (ensured k) (bytes-drop (at k) (set k) (all-bytes k)) (head c) (taken c) (c .before .head .given .1)
-
-few : (c : tie.After-known-told) → head c .«operation_count» ≤ patchOperations
-few c =
-    let k = c .before .before .before in
-    let g = front c in
-    rw (← counts (set k) (all-bytes k) (at k) (taken c) (g .a) (head c) (g .is) (g .same)) (head-codec .only (bytes-drop (at k) (set k) (all-bytes k)) (g .a) (drop (taken c) (drop (at k) (set k))) (g .is) .0 .1)
-
-within : (c : tie.After-known-told) → let k = c .before .before .before in at k + taken c ≤ length (set k)
-within c =
-    let k = c .before .before .before in
-    omega (arith, length-drop (at k) (set k), front c .there)
+front : (c : tie.After-known-told) → let k = c .before .before .before in HeadAt (set k) (at k) (head c) (taken c)
+front c = let k = c .before .before .before in head-at (set k) (at k) (k .read-patch-head .ensures) (all-bytes k) (omega arith) (c .before .head .given .1)
 
 -- where the head's findings have been listed
 abbrev known : tie.After-slice-known3 → tie.After-known-told
@@ -86,10 +60,10 @@ list-head-requires : tie.Need-list-head-requires
 list-head-requires c κs = search needs
 
 add-list-operations : tie.Need-add-list-operations
-add-list-operations c = omega (arith, within (known c))
+add-list-operations c = omega (arith, front (known c) .within)
 
 list-operations-requires : tie.Need-list-operations-requires
-list-operations-requires c κs = let k = known (c .before .before) in (within k, (few k, omega (arith, few k)))
+list-operations-requires c κs = let g = front (known (c .before .before)) in (g .within, (g .few, omega (arith, g .few)))
 
 enum-known-count : tie.Need-enum-known-count
 enum-known-count c = search needs
@@ -112,8 +86,7 @@ returns c =
     let first = l .before .before .before in
     let k = known first in
     let start = k .before .before .before in
-    let g = front k in
-    patch-is (set start) (all-bytes start) (at start) (taken k) (g .a) (head k) (g .is) (g .same) _ _ _ _ _ (l .list-operations .result) (first .before .before .before .before .raw .ensures) (first .before .before .list-head .ensures)
+    patch-is (all-bytes start) (front k) _ _ _ _ _ (l .list-operations .result) (first .before .before .before .before .raw .ensures) (first .before .before .list-head .ensures)
     (operations-listed.Read (c .before .count .given .0 .0) (c .before .count .given .0 .1 .0)) (c .before .count .given .1) (l .list-operations .ensures)
 
 same-length-3 : tie.Need-same-length-3
@@ -128,15 +101,13 @@ returns-2 c =
     let first = l .before .before .before in
     let k = known first in
     let start = k .before .before .before in
-    let g = front k in
-    patch-is (set start) (all-bytes start) (at start) (taken k) (g .a) (head k) (g .is) (g .same) _ _ _ _ _ (l .list-operations .result) (first .before .before .before .before .raw .ensures) (first .before .before .list-head .ensures)
+    patch-is (all-bytes start) (front k) _ _ _ _ _ (l .list-operations .result) (first .before .before .before .before .raw .ensures) (first .before .before .list-head .ensures)
     (operations-listed.Refused (c .before .fault .given .0 .0)) (c .before .fault .given .1) (l .list-operations .ensures)
 
 returns-3 : tie.Need-returns-3
 returns-3 c =
     let k = c .before .before .before in
-    let bound = c .before .fault2 .given in
-    no-head (set k) (at k) (bound .0 .0) (answers.no-head (drop (at k) (set k)) 0 (k .read-patch-head .result) (ensured k) (bound .0 .0) (bound .1)) _ _
+    no-head (set k) (at k) (no-head-at (set k) (at k) (k .read-patch-head .ensures) (c .before .fault2 .given .1)) _ _
 
 pub list-patch-spec : {M : Type 1} → statement M
 list-patch-spec =

@@ -1,22 +1,15 @@
 -- `patch_checks::check_set::find` meets its contract: the heading, the listing, then the records that fit.
-use Prim.Native.Nat.{ℕ, _≤_}
+use Prim.Native.Nat.{ℕ}
 use mathlib.Core.Path.{_≡_, refl, _∙_}
 use mathlib.Core.List.{List}
-use native.Mathlib.Omega.{arith}
-use lib.ListN.{drop}
 use Rattle.spec_lists.specs.Bytes.{Bytes}
 use Rattle.spec_lists.specs.BytesLaws.{bytes-of}
-use Rattle.spec_patch.specs.Sizes.{setPatches}
 use Rattle.spec_patch.specs.Patch.{Patch}
 use Rattle.spec_patch.specs.Edition.{v1}
 use Rattle.spec_patch.specs.Read.{patches, readSet}
 use Rattle.spec_checks.specs.Findings.{inPatch, inSet, findings}
-use Rattle.projection_patch.specs.ReadAnswers.{anywhere}
-use Rattle.projection_patch.proofs.Answers.{Got}
-use Rattle.projection_patch_sets.specs.Walk.{readHeading}
 use Rattle.projection_patch_sets.specs.WalkLaws.{walk-heading-reads}
-use Rattle.projection_patch_sets.specs.HeadLaws.{heading-codec}
-use Rattle.projection_patch_sets.proofs.PatchAnswers.{heading-got}
+use Rattle.projection_patch_sets.proofs.ReadAt.{HeadingAt, heading-at}
 use Rattle.patch_checks.specs.SetListedLaws.{FindingsListedAs}
 use Rattle.patch_checks.proofs.Written.{answer-is, numbers-are, listed-no-fault, found-is}
 use borrow.Author.Needs.{needs}
@@ -35,16 +28,8 @@ count c = c .before .count .given .0 .0
 abbrev at : tie.After-known-told → ℕ
 at c = c .before .count .given .0 .1 .0
 
-front : (c : tie.After-known-told) → Got readHeading (anywhere (λ n. n)) (set (c .before .before .before)) 0 (count c) (at c)
-front c =
-    let call = c .before .before .before in
-    heading-got (set call) 0 (call .read-heading .result) (call .read-heading .ensures) (all-bytes call) (count c) (at c) (c .before .count .given .1)
-
-few : (c : tie.After-known-told) → count c ≤ setPatches
-few c =
-    let call = c .before .before .before in
-    let g = front c in
-    rw (← g .same) (heading-codec .only (all-bytes call) (g .a) (drop (at c) (set call)) (g .is) .0)
+front : (c : tie.After-known-told) → HeadingAt (set (c .before .before .before)) (count c) (at c)
+front c = let call = c .before .before .before in heading-at (set call) (all-bytes call) (call .read-heading .ensures) (c .before .count .given .1)
 
 read-heading-requires : tie.Need-read-heading-requires
 read-heading-requires c κs = search needs
@@ -56,7 +41,7 @@ slice-aggregate-list-patches : tie.Need-slice-aggregate-list-patches
 slice-aggregate-list-patches c = search needs
 
 list-patches-requires : tie.Need-list-patches-requires
-list-patches-requires c κs = let k = c .before in (omega (arith, front k .there), (few k, search needs))
+list-patches-requires c κs = let k = c .before in (front k .within, (front k .few, search needs))
 
 enum-known-index : tie.Need-enum-known-index
 enum-known-index c = search needs
@@ -89,7 +74,7 @@ listed-findings : (c : tie.After-list-patches) (ps : List Patch) → readSet v1 
 listed-findings c ps e =
     let k = c .before .before in
     let start = k .before .before .before in
-    found-is (set start) (all-bytes start) ps e (count k) (at k) (front k) _ (c .list-patches .result) _ (search needs) (c .list-patches .ensures)
+    found-is (set start) (all-bytes start) ps e (count k) (at k) (front k .got) _ (c .list-patches .result) _ (search needs) (c .list-patches .ensures)
 
 returns : tie.Need-returns
 returns c =

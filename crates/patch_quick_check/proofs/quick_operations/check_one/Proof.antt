@@ -1,20 +1,13 @@
 -- `patch_quick_check::quick_operations::check_one` meets its contract: nothing stands before the operation that its target could repeat.
-use Prim.Native.Nat.{ℕ, _+_, _≤_}
-use mathlib.Core.Path.{_≡_, ap, _∙_}
+use Prim.Native.Nat.{ℕ, _+_}
+use mathlib.Core.Path.{ap, _∙_}
 use mathlib.Core.Bool.{false}
 use mathlib.Core.List.{List, []}
 use native.Mathlib.Omega.{arith}
 use denote.Ref.{now}
-use lib.ListN.{length, drop}
 use Rattle.spec_lists.specs.Bytes.{Bytes}
-use Rattle.spec_lists.specs.BytesLaws.{bytes-of, bytes-drop}
-use Rattle.spec_patch.specs.Edition.{v1}
-use Rattle.spec_patch.specs.Read.{readOperation}
-use Rattle.projection_patch.specs.Meaning.{operationTo}
-use Rattle.projection_patch.specs.ReadAnswers.{operationAnswer}
-use Rattle.projection_patch.proofs.At.{from}
-use Rattle.projection_patch.proofs.Answers.{Got, operation-got, no-operation}
-use Rattle.projection_patch_sets.proofs.Runs.{inside}
+use Rattle.spec_lists.specs.BytesLaws.{bytes-of}
+use Rattle.projection_patch_sets.proofs.ReadAt.{OperationAt, operation-at, no-operation-at}
 use Rattle.patch_quick_check.specs.declared.quick_operations.OperationsChecked.the-variants as operations-checked
 use Rattle.patch_quick_check.proofs.QuickRuns.{refusal, alone}
 use borrow.Author.Needs.{needs}
@@ -27,25 +20,14 @@ set c = now (c .before .before .before .args .set)
 abbrev at : tie.After-read-operation → ℕ
 at c = c .before .before .before .args .at
 
-rest-bytes : (c : tie.After-read-operation) → Bytes (drop (at c) (set c))
-rest-bytes c = bytes-drop (at c) (set c) (bytes-of (set c) (λ j. c .before .before .shared-slice-known .given j .fits))
-
--- the answer is of the bytes from the position on
-ensured : (c : tie.After-read-operation) → c .read-operation .result ≡ operationAnswer (length (drop (at c) (set c))) (readOperation v1 (drop (at c) (set c)))
-ensured c = c .read-operation .ensures ∙ ap (λ (l : List ℕ). operationAnswer (length l) (readOperation v1 l)) (from (set c) (at c))
+all-bytes : (c : tie.After-read-operation) → Bytes (set c)
+all-bytes c = bytes-of (set c) (λ j. c .before .before .shared-slice-known .given j .fits)
 
 abbrev taken : tie.After-known-told → ℕ
 taken c = c .before .operation .given .0 .1 .0
 
-one : (c : tie.After-known-told) → let k = c .before .before .before in Got (readOperation v1) operationTo (drop (at k) (set k)) 0 (c .before .operation .given .0 .0) (taken c)
-one c =
-    let k = c .before .before .before in
-    operation-got (drop (at k) (set k)) 0 (k .read-operation .result) (ensured k) (rest-bytes k) (c .before .operation .given .0 .0) (taken c) (c .before .operation .given .1)
-
-within : (c : tie.After-known-told) → let k = c .before .before .before in at k + taken c ≤ length (set k)
-within c =
-    let k = c .before .before .before in
-    inside (set k) (at k) 0 (c .before .operation .given .0 .0) (taken c) (one c) (omega arith)
+one : (c : tie.After-known-told) → let k = c .before .before .before in OperationAt (set k) (at k) (c .before .operation .given .0 .0) (taken c)
+one c = let k = c .before .before .before in operation-at (set k) (at k) (k .read-operation .ensures) (all-bytes k) (omega arith) (c .before .operation .given .1)
 
 sub-read-operation : tie.Need-sub-read-operation
 sub-read-operation c = search needs
@@ -66,7 +48,7 @@ before-self-requires : tie.Need-before-self-requires
 before-self-requires c κs = search needs
 
 add-t13 : tie.Need-add-t13
-add-t13 c = omega (arith, within (c .before))
+add-t13 c = omega (arith, one (c .before) .within)
 
 enum-known-fault : tie.Need-enum-known-fault
 enum-known-fault c = search needs
@@ -75,13 +57,13 @@ returns : tie.Need-returns
 returns c =
     let k = c .before in
     let r = k .before .before .before in
-    ap (λ b. operations-checked.Read b (at r + taken k)) (c .before-self .ensures []) ∙ alone (set r) (at r) _ (taken k) (one k) (within k)
+    ap (λ b. operations-checked.Read b (at r + taken k)) (c .before-self .ensures []) ∙ alone (set r) (at r) _ (taken k) (one k .got) (one k .within)
 
 returns-2 : tie.Need-returns-2
 returns-2 c =
     let r = c .before .before .before in
     let bound = c .before .fault .given in
-    refusal (set r) (at r) 0 false [] (bound .0 .0) (no-operation (drop (at r) (set r)) 0 (r .read-operation .result) (ensured r) (bound .0 .0) (bound .1))
+    refusal (set r) (at r) 0 false [] (bound .0 .0) (no-operation-at (set r) (at r) (r .read-operation .ensures) (bound .1))
 
 pub check-one-spec : {M : Type 1} → statement M
 check-one-spec =

@@ -6,15 +6,12 @@ use mathlib.Core.List.{List, []}
 use native.Mathlib.Omega.{arith}
 use lib.ListN.{length, take, drop}
 use Rattle.spec_lists.specs.Bytes.{Bytes}
-use Rattle.spec_lists.specs.BytesLaws.{bytes-of, bytes-drop}
+use Rattle.spec_lists.specs.BytesLaws.{bytes-of}
 use Rattle.spec_patch.specs.Edition.{v1}
 use Rattle.spec_patch.specs.Reader.{many}
 use Rattle.spec_patch.specs.Read.{readOperation}
-use Rattle.projection_patch.specs.Meaning.{operationTo}
-use Rattle.projection_patch.specs.ReadAnswers.{operationAnswer}
 use Rattle.projection_patch.proofs.At.{from}
-use Rattle.projection_patch.proofs.Answers.{Got, operation-got, no-operation}
-use Rattle.projection_patch_sets.proofs.Runs.{inside}
+use Rattle.projection_patch_sets.proofs.ReadAt.{OperationAt, operation-at, no-operation-at}
 use Rattle.mutation_targets.specs.TargetsLaws.{with-target-length}
 use Rattle.mutation_targets.specs.Marks.{Marked}
 use Rattle.mutation_targets.specs.MarksLaws.{marked-none}
@@ -49,25 +46,14 @@ left c = head c .loop .left
 abbrev targets : tie.After-read-operation Inv-loop μ-loop → List ℕ
 targets c = head c .loop .targets
 
-rest-bytes : (c : tie.After-read-operation Inv-loop μ-loop) → Bytes (drop (at c) (set c))
-rest-bytes c = bytes-drop (at c) (set c) (bytes-of (set c) (λ j. head c .before .before .before .shared-slice-known .given j .fits))
-
--- the answer is of the bytes from the position on
-ensured : (c : tie.After-read-operation Inv-loop μ-loop) → c .read-operation .result ≡ operationAnswer (length (drop (at c) (set c))) (readOperation v1 (drop (at c) (set c)))
-ensured c = c .read-operation .ensures ∙ ap (λ (l : List ℕ). operationAnswer (length l) (readOperation v1 l)) (from (set c) (at c))
+all-bytes : (c : tie.After-read-operation Inv-loop μ-loop) → Bytes (set c)
+all-bytes c = bytes-of (set c) (λ j. head c .before .before .before .shared-slice-known .given j .fits)
 
 abbrev taken : tie.After-known-told Inv-loop μ-loop → ℕ
 taken c = c .before .operation .given .0 .1 .0
 
-one : (c : tie.After-known-told Inv-loop μ-loop) → let k = c .before .before .before in Got (readOperation v1) operationTo (drop (at k) (set k)) 0 (c .before .operation .given .0 .0) (taken c)
-one c =
-    let k = c .before .before .before in
-    operation-got (drop (at k) (set k)) 0 (k .read-operation .result) (ensured k) (rest-bytes k) (c .before .operation .given .0 .0) (taken c) (c .before .operation .given .1)
-
-within : (c : tie.After-known-told Inv-loop μ-loop) → let k = c .before .before .before in at k + taken c ≤ length (set k)
-within c =
-    let k = c .before .before .before in
-    inside (set k) (at k) (left k) (c .before .operation .given .0 .0) (taken c) (one c) (omega arith)
+one : (c : tie.After-known-told Inv-loop μ-loop) → let k = c .before .before .before in OperationAt (set k) (at k) (c .before .operation .given .0 .0) (taken c)
+one c = let k = c .before .before .before in operation-at (set k) (at k) (k .read-operation .ensures) (all-bytes k) (omega arith) (c .before .operation .given .1)
 
 -- the operations left, one of them counted apart
 again : (c : tie.After-read-operation Inv-loop μ-loop) → let l = head c .loop in
@@ -103,7 +89,7 @@ add-used : tie.Need-add-used Inv-loop μ-loop
 add-used c = search needs
 
 add-at : tie.Need-add-at Inv-loop μ-loop
-add-at c = omega (arith, within (c .before .before .before .before .before .before .before))
+add-at c = omega (arith, one (c .before .before .before .before .before .before .before) .within)
 
 sub-left : tie.Need-sub-left Inv-loop μ-loop
 sub-left c = search needs
@@ -120,8 +106,8 @@ loop-again c =
     let found = call .operation-found .ensures in
     let room : l .used + 3 ≤ length (targets r) = omega arith in
     let same = ap length (found .1 .0 []) ∙ with-target-length (l .used) _ (targets r) room in (
-      within k,
-      (omega (arith, same), (omega (arith, same), (rw (put (set r) (at r) (left r - 1) (l .found) _ (taken k) (one k) _ (targets r) _ (l .used) room (found .0 []) (found .1 .0 [])) (found .1 .1 []), turn (set r) (at r) (left r - 1) (l .found) _ (taken k) (one k) _ (targets r) _ (l .used) room (found .0 []) (found .1 .0 []) ∙ again r))),
+      one k .within,
+      (omega (arith, same), (omega (arith, same), (rw (put (set r) (at r) (left r - 1) (l .found) _ (taken k) (one k .got) _ (targets r) _ (l .used) room (found .0 []) (found .1 .0 [])) (found .1 .1 []), turn (set r) (at r) (left r - 1) (l .found) _ (taken k) (one k .got) _ (targets r) _ (l .used) room (found .0 []) (found .1 .0 []) ∙ again r))),
     )
 
 enum-known-fault : tie.Need-enum-known-fault Inv-loop μ-loop
@@ -137,7 +123,7 @@ returns : tie.Need-returns Inv-loop μ-loop
 returns c =
     let r = c .before .before .before in
     let bound = c .before .fault .given in
-    refusal (set r) (at r) (left r - 1) (head r .loop .found) (take (head r .loop .used) (targets r)) (bound .0 .0) (no-operation (drop (at r) (set r)) 0 (r .read-operation .result) (ensured r) (bound .0 .0) (bound .1))
+    refusal (set r) (at r) (left r - 1) (head r .loop .found) (take (head r .loop .used) (targets r)) (bound .0 .0) (no-operation-at (set r) (at r) (r .read-operation .ensures) (bound .1))
     ∙ again r
 
 same-length-3 : tie.Need-same-length-3 Inv-loop μ-loop

@@ -1,25 +1,18 @@
 -- `patch_quick_check::quick_patches::check_patch` meets its contract: its head, then its operations.
-use Prim.Native.Nat.{ℕ, _+_, _≤_}
-use mathlib.Core.Path.{_≡_, sym, ap, _∙_}
+use Prim.Native.Nat.{ℕ, _+_}
+use mathlib.Core.Path.{sym, ap, _∙_}
 use mathlib.Core.Bool.{Bool, _||_}
 use mathlib.Core.List.{List}
 use native.Mathlib.Omega.{arith}
-use lib.ListN.{length, drop, length-drop}
+use lib.ListN.{drop}
 use Rattle.spec_lists.specs.Bytes.{Bytes}
-use Rattle.spec_lists.specs.BytesLaws.{bytes-of, bytes-drop}
-use Rattle.spec_patch.specs.Sizes.{patchOperations}
+use Rattle.spec_lists.specs.BytesLaws.{bytes-of}
 use Rattle.projection_patch.specs.Meaning.{envelopeOf}
-use Rattle.projection_patch.specs.ReadAnswers.{anywhere}
 use Rattle.projection_patch.specs.declared.patch.ProjectionPatch.{ProjectionPatch}
-use Rattle.projection_patch.proofs.At.{from}
-use Rattle.projection_patch.proofs.Answers.{Got}
-use Rattle.projection_patch_sets.specs.Walk.{readHead}
-use Rattle.projection_patch_sets.specs.HeadLaws.{head-codec}
-use Rattle.projection_patch_sets.specs.SetAnswers.{headTo, headAnswer}
-use Rattle.projection_patch_sets.proofs.PatchAnswers.{head-got, no-head}
+use Rattle.projection_patch_sets.proofs.ReadAt.{HeadAt, head-at, no-head-at}
 use Rattle.projection_patch_sets.proofs.Runs.{run-length, head-refused}
 use Rattle.patch_quick_check.specs.Quick.{headFound}
-use Rattle.patch_quick_check.proofs.QuickRuns.{operations-got, no-operations, counts, patch-checked, patch-not-checked}
+use Rattle.patch_quick_check.proofs.QuickRuns.{operations-got, no-operations, patch-checked, patch-not-checked}
 use borrow.Author.Needs.{needs}
 use Rattle.patch_quick_check.proofs.quick_patches.check_patch.Statement.{statement}
 use Rattle.patch_quick_check.proofs.quick_patches.check_patch.Tie as tie
@@ -33,31 +26,14 @@ at c = c .before .before .before .args .at
 all-bytes : (c : tie.After-read-patch-head) → Bytes (set c)
 all-bytes c = bytes-of (set c) (λ j. c .before .before .shared-slice-known .given j .fits)
 
--- the answer is of the bytes from the position on
-ensured : (c : tie.After-read-patch-head) → c .read-patch-head .result ≡ headAnswer (length (drop (at c) (set c))) (readHead (drop (at c) (set c)))
-ensured c = c .read-patch-head .ensures ∙ ap (λ (l : List ℕ). headAnswer (length l) (readHead l)) (from (set c) (at c))
-
 abbrev head : tie.After-known-told → ProjectionPatch
 head c = c .before .head .given .0 .0
 
 abbrev taken : tie.After-known-told → ℕ
 taken c = c .before .head .given .0 .1 .0
 
-front : (c : tie.After-known-told) → let k = c .before .before .before in Got readHead (anywhere headTo) (drop (at k) (set k)) 0 (head c) (taken c)
-front c =
-    let k = c .before .before .before in
-    head-got (drop (at k) (set k)) 0 (k .read-patch-head .result) (ensured k) (bytes-drop (at k) (set k) (all-bytes k)) (head c) (taken c) (c .before .head .given .1)
-
-few : (c : tie.After-known-told) → head c .«operation_count» ≤ patchOperations
-few c =
-    let k = c .before .before .before in
-    let g = front c in
-    rw (← counts (set k) (at k) (taken c) (g .a) (head c) (g .is) (g .same)) (head-codec .only (bytes-drop (at k) (set k) (all-bytes k)) (g .a) (drop (taken c) (drop (at k) (set k))) (g .is) .0 .1)
-
-within : (c : tie.After-known-told) → let k = c .before .before .before in at k + taken c ≤ length (set k)
-within c =
-    let k = c .before .before .before in
-    omega (arith, length-drop (at k) (set k), front c .there)
+front : (c : tie.After-known-told) → let k = c .before .before .before in HeadAt (set k) (at k) (head c) (taken c)
+front c = let k = c .before .before .before in head-at (set k) (at k) (k .read-patch-head .ensures) (all-bytes k) (omega arith) (c .before .head .given .1)
 
 sub-read-patch-head : tie.Need-sub-read-patch-head
 sub-read-patch-head c = search needs
@@ -75,10 +51,10 @@ enum-known-head : tie.Need-enum-known-head
 enum-known-head c = search needs
 
 add-check-operations : tie.Need-add-check-operations
-add-check-operations c = omega (arith, within c)
+add-check-operations c = omega (arith, front c .within)
 
 check-operations-requires : tie.Need-check-operations-requires
-check-operations-requires c κs = (within c, few c)
+check-operations-requires c κs = (front c .within, front c .few)
 
 enum-known-found : tie.Need-enum-known-found
 enum-known-found c = search needs
@@ -97,12 +73,11 @@ returns c =
     let call = c .before .before .before .before in
     let k = call .before in
     let start = k .before .before .before in
-    let g = front k in
     let n = head k .«operation_count» in
     let bound = c .before .before .found .given in
     let os = operations-got (set start) (at start + taken k) n (call .check-operations .result) (call .check-operations .ensures) (all-bytes start) (bound .0 .0) (bound .0 .1 .0) (bound .1) in
     let long = run-length (set start) (at start + taken k) n (all-bytes start) (os .a) (drop (bound .0 .1 .0) (set start)) (os .is) in
-    patch-checked (set start) (at start) (taken k) (g .a) (head k) (g .is) (g .same) (os .a) (bound .0 .1 .0) (os .is) long (os .there) (c .patch-found .result)
+    patch-checked (front k) (os .a) (bound .0 .1 .0) (os .is) long (os .there) (c .patch-found .result)
     (c .patch-found .ensures ∙ ap (λ (b : Bool). headFound (envelopeOf (head k .envelope)) n || b) (sym (os .same)))
 
 returns-2 : tie.Need-returns-2
@@ -110,17 +85,16 @@ returns-2 c =
     let call = c .before .before .before in
     let k = call .before in
     let start = k .before .before .before in
-    let g = front k in
     let bound = c .before .fault .given in
-    patch-not-checked (set start) (at start) (taken k) (g .a) (head k) (g .is) (g .same) (bound .0 .0)
+    patch-not-checked (front k) (bound .0 .0)
     (no-operations (set start) (at start + taken k) (head k .«operation_count») (call .check-operations .result) (call .check-operations .ensures) (bound .0 .0) (bound .1))
 
 returns-3 : tie.Need-returns-3
 returns-3 c =
     let k = c .before .before .before in
     let bound = c .before .fault2 .given in
-    let g = no-head (drop (at k) (set k)) 0 (k .read-patch-head .result) (ensured k) (bound .0 .0) (bound .1) in
-    rw (head-refused (set k) (at k) (g .fault) (g .is), g .same)
+    let g = no-head-at (set k) (at k) (k .read-patch-head .ensures) (bound .1) in
+    rw (head-refused (set k) (at k) g, g .same)
 
 pub check-patch-spec : {M : Type 1} → statement M
 check-patch-spec =
