@@ -21,8 +21,8 @@ abbrev pub WasApplied : ProjectionPatchBatch → Type 0
 WasApplied b = b .result .disposition ≡ Applied
 
 -- the session with another cursor and another projection, and everything else as it was
-abbrev pub movedTo : ShellSession → ProjectionReplayCursor → LocalProjectionState → ShellSession
-movedTo s c p = record {
+abbrev pub withProgress : ShellSession → ProjectionReplayCursor → LocalProjectionState → ShellSession
+withProgress s c p = record {
   context = s .context;
   state = record { «session_id» = s .state .«session_id»; lifecycle = s .state .lifecycle; «replay_cursor» = c };
   «local_projection» = p;
@@ -37,7 +37,7 @@ cursorPast c n (suc k) = At (n + k)
 pub record AllApplied (s : ShellSession) (n : ℕ) (pieces : List Piece) (whole : ProjectionPatchBatch) (bs : List ProjectionPatchBatch) : Type 0 where
   pub sent : length bs ≡ length pieces
   pub apply : All WasApplied bs
-  pub ended : lastOf s bs ≡ movedTo (whole .session) (At (n + (length pieces - 1))) (whole .session .«local_projection»)
+  pub ended : lastOf s bs ≡ withProgress (whole .session) (At (n + (length pieces - 1))) (whole .session .«local_projection»)
 
 -- the pieces before the failing operation's apply, that one is refused with the whole's number, stage and counts, and nothing more is sent; the
 -- session ends as the starting one in every field, but for the cursor and the projection, which has just the earlier pieces' operations
@@ -56,7 +56,7 @@ pub record StopsAtRefusal (s : ShellSession) (m : Session) (n : ℕ) (whole : Pi
   pub alike : refusal .result .diagnostics ≡ w .result .diagnostics
   pub reached : Projection
   pub ran : applySteps (m .projection) (replaySteps (patchesOf before)) ≡ done reached
-  pub ended : lastOf s bs ≡ movedTo s (cursorPast (s .state .«replay_cursor») n (length before)) (stateOf reached)
+  pub ended : lastOf s bs ≡ withProgress s (cursorPast (s .state .«replay_cursor») n (length before)) (stateOf reached)
 
 -- the claim for a struct that stores a session, the whole's call and the pieces' calls
 pub record WholeAndPieces (s : ShellSession) (m : Session) (n : ℕ) (whole : Piece) (pieces : List Piece) (w : ProjectionPatchBatch) (bs : List ProjectionPatchBatch) : Type 0 where

@@ -28,7 +28,7 @@ use Rattle.shell_player.specs.HoldsLaws.{cursorTo, sessionTo, one-struct}
 use Rattle.shell_steps.specs.Answers.{dispositionTold, batchAnswerOf}
 use Rattle.shell_player.specs.Batches.{BatchBecame}
 use Rattle.session_splitting.specs.Calls.{Sent, Calls, lastOf}
-use Rattle.session_splitting.specs.Claim.{WasApplied, movedTo, cursorPast, AllApplied, StopsAtRefusal, WholeAndPieces}
+use Rattle.session_splitting.specs.Claim.{WasApplied, withProgress, cursorPast, AllApplied, StopsAtRefusal, WholeAndPieces}
 use Rattle.session_splitting.specs.CallsLaws.{answersOf, sent-is, Follows, calls-follow}
 
 -- ---- equal meanings are equal values
@@ -138,7 +138,7 @@ module _ (s : ShellSession) (m : Session) (holds : Holds s m) (n : ℕ) (whole :
       record {
         sent = counted ∙ all .sent;
         apply = all-applied bs (subst (All Applies) (sym (follows .answers)) (all .apply));
-        ended = last-is ∙ ap sessionTo (same-session (all .beside) (all .cursor) (all .projection)) ∙ ap (λ (t : ShellSession). movedTo t (At (n + (length pieces - 1))) (t .«local_projection»)) (sym (one-struct (w .session) (send m n whole .next) (whole-is .next)));
+        ended = last-is ∙ ap sessionTo (same-session (all .beside) (all .cursor) (all .projection)) ∙ ap (λ (t : ShellSession). withProgress t (At (n + (length pieces - 1))) (t .«local_projection»)) (sym (one-struct (w .session) (send m n whole .next) (whole-is .next)));
       }
 
   stopped-at : (f : FailsAtOperation m n whole) → StopsAtRefusal s m n whole (f .fault) pieces w bs
@@ -163,8 +163,8 @@ module _ (s : ShellSession) (m : Session) (holds : Holds s m) (n : ℕ) (whole :
         ran = stop .projection;
         ended = last-is
             ∙ ap sessionTo (same-session (stop .beside) (stop .cursor) refl)
-            ∙ ap (λ (c : ProjectionReplayCursor). movedTo (sessionTo m) c (stateOf (run .last .projection))) (past-told (m .cursor) n (length (stop .before)))
-            ∙ ap (λ (t : ShellSession). movedTo t (cursorPast (t .state .«replay_cursor») n (length (stop .before))) (stateOf (run .last .projection))) (sym (one-struct s m holds));
+            ∙ ap (λ (c : ProjectionReplayCursor). withProgress (sessionTo m) c (stateOf (run .last .projection))) (past-told (m .cursor) n (length (stop .before)))
+            ∙ ap (λ (t : ShellSession). withProgress t (cursorPast (t .state .«replay_cursor») n (length (stop .before))) (stateOf (run .last .projection))) (sym (one-struct s m holds));
       }
 
   pub session-whole-and-pieces : WholeAndPieces s m n whole pieces w bs
