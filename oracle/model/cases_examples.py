@@ -13,7 +13,7 @@ assert len(EMPTY) == 35
 on_panel(
     "example_01_empty_set_no_change",
     "settled example: the empty set has 35 bytes; with true counts and a wrong number it changes nothing",
-    "spec_session Batch.commit and keepSession; worked_examples Examples",
+    "spec_session Batch.commit and keepSession; spec_examples Examples",
     ["# 35 bytes, and the cursor stands at 3", batch(99, [])], ["R no-change 0 0 0 0 3"],
 )
 
@@ -22,7 +22,7 @@ assert len(encode_set(ONE)) == 106
 on_panel(
     "example_02_one_availability_106_bytes",
     "settled example: one patch without a surface, with one availability, has 106 bytes",
-    "spec_patch Encode.encode; worked_examples Examples", ["# these are 106 bytes", check(ONE), batch(4, ONE)],
+    "spec_patch Encode.encode; spec_examples Examples", ["# these are 106 bytes", check(ONE), batch(4, ONE)],
     ["K 0 set 0", "R applied 0 0 0 0 4"], panel=["P 4", "B 5 0 Q 2", "A 5 1", "C 9 1 T Ok", "C 9 2 S -4"],
 )
 
@@ -31,14 +31,14 @@ UNSIGNED = patches_of([binding(5, 1, unsigned(1))])
 assert encode_set(UNSIGNED).endswith(bytes.fromhex("040100000000000000"))
 on_panel(
     "example_03_unsigned_1", "settled example: the unsigned 1 is 04, 01 and seven zero bytes",
-    "spec_patch Encode.encodeValue; worked_examples Examples",
+    "spec_patch Encode.encodeValue; spec_examples Examples",
     ["# the set ends with 040100000000000000", batch(4, UNSIGNED), "value binding 5 1"],
     ["R applied 0 0 0 0 4", "V U 1"], panel=["P 5", "B 5 0 Q 2", "B 5 1 U 1", "A 5 3", "C 9 1 T Ok", "C 9 2 S -4"],
 )
 
 case(
     "example_04_last_number_takes_none", "settled example: a session at 2^64-1 refuses every valid patch with 7",
-    "spec_session Batch.takesNumber; worked_examples Examples",
+    "spec_session Batch.takesNumber; spec_examples Examples",
     set_up() + [batch(LAST_U64, PANEL_SET), batch(0, ONE), batch(LAST_U64, ONE), "show"],
     [
         "S 0", "R applied 0 0 0 0 18446744073709551615", "R rejected 7 6 1 1 18446744073709551615",
@@ -50,7 +50,7 @@ case(
 TWO = patches_of([availability(5, 1)], [availability(5, 2)])
 on_panel(
     "example_05_patch_limit_1", "settled example: with a patch limit of 1 a count of 1 passes and 2 gives 4",
-    "spec_session Batch.batchChecks, step 3; worked_examples Examples", [batch(4, ONE), batch(5, TWO)],
+    "spec_session Batch.batchChecks, step 3; spec_examples Examples", [batch(4, ONE), batch(5, TWO)],
     ["R applied 0 0 0 0 4", "R rejected 4 4 1 1 4"], panel=["P 4", "B 5 0 Q 2", "A 5 1", "C 9 1 T Ok", "C 9 2 S -4"],
     patches=1,
 )
@@ -58,7 +58,7 @@ on_panel(
 on_panel(
     "example_06_cap_0_foreign_session",
     "settled example: under a cap of 0 a foreign session has logical count 1, emitted count 0",
-    "spec_session Diagnostics.diagnosticsOf; worked_examples Examples", [batch(4, ONE, session=8)],
+    "spec_session Diagnostics.diagnosticsOf; spec_examples Examples", [batch(4, ONE, session=8)],
     ["R rejected 0 0 1 0 3"], diagnostics=0,
 )
 
@@ -66,7 +66,7 @@ ALIKE = [patch(1, [availability(5, 1)], id=7, sequence=3)] * 3
 case(
     "example_07_three_patches_alike",
     "settled example: three patches alike, id 7 and sequence 3, give kinds 4 and 5 once each",
-    "spec_checks SetChecks.setFindings; worked_examples Examples", [check(ALIKE)], ["K 0 set 2", "F 4 7 3", "F 5 7 3"],
+    "spec_checks SetChecks.setFindings; spec_examples Examples", [check(ALIKE)], ["K 0 set 2", "F 4 7 3", "F 5 7 3"],
 )
 
 THREE = read_notation("""
@@ -81,7 +81,7 @@ move 9 1 before 3
 """)
 case(
     "example_08_move_1_before_3", "settled example: in the list 1, 2, 3 the move of 1 before 3 gives 2, 1, 3",
-    "spec_projection Apply.applyMove; worked_examples Examples",
+    "spec_projection Apply.applyMove; spec_examples Examples",
     set_up() + [batch(1, THREE), "show", batch(2, MOVE), "show"],
     [
         "S 0", "R applied 0 0 0 0 1", "P 3", "C 9 1 U 1", "C 9 2 U 2", "C 9 3 U 3", "R applied 0 0 0 0 2", "P 3",
@@ -93,7 +93,7 @@ MANY = patches_of([insert(9, key, unsigned(key)) for key in range(1, 128)])
 FULL = ["P 128"] + ["C 9 %d U %d" % (key, key) for key in range(1, 129)]
 case(
     "example_09_entry_128_fits", "settled example: entry 128 fits, and 129 gives 9",
-    "spec_projection Apply.applyInsert; worked_examples Examples",
+    "spec_projection Apply.applyInsert; spec_examples Examples",
     set_up(references=128)
     + [
         batch(1, MANY), batch(2, patches_of([insert(9, 128, unsigned(128))])), "show",
@@ -104,7 +104,7 @@ case(
 
 on_panel(
     "example_10_text_of_rfc_3629", "settled example: the text ED A0 80 gives 10, and F4 8F BF BF passes",
-    "spec_text Syntax.isUtf8; spec_patch Read.readText; worked_examples Examples",
+    "spec_text Syntax.isUtf8; spec_patch Read.readText; spec_examples Examples",
     [
         batch(4, patches_of([binding(5, 1, text(bytes.fromhex("eda080")))])),
         batch(4, patches_of([binding(5, 1, text(bytes.fromhex("f48fbfbf")))])),
@@ -121,14 +121,14 @@ update 9 3 U 2
 on_panel(
     "example_11_insert_and_update_of_one_key",
     "settled example: a patch may insert a key and update it, and nothing is found",
-    "spec_checks Target.sameTarget; worked_examples Examples", [check(BOTH), batch(4, BOTH)],
+    "spec_checks Target.sameTarget; spec_examples Examples", [check(BOTH), batch(4, BOTH)],
     ["K 0 set 0", "R applied 0 0 0 0 4"], panel=["P 5", "B 5 0 Q 2", "A 5 3", "C 9 1 T Ok", "C 9 2 S -4", "C 9 3 U 2"],
 )
 
 assert len(encode_set(PANEL_SET)) == 181
 case(
     "example_12_listing", "settled example: the listing of a set of 181 bytes",
-    "spec_listing Listing.listing; worked_examples Examples", [listed(PANEL_SET)],
+    "spec_listing Listing.listing; spec_examples Examples", [listed(PANEL_SET)],
     ["P 4", "B 5 0 Q 2", "A 5 3", "C 9 1 T Ok", "C 9 2 S -4"],
 )
 

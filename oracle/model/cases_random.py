@@ -11,7 +11,7 @@ from random_sets import COLLECTIONS, NODES, SLOTS, patch_list
 rules_of("Whole and pieces")
 
 BEGIN = set_up(patches=16, references=600, nodes=NODES, bindings=SLOTS, collections=COLLECTIONS)
-CLAIM = "batch_splitting Splitting; session_splitting Claim"
+CLAIM = "spec_splitting Splitting; session_splitting Claim"
 
 
 def answers_to(lines):

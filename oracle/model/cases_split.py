@@ -7,7 +7,7 @@ from sizes import LAST_U64
 
 rules_of("Whole and pieces")
 
-CLAIM = "batch_splitting Splitting; session_splitting Claim"
+CLAIM = "spec_splitting Splitting; session_splitting Claim"
 
 
 def pieces(patches, cuts):

@@ -12,7 +12,7 @@ def mutation_target(operation):
     return (operation.number, operation.collection, operation.key)
 
 
-def patch_findings(patch):
+def check_findings(patch):
     """Kinds 2, 3, 6, 10, 13 and 14 of one patch."""
     found = set()
     if not patch.operations:
@@ -67,7 +67,7 @@ def set_findings(patches):
 def findings(patches):
     """The place (a patch's index, or 'set') and the sorted findings there."""
     for index, patch in enumerate(patches):
-        found = patch_findings(patch)
+        found = check_findings(patch)
         if found:
             return index, found
     return "set", set_findings(patches)

@@ -21,7 +21,7 @@ def value_fields(value):
     return KINDS[kind], content
 
 
-def projection_lines(projection):
+def listing_tables(projection):
     lines = [line(b"P", projection.record_count())]
     for node, slot in sorted(projection.bindings):
         lines.append(line(b"B", node, slot, *value_fields(projection.bindings[node, slot])))
@@ -39,7 +39,7 @@ def listing(data):
         patches = read_set(data)
         if findings(patches)[1]:
             return line(b"E", 11)
-        return projection_lines(apply_operations(Projection(), operations_of(patches)))
+        return listing_tables(apply_operations(Projection(), operations_of(patches)))
     except (Fault, Stopped) as refusal:
         return line(b"E", refusal.number)
 

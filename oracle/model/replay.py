@@ -5,7 +5,7 @@ import sys
 
 from canonical import Fault, read_set
 from checks import findings
-from listing import line, listing, projection_lines, value_fields
+from listing import line, listing, listing_tables, value_fields
 from session import Limits, Session, TooManyAnchors
 from sizes import ANCHORS, LAST_U32, LAST_U64
 
@@ -111,7 +111,7 @@ class Replay:
         return listing(set_bytes(data))
 
     def do_show(self):
-        return line(b"N") if self.session is None else projection_lines(self.session.projection)
+        return line(b"N") if self.session is None else listing_tables(self.session.projection)
 
     def do_value_binding(self, node, slot):
         node, slot = number(node), number(slot, LAST_U32)

@@ -1,7 +1,7 @@
 // Reads a set from standard input and prints its listing: 01, 'Listing'.
 use libc::STDOUT_FILENO;
+use listing_tables::LISTING_BYTES;
 use patch_part_writer::written::Written;
-use projection_lines::LISTING_BYTES;
 use projection_patch::patch::ProjectionPatchSet;
 
 fn main() {
@@ -9,7 +9,7 @@ fn main() {
     let mut input = [0u8; ProjectionPatchSet::BYTES + 1];
     let n = io::read_full(0, &mut input);
     let mut lines = [0u8; LISTING_BYTES];
-    if let Written::Wrote(len) = panel_listing::write_listing(&input[0..n], &mut lines) {
+    if let Written::Wrote(len) = listing_panel::write_listing(&input[0..n], &mut lines) {
         io::write_all(STDOUT_FILENO, &lines[0..len]);
     }
 }

@@ -12,8 +12,8 @@ use Rattle.spec_patch.specs.Patch.{Availability, available, unavailable, hidden
 use Rattle.spec_patch.specs.Encode.{u32, u64, availabilityByte}
 use Rattle.spec_projection.specs.Projection.{Binding, NodeAvailability, Entry}
 use Rattle.spec_projection.specs.Valid.{FitsBinding, FitsNodeAvailability, FitsEntry}
-use Rattle.wire.specs.Read.{firstNumber}
-use Rattle.wire.specs.ReadLaws.{first-of-littleEndian}
+use Rattle.bytes_wire.specs.Read.{firstNumber}
+use Rattle.bytes_wire.specs.ReadLaws.{first-of-littleEndian}
 use Rattle.local_projection_state.specs.Rows.{padded, bindingRow, availabilityRow, entryRow}
 use Rattle.local_projection_state.specs.RowsLaws.{binding-behind, entry-behind}
 

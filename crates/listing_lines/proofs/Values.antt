@@ -9,9 +9,9 @@ use Rattle.spec_patch.specs.Sizes.{textBytes}
 use Rattle.spec_patch.specs.Patch.{Value, quad, signed, text, unsigned}
 use Rattle.spec_decimal.specs.Decimal.{decimal, signedDecimal}
 use Rattle.spec_listing.specs.Listing.{valueFields}
-use Rattle.byte_moves.specs.Moves.{zeros}
-use Rattle.stored_values.specs.Lookup.{foundValue}
-use Rattle.stored_values.specs.declared.ValueLookup.{ValueLookup}
+use Rattle.bytes_moves.specs.Moves.{zeros}
+use Rattle.panel_values.specs.Lookup.{foundValue}
+use Rattle.panel_values.specs.declared.ValueLookup.{ValueLookup}
 
 abbrev kind : ValueLookup → ℕ
 kind l = l .kind

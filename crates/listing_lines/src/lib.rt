@@ -9,22 +9,22 @@ ghost use Rattle.spec_projection.specs.Projection.{Binding, NodeAvailability, E
 ghost use Rattle.spec_projection.specs.Valid.{FitsBinding, FitsNodeAvailability, FitsEntry};
 ghost use Rattle.spec_decimal.specs.Decimal.{decimal, signedDecimal};
 ghost use Rattle.spec_listing.specs.Listing.{fields, valueFields, bindingLine, availabilityLine, entryLine};
-ghost use Rattle.wire.specs.Read.{firstNumber};
-ghost use Rattle.field_printer.specs.Prints.{Prints};
+ghost use Rattle.bytes_wire.specs.Read.{firstNumber};
+ghost use Rattle.bytes_printer.specs.Prints.{Prints};
 ghost use Rattle.local_projection_state.specs.Rows.{bindingRow, availabilityRow, entryRow};
-ghost use Rattle.stored_values.specs.Lookup.{foundValue};
-use decimal::Printed;
+ghost use Rattle.panel_values.specs.Lookup.{foundValue};
+use bytes_decimal::Printed;
+use bytes_wire::ReadU8;
+use bytes_wire::ReadU32;
+use bytes_wire::ReadU64;
+use panel_values::ValueLookup;
 use projection_patch::patch::ProjectionPatchValue;
-use stored_values::ValueLookup;
-use wire::ReadU8;
-use wire::ReadU32;
-use wire::ReadU64;
 
 // The number of eight bytes that stands in a row from index at on, or 0 where the row is too short.
 fn long_number(row: &[u8], at: usize) -> u64
     ensures { λ r. ⌜ ((x : ℕ) → firstNumber 8 (drop at (now (row .entry))) ≡ some x → r ≡ x) ⌝ }
 {
-    match wire::read_u64_at(row, at) {
+    match bytes_wire::read_u64_at(row, at) {
         ReadU64::Read(x) => x,
         ReadU64::Short => 0,
     }
@@ -34,7 +34,7 @@ fn long_number(row: &[u8], at: usize) -> u64
 fn short_number(row: &[u8], at: usize) -> u64
     ensures { λ r. ⌜ ((x : ℕ) → firstNumber 4 (drop at (now (row .entry))) ≡ some x → r ≡ x) ⌝ }
 {
-    match wire::read_u32_at(row, at) {
+    match bytes_wire::read_u32_at(row, at) {
         ReadU32::Read(x) => x as u64,
         ReadU32::Short => 0,
     }
@@ -44,7 +44,7 @@ fn short_number(row: &[u8], at: usize) -> u64
 fn byte_number(row: &[u8], at: usize) -> u64
     ensures { λ r. ⌜ ((x : ℕ) → firstNumber 1 (drop at (now (row .entry))) ≡ some x → r ≡ x) ⌝ }
 {
-    match wire::read_u8_at(row, at) {
+    match bytes_wire::read_u8_at(row, at) {
         ReadU8::Read(x) => x as u64,
         ReadU8::Short => 0,
     }
@@ -55,25 +55,25 @@ fn print_unsigned(out: &mut [u8], at: Printed, kind: u8, n: u64) -> Printed
     ensures { λ r. ⌜ Prints (now (out .entry)) at (fields ((kind ∷ []) ∷ decimal n ∷ [])) (now (out .exit)) r ⌝ }
 {
     let letter = [kind; 1];
-    let first = field_printer::print_field_bytes(out, at, &letter);
-    let second = field_printer::print_field_u64(out, first, n);
-    field_printer::print_newline(out, second)
+    let first = bytes_printer::print_field_bytes(out, at, &letter);
+    let second = bytes_printer::print_field_u64(out, first, n);
+    bytes_printer::print_newline(out, second)
 }
 
 fn print_signed(out: &mut [u8], at: Printed, z: i64) -> Printed
     ensures { λ r. ⌜ Prints (now (out .entry)) at (fields ((83 ∷ []) ∷ signedDecimal z ∷ [])) (now (out .exit)) r ⌝ }
 {
-    let first = field_printer::print_field_bytes(out, at, b"S");
-    let second = field_printer::print_field_i64(out, first, z);
-    field_printer::print_newline(out, second)
+    let first = bytes_printer::print_field_bytes(out, at, b"S");
+    let second = bytes_printer::print_field_i64(out, first, z);
+    bytes_printer::print_newline(out, second)
 }
 
 fn print_text(out: &mut [u8], at: Printed, text: &[u8]) -> Printed
     ensures { λ r. ⌜ Prints (now (out .entry)) at (fields ((84 ∷ []) ∷ now (text .entry) ∷ [])) (now (out .exit)) r ⌝ }
 {
-    let first = field_printer::print_field_bytes(out, at, b"T");
-    let second = field_printer::print_field_bytes(out, first, text);
-    field_printer::print_newline(out, second)
+    let first = bytes_printer::print_field_bytes(out, at, b"T");
+    let second = bytes_printer::print_field_bytes(out, first, text);
+    bytes_printer::print_newline(out, second)
 }
 
 // The kind and the value of a value that was found, and the end of the line.
@@ -102,9 +102,9 @@ pub fn print_value(out: &mut [u8], at: Printed, value: ValueLookup) -> Printed
 pub fn print_number_line(out: &mut [u8], at: Printed, letter: u8, n: u64) -> Printed
     ensures { λ r. ⌜ Prints (now (out .entry)) at (letter ∷ fields (decimal n ∷ [])) (now (out .exit)) r ⌝ }
 {
-    let start = field_printer::print_byte(out, at, letter);
-    let first = field_printer::print_field_u64(out, start, n);
-    field_printer::print_newline(out, first)
+    let start = bytes_printer::print_byte(out, at, letter);
+    let first = bytes_printer::print_field_u64(out, start, n);
+    bytes_printer::print_newline(out, first)
 }
 
 // A letter, two numbers and a value.
@@ -119,9 +119,9 @@ fn print_record(
     ensures { λ r. ⌜ ((v : Value) → value ≡ foundValue v
         → Prints (now (out .entry)) at (letter ∷ fields (decimal a ∷ decimal b ∷ valueFields v)) (now (out .exit)) r) ⌝ }
 {
-    let start = field_printer::print_byte(out, at, letter);
-    let first = field_printer::print_field_u64(out, start, a);
-    let second = field_printer::print_field_u64(out, first, b);
+    let start = bytes_printer::print_byte(out, at, letter);
+    let first = bytes_printer::print_field_u64(out, start, a);
+    let second = bytes_printer::print_field_u64(out, first, b);
     print_value(out, second, value)
 }
 
@@ -131,7 +131,7 @@ pub fn print_binding(out: &mut [u8], at: Printed, row: &[u8]) -> Printed
 {
     let node = long_number(row, 0);
     let slot = short_number(row, 8);
-    let value = stored_values::stored_value(row, 12);
+    let value = panel_values::stored_value(row, 12);
     print_record(out, at, 66, node, slot, value)
 }
 
@@ -141,10 +141,10 @@ pub fn print_availability(out: &mut [u8], at: Printed, row: &[u8]) -> Printed
 {
     let node = long_number(row, 0);
     let availability = byte_number(row, 8);
-    let start = field_printer::print_byte(out, at, 65);
-    let first = field_printer::print_field_u64(out, start, node);
-    let second = field_printer::print_field_u64(out, first, availability);
-    field_printer::print_newline(out, second)
+    let start = bytes_printer::print_byte(out, at, 65);
+    let first = bytes_printer::print_field_u64(out, start, node);
+    let second = bytes_printer::print_field_u64(out, first, availability);
+    bytes_printer::print_newline(out, second)
 }
 
 pub fn print_entry(out: &mut [u8], at: Printed, row: &[u8]) -> Printed
@@ -153,6 +153,6 @@ pub fn print_entry(out: &mut [u8], at: Printed, row: &[u8]) -> Printed
 {
     let collection = long_number(row, 0);
     let key = long_number(row, 8);
-    let value = stored_values::stored_value(row, 16);
+    let value = panel_values::stored_value(row, 16);
     print_record(out, at, 67, collection, key, value)
 }

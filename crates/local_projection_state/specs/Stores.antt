@@ -6,7 +6,7 @@ use lib.ListN.{length}
 use Rattle.spec_patch.specs.Sizes.{projectionBindings, projectionAvailabilities, projectionEntries}
 use Rattle.spec_projection.specs.Projection.{Projection}
 use Rattle.spec_projection.specs.Valid.{Valid}
-use Rattle.record_table.specs.Table.{tableBytes, Holds}
+use Rattle.bytes_records.specs.Table.{tableBytes, Holds}
 use Rattle.local_projection_state.specs.Rows.{bindingWidth, availabilityWidth, entryWidth, bindingRow, availabilityRow, entryRow}
 use Rattle.local_projection_state.specs.declared.LocalProjectionState.{LocalProjectionState}
 use Rattle.local_projection_state.specs.declared.ProjectionCounts.{ProjectionCounts}

@@ -10,9 +10,9 @@ use Rattle.spec_patch.specs.Sizes.{projectionBindings, projectionAvailabilities
 use Rattle.spec_projection.specs.Projection.{Projection, empty}
 use Rattle.spec_projection.specs.Valid.{FitsBinding, FitsNodeAvailability, FitsEntry, Valid}
 use Rattle.spec_projection.specs.ValidLaws.{empty-valid}
-use Rattle.byte_moves.specs.Moves.{zeros}
-use Rattle.record_table.specs.Table.{Wide, tableBytes, Holds}
-use Rattle.record_table.specs.TableLaws.{length-flatten, holds, holds-none, holds-unique, holds-bytes}
+use Rattle.bytes_moves.specs.Moves.{zeros}
+use Rattle.bytes_records.specs.Table.{Wide, tableBytes, Holds}
+use Rattle.bytes_records.specs.TableLaws.{length-flatten, holds, holds-none, holds-unique, holds-bytes}
 use Rattle.local_projection_state.specs.Rows.{bindingWidth, availabilityWidth, entryWidth, bindingRow, availabilityRow, entryRow}
 use Rattle.local_projection_state.specs.RowsLaws.{binding-wide, availability-wide, entry-wide, binding-tells, availability-tells, entry-tells}
 use Rattle.local_projection_state.specs.Stores.{Stored, StoredTables, Stores, stateOf}

@@ -6,8 +6,8 @@ use native.Mathlib.Omega.{arith}
 use lib.ListN.{length, length-append}
 use Rattle.spec_lists.specs.Bytes.{littleEndian}
 use Rattle.spec_lists.specs.BytesLaws.{length-littleEndian}
-use Rattle.wire.specs.Write.{overwrite}
-use Rattle.wire.specs.WriteLaws.{overwrite-append}
+use Rattle.bytes_wire.specs.Write.{overwrite}
+use Rattle.bytes_wire.specs.WriteLaws.{overwrite-append}
 
 -- the output is as it was but for the n bytes from index at on
 pub record Stored (l : List ℕ) (at n : ℕ) (bs out : List ℕ) : Type 0 where

@@ -5,7 +5,7 @@ use lib.Dec.{leb}
 use lib.ListN.{length, drop}
 use Rattle.spec_lists.specs.Lists.{if_then_else_}
 use Rattle.spec_patch.specs.Write as model
-use Rattle.wire.specs.Write.{hasRoom, overwrite}
+use Rattle.bytes_wire.specs.Write.{hasRoom, overwrite}
 use Rattle.patch_part_writer.specs.declared.written.WriteRefusal.{WriteRefusal}
 use Rattle.patch_part_writer.specs.declared.written.WriteRefusal.the-variants.{OverCapacity, Malformed, OutputTooShort}
 use Rattle.patch_part_writer.specs.declared.written.Written.{Written}

@@ -11,8 +11,8 @@ use Rattle.spec_patch.specs.Sizes.{setPatches, patchOperations, textBytes}
 use Rattle.spec_patch.specs.Edition.{v1}
 use Rattle.spec_patch.specs.Encode.{u32, heading, encodeEnvelope, encodeOperation}
 use Rattle.spec_patch.specs.Write as model
-use Rattle.wire.specs.Write.{hasRoom, overwrite}
-use Rattle.wire.specs.WriteLaws.{overwrite-refused}
+use Rattle.bytes_wire.specs.Write.{hasRoom, overwrite}
+use Rattle.bytes_wire.specs.WriteLaws.{overwrite-refused}
 use Rattle.projection_patch.specs.Meaning.{envelopeOf, operationOf}
 use Rattle.projection_patch.specs.declared.patch.ProjectionPatch.{ProjectionPatch}
 use Rattle.projection_patch.specs.declared.patch.ProjectionPatchOperation.{ProjectionPatchOperation}

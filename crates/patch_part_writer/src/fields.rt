@@ -7,7 +7,7 @@ ghost use mir.Syntax.{w64};
 ghost use mir.Val.{ofZ};
 ghost use Rattle.spec_patch.specs.Sizes.{textBytes};
 ghost use Rattle.spec_patch.specs.Encode.{u32, u64, encodeOptional, encodeValue, quadByte, availabilityByte};
-ghost use Rattle.wire.specs.Write.{overwrite};
+ghost use Rattle.bytes_wire.specs.Write.{overwrite};
 ghost use Rattle.projection_patch.specs.Meaning.{beforeOf, quadOf, availabilityOf, valueOf};
 ghost use Rattle.patch_part_writer.specs.Extent.{beforeSize, valueSize, valueText, Within};
 use projection_patch::patch::OptionalKey;
@@ -19,8 +19,8 @@ fn store_two(out: &mut [u8], at: usize, a: u8, b: u8)
     requires { ⌜ at + 2 ≤ length (now out) ⌝ }
     ensures { λ _. ⌜ now (out .exit) ≡ overwrite (now (out .entry)) at (a ∷ b ∷ []) ⌝ }
 {
-    wire::write_u8_at(out, at, a);
-    wire::write_u8_at(out, at + 1, b);
+    bytes_wire::write_u8_at(out, at, a);
+    bytes_wire::write_u8_at(out, at + 1, b);
 }
 
 // A tag and a u64 behind it.
@@ -28,8 +28,8 @@ pub fn store_tagged(out: &mut [u8], at: usize, tag: u8, x: u64)
     requires { ⌜ at + 9 ≤ length (now out) ⌝ }
     ensures { λ _. ⌜ now (out .exit) ≡ overwrite (now (out .entry)) at (tag ∷ u64 x) ⌝ }
 {
-    wire::write_u8_at(out, at, tag);
-    wire::write_u64_at(out, at + 1, x);
+    bytes_wire::write_u8_at(out, at, tag);
+    bytes_wire::write_u64_at(out, at + 1, x);
 }
 
 // A tag and an i64 behind it.
@@ -37,8 +37,8 @@ fn store_signed(out: &mut [u8], at: usize, tag: u8, z: i64)
     requires { ⌜ at + 9 ≤ length (now out) ⌝ }
     ensures { λ _. ⌜ now (out .exit) ≡ overwrite (now (out .entry)) at (tag ∷ u64 (ofZ w64 z)) ⌝ }
 {
-    wire::write_u8_at(out, at, tag);
-    wire::write_i64_at(out, at + 1, z);
+    bytes_wire::write_u8_at(out, at, tag);
+    bytes_wire::write_i64_at(out, at + 1, z);
 }
 
 // A tag, a collection and a key.
@@ -47,7 +47,7 @@ pub fn store_entry(out: &mut [u8], at: usize, tag: u8, collection: u64, key: u64
     ensures { λ _. ⌜ now (out .exit) ≡ overwrite (now (out .entry)) at (tag ∷ u64 collection ++ u64 key) ⌝ }
 {
     store_tagged(out, at, tag, collection);
-    wire::write_u64_at(out, at + 9, key);
+    bytes_wire::write_u64_at(out, at + 9, key);
 }
 
 // A tag, the length and the len bytes from start on.
@@ -55,9 +55,9 @@ fn store_text(out: &mut [u8], at: usize, texts: &[u8], start: usize, len: usize)
     requires { ⌜ (at + (5 + len) ≤ length (now out)) × (start + len ≤ length (now texts)) × (len ≤ textBytes) ⌝ }
     ensures { λ _. ⌜ now (out .exit) ≡ overwrite (now (out .entry)) at (3 ∷ u32 len ++ take len (drop start (now (texts .entry)))) ⌝ }
 {
-    wire::write_u8_at(out, at, 3);
-    wire::write_u32_at(out, at + 1, len as u32);
-    wire::write_bytes_at(out, at + 5, &texts[start..start + len]);
+    bytes_wire::write_u8_at(out, at, 3);
+    bytes_wire::write_u32_at(out, at + 1, len as u32);
+    bytes_wire::write_bytes_at(out, at + 5, &texts[start..start + len]);
 }
 
 pub fn store_before(out: &mut [u8], at: usize, before: OptionalKey)
@@ -66,7 +66,7 @@ pub fn store_before(out: &mut [u8], at: usize, before: OptionalKey)
 {
     match before {
         OptionalKey::None => {
-            wire::write_u8_at(out, at, 0);
+            bytes_wire::write_u8_at(out, at, 0);
         }
         OptionalKey::Some(key) => store_tagged(out, at, 1, key.raw()),
     }

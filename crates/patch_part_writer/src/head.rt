@@ -6,7 +6,7 @@ ghost use lib.ListN.{length};
 ghost use Rattle.spec_patch.specs.Sizes.{setPatches, patchOperations};
 ghost use Rattle.spec_patch.specs.Edition.{v1};
 ghost use Rattle.spec_patch.specs.Encode.{u32, u64, encodeOptional, encodeEnvelope, heading};
-ghost use Rattle.wire.specs.Write.{overwrite};
+ghost use Rattle.bytes_wire.specs.Write.{overwrite};
 ghost use Rattle.projection_patch.specs.Meaning.{surfaceOf, envelopeOf};
 ghost use Rattle.patch_part_writer.specs.Extent.{surfaceSize, headSize};
 ghost use Rattle.patch_part_writer.specs.Answer.{answerAt, outputAt};
@@ -25,9 +25,9 @@ fn store_heading(out: &mut [u8], at: usize, patch_count: usize)
     requires { ⌜ (at + 35 ≤ length (now out)) × («patch_count» ≤ setPatches) ⌝ }
     ensures { λ _. ⌜ now (out .exit) ≡ overwrite (now (out .entry)) at (heading v1 ++ u32 «patch_count») ⌝ }
 {
-    wire::write_u32_at(out, at, 27);
-    wire::write_bytes_at(out, at + 4, b"UI_DNA2_PROJECTION_PATCH_V1");
-    wire::write_u32_at(out, at + 31, patch_count as u32);
+    bytes_wire::write_u32_at(out, at, 27);
+    bytes_wire::write_bytes_at(out, at + 4, b"UI_DNA2_PROJECTION_PATCH_V1");
+    bytes_wire::write_u32_at(out, at + 31, patch_count as u32);
 }
 
 // Writes a set's heading and its patch count from index at on: 12 for more patches than a set may have, then 14.
@@ -38,7 +38,7 @@ pub fn write_heading(patch_count: usize, out: &mut [u8], at: usize) -> Written
     if ProjectionPatchSet::PATCHES < patch_count {
         return Written::Refused(WriteRefusal::OverCapacity);
     }
-    if !wire::has_room(out.len(), at, 35) {
+    if !bytes_wire::has_room(out.len(), at, 35) {
         return Written::Refused(WriteRefusal::OutputTooShort);
     }
     store_heading(out, at, patch_count);
@@ -51,7 +51,7 @@ fn store_surface(out: &mut [u8], at: usize, surface: OptionalSurfaceId)
 {
     match surface {
         OptionalSurfaceId::None => {
-            wire::write_u8_at(out, at, 0);
+            bytes_wire::write_u8_at(out, at, 0);
         }
         OptionalSurfaceId::Some(id) => store_tagged(out, at, 1, id.raw()),
     }
@@ -61,9 +61,9 @@ fn store_three(out: &mut [u8], at: usize, a: u64, b: u64, c: u64)
     requires { ⌜ at + 24 ≤ length (now out) ⌝ }
     ensures { λ _. ⌜ now (out .exit) ≡ overwrite (now (out .entry)) at (u64 a ++ (u64 b ++ u64 c)) ⌝ }
 {
-    wire::write_u64_at(out, at, a);
-    wire::write_u64_at(out, at + 8, b);
-    wire::write_u64_at(out, at + 16, c);
+    bytes_wire::write_u64_at(out, at, a);
+    bytes_wire::write_u64_at(out, at + 8, b);
+    bytes_wire::write_u64_at(out, at + 16, c);
 }
 
 // The numbers behind the surface, and the operation count.
@@ -81,8 +81,8 @@ fn store_course(
     let epoch = envelope.epoch;
     let sequence = envelope.sequence;
     store_three(out, at, previous.raw(), revision.raw(), epoch.raw());
-    wire::write_u64_at(out, at + 24, sequence.raw());
-    wire::write_u32_at(out, at + 32, operation_count as u32);
+    bytes_wire::write_u64_at(out, at + 24, sequence.raw());
+    bytes_wire::write_u32_at(out, at + 32, operation_count as u32);
 }
 
 fn store_head(out: &mut [u8], at: usize, patch: ProjectionPatch)
@@ -109,7 +109,7 @@ pub fn write_patch_head(patch: ProjectionPatch, out: &mut [u8], at: usize) -> Wr
         return Written::Refused(WriteRefusal::OverCapacity);
     }
     let size = head_size(patch);
-    if !wire::has_room(out.len(), at, size) {
+    if !bytes_wire::has_room(out.len(), at, size) {
         return Written::Refused(WriteRefusal::OutputTooShort);
     }
     store_head(out, at, patch);

@@ -4,7 +4,7 @@ ghost use mathlib.Core.List.{[], _∷_, _++_};
 ghost use Prim.Native.Nat.{_+_, _≤_};
 ghost use lib.ListN.{length};
 ghost use Rattle.spec_patch.specs.Encode.{u32, u64, encodeOptional, encodeValue, encodeOperation};
-ghost use Rattle.wire.specs.Write.{overwrite};
+ghost use Rattle.bytes_wire.specs.Write.{overwrite};
 ghost use Rattle.projection_patch.specs.Meaning.{beforeOf, valueOf, operationOf};
 ghost use Rattle.patch_part_writer.specs.Extent.{beforeSize, valueSize, operationSize, valueText, operationText, Within};
 ghost use Rattle.patch_part_writer.specs.Answer.{answerAt, outputAt};
@@ -38,7 +38,7 @@ fn store_binding(
     let node = target.node;
     let slot = target.slot;
     store_tagged(out, at, 1, node.raw());
-    wire::write_u32_at(out, at + 9, slot.0);
+    bytes_wire::write_u32_at(out, at + 9, slot.0);
     store_value(out, at + 13, value, texts);
 }
 
@@ -47,7 +47,7 @@ fn store_availability(out: &mut [u8], at: usize, node: StaticNodeId, byte: u8)
     ensures { λ _. ⌜ now (out .exit) ≡ overwrite (now (out .entry)) at (2 ∷ u64 (node .0) ++ (byte ∷ [])) ⌝ }
 {
     store_tagged(out, at, 2, node.raw());
-    wire::write_u8_at(out, at + 9, byte);
+    bytes_wire::write_u8_at(out, at + 9, byte);
 }
 
 fn store_insert(
@@ -142,11 +142,11 @@ pub fn write_operation(
     if ProjectionPatchValue::TEXT_BYTES < text.len {
         return Written::Refused(WriteRefusal::OverCapacity);
     }
-    if !wire::has_room(texts.len(), text.start, text.len) {
+    if !bytes_wire::has_room(texts.len(), text.start, text.len) {
         return Written::Refused(WriteRefusal::Malformed);
     }
     let size = operation_size(operation);
-    if !wire::has_room(out.len(), at, size) {
+    if !bytes_wire::has_room(out.len(), at, size) {
         return Written::Refused(WriteRefusal::OutputTooShort);
     }
     store_operation(out, at, operation, texts);

@@ -11,14 +11,14 @@ use lib.Dec.{lit<}
 use lib.IntN.{ℤ}
 use Rattle.spec_patch.specs.Reader.{Fault, read, refused, malformed, Result, Reader, onward, pair, byte, number}
 use Rattle.spec_patch.specs.Read.{readU32, readU64, readI64}
-use Rattle.wire.specs.Read.{firstNumber, firstSigned, numberU32, numberU64, numberI64}
-use Rattle.wire.specs.ReadLaws as wire
-use Rattle.wire.specs.declared.ReadU32.{ReadU32}
-use Rattle.wire.specs.declared.ReadU32.the-variants as U32
-use Rattle.wire.specs.declared.ReadU64.{ReadU64}
-use Rattle.wire.specs.declared.ReadU64.the-variants as U64
-use Rattle.wire.specs.declared.ReadI64.{ReadI64}
-use Rattle.wire.specs.declared.ReadI64.the-variants as I64
+use Rattle.bytes_wire.specs.Read.{firstNumber, firstSigned, numberU32, numberU64, numberI64}
+use Rattle.bytes_wire.specs.ReadLaws as wire
+use Rattle.bytes_wire.specs.declared.ReadU32.{ReadU32}
+use Rattle.bytes_wire.specs.declared.ReadU32.the-variants as U32
+use Rattle.bytes_wire.specs.declared.ReadU64.{ReadU64}
+use Rattle.bytes_wire.specs.declared.ReadU64.the-variants as U64
+use Rattle.bytes_wire.specs.declared.ReadI64.{ReadI64}
+use Rattle.bytes_wire.specs.declared.ReadI64.the-variants as I64
 use Rattle.projection_patch.specs.ReadAnswers.{numbersAnswer}
 use Rattle.projection_patch.specs.declared.read_values.NumbersRead.{NumbersRead}
 use Rattle.projection_patch.specs.declared.read_values.NumbersRead.the-variants as numbers-read

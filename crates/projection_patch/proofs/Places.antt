@@ -7,7 +7,7 @@ use native.Mathlib.Omega.{arith}
 use lib.ListN.{drop}
 use Rattle.spec_patch.specs.Reader.{refused, malformed, Reader, mapped, pair}
 use Rattle.spec_patch.specs.Read.{readU64}
-use Rattle.wire.specs.Read.{firstNumber}
+use Rattle.bytes_wire.specs.Read.{firstNumber}
 use Rattle.projection_patch.specs.Meaning.{nodeTo, keyTo, beforeTo}
 use Rattle.projection_patch.specs.ReadAnswers.{numbersAnswer, placeTo, optionalTo, optionalOf}
 use Rattle.projection_patch.specs.declared.contract_primitives.StaticNodeId.{StaticNodeId}

@@ -12,9 +12,9 @@ use Rattle.spec_lists.specs.Lists.{if_then_else_}
 use Rattle.spec_text.specs.Syntax.{isUtf8, characters}
 use Rattle.spec_patch.specs.Patch.{text}
 use Rattle.spec_patch.specs.Reader.{refused, malformed, mapped, checked, bytes}
-use Rattle.utf8.specs.Answer as utf8
-use Rattle.utf8.specs.declared.Utf8Check.{Utf8Check}
-use Rattle.utf8.specs.declared.Utf8Check.the-variants.{Valid, Invalid}
+use Rattle.bytes_utf8.specs.Answer as utf8
+use Rattle.bytes_utf8.specs.declared.Utf8Check.{Utf8Check}
+use Rattle.bytes_utf8.specs.declared.Utf8Check.the-variants.{Valid, Invalid}
 use Rattle.projection_patch.specs.ReadAnswers.{valueAnswer, lentPart}
 use Rattle.projection_patch.specs.declared.patch.ProjectionPatchValue.the-variants.{Text}
 use Rattle.projection_patch.specs.declared.read_values.ValueRead.the-variants.{Read}

@@ -4,7 +4,7 @@ ghost use lib.ListN.{length, drop};
 ghost use Rattle.spec_patch.specs.Edition.{v1};
 ghost use Rattle.spec_patch.specs.Read.{operationAfter, readOperation};
 ghost use Rattle.projection_patch.specs.Meaning.{beforeTo};
-ghost use Rattle.wire.specs.Read.{firstNumber};
+ghost use Rattle.bytes_wire.specs.Read.{firstNumber};
 ghost use Rattle.projection_patch.specs.ReadAnswers.{optionalOf, numbersAnswer, placeTo, operationAnswer};
 use crate::binding_graph::BindingSlot;
 use crate::binding_graph::BindingTarget;
@@ -19,8 +19,8 @@ use crate::read_values::OptionalNumber;
 use crate::read_values::OptionalRead;
 use crate::read_values::ProjectionPatchReadFault;
 use crate::read_values::ValueRead;
-use wire::ReadU32;
-use wire::ReadU64;
+use bytes_wire::ReadU32;
+use bytes_wire::ReadU64;
 
 // An operation, and how many bytes it took. The place of its text counts from the start of the part.
 pub enum OperationRead {
@@ -59,10 +59,10 @@ pub fn key_of(number: OptionalNumber) -> OptionalKey
 fn set_binding_value(part: &[u8]) -> OperationRead
     ensures { λ r. ⌜ r ≡ operationAnswer (length (now (part .entry))) (operationAfter v1 1 (drop 1 (now (part .entry)))) ⌝ }
 {
-    let ReadU64::Read(node) = wire::read_u64_at(part, 1) else {
+    let ReadU64::Read(node) = bytes_wire::read_u64_at(part, 1) else {
         return OperationRead::Refused(ProjectionPatchReadFault::Malformed);
     };
-    let ReadU32::Read(slot) = wire::read_u32_at(part, 9) else {
+    let ReadU32::Read(slot) = bytes_wire::read_u32_at(part, 9) else {
         return OperationRead::Refused(ProjectionPatchReadFault::Malformed);
     };
     let target = BindingTarget {
@@ -81,7 +81,7 @@ fn set_binding_value(part: &[u8]) -> OperationRead
 fn set_node_availability(part: &[u8]) -> OperationRead
     ensures { λ r. ⌜ r ≡ operationAnswer (length (now (part .entry))) (operationAfter v1 2 (drop 1 (now (part .entry)))) ⌝ }
 {
-    let ReadU64::Read(number) = wire::read_u64_at(part, 1) else {
+    let ReadU64::Read(number) = bytes_wire::read_u64_at(part, 1) else {
         return OperationRead::Refused(ProjectionPatchReadFault::Malformed);
     };
     let node = StaticNodeId::new(number);

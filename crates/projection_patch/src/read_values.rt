@@ -9,15 +9,15 @@ ghost use Rattle.spec_patch.specs.Patch as model;
 ghost use Rattle.spec_text.specs.Syntax.{isUtf8};
 ghost use Rattle.spec_patch.specs.Reader.{faultNumber, malformed, mapped, checked, bytes};
 ghost use Rattle.spec_patch.specs.Read.{readU64, readI64, readCount, readQuad, readText, readOptional, readAvailability, readValue};
-ghost use Rattle.wire.specs.Read.{firstNumber};
+ghost use Rattle.bytes_wire.specs.Read.{firstNumber};
 ghost use Rattle.projection_patch.specs.ReadAnswers.{faultOf, numbersAnswer, countAnswer, optionalAnswer, availabilityAnswer, valueAnswer, lentPart};
 use crate::patch::ProjectionNodeAvailability;
 use crate::patch::ProjectionPatchValue;
 use crate::patch::ProjectionQuadState;
-use utf8::Utf8Check;
-use wire::ReadI64;
-use wire::ReadU32;
-use wire::ReadU64;
+use bytes_utf8::Utf8Check;
+use bytes_wire::ReadI64;
+use bytes_wire::ReadU32;
+use bytes_wire::ReadU64;
 
 // Why bytes are not read.
 pub enum ProjectionPatchReadFault {
@@ -71,10 +71,10 @@ pub enum ValueRead {
 pub fn numbers_at(part: &[u8], at: usize) -> NumbersRead
     ensures { λ r. ⌜ r ≡ numbersAnswer (firstNumber 8 (drop at (now (part .entry)))) (firstNumber 8 (drop (at + 8) (now (part .entry)))) ⌝ }
 {
-    let ReadU64::Read(first) = wire::read_u64_at(part, at) else {
+    let ReadU64::Read(first) = bytes_wire::read_u64_at(part, at) else {
         return NumbersRead::Short;
     };
-    let ReadU64::Read(second) = wire::read_u64_at(part, at + 8) else {
+    let ReadU64::Read(second) = bytes_wire::read_u64_at(part, at + 8) else {
         return NumbersRead::Short;
     };
     NumbersRead::Read(first, second)
@@ -84,7 +84,7 @@ pub fn numbers_at(part: &[u8], at: usize) -> NumbersRead
 pub fn count_at(part: &[u8], at: usize, capacity: usize) -> CountRead
     ensures { λ r. ⌜ r ≡ countAnswer (length (now (part .entry))) (readCount capacity (drop at (now (part .entry)))) ⌝ }
 {
-    let ReadU32::Read(n) = wire::read_u32_at(part, at) else {
+    let ReadU32::Read(n) = bytes_wire::read_u32_at(part, at) else {
         return CountRead::Refused(ProjectionPatchReadFault::Malformed);
     };
     let count = n as usize;
@@ -99,7 +99,7 @@ pub fn count_at(part: &[u8], at: usize, capacity: usize) -> CountRead
 fn some_at(part: &[u8], at: usize) -> OptionalRead
     ensures { λ r. ⌜ r ≡ optionalAnswer (length (now (part .entry))) (mapped some readU64 (drop at (now (part .entry)))) ⌝ }
 {
-    match wire::read_u64_at(part, at) {
+    match bytes_wire::read_u64_at(part, at) {
         ReadU64::Read(n) => OptionalRead::Read(OptionalNumber::Some(n), at + 8),
         ReadU64::Short => OptionalRead::Refused(ProjectionPatchReadFault::Malformed),
     }
@@ -165,7 +165,7 @@ fn quad_at(part: &[u8], at: usize) -> ValueRead
 fn signed_at(part: &[u8], at: usize) -> ValueRead
     ensures { λ r. ⌜ r ≡ valueAnswer (length (now (part .entry))) (mapped model.signed readI64 (drop at (now (part .entry)))) ⌝ }
 {
-    match wire::read_i64_at(part, at) {
+    match bytes_wire::read_i64_at(part, at) {
         ReadI64::Read(z) => ValueRead::Read(ProjectionPatchValue::SignedScalar(z), at + 8),
         ReadI64::Short => ValueRead::Refused(ProjectionPatchReadFault::Malformed),
     }
@@ -174,7 +174,7 @@ fn signed_at(part: &[u8], at: usize) -> ValueRead
 fn unsigned_at(part: &[u8], at: usize) -> ValueRead
     ensures { λ r. ⌜ r ≡ valueAnswer (length (now (part .entry))) (mapped model.unsigned readU64 (drop at (now (part .entry)))) ⌝ }
 {
-    match wire::read_u64_at(part, at) {
+    match bytes_wire::read_u64_at(part, at) {
         ReadU64::Read(n) => ValueRead::Read(ProjectionPatchValue::UnsignedScalar(n), at + 8),
         ReadU64::Short => ValueRead::Refused(ProjectionPatchReadFault::Malformed),
     }
@@ -211,7 +211,7 @@ fn text_from(part: &[u8], start: usize, len: usize) -> ValueRead
         return ValueRead::Refused(ProjectionPatchReadFault::Malformed);
     }
     let end = start + len;
-    match utf8::check(&part[start..end]) {
+    match bytes_utf8::check(&part[start..end]) {
         Utf8Check::Valid { characters: _ } => ValueRead::Read(
             ProjectionPatchValue::Text { start, len },
             end,

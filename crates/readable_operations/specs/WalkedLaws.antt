@@ -12,7 +12,7 @@ use Rattle.spec_patch.specs.ReadLaws.{operation-codec}
 use Rattle.projection_patch.specs.ReadAnswers.{lentFrom, operationAnswer}
 use Rattle.projection_patch.specs.TextLaws.{lent-from}
 use Rattle.projection_patch.specs.declared.read_operations.OperationRead.{OperationRead}
-use Rattle.projection_patch_sets.specs.Walk.{AtOperations}
+use Rattle.patch_sets.specs.Walk.{AtOperations}
 use Rattle.readable_operations.specs.Rereading.{Again}
 
 module _ (set : List ℕ) (at : ℕ) (o : Operation) (os : List Operation) (ps : List Patch) (here : AtOperations set at (o ∷ os) ps) where

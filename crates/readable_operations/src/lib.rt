@@ -10,6 +10,8 @@ ghost use Rattle.spec_patch.specs.Reader.{read, mapped};
 ghost use Rattle.spec_patch.specs.Read.{readText, readValue, operationAfter, readOperation};
 ghost use Rattle.projection_patch.specs.ReadAnswers.{valueAnswer, operationAnswer};
 ghost use Rattle.readable_operations.specs.Rereading.{Again, ValueWithin, OperationWithin};
+use bytes_wire::ReadU32;
+use bytes_wire::ReadU64;
 use projection_patch::binding_graph::BindingSlot;
 use projection_patch::binding_graph::BindingTarget;
 use projection_patch::contract_primitives::StaticNodeId;
@@ -23,8 +25,6 @@ use projection_patch::read_values::CountRead;
 use projection_patch::read_values::OptionalRead;
 use projection_patch::read_values::ProjectionPatchReadFault;
 use projection_patch::read_values::ValueRead;
-use wire::ReadU32;
-use wire::ReadU64;
 
 // A text behind its length, whatever its bytes are.
 fn reread_text(part: &[u8], at: usize) -> ValueRead
@@ -60,10 +60,10 @@ fn set_binding_value(part: &[u8]) -> OperationRead
     ensures again { λ r. ⌜ Again (operationAnswer (length (now (part .entry)))) (operationAfter v1 1 (drop 1 (now (part .entry)))) r ⌝ }
     ensures within { λ r. ⌜ OperationWithin (now (part .entry)) r ⌝ }
 {
-    let ReadU64::Read(node) = wire::read_u64_at(part, 1) else {
+    let ReadU64::Read(node) = bytes_wire::read_u64_at(part, 1) else {
         return OperationRead::Refused(ProjectionPatchReadFault::Malformed);
     };
-    let ReadU32::Read(slot) = wire::read_u32_at(part, 9) else {
+    let ReadU32::Read(slot) = bytes_wire::read_u32_at(part, 9) else {
         return OperationRead::Refused(ProjectionPatchReadFault::Malformed);
     };
     let target = BindingTarget {

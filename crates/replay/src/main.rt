@@ -1,11 +1,11 @@
 // Answers a replay script from standard input, line by line: docs/DECISIONS.md, 'Replay'.
 ghost use Prim.Native.Nat.{_≤_, _<_};
 ghost use lib.ListN.{length};
-use decimal::Printed;
+use bytes_decimal::Printed;
 use libc::STDIN_FILENO;
 use libc::STDOUT_FILENO;
-use projection_lines::LISTING_BYTES;
-use replay_calls::state::ReplayState;
+use listing_tables::LISTING_BYTES;
+use script_calls::state::ReplayState;
 use script_parser::ScriptCommand;
 
 // Room for a line of the greatest length, and as much again to read into.
@@ -71,7 +71,7 @@ fn run_lines(before: ReplayState, first: u64, input: &[u8], seen: usize, out: &m
     while end < input.len() {
         let next = end + 1;
         let line = &input[start..end];
-        let step = replay_script::run_line(state, number, line, &mut out[used..]);
+        let step = script_replay::run_line(state, number, line, &mut out[used..]);
         state = step.state;
         let printed = step.printed;
         used = end_of_answer(printed, used, out.len());
@@ -117,7 +117,7 @@ fn keep(input: &mut [u8], start: usize, end: usize) -> usize
     requires { ⌜ (start ≤ end) × (end ≤ length (now input)) ⌝ }
     ensures { λ r. ⌜ r ≤ length (now (input .exit)) ⌝ }
 {
-    byte_moves::pop_front(&mut input[0..end], start);
+    bytes_moves::pop_front(&mut input[0..end], start);
     end - start
 }
 
@@ -128,13 +128,13 @@ fn print_rest(number: u64, kept: usize) {
     }
     let mut out = [0u8; 32];
     let start = Printed::Next(0);
-    let printed = answer_printer::session::print_other(&mut out, start, number);
+    let printed = script_answers::session::print_other(&mut out, start, number);
     let end = end_of_answer(printed, 0, 32);
     io::write_all(STDOUT_FILENO, &out[0..end]);
 }
 
 fn replay(input: &mut [u8], out: &mut [u8]) {
-    let mut state = replay_script::start();
+    let mut state = script_replay::start();
     let mut number = 1;
     let mut kept = 0;
     let mut reads = BUDGET;

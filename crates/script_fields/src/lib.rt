@@ -79,7 +79,7 @@ pub fn is_word(field: &[u8], word: &[u8]) -> bool
     ensures { λ r. ⌜ r ≡ equalLists eqb (now (word .entry)) (now (field .entry)) ⌝ }
 {
     if field.len() == word.len() {
-        wire::starts_with(field, 0, word)
+        bytes_wire::starts_with(field, 0, word)
     } else {
         false
     }
@@ -92,9 +92,9 @@ pub fn number_after(line: &[u8], end: usize) -> NumberField
     if end < line.len() {
         let from = end + 1;
         let to = field_end(line, from);
-        match decimal::read_u64(&line[from..to]) {
-            decimal::ReadU64::Read(n) => NumberField::Number(n, to),
-            decimal::ReadU64::Malformed => NumberField::Other,
+        match bytes_decimal::read_u64(&line[from..to]) {
+            bytes_decimal::ReadU64::Read(n) => NumberField::Number(n, to),
+            bytes_decimal::ReadU64::Malformed => NumberField::Other,
         }
     } else {
         NumberField::Other

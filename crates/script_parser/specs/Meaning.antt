@@ -5,7 +5,7 @@ use lib.ListN.{drop}
 use Rattle.spec_session.specs.Batch.{BatchEnvelope}
 use Rattle.spec_replay.specs.Script as script
 use Rattle.spec_replay.specs.Script.{Command, readHex, given}
-use Rattle.shell_lifecycle.specs.Meaning.{limitsOf, stimulusOf}
+use Rattle.session_lifecycle.specs.Meaning.{limitsOf, stimulusOf}
 use Rattle.script_parser.specs.declared.BatchLine.{BatchLine}
 use Rattle.script_parser.specs.declared.ScriptCommand.{ScriptCommand}
 use Rattle.script_parser.specs.declared.ScriptCommand.the-variants.{Nothing, Session, Node, Binding, Collection, Create, Apply, Batch, Check, List as Listed, Show, ValueBinding, ValueNode, ValueEntry, Other}

@@ -16,13 +16,13 @@ use script_words::StimulusWord;
 use script_words::ValueWord;
 use script_words::stimulus_word;
 use script_words::value_word;
-use shell_lifecycle::lifecycle::ShellLifecycleStimulus;
-use shell_lifecycle::lifecycle::ShellTransitionInput;
-use shell_lifecycle::state::ShellLifecycleLimits;
+use session_lifecycle::lifecycle::ShellLifecycleStimulus;
+use session_lifecycle::lifecycle::ShellTransitionInput;
+use session_lifecycle::state::ShellLifecycleLimits;
 ghost use mathlib.Core.Path.{_≡_};
 ghost use Rattle.spec_replay.specs.Script as script;
 ghost use Rattle.spec_replay.specs.Script.{number, hex, sessionArguments, bindingArguments, applyArguments, batchArguments, valueBindingArguments, valueEntryArguments, valueArguments};
-ghost use Rattle.shell_lifecycle.specs.Meaning.{stimulusOf};
+ghost use Rattle.session_lifecycle.specs.Meaning.{stimulusOf};
 ghost use Rattle.script_fields.specs.Fields.{fieldsAfter};
 ghost use Rattle.script_parser.specs.Meaning.{commandOf};
 

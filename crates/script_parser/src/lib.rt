@@ -1,16 +1,16 @@
 // A line of a replay script, read as a command.
 mod arguments;
 
-use hex::Decoded;
+use bytes_hex::Decoded;
 use script_fields::field_end;
 use script_words::CommandWord;
 use script_words::command_word;
-use shell_lifecycle::lifecycle::ShellTransitionInput;
-use shell_lifecycle::state::ShellLifecycleLimits;
+use session_lifecycle::lifecycle::ShellTransitionInput;
+use session_lifecycle::state::ShellLifecycleLimits;
 ghost use mathlib.Core.Path.{_≡_};
 ghost use lib.ListN.{length, drop};
 ghost use Rattle.spec_replay.specs.Script.{readHex, fieldsCommand, split, space, command};
-ghost use Rattle.hex.specs.Decoding.{decoding, decodedInto};
+ghost use Rattle.bytes_hex.specs.Decoding.{decoding, decodedInto};
 ghost use Rattle.script_parser.specs.Meaning.{commandOf};
 
 // The batch's envelope, the declared count of target references, and where the hex of the set starts in the line.
@@ -90,7 +90,7 @@ pub fn decode_set(line: &[u8], from: usize, out: &mut [u8]) -> Decoded
     ensures { λ _. ⌜ now (out .exit) ≡ decodedInto (now (out .entry)) (readHex (drop from (now (line .entry)))) ⌝ }
 {
     if from < line.len() {
-        hex::decode_hex(&line[from..], out)
+        bytes_hex::decode_hex(&line[from..], out)
     } else {
         Decoded::Malformed
     }

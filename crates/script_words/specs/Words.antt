@@ -2,7 +2,7 @@
 use mathlib.Core.Option.{Option, none, some}
 use Rattle.spec_session.specs.Lifecycle.{Stimulus}
 use Rattle.spec_replay.specs.Script.{node, collection, create, check, list, show, valueNode, Arguments, end, number, hex, sessionArguments, bindingArguments, applyArguments, batchArguments, valueBindingArguments, valueEntryArguments, valueArguments}
-use Rattle.shell_lifecycle.specs.Meaning.{stimulusOf}
+use Rattle.session_lifecycle.specs.Meaning.{stimulusOf}
 use Rattle.script_words.specs.declared.StimulusWord.{StimulusWord}
 use Rattle.script_words.specs.declared.StimulusWord.the-variants as StimulusAnswer
 use Rattle.script_words.specs.declared.ValueWord.{ValueWord}

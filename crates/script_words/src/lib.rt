@@ -1,7 +1,7 @@
 // The words of a replay script.
 use script_fields::is_word;
-use shell_lifecycle::lifecycle::ShellLifecycleCommand;
-use shell_lifecycle::lifecycle::ShellLifecycleStimulus;
+use session_lifecycle::lifecycle::ShellLifecycleCommand;
+use session_lifecycle::lifecycle::ShellLifecycleStimulus;
 ghost use mathlib.Core.Path.{_≡_};
 ghost use Rattle.spec_replay.specs.Script.{byWord, stimuli, values, commands};
 ghost use Rattle.script_words.specs.Words.{stimulusMeant, valueMeant, commandMeant};

@@ -8,13 +8,13 @@ use Rattle.spec_patch.specs.Edition.{v1}
 use Rattle.spec_patch.specs.Encode.{encode}
 use Rattle.spec_session.specs.Session.{Session}
 use Rattle.spec_session.specs.Batch.{BatchAnswer, batch}
-use Rattle.batch_splitting.specs.Splitting.{Piece, Run, references, envelopeOf, send, isRejected, continue, sendAll}
+use Rattle.spec_splitting.specs.Splitting.{Piece, Run, references, envelopeOf, send, isRejected, continue, sendAll}
 use Rattle.shell_player.specs.declared.session.ShellSession.{ShellSession}
-use Rattle.shell_steps.specs.declared.answers.ProjectionPatchApplicationDisposition.{ProjectionPatchApplicationDisposition}
-use Rattle.shell_steps.specs.declared.answers.ProjectionPatchApplicationDisposition.the-variants.{Applied, NoChange, Rejected}
+use Rattle.session_steps.specs.declared.answers.ProjectionPatchApplicationDisposition.{ProjectionPatchApplicationDisposition}
+use Rattle.session_steps.specs.declared.answers.ProjectionPatchApplicationDisposition.the-variants.{Applied, NoChange, Rejected}
 use Rattle.shell_player.specs.declared.batch.ProjectionPatchBatch.{ProjectionPatchBatch}
 use Rattle.shell_player.specs.Holds.{Holds}
-use Rattle.shell_steps.specs.Answers.{dispositionTold, batchAnswerOf}
+use Rattle.session_steps.specs.Answers.{dispositionTold, batchAnswerOf}
 use Rattle.shell_player.specs.Batches.{BatchBecame}
 use Rattle.session_splitting.specs.Calls.{Sent, refused, Onward, Calls, lastOf}
 

@@ -7,13 +7,13 @@ use Rattle.spec_lists.specs.Lists.{All}
 use Rattle.spec_projection.specs.Projection.{Projection}
 use Rattle.spec_projection.specs.Apply.{OperationFault, done, replaySteps, applySteps}
 use Rattle.spec_session.specs.Session.{Session}
-use Rattle.batch_splitting.specs.Splitting.{Piece, patchesOf, FailsAtOperation, FailsIn}
-use Rattle.shell_lifecycle.specs.declared.state.ProjectionReplayCursor.{ProjectionReplayCursor}
-use Rattle.shell_lifecycle.specs.declared.state.ProjectionReplayCursor.the-variants.{At}
+use Rattle.spec_splitting.specs.Splitting.{Piece, patchesOf, FailsAtOperation, FailsIn}
+use Rattle.session_lifecycle.specs.declared.state.ProjectionReplayCursor.{ProjectionReplayCursor}
+use Rattle.session_lifecycle.specs.declared.state.ProjectionReplayCursor.the-variants.{At}
 use Rattle.local_projection_state.specs.Stores.{stateOf}
 use Rattle.local_projection_state.specs.declared.LocalProjectionState.{LocalProjectionState}
 use Rattle.shell_player.specs.declared.session.ShellSession.{ShellSession}
-use Rattle.shell_steps.specs.declared.answers.ProjectionPatchApplicationDisposition.the-variants.{Applied, Rejected}
+use Rattle.session_steps.specs.declared.answers.ProjectionPatchApplicationDisposition.the-variants.{Applied, Rejected}
 use Rattle.shell_player.specs.declared.batch.ProjectionPatchBatch.{ProjectionPatchBatch}
 use Rattle.session_splitting.specs.Calls.{lastOf}
 

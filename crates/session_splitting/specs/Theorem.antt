@@ -12,20 +12,20 @@ use Rattle.spec_session.specs.Lifecycle.{Disposition}
 use Rattle.spec_session.specs.Lifecycle.{stateOf as stateOfSession}
 use Rattle.spec_session.specs.Diagnostics.{Diagnostics}
 use Rattle.spec_session.specs.Batch.{BatchAnswer}
-use Rattle.batch_splitting.specs.Splitting.{Piece, Run, send, sendAll, Given, Applies, AlikeBeside, FailsAtOperation, cursorAfter}
-use Rattle.batch_splitting.specs.Theorem.{whole-and-pieces}
-use Rattle.shell_lifecycle.specs.Meaning.{diagnosticsMean}
-use Rattle.shell_lifecycle.specs.declared.state.ProjectionReplayCursor.{ProjectionReplayCursor}
-use Rattle.shell_lifecycle.specs.declared.state.ProjectionReplayCursor.the-variants.{At}
-use Rattle.shell_lifecycle.specs.declared.diagnostics.ShellDiagnostics.{ShellDiagnostics}
+use Rattle.spec_splitting.specs.Splitting.{Piece, Run, send, sendAll, Given, Applies, AlikeBeside, FailsAtOperation, cursorAfter}
+use Rattle.spec_splitting.specs.Theorem.{whole-and-pieces}
+use Rattle.session_lifecycle.specs.Meaning.{diagnosticsMean}
+use Rattle.session_lifecycle.specs.declared.state.ProjectionReplayCursor.{ProjectionReplayCursor}
+use Rattle.session_lifecycle.specs.declared.state.ProjectionReplayCursor.the-variants.{At}
+use Rattle.session_lifecycle.specs.declared.diagnostics.ShellDiagnostics.{ShellDiagnostics}
 use Rattle.local_projection_state.specs.Stores.{stateOf}
 use Rattle.shell_player.specs.declared.session.ShellSession.{ShellSession}
-use Rattle.shell_steps.specs.declared.answers.ProjectionPatchApplicationDisposition.{ProjectionPatchApplicationDisposition}
-use Rattle.shell_steps.specs.declared.answers.ProjectionPatchApplicationDisposition.the-variants.{Applied, NoChange, Rejected}
+use Rattle.session_steps.specs.declared.answers.ProjectionPatchApplicationDisposition.{ProjectionPatchApplicationDisposition}
+use Rattle.session_steps.specs.declared.answers.ProjectionPatchApplicationDisposition.the-variants.{Applied, NoChange, Rejected}
 use Rattle.shell_player.specs.declared.batch.ProjectionPatchBatch.{ProjectionPatchBatch}
 use Rattle.shell_player.specs.Holds.{Holds}
 use Rattle.shell_player.specs.HoldsLaws.{cursorTo, sessionTo, one-struct}
-use Rattle.shell_steps.specs.Answers.{dispositionTold, batchAnswerOf}
+use Rattle.session_steps.specs.Answers.{dispositionTold, batchAnswerOf}
 use Rattle.shell_player.specs.Batches.{BatchBecame}
 use Rattle.session_splitting.specs.Calls.{Sent, Calls, lastOf}
 use Rattle.session_splitting.specs.Claim.{WasApplied, withProgress, cursorPast, AllApplied, StopsAtRefusal, WholeAndPieces}

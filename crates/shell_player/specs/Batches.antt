@@ -5,14 +5,14 @@ use mathlib.Core.List.{List}
 use Rattle.spec_session.specs.Session.{Session}
 use Rattle.spec_session.specs.Diagnostics.{SessionRefusal}
 use Rattle.spec_session.specs.Batch.{BatchStep, refuse, batch}
-use Rattle.shell_lifecycle.specs.Meaning.{limitsOf, lifecycleOf, cursorOf}
-use Rattle.shell_lifecycle.specs.declared.state.ShellLocalState.{ShellLocalState}
+use Rattle.session_lifecycle.specs.Meaning.{limitsOf, lifecycleOf, cursorOf}
+use Rattle.session_lifecycle.specs.declared.state.ShellLocalState.{ShellLocalState}
 use Rattle.local_projection_state.specs.declared.ProjectionCounts.{ProjectionCounts}
-use Rattle.shell_gates.specs.Gates.{envelopeMeans, preflightBy}
-use Rattle.shell_gates.specs.declared.gates.OrderedProjectionPatchBatchEnvelope.{OrderedProjectionPatchBatchEnvelope}
-use Rattle.shell_steps.specs.Answers.{batchAnswerOf, rejectedAt, AnswerRow}
-use Rattle.shell_steps.specs.declared.answers.ProjectionPatchApplicationDisposition.the-variants.{Applied}
-use Rattle.shell_steps.specs.declared.checks.ActivatedShellSessionContext.{ActivatedShellSessionContext}
+use Rattle.session_gates.specs.Gates.{envelopeMeans, preflightBy}
+use Rattle.session_gates.specs.declared.gates.OrderedProjectionPatchBatchEnvelope.{OrderedProjectionPatchBatchEnvelope}
+use Rattle.session_steps.specs.Answers.{batchAnswerOf, rejectedAt, AnswerRow}
+use Rattle.session_steps.specs.declared.answers.ProjectionPatchApplicationDisposition.the-variants.{Applied}
+use Rattle.session_steps.specs.declared.checks.ActivatedShellSessionContext.{ActivatedShellSessionContext}
 use Rattle.shell_player.specs.declared.session.ShellSession.{ShellSession}
 use Rattle.shell_player.specs.declared.batch.ProjectionPatchBatch.{ProjectionPatchBatch}
 use Rattle.shell_player.specs.Holds.{Holds}

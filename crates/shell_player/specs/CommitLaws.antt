@@ -17,24 +17,24 @@ use Rattle.spec_session.specs.Diagnostics.{SessionRefusal, ofOperation}
 use Rattle.spec_session.specs.Lifecycle.{applied, noChange, LocalState, stateOf}
 use Rattle.spec_session.specs.Batch.{BatchEnvelope, BatchAnswer, Check, pass, refuse, batchChecks, rejectBatch, keepSession, advanced, applyBatch, candidate, commit, concludeBatch, batch}
 use Rattle.spec_session.specs.BatchLaws.{checks-passed}
-use Rattle.shell_lifecycle.specs.Meaning.{cursorOf, stateTold}
-use Rattle.shell_lifecycle.specs.declared.state.ShellLocalState.{ShellLocalState}
+use Rattle.session_lifecycle.specs.Meaning.{cursorOf, stateTold}
+use Rattle.session_lifecycle.specs.declared.state.ShellLocalState.{ShellLocalState}
 use Rattle.active_projection_target_catalog.specs.Catalog.{catalogueOf}
 use Rattle.active_projection_target_catalog.specs.CatalogLaws.{catalogue-back}
 use Rattle.local_projection_state.specs.Stores.{StoredTables}
 use Rattle.local_projection_state.specs.declared.ProjectionCounts.{ProjectionCounts}
-use Rattle.projection_replay.specs.Replay.{RunBecame}
-use Rattle.projection_replay.specs.declared.ReplayRun.{ReplayRun}
-use Rattle.projection_replay.specs.declared.ReplayRun.the-variants.{At, Refused, Unreadable}
-use Rattle.shell_gates.specs.Gates.{erased}
+use Rattle.panel_steps.specs.Replay.{RunBecame}
+use Rattle.panel_steps.specs.declared.ReplayRun.{ReplayRun}
+use Rattle.panel_steps.specs.declared.ReplayRun.the-variants.{At, Refused, Unreadable}
+use Rattle.session_gates.specs.Gates.{erased}
 use Rattle.shell_player.specs.declared.session.ShellSession.{ShellSession}
-use Rattle.shell_steps.specs.declared.answers.ProjectionPatchApplicationResult.{ProjectionPatchApplicationResult}
+use Rattle.session_steps.specs.declared.answers.ProjectionPatchApplicationResult.{ProjectionPatchApplicationResult}
 use Rattle.shell_player.specs.declared.batch.ProjectionPatchBatch.{ProjectionPatchBatch}
 use Rattle.shell_player.specs.Holds.{Holds}
-use Rattle.shell_steps.specs.Answers.{batchAnswerOf, rejectedAt, answerAt, runAnswer, Stopped}
-use Rattle.shell_steps.specs.AnswersLaws.{applied-told}
-use Rattle.shell_steps.specs.Checks.{SeenSession}
-use Rattle.shell_steps.specs.States.{movedTo}
+use Rattle.session_steps.specs.Answers.{batchAnswerOf, rejectedAt, answerAt, runAnswer, Stopped}
+use Rattle.session_steps.specs.AnswersLaws.{applied-told}
+use Rattle.session_steps.specs.Checks.{SeenSession}
+use Rattle.session_steps.specs.States.{movedTo}
 use Rattle.shell_player.specs.Batches.{sessionOf, BatchBecame, KeptUnlessApplied}
 
 -- ---- what is handed back unless the batch is applied

@@ -3,7 +3,7 @@ use mathlib.Core.Path.{_≡_}
 use Rattle.spec_session.specs.Session as model
 use Rattle.spec_session.specs.Lifecycle.{stateOf}
 use Rattle.spec_session.specs.ValidSession.{FewAnchors}
-use Rattle.shell_lifecycle.specs.Meaning.{limitsOf, stateTold}
+use Rattle.session_lifecycle.specs.Meaning.{limitsOf, stateTold}
 use Rattle.active_projection_target_catalog.specs.Catalog.{catalogTo}
 use Rattle.local_projection_state.specs.Stores.{Stores}
 use Rattle.shell_player.specs.declared.session.ShellSession.{ShellSession}

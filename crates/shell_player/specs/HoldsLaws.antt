@@ -4,13 +4,13 @@ use Rattle.spec_session.specs.Session as model
 use Rattle.spec_session.specs.Session.{Lifecycle, Cursor, Limits, Session}
 use Rattle.spec_session.specs.Lifecycle.{LocalState}
 use Rattle.spec_session.specs.Lifecycle as step
-use Rattle.shell_lifecycle.specs.Meaning.{lifecycleOf, cursorOf, stateTold}
-use Rattle.shell_lifecycle.specs.declared.state.ShellLifecycle.{ShellLifecycle}
-use Rattle.shell_lifecycle.specs.declared.state.ShellLifecycle.the-variants.{Created, Active, Suspended, Closed}
-use Rattle.shell_lifecycle.specs.declared.state.ProjectionReplayCursor.{ProjectionReplayCursor}
-use Rattle.shell_lifecycle.specs.declared.state.ProjectionReplayCursor.the-variants.{Uninitialized, At}
-use Rattle.shell_lifecycle.specs.declared.state.ShellLocalState.{ShellLocalState}
-use Rattle.shell_lifecycle.specs.declared.state.ShellLifecycleLimits.{ShellLifecycleLimits}
+use Rattle.session_lifecycle.specs.Meaning.{lifecycleOf, cursorOf, stateTold}
+use Rattle.session_lifecycle.specs.declared.state.ShellLifecycle.{ShellLifecycle}
+use Rattle.session_lifecycle.specs.declared.state.ShellLifecycle.the-variants.{Created, Active, Suspended, Closed}
+use Rattle.session_lifecycle.specs.declared.state.ProjectionReplayCursor.{ProjectionReplayCursor}
+use Rattle.session_lifecycle.specs.declared.state.ProjectionReplayCursor.the-variants.{Uninitialized, At}
+use Rattle.session_lifecycle.specs.declared.state.ShellLocalState.{ShellLocalState}
+use Rattle.session_lifecycle.specs.declared.state.ShellLifecycleLimits.{ShellLifecycleLimits}
 use Rattle.active_projection_target_catalog.specs.Catalog.{catalogTo}
 use Rattle.local_projection_state.specs.Stores.{stateOf}
 use Rattle.local_projection_state.specs.StoresLaws.{one-state, some-state}

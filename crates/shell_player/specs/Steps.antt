@@ -1,13 +1,13 @@
 -- The struct after a step, for every struct whatever.
-use Rattle.shell_lifecycle.specs.declared.lifecycle.ShellTransitionDisposition.{ShellTransitionDisposition}
-use Rattle.shell_lifecycle.specs.declared.lifecycle.ShellTransitionDisposition.the-variants.{Applied, NoChange, Rejected}
-use Rattle.shell_lifecycle.specs.declared.lifecycle.ShellTransitionResult.{ShellTransitionResult}
-use Rattle.shell_lifecycle.specs.declared.state.ShellLocalState.{ShellLocalState}
-use Rattle.shell_lifecycle.specs.declared.state.ShellLifecycle.the-variants.{Created}
-use Rattle.shell_lifecycle.specs.declared.state.ProjectionReplayCursor.the-variants.{Uninitialized}
+use Rattle.session_lifecycle.specs.declared.lifecycle.ShellTransitionDisposition.{ShellTransitionDisposition}
+use Rattle.session_lifecycle.specs.declared.lifecycle.ShellTransitionDisposition.the-variants.{Applied, NoChange, Rejected}
+use Rattle.session_lifecycle.specs.declared.lifecycle.ShellTransitionResult.{ShellTransitionResult}
+use Rattle.session_lifecycle.specs.declared.state.ShellLocalState.{ShellLocalState}
+use Rattle.session_lifecycle.specs.declared.state.ShellLifecycle.the-variants.{Created}
+use Rattle.session_lifecycle.specs.declared.state.ProjectionReplayCursor.the-variants.{Uninitialized}
 use Rattle.spec_projection.specs.Projection.{empty}
 use Rattle.local_projection_state.specs.Stores.{stateOf}
-use Rattle.shell_steps.specs.declared.checks.ActivatedShellSessionContext.{ActivatedShellSessionContext}
+use Rattle.session_steps.specs.declared.checks.ActivatedShellSessionContext.{ActivatedShellSessionContext}
 use Rattle.shell_player.specs.declared.session.ShellSession.{ShellSession}
 use Rattle.shell_player.specs.declared.session.ShellTransition.{ShellTransition}
 

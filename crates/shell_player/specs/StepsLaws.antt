@@ -5,16 +5,16 @@ use native.Mathlib.Omega.{arith}
 use Rattle.spec_session.specs.Session as model
 use Rattle.spec_session.specs.Lifecycle.{Stimulus, applied, noChange, rejected, LocalState, LifecycleAnswer, stateOf, withLifecycle, lifecycleStep}
 use Rattle.spec_session.specs.ValidSessionLaws.{lifecycleStep-unchanged, lifecycleStep-told, lifecycleStep-rest}
-use Rattle.shell_lifecycle.specs.Meaning.{dispositionMeans, answerOf, limitsOf, stateTold, bare}
-use Rattle.shell_lifecycle.specs.MeaningLaws.{bare-answers}
-use Rattle.shell_lifecycle.specs.declared.lifecycle.ShellTransitionDisposition.{ShellTransitionDisposition}
-use Rattle.shell_lifecycle.specs.declared.lifecycle.ShellTransitionDisposition.the-variants.{Applied, NoChange, Rejected}
-use Rattle.shell_lifecycle.specs.declared.lifecycle.ShellTransitionResult.{ShellTransitionResult}
-use Rattle.shell_lifecycle.specs.declared.state.ShellLocalState.{ShellLocalState}
+use Rattle.session_lifecycle.specs.Meaning.{dispositionMeans, answerOf, limitsOf, stateTold, bare}
+use Rattle.session_lifecycle.specs.MeaningLaws.{bare-answers}
+use Rattle.session_lifecycle.specs.declared.lifecycle.ShellTransitionDisposition.{ShellTransitionDisposition}
+use Rattle.session_lifecycle.specs.declared.lifecycle.ShellTransitionDisposition.the-variants.{Applied, NoChange, Rejected}
+use Rattle.session_lifecycle.specs.declared.lifecycle.ShellTransitionResult.{ShellTransitionResult}
+use Rattle.session_lifecycle.specs.declared.state.ShellLocalState.{ShellLocalState}
 use Rattle.spec_session.specs.ValidSession.{FewAnchors}
 use Rattle.active_projection_target_catalog.specs.Catalog.{catalogTo}
 use Rattle.local_projection_state.specs.Stores.{Stores}
-use Rattle.shell_steps.specs.States.{nextState}
+use Rattle.session_steps.specs.States.{nextState}
 use Rattle.shell_player.specs.declared.session.ShellSession.{ShellSession}
 use Rattle.shell_player.specs.Holds.{Holds}
 use Rattle.shell_player.specs.Steps.{withState, nextSession}

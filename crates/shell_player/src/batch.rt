@@ -2,15 +2,15 @@
 use crate::session::ShellSession;
 use local_projection_state::LocalProjectionState;
 use local_projection_state::ProjectionCounts;
-use projection_replay::ReplayRun;
-use shell_gates::gates::BatchGate;
-use shell_gates::gates::OrderedProjectionPatchBatchEnvelope;
-use shell_lifecycle::state::ShellLocalState;
-use shell_steps::answers;
-use shell_steps::answers::ProjectionPatchApplicationResult;
-use shell_steps::checks;
-use shell_steps::checks::ActivatedShellSessionContext;
-use shell_steps::states;
+use panel_steps::ReplayRun;
+use session_gates::gates::BatchGate;
+use session_gates::gates::OrderedProjectionPatchBatchEnvelope;
+use session_lifecycle::state::ShellLocalState;
+use session_steps::answers;
+use session_steps::answers::ProjectionPatchApplicationResult;
+use session_steps::checks;
+use session_steps::checks::ActivatedShellSessionContext;
+use session_steps::states;
 ghost use mathlib.Core.Path.{_≡_};
 ghost use Rattle.shell_player.specs.Batches.{sessionOf, BatchCall, AnyBatchCall};
 
@@ -76,7 +76,7 @@ impl ShellSession {
         let mut bindings = self.local_projection.bindings;
         let mut availability = self.local_projection.availability;
         let mut entries = self.local_projection.entries;
-        let run = projection_application::replay_readable(
+        let run = panel_application::replay_readable(
             &mut bindings,
             &mut availability,
             &mut entries,

@@ -1,13 +1,13 @@
 // Lookups in the projection of a session. Without a record every field of the answer is zero.
 use crate::session::ShellSession;
-use collection_lookups::EntryLookup;
-use stored_values::AvailabilityLookup;
-use stored_values::ValueLookup;
+use panel_positions::EntryLookup;
+use panel_values::AvailabilityLookup;
+use panel_values::ValueLookup;
 ghost use mathlib.Core.Path.{_≡_};
 ghost use Rattle.spec_projection.specs.Lookups.{bindingOf, availabilityOf, entryOf, entryAt, entryCount};
 ghost use Rattle.spec_session.specs.Session.{Session};
-ghost use Rattle.stored_values.specs.Lookup.{valueLookup, availabilityLookup};
-ghost use Rattle.collection_lookups.specs.Nth.{entryLookup};
+ghost use Rattle.panel_values.specs.Lookup.{valueLookup, availabilityLookup};
+ghost use Rattle.panel_positions.specs.Nth.{entryLookup};
 ghost use Rattle.shell_player.specs.Holds.{Holds};
 
 impl ShellSession {
@@ -17,7 +17,7 @@ impl ShellSession {
     {
         let table = self.local_projection.bindings;
         let counts = self.local_projection.counts;
-        projection_lookups::binding_value(&table, counts.bindings, node, slot)
+        panel_lookups::binding_value(&table, counts.bindings, node, slot)
     }
 
     // A node's availability.
@@ -26,7 +26,7 @@ impl ShellSession {
     {
         let table = self.local_projection.availability;
         let counts = self.local_projection.counts;
-        projection_lookups::node_availability(&table, counts.availabilities, node)
+        panel_lookups::node_availability(&table, counts.availabilities, node)
     }
 
     // The value of a collection's key.
@@ -35,7 +35,7 @@ impl ShellSession {
     {
         let table = self.local_projection.entries;
         let counts = self.local_projection.counts;
-        projection_lookups::entry_value(&table, counts.entries, collection, key)
+        panel_lookups::entry_value(&table, counts.entries, collection, key)
     }
 
     // How many entries a collection has.
@@ -44,7 +44,7 @@ impl ShellSession {
     {
         let table = self.local_projection.entries;
         let counts = self.local_projection.counts;
-        collection_lookups::entry_count(&table, counts.entries, collection)
+        panel_positions::entry_count(&table, counts.entries, collection)
     }
 
     // The entry at a position of its collection, from 0.
@@ -53,6 +53,6 @@ impl ShellSession {
     {
         let table = self.local_projection.entries;
         let counts = self.local_projection.counts;
-        collection_lookups::entry_at(&table, counts.entries, collection, position)
+        panel_positions::entry_at(&table, counts.entries, collection, position)
     }
 }

@@ -1,17 +1,17 @@
 // The session by value, and its lifecycle step.
 use local_projection_state::LocalProjectionState;
-use shell_lifecycle::lifecycle;
-use shell_lifecycle::lifecycle::ShellTransitionInput;
-use shell_lifecycle::lifecycle::ShellTransitionResult;
-use shell_lifecycle::state::ProjectionReplayCursor;
-use shell_lifecycle::state::ShellLifecycle;
-use shell_lifecycle::state::ShellLocalState;
-use shell_steps::checks::ActivatedShellSessionContext;
-use shell_steps::states;
+use session_lifecycle::lifecycle;
+use session_lifecycle::lifecycle::ShellTransitionInput;
+use session_lifecycle::lifecycle::ShellTransitionResult;
+use session_lifecycle::state::ProjectionReplayCursor;
+use session_lifecycle::state::ShellLifecycle;
+use session_lifecycle::state::ShellLocalState;
+use session_steps::checks::ActivatedShellSessionContext;
+use session_steps::states;
 ghost use mathlib.Core.Path.{_≡_};
 ghost use Rattle.spec_session.specs.Session.{Session};
 ghost use Rattle.spec_session.specs.Lifecycle.{stateOf, lifecycleStep};
-ghost use Rattle.shell_lifecycle.specs.Meaning.{stimulusOf, answerOf, bare, limitsOf, lifecycleOf, cursorOf, stateTold};
+ghost use Rattle.session_lifecycle.specs.Meaning.{stimulusOf, answerOf, bare, limitsOf, lifecycleOf, cursorOf, stateTold};
 ghost use Rattle.shell_player.specs.Holds.{Holds};
 ghost use Rattle.shell_player.specs.Steps.{newState, afterTransition};
 

@@ -1,7 +1,7 @@
 -- `listing_lines::byte_number` meets its contract: the number that was read.
 use mathlib.Core.Path.{sym, ap, _∙_}
 use borrow.Author.Needs.{needs}
-use Rattle.wire.specs.Read.{numberU8}
+use Rattle.bytes_wire.specs.Read.{numberU8}
 use Rattle.listing_lines.proofs.Rows.{read-is, never-short}
 use Rattle.listing_lines.proofs.byte_number.Statement.{statement}
 use Rattle.listing_lines.proofs.byte_number.Tie as tie

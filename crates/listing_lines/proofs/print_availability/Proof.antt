@@ -7,7 +7,7 @@ use Prim.Native.Nat.{ℕ}
 use Rattle.spec_patch.specs.Encode.{availabilityByte}
 use Rattle.spec_decimal.specs.Decimal.{decimal}
 use Rattle.spec_listing.specs.Listing.{fields, availabilityLine}
-use Rattle.field_printer.specs.PrintsLaws.{_⨾_, same-bytes}
+use Rattle.bytes_printer.specs.PrintsLaws.{_⨾_, same-bytes}
 use Rattle.listing_lines.proofs.Rows.{availability-node, availability-byte}
 use Rattle.listing_lines.proofs.print_availability.Statement.{statement}
 use Rattle.listing_lines.proofs.print_availability.Tie as tie

@@ -1,7 +1,7 @@
 -- `listing_lines::print_number_line` meets its contract: the letter, one field and the end of the line.
 use borrow.Author.Needs.{needs}
 use Rattle.spec_listing.specs.Listing.{fields}
-use Rattle.field_printer.specs.PrintsLaws.{_⨾_}
+use Rattle.bytes_printer.specs.PrintsLaws.{_⨾_}
 use Rattle.listing_lines.proofs.print_number_line.Statement.{statement}
 use Rattle.listing_lines.proofs.print_number_line.Tie as tie
 

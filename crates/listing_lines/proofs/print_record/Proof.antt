@@ -1,7 +1,7 @@
 -- `listing_lines::print_record` meets its contract: the letter, two fields and the value.
 use borrow.Author.Needs.{needs}
 use Rattle.spec_listing.specs.Listing.{fields}
-use Rattle.field_printer.specs.PrintsLaws.{_⨾_}
+use Rattle.bytes_printer.specs.PrintsLaws.{_⨾_}
 use Rattle.listing_lines.proofs.print_record.Statement.{statement}
 use Rattle.listing_lines.proofs.print_record.Tie as tie
 

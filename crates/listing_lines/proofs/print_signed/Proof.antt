@@ -4,8 +4,8 @@ use mir.Facts.{toZ-ofZ}
 use borrow.Author.Needs.{needs}
 use Rattle.spec_decimal.specs.Decimal.{signedDecimal}
 use Rattle.spec_listing.specs.Listing.{fields}
-use Rattle.field_printer.specs.Prints.{field}
-use Rattle.field_printer.specs.PrintsLaws.{_⨾_, same-bytes}
+use Rattle.bytes_printer.specs.Prints.{field}
+use Rattle.bytes_printer.specs.PrintsLaws.{_⨾_, same-bytes}
 use Rattle.listing_lines.proofs.print_signed.Statement.{statement}
 use Rattle.listing_lines.proofs.print_signed.Tie as tie
 

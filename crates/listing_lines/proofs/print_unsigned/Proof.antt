@@ -1,7 +1,7 @@
 -- `listing_lines::print_unsigned` meets its contract: two fields and the end of the line.
 use borrow.Author.Needs.{needs}
 use Rattle.spec_listing.specs.Listing.{fields}
-use Rattle.field_printer.specs.PrintsLaws.{_⨾_}
+use Rattle.bytes_printer.specs.PrintsLaws.{_⨾_}
 use Rattle.listing_lines.proofs.print_unsigned.Statement.{statement}
 use Rattle.listing_lines.proofs.print_unsigned.Tie as tie
 

@@ -10,7 +10,7 @@ use mir.Facts.{toZ-ofZ}
 use borrow.Author.Needs.{needs, sfits-of}
 use Rattle.spec_decimal.specs.Decimal.{signedDecimal}
 use Rattle.spec_listing.specs.Listing.{fields}
-use Rattle.field_printer.specs.PrintsLaws.{same-bytes}
+use Rattle.bytes_printer.specs.PrintsLaws.{same-bytes}
 use Rattle.listing_lines.proofs.Values.{quad-fields, signed-fields, unsigned-fields, text-fields}
 use Rattle.listing_lines.proofs.print_value.Statement.{statement}
 use Rattle.listing_lines.proofs.print_value.Tie as tie

@@ -9,7 +9,7 @@ use lib.Dec.{eqb}
 use lib.ListN.{length}
 use lib.Seq.{take-all}
 use Rattle.spec_lists.specs.Lists.{equalLists}
-use Rattle.wire.specs.Prefix.{startsWith}
+use Rattle.bytes_wire.specs.Prefix.{startsWith}
 use Rattle.script_fields.proofs.is_word.Statement.{statement}
 use Rattle.script_fields.proofs.is_word.Tie as tie
 

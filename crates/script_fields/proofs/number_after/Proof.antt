@@ -5,7 +5,7 @@ use native.Mathlib.Omega.{arith}
 use borrow.Author.Needs.{needs}
 use lib.ListN.{drop, length-drop}
 use Rattle.spec_decimal.specs.Decimal.{readDecimal}
-use Rattle.decimal.specs.Read.{numberU64}
+use Rattle.bytes_decimal.specs.Read.{numberU64}
 use Rattle.script_fields.specs.FieldsLaws.{length-firstField, missing, read-here, not-read}
 use Rattle.script_fields.proofs.number_after.Statement.{statement}
 use Rattle.script_fields.proofs.number_after.Tie as tie

@@ -6,8 +6,8 @@ use borrow.Author.Needs.{needs}
 use borrow.Rule.Slice.PartAt.{part-to-end}
 use lib.ListN.{length, drop, drop-of-length-le}
 use Rattle.spec_replay.specs.Script.{readHex}
-use Rattle.hex.specs.declared.Decoded.the-variants.{Malformed}
-use Rattle.hex.specs.Decoding.{decoding, decodedInto}
+use Rattle.bytes_hex.specs.declared.Decoded.the-variants.{Malformed}
+use Rattle.bytes_hex.specs.Decoding.{decoding, decodedInto}
 use Rattle.script_parser.proofs.decode_set.Statement.{statement}
 use Rattle.script_parser.proofs.decode_set.Tie as tie
 

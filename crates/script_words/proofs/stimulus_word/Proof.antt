@@ -3,7 +3,7 @@ use mathlib.Core.Path.{_≡_, sym, ap, _∙_}
 use borrow.Author.Needs.{needs}
 use lib.ListN.{drop}
 use Rattle.spec_replay.specs.Script.{byWord, stimuli}
-use Rattle.shell_lifecycle.specs.Meaning.{commandOf, stimulusOf}
+use Rattle.session_lifecycle.specs.Meaning.{commandOf, stimulusOf}
 use Rattle.script_words.specs.Words.{stimulusMeant}
 use Rattle.script_words.proofs.Rows.{this-row, later-row}
 use Rattle.script_words.proofs.stimulus_word.Statement.{statement}

@@ -7,7 +7,7 @@ use native.Mathlib.Omega.{arith}
 use borrow.Author.Needs.{needs}
 use denote.Ref.{now}
 use lib.ListN.{length}
-use Rattle.wire.specs.Write.{overwrite}
+use Rattle.bytes_wire.specs.Write.{overwrite}
 use Rattle.spec_patch.specs.Encode.{u64, encodeOptional}
 use Rattle.projection_patch.specs.declared.patch.OptionalKey.{OptionalKey}
 use Rattle.projection_patch.specs.Meaning.{beforeOf}

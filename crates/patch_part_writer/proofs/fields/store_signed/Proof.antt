@@ -10,7 +10,7 @@ use mir.Syntax.{w64}
 use mir.Val.{ofZ}
 use mir.Facts.{toZ-ofZ}
 use Rattle.patch_part_writer.proofs.Stored.{first-number, next-number, one-byte}
-use Rattle.wire.specs.Write.{overwrite}
+use Rattle.bytes_wire.specs.Write.{overwrite}
 use Rattle.spec_patch.specs.Encode.{u64}
 use Rattle.patch_part_writer.proofs.fields.store_signed.Statement.{statement}
 use Rattle.patch_part_writer.proofs.fields.store_signed.Tie as tie

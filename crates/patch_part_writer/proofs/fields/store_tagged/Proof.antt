@@ -6,7 +6,7 @@ use native.Mathlib.Omega.{arith}
 use borrow.Author.Needs.{needs}
 use denote.Ref.{now}
 use Rattle.patch_part_writer.proofs.Stored.{first-number, next-number, one-byte}
-use Rattle.wire.specs.Write.{overwrite}
+use Rattle.bytes_wire.specs.Write.{overwrite}
 use Rattle.spec_patch.specs.Encode.{u64}
 use Rattle.patch_part_writer.proofs.fields.store_tagged.Statement.{statement}
 use Rattle.patch_part_writer.proofs.fields.store_tagged.Tie as tie

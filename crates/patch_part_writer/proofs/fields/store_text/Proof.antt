@@ -8,7 +8,7 @@ use denote.Ref.{now}
 use lib.ListN.{length, take, drop, length-drop}
 use lib.Seq.{length-take-le}
 use Rattle.patch_part_writer.proofs.Stored.{first, next, next-number, one-byte}
-use Rattle.wire.specs.Write.{overwrite}
+use Rattle.bytes_wire.specs.Write.{overwrite}
 use Rattle.patch_part_writer.proofs.fields.store_text.Statement.{statement}
 use Rattle.patch_part_writer.proofs.fields.store_text.Tie as tie
 

@@ -6,7 +6,7 @@ use native.Mathlib.Omega.{arith}
 use borrow.Author.Needs.{needs}
 use denote.Ref.{now}
 use Rattle.patch_part_writer.proofs.Stored.{first-number, next-number, one-byte}
-use Rattle.wire.specs.Write.{overwrite}
+use Rattle.bytes_wire.specs.Write.{overwrite}
 use Rattle.patch_part_writer.proofs.fields.store_two.Statement.{statement}
 use Rattle.patch_part_writer.proofs.fields.store_two.Tie as tie
 

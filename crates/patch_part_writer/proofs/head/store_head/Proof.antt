@@ -6,7 +6,7 @@ use native.Mathlib.Omega.{arith}
 use borrow.Author.Needs.{needs}
 use denote.Ref.{now}
 use lib.ListN.{length, length-append}
-use Rattle.wire.specs.Write.{overwrite}
+use Rattle.bytes_wire.specs.Write.{overwrite}
 use Rattle.spec_patch.specs.Encode.{u32, u64, encodeOptional, encodeEnvelope}
 use Rattle.spec_lists.specs.BytesLaws.{length-littleEndian}
 use Rattle.projection_patch.specs.Meaning.{surfaceOf}

@@ -4,7 +4,7 @@ use mathlib.Core.Path.{ap, _∙_}
 use native.Mathlib.Omega.{arith}
 use borrow.Author.Needs.{needs}
 use denote.Ref.{now}
-use Rattle.wire.specs.Write.{overwrite}
+use Rattle.bytes_wire.specs.Write.{overwrite}
 use Rattle.spec_patch.specs.Encode.{u64}
 use Rattle.patch_part_writer.proofs.Stored.{first-number, next-number}
 use Rattle.patch_part_writer.proofs.head.store_three.Statement.{statement}

@@ -5,7 +5,7 @@ use mathlib.Core.Path.{refl, ap, _∙_}
 use native.Mathlib.Omega.{arith}
 use borrow.Author.Needs.{needs}
 use denote.Ref.{now}
-use Rattle.wire.specs.Write.{overwrite}
+use Rattle.bytes_wire.specs.Write.{overwrite}
 use Rattle.spec_patch.specs.Encode.{u64}
 use Rattle.spec_lists.specs.BytesLaws.{length-littleEndian}
 use Rattle.patch_part_writer.proofs.Stored.{first, next, one-byte}

@@ -5,7 +5,7 @@ use mathlib.Core.Path.{_≡_, ap, _∙_}
 use native.Mathlib.Omega.{arith}
 use borrow.Author.Needs.{needs}
 use denote.Ref.{now}
-use Rattle.wire.specs.Write.{overwrite}
+use Rattle.bytes_wire.specs.Write.{overwrite}
 use Rattle.spec_patch.specs.Encode.{u64, encodeOptional, encodeValue}
 use Rattle.projection_patch.specs.Meaning.{beforeOf, valueOf}
 use Rattle.patch_part_writer.specs.Extent.{beforeSize, valueSize}

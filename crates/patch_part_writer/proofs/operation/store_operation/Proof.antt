@@ -5,7 +5,7 @@ use mathlib.Core.Path.{sym, ap, ap₂, subst, _∙_}
 use borrow.Author.Needs.{needs}
 use denote.Ref.{now}
 use lib.ListN.{length}
-use Rattle.wire.specs.Write.{overwrite}
+use Rattle.bytes_wire.specs.Write.{overwrite}
 use Rattle.spec_patch.specs.Encode.{u64, encodeOptional, encodeValue, encodeOperation}
 use Rattle.projection_patch.specs.declared.patch.ProjectionPatchOperation.{ProjectionPatchOperation}
 use Rattle.projection_patch.specs.Meaning.{beforeOf, valueOf, operationOf}

@@ -5,7 +5,7 @@ use mathlib.Core.List.{List}
 use mathlib.Core.Option.{Option, some}
 use native.Mathlib.Omega.{arith}
 use lib.ListN.{drop}
-use Rattle.wire.specs.Read.{firstNumber, numberU64}
+use Rattle.bytes_wire.specs.Read.{firstNumber, numberU64}
 use Rattle.projection_patch.specs.ReadAnswers.{numbersAnswer}
 use Rattle.projection_patch.proofs.At.{u64-at}
 use borrow.Author.Needs.{needs}

@@ -4,7 +4,7 @@ use mathlib.Core.Path.{_≡_, ap, _∙_}
 use native.Mathlib.Omega.{arith}
 use native.Mathlib.Nat.{add-sub-cancel-left}
 use lib.ListN.{take, drop}
-use Rattle.utf8.specs.Answer as utf8
+use Rattle.bytes_utf8.specs.Answer as utf8
 use Rattle.projection_patch.proofs.Texts.{valid, invalid, short, bad, placed}
 use borrow.Author.Needs.{needs}
 use Rattle.projection_patch.proofs.read_values.text_from.Statement.{statement}

@@ -2,7 +2,7 @@
 use mathlib.Core.Path.{sym, ap, _∙_}
 use borrow.Author.Needs.{needs}
 use Rattle.spec_replay.specs.Script.{apply}
-use Rattle.shell_lifecycle.specs.Meaning.{stimulusOf}
+use Rattle.session_lifecycle.specs.Meaning.{stimulusOf}
 use Rattle.script_fields.specs.declared.LastNumber.{LastNumber}
 use Rattle.script_fields.specs.Fields.{numberOr}
 use Rattle.script_parser.proofs.arguments.stimulus_line.Statement.{statement}

@@ -17,16 +17,16 @@ use Rattle.spec_session.specs.Lifecycle.{applied}
 use Rattle.spec_session.specs.Batch.{candidate, commit}
 use Rattle.spec_session.specs.BatchLaws.{never-passes}
 use Rattle.local_projection_state.specs.Stores.{StoredTables}
-use Rattle.projection_replay.proofs.ReplayRun as replay-run
-use Rattle.projection_replay.specs.Replay.{RunBecame}
-use Rattle.projection_replay.specs.declared.ReplayRun.{ReplayRun}
-use Rattle.projection_replay.specs.declared.ReplayRun.the-variants.{At, Refused, Unreadable}
-use Rattle.shell_lifecycle.specs.Meaning.{cursorOf}
-use Rattle.shell_gates.specs.Gates.{gateOf, counted, envelopeMeans}
+use Rattle.panel_steps.proofs.ReplayRun as replay-run
+use Rattle.panel_steps.specs.Replay.{RunBecame}
+use Rattle.panel_steps.specs.declared.ReplayRun.{ReplayRun}
+use Rattle.panel_steps.specs.declared.ReplayRun.the-variants.{At, Refused, Unreadable}
+use Rattle.session_lifecycle.specs.Meaning.{cursorOf}
+use Rattle.session_gates.specs.Gates.{gateOf, counted, envelopeMeans}
 use Rattle.shell_player.specs.declared.session.ShellSession.{ShellSession}
 use Rattle.shell_player.specs.Holds.{Holds}
-use Rattle.shell_steps.specs.Answers.{batchAnswerOf, answerAt, runAnswer, Stopped, rejectedRow, unchangedRow, appliedRow}
-use Rattle.shell_steps.specs.AnswersLaws.{same-rejection, run-row}
+use Rattle.session_steps.specs.Answers.{batchAnswerOf, answerAt, runAnswer, Stopped, rejectedRow, unchangedRow, appliedRow}
+use Rattle.session_steps.specs.AnswersLaws.{same-rejection, run-row}
 use Rattle.shell_player.specs.Batches.{BatchBecame}
 use Rattle.shell_player.specs.CommitLaws.{kept-applied, seen, commits-none, commits-stopped, commits-applied, batch-rejects, batch-commits}
 use borrow.Author.Needs.{needs}

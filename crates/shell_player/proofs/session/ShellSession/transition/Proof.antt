@@ -1,7 +1,7 @@
 -- `ShellSession::transition` meets its contract: the state is stored where the answer is Applied.
 use mathlib.Core.Path.{_≡_, sym, ap, subst, _∙_}
 use Rattle.spec_session.specs.Lifecycle.{lifecycleStep}
-use Rattle.shell_lifecycle.specs.Meaning.{stimulusOf}
+use Rattle.session_lifecycle.specs.Meaning.{stimulusOf}
 use Rattle.shell_player.specs.Holds.{Holds}
 use Rattle.shell_player.specs.declared.session.ShellSession.{ShellSession}
 use Rattle.shell_player.specs.Steps.{withState, nextSession, afterTransition}

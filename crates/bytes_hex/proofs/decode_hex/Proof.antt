@@ -1,0 +1,44 @@
+-- `bytes_hex::decode_hex` meets its contract: no text, the dash, and pairs.
+use mathlib.Core.Path.{ap, _∙_}
+use mathlib.Core.Logic.{⊎-elim}
+use native.Mathlib.Omega.{arith}
+use borrow.Author.Needs.{needs}
+use lib.ListN.{length}
+use Rattle.bytes_hex.specs.Decoding.{decoding, decodedInto}
+use Rattle.bytes_hex.proofs.Answers.{no-text, dash, no-dash}
+use Rattle.bytes_hex.proofs.decode_hex.Statement.{statement}
+use Rattle.bytes_hex.proofs.decode_hex.Tie as tie
+
+returns : tie.Need-returns
+returns c =
+    let args = c .before .before .before .args in
+    no-text (args .out .now) (args .text .now) (c .if1 .taken)
+
+shared-slice-read-if3 : tie.Need-shared-slice-read-if3
+shared-slice-read-if3 c = search needs
+
+returns-2 : tie.Need-returns-2
+returns-2 c =
+    let args = c .before .before .before .before .before .before .args in
+    dash (args .out .now) (args .text .now) (omega arith) (c .if3 .taken)
+
+decode-pairs-requires : tie.Need-decode-pairs-requires
+decode-pairs-requires c κs = search needs
+
+same-length : tie.Need-same-length
+same-length c = search needs
+
+returns-3 : tie.Need-returns-3
+returns-3 c =
+    let called = c .before .before in
+    let joined = called .before .before in
+    let args = joined .before .before .before .before .args in
+    let same = no-dash (args .text .now) (joined .before .if1 .left) (λ one e. ⊎-elim (λ w. w .2 .left e) (λ w. w .left one) (joined .if2 .came)) in (
+      called .decode-pairs .ensures .0 ∙ ap (decoding (length (args .out .now))) same,
+      called .decode-pairs .ensures .1 ∙ ap (decodedInto (args .out .now)) same,
+    )
+
+pub decode-hex-spec : {M : Type 1} → statement M
+decode-hex-spec =
+    tie.close
+    (tie.spec returns shared-slice-read-if3 returns-2 decode-pairs-requires same-length returns-3)

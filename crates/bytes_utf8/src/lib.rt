@@ -1,0 +1,178 @@
+// Whether a text is UTF-8 by RFC 3629, and how many characters it has. A table of byte classes decides each character; bytes below 0x80 that
+// follow one another are passed in groups, without it.
+ghost use Prim.Native.Nat.{_≤_, _<_};
+ghost use mathlib.Core.Path.{_≡_};
+ghost use mathlib.Core.Bool.{true};
+ghost use mathlib.Core.List.{[], _∷_};
+ghost use lib.ListN.{length, drop};
+ghost use Rattle.spec_text.specs.Syntax.{tail, expects};
+ghost use Rattle.bytes_utf8.specs.Classes.{classOf, IsClassTable, IsTailClass, tails};
+ghost use Rattle.bytes_utf8.specs.Characters.{matches, lengthAfter, characterLength, AsciiBetween};
+ghost use Rattle.bytes_utf8.specs.Answer.{answer};
+
+mod tables;
+
+use tables::CLASSES;
+
+pub enum Utf8Check {
+    Valid { characters: usize },
+    Invalid,
+}
+
+// The class of a byte. The table is lent: a constant that is indexed is written out anew at each use.
+fn class_of(classes: &[u8; 256], byte: u8) -> u8
+    requires { ⌜ IsClassTable (now classes) ⌝ }
+    ensures { λ r. ⌜ r ≡ classOf byte ⌝ }
+{
+    classes[byte as usize]
+}
+
+// Whether a byte of one of the classes low to high stands at the position.
+fn is_tail(classes: &[u8; 256], text: &[u8], at: usize, low: u8, high: u8) -> bool
+    requires { ⌜ IsClassTable (now classes) × IsTailClass low × IsTailClass high ⌝ }
+    ensures { λ r. ⌜ r ≡ matches (tails low high ∷ []) (drop at (now (text .entry))) ⌝ }
+{
+    if at < text.len() {
+        let class = class_of(classes, text[at]);
+        return low <= class && class <= high;
+    }
+    false
+}
+
+// 2 if a tail follows the first byte, else 0.
+fn two_bytes(classes: &[u8; 256], text: &[u8]) -> usize
+    requires { ⌜ IsClassTable (now classes) ⌝ }
+    ensures { λ r. ⌜ r ≡ lengthAfter (expects (tails 1 3 ∷ [])) (drop 1 (now (text .entry))) ⌝ }
+{
+    if is_tail(classes, text, 1, 1, 3) {
+        return 2;
+    }
+    0
+}
+
+// 3 if two tails follow the first byte, of which the first is of the classes low to high, else 0.
+fn three_bytes(classes: &[u8; 256], text: &[u8], low: u8, high: u8) -> usize
+    requires { ⌜ IsClassTable (now classes) × IsTailClass low × IsTailClass high ⌝ }
+    ensures { λ r. ⌜ r ≡ lengthAfter (expects (tails low high ∷ tail ∷ [])) (drop 1 (now (text .entry))) ⌝ }
+{
+    if is_tail(classes, text, 1, low, high) {
+        if is_tail(classes, text, 2, 1, 3) {
+            return 3;
+        }
+    }
+    0
+}
+
+// 4 if three tails follow the first byte, likewise.
+fn four_bytes(classes: &[u8; 256], text: &[u8], low: u8, high: u8) -> usize
+    requires { ⌜ IsClassTable (now classes) × IsTailClass low × IsTailClass high ⌝ }
+    ensures { λ r. ⌜ r ≡ lengthAfter (expects (tails low high ∷ tail ∷ tail ∷ [])) (drop 1 (now (text .entry))) ⌝ }
+{
+    if is_tail(classes, text, 1, low, high) {
+        if is_tail(classes, text, 2, 1, 3) {
+            if is_tail(classes, text, 3, 1, 3) {
+                return 4;
+            }
+        }
+    }
+    0
+}
+
+// The number of bytes of the character that the text begins with, or 0 if it begins with none.
+fn character_length(classes: &[u8; 256], text: &[u8]) -> usize
+    requires { ⌜ IsClassTable (now classes) × (0 < length (now text)) ⌝ }
+    ensures { λ r. ⌜ r ≡ characterLength (now (text .entry)) ⌝ }
+{
+    match class_of(classes, text[0]) {
+        0 => 1,
+        4 => two_bytes(classes, text),
+        5 => three_bytes(classes, text, 3, 3),
+        6 => three_bytes(classes, text, 1, 3),
+        7 => three_bytes(classes, text, 1, 2),
+        8 => four_bytes(classes, text, 2, 3),
+        9 => four_bytes(classes, text, 1, 3),
+        10 => four_bytes(classes, text, 1, 1),
+        _ => 0,
+    }
+}
+
+// Whether every byte of the group is below 0x80: told by the largest, which for a group of known length takes a few vector operations.
+fn is_ascii(group: &[u8]) -> bool
+    ensures { λ r. ⌜ (r ≡ true → AsciiBetween (now (group .entry)) 0 (length (now (group .entry)))) ⌝ }
+{
+    let mut largest: u8 = 0;
+    let mut i: usize = 0;
+    while i < group.len() {
+        let byte = group[i];
+        if largest < byte {
+            largest = byte;
+        }
+        i += 1;
+    }
+    largest < 0x80
+}
+
+// The position behind the groups of 16 bytes below 0x80 that stand there.
+fn groups_end(text: &[u8], from: usize) -> usize
+    requires { ⌜ from ≤ length (now text) ⌝ }
+    ensures { λ r. ⌜ AsciiBetween (now (text .entry)) from r ⌝ }
+{
+    let mut i = from;
+    while 16 <= text.len() - i {
+        if !is_ascii(&text[i..i + 16]) {
+            return i;
+        }
+        i += 16;
+    }
+    i
+}
+
+// The position behind the bytes below 0x80 that stand there.
+fn ascii_end(text: &[u8], from: usize) -> usize
+    requires { ⌜ from ≤ length (now text) ⌝ }
+    ensures { λ r. ⌜ AsciiBetween (now (text .entry)) from r ⌝ }
+{
+    let mut i = groups_end(text, from);
+    while i < text.len() {
+        if 0x80 <= text[i] {
+            return i;
+        }
+        i += 1;
+    }
+    i
+}
+
+// The check of a text whose bytes before the position are below 0x80. Those that follow a character of one byte are passed in a row.
+fn check_from(classes: &[u8; 256], text: &[u8], from: usize) -> Utf8Check
+    requires { ⌜ IsClassTable (now classes) × AsciiBetween (now text) 0 from ⌝ }
+    ensures { λ r. ⌜ r ≡ answer (now (text .entry)) ⌝ }
+{
+    let mut characters = from;
+    let mut i = from;
+    while i < text.len() {
+        let length = character_length(classes, &text[i..]);
+        if length == 0 {
+            return Utf8Check::Invalid;
+        }
+        characters += 1;
+        i += length;
+        if length == 1 {
+            let end = ascii_end(text, i);
+            characters += end - i;
+            i = end;
+        }
+    }
+    Utf8Check::Valid { characters }
+}
+
+// Whether the text is UTF-8, and the number of its characters. The table is written out only for a text with a byte from 0x80 on.
+pub fn check(text: &[u8]) -> Utf8Check
+    ensures { λ r. ⌜ r ≡ answer (now (text .entry)) ⌝ }
+{
+    let ascii = ascii_end(text, 0);
+    if ascii == text.len() {
+        return Utf8Check::Valid { characters: ascii };
+    }
+    let classes = CLASSES;
+    check_from(&classes, text, ascii)
+}

@@ -1,0 +1,36 @@
+-- `bytes_wire::write_i64_at` meets its contract: the bytes of the two's complement.
+use Prim.Native.Nat.{ℕ}
+use mathlib.Core.Path.{_≡_, ap, _∙_}
+use borrow.Author.Needs.{needs}
+use denote.Ref.{now}
+use mir.Syntax.{w64}
+use mir.Val.{ofZ}
+use mir.Facts.{toZ-ofZ}
+use Rattle.spec_lists.specs.Bytes.{littleEndian}
+use Rattle.bytes_wire.specs.Write.{overwrite}
+use Rattle.bytes_wire.proofs.write_i64_at.Statement.{statement}
+use Rattle.bytes_wire.proofs.write_i64_at.Tie as tie
+
+to-unsigned-requires : tie.Need-to-unsigned-requires
+to-unsigned-requires c κs = search needs
+
+write-number-at-requires : tie.Need-write-number-at-requires
+write-number-at-requires c κs = search needs
+
+same-length : tie.Need-same-length
+same-length c = search needs
+
+returns : tie.Need-returns
+returns c =
+    let call = c .before .before in
+    let converted = call .before in
+    let start = converted .before .before .before in
+    let args = start .args in
+    let bits : converted .to-unsigned .result ≡ ofZ w64 (args .z) = converted .to-unsigned .ensures ∙ ap (ofZ w64) (toZ-ofZ (start .fits .z)) in (
+      call .write-number-at .ensures .0,
+      call .write-number-at .ensures .1 ∙ ap (λ (x : ℕ). overwrite (now (args .out)) (args .at) (littleEndian 8 x)) bits,
+    )
+
+pub write-i64-at-spec : {M : Type 1} → statement M
+write-i64-at-spec =
+    tie.close (tie.spec to-unsigned-requires write-number-at-requires same-length returns)

@@ -1,0 +1,23 @@
+-- `check_findings::found::is_found` meets its contract.
+use Rattle.check_findings.specs.EnvelopeChecks.{optionalOf}
+use Rattle.check_findings.specs.Found.{isFound}
+use borrow.Author.Needs.{needs}
+use Rattle.check_findings.proofs.found.is_found.Statement.{statement}
+use Rattle.check_findings.proofs.found.is_found.Tie as tie
+
+enum-told : tie.Need-enum-told
+enum-told c = search needs
+
+enum-told-2 : tie.Need-enum-told-2
+enum-told-2 c = search needs
+
+returns : tie.Need-returns
+unfolding isFound optionalOf
+returns c = rw (c .enum-told .given .1)
+
+returns-2 : tie.Need-returns-2
+unfolding isFound optionalOf
+returns-2 c = rw (c .enum-told2 .given .1)
+
+pub is-found-spec : {M : Type 1} → statement M
+is-found-spec = tie.close (tie.spec enum-told enum-told-2 returns returns-2)

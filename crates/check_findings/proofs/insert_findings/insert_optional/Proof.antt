@@ -1,0 +1,35 @@
+-- `check_findings::insert_findings::insert_optional` meets its contract: nothing, or one finding.
+use mathlib.Core.Path.{_∙_}
+use Rattle.check_findings.specs.EnvelopeChecks.{optionalOf}
+use Rattle.check_findings.specs.InsertFindings.{insertedAll}
+use borrow.Author.Needs.{needs}
+use Rattle.check_findings.proofs.insert_findings.insert_optional.Statement.{statement}
+use Rattle.check_findings.proofs.insert_findings.insert_optional.Tie as tie
+
+enum-told : tie.Need-enum-told
+enum-told c = search needs
+
+enum-known-optional : tie.Need-enum-known-optional
+enum-known-optional c = search needs
+
+insert-finding-requires : tie.Need-insert-finding-requires
+insert-finding-requires c κs = search needs
+
+returns : tie.Need-returns
+unfolding insertedAll optionalOf
+returns c = (rw (c .enum-told .given .1), rw (c .enum-told .given .1))
+
+same-length : tie.Need-same-length
+same-length c = search needs
+
+returns-2 : tie.Need-returns-2
+unfolding insertedAll optionalOf
+returns-2 c =
+    let call = c .before .before in
+    let known = call .before .before .before in
+    (call .insert-finding .ensures .0 ∙ rw (known .optional .given .1), call .insert-finding .ensures .1 ∙ rw (known .optional .given .1))
+
+pub insert-optional-spec : {M : Type 1} → statement M
+insert-optional-spec =
+    tie.close
+    (tie.spec enum-told enum-known-optional insert-finding-requires returns same-length returns-2)

@@ -1,0 +1,60 @@
+-- `check_set::check_set::check` meets its contract: the quick check tells whether there is anything to list.
+use mathlib.Core.Path.{sym, _∙_}
+use Rattle.spec_patch.specs.Edition.{v1}
+use Rattle.spec_patch.specs.Read.{readSet}
+use Rattle.check_set.proofs.Written.{clean-is, found-some, refused-is}
+use borrow.Author.Needs.{needs}
+use Rattle.check_set.proofs.check_set.check.Statement.{statement}
+use Rattle.check_set.proofs.check_set.check.Tie as tie
+
+quick-check-requires : tie.Need-quick-check-requires
+quick-check-requires c κs = search needs
+
+enum-told : tie.Need-enum-told
+enum-told c = search needs
+
+enum-told-2 : tie.Need-enum-told-2
+enum-told-2 c = search needs
+
+find-requires : tie.Need-find-requires
+find-requires c κs = search needs
+
+enum-known-fault : tie.Need-enum-known-fault
+enum-known-fault c = search needs
+
+returns : tie.Need-returns
+returns c =
+    let q = c .before .before in
+    let a = q .before .before .before .args in
+    clean-is (a .findings .now) (readSet v1 (a .set .now)) _ _ (sym (q .quick-check .ensures) ∙ c .enum-told .given .1)
+
+same-length : tie.Need-same-length
+same-length c = search needs
+
+returns-2 : tie.Need-returns-2
+returns-2 c =
+    let call = c .before .before in
+    let told = call .before .before in
+    let q = told .before .before in
+    let a = q .before .before .before .args in
+    found-some (a .findings .now) (readSet v1 (a .set .now)) (sym (q .quick-check .ensures) ∙ told .enum-told2 .given .1) _ _ (call .find .ensures .0) (call .find .ensures .1)
+
+returns-3 : tie.Need-returns-3
+returns-3 c =
+    let q = c .before .before .before in
+    let a = q .before .before .before .args in
+    refused-is (a .findings .now) (readSet v1 (a .set .now)) _ (sym (q .quick-check .ensures) ∙ c .before .fault .given .1)
+
+pub check-spec : {M : Type 1} → statement M
+check-spec =
+    tie.close
+    (tie.spec
+    quick-check-requires
+    enum-told
+    enum-told-2
+    find-requires
+    enum-known-fault
+    returns
+    same-length
+    returns-2
+    returns-3)

@@ -1,0 +1,25 @@
+-- `check_set::check_set::write_answer` meets its contract.
+use Prim.Native.Nat.{ℕ, _*_}
+use mathlib.Core.Path.{ap, _∙_}
+use mathlib.Core.List.{_++_}
+use lib.ListN.{take, drop}
+use Rattle.check_set.specs.declared.check_set.PatchSetCheck.the-variants as set-check
+use borrow.Author.Needs.{needs}
+use Rattle.check_set.proofs.check_set.write_answer.Statement.{statement}
+use Rattle.check_set.proofs.check_set.write_answer.Tie as tie
+
+write-findings-requires : tie.Need-write-findings-requires
+write-findings-requires c κs = search needs
+
+same-length : tie.Need-same-length
+same-length c = search needs
+
+returns : tie.Need-returns
+returns c =
+    let w = c .before .before in
+    let a = w .before .before .before .before .args in
+    let told = w .write-findings .ensures in
+    (ap (set-check.Checked (a .place) (a .logical)) (told .0), told .1 ∙ ap (λ (n : ℕ). take (3 * n) (a .records .now) ++ drop (3 * n) (a .out .now)) (told .0))
+
+pub write-answer-spec : {M : Type 1} → statement M
+write-answer-spec = tie.close (tie.spec write-findings-requires same-length returns)

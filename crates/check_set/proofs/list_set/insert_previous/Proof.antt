@@ -1,0 +1,51 @@
+-- `check_set::list_set::insert_previous` meets its contract.
+use mathlib.Core.Path.{ap, _∙_}
+use mathlib.Core.List.{List}
+use Rattle.spec_checks.specs.Finding.{Finding}
+use Rattle.check_findings.specs.InsertFindings.{insertedAll}
+use Rattle.check_set.specs.SetListed.{previousListed}
+use borrow.Author.Needs.{needs}
+use Rattle.check_set.proofs.list_set.insert_previous.Statement.{statement}
+use Rattle.check_set.proofs.list_set.insert_previous.Tie as tie
+
+enum-told : tie.Need-enum-told
+enum-told c = search needs
+
+enum-known-previous : tie.Need-enum-known-previous
+enum-known-previous c = search needs
+
+pair-findings-requires : tie.Need-pair-findings-requires
+pair-findings-requires c κs = search needs
+
+insert-pair-findings-requires : tie.Need-insert-pair-findings-requires
+insert-pair-findings-requires c κs = search needs
+
+returns : tie.Need-returns
+unfolding insertedAll previousListed
+returns c = (rw (c .enum-told .given .1), rw (c .enum-told .given .1))
+
+same-length : tie.Need-same-length
+same-length c = search needs
+
+returns-2 : tie.Need-returns-2
+unfolding previousListed
+returns-2 c =
+    let call = c .before .before in
+    let known = call .before .before .before .before in
+    let a = known .before .before .before .args in
+    let list = call .before .before .pair-findings .ensures in (
+      call .insert-pair-findings .ensures .0 ∙ ap (λ (l : List Finding). insertedAll l (a .kept) (a .records .now) .0) list ∙ rw (known .previous .given .1),
+      call .insert-pair-findings .ensures .1 ∙ ap (λ (l : List Finding). insertedAll l (a .kept) (a .records .now) .1) list ∙ rw (known .previous .given .1),
+    )
+
+pub insert-previous-spec : {M : Type 1} → statement M
+insert-previous-spec =
+    tie.close
+    (tie.spec
+    enum-told
+    enum-known-previous
+    pair-findings-requires
+    insert-pair-findings-requires
+    returns
+    same-length
+    returns-2)

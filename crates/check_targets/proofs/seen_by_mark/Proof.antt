@@ -1,0 +1,81 @@
+-- `check_targets::seen_by_mark` meets its contract: a target without a mark was not seen; else the scan tells.
+use mathlib.Core.Path.{_≡_, sym, ap, _∙_}
+use Prim.Native.Nat.{ℕ, _<_}
+use native.Mathlib.Omega.{arith}
+use lib.ListN.{length, getD, take}
+use Rattle.check_targets.specs.Targets.{targetOf}
+use Rattle.check_targets.specs.Marks.{markOf}
+use Rattle.check_targets.specs.MarksLaws.{mark-within, unmarked-unseen, marked-more}
+use borrow.Author.Needs.{needs}
+use Rattle.check_targets.proofs.seen_by_mark.Statement.{statement}
+use Rattle.check_targets.proofs.seen_by_mark.Tie as tie
+
+-- the place of the mark is within the marks
+within : (c : tie.After-slice-known3) → c .before .mark-of .result < length (c .before .before .before .before .args .marks .now)
+within c =
+    let a = c .before .before .before .before .args in
+    let long = c .before .before .before .before .pre .1 .long in
+    rw (c .before .mark-of .ensures) (omega (arith, mark-within (targetOf (a .target)), long))
+
+mark-of-requires : tie.Need-mark-of-requires
+mark-of-requires c κs = search needs
+
+slice-read-mark : tie.Need-slice-read-mark
+slice-read-mark c = within c
+
+slice-write-marks : tie.Need-slice-write-marks
+slice-write-marks c = within c
+
+put-target-requires : tie.Need-put-target-requires
+put-target-requires c κs = search needs
+
+same-length : tie.Need-same-length
+same-length c = search needs
+
+same-length-2 : tie.Need-same-length-2
+same-length-2 c = search needs
+
+returns : tie.Need-returns
+returns c =
+    let known = c .before .before .before .before .before in
+    let first = known .before .before .before .before in
+    let a = first .args in
+    let marked = first .pre .1 in
+    let place : known .before .mark-of .result ≡ markOf (targetOf (a .target)) = known .before .mark-of .ensures in (
+      sym (unmarked-unseen (a .marks .now) (take (a .used) (a .targets .now)) (targetOf (a .target)) marked (ap (λ (i : ℕ). getD (a .marks .now) i 0) (sym place) ∙ c .before .before .before .before .if1 .taken)),
+      (c .before .before .put-target .ensures, rw place (marked-more (a .marks .now) (take (a .used) (a .targets .now)) (targetOf (a .target)) marked)),
+    )
+
+seen-before-requires : tie.Need-seen-before-requires
+seen-before-requires c κs = search needs
+
+same-length-3 : tie.Need-same-length-3
+same-length-3 c = search needs
+
+same-length-4 : tie.Need-same-length-4
+same-length-4 c = search needs
+
+returns-2 : tie.Need-returns-2
+returns-2 c =
+    let known = c .before .before .before .before .before in
+    let first = known .before .before .before .before in
+    let a = first .args in
+    let place : known .before .mark-of .result ≡ markOf (targetOf (a .target)) = known .before .mark-of .ensures in
+    let told = c .before .before .seen-before .ensures in
+    (told .0, (told .1, rw place (marked-more (a .marks .now) (take (a .used) (a .targets .now)) (targetOf (a .target)) (first .pre .1))))
+
+pub seen-by-mark-spec : {M : Type 1} → statement M
+seen-by-mark-spec =
+    tie.close
+    (tie.spec
+    mark-of-requires
+    slice-read-mark
+    slice-write-marks
+    put-target-requires
+    same-length
+    same-length-2
+    returns
+    seen-before-requires
+    same-length-3
+    same-length-4
+    returns-2)

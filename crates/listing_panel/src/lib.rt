@@ -1,0 +1,68 @@
+// The listing of a set and that of a state, written into a lent slice whole or not at all: 01, 'Listing'.
+ghost use mathlib.Core.List.{List};
+ghost use Prim.Native.Nat.{ℕ};
+ghost use Rattle.spec_projection.specs.Projection.{Projection};
+ghost use Rattle.spec_listing.specs.Listing.{projectionLines, refusalLine, listing};
+ghost use Rattle.local_projection_state.specs.Stores.{Stores};
+ghost use Rattle.listing_panel.specs.Written.{Holds, Writes, Kept};
+use bytes_decimal::Printed;
+use listing_tables::LISTING_BYTES;
+use local_projection_state::LocalProjectionState;
+use patch_part_writer::written::WriteRefusal;
+use patch_part_writer::written::Written;
+
+// E, a tab, at most 20 digits and a newline.
+const REFUSAL_BYTES: usize = 23;
+
+// Writes the lines that were printed from the start of text up to a position.
+fn write_lines(text: &[u8], end: Printed, out: &mut [u8]) -> Written
+    ensures lines { λ r. ⌜ ((lines : List ℕ) → Holds (now (text .entry)) end lines → Writes (now (out .entry)) lines (now (out .exit)) r) ⌝ }
+    ensures kept { λ r. ⌜ Kept (now (out .entry)) (now (out .exit)) r ⌝ }
+{
+    let Printed::Next(len) = end else {
+        return Written::Refused(WriteRefusal::OutputTooShort);
+    };
+    if text.len() < len {
+        return Written::Refused(WriteRefusal::OutputTooShort);
+    }
+    if bytes_wire::write_bytes_at(out, 0, &text[0..len]) {
+        return Written::Wrote(len);
+    }
+    Written::Refused(WriteRefusal::OutputTooShort)
+}
+
+// Writes the listing of what a state stores. Of a state that stores no projection it writes some lines, or answers 14.
+pub fn write_projection(state: LocalProjectionState, out: &mut [u8]) -> Written
+    ensures lines { λ r. ⌜ ((p : Projection) → Stores state p → Writes (now (out .entry)) (projectionLines p) (now (out .exit)) r) ⌝ }
+    ensures kept { λ r. ⌜ Kept (now (out .entry)) (now (out .exit)) r ⌝ }
+{
+    let mut text = [0u8; LISTING_BYTES];
+    let start = Printed::Next(0);
+    let end = listing_tables::print_projection(&mut text, start, state);
+    write_lines(&text, end, out)
+}
+
+// Writes the line of a refusal.
+fn write_refusal(number: u64, out: &mut [u8]) -> Written
+    ensures { λ r. ⌜ Writes (now (out .entry)) (refusalLine number) (now (out .exit)) r ⌝ }
+{
+    let mut text = [0u8; REFUSAL_BYTES];
+    let start = Printed::Next(0);
+    let end = listing_lines::print_number_line(&mut text, start, 69, number);
+    write_lines(&text, end, out)
+}
+
+// Writes the listing of a set: that of an empty projection after it, or the line of its refusal.
+pub fn write_listing(set: &[u8], out: &mut [u8]) -> Written
+    ensures { λ r. ⌜ Writes (now (out .entry)) (listing (now (set .entry))) (now (out .exit)) r ⌝ }
+{
+    let empty = LocalProjectionState::empty();
+    let application = panel_application::apply_projection_patch_set(empty, set);
+    let state = application.state;
+    let outcome = application.outcome;
+    let number = outcome.number();
+    if number == 0 {
+        return write_projection(state, out);
+    }
+    write_refusal(number, out)
+}

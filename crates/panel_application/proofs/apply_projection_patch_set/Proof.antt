@@ -1,0 +1,54 @@
+-- `apply_projection_patch_set` meets its contract, by the quick check's answer.
+use mathlib.Core.Path.{refl}
+use borrow.Author.Needs.{needs}
+use denote.Ref.{now}
+use Rattle.panel_application.specs.ApplicationLaws.{clean-became, found-became, refused-became}
+use Rattle.panel_application.proofs.apply_projection_patch_set.Statement.{statement}
+use Rattle.panel_application.proofs.apply_projection_patch_set.Tie as tie
+
+quick-check-requires : tie.Need-quick-check-requires
+quick-check-requires c κs = search needs
+
+enum-told : tie.Need-enum-told
+enum-told c = search needs
+
+apply-readable-requires : tie.Need-apply-readable-requires
+apply-readable-requires c κs = search needs
+
+enum-told-2 : tie.Need-enum-told-2
+enum-told-2 c = search needs
+
+enum-known-fault : tie.Need-enum-known-fault
+enum-known-fault c = search needs
+
+returns : tie.Need-returns
+returns c =
+    let check = c .before .before .before in (
+      (λ p s.
+          clean-became p (now (c .before .before .before .before .before .args .set)) (check .quick-check .result) (check .quick-check .ensures) (c .apply-readable .result .state) _ _ (c .before .enum-told .given .1) (c .apply-readable .result .outcome)
+          (λ ps readable. c .apply-readable .ensures .0 ps p readable s)),
+      c .apply-readable .ensures .1,
+    )
+
+returns-2 : tie.Need-returns-2
+returns-2 c =
+    let check = c .before .before in
+    ((λ p s. found-became p (now (c .before .before .before .before .args .set)) (check .quick-check .result) (check .quick-check .ensures) (c .before .before .before .before .args .state) (c .enum-told2 .given .1)), refl)
+
+returns-3 : tie.Need-returns-3
+returns-3 c =
+    let check = c .before .before .before in
+    ((λ p s. refused-became p (now (c .before .before .before .before .before .args .set)) (check .quick-check .result) (check .quick-check .ensures) (c .before .before .before .before .before .args .state) _ (c .before .fault .given .1)), refl)
+
+pub apply-projection-patch-set-spec : {M : Type 1} → statement M
+apply-projection-patch-set-spec =
+    tie.close
+    (tie.spec
+    quick-check-requires
+    enum-told
+    apply-readable-requires
+    enum-told-2
+    enum-known-fault
+    returns
+    returns-2
+    returns-3)

@@ -1,0 +1,125 @@
+// A set applied to a state, whole or not at all. After crates/prom-ui/src/local_projection_state.rs.
+ghost use mathlib.Core.Path.{_≡_};
+ghost use mathlib.Core.List.{List};
+ghost use Rattle.spec_patch.specs.Patch.{Patch};
+ghost use Rattle.spec_patch.specs.Edition.{v1};
+ghost use Rattle.spec_patch.specs.Read.{patches, readSet};
+ghost use Rattle.spec_projection.specs.Projection.{Projection};
+ghost use Rattle.spec_projection.specs.Apply.{replaySteps, applySteps};
+ghost use Rattle.local_projection_state.specs.Stores.{StoredTables, Stores};
+ghost use Rattle.panel_steps.specs.Replay.{RunBecame};
+ghost use Rattle.panel_application.specs.Application.{applySet, outcomeNumber, StepsBecame, SetBecame, KeptUnlessApplied};
+use check_quick::quick_set;
+use check_quick::quick_set::QuickCheck;
+use local_projection_state::LocalProjectionState;
+use local_projection_state::ProjectionCounts;
+use panel_bindings::LocalProjectionApplicationError;
+use panel_steps::ReplayRun;
+use projection_patch::read_values::CountRead;
+use projection_patch::read_values::ProjectionPatchReadFault;
+
+// Why a set is not applied, or that it is.
+pub enum ProjectionOutcome {
+    Applied,
+    Refused(LocalProjectionApplicationError),
+    Findings,
+    Unreadable(ProjectionPatchReadFault),
+}
+
+impl ProjectionOutcome {
+    // The number of a refusal; 0 says that there is none.
+    pub fn number(self) -> u64
+        ensures { λ r. ⌜ r ≡ outcomeNumber self ⌝ }
+    {
+        match self {
+            ProjectionOutcome::Applied => 0,
+            ProjectionOutcome::Refused(error) => error.number(),
+            ProjectionOutcome::Findings => 11,
+            ProjectionOutcome::Unreadable(fault) => fault.number(),
+        }
+    }
+}
+
+// The state afterwards, and what came of the set.
+pub struct ProjectionApplication {
+    pub state: LocalProjectionState,
+    pub outcome: ProjectionOutcome,
+}
+
+// Applies all operations of a set that is known to be readable to the lent tables.
+pub fn replay_readable(
+    bindings: &mut [u8],
+    availability: &mut [u8],
+    entries: &mut [u8],
+    counts: ProjectionCounts,
+    set: &[u8],
+) -> ReplayRun
+    ensures { λ r. ⌜ ((ps : List Patch) (p : Projection) → readSet v1 (now (set .entry)) ≡ patches ps
+        → StoredTables counts (now (bindings .entry)) (now (availability .entry)) (now (entries .entry)) p
+        → RunBecame (λ end n q. StoredTables n (now (bindings .exit)) (now (availability .exit)) (now (entries .exit)) q) r (applySteps p (replaySteps ps))) ⌝ }
+{
+    match patch_sets::read_heading(set) {
+        CountRead::Read(count, from) => panel_steps::replay_patches(
+            bindings,
+            availability,
+            entries,
+            counts,
+            set,
+            from,
+            count,
+        ),
+        CountRead::Refused(fault) => ReplayRun::Unreadable(fault),
+    }
+}
+
+// Applies all operations of a readable set to a copy of the state's tables. The first that fails hands the state back as it came.
+fn apply_readable(state: LocalProjectionState, set: &[u8]) -> ProjectionApplication
+    ensures steps { λ r. ⌜ ((ps : List Patch) (p : Projection) → readSet v1 (now (set .entry)) ≡ patches ps → Stores state p
+        → StepsBecame (r .state) (r .outcome) (applySteps p (replaySteps ps))) ⌝ }
+    ensures kept { λ r. ⌜ KeptUnlessApplied state (r .state) (r .outcome) ⌝ }
+{
+    let counts = state.counts;
+    let mut bindings = state.bindings;
+    let mut availability = state.availability;
+    let mut entries = state.entries;
+    match replay_readable(&mut bindings, &mut availability, &mut entries, counts, set) {
+        ReplayRun::At(_, held) => ProjectionApplication {
+            state: LocalProjectionState {
+                counts: held,
+                bindings,
+                availability,
+                entries,
+            },
+            outcome: ProjectionOutcome::Applied,
+        },
+        ReplayRun::Refused(error) => ProjectionApplication {
+            state,
+            outcome: ProjectionOutcome::Refused(error),
+        },
+        ReplayRun::Unreadable(fault) => ProjectionApplication {
+            state,
+            outcome: ProjectionOutcome::Unreadable(fault),
+        },
+    }
+}
+
+// Applies a set: 12 or 10 where it does not read, 11 where it has findings, 8 or 9 at the first operation that fails.
+pub fn apply_projection_patch_set(state: LocalProjectionState, set: &[u8]) -> ProjectionApplication
+    ensures applied { λ r. ⌜ ((p : Projection) → Stores state p → SetBecame (r .state) (r .outcome) (applySet p (now (set .entry)))) ⌝ }
+    ensures kept { λ r. ⌜ KeptUnlessApplied state (r .state) (r .outcome) ⌝ }
+{
+    match quick_set::quick_check(set) {
+        QuickCheck::Clean {
+            patch_count: _,
+            operation_count: _,
+        } => apply_readable(state, set),
+        QuickCheck::Found => ProjectionApplication {
+            state,
+            outcome: ProjectionOutcome::Findings,
+        },
+        QuickCheck::Refused(fault) => ProjectionApplication {
+            state,
+            outcome: ProjectionOutcome::Unreadable(fault),
+        },
+    }
+}

@@ -1,0 +1,105 @@
+// Setting a binding or a node's availability, in place on a lent table: the row of that key is replaced, or one is added at its place.
+// After crates/prom-ui/src/local_projection_state.rs.
+ghost use mathlib.Core.Path.{_≡_};
+ghost use mathlib.Core.List.{List};
+ghost use Prim.Native.Nat.{ℕ, _*_, _<_};
+ghost use lib.ListN.{length};
+ghost use Rattle.spec_patch.specs.Sizes.{projectionBindings, projectionAvailabilities};
+ghost use Rattle.spec_projection.specs.Projection.{Projection};
+ghost use Rattle.spec_projection.specs.Apply.{operationFaultNumber, applyBinding, applyAvailability};
+ghost use Rattle.spec_projection.specs.Valid.{Valid};
+ghost use Rattle.bytes_records.specs.Table.{Holds, Wide};
+ghost use Rattle.bytes_records.specs.Search.{upsertAt, PlaceWithin};
+ghost use Rattle.patch_part_writer.specs.Extent.{valueText, Within};
+ghost use Rattle.projection_patch.specs.Meaning.{valueOf, availabilityOf};
+ghost use Rattle.local_projection_state.specs.Rows.{bindingWidth, availabilityWidth, bindingRow, availabilityRow};
+ghost use Rattle.local_projection_state.specs.Stores.{Stored};
+ghost use Rattle.panel_bindings.specs.Change.{faultOf, Became, Kept, RowsBecame};
+use bytes_records::Place;
+use local_projection_state::LocalProjectionState;
+use projection_patch::patch::ProjectionNodeAvailability;
+use projection_patch::patch::ProjectionPatchValue;
+
+// Why an operation is refused.
+pub enum LocalProjectionApplicationError {
+    KeyRule,
+    ProjectionFull,
+}
+
+impl LocalProjectionApplicationError {
+    // The number of a refusal.
+    pub fn number(self) -> u64
+        ensures { λ r. ⌜ r ≡ operationFaultNumber (faultOf self) ⌝ }
+    {
+        match self {
+            LocalProjectionApplicationError::KeyRule => 8,
+            LocalProjectionApplicationError::ProjectionFull => 9,
+        }
+    }
+}
+
+// What an operation on a table answers: how many rows there are now, or why it is refused and nothing is changed.
+pub enum TableChange {
+    Applied(usize),
+    Refused(LocalProjectionApplicationError),
+}
+
+// Writes row at its place: over the row of its key, or inserted before the one that is there.
+fn upsert_row(table: &mut [u8], width: usize, count: usize, place: Place, row: &[u8]) -> TableChange
+    requires { ⌜ 0 < width ⌝ }
+    ensures made { λ r. ⌜ ((capacity : ℕ) (rows : List (List ℕ)) → length (now (table .entry)) ≡ capacity * width → Holds width count (now (table .entry)) rows
+        → Wide width (now (row .entry)) → PlaceWithin count place → RowsBecame width capacity (upsertAt place (now (row .entry)) rows) (now (table .exit)) r) ⌝ }
+    ensures kept { λ r. ⌜ Kept r (now (table .entry)) (now (table .exit)) ⌝ }
+{
+    match place {
+        Place::Taken(at) => {
+            bytes_records::replace_record(table, width, count, at, row);
+            TableChange::Applied(count)
+        }
+        Place::Before(at) => {
+            if bytes_records::insert_record(table, width, count, at, row) {
+                return TableChange::Applied(count + 1);
+            }
+            TableChange::Refused(LocalProjectionApplicationError::ProjectionFull)
+        }
+    }
+}
+
+// Sets a binding's value in a table of bindings.
+pub fn set_binding_value(
+    table: &mut [u8],
+    count: usize,
+    node: u64,
+    slot: u32,
+    value: ProjectionPatchValue,
+    texts: &[u8],
+) -> TableChange
+    requires { ⌜ Within (now texts) (valueText value) ⌝ }
+    ensures made { λ r. ⌜ ((p : Projection) → Stored bindingRow bindingWidth projectionBindings count (now (table .entry)) (p .bindings) → Valid p
+        → Became (λ n q. Stored bindingRow bindingWidth projectionBindings n (now (table .exit)) (q .bindings)) r
+        (applyBinding p (record { node = node; slot = slot; value = valueOf (now (texts .entry)) value }))) ⌝ }
+    ensures kept { λ r. ⌜ Kept r (now (table .entry)) (now (table .exit)) ⌝ }
+{
+    let width = LocalProjectionState::BINDING_WIDTH;
+    let row = panel_rows::binding_row(node, slot, value, texts);
+    let place = bytes_records::find_pair_place(table, width, count, node, 4, slot as u64);
+    upsert_row(table, width, count, place, &row)
+}
+
+// Sets a node's availability in a table of availabilities.
+pub fn set_node_availability(
+    table: &mut [u8],
+    count: usize,
+    node: u64,
+    availability: ProjectionNodeAvailability,
+) -> TableChange
+    ensures made { λ r. ⌜ ((p : Projection) → Stored availabilityRow availabilityWidth projectionAvailabilities count (now (table .entry)) (p .availabilities) → Valid p
+        → Became (λ n q. Stored availabilityRow availabilityWidth projectionAvailabilities n (now (table .exit)) (q .availabilities)) r
+        (applyAvailability p (record { node = node; availability = availabilityOf availability }))) ⌝ }
+    ensures kept { λ r. ⌜ Kept r (now (table .entry)) (now (table .exit)) ⌝ }
+{
+    let width = LocalProjectionState::AVAILABILITY_WIDTH;
+    let row = panel_rows::availability_row(node, availability);
+    let place = bytes_records::find_place(table, width, count, node);
+    upsert_row(table, width, count, place, &row)
+}

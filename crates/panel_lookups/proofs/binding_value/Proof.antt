@@ -1,0 +1,53 @@
+-- `binding_value` meets its contract: the row at the key's place, or none.
+use mathlib.Core.List.{map}
+use borrow.Author.Needs.{needs}
+use denote.Ref.{now}
+use Rattle.local_projection_state.specs.Rows.{bindingRow}
+use Rattle.panel_lookups.proofs.Found.{binding-found, binding-absent}
+use Rattle.panel_lookups.proofs.binding_value.Statement.{statement}
+use Rattle.panel_lookups.proofs.binding_value.Tie as tie
+
+find-pair-place-requires : tie.Need-find-pair-place-requires
+find-pair-place-requires c κs = search needs
+
+enum-known-at : tie.Need-enum-known-at
+enum-known-at c = search needs
+
+record-at-requires : tie.Need-record-at-requires
+record-at-requires c κs = search needs
+
+stored-value-requires : tie.Need-stored-value-requires
+stored-value-requires c κs = search needs
+
+enum-told : tie.Need-enum-told
+enum-told c = search needs
+
+no-value-requires : tie.Need-no-value-requires
+no-value-requires c κs = search needs
+
+returns : tie.Need-returns
+returns c =
+    let find = c .before .before .before .before .before in
+    let a = c .before .before .before .before .before .before .before .args in
+    λ p s v.
+    binding-found p v (a .node) (a .slot) (find .find-pair-place .result) (find .find-pair-place .ensures .0 (map bindingRow (p .bindings)) (s .rows)) _ (c .before .before .before .at .given .1) (now (c .before .record-at .result)) (c .before .record-at .ensures .0 (map bindingRow (p .bindings)) (s .rows)) (c .stored-value .result) (c .stored-value .ensures)
+
+returns-2 : tie.Need-returns-2
+returns-2 c =
+    let find = c .before .before .before in
+    let a = c .before .before .before .before .before .args in
+    λ p s v.
+    binding-absent p v (a .node) (a .slot) (find .find-pair-place .result) (find .find-pair-place .ensures .0 (map bindingRow (p .bindings)) (s .rows)) _ (c .before .enum-told .given .1) (c .no-value .result) (c .no-value .ensures)
+
+pub binding-value-spec : {M : Type 1} → statement M
+binding-value-spec =
+    tie.close
+    (tie.spec
+    find-pair-place-requires
+    enum-known-at
+    record-at-requires
+    stored-value-requires
+    enum-told
+    no-value-requires
+    returns
+    returns-2)

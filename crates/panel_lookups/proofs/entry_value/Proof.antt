@@ -1,0 +1,53 @@
+-- `entry_value` meets its contract: the row at the key's position, or none.
+use mathlib.Core.List.{map}
+use borrow.Author.Needs.{needs}
+use denote.Ref.{now}
+use Rattle.local_projection_state.specs.Rows.{entryRow}
+use Rattle.panel_lookups.proofs.Found.{entry-found, entry-absent}
+use Rattle.panel_lookups.proofs.entry_value.Statement.{statement}
+use Rattle.panel_lookups.proofs.entry_value.Tie as tie
+
+find-entry-requires : tie.Need-find-entry-requires
+find-entry-requires c κs = search needs
+
+enum-known-at : tie.Need-enum-known-at
+enum-known-at c = search needs
+
+record-at-requires : tie.Need-record-at-requires
+record-at-requires c κs = search needs
+
+stored-value-requires : tie.Need-stored-value-requires
+stored-value-requires c κs = search needs
+
+enum-told : tie.Need-enum-told
+enum-told c = search needs
+
+no-value-requires : tie.Need-no-value-requires
+no-value-requires c κs = search needs
+
+returns : tie.Need-returns
+returns c =
+    let find = c .before .before .before .before .before in
+    let a = c .before .before .before .before .before .before .before .args in
+    λ p s v.
+    entry-found p v (a .collection) (a .key) (find .find-entry .result) (find .find-entry .ensures .0 (p .entries) (v .fitEntries) (v .entries) (s .rows)) _ (c .before .before .before .at .given .1) (now (c .before .record-at .result)) (c .before .record-at .ensures .0 (map entryRow (p .entries)) (s .rows)) (c .stored-value .result) (c .stored-value .ensures)
+
+returns-2 : tie.Need-returns-2
+returns-2 c =
+    let find = c .before .before .before in
+    let a = c .before .before .before .before .before .args in
+    λ p s v.
+    entry-absent p v (a .collection) (a .key) (find .find-entry .result) (find .find-entry .ensures .0 (p .entries) (v .fitEntries) (v .entries) (s .rows)) (c .before .enum-told .given .1) (c .no-value .result) (c .no-value .ensures)
+
+pub entry-value-spec : {M : Type 1} → statement M
+entry-value-spec =
+    tie.close
+    (tie.spec
+    find-entry-requires
+    enum-known-at
+    record-at-requires
+    stored-value-requires
+    enum-told
+    no-value-requires
+    returns
+    returns-2)

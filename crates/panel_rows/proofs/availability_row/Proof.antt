@@ -1,0 +1,57 @@
+-- `availability_row` meets its contract: one field behind another.
+use mathlib.Core.Path.{_≡_, refl, ap, _∙_}
+use mathlib.Core.List.{[], _∷_}
+use borrow.Author.Needs.{needs}
+use Rattle.spec_lists.specs.Bytes.{littleEndian}
+use Rattle.spec_lists.specs.BytesLaws.{length-littleEndian}
+use Rattle.spec_patch.specs.Patch.{Availability, available, unavailable, hidden, pending, stale}
+use Rattle.spec_patch.specs.Encode.{u64, availabilityByte}
+use Rattle.bytes_wire.specs.Write.{overwrite}
+use Rattle.projection_patch.specs.Meaning.{availabilityOf}
+use Rattle.local_projection_state.specs.Rows.{availabilityRow}
+use Rattle.panel_rows.proofs.Padding.{two-fields}
+use Rattle.panel_rows.proofs.availability_row.Statement.{statement}
+use Rattle.panel_rows.proofs.availability_row.Tie as tie
+
+slice-aggregate-write-u64-at : tie.Need-slice-aggregate-write-u64-at
+slice-aggregate-write-u64-at c = search needs
+
+write-u64-at-requires : tie.Need-write-u64-at-requires
+write-u64-at-requires c κs = search needs
+
+slice-aggregate-write-u8-at : tie.Need-slice-aggregate-write-u8-at
+slice-aggregate-write-u8-at c = search needs
+
+availability-byte-requires : tie.Need-availability-byte-requires
+availability-byte-requires c κs = search needs
+
+write-u8-at-requires : tie.Need-write-u8-at-requires
+write-u8-at-requires c κs = search needs
+
+one-byte : (a : Availability) → littleEndian 1 (availabilityByte a) ≡ availabilityByte a ∷ []
+unfolding littleEndian availabilityByte
+one-byte available = refl
+one-byte unavailable = refl
+one-byte hidden = refl
+one-byte pending = refl
+one-byte stale = refl
+
+returns : tie.Need-returns
+unfolding availabilityRow
+returns c =
+    let a = c .before .before .before .before .before .before .before .args in
+    let state = availabilityOf (a .availability) in
+    let byte = ap (littleEndian 1) (c .before .before .availability-byte .ensures) ∙ one-byte state in
+    two-fields 9 8 (u64 (a .node)) (availabilityByte state ∷ []) (length-littleEndian 8 (a .node)) refl
+    (c .before .before .before .before .before .write-u64-at .ensures .1) (c .before .write-u8-at .ensures .1 ∙ ap (overwrite _ 8) byte)
+
+pub availability-row-spec : {M : Type 1} → statement M
+availability-row-spec =
+    tie.close
+    (tie.spec
+    slice-aggregate-write-u64-at
+    write-u64-at-requires
+    slice-aggregate-write-u8-at
+    availability-byte-requires
+    write-u8-at-requires
+    returns)

@@ -1,0 +1,55 @@
+-- `binding_row` meets its contract: two numbers, and the value behind them.
+use native.Mathlib.Omega.{arith}
+use borrow.Author.Needs.{needs}
+use denote.Ref.{now}
+use Rattle.spec_lists.specs.BytesLaws.{length-littleEndian}
+use Rattle.spec_patch.specs.Encode.{u32, u64}
+use Rattle.projection_patch.specs.Meaning.{valueOf}
+use Rattle.patch_part_writer.specs.Extent.{valueSize}
+use Rattle.patch_part_writer.specs.ExtentLaws.{length-value, value-small}
+use Rattle.local_projection_state.specs.Rows.{bindingRow}
+use Rattle.panel_rows.proofs.Padding.{with-value}
+use Rattle.panel_rows.proofs.binding_row.Statement.{statement}
+use Rattle.panel_rows.proofs.binding_row.Tie as tie
+
+slice-aggregate-write-u64-at : tie.Need-slice-aggregate-write-u64-at
+slice-aggregate-write-u64-at c = search needs
+
+write-u64-at-requires : tie.Need-write-u64-at-requires
+write-u64-at-requires c κs = search needs
+
+slice-aggregate-write-u32-at : tie.Need-slice-aggregate-write-u32-at
+slice-aggregate-write-u32-at c = search needs
+
+write-u32-at-requires : tie.Need-write-u32-at-requires
+write-u32-at-requires c κs = search needs
+
+slice-aggregate-store-value : tie.Need-slice-aggregate-store-value
+slice-aggregate-store-value c = search needs
+
+store-value-requires : tie.Need-store-value-requires
+store-value-requires c κs =
+    let start = c .before .before .before .before .before .before .before .before in
+    (omega (arith, value-small (start .args .value) (start .pre .short)), start .pre)
+
+returns : tie.Need-returns
+unfolding bindingRow
+returns c =
+    let start = c .before .before .before .before .before .before .before .before .before .before in
+    let a = start .args in
+    let texts = now (a .texts) in
+    with-value 12 8 (valueSize (a .value)) (u64 (a .node)) (u32 (a .slot)) (valueOf texts (a .value))
+    (length-littleEndian 8 (a .node)) (omega (arith, length-littleEndian 4 (a .slot))) (length-value texts (a .value) (start .pre .inside)) (value-small (a .value) (start .pre .short))
+    (c .before .before .before .before .before .before .before .write-u64-at .ensures .1) (c .before .before .before .before .write-u32-at .ensures .1) (c .before .store-value .ensures)
+
+pub binding-row-spec : {M : Type 1} → statement M
+binding-row-spec =
+    tie.close
+    (tie.spec
+    slice-aggregate-write-u64-at
+    write-u64-at-requires
+    slice-aggregate-write-u32-at
+    write-u32-at-requires
+    slice-aggregate-store-value
+    store-value-requires
+    returns)

@@ -1,0 +1,254 @@
+// Reading of a patch's head, of the heading and of a whole set.
+ghost use mathlib.Core.Path.{_≡_};
+ghost use Prim.Native.Nat.{_≤_};
+ghost use lib.ListN.{length, drop};
+ghost use Rattle.spec_patch.specs.Sizes.{setPatches};
+ghost use Rattle.spec_patch.specs.Edition.{v1};
+ghost use Rattle.spec_patch.specs.Reader.{many};
+ghost use Rattle.spec_patch.specs.Read.{readOperation, toEnvelope, readEnvelope, readPatch, ended, readSet};
+ghost use Rattle.bytes_wire.specs.Prefix.{startsWith};
+ghost use Rattle.projection_patch.specs.Meaning.{surfaceTo, envelopeTo};
+ghost use Rattle.patch_sets.specs.Walk.{readHead, readHeading};
+ghost use Rattle.projection_patch.specs.ReadAnswers.{optionalOf, countAnswer};
+ghost use Rattle.patch_sets.specs.SetAnswers.{envelopeAnswer, headAnswer, operationsAnswer, patchAnswer, setAnswer};
+use bytes_wire::ReadU32;
+use bytes_wire::ReadU64;
+use projection_patch::contract_primitives::Epoch;
+use projection_patch::contract_primitives::Revision;
+use projection_patch::contract_primitives::StaticDocumentId;
+use projection_patch::contract_primitives::StaticSurfaceId;
+use projection_patch::patch::OptionalSurfaceId;
+use projection_patch::patch::ProjectionPatch;
+use projection_patch::patch::ProjectionPatchEnvelope;
+use projection_patch::patch::ProjectionPatchId;
+use projection_patch::patch::ProjectionPatchSequence;
+use projection_patch::patch::ProjectionPatchSet;
+use projection_patch::patch::ProjectionPatchStreamId;
+use projection_patch::read_operations;
+use projection_patch::read_operations::OperationRead;
+use projection_patch::read_values;
+use projection_patch::read_values::CountRead;
+use projection_patch::read_values::NumbersRead;
+use projection_patch::read_values::OptionalNumber;
+use projection_patch::read_values::OptionalRead;
+use projection_patch::read_values::ProjectionPatchReadFault;
+
+pub enum EnvelopeRead {
+    Read(ProjectionPatchEnvelope, usize),
+    Refused(ProjectionPatchReadFault),
+}
+
+// A patch's head, and how many bytes it took.
+pub enum PatchHeadRead {
+    Read(ProjectionPatch, usize),
+    Refused(ProjectionPatchReadFault),
+}
+
+// The position behind some operations.
+pub enum OperationsRead {
+    At(usize),
+    Refused(ProjectionPatchReadFault),
+}
+
+pub enum SetRead {
+    Read {
+        patch_count: usize,
+        operation_count: usize,
+    },
+    Refused(ProjectionPatchReadFault),
+}
+
+fn surface_of(number: OptionalNumber) -> OptionalSurfaceId
+    ensures { λ r. ⌜ r ≡ surfaceTo (optionalOf number) ⌝ }
+{
+    match number {
+        OptionalNumber::None => OptionalSurfaceId::None,
+        OptionalNumber::Some(surface) => OptionalSurfaceId::Some(StaticSurfaceId::new(surface)),
+    }
+}
+
+fn envelope_of(
+    patch: u64,
+    stream: u64,
+    document: u64,
+    surface: OptionalNumber,
+    previous: u64,
+    revision: u64,
+    epoch: u64,
+    sequence: u64,
+) -> ProjectionPatchEnvelope
+    ensures { λ r. ⌜ r ≡ envelopeTo (toEnvelope (patch, (stream, (document, (optionalOf surface, (previous, (revision, (epoch, sequence)))))))) ⌝ }
+{
+    ProjectionPatchEnvelope {
+        patch_id: ProjectionPatchId::new(patch),
+        stream_id: ProjectionPatchStreamId::new(stream),
+        document_id: StaticDocumentId::new(document),
+        surface_id: surface_of(surface),
+        previous_projection_revision: Revision::new(previous),
+        projection_revision: Revision::new(revision),
+        epoch: Epoch::new(epoch),
+        sequence: ProjectionPatchSequence::new(sequence),
+    }
+}
+
+fn envelope(part: &[u8]) -> EnvelopeRead
+    ensures { λ r. ⌜ r ≡ envelopeAnswer (length (now (part .entry))) (readEnvelope (now (part .entry))) ⌝ }
+{
+    let NumbersRead::Read(patch, stream) = read_values::numbers_at(part, 0) else {
+        return EnvelopeRead::Refused(ProjectionPatchReadFault::Malformed);
+    };
+    let ReadU64::Read(document) = bytes_wire::read_u64_at(part, 16) else {
+        return EnvelopeRead::Refused(ProjectionPatchReadFault::Malformed);
+    };
+    let OptionalRead::Read(surface, at) = read_values::optional_at(part, 24) else {
+        return EnvelopeRead::Refused(ProjectionPatchReadFault::Malformed);
+    };
+    let NumbersRead::Read(previous, revision) = read_values::numbers_at(part, at) else {
+        return EnvelopeRead::Refused(ProjectionPatchReadFault::Malformed);
+    };
+    let next = at + 16;
+    let NumbersRead::Read(epoch, sequence) = read_values::numbers_at(part, next) else {
+        return EnvelopeRead::Refused(ProjectionPatchReadFault::Malformed);
+    };
+    let end = next + 16;
+    EnvelopeRead::Read(
+        envelope_of(
+            patch,
+            stream,
+            document,
+            surface,
+            previous,
+            revision,
+            epoch,
+            sequence,
+        ),
+        end,
+    )
+}
+
+// Reads a patch's head from the start of a part: the envelope and the operation count.
+pub fn read_patch_head(part: &[u8]) -> PatchHeadRead
+    ensures { λ r. ⌜ r ≡ headAnswer (length (now (part .entry))) (readHead (now (part .entry))) ⌝ }
+{
+    match envelope(part) {
+        EnvelopeRead::Read(envelope, at) => match read_values::count_at(
+            part,
+            at,
+            ProjectionPatch::OPERATIONS,
+        ) {
+            CountRead::Read(count, end) => PatchHeadRead::Read(
+                ProjectionPatch {
+                    envelope,
+                    operation_count: count,
+                },
+                end,
+            ),
+            CountRead::Refused(fault) => PatchHeadRead::Refused(fault),
+        },
+        EnvelopeRead::Refused(fault) => PatchHeadRead::Refused(fault),
+    }
+}
+
+fn has_letters(set: &[u8]) -> bool
+    ensures { λ r. ⌜ r ≡ startsWith (v1 .letters) (drop 4 (now (set .entry))) ⌝ }
+{
+    bytes_wire::starts_with(set, 4, b"UI_DNA2_PROJECTION_PATCH_V1")
+}
+
+// Reads the heading of a set: the patch count, and the position of the first patch.
+pub fn read_heading(set: &[u8]) -> CountRead
+    ensures { λ r. ⌜ r ≡ countAnswer (length (now (set .entry))) (readHeading (now (set .entry))) ⌝ }
+{
+    let ReadU32::Read(letters) = bytes_wire::read_u32_at(set, 0) else {
+        return CountRead::Refused(ProjectionPatchReadFault::Malformed);
+    };
+    if letters != 27 {
+        return CountRead::Refused(ProjectionPatchReadFault::Malformed);
+    }
+    if has_letters(set) {
+        read_values::count_at(set, 31, ProjectionPatchSet::PATCHES)
+    } else {
+        CountRead::Refused(ProjectionPatchReadFault::Malformed)
+    }
+}
+
+// The position behind count operations of a set, the first of them at from.
+fn operations_from(set: &[u8], from: usize, count: usize) -> OperationsRead
+    requires { ⌜ from ≤ length (now set) ⌝ }
+    ensures { λ r. ⌜ r ≡ operationsAnswer (length (now (set .entry))) (many count (readOperation v1) (drop from (now (set .entry)))) ⌝ }
+{
+    let mut at = from;
+    let mut left = count;
+    while 0 < left {
+        match read_operations::read_operation(&set[at..]) {
+            OperationRead::Read(_, taken) => {
+                at = at + taken;
+                left = left - 1;
+            }
+            OperationRead::Refused(fault) => {
+                return OperationsRead::Refused(fault);
+            }
+        }
+    }
+    OperationsRead::At(at)
+}
+
+// How many operations the patch at a position has, and where it ends.
+fn patch_at(set: &[u8], at: usize) -> CountRead
+    requires { ⌜ at ≤ length (now set) ⌝ }
+    ensures { λ r. ⌜ r ≡ patchAnswer (length (now (set .entry))) (readPatch v1 (drop at (now (set .entry)))) ⌝ }
+{
+    match read_patch_head(&set[at..]) {
+        PatchHeadRead::Read(head, taken) => match operations_from(
+            set,
+            at + taken,
+            head.operation_count,
+        ) {
+            OperationsRead::At(end) => CountRead::Read(head.operation_count, end),
+            OperationsRead::Refused(fault) => CountRead::Refused(fault),
+        },
+        PatchHeadRead::Refused(fault) => CountRead::Refused(fault),
+    }
+}
+
+// Counts the operations of count patches, the first of them at from, behind which the set ends.
+fn patches_from(set: &[u8], from: usize, count: usize) -> SetRead
+    requires { ⌜ (from ≤ length (now set)) × (count ≤ setPatches) ⌝ }
+    ensures { λ r. ⌜ r ≡ setAnswer (ended (many count (readPatch v1) (drop from (now (set .entry))))) ⌝ }
+{
+    let mut at = from;
+    let mut left = count;
+    let mut operations: usize = 0;
+    while 0 < left {
+        match patch_at(set, at) {
+            CountRead::Read(n, end) => {
+                at = end;
+                operations = operations + n;
+                left = left - 1;
+            }
+            CountRead::Refused(fault) => {
+                return SetRead::Refused(fault);
+            }
+        }
+    }
+    if at < set.len() {
+        return SetRead::Refused(ProjectionPatchReadFault::Malformed);
+    }
+    SetRead::Read {
+        patch_count: count,
+        operation_count: operations,
+    }
+}
+
+// Reads a whole set: how many patches and operations it has.
+pub fn read_set(set: &[u8]) -> SetRead
+    ensures { λ r. ⌜ r ≡ setAnswer (readSet v1 (now (set .entry))) ⌝ }
+{
+    if ProjectionPatchSet::BYTES < set.len() {
+        return SetRead::Refused(ProjectionPatchReadFault::OverCapacity);
+    }
+    match read_heading(set) {
+        CountRead::Read(count, at) => patches_from(set, at, count),
+        CountRead::Refused(fault) => SetRead::Refused(fault),
+    }
+}

@@ -1,0 +1,113 @@
+-- The two passes of a survey: what is known after the first p heads, and after the first i operations.
+use Prim.Native.Nat.{ℕ, _+_, _*_, _≤_, _<_}
+use mathlib.Core.Path.{_≡_, refl, sym, ap, _∙_}
+use mathlib.Core.Bool.{Bool, true, false, _&&_}
+use mathlib.Core.List.{List, [], _∷_}
+use native.Mathlib.Omega.{arith}
+use borrow.Author.Tests.{le-leb, lt-leb}
+use lib.ListN.{drop}
+use Rattle.spec_lists.specs.Lists.{all}
+use Rattle.spec_patch.specs.Sizes.{patchOperations, textBytes}
+use Rattle.projection_patch.specs.declared.patch.ProjectionPatch.{ProjectionPatch}
+use Rattle.projection_patch.specs.declared.patch.OperationPlace.{OperationPlace}
+use Rattle.patch_writer.specs.declared.survey.HeadSurvey.the-variants as ofHeads
+use Rattle.patch_writer.specs.declared.survey.OperationSurvey.the-variants as ofOperations
+use Rattle.patch_part_writer.specs.Extent.{headSize, operationSize, operationText}
+use Rattle.patch_part_writer.specs.ExtentLaws.{surface-small, operation-small}
+use Rattle.patch_writer.specs.Set.{operationTotal, headSizes, operationSizes, fewOperations, shortAt, allowedAt}
+use Rattle.patch_writer.specs.Survey.{headSurvey, operationSurvey}
+
+and-false : (a b : Bool) → a ≡ false → (a && b) ≡ false
+and-false true b e = absurd (let z : _≡_ {A = ℕ} 0 1 = cc in omega arith)
+and-false false b e = refl
+
+and-true : (a b : Bool) → a ≡ true → (a && b) ≡ b
+and-true true b e = refl
+and-true false b e = absurd (let z : _≡_ {A = ℕ} 0 1 = cc in omega arith)
+
+and-assoc : (a b c : Bool) → ((a && b) && c) ≡ (a && (b && c))
+and-assoc true b c = refl
+and-assoc false b c = refl
+
+and-true-right : (a : Bool) → (a && true) ≡ a
+and-true-right true = refl
+and-true-right false = refl
+
+-- ---- heads
+
+pub record HeadsSeen (hs : List ProjectionPatch) (operations bytes p : ℕ) : Type 0 where
+  pub counted : operations + operationTotal (drop p hs) ≡ operationTotal hs
+  pub sized : bytes + headSizes (drop p hs) ≡ headSizes hs
+  pub tested : all fewOperations (drop p hs) ≡ all fewOperations hs
+  pub few : operations ≤ 128 * p
+  pub small : bytes ≤ 69 * p
+
+pub heads-start : (hs : List ProjectionPatch) → HeadsSeen hs 0 0 0
+heads-start hs = record { counted = omega arith; sized = omega arith; tested = refl; few = omega arith; small = omega arith }
+
+pub head-small : (h : ProjectionPatch) → headSize h ≤ 69
+head-small h = omega (arith, surface-small (h .envelope .«surface_id»))
+
+module _ {hs : List ProjectionPatch} {operations bytes p : ℕ} (seen : HeadsSeen hs operations bytes p) where
+  module _ (h : ProjectionPatch) (rest : drop p hs ≡ h ∷ drop (p + 1) hs) where
+    pub heads-next : h .«operation_count» ≤ patchOperations → HeadsSeen hs (operations + h .«operation_count») (bytes + headSize h) (p + 1)
+    unfolding operationTotal headSizes
+    heads-next fits = record {
+      counted = omega (arith, seen .counted, ap operationTotal rest);
+      sized = omega (arith, seen .sized, ap headSizes rest);
+      tested = sym (ap (all fewOperations) rest ∙ and-true (fewOperations h) (all fewOperations (drop (p + 1) hs)) (le-leb (h .«operation_count») patchOperations fits)) ∙ seen .tested;
+      few = omega (arith, seen .few);
+      small = omega (arith, seen .small, head-small h);
+    }
+
+    pub heads-over : patchOperations < h .«operation_count» → headSurvey hs ≡ ofHeads.OverCapacity
+    unfolding headSurvey
+    heads-over over =
+        let no : all fewOperations hs ≡ false =
+        sym (seen .tested) ∙ ap (all fewOperations) rest ∙ and-false (fewOperations h) (all fewOperations (drop (p + 1) hs)) (lt-leb (h .«operation_count») patchOperations over) in
+        rw no
+
+  pub heads-end : drop p hs ≡ [] → headSurvey hs ≡ ofHeads.Within operations bytes
+  unfolding headSurvey operationTotal headSizes
+  heads-end none =
+      let total : operationTotal hs ≡ operations = omega (arith, seen .counted, ap operationTotal none) in
+      let size : headSizes hs ≡ bytes = omega (arith, seen .sized, ap headSizes none) in
+      let every : all fewOperations hs ≡ true = sym (seen .tested) ∙ ap (all fewOperations) none in
+      rw (every, total, size)
+
+-- ---- operations
+
+pub record OperationsSeen (texts : List ℕ) (ps : List OperationPlace) (bytes : ℕ) (allowed : Bool) (i : ℕ) : Type 0 where
+  pub sized : bytes + operationSizes (drop i ps) ≡ operationSizes ps
+  pub tested : all shortAt (drop i ps) ≡ all shortAt ps
+  pub judged : (allowed && all (allowedAt texts) (drop i ps)) ≡ all (allowedAt texts) ps
+  pub small : bytes ≤ 191 * i
+
+pub operations-start : (texts : List ℕ) (ps : List OperationPlace) → OperationsSeen texts ps 0 true 0
+operations-start texts ps = record { sized = omega arith; tested = refl; judged = refl; small = omega arith }
+
+module _ {texts : List ℕ} {ps : List OperationPlace} {bytes : ℕ} {allowed : Bool} {i : ℕ} (seen : OperationsSeen texts ps bytes allowed i) where
+  module _ (x : OperationPlace) (rest : drop i ps ≡ x ∷ drop (i + 1) ps) where
+    pub operations-next : operationText (x .operation) .len ≤ textBytes → OperationsSeen texts ps (bytes + operationSize (x .operation)) (allowed && allowedAt texts x) (i + 1)
+    unfolding operationSizes
+    operations-next short = record {
+      sized = omega (arith, seen .sized, ap operationSizes rest);
+      tested = sym (ap (all shortAt) rest ∙ and-true (shortAt x) (all shortAt (drop (i + 1) ps)) (le-leb (operationText (x .operation) .len) textBytes short)) ∙ seen .tested;
+      judged = and-assoc allowed (allowedAt texts x) (all (allowedAt texts) (drop (i + 1) ps)) ∙ sym (ap (λ (l : List OperationPlace). allowed && all (allowedAt texts) l) rest) ∙ seen .judged;
+      small = omega (arith, seen .small, operation-small (x .operation) short);
+    }
+
+    pub operations-over : textBytes < operationText (x .operation) .len → operationSurvey texts ps ≡ ofOperations.OverCapacity
+    unfolding operationSurvey
+    operations-over over =
+        let no : all shortAt ps ≡ false =
+        sym (seen .tested) ∙ ap (all shortAt) rest ∙ and-false (shortAt x) (all shortAt (drop (i + 1) ps)) (lt-leb (operationText (x .operation) .len) textBytes over) in
+        rw no
+
+  pub operations-end : drop i ps ≡ [] → operationSurvey texts ps ≡ ofOperations.Within bytes allowed
+  unfolding operationSurvey operationSizes
+  operations-end none =
+      let size : operationSizes ps ≡ bytes = omega (arith, seen .sized, ap operationSizes none) in
+      let every : all shortAt ps ≡ true = sym (seen .tested) ∙ ap (all shortAt) none in
+      let verdict : all (allowedAt texts) ps ≡ allowed = sym (seen .judged) ∙ ap (λ (l : List OperationPlace). allowed && all (allowedAt texts) l) none ∙ and-true-right allowed in
+      rw (every, size, verdict)

@@ -1,0 +1,194 @@
+-- What the passes of a survey say together, and what follows for the writing.
+use Prim.Native.Nat.{ℕ, _+_, _*_, _≤_, _<_}
+use mathlib.Core.Path.{_≡_, refl, sym, ap, _∙_}
+use mathlib.Core.Bool.{Bool, true, false, _&&_}
+use mathlib.Core.List.{List, [], _∷_}
+use native.Mathlib.Omega.{arith}
+use borrow.Author.Tests.{leb-true, le-leb, lt-leb}
+use lib.Dec.{leb}
+use lib.ListN.{length, take}
+use lib.Seq.{length-take-le}
+use Rattle.spec_lists.specs.Lists.{if_then_else_, all}
+use Rattle.spec_lists.specs.ListLaws.{and-left, and-right}
+use Rattle.spec_patch.specs.Sizes.{setBytes, setPatches, textBytes}
+use Rattle.spec_patch.specs.Edition.{v1}
+use Rattle.spec_patch.specs.Encode.{encode}
+use Rattle.spec_patch.specs.Write as model
+use Rattle.projection_patch.specs.declared.patch.ProjectionPatch.{ProjectionPatch}
+use Rattle.projection_patch.specs.declared.patch.OperationPlace.{OperationPlace}
+use Rattle.projection_patch.specs.declared.patch.ProjectionPatchSet.{ProjectionPatchSet}
+use Rattle.patch_part_writer.specs.declared.written.WriteRefusal.{WriteRefusal}
+use Rattle.patch_part_writer.specs.declared.written.WriteRefusal.the-variants as refusal
+use Rattle.patch_writer.specs.declared.survey.HeadSurvey.the-variants as ofHeads
+use Rattle.patch_writer.specs.declared.survey.OperationSurvey.the-variants as ofOperations
+use Rattle.patch_writer.specs.declared.survey.Survey.the-variants as ofSet
+use Rattle.patch_part_writer.specs.Answer.{refusalOf}
+use Rattle.patch_part_writer.specs.Extent.{operationText}
+use Rattle.patch_part_writer.specs.ExtentLaws.{operation-small}
+use Rattle.patch_writer.specs.Set.{setPlaces, heads, listOf, used, operationTotal, headSizes, operationSizes, setSize, fewOperations, shortAt, insideAt, allowedAt, countsFit, capacitiesKept, patchSetBytes}
+use Rattle.patch_writer.specs.CallLaws.{Arrays, allowed-inside}
+use Rattle.patch_writer.specs.Survey.{headSurvey, operationSurvey, judged, setSurvey}
+use Rattle.patch_writer.proofs.Surveyed.{head-small}
+
+-- ---- what an answer says
+
+pub heads-refused : (hs : List ProjectionPatch) → headSurvey hs ≡ ofHeads.OverCapacity → all fewOperations hs ≡ false
+unfolding headSurvey
+heads-refused hs e = go (all fewOperations hs) e
+  where
+    go : (t : Bool) → (if t then ofHeads.Within (operationTotal hs) (headSizes hs) else ofHeads.OverCapacity) ≡ ofHeads.OverCapacity → t ≡ false
+    go true e = absurd (let z : _≡_ {A = ℕ} 0 1 = cc in omega arith)
+    go false e = refl
+
+pub record HeadsWithin (hs : List ProjectionPatch) (operations bytes : ℕ) : Type 0 where
+  pub few : all fewOperations hs ≡ true
+  pub counted : operations ≡ operationTotal hs
+  pub sized : bytes ≡ headSizes hs
+
+pub heads-within : (hs : List ProjectionPatch) (operations bytes : ℕ) → headSurvey hs ≡ ofHeads.Within operations bytes → HeadsWithin hs operations bytes
+unfolding headSurvey
+heads-within hs operations bytes e = go (all fewOperations hs) refl e
+  where
+    go : (t : Bool) → all fewOperations hs ≡ t → (if t then ofHeads.Within (operationTotal hs) (headSizes hs) else ofHeads.OverCapacity) ≡ ofHeads.Within operations bytes → HeadsWithin hs operations bytes
+    go true is e = record { few = is; counted = cc; sized = cc }
+    go false is e = absurd (let z : _≡_ {A = ℕ} 0 1 = cc in omega arith)
+
+pub operations-refused : (texts : List ℕ) (ps : List OperationPlace) → operationSurvey texts ps ≡ ofOperations.OverCapacity → all shortAt ps ≡ false
+unfolding operationSurvey
+operations-refused texts ps e = go (all shortAt ps) e
+  where
+    go : (t : Bool) → (if t then ofOperations.Within (operationSizes ps) (all (allowedAt texts) ps) else ofOperations.OverCapacity) ≡ ofOperations.OverCapacity → t ≡ false
+    go true e = absurd (let z : _≡_ {A = ℕ} 0 1 = cc in omega arith)
+    go false e = refl
+
+pub record OperationsWithin (texts : List ℕ) (ps : List OperationPlace) (bytes : ℕ) (allowed : Bool) : Type 0 where
+  pub short : all shortAt ps ≡ true
+  pub sized : bytes ≡ operationSizes ps
+  pub verdict : allowed ≡ all (allowedAt texts) ps
+
+pub operations-within : (texts : List ℕ) (ps : List OperationPlace) (bytes : ℕ) (allowed : Bool) → operationSurvey texts ps ≡ ofOperations.Within bytes allowed → OperationsWithin texts ps bytes allowed
+unfolding operationSurvey
+operations-within texts ps bytes allowed e = go (all shortAt ps) refl e
+  where
+    go : (t : Bool) → all shortAt ps ≡ t → (if t then ofOperations.Within (operationSizes ps) (all (allowedAt texts) ps) else ofOperations.OverCapacity) ≡ ofOperations.Within bytes allowed → OperationsWithin texts ps bytes allowed
+    go true is e = record { short = is; sized = cc; verdict = cc }
+    go false is e = absurd (let z : _≡_ {A = ℕ} 0 1 = cc in omega arith)
+
+-- ---- sums stay small
+
+head-sizes-small : (hs : List ProjectionPatch) → headSizes hs ≤ 69 * length hs
+unfolding headSizes
+head-sizes-small [] = omega arith
+head-sizes-small (h ∷ hs) = omega (arith, head-small h, head-sizes-small hs)
+
+operation-sizes-small : (ps : List OperationPlace) → all shortAt ps ≡ true → operationSizes ps ≤ 191 * length ps
+unfolding operationSizes
+operation-sizes-small [] e = omega arith
+operation-sizes-small (p ∷ ps) e =
+    omega (
+      arith,
+      operation-small (p .operation) (leb-true (operationText (p .operation) .len) textBytes (and-left (shortAt p) (all shortAt ps) e)),
+      operation-sizes-small ps (and-right (shortAt p) (all shortAt ps) e),
+    )
+
+-- ---- the survey of a set
+
+and-no : (a b : Bool) → b ≡ false → (a && b) ≡ false
+and-no true b e = e
+and-no false b e = refl
+
+module _ (texts : List ℕ) (set : ProjectionPatchSet) where
+  -- any capacity that is passed
+  over : capacitiesKept set ≡ false → setSurvey texts set ≡ ofSet.Refused refusal.OverCapacity
+  unfolding setSurvey
+  over e = rw e
+
+  no-counts : countsFit set ≡ false → setSurvey texts set ≡ ofSet.Refused refusal.OverCapacity
+  unfolding capacitiesKept
+  no-counts e = over (ap (λ (t : Bool). t && (all shortAt (used set) && leb (setSize set) setBytes)) e)
+
+  pub many-patches : setPatches < set .«patch_count» → setSurvey texts set ≡ ofSet.Refused refusal.OverCapacity
+  unfolding countsFit
+  many-patches h = no-counts (rw (lt-leb (set .«patch_count») setPatches h))
+
+  pub many-operations : all fewOperations (heads set) ≡ false → setSurvey texts set ≡ ofSet.Refused refusal.OverCapacity
+  unfolding countsFit
+  many-operations e = no-counts (and-no (leb (set .«patch_count») setPatches) _ (ap (λ (t : Bool). t && leb (operationTotal (heads set)) setPlaces) e))
+
+  pub many-places : (operations : ℕ) → operations ≡ operationTotal (heads set) → setPlaces < operations → setSurvey texts set ≡ ofSet.Refused refusal.OverCapacity
+  unfolding countsFit
+  many-places operations e h =
+      no-counts (and-no (leb (set .«patch_count») setPatches) _ (and-no (all fewOperations (heads set)) _ (lt-leb (operationTotal (heads set)) setPlaces (omega (arith, e)))))
+
+  pub long-text : (operations : ℕ) → operations ≡ operationTotal (heads set) → all shortAt (take operations (set .operations)) ≡ false → setSurvey texts set ≡ ofSet.Refused refusal.OverCapacity
+  unfolding capacitiesKept
+  long-text operations e none =
+      let no : all shortAt (used set) ≡ false = ap (λ (n : ℕ). all shortAt (take n (set .operations))) (sym e) ∙ none in
+      over (and-no (countsFit set) _ (ap (λ (t : Bool). t && leb (setSize set) setBytes) no))
+
+  -- the counts fit and the texts are short
+  module _ (operations bytes rest : ℕ) (allowed : Bool) (few : set .«patch_count» ≤ setPatches) (enough : operations ≤ setPlaces) (hw : HeadsWithin (heads set) operations bytes) (ow : OperationsWithin texts (take operations (set .operations)) rest allowed) where
+    -- the bytes and the texts decide
+    pub both-passed : judged operations (35 + (bytes + rest)) allowed ≡ setSurvey texts set
+    unfolding judged setSurvey capacitiesKept countsFit setSize
+    both-passed =
+        let same : take operations (set .operations) ≡ used set = ap (λ (n : ℕ). take n (set .operations)) (hw .counted) in
+        let one : leb (set .«patch_count») setPatches ≡ true = le-leb (set .«patch_count») setPatches few in
+        let two : leb (operationTotal (heads set)) setPlaces ≡ true = le-leb (operationTotal (heads set)) setPlaces (omega (arith, hw .counted)) in
+        let three : all shortAt (used set) ≡ true = ap (all shortAt) (sym same) ∙ ow .short in
+        let size : rest ≡ operationSizes (used set) = ow .sized ∙ ap operationSizes same in
+        let verdict : allowed ≡ all (allowedAt texts) (used set) = ow .verdict ∙ ap (all (allowedAt texts)) same in
+        rw (one, hw .few, two, three, hw .counted, hw .sized, size, verdict)
+
+    -- the bytes are few
+    pub small-sum : Arrays set → bytes + rest ≤ 69 * setPatches + 191 * setPlaces
+    small-sum arrays =
+        let patches : set .«patch_count» ≤ length (set .patches) = omega (arith, arrays .patches) in
+        let places : operations ≤ length (set .operations) = omega (arith, arrays .operations) in
+        omega (
+          arith,
+          hw .sized,
+          head-sizes-small (heads set),
+          length-take-le (set .«patch_count») (set .patches) patches,
+          ow .sized,
+          operation-sizes-small (take operations (set .operations)) (ow .short),
+          length-take-le operations (set .operations) places,
+        )
+
+  -- ---- what the survey says of the writing
+
+  pub survey-refused : (r : WriteRefusal) → setSurvey texts set ≡ ofSet.Refused r → patchSetBytes texts set ≡ model.refused (refusalOf r)
+  unfolding setSurvey patchSetBytes
+  survey-refused r e = go (capacitiesKept set) (all (allowedAt texts) (used set)) e
+    where
+      go : (k a : Bool) → (if k then (if a then ofSet.Within (operationTotal (heads set)) (setSize set) else ofSet.Refused refusal.Malformed) else ofSet.Refused refusal.OverCapacity) ≡ ofSet.Refused r
+          → (if k then (if a then model.wrote (encode v1 (listOf texts set)) else model.refused model.malformed) else model.refused model.overCapacity) ≡ model.refused (refusalOf r)
+      go true true e = absurd (let z : _≡_ {A = ℕ} 0 1 = cc in omega arith)
+      go true false e = let is : refusal.Malformed ≡ r = cc in ap (λ (w : WriteRefusal). model.refused (refusalOf w)) is
+      go false a e = let is : refusal.OverCapacity ≡ r = cc in ap (λ (w : WriteRefusal). model.refused (refusalOf w)) is
+
+  pub record SurveyWithin (operations bytes : ℕ) : Type 0 where
+    pub fit : countsFit set ≡ true
+    pub short : all shortAt (used set) ≡ true
+    pub inside : all (insideAt texts) (used set) ≡ true
+    pub counted : operations ≡ operationTotal (heads set)
+    pub sized : bytes ≡ setSize set
+    pub result : patchSetBytes texts set ≡ model.wrote (encode v1 (listOf texts set))
+
+  pub survey-within : (operations bytes : ℕ) → setSurvey texts set ≡ ofSet.Within operations bytes → SurveyWithin operations bytes
+  unfolding setSurvey patchSetBytes capacitiesKept
+  survey-within operations bytes e = go (capacitiesKept set) refl (all (allowedAt texts) (used set)) refl e
+    where
+      go : (k : Bool) → capacitiesKept set ≡ k → (a : Bool) → all (allowedAt texts) (used set) ≡ a
+          → (if k then (if a then ofSet.Within (operationTotal (heads set)) (setSize set) else ofSet.Refused refusal.Malformed) else ofSet.Refused refusal.OverCapacity) ≡ ofSet.Within operations bytes
+          → SurveyWithin operations bytes
+      go true kept true allowed e = record {
+        fit = and-left (countsFit set) _ kept;
+        short = and-left (all shortAt (used set)) _ (and-right (countsFit set) _ kept);
+        inside = allowed-inside texts (used set) allowed;
+        counted = cc;
+        sized = cc;
+        result = rw (kept, allowed);
+      }
+      go true kept false allowed e = absurd (let z : _≡_ {A = ℕ} 0 1 = cc in omega arith)
+      go false kept a allowed e = absurd (let z : _≡_ {A = ℕ} 0 1 = cc in omega arith)

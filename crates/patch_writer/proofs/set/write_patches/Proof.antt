@@ -1,0 +1,187 @@
+-- `set::write_patches` meets its contract. The invariant: what is still to write, written from here, gives what the whole gives from the start. The measure is the turns left.
+use Prim.Native.Nat.{_<_}
+use mathlib.Core.Path.{sym, ap, _∙_}
+use mathlib.Core.List.{flatMap}
+use native.Mathlib.Omega.{arith}
+use borrow.Author.Needs.{needs}
+use Rattle.spec_lists.specs.ListLaws.{unmapped}
+use denote.Ref.{now}
+use lib.ListN.{length}
+use Rattle.spec_patch.specs.Encode.{encodePatch}
+use Rattle.patch_part_writer.specs.declared.written.Written.the-variants.{Wrote}
+use Rattle.patch_writer.specs.Set.{heads, listOf}
+use Rattle.patch_writer.specs.CallLaws.{Arrays}
+use Rattle.patch_writer.proofs.Progress.{Progress, progress-start, progress-end, never-refused, progress-next}
+use Rattle.patch_writer.proofs.Turns.{rest, rest-start, Counts, Standing, few-turns, start-counts, small-head-index, head-next, head-counts, small-place-index, operation-next, operation-counts, end-rest}
+use Rattle.patch_writer.proofs.set.write_patches.Statement.{statement}
+use Rattle.patch_writer.proofs.set.write_patches.Tie as tie
+
+abbrev Inv-loop : tie.InvT-loop
+Inv-loop operations texts out₀ at set next₀ p₀ i₀ left₀ turns₀ out next p i left turns =
+    Progress out₀ at (flatMap encodePatch (listOf texts set)) out next (rest texts (heads set) (set .operations) p i left) × Counts (heads set) p i left turns
+
+abbrev μ-loop : tie.MeasureT-loop
+μ-loop operations texts out₀ at set next₀ p₀ i₀ left₀ turns₀ out next p i left turns = turns
+
+arrays : (c : tie.Start Inv-loop μ-loop) → Arrays (c .args .t1)
+arrays c = record { patches = search (needs, unmapped); operations = search (needs, unmapped) }
+
+abbrev start : tie.At-loop Inv-loop μ-loop → tie.Start Inv-loop μ-loop
+start k = k .before .before .before
+
+standing : (k : tie.At-loop Inv-loop μ-loop) → Standing (now (start k .args .texts)) (start k .args .t1) (start k .args .operations) (length (now (start k .args .out))) (start k .args .at) (k .loop .p) (k .loop .i) (k .loop .left) (k .loop .turns)
+standing k = record { arrays = arrays (start k); ready = start k .pre; counts = k .loop .inv .1 }
+
+-- an operation is left in a turn that writes one
+some : (c : tie.Else1 Inv-loop μ-loop) → 0 < c .before .before .loop .left
+some c = omega (arith, c .if1 .left)
+
+add-turns : tie.Need-add-turns Inv-loop μ-loop
+add-turns c = let start = c .before .before in omega (arith, few-turns (now (start .args .texts)) (start .args .t1) (arrays start) (start .pre))
+
+loop-holds : tie.Need-loop-holds Inv-loop μ-loop
+loop-holds c =
+    let start = c .before .before in
+    let args = start .args in
+    let texts = now (args .texts) in
+    let whole = flatMap encodePatch (listOf texts (args .t1)) in
+    (progress-start (now (args .out)) (args .at) whole (rest texts (heads (args .t1)) (args .t1 .operations) 0 0 0) (rest-start texts (heads (args .t1)) (args .t1 .operations)) (start .pre .enough), start-counts texts (args .t1) (arrays start) (start .pre))
+
+sub-turns : tie.Need-sub-turns Inv-loop μ-loop
+sub-turns c = search needs
+
+head-index : (c : tie.Then1 Inv-loop μ-loop) → c .before .before .loop .p < 64
+head-index c = small-head-index (standing (c .before .before)) (c .before .loop-test .taken) (c .if1 .taken)
+
+mul-patch : tie.Need-mul-patch Inv-loop μ-loop
+mul-patch c = omega (arith, head-index c)
+
+element-copy-out-patch : tie.Need-element-copy-out-patch Inv-loop μ-loop
+element-copy-out-patch c = head-index c
+
+add-p : tie.Need-add-p Inv-loop μ-loop
+add-p c = omega (arith, head-index (c .before))
+
+write-patch-head-requires : tie.Need-write-patch-head-requires Inv-loop μ-loop
+write-patch-head-requires c κs = search needs
+
+enum-known-behind : tie.Need-enum-known-behind Inv-loop μ-loop
+enum-known-behind c = search needs
+
+loop-less : tie.Need-loop-less Inv-loop μ-loop
+loop-less c = search needs
+
+loop-again : tie.Need-loop-again Inv-loop μ-loop
+loop-again c =
+    let call = c .before .before .before .before .before in
+    let turn = call .before .before .before in
+    let k = turn .before .before in
+    let more = turn .before .loop-test .taken in
+    let step = progress-next (k .loop .inv .0) (head-next (standing k) more (turn .if1 .taken)) in
+    (step (c .before .behind .given .0 .0) (sym (call .write-patch-head .ensures .0) ∙ c .before .behind .given .1) (call .write-patch-head .last .1 .0) (call .write-patch-head .ensures .1), head-counts (standing k) more (turn .if1 .taken))
+
+enum-known-refusal : tie.Need-enum-known-refusal Inv-loop μ-loop
+enum-known-refusal c = search needs
+
+head-written : (c : tie.After-known-told2 Inv-loop μ-loop) → ⊥
+head-written c =
+    let call = c .before .before .before .before .before in
+    let turn = call .before .before .before in
+    let k = turn .before .before in
+    never-refused (k .loop .inv .0) (head-next (standing k) (turn .before .loop-test .taken) (turn .if1 .taken)) (c .before .refusal .given .0 .0) (sym (call .write-patch-head .ensures .0) ∙ c .before .refusal .given .1)
+
+same-length : tie.Need-same-length Inv-loop μ-loop
+same-length c = absurd (head-written c)
+
+returns : tie.Need-returns Inv-loop μ-loop
+returns c = absurd (head-written c)
+
+place-index : (c : tie.Else1 Inv-loop μ-loop) → c .before .before .loop .i < 3120
+place-index c = small-place-index (standing (c .before .before)) (some c)
+
+mul-place : tie.Need-mul-place Inv-loop μ-loop
+mul-place c = omega (arith, place-index c)
+
+element-copy-out-place : tie.Need-element-copy-out-place Inv-loop μ-loop
+element-copy-out-place c = place-index c
+
+sub-left : tie.Need-sub-left Inv-loop μ-loop
+sub-left c = omega (arith, c .before .if1 .left)
+
+add-i : tie.Need-add-i Inv-loop μ-loop
+add-i c = omega (arith, place-index (c .before))
+
+write-operation-requires : tie.Need-write-operation-requires Inv-loop μ-loop
+write-operation-requires c κs = search needs
+
+enum-known-behind-2 : tie.Need-enum-known-behind-2 Inv-loop μ-loop
+enum-known-behind-2 c = search needs
+
+loop-less-2 : tie.Need-loop-less-2 Inv-loop μ-loop
+loop-less-2 c = search needs
+
+loop-again-2 : tie.Need-loop-again-2 Inv-loop μ-loop
+loop-again-2 c =
+    let call = c .before .before .before .before .before in
+    let turn = call .before .before .before in
+    let k = turn .before .before in
+    let step = progress-next (k .loop .inv .0) (operation-next (standing k) (some turn)) in
+    (step (c .before .behind2 .given .0 .0) (sym (call .write-operation .ensures .0) ∙ c .before .behind2 .given .1) (call .write-operation .last .1 .1 .0) (call .write-operation .ensures .1), operation-counts (standing k) (some turn))
+
+enum-known-refusal-2 : tie.Need-enum-known-refusal-2 Inv-loop μ-loop
+enum-known-refusal-2 c = search needs
+
+operation-written : (c : tie.After-known-told4 Inv-loop μ-loop) → ⊥
+operation-written c =
+    let call = c .before .before .before .before .before in
+    let turn = call .before .before .before in
+    let k = turn .before .before in
+    never-refused (k .loop .inv .0) (operation-next (standing k) (some turn)) (c .before .refusal2 .given .0 .0) (sym (call .write-operation .ensures .0) ∙ c .before .refusal2 .given .1)
+
+same-length-2 : tie.Need-same-length-2 Inv-loop μ-loop
+same-length-2 c = absurd (operation-written c)
+
+returns-2 : tie.Need-returns-2 Inv-loop μ-loop
+returns-2 c = absurd (operation-written c)
+
+same-length-3 : tie.Need-same-length-3 Inv-loop μ-loop
+same-length-3 c = c .before .loop .inv .0 .long
+
+returns-3 : tie.Need-returns-3 Inv-loop μ-loop
+returns-3 c =
+    let k = c .before in
+    let end = progress-end (k .loop .inv .0) (end-rest (standing k) (omega arith)) in
+    (ap Wrote (end .1), end .0)
+
+pub write-patches-spec : {M : Type 1} → statement M
+write-patches-spec =
+    tie.close
+    (tie.spec
+    Inv-loop
+    μ-loop
+    add-turns
+    loop-holds
+    sub-turns
+    mul-patch
+    element-copy-out-patch
+    add-p
+    write-patch-head-requires
+    enum-known-behind
+    loop-less
+    loop-again
+    enum-known-refusal
+    same-length
+    returns
+    mul-place
+    element-copy-out-place
+    sub-left
+    add-i
+    write-operation-requires
+    enum-known-behind-2
+    loop-less-2
+    loop-again-2
+    enum-known-refusal-2
+    same-length-2
+    returns-2
+    same-length-3
+    returns-3)

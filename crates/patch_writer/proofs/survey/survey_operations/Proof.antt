@@ -1,0 +1,120 @@
+-- `survey::survey_operations` meets its contract. The invariant: what is left of the operations answers as the whole does. The measure is what is left.
+use Prim.Native.Nat.{ℕ, _+_, _-_, _≤_, _<_}
+use mathlib.Core.Path.{_≡_, sym, ap, subst, _∙_}
+use mathlib.Core.Bool.{Bool, _&&_}
+use mathlib.Core.List.{List}
+use native.Mathlib.Omega.{arith}
+use borrow.Author.Needs.{needs}
+use Rattle.spec_lists.specs.ListLaws.{unmapped}
+use denote.Ref.{now}
+use lib.ListN.{length, getD, take}
+use Rattle.spec_patch.specs.Sizes.{textBytes}
+use Rattle.projection_patch.specs.declared.patch.OperationPlace.{OperationPlace}
+use Rattle.patch_part_writer.specs.declared.extent.TextPlace.{TextPlace}
+use Rattle.patch_part_writer.specs.ExtentLaws.{operation-small}
+use Rattle.patch_part_writer.specs.PartsLaws.{size-kept}
+use Rattle.patch_writer.specs.Set.{textAllowed}
+use Rattle.patch_writer.proofs.Elements.{noPlace, left-cons, left-none}
+use Rattle.patch_writer.proofs.Surveyed.{OperationsSeen, operations-start, operations-next, operations-over, operations-end}
+use Rattle.patch_writer.proofs.survey.survey_operations.Statement.{statement}
+use Rattle.patch_writer.proofs.survey.survey_operations.Tie as tie
+
+-- the size and the verdict as the calls give them
+turned : (texts : List ℕ) (ps : List OperationPlace) (bytes i : ℕ) {n m : ℕ} {a b : Bool} → n ≡ m → a ≡ b → OperationsSeen texts ps (bytes + m) b i → OperationsSeen texts ps (bytes + n) a i
+turned texts ps bytes i {n} {m} {a} {b} e f seen =
+    subst (λ (k : ℕ). OperationsSeen texts ps (bytes + k) a i) (sym e) (subst (λ (t : Bool). OperationsSeen texts ps (bytes + m) t i) (sym f) seen)
+
+abbrev Inv-loop : tie.InvT-loop
+Inv-loop operations texts set bytes₀ allowed₀ i₀ bytes allowed i =
+    (i ≤ operations) × OperationsSeen texts (take operations (set .operations)) bytes allowed i
+
+abbrev μ-loop : tie.MeasureT-loop
+μ-loop operations texts set bytes₀ allowed₀ i₀ bytes allowed i = operations - i
+
+long : (c : tie.Start Inv-loop μ-loop) → length (c .args .t1 .operations) ≡ 3120
+long c = search (needs, unmapped)
+
+loop-holds : tie.Need-loop-holds Inv-loop μ-loop
+loop-holds c = (omega arith, operations-start (now (c .before .args .texts)) (take (c .before .args .operations) (c .before .args .t1 .operations)))
+
+mul-place : tie.Need-mul-place Inv-loop μ-loop
+mul-place c = search needs
+
+element-copy-out-place : tie.Need-element-copy-out-place Inv-loop μ-loop
+element-copy-out-place c = search needs
+
+operation-text-requires : tie.Need-operation-text-requires Inv-loop μ-loop
+operation-text-requires c κs = search needs
+
+returns : tie.Need-returns Inv-loop μ-loop
+returns c =
+    let args = c .before .before .before .before .before .before .before .args in
+    let loop = c .before .before .before .before .before .loop in
+    let ps = args .t1 .operations in
+    let many = long (c .before .before .before .before .before .before .before) in
+    let place = getD ps (loop .i) noPlace in
+    let parted = left-cons (args .operations) ps (loop .i) noPlace (c .before .before .before .before .loop-test .taken) (omega arith) in
+    sym (operations-over (loop .inv .1) place parted (subst (λ (t : TextPlace). textBytes < t .len) (c .before .before .operation-text .ensures) (c .if1 .taken)))
+
+operation-size-requires : tie.Need-operation-size-requires Inv-loop μ-loop
+operation-size-requires c κs = search needs
+
+add-bytes : tie.Need-add-bytes Inv-loop μ-loop
+add-bytes c =
+    let loop = c .before .before .before .before .before .before .loop in
+    let place = getD (c .before .before .before .before .before .before .before .before .args .t1 .operations) (loop .i) noPlace in
+    let short = subst (λ (t : TextPlace). t .len ≤ textBytes) (c .before .before .before .operation-text .ensures) (c .before .if1 .left) in
+    omega (arith, loop .inv .1 .small, c .operation-size .ensures ∙ size-kept (place .operation) short, operation-small (place .operation) short)
+
+text-allowed-requires : tie.Need-text-allowed-requires Inv-loop μ-loop
+text-allowed-requires c κs = search needs
+
+both-requires : tie.Need-both-requires Inv-loop μ-loop
+both-requires c κs = search needs
+
+add-i : tie.Need-add-i Inv-loop μ-loop
+add-i c = search needs
+
+loop-less : tie.Need-loop-less Inv-loop μ-loop
+loop-less c = search needs
+
+loop-again : tie.Need-loop-again Inv-loop μ-loop
+loop-again c =
+    let args = c .before .before .before .before .before .before .before .before .before .before .args in
+    let loop = c .before .before .before .before .before .before .before .before .loop in
+    let ps = args .t1 .operations in
+    let many = long (c .before .before .before .before .before .before .before .before .before .before) in
+    let place = getD ps (loop .i) noPlace in
+    let parted = left-cons (args .operations) ps (loop .i) noPlace (c .before .before .before .before .before .before .before .loop-test .taken) (omega arith) in
+    let short = subst (λ (t : TextPlace). t .len ≤ textBytes) (c .before .before .before .before .before .operation-text .ensures) (c .before .before .before .if1 .left) in
+    let next = operations-next (loop .inv .1) place parted short in
+    let verdict = c .both .ensures ∙ ap (λ (b : Bool). loop .allowed && b) (c .before .text-allowed .ensures ∙ ap (textAllowed (now (args .texts))) (c .before .before .before .before .before .operation-text .ensures)) in
+    (omega arith, turned (now (args .texts)) (take (args .operations) ps) (loop .bytes) (loop .i + 1) (c .before .before .operation-size .ensures ∙ size-kept (place .operation) short) verdict next)
+
+returns-2 : tie.Need-returns-2 Inv-loop μ-loop
+returns-2 c =
+    let args = c .before .before .before .args in
+    let loop = c .before .loop in
+    let ps = args .t1 .operations in
+    let many = long (c .before .before .before) in
+    sym (operations-end (loop .inv .1) (left-none (args .operations) ps (loop .i) (c .loop-test .left) (loop .inv .0) (omega arith)))
+
+pub survey-operations-spec : {M : Type 1} → statement M
+survey-operations-spec =
+    tie.close
+    (tie.spec
+    Inv-loop
+    μ-loop
+    loop-holds
+    mul-place
+    element-copy-out-place
+    operation-text-requires
+    returns
+    operation-size-requires
+    add-bytes
+    text-allowed-requires
+    both-requires
+    add-i
+    loop-less
+    loop-again
+    returns-2)

@@ -1,0 +1,83 @@
+// Writing of a whole patch list. The list is surveyed first, so that a refusal leaves the output as it was. A set is about 200 KB: each pass
+// over its operations stands in a function that takes it by value once, and heads and operations are written by one loop.
+ghost use mathlib.Core.Path.{_≡_};
+ghost use mathlib.Core.List.{flatMap};
+ghost use Prim.Native.Nat.{ℕ, _+_};
+ghost use lib.ListN.{length, take};
+ghost use Rattle.spec_patch.specs.Edition.{v1};
+ghost use Rattle.spec_patch.specs.Encode.{encodePatch};
+ghost use Rattle.spec_patch.specs.Read.{patches, readSet};
+ghost use Rattle.bytes_wire.specs.Write.{overwrite};
+ghost use Rattle.patch_part_writer.specs.declared.written.Written.the-variants.{Wrote};
+ghost use Rattle.patch_part_writer.specs.Answer.{answerAt, outputAt};
+ghost use Rattle.patch_writer.specs.Set.{listOf, patchSetBytes};
+ghost use Rattle.patch_writer.specs.Survey.{Ready};
+use crate::survey::Survey;
+use crate::survey::survey_set;
+use patch_part_writer::head::write_heading;
+use patch_part_writer::head::write_patch_head;
+use patch_part_writer::operation::write_operation;
+use patch_part_writer::written::WriteRefusal;
+use patch_part_writer::written::Written;
+use projection_patch::patch::ProjectionPatchSet;
+
+// Each turn writes a head, or the next operation of the patch whose head was written last.
+fn write_patches(
+    set: ProjectionPatchSet,
+    operations: usize,
+    texts: &[u8],
+    out: &mut [u8],
+    at: usize,
+) -> Written
+    requires { ⌜ Ready (now texts) set operations (length (now out)) at ⌝ }
+    ensures { λ r. ⌜ r ≡ Wrote (at + length (flatMap encodePatch (listOf (now (texts .entry)) set))) ⌝ }
+    ensures { λ _. ⌜ now (out .exit) ≡ overwrite (now (out .entry)) at (flatMap encodePatch (listOf (now (texts .entry)) set)) ⌝ }
+{
+    let mut next = at;
+    let mut p: usize = 0;
+    let mut i: usize = 0;
+    let mut left: usize = 0;
+    let mut turns = set.patch_count + operations;
+    while 0 < turns {
+        turns -= 1;
+        if left == 0 {
+            let patch = set.patches[p];
+            left = patch.operation_count;
+            p += 1;
+            match write_patch_head(patch, out, next) {
+                Written::Wrote(behind) => next = behind,
+                Written::Refused(refusal) => return Written::Refused(refusal),
+            }
+        } else {
+            let place = set.operations[i];
+            let operation = place.operation;
+            left -= 1;
+            i += 1;
+            match write_operation(operation, texts, out, next) {
+                Written::Wrote(behind) => next = behind,
+                Written::Refused(refusal) => return Written::Refused(refusal),
+            }
+        }
+    }
+    Written::Wrote(next)
+}
+
+// Writes a patch list from the start of the output on: 12 for any capacity, then 10 for a text that RFC 3629 forbids or that is not within the
+// texts, then 14. A refusal leaves every byte of the output as it was, and what is behind the list stays.
+// What was written is read back as the same list.
+pub fn write_patch_set(set: ProjectionPatchSet, texts: &[u8], out: &mut [u8]) -> Written
+    ensures { λ r. ⌜ r ≡ answerAt (now (out .entry)) 0 (patchSetBytes (now (texts .entry)) set) ⌝ }
+    ensures { λ _. ⌜ now (out .exit) ≡ outputAt (now (out .entry)) 0 (patchSetBytes (now (texts .entry)) set) ⌝ }
+    ensures { λ r. ⌜ ((n : ℕ) → r ≡ Wrote n → readSet v1 (take n (now (out .exit))) ≡ patches (listOf (now (texts .entry)) set)) ⌝ }
+{
+    match survey_set(set, texts) {
+        Survey::Refused(refusal) => Written::Refused(refusal),
+        Survey::Within { operations, bytes } => {
+            if out.len() < bytes {
+                return Written::Refused(WriteRefusal::OutputTooShort);
+            }
+            write_heading(set.patch_count, out, 0);
+            write_patches(set, operations, texts, out, 35)
+        }
+    }
+}

@@ -1,0 +1,62 @@
+-- `script_answers::fields::print_cursor` meets its contract: a dash, or the number.
+use Prim.Native.Nat.{ℕ}
+use mathlib.Core.Path.{sym, ap}
+use mathlib.Core.List.{List}
+use borrow.Author.Needs.{needs}
+use Rattle.spec_replay.specs.Answers.{cursorField}
+use Rattle.bytes_printer.specs.Prints.{field}
+use Rattle.bytes_printer.specs.PrintsLaws.{same-bytes}
+use Rattle.session_lifecycle.specs.Meaning.{cursorOf}
+use Rattle.session_lifecycle.specs.declared.state.ProjectionReplayCursor.{ProjectionReplayCursor}
+use Rattle.script_answers.proofs.fields.print_cursor.Statement.{statement}
+use Rattle.script_answers.proofs.fields.print_cursor.Tie as tie
+
+abbrev place : ProjectionReplayCursor → List ℕ
+place x = field (cursorField (cursorOf x))
+
+enum-told : tie.Need-enum-told
+enum-told c = search needs
+
+slice-aggregate-print-field-bytes : tie.Need-slice-aggregate-print-field-bytes
+slice-aggregate-print-field-bytes c = search needs
+
+print-field-bytes-requires : tie.Need-print-field-bytes-requires
+print-field-bytes-requires c κs = search needs
+
+enum-known-cursor : tie.Need-enum-known-cursor
+enum-known-cursor c = search needs
+
+print-field-u64-requires : tie.Need-print-field-u64-requires
+print-field-u64-requires c κs = search needs
+
+same-length : tie.Need-same-length
+same-length c = search needs
+
+returns : tie.Need-returns
+unfolding cursorField cursorOf
+returns c =
+    let call = c .before .before in
+    same-bytes (sym (ap place (call .before .before .before .enum-told .given .1))) (call .print-field-bytes .ensures)
+
+same-length-2 : tie.Need-same-length-2
+same-length-2 c = search needs
+
+returns-2 : tie.Need-returns-2
+unfolding cursorField cursorOf
+returns-2 c =
+    let call = c .before .before in
+    same-bytes (sym (ap place (call .before .before .before .cursor .given .1))) (call .print-field-u64 .ensures)
+
+pub print-cursor-spec : {M : Type 1} → statement M
+print-cursor-spec =
+    tie.close
+    (tie.spec
+    enum-told
+    slice-aggregate-print-field-bytes
+    print-field-bytes-requires
+    enum-known-cursor
+    print-field-u64-requires
+    same-length
+    returns
+    same-length-2
+    returns-2)

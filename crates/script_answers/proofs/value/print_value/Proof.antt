@@ -1,0 +1,47 @@
+-- `script_answers::value::print_value` meets its contract: the value where one was found, else a dash.
+use borrow.Author.Needs.{needs}
+use Rattle.bytes_printer.specs.PrintsLaws.{_⨾_, same-bytes}
+use Rattle.script_answers.proofs.Lookups.{value-line, no-value-line}
+use Rattle.script_answers.proofs.value.print_value.Statement.{statement}
+use Rattle.script_answers.proofs.value.print_value.Tie as tie
+
+print-byte-requires : tie.Need-print-byte-requires
+print-byte-requires c κs = search needs
+
+print-value-requires : tie.Need-print-value-requires
+print-value-requires c κs = search needs
+
+same-length : tie.Need-same-length
+same-length c = search needs
+
+returns : tie.Need-returns
+returns c =
+    let value = c .before .before in
+    let test = value .before .before in
+    let letter = test .before .before .before in
+    λ o is. value-line (letter .before .before .before .args .lookup) o is (test .if1 .taken) (letter .print-byte .ensures) (value .print-value .ensures)
+
+print-none-requires : tie.Need-print-none-requires
+print-none-requires c κs = search needs
+
+same-length-2 : tie.Need-same-length-2
+same-length-2 c = search needs
+
+returns-2 : tie.Need-returns-2
+returns-2 c =
+    let none = c .before .before in
+    let test = none .before .before in
+    let letter = test .before .before .before in
+    λ o is. same-bytes (no-value-line (letter .before .before .before .args .lookup) o is (test .if1 .left)) (letter .print-byte .ensures ⨾ none .print-none .ensures)
+
+pub print-value-spec : {M : Type 1} → statement M
+print-value-spec =
+    tie.close
+    (tie.spec
+    print-byte-requires
+    print-value-requires
+    same-length
+    returns
+    print-none-requires
+    same-length-2
+    returns-2)

@@ -1,0 +1,24 @@
+-- The first fields of a line and those behind them make the line.
+use Prim.Native.Nat.{ℕ}
+use mathlib.Core.Path.{_≡_, refl, sym, ap, _∙_}
+use mathlib.Core.List.{List, [], _∷_, _++_, append-assoc, append-nil}
+use Rattle.spec_listing.specs.Listing.{fields}
+use Rattle.bytes_decimal.specs.declared.Printed.{Printed}
+use Rattle.bytes_printer.specs.Prints.{field, Prints}
+use Rattle.bytes_printer.specs.PrintsLaws.{_⨾_, same-bytes}
+use Rattle.script_answers.specs.OpenFields.{openFields}
+
+open-fields : (fs gs : List (List ℕ)) → openFields fs ++ fields gs ≡ fields (fs ++ gs)
+unfolding openFields fields
+open-fields [] gs = refl
+open-fields (f ∷ fs) gs = append-assoc (field f) (openFields fs) (fields gs) ∙ ap (λ (bs : List ℕ). field f ++ bs) (open-fields fs gs)
+
+module _ {l m : List ℕ} {at r : Printed} where
+  -- the last of the first fields
+  pub last-open : {f : List ℕ} → Prints l at (field f) m r → Prints l at (openFields (f ∷ [])) m r
+  unfolding openFields
+  last-open {f} p = same-bytes (sym (append-nil (field f))) p
+
+  -- the line goes on behind its first fields
+  pub line : {n : List ℕ} {s : Printed} (fs gs : List (List ℕ)) → Prints l at (openFields fs) m r → Prints m r (fields gs) n s → Prints l at (fields (fs ++ gs)) n s
+  line fs gs p q = same-bytes (open-fields fs gs) (p ⨾ q)

@@ -1,0 +1,35 @@
+-- `script_calls::calls::create_latest` meets its contract: the answer is printed, and the session takes its place.
+use Rattle.script_answers.specs.CreationAnswers.{creation-told}
+use Rattle.script_calls.specs.ReplayHoldsLaws.{created-step}
+use borrow.Author.Needs.{needs}
+use Rattle.script_calls.proofs.calls.create_latest.Statement.{statement}
+use Rattle.script_calls.proofs.calls.create_latest.Tie as tie
+
+create-session-requires : tie.Need-create-session-requires
+create-session-requires c κs = search needs
+
+print-creation-requires : tie.Need-print-creation-requires
+print-creation-requires c κs = search needs
+
+is-created-requires : tie.Need-is-created-requires
+is-created-requires c κs = search needs
+
+same-length : tie.Need-same-length
+same-length c = search needs
+
+returns : tie.Need-returns
+returns c =
+    let a = c .before .before .before .before .before .before .before .before .before .args in
+    let creation = c .before .before .before .before .before .before .create-session in
+    λ m h. let creates = creation .ensures (m .setup) (h .setup-is) in
+    created-step (a .state) m h _ (creation .result) creates (c .is-created .result) (c .is-created .ensures) _ _ _ (c .before .before .before .before .print-creation .ensures _ (creation-told _ (creation .result) creates))
+
+pub create-latest-spec : {M : Type 1} → statement M
+create-latest-spec =
+    tie.close
+    (tie.spec
+    create-session-requires
+    print-creation-requires
+    is-created-requires
+    same-length
+    returns)

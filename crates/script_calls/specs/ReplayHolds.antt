@@ -1,0 +1,41 @@
+-- What the state of a replay stores, and what a line does: spec_replay's steps on the struct.
+use Prim.Native.Nat.{ℕ}
+use mathlib.Core.Path.{_≡_}
+use mathlib.Core.Bool.{Bool, true, false}
+use mathlib.Core.List.{List}
+use mathlib.Core.Option.{Option, none, some}
+use Rattle.spec_session.specs.Session.{Session}
+use Rattle.spec_replay.specs.Replay.{State, Step, onward, stops}
+use Rattle.bytes_decimal.specs.declared.Printed.the-variants.{Next}
+use Rattle.bytes_printer.specs.Prints.{Prints}
+use Rattle.shell_player.specs.Holds.{Holds}
+use Rattle.shell_player.specs.declared.session.ShellSession.{ShellSession}
+use Rattle.session_creation.specs.declared.CreationAnswer.{CreationAnswer}
+use Rattle.session_creation.specs.declared.CreationAnswer.the-variants.{Created, Refused}
+use Rattle.script_setup.specs.SetsUp.{SetsUp}
+use Rattle.script_calls.specs.declared.state.ReplayState.{ReplayState}
+use Rattle.script_calls.specs.declared.state.ReplayStep.{ReplayStep}
+
+-- there is a session, and the struct stores it; or there is none, whatever the struct has
+abbrev pub SessionHeld : Bool → ShellSession → Option Session → Type 0
+SessionHeld true s (some m) = Holds s m
+SessionHeld true s none = ⊥
+SessionHeld false s (some m) = ⊥
+SessionHeld false s none = Unit {0}
+
+pub record ReplayHolds (s : ReplayState) (m : State) : Type 0 where
+  pub setup-is : SetsUp (s .setup) (m .setup)
+  pub session-is : SessionHeld (s .exists) (s .session) (m .session)
+
+-- the state afterwards and what stands printed from the slice's start, or that alone where the replay stops
+unfoldable pub Stepped : List ℕ → List ℕ → ReplayStep → Step → Type 0
+Stepped before after r (onward m printed) = (r .stopped ≡ false) × (ReplayHolds (r .state) m × Prints before (Next 0) printed after (r .printed))
+Stepped before after r (stops printed) = (r .stopped ≡ true) × Prints before (Next 0) printed after (r .printed)
+
+-- the state with another session
+abbrev pub withLatest : ReplayState → ShellSession → ReplayState
+withLatest s x = record { setup = s .setup; exists = s .exists; session = x }
+
+unfoldable pub isCreated : CreationAnswer → Bool
+isCreated Created = true
+isCreated (Refused r) = false

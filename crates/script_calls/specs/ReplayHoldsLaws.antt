@@ -1,0 +1,95 @@
+-- A session is asked for: there is one and it answers, or there is none.
+use Prim.Native.Nat.{ℕ, _-_, min}
+use mathlib.Core.Path.{_≡_, refl, sym, ap, ap₂, subst, _∙_}
+use mathlib.Core.Bool.{Bool, true, false}
+use mathlib.Core.List.{List, map}
+use mathlib.Core.Option.{Option, none, some}
+use native.Mathlib.Omega.{arith}
+use lib.ListN.{take}
+use Rattle.spec_lists.specs.ListLaws.{map-take}
+use Rattle.spec_session.specs.Session.{Session, Limits, Creation, made, refused, create}
+use Rattle.spec_replay.specs.Answers.{noSessionLine, creationLine}
+use Rattle.spec_replay.specs.Replay.{Setup, State, Step, onward, stops, asked, created, withSession, keptAnchors}
+use Rattle.bytes_decimal.specs.declared.Printed.{Printed}
+use Rattle.bytes_decimal.specs.declared.Printed.the-variants.{Next}
+use Rattle.bytes_printer.specs.Prints.{Prints}
+use Rattle.shell_player.specs.Holds.{Holds}
+use Rattle.session_creation.specs.Creation.{Creates}
+use Rattle.shell_player.specs.declared.session.ShellSession.{ShellSession}
+use Rattle.session_creation.specs.declared.ShellSessionCreation.{ShellSessionCreation}
+use Rattle.session_lifecycle.specs.Meaning.{limitsOf}
+use Rattle.active_projection_target_catalog.specs.Catalog.{pairOf}
+use Rattle.session_from_pairs.specs.CreatesFrom.{catalogueFrom}
+use Rattle.script_setup.specs.SetsUp.{SetsUp}
+use Rattle.script_setup.specs.declared.ReplaySetup.{ReplaySetup}
+use Rattle.script_calls.specs.declared.state.ReplayState.{ReplayState}
+use Rattle.script_calls.specs.declared.state.ReplayStep.{ReplayStep}
+use Rattle.script_calls.specs.ReplayHolds.{SessionHeld, ReplayHolds, Stepped, isCreated}
+
+-- there is a session of the model, which the struct stores
+held-some : (b : Bool) (s : ShellSession) (o : Option Session) → b ≡ true → SessionHeld b s o → (x : Session) × (o ≡ some x) × Holds s x
+held-some true s (some x) e h = (x, refl, h)
+held-some true s none e h = absurd h
+held-some false s o e h = absurd (let z : _≡_ {A = ℕ} 0 1 = cc in omega arith)
+
+held-none : (b : Bool) (s : ShellSession) (o : Option Session) → b ≡ false → SessionHeld b s o → o ≡ none
+held-none true s o e h = absurd (let z : _≡_ {A = ℕ} 0 1 = cc in omega arith)
+held-none false s (some x) e h = absurd h
+held-none false s none e h = refl
+
+held-as : (b : Bool) (s : ShellSession) (x : Session) → b ≡ true → Holds s x → SessionHeld b s (some x)
+held-as true s x e h = h
+held-as false s x e h = absurd (let z : _≡_ {A = ℕ} 0 1 = cc in omega arith)
+
+module _ (m : State) (f : Session → Step) where
+  asked-is : (o : Option Session) → m .session ≡ o → asked m f ≡ elim o [ none ↦ onward m noSessionLine | some x ↦ f x ]
+  unfolding asked
+  asked-is o e = ap (λ (p : Option Session). elim p [ none ↦ onward m noSessionLine | some x ↦ f x ]) e
+
+module _ (s : ReplayState) (m : State) (h : ReplayHolds s m) (before after : List ℕ) (r : ReplayStep) (f : Session → Step) where
+  -- the session answers
+  pub asked-there : s .exists ≡ true → ((x : Session) → Holds (s .session) x → Stepped before after r (f x)) → Stepped before after r (asked m f)
+  asked-there e step =
+      let one = held-some (s .exists) (s .session) (m .session) e (h .session-is) in
+      subst (Stepped before after r) (sym (asked-is m f (some (one .0)) (one .1))) (step (one .0) (one .2))
+
+  -- there is none
+  pub asked-nowhere : s .exists ≡ false → Stepped before after r (onward m noSessionLine) → Stepped before after r (asked m f)
+  asked-nowhere e step = subst (Stepped before after r) (sym (asked-is m f none (held-none (s .exists) (s .session) (m .session) e (h .session-is)))) step
+
+module _ (s : ReplayState) (m : State) (h : ReplayHolds s m) where
+  -- the state with a later session of the same replay
+  pub holds-latest : (t : ShellSession) (x : Session) → s .exists ≡ true → Holds t x → ReplayHolds (record { setup = s .setup; exists = s .exists; session = t }) (withSession m (some x))
+  unfolding withSession
+  holds-latest t x e held = record { setup-is = h .setup-is; session-is = held-as (s .exists) t x e held }
+
+module _ {before after : List ℕ} where
+  -- a step that goes on, by its parts
+  pub goes-on : {r : ReplayStep} {m : State} {printed : List ℕ} → r .stopped ≡ false → ReplayHolds (r .state) m → Prints before (Next 0) printed after (r .printed) → Stepped before after r (onward m printed)
+  unfolding Stepped
+  goes-on e h p = (e, (h, p))
+
+  pub stops-there : (r : ReplayStep) {printed : List ℕ} → r .stopped ≡ true → Prints before (Next 0) printed after (r .printed) → Stepped before after r (stops printed)
+  unfolding Stepped
+  stops-there r e p = (e, p)
+
+-- a creation takes the place of what there was
+pub created-step : (s : ReplayState) (m : State) → ReplayHolds s m → (c : Creation) (r : ShellSessionCreation) → Creates c r → (b : Bool) → b ≡ isCreated (r .answer)
+    → (before after : List ℕ) (p : Printed) → Prints before (Next 0) (creationLine c) after p
+    → Stepped before after (record { state = record { setup = s .setup; exists = b; session = r .session }; printed = p; stopped = false }) (created m c)
+unfolding created Creates isCreated withSession
+created-step s m h (made x) r k b e before after p printed = goes-on refl (record { setup-is = h .setup-is; session-is = rw (e, k .0) (k .1) }) printed
+created-step s m h (refused f) r k b e before after p printed = goes-on refl (record { setup-is = h .setup-is; session-is = rw (e, k .0) tt }) printed
+
+-- the anchors that a set-up keeps are those of the definitions
+pub setup-creates : (s : ReplaySetup) (m : Setup) → SetsUp s m → (n k : ℕ) → n ≡ min (s .«node_count») keptAnchors → k ≡ min (s .«collection_count») keptAnchors
+    → create (s .id) (limitsOf (s .limits)) (catalogueFrom (take (n - 0) (s .nodes)) (take (s .«pair_count») (s .pairs)) (take (k - 0) (s .collections))) ≡ create (m .id) (m .limits) (m .catalogue)
+setup-creates s m h n k en ek =
+    let nodes : n - 0 ≡ s .«node_count» = omega (arith, h .nodes-kept .few) in
+    let collections : k - 0 ≡ s .«collection_count» = omega (arith, h .collections-kept .few) in
+    let one : take (n - 0) (s .nodes) ≡ m .catalogue .nodes = ap (λ (x : ℕ). take x (s .nodes)) nodes ∙ h .nodes-kept .is in
+    let two : map pairOf (take (s .«pair_count») (s .pairs)) ≡ m .catalogue .bindings = map-take pairOf (s .«pair_count») (s .pairs) ∙ h .pairs-kept .is in
+    let three : take (k - 0) (s .collections) ≡ m .catalogue .collections = ap (λ (x : ℕ). take x (s .collections)) collections ∙ h .collections-kept .is in
+    let all : catalogueFrom (take (n - 0) (s .nodes)) (take (s .«pair_count») (s .pairs)) (take (k - 0) (s .collections)) ≡ m .catalogue = λ i. record { nodes = one i; bindings = two i; collections = three i } in
+    ap₂ (λ (i : ℕ) (l : Limits). create i l (catalogueFrom (take (n - 0) (s .nodes)) (take (s .«pair_count») (s .pairs)) (take (k - 0) (s .collections)))) (h .id-is) (h .limits-are)
+    ∙ ap (create (m .id) (m .limits)) all

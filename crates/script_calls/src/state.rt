@@ -1,0 +1,44 @@
+// The state of a replay: its set-up, and the session of the latest creation if there is one.
+use bytes_decimal::Printed;
+use script_answers::session;
+use script_setup::ReplaySetup;
+use shell_player::session::ShellSession;
+ghost use mathlib.Core.Path.{_≡_};
+ghost use Rattle.spec_replay.specs.Replay.{State, onward};
+ghost use Rattle.spec_replay.specs.Answers.{noSessionLine};
+ghost use Rattle.script_calls.specs.ReplayHolds.{ReplayHolds, Stepped, withLatest};
+
+pub struct ReplayState {
+    pub setup: ReplaySetup,
+    pub exists: bool,
+    pub session: ShellSession,
+}
+
+// The state after a line, where what was printed ends, and whether the replay stops there.
+pub struct ReplayStep {
+    pub state: ReplayState,
+    pub printed: Printed,
+    pub stopped: bool,
+}
+
+// The state with another session.
+pub fn with_latest(state: ReplayState, session: ShellSession) -> ReplayState
+    ensures { λ r. ⌜ r ≡ withLatest state session ⌝ }
+{
+    let mut next = state;
+    next.session = session;
+    next
+}
+
+// The answer where a session is asked for and there is none.
+pub fn no_session(state: ReplayState, out: &mut [u8]) -> ReplayStep
+    ensures { λ r. ⌜ ((m : State) → ReplayHolds state m → Stepped (now (out .entry)) (now (out .exit)) r (onward m noSessionLine)) ⌝ }
+{
+    let start = Printed::Next(0);
+    let printed = session::print_no_session(out, start);
+    ReplayStep {
+        state,
+        printed,
+        stopped: false,
+    }
+}

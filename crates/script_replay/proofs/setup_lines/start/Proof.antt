@@ -1,0 +1,31 @@
+-- `script_replay::setup_lines::start` meets its contract: nothing is set up, and there is no session.
+use Rattle.spec_replay.specs.Replay as replay
+use borrow.Author.Needs.{needs}
+use Rattle.script_replay.proofs.setup_lines.start.Statement.{statement}
+use Rattle.script_replay.proofs.setup_lines.start.Tie as tie
+
+new-requires : tie.Need-new-requires
+new-requires c κs = search needs
+
+slice-aggregate-create-shell-session : tie.Need-slice-aggregate-create-shell-session
+slice-aggregate-create-shell-session c = search needs
+
+slice-aggregate-create-shell-session-2 : tie.Need-slice-aggregate-create-shell-session-2
+slice-aggregate-create-shell-session-2 c = search needs
+
+create-shell-session-requires : tie.Need-create-shell-session-requires
+create-shell-session-requires c κs = search needs
+
+returns : tie.Need-returns
+unfolding replay.start
+returns c = record { setup-is = c .before .before .before .before .new .ensures; session-is = tt }
+
+pub start-spec : {M : Type 1} → statement M
+start-spec =
+    tie.close
+    (tie.spec
+    new-requires
+    slice-aggregate-create-shell-session
+    slice-aggregate-create-shell-session-2
+    create-shell-session-requires
+    returns)

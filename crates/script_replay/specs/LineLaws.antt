@@ -1,0 +1,117 @@
+-- Laws of the lines: what is silent, what a decoded set is, and where a listing ends.
+use Prim.Native.Nat.{ℕ, _+_, _-_, _≤_, _<_}
+use mathlib.Core.Path.{_≡_, refl, sym, ap, subst, _∙_}
+use mathlib.Core.Bool.{Bool, true, false}
+use mathlib.Core.List.{List, []}
+use mathlib.Core.Option.{Option, none, some}
+use native.Mathlib.Omega.{arith}
+use borrow.Author.Tests.{lt-leb, leb-true}
+use lib.Dec.{leb}
+use lib.ListN.{length, take, drop, length-drop}
+use Rattle.spec_lists.specs.Lists.{if_then_else_}
+use Rattle.spec_replay.specs.Script.{Command, other, lineBytes, readHex, given, command}
+use Rattle.spec_replay.specs.Replay.{Setup, State, onward, replayLine}
+use Rattle.bytes_decimal.specs.declared.Printed.{Printed}
+use Rattle.bytes_decimal.specs.declared.Printed.the-variants.{Next, NoRoom}
+use Rattle.bytes_wire.specs.Write.{hasRoom}
+use Rattle.bytes_printer.specs.Prints.{Prints}
+use Rattle.bytes_printer.specs.PrintsLaws.{written, refused, nothing-printed}
+use Rattle.bytes_hex.specs.declared.Decoded.{Decoded}
+use Rattle.bytes_hex.specs.declared.Decoded.the-variants as decoded
+use Rattle.bytes_hex.specs.Decoding.{decoding, decodedInto}
+use Rattle.bytes_hex.specs.DecodingLaws.{decoded-part, always-room}
+use Rattle.script_parser.specs.Meaning.{setFrom, commandOf}
+use Rattle.script_parser.specs.declared.ScriptCommand.{ScriptCommand}
+use Rattle.script_setup.specs.SetsUp.{SetsUp}
+use Rattle.script_setup.specs.declared.ReplaySetup.{ReplaySetup}
+use Rattle.script_calls.specs.declared.state.ReplayState.{ReplayState}
+use Rattle.listing_panel.specs.Written.{Writes}
+use Rattle.patch_part_writer.specs.declared.written.Written.{Written}
+use Rattle.patch_part_writer.specs.declared.written.Written.the-variants.{Wrote, Refused}
+use Rattle.patch_part_writer.specs.declared.written.WriteRefusal.the-variants.{OutputTooShort}
+use Rattle.script_calls.specs.declared.state.ReplayStep.{ReplayStep}
+use Rattle.script_calls.specs.ReplayHolds.{ReplayHolds, Stepped}
+use Rattle.script_calls.specs.ReplayHoldsLaws.{goes-on}
+use Rattle.script_replay.specs.Silent.{Silent, printedOf}
+
+-- a silent line leaves the slice as it was
+pub silent-step : (l : List ℕ) (r : ReplayStep) (m : State) → Silent r m → Stepped l l r (onward m [])
+silent-step l r m s = goes-on (s .goes) (s .holds) (subst (λ (p : Printed). Prints l (Next 0) [] l p) (sym (s .none)) (nothing-printed l (Next 0) (omega arith)))
+
+-- a new set-up is silent, and the session stays
+pub set-up : (s : ReplayState) (m : State) → ReplayHolds s m → (t : ReplaySetup) (n : Setup) → SetsUp t n → (r : ReplayStep)
+    → (r .state ≡ record { setup = t; exists = s .exists; session = s .session }) × ((r .printed ≡ Next 0) × (r .stopped ≡ false)) → Silent r (record { setup = n; session = m .session })
+set-up s m h t n new r is = record {
+  goes = is .1 .1;
+  holds = subst (λ (x : ReplayState). ReplayHolds x (record { setup = n; session = m .session })) (sym (is .0)) (record { setup-is = new; session-is = h .session-is });
+  none = is .1 .0;
+}
+
+-- ---- lines
+
+-- a step at a command is one at the same command told otherwise
+pub line-step : (before after : List ℕ) (r : ReplayStep) (n : ℕ) (m : State) (k j : Command) → j ≡ k → Stepped before after r (replayLine n m j) → Stepped before after r (replayLine n m k)
+line-step before after r n m k j e step = subst (λ (x : Command). Stepped before after r (replayLine n m x)) e step
+
+-- a line that is too long
+pub long-other : (line : List ℕ) → lineBytes < length line → command line ≡ other
+unfolding command
+long-other line h = rw (lt-leb (length line) lineBytes h)
+
+-- what a parsed line stands for, by the case that it is
+pub parsed-as : (line : List ℕ) (p c : ScriptCommand) → commandOf line p ≡ command line → p ≡ c → commandOf line c ≡ command line
+parsed-as line p c told e = ap (commandOf line) (sym e) ∙ told
+
+-- ---- sets in hex
+
+module _ (line : List ℕ) (from : ℕ) (next : List ℕ → Command) (lent after : List ℕ) (r : Decoded)
+    (told : r ≡ decoding (length lent) (readHex (drop from line))) where
+  -- the bytes that were decoded
+  pub set-is : after ≡ decodedInto lent (readHex (drop from line)) → (n : ℕ) → r ≡ decoded.Bytes n → setFrom line from next ≡ next (take (n - 0) after)
+  unfolding given
+  set-is left n e =
+      let same : n - 0 ≡ n = omega arith in
+      let one : readHex (drop from line) ≡ some (take n (decodedInto lent (readHex (drop from line)))) = decoded-part lent (readHex (drop from line)) n (sym told ∙ e) in
+      ap (λ (o : Option (List ℕ)). given o next) one ∙ ap next (ap (take n) (sym left) ∙ ap (λ (k : ℕ). take k after) (sym same))
+
+  -- they are within what was lent
+  pub set-within : (n : ℕ) → r ≡ decoded.Bytes n → n ≤ length lent
+  unfolding decoding
+  set-within n e = go (readHex (drop from line)) (sym told ∙ e)
+    where
+      go : (o : Option (List ℕ)) → decoding (length lent) o ≡ decoded.Bytes n → n ≤ length lent
+      go none h = absurd (let z : _≡_ {A = ℕ} 0 1 = cc in omega arith)
+      go (some bs) h = by (leb (length bs) (length lent)) refl h
+        where
+          by : (t : Bool) → leb (length bs) (length lent) ≡ t → (if t then decoded.Bytes (length bs) else decoded.NoRoom) ≡ decoded.Bytes n → n ≤ length lent
+          by true few h = let same : length bs ≡ n = cc in omega (arith, leb-true (length bs) (length lent) few)
+          by false few h = absurd (let z : _≡_ {A = ℕ} 0 1 = cc in omega arith)
+
+  pub no-set : r ≡ decoded.Malformed → setFrom line from next ≡ other
+  unfolding given decoding
+  no-set e = go (readHex (drop from line)) (sym told ∙ e)
+    where
+      go : (o : Option (List ℕ)) → decoding (length lent) o ≡ decoded.Malformed → given o next ≡ other
+      go none h = refl
+      go (some bs) h = never (leb (length bs) (length lent)) h
+        where
+          never : (t : Bool) → (if t then decoded.Bytes (length bs) else decoded.NoRoom) ≡ decoded.Malformed → next bs ≡ other
+          never true h = absurd (let z : _≡_ {A = ℕ} 0 1 = cc in omega arith)
+          never false h = absurd (let z : _≡_ {A = ℕ} 0 1 = cc in omega arith)
+
+  -- there is always room for what a line spells
+  pub has-room : 65536 ≤ length lent → length line ≤ lineBytes → r ≡ decoded.NoRoom → ⊥
+  has-room room short e = always-room (drop from line) (length lent) (omega (arith, length-drop from line)) (sym told ∙ e)
+
+-- where a listing ends
+pub listing-printed : (before lines after : List ℕ) (r : Written) → Writes before lines after r → Prints before (Next 0) lines after (printedOf r)
+unfolding printedOf
+listing-printed before lines after r w = go (hasRoom before 0 (length lines)) refl
+  where
+    go : (t : Bool) → hasRoom before 0 (length lines) ≡ t → Prints before (Next 0) lines after (printedOf r)
+    go true room =
+        let is : r ≡ Wrote (0 + length lines) = w .answer ∙ rw room in
+        subst (λ (x : Written). Prints before (Next 0) lines after (printedOf x)) (sym is) (written before 0 lines refl room (w .output))
+    go false room =
+        let is : r ≡ Refused OutputTooShort = w .answer ∙ rw room in
+        subst (λ (x : Written). Prints before (Next 0) lines after (printedOf x)) (sym is) (refused before 0 lines refl room (w .output))

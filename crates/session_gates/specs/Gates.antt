@@ -1,0 +1,75 @@
+-- The steps of a batch, by what each of them looks at: 01, 'One batch, from entry to leaf'. `GatesLaws.antt` proves that in their order they are
+-- `batchChecks`.
+use Prim.Native.Nat.{ℕ}
+use mathlib.Core.Path.{_≡_}
+use mathlib.Core.Bool.{Bool, true, not, _&&_, _||_}
+use mathlib.Core.List.{List}
+use lib.Dec.{leb, ltb, eqb}
+use lib.ListN.{length}
+use Rattle.spec_lists.specs.Lists.{if_then_else_, isEmpty}
+use Rattle.spec_patch.specs.Patch.{Patch}
+use Rattle.spec_patch.specs.Read.{SetReading, patches, fault}
+use Rattle.spec_checks.specs.Findings.{findings}
+use Rattle.spec_projection.specs.Apply.{operationsOf}
+use Rattle.spec_session.specs.Session.{Lifecycle, Cursor, Limits, Catalogue, Session}
+use Rattle.spec_session.specs.Diagnostics.{SessionRefusal, sessionNumber, sessionMismatch, sessionClosed, limitExceeded, countsDiffer, cursorMismatch, checksFailed, ofReading}
+use Rattle.spec_session.specs.Lifecycle.{isClosed}
+use Rattle.spec_session.specs.Batch.{BatchEnvelope, Check, pass, refuse, _>>_, require, absentTargets, knownTargets, takesNumber}
+use Rattle.session_lifecycle.specs.Meaning.{refusalOf}
+use Rattle.session_gates.specs.declared.gates.OrderedProjectionPatchBatchEnvelope.{OrderedProjectionPatchBatchEnvelope}
+use Rattle.session_gates.specs.declared.gates.BatchGate.{BatchGate}
+use Rattle.session_gates.specs.declared.gates.BatchGate.the-variants.{Passed, Refused}
+
+abbrev pub envelopeMeans : OrderedProjectionPatchBatchEnvelope → BatchEnvelope
+envelopeMeans e = record { session = e .«session_id» .0; sequence = e .«sequence_no»; patches = e .«patch_count»; stimulusBytes = e .«stimulus_bytes» }
+
+unfoldable pub gateOf : BatchGate → Check (Unit {0})
+gateOf Passed = pass tt
+gateOf (Refused r n) = refuse (refusalOf r) n
+
+-- steps 1 to 3
+unfoldable pub preflightBy : ℕ → Limits → Lifecycle → BatchEnvelope → Check (Unit {0})
+preflightBy id l life e =
+    require (eqb (e .session) id) sessionMismatch
+    >> (require (not (isClosed life)) sessionClosed
+    >> require (leb (e .patches) (l .patches) && leb (e .stimulusBytes) (l .stimulusBytes)) limitExceeded)
+
+-- steps 5 and 6, with the actual counts
+unfoldable pub countsBy : Limits → BatchEnvelope → ℕ → ℕ → ℕ → Check (Unit {0})
+countsBy l e declared n k = require (eqb (e .patches) n && eqb declared k) countsDiffer >> require (leb k (l .references)) limitExceeded
+
+-- step 8
+unfoldable pub replayBy : Cursor → BatchEnvelope → Check (Unit {0})
+replayBy c e = require (eqb (e .patches) 0 || takesNumber c (e .sequence)) cursorMismatch
+
+-- steps 7 and 8 of patches
+unfoldable pub targetsBy : Catalogue → Cursor → BatchEnvelope → List Patch → Check (Unit {0})
+targetsBy k c e ps = knownTargets (absentTargets k (operationsOf ps)) >> replayBy c e
+
+-- steps 5 to 8 of patches
+unfoldable pub patchesBy : Session → BatchEnvelope → ℕ → List Patch → Check (Unit {0})
+patchesBy s e declared ps = countsBy (s .limits) e declared (length ps) (length (operationsOf ps)) >> targetsBy (s .catalogue) (s .cursor) e ps
+
+-- steps 4 to 8 of a set
+unfoldable pub setBy : Session → BatchEnvelope → ℕ → SetReading → Check (Unit {0})
+setBy s e declared (patches ps) = require (isEmpty (findings ps .found)) checksFailed >> patchesBy s e declared ps
+setBy s e declared (fault f) = refuse (ofReading f) 1
+
+-- whether all steps passed, without the patches
+abbrev pub erased : Check (List Patch) → Check (Unit {0})
+erased (pass ps) = pass tt
+erased (refuse r n) = refuse r n
+
+-- ---- what holds of an answer for any values whatever
+
+-- 01, 'Diagnostics under the cap': the logical count of a rejection is 1, but for 6, which has one for each absent target
+unfoldable pub countFits : SessionRefusal → ℕ → Bool
+countFits r n = if eqb (sessionNumber r) 6 then ltb 0 n else eqb n 1
+
+unfoldable pub counted : Check (Unit {0}) → Bool
+counted (pass u) = true
+counted (refuse r n) = countFits r n
+
+-- where the first of two checks refuses, that is the answer
+abbrev pub Decides : Check (Unit {0}) → Check (Unit {0}) → Type 0
+Decides first answer = (r : SessionRefusal) (n : ℕ) → first ≡ refuse r n → answer ≡ refuse r n

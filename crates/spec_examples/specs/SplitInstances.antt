@@ -1,0 +1,86 @@
+-- The theorem on split batches speaks of something: a list of two patches that applies whole and in two pieces, and one that fails only at
+-- an operation, which stands in the second piece.
+use Prim.Native.Nat.{ℕ, _+_}
+use mathlib.Core.Path.{_≡_, refl}
+use mathlib.Core.List.{List, [], _∷_}
+use mathlib.Core.Option.{none}
+use native.Mathlib.Omega.{arith}
+use lib.ListN.{length}
+use Rattle.spec_patch.specs.Patch.{Operation, Patch, unsigned, setAvailability, insert, remove, pending}
+use Rattle.spec_patch.specs.Fits.{OperationHolds, InRangeValue, OptionalU64}
+use Rattle.spec_projection.specs.Projection.{empty}
+use Rattle.spec_projection.specs.Apply.{keyRule}
+use Rattle.spec_session.specs.Session.{uninitialized, Session, active}
+use Rattle.spec_splitting.specs.Splitting.{Piece, envelopeOf, references, send, continue, isRejected, sendAll, patchesOf, Given, Applies, AllApply, FailsAtOperation, StopsAtPiece}
+use Rattle.spec_splitting.specs.Theorem.{whole-and-pieces}
+use Rattle.spec_examples.specs.Opened.{opened}
+
+unfoldable pub patchOf : ℕ → List Operation → Patch
+patchOf n os = record {
+  envelope = record { id = n; stream = 1; document = 1; surface = none; previous = n; revision = n + 1; epoch = 1; sequence = n };
+  operations = os;
+}
+
+unfoldable pub start : Session
+start = record {
+  id = 7;
+  limits = record { stimulusBytes = 100; diagnostics = 4; patches = 8; references = 8 };
+  catalogue = record { nodes = 5 ∷ []; bindings = []; collections = 9 ∷ [] };
+  lifecycle = active;
+  cursor = uninitialized;
+  projection = empty;
+}
+
+unfoldable pub piece : List Patch → Piece
+piece ps = record { patches = ps; stimulusBytes = 50 }
+
+-- inserts key 1 into collection 9
+unfoldable pub first : Patch
+first = patchOf 1 (insert 9 1 none (unsigned 3) ∷ [])
+
+unfoldable pub second : Patch
+second = patchOf 2 (setAvailability 5 pending ∷ [])
+
+-- removes a key that is not there
+unfoldable pub failing : Patch
+failing = patchOf 2 (remove 9 2 ∷ [])
+
+-- ---- a list that applies
+
+abbrev pub pieces : List Piece
+pieces = piece (first ∷ []) ∷ piece (second ∷ []) ∷ []
+
+given : Given start 40 (piece (first ∷ second ∷ [])) pieces
+unfolding start piece first second patchOf opened patchesOf OperationHolds InRangeValue OptionalU64
+given = record { inRange = omega arith; cut = refl; nonEmpty = omega arith; figures = omega arith; numbers = omega arith }
+
+-- the whole applies
+pub premise-applies : Applies (send start 40 (piece (first ∷ second ∷ [])) .answer)
+unfolding opened send envelopeOf references start piece first second patchOf
+premise-applies = refl
+
+-- and so do the two pieces
+pub conclusion-applies : AllApply 40 (send start 40 (piece (first ∷ second ∷ []))) pieces (sendAll start 40 pieces)
+conclusion-applies = whole-and-pieces start 40 _ pieces given .applies premise-applies
+
+-- ---- a list that fails in its second piece
+
+abbrev pub failingPieces : List Piece
+failingPieces = piece (first ∷ []) ∷ piece (failing ∷ []) ∷ []
+
+given-failing : Given start 40 (piece (first ∷ failing ∷ [])) failingPieces
+unfolding start piece first failing patchOf opened patchesOf OperationHolds InRangeValue OptionalU64
+given-failing = record { inRange = omega arith; cut = refl; nonEmpty = omega arith; figures = omega arith; numbers = omega arith }
+
+-- the whole passes steps 1 to 8 and fails in step 9, by the key rule
+pub premise-fails : FailsAtOperation start 40 (piece (first ∷ failing ∷ []))
+unfolding opened envelopeOf references start piece first failing patchOf
+premise-fails = record { patches = first ∷ failing ∷ []; passes = refl; fault = keyRule; fails = refl }
+
+pub conclusion-fails : StopsAtPiece start 40 (piece (first ∷ failing ∷ [])) (premise-fails .fault) (send start 40 (piece (first ∷ failing ∷ [])) .answer .diagnostics) failingPieces (sendAll start 40 failingPieces)
+conclusion-fails = whole-and-pieces start 40 _ failingPieces given-failing .fails premise-fails
+
+-- the refusal is 8, of two answers
+pub fails-with-8 : (send start 40 (piece (first ∷ failing ∷ [])) .answer .diagnostics .code ≡ 8) × (length (sendAll start 40 failingPieces .answers) ≡ 2)
+unfolding opened send sendAll continue isRejected envelopeOf references start piece first failing patchOf
+fails-with-8 = (refl, refl)

@@ -1,0 +1,19 @@
+-- `test_rewriter::main` meets its contract. The length of a large array is told by a law and not computed.
+use Prim.Native.Nat.{ℕ}
+use mathlib.Core.Path.{sym}
+use lib.ListN.{length-replicate}
+use borrow.Author.Needs.{needs}
+use Rattle.test_rewriter.proofs.main.Statement.{statement}
+use Rattle.test_rewriter.proofs.main.Tie as tie
+
+slice-aggregate-run : tie.Need-slice-aggregate-run
+slice-aggregate-run c = sym (length-replicate {0} {A = ℕ} 1048576 0)
+
+run-requires : tie.Need-run-requires
+run-requires c κs = search needs
+
+returns : tie.Need-returns
+returns c = search needs
+
+pub main-spec : {M : Type 1} → statement M
+main-spec = tie.close (tie.spec slice-aggregate-run run-requires returns)
