@@ -13,7 +13,7 @@ use Rattle.spec_lists.specs.BytesLaws.{length-littleEndian, numberOf-littleEndi
 use Rattle.spec_patch.specs.Patch.{Value, quad, signed, text, unsigned}
 use Rattle.spec_patch.specs.Edition.{v1, hasKind}
 use Rattle.spec_patch.specs.Encode.{u32, u64, encodeText, kindOf, valueBody, encodeValue}
-use Rattle.spec_patch.specs.Fits.{Storable, FitsValue}
+use Rattle.spec_patch.specs.Fits.{Storable, StorableBy, FitsValue}
 use Rattle.spec_patch.specs.Reader.{Result, read, Reader}
 use Rattle.spec_patch.specs.Read.{readValue}
 use Rattle.spec_patch.specs.Codec.{Codec, pair-codec, injective}
@@ -31,7 +31,7 @@ use Rattle.local_projection_state.specs.Rows.{valueWidth, bindingWidth, 
 -- ---- widths
 
 value-fits : (v : Value) → Storable v → length (encodeValue v) ≤ valueWidth
-unfolding encodeValue valueBody encodeText Storable
+unfolding encodeValue valueBody encodeText StorableBy
 value-fits (quad q) h = omega arith
 value-fits (signed z) h = simp length-littleEndian (omega arith)
 value-fits (text t) h = simp (length-append, length-littleEndian) (omega (arith, h .short))
@@ -95,7 +95,7 @@ regroup a b c d = simp append-assoc
 pub binding-tells : (a b : Binding) → FitsBinding a → FitsBinding b → bindingRow a ≡ bindingRow b → a ≡ b
 unfolding bindingRow padded
 binding-tells a b g h e =
-    let fields = tells (binding-fields v1) (a .node, (a .slot, a .value)) (b .node, (b .slot, b .value))
+    let fields = tells (binding-fields true v1) (a .node, (a .slot, a .value)) (b .node, (b .slot, b .value))
     (g .node, (g .slot, storable-fits (a .value) (g .value))) (h .node, (h .slot, storable-fits (b .value) (h .value)))
     (zeros (valueWidth - length (encodeValue (a .value)))) (zeros (valueWidth - length (encodeValue (b .value))))
     (regroup (u64 (a .node)) (u32 (a .slot)) (encodeValue (a .value)) _ ∙ e ∙ sym (regroup (u64 (b .node)) (u32 (b .slot)) (encodeValue (b .value)) _)) in
@@ -110,7 +110,7 @@ availability-tells a b g h e =
 pub entry-tells : (a b : Entry) → FitsEntry a → FitsEntry b → entryRow a ≡ entryRow b → a ≡ b
 unfolding entryRow padded
 entry-tells a b g h e =
-    let fields = tells (update-fields v1) (a .collection, (a .key, a .value)) (b .collection, (b .key, b .value))
+    let fields = tells (update-fields true v1) (a .collection, (a .key, a .value)) (b .collection, (b .key, b .value))
     (g .collection, (g .key, storable-fits (a .value) (g .value))) (h .collection, (h .key, storable-fits (b .value) (h .value)))
     (zeros (valueWidth - length (encodeValue (a .value)))) (zeros (valueWidth - length (encodeValue (b .value))))
     (regroup (u64 (a .collection)) (u64 (a .key)) (encodeValue (a .value)) _ ∙ e ∙ sym (regroup (u64 (b .collection)) (u64 (b .key)) (encodeValue (b .value)) _)) in

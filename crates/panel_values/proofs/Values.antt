@@ -12,7 +12,7 @@ use Rattle.spec_patch.specs.Sizes.{textBytes}
 use Rattle.spec_patch.specs.Edition.{v1}
 use Rattle.spec_patch.specs.Patch.{Quad, N, F, T, S, Value, quad, signed, text, unsigned}
 use Rattle.spec_patch.specs.Encode.{u32, quadByte, kindOf, valueBody, encodeText, encodeValue}
-use Rattle.spec_patch.specs.Fits.{Storable}
+use Rattle.spec_patch.specs.Fits.{Storable, StorableBy}
 use Rattle.spec_patch.specs.Read.{readValue}
 use Rattle.bytes_moves.specs.Moves.{zeros, overwrite}
 use Rattle.bytes_moves.specs.MovesLaws.{drop-zeros}
@@ -87,7 +87,7 @@ module _ (row : List ℕ) (at : ℕ) where
       )
 
   value-there : (v : Value) → Storable v → drop at row ≡ padded v → Within row (valueText (valueTo (endOf row v) v)) × (valueOf row (valueTo (endOf row v) v) ≡ v)
-  unfolding padded Storable
+  unfolding padded StorableBy
   value-there (quad q) h e = (record { inside = omega arith; short = omega arith }, ap quad (quad-back q))
   value-there (signed z) h e = (record { inside = omega arith; short = omega arith }, refl)
   value-there (text t) h e =
