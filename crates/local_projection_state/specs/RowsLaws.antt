@@ -1,7 +1,7 @@
 -- Laws of rows: their widths, that a row tells its record, and that the searches in a table see the model's keys.
 use Prim.Native.Nat.{ℕ, _+_, _-_, _≤_}
 use mathlib.Core.Path.{_≡_, refl, sym, ap, ap₂, _∙_}
-use mathlib.Core.Bool.{true, _&&_}
+use mathlib.Core.Bool.{Bool, true, _&&_}
 use mathlib.Core.List.{List, [], _∷_, _++_, map, append-assoc}
 use native.Mathlib.Omega.{arith}
 use lib.Dec.{ltb, eqb}
@@ -15,9 +15,9 @@ use Rattle.spec_patch.specs.Edition.{v1, hasKind}
 use Rattle.spec_patch.specs.Encode.{u32, u64, encodeText, kindOf, valueBody, encodeValue}
 use Rattle.spec_patch.specs.Fits.{Storable, StorableBy, FitsValue}
 use Rattle.spec_patch.specs.Reader.{Result, read, Reader}
-use Rattle.spec_patch.specs.Read.{readValue}
+use Rattle.spec_patch.specs.Read.{readValueBy}
 use Rattle.spec_patch.specs.Codec.{Codec, pair-codec, injective}
-use Rattle.spec_patch.specs.ReadLaws.{u64-codec, value-codec, binding-fields, update-fields, availability-codec}
+use Rattle.spec_patch.specs.ReadLaws.{u64-codec, value-codec-by, value-any, binding-fields, update-fields, availability-codec}
 use Rattle.spec_projection.specs.Projection.{Binding, NodeAvailability, Entry, bindingKey, availabilityKey}
 use Rattle.spec_projection.specs.Entries.{isEntry, isLater}
 use Rattle.spec_projection.specs.Valid.{Behind, Grouped, FitsBinding, FitsNodeAvailability, FitsEntry}
@@ -76,10 +76,10 @@ every-kind (unsigned x) = refl
 pub storable-fits : (v : Value) → Storable v → FitsValue v1 v
 storable-fits v h = record { kind = every-kind v; storable = h }
 
--- the reader of values reads a stored value
-pub read-padded : (v : Value) → Storable v → readValue v1 (padded v) ≡ read v (zeros (valueWidth - length (encodeValue v)))
+-- the reader of values reads a stored value, whether it checks texts or not
+pub read-padded : (check : Bool) (v : Value) → Storable v → readValueBy check v1 (padded v) ≡ read v (zeros (valueWidth - length (encodeValue v)))
 unfolding padded
-read-padded v h = value-codec v1 .back v (storable-fits v h) _
+read-padded check v h = value-codec-by check v1 .back v (value-any check v1 v (storable-fits v h)) _
 
 -- two values that are read from the same bytes are the same
 same-read : {A : Type 0} {x y : A} {r s : List ℕ} → _≡_ {A = Result A} (read x r) (read y s) → x ≡ y

@@ -235,7 +235,7 @@ storable-any check (text t) h = text-any check t h
 storable-any check (unsigned n) h = h
 
 module _ (check : Bool) (ed : Edition) where
-  value-any : (v : Value) → FitsValue ed v → FitsValueBy check ed v
+  pub value-any : (v : Value) → FitsValue ed v → FitsValueBy check ed v
   value-any v h = record { kind = h .kind; storable = storable-any check v (h .storable) }
 
   pub operation-any : (o : Operation) → FitsOperation ed o → OperationHolds (FitsValueBy check ed) o
