@@ -12,7 +12,7 @@ ghost use Rattle.spec_patch.specs.Sizes.{anchors};
 ghost use Rattle.session_creation.specs.Creation.{creationWith};
 ghost use Rattle.session_from_pairs.specs.CreatesFrom.{CreatesFrom};
 
-mod pairs;
+pub mod pairs;
 
 // Creates a session that keeps these binding anchors as they are.
 fn create_with_anchors(
