@@ -1,7 +1,7 @@
 -- Creation from the copied pairs is creation from the lent list, and the session keeps them.
 use Prim.Native.Nat.{ℕ, _-_, _≤_}
 use mathlib.Core.Path.{_≡_, refl, sym, ap, subst}
-use mathlib.Core.Bool.{true, _&&_}
+use mathlib.Core.Bool.{true}
 use mathlib.Core.List.{List, _++_}
 use lib.Dec.{leb}
 use borrow.Author.Tests.{leb-true}

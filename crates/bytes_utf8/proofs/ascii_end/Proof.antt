@@ -1,7 +1,6 @@
 -- `bytes_utf8::ascii_end` meets its contract: the loop's invariant is the claim of the position reached.
 use Prim.Native.Nat.{_-_}
 use mathlib.Core.Path.{sym, _∙_}
-use native.Mathlib.Omega.{arith}
 use lib.ListN.{length}
 use borrow.Author.Needs.{needs}
 use Rattle.bytes_utf8.specs.Characters.{AsciiBetween}
