@@ -12,8 +12,8 @@ use Rattle.spec_lists.specs.ListLaws.{all-append, all-take, all-drop}
 use Rattle.bytes_records.specs.Positions.{insertAt, removeAt, replaceAt}
 use Rattle.bytes_records.specs.Table.{Wide, Holds, canInsert, canRemove, canReplace, Changed}
 use Rattle.bytes_records.specs.TableLaws.{flatten-append, flatten-middle, wide-middle, zeros-split, holds, before-length, after-length, split, row-width, row-bytes, row-split}
-use Rattle.bytes_moves.specs.Moves.{zeros, overwrite, pushFront, popFront}
-use Rattle.bytes_moves.proofs.Parts.{part-is, lent}
+use Rattle.bytes_records.specs.Moves.{zeros, overwrite, pushFront, popFront}
+use Rattle.bytes_records.proofs.Parts.{part-is, lent}
 use Rattle.bytes_records.proofs.Offsets.{start-le}
 
 -- ---- the rows of the table afterwards

@@ -14,8 +14,8 @@ use Rattle.spec_lists.specs.ListLaws.{all-append, all-left, all-right}
 use Rattle.bytes_records.specs.Positions.{insertAt, removeAt, moveAt}
 use Rattle.bytes_records.specs.Table.{Wide, Holds, canMove}
 use Rattle.bytes_records.specs.TableLaws.{flatten-append, flatten-middle, wide-middle, length-flatten, holds, padded}
-use Rattle.bytes_moves.specs.Moves.{zeros, pushFront, pushBack}
-use Rattle.bytes_moves.proofs.Parts.{lent}
+use Rattle.bytes_records.specs.Moves.{zeros, pushFront, pushBack}
+use Rattle.bytes_records.proofs.Parts.{lent}
 
 -- ---- lists in parts
 

@@ -17,11 +17,11 @@ use Rattle.bytes_records.specs.Positions.{firstIndex}
 use Rattle.bytes_records.specs.PositionsLaws.{firstIndex-le, first-passes}
 use Rattle.bytes_records.specs.Table.{Holds}
 use Rattle.bytes_records.specs.TableLaws.{fitting, row-at, row-cons}
-use Rattle.bytes_keys.specs.Keys.{orderOf}
+use Rattle.bytes_records.specs.Keys.{orderOf}
 use Rattle.bytes_records.specs.Search.{firstNumber, isPair, Rising, Starts, nextPlace, placeOf, later}
 use Rattle.bytes_records.specs.SearchLaws.{rising-at, later-none, later-next}
 use Rattle.bytes_records.specs.declared.Place.the-variants.{Taken, Before}
-use Rattle.bytes_keys.specs.declared.Order.the-variants.{Below, Same, Above}
+use Rattle.bytes_records.specs.declared.keys.Order.the-variants.{Below, Same, Above}
 use Rattle.bytes_records.proofs.Offsets.{end-le}
 
 -- the lent part that is the row's first eight bytes

@@ -1,3 +1,7 @@
+pub mod Moves
+pub mod MovesLaws
+pub mod Keys
+pub mod KeysLaws
 pub mod Positions
 pub mod PositionsLaws
 pub mod Table

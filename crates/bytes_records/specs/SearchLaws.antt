@@ -15,7 +15,7 @@ use Rattle.spec_lists.specs.Bytes.{numberOf}
 use Rattle.spec_lists.specs.Order.{lexLess, upsert}
 use Rattle.bytes_records.specs.Positions.{firstIndex}
 use Rattle.bytes_records.specs.PositionsLaws.{firstIndex-map, firstIndex-le, first-passes, first-le, any-lt, any-none, map-insertAt, map-replaceAt}
-use Rattle.bytes_keys.specs.Keys.{leadingNumbers}
+use Rattle.bytes_records.specs.Keys.{leadingNumbers}
 use Rattle.bytes_records.specs.Search.{firstNumber, isAbove, Rising, Starts, findFirst, nextPlace, placeOf, upsertAt, later}
 use Rattle.bytes_records.specs.declared.Found.the-variants.{At, Absent}
 use Rattle.bytes_records.specs.declared.Place.{Place}

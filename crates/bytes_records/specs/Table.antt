@@ -6,7 +6,7 @@ use mathlib.Core.List.{List, _++_, flatten}
 use lib.Dec.{eqb, ltb, leb}
 use lib.ListN.{length}
 use Rattle.spec_lists.specs.Lists.{All}
-use Rattle.bytes_moves.specs.Moves.{zeros}
+use Rattle.bytes_records.specs.Moves.{zeros}
 
 -- a row that is so many bytes wide
 abbrev pub Wide : ℕ → List ℕ → Type 0

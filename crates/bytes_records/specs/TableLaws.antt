@@ -1,17 +1,17 @@
 -- Laws of tables: where a row's bytes stand, that a table holds one list of rows only, and when it can be changed.
 use Prim.Native.Nat.{ℕ, _+_, _-_, _*_, _≤_, _<_}
 use mathlib.Core.Path.{_≡_, refl, sym, ap, _∙_}
-use mathlib.Core.Bool.{true, false}
+use mathlib.Core.Bool.{true}
 use mathlib.Core.List.{List, [], _∷_, _++_, flatten, append-assoc}
 use native.Mathlib.Nat.{zero-mul, suc-mul}
 use native.Mathlib.Numerals.{add-one}
 use native.Mathlib.Omega.{arith}
 use lib.ListN.{length, take, drop, getD, length-append, length-take, length-replicate, take-append-drop, replicate-append-replicate, List·getD-eq-default}
 use lib.Seq.{ext-getD, take-at, drop-at, drop-cons}
-use borrow.Author.Tests.{le-leb, lt-leb, lt-ltb, eq-eqb}
+use borrow.Author.Tests.{le-leb, lt-ltb, eq-eqb}
 use Rattle.spec_lists.specs.Lists.{All}
 use Rattle.spec_lists.specs.ListLaws.{all-append, all-take, all-drop}
-use Rattle.bytes_moves.specs.Moves.{zeros}
+use Rattle.bytes_records.specs.Moves.{zeros}
 use Rattle.bytes_records.specs.Table.{Wide, tableBytes, Holds, canInsert, canRemove, canReplace, canMove}
 
 -- ---- rows one after the other
@@ -143,8 +143,3 @@ module _ {w n : ℕ} {l : List ℕ} {m : List (List ℕ)} (t : Holds w n l m) (a
   pub can-insert : (row : List ℕ) → at ≤ n → length row ≡ w → n * w + w ≤ length l → canInsert (length l) w n at row ≡ true
   unfolding canInsert
   can-insert row h e room = rw (le-leb at n h, eq-eqb (length row) w e, le-leb (n * w + w) (length l) room)
-
-  -- a table that refuses a row which is in order is full
-  pub cannot-insert : (row : List ℕ) → at ≤ n → length row ≡ w → length l < n * w + w → canInsert (length l) w n at row ≡ false
-  unfolding canInsert
-  cannot-insert row h e full = rw (le-leb at n h, eq-eqb (length row) w e, lt-leb (n * w + w) (length l) full)

@@ -1,14 +1,17 @@
 // Tables of fixed-width records in one lent byte slice, changed in place. A contract speaks of the rows that the table
 // holds, whichever these are (`Holds`). Nothing is asked of a count or a position: a call that does not fit is refused.
-use bytes_keys::Order;
+use keys::Order;
 ghost use mathlib.Core.List.{List, [], _∷_};
 ghost use mathlib.Core.Path.{_≡_};
 ghost use Prim.Native.Nat.{ℕ, _+_, _-_, _*_, _≤_, _<_};
 ghost use lib.ListN.{length, getD};
 ghost use Rattle.bytes_records.specs.Positions.{insertAt, removeAt, replaceAt, moveAt, firstIndex};
 ghost use Rattle.bytes_records.specs.Table.{Holds, Changed, canInsert, canRemove, canReplace, canMove};
-ghost use Rattle.bytes_keys.specs.Keys.{leadingNumbers};
+ghost use Rattle.bytes_records.specs.Keys.{leadingNumbers};
 ghost use Rattle.bytes_records.specs.Search.{isAbove, isPair, Rising, Starts, findFirst, Within, placeOf, PlaceWithin};
+
+pub mod keys;
+pub mod moves;
 
 // The position of a record, if there is one.
 pub enum Found {
@@ -40,7 +43,7 @@ pub fn insert_record(table: &mut [u8], width: usize, count: usize, at: usize, ro
     }
     let from = at * width;
     let end = count * width + width;
-    bytes_moves::push_front(&mut table[from..end], row);
+    moves::push_front(&mut table[from..end], row);
     true
 }
 
@@ -58,7 +61,7 @@ pub fn remove_record(table: &mut [u8], width: usize, count: usize, at: usize) ->
     }
     let from = at * width;
     let end = count * width;
-    bytes_moves::pop_front(&mut table[from..end], width);
+    moves::pop_front(&mut table[from..end], width);
     true
 }
 
@@ -79,7 +82,7 @@ pub fn replace_record(table: &mut [u8], width: usize, count: usize, at: usize, r
     }
     let from = at * width;
     let end = from + width;
-    bytes_moves::copy(row, &mut table[from..end]);
+    moves::copy(row, &mut table[from..end]);
     true
 }
 
@@ -112,11 +115,11 @@ pub fn move_record(
     if from < to {
         let start = from * width;
         let end = to * width + width;
-        bytes_moves::push_back(&mut table[start..end], row);
+        moves::push_back(&mut table[start..end], row);
     } else {
         let start = to * width;
         let end = from * width + width;
-        bytes_moves::push_front(&mut table[start..end], row);
+        moves::push_front(&mut table[start..end], row);
     }
     true
 }
@@ -155,7 +158,7 @@ pub fn find_above(table: &[u8], width: usize, count: usize, id: u64) -> usize
         let middle = low + (high - low) / 2;
         let from = middle * width;
         let end = from + 8;
-        if id < bytes_keys::number_of(&table[from..end]) {
+        if id < keys::number_of(&table[from..end]) {
             high = middle;
         } else {
             low = middle + 1;
@@ -192,10 +195,10 @@ pub fn find_pair(table: &[u8], width: usize, count: usize, id: u64, second: u64)
         let from = at * width;
         let middle = from + 8;
         let end = middle + 8;
-        if bytes_keys::number_of(&table[from..middle]) != id {
+        if keys::number_of(&table[from..middle]) != id {
             return Found::Absent;
         }
-        if bytes_keys::number_of(&table[middle..end]) == second {
+        if keys::number_of(&table[middle..end]) == second {
             return Found::At(at);
         }
         at += 1;
@@ -225,7 +228,7 @@ pub fn find_pair_place(
     while place < count {
         let from = place * width;
         let end = from + width;
-        match bytes_keys::compare(&table[from..end], id, size, second) {
+        match keys::compare(&table[from..end], id, size, second) {
             Order::Below => {}
             Order::Same => {
                 return Place::Taken(place);

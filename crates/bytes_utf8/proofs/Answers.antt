@@ -1,14 +1,10 @@
 -- What an answer of the check says of the text: laws for callers.
 use Prim.Native.Nat.{ℕ}
 use mathlib.Core.Path.{_≡_, refl}
-use mathlib.Core.Logic.{_↔_}
 use mathlib.Core.Bool.{Bool, true, false}
 use mathlib.Core.List.{List}
 use native.Mathlib.Omega.{arith}
-use lib.ListN.{length}
-use Rattle.spec_text.specs.Scalars.{Encoded}
 use Rattle.spec_text.specs.Syntax.{isUtf8, characters}
-use Rattle.spec_text.specs.Rfc3629Laws.{utf8-exactly}
 use Rattle.bytes_utf8.specs.Answer.{answer}
 use Rattle.bytes_utf8.specs.declared.Utf8Check.the-variants.{Valid, Invalid}
 
@@ -25,10 +21,3 @@ answer-invalid text e = go (isUtf8 text) refl
     go : (t : Bool) → isUtf8 text ≡ t → isUtf8 text ≡ false
     go true u = let z : _≡_ {A = ℕ} 0 1 = cc (rw u at e) in absurd (omega arith)
     go false u = u
-
--- The check answers `Valid n` exactly if the text is the encoding of n scalar values.
-pub answer-exactly : (text : List ℕ) (n : ℕ) → (answer text ≡ Valid n) ↔ ((e : Encoded text) × (length (e .scalars) ≡ n))
-answer-exactly text n = (λ v. utf8-exactly text n .0 (answer-valid text n v), λ p. shows (utf8-exactly text n .1 p))
-  where
-    shows : (isUtf8 text ≡ true) × (characters text ≡ n) → answer text ≡ Valid n
-    shows u = rw (u .0, u .1)

@@ -1,12 +1,12 @@
 -- The table is right if a test passes that reads all its entries, and what the syntax says of a byte it says of its class: a test at each byte.
 use Prim.Native.Nat.{ℕ, suc, _-_, _<_}
-use mathlib.Core.Path.{_≡_, refl, ap, ap₂, subst}
+use mathlib.Core.Path.{_≡_, refl, ap, ap₂, subst, _∙_}
 use mathlib.Core.Bool.{Bool, true, false, _&&_, Bool·beq}
 use mathlib.Core.List.{List}
 use native.Mathlib.Omega.{arith}
-use lib.Dec.{eqb, leb}
+use lib.Dec.{eqb, leb, ltb}
 use lib.ListN.{getD}
-use borrow.Author.Tests.{eqb-true}
+use borrow.Author.Tests.{eqb-true, eq-eqb, ltb-true}
 use Rattle.spec_lists.specs.Lists.{equalLists}
 use Rattle.spec_lists.specs.ListLaws.{and-left, and-right, equalLists-equal}
 use Rattle.spec_text.specs.Syntax.{Range, _⋯_, inside, sequences, After, expects, refused, lead}
@@ -44,6 +44,12 @@ same-equal (expects rs) refused e = cc
 same-equal refused (expects ss) e = cc
 same-equal refused refused e = refl
 
+beq-equal : (a b : Bool) → Bool·beq a b ≡ true → a ≡ b
+beq-equal false false e = refl
+beq-equal false true e = cc
+beq-equal true false e = cc
+beq-equal true true e = refl
+
 -- ---- first bytes
 
 leadsRight : ℕ → Bool
@@ -54,13 +60,17 @@ pub lead-class : (b : ℕ) → b < 256 → lead sequences b ≡ afterClass (clas
 unfolding leadsRight classOf afterClass
 lead-class b h = same-equal (lead sequences b) (afterClass (classOf b)) (pass leadsRight 256 refl b h)
 
--- ---- the bytes that follow
+-- ---- bytes below 0x80
 
-beq-equal : (a b : Bool) → Bool·beq a b ≡ true → a ≡ b
-beq-equal false false e = refl
-beq-equal false true e = cc
-beq-equal true false e = cc
-beq-equal true true e = refl
+asciiRight : ℕ → Bool
+asciiRight b = Bool·beq (ltb b 0x80) (eqb (classOf b) 0)
+
+-- They are the bytes of class 0.
+pub class-ascii : (b : ℕ) → b < 256 → classOf b ≡ 0 → b < 0x80
+unfolding asciiRight classOf
+class-ascii b h e = ltb-true b 0x80 (beq-equal _ _ (pass asciiRight 256 refl b h) ∙ eq-eqb (classOf b) 0 e)
+
+-- ---- the bytes that follow
 
 -- from the classes low + 1 to high + 1
 tailRight : ℕ → ℕ → ℕ → Bool

@@ -1,5 +1,5 @@
-// Whether a text is UTF-8 by RFC 3629, and how many characters it has. A table of byte classes decides each character; bytes below 0x80 that
-// follow one another are passed in groups, without it.
+// Whether a text is UTF-8 by RFC 3629, and how many characters it has. A table of byte classes decides: each byte's class comes from it. Only
+// whole groups of 16 bytes below 0x80 are passed ahead of it.
 ghost use Prim.Native.Nat.{_≤_, _<_};
 ghost use mathlib.Core.Path.{_≡_};
 ghost use mathlib.Core.Bool.{true};
@@ -127,14 +127,14 @@ fn groups_end(text: &[u8], from: usize) -> usize
     i
 }
 
-// The position behind the bytes below 0x80 that stand there.
-fn ascii_end(text: &[u8], from: usize) -> usize
-    requires { ⌜ from ≤ length (now text) ⌝ }
+// The position behind the bytes of class 0 that stand there.
+fn ascii_end(classes: &[u8; 256], text: &[u8], from: usize) -> usize
+    requires { ⌜ IsClassTable (now classes) × (from ≤ length (now text)) ⌝ }
     ensures { λ r. ⌜ AsciiBetween (now (text .entry)) from r ⌝ }
 {
     let mut i = groups_end(text, from);
     while i < text.len() {
-        if 0x80 <= text[i] {
+        if class_of(classes, text[i]) != 0 {
             return i;
         }
         i += 1;
@@ -157,7 +157,7 @@ fn check_from(classes: &[u8; 256], text: &[u8], from: usize) -> Utf8Check
         characters += 1;
         i += length;
         if length == 1 {
-            let end = ascii_end(text, i);
+            let end = ascii_end(classes, text, i);
             characters += end - i;
             i = end;
         }
@@ -165,14 +165,14 @@ fn check_from(classes: &[u8; 256], text: &[u8], from: usize) -> Utf8Check
     Utf8Check::Valid { characters }
 }
 
-// Whether the text is UTF-8, and the number of its characters. The table is written out only for a text with a byte from 0x80 on.
+// Whether the text is UTF-8, and the number of its characters. The table is written out for a text that is not whole groups of bytes below 0x80.
 pub fn check(text: &[u8]) -> Utf8Check
     ensures { λ r. ⌜ r ≡ answer (now (text .entry)) ⌝ }
 {
-    let ascii = ascii_end(text, 0);
-    if ascii == text.len() {
-        return Utf8Check::Valid { characters: ascii };
+    let passed = groups_end(text, 0);
+    if passed == text.len() {
+        return Utf8Check::Valid { characters: passed };
     }
     let classes = CLASSES;
-    check_from(&classes, text, ascii)
+    check_from(&classes, text, passed)
 }

@@ -1,6 +1,6 @@
 -- What the test of a prefix says of the bytes.
 use Prim.Native.Nat.{ℕ, _<_}
-use mathlib.Core.Path.{_≡_, refl, ap}
+use mathlib.Core.Path.{_≡_, refl}
 use mathlib.Core.Bool.{Bool, true, false, _&&_}
 use mathlib.Core.List.{List, [], _∷_, _++_}
 use native.Mathlib.Omega.{arith}
@@ -42,8 +42,3 @@ starts-true (x ∷ p) (y ∷ bs) e =
     let heads : x ≡ y = eqb-true x y (and-left (eqb x y) _ e) in
     let tails : bs ≡ p ++ drop (length p) bs = starts-true p bs (and-right (eqb x y) _ e) in
     cc
-
-pub starts-false : (p bs : List ℕ) → startsWith p bs ≡ false → (rest : List ℕ) → bs ≡ p ++ rest → ⊥
-starts-false p bs e rest q =
-    let z : _≡_ {A = ℕ} 0 1 = cc (starts-append p rest, ap (startsWith p) q) in
-    omega arith

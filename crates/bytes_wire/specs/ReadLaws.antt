@@ -1,6 +1,6 @@
 -- What an answer says of the bytes, once for every width; and that reading gives back what was written.
 use Prim.Native.Nat.{ℕ, _+_, _-_, _^_, _≤_, _<_}
-use mathlib.Core.Path.{_≡_, refl, sym, ap, ap₂, _∙_}
+use mathlib.Core.Path.{_≡_, refl, sym, ap₂, _∙_}
 use mathlib.Core.Bool.{Bool, true, false}
 use mathlib.Core.List.{List, _++_}
 use mathlib.Core.Option.{none, some, map-eq-some-iff, map-eq-none-iff}
@@ -11,8 +11,7 @@ use lib.IntN.{ℤ}
 use lib.ListN.{length, take, drop, length-append, length-drop, take-append-drop}
 use lib.Seq.{take-at, drop-drop, length-take-le}
 use mir.Syntax.{w64}
-use mir.Val.{Fits, SFits, toZ, ofZ}
-use mir.Facts.{toZ-ofZ, ofZ-toZ, fits-ofZ, sfits-toZ}
+use mir.Val.{toZ}
 use Rattle.spec_lists.specs.Lists.{if_then_else_}
 use Rattle.spec_lists.specs.Bytes.{Bytes, littleEndian, numberOf}
 use Rattle.spec_lists.specs.BytesLaws.{bytes-take, bytes-drop, length-littleEndian, numberOf-lt, numberOf-littleEndian, littleEndian-numberOf}
@@ -80,19 +79,6 @@ signed-at l at z e =
     let found = map-eq-some-iff (toZ w64) (firstNumber 8 (drop at l)) .0 e in
     record { bits = found .0; read = number-at l at 8 (found .0) (found .1); is = found .2 }
 
-module _ {l : List ℕ} {at : ℕ} {z : ℤ} (signed : SignedAt l at z) (all : Bytes l) where
-  bits-fit : Fits w64 (signed .bits)
-  bits-fit = record { fits = number-small l at 8 (signed .read) all }
-
-  pub signed-fits : SFits w64 z
-  signed-fits = rw (← signed .is) (sfits-toZ bits-fit)
-
-  -- the bytes are those of the two's complement, with the rest behind them
-  pub signed-bytes : drop at l ≡ littleEndian 8 (ofZ w64 z) ++ drop (at + 8) l
-  signed-bytes =
-      number-bytes l at 8 (signed .read) all
-      ∙ ap (λ (x : ℕ). littleEndian 8 x ++ drop (at + 8) l) (sym (ofZ-toZ bits-fit) ∙ ap (ofZ w64) (signed .is))
-
 pub signed-short-at : (l : List ℕ) (at : ℕ) → firstSigned (drop at l) ≡ none → ShortAt l at 8
 unfolding firstSigned
 signed-short-at l at e = short-at l at 8 (map-eq-none-iff (toZ w64) (firstNumber 8 (drop at l)) .0 e)
@@ -104,7 +90,3 @@ unfolding firstNumber
 first-of-littleEndian n x rest h =
     let long = length-littleEndian n x in
     rw (le-leb n (length (littleEndian n x ++ rest)) (omega (arith, length-append (littleEndian n x) rest)), take-at (littleEndian n x) rest n long, numberOf-littleEndian n x h)
-
-pub first-of-signed : (z : ℤ) (rest : List ℕ) → SFits w64 z → firstSigned (littleEndian 8 (ofZ w64 z) ++ rest) ≡ some z
-unfolding firstSigned
-first-of-signed z rest h = rw (first-of-littleEndian 8 (ofZ w64 z) rest (fits-ofZ h .fits), toZ-ofZ h)

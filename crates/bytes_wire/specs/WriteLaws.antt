@@ -1,20 +1,12 @@
 -- What writing leaves: the bytes in place where there is room, else the list as it was; and writing one thing behind another is writing both.
-use Prim.Native.Nat.{ℕ, _+_, _^_, _≤_, _<_}
+use Prim.Native.Nat.{ℕ, _+_, _≤_, _<_}
 use mathlib.Core.Path.{_≡_, refl, sym, ap, ap₂, _∙_}
 use mathlib.Core.Bool.{Bool, true, false}
 use mathlib.Core.List.{List, _++_, append-assoc}
-use mathlib.Core.Option.{some}
 use native.Mathlib.Omega.{arith}
 use borrow.Author.Tests.{leb-true, leb-false, le-leb, lt-leb}
-use lib.IntN.{ℤ}
 use lib.ListN.{length, take, drop, length-append}
 use lib.Seq.{length-paste, take-length, take-at, drop-at, drop-drop, length-take-le}
-use mir.Syntax.{w64}
-use mir.Val.{SFits, ofZ}
-use Rattle.spec_lists.specs.Bytes.{Bytes, littleEndian}
-use Rattle.spec_lists.specs.BytesLaws.{bytes-take, bytes-drop, bytes-append, length-littleEndian}
-use Rattle.bytes_wire.specs.Read.{firstNumber, firstSigned}
-use Rattle.bytes_wire.specs.ReadLaws.{first-of-littleEndian, first-of-signed}
 use Rattle.bytes_wire.specs.Write.{hasRoom, overwrite}
 
 -- ---- the test of room
@@ -57,15 +49,6 @@ module _ (l : List ℕ) (at : ℕ) (bs : List ℕ) where
           ∙ ap (λ (s : List ℕ). length (take at l ++ s ++ drop (at + length bs) l)) (sym (take-length bs))
           ∙ length-paste l at bs (length bs) (room-true l at (length bs) e) (omega arith)
       go false e = ap length (overwrite-refused l at bs (length bs) refl e)
-
-  pub bytes-overwrite : Bytes l → Bytes bs → Bytes (overwrite l at bs)
-  bytes-overwrite h k = go (hasRoom l at (length bs)) refl
-    where
-      go : (t : Bool) → hasRoom l at (length bs) ≡ t → Bytes (overwrite l at bs)
-      go true e =
-          rw (overwrite-in-place l at bs (length bs) refl e)
-          (bytes-append (take at l ++ bs) (drop (at + length bs) l) (bytes-append (take at l) bs (bytes-take at l h) k) (bytes-drop (at + length bs) l h))
-      go false e = rw (overwrite-refused l at bs (length bs) refl e) h
 
 -- ---- what stands where, after n bytes were written
 
@@ -110,13 +93,3 @@ overwrite-append l at a b n long h =
     ∙ sym (overwrite-in-place l at (a ++ b) (n + length b) sum (has-room l at (n + length b) h))
 
 -- ---- reading gives back what was written
-
-pub number-read-back : (l : List ℕ) (at n x : ℕ) → x < 256 ^ n → hasRoom l at n ≡ true → firstNumber n (drop at (overwrite l at (littleEndian n x))) ≡ some x
-number-read-back l at n x small room =
-    ap (firstNumber n) (drop-overwrite l at (littleEndian n x) n (length-littleEndian n x) room)
-    ∙ first-of-littleEndian n x (drop (at + n) l) small
-
-pub signed-read-back : (l : List ℕ) (at : ℕ) (z : ℤ) → SFits w64 z → hasRoom l at 8 ≡ true → firstSigned (drop at (overwrite l at (littleEndian 8 (ofZ w64 z)))) ≡ some z
-signed-read-back l at z small room =
-    ap firstSigned (drop-overwrite l at (littleEndian 8 (ofZ w64 z)) 8 (length-littleEndian 8 (ofZ w64 z)) room)
-    ∙ first-of-signed z (drop (at + 8) l) small

@@ -5,8 +5,8 @@ use Prim.Native.Nat.{ℕ, _≤_, _<_}
 use native.Mathlib.Omega.{arith}
 use borrow.Author.Tests.{lt-ltb, le-ltb, eq-eqb, ne-eqb}
 use Rattle.spec_lists.specs.Order.{lexLess}
-use Rattle.bytes_keys.specs.Keys.{orderOf}
-use Rattle.bytes_keys.specs.declared.Order.the-variants.{Below, Same, Above}
+use Rattle.bytes_records.specs.Keys.{orderOf}
+use Rattle.bytes_records.specs.declared.keys.Order.the-variants.{Below, Same, Above}
 
 module _ (x y : ℕ) (xs ys : List ℕ) where
   pub order-below : x < y → Below ≡ orderOf (x ∷ xs) (y ∷ ys)

@@ -13,11 +13,11 @@ use Rattle.spec_lists.specs.Lists.{if_then_else_}
 use Rattle.spec_lists.specs.ListLaws.{flatMap-append}
 use Rattle.spec_lists.specs.Order.{lexLess, upsert, sortUnique}
 use Rattle.spec_lists.specs.OrderLaws.{lexLess-total, sortUnique-length, sortUnique-snoc}
-use Rattle.bytes_moves.specs.Moves.{pushFront}
-use Rattle.bytes_moves.proofs.Parts.{lent}
-use Rattle.bytes_keys.specs.Keys.{orderOf}
-use Rattle.bytes_keys.specs.declared.Order.{Order}
-use Rattle.bytes_keys.specs.declared.Order.the-variants.{Below, Same, Above}
+use Rattle.bytes_records.specs.Moves.{pushFront}
+use Rattle.bytes_records.proofs.Parts.{lent}
+use Rattle.bytes_records.specs.Keys.{orderOf}
+use Rattle.bytes_records.specs.declared.keys.Order.{Order}
+use Rattle.bytes_records.specs.declared.keys.Order.the-variants.{Below, Same, Above}
 use Rattle.bytes_records.specs.Positions.{insertAt}
 use Rattle.bytes_records.specs.Search.{nextPlace, placeOf, upsertAt, PlaceWithin, later}
 use Rattle.bytes_records.specs.SearchLaws.{upsert-place, later-next}

@@ -1,12 +1,12 @@
 // Findings in ascending order without repeats, kept as three numbers each in a lent slice.
-use bytes_keys::Order;
 use bytes_records::Place;
+use bytes_records::keys::Order;
 ghost use mathlib.Core.List.{_++_};
 ghost use mathlib.Core.Path.{_≡_};
 ghost use Prim.Native.Nat.{_-_, _/_, _≤_};
 ghost use lib.ListN.{length, take};
-ghost use Rattle.bytes_moves.specs.Moves.{pushFront};
-ghost use Rattle.bytes_keys.specs.Keys.{orderOf};
+ghost use Rattle.bytes_records.specs.Moves.{pushFront};
+ghost use Rattle.bytes_records.specs.Keys.{orderOf};
 ghost use Rattle.bytes_records.specs.Search.{placeOf, PlaceWithin};
 ghost use Rattle.spec_checks.specs.Finding.{findingKey};
 ghost use Rattle.check_table.specs.FindingTable.{findingOf, findingsIn, insertedCount, insertedNumbers};

@@ -9,7 +9,7 @@ use Rattle.spec_patch.specs.Sizes.{textBytes}
 use Rattle.spec_patch.specs.Patch.{Value, quad, signed, text, unsigned}
 use Rattle.spec_decimal.specs.Decimal.{decimal, signedDecimal}
 use Rattle.spec_listing.specs.Listing.{valueFields}
-use Rattle.bytes_moves.specs.Moves.{zeros}
+use Rattle.bytes_records.specs.Moves.{zeros}
 use Rattle.panel_values.specs.Lookup.{foundValue}
 use Rattle.panel_values.specs.declared.ValueLookup.{ValueLookup}
 

@@ -7,7 +7,7 @@ use Rattle.spec_patch.specs.Sizes.{textBytes}
 use Rattle.spec_patch.specs.Patch.{Value}
 use Rattle.spec_patch.specs.Encode.{u32, u64, encodeValue, availabilityByte}
 use Rattle.spec_projection.specs.Projection.{Binding, NodeAvailability, Entry}
-use Rattle.bytes_moves.specs.Moves.{zeros}
+use Rattle.bytes_records.specs.Moves.{zeros}
 
 -- the longest value: a kind, a length and a text
 abbrev pub valueWidth : ℕ

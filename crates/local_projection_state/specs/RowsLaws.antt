@@ -21,9 +21,9 @@ use Rattle.spec_patch.specs.ReadLaws.{u64-codec, value-codec-by, value-any, bin
 use Rattle.spec_projection.specs.Projection.{Binding, NodeAvailability, Entry, bindingKey, availabilityKey}
 use Rattle.spec_projection.specs.Entries.{isEntry, isLater}
 use Rattle.spec_projection.specs.Valid.{Behind, Grouped, FitsBinding, FitsNodeAvailability, FitsEntry}
-use Rattle.bytes_moves.specs.Moves.{zeros}
-use Rattle.bytes_keys.specs.Keys.{leadingNumbers}
-use Rattle.bytes_keys.specs.KeysLaws.{leading-number}
+use Rattle.bytes_records.specs.Moves.{zeros}
+use Rattle.bytes_records.specs.Keys.{leadingNumbers}
+use Rattle.bytes_records.specs.KeysLaws.{leading-number}
 use Rattle.bytes_records.specs.Table.{Wide}
 use Rattle.bytes_records.specs.Search.{firstNumber, secondNumber, isAbove, isPair, Rising}
 use Rattle.local_projection_state.specs.Rows.{valueWidth, bindingWidth, availabilityWidth, entryWidth, padded, bindingRow, availabilityRow, entryRow}

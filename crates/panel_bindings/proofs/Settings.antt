@@ -11,7 +11,7 @@ use Rattle.spec_patch.specs.Sizes.{projectionBindings, projectionAvailabilities
 use Rattle.spec_projection.specs.Projection.{Binding, NodeAvailability, Projection, bindingKey, availabilityKey}
 use Rattle.spec_projection.specs.Apply.{done, stopped, projectionFull, withBindings, withAvailabilities, applyBinding, applyAvailability}
 use Rattle.spec_projection.specs.Valid.{FitsBinding, FitsNodeAvailability, Valid}
-use Rattle.bytes_keys.specs.Keys.{leadingNumbers}
+use Rattle.bytes_records.specs.Keys.{leadingNumbers}
 use Rattle.bytes_records.specs.Table.{Wide, Holds}
 use Rattle.bytes_records.specs.Search.{placeOf, upsertAt, PlaceWithin}
 use Rattle.bytes_records.specs.declared.Place.{Place}

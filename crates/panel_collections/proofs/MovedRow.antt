@@ -6,8 +6,8 @@ use mathlib.Core.List.{List, [], append-nil, _++_}
 use native.Mathlib.Omega.{arith}
 use borrow.Author.Tests.{lt-ltb, le-ltb}
 use lib.ListN.{length, getD, drop-of-length-le}
-use Rattle.bytes_moves.specs.Moves.{zeros, overwrite}
-use Rattle.bytes_moves.specs.MovesLaws.{length-zeros}
+use Rattle.bytes_records.specs.Moves.{zeros, overwrite}
+use Rattle.bytes_records.specs.MovesLaws.{length-zeros}
 use Rattle.bytes_records.specs.Positions.{insertAt, removeAt, moveAt}
 use Rattle.bytes_records.specs.Table.{Holds, Changed, canMove}
 use Rattle.bytes_records.specs.TableLaws.{row-width, can-move}

@@ -117,7 +117,7 @@ fn move_row(table: &mut [u8], count: usize, from: usize, to: usize)
 {
     let width = LocalProjectionState::ENTRY_WIDTH;
     let mut row = [0u8; LocalProjectionState::ENTRY_WIDTH];
-    bytes_moves::copy(
+    bytes_records::moves::copy(
         bytes_records::record_at(table, width, count, from),
         &mut row,
     );

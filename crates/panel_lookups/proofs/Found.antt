@@ -15,7 +15,7 @@ use Rattle.spec_projection.specs.FirstMatchLaws.{findFirst-all}
 use Rattle.spec_projection.specs.Entries.{isEntry}
 use Rattle.spec_projection.specs.Lookups.{bindingOf, availabilityOf, entryOf}
 use Rattle.spec_projection.specs.Valid.{FitsBinding, FitsNodeAvailability, FitsEntry, Valid}
-use Rattle.bytes_keys.specs.Keys.{leadingNumbers}
+use Rattle.bytes_records.specs.Keys.{leadingNumbers}
 use Rattle.bytes_records.specs.Search.{placeOf, findFirst}
 use Rattle.bytes_records.specs.SearchLaws.{place-map, find-absent}
 use Rattle.bytes_records.specs.declared.Place.{Place}

@@ -6,8 +6,8 @@ use native.Mathlib.Omega.{arith}
 use lib.ListN.{length, drop, length-append}
 use Rattle.spec_patch.specs.Patch.{Value}
 use Rattle.spec_patch.specs.Encode.{encodeValue}
-use Rattle.bytes_moves.specs.Moves.{zeros}
-use Rattle.bytes_moves.specs.MovesLaws.{length-zeros, drop-zeros}
+use Rattle.bytes_records.specs.Moves.{zeros}
+use Rattle.bytes_records.specs.MovesLaws.{length-zeros, drop-zeros}
 use Rattle.bytes_wire.specs.Write.{overwrite}
 use Rattle.bytes_wire.specs.WriteLaws.{has-room, overwrite-in-place, overwrite-append}
 use Rattle.local_projection_state.specs.Rows.{valueWidth, padded}

@@ -14,8 +14,8 @@ use Rattle.spec_patch.specs.Patch.{Quad, N, F, T, S, Value, quad, signed, text,
 use Rattle.spec_patch.specs.Encode.{u32, quadByte, kindOf, valueBody, encodeText, encodeValue}
 use Rattle.spec_patch.specs.Fits.{Storable, StorableBy}
 use Rattle.spec_patch.specs.Read.{readValueBy}
-use Rattle.bytes_moves.specs.Moves.{zeros, overwrite}
-use Rattle.bytes_moves.specs.MovesLaws.{drop-zeros}
+use Rattle.bytes_records.specs.Moves.{zeros, overwrite}
+use Rattle.bytes_records.specs.MovesLaws.{drop-zeros}
 use Rattle.projection_patch.specs.Meaning.{quadTo, quadOf, valueTo, valueOf}
 use Rattle.projection_patch.specs.ReadAnswers.{valueAnswer}
 use Rattle.projection_patch.specs.declared.patch.ProjectionPatchValue.{ProjectionPatchValue}

@@ -8,7 +8,7 @@ use lib.ListN.{length}
 use Rattle.spec_patch.specs.Sizes.{textBytes}
 use Rattle.spec_patch.specs.Patch.{Value, quad, signed, text, unsigned, Availability}
 use Rattle.spec_patch.specs.Encode.{quadByte, availabilityByte}
-use Rattle.bytes_moves.specs.Moves.{zeros}
+use Rattle.bytes_records.specs.Moves.{zeros}
 use Rattle.panel_values.specs.declared.ValueLookup.{ValueLookup}
 use Rattle.panel_values.specs.declared.AvailabilityLookup.{AvailabilityLookup}
 

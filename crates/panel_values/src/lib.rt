@@ -66,7 +66,7 @@ fn text_value(row: &[u8], start: usize, len: usize) -> ValueLookup
 {
     let end = start + len;
     let mut text = [0u8; ProjectionPatchValue::TEXT_BYTES];
-    bytes_moves::copy(&row[start..end], &mut text);
+    bytes_records::moves::copy(&row[start..end], &mut text);
     ValueLookup {
         found: true,
         kind: 3,

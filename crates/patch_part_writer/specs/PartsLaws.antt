@@ -1,29 +1,23 @@
--- What the answer and the output are, by the result of each part.
+-- What the answer and the output are by what is written, and the size of an operation by its text.
 use Prim.Native.Nat.{ℕ, _+_, _≤_, _<_}
 use mathlib.Core.Path.{_≡_, refl, sym, ap, _∙_}
 use mathlib.Core.Bool.{true, false}
-use mathlib.Core.List.{List, _++_}
+use mathlib.Core.List.{List}
 use borrow.Author.Tests.{le-leb, lt-leb}
 use lib.Dec.{leb}
 use lib.ListN.{length}
-use Rattle.spec_lists.specs.Lists.{if_then_else_}
-use Rattle.spec_patch.specs.Sizes.{setPatches, patchOperations, textBytes}
-use Rattle.spec_patch.specs.Edition.{v1}
-use Rattle.spec_patch.specs.Encode.{u32, heading, encodeEnvelope, encodeOperation}
+use Rattle.spec_patch.specs.Sizes.{textBytes}
 use Rattle.spec_patch.specs.Write as model
 use Rattle.bytes_wire.specs.Write.{hasRoom, overwrite}
 use Rattle.bytes_wire.specs.WriteLaws.{overwrite-refused}
-use Rattle.projection_patch.specs.Meaning.{envelopeOf, operationOf}
-use Rattle.projection_patch.specs.declared.patch.ProjectionPatch.{ProjectionPatch}
 use Rattle.projection_patch.specs.declared.patch.ProjectionPatchOperation.{ProjectionPatchOperation}
-use Rattle.patch_part_writer.specs.declared.extent.TextPlace.{TextPlace}
 use Rattle.patch_part_writer.specs.declared.written.Written.{Written}
 use Rattle.patch_part_writer.specs.declared.written.Written.the-variants.{Wrote, Refused}
 use Rattle.patch_part_writer.specs.declared.written.WriteRefusal.{WriteRefusal}
 use Rattle.patch_part_writer.specs.declared.written.WriteRefusal.the-variants.{OverCapacity, Malformed, OutputTooShort}
 use Rattle.patch_part_writer.specs.Extent.{operationSize, operationText}
 use Rattle.patch_part_writer.specs.Answer.{refusalOf, refusalTo, answerAt, outputAt}
-use Rattle.patch_part_writer.specs.Parts.{headingBytes, headBytes, shortText, insideTexts, sizeWithin, operationBytes}
+use Rattle.patch_part_writer.specs.Parts.{sizeWithin}
 
 -- ---- the answer by the result
 
@@ -52,44 +46,7 @@ module _ (out : List ℕ) (at : ℕ) where
     unfolding hasRoom
     answers-wrote h after is = (sym (ap (answerAt out at) e ∙ rw (long, h)), is ∙ sym (ap (outputAt out at) e))
 
--- ---- the result of each part
-
-pub heading-over : (n : ℕ) → setPatches < n → headingBytes n ≡ model.refused model.overCapacity
-unfolding headingBytes
-heading-over n h = rw (lt-leb n setPatches h)
-
-pub heading-wrote : (n : ℕ) → n ≤ setPatches → headingBytes n ≡ model.wrote (heading v1 ++ u32 n)
-unfolding headingBytes
-heading-wrote n h = rw (le-leb n setPatches h)
-
-module _ (p : ProjectionPatch) where
-  pub head-over : patchOperations < p .«operation_count» → headBytes p ≡ model.refused model.overCapacity
-  unfolding headBytes
-  head-over h = rw (lt-leb (p .«operation_count») patchOperations h)
-
-  pub head-wrote : p .«operation_count» ≤ patchOperations → headBytes p ≡ model.wrote (encodeEnvelope (envelopeOf (p .envelope)) ++ u32 (p .«operation_count»))
-  unfolding headBytes
-  head-wrote h = rw (le-leb (p .«operation_count») patchOperations h)
-
--- the text is given by its place
-module _ (texts : List ℕ) (o : ProjectionPatchOperation) (t : TextPlace) (is : t ≡ operationText o) where
-  abbrev by : TextPlace → model.Written
-  by u =
-      if shortText u then (if insideTexts texts u then model.wrote (encodeOperation (operationOf texts o)) else model.refused model.malformed)
-      else model.refused model.overCapacity
-
-  told : operationBytes texts o ≡ by t
-  unfolding operationBytes
-  told = sym (ap by is)
-
-  pub operation-over : textBytes < t .len → operationBytes texts o ≡ model.refused model.overCapacity
-  operation-over h = told ∙ rw (lt-leb (t .len) textBytes h)
-
-  pub operation-outside : t .len ≤ textBytes → insideTexts texts t ≡ false → operationBytes texts o ≡ model.refused model.malformed
-  operation-outside h out = told ∙ rw (le-leb (t .len) textBytes h, out)
-
-  pub operation-wrote : t .len ≤ textBytes → insideTexts texts t ≡ true → operationBytes texts o ≡ model.wrote (encodeOperation (operationOf texts o))
-  operation-wrote h inside = told ∙ rw (le-leb (t .len) textBytes h, inside)
+-- ---- the size of an operation
 
 module _ (o : ProjectionPatchOperation) where
   pub size-kept : operationText o .len ≤ textBytes → sizeWithin o ≡ operationSize o

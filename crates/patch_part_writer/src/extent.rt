@@ -10,6 +10,9 @@ use projection_patch::patch::ProjectionPatch;
 use projection_patch::patch::ProjectionPatchOperation;
 use projection_patch::patch::ProjectionPatchValue;
 
+// The bytes of a set's heading with its patch count.
+pub const HEADING_BYTES: usize = 35;
+
 // The len bytes from start on, of the texts that are lent beside an operation.
 pub struct TextPlace {
     pub start: usize,

@@ -1,4 +1,4 @@
-// Writing of a set's heading and of a patch's head.
+// A set's heading and a patch's head, each stored from an index on where there is room for it.
 ghost use mathlib.Core.Path.{_≡_};
 ghost use mathlib.Core.List.{_++_};
 ghost use Prim.Native.Nat.{_+_, _≤_};
@@ -9,40 +9,20 @@ ghost use Rattle.spec_patch.specs.Encode.{u32, u64, encodeOptional, encodeEnvel
 ghost use Rattle.bytes_wire.specs.Write.{overwrite};
 ghost use Rattle.projection_patch.specs.Meaning.{surfaceOf, envelopeOf};
 ghost use Rattle.patch_part_writer.specs.Extent.{surfaceSize, headSize};
-ghost use Rattle.patch_part_writer.specs.Answer.{answerAt, outputAt};
-ghost use Rattle.patch_part_writer.specs.Parts.{headingBytes, headBytes};
-use crate::extent::head_size;
 use crate::extent::surface_size;
 use crate::fields::store_tagged;
-use crate::written::WriteRefusal;
-use crate::written::Written;
 use projection_patch::patch::OptionalSurfaceId;
 use projection_patch::patch::ProjectionPatch;
 use projection_patch::patch::ProjectionPatchEnvelope;
-use projection_patch::patch::ProjectionPatchSet;
 
-fn store_heading(out: &mut [u8], at: usize, patch_count: usize)
+// The heading and the patch count.
+pub fn store_heading(out: &mut [u8], at: usize, patch_count: usize)
     requires { ⌜ (at + 35 ≤ length (now out)) × («patch_count» ≤ setPatches) ⌝ }
     ensures { λ _. ⌜ now (out .exit) ≡ overwrite (now (out .entry)) at (heading v1 ++ u32 «patch_count») ⌝ }
 {
     bytes_wire::write_u32_at(out, at, 27);
     bytes_wire::write_bytes_at(out, at + 4, b"UI_DNA2_PROJECTION_PATCH_V1");
     bytes_wire::write_u32_at(out, at + 31, patch_count as u32);
-}
-
-// Writes a set's heading and its patch count from index at on: 12 for more patches than a set may have, then 14.
-pub fn write_heading(patch_count: usize, out: &mut [u8], at: usize) -> Written
-    ensures { λ r. ⌜ r ≡ answerAt (now (out .entry)) at (headingBytes «patch_count») ⌝ }
-    ensures { λ _. ⌜ now (out .exit) ≡ outputAt (now (out .entry)) at (headingBytes «patch_count») ⌝ }
-{
-    if ProjectionPatchSet::PATCHES < patch_count {
-        return Written::Refused(WriteRefusal::OverCapacity);
-    }
-    if !bytes_wire::has_room(out.len(), at, 35) {
-        return Written::Refused(WriteRefusal::OutputTooShort);
-    }
-    store_heading(out, at, patch_count);
-    Written::Wrote(at + 35)
 }
 
 fn store_surface(out: &mut [u8], at: usize, surface: OptionalSurfaceId)
@@ -85,7 +65,8 @@ fn store_course(
     bytes_wire::write_u32_at(out, at + 32, operation_count as u32);
 }
 
-fn store_head(out: &mut [u8], at: usize, patch: ProjectionPatch)
+// The envelope and the operation count.
+pub fn store_head(out: &mut [u8], at: usize, patch: ProjectionPatch)
     requires { ⌜ (at + headSize patch ≤ length (now out)) × (patch .«operation_count» ≤ patchOperations) ⌝ }
     ensures { λ _. ⌜ now (out .exit) ≡ overwrite (now (out .entry)) at (encodeEnvelope (envelopeOf (patch .envelope)) ++ u32 (patch .«operation_count»)) ⌝ }
 {
@@ -98,20 +79,4 @@ fn store_head(out: &mut [u8], at: usize, patch: ProjectionPatch)
     store_surface(out, at + 24, surface);
     let count = patch.operation_count;
     store_course(out, at + 24 + surface_size(surface), envelope, count);
-}
-
-// Writes a patch's head from index at on: 12 for more operations than a patch may have, then 14.
-pub fn write_patch_head(patch: ProjectionPatch, out: &mut [u8], at: usize) -> Written
-    ensures { λ r. ⌜ r ≡ answerAt (now (out .entry)) at (headBytes patch) ⌝ }
-    ensures { λ _. ⌜ now (out .exit) ≡ outputAt (now (out .entry)) at (headBytes patch) ⌝ }
-{
-    if ProjectionPatch::OPERATIONS < patch.operation_count {
-        return Written::Refused(WriteRefusal::OverCapacity);
-    }
-    let size = head_size(patch);
-    if !bytes_wire::has_room(out.len(), at, size) {
-        return Written::Refused(WriteRefusal::OutputTooShort);
-    }
-    store_head(out, at, patch);
-    Written::Wrote(at + size)
 }

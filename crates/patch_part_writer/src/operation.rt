@@ -1,4 +1,4 @@
-// Writing of one operation.
+// An operation, stored from an index on where there is room for it.
 ghost use mathlib.Core.Path.{_≡_};
 ghost use mathlib.Core.List.{[], _∷_, _++_};
 ghost use Prim.Native.Nat.{_+_, _≤_};
@@ -7,18 +7,12 @@ ghost use Rattle.spec_patch.specs.Encode.{u32, u64, encodeOptional, encodeValue
 ghost use Rattle.bytes_wire.specs.Write.{overwrite};
 ghost use Rattle.projection_patch.specs.Meaning.{beforeOf, valueOf, operationOf};
 ghost use Rattle.patch_part_writer.specs.Extent.{beforeSize, valueSize, operationSize, valueText, operationText, Within};
-ghost use Rattle.patch_part_writer.specs.Answer.{answerAt, outputAt};
-ghost use Rattle.patch_part_writer.specs.Parts.{operationBytes};
 use crate::extent::before_size;
-use crate::extent::operation_size;
-use crate::extent::operation_text;
 use crate::fields::availability_byte;
 use crate::fields::store_before;
 use crate::fields::store_entry;
 use crate::fields::store_tagged;
 use crate::fields::store_value;
-use crate::written::WriteRefusal;
-use crate::written::Written;
 use projection_patch::binding_graph::BindingTarget;
 use projection_patch::contract_primitives::StaticNodeId;
 use projection_patch::patch::OptionalKey;
@@ -90,7 +84,8 @@ fn store_move(out: &mut [u8], at: usize, collection: u64, key: u64, before: Opti
     store_before(out, at + 17, before);
 }
 
-fn store_operation(out: &mut [u8], at: usize, operation: ProjectionPatchOperation, texts: &[u8])
+// Whether RFC 3629 allows the text is tested before, once for the whole list.
+pub fn store_operation(out: &mut [u8], at: usize, operation: ProjectionPatchOperation, texts: &[u8])
     requires { ⌜ (at + operationSize operation ≤ length (now out)) × Within (now texts) (operationText operation) ⌝ }
     ensures { λ _. ⌜ now (out .exit) ≡ overwrite (now (out .entry)) at (encodeOperation (operationOf (now (texts .entry)) operation)) ⌝ }
 {
@@ -125,30 +120,4 @@ fn store_operation(out: &mut [u8], at: usize, operation: ProjectionPatchOperatio
             before,
         } => { store_move(out, at, collection.raw(), key.raw(), before) }
     }
-}
-
-// Writes an operation from index at on: 12 for a text over its capacity, then 10 for one that is not within the texts, then 14. That RFC 3629
-// allows the text is the caller's to test.
-pub fn write_operation(
-    operation: ProjectionPatchOperation,
-    texts: &[u8],
-    out: &mut [u8],
-    at: usize,
-) -> Written
-    ensures { λ r. ⌜ r ≡ answerAt (now (out .entry)) at (operationBytes (now (texts .entry)) operation) ⌝ }
-    ensures { λ _. ⌜ now (out .exit) ≡ outputAt (now (out .entry)) at (operationBytes (now (texts .entry)) operation) ⌝ }
-{
-    let text = operation_text(operation);
-    if ProjectionPatchValue::TEXT_BYTES < text.len {
-        return Written::Refused(WriteRefusal::OverCapacity);
-    }
-    if !bytes_wire::has_room(texts.len(), text.start, text.len) {
-        return Written::Refused(WriteRefusal::Malformed);
-    }
-    let size = operation_size(operation);
-    if !bytes_wire::has_room(out.len(), at, size) {
-        return Written::Refused(WriteRefusal::OutputTooShort);
-    }
-    store_operation(out, at, operation, texts);
-    Written::Wrote(at + size)
 }

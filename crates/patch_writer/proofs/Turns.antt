@@ -1,7 +1,6 @@
 -- The pass that writes: each turn writes a head, or the next operation of the patch whose head was written last.
 use Prim.Native.Nat.{ℕ, zero, suc, _+_, _-_, _≤_, _<_}
 use mathlib.Core.Path.{_≡_, refl, sym, ap, ap₂, _∙_}
-use mathlib.Core.Bool.{true}
 use mathlib.Core.List.{List, [], _∷_, _++_, map, flatMap, append-assoc}
 use native.Mathlib.Omega.{arith}
 use borrow.Author.Tests.{leb-true}
@@ -9,14 +8,14 @@ use lib.ListN.{length, getD, take, drop, length-drop, length-map, drop-of-length
 use lib.Seq.{drop-drop, length-take-le}
 use Rattle.spec_patch.specs.Sizes.{patchOperations, textBytes}
 use Rattle.spec_patch.specs.Encode.{u32, encodeOperation, encodeEnvelope, encodeCounted, encodePatch}
-use Rattle.spec_patch.specs.Write as model
 use Rattle.projection_patch.specs.Meaning.{envelopeOf}
 use Rattle.projection_patch.specs.declared.patch.ProjectionPatch.{ProjectionPatch}
 use Rattle.projection_patch.specs.declared.patch.OperationPlace.{OperationPlace}
 use Rattle.projection_patch.specs.declared.patch.ProjectionPatchSet.{ProjectionPatchSet}
-use Rattle.patch_part_writer.specs.Extent.{operationText}
-use Rattle.patch_part_writer.specs.Parts.{headBytes, operationBytes}
-use Rattle.patch_part_writer.specs.PartsLaws.{head-wrote, operation-wrote}
+use Rattle.patch_part_writer.specs.Extent.{headSize, operationSize, operationText, Within}
+use Rattle.patch_part_writer.specs.ExtentLaws.{length-head, length-operation}
+use Rattle.patch_part_writer.specs.Parts.{sizeWithin}
+use Rattle.patch_part_writer.specs.PartsLaws.{size-kept}
 use Rattle.patch_writer.specs.Set.{operationAt, listFrom, heads, operationTotal, fewOperations, shortAt, insideAt}
 use Rattle.patch_writer.specs.CallLaws.{Arrays, few-patches, few-operations, enough-places, many-heads}
 use Rattle.patch_writer.specs.Survey.{Ready}
@@ -124,14 +123,6 @@ module _ (texts : List ℕ) (hs : List ProjectionPatch) (ps : List OperationPlac
       let some : left ≡ suc (left - 1) = omega arith in
       ap (rest texts hs ps p i) some ∙ rest-suc (left - 1) x parted
 
--- what is written of an operation that passed the tests
-pub operation-passed : (texts : List ℕ) (x : OperationPlace) → shortAt x ≡ true → insideAt texts x ≡ true → operationBytes texts (x .operation) ≡ model.wrote (encodeOperation (operationAt texts x))
-operation-passed texts x short inside =
-    operation-wrote texts (x .operation) (operationText (x .operation)) refl (leb-true (operationText (x .operation) .len) textBytes short) inside
-
-pub head-passed : (h : ProjectionPatch) → fewOperations h ≡ true → headBytes h ≡ model.wrote (head h)
-head-passed h few = head-wrote h (leb-true (h .«operation_count») patchOperations few)
-
 -- ---- the turns over a set
 
 -- where a pass over a set stands: p heads and i operations are written, the last patch lacks `left` operations, and `turns` turns are left
@@ -167,13 +158,16 @@ module _ {texts : List ℕ} {set : ProjectionPatchSet} {operations room at p i l
     head-parted : drop p (heads set) ≡ patch ∷ drop (p + 1) (heads set)
     head-parted = left-cons (set .«patch_count») (set .patches) p noPatch head-index few
 
-    pub head-next : Next (rest texts (heads set) (set .operations) p i left) (head patch) (rest texts (heads set) (set .operations) (p + 1) i (patch .«operation_count»)) (headBytes patch)
+    pub head-next : Next (rest texts (heads set) (set .operations) p i left) (head patch) (rest texts (heads set) (set .operations) (p + 1) i (patch .«operation_count»)) (headSize patch)
     head-next = record {
       parted =
           ap (rest texts (heads set) (set .operations) p i) none
           ∙ rest-head texts (heads set) (set .operations) p i patch head-parted (patch-places (heads set) p i left turns (here .counts) patch head-parted (set .operations) enough);
-      written = head-passed patch (each fewOperations (set .«patch_count») (set .patches) p noPatch (few-operations texts set (here .arrays) (here .ready .fit)) head-index few);
+      long = length-head patch;
     }
+
+    pub head-few : patch .«operation_count» ≤ patchOperations
+    head-few = leb-true (patch .«operation_count») patchOperations (each fewOperations (set .«patch_count») (set .patches) p noPatch (few-operations texts set (here .arrays) (here .ready .fit)) head-index few)
 
     pub head-counts : Counts (heads set) (p + 1) i (patch .«operation_count») (turns - 1)
     head-counts = counts-head (heads set) p i left turns (here .counts) patch head-parted none
@@ -188,15 +182,21 @@ module _ {texts : List ℕ} {set : ProjectionPatchSet} {operations room at p i l
     pub small-place-index : i < 3120
     small-place-index = omega (arith, place-index, enough, here .arrays .operations)
 
-    pub operation-next : Next (rest texts (heads set) (set .operations) p i left) (encodeOperation (operationAt texts place)) (rest texts (heads set) (set .operations) p (i + 1) (left - 1)) (operationBytes texts (place .operation))
+    pub place-within : Within texts (operationText (place .operation))
+    place-within = record {
+      inside = leb-true (operationText (place .operation) .start + operationText (place .operation) .len) (length texts) (each (insideAt texts) (operationTotal (heads set)) (set .operations) i noPlace (here .ready .inside) place-index enough);
+      short = leb-true (operationText (place .operation) .len) textBytes (each shortAt (operationTotal (heads set)) (set .operations) i noPlace (here .ready .short) place-index enough);
+    }
+
+    pub place-size : sizeWithin (place .operation) ≡ operationSize (place .operation)
+    place-size = size-kept (place .operation) (place-within .short)
+
+    pub operation-next : Next (rest texts (heads set) (set .operations) p i left) (encodeOperation (operationAt texts place)) (rest texts (heads set) (set .operations) p (i + 1) (left - 1)) (operationSize (place .operation))
     operation-next = record {
       parted =
           rest-operation texts (heads set) (set .operations) p i left place more
           (whole-cons (set .operations) i noPlace (omega (arith, place-index, enough)));
-      written =
-          operation-passed texts place
-          (each shortAt (operationTotal (heads set)) (set .operations) i noPlace (here .ready .short) place-index enough)
-          (each (insideAt texts) (operationTotal (heads set)) (set .operations) i noPlace (here .ready .inside) place-index enough);
+      long = length-operation texts (place .operation) (place-within .inside);
     }
 
     pub operation-counts : Counts (heads set) p (i + 1) (left - 1) (turns - 1)

@@ -14,23 +14,26 @@ ghost use Rattle.patch_writer.specs.Set.{listOf, patchSetBytes};
 ghost use Rattle.patch_writer.specs.Survey.{Ready};
 use crate::survey::Survey;
 use crate::survey::survey_set;
-use patch_part_writer::head::write_heading;
-use patch_part_writer::head::write_patch_head;
-use patch_part_writer::operation::write_operation;
+use patch_part_writer::extent::HEADING_BYTES;
+use patch_part_writer::extent::head_size;
+use patch_part_writer::extent::operation_size;
+use patch_part_writer::head::store_head;
+use patch_part_writer::head::store_heading;
+use patch_part_writer::operation::store_operation;
 use patch_part_writer::written::WriteRefusal;
 use patch_part_writer::written::Written;
 use projection_patch::patch::ProjectionPatchSet;
 
-// Each turn writes a head, or the next operation of the patch whose head was written last.
+// Each turn writes a head, or the next operation of the patch whose head was written last. Gives the position behind the list.
 fn write_patches(
     set: ProjectionPatchSet,
     operations: usize,
     texts: &[u8],
     out: &mut [u8],
     at: usize,
-) -> Written
+) -> usize
     requires { ⌜ Ready (now texts) set operations (length (now out)) at ⌝ }
-    ensures { λ r. ⌜ r ≡ Wrote (at + length (flatMap encodePatch (listOf (now (texts .entry)) set))) ⌝ }
+    ensures { λ r. ⌜ r ≡ at + length (flatMap encodePatch (listOf (now (texts .entry)) set)) ⌝ }
     ensures { λ _. ⌜ now (out .exit) ≡ overwrite (now (out .entry)) at (flatMap encodePatch (listOf (now (texts .entry)) set)) ⌝ }
 {
     let mut next = at;
@@ -44,22 +47,18 @@ fn write_patches(
             let patch = set.patches[p];
             left = patch.operation_count;
             p += 1;
-            match write_patch_head(patch, out, next) {
-                Written::Wrote(behind) => next = behind,
-                Written::Refused(refusal) => return Written::Refused(refusal),
-            }
+            store_head(out, next, patch);
+            next += head_size(patch);
         } else {
             let place = set.operations[i];
             let operation = place.operation;
             left -= 1;
             i += 1;
-            match write_operation(operation, texts, out, next) {
-                Written::Wrote(behind) => next = behind,
-                Written::Refused(refusal) => return Written::Refused(refusal),
-            }
+            store_operation(out, next, operation, texts);
+            next += operation_size(operation);
         }
     }
-    Written::Wrote(next)
+    next
 }
 
 // Writes a patch list from the start of the output on: 12 for any capacity, then 10 for a text that RFC 3629 forbids or that is not within the
@@ -76,8 +75,8 @@ pub fn write_patch_set(set: ProjectionPatchSet, texts: &[u8], out: &mut [u8]) ->
             if out.len() < bytes {
                 return Written::Refused(WriteRefusal::OutputTooShort);
             }
-            write_heading(set.patch_count, out, 0);
-            write_patches(set, operations, texts, out, 35)
+            store_heading(out, 0, set.patch_count);
+            Written::Wrote(write_patches(set, operations, texts, out, HEADING_BYTES))
         }
     }
 }

@@ -8,6 +8,7 @@ ghost use Rattle.spec_patch.specs.Sizes.{setPatches};
 ghost use Rattle.patch_writer.specs.Set.{setPlaces, textAllowed};
 ghost use Rattle.patch_writer.specs.Survey.{headSurvey, operationSurvey, judged, setSurvey};
 use bytes_utf8::Utf8Check;
+use patch_part_writer::extent::HEADING_BYTES;
 use patch_part_writer::extent::TextPlace;
 use patch_part_writer::extent::head_size;
 use patch_part_writer::extent::operation_size;
@@ -132,7 +133,7 @@ pub fn survey_set(set: ProjectionPatchSet, texts: &[u8]) -> Survey
                 OperationSurvey::Within {
                     bytes: rest,
                     allowed,
-                } => judge(operations, 35 + (bytes + rest), allowed),
+                } => judge(operations, HEADING_BYTES + (bytes + rest), allowed),
             }
         }
     }

@@ -117,7 +117,7 @@ fn keep(input: &mut [u8], start: usize, end: usize) -> usize
     requires { ⌜ (start ≤ end) × (end ≤ length (now input)) ⌝ }
     ensures { λ r. ⌜ r ≤ length (now (input .exit)) ⌝ }
 {
-    bytes_moves::pop_front(&mut input[0..end], start);
+    bytes_records::moves::pop_front(&mut input[0..end], start);
     end - start
 }
 

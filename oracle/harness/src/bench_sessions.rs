@@ -1,4 +1,4 @@
-//! Times of sessions, projections, look-ups, texts and writing, on both sides.
+//! Times of sessions, operations, look-ups, texts and writing, on both sides.
 use std::hint::black_box;
 
 use prom_ui::shell_bridge::glue::{self, RawPatch};
@@ -105,17 +105,6 @@ fn original_set(panel: &PanelSets) -> f64 {
         }
         (processor::own() - start) / (2 * CALLS) as f64 * 1e9
     })
-}
-
-/// Sets on projections without a session.
-pub fn projections(program: &str, collections: u64) {
-    for entries in ENTRIES {
-        for operations in OPERATIONS {
-            let panel = Layout { entries, collections }.panel(operations);
-            let ours = proved(program, 'p', &bench_panels::data(&panel)) / 2.0;
-            show(&format!("{operations} operations at {entries} entries"), ours, original_set(&panel));
-        }
-    }
 }
 
 /// One operation in place, averaged over 128 of the six kinds; the original's loop without its copy of the state.

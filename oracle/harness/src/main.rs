@@ -37,7 +37,7 @@ oracle rewrite COUNT SEED PROGRAM...
 oracle bench-read PROGRAM | bench-check PROGRAM | bench-sizes PROGRAM
 oracle bench-set texts | bench-set PATCHES OPERATIONS
 oracle bench-session PROGRAM COLLECTIONS
-oracle bench-projection PROGRAM COLLECTIONS | bench-operation PROGRAM COLLECTIONS
+oracle bench-operation PROGRAM COLLECTIONS
 oracle bench-lookup PROGRAM | bench-text PROGRAM | bench-write PROGRAM
 oracle bench-panel full | bench-panel ENTRIES COLLECTIONS OPERATIONS";
 
@@ -62,7 +62,6 @@ fn main() {
         ["bench-check", program] => bench::checking(program),
         ["bench-sizes", program] => bench::sizes(program),
         ["bench-session", program, collections] => bench_sessions::batches(program, number(collections)),
-        ["bench-projection", program, collections] => bench_sessions::projections(program, number(collections)),
         ["bench-operation", program, collections] => bench_sessions::operation(program, number(collections)),
         ["bench-lookup", program] => bench_sessions::lookups(program),
         ["bench-text", program] => bench_sessions::texts(program),

@@ -7,7 +7,7 @@ use lib.ListN.{length, getD}
 use borrow.Author.Needs.{needs}
 use Rattle.bytes_records.specs.Table.{Holds}
 use Rattle.bytes_records.specs.TableLaws.{fitting}
-use Rattle.bytes_keys.specs.Keys.{leadingNumbers, orderOf}
+use Rattle.bytes_records.specs.Keys.{leadingNumbers, orderOf}
 use Rattle.bytes_records.specs.Search.{PlaceWithin}
 use Rattle.bytes_records.proofs.Offsets.{end-le, fits, fits-not}
 use Rattle.bytes_records.proofs.Changes.{row-is}

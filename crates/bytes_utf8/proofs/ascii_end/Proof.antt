@@ -1,18 +1,19 @@
 -- `bytes_utf8::ascii_end` meets its contract: the loop's invariant is the claim of the position reached.
 use Prim.Native.Nat.{_-_}
-use native.Mathlib.Omega.{arith}
+use mathlib.Core.Path.{sym, _∙_}
 use lib.ListN.{length}
 use borrow.Author.Needs.{needs}
 use Rattle.bytes_utf8.specs.Characters.{AsciiBetween}
 use Rattle.bytes_utf8.proofs.AsciiLaws.{ascii-more}
+use Rattle.bytes_utf8.proofs.TableLaws.{class-ascii}
 use Rattle.bytes_utf8.proofs.ascii_end.Statement.{statement}
 use Rattle.bytes_utf8.proofs.ascii_end.Tie as tie
 
 abbrev Inv-loop : tie.InvT-loop
-Inv-loop text from i₀ i = AsciiBetween text from i
+Inv-loop classes text from i₀ i = AsciiBetween text from i
 
 abbrev μ-loop : tie.MeasureT-loop
-μ-loop text from i₀ i = length text - i
+μ-loop classes text from i₀ i = length text - i
 
 groups-end-requires : tie.Need-groups-end-requires Inv-loop μ-loop
 groups-end-requires c κs = search needs
@@ -20,8 +21,11 @@ groups-end-requires c κs = search needs
 loop-holds : tie.Need-loop-holds Inv-loop μ-loop
 loop-holds c = c .groups-end .ensures
 
-shared-slice-read-if1 : tie.Need-shared-slice-read-if1 Inv-loop μ-loop
-shared-slice-read-if1 c = search needs
+shared-slice-read-class-of : tie.Need-shared-slice-read-class-of Inv-loop μ-loop
+shared-slice-read-class-of c = search needs
+
+class-of-requires : tie.Need-class-of-requires Inv-loop μ-loop
+class-of-requires c κs = search needs
 
 returns : tie.Need-returns Inv-loop μ-loop
 returns c = search needs
@@ -34,8 +38,9 @@ loop-less c = search needs
 
 loop-again : tie.Need-loop-again Inv-loop μ-loop
 loop-again c =
-    let turn = c .before .before in
-    ascii-more (turn .before .loop .inv) (turn .loop-test .taken) (omega arith)
+    let called = c .before in
+    let turn = called .before .before in
+    ascii-more (turn .before .loop .inv) (turn .loop-test .taken) (class-ascii _ (called .before .shared-slice-known2 .given (turn .before .loop .i) .fits) (sym (called .class-of .ensures) ∙ c .if1 .left))
 
 returns-2 : tie.Need-returns-2 Inv-loop μ-loop
 returns-2 c = c .before .loop .inv
@@ -48,7 +53,8 @@ ascii-end-spec =
     μ-loop
     groups-end-requires
     loop-holds
-    shared-slice-read-if1
+    shared-slice-read-class-of
+    class-of-requires
     returns
     add-i
     loop-less

@@ -60,7 +60,7 @@ add-i : tie.Need-add-i Inv-loop μ-loop
 add-i c = let p = passed c in search needs
 
 ascii-end-requires : tie.Need-ascii-end-requires Inv-loop μ-loop
-ascii-end-requires c κs = passed (c .before) .within
+ascii-end-requires c κs = (head (c .before .before) .before .before .pre .0, passed (c .before) .within)
 
 sub-characters : tie.Need-sub-characters Inv-loop μ-loop
 sub-characters c = search needs

@@ -3,7 +3,7 @@ use mathlib.Core.Path.{_≡_}
 use borrow.Author.Needs.{needs}
 use Prim.Native.Nat.{_≤_, _-_}
 use lib.ListN.{length}
-use Rattle.bytes_moves.proofs.Turns.{up, up-start, up-turn, up-end}
+use Rattle.bytes_records.proofs.Turns.{up, up-start, up-turn, up-end}
 use Rattle.check_table.proofs.shift_up.Statement.{statement}
 use Rattle.check_table.proofs.shift_up.Tie as tie
 

@@ -1,6 +1,6 @@
 -- `set::write_patches` meets its contract. The invariant: what is still to write, written from here, gives what the whole gives from the start. The measure is the turns left.
 use Prim.Native.Nat.{_<_}
-use mathlib.Core.Path.{sym, ap, _∙_}
+use mathlib.Core.Path.{_∙_}
 use mathlib.Core.List.{flatMap}
 use native.Mathlib.Omega.{arith}
 use borrow.Author.Needs.{needs}
@@ -8,11 +8,10 @@ use Rattle.spec_lists.specs.ListLaws.{unmapped}
 use denote.Ref.{now}
 use lib.ListN.{length}
 use Rattle.spec_patch.specs.Encode.{encodePatch}
-use Rattle.patch_part_writer.specs.declared.written.Written.the-variants.{Wrote}
 use Rattle.patch_writer.specs.Set.{heads, listOf}
 use Rattle.patch_writer.specs.CallLaws.{Arrays}
-use Rattle.patch_writer.proofs.Progress.{Progress, progress-start, progress-end, never-refused, progress-next}
-use Rattle.patch_writer.proofs.Turns.{rest, rest-start, Counts, Standing, few-turns, start-counts, small-head-index, head-next, head-counts, small-place-index, operation-next, operation-counts, end-rest}
+use Rattle.patch_writer.proofs.Progress.{Progress, progress-start, progress-end, progress-fits, progress-next, next-sized}
+use Rattle.patch_writer.proofs.Turns.{rest, rest-start, Counts, Standing, few-turns, start-counts, small-head-index, head-next, head-few, head-counts, small-place-index, place-within, place-size, operation-next, operation-counts, end-rest}
 use Rattle.patch_writer.proofs.set.write_patches.Statement.{statement}
 use Rattle.patch_writer.proofs.set.write_patches.Tie as tie
 
@@ -62,39 +61,32 @@ element-copy-out-patch c = head-index c
 add-p : tie.Need-add-p Inv-loop μ-loop
 add-p c = omega (arith, head-index (c .before))
 
-write-patch-head-requires : tie.Need-write-patch-head-requires Inv-loop μ-loop
-write-patch-head-requires c κs = search needs
+store-head-requires : tie.Need-store-head-requires Inv-loop μ-loop
+store-head-requires c κs =
+    let turn = c .before .before in
+    let k = turn .before .before in
+    (progress-fits (k .loop .inv .0) (head-next (standing k) (turn .before .loop-test .taken) (turn .if1 .taken)), head-few (standing k) (turn .before .loop-test .taken) (turn .if1 .taken))
 
-enum-known-behind : tie.Need-enum-known-behind Inv-loop μ-loop
-enum-known-behind c = search needs
+head-size-requires : tie.Need-head-size-requires Inv-loop μ-loop
+head-size-requires c κs = search needs
+
+add-next : tie.Need-add-next Inv-loop μ-loop
+add-next c =
+    let turn = c .before .before .before .before .before .before in
+    let k = turn .before .before in
+    omega (arith, c .head-size .ensures, progress-fits (k .loop .inv .0) (head-next (standing k) (turn .before .loop-test .taken) (turn .if1 .taken)), k .loop .inv .0 .long)
 
 loop-less : tie.Need-loop-less Inv-loop μ-loop
 loop-less c = search needs
 
 loop-again : tie.Need-loop-again Inv-loop μ-loop
 loop-again c =
-    let call = c .before .before .before .before .before in
+    let call = c .before .before .before in
     let turn = call .before .before .before in
-    let k = turn .before .before in
-    let more = turn .before .loop-test .taken in
-    let step = progress-next (k .loop .inv .0) (head-next (standing k) more (turn .if1 .taken)) in
-    (step (c .before .behind .given .0 .0) (sym (call .write-patch-head .ensures .0) ∙ c .before .behind .given .1) (call .write-patch-head .last .1 .0) (call .write-patch-head .ensures .1), head-counts (standing k) more (turn .if1 .taken))
-
-enum-known-refusal : tie.Need-enum-known-refusal Inv-loop μ-loop
-enum-known-refusal c = search needs
-
-head-written : (c : tie.After-known-told2 Inv-loop μ-loop) → ⊥
-head-written c =
-    let call = c .before .before .before .before .before in
-    let turn = call .before .before .before in
-    let k = turn .before .before in
-    never-refused (k .loop .inv .0) (head-next (standing k) (turn .before .loop-test .taken) (turn .if1 .taken)) (c .before .refusal .given .0 .0) (sym (call .write-patch-head .ensures .0) ∙ c .before .refusal .given .1)
-
-same-length : tie.Need-same-length Inv-loop μ-loop
-same-length c = absurd (head-written c)
-
-returns : tie.Need-returns Inv-loop μ-loop
-returns c = absurd (head-written c)
+    let k = turn .before .before in (
+      progress-next (k .loop .inv .0) (next-sized (head-next (standing k) (turn .before .loop-test .taken) (turn .if1 .taken)) (c .head-size .result) (c .head-size .ensures)) (call .store-head .last .0) (call .store-head .ensures),
+      head-counts (standing k) (turn .before .loop-test .taken) (turn .if1 .taken),
+    )
 
 place-index : (c : tie.Else1 Inv-loop μ-loop) → c .before .before .loop .i < 3120
 place-index c = small-place-index (standing (c .before .before)) (some c)
@@ -111,47 +103,41 @@ sub-left c = omega (arith, c .before .if1 .left)
 add-i : tie.Need-add-i Inv-loop μ-loop
 add-i c = omega (arith, place-index (c .before))
 
-write-operation-requires : tie.Need-write-operation-requires Inv-loop μ-loop
-write-operation-requires c κs = search needs
+store-operation-requires : tie.Need-store-operation-requires Inv-loop μ-loop
+store-operation-requires c κs =
+    let turn = c .before .before in
+    let k = turn .before .before in
+    (progress-fits (k .loop .inv .0) (operation-next (standing k) (some turn)), place-within (standing k) (some turn))
 
-enum-known-behind-2 : tie.Need-enum-known-behind-2 Inv-loop μ-loop
-enum-known-behind-2 c = search needs
+operation-size-requires : tie.Need-operation-size-requires Inv-loop μ-loop
+operation-size-requires c κs = search needs
+
+add-next-2 : tie.Need-add-next-2 Inv-loop μ-loop
+add-next-2 c =
+    let turn = c .before .before .before .before .before .before in
+    let k = turn .before .before in
+    omega (arith, c .operation-size .ensures, place-size (standing k) (some turn), progress-fits (k .loop .inv .0) (operation-next (standing k) (some turn)), k .loop .inv .0 .long)
 
 loop-less-2 : tie.Need-loop-less-2 Inv-loop μ-loop
 loop-less-2 c = search needs
 
 loop-again-2 : tie.Need-loop-again-2 Inv-loop μ-loop
 loop-again-2 c =
-    let call = c .before .before .before .before .before in
+    let call = c .before .before .before in
     let turn = call .before .before .before in
-    let k = turn .before .before in
-    let step = progress-next (k .loop .inv .0) (operation-next (standing k) (some turn)) in
-    (step (c .before .behind2 .given .0 .0) (sym (call .write-operation .ensures .0) ∙ c .before .behind2 .given .1) (call .write-operation .last .1 .1 .0) (call .write-operation .ensures .1), operation-counts (standing k) (some turn))
+    let k = turn .before .before in (
+      progress-next (k .loop .inv .0) (next-sized (operation-next (standing k) (some turn)) (c .operation-size .result) (c .operation-size .ensures ∙ place-size (standing k) (some turn))) (call .store-operation .last .0) (call .store-operation .ensures),
+      operation-counts (standing k) (some turn),
+    )
 
-enum-known-refusal-2 : tie.Need-enum-known-refusal-2 Inv-loop μ-loop
-enum-known-refusal-2 c = search needs
+same-length : tie.Need-same-length Inv-loop μ-loop
+same-length c = c .before .loop .inv .0 .long
 
-operation-written : (c : tie.After-known-told4 Inv-loop μ-loop) → ⊥
-operation-written c =
-    let call = c .before .before .before .before .before in
-    let turn = call .before .before .before in
-    let k = turn .before .before in
-    never-refused (k .loop .inv .0) (operation-next (standing k) (some turn)) (c .before .refusal2 .given .0 .0) (sym (call .write-operation .ensures .0) ∙ c .before .refusal2 .given .1)
-
-same-length-2 : tie.Need-same-length-2 Inv-loop μ-loop
-same-length-2 c = absurd (operation-written c)
-
-returns-2 : tie.Need-returns-2 Inv-loop μ-loop
-returns-2 c = absurd (operation-written c)
-
-same-length-3 : tie.Need-same-length-3 Inv-loop μ-loop
-same-length-3 c = c .before .loop .inv .0 .long
-
-returns-3 : tie.Need-returns-3 Inv-loop μ-loop
-returns-3 c =
+returns : tie.Need-returns Inv-loop μ-loop
+returns c =
     let k = c .before in
     let end = progress-end (k .loop .inv .0) (end-rest (standing k) (omega arith)) in
-    (ap Wrote (end .1), end .0)
+    (end .1, end .0)
 
 pub write-patches-spec : {M : Type 1} → statement M
 write-patches-spec =
@@ -165,23 +151,19 @@ write-patches-spec =
     mul-patch
     element-copy-out-patch
     add-p
-    write-patch-head-requires
-    enum-known-behind
+    store-head-requires
+    head-size-requires
+    add-next
     loop-less
     loop-again
-    enum-known-refusal
-    same-length
-    returns
     mul-place
     element-copy-out-place
     sub-left
     add-i
-    write-operation-requires
-    enum-known-behind-2
+    store-operation-requires
+    operation-size-requires
+    add-next-2
     loop-less-2
     loop-again-2
-    enum-known-refusal-2
-    same-length-2
-    returns-2
-    same-length-3
-    returns-3)
+    same-length
+    returns)
