@@ -1,18 +1,18 @@
--- A rearrangement that keeps the order on each target is one made by exchanging neighbours on different targets, and grouping is one.
+-- The order is kept on every target exactly where exchanges of neighbours on different targets lead from the one list to the other.
 use mathlib.Core.Path.{_≡_, refl, sym, ap, _∙_, subst}
 use mathlib.Core.Logic.{_≢_, _↔_}
-use mathlib.Core.Bool.{true, false, not, false≢true}
-use mathlib.Core.List.{List, [], _∷_, _++_, flatMap, append-nil, cons≢nil, head-eq-of-cons-eq, tail-eq-of-cons-eq}
+use mathlib.Core.Bool.{true, false, false≢true}
+use mathlib.Core.List.{List, [], _∷_, _++_, cons≢nil, head-eq-of-cons-eq, tail-eq-of-cons-eq}
 use mathlib.Core.List.{List·Permᴰ, List·Permᴰ·swap, List·Permᴰ·cons, List·Permᴰ·trans, Permᴰ·refl}
-use borrow.Author.Tests.{eqb-true, eq-eqb, not-true}
+use borrow.Author.Tests.{eqb-true, eq-eqb}
 use lib.Dec.{eqb}
 use Rattle.spec_lists.specs.Lists.{if_then_else_, All}
-use Rattle.spec_lists.specs.ListLaws.{and-left, and-right, or-left, or-right, or-second, test-cases}
+use Rattle.spec_lists.specs.ListLaws.{and-left, and-right, test-cases}
 use Rattle.spec_patch.specs.Patch.{Operation}
 use Rattle.spec_projection.specs.Effects.{Target, bindingTarget, nodeTarget, collectionTarget, targetOf}
 use Rattle.spec_operation_order.specs.FreeOrder.{sameTarget, operationsOn, OrderKept, Exchanges, unchanged, exchange, behind, further}
 
--- ---- the test of targets
+-- ---- targets
 
 pub sameTarget-true : (t u : Target) → sameTarget t u ≡ true → t ≡ u
 unfolding sameTarget
@@ -36,7 +36,6 @@ sameTarget-self (collectionTarget c) = eq-eqb c c refl
 pub sameTarget-false : (t u : Target) → sameTarget t u ≡ false → t ≢ u
 sameTarget-false t u e s = false≢true (sym e ∙ rw s (sameTarget-self u))
 
--- two targets are the same or not
 pub target-cases : {G : Type 0} (t u : Target) → (t ≡ u → G) → (t ≢ u → G) → G
 target-cases t u same other = test-cases (sameTarget t u) (λ e. same (sameTarget-true t u e)) (λ e. other (sameTarget-false t u e))
 
@@ -50,7 +49,7 @@ pub on-other : (t : Target) (o : Operation) (os : List Operation) → targetOf o
 unfolding operationsOn
 on-other t o os n = test-cases (sameTarget (targetOf o) t) (λ e. absurd (n (sameTarget-true (targetOf o) t e))) (λ e. rw e)
 
--- equal sub-lists stay equal behind one more operation
+-- one more operation in front of both lists
 on-behind : (t : Target) (o : Operation) (left right : List Operation) → operationsOn t left ≡ operationsOn t right → operationsOn t (o ∷ left) ≡ operationsOn t (o ∷ right)
 unfolding operationsOn
 on-behind t o left right e = ap (λ (l : List Operation). if sameTarget (targetOf o) t then o ∷ l else l) e
@@ -68,9 +67,9 @@ exchanges-kept (exchange a b os n) t = kept-exchange a b os n t
 exchanges-kept (behind {left} {right} o x) t = on-behind t o left right (exchanges-kept x t)
 exchanges-kept (further x y) t = exchanges-kept x t ∙ exchanges-kept y t
 
--- ---- where the order is kept, exchanges lead from one to the other
+-- ---- a kept order comes about by exchanges
 
--- the first operation on a target, and that none before it is on the target
+-- an operation is the first on its target
 record FirstOn (t : Target) (o : Operation) (os : List Operation) : Type 0 where
   earlier : List Operation
   later : List Operation
@@ -85,12 +84,12 @@ first-on t o rest (x ∷ os) h = target-cases (targetOf x) t
     (λ n. let f = first-on t o rest os (sym (on-other t x os n) ∙ h) in
     record { earlier = x ∷ f .earlier; later = f .later; parts = ap (λ l. x ∷ l) (f .parts); others = (n, f .others) })
 
--- an operation goes past others on other targets
+-- it goes behind operations on other targets, one exchange for each
 past : (o : Operation) (earlier later : List Operation) → All (λ (x : Operation). targetOf x ≢ targetOf o) earlier → Exchanges (o ∷ (earlier ++ later)) (earlier ++ o ∷ later)
 past o [] later h = unchanged (o ∷ later)
 past o (x ∷ earlier) later h = further (exchange o x (earlier ++ later) (λ e. h .0 (sym e))) (behind x (past o earlier later (h .1)))
 
--- without a first operation that both have
+-- without the operation in front of both
 kept-tail : (o : Operation) (left right : List Operation) → OrderKept (o ∷ left) (o ∷ right) → OrderKept left right
 kept-tail o left right k t = target-cases (targetOf o) t
     (λ e. tail-eq-of-cons-eq (sym (on-own t o left e) ∙ k t ∙ on-own t o right e))
@@ -109,11 +108,11 @@ kept-exchanges (o ∷ left) right k =
     let tails : OrderKept left (f .earlier ++ f .later) = kept-tail o left (f .earlier ++ f .later) (λ t. k t ∙ ap (operationsOn t) (f .parts) ∙ sym (exchanges-kept moved t)) in
     subst (Exchanges (o ∷ left)) (sym (f .parts)) (further (behind o (kept-exchanges left (f .earlier ++ f .later) tails)) moved)
 
--- the two ways of saying it are the same
+-- both directions
 pub kept-exactly : (left right : List Operation) → OrderKept left right ↔ Exchanges left right
 kept-exactly left right = (kept-exchanges left right, exchanges-kept)
 
--- ---- a rearrangement: each operation as often in the one list as in the other
+-- ---- it is a rearrangement: each operation stands as often in the one list as in the other
 
 exchanges-permutation : {left right : List Operation} → Exchanges left right → List·Permᴰ left right
 exchanges-permutation (unchanged os) = Permᴰ·refl os
