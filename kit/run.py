@@ -11,7 +11,7 @@ import subprocess
 import sys
 from pathlib import Path
 
-DATA = Path(__file__).resolve().parent.parent / "crates" / "conformance" / "data"
+DATA = Path(__file__).resolve().parent.parent / "crates" / "test_conformance" / "data"
 SECONDS = 60
 
 
