@@ -6,7 +6,7 @@ from patch import availability, binding, insert, move, remove, update
 
 rules_of("Job 9 in document 02")
 
-CLAIM = "spec_operation_order FreeOrder.OrderIsFree; Instances"
+CLAIM = "spec_operation_order FreeOrder.OrderIsFree; Examples"
 APPLIED = "R applied 0 0 0 0 %d"
 BEGIN = set_up(references=200, nodes=(5, 6), collections=(8, 9))
 

@@ -1,6 +1,6 @@
 pub mod FreeOrder
 pub mod Grouping
-pub mod Instances
+pub mod Examples
 pub mod FreeOrderLaws
 pub mod GroupingLaws
 pub mod Verdict

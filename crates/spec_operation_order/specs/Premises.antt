@@ -16,7 +16,7 @@ use Rattle.spec_projection.specs.Effects.{collectionTarget, targetOf}
 use Rattle.spec_operation_order.specs.FreeOrder.{sameTarget, OrderKept, applyOperations, inserted, insertCount, HasRoom}
 use Rattle.spec_operation_order.specs.Grouping.{isAmong, distinct, covers}
 use Rattle.spec_operation_order.specs.GroupingLaws.{grouping-keeps}
-use Rattle.spec_operation_order.specs.Instances.{entry, entriesFrom, full, removeThenInsert, insertThenRemove, oneThenTwo, twoThenOne, interleaved, targets, grouped, afterwards, runs-hold, grouped-is, full-grouped-is, grouping-needs}
+use Rattle.spec_operation_order.specs.Examples.{entry, entriesFrom, full, removeThenInsert, insertThenRemove, oneThenTwo, twoThenOne, interleaved, targets, grouped, afterwards, runs-hold, grouped-is, full-grouped-is, grouping-needs}
 use Rattle.spec_operation_order.specs.Theorem.{order-is-free, runs-with-room}
 
 -- ---- the full panel is one that a session can hold
