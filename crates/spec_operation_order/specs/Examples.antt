@@ -1,13 +1,12 @@
 -- Three pairs of lists, computed from the definitions alone: that both must run, that the order in a collection counts, and that lists
 -- with operations of two collections between each other end as the grouped ones do.
-use Prim.Native.Nat.{ℕ, zero, suc, _+_}
+use Prim.Native.Nat.{ℕ, zero, suc}
 use mathlib.Core.Path.{_≡_, refl}
-use mathlib.Core.Logic.{_⊎_, inl, inr}
+use mathlib.Core.Logic.{inr}
 use mathlib.Core.Bool.{true, false}
 use mathlib.Core.List.{List, [], _∷_, flatMap}
 use mathlib.Core.Option.{none, some}
 use native.Mathlib.Omega.{arith}
-use lib.ListN.{length}
 use Rattle.spec_lists.specs.Lists.{All}
 use Rattle.spec_lists.specs.Order.{lexLess, upsert}
 use Rattle.spec_patch.specs.Patch.{unsigned, pending, hidden, stale, Operation, setBinding, setAvailability, insert, update, remove, move}

@@ -19,7 +19,7 @@ use Rattle.spec_operation_order.specs.FreeOrder.{operationsOn, OrderKept
 use Rattle.spec_operation_order.specs.FreeOrderLaws.{on-own, kept-exactly}
 use Rattle.spec_operation_order.specs.Grouping.{groupedBy, distinct, covers}
 use Rattle.spec_operation_order.specs.GroupingLaws.{grouping-keeps}
-use Rattle.spec_operation_order.specs.Verdict.{listOf, put, setsBinding, setsAvailability, Within, Fits, Place, Leaves, Verdict, verdict}
+use Rattle.spec_operation_order.specs.Verdict.{listOf, put, setsBinding, setsAvailability, Within, Place, Leaves, Verdict, verdict}
 use Rattle.spec_operation_order.specs.Rows.{putAll, putAll-grows, bindings-exchange, availabilities-exchange}
 use Rattle.spec_operation_order.specs.Runs.{listAfter, rest-after, ran}
 

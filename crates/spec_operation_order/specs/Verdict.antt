@@ -1,7 +1,7 @@
 -- What one operation answers: 8 by its own collection's list alone, 9 by the places alone; and what it leaves where it applies.
-use Prim.Native.Nat.{ℕ, suc, _+_, _≤_}
+use Prim.Native.Nat.{ℕ, _+_, _≤_}
 use mathlib.Core.Path.{_≡_, refl, sym, ap, _∙_}
-use mathlib.Core.Bool.{Bool, true, false, not, _&&_, false≢true}
+use mathlib.Core.Bool.{Bool, true, false, not, _&&_}
 use mathlib.Core.List.{List, []}
 use mathlib.Core.Option.{Option, none, some}
 use native.Mathlib.Omega.{arith}
@@ -9,7 +9,7 @@ use borrow.Author.Tests.{leb-true, leb-false, not-true, not-false}
 use lib.Dec.{leb}
 use lib.ListN.{length}
 use Rattle.spec_lists.specs.Lists.{if_then_else_, any}
-use Rattle.spec_lists.specs.ListLaws.{if-cases, test-cases}
+use Rattle.spec_lists.specs.ListLaws.{if-cases}
 use Rattle.spec_lists.specs.Order.{upsert}
 use Rattle.spec_patch.specs.Sizes.{projectionBindings, projectionAvailabilities, projectionEntries}
 use Rattle.spec_patch.specs.Patch.{Operation, setBinding, setAvailability, insert, update, remove, move}
@@ -19,7 +19,7 @@ use Rattle.spec_projection.specs.FirstMatchLaws.{findFirst-passes, findFirst-an
 use Rattle.spec_projection.specs.Entries.{isEntry, contains, containsNeighbour, insertEntry, replaceEntry, removeEntry}
 use Rattle.spec_projection.specs.EntriesLaws.{entry-collection, entry-key, insertEntry-length, replaceEntry-length, removeEntry-length, found-contains}
 use Rattle.spec_projection.specs.Lookups.{KeyedValue, entriesIn, entriesOf}
-use Rattle.spec_projection.specs.Apply.{OperationFault, keyRule, projectionFull, Outcome, done, stopped, withBindings, withAvailabilities, withEntries, applyBinding, applyAvailability, applyInsert, applyUpdate, applyRemove, applyMove, applyOperation}
+use Rattle.spec_projection.specs.Apply.{keyRule, projectionFull, Outcome, done, stopped, withBindings, withAvailabilities, withEntries, applyBinding, applyAvailability, applyInsert, applyUpdate, applyRemove, applyMove, applyOperation}
 use Rattle.spec_projection.specs.Effects.{Target, bindingTarget, nodeTarget, collectionTarget, targetOf, hasKey}
 use Rattle.spec_projection.specs.CollectionLaws.{contains-own, removeEntry-own}
 use Rattle.spec_operation_order.specs.FreeOrder.{inserted}
@@ -128,43 +128,33 @@ move-verdict p c k before (some x) e =
     (omega (arith, insertEntry-length before x rest, removeEntry-length (x .collection) (x .key) es (found-contains c k es x e))))
     (λ h. rw there (sym next ∙ h))
 
+-- where the keys fit, a number of rows is held to its capacity
+places-decide : (p : Projection) (o : Operation) (rows capacity : ℕ) (q : Projection) → keysFit (listOf p (targetOf o)) o ≡ true → (rows ≤ capacity → Leaves p o q) → (Place p o → rows ≤ capacity)
+    → Verdict p o (if leb rows capacity then done q else stopped projectionFull)
+places-decide p o rows capacity q fit leaves place =
+    if-cases (Verdict p o) (leb rows capacity) _ _ (λ e. leaves (leb-true rows capacity e)) (λ e. (fit, λ w. omega (arith, leb-false rows capacity e, place w)))
+
 pub verdict : (p : Projection) (o : Operation) → Verdict p o (applyOperation p o)
 unfolding applyOperation applyBinding applyAvailability applyInsert applyUpdate applyRemove withBindings withAvailabilities keysFit targetOf entriesOf put setsBinding setsAvailability inserted
-verdict p (setBinding n s v) =
-    let bs = upsert bindingKey (record { node = n; slot = s; value = v }) (p .bindings) in
-    if-cases (Verdict p (setBinding n s v)) (leb (length bs) projectionBindings) _ _
-    (λ e. record {
-      fit = refl;
-      place = λ f. record { bindings = leb-true (length bs) projectionBindings e; availabilities = f .availabilities; entries = omega (arith, f .entries) };
-      bindings = refl;
-      availabilities = refl;
-      entries = omega arith;
-    })
-    (λ e. (refl, λ w. omega (arith, leb-false (length bs) projectionBindings e, w .bindings)))
-verdict p (setAvailability n a) =
-    let xs = upsert availabilityKey (record { node = n; availability = a }) (p .availabilities) in
-    if-cases (Verdict p (setAvailability n a)) (leb (length xs) projectionAvailabilities) _ _
-    (λ e. record {
-      fit = refl;
-      place = λ f. record { bindings = f .bindings; availabilities = leb-true (length xs) projectionAvailabilities e; entries = omega (arith, f .entries) };
-      bindings = refl;
-      availabilities = refl;
-      entries = omega arith;
-    })
-    (λ e. (refl, λ w. omega (arith, leb-false (length xs) projectionAvailabilities e, w .availabilities)))
+verdict p (setBinding n s v) = places-decide p (setBinding n s v) _ projectionBindings _ refl
+    (λ few. record { fit = refl; place = λ f. record { bindings = few; availabilities = f .availabilities; entries = omega (arith, f .entries) }; bindings = refl; availabilities = refl; entries = omega arith })
+    (λ w. w .bindings)
+verdict p (setAvailability n a) = places-decide p (setAvailability n a) _ projectionAvailabilities _ refl
+    (λ few. record { fit = refl; place = λ f. record { bindings = f .bindings; availabilities = few; entries = omega (arith, f .entries) }; bindings = refl; availabilities = refl; entries = omega arith })
+    (λ w. w .availabilities)
 verdict p (insert c k before v) =
     let o = insert c k before v in
     let x : Entry = record { collection = c; key = k; value = v } in
     let es = p .entries in
-    let more = insertEntry before x es in
+    let grown = insertEntry-length before x es in
     if-cases (Verdict p o) (contains c k es) _ _
     (λ there. rw (← (contains-own c k es), there))
     (λ absent. if-cases (Verdict p o) (not (containsNeighbour c before es)) _ _
     (λ alone. rw (← (contains-own c k es), absent, ← (neighbour-own c before es), not-true (containsNeighbour c before es) alone))
     (λ next. let fit : keysFit (entriesIn c es) o ≡ true = rw (← (contains-own c k es), absent, ← (neighbour-own c before es), not-false (containsNeighbour c before es) next) in
-    if-cases (Verdict p o) (leb (length more) projectionEntries) _ _
-    (λ e. entries-leave p o more refl refl fit (λ f. omega (arith, leb-true (length more) projectionEntries e, insertEntry-length before x es)) (omega (arith, insertEntry-length before x es)))
-    (λ e. (fit, λ w. omega (arith, leb-false (length more) projectionEntries e, insertEntry-length before x es, w .entries)))))
+    places-decide p o (length (insertEntry before x es)) projectionEntries _ fit
+    (λ few. entries-leave p o (insertEntry before x es) refl refl fit (λ f. omega (arith, grown, few)) (omega (arith, grown)))
+    (λ w. omega (arith, grown, w .entries))))
 verdict p (update c k v) =
     let x : Entry = record { collection = c; key = k; value = v } in
     let es = p .entries in
