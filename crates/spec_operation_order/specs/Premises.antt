@@ -5,7 +5,7 @@ use mathlib.Core.List.{List, [], _∷_, head-eq-of-cons-eq, List·Permᴰ, List�
 use native.Mathlib.Omega.{arith}
 use borrow.Author.Tests.{ne-eqb, eq-eqb}
 use Rattle.spec_lists.specs.Lists.{All}
-use Rattle.spec_patch.specs.Fits.{Storable}
+use Rattle.spec_patch.specs.Fits.{StorableBy}
 use Rattle.spec_patch.specs.Patch.{Operation}
 use Rattle.spec_projection.specs.Projection.{Entry, Projection, empty}
 use Rattle.spec_projection.specs.Entries.{isEntry}
@@ -33,7 +33,7 @@ from-grouped c k zero = tt
 from-grouped c k (suc n) = (later-behind c k (suc k) n (omega arith), from-grouped c (suc k) n)
 
 from-fit : (c k n : ℕ) → c < 1000 → k + n < 1000 → All FitsEntry (entriesFrom c k n)
-unfolding entriesFrom Storable
+unfolding entriesFrom StorableBy
 from-fit c k zero h g = tt
 from-fit c k (suc n) h g = (record { collection = omega arith; key = omega arith; value = omega arith }, from-fit c (suc k) n h (omega arith))
 
