@@ -1,7 +1,7 @@
 """Seeded random runs: whole and pieces alike, and long runs on one session."""
 
 from chance import Chance
-from checks import findings
+from checks import findings, mutation_target
 from kit import answered, batch, random_case, rules_of, set_up
 from patch import insert
 from build import patches_of, quad
@@ -116,6 +116,74 @@ def long_run(seed, batches, keys, faults):
             lines.append("show")
     return lines
 
+
+# ---- the same operations in another order
+
+
+def place(operation):
+    """What the order is kept on: a binding, a node's availability, a collection as a whole."""
+    if operation.number == 1:
+        return (1, operation.node, operation.slot)
+    return (2, operation.node) if operation.number == 2 else (3, operation.collection)
+
+
+def rearranged(chance, made):
+    """The operations in another order, in which those on one place follow each other as they did."""
+    left = list(made)
+    order = []
+    while left:
+        chosen = place(chance.one_of(left))
+        order.append(next(operation for operation in left if place(operation) == chosen))
+        left.remove(order[-1])
+    return order
+
+
+def cut_to_patches(made):
+    """A new patch wherever a target would repeat."""
+    lists, seen = [[]], set()
+    for operation in made:
+        if mutation_target(operation) in seen:
+            lists.append([])
+            seen = set()
+        lists[-1].append(operation)
+        seen.add(mutation_target(operation))
+    return patches_of(*lists)
+
+
+def regroup_script(seed, runs, fill_of, keys):
+    """A patch list that applies, and its operations rearranged, on two sessions that start alike; how many broke off with 9."""
+    chance = Chance(seed)
+    lines, full = BEGIN[:-1], 0
+    for run in range(runs):
+        fill = fill_of(chance)
+        begin = ["create"] + [batch(at, filling) for at, filling in enumerate(fill, 1)]
+        made = [operation for filling in fill for patch in filling for operation in patch.operations]
+        patches = patch_list(chance, apply_operations(Projection(), made), 5, 5, keys, 10**9)
+        other = cut_to_patches(rearranged(chance, [operation for patch in patches for operation in patch.operations]))
+        assert not findings(patches)[1] and not findings(other)[1]
+        orders = [begin + [batch(len(begin), sent), "show"] for sent in (patches, other)]
+        one, two = (answers_to(BEGIN[:-1] + order)[len(begin) :] for order in orders)
+        assert one[0].startswith(b"R\tapplied") and (one == two or two[0].startswith(b"R\trejected\t9\t"))
+        full += one != two
+        lines = lines + ["# run %d" % (run + 1)] + orders[0] + ["# run %d, rearranged" % (run + 1)] + orders[1]
+    return lines, full
+
+
+rules_of("Job 9 in document 02")
+REGROUPED, BROKEN_OFF = regroup_script(9, 100, some_entries, 6)
+assert BROKEN_OFF == 0
+random_case(
+    "random_regrouped",
+    "100 random patch lists, each sent as it is and with its operations in another order that keeps the order on every "
+    "binding, node and collection: both end alike", "spec_operation_order FreeOrder.RunsWithRoom", REGROUPED,
+)
+REGROUPED, BROKEN_OFF = regroup_script(10, 20, nearly_full, 9)
+assert 0 < BROKEN_OFF < 20, BROKEN_OFF
+random_case(
+    "random_regrouped_nearly_full",
+    "20 such lists on panels with few places left: the other order ends alike or breaks off with 9, never with 8",
+    "spec_operation_order FreeOrder.AlikeOrFull", REGROUPED,
+)
 
 rules_of("One batch, from entry to leaf")
 random_case(

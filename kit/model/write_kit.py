@@ -25,6 +25,7 @@ SUBJECTS = {
     "listing": "Listing",
     "script": "The script's own rules",
     "split": "Whole and pieces",
+    "regroup": "Which order of work is free",
     "random": "Random runs",
 }
 
@@ -51,7 +52,7 @@ def differing(case):
 
 def write_data(folder, cases):
     folder.mkdir(parents=True, exist_ok=True)
-    for old in folder.iterdir():
+    for old in list(folder.glob("*.script")) + list(folder.glob("*.answers")):
         old.unlink()
     for case in cases:
         (folder / (case.name + ".script")).write_bytes(case.script)

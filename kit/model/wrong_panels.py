@@ -249,6 +249,22 @@ WRONG = [
         "            return index, found + set_findings(patches)\n",
     ),
     ("overlooks patch id 0", "checks.py", "if patch.id == 0", "if False"),
+    # the order of operations
+    (
+        "works off one collection after the other", "projection.py",
+        "    for operation in operations:\n",
+        "    for operation in sorted(operations, key=lambda made: getattr(made, 'collection', 0)):\n",
+    ),
+    (
+        "removes before it inserts", "projection.py",
+        "    for operation in operations:\n",
+        "    for operation in sorted(operations, key=lambda made: made.number != 5):\n",
+    ),
+    (
+        "keeps the order of one key only", "projection.py",
+        "    for operation in operations:\n",
+        "    for operation in sorted(operations, key=lambda made: getattr(made, 'key', 0)):\n",
+    ),
     # reading
     ("refuses counts at their capacity", "canonical.py", "number > capacity", "number >= capacity"),
     ("reads counts over their capacity", "canonical.py", "number > capacity", "number > capacity + 1"),

@@ -1,4 +1,4 @@
--- A valid projection is determined by what its lookups and its collections' lists answer.
+-- A projection in stored order is determined by what its lookups and its collections' lists answer.
 use Prim.Native.Nat.{ℕ, _<_}
 use mathlib.Core.Path.{_≡_, refl, sym, ap, _∙_}
 use mathlib.Core.List.{List, [], _∷_, cons≢nil, head-eq-of-cons-eq, tail-eq-of-cons-eq}
@@ -9,7 +9,7 @@ use Rattle.spec_lists.specs.ListLaws.{test-cases}
 use Rattle.spec_lists.specs.LookupLaws.{ascending-determined}
 use Rattle.spec_projection.specs.Projection.{Binding, NodeAvailability, Entry, Projection, bindingKey, availabilityKey}
 use Rattle.spec_projection.specs.Lookups.{bindingOf, availabilityOf, KeyedValue, keyedValue, entriesIn, entriesOf}
-use Rattle.spec_projection.specs.Valid.{Grouped, Valid}
+use Rattle.spec_projection.specs.Valid.{Grouped, Ordered}
 use Rattle.spec_projection.specs.CollectionLaws.{entriesIn-own, entriesIn-other, none-later}
 
 -- an entry's collection has an entry, so it is not before all of another list
@@ -56,7 +56,7 @@ projection-equal : (p q : Projection) → p .bindings ≡ q .bindings → p .ava
 projection-equal p q b a e = λ i. record { bindings = b i; availabilities = a i; entries = e i }
 
 -- by its bindings, its availabilities and each collection's entries in order
-pub determined : (p q : Projection) → Valid p → Valid q → p .bindings ≡ q .bindings → p .availabilities ≡ q .availabilities → ((c : ℕ) → entriesOf p c ≡ entriesOf q c) → p ≡ q
+pub determined : (p q : Projection) → Ordered p → Ordered q → p .bindings ≡ q .bindings → p .availabilities ≡ q .availabilities → ((c : ℕ) → entriesOf p c ≡ entriesOf q c) → p ≡ q
 unfolding entriesOf
 determined p q v w b a e = projection-equal p q b a (grouped-determined (p .entries) (q .entries) (v .entries) (w .entries) e)
 
@@ -69,7 +69,7 @@ unfolding availabilityKey
 availability-equal x y k v = λ i. record { node = head-eq-of-cons-eq k i; availability = v i }
 
 -- by its lookups and each collection's entries in order
-pub determined-by-lookups : (p q : Projection) → Valid p → Valid q
+pub determined-by-lookups : (p q : Projection) → Ordered p → Ordered q
     → ((node slot : ℕ) → bindingOf p node slot ≡ bindingOf q node slot)
     → ((node : ℕ) → availabilityOf p node ≡ availabilityOf q node)
     → ((c : ℕ) → entriesOf p c ≡ entriesOf q c)

@@ -17,7 +17,7 @@ use Rattle.spec_projection.specs.Apply.{done, withBindings, withAvailabi
 use Rattle.spec_projection.specs.OperationLaws.{applied-binding, applied-availability, applied-insert, applied-update, applied-remove, AppliedMove, applied-move}
 use Rattle.spec_projection.specs.Effects.{Target, bindingTarget, nodeTarget, collectionTarget, targetOf, hasKey, insertKeyed, moveKeyed, collectionAfter}
 use Rattle.spec_projection.specs.CollectionLaws.{insertEntry-other, insertEntry-own, replaceEntry-other, replaceEntry-own, removeEntry-other, removeEntry-own, findFirst-own}
-use Rattle.spec_projection.specs.Valid.{Valid}
+use Rattle.spec_projection.specs.Valid.{Grouped}
 
 -- ---- one of the three lists changes, at the operation's target
 
@@ -132,13 +132,13 @@ OwnList p o q (bindingTarget node slot) = Unit {0}
 OwnList p o q (nodeTarget node) = Unit {0}
 OwnList p o q (collectionTarget c) = entriesOf q c ≡ collectionAfter o (entriesOf p c)
 
-own-list : (p : Projection) (o : Operation) (q : Projection) → Valid p → applyOperation p o ≡ done q → OwnList p o q (targetOf o)
+own-list : (p : Projection) (o : Operation) (q : Projection) → Grouped (p .entries) → applyOperation p o ≡ done q → OwnList p o q (targetOf o)
 unfolding applyOperation targetOf entriesOf withEntries collectionAfter moveKeyed
 own-list p (setBinding n s v) q w h = tt
 own-list p (setAvailability n a) q w h = tt
 own-list p (insert c k before v) q w h =
     let e : Entry = record { collection = c; key = k; value = v } in
-    ap (λ (r : Projection). entriesOf r c) (applied-insert p before e q h .result) ∙ insertEntry-own before e (p .entries) (w .entries)
+    ap (λ (r : Projection). entriesOf r c) (applied-insert p before e q h .result) ∙ insertEntry-own before e (p .entries) w
 own-list p (update c k v) q w h =
     let e : Entry = record { collection = c; key = k; value = v } in
     ap (λ (r : Projection). entriesOf r c) (applied-update p e q h .1) ∙ replaceEntry-own e (p .entries)
@@ -152,10 +152,10 @@ own-list p (move c k before) q w h = go (applied-move p before (findFirst (isEnt
         let found : findFirst (hasKey k) (entriesOf p c) ≡ some (keyedValue e) = sym (findFirst-own c k (p .entries)) ∙ ap (Option·map keyedValue) (a .found-entry) in
         rw (found, ← (entry-collection c k e is), ← (entry-key c k e is))
         (ap (λ (r : Projection). entriesOf r (e .collection)) (a .result)
-        ∙ insertEntry-own before e (removeEntry (e .collection) (e .key) (p .entries)) (removeEntry-grouped (e .collection) (e .key) (p .entries) (w .entries))
+        ∙ insertEntry-own before e (removeEntry (e .collection) (e .key) (p .entries)) (removeEntry-grouped (e .collection) (e .key) (p .entries) w)
         ∙ ap (insertKeyed before (keyedValue e)) (removeEntry-own (e .collection) (e .key) (p .entries)))
 
 -- the collection's own list is what the operation makes of it
-pub own-collection : (p : Projection) (o : Operation) (q : Projection) (c : ℕ) → Valid p → applyOperation p o ≡ done q → targetOf o ≡ collectionTarget c
+pub own-collection : (p : Projection) (o : Operation) (q : Projection) (c : ℕ) → Grouped (p .entries) → applyOperation p o ≡ done q → targetOf o ≡ collectionTarget c
     → entriesOf q c ≡ collectionAfter o (entriesOf p c)
 own-collection p o q c w h e = subst (OwnList p o q) e (own-list p o q w h)

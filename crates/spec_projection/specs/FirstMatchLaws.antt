@@ -1,9 +1,9 @@
 -- Edits at the first match: lengths, properties of all elements, and what is found.
 use Prim.Native.Nat.{ℕ, suc}
 use mathlib.Core.Path.{_≡_, refl, ap, subst}
-use mathlib.Core.Bool.{Bool, true}
+use mathlib.Core.Bool.{Bool, true, false}
 use mathlib.Core.List.{List, [], _∷_}
-use mathlib.Core.Option.{some, Option·some-injective}
+use mathlib.Core.Option.{none, some, Option·some-injective, Option·some-ne-none}
 use native.Mathlib.Omega.{arith}
 use lib.ListN.{length}
 use Rattle.spec_lists.specs.Lists.{any, All}
@@ -58,6 +58,11 @@ module _ {A : Type 0} (test : A → Bool) where
   unfolding findFirst
   findFirst-any [] a h = cc
   findFirst-any (x ∷ l) a h = test-cases (test x) (λ f. rw f) (λ f. rw f (findFirst-any l a (rw f at h)))
+
+  pub findFirst-none : (l : List A) → findFirst test l ≡ none → any test l ≡ false
+  unfolding findFirst
+  findFirst-none [] h = refl
+  findFirst-none (x ∷ l) h = test-cases (test x) (λ f. absurd (Option·some-ne-none x (rw f at h))) (λ f. rw f (findFirst-none l (rw f at h)))
 
   -- what holds of all holds of what is found
   pub findFirst-all : (P : A → Type 0) (l : List A) (a : A) → findFirst test l ≡ some a → All P l → P a

@@ -37,6 +37,12 @@ pub record FitsEntry (e : Entry) : Type 0 where
   pub key : U64 (e .key)
   pub value : Storable (e .value)
 
+-- the stored order alone
+pub record Ordered (p : Projection) : Type 0 where
+  pub bindings : Ascending bindingKey (p .bindings)
+  pub availabilities : Ascending availabilityKey (p .availabilities)
+  pub entries : Grouped (p .entries)
+
 pub record Valid (p : Projection) : Type 0 where
   pub bindings : Ascending bindingKey (p .bindings)
   pub availabilities : Ascending availabilityKey (p .availabilities)

@@ -20,7 +20,7 @@ use Rattle.spec_projection.specs.EntriesLaws.{insertEntry-grouped, inser
 use Rattle.spec_projection.specs.Apply.{done, withBindings, withAvailabilities, withEntries, applyBinding, applyAvailability, applyInsert, applyUpdate, applyRemove, applyMove, applyOperation, ReplayStep, stepOf, patchSteps, replaySteps, applyStep, applySteps}
 use Rattle.spec_projection.specs.ApplyLaws.{done-injective, andThen-done}
 use Rattle.spec_projection.specs.OperationLaws.{applied-binding, applied-availability, applied-insert, applied-update, applied-remove, applied-move}
-use Rattle.spec_projection.specs.Valid.{Grouped, FitsBinding, FitsNodeAvailability, FitsEntry, Valid, FitsStep}
+use Rattle.spec_projection.specs.Valid.{Grouped, FitsBinding, FitsNodeAvailability, FitsEntry, Ordered, Valid, FitsStep}
 
 pub empty-valid : Valid empty
 unfolding empty
@@ -150,3 +150,37 @@ replaySteps-fit ed (p ∷ ps) h = all-append (FitsStep ed) (patchSteps p) (repla
     steps-fit : (id : ℕ) → U64 id → (os : List Operation) → All (FitsOperation ed) os → All (FitsStep ed) (map (stepOf id) os)
     steps-fit id u [] k = tt
     steps-fit id u (o ∷ os) k = (record { patch = u; operation = k .0 }, steps-fit id u os (k .1))
+
+-- ---- the stored order, whatever the operation's numbers
+
+pub valid-ordered : (p : Projection) → Valid p → Ordered p
+valid-ordered p v = record { bindings = v .bindings; availabilities = v .availabilities; entries = v .entries }
+
+withEntries-ordered : (p : Projection) (es : List Entry) → Ordered p → Grouped es → Ordered (withEntries p es)
+unfolding withEntries
+withEntries-ordered p es w g = record { bindings = w .bindings; availabilities = w .availabilities; entries = g }
+
+pub applyOperation-ordered : (p : Projection) (o : Operation) (q : Projection) → Ordered p → applyOperation p o ≡ done q → Ordered q
+unfolding applyOperation withBindings withAvailabilities
+applyOperation-ordered p (setBinding n s x) q w e =
+    let b : Binding = record { node = n; slot = s; value = x } in
+    subst Ordered (sym (applied-binding p b q e .1)) (record { bindings = upsert-ascending bindingKey b (p .bindings) (w .bindings); availabilities = w .availabilities; entries = w .entries })
+applyOperation-ordered p (setAvailability n x) q w e =
+    let a : NodeAvailability = record { node = n; availability = x } in
+    subst Ordered (sym (applied-availability p a q e .1)) (record { bindings = w .bindings; availabilities = upsert-ascending availabilityKey a (p .availabilities) (w .availabilities); entries = w .entries })
+applyOperation-ordered p (insert c k before x) q w h =
+    let e : Entry = record { collection = c; key = k; value = x } in
+    let a = applied-insert p before e q h in
+    subst Ordered (sym (a .result)) (withEntries-ordered p _ w (insertEntry-grouped before e (p .entries) (a .absent) (a .neighbour) (w .entries)))
+applyOperation-ordered p (update c k x) q w h =
+    let e : Entry = record { collection = c; key = k; value = x } in
+    subst Ordered (sym (applied-update p e q h .1)) (withEntries-ordered p _ w (replaceEntry-grouped e (p .entries) (w .entries)))
+applyOperation-ordered p (remove c k) q w h =
+    subst Ordered (sym (applied-remove p c k q h .1)) (withEntries-ordered p _ w (removeEntry-grouped c k (p .entries) (w .entries)))
+applyOperation-ordered p (move c k before) q w h =
+    let a = applied-move p before (findFirst (isEntry c k) (p .entries)) q h in
+    let e = a .entry in
+    let rest = removeEntry (e .collection) (e .key) (p .entries) in
+    subst Ordered (sym (a .result))
+    (withEntries-ordered p _ w
+    (insertEntry-grouped before e rest (removeEntry-gone (e .collection) (e .key) (p .entries) (w .entries)) (a .neighbour) (removeEntry-grouped (e .collection) (e .key) (p .entries) (w .entries))))
