@@ -2,16 +2,17 @@
 use Prim.Native.Nat.{ℕ, _+_, _-_, _≤_, _<_}
 use mathlib.Core.Path.{_≡_, refl, sym, ap, _∙_}
 use mathlib.Core.List.{List}
+use mathlib.Core.Bool.{Bool}
 use native.Mathlib.Omega.{arith}
 use lib.Dec.{lit<}
 use lib.ListN.{length, getD, drop}
 use Rattle.spec_lists.specs.Bytes.{Bytes}
 use Rattle.spec_patch.specs.Sizes.{textBytes}
-use Rattle.spec_patch.specs.Edition.{v1}
+use Rattle.spec_patch.specs.Edition.{Edition}
 use Rattle.spec_patch.specs.Reader.{Fault, Result, read, refused, malformed, Reader, followed, byte}
-use Rattle.spec_patch.specs.Read.{readCount, readOptional, readAvailability, readValue, readOperation}
+use Rattle.spec_patch.specs.Read.{readCount, readOptional, readAvailability, readValueBy, readOperationBy}
 use Rattle.spec_patch.specs.Codec.{Codec, suffix}
-use Rattle.spec_patch.specs.ReadLaws.{count-codec, optional-codec, availability-codec, value-codec, operation-codec}
+use Rattle.spec_patch.specs.ReadLaws.{count-codec, optional-codec, availability-codec, value-codec-by, operation-codec-by}
 use Rattle.projection_patch.specs.Meaning.{valueTo, availabilityTo, operationTo}
 use Rattle.projection_patch.specs.ReadAnswers.{faultTo, answer, anywhere, optionalTo, countAnswer, optionalAnswer, availabilityAnswer, valueAnswer, operationAnswer}
 use Rattle.projection_patch.specs.declared.patch.ProjectionNodeAvailability.{ProjectionNodeAvailability}
@@ -150,14 +151,14 @@ module _ (l : List ℕ) (at : ℕ) where
   pub no-availability : (r : AvailabilityRead) → r ≡ availabilityAnswer (length l) (readAvailability (drop at l)) → (f : ProjectionPatchReadFault) → r ≡ availability-read.Refused f → NotGot readAvailability l at f
   no-availability = not-got (anywhere availabilityTo) availability-codec availability-told l at
 
-  pub value-got : (r : ValueRead) → r ≡ valueAnswer (length l) (readValue v1 (drop at l)) → Bytes l → (v : ProjectionPatchValue) (end : ℕ) → r ≡ value-read.Read v end → Got (readValue v1) valueTo l at v end
-  value-got = got valueTo (value-codec v1) value-told l at
+  pub value-got : (check : Bool) (ed : Edition) (r : ValueRead) → r ≡ valueAnswer (length l) (readValueBy check ed (drop at l)) → Bytes l → (v : ProjectionPatchValue) (end : ℕ) → r ≡ value-read.Read v end → Got (readValueBy check ed) valueTo l at v end
+  value-got check ed = got valueTo (value-codec-by check ed) value-told l at
 
-  pub no-value : (r : ValueRead) → r ≡ valueAnswer (length l) (readValue v1 (drop at l)) → (f : ProjectionPatchReadFault) → r ≡ value-read.Refused f → NotGot (readValue v1) l at f
-  no-value = not-got valueTo (value-codec v1) value-told l at
+  pub no-value : (check : Bool) (ed : Edition) (r : ValueRead) → r ≡ valueAnswer (length l) (readValueBy check ed (drop at l)) → (f : ProjectionPatchReadFault) → r ≡ value-read.Refused f → NotGot (readValueBy check ed) l at f
+  no-value check ed = not-got valueTo (value-codec-by check ed) value-told l at
 
-  pub operation-got : (r : OperationRead) → r ≡ operationAnswer (length l) (readOperation v1 (drop at l)) → Bytes l → (o : ProjectionPatchOperation) (end : ℕ) → r ≡ operation-read.Read o end → Got (readOperation v1) operationTo l at o end
-  operation-got = got operationTo (operation-codec v1) operation-told l at
+  pub operation-got : (check : Bool) (ed : Edition) (r : OperationRead) → r ≡ operationAnswer (length l) (readOperationBy check ed (drop at l)) → Bytes l → (o : ProjectionPatchOperation) (end : ℕ) → r ≡ operation-read.Read o end → Got (readOperationBy check ed) operationTo l at o end
+  operation-got check ed = got operationTo (operation-codec-by check ed) operation-told l at
 
-  pub no-operation : (r : OperationRead) → r ≡ operationAnswer (length l) (readOperation v1 (drop at l)) → (f : ProjectionPatchReadFault) → r ≡ operation-read.Refused f → NotGot (readOperation v1) l at f
-  no-operation = not-got operationTo (operation-codec v1) operation-told l at
+  pub no-operation : (check : Bool) (ed : Edition) (r : OperationRead) → r ≡ operationAnswer (length l) (readOperationBy check ed (drop at l)) → (f : ProjectionPatchReadFault) → r ≡ operation-read.Refused f → NotGot (readOperationBy check ed) l at f
+  no-operation check ed = not-got operationTo (operation-codec-by check ed) operation-told l at
