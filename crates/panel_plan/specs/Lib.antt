@@ -8,4 +8,5 @@ pub mod PlanExamples
 pub mod SetValues
 pub mod SetValuesLaws
 pub mod PlanRows
+pub mod PlanRowsLaws
 pub mod WrittenLaws
