@@ -15,7 +15,7 @@ ghost use Rattle.patch_part_writer.specs.Extent.{valueText, Within};
 ghost use Rattle.projection_patch.specs.Meaning.{valueOf, availabilityOf};
 ghost use Rattle.local_projection_state.specs.Rows.{bindingWidth, availabilityWidth, bindingRow, availabilityRow};
 ghost use Rattle.local_projection_state.specs.Stores.{Stored};
-ghost use Rattle.panel_plan.specs.PlanRows.{plannedBindingWidth, plannedBindingRow};
+ghost use Rattle.panel_plan.specs.PlanRows.{PlannedBindings};
 ghost use Rattle.panel_bindings.specs.Change.{faultOf, Became, Kept, RowsBecame};
 use bytes_records::Place;
 use local_projection_state::LocalProjectionState;
@@ -96,8 +96,8 @@ pub fn set_binding_source(
     slot: u32,
     source: u64,
 ) -> TableChange
-    ensures made { λ r. ⌜ ((p : Projection) → Stored plannedBindingRow plannedBindingWidth projectionBindings count (now (table .entry)) (p .bindings) → Valid p
-        → Became (λ n q. Stored plannedBindingRow plannedBindingWidth projectionBindings n (now (table .exit)) (q .bindings)) r
+    ensures made { λ r. ⌜ ((p : Projection) → PlannedBindings count (now (table .entry)) (p .bindings) → Valid p
+        → Became (λ n q. PlannedBindings n (now (table .exit)) (q .bindings)) r
         (applyBinding p (record { node = node; slot = slot; value = unsigned source }))) ⌝ }
     ensures kept { λ r. ⌜ Kept r (now (table .entry)) (now (table .exit)) ⌝ }
 {

@@ -32,9 +32,16 @@ plannedEntryWidth = 24
 unfoldable pub plannedEntryRow : Entry → List ℕ
 plannedEntryRow e = u64 (e .collection) ++ (u64 (e .key) ++ u64 (sourceNumber (e .value)))
 
+-- a table of so many rows stores the bindings of a plan, or its entries
+abbrev pub PlannedBindings : ℕ → List ℕ → List Binding → Type 0
+PlannedBindings n table bs = Stored plannedBindingRow plannedBindingWidth projectionBindings n table bs
+
+abbrev pub PlannedEntries : ℕ → List ℕ → List Entry → Type 0
+PlannedEntries n table es = Stored plannedEntryRow plannedEntryWidth projectionEntries n table es
+
 -- three tables store a plan
 pub record StoredPlan (counts : ProjectionCounts) (bindingTable availabilityTable entryTable : List ℕ) (p : Projection) : Type 0 where
-  pub bindings : Stored plannedBindingRow plannedBindingWidth projectionBindings (counts .bindings) bindingTable (p .bindings)
+  pub bindings : PlannedBindings (counts .bindings) bindingTable (p .bindings)
   pub availabilities : Stored availabilityRow availabilityWidth projectionAvailabilities (counts .availabilities) availabilityTable (p .availabilities)
-  pub entries : Stored plannedEntryRow plannedEntryWidth projectionEntries (counts .entries) entryTable (p .entries)
+  pub entries : PlannedEntries (counts .entries) entryTable (p .entries)
   pub valid : Valid p
