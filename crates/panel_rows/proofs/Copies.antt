@@ -10,7 +10,8 @@ use lib.Dec.{leb}
 use lib.ListN.{length, drop, length-append, length-drop}
 use Rattle.bytes_moves.specs.Moves.{zeros, overwrite}
 use Rattle.bytes_moves.proofs.Parts.{lent}
-use Rattle.panel_rows.specs.Rows.{writtenRow}
+use Rattle.panel_rows.specs.Rows.{filledRow, writtenRow}
+use Rattle.panel_rows.specs.RowsLaws.{written-filled, written-left}
 
 -- what stands from a position on is lent, and comes back as what f makes of it
 rest-lent : (xs a s : List ℕ) (from : ℕ) (f : List ℕ → List ℕ) {ys : List ℕ} → xs ≡ a ++ s → length a ≡ from
@@ -23,10 +24,7 @@ rest-lent xs a s from f {ys} split front e =
 module _ (key value row : List ℕ) where
   -- a row that has no place for both
   pub row-left : length row < length key + length value → (false ≡ leb (length key + length value) (length row)) × (row ≡ writtenRow key value row)
-  unfolding writtenRow
-  row-left h =
-      let test = lt-leb (length key + length value) (length row) h in
-      (sym test, rw test)
+  row-left over = (sym (lt-leb (length key + length value) (length row) over), sym (written-left key value row over))
 
   -- a row that has one
   module _ {one part : List ℕ} (room : length key + length value ≤ length row) (first : one ≡ overwrite key row)
@@ -43,11 +41,10 @@ module _ (key value row : List ℕ) where
     end = length key + length value
 
     pub row-made : {rest : List ℕ} → rest ≡ zeros (length (midOf end (length both - end) both)) → (true ≡ leb end (length row)) × (putMid end (length both - end) both rest ≡ writtenRow key value row)
-    unfolding writtenRow
+    unfolding filledRow
     row-made third =
-        let test = le-leb end (length row) room in
         let left : length (drop (length value) (drop (length key) row)) ≡ length row - end = simp length-drop (omega arith) in (
-          sym test,
+          sym (le-leb end (length row) room),
           rest-lent both (key ++ value) (drop (length value) (drop (length key) row)) end (λ l. zeros (length l)) both-is (length-append key value) third
-              ∙ append-assoc key value _ ∙ ap (λ (n : ℕ). key ++ (value ++ zeros n)) left ∙ rw test,
+              ∙ append-assoc key value _ ∙ ap (λ (n : ℕ). key ++ (value ++ zeros n)) left ∙ sym (written-filled key value row room),
         )

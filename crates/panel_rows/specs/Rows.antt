@@ -106,6 +106,12 @@ bindingFields = idWidth ∷ slotWidth ∷ []
 abbrev pub availabilityFields : List ℕ
 availabilityFields = idWidth ∷ []
 
--- ---- a row that is written: its key's fields, its value's bytes, and zeros behind them; a row that has no place for them is left
+-- ---- rows that are written
+
+-- a key's fields, a value's bytes, and zeros behind them
+unfoldable pub filledRow : (width : ℕ) (key value : List ℕ) → List ℕ
+filledRow width key value = key ++ (value ++ zeros (width - (length key + length value)))
+
+-- the row filled; one that has no place for both is left as it is
 unfoldable pub writtenRow : (key value : List ℕ) → List ℕ → List ℕ
-writtenRow key value row = if leb (length key + length value) (length row) then key ++ (value ++ zeros (length row - (length key + length value))) else row
+writtenRow key value row = if leb (length key + length value) (length row) then filledRow (length row) key value else row

@@ -1,15 +1,16 @@
 -- Laws of rows: their widths, that a row tells its record, and that the searches in a table see the model's keys.
-use Prim.Native.Nat.{ℕ, _-_, _^_, _≤_, _<_}
+use Prim.Native.Nat.{ℕ, _+_, _-_, _^_, _≤_, _<_}
 use mathlib.Core.Path.{_≡_, refl, sym, ap, ap₂, _∙_}
 use mathlib.Core.Bool.{Bool, true, _&&_}
-use mathlib.Core.List.{List, [], _∷_, _++_, map, append-assoc}
+use mathlib.Core.List.{List, [], _∷_, _++_, map, append-assoc, append-nil}
 use native.Mathlib.Omega.{arith}
-use lib.Dec.{ltb, eqb}
+use borrow.Author.Tests.{leb-true, leb-false, le-leb, lt-leb}
+use lib.Dec.{ltb, eqb, leb}
 use lib.ListN.{length, length-append, length-replicate, drop}
 use lib.Seq.{take-at, drop-at, getD-at}
 use Rattle.spec_lists.specs.Bytes.{littleEndian}
 use Rattle.spec_lists.specs.Lists.{All}
-use Rattle.spec_lists.specs.ListLaws.{drop-behind}
+use Rattle.spec_lists.specs.ListLaws.{drop-behind, test-cases}
 use Rattle.spec_lists.specs.BytesLaws.{length-littleEndian, numberOf-littleEndian}
 use Rattle.spec_patch.specs.Patch.{Value, quad, signed, text, unsigned}
 use Rattle.spec_patch.specs.Edition.{v1, hasKind}
@@ -26,7 +27,7 @@ use Rattle.bytes_moves.specs.Moves.{zeros}
 use Rattle.bytes_keys.specs.Keys.{leadingNumbers}
 use Rattle.bytes_records.specs.Table.{Wide}
 use Rattle.bytes_records.specs.Search.{firstNumber, isAbove, isPair, Rising}
-use Rattle.panel_rows.specs.Rows.{idWidth, slotWidth, valueWidth, bindingSlotAt, bindingValueAt, bindingWidth, availabilityAt, availabilityWidth, entryKeyAt, entryValueAt, entryWidth, padded, bindingRow, availabilityRow, entryRow, fieldAt, nodeIn, slotIn, availabilityIn, collectionIn, keyIn, bindingFields, availabilityFields}
+use Rattle.panel_rows.specs.Rows.{idWidth, slotWidth, valueWidth, bindingSlotAt, bindingValueAt, bindingWidth, availabilityAt, availabilityWidth, entryKeyAt, entryValueAt, entryWidth, padded, bindingRow, availabilityRow, entryRow, fieldAt, nodeIn, slotIn, availabilityIn, collectionIn, keyIn, bindingFields, availabilityFields, filledRow, writtenRow}
 
 -- ---- widths
 
@@ -174,3 +175,35 @@ behind-rows x h (e ∷ es) fit behind =
 pub entries-rising : (es : List Entry) → All FitsEntry es → Grouped es → Rising (map entryRow es)
 entries-rising [] fit grouped = tt
 entries-rising (e ∷ es) fit grouped = (behind-rows e (fit .0) es (fit .1) (grouped .0), entries-rising es (fit .1) (grouped .1))
+
+-- ---- rows that are written
+
+module _ (key value row : List ℕ) where
+  pub written-filled : length key + length value ≤ length row → writtenRow key value row ≡ filledRow (length row) key value
+  unfolding writtenRow
+  written-filled room = rw (le-leb (length key + length value) (length row) room)
+
+  pub written-left : length row < length key + length value → writtenRow key value row ≡ row
+  unfolding writtenRow
+  written-left over = rw (lt-leb (length key + length value) (length row) over)
+
+  pub length-written : length (writtenRow key value row) ≡ length row
+  unfolding filledRow
+  length-written = test-cases (leb (length key + length value) (length row))
+      (λ t. let room = leb-true (length key + length value) (length row) t in
+      ap length (written-filled room) ∙ simp (length-append, length-replicate) (omega arith))
+      (λ t. ap length (written-left (leb-false (length key + length value) (length row) t)))
+
+-- a value's canonical bytes, and those that stand behind the key of a row, fill a row to the same bytes
+module _ (width : ℕ) (key : List ℕ) (room : length key + valueWidth ≡ width) (v : Value) (h : Storable v) where
+  pub filled-encoded : filledRow width key (encodeValue v) ≡ key ++ padded v
+  unfolding filledRow padded
+  filled-encoded =
+      let rest : width - (length key + length (encodeValue v)) ≡ valueWidth - length (encodeValue v) = omega arith in
+      ap (λ (n : ℕ). key ++ (encodeValue v ++ zeros n)) rest
+
+  pub filled-padded : filledRow width key (padded v) ≡ key ++ padded v
+  unfolding filledRow
+  filled-padded =
+      let none : width - (length key + length (padded v)) ≡ 0 = omega (arith, length-padded v h) in
+      ap (λ (n : ℕ). key ++ (padded v ++ zeros n)) none ∙ ap (λ (l : List ℕ). key ++ l) (append-nil (padded v))

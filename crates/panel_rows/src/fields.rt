@@ -30,7 +30,7 @@ pub fn value_part(row: &[u8], at: usize) -> &[u8]
 }
 
 // The number of so many bytes from an offset on.
-fn number_at(row: &[u8], at: usize, size: usize) -> u64
+pub fn number_at(row: &[u8], at: usize, size: usize) -> u64
     requires { ⌜ size ≤ 8 ⌝ }
     ensures { λ r. ⌜ r ≡ fieldAt at size (now (row .entry)) ⌝ }
 {
