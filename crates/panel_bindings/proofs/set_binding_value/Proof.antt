@@ -2,6 +2,8 @@
 use borrow.Author.Needs.{needs}
 use denote.Ref.{now}
 use Rattle.spec_projection.specs.Projection.{bindingKey}
+use Rattle.panel_rows.specs.Rows.{bindingWidth, bindingRow}
+use Rattle.panel_rows.specs.RowsLaws.{binding-key}
 use Rattle.panel_bindings.proofs.Settings.{binding-set}
 use Rattle.panel_bindings.proofs.set_binding_value.Statement.{statement}
 use Rattle.panel_bindings.proofs.set_binding_value.Tie as tie
@@ -29,7 +31,7 @@ returns c =
     let made = find .before .before in
     let table = now (made .before .before .before .args .table) in (
       (λ p s v.
-          binding-set _ table (call .upsert-row .last .0) (made .binding-row .result) _ (call .upsert-row .result) p v _ s (record {
+          binding-set _ table (call .upsert-row .last .0) (made .binding-row .result) _ (call .upsert-row .result) p v bindingRow bindingWidth binding-key _ s (record {
             same = search needs;
             is = made .binding-row .ensures;
             wide = search needs;

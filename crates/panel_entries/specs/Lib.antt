@@ -1,0 +1,4 @@
+pub mod EntryRows
+pub mod EntryRowsLaws
+pub mod Places
+pub mod PlacesLaws

@@ -1,0 +1,48 @@
+-- `entry_row` meets its contract: three numbers, one behind another.
+use borrow.Author.Needs.{needs}
+use Rattle.spec_lists.specs.BytesLaws.{length-littleEndian}
+use Rattle.bytes_records.specs.MovesLaws.{length-zeros}
+use Rattle.panel_rows.specs.Rows.{idWidth, slotWidth}
+use Rattle.panel_plan.specs.PlanRows.{sourceWidth, plannedEntryWidth, plannedEntryRow}
+use Rattle.panel_plan.proofs.Fields.{three-fields}
+use Rattle.panel_plan.proofs.entry_row.Statement.{statement}
+use Rattle.panel_plan.proofs.entry_row.Tie as tie
+
+slice-aggregate-write-u64-at : tie.Need-slice-aggregate-write-u64-at
+slice-aggregate-write-u64-at c = search needs
+
+write-u64-at-requires : tie.Need-write-u64-at-requires
+write-u64-at-requires c κs = search needs
+
+slice-aggregate-write-u64-at-2 : tie.Need-slice-aggregate-write-u64-at-2
+slice-aggregate-write-u64-at-2 c = search needs
+
+write-u64-at-requires-2 : tie.Need-write-u64-at-requires-2
+write-u64-at-requires-2 c κs = search needs
+
+slice-aggregate-write-u64-at-3 : tie.Need-slice-aggregate-write-u64-at-3
+slice-aggregate-write-u64-at-3 c = search needs
+
+write-u64-at-requires-3 : tie.Need-write-u64-at-requires-3
+write-u64-at-requires-3 c κs = search needs
+
+returns : tie.Need-returns
+unfolding plannedEntryRow
+returns c =
+    let third = c .before in
+    let second = third .before .before .before in
+    let first = second .before .before .before in
+    three-fields _ _ _ _ idWidth idWidth sourceWidth (length-littleEndian idWidth _) (length-littleEndian idWidth _) (length-littleEndian sourceWidth _) (length-zeros plannedEntryWidth)
+    (first .write-u64-at .ensures .1) (second .write-u64-at2 .ensures .1) (third .write-u64-at3 .ensures .1)
+
+pub entry-row-spec : {M : Type 1} → statement M
+entry-row-spec =
+    tie.close
+    (tie.spec
+    slice-aggregate-write-u64-at
+    write-u64-at-requires
+    slice-aggregate-write-u64-at-2
+    write-u64-at-requires-2
+    slice-aggregate-write-u64-at-3
+    write-u64-at-requires-3
+    returns)

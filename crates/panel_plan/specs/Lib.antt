@@ -1,0 +1,12 @@
+pub mod MapLaws
+pub mod Resolved
+pub mod ResolvedLaws
+pub mod Plan
+pub mod PlanLaws
+pub mod PlanValid
+pub mod PlanExamples
+pub mod SetValues
+pub mod SetValuesLaws
+pub mod PlanRows
+pub mod PlanRowsLaws
+pub mod WrittenLaws
