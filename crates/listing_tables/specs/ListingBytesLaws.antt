@@ -11,7 +11,7 @@ use Rattle.spec_lists.specs.Bytes.{Bytes}
 use Rattle.spec_patch.specs.Patch.{Patch, Availability, available, unavailable, hidden, pending, stale, Value, quad, signed, text, unsigned}
 use Rattle.spec_patch.specs.Edition.{v1}
 use Rattle.spec_patch.specs.Encode.{quadByte, availabilityByte}
-use Rattle.spec_patch.specs.Fits.{Storable}
+use Rattle.spec_patch.specs.Fits.{Storable, StorableBy}
 use Rattle.spec_patch.specs.Reader.{faultNumber}
 use Rattle.spec_patch.specs.Read.{SetReading, patches, fault, readSet}
 use Rattle.spec_patch.specs.SetLaws.{was-encoded}
@@ -53,7 +53,7 @@ unfolding fields
 length-two a b = simp length-append (omega arith)
 
 value-short : (v : Value) → Storable v → length (fields (valueFields v)) ≤ valueFieldBytes
-unfolding valueFields Storable
+unfolding valueFields StorableBy
 value-short (quad q) h = omega (arith, length-two (81 ∷ []) (decimal (quadByte q)), length-decimal (quadByte q) .1)
 value-short (signed z) h = omega (arith, length-two (83 ∷ []) (signedDecimal z), length-signedDecimal z h .1)
 value-short (text t) h = omega (arith, length-two (84 ∷ []) t, h .short)

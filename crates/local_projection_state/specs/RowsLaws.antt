@@ -1,7 +1,7 @@
 -- Laws of rows: their widths, that a row tells its record, and that the searches in a table see the model's keys.
 use Prim.Native.Nat.{ℕ, _+_, _-_, _≤_}
 use mathlib.Core.Path.{_≡_, refl, sym, ap, ap₂, _∙_}
-use mathlib.Core.Bool.{true, _&&_}
+use mathlib.Core.Bool.{Bool, true, _&&_}
 use mathlib.Core.List.{List, [], _∷_, _++_, map, append-assoc}
 use native.Mathlib.Omega.{arith}
 use lib.Dec.{ltb, eqb}
@@ -13,11 +13,11 @@ use Rattle.spec_lists.specs.BytesLaws.{length-littleEndian, numberOf-littleEndi
 use Rattle.spec_patch.specs.Patch.{Value, quad, signed, text, unsigned}
 use Rattle.spec_patch.specs.Edition.{v1, hasKind}
 use Rattle.spec_patch.specs.Encode.{u32, u64, encodeText, kindOf, valueBody, encodeValue}
-use Rattle.spec_patch.specs.Fits.{Storable, FitsValue}
+use Rattle.spec_patch.specs.Fits.{Storable, StorableBy, FitsValue}
 use Rattle.spec_patch.specs.Reader.{Result, read, Reader}
-use Rattle.spec_patch.specs.Read.{readValue}
+use Rattle.spec_patch.specs.Read.{readValueBy}
 use Rattle.spec_patch.specs.Codec.{Codec, pair-codec, injective}
-use Rattle.spec_patch.specs.ReadLaws.{u64-codec, value-codec, binding-fields, update-fields, availability-codec}
+use Rattle.spec_patch.specs.ReadLaws.{u64-codec, value-codec-by, value-any, binding-fields, update-fields, availability-codec}
 use Rattle.spec_projection.specs.Projection.{Binding, NodeAvailability, Entry, bindingKey, availabilityKey}
 use Rattle.spec_projection.specs.Entries.{isEntry, isLater}
 use Rattle.spec_projection.specs.Valid.{Behind, Grouped, FitsBinding, FitsNodeAvailability, FitsEntry}
@@ -31,7 +31,7 @@ use Rattle.local_projection_state.specs.Rows.{valueWidth, bindingWidth, 
 -- ---- widths
 
 value-fits : (v : Value) → Storable v → length (encodeValue v) ≤ valueWidth
-unfolding encodeValue valueBody encodeText Storable
+unfolding encodeValue valueBody encodeText StorableBy
 value-fits (quad q) h = omega arith
 value-fits (signed z) h = simp length-littleEndian (omega arith)
 value-fits (text t) h = simp (length-append, length-littleEndian) (omega (arith, h .short))
@@ -76,10 +76,10 @@ every-kind (unsigned x) = refl
 pub storable-fits : (v : Value) → Storable v → FitsValue v1 v
 storable-fits v h = record { kind = every-kind v; storable = h }
 
--- the reader of values reads a stored value
-pub read-padded : (v : Value) → Storable v → readValue v1 (padded v) ≡ read v (zeros (valueWidth - length (encodeValue v)))
+-- the reader of values reads a stored value, whether it checks texts or not
+pub read-padded : (check : Bool) (v : Value) → Storable v → readValueBy check v1 (padded v) ≡ read v (zeros (valueWidth - length (encodeValue v)))
 unfolding padded
-read-padded v h = value-codec v1 .back v (storable-fits v h) _
+read-padded check v h = value-codec-by check v1 .back v (value-any check v1 v (storable-fits v h)) _
 
 -- two values that are read from the same bytes are the same
 same-read : {A : Type 0} {x y : A} {r s : List ℕ} → _≡_ {A = Result A} (read x r) (read y s) → x ≡ y
@@ -95,7 +95,7 @@ regroup a b c d = simp append-assoc
 pub binding-tells : (a b : Binding) → FitsBinding a → FitsBinding b → bindingRow a ≡ bindingRow b → a ≡ b
 unfolding bindingRow padded
 binding-tells a b g h e =
-    let fields = tells (binding-fields v1) (a .node, (a .slot, a .value)) (b .node, (b .slot, b .value))
+    let fields = tells (binding-fields true v1) (a .node, (a .slot, a .value)) (b .node, (b .slot, b .value))
     (g .node, (g .slot, storable-fits (a .value) (g .value))) (h .node, (h .slot, storable-fits (b .value) (h .value)))
     (zeros (valueWidth - length (encodeValue (a .value)))) (zeros (valueWidth - length (encodeValue (b .value))))
     (regroup (u64 (a .node)) (u32 (a .slot)) (encodeValue (a .value)) _ ∙ e ∙ sym (regroup (u64 (b .node)) (u32 (b .slot)) (encodeValue (b .value)) _)) in
@@ -110,7 +110,7 @@ availability-tells a b g h e =
 pub entry-tells : (a b : Entry) → FitsEntry a → FitsEntry b → entryRow a ≡ entryRow b → a ≡ b
 unfolding entryRow padded
 entry-tells a b g h e =
-    let fields = tells (update-fields v1) (a .collection, (a .key, a .value)) (b .collection, (b .key, b .value))
+    let fields = tells (update-fields true v1) (a .collection, (a .key, a .value)) (b .collection, (b .key, b .value))
     (g .collection, (g .key, storable-fits (a .value) (g .value))) (h .collection, (h .key, storable-fits (b .value) (h .value)))
     (zeros (valueWidth - length (encodeValue (a .value)))) (zeros (valueWidth - length (encodeValue (b .value))))
     (regroup (u64 (a .collection)) (u64 (a .key)) (encodeValue (a .value)) _ ∙ e ∙ sym (regroup (u64 (b .collection)) (u64 (b .key)) (encodeValue (b .value)) _)) in

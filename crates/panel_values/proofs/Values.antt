@@ -12,8 +12,8 @@ use Rattle.spec_patch.specs.Sizes.{textBytes}
 use Rattle.spec_patch.specs.Edition.{v1}
 use Rattle.spec_patch.specs.Patch.{Quad, N, F, T, S, Value, quad, signed, text, unsigned}
 use Rattle.spec_patch.specs.Encode.{u32, quadByte, kindOf, valueBody, encodeText, encodeValue}
-use Rattle.spec_patch.specs.Fits.{Storable}
-use Rattle.spec_patch.specs.Read.{readValue}
+use Rattle.spec_patch.specs.Fits.{Storable, StorableBy}
+use Rattle.spec_patch.specs.Read.{readValueBy}
 use Rattle.bytes_moves.specs.Moves.{zeros, overwrite}
 use Rattle.bytes_moves.specs.MovesLaws.{drop-zeros}
 use Rattle.projection_patch.specs.Meaning.{quadTo, quadOf, valueTo, valueOf}
@@ -87,7 +87,7 @@ module _ (row : List ℕ) (at : ℕ) where
       )
 
   value-there : (v : Value) → Storable v → drop at row ≡ padded v → Within row (valueText (valueTo (endOf row v) v)) × (valueOf row (valueTo (endOf row v) v) ≡ v)
-  unfolding padded Storable
+  unfolding padded StorableBy
   value-there (quad q) h e = (record { inside = omega arith; short = omega arith }, ap quad (quad-back q))
   value-there (signed z) h e = (record { inside = omega arith; short = omega arith }, refl)
   value-there (text t) h e =
@@ -95,9 +95,9 @@ module _ (row : List ℕ) (at : ℕ) where
       (record { inside = omega (arith, there .0); short = h .short }, ap text (there .1))
   value-there (unsigned x) h e = (record { inside = omega arith; short = omega arith }, refl)
 
-  module _ (r : ValueRead) (answer-is : r ≡ valueAnswer (length row) (readValue v1 (drop at row))) (v : Value) (h : Storable v) (e : drop at row ≡ padded v) where
+  module _ (r : ValueRead) (answer-is : r ≡ valueAnswer (length row) (readValueBy false v1 (drop at row))) (v : Value) (h : Storable v) (e : drop at row ≡ padded v) where
     reads : r ≡ value-read.Read (valueTo (endOf row v) v) (endOf row v)
-    reads = answer-is ∙ ap (λ (l : List ℕ). valueAnswer (length row) (readValue v1 l)) e ∙ ap (valueAnswer (length row)) (read-padded v h)
+    reads = answer-is ∙ ap (λ (l : List ℕ). valueAnswer (length row) (readValueBy false v1 l)) e ∙ ap (valueAnswer (length row)) (read-padded false v h)
 
     pub value-read-back : (x : ProjectionPatchValue) (end : ℕ) → r ≡ value-read.Read x end → Within row (valueText x) × (valueOf row x ≡ v)
     value-read-back x end f =

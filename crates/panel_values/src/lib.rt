@@ -124,7 +124,7 @@ fn value_lookup(row: &[u8], value: ProjectionPatchValue) -> ValueLookup
 pub fn stored_value(row: &[u8], at: usize) -> ValueLookup
     ensures { λ r. ⌜ ((v : model.Value) → Storable v → drop at (now (row .entry)) ≡ padded v → r ≡ foundValue v) ⌝ }
 {
-    match read_values::value_at(row, at) {
+    match read_values::value_at(row, at, false) {
         ValueRead::Read(value, _) => value_lookup(row, value),
         ValueRead::Refused(_) => no_value(),
     }

@@ -1,6 +1,7 @@
 -- What an answer of a call that reads from a set tells of the set: a heading, a patch's head or an operation, at a position.
 use Prim.Native.Nat.{ℕ, _+_, _≤_}
 use mathlib.Core.Path.{_≡_, ap, _∙_}
+use mathlib.Core.Bool.{true}
 use mathlib.Core.List.{List}
 use native.Mathlib.Omega.{arith}
 use lib.ListN.{length, drop, length-drop}
@@ -88,8 +89,8 @@ module _ (set : List ℕ) (at : ℕ) where
 
     pub operation-at : Bytes set → at ≤ length set → {x : ProjectionPatchOperation} {taken : ℕ} → r ≡ operation-read.Read x taken → OperationAt x taken
     operation-at bytes here {x} {taken} told =
-        let g = operation-got (drop at set) 0 r operation-answer (bytes-drop at set bytes) x taken told in
+        let g = operation-got (drop at set) 0 true v1 r operation-answer (bytes-drop at set bytes) x taken told in
         record { got = g; within = omega (arith, length-drop at set, g .there) }
 
     pub no-operation-at : {f : ProjectionPatchReadFault} → r ≡ operation-read.Refused f → NotGot (readOperation v1) (drop at set) 0 f
-    no-operation-at {f} told = no-operation (drop at set) 0 r operation-answer f told
+    no-operation-at {f} told = no-operation (drop at set) 0 true v1 r operation-answer f told

@@ -1,17 +1,18 @@
 -- What a callee answered of a position, as the readers of spec_patch have it: a tag and the reader that it picks, and an answer taken apart.
 use Prim.Native.Nat.{ℕ, _+_, _-_, _≤_, _<_}
-use mathlib.Core.Path.{_≡_, refl, sym, ap, _∙_}
+use mathlib.Core.Path.{_≡_, refl, sym, ap, ap₂, _∙_}
 use mathlib.Core.List.{List}
+use mathlib.Core.Bool.{Bool}
 use native.Mathlib.Omega.{arith}
 use lib.Dec.{lit<}
-use lib.ListN.{length, getD, drop}
+use lib.ListN.{length, getD, drop, length-append}
 use Rattle.spec_lists.specs.Bytes.{Bytes}
 use Rattle.spec_patch.specs.Sizes.{textBytes}
-use Rattle.spec_patch.specs.Edition.{v1}
+use Rattle.spec_patch.specs.Edition.{Edition}
 use Rattle.spec_patch.specs.Reader.{Fault, Result, read, refused, malformed, Reader, followed, byte}
-use Rattle.spec_patch.specs.Read.{readCount, readOptional, readAvailability, readValue, readOperation}
+use Rattle.spec_patch.specs.Read.{readCount, readOptional, readAvailability, readValueBy, readOperationBy}
 use Rattle.spec_patch.specs.Codec.{Codec, suffix}
-use Rattle.spec_patch.specs.ReadLaws.{count-codec, optional-codec, availability-codec, value-codec, operation-codec}
+use Rattle.spec_patch.specs.ReadLaws.{count-codec, optional-codec, availability-codec, value-codec-by, operation-codec-by}
 use Rattle.projection_patch.specs.Meaning.{valueTo, availabilityTo, operationTo}
 use Rattle.projection_patch.specs.ReadAnswers.{faultTo, answer, anywhere, optionalTo, countAnswer, optionalAnswer, availabilityAnswer, valueAnswer, operationAnswer}
 use Rattle.projection_patch.specs.declared.patch.ProjectionNodeAvailability.{ProjectionNodeAvailability}
@@ -89,6 +90,31 @@ module _ {A X B : Type 0} {e : A → List ℕ} {Good : A → Type 0} {p : Reader
       pick (refused c) is t = record { fault = c; is = is; same = told .reason (faultTo c) f t }
       pick (read a rest) is t = absurd (told .apart (to (length l - length rest) a) (length l - length rest) f t)
 
+-- the same answer told by other constructors
+module _ {A X B C : Type 0} {reading : X → ℕ → B} {refusal : ProjectionPatchReadFault → B} (to : ℕ → A → X) (told : Told reading refusal) (reading′ : X → ℕ → C) (refusal′ : ProjectionPatchReadFault → C) (n : ℕ) (result : Result A) {r : B} (ensured : r ≡ answer to reading refusal n result) where
+  pub retold : (x : X) (end : ℕ) → r ≡ reading x end → reading′ x end ≡ answer to reading′ refusal′ n result
+  retold x end q = pick result (sym ensured ∙ q)
+    where
+      pick : (s : Result A) → answer to reading refusal n s ≡ reading x end → reading′ x end ≡ answer to reading′ refusal′ n s
+      pick (refused c) t = absurd (told .apart x end (faultTo c) (sym t))
+      pick (read a rest) t =
+          let k = n - length rest in
+          ap₂ reading′ (sym (told .value (to k a) x k end t)) (sym (told .next (to k a) x k end t))
+
+  pub retold-refusal : (f : ProjectionPatchReadFault) → r ≡ refusal f → refusal′ f ≡ answer to reading′ refusal′ n result
+  retold-refusal f q = pick result (sym ensured ∙ q)
+    where
+      pick : (s : Result A) → answer to reading refusal n s ≡ refusal f → refusal′ f ≡ answer to reading′ refusal′ n s
+      pick (refused c) t = ap refusal′ (sym (told .reason (faultTo c) f t))
+      pick (read a rest) t = absurd (told .apart (to (n - length rest) a) (n - length rest) f t)
+
+-- what was read takes a byte or more, and ends within the part
+module _ {A X : Type 0} {e : A → List ℕ} {Good : A → Type 0} {p : Reader A} {to : ℕ → A → X} (codec : Codec e Good p) (some′ : (a : A) → 0 < length (e a)) {l : List ℕ} (all : Bytes l) where
+  pub got-some : (x : X) (end : ℕ) → Got p to l 0 x end → (0 < end) × (end ≤ length l)
+  got-some x end g =
+      let long : length l ≡ length (e (g .a)) + length (drop end l) = ap length (codec .only all (g .a) (drop end l) (g .is) .1) ∙ length-append (e (g .a)) (drop end l) in
+      (omega (arith, some′ (g .a), g .there), omega (arith, g .there))
+
 -- ---- each of the enums
 
 pub count-told : Told count-read.Read count-read.Refused
@@ -123,7 +149,7 @@ value-told = record {
   apart = λ x m f e. let z : _≡_ {A = ℕ} 0 1 = cc in omega arith;
 }
 
-operation-told : Told operation-read.Read operation-read.Refused
+pub operation-told : Told operation-read.Read operation-read.Refused
 operation-told = record {
   value = λ x y m n e. cc;
   next = λ x y m n e. cc;
@@ -150,14 +176,14 @@ module _ (l : List ℕ) (at : ℕ) where
   pub no-availability : (r : AvailabilityRead) → r ≡ availabilityAnswer (length l) (readAvailability (drop at l)) → (f : ProjectionPatchReadFault) → r ≡ availability-read.Refused f → NotGot readAvailability l at f
   no-availability = not-got (anywhere availabilityTo) availability-codec availability-told l at
 
-  pub value-got : (r : ValueRead) → r ≡ valueAnswer (length l) (readValue v1 (drop at l)) → Bytes l → (v : ProjectionPatchValue) (end : ℕ) → r ≡ value-read.Read v end → Got (readValue v1) valueTo l at v end
-  value-got = got valueTo (value-codec v1) value-told l at
+  pub value-got : (check : Bool) (ed : Edition) (r : ValueRead) → r ≡ valueAnswer (length l) (readValueBy check ed (drop at l)) → Bytes l → (v : ProjectionPatchValue) (end : ℕ) → r ≡ value-read.Read v end → Got (readValueBy check ed) valueTo l at v end
+  value-got check ed = got valueTo (value-codec-by check ed) value-told l at
 
-  pub no-value : (r : ValueRead) → r ≡ valueAnswer (length l) (readValue v1 (drop at l)) → (f : ProjectionPatchReadFault) → r ≡ value-read.Refused f → NotGot (readValue v1) l at f
-  no-value = not-got valueTo (value-codec v1) value-told l at
+  pub no-value : (check : Bool) (ed : Edition) (r : ValueRead) → r ≡ valueAnswer (length l) (readValueBy check ed (drop at l)) → (f : ProjectionPatchReadFault) → r ≡ value-read.Refused f → NotGot (readValueBy check ed) l at f
+  no-value check ed = not-got valueTo (value-codec-by check ed) value-told l at
 
-  pub operation-got : (r : OperationRead) → r ≡ operationAnswer (length l) (readOperation v1 (drop at l)) → Bytes l → (o : ProjectionPatchOperation) (end : ℕ) → r ≡ operation-read.Read o end → Got (readOperation v1) operationTo l at o end
-  operation-got = got operationTo (operation-codec v1) operation-told l at
+  pub operation-got : (check : Bool) (ed : Edition) (r : OperationRead) → r ≡ operationAnswer (length l) (readOperationBy check ed (drop at l)) → Bytes l → (o : ProjectionPatchOperation) (end : ℕ) → r ≡ operation-read.Read o end → Got (readOperationBy check ed) operationTo l at o end
+  operation-got check ed = got operationTo (operation-codec-by check ed) operation-told l at
 
-  pub no-operation : (r : OperationRead) → r ≡ operationAnswer (length l) (readOperation v1 (drop at l)) → (f : ProjectionPatchReadFault) → r ≡ operation-read.Refused f → NotGot (readOperation v1) l at f
-  no-operation = not-got operationTo (operation-codec v1) operation-told l at
+  pub no-operation : (check : Bool) (ed : Edition) (r : OperationRead) → r ≡ operationAnswer (length l) (readOperationBy check ed (drop at l)) → (f : ProjectionPatchReadFault) → r ≡ operation-read.Refused f → NotGot (readOperationBy check ed) l at f
+  no-operation check ed = not-got operationTo (operation-codec-by check ed) operation-told l at

@@ -10,6 +10,7 @@ use lib.ListN.{length, take, drop, length-drop}
 use lib.Seq.{length-take-le, drop-drop}
 use Rattle.spec_lists.specs.Lists.{if_then_else_}
 use Rattle.spec_text.specs.Syntax.{isUtf8, characters}
+use Rattle.spec_patch.specs.TextRule.{allowed}
 use Rattle.spec_patch.specs.Patch.{text}
 use Rattle.spec_patch.specs.Reader.{refused, malformed, mapped, checked, bytes}
 use Rattle.bytes_utf8.specs.Answer as utf8
@@ -36,19 +37,19 @@ module _ (t : List ℕ) (r : Utf8Check) (e : r ≡ utf8.answer t) where
       pick true q = absurd (let z : _≡_ {A = ℕ} 0 1 = cc q in omega arith)
       pick false q = refl
 
-module _ (l : List ℕ) (start n : ℕ) where
-  pub short : length l - start < n → checked isUtf8 malformed (bytes n) (drop start l) ≡ refused malformed
+module _ (check : Bool) (l : List ℕ) (start n : ℕ) where
+  pub short : length l - start < n → checked (allowed check) malformed (bytes n) (drop start l) ≡ refused malformed
   short h = rw (lt-leb n (length (drop start l)) (omega (arith, length-drop start l)))
 
   module _ (room : n ≤ length l - start) where
     inside : n ≤ length (drop start l)
     inside = omega (arith, length-drop start l)
 
-    pub bad : isUtf8 (take n (drop start l)) ≡ false → checked isUtf8 malformed (bytes n) (drop start l) ≡ refused malformed
+    pub bad : allowed check (take n (drop start l)) ≡ false → checked (allowed check) malformed (bytes n) (drop start l) ≡ refused malformed
     bad u = rw (le-leb n (length (drop start l)) inside, u)
 
     -- the text's place, told by where it ends
-    pub placed : start ≤ length l → isUtf8 (take n (drop start l)) ≡ true → Read (Text start n) (start + n) ≡ valueAnswer (length l) (mapped text (checked isUtf8 malformed (bytes n)) (drop start l))
+    pub placed : start ≤ length l → allowed check (take n (drop start l)) ≡ true → Read (Text start n) (start + n) ≡ valueAnswer (length l) (mapped text (checked (allowed check) malformed (bytes n)) (drop start l))
     placed h u =
         let end : start + n ≤ length l = omega arith in
         let back : start + n - n ≡ start = omega arith in

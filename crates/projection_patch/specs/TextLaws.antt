@@ -3,6 +3,7 @@
 use Prim.Native.Nat.{ℕ, _+_, _-_, _≤_}
 use mathlib.Core.Path.{_≡_, refl, sym, ap, ap₂, _∙_}
 use mathlib.Core.List.{List, [], _∷_, _++_, append-nil, append-assoc}
+use mathlib.Core.Bool.{Bool}
 use mathlib.Core.Option.{Option, none, some}
 use native.Mathlib.Omega.{arith}
 use borrow.Author.Tests.{le-leb}
@@ -12,11 +13,11 @@ use mir.Syntax.{w64}
 use mir.Val.{ofZ}
 use Rattle.spec_lists.specs.Bytes.{Bytes}
 use Rattle.spec_patch.specs.Patch.{Quad, N, F, T, S, Availability, available, unavailable, hidden, pending, stale, Value, quad, signed, text, unsigned, Operation, setBinding, setAvailability, insert, update, remove, move}
-use Rattle.spec_patch.specs.Edition.{v1}
+use Rattle.spec_patch.specs.Edition.{Edition}
 use Rattle.spec_patch.specs.Encode.{u32, u64, encodeOptional, quadByte, availabilityByte, encodeText, kindOf, valueBody, encodeValue, encodeOperation}
 use Rattle.spec_patch.specs.Reader.{read}
-use Rattle.spec_patch.specs.Read.{readOperation}
-use Rattle.spec_patch.specs.ReadLaws.{operation-codec}
+use Rattle.spec_patch.specs.Read.{readOperationBy}
+use Rattle.spec_patch.specs.ReadLaws.{operation-codec-by}
 use Rattle.projection_patch.specs.Meaning.{beforeTo, beforeOf, quadTo, quadOf, availabilityTo, availabilityOf, valueTo, valueOf, operationTo, operationOf}
 use Rattle.projection_patch.specs.ReadAnswers.{lentFrom, lentPart}
 
@@ -125,9 +126,9 @@ pub operation-encoded-back : (o : Operation) (rest : List ℕ) → operationOf (
 operation-encoded-back o rest = placed-back (encodeOperation o ++ rest) (length (encodeOperation o)) o (text-placed o rest)
 
 -- of any bytes that an operation is read from
-pub operation-back : (part : List ℕ) → Bytes part → (o : Operation) (rest : List ℕ) → readOperation v1 part ≡ read o rest → operationOf part (operationTo (length part - length rest) o) ≡ o
-operation-back part h o rest q =
-    let whole : part ≡ encodeOperation o ++ rest = operation-codec v1 .only h o rest q .1 in
+pub operation-back : (check : Bool) (ed : Edition) (part : List ℕ) → Bytes part → (o : Operation) (rest : List ℕ) → readOperationBy check ed part ≡ read o rest → operationOf part (operationTo (length part - length rest) o) ≡ o
+operation-back check ed part h o rest q =
+    let whole : part ≡ encodeOperation o ++ rest = operation-codec-by check ed .only h o rest q .1 in
     let end : length part - length rest ≡ length (encodeOperation o) = omega (arith, ap length whole ∙ length-append (encodeOperation o) rest) in
     ap₂ (λ (l : List ℕ) (n : ℕ). operationOf l (operationTo n o)) whole end ∙ operation-encoded-back o rest
 

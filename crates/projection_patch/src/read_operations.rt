@@ -1,8 +1,9 @@
 // Reading of operations. An operation is read from the start of a part, which is the set from the operation's own start on.
 ghost use mathlib.Core.Path.{_≡_};
+ghost use mathlib.Core.Bool.{Bool};
 ghost use lib.ListN.{length, drop};
 ghost use Rattle.spec_patch.specs.Edition.{v1};
-ghost use Rattle.spec_patch.specs.Read.{operationAfter, readOperation};
+ghost use Rattle.spec_patch.specs.Read.{operationAfter, readOperationBy, readOperation};
 ghost use Rattle.projection_patch.specs.Meaning.{beforeTo};
 ghost use Rattle.bytes_wire.specs.Read.{firstNumber};
 ghost use Rattle.projection_patch.specs.ReadAnswers.{optionalOf, numbersAnswer, placeTo, operationAnswer};
@@ -56,8 +57,8 @@ pub fn key_of(number: OptionalNumber) -> OptionalKey
     }
 }
 
-fn set_binding_value(part: &[u8]) -> OperationRead
-    ensures { λ r. ⌜ r ≡ operationAnswer (length (now (part .entry))) (operationAfter v1 1 (drop 1 (now (part .entry)))) ⌝ }
+fn set_binding_value(part: &[u8], strict: bool) -> OperationRead
+    ensures { λ r. ⌜ r ≡ operationAnswer (length (now (part .entry))) (operationAfter strict v1 1 (drop 1 (now (part .entry)))) ⌝ }
 {
     let ReadU64::Read(node) = bytes_wire::read_u64_at(part, 1) else {
         return OperationRead::Refused(ProjectionPatchReadFault::Malformed);
@@ -69,7 +70,7 @@ fn set_binding_value(part: &[u8]) -> OperationRead
         node: StaticNodeId::new(node),
         slot: BindingSlot(slot),
     };
-    match read_values::value_at(part, 13) {
+    match read_values::value_at(part, 13, strict) {
         ValueRead::Read(value, end) => OperationRead::Read(
             ProjectionPatchOperation::SetBindingValue { target, value },
             end,
@@ -79,7 +80,7 @@ fn set_binding_value(part: &[u8]) -> OperationRead
 }
 
 fn set_node_availability(part: &[u8]) -> OperationRead
-    ensures { λ r. ⌜ r ≡ operationAnswer (length (now (part .entry))) (operationAfter v1 2 (drop 1 (now (part .entry)))) ⌝ }
+    ensures { λ r. ⌜ ((strict : Bool) → r ≡ operationAnswer (length (now (part .entry))) (operationAfter strict v1 2 (drop 1 (now (part .entry))))) ⌝ }
 {
     let ReadU64::Read(number) = bytes_wire::read_u64_at(part, 1) else {
         return OperationRead::Refused(ProjectionPatchReadFault::Malformed);
@@ -94,14 +95,14 @@ fn set_node_availability(part: &[u8]) -> OperationRead
     }
 }
 
-fn collection_insert(part: &[u8]) -> OperationRead
-    ensures { λ r. ⌜ r ≡ operationAnswer (length (now (part .entry))) (operationAfter v1 3 (drop 1 (now (part .entry)))) ⌝ }
+fn collection_insert(part: &[u8], strict: bool) -> OperationRead
+    ensures { λ r. ⌜ r ≡ operationAnswer (length (now (part .entry))) (operationAfter strict v1 3 (drop 1 (now (part .entry)))) ⌝ }
 {
     let PlaceRead::Read(collection, key) = place(part) else {
         return OperationRead::Refused(ProjectionPatchReadFault::Malformed);
     };
     match read_values::optional_at(part, 17) {
-        OptionalRead::Read(neighbour, body) => match read_values::value_at(part, body) {
+        OptionalRead::Read(neighbour, body) => match read_values::value_at(part, body, strict) {
             ValueRead::Read(value, end) => OperationRead::Read(
                 ProjectionPatchOperation::CollectionInsert {
                     collection,
@@ -117,13 +118,13 @@ fn collection_insert(part: &[u8]) -> OperationRead
     }
 }
 
-fn collection_update(part: &[u8]) -> OperationRead
-    ensures { λ r. ⌜ r ≡ operationAnswer (length (now (part .entry))) (operationAfter v1 4 (drop 1 (now (part .entry)))) ⌝ }
+fn collection_update(part: &[u8], strict: bool) -> OperationRead
+    ensures { λ r. ⌜ r ≡ operationAnswer (length (now (part .entry))) (operationAfter strict v1 4 (drop 1 (now (part .entry)))) ⌝ }
 {
     let PlaceRead::Read(collection, key) = place(part) else {
         return OperationRead::Refused(ProjectionPatchReadFault::Malformed);
     };
-    match read_values::value_at(part, 17) {
+    match read_values::value_at(part, 17, strict) {
         ValueRead::Read(value, end) => OperationRead::Read(
             ProjectionPatchOperation::CollectionUpdate {
                 collection,
@@ -137,7 +138,7 @@ fn collection_update(part: &[u8]) -> OperationRead
 }
 
 fn collection_remove(part: &[u8]) -> OperationRead
-    ensures { λ r. ⌜ r ≡ operationAnswer (length (now (part .entry))) (operationAfter v1 5 (drop 1 (now (part .entry)))) ⌝ }
+    ensures { λ r. ⌜ ((strict : Bool) → r ≡ operationAnswer (length (now (part .entry))) (operationAfter strict v1 5 (drop 1 (now (part .entry))))) ⌝ }
 {
     let PlaceRead::Read(collection, key) = place(part) else {
         return OperationRead::Refused(ProjectionPatchReadFault::Malformed);
@@ -149,7 +150,7 @@ fn collection_remove(part: &[u8]) -> OperationRead
 }
 
 fn collection_move(part: &[u8]) -> OperationRead
-    ensures { λ r. ⌜ r ≡ operationAnswer (length (now (part .entry))) (operationAfter v1 6 (drop 1 (now (part .entry)))) ⌝ }
+    ensures { λ r. ⌜ ((strict : Bool) → r ≡ operationAnswer (length (now (part .entry))) (operationAfter strict v1 6 (drop 1 (now (part .entry))))) ⌝ }
 {
     let PlaceRead::Read(collection, key) = place(part) else {
         return OperationRead::Refused(ProjectionPatchReadFault::Malformed);
@@ -167,21 +168,28 @@ fn collection_move(part: &[u8]) -> OperationRead
     }
 }
 
-// Reads an operation from the start of a part.
-pub fn read_operation(part: &[u8]) -> OperationRead
-    ensures { λ r. ⌜ r ≡ operationAnswer (length (now (part .entry))) (readOperation v1 (now (part .entry))) ⌝ }
+// An operation from the start of a part. Its text, which is its last field, is checked where the reading is strict.
+pub fn operation_from(part: &[u8], strict: bool) -> OperationRead
+    ensures { λ r. ⌜ r ≡ operationAnswer (length (now (part .entry))) (readOperationBy strict v1 (now (part .entry))) ⌝ }
 {
     if part.len() == 0 {
         return OperationRead::Refused(ProjectionPatchReadFault::Malformed);
     }
     let tag = part[0];
     match tag {
-        1 => set_binding_value(part),
+        1 => set_binding_value(part, strict),
         2 => set_node_availability(part),
-        3 => collection_insert(part),
-        4 => collection_update(part),
+        3 => collection_insert(part, strict),
+        4 => collection_update(part, strict),
         5 => collection_remove(part),
         6 => collection_move(part),
         _ => OperationRead::Refused(ProjectionPatchReadFault::Malformed),
     }
+}
+
+// Reads an operation from the start of a part.
+pub fn read_operation(part: &[u8]) -> OperationRead
+    ensures { λ r. ⌜ r ≡ operationAnswer (length (now (part .entry))) (readOperation v1 (now (part .entry))) ⌝ }
+{
+    operation_from(part, true)
 }

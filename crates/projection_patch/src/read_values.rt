@@ -5,10 +5,10 @@ ghost use Prim.Native.Nat.{_+_, _-_, _≤_};
 ghost use mathlib.Core.Option.{some};
 ghost use lib.ListN.{length, drop};
 ghost use Rattle.spec_patch.specs.Edition.{v1};
+ghost use Rattle.spec_patch.specs.TextRule.{allowed};
 ghost use Rattle.spec_patch.specs.Patch as model;
-ghost use Rattle.spec_text.specs.Syntax.{isUtf8};
 ghost use Rattle.spec_patch.specs.Reader.{faultNumber, malformed, mapped, checked, bytes};
-ghost use Rattle.spec_patch.specs.Read.{readU64, readI64, readCount, readQuad, readText, readOptional, readAvailability, readValue};
+ghost use Rattle.spec_patch.specs.Read.{readU64, readI64, readCount, readQuad, readTextBy, readOptional, readAvailability, readValueBy, readValue};
 ghost use Rattle.bytes_wire.specs.Read.{firstNumber};
 ghost use Rattle.projection_patch.specs.ReadAnswers.{faultOf, numbersAnswer, countAnswer, optionalAnswer, availabilityAnswer, valueAnswer, lentPart};
 use crate::patch::ProjectionNodeAvailability;
@@ -193,35 +193,47 @@ pub fn text_of(set: &[u8], a: usize, b: usize) -> &[u8]
     &set[a..b]
 }
 
-fn text_at(part: &[u8], at: usize) -> ValueRead
-    ensures { λ r. ⌜ r ≡ valueAnswer (length (now (part .entry))) (mapped model.text readText (drop at (now (part .entry)))) ⌝ }
+// Whether a text may stand there: RFC 3629 is asked where the reading is strict.
+fn text_allowed(strict: bool, text: &[u8]) -> bool
+    ensures { λ r. ⌜ r ≡ allowed strict (now (text .entry)) ⌝ }
 {
-    match count_at(part, at, ProjectionPatchValue::TEXT_BYTES) {
-        CountRead::Read(len, start) => text_from(part, start, len),
-        CountRead::Refused(fault) => ValueRead::Refused(fault),
+    if !strict {
+        return true;
+    }
+    match bytes_utf8::check(text) {
+        Utf8Check::Valid { characters: _ } => true,
+        Utf8Check::Invalid => false,
     }
 }
 
 // The text of len bytes from start on.
-fn text_from(part: &[u8], start: usize, len: usize) -> ValueRead
+fn text_from(part: &[u8], start: usize, len: usize, strict: bool) -> ValueRead
     requires { ⌜ start ≤ length (now part) ⌝ }
-    ensures { λ r. ⌜ r ≡ valueAnswer (length (now (part .entry))) (mapped model.text (checked isUtf8 malformed (bytes len)) (drop start (now (part .entry)))) ⌝ }
+    ensures { λ r. ⌜ r ≡ valueAnswer (length (now (part .entry))) (mapped model.text (checked (allowed strict) malformed (bytes len)) (drop start (now (part .entry)))) ⌝ }
 {
     if part.len() - start < len {
         return ValueRead::Refused(ProjectionPatchReadFault::Malformed);
     }
     let end = start + len;
-    match bytes_utf8::check(&part[start..end]) {
-        Utf8Check::Valid { characters: _ } => ValueRead::Read(
-            ProjectionPatchValue::Text { start, len },
-            end,
-        ),
-        Utf8Check::Invalid => ValueRead::Refused(ProjectionPatchReadFault::Malformed),
+    if text_allowed(strict, text_of(part, start, end)) {
+        ValueRead::Read(ProjectionPatchValue::Text { start, len }, end)
+    } else {
+        ValueRead::Refused(ProjectionPatchReadFault::Malformed)
     }
 }
 
-pub fn value_at(part: &[u8], at: usize) -> ValueRead
-    ensures { λ r. ⌜ r ≡ valueAnswer (length (now (part .entry))) (readValue v1 (drop at (now (part .entry)))) ⌝ }
+fn text_at(part: &[u8], at: usize, strict: bool) -> ValueRead
+    ensures { λ r. ⌜ r ≡ valueAnswer (length (now (part .entry))) (mapped model.text (readTextBy strict) (drop at (now (part .entry)))) ⌝ }
+{
+    match count_at(part, at, ProjectionPatchValue::TEXT_BYTES) {
+        CountRead::Read(len, start) => text_from(part, start, len, strict),
+        CountRead::Refused(fault) => ValueRead::Refused(fault),
+    }
+}
+
+// The value at a position. A text's bytes are checked where the reading is strict, and may be any where they were checked before.
+pub fn value_at(part: &[u8], at: usize, strict: bool) -> ValueRead
+    ensures { λ r. ⌜ r ≡ valueAnswer (length (now (part .entry))) (readValueBy strict v1 (drop at (now (part .entry)))) ⌝ }
 {
     if part.len() <= at {
         return ValueRead::Refused(ProjectionPatchReadFault::Malformed);
@@ -231,7 +243,7 @@ pub fn value_at(part: &[u8], at: usize) -> ValueRead
     match tag {
         1 => quad_at(part, body),
         2 => signed_at(part, body),
-        3 => text_at(part, body),
+        3 => text_at(part, body, strict),
         4 => unsigned_at(part, body),
         _ => ValueRead::Refused(ProjectionPatchReadFault::Malformed),
     }
@@ -241,5 +253,5 @@ pub fn value_at(part: &[u8], at: usize) -> ValueRead
 pub fn read_value(part: &[u8]) -> ValueRead
     ensures { λ r. ⌜ r ≡ valueAnswer (length (now (part .entry))) (readValue v1 (now (part .entry))) ⌝ }
 {
-    value_at(part, 0)
+    value_at(part, 0, true)
 }

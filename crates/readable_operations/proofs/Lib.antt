@@ -1,4 +1,1 @@
--- Laws that belong to no one function.
-mod Wholes
-mod Places
-mod Texts
+pub mod Places

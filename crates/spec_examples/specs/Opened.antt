@@ -66,7 +66,7 @@ unfolding
     Rattle.spec_patch.specs.Fits.OptionalU64
     Rattle.spec_patch.specs.Fits.InRangeValue
     Rattle.spec_patch.specs.Fits.OperationHolds
-    Rattle.spec_patch.specs.Fits.Storable
+    Rattle.spec_patch.specs.Fits.StorableBy
     Rattle.spec_patch.specs.Reader.faultNumber
     Rattle.spec_patch.specs.Reader.many
     Rattle.spec_patch.specs.Reader.literal
@@ -76,12 +76,12 @@ unfolding
     Rattle.spec_patch.specs.Read.readQuad
     Rattle.spec_patch.specs.Read.availabilityAfter
     Rattle.spec_patch.specs.Read.readAvailability
-    Rattle.spec_patch.specs.Read.readText
+    Rattle.spec_patch.specs.Read.readTextBy
     Rattle.spec_patch.specs.Read.valueAfter
     Rattle.spec_patch.specs.Read.inEdition
-    Rattle.spec_patch.specs.Read.readValue
+    Rattle.spec_patch.specs.Read.readValueBy
     Rattle.spec_patch.specs.Read.operationAfter
-    Rattle.spec_patch.specs.Read.readOperation
+    Rattle.spec_patch.specs.Read.readOperationBy
     Rattle.spec_patch.specs.Read.readEnvelope
     Rattle.spec_patch.specs.Read.readPatch
     Rattle.spec_patch.specs.Read.readPatches

@@ -2,14 +2,14 @@
 -- capacities of 01, 'Sizes', the text rule of RFC 3629 and the edition's value kinds (`Fits`).
 use Prim.Native.Nat.{ℕ, _≤_, _<_, _^_}
 use mathlib.Core.Path.{_≡_}
-use mathlib.Core.Bool.{true}
+use mathlib.Core.Bool.{Bool, true}
 use mathlib.Core.List.{List}
 use mathlib.Core.Option.{Option, none, some}
 use lib.ListN.{length}
 use mir.Syntax.{w64}
 use mir.Val.{SFits}
 use Rattle.spec_lists.specs.Lists.{All}
-use Rattle.spec_text.specs.Syntax.{isUtf8}
+use Rattle.spec_patch.specs.TextRule.{allowed}
 use Rattle.spec_patch.specs.Sizes.{setBytes, setPatches, patchOperations, textBytes}
 use Rattle.spec_patch.specs.Patch.{Value, quad, signed, text, unsigned, Operation, setBinding, setAvailability, insert, update, remove, move, Envelope, Patch}
 use Rattle.spec_patch.specs.Edition.{Edition, hasKind}
@@ -64,22 +64,32 @@ InRange = All InRangePatch
 
 -- ---- what an edition can hold
 
--- a text that may stand in a set: at most 160 bytes, and RFC 3629 allows them
-pub record FitsText (t : List ℕ) : Type 0 where
+-- a text of at most 160 bytes, which the rule of texts allows
+pub record FitsTextBy (check : Bool) (t : List ℕ) : Type 0 where
   pub short : length t ≤ textBytes
-  pub utf8 : isUtf8 t ≡ true
+  pub utf8 : allowed check t ≡ true
 
 -- a value that can be stored, whatever its edition
-unfoldable pub Storable : Value → Type 0
-Storable (quad q) = Unit {0}
-Storable (signed z) = SFits w64 z
-Storable (text t) = FitsText t
-Storable (unsigned x) = U64 x
+unfoldable pub StorableBy : Bool → Value → Type 0
+StorableBy check (quad q) = Unit {0}
+StorableBy check (signed z) = SFits w64 z
+StorableBy check (text t) = FitsTextBy check t
+StorableBy check (unsigned x) = U64 x
 
 -- a storable value of a kind that the edition has
-pub record FitsValue (ed : Edition) (v : Value) : Type 0 where
+pub record FitsValueBy (check : Bool) (ed : Edition) (v : Value) : Type 0 where
   pub kind : hasKind ed (kindOf v) ≡ true
-  pub storable : Storable v
+  pub storable : StorableBy check v
+
+-- what may stand in a set: RFC 3629 allows its texts
+abbrev pub FitsText : List ℕ → Type 0
+FitsText = FitsTextBy true
+
+abbrev pub Storable : Value → Type 0
+Storable = StorableBy true
+
+abbrev pub FitsValue : Edition → Value → Type 0
+FitsValue = FitsValueBy true
 
 abbrev pub FitsOperation : Edition → Operation → Type 0
 FitsOperation ed = OperationHolds (FitsValue ed)

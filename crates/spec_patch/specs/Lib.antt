@@ -2,6 +2,7 @@ pub mod Sizes
 pub mod Patch
 pub mod Edition
 pub mod Encode
+pub mod TextRule
 pub mod Fits
 pub mod Reader
 pub mod Read

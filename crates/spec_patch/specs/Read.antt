@@ -1,6 +1,6 @@
 -- Reading a set: 01, 'Canonical bytes' and step 4. The first fault in reading decides.
 use Prim.Native.Nat.{ℕ}
-use mathlib.Core.Bool.{Bool}
+use mathlib.Core.Bool.{Bool, true}
 use mathlib.Core.List.{List, [], _∷_}
 use mathlib.Core.Option.{Option, none, some}
 use lib.Dec.{leb}
@@ -9,7 +9,7 @@ use lib.IntN.{ℤ}
 use mir.Syntax.{w64}
 use mir.Val.{toZ}
 use Rattle.spec_lists.specs.Lists.{if_then_else_}
-use Rattle.spec_text.specs.Syntax.{isUtf8}
+use Rattle.spec_patch.specs.TextRule.{allowed}
 use Rattle.spec_patch.specs.Sizes.{setBytes, setPatches, patchOperations, textBytes}
 use Rattle.spec_patch.specs.Patch.{Quad, N, F, T, S, Availability, available, unavailable, hidden, pending, stale, Value, quad, signed, text, unsigned, Operation, setBinding, setAvailability, insert, update, remove, move, Envelope, Patch}
 use Rattle.spec_patch.specs.Edition.{Edition, hasKind}
@@ -70,26 +70,28 @@ availabilityAfter =
 unfoldable pub readAvailability : Reader Availability
 readAvailability = followed byte availabilityAfter
 
--- a text: its length within the capacity, then as many bytes, which RFC 3629 allows, else 10
-unfoldable pub readText : Reader (List ℕ)
-readText = followed (readCount textBytes) (λ n. checked isUtf8 malformed (bytes n))
+-- ---- texts: `check` says whether RFC 3629 is asked, or the bytes may be any, as where they were checked before
+
+-- a text: its length within the capacity, then as many bytes, which the rule allows, else 10
+unfoldable pub readTextBy : Bool → Reader (List ℕ)
+readTextBy check = followed (readCount textBytes) (λ n. checked (allowed check) malformed (bytes n))
 
 -- ---- values
 
 -- 1 quad byte; 2 i64; 3 u32 length and text; 4 u64
-unfoldable pub valueAfter : ℕ → Reader Value
-valueAfter =
+unfoldable pub valueAfter : Bool → ℕ → Reader Value
+valueAfter check =
     orTag 1 (mapped quad readQuad)
     (orTag 2 (mapped signed readI64)
-    (orTag 3 (mapped text readText)
+    (orTag 3 (mapped text (readTextBy check))
     (orTag 4 (mapped unsigned readU64) noTag)))
 
 -- a kind that the edition lacks is 10
 unfoldable pub inEdition : Edition → (ℕ → Reader Value) → ℕ → Reader Value
 inEdition ed f kind bs = if hasKind ed kind then f kind bs else refused malformed
 
-unfoldable pub readValue : Edition → Reader Value
-readValue ed = followed byte (inEdition ed valueAfter)
+unfoldable pub readValueBy : Bool → Edition → Reader Value
+readValueBy check ed = followed byte (inEdition ed (valueAfter check))
 
 -- ---- operations, each of its fields in order
 
@@ -112,17 +114,27 @@ abbrev pub toMove : ℕ × (ℕ × Option ℕ) → Operation
 toMove t = move (t .0) (t .1 .0) (t .1 .1)
 
 -- operations 1 to 6
-unfoldable pub operationAfter : Edition → ℕ → Reader Operation
-operationAfter ed =
-    orTag 1 (mapped toSetBinding (pair readU64 (pair readU32 (readValue ed))))
+unfoldable pub operationAfter : Bool → Edition → ℕ → Reader Operation
+operationAfter check ed =
+    orTag 1 (mapped toSetBinding (pair readU64 (pair readU32 (readValueBy check ed))))
     (orTag 2 (mapped toSetAvailability (pair readU64 readAvailability))
-    (orTag 3 (mapped toInsert (pair readU64 (pair readU64 (pair readOptional (readValue ed)))))
-    (orTag 4 (mapped toUpdate (pair readU64 (pair readU64 (readValue ed))))
+    (orTag 3 (mapped toInsert (pair readU64 (pair readU64 (pair readOptional (readValueBy check ed)))))
+    (orTag 4 (mapped toUpdate (pair readU64 (pair readU64 (readValueBy check ed))))
     (orTag 5 (mapped toRemove (pair readU64 readU64))
     (orTag 6 (mapped toMove (pair readU64 (pair readU64 readOptional))) noTag)))))
 
-unfoldable pub readOperation : Edition → Reader Operation
-readOperation ed = followed byte (operationAfter ed)
+unfoldable pub readOperationBy : Bool → Edition → Reader Operation
+readOperationBy check ed = followed byte (operationAfter check ed)
+
+-- texts are checked
+abbrev pub readText : Reader (List ℕ)
+readText = readTextBy true
+
+abbrev pub readValue : Edition → Reader Value
+readValue = readValueBy true
+
+abbrev pub readOperation : Edition → Reader Operation
+readOperation = readOperationBy true
 
 -- ---- patches and sets
 

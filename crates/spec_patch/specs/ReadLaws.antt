@@ -3,7 +3,7 @@ use Prim.Native.Nat.{ℕ, _+_, _-_, _^_, _≤_, _<_}
 use mathlib.Core.Path.{_≡_, refl, sym, ap, _∙_}
 use mathlib.Core.List.{List, [], _∷_, _++_, flatMap, head-eq-of-cons-eq}
 use mathlib.Core.Option.{Option, none, some}
-use mathlib.Core.Bool.{true}
+use mathlib.Core.Bool.{Bool, true, false}
 use native.Mathlib.Omega.{arith}
 use borrow.Author.Tests.{leb-true, le-leb}
 use lib.ListN.{length}
@@ -13,14 +13,14 @@ use mir.Syntax.{w64}
 use mir.Val.{SFits, toZ, ofZ}
 use mir.Facts.{toZ-ofZ, ofZ-toZ, fits-ofZ, sfits-toZ}
 use Rattle.spec_lists.specs.Lists.{All}
-use Rattle.spec_text.specs.Syntax.{isUtf8}
+use Rattle.spec_patch.specs.TextRule.{allowed}
 use Rattle.spec_patch.specs.Sizes.{setPatches, patchOperations, textBytes}
 use Rattle.spec_patch.specs.Patch.{Quad, N, F, T, S, Availability, available, unavailable, hidden, pending, stale, Value, quad, signed, text, unsigned, Operation, setBinding, setAvailability, insert, update, remove, move, Patch}
 use Rattle.spec_patch.specs.Edition.{Edition, hasKind}
 use Rattle.spec_patch.specs.Encode.{u32, u64, encodeOptional, quadByte, availabilityByte, encodeText, kindOf, valueBody, encodeValue, encodeOperation, encodeEnvelope, encodeCounted, encodePatch, heading, encode}
 use Rattle.spec_patch.specs.Reader.{malformed, overCapacity, read, Reader, pair, checked, many, bytes}
-use Rattle.spec_patch.specs.Read.{readU32, readU64, readI64, withinCapacity, readCount, readCounted, optionalAfter, readOptional, quadAfter, readQuad, availabilityAfter, readAvailability, readText, valueAfter, inEdition, readValue, toSetBinding, toSetAvailability, toInsert, toUpdate, toRemove, toMove, operationAfter, readOperation, toEnvelope, readEnvelope, toPatch, readPatch, readPatches}
-use Rattle.spec_patch.specs.Fits.{U64, U32, OptionalU64, OperationHolds, InRangeEnvelope, FitsText, Storable, FitsValue, FitsOperation, FitsPatch}
+use Rattle.spec_patch.specs.Read.{readU32, readU64, readI64, withinCapacity, readCount, readCounted, optionalAfter, readOptional, quadAfter, readQuad, availabilityAfter, readAvailability, readTextBy, valueAfter, inEdition, readValueBy, readValue, toSetBinding, toSetAvailability, toInsert, toUpdate, toRemove, toMove, operationAfter, readOperationBy, readOperation, toEnvelope, readEnvelope, toPatch, readPatch, readPatches}
+use Rattle.spec_patch.specs.Fits.{U64, U32, OptionalU64, OperationHolds, InRangeEnvelope, FitsTextBy, FitsText, StorableBy, Storable, FitsValueBy, FitsValue, FitsOperation, FitsPatch}
 use Rattle.spec_patch.specs.Codec.{Codec, if-read, nothing-codec, bytes-codec, number-codec, iso-codec, checked-codec, good-codec, followed-codec, pair-codec, many-codec, literal-codec, OnlyAfter, only-none, only-tag, back-after, tag-codec}
 
 -- ---- numbers
@@ -123,68 +123,75 @@ pub availability-codec : Codec availabilityBytes Any readAvailability
 unfolding readAvailability
 availability-codec = tag-codec availabilityAfter availabilityBytes Any availability-back availability-only
 
--- ---- values
+-- ---- values: whether texts are checked, or may be any bytes
 
-pub text-codec : Codec encodeText FitsText readText
-unfolding encodeText readText
-text-codec =
-    good-codec
-    (followed-codec (count-codec textBytes (lit< tt)) (λ l. l) (λ l. isUtf8 l ≡ true) length
-    (λ n. checked isUtf8 malformed (bytes n))
-    (λ n. good-codec (checked-codec (bytes-codec n) isUtf8 malformed) (λ l. (isUtf8 l ≡ true) × (length l ≡ n))
-    (λ l g. (g .1, g .0))
-    (λ l g. (g .1, g .0))))
-    FitsText
-    (λ t g. (g .short, g .utf8))
-    (λ t g. record { short = g .0; utf8 = g .1 })
+module _ (check : Bool) where
+  pub text-codec : Codec encodeText (FitsTextBy check) (readTextBy check)
+  unfolding encodeText readTextBy
+  text-codec =
+      good-codec
+      (followed-codec (count-codec textBytes (lit< tt)) (λ l. l) (λ l. allowed check l ≡ true) length
+      (λ n. checked (allowed check) malformed (bytes n))
+      (λ n. good-codec (checked-codec (bytes-codec n) (allowed check) malformed) (λ l. (allowed check l ≡ true) × (length l ≡ n))
+      (λ l g. (g .1, g .0))
+      (λ l g. (g .1, g .0))))
+      (FitsTextBy check)
+      (λ t g. (g .short, g .utf8))
+      (λ t g. record { short = g .0; utf8 = g .1 })
 
--- a value whose kind the edition has
-stored-back : (v : Value) → Storable v → (rest : List ℕ) → valueAfter (kindOf v) (valueBody v ++ rest) ≡ read v rest
-unfolding Storable kindOf valueBody valueAfter
-stored-back (quad q) g rest = back-after quad-codec quad q g rest
-stored-back (signed z) g rest = back-after i64-codec signed z g rest
-stored-back (text t) g rest = back-after text-codec text t g rest
-stored-back (unsigned n) g rest = back-after u64-codec unsigned n g rest
+  -- a value whose kind the edition has
+  stored-back : (v : Value) → StorableBy check v → (rest : List ℕ) → valueAfter check (kindOf v) (valueBody v ++ rest) ≡ read v rest
+  unfolding StorableBy kindOf valueBody valueAfter
+  stored-back (quad q) g rest = back-after quad-codec quad q g rest
+  stored-back (signed z) g rest = back-after i64-codec signed z g rest
+  stored-back (text t) g rest = back-after text-codec text t g rest
+  stored-back (unsigned n) g rest = back-after u64-codec unsigned n g rest
 
-stored-only : OnlyAfter encodeValue Storable valueAfter
-unfolding Storable encodeValue kindOf valueBody valueAfter
-stored-only =
-    only-tag quad-codec 1 quad encodeValue Storable _ (λ q g. g) (λ q. refl)
-    (only-tag i64-codec 2 signed encodeValue Storable _ (λ z g. g) (λ z. refl)
-    (only-tag text-codec 3 text encodeValue Storable _ (λ t g. g) (λ t. refl)
-    (only-tag u64-codec 4 unsigned encodeValue Storable _ (λ n g. g) (λ n. refl)
-    (only-none encodeValue Storable))))
+  stored-only : OnlyAfter encodeValue (StorableBy check) (valueAfter check)
+  unfolding StorableBy encodeValue kindOf valueBody valueAfter
+  stored-only =
+      only-tag quad-codec 1 quad encodeValue (StorableBy check) _ (λ q g. g) (λ q. refl)
+      (only-tag i64-codec 2 signed encodeValue (StorableBy check) _ (λ z g. g) (λ z. refl)
+      (only-tag text-codec 3 text encodeValue (StorableBy check) _ (λ t g. g) (λ t. refl)
+      (only-tag u64-codec 4 unsigned encodeValue (StorableBy check) _ (λ n g. g) (λ n. refl)
+      (only-none encodeValue (StorableBy check)))))
 
-value-back : (ed : Edition) (v : Value) → FitsValue ed v → (rest : List ℕ) → readValue ed (encodeValue v ++ rest) ≡ read v rest
-unfolding encodeValue readValue inEdition
-value-back ed v g rest = rw (g .kind) (stored-back v (g .storable) rest)
+module _ (check : Bool) (ed : Edition) where
+  value-back : (v : Value) → FitsValueBy check ed v → (rest : List ℕ) → readValueBy check ed (encodeValue v ++ rest) ≡ read v rest
+  unfolding encodeValue readValueBy inEdition
+  value-back v g rest = rw (g .kind) (stored-back check v (g .storable) rest)
 
-value-only : (ed : Edition) → OnlyAfter encodeValue (FitsValue ed) (inEdition ed valueAfter)
-unfolding inEdition encodeValue
-value-only ed t bs h v rest q =
-    let p = if-read (hasKind ed t) (valueAfter t bs) malformed v rest q in
-    let o = stored-only t bs h v rest (p .result) in
-    let k : t ≡ kindOf v = head-eq-of-cons-eq (o .1) in
-    (record { kind = ap (hasKind ed) (sym k) ∙ p .passed; storable = o .0 }, o .1)
+  value-only : OnlyAfter encodeValue (FitsValueBy check ed) (inEdition ed (valueAfter check))
+  unfolding inEdition encodeValue
+  value-only t bs h v rest q =
+      let p = if-read (hasKind ed t) (valueAfter check t bs) malformed v rest q in
+      let o = stored-only check t bs h v rest (p .result) in
+      let k : t ≡ kindOf v = head-eq-of-cons-eq (o .1) in
+      (record { kind = ap (hasKind ed) (sym k) ∙ p .passed; storable = o .0 }, o .1)
 
-pub value-codec : (ed : Edition) → Codec encodeValue (FitsValue ed) (readValue ed)
-unfolding readValue
-value-codec ed = tag-codec (inEdition ed valueAfter) encodeValue (FitsValue ed) (value-back ed) (value-only ed)
+  pub value-codec-by : Codec encodeValue (FitsValueBy check ed) (readValueBy check ed)
+  unfolding readValueBy
+  value-codec-by = tag-codec (inEdition ed (valueAfter check)) encodeValue (FitsValueBy check ed) value-back value-only
 
--- ---- operations: the fields of each kind, in order
+  -- ---- operations: the fields of each kind, in order
 
-module _ (ed : Edition) where
-  pub binding-fields : Codec (λ (t : ℕ × (ℕ × Value)). u64 (t .0) ++ (u32 (t .1 .0) ++ encodeValue (t .1 .1))) (λ (t : ℕ × (ℕ × Value)). U64 (t .0) × (U32 (t .1 .0) × FitsValue ed (t .1 .1))) (pair readU64 (pair readU32 (readValue ed)))
-  binding-fields = pair-codec u64-codec (pair-codec u32-codec (value-codec ed))
+  abbrev value : Codec encodeValue (FitsValueBy check ed) (readValueBy check ed)
+  value = value-codec-by
 
-  pub insert-fields : Codec (λ (t : ℕ × (ℕ × (Option ℕ × Value))). u64 (t .0) ++ (u64 (t .1 .0) ++ (encodeOptional (t .1 .1 .0) ++ encodeValue (t .1 .1 .1)))) (λ (t : ℕ × (ℕ × (Option ℕ × Value))). U64 (t .0) × (U64 (t .1 .0) × (OptionalU64 (t .1 .1 .0) × FitsValue ed (t .1 .1 .1)))) (pair readU64 (pair readU64 (pair readOptional (readValue ed))))
-  insert-fields = pair-codec u64-codec (pair-codec u64-codec (pair-codec optional-codec (value-codec ed)))
+  pub binding-fields : Codec (λ (t : ℕ × (ℕ × Value)). u64 (t .0) ++ (u32 (t .1 .0) ++ encodeValue (t .1 .1))) (λ (t : ℕ × (ℕ × Value)). U64 (t .0) × (U32 (t .1 .0) × FitsValueBy check ed (t .1 .1))) (pair readU64 (pair readU32 (readValueBy check ed)))
+  binding-fields = pair-codec u64-codec (pair-codec u32-codec value)
 
-  pub update-fields : Codec (λ (t : ℕ × (ℕ × Value)). u64 (t .0) ++ (u64 (t .1 .0) ++ encodeValue (t .1 .1))) (λ (t : ℕ × (ℕ × Value)). U64 (t .0) × (U64 (t .1 .0) × FitsValue ed (t .1 .1))) (pair readU64 (pair readU64 (readValue ed)))
-  update-fields = pair-codec u64-codec (pair-codec u64-codec (value-codec ed))
+  pub insert-fields : Codec (λ (t : ℕ × (ℕ × (Option ℕ × Value))). u64 (t .0) ++ (u64 (t .1 .0) ++ (encodeOptional (t .1 .1 .0) ++ encodeValue (t .1 .1 .1)))) (λ (t : ℕ × (ℕ × (Option ℕ × Value))). U64 (t .0) × (U64 (t .1 .0) × (OptionalU64 (t .1 .1 .0) × FitsValueBy check ed (t .1 .1 .1)))) (pair readU64 (pair readU64 (pair readOptional (readValueBy check ed))))
+  insert-fields = pair-codec u64-codec (pair-codec u64-codec (pair-codec optional-codec value))
 
-  operation-back : (o : Operation) → FitsOperation ed o → (rest : List ℕ) → readOperation ed (encodeOperation o ++ rest) ≡ read o rest
-  unfolding OperationHolds encodeOperation readOperation operationAfter
+  pub update-fields : Codec (λ (t : ℕ × (ℕ × Value)). u64 (t .0) ++ (u64 (t .1 .0) ++ encodeValue (t .1 .1))) (λ (t : ℕ × (ℕ × Value)). U64 (t .0) × (U64 (t .1 .0) × FitsValueBy check ed (t .1 .1))) (pair readU64 (pair readU64 (readValueBy check ed)))
+  update-fields = pair-codec u64-codec (pair-codec u64-codec value)
+
+  abbrev Good : Operation → Type 0
+  Good = OperationHolds (FitsValueBy check ed)
+
+  operation-back : (o : Operation) → Good o → (rest : List ℕ) → readOperationBy check ed (encodeOperation o ++ rest) ≡ read o rest
+  unfolding OperationHolds encodeOperation readOperationBy operationAfter
   operation-back (setBinding n s v) g rest = back-after binding-fields toSetBinding (n, (s, v)) g rest
   operation-back (setAvailability n a) g rest = back-after (pair-codec u64-codec availability-codec) toSetAvailability (n, a) (g, tt) rest
   operation-back (insert c k b v) g rest = back-after insert-fields toInsert (c, (k, (b, v))) g rest
@@ -192,20 +199,57 @@ module _ (ed : Edition) where
   operation-back (remove c k) g rest = back-after (pair-codec u64-codec u64-codec) toRemove (c, k) g rest
   operation-back (move c k b) g rest = back-after (pair-codec u64-codec (pair-codec u64-codec optional-codec)) toMove (c, (k, b)) g rest
 
-  operation-only : OnlyAfter encodeOperation (FitsOperation ed) (operationAfter ed)
+  operation-only : OnlyAfter encodeOperation Good (operationAfter check ed)
   unfolding OperationHolds encodeOperation operationAfter
   operation-only =
-      only-tag binding-fields 1 toSetBinding encodeOperation (FitsOperation ed) _ (λ t g. g) (λ t. refl)
-      (only-tag (pair-codec u64-codec availability-codec) 2 toSetAvailability encodeOperation (FitsOperation ed) _ (λ t g. g .0) (λ t. refl)
-      (only-tag insert-fields 3 toInsert encodeOperation (FitsOperation ed) _ (λ t g. g) (λ t. refl)
-      (only-tag update-fields 4 toUpdate encodeOperation (FitsOperation ed) _ (λ t g. g) (λ t. refl)
-      (only-tag (pair-codec u64-codec u64-codec) 5 toRemove encodeOperation (FitsOperation ed) _ (λ t g. g) (λ t. refl)
-      (only-tag (pair-codec u64-codec (pair-codec u64-codec optional-codec)) 6 toMove encodeOperation (FitsOperation ed) _ (λ t g. g) (λ t. refl)
-      (only-none encodeOperation (FitsOperation ed)))))))
+      only-tag binding-fields 1 toSetBinding encodeOperation Good _ (λ t g. g) (λ t. refl)
+      (only-tag (pair-codec u64-codec availability-codec) 2 toSetAvailability encodeOperation Good _ (λ t g. g .0) (λ t. refl)
+      (only-tag insert-fields 3 toInsert encodeOperation Good _ (λ t g. g) (λ t. refl)
+      (only-tag update-fields 4 toUpdate encodeOperation Good _ (λ t g. g) (λ t. refl)
+      (only-tag (pair-codec u64-codec u64-codec) 5 toRemove encodeOperation Good _ (λ t g. g) (λ t. refl)
+      (only-tag (pair-codec u64-codec (pair-codec u64-codec optional-codec)) 6 toMove encodeOperation Good _ (λ t g. g) (λ t. refl)
+      (only-none encodeOperation Good))))))
 
-  pub operation-codec : Codec encodeOperation (FitsOperation ed) (readOperation ed)
-  unfolding readOperation
-  operation-codec = tag-codec (operationAfter ed) encodeOperation (FitsOperation ed) operation-back operation-only
+  pub operation-codec-by : Codec encodeOperation Good (readOperationBy check ed)
+  unfolding readOperationBy
+  operation-codec-by = tag-codec (operationAfter check ed) encodeOperation Good operation-back operation-only
+
+-- texts are checked
+pub value-codec : (ed : Edition) → Codec encodeValue (FitsValue ed) (readValue ed)
+value-codec ed = value-codec-by true ed
+
+pub operation-codec : (ed : Edition) → Codec encodeOperation (FitsOperation ed) (readOperation ed)
+operation-codec ed = operation-codec-by true ed
+
+-- ---- what fits with checked texts fits with any
+
+text-any : (check : Bool) (t : List ℕ) → FitsText t → FitsTextBy check t
+text-any true t h = h
+text-any false t h = record { short = h .short; utf8 = refl }
+
+pub storable-any : (check : Bool) (v : Value) → Storable v → StorableBy check v
+unfolding StorableBy
+storable-any check (quad q) h = h
+storable-any check (signed z) h = h
+storable-any check (text t) h = text-any check t h
+storable-any check (unsigned n) h = h
+
+module _ (check : Bool) (ed : Edition) where
+  pub value-any : (v : Value) → FitsValue ed v → FitsValueBy check ed v
+  value-any v h = record { kind = h .kind; storable = storable-any check v (h .storable) }
+
+  pub operation-any : (o : Operation) → FitsOperation ed o → OperationHolds (FitsValueBy check ed) o
+  unfolding OperationHolds
+  operation-any (setBinding n s v) h = (h .0, (h .1 .0, value-any v (h .1 .1)))
+  operation-any (setAvailability n a) h = h
+  operation-any (insert c k b v) h = (h .0, (h .1 .0, (h .1 .1 .0, value-any v (h .1 .1 .1))))
+  operation-any (update c k v) h = (h .0, (h .1 .0, value-any v (h .1 .1)))
+  operation-any (remove c k) h = h
+  operation-any (move c k b) h = h
+
+  -- so an operation that fits is read whether its text is checked or not
+  pub reads-operation : (o : Operation) → FitsOperation ed o → (rest : List ℕ) → readOperationBy check ed (encodeOperation o ++ rest) ≡ read o rest
+  reads-operation o h rest = operation-codec-by check ed .back o (operation-any o h) rest
 
 -- ---- patches and sets
 

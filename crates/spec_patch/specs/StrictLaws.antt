@@ -15,9 +15,9 @@ use Rattle.spec_patch.specs.Sizes.{setBytes, setPatches, patchOperations
 use Rattle.spec_patch.specs.Patch.{Value, quad, signed, text, unsigned, Operation, setBinding, setAvailability, insert, update, remove, move, Patch}
 use Rattle.spec_patch.specs.Edition.{Edition, hasKind}
 use Rattle.spec_patch.specs.Encode.{u32, u64, encodeOptional, encodeText, kindOf, valueBody, encodeValue, encodeOperation, encodeEnvelope, encodeCounted, encodePatch, heading, encode}
-use Rattle.spec_patch.specs.Fits.{U64, U32, OptionalU64, InRangeValue, OperationHolds, InRangeEnvelope, InRangePatch, InRange, FitsText, Storable, FitsValue, FitsOperation, FitsPatch, Fits}
+use Rattle.spec_patch.specs.Fits.{U64, U32, OptionalU64, InRangeValue, OperationHolds, InRangeEnvelope, InRangePatch, InRange, FitsText, Storable, StorableBy, FitsValue, FitsOperation, FitsPatch, Fits}
 use Rattle.spec_patch.specs.Reader.{malformed, overCapacity, Result, read, refused, Reader, onward, pair, checked, many, bytes, literal}
-use Rattle.spec_patch.specs.Read.{readU64, readU32, readOptional, readCount, readCounted, readText, valueAfter, inEdition, readValue, operationAfter, readOperation, readEnvelope, readPatch, readPatches, patches, fault, ended, readSet}
+use Rattle.spec_patch.specs.Read.{readU64, readU32, readOptional, readCount, readCounted, readTextBy, readText, valueAfter, inEdition, readValueBy, readValue, operationAfter, readOperationBy, readOperation, readEnvelope, readPatch, readPatches, patches, fault, ended, readSet}
 use Rattle.spec_patch.specs.Codec.{Codec}
 use Rattle.spec_patch.specs.ReadLaws.{u64-codec, u32-codec, optional-codec, count-codec, operation-codec, envelope-codec, patch-codec}
 use Rattle.spec_patch.specs.Codec.{bytes-codec, literal-codec}
@@ -96,7 +96,7 @@ module _ {A : Type 0} (e : A → List ℕ) (Range Good : A → Type 0) (p : Read
 -- ---- values
 
 text-strict : (t : List ℕ) → length (encodeText t) < 2 ^ 32 → (rest : List ℕ) → Succeeds (readText (encodeText t ++ rest)) → FitsText t
-unfolding encodeText readText Succeeds
+unfolding encodeText readTextBy Succeeds
 text-strict t k rest s =
     let long = length-append (u32 (length t)) t in
     let s₁ = rw (append-assoc (u32 (length t)) t rest) at s in
@@ -113,19 +113,29 @@ unfolding Succeeds
 kind-strict true r s = (refl, s)
 kind-strict false r s = absurd s
 
-stored-strict : (v : Value) → InRangeValue v → length (encodeValue v) < 2 ^ 32 → (rest : List ℕ) → Succeeds (valueAfter (kindOf v) (valueBody v ++ rest)) → Storable v
-unfolding InRangeValue Storable kindOf valueBody encodeValue valueAfter
+stored-strict : (v : Value) → InRangeValue v → length (encodeValue v) < 2 ^ 32 → (rest : List ℕ) → Succeeds (valueAfter true (kindOf v) (valueBody v ++ rest)) → Storable v
+unfolding InRangeValue StorableBy kindOf valueBody encodeValue valueAfter
 stored-strict (quad q) r k rest s = tt
 stored-strict (signed z) r k rest s = r
 stored-strict (text t) r k rest s = text-strict t (omega arith) rest (first (readText (encodeText t ++ rest)) _ s)
 stored-strict (unsigned x) r k rest s = r
 
+-- an operation takes a byte or more
+pub operation-some : (o : Operation) → 0 < length (encodeOperation o)
+unfolding encodeOperation
+operation-some (setBinding n s v) = omega arith
+operation-some (setAvailability n a) = omega arith
+operation-some (insert c y b v) = omega arith
+operation-some (update c y v) = omega arith
+operation-some (remove c y) = omega arith
+operation-some (move c y b) = omega arith
+
 module _ (ed : Edition) where
   value-strict : Strict encodeValue InRangeValue (FitsValue ed) (readValue ed)
-  unfolding encodeValue readValue inEdition
+  unfolding encodeValue readValueBy inEdition
   value-strict = record {
     good = λ v r k rest s.
-        let h = kind-strict (hasKind ed (kindOf v)) (valueAfter (kindOf v) (valueBody v ++ rest)) s in
+        let h = kind-strict (hasKind ed (kindOf v)) (valueAfter true (kindOf v) (valueBody v ++ rest)) s in
         record { kind = h .0; storable = stored-strict v r k rest (h .1) };
   }
 
@@ -135,7 +145,7 @@ module _ (ed : Edition) where
   u64-strict = same-strict u64 U64 readU64
 
   operation-good : (o : Operation) → OperationHolds InRangeValue o → length (encodeOperation o) < 2 ^ 32 → (rest : List ℕ) → Succeeds (readOperation ed (encodeOperation o ++ rest)) → FitsOperation ed o
-  unfolding OperationHolds encodeOperation readOperation operationAfter
+  unfolding OperationHolds encodeOperation readOperationBy operationAfter
   operation-good (setBinding n x v) r k rest s =
       pair-strict u64-codec u64-strict (pair-strict u32-codec (same-strict u32 U32 readU32) value-strict) .good (n, (x, v)) r (omega arith) rest (first _ _ s)
   operation-good (setAvailability n a) r k rest s = r
@@ -148,15 +158,6 @@ module _ (ed : Edition) where
 
   operation-strict : Strict encodeOperation (OperationHolds InRangeValue) (FitsOperation ed) (readOperation ed)
   operation-strict = record { good = operation-good }
-
-  operation-some : (o : Operation) → 0 < length (encodeOperation o)
-  unfolding encodeOperation
-  operation-some (setBinding n s v) = omega arith
-  operation-some (setAvailability n a) = omega arith
-  operation-some (insert c y b v) = omega arith
-  operation-some (update c y v) = omega arith
-  operation-some (remove c y) = omega arith
-  operation-some (move c y b) = omega arith
 
   -- ---- patches and sets
 

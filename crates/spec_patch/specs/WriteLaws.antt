@@ -14,7 +14,7 @@ use Rattle.spec_patch.specs.Sizes.{setBytes, setPatches, patchOperations
 use Rattle.spec_patch.specs.Patch.{Value, quad, signed, text, unsigned, Operation, setBinding, setAvailability, insert, update, remove, move, Patch}
 use Rattle.spec_patch.specs.Edition.{Edition, hasKind}
 use Rattle.spec_patch.specs.Encode.{kindOf, encode}
-use Rattle.spec_patch.specs.Fits.{InRangeValue, OperationHolds, InRangePatch, InRange, Storable, FitsValue, FitsOperation, FitsPatch, Fits}
+use Rattle.spec_patch.specs.Fits.{InRangeValue, OperationHolds, InRangePatch, InRange, Storable, StorableBy, FitsValue, FitsOperation, FitsPatch, Fits}
 use Rattle.spec_patch.specs.Read.{patches, readSet}
 use Rattle.spec_patch.specs.Write.{WriteRefusal, overCapacity, malformed, outputTooShort, valuePasses, allValues, shortEnough, withinCapacities, allowedText, wellFormed, wrote, refused, write}
 use Rattle.spec_patch.specs.SetLaws.{reads-back}
@@ -59,21 +59,21 @@ abbrev Short : Value → Type 0
 Short v = InRangeValue v × (shortEnough v ≡ true)
 
 storable : (v : Value) → Short v → allowedText v ≡ true → Storable v
-unfolding InRangeValue shortEnough allowedText Storable
+unfolding InRangeValue shortEnough allowedText StorableBy
 storable (quad q) h e = tt
 storable (signed z) h e = h .0
 storable (text t) h e = record { short = leb-true (length t) textBytes (h .1); utf8 = e }
 storable (unsigned x) h e = h .0
 
 storable-short : (v : Value) → Storable v → (shortEnough v ≡ true) × (allowedText v ≡ true)
-unfolding shortEnough allowedText Storable
+unfolding shortEnough allowedText StorableBy
 storable-short (quad q) h = (refl, refl)
 storable-short (signed z) h = (refl, refl)
 storable-short (text t) h = (le-leb (length t) textBytes (h .short), h .utf8)
 storable-short (unsigned x) h = (refl, refl)
 
 pub storable-in-range : (v : Value) → Storable v → InRangeValue v
-unfolding InRangeValue Storable
+unfolding InRangeValue StorableBy
 storable-in-range (quad q) h = tt
 storable-in-range (signed z) h = h
 storable-in-range (text t) h = tt

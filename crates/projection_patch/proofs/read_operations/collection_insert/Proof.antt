@@ -1,6 +1,7 @@
 -- `projection_patch::read_operations::collection_insert` meets its contract: a collection, a key, a neighbour, then a value.
 use Prim.Native.Nat.{ℕ}
 use mathlib.Core.Path.{sym, ap}
+use mathlib.Core.Bool.{Bool}
 use mathlib.Core.List.{List}
 use lib.ListN.{length}
 use Rattle.spec_lists.specs.Bytes.{Bytes}
@@ -8,7 +9,7 @@ use Rattle.spec_lists.specs.BytesLaws.{bytes-of}
 use Rattle.spec_patch.specs.Edition.{v1}
 use Rattle.projection_patch.specs.ReadAnswers.{operationAnswer}
 use Rattle.spec_patch.specs.Reader.{pair}
-use Rattle.spec_patch.specs.Read.{readOptional, readValue, toInsert, operationAfter}
+use Rattle.spec_patch.specs.Read.{readOptional, readValueBy, toInsert, operationAfter}
 use Rattle.projection_patch.specs.ReadAnswers.{anywhere, optionalTo}
 use Rattle.projection_patch.proofs.Answers.{Got, optional-got, no-optional, value-got, no-value}
 use Rattle.projection_patch.proofs.Places.{PlaceAt, place-at, no-place, before-is}
@@ -18,6 +19,9 @@ use Rattle.projection_patch.proofs.read_operations.collection_insert.Ti
 
 abbrev part : tie.After-place → List ℕ
 part c = c .before .before .args .part .now
+
+abbrev strict : tie.After-place → Bool
+strict c = c .before .before .args .strict
 
 all-bytes : (c : tie.After-place) → Bytes (part c)
 all-bytes c = bytes-of (part c) (λ j. c .before .shared-slice-known .given j .fits)
@@ -53,7 +57,7 @@ returns : tie.Need-returns
 unfolding operationAfter
 returns c =
     let call = c .before .before in
-    ap (operationAnswer (length (part call))) (sym (no-place (part call) (call .place .result) (call .place .ensures) (pair readOptional (readValue v1)) toInsert (c .enum-told .given .1)))
+    ap (operationAnswer (length (part call))) (sym (no-place (part call) (call .place .result) (call .place .ensures) (pair readOptional (readValueBy (strict call) v1)) toInsert (c .enum-told .given .1)))
 
 optional-at-requires : tie.Need-optional-at-requires
 optional-at-requires c κs = search needs
@@ -84,7 +88,7 @@ returns-2 c =
     let k = call .before in
     let p = here (k .before .before .before .before) in
     let b = neighbour k in
-    let v = value-got (part (start k)) (body k) (call .value-at .result) (call .value-at .ensures) (all-bytes (start k)) (bound .0 .0) (bound .0 .1 .0) (bound .1) in
+    let v = value-got (part (start k)) (body k) (strict (start k)) v1 (call .value-at .result) (call .value-at .ensures) (all-bytes (start k)) (bound .0 .0) (bound .0 .1 .0) (bound .1) in
     rw (p .numbers .first, p .numbers .second, b .is, v .is, v .there, v .same, p .node, p .in-it, before-is (k .before .neighbour .given .0 .0) (b .a) (b .same) (c .key-of .result) (c .key-of .ensures))
 
 returns-3 : tie.Need-returns-3
@@ -94,7 +98,7 @@ returns-3 c =
     let k = call .before in
     let p = here (k .before .before .before .before) in
     let bound = c .before .fault .given in
-    let v = no-value (part (start k)) (body k) (call .value-at .result) (call .value-at .ensures) (bound .0 .0) (bound .1) in
+    let v = no-value (part (start k)) (body k) (strict (start k)) v1 (call .value-at .result) (call .value-at .ensures) (bound .0 .0) (bound .1) in
     rw (p .numbers .first, p .numbers .second, neighbour k .is, v .is, v .same)
 
 returns-4 : tie.Need-returns-4

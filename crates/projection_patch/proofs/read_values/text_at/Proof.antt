@@ -6,7 +6,7 @@ use native.Mathlib.Omega.{arith}
 use Rattle.spec_lists.specs.Bytes.{Bytes}
 use Rattle.spec_lists.specs.BytesLaws.{bytes-of}
 use Rattle.spec_patch.specs.Sizes.{textBytes}
-use Rattle.spec_patch.specs.Read.{readCount, readText}
+use Rattle.spec_patch.specs.Read.{readCount, readTextBy}
 use Rattle.projection_patch.specs.ReadAnswers.{anywhere}
 use Rattle.projection_patch.proofs.Answers.{Got, text-count-got, no-text-count}
 use borrow.Author.Needs.{needs}
@@ -41,13 +41,13 @@ enum-known-fault : tie.Need-enum-known-fault
 enum-known-fault c = search needs
 
 returns : tie.Need-returns
-unfolding readText
+unfolding readTextBy
 returns c =
     let g = count (c .before) in
     c .text-from .ensures ∙ rw (g .is, g .same)
 
 returns-2 : tie.Need-returns-2
-unfolding readText
+unfolding readTextBy
 returns-2 c =
     let call = c .before .before .before in
     let bound = c .before .fault .given in

@@ -1,6 +1,7 @@
 -- `projection_patch::read_values::value_at` meets its contract: the kind picks the reader, and the edition has kinds 1 to 4.
 use Prim.Native.Nat.{ℕ, _+_}
 use mathlib.Core.Path.{_≡_, refl, sym, ap, _∙_}
+use mathlib.Core.Bool.{Bool}
 use mathlib.Core.List.{List}
 use native.Mathlib.Omega.{arith}
 use borrow.Author.Tests.{ne-eqb}
@@ -8,7 +9,7 @@ use lib.ListN.{length, getD, drop}
 use Rattle.spec_patch.specs.Edition.{v1, hasKind}
 use Rattle.spec_patch.specs.Reader.{Reader, refused, malformed}
 use Rattle.spec_patch.specs.Patch.{Value}
-use Rattle.spec_patch.specs.Read.{valueAfter, inEdition, readValue}
+use Rattle.spec_patch.specs.Read.{valueAfter, inEdition, readValueBy}
 use Rattle.projection_patch.specs.ReadAnswers.{valueAnswer}
 use Rattle.projection_patch.proofs.Answers.{picked, no-tag}
 use borrow.Author.Needs.{needs}
@@ -21,23 +22,26 @@ part c = c .before .before .before .args .part .now
 abbrev at : tie.After-shared-slice-known2 → ℕ
 at c = c .before .before .before .args .at
 
-abbrev after : ℕ → Reader Value
-after = inEdition v1 valueAfter
+abbrev strict : tie.After-shared-slice-known2 → Bool
+strict c = c .before .before .before .args .strict
+
+abbrev after : Bool → ℕ → Reader Value
+after check = inEdition v1 (valueAfter check)
 
 -- the answer of the reader after the kind t is the whole's
-tagged : (c : tie.After-shared-slice-known2) (t : ℕ) → getD (part c) (at c) 0 ≡ t → valueAnswer (length (part c)) (after t (drop (at c + 1) (part c))) ≡ valueAnswer (length (part c)) (readValue v1 (drop (at c) (part c)))
-unfolding readValue
-tagged c t e = picked after (part c) (at c) (valueAnswer (length (part c))) t (omega arith) e
+tagged : (c : tie.After-shared-slice-known2) (t : ℕ) → getD (part c) (at c) 0 ≡ t → valueAnswer (length (part c)) (after (strict c) t (drop (at c + 1) (part c))) ≡ valueAnswer (length (part c)) (readValueBy (strict c) v1 (drop (at c) (part c)))
+unfolding readValueBy
+tagged c t e = picked (after (strict c)) (part c) (at c) (valueAnswer (length (part c))) t (omega arith) e
 
-other : (t : ℕ) (bs : List ℕ) → (t ≡ 1 → ⊥) → (t ≡ 2 → ⊥) → (t ≡ 3 → ⊥) → (t ≡ 4 → ⊥) → after t bs ≡ refused malformed
+other : (check : Bool) (t : ℕ) (bs : List ℕ) → (t ≡ 1 → ⊥) → (t ≡ 2 → ⊥) → (t ≡ 3 → ⊥) → (t ≡ 4 → ⊥) → after check t bs ≡ refused malformed
 unfolding inEdition hasKind v1
-other t bs a b c d = rw (ne-eqb t 1 a, ne-eqb t 2 b, ne-eqb t 3 c, ne-eqb t 4 d)
+other check t bs a b c d = rw (ne-eqb t 1 a, ne-eqb t 2 b, ne-eqb t 3 c, ne-eqb t 4 d)
 
 returns : tie.Need-returns
-unfolding readValue
+unfolding readValueBy
 returns c =
     let a = c .before .before .args in
-    rw (no-tag after (a .part .now) (a .at) (c .if1 .taken))
+    rw (no-tag (after (a .strict)) (a .part .now) (a .at) (c .if1 .taken))
 
 shared-slice-read-tag : tie.Need-shared-slice-read-tag
 shared-slice-read-tag c = search needs
@@ -77,7 +81,7 @@ returns-6 : tie.Need-returns-6
 returns-6 c =
     let k = c .before in
     let none = c .match .rest in
-    ap (valueAnswer (length (part k))) (sym (other (getD (part k) (at k) 0) (drop (at k + 1) (part k)) (none .0 .0 .0 .1) (none .0 .0 .1) (none .0 .1) (none .1)))
+    ap (valueAnswer (length (part k))) (sym (other (strict k) (getD (part k) (at k) 0) (drop (at k + 1) (part k)) (none .0 .0 .0 .1) (none .0 .0 .1) (none .0 .1) (none .1)))
     ∙ tagged k (getD (part k) (at k) 0) refl
 
 pub value-at-spec : {M : Type 1} → statement M
