@@ -12,3 +12,5 @@ pub mod PlanRowsLaws
 pub mod NumberedRows
 pub mod NumberedRowsLaws
 pub mod WrittenLaws
+pub mod Sources
+pub mod SourcesLaws
