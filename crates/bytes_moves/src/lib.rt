@@ -46,7 +46,7 @@ fn shift_down(s: &mut [u8], by: usize)
 }
 
 // Sets every byte of s to 0.
-fn clear(s: &mut [u8])
+pub fn clear(s: &mut [u8])
     ensures { λ _. ⌜ now (s .exit) ≡ zeros (length (now (s .entry))) ⌝ }
 {
     let mut i = 0;

@@ -14,8 +14,8 @@ use Rattle.spec_projection.specs.Projection.{Binding, NodeAvailability, Entry}
 use Rattle.spec_projection.specs.Valid.{FitsBinding, FitsNodeAvailability, FitsEntry}
 use Rattle.bytes_wire.specs.Read.{firstNumber}
 use Rattle.bytes_wire.specs.ReadLaws.{first-of-littleEndian}
-use Rattle.local_projection_state.specs.Rows.{padded, bindingRow, availabilityRow, entryRow}
-use Rattle.local_projection_state.specs.RowsLaws.{binding-behind, entry-behind}
+use Rattle.panel_rows.specs.Rows.{padded, bindingRow, availabilityRow, entryRow}
+use Rattle.panel_rows.specs.RowsLaws.{binding-behind, entry-behind}
 
 -- ---- what a read answers
 

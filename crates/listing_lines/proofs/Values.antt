@@ -10,8 +10,8 @@ use Rattle.spec_patch.specs.Patch.{Value, quad, signed, text, unsigned}
 use Rattle.spec_decimal.specs.Decimal.{decimal, signedDecimal}
 use Rattle.spec_listing.specs.Listing.{valueFields}
 use Rattle.bytes_moves.specs.Moves.{zeros}
-use Rattle.panel_values.specs.Lookup.{foundValue}
-use Rattle.panel_values.specs.declared.ValueLookup.{ValueLookup}
+use Rattle.panel_rows.specs.Lookup.{foundValue}
+use Rattle.panel_rows.specs.declared.values.ValueLookup.{ValueLookup}
 
 abbrev kind : ValueLookup → ℕ
 kind l = l .kind

@@ -11,13 +11,13 @@ ghost use Rattle.spec_decimal.specs.Decimal.{decimal, signedDecimal};
 ghost use Rattle.spec_listing.specs.Listing.{fields, valueFields, bindingLine, availabilityLine, entryLine};
 ghost use Rattle.bytes_wire.specs.Read.{firstNumber};
 ghost use Rattle.bytes_printer.specs.Prints.{Prints};
-ghost use Rattle.local_projection_state.specs.Rows.{bindingRow, availabilityRow, entryRow};
-ghost use Rattle.panel_values.specs.Lookup.{foundValue};
+ghost use Rattle.panel_rows.specs.Rows.{bindingRow, availabilityRow, entryRow};
+ghost use Rattle.panel_rows.specs.Lookup.{foundValue};
 use bytes_decimal::Printed;
 use bytes_wire::ReadU8;
 use bytes_wire::ReadU32;
 use bytes_wire::ReadU64;
-use panel_values::ValueLookup;
+use panel_rows::values::ValueLookup;
 use projection_patch::patch::ProjectionPatchValue;
 
 // The number of eight bytes that stands in a row from index at on, or 0 where the row is too short.
@@ -131,7 +131,7 @@ pub fn print_binding(out: &mut [u8], at: Printed, row: &[u8]) -> Printed
 {
     let node = long_number(row, 0);
     let slot = short_number(row, 8);
-    let value = panel_values::stored_value(row, 12);
+    let value = panel_rows::values::stored_value(row, 12);
     print_record(out, at, 66, node, slot, value)
 }
 
@@ -153,6 +153,6 @@ pub fn print_entry(out: &mut [u8], at: Printed, row: &[u8]) -> Printed
 {
     let collection = long_number(row, 0);
     let key = long_number(row, 8);
-    let value = panel_values::stored_value(row, 16);
+    let value = panel_rows::values::stored_value(row, 16);
     print_record(out, at, 67, collection, key, value)
 }

@@ -9,7 +9,7 @@ ghost use Rattle.spec_projection.specs.Valid.{FitsBinding, FitsNodeAvailability
 ghost use Rattle.spec_listing.specs.Listing.{bindingLine, availabilityLine, entryLine, projectionLines};
 ghost use Rattle.bytes_records.specs.Table.{Holds};
 ghost use Rattle.bytes_printer.specs.Prints.{Prints, Within};
-ghost use Rattle.local_projection_state.specs.Rows.{bindingWidth, availabilityWidth, entryWidth, bindingRow, availabilityRow, entryRow};
+ghost use Rattle.panel_rows.specs.Rows.{bindingWidth, availabilityWidth, entryWidth, bindingRow, availabilityRow, entryRow};
 ghost use Rattle.local_projection_state.specs.Stores.{Stores};
 use bytes_decimal::Printed;
 use local_projection_state::LocalProjectionState;
@@ -28,13 +28,13 @@ fn print_bindings(out: &mut [u8], from: Printed, table: &[u8], count: usize) -> 
     ensures { λ r. ⌜ ((xs : List Binding) → All FitsBinding xs → Holds bindingWidth count (now (table .entry)) (map bindingRow xs) → Within (now (out .entry)) from
         → Prints (now (out .entry)) from (flatMap bindingLine xs) (now (out .exit)) r) ⌝ }
 {
-    if table.len() / LocalProjectionState::BINDING_WIDTH < count {
+    if table.len() / panel_rows::BINDING_WIDTH < count {
         return Printed::NoRoom;
     }
     let mut at = from;
     let mut i: usize = 0;
     while i < count {
-        let row = bytes_records::record_at(table, LocalProjectionState::BINDING_WIDTH, count, i);
+        let row = bytes_records::record_at(table, panel_rows::BINDING_WIDTH, count, i);
         at = listing_lines::print_binding(out, at, row);
         i += 1;
     }
@@ -45,18 +45,13 @@ fn print_availabilities(out: &mut [u8], from: Printed, table: &[u8], count: usiz
     ensures { λ r. ⌜ ((xs : List NodeAvailability) → All FitsNodeAvailability xs → Holds availabilityWidth count (now (table .entry)) (map availabilityRow xs)
         → Within (now (out .entry)) from → Prints (now (out .entry)) from (flatMap availabilityLine xs) (now (out .exit)) r) ⌝ }
 {
-    if table.len() / LocalProjectionState::AVAILABILITY_WIDTH < count {
+    if table.len() / panel_rows::AVAILABILITY_WIDTH < count {
         return Printed::NoRoom;
     }
     let mut at = from;
     let mut i: usize = 0;
     while i < count {
-        let row = bytes_records::record_at(
-            table,
-            LocalProjectionState::AVAILABILITY_WIDTH,
-            count,
-            i,
-        );
+        let row = bytes_records::record_at(table, panel_rows::AVAILABILITY_WIDTH, count, i);
         at = listing_lines::print_availability(out, at, row);
         i += 1;
     }
@@ -67,13 +62,13 @@ fn print_entries(out: &mut [u8], from: Printed, table: &[u8], count: usize) -> P
     ensures { λ r. ⌜ ((xs : List Entry) → All FitsEntry xs → Holds entryWidth count (now (table .entry)) (map entryRow xs) → Within (now (out .entry)) from
         → Prints (now (out .entry)) from (flatMap entryLine xs) (now (out .exit)) r) ⌝ }
 {
-    if table.len() / LocalProjectionState::ENTRY_WIDTH < count {
+    if table.len() / panel_rows::ENTRY_WIDTH < count {
         return Printed::NoRoom;
     }
     let mut at = from;
     let mut i: usize = 0;
     while i < count {
-        let row = bytes_records::record_at(table, LocalProjectionState::ENTRY_WIDTH, count, i);
+        let row = bytes_records::record_at(table, panel_rows::ENTRY_WIDTH, count, i);
         at = listing_lines::print_entry(out, at, row);
         i += 1;
     }

@@ -1,4 +1,2 @@
-pub mod Rows
-pub mod RowsLaws
 pub mod Stores
 pub mod StoresLaws

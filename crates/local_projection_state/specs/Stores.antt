@@ -7,7 +7,7 @@ use Rattle.spec_patch.specs.Sizes.{projectionBindings, projectionAvailabilities
 use Rattle.spec_projection.specs.Projection.{Projection}
 use Rattle.spec_projection.specs.Valid.{Valid}
 use Rattle.bytes_records.specs.Table.{tableBytes, Holds}
-use Rattle.local_projection_state.specs.Rows.{bindingWidth, availabilityWidth, entryWidth, bindingRow, availabilityRow, entryRow}
+use Rattle.panel_rows.specs.Rows.{bindingWidth, availabilityWidth, entryWidth, bindingBytes, availabilityBytes, entryBytes, bindingRow, availabilityRow, entryRow}
 use Rattle.local_projection_state.specs.declared.LocalProjectionState.{LocalProjectionState}
 use Rattle.local_projection_state.specs.declared.ProjectionCounts.{ProjectionCounts}
 
@@ -35,7 +35,7 @@ countsOf p = record { bindings = length (p .bindings); availabilities = length (
 unfoldable pub stateOf : Projection → LocalProjectionState
 stateOf p = record {
   counts = countsOf p;
-  bindings = tableBytes (projectionBindings * bindingWidth) (map bindingRow (p .bindings));
-  availability = tableBytes (projectionAvailabilities * availabilityWidth) (map availabilityRow (p .availabilities));
-  entries = tableBytes (projectionEntries * entryWidth) (map entryRow (p .entries));
+  bindings = tableBytes bindingBytes (map bindingRow (p .bindings));
+  availability = tableBytes availabilityBytes (map availabilityRow (p .availabilities));
+  entries = tableBytes entryBytes (map entryRow (p .entries));
 }

@@ -13,8 +13,8 @@ use Rattle.spec_projection.specs.ValidLaws.{empty-valid}
 use Rattle.bytes_moves.specs.Moves.{zeros}
 use Rattle.bytes_records.specs.Table.{Wide, tableBytes, Holds}
 use Rattle.bytes_records.specs.TableLaws.{length-flatten, holds, holds-none, holds-unique, holds-bytes}
-use Rattle.local_projection_state.specs.Rows.{bindingWidth, availabilityWidth, entryWidth, bindingRow, availabilityRow, entryRow}
-use Rattle.local_projection_state.specs.RowsLaws.{binding-wide, availability-wide, entry-wide, binding-tells, availability-tells, entry-tells}
+use Rattle.panel_rows.specs.Rows.{bindingWidth, availabilityWidth, entryWidth, bindingBytes, availabilityBytes, entryBytes, bindingRow, availabilityRow, entryRow}
+use Rattle.panel_rows.specs.RowsLaws.{binding-wide, availability-wide, entry-wide, binding-tells, availability-tells, entry-tells}
 use Rattle.local_projection_state.specs.Stores.{Stored, StoredTables, Stores, stateOf}
 use Rattle.local_projection_state.specs.declared.LocalProjectionState.{LocalProjectionState}
 
@@ -106,7 +106,7 @@ none-stored : {A : Type 0} (row : A → List ℕ) (width capacity : ℕ) → Sto
 none-stored row width capacity = record { size = length-replicate (capacity * width) 0; rows = holds-none width (capacity * width) }
 
 pub empty-stored : StoredTables (record { bindings = 0; availabilities = 0; entries = 0 })
-    (zeros (projectionBindings * bindingWidth)) (zeros (projectionAvailabilities * availabilityWidth)) (zeros (projectionEntries * entryWidth)) empty
+    (zeros bindingBytes) (zeros availabilityBytes) (zeros entryBytes) empty
 unfolding empty
 empty-stored = record {
   bindings = none-stored bindingRow bindingWidth projectionBindings;

@@ -1,7 +1,6 @@
 // What a session stores of a panel: three tables of fixed-width rows. After crates/prom-ui/src/local_projection_state.rs.
 ghost use Rattle.spec_projection.specs.Projection.{empty};
 ghost use Rattle.local_projection_state.specs.Stores.{Stores};
-use projection_patch::patch::ProjectionPatchValue;
 
 // How many rows of each table are used.
 pub struct ProjectionCounts {
@@ -26,23 +25,13 @@ impl LocalProjectionState {
 
     pub const ENTRIES: usize = 128;
 
-    // A value's canonical bytes: a kind, a length and the longest text.
-    pub const VALUE_WIDTH: usize = 5 + ProjectionPatchValue::TEXT_BYTES;
-    // A node, a slot and a value; a node and its availability; a collection, a key and a value.
-    pub const BINDING_WIDTH: usize = 12 + LocalProjectionState::VALUE_WIDTH;
-
-    pub const AVAILABILITY_WIDTH: usize = 9;
-
-    pub const ENTRY_WIDTH: usize = 16 + LocalProjectionState::VALUE_WIDTH;
-
-    pub const BINDING_BYTES: usize = LocalProjectionState::BINDINGS
-        * LocalProjectionState::BINDING_WIDTH;
+    // The three tables, in bytes.
+    pub const BINDING_BYTES: usize = LocalProjectionState::BINDINGS * panel_rows::BINDING_WIDTH;
 
     pub const AVAILABILITY_BYTES: usize = LocalProjectionState::AVAILABILITIES
-        * LocalProjectionState::AVAILABILITY_WIDTH;
+        * panel_rows::AVAILABILITY_WIDTH;
 
-    pub const ENTRY_BYTES: usize = LocalProjectionState::ENTRIES
-        * LocalProjectionState::ENTRY_WIDTH;
+    pub const ENTRY_BYTES: usize = LocalProjectionState::ENTRIES * panel_rows::ENTRY_WIDTH;
 
     // A panel without records.
     pub fn empty() -> LocalProjectionState

@@ -15,8 +15,8 @@ use Rattle.bytes_keys.specs.Keys.{leadingNumbers}
 use Rattle.bytes_records.specs.Table.{Wide, Holds}
 use Rattle.bytes_records.specs.Search.{placeOf, upsertAt, PlaceWithin}
 use Rattle.bytes_records.specs.declared.Place.{Place}
-use Rattle.local_projection_state.specs.Rows.{availabilityWidth, availabilityRow}
-use Rattle.local_projection_state.specs.RowsLaws.{availability-key}
+use Rattle.panel_rows.specs.Rows.{availabilityWidth, availabilityRow, bindingFields, availabilityFields}
+use Rattle.panel_rows.specs.RowsLaws.{availability-key}
 use Rattle.local_projection_state.specs.Stores.{Stored}
 use Rattle.panel_bindings.specs.Change.{Became, RowsBecame}
 use Rattle.panel_bindings.specs.ChangeLaws.{upserted-rows, set-became}
@@ -45,18 +45,18 @@ module _ {A : Type 0} (row : A → List ℕ) (key : A → List ℕ) (rowKey : Li
 
 module _ (n : ℕ) (table exit bytes : List ℕ) (place : Place) (r : TableChange) (p : Projection) (v : Valid p) where
   -- rows of any width that begin with the node and the slot
-  pub binding-set : (row : Binding → List ℕ) (w : ℕ) → ((b : Binding) → FitsBinding b → leadingNumbers (8 ∷ 4 ∷ []) (row b) ≡ bindingKey b)
-      → (b : Binding) → Stored row w projectionBindings n table (p .bindings) → Told row bindingKey (leadingNumbers (8 ∷ 4 ∷ [])) w n b table exit bytes place r
+  pub binding-set : (row : Binding → List ℕ) (w : ℕ) → ((b : Binding) → FitsBinding b → leadingNumbers bindingFields (row b) ≡ bindingKey b)
+      → (b : Binding) → Stored row w projectionBindings n table (p .bindings) → Told row bindingKey (leadingNumbers bindingFields) w n b table exit bytes place r
       → Became (λ m q. Stored row w projectionBindings m exit (q .bindings)) r (applyBinding p b)
   unfolding applyBinding withBindings
   binding-set row w keys b s t =
-      set-made row bindingKey (leadingNumbers (8 ∷ 4 ∷ [])) w projectionBindings FitsBinding keys
+      set-made row bindingKey (leadingNumbers bindingFields) w projectionBindings FitsBinding keys
       (λ m q. Stored row w projectionBindings m exit (q .bindings)) (withBindings p) b (p .bindings) n table exit bytes place r (λ m h. h) (v .fitBindings) s t
 
   pub availability-set : (a : NodeAvailability) → Stored availabilityRow availabilityWidth projectionAvailabilities n table (p .availabilities)
-      → Told availabilityRow availabilityKey (leadingNumbers (8 ∷ [])) availabilityWidth n a table exit bytes place r
+      → Told availabilityRow availabilityKey (leadingNumbers availabilityFields) availabilityWidth n a table exit bytes place r
       → Became (λ m q. Stored availabilityRow availabilityWidth projectionAvailabilities m exit (q .availabilities)) r (applyAvailability p a)
   unfolding applyAvailability withAvailabilities
   availability-set a s t =
-      set-made availabilityRow availabilityKey (leadingNumbers (8 ∷ [])) availabilityWidth projectionAvailabilities FitsNodeAvailability availability-key
+      set-made availabilityRow availabilityKey (leadingNumbers availabilityFields) availabilityWidth projectionAvailabilities FitsNodeAvailability availability-key
       (λ m q. Stored availabilityRow availabilityWidth projectionAvailabilities m exit (q .availabilities)) (withAvailabilities p) a (p .availabilities) n table exit bytes place r (λ m h. h) (v .fitAvailabilities) s t

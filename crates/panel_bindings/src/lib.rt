@@ -13,12 +13,11 @@ ghost use Rattle.bytes_records.specs.Table.{Holds, Wide};
 ghost use Rattle.bytes_records.specs.Search.{upsertAt, PlaceWithin};
 ghost use Rattle.patch_part_writer.specs.Extent.{valueText, Within};
 ghost use Rattle.projection_patch.specs.Meaning.{valueOf, availabilityOf};
-ghost use Rattle.local_projection_state.specs.Rows.{bindingWidth, availabilityWidth, bindingRow, availabilityRow};
+ghost use Rattle.panel_rows.specs.Rows.{bindingWidth, availabilityWidth, bindingRow, availabilityRow};
 ghost use Rattle.local_projection_state.specs.Stores.{Stored};
 ghost use Rattle.panel_plan.specs.PlanRows.{PlannedBindings};
 ghost use Rattle.panel_bindings.specs.Change.{faultOf, Became, Kept, RowsBecame};
 use bytes_records::Place;
-use local_projection_state::LocalProjectionState;
 use projection_patch::patch::ProjectionNodeAvailability;
 use projection_patch::patch::ProjectionPatchValue;
 
@@ -82,9 +81,16 @@ pub fn set_binding_value(
         (applyBinding p (record { node = node; slot = slot; value = valueOf (now (texts .entry)) value }))) ⌝ }
     ensures kept { λ r. ⌜ Kept r (now (table .entry)) (now (table .exit)) ⌝ }
 {
-    let width = LocalProjectionState::BINDING_WIDTH;
+    let width = panel_rows::BINDING_WIDTH;
     let row = panel_rows::binding_row(node, slot, value, texts);
-    let place = bytes_records::find_pair_place(table, width, count, node, 4, slot as u64);
+    let place = bytes_records::find_pair_place(
+        table,
+        width,
+        count,
+        node,
+        panel_rows::SLOT_WIDTH,
+        slot as u64,
+    );
     upsert_row(table, width, count, place, &row)
 }
 
@@ -103,7 +109,14 @@ pub fn set_binding_source(
 {
     let width = panel_plan::BINDING_WIDTH;
     let row = panel_plan::binding_row(node, slot, source);
-    let place = bytes_records::find_pair_place(table, width, count, node, 4, slot as u64);
+    let place = bytes_records::find_pair_place(
+        table,
+        width,
+        count,
+        node,
+        panel_rows::SLOT_WIDTH,
+        slot as u64,
+    );
     upsert_row(table, width, count, place, &row)
 }
 
@@ -119,7 +132,7 @@ pub fn set_node_availability(
         (applyAvailability p (record { node = node; availability = availabilityOf availability }))) ⌝ }
     ensures kept { λ r. ⌜ Kept r (now (table .entry)) (now (table .exit)) ⌝ }
 {
-    let width = LocalProjectionState::AVAILABILITY_WIDTH;
+    let width = panel_rows::AVAILABILITY_WIDTH;
     let row = panel_rows::availability_row(node, availability);
     let place = bytes_records::find_place(table, width, count, node);
     upsert_row(table, width, count, place, &row)

@@ -20,7 +20,7 @@ use Rattle.bytes_records.specs.Search.{findFirst, Within}
 use Rattle.bytes_records.specs.SearchLaws.{find-at}
 use Rattle.bytes_records.specs.declared.Found.{Found}
 use Rattle.bytes_records.specs.declared.Found.the-variants.{At, Absent}
-use Rattle.local_projection_state.specs.Rows.{entryWidth, entryRow}
+use Rattle.panel_rows.specs.Rows.{entryWidth, entryRow}
 use Rattle.local_projection_state.specs.Stores.{Stored}
 use Rattle.panel_bindings.specs.Change.{Became}
 use Rattle.panel_bindings.specs.ChangeLaws.{became-done, became-stopped}

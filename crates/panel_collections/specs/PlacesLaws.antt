@@ -24,7 +24,7 @@ use Rattle.bytes_records.specs.PositionsLaws.{insert-first, remove-first, repla
 use Rattle.bytes_records.specs.Search.{findFirst}
 use Rattle.bytes_records.specs.SearchLaws.{find-at, find-absent, find-stopped}
 use Rattle.bytes_records.specs.declared.Found.the-variants.{At, Absent}
-use Rattle.local_projection_state.specs.Rows.{entryRow}
+use Rattle.panel_rows.specs.Rows.{entryRow}
 use Rattle.panel_collections.specs.Places.{placeBefore, isItself, placeBeforeOther, withoutAt}
 
 -- ---- edits at the first match are edits at its position

@@ -8,10 +8,9 @@ ghost use Rattle.spec_projection.specs.Valid.{FitsEntry, Grouped};
 ghost use Rattle.bytes_records.specs.Table.{Holds};
 ghost use Rattle.bytes_records.specs.Search.{findFirst, Within};
 ghost use Rattle.projection_patch.specs.Meaning.{beforeOf};
-ghost use Rattle.local_projection_state.specs.Rows.{entryWidth, entryRow};
+ghost use Rattle.panel_rows.specs.Rows.{entryWidth, entryRow};
 ghost use Rattle.panel_collections.specs.Places.{placeBefore, PositionWithin, isItself, placeBeforeOther};
 use bytes_records::Found;
-use local_projection_state::LocalProjectionState;
 use projection_patch::patch::OptionalKey;
 
 // The position of a collection's key.
@@ -20,13 +19,7 @@ pub fn find_entry(table: &[u8], count: usize, collection: u64, key: u64) -> Foun
         → r ≡ findFirst (isEntry collection key) es) ⌝ }
     ensures within { λ r. ⌜ Within count r ⌝ }
 {
-    bytes_records::find_pair(
-        table,
-        LocalProjectionState::ENTRY_WIDTH,
-        count,
-        collection,
-        key,
-    )
+    bytes_records::find_pair(table, panel_rows::ENTRY_WIDTH, count, collection, key)
 }
 
 // Where an entry goes: before its neighbour, or last of its collection.
@@ -38,7 +31,7 @@ pub fn place_before(table: &[u8], count: usize, collection: u64, before: Optiona
     match before {
         OptionalKey::None => Found::At(bytes_records::find_above(
             table,
-            LocalProjectionState::ENTRY_WIDTH,
+            panel_rows::ENTRY_WIDTH,
             count,
             collection,
         )),

@@ -15,12 +15,11 @@ ghost use Rattle.bytes_records.specs.Positions.{insertAt, removeAt};
 ghost use Rattle.bytes_records.specs.Table.{Holds};
 ghost use Rattle.patch_part_writer.specs.Extent.{valueText, Within};
 ghost use Rattle.projection_patch.specs.Meaning.{valueOf, beforeOf};
-ghost use Rattle.local_projection_state.specs.Rows.{entryWidth, entryRow};
+ghost use Rattle.panel_rows.specs.Rows.{entryWidth, entryRow};
 ghost use Rattle.local_projection_state.specs.Stores.{Stored};
 ghost use Rattle.panel_bindings.specs.Change.{Became, Kept};
 ghost use Rattle.panel_collections.specs.Places.{withoutAt};
 use bytes_records::Found;
-use local_projection_state::LocalProjectionState;
 use panel_bindings::LocalProjectionApplicationError;
 use panel_bindings::TableChange;
 use projection_patch::patch::OptionalKey;
@@ -44,13 +43,7 @@ pub fn collection_update(
     match find::find_entry(table, count, collection, key) {
         Found::At(at) => {
             let row = panel_rows::entry_row(collection, key, value, texts);
-            bytes_records::replace_record(
-                table,
-                LocalProjectionState::ENTRY_WIDTH,
-                count,
-                at,
-                &row,
-            );
+            bytes_records::replace_record(table, panel_rows::ENTRY_WIDTH, count, at, &row);
             TableChange::Applied(count)
         }
         Found::Absent => TableChange::Refused(LocalProjectionApplicationError::KeyRule),
@@ -65,7 +58,7 @@ pub fn collection_remove(table: &mut [u8], count: usize, collection: u64, key: u
 {
     match find::find_entry(table, count, collection, key) {
         Found::At(at) => {
-            bytes_records::remove_record(table, LocalProjectionState::ENTRY_WIDTH, count, at);
+            bytes_records::remove_record(table, panel_rows::ENTRY_WIDTH, count, at);
             TableChange::Applied(count - 1)
         }
         Found::Absent => TableChange::Refused(LocalProjectionApplicationError::KeyRule),
@@ -94,13 +87,7 @@ pub fn collection_insert(
     match find::place_before(table, count, collection, before) {
         Found::At(at) => {
             let row = panel_rows::entry_row(collection, key, value, texts);
-            if bytes_records::insert_record(
-                table,
-                LocalProjectionState::ENTRY_WIDTH,
-                count,
-                at,
-                &row,
-            ) {
+            if bytes_records::insert_record(table, panel_rows::ENTRY_WIDTH, count, at, &row) {
                 return TableChange::Applied(count + 1);
             }
             TableChange::Refused(LocalProjectionApplicationError::ProjectionFull)
@@ -115,8 +102,8 @@ fn move_row(table: &mut [u8], count: usize, from: usize, to: usize)
     ensures { λ _. ⌜ ((rows : List (List ℕ)) → Holds entryWidth count (now (table .entry)) rows
         → Holds entryWidth count (now (table .exit)) (insertAt (withoutAt from to) (getD rows from []) (removeAt from rows))) ⌝ }
 {
-    let width = LocalProjectionState::ENTRY_WIDTH;
-    let mut row = [0u8; LocalProjectionState::ENTRY_WIDTH];
+    let width = panel_rows::ENTRY_WIDTH;
+    let mut row = [0u8; panel_rows::ENTRY_WIDTH];
     bytes_moves::copy(
         bytes_records::record_at(table, width, count, from),
         &mut row,

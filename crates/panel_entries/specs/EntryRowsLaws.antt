@@ -13,7 +13,7 @@ use Rattle.spec_projection.specs.Projection.{Entry}
 use Rattle.spec_projection.specs.Entries.{isEntry, isLater}
 use Rattle.spec_projection.specs.Valid.{Behind, Grouped, FitsEntry}
 use Rattle.bytes_records.specs.Search.{firstNumber, secondNumber, isAbove, isPair, Rising}
-use Rattle.local_projection_state.specs.Rows.{padded, entryRow}
+use Rattle.panel_rows.specs.Rows.{padded, entryRow}
 use Rattle.panel_plan.specs.PlanRows.{sourceNumber, plannedEntryRow}
 use Rattle.panel_entries.specs.EntryRows.{Keyed}
 

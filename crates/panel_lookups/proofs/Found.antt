@@ -3,12 +3,9 @@ use Prim.Native.Nat.{ℕ}
 use mathlib.Core.Path.{_≡_, sym, ap, _∙_}
 use mathlib.Core.List.{List, [], _∷_, map}
 use mathlib.Core.Option.{none, some, Option·map}
-use lib.ListN.{length, drop, getD, length-append}
-use lib.Seq.{getD-at}
+use lib.ListN.{drop, getD}
 use Rattle.spec_lists.specs.ListLaws.{all-map}
-use Rattle.spec_lists.specs.BytesLaws.{length-littleEndian}
 use Rattle.spec_patch.specs.Patch.{Value}
-use Rattle.spec_patch.specs.Encode.{u64, availabilityByte}
 use Rattle.spec_patch.specs.Fits.{Storable}
 use Rattle.spec_projection.specs.Projection.{Binding, NodeAvailability, Entry, Projection, bindingKey, availabilityKey}
 use Rattle.spec_projection.specs.FirstMatchLaws.{findFirst-all}
@@ -16,18 +13,18 @@ use Rattle.spec_projection.specs.Entries.{isEntry}
 use Rattle.spec_projection.specs.Lookups.{bindingOf, availabilityOf, entryOf}
 use Rattle.spec_projection.specs.Valid.{FitsBinding, FitsNodeAvailability, FitsEntry, Valid}
 use Rattle.bytes_keys.specs.Keys.{leadingNumbers}
-use Rattle.bytes_records.specs.Search.{placeOf, findFirst}
-use Rattle.bytes_records.specs.SearchLaws.{place-map, find-absent}
+use Rattle.bytes_records.specs.Search.{placeOf, isPair, findFirst}
+use Rattle.bytes_records.specs.SearchLaws.{place-map, find-map, find-absent}
 use Rattle.bytes_records.specs.declared.Place.{Place}
 use Rattle.bytes_records.specs.declared.Place.the-variants.{Taken, Before}
 use Rattle.bytes_records.specs.declared.Found.{Found}
 use Rattle.bytes_records.specs.declared.Found.the-variants.{At, Absent}
-use Rattle.local_projection_state.specs.Rows.{padded, bindingRow, availabilityRow, entryRow}
-use Rattle.local_projection_state.specs.RowsLaws.{binding-key, availability-key, binding-behind, entry-behind}
+use Rattle.panel_rows.specs.Rows.{bindingValueAt, entryValueAt, entryWidth, padded, bindingRow, availabilityRow, entryRow, bindingFields, availabilityFields}
+use Rattle.panel_rows.specs.RowsLaws.{binding-key, availability-key, entry-pair, binding-behind, entry-behind}
 use Rattle.panel_collections.specs.PlacesLaws.{found-at, found-none}
-use Rattle.panel_values.specs.Lookup.{noValue, foundValue, valueLookup, availabilityLookup}
-use Rattle.panel_values.specs.declared.ValueLookup.{ValueLookup}
-use Rattle.panel_values.specs.declared.AvailabilityLookup.{AvailabilityLookup}
+use Rattle.panel_rows.specs.Lookup.{noValue, foundValue, valueLookup, availabilityLookup}
+use Rattle.panel_rows.specs.declared.values.ValueLookup.{ValueLookup}
+use Rattle.panel_rows.specs.declared.values.AvailabilityLookup.{AvailabilityLookup}
 use Rattle.panel_lookups.specs.LookupLaws.{place-taken, place-before}
 
 -- what reading a row's value answers
@@ -37,15 +34,15 @@ ReadsAt at row r = (v : Value) → Storable v → drop at row ≡ padded v → r
 module _ (p : Projection) (v : Valid p) where
   -- ---- bindings
 
-  module _ (node slot : ℕ) (place : Place) (told : place ≡ placeOf (leadingNumbers (8 ∷ 4 ∷ [])) (node ∷ slot ∷ []) (map bindingRow (p .bindings))) where
+  module _ (node slot : ℕ) (place : Place) (told : place ≡ placeOf (leadingNumbers bindingFields) (node ∷ slot ∷ []) (map bindingRow (p .bindings))) where
     binding-place : place ≡ placeOf bindingKey (node ∷ slot ∷ []) (p .bindings)
-    binding-place = told ∙ place-map bindingRow (leadingNumbers (8 ∷ 4 ∷ [])) bindingKey (node ∷ slot ∷ []) (p .bindings) (all-map FitsBinding _ binding-key (p .bindings) (v .fitBindings))
+    binding-place = told ∙ place-map bindingRow (leadingNumbers bindingFields) bindingKey (node ∷ slot ∷ []) (p .bindings) (all-map FitsBinding _ binding-key (p .bindings) (v .fitBindings))
 
-    pub binding-found : (i : ℕ) → place ≡ Taken i → (row : List ℕ) → row ≡ getD (map bindingRow (p .bindings)) i [] → (r : ValueLookup) → ReadsAt 12 row r → r ≡ valueLookup (bindingOf p node slot)
+    pub binding-found : (i : ℕ) → place ≡ Taken i → (row : List ℕ) → row ≡ getD (map bindingRow (p .bindings)) i [] → (r : ValueLookup) → ReadsAt bindingValueAt row r → r ≡ valueLookup (bindingOf p node slot)
     unfolding bindingOf valueLookup
     binding-found i e row is r reads =
         let f = place-taken bindingKey bindingRow FitsBinding (node ∷ slot ∷ []) (p .bindings) (v .fitBindings) i (sym binding-place ∙ e) in
-        reads (f .element .value) (f .has .value) (ap (drop 12) (is ∙ f .image []) ∙ binding-behind (f .element))
+        reads (f .element .value) (f .has .value) (ap (drop bindingValueAt) (is ∙ f .image []) ∙ binding-behind (f .element))
         ∙ sym (ap (λ o. valueLookup (Option·map (λ (b : Binding). b .value) o)) (f .found))
 
     pub binding-absent : (i : ℕ) → place ≡ Before i → (r : ValueLookup) → r ≡ noValue → r ≡ valueLookup (bindingOf p node slot)
@@ -55,9 +52,9 @@ module _ (p : Projection) (v : Valid p) where
 
   -- ---- availabilities
 
-  module _ (node : ℕ) (place : Place) (told : place ≡ placeOf (leadingNumbers (8 ∷ [])) (node ∷ []) (map availabilityRow (p .availabilities))) where
+  module _ (node : ℕ) (place : Place) (told : place ≡ placeOf (leadingNumbers availabilityFields) (node ∷ []) (map availabilityRow (p .availabilities))) where
     availability-place : place ≡ placeOf availabilityKey (node ∷ []) (p .availabilities)
-    availability-place = told ∙ place-map availabilityRow (leadingNumbers (8 ∷ [])) availabilityKey (node ∷ []) (p .availabilities) (all-map FitsNodeAvailability _ availability-key (p .availabilities) (v .fitAvailabilities))
+    availability-place = told ∙ place-map availabilityRow (leadingNumbers availabilityFields) availabilityKey (node ∷ []) (p .availabilities) (all-map FitsNodeAvailability _ availability-key (p .availabilities) (v .fitAvailabilities))
 
     pub availability-found : (i : ℕ) → place ≡ Taken i → (row : List ℕ) → row ≡ getD (map availabilityRow (p .availabilities)) i [] → (r : AvailabilityLookup)
         → ((a : NodeAvailability) → row ≡ availabilityRow a → r ≡ availabilityLookup (some (a .availability))) → r ≡ availabilityLookup (availabilityOf p node)
@@ -73,26 +70,19 @@ module _ (p : Projection) (v : Valid p) where
 
   -- ---- entries
 
-  module _ (c k : ℕ) (place : Found) (told : place ≡ findFirst (isEntry c k) (p .entries)) where
-    pub entry-found : (i : ℕ) → place ≡ At i → (row : List ℕ) → row ≡ getD (map entryRow (p .entries)) i [] → (r : ValueLookup) → ReadsAt 16 row r → r ≡ valueLookup (entryOf p c k)
+  module _ (c k : ℕ) (place : Found) (found : place ≡ findFirst (isPair c k) (map entryRow (p .entries))) where
+    told : place ≡ findFirst (isEntry c k) (p .entries)
+    told = found ∙ find-map entryRow (isPair c k) (isEntry c k) (p .entries) (all-map FitsEntry _ (entry-pair c k) (p .entries) (v .fitEntries))
+
+    pub entry-found : (i : ℕ) → place ≡ At i → (row : List ℕ) → row ≡ getD (map entryRow (p .entries)) i [] → (r : ValueLookup) → ReadsAt entryValueAt row r → r ≡ valueLookup (entryOf p c k)
     unfolding entryOf valueLookup
     entry-found i e row is r reads =
         let f = found-at (isEntry c k) entryRow (p .entries) i (sym told ∙ e) in
         let fits = findFirst-all (isEntry c k) FitsEntry (p .entries) (f .element) (f .found) (v .fitEntries) in
-        reads (f .element .value) (fits .value) (ap (drop 16) (is ∙ f .image []) ∙ entry-behind (f .element))
+        reads (f .element .value) (fits .value) (ap (drop entryValueAt) (is ∙ f .image []) ∙ entry-behind (f .element))
         ∙ sym (ap (λ o. valueLookup (Option·map (λ (x : Entry). x .value) o)) (f .found))
 
     pub entry-absent : place ≡ Absent → (r : ValueLookup) → r ≡ noValue → r ≡ valueLookup (entryOf p c k)
     unfolding entryOf valueLookup
     entry-absent e r is =
         is ∙ sym (ap (λ o. valueLookup (Option·map (λ (x : Entry). x .value) o)) (found-none (isEntry c k) (p .entries) (find-absent (isEntry c k) (p .entries) (sym told ∙ e))))
-
--- ---- an availability's row
-
-pub availability-length : (a : NodeAvailability) (row : List ℕ) → row ≡ availabilityRow a → length row ≡ 9
-unfolding availabilityRow
-availability-length a row e = ap length e ∙ simp (length-append, length-littleEndian)
-
-pub availability-byte : (a : NodeAvailability) (row : List ℕ) → row ≡ availabilityRow a → getD row 8 0 ≡ availabilityByte (a .availability)
-unfolding availabilityRow
-availability-byte a row e = ap (λ (l : List ℕ). getD l 8 0) e ∙ getD-at (u64 (a .node)) (availabilityByte (a .availability)) [] 0 8 (length-littleEndian 8 (a .node))

@@ -1,1 +1,3 @@
 pub mod LookupLaws
+pub mod Nth
+pub mod NthLaws

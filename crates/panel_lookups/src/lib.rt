@@ -1,33 +1,42 @@
 // Lookups in the tables of a state. Without a record every field of the answer is zero.
 // After crates/prom-ui/src/local_projection_state.rs.
+pub mod positions;
+
 ghost use mathlib.Core.Path.{_≡_};
 ghost use Rattle.spec_patch.specs.Sizes.{projectionBindings, projectionAvailabilities, projectionEntries};
 ghost use mathlib.Core.Option.{none, some};
 ghost use Rattle.spec_projection.specs.Projection.{NodeAvailability, Projection};
 ghost use Rattle.spec_projection.specs.Lookups.{bindingOf, availabilityOf, entryOf};
 ghost use Rattle.spec_projection.specs.Valid.{Valid};
-ghost use Rattle.local_projection_state.specs.Rows.{bindingWidth, availabilityWidth, entryWidth, bindingRow, availabilityRow, entryRow};
+ghost use Rattle.panel_rows.specs.Rows.{bindingWidth, availabilityWidth, entryWidth, bindingRow, availabilityRow, entryRow};
 ghost use Rattle.local_projection_state.specs.Stores.{Stored};
-ghost use Rattle.panel_values.specs.Lookup.{valueLookup, availabilityLookup};
+ghost use Rattle.panel_rows.specs.Lookup.{valueLookup, availabilityLookup};
 use bytes_records::Found;
 use bytes_records::Place;
-use local_projection_state::LocalProjectionState;
-use panel_collections::find;
-use panel_values::AvailabilityLookup;
-use panel_values::ValueLookup;
+use panel_rows::fields;
+use panel_rows::values;
+use panel_rows::values::AvailabilityLookup;
+use panel_rows::values::ValueLookup;
 
 // The value of a binding in a table of bindings.
 pub fn binding_value(table: &[u8], count: usize, node: u64, slot: u32) -> ValueLookup
     ensures { λ r. ⌜ ((p : Projection) → Stored bindingRow bindingWidth projectionBindings count (now (table .entry)) (p .bindings) → Valid p
         → r ≡ valueLookup (bindingOf p node slot)) ⌝ }
 {
-    let width = LocalProjectionState::BINDING_WIDTH;
-    match bytes_records::find_pair_place(table, width, count, node, 4, slot as u64) {
-        Place::Taken(at) => panel_values::stored_value(
+    let width = panel_rows::BINDING_WIDTH;
+    match bytes_records::find_pair_place(
+        table,
+        width,
+        count,
+        node,
+        panel_rows::SLOT_WIDTH,
+        slot as u64,
+    ) {
+        Place::Taken(at) => values::stored_value(
             bytes_records::record_at(table, width, count, at),
-            12,
+            panel_rows::BINDING_VALUE,
         ),
-        Place::Before(_) => panel_values::no_value(),
+        Place::Before(_) => values::no_value(),
     }
 }
 
@@ -44,12 +53,9 @@ fn no_availability() -> AvailabilityLookup
 fn stored_availability(row: &[u8]) -> AvailabilityLookup
     ensures { λ r. ⌜ ((a : NodeAvailability) → now (row .entry) ≡ availabilityRow a → r ≡ availabilityLookup (some (a .availability))) ⌝ }
 {
-    if row.len() < 9 {
-        return no_availability();
-    }
     AvailabilityLookup {
         found: true,
-        availability: row[8],
+        availability: fields::availability_byte(row),
     }
 }
 
@@ -58,7 +64,7 @@ pub fn node_availability(table: &[u8], count: usize, node: u64) -> AvailabilityL
     ensures { λ r. ⌜ ((p : Projection) → Stored availabilityRow availabilityWidth projectionAvailabilities count (now (table .entry)) (p .availabilities) → Valid p
         → r ≡ availabilityLookup (availabilityOf p node)) ⌝ }
 {
-    let width = LocalProjectionState::AVAILABILITY_WIDTH;
+    let width = panel_rows::AVAILABILITY_WIDTH;
     match bytes_records::find_place(table, width, count, node) {
         Place::Taken(at) => stored_availability(bytes_records::record_at(table, width, count, at)),
         Place::Before(_) => no_availability(),
@@ -70,12 +76,12 @@ pub fn entry_value(table: &[u8], count: usize, collection: u64, key: u64) -> Val
     ensures { λ r. ⌜ ((p : Projection) → Stored entryRow entryWidth projectionEntries count (now (table .entry)) (p .entries) → Valid p
         → r ≡ valueLookup (entryOf p collection key)) ⌝ }
 {
-    let width = LocalProjectionState::ENTRY_WIDTH;
-    match find::find_entry(table, count, collection, key) {
-        Found::At(at) => panel_values::stored_value(
+    let width = panel_rows::ENTRY_WIDTH;
+    match bytes_records::find_pair(table, width, count, collection, key) {
+        Found::At(at) => values::stored_value(
             bytes_records::record_at(table, width, count, at),
-            16,
+            panel_rows::ENTRY_VALUE,
         ),
-        Found::Absent => panel_values::no_value(),
+        Found::Absent => values::no_value(),
     }
 }

@@ -4,7 +4,7 @@ use mathlib.Core.Path.{_≡_, sym, ap₂, subst}
 use mathlib.Core.List.{List}
 use Rattle.spec_patch.specs.Sizes.{projectionBindings, projectionAvailabilities, projectionEntries}
 use Rattle.spec_projection.specs.Apply.{Outcome}
-use Rattle.local_projection_state.specs.Rows.{bindingWidth, availabilityWidth, entryWidth, bindingRow, availabilityRow, entryRow}
+use Rattle.panel_rows.specs.Rows.{bindingWidth, availabilityWidth, entryWidth, bindingRow, availabilityRow, entryRow}
 use Rattle.local_projection_state.specs.Stores.{Stored}
 use Rattle.local_projection_state.specs.declared.ProjectionCounts.{ProjectionCounts}
 use Rattle.panel_bindings.specs.Change.{Became}

@@ -11,7 +11,7 @@ use Rattle.spec_projection.specs.Apply.{Outcome, done, stopped, applyOperation}
 use Rattle.spec_projection.specs.Effects.{bindingTarget, nodeTarget, collectionTarget, targetOf}
 use Rattle.spec_projection.specs.EffectsLaws.{collection-keeps, binding-keeps, availability-keeps}
 use Rattle.spec_projection.specs.ValidLaws.{applyOperation-valid}
-use Rattle.local_projection_state.specs.Rows.{bindingWidth, availabilityWidth, entryWidth, bindingRow, availabilityRow, entryRow}
+use Rattle.panel_rows.specs.Rows.{bindingWidth, availabilityWidth, entryWidth, bindingRow, availabilityRow, entryRow}
 use Rattle.local_projection_state.specs.Stores.{Stored, StoredTables}
 use Rattle.local_projection_state.specs.declared.ProjectionCounts.{ProjectionCounts}
 use Rattle.panel_bindings.specs.Change.{Became}

@@ -10,7 +10,7 @@ ghost use Rattle.spec_projection.specs.Apply.{applyBinding, applyAvailability, 
 ghost use Rattle.spec_projection.specs.Valid.{Valid};
 ghost use Rattle.patch_part_writer.specs.Extent.{valueText, operationText, Within};
 ghost use Rattle.projection_patch.specs.Meaning.{valueOf, availabilityOf, beforeOf, operationOf};
-ghost use Rattle.local_projection_state.specs.Rows.{bindingWidth, availabilityWidth, entryWidth, bindingRow, availabilityRow, entryRow};
+ghost use Rattle.panel_rows.specs.Rows.{bindingWidth, availabilityWidth, entryWidth, bindingRow, availabilityRow, entryRow};
 ghost use Rattle.local_projection_state.specs.Stores.{Stored, StoredTables};
 ghost use Rattle.panel_operations.specs.OperationChange.{OperationBecame, BindingsNext, AvailabilitiesNext, EntriesNext, bindingsCounted, availabilitiesCounted, entriesCounted};
 use local_projection_state::ProjectionCounts;

@@ -1,13 +1,13 @@
 -- How a plan is stored: one row of numbers for each binding and entry, the source of its value behind its ids. An availability's row is that
 -- of its table.
-use Prim.Native.Nat.{ℕ}
+use Prim.Native.Nat.{ℕ, _+_}
 use mathlib.Core.List.{List, _++_}
 use Rattle.spec_patch.specs.Sizes.{projectionBindings, projectionAvailabilities, projectionEntries}
 use Rattle.spec_patch.specs.Patch.{Value, quad, signed, text, unsigned}
 use Rattle.spec_patch.specs.Encode.{u32, u64}
 use Rattle.spec_projection.specs.Projection.{Binding, Entry, Projection}
 use Rattle.spec_projection.specs.Valid.{Valid}
-use Rattle.local_projection_state.specs.Rows.{availabilityWidth, availabilityRow}
+use Rattle.panel_rows.specs.Rows.{bindingValueAt, entryValueAt, availabilityWidth, availabilityRow}
 use Rattle.local_projection_state.specs.Stores.{Stored}
 use Rattle.local_projection_state.specs.declared.ProjectionCounts.{ProjectionCounts}
 
@@ -18,16 +18,20 @@ sourceNumber (signed z) = 0
 sourceNumber (text t) = 0
 sourceNumber (unsigned n) = n
 
+-- the source, in bytes
+abbrev pub sourceWidth : ℕ
+sourceWidth = 8
+
 -- a node, a slot and a source
 abbrev pub plannedBindingWidth : ℕ
-plannedBindingWidth = 20
+plannedBindingWidth = bindingValueAt + sourceWidth
 
 unfoldable pub plannedBindingRow : Binding → List ℕ
 plannedBindingRow b = u64 (b .node) ++ (u32 (b .slot) ++ u64 (sourceNumber (b .value)))
 
 -- a collection, a key and a source
 abbrev pub plannedEntryWidth : ℕ
-plannedEntryWidth = 24
+plannedEntryWidth = entryValueAt + sourceWidth
 
 unfoldable pub plannedEntryRow : Entry → List ℕ
 plannedEntryRow e = u64 (e .collection) ++ (u64 (e .key) ++ u64 (sourceNumber (e .value)))

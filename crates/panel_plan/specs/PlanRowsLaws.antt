@@ -8,6 +8,7 @@ use Rattle.spec_projection.specs.Valid.{FitsBinding}
 use Rattle.bytes_keys.specs.Keys.{leadingNumbers}
 use Rattle.bytes_keys.specs.KeysLaws.{leading-number}
 use Rattle.bytes_records.specs.Table.{Wide}
+use Rattle.panel_rows.specs.Rows.{idWidth, slotWidth, bindingFields}
 use Rattle.panel_plan.specs.PlanRows.{plannedBindingWidth, plannedBindingRow, plannedEntryWidth, plannedEntryRow}
 
 pub planned-binding-wide : (b : Binding) → Wide plannedBindingWidth (plannedBindingRow b)
@@ -18,6 +19,6 @@ pub planned-entry-wide : (e : Entry) → Wide plannedEntryWidth (plannedEntryRow
 unfolding plannedEntryRow
 planned-entry-wide e = simp (length-append, length-littleEndian)
 
-pub planned-binding-key : (b : Binding) → FitsBinding b → leadingNumbers (8 ∷ 4 ∷ []) (plannedBindingRow b) ≡ bindingKey b
+pub planned-binding-key : (b : Binding) → FitsBinding b → leadingNumbers bindingFields (plannedBindingRow b) ≡ bindingKey b
 unfolding plannedBindingRow bindingKey leadingNumbers
-planned-binding-key b h = leading-number 8 (b .node) (4 ∷ []) _ (h .node) ∙ ap (λ l. b .node ∷ l) (leading-number 4 (b .slot) [] _ (h .slot))
+planned-binding-key b h = leading-number idWidth (b .node) (slotWidth ∷ []) _ (h .node) ∙ ap (λ l. b .node ∷ l) (leading-number slotWidth (b .slot) [] _ (h .slot))

@@ -4,11 +4,9 @@ use mathlib.Core.Path.{_≡_, sym, ap, _∙_, subst}
 use mathlib.Core.List.{List, [], _∷_}
 use mathlib.Core.Option.{Option}
 use native.Mathlib.Omega.{arith}
-use borrow.Author.Tests.{lt-ltb, le-ltb}
 use lib.ListN.{length}
 use Rattle.spec_lists.specs.Lists.{All}
 use Rattle.spec_lists.specs.OrderLaws.{upsert-all}
-use Rattle.spec_patch.specs.Sizes.{projectionEntries}
 use Rattle.spec_patch.specs.Edition.{Edition}
 use Rattle.spec_patch.specs.Patch.{Value, Operation, setBinding, setAvailability, insert, update, remove, move}
 use Rattle.spec_patch.specs.Fits.{OperationHolds}
@@ -22,27 +20,14 @@ use Rattle.spec_projection.specs.OperationLaws.{applied-binding, applied-availa
 use Rattle.spec_projection.specs.Valid.{FitsBinding, FitsEntry, Valid}
 use Rattle.panel_plan.specs.Plan.{old, new, numbered, bindingWith, entryWith, planOf, withSource}
 use Rattle.panel_plan.specs.PlanValid.{numbered-all, holds-with}
-use Rattle.panel_plan.specs.SetValues.{valueIn, StandsAt}
-use Rattle.panel_plan.specs.SetValuesLaws.{value-there}
-use Rattle.panel_plan.specs.Sources.{NumberOf, SourceOf, Sourced}
+use Rattle.panel_plan.specs.SetValues.{StandsAt}
+use Rattle.panel_plan.specs.Sources.{Sourced, from-row, from-set, SourcedPlan}
 
--- ---- sources
-
-pub old-source : (ed : Edition) (set : List ℕ) (rows i : ℕ) → i < rows → rows ≤ projectionEntries → SourceOf ed set rows (old i)
-unfolding SourceOf old
-old-source ed set rows i h few = rw (lt-ltb i projectionEntries (omega arith)) h
-
-pub new-source : (ed : Edition) (set : List ℕ) (rows at : ℕ) (v : Value) → StandsAt ed set at v → SourceOf ed set rows (new at)
-unfolding SourceOf new
-new-source ed set rows at v h =
-    let same : projectionEntries + at - projectionEntries ≡ at = omega arith in
-    rw (le-ltb (projectionEntries + at) projectionEntries (omega arith), same, value-there at v h) h
-
-pub plan-sourced : (ed : Edition) (set : List ℕ) (p : Projection) → Valid p → Sourced ed set p (planOf p)
+pub plan-sourced : (ed : Edition) (p : Projection) (set : List ℕ) → Valid p → SourcedPlan ed p set (planOf p)
 unfolding planOf bindingWith entryWith
-plan-sourced ed set p v = record {
-  bindings = numbered-all bindingWith FitsBinding _ (length (p .bindings)) (λ b i h f. old-source ed set _ i h (omega (arith, v .fewBindings))) 0 (p .bindings) (omega arith) (v .fitBindings);
-  entries = numbered-all entryWith FitsEntry _ (length (p .entries)) (λ e i h f. old-source ed set _ i h (v .fewEntries)) 0 (p .entries) (omega arith) (v .fitEntries);
+plan-sourced ed p set v = record {
+  bindings = numbered-all bindingWith FitsBinding _ (length (p .bindings)) (λ b i h f. from-row i h) 0 (p .bindings) (omega arith) (v .fitBindings);
+  entries = numbered-all entryWith FitsEntry _ (length (p .entries)) (λ e i h f. from-row i h) 0 (p .entries) (omega arith) (v .fitEntries);
 }
 
 -- ---- operations
@@ -71,10 +56,11 @@ module _ (P Q : Value → Type 0) (p q : Projection) where
       (removeEntry-all (λ x. Q (x .value)) (e .collection) (e .key) (p .entries) (b .1)))
 
 -- an operation whose value stands at a position of the set, planned with the position
-pub operation-sourced : (ed : Edition) (set : List ℕ) (p plan q : Projection) (at : ℕ) (o : Operation) → OperationHolds (StandsAt ed set at) o → applyOperation plan (withSource (new at) o) ≡ done q
-    → Sourced ed set p plan → Sourced ed set p q
-operation-sourced ed set p plan q at o h is s =
-    let P = SourceOf ed set (length (p .bindings)) in
-    let Q = SourceOf ed set (length (p .entries)) in
-    let both = values-kept P Q plan q (withSource (new at) o) (holds-with (StandsAt ed set at) (λ v. P v × Q v) (new at) o (λ v there. (new-source ed set _ at v there, new-source ed set _ at v there)) h) is (s .bindings, s .entries) in
+pub operation-sourced : (ed : Edition) (p : Projection) (set : List ℕ) (plan q : Projection) (at : ℕ) (o : Operation) → OperationHolds (StandsAt ed set at) o → applyOperation plan (withSource (new at) o) ≡ done q
+    → SourcedPlan ed p set plan → SourcedPlan ed p set q
+operation-sourced ed p set plan q at o h is s =
+    let P = Sourced ed (length (p .bindings)) set in
+    let Q = Sourced ed (length (p .entries)) set in
+    let both = values-kept P Q plan q (withSource (new at) o)
+    (holds-with (StandsAt ed set at) (λ v. P v × Q v) (new at) o (λ v there. (from-set at v (there .rest) (there .fits) (there .bytes), from-set at v (there .rest) (there .fits) (there .bytes))) h) is (s .bindings, s .entries) in
     record { bindings = both .0; entries = both .1 }

@@ -10,8 +10,8 @@ use Rattle.spec_patch.specs.Patch.{Value, N, quad}
 use Rattle.spec_patch.specs.Encode.{u32, u64, encodeValue}
 use Rattle.spec_projection.specs.Projection.{Binding, Entry, Projection}
 use Rattle.bytes_moves.specs.Moves.{zeros}
-use Rattle.local_projection_state.specs.Rows.{valueWidth, padded, bindingRow, entryRow}
-use Rattle.local_projection_state.specs.RowsLaws.{binding-behind, entry-behind}
+use Rattle.panel_rows.specs.Rows.{valueWidth, bindingValueAt, entryValueAt, padded, bindingRow, entryRow}
+use Rattle.panel_rows.specs.RowsLaws.{binding-behind, entry-behind}
 use Rattle.panel_plan.specs.Resolved.{resolvedBinding, resolvedEntry}
 use Rattle.panel_plan.specs.Plan.{old, new, valueFrom, resolution}
 use Rattle.panel_plan.specs.PlanLaws.{old-value, new-value}
@@ -32,9 +32,9 @@ module _ (p : Projection) (set : ℕ → Value) where
   -- a binding, from the old row and from the set
   module _ (n s : ℕ) where
     pub binding-written-old : (i : ℕ) → i < length (p .bindings) → length (p .bindings) ≤ projectionEntries
-        → bindingRow (resolvedBinding (resolution p set) (record { node = n; slot = s; value = old i })) ≡ u64 n ++ (u32 s ++ drop 12 (getD (map bindingRow (p .bindings)) i []))
+        → bindingRow (resolvedBinding (resolution p set) (record { node = n; slot = s; value = old i })) ≡ u64 n ++ (u32 s ++ drop bindingValueAt (getD (map bindingRow (p .bindings)) i []))
     unfolding bindingRow resolvedBinding resolution
-    binding-written-old i h few = ap (λ (bs : List ℕ). u64 n ++ (u32 s ++ bs)) (old-written (λ (b : Binding). b .value) bindingRow 12 binding-behind set (p .bindings) i h few)
+    binding-written-old i h few = ap (λ (bs : List ℕ). u64 n ++ (u32 s ++ bs)) (old-written (λ (b : Binding). b .value) bindingRow bindingValueAt binding-behind set (p .bindings) i h few)
 
     pub binding-written-new : (at : ℕ) → bindingRow (resolvedBinding (resolution p set) (record { node = n; slot = s; value = new at })) ≡ u64 n ++ (u32 s ++ padded (set at))
     unfolding bindingRow resolvedBinding resolution
@@ -43,9 +43,9 @@ module _ (p : Projection) (set : ℕ → Value) where
   -- an entry, from the old row and from the set
   module _ (c k : ℕ) where
     pub entry-written-old : (i : ℕ) → i < length (p .entries) → length (p .entries) ≤ projectionEntries
-        → entryRow (resolvedEntry (resolution p set) (record { collection = c; key = k; value = old i })) ≡ u64 c ++ (u64 k ++ drop 16 (getD (map entryRow (p .entries)) i []))
+        → entryRow (resolvedEntry (resolution p set) (record { collection = c; key = k; value = old i })) ≡ u64 c ++ (u64 k ++ drop entryValueAt (getD (map entryRow (p .entries)) i []))
     unfolding entryRow resolvedEntry resolution
-    entry-written-old i h few = ap (λ (bs : List ℕ). u64 c ++ (u64 k ++ bs)) (old-written (λ (e : Entry). e .value) entryRow 16 entry-behind set (p .entries) i h few)
+    entry-written-old i h few = ap (λ (bs : List ℕ). u64 c ++ (u64 k ++ bs)) (old-written (λ (e : Entry). e .value) entryRow entryValueAt entry-behind set (p .entries) i h few)
 
     pub entry-written-new : (at : ℕ) → entryRow (resolvedEntry (resolution p set) (record { collection = c; key = k; value = new at })) ≡ u64 c ++ (u64 k ++ padded (set at))
     unfolding entryRow resolvedEntry resolution

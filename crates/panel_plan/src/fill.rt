@@ -7,16 +7,15 @@ ghost use Rattle.spec_patch.specs.Sizes.{projectionBindings, projectionEntries}
 ghost use Rattle.spec_patch.specs.Encode.{u64};
 ghost use Rattle.spec_projection.specs.Projection.{Binding, Entry};
 ghost use Rattle.bytes_records.specs.Table.{Holds};
-ghost use Rattle.local_projection_state.specs.Rows.{bindingWidth, entryWidth, bindingRow, entryRow};
+ghost use Rattle.panel_rows.specs.Rows.{bindingWidth, entryWidth, bindingRow, entryRow};
 ghost use Rattle.local_projection_state.specs.Stores.{Stored};
 ghost use Rattle.panel_plan.specs.Plan.{numbered, bindingWith, entryWith};
-ghost use Rattle.panel_plan.specs.PlanRows.{PlannedBindings, PlannedEntries};
+ghost use Rattle.panel_plan.specs.PlanRows.{sourceWidth, PlannedBindings, PlannedEntries};
 ghost use Rattle.panel_plan.specs.NumberedRows.{numberedRow, numberedRows};
-use local_projection_state::LocalProjectionState;
 
 // Writes the ids of an old row, and behind them its number.
 fn number_row(old: &[u8], ids: usize, number: usize, row: &mut [u8])
-    ensures { λ _. ⌜ (ids ≤ length (now (old .entry)) → length (now (row .entry)) ≡ ids + 8 → now (row .exit) ≡ numberedRow ids number (now (old .entry))) ⌝ }
+    ensures { λ _. ⌜ (ids ≤ length (now (old .entry)) → length (now (row .entry)) ≡ ids + sourceWidth → now (row .exit) ≡ numberedRow ids number (now (old .entry))) ⌝ }
 {
     if old.len() < ids {
         return;
@@ -30,11 +29,11 @@ fn number_row(old: &[u8], ids: usize, number: usize, row: &mut [u8])
 
 // Numbers the rows of a table, whose ids are so many bytes, in a table without rows; row is memory for one of them.
 fn number_rows(from: &[u8], width: usize, count: usize, ids: usize, row: &mut [u8], to: &mut [u8])
-    requires { ⌜ (0 < width) × (length (now row) ≡ ids + 8) ⌝ }
-    ensures { λ _. ⌜ ((rows : List (List ℕ)) → ids ≤ width → Holds width count (now (from .entry)) rows → Holds (ids + 8) 0 (now (to .entry)) []
-        → count * (ids + 8) ≤ length (now (to .entry)) → Holds (ids + 8) count (now (to .exit)) (numberedRows ids 0 rows)) ⌝ }
+    requires { ⌜ (0 < width) × (length (now row) ≡ ids + sourceWidth) ⌝ }
+    ensures { λ _. ⌜ ((rows : List (List ℕ)) → ids ≤ width → Holds width count (now (from .entry)) rows → Holds (ids + sourceWidth) 0 (now (to .entry)) []
+        → count * (ids + sourceWidth) ≤ length (now (to .entry)) → Holds (ids + sourceWidth) count (now (to .exit)) (numberedRows ids 0 rows)) ⌝ }
 {
-    let size = ids + 8;
+    let size = ids + super::SOURCE_WIDTH;
     let mut i: usize = 0;
     while i < count {
         let old = bytes_records::record_at(from, width, count, i);
@@ -52,9 +51,9 @@ pub fn plan_bindings(from: &[u8], count: usize, to: &mut [u8])
     let mut row = [0u8; super::BINDING_WIDTH];
     number_rows(
         from,
-        LocalProjectionState::BINDING_WIDTH,
+        panel_rows::BINDING_WIDTH,
         count,
-        12,
+        panel_rows::BINDING_VALUE,
         &mut row,
         to,
     );
@@ -68,9 +67,9 @@ pub fn plan_entries(from: &[u8], count: usize, to: &mut [u8])
     let mut row = [0u8; super::ENTRY_WIDTH];
     number_rows(
         from,
-        LocalProjectionState::ENTRY_WIDTH,
+        panel_rows::ENTRY_WIDTH,
         count,
-        16,
+        panel_rows::ENTRY_VALUE,
         &mut row,
         to,
     );

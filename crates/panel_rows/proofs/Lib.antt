@@ -1,1 +1,3 @@
 pub mod Padding
+pub mod StoredValues
+pub mod Copies

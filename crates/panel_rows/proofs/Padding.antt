@@ -10,7 +10,7 @@ use Rattle.bytes_moves.specs.Moves.{zeros}
 use Rattle.bytes_moves.specs.MovesLaws.{length-zeros, drop-zeros}
 use Rattle.bytes_wire.specs.Write.{overwrite}
 use Rattle.bytes_wire.specs.WriteLaws.{has-room, overwrite-in-place, overwrite-append}
-use Rattle.local_projection_state.specs.Rows.{valueWidth, padded}
+use Rattle.panel_rows.specs.Rows.{valueWidth, padded}
 
 -- the first bytes over zeros
 over-zeros : (n k : ℕ) (bs : List ℕ) → length bs ≡ k → k ≤ n → overwrite (zeros n) 0 bs ≡ bs ++ zeros (n - k)

@@ -1,26 +1,56 @@
-// The rows of a projection's tables, made of an operation and the bytes of its text.
+// The rows of a projection's tables: where each field stands, and how a row is made and taken apart.
+pub mod fields;
+pub mod values;
+pub mod written;
+
 ghost use mathlib.Core.Path.{_≡_};
 ghost use Rattle.patch_part_writer.specs.Extent.{valueText, Within};
 ghost use Rattle.projection_patch.specs.Meaning.{valueOf, availabilityOf};
-ghost use Rattle.local_projection_state.specs.Rows.{bindingRow, availabilityRow, entryRow};
-use local_projection_state::LocalProjectionState;
-use patch_part_writer::fields;
+ghost use Rattle.panel_rows.specs.Rows.{bindingRow, availabilityRow, entryRow};
+use patch_part_writer::fields as operation_fields;
 use projection_patch::patch::ProjectionNodeAvailability;
 use projection_patch::patch::ProjectionPatchValue;
+
+// A node's, a collection's or a key's id, and a slot.
+pub const ID_WIDTH: usize = 8;
+
+pub const SLOT_WIDTH: usize = 4;
+
+// A value's canonical bytes: a kind, a length and the longest text.
+pub const VALUE_WIDTH: usize = 5 + ProjectionPatchValue::TEXT_BYTES;
+
+// A binding: a node, a slot and a value.
+pub const BINDING_SLOT: usize = ID_WIDTH;
+
+pub const BINDING_VALUE: usize = BINDING_SLOT + SLOT_WIDTH;
+
+pub const BINDING_WIDTH: usize = BINDING_VALUE + VALUE_WIDTH;
+
+// An availability: a node, and a byte.
+pub const AVAILABILITY: usize = ID_WIDTH;
+
+pub const AVAILABILITY_WIDTH: usize = AVAILABILITY + 1;
+
+// An entry: a collection, a key and a value.
+pub const ENTRY_KEY: usize = ID_WIDTH;
+
+pub const ENTRY_VALUE: usize = ENTRY_KEY + ID_WIDTH;
+
+pub const ENTRY_WIDTH: usize = ENTRY_VALUE + VALUE_WIDTH;
 
 pub fn entry_row(
     collection: u64,
     key: u64,
     value: ProjectionPatchValue,
     texts: &[u8],
-) -> [u8; LocalProjectionState::ENTRY_WIDTH]
+) -> [u8; ENTRY_WIDTH]
     requires { ⌜ Within (now texts) (valueText value) ⌝ }
     ensures { λ r. ⌜ r ≡ entryRow (record { collection = collection; key = key; value = valueOf (now (texts .entry)) value }) ⌝ }
 {
-    let mut row = [0u8; LocalProjectionState::ENTRY_WIDTH];
+    let mut row = [0u8; ENTRY_WIDTH];
     bytes_wire::write_u64_at(&mut row, 0, collection);
-    bytes_wire::write_u64_at(&mut row, 8, key);
-    fields::store_value(&mut row, 16, value, texts);
+    bytes_wire::write_u64_at(&mut row, ENTRY_KEY, key);
+    operation_fields::store_value(&mut row, ENTRY_VALUE, value, texts);
     row
 }
 
@@ -29,25 +59,29 @@ pub fn binding_row(
     slot: u32,
     value: ProjectionPatchValue,
     texts: &[u8],
-) -> [u8; LocalProjectionState::BINDING_WIDTH]
+) -> [u8; BINDING_WIDTH]
     requires { ⌜ Within (now texts) (valueText value) ⌝ }
     ensures { λ r. ⌜ r ≡ bindingRow (record { node = node; slot = slot; value = valueOf (now (texts .entry)) value }) ⌝ }
 {
-    let mut row = [0u8; LocalProjectionState::BINDING_WIDTH];
+    let mut row = [0u8; BINDING_WIDTH];
     bytes_wire::write_u64_at(&mut row, 0, node);
-    bytes_wire::write_u32_at(&mut row, 8, slot);
-    fields::store_value(&mut row, 12, value, texts);
+    bytes_wire::write_u32_at(&mut row, BINDING_SLOT, slot);
+    operation_fields::store_value(&mut row, BINDING_VALUE, value, texts);
     row
 }
 
 pub fn availability_row(
     node: u64,
     availability: ProjectionNodeAvailability,
-) -> [u8; LocalProjectionState::AVAILABILITY_WIDTH]
+) -> [u8; AVAILABILITY_WIDTH]
     ensures { λ r. ⌜ r ≡ availabilityRow (record { node = node; availability = availabilityOf availability }) ⌝ }
 {
-    let mut row = [0u8; LocalProjectionState::AVAILABILITY_WIDTH];
+    let mut row = [0u8; AVAILABILITY_WIDTH];
     bytes_wire::write_u64_at(&mut row, 0, node);
-    bytes_wire::write_u8_at(&mut row, 8, fields::availability_byte(availability));
+    bytes_wire::write_u8_at(
+        &mut row,
+        AVAILABILITY,
+        operation_fields::availability_byte(availability),
+    );
     row
 }

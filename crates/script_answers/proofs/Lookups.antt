@@ -12,9 +12,9 @@ use Rattle.spec_replay.specs.Answers.{dash, valueLine, availabilityLine}
 use Rattle.bytes_decimal.specs.declared.Printed.{Printed}
 use Rattle.bytes_printer.specs.Prints.{Prints}
 use Rattle.bytes_printer.specs.PrintsLaws.{_⨾_}
-use Rattle.panel_values.specs.Lookup.{foundValue, valueLookup, availabilityLookup}
-use Rattle.panel_values.specs.declared.ValueLookup.{ValueLookup}
-use Rattle.panel_values.specs.declared.AvailabilityLookup.{AvailabilityLookup}
+use Rattle.panel_rows.specs.Lookup.{foundValue, valueLookup, availabilityLookup}
+use Rattle.panel_rows.specs.declared.values.ValueLookup.{ValueLookup}
+use Rattle.panel_rows.specs.declared.values.AvailabilityLookup.{AvailabilityLookup}
 
 found-not : {b : Bool} → b ≡ true → b ≡ false → ⊥
 found-not t f = let z : _≡_ {A = ℕ} 0 1 = cc in omega arith

@@ -6,10 +6,10 @@ ghost use Rattle.spec_patch.specs.Patch.{Value, Availability};
 ghost use Rattle.spec_listing.specs.Listing.{fields};
 ghost use Rattle.spec_replay.specs.Answers.{dash, valueLine, availabilityLine};
 ghost use Rattle.bytes_printer.specs.Prints.{Prints};
-ghost use Rattle.panel_values.specs.Lookup.{valueLookup, availabilityLookup};
+ghost use Rattle.panel_rows.specs.Lookup.{valueLookup, availabilityLookup};
 use bytes_decimal::Printed;
-use panel_values::AvailabilityLookup;
-use panel_values::ValueLookup;
+use panel_rows::values::AvailabilityLookup;
+use panel_rows::values::ValueLookup;
 
 fn print_none(out: &mut [u8], at: Printed) -> Printed
     ensures { λ r. ⌜ Prints (now (out .entry)) at (fields (dash ∷ [])) (now (out .exit)) r ⌝ }

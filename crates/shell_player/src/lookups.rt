@@ -1,13 +1,14 @@
 // Lookups in the projection of a session. Without a record every field of the answer is zero.
 use crate::session::ShellSession;
-use panel_positions::EntryLookup;
-use panel_values::AvailabilityLookup;
-use panel_values::ValueLookup;
+use panel_lookups::positions;
+use panel_lookups::positions::EntryLookup;
+use panel_rows::values::AvailabilityLookup;
+use panel_rows::values::ValueLookup;
 ghost use mathlib.Core.Path.{_≡_};
 ghost use Rattle.spec_projection.specs.Lookups.{bindingOf, availabilityOf, entryOf, entryAt, entryCount};
 ghost use Rattle.spec_session.specs.Session.{Session};
-ghost use Rattle.panel_values.specs.Lookup.{valueLookup, availabilityLookup};
-ghost use Rattle.panel_positions.specs.Nth.{entryLookup};
+ghost use Rattle.panel_rows.specs.Lookup.{valueLookup, availabilityLookup};
+ghost use Rattle.panel_lookups.specs.Nth.{entryLookup};
 ghost use Rattle.shell_player.specs.Holds.{Holds};
 
 impl ShellSession {
@@ -44,7 +45,7 @@ impl ShellSession {
     {
         let table = self.local_projection.entries;
         let counts = self.local_projection.counts;
-        panel_positions::entry_count(&table, counts.entries, collection)
+        positions::entry_count(&table, counts.entries, collection)
     }
 
     // The entry at a position of its collection, from 0.
@@ -53,6 +54,6 @@ impl ShellSession {
     {
         let table = self.local_projection.entries;
         let counts = self.local_projection.counts;
-        panel_positions::entry_at(&table, counts.entries, collection, position)
+        positions::entry_at(&table, counts.entries, collection, position)
     }
 }

@@ -12,7 +12,7 @@ use Rattle.spec_listing.specs.Listing.{bindingLine}
 use Rattle.bytes_records.specs.Table.{Holds}
 use Rattle.bytes_printer.specs.Prints.{Prints, Within}
 use Rattle.bytes_printer.specs.PrintsLaws.{lines-start, lines-end}
-use Rattle.local_projection_state.specs.Rows.{bindingWidth, bindingRow}
+use Rattle.panel_rows.specs.Rows.{bindingWidth, bindingRow}
 use Rattle.listing_tables.proofs.Tables.{element-at, holds-length, not-too-many, line-more}
 use Rattle.listing_tables.proofs.print_bindings.Statement.{statement}
 use Rattle.listing_tables.proofs.print_bindings.Tie as tie

@@ -8,7 +8,7 @@ use Rattle.spec_projection.specs.Valid.{FitsBinding, FitsNodeAvailability, Fits
 use Rattle.spec_decimal.specs.Decimal.{decimal}
 use Rattle.spec_listing.specs.Listing.{fields, recordCount, projectionLines}
 use Rattle.bytes_printer.specs.PrintsLaws.{_⨾_, same-bytes, ends-within}
-use Rattle.local_projection_state.specs.Rows.{bindingRow, availabilityRow, entryRow}
+use Rattle.panel_rows.specs.Rows.{bindingRow, availabilityRow, entryRow}
 use Rattle.listing_tables.proofs.Tables.{holds-length}
 use Rattle.listing_tables.proofs.print_projection.Statement.{statement}
 use Rattle.listing_tables.proofs.print_projection.Tie as tie

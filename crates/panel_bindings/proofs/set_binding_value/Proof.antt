@@ -2,8 +2,8 @@
 use borrow.Author.Needs.{needs}
 use denote.Ref.{now}
 use Rattle.spec_projection.specs.Projection.{bindingKey}
-use Rattle.local_projection_state.specs.Rows.{bindingWidth, bindingRow}
-use Rattle.local_projection_state.specs.RowsLaws.{binding-key}
+use Rattle.panel_rows.specs.Rows.{bindingWidth, bindingRow}
+use Rattle.panel_rows.specs.RowsLaws.{binding-key}
 use Rattle.panel_bindings.proofs.Settings.{binding-set}
 use Rattle.panel_bindings.proofs.set_binding_value.Statement.{statement}
 use Rattle.panel_bindings.proofs.set_binding_value.Tie as tie

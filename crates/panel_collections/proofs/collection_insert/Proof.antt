@@ -4,7 +4,7 @@ use native.Mathlib.Omega.{arith}
 use denote.Ref.{now}
 use borrow.Author.Needs.{needs}
 use Rattle.bytes_records.specs.Table.{Wide}
-use Rattle.local_projection_state.specs.Rows.{entryWidth}
+use Rattle.panel_rows.specs.Rows.{entryWidth}
 use Rattle.panel_bindings.specs.RowChanges.{insert-room}
 use Rattle.panel_collections.proofs.Entries.{position-at, inserted-there, insert-full, key-present, neighbour-missing}
 use Rattle.panel_collections.proofs.collection_insert.Statement.{statement}

@@ -2,7 +2,7 @@
 use mathlib.Core.List.{map}
 use borrow.Author.Needs.{needs}
 use denote.Ref.{now}
-use Rattle.local_projection_state.specs.Rows.{bindingRow}
+use Rattle.panel_rows.specs.Rows.{bindingRow}
 use Rattle.panel_lookups.proofs.Found.{binding-found, binding-absent}
 use Rattle.panel_lookups.proofs.binding_value.Statement.{statement}
 use Rattle.panel_lookups.proofs.binding_value.Tie as tie

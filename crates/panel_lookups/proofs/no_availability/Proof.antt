@@ -1,6 +1,6 @@
 -- `no_availability` meets its contract.
 use mathlib.Core.Path.{refl}
-use Rattle.panel_values.specs.Lookup.{availabilityLookup}
+use Rattle.panel_rows.specs.Lookup.{availabilityLookup}
 use Rattle.panel_lookups.proofs.no_availability.Statement.{statement}
 use Rattle.panel_lookups.proofs.no_availability.Tie as tie
 

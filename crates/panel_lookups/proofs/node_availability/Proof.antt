@@ -2,7 +2,7 @@
 use mathlib.Core.List.{map}
 use borrow.Author.Needs.{needs}
 use denote.Ref.{now}
-use Rattle.local_projection_state.specs.Rows.{availabilityRow}
+use Rattle.panel_rows.specs.Rows.{availabilityRow}
 use Rattle.panel_lookups.proofs.Found.{availability-found, availability-absent}
 use Rattle.panel_lookups.proofs.node_availability.Statement.{statement}
 use Rattle.panel_lookups.proofs.node_availability.Tie as tie

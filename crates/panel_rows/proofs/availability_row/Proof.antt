@@ -8,7 +8,7 @@ use Rattle.spec_patch.specs.Patch.{Availability, available, unavailable, hidden
 use Rattle.spec_patch.specs.Encode.{u64, availabilityByte}
 use Rattle.bytes_wire.specs.Write.{overwrite}
 use Rattle.projection_patch.specs.Meaning.{availabilityOf}
-use Rattle.local_projection_state.specs.Rows.{availabilityRow}
+use Rattle.panel_rows.specs.Rows.{availabilityRow}
 use Rattle.panel_rows.proofs.Padding.{two-fields}
 use Rattle.panel_rows.proofs.availability_row.Statement.{statement}
 use Rattle.panel_rows.proofs.availability_row.Tie as tie

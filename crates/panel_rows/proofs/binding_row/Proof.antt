@@ -7,7 +7,7 @@ use Rattle.spec_patch.specs.Encode.{u32, u64}
 use Rattle.projection_patch.specs.Meaning.{valueOf}
 use Rattle.patch_part_writer.specs.Extent.{valueSize}
 use Rattle.patch_part_writer.specs.ExtentLaws.{length-value, value-small}
-use Rattle.local_projection_state.specs.Rows.{bindingRow}
+use Rattle.panel_rows.specs.Rows.{bindingRow}
 use Rattle.panel_rows.proofs.Padding.{with-value}
 use Rattle.panel_rows.proofs.binding_row.Statement.{statement}
 use Rattle.panel_rows.proofs.binding_row.Tie as tie

@@ -7,8 +7,8 @@ use Rattle.spec_projection.specs.Entries.{isEntry}
 use Rattle.spec_projection.specs.Valid.{FitsEntry}
 use Rattle.bytes_records.specs.Search.{isPair}
 use Rattle.bytes_records.specs.SearchLaws.{find-map}
-use Rattle.local_projection_state.specs.Rows.{entryRow}
-use Rattle.local_projection_state.specs.RowsLaws.{entry-pair, entries-rising}
+use Rattle.panel_rows.specs.Rows.{entryRow}
+use Rattle.panel_rows.specs.RowsLaws.{entry-pair, entries-rising}
 use Rattle.panel_collections.proofs.find.find_entry.Statement.{statement}
 use Rattle.panel_collections.proofs.find.find_entry.Tie as tie
 

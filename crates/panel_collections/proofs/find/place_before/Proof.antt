@@ -9,8 +9,8 @@ use Rattle.bytes_records.specs.PositionsLaws.{firstIndex-map}
 use Rattle.bytes_records.specs.Search.{isAbove, findFirst}
 use Rattle.bytes_records.specs.declared.Found.the-variants.{At}
 use Rattle.projection_patch.specs.Meaning.{beforeOf}
-use Rattle.local_projection_state.specs.Rows.{entryRow}
-use Rattle.local_projection_state.specs.RowsLaws.{entry-above, entries-rising}
+use Rattle.panel_rows.specs.Rows.{entryRow}
+use Rattle.panel_rows.specs.RowsLaws.{entry-above, entries-rising}
 use Rattle.panel_collections.specs.Places.{placeBefore, PositionWithin}
 use Rattle.panel_collections.proofs.Entries.{within-position}
 use Rattle.panel_collections.proofs.find.place_before.Statement.{statement}

@@ -7,14 +7,15 @@ use borrow.Author.Needs.{needs}
 use lib.ListN.{length}
 use Rattle.bytes_records.specs.Table.{Holds}
 use Rattle.bytes_records.specs.TableLaws.{row-width}
+use Rattle.panel_plan.specs.PlanRows.{sourceWidth}
 use Rattle.panel_plan.proofs.Numbered.{Numbering, numbering-start, numbering-more, numbering-end}
 use Rattle.panel_plan.proofs.fill.number_rows.Statement.{statement}
 use Rattle.panel_plan.proofs.fill.number_rows.Tie as tie
 
 abbrev Inv-loop : tie.InvT-loop
 Inv-loop from width count ids row₀ to₀ size i₀ row to i =
-    (i ≤ count) × (length row ≡ ids + 8) × (length to ≡ length to₀) × ((rows : List (List ℕ)) → ids ≤ width → Holds width count from rows → Holds (ids + 8) 0 to₀ []
-    → count * (ids + 8) ≤ length to₀ → Numbering ids i to rows)
+    (i ≤ count) × (length row ≡ ids + sourceWidth) × (length to ≡ length to₀) × ((rows : List (List ℕ)) → ids ≤ width → Holds width count from rows → Holds (ids + sourceWidth) 0 to₀ []
+    → count * (ids + sourceWidth) ≤ length to₀ → Numbering ids i to rows)
 
 abbrev μ-loop : tie.MeasureT-loop
 μ-loop from width count ids row₀ to₀ size i₀ row to i = count - i

@@ -2,7 +2,7 @@
 use native.Mathlib.Omega.{arith}
 use borrow.Author.Needs.{needs}
 use Rattle.spec_patch.specs.Sizes.{projectionBindings}
-use Rattle.local_projection_state.specs.Rows.{bindingWidth, bindingRow}
+use Rattle.panel_rows.specs.Rows.{bindingValueAt, bindingWidth, bindingRow}
 use Rattle.panel_plan.specs.Plan.{bindingWith}
 use Rattle.panel_plan.specs.PlanRows.{plannedBindingRow}
 use Rattle.panel_plan.specs.NumberedRowsLaws.{binding-numbered, stored-numbered}
@@ -21,7 +21,7 @@ same-length c = search needs
 returns : tie.Need-returns
 returns c =
     let call = c .before .before .before in
-    λ l s none. stored-numbered bindingRow plannedBindingRow bindingWith 12 binding-numbered bindingWidth projectionBindings _ l (omega arith) (omega arith) (search needs) (call .number-rows .ensures) s none
+    λ l s none. stored-numbered bindingRow plannedBindingRow bindingWith bindingValueAt binding-numbered bindingWidth projectionBindings _ l (omega arith) (omega arith) (search needs) (call .number-rows .ensures) s none
 
 pub plan-bindings-spec : {M : Type 1} → statement M
 plan-bindings-spec =

@@ -2,7 +2,7 @@
 use native.Mathlib.Omega.{arith}
 use borrow.Author.Needs.{needs}
 use Rattle.spec_patch.specs.Sizes.{projectionEntries}
-use Rattle.local_projection_state.specs.Rows.{entryWidth, entryRow}
+use Rattle.panel_rows.specs.Rows.{entryValueAt, entryWidth, entryRow}
 use Rattle.panel_plan.specs.Plan.{entryWith}
 use Rattle.panel_plan.specs.PlanRows.{plannedEntryRow}
 use Rattle.panel_plan.specs.NumberedRowsLaws.{entry-numbered, stored-numbered}
@@ -21,7 +21,7 @@ same-length c = search needs
 returns : tie.Need-returns
 returns c =
     let call = c .before .before .before in
-    λ l s none. stored-numbered entryRow plannedEntryRow entryWith 16 entry-numbered entryWidth projectionEntries _ l (omega arith) (omega arith) (search needs) (call .number-rows .ensures) s none
+    λ l s none. stored-numbered entryRow plannedEntryRow entryWith entryValueAt entry-numbered entryWidth projectionEntries _ l (omega arith) (omega arith) (search needs) (call .number-rows .ensures) s none
 
 pub plan-entries-spec : {M : Type 1} → statement M
 plan-entries-spec =

@@ -16,6 +16,7 @@ use Rattle.spec_session.specs.Session.{at, Session}
 use Rattle.spec_session.specs.Lifecycle.{applied}
 use Rattle.spec_session.specs.Batch.{candidate, commit}
 use Rattle.spec_session.specs.BatchLaws.{never-passes}
+use Rattle.panel_rows.specs.Rows.{bindingBytes, availabilityBytes, entryBytes}
 use Rattle.local_projection_state.specs.Stores.{StoredTables}
 use Rattle.panel_steps.proofs.ReplayRun as replay-run
 use Rattle.panel_steps.specs.Replay.{RunBecame}
@@ -36,13 +37,13 @@ use Rattle.shell_player.proofs.session.ShellSession.apply_projection_pa
 use Rattle.shell_player.proofs.session.ShellSession.apply_projection_patch_batch.Tie as tie
 
 -- what is lent is as long as its table
-long-bindings : (c : tie.Start) → length (c .args .self .«local_projection» .bindings) ≡ 11328
+long-bindings : (c : tie.Start) → length (c .args .self .«local_projection» .bindings) ≡ bindingBytes
 long-bindings c = search needs
 
-long-availability : (c : tie.Start) → length (c .args .self .«local_projection» .availability) ≡ 576
+long-availability : (c : tie.Start) → length (c .args .self .«local_projection» .availability) ≡ availabilityBytes
 long-availability c = search (needs, c .good .0 .1 .1 .1 .1 .0 .1 .1 .1 .1 .0)
 
-long-entries : (c : tie.Start) → length (c .args .self .«local_projection» .entries) ≡ 23168
+long-entries : (c : tie.Start) → length (c .args .self .«local_projection» .entries) ≡ entryBytes
 long-entries c = search (needs, c .good .0 .1 .1 .1 .1 .0 .1 .1 .1 .1 .1 .0)
 
 -- what the run says of the operations

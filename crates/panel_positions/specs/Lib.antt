@@ -1,2 +1,0 @@
-pub mod Nth
-pub mod NthLaws

@@ -1,0 +1,47 @@
+-- `stored_value` meets its contract: the reader of values reads what is stored.
+use mathlib.Core.Path.{ap, _∙_}
+use borrow.Author.Needs.{needs}
+use denote.Ref.{now}
+use Rattle.panel_rows.specs.Lookup.{foundValue}
+use Rattle.panel_rows.proofs.StoredValues.{value-read-back, value-not-refused}
+use Rattle.panel_rows.proofs.values.stored_value.Statement.{statement}
+use Rattle.panel_rows.proofs.values.stored_value.Tie as tie
+
+value-at-requires : tie.Need-value-at-requires
+value-at-requires c κs = search needs
+
+enum-known-value : tie.Need-enum-known-value
+enum-known-value c = search needs
+
+value-lookup-requires : tie.Need-value-lookup-requires
+value-lookup-requires c κs = search needs
+
+enum-told : tie.Need-enum-told
+enum-told c = search needs
+
+no-value-requires : tie.Need-no-value-requires
+no-value-requires c κs = search needs
+
+returns : tie.Need-returns
+returns c =
+    let row = now (c .before .before .before .before .before .before .args .row) in
+    λ v h e.
+    let there = value-read-back row (c .before .before .before .before .before .before .args .at) (c .before .before .before .before .value-at .result) (c .before .before .before .before .value-at .ensures) v h e _ _ (c .before .before .value .given .1) in
+    c .value-lookup .ensures (there .0) ∙ ap foundValue (there .1)
+
+returns-2 : tie.Need-returns-2
+returns-2 c =
+    let row = now (c .before .before .before .before .before .args .row) in
+    λ v h e. absurd (value-not-refused row (c .before .before .before .before .before .args .at) (c .before .before .before .value-at .result) (c .before .before .before .value-at .ensures) v h e _ (c .before .enum-told .given .1))
+
+pub stored-value-spec : {M : Type 1} → statement M
+stored-value-spec =
+    tie.close
+    (tie.spec
+    value-at-requires
+    enum-known-value
+    value-lookup-requires
+    enum-told
+    no-value-requires
+    returns
+    returns-2)

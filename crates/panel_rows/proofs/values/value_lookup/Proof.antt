@@ -1,0 +1,84 @@
+-- `values::value_lookup` meets its contract: the field of the value's kind is set.
+use mathlib.Core.Path.{sym, ap, subst, _∙_}
+use borrow.Author.Needs.{needs, sfits-of}
+use denote.Ref.{now}
+use mir.Syntax.{w64}
+use mir.Facts.{toZ-ofZ}
+use Rattle.spec_patch.specs.Patch.{signed}
+use Rattle.projection_patch.specs.Meaning.{valueOf}
+use Rattle.patch_part_writer.specs.Extent.{valueText, Within}
+use Rattle.panel_rows.specs.Lookup.{foundQuad, foundValue}
+use Rattle.panel_rows.proofs.StoredValues.{quad-number}
+use Rattle.panel_rows.proofs.values.value_lookup.Statement.{statement}
+use Rattle.panel_rows.proofs.values.value_lookup.Tie as tie
+
+enum-known-value : tie.Need-enum-known-value
+enum-known-value c = search needs
+
+quad-number-requires : tie.Need-quad-number-requires
+quad-number-requires c κs = search needs
+
+quad-value-requires : tie.Need-quad-value-requires
+quad-value-requires c κs = search needs
+
+enum-known-value-2 : tie.Need-enum-known-value-2
+enum-known-value-2 c = search needs
+
+signed-value-requires : tie.Need-signed-value-requires
+signed-value-requires c κs = search needs
+
+enum-known-value-3 : tie.Need-enum-known-value-3
+enum-known-value-3 c = search needs
+
+unsigned-value-requires : tie.Need-unsigned-value-requires
+unsigned-value-requires c κs = search needs
+
+enum-known-value-4 : tie.Need-enum-known-value-4
+enum-known-value-4 c = search needs
+
+text-value-requires : tie.Need-text-value-requires
+text-value-requires c κs = search needs
+
+returns : tie.Need-returns
+returns c =
+    let value = c .before .before .before in
+    let row = now (value .before .before .before .args .row) in
+    λ w. c .quad-value .ensures ∙ ap foundQuad (c .before .quad-number .ensures ∙ quad-number (value .value .given .0 .0)) ∙ sym (ap (λ v. foundValue (valueOf row v)) (value .value .given .1))
+
+returns-2 : tie.Need-returns-2
+returns-2 c =
+    let value = c .before .before in
+    let row = now (value .before .before .before .args .row) in
+    λ w. c .signed-value .ensures ∙ ap (λ z. foundValue (signed z)) (toZ-ofZ (sfits-of {w = w64} {z = value .value2 .given .0 .0} (c .before .known-told2 .given .0 .1))) ∙ sym (ap (λ v. foundValue (valueOf row v)) (value .value2 .given .1))
+
+returns-3 : tie.Need-returns-3
+returns-3 c =
+    let value = c .before .before in
+    let row = now (value .before .before .before .args .row) in
+    λ w. c .unsigned-value .ensures ∙ sym (ap (λ v. foundValue (valueOf row v)) (value .value3 .given .1))
+
+returns-4 : tie.Need-returns-4
+returns-4 c =
+    let value = c .before .before in
+    let row = now (value .before .before .before .args .row) in
+    λ w.
+    let there = subst (λ v. Within row (valueText v)) (value .value4 .given .1) w in
+    c .text-value .ensures (there .inside) (there .short) ∙ sym (ap (λ v. foundValue (valueOf row v)) (value .value4 .given .1))
+
+pub value-lookup-spec : {M : Type 1} → statement M
+value-lookup-spec =
+    tie.close
+    (tie.spec
+    enum-known-value
+    quad-number-requires
+    quad-value-requires
+    enum-known-value-2
+    signed-value-requires
+    enum-known-value-3
+    unsigned-value-requires
+    enum-known-value-4
+    text-value-requires
+    returns
+    returns-2
+    returns-3
+    returns-4)

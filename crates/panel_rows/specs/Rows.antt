@@ -1,0 +1,117 @@
+-- How a projection's records are stored: one row of bytes each, of one width for each table: the fields of its key, and its value. A value is
+-- its canonical bytes, padded with zeros to the longest.
+use Prim.Native.Nat.{ℕ, _+_, _-_, _*_}
+use mathlib.Core.List.{List, [], _∷_, _++_}
+use lib.Dec.{leb}
+use lib.ListN.{length, take, drop, getD}
+use Rattle.spec_lists.specs.Lists.{if_then_else_}
+use Rattle.spec_lists.specs.Bytes.{numberOf}
+use Rattle.spec_patch.specs.Sizes.{textBytes, projectionBindings, projectionAvailabilities, projectionEntries}
+use Rattle.spec_patch.specs.Patch.{Value}
+use Rattle.spec_patch.specs.Encode.{u32, u64, encodeValue, availabilityByte}
+use Rattle.spec_projection.specs.Projection.{Binding, NodeAvailability, Entry}
+use Rattle.bytes_moves.specs.Moves.{zeros}
+
+-- ---- widths and offsets
+
+-- a node's, a collection's or a key's id, and a slot
+abbrev pub idWidth : ℕ
+idWidth = 8
+
+abbrev pub slotWidth : ℕ
+slotWidth = 4
+
+-- the longest value: a kind, a length and a text
+abbrev pub valueWidth : ℕ
+valueWidth = 5 + textBytes
+
+-- a binding: a node, a slot and a value
+abbrev pub bindingSlotAt : ℕ
+bindingSlotAt = idWidth
+
+abbrev pub bindingValueAt : ℕ
+bindingValueAt = bindingSlotAt + slotWidth
+
+abbrev pub bindingWidth : ℕ
+bindingWidth = bindingValueAt + valueWidth
+
+-- an availability: a node, and a byte
+abbrev pub availabilityAt : ℕ
+availabilityAt = idWidth
+
+abbrev pub availabilityWidth : ℕ
+availabilityWidth = availabilityAt + 1
+
+-- an entry: a collection, a key and a value
+abbrev pub entryKeyAt : ℕ
+entryKeyAt = idWidth
+
+abbrev pub entryValueAt : ℕ
+entryValueAt = entryKeyAt + idWidth
+
+abbrev pub entryWidth : ℕ
+entryWidth = entryValueAt + valueWidth
+
+-- the tables of a panel, in bytes
+abbrev pub bindingBytes : ℕ
+bindingBytes = projectionBindings * bindingWidth
+
+abbrev pub availabilityBytes : ℕ
+availabilityBytes = projectionAvailabilities * availabilityWidth
+
+abbrev pub entryBytes : ℕ
+entryBytes = projectionEntries * entryWidth
+
+-- ---- rows
+
+-- a value's canonical bytes, and zeros behind them
+unfoldable pub padded : Value → List ℕ
+padded v = encodeValue v ++ zeros (valueWidth - length (encodeValue v))
+
+unfoldable pub bindingRow : Binding → List ℕ
+bindingRow b = u64 (b .node) ++ (u32 (b .slot) ++ padded (b .value))
+
+unfoldable pub availabilityRow : NodeAvailability → List ℕ
+availabilityRow a = u64 (a .node) ++ (availabilityByte (a .availability) ∷ [])
+
+unfoldable pub entryRow : Entry → List ℕ
+entryRow e = u64 (e .collection) ++ (u64 (e .key) ++ padded (e .value))
+
+-- ---- what the fields of any bytes are
+
+-- the number that so many bytes from an offset on spell, or as many of them as there are
+abbrev pub fieldAt : (at size : ℕ) → List ℕ → ℕ
+fieldAt at size row = numberOf (take size (drop at row))
+
+abbrev pub nodeIn : List ℕ → ℕ
+nodeIn = fieldAt 0 idWidth
+
+abbrev pub slotIn : List ℕ → ℕ
+slotIn = fieldAt bindingSlotAt slotWidth
+
+abbrev pub collectionIn : List ℕ → ℕ
+collectionIn = fieldAt 0 idWidth
+
+abbrev pub keyIn : List ℕ → ℕ
+keyIn = fieldAt entryKeyAt idWidth
+
+-- the byte of an availability, or 0
+abbrev pub availabilityIn : List ℕ → ℕ
+availabilityIn row = getD row availabilityAt 0
+
+-- the sizes of the fields that bindings and availabilities are ordered by
+abbrev pub bindingFields : List ℕ
+bindingFields = idWidth ∷ slotWidth ∷ []
+
+abbrev pub availabilityFields : List ℕ
+availabilityFields = idWidth ∷ []
+
+-- ---- rows that are written
+
+-- a key's fields, a value's bytes, and zeros behind them
+unfoldable pub filledRow : (width : ℕ) (key value : List ℕ) → List ℕ
+filledRow width key value = key ++ (value ++ zeros (width - (length key + length value)))
+
+-- the row filled; one that has no place for both is left as it is
+unfoldable pub writtenRow : (key value : List ℕ) → List ℕ → List ℕ
+writtenRow key value row = if leb (length key + length value) (length row) then filledRow (length row) key value else row
