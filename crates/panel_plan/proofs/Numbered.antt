@@ -10,7 +10,7 @@ use lib.ListN.{length, take, drop, getD, length-append, length-drop, drop-of-len
 use lib.Seq.{take-at, length-take-le, take-length}
 use Rattle.spec_lists.specs.BytesLaws.{length-littleEndian}
 use Rattle.spec_patch.specs.Encode.{u64}
-use Rattle.bytes_moves.specs.Moves as moves
+use Rattle.bytes_records.specs.Moves as moves
 use Rattle.bytes_wire.specs.Write.{overwrite}
 use Rattle.bytes_wire.specs.WriteLaws.{has-room, overwrite-in-place}
 use Rattle.bytes_records.specs.Positions.{insertAt}

@@ -23,7 +23,7 @@ fn number_row(old: &[u8], ids: usize, number: usize, row: &mut [u8])
     if row.len() < ids {
         return;
     }
-    bytes_moves::copy(&old[..ids], row);
+    bytes_records::moves::copy(&old[..ids], row);
     bytes_wire::write_u64_at(row, ids, number as u64);
 }
 
