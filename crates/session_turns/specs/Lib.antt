@@ -1,0 +1,4 @@
+pub mod Meaning
+pub mod MeaningLaws
+pub mod Runs
+pub mod RunsLaws

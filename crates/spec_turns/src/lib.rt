@@ -1,0 +1,1 @@
+// Definitions and theorems of turns among senders stand in specs/; there is no code here.
