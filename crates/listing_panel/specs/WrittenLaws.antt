@@ -8,8 +8,8 @@ use lib.ListN.{length, take, drop, length-take}
 use Rattle.spec_lists.specs.Lists.{if_then_else_}
 use Rattle.bytes_wire.specs.Write.{hasRoom, overwrite}
 use Rattle.bytes_wire.specs.WriteLaws.{room-true, has-room, overwrite-refused, take-overwrite, drop-past-overwrite}
-use Rattle.bytes_decimal.specs.declared.Printed.{Printed}
-use Rattle.bytes_decimal.specs.declared.Printed.the-variants.{Next, NoRoom}
+use Rattle.bytes_printer.specs.declared.Printed.{Printed}
+use Rattle.bytes_printer.specs.declared.Printed.the-variants.{Next, NoRoom}
 use Rattle.bytes_printer.specs.Prints.{Prints}
 use Rattle.bytes_printer.specs.PrintsLaws.{whole}
 use Rattle.patch_part_writer.specs.declared.written.WriteRefusal.the-variants.{OutputTooShort}

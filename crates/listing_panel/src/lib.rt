@@ -5,8 +5,8 @@ ghost use Rattle.spec_projection.specs.Projection.{Projection};
 ghost use Rattle.spec_listing.specs.Listing.{projectionLines, refusalLine, listing};
 ghost use Rattle.local_projection_state.specs.Stores.{Stores};
 ghost use Rattle.listing_panel.specs.Written.{Holds, Writes, Kept};
-use bytes_decimal::Printed;
-use listing_tables::LISTING_BYTES;
+use bytes_printer::Printed;
+use listing_lines::tables::LISTING_BYTES;
 use local_projection_state::LocalProjectionState;
 use patch_part_writer::written::WriteRefusal;
 use patch_part_writer::written::Written;
@@ -38,7 +38,7 @@ pub fn write_projection(state: LocalProjectionState, out: &mut [u8]) -> Written
 {
     let mut text = [0u8; LISTING_BYTES];
     let start = Printed::Next(0);
-    let end = listing_tables::print_projection(&mut text, start, state);
+    let end = listing_lines::tables::print_projection(&mut text, start, state);
     write_lines(&text, end, out)
 }
 

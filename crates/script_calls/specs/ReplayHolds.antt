@@ -6,7 +6,7 @@ use mathlib.Core.List.{List}
 use mathlib.Core.Option.{Option, none, some}
 use Rattle.spec_session.specs.Session.{Session}
 use Rattle.spec_replay.specs.Replay.{State, Step, onward, stops}
-use Rattle.bytes_decimal.specs.declared.Printed.the-variants.{Next}
+use Rattle.bytes_printer.specs.declared.Printed.the-variants.{Next}
 use Rattle.bytes_printer.specs.Prints.{Prints}
 use Rattle.shell_player.specs.Holds.{Holds}
 use Rattle.shell_player.specs.declared.session.ShellSession.{ShellSession}

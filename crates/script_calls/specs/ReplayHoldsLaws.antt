@@ -10,8 +10,8 @@ use Rattle.spec_lists.specs.ListLaws.{map-take}
 use Rattle.spec_session.specs.Session.{Session, Limits, Creation, made, refused, create}
 use Rattle.spec_replay.specs.Answers.{noSessionLine, creationLine}
 use Rattle.spec_replay.specs.Replay.{Setup, State, Step, onward, stops, asked, created, withSession, keptAnchors}
-use Rattle.bytes_decimal.specs.declared.Printed.{Printed}
-use Rattle.bytes_decimal.specs.declared.Printed.the-variants.{Next}
+use Rattle.bytes_printer.specs.declared.Printed.{Printed}
+use Rattle.bytes_printer.specs.declared.Printed.the-variants.{Next}
 use Rattle.bytes_printer.specs.Prints.{Prints}
 use Rattle.shell_player.specs.Holds.{Holds}
 use Rattle.session_creation.specs.Creation.{Creates}

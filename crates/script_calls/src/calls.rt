@@ -2,7 +2,7 @@
 use crate::state;
 use crate::state::ReplayState;
 use crate::state::ReplayStep;
-use bytes_decimal::Printed;
+use bytes_printer::Printed;
 use script_answers::session;
 use script_setup::ReplaySetup;
 use session_creation::CreationAnswer;

@@ -1,5 +1,5 @@
 // The state of a replay: its set-up, and the session of the latest creation if there is one.
-use bytes_decimal::Printed;
+use bytes_printer::Printed;
 use script_answers::session;
 use script_setup::ReplaySetup;
 use shell_player::session::ShellSession;

@@ -2,7 +2,7 @@
 use crate::state;
 use crate::state::ReplayState;
 use crate::state::ReplayStep;
-use bytes_decimal::Printed;
+use bytes_printer::Printed;
 use script_answers::value;
 ghost use Rattle.spec_projection.specs.Lookups.{bindingOf, availabilityOf, entryOf};
 ghost use Rattle.spec_session.specs.Session.{Session};
@@ -20,7 +20,7 @@ pub fn show(state: ReplayState, out: &mut [u8]) -> ReplayStep
         let session = state.session;
         let projection = session.local_projection;
         let start = Printed::Next(0);
-        let printed = listing_tables::print_projection(out, start, projection);
+        let printed = listing_lines::tables::print_projection(out, start, projection);
         return ReplayStep {
             state,
             printed,

@@ -11,8 +11,8 @@ use lib.ListN.{length, take, drop, length-drop}
 use Rattle.spec_lists.specs.Lists.{if_then_else_}
 use Rattle.spec_replay.specs.Script.{Command, other, lineBytes, readHex, given, command}
 use Rattle.spec_replay.specs.Replay.{Setup, State, onward, replayLine}
-use Rattle.bytes_decimal.specs.declared.Printed.{Printed}
-use Rattle.bytes_decimal.specs.declared.Printed.the-variants.{Next, NoRoom}
+use Rattle.bytes_printer.specs.declared.Printed.{Printed}
+use Rattle.bytes_printer.specs.declared.Printed.the-variants.{Next, NoRoom}
 use Rattle.bytes_wire.specs.Write.{hasRoom}
 use Rattle.bytes_printer.specs.Prints.{Prints}
 use Rattle.bytes_printer.specs.PrintsLaws.{written, refused, nothing-printed}

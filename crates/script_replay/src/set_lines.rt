@@ -1,6 +1,6 @@
 // Lines with a set in hex: a batch, a check and a listing.
 use crate::setup_lines;
-use bytes_decimal::Printed;
+use bytes_printer::Printed;
 use bytes_hex::Decoded;
 use check_set::check_set;
 use patch_part_writer::written::Written;
@@ -20,7 +20,7 @@ ghost use Rattle.spec_replay.specs.Script as script;
 ghost use Rattle.spec_replay.specs.Script.{lineBytes};
 ghost use Rattle.spec_replay.specs.Answers.{checkLines};
 ghost use Rattle.spec_replay.specs.Replay.{State, replayLine};
-ghost use Rattle.bytes_decimal.specs.declared.Printed.the-variants.{Next};
+ghost use Rattle.bytes_printer.specs.declared.Printed.the-variants.{Next};
 ghost use Rattle.bytes_printer.specs.Prints.{Prints};
 ghost use Rattle.script_parser.specs.Meaning.{envelopeOf, setFrom};
 ghost use Rattle.script_calls.specs.ReplayHolds.{ReplayHolds, Stepped};
@@ -43,7 +43,7 @@ fn print_checked(set: &[u8], out: &mut [u8]) -> Printed
     let mut records = [0u64; 945];
     let answer = check_set::check(set, &mut records);
     let start = Printed::Next(0);
-    script_checks::print_check(out, start, answer, &records)
+    script_answers::check::print_check(out, start, answer, &records)
 }
 
 fn printed_of(written: Written) -> Printed

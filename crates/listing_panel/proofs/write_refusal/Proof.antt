@@ -4,8 +4,8 @@ use native.Mathlib.Omega.{arith}
 use lib.ListN.{length-replicate}
 use borrow.Author.Needs.{needs}
 use Rattle.spec_listing.specs.Listing.{refusalLine}
-use Rattle.listing_tables.specs.ListingBytes.{refusalLineBytes}
-use Rattle.listing_tables.specs.ListingBytesLaws.{refusal-short}
+use Rattle.listing_lines.specs.ListingBytes.{refusalLineBytes}
+use Rattle.listing_lines.specs.ListingBytesLaws.{refusal-short}
 use Rattle.listing_panel.specs.WrittenLaws.{printed-holds}
 use Rattle.listing_panel.proofs.write_refusal.Statement.{statement}
 use Rattle.listing_panel.proofs.write_refusal.Tie as tie
