@@ -22,8 +22,8 @@ use Rattle.bytes_hex.specs.Decoding.{decoding, decodedInto}
 use Rattle.bytes_hex.specs.DecodingLaws.{decoded-part, always-room}
 use Rattle.script_parser.specs.Meaning.{setFrom, commandOf}
 use Rattle.script_parser.specs.declared.ScriptCommand.{ScriptCommand}
-use Rattle.script_setup.specs.SetsUp.{SetsUp}
-use Rattle.script_setup.specs.declared.ReplaySetup.{ReplaySetup}
+use Rattle.script_calls.specs.SetsUp.{SetsUp}
+use Rattle.script_calls.specs.declared.setup.ReplaySetup.{ReplaySetup}
 use Rattle.script_calls.specs.declared.state.ReplayState.{ReplayState}
 use Rattle.listing_panel.specs.Written.{Writes}
 use Rattle.patch_part_writer.specs.declared.written.Written.{Written}

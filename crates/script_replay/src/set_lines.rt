@@ -64,7 +64,7 @@ fn print_listing(set: &[u8], out: &mut [u8]) -> Printed
 
 fn use_set(state: ReplayState, wanted: SetUse, set: &[u8], out: &mut [u8]) -> ReplayStep
     ensures { λ r. ⌜ ((m : State) → ReplayHolds state m → (number : ℕ)
-        → Stepped (now (out .entry)) (now (out .exit)) r (replayLine number m (commandWith wanted (now (set .entry))))) ⌝ }
+        → Stepped state (now (out .entry)) (now (out .exit)) r (replayLine number m (commandWith wanted (now (set .entry))))) ⌝ }
 {
     match wanted {
         SetUse::Batch(envelope, references) => {
@@ -99,7 +99,7 @@ pub fn run_with_set(
     out: &mut [u8],
 ) -> ReplayStep
     ensures { λ r. ⌜ ((m : State) → ReplayHolds state m → length (now (line .entry)) ≤ lineBytes
-        → Stepped (now (out .entry)) (now (out .exit)) r (replayLine number m (setFrom (now (line .entry)) from (commandWith wanted)))) ⌝ }
+        → Stepped state (now (out .entry)) (now (out .exit)) r (replayLine number m (setFrom (now (line .entry)) from (commandWith wanted)))) ⌝ }
 {
     let mut set = [0u8; SET_BYTES];
     match script_parser::decode_set(line, from, &mut set) {

@@ -5,7 +5,7 @@ use bytes_printer::Printed;
 use script_answers::session;
 use script_calls::state::ReplayState;
 use script_calls::state::ReplayStep;
-use script_setup::ReplaySetup;
+use script_calls::setup::ReplaySetup;
 use session_lifecycle::state::ShellLifecycleLimits;
 ghost use mathlib.Core.Path.{_≡_};
 ghost use mathlib.Core.Bool.{false};
@@ -96,7 +96,7 @@ pub fn collection(state: ReplayState, collection: u64) -> ReplayStep
 
 // Any other line ends the replay.
 pub fn other(state: ReplayState, number: u64, out: &mut [u8]) -> ReplayStep
-    ensures { λ r. ⌜ Stepped (now (out .entry)) (now (out .exit)) r (stops (otherLine number)) ⌝ }
+    ensures { λ r. ⌜ Stepped state (now (out .entry)) (now (out .exit)) r (stops (otherLine number)) ⌝ }
 {
     let start = Printed::Next(0);
     let printed = session::print_other(out, start, number);

@@ -1,9 +1,9 @@
 -- `ReplaySetup::with_node` meets its contract: the other anchors stay as they were.
 use Rattle.spec_replay.specs.Replay.{withNode}
-use Rattle.script_setup.specs.SetsUpLaws.{kept-more}
+use Rattle.script_calls.specs.SetsUpLaws.{kept-more}
 use borrow.Author.Needs.{needs}
-use Rattle.script_setup.proofs.ReplaySetup.with_node.Statement.{statement}
-use Rattle.script_setup.proofs.ReplaySetup.with_node.Tie as tie
+use Rattle.script_calls.proofs.setup.ReplaySetup.with_node.Statement.{statement}
+use Rattle.script_calls.proofs.setup.ReplaySetup.with_node.Tie as tie
 
 kept-ids-requires : tie.Need-kept-ids-requires
 kept-ids-requires c κs = search needs
@@ -18,7 +18,7 @@ returns c =
     λ m s. record {
       id-is = s .id-is;
       limits-are = s .limits-are;
-      nodes-kept = rw (c .before .kept-ids .ensures, c .kept-count .ensures) (kept-more (a .self .nodes) (a .self .«node_count») (m .catalogue .nodes) (a .node) (s .nodes-kept));
+      nodes-kept = rw (c .before .kept-ids .ensures, c .kept-count .ensures) (kept-more 0 (a .self .nodes) (a .self .«node_count») (m .catalogue .nodes) (s .nodes-kept) (a .node));
       pairs-kept = s .pairs-kept;
       collections-kept = s .collections-kept;
     }

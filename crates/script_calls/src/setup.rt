@@ -6,7 +6,7 @@ ghost use lib.ListN.{set};
 ghost use Rattle.spec_replay.specs.Replay.{Setup, noAnchors, withNode, withBinding, withCollection};
 ghost use Rattle.active_projection_target_catalog.specs.Catalog.{pairOf};
 ghost use Rattle.session_lifecycle.specs.Meaning.{limitsOf};
-ghost use Rattle.script_setup.specs.SetsUp.{keptCount, anchored, SetsUp};
+ghost use Rattle.script_calls.specs.SetsUp.{keptCount, anchored, SetsUp};
 
 pub struct ReplaySetup {
     pub id: u64,

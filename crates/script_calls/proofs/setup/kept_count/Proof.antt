@@ -1,10 +1,10 @@
--- `script_setup::kept_count` meets its contract.
+-- `script_calls::setup::kept_count` meets its contract.
 use borrow.Author.Needs.{needs}
 use borrow.Author.Tests.{lt-ltb, le-ltb}
 use Rattle.spec_replay.specs.Replay.{keptAnchors}
-use Rattle.script_setup.specs.SetsUp.{keptCount}
-use Rattle.script_setup.proofs.kept_count.Statement.{statement}
-use Rattle.script_setup.proofs.kept_count.Tie as tie
+use Rattle.script_calls.specs.SetsUp.{keptCount}
+use Rattle.script_calls.proofs.setup.kept_count.Statement.{statement}
+use Rattle.script_calls.proofs.setup.kept_count.Tie as tie
 
 add-result : tie.Need-add-result
 add-result c = search needs
