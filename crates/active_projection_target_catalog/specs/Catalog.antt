@@ -28,14 +28,14 @@ noPair = record { node = 0; slot = 0 }
 unfoldable pub padded : {A : Type 0} → A → List A → List A
 padded none l = take anchors l ++ replicate (anchors - length l) none
 
--- the catalogue of given anchors
+-- the catalogue of given anchors; the pairs stand in their array, and so many of them are given
 unfoldable pub catalogWith : List ℕ → List BindingPair → ℕ → List ℕ → ActiveProjectionTargetCatalog
 catalogWith nodes pairs count collections = record {
   «node_count» = length nodes;
   «binding_count» = count;
   «collection_count» = length collections;
   «node_anchors» = padded 0 nodes;
-  «binding_anchors» = padded noPair (take count pairs);
+  «binding_anchors» = pairs;
   «collection_anchors» = padded 0 collections;
 }
 
@@ -45,7 +45,7 @@ pairTo b = record { node = b .node; slot = b .slot }
 
 -- the one catalogue that stores the anchors of a session
 unfoldable pub catalogTo : model.Catalogue → ActiveProjectionTargetCatalog
-catalogTo m = catalogWith (m .nodes) (map pairTo (m .bindings)) (length (m .bindings)) (m .collections)
+catalogTo m = catalogWith (m .nodes) (padded noPair (map pairTo (m .bindings))) (length (m .bindings)) (m .collections)
 
 -- ---- pairs taken apart
 

@@ -130,9 +130,8 @@ catalogue-back m few =
     let pairs = map pairTo (m .bindings) in
     let count = length (m .bindings) in
     let counted : length pairs ≡ count = length-map (m .bindings) pairTo in
-    let kept : take count (padded noPair (take count pairs)) ≡ pairs =
-    ap (λ l. take count (padded noPair l)) (take-all count pairs (omega (arith, counted))) ∙ ap (λ n. take n (padded noPair pairs)) (sym counted)
-    ∙ padded-take noPair pairs (omega (arith, counted, few .bindings)) in
+    let kept : take count (padded noPair pairs) ≡ pairs =
+    ap (λ n. take n (padded noPair pairs)) (sym counted) ∙ padded-take noPair pairs (omega (arith, counted, few .bindings)) in
     let nodes = padded-take 0 (m .nodes) (few .nodes) in
     let collections = padded-take 0 (m .collections) (few .collections) in
     λ i. record { nodes = nodes i; bindings = (ap (map pairOf) kept ∙ pairs-back (m .bindings)) i; collections = collections i }

@@ -1,8 +1,7 @@
 // The catalogue by value: fixed arrays with their counts, and zeros in every unused place.
 ghost use mathlib.Core.Path.{_≡_};
 ghost use mathlib.Core.List.{flatMap};
-ghost use lib.ListN.{take};
-ghost use Rattle.active_projection_target_catalog.specs.Catalog.{pairNumbers, noPair, padded, catalogWith};
+ghost use Rattle.active_projection_target_catalog.specs.Catalog.{pairNumbers, padded, catalogWith};
 
 pub struct BindingPair {
     pub node: u64,
@@ -22,8 +21,8 @@ impl ActiveProjectionTargetCatalog {
     // The most anchors of each kind.
     pub const ANCHORS: usize = 128;
 
-    // The catalogue of these anchors, the pairs being the first given ones. Anchors past the capacity are left out; creation refuses
-    // them before.
+    // The catalogue of these anchors. The pairs stand in their array already, so many as are given, and it is kept as it is. Ids past
+    // the capacity are left out; creation refuses them before.
     pub fn from_snapshot(
         nodes: &[u64],
         pairs: [BindingPair; ActiveProjectionTargetCatalog::ANCHORS],
@@ -37,7 +36,7 @@ impl ActiveProjectionTargetCatalog {
             binding_count: given,
             collection_count: collections.len(),
             node_anchors: padded_ids(nodes),
-            binding_anchors: padded_pairs(pairs, given),
+            binding_anchors: pairs,
             collection_anchors: padded_ids(collections),
         }
     }
@@ -69,26 +68,6 @@ pub fn padded_ids(ids: &[u64]) -> [u64; ActiveProjectionTargetCatalog::ANCHORS]
             return anchors;
         }
         anchors[i] = ids[i];
-        i += 1;
-    }
-    anchors
-}
-
-// The first count pairs, and zeros in every other place.
-pub fn padded_pairs(
-    pairs: [BindingPair; ActiveProjectionTargetCatalog::ANCHORS],
-    count: usize,
-) -> [BindingPair; ActiveProjectionTargetCatalog::ANCHORS]
-    ensures { λ r. ⌜ r ≡ padded noPair (take count pairs) ⌝ }
-{
-    let mut anchors = [BindingPair { node: 0, slot: 0 }; ActiveProjectionTargetCatalog::ANCHORS];
-    let mut i = 0;
-    while i < ActiveProjectionTargetCatalog::ANCHORS {
-        if count <= i {
-            return anchors;
-        }
-        let pair = pairs[i];
-        anchors[i] = pair;
         i += 1;
     }
     anchors

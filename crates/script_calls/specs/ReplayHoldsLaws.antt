@@ -19,7 +19,7 @@ use Rattle.shell_player.specs.declared.session.ShellSession.{ShellSession}
 use Rattle.session_creation.specs.declared.ShellSessionCreation.{ShellSessionCreation}
 use Rattle.session_lifecycle.specs.Meaning.{limitsOf}
 use Rattle.active_projection_target_catalog.specs.Catalog.{pairOf, noPair}
-use Rattle.session_from_pairs.specs.CreatesFrom.{catalogueFrom}
+use Rattle.session_creation.specs.Creation.{catalogueFrom}
 use Rattle.script_calls.specs.SetsUp.{SetsUp}
 use Rattle.script_calls.specs.SetsUpLaws.{kept-front}
 use Rattle.script_calls.specs.declared.setup.ReplaySetup.{ReplaySetup}

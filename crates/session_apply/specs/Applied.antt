@@ -1,14 +1,23 @@
 -- What a lifecycle step promises of the struct before and after it: 01, 'Lifecycle'.
 use mathlib.Core.Path.{_≡_}
+use mathlib.Core.Bool.{Bool, true, false}
 use Rattle.spec_session.specs.Session.{Session}
 use Rattle.spec_session.specs.Lifecycle.{lifecycleStep}
 use Rattle.session_lifecycle.specs.Meaning.{stimulusOf, answerOf, bare, limitsOf, stateTold}
+use Rattle.session_lifecycle.specs.declared.lifecycle.ShellTransitionDisposition.{ShellTransitionDisposition}
+use Rattle.session_lifecycle.specs.declared.lifecycle.ShellTransitionDisposition.the-variants.{Applied, NoChange, Rejected}
 use Rattle.session_lifecycle.specs.declared.lifecycle.ShellTransitionInput.{ShellTransitionInput}
 use Rattle.session_lifecycle.specs.declared.lifecycle.ShellTransitionResult.{ShellTransitionResult}
 use Rattle.shell_player.specs.declared.session.ShellSession.{ShellSession}
 use Rattle.shell_player.specs.declared.session.ShellTransition.{ShellTransition}
 use Rattle.shell_player.specs.Holds.{Holds}
 use Rattle.shell_player.specs.Steps.{nextSession, afterTransition}
+
+-- the steps after which the next session is stored
+unfoldable pub isApplied : ShellTransitionDisposition → Bool
+isApplied Applied = true
+isApplied NoChange = false
+isApplied Rejected = false
 
 -- for every struct whatever: the answer is the definition's on its limits and its state
 abbrev pub Answers : ShellSession → ShellTransitionInput → ShellTransitionResult → Type 0

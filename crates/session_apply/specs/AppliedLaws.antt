@@ -10,8 +10,7 @@ use Rattle.session_lifecycle.specs.declared.state.ShellLocalState.{ShellLocalSt
 use Rattle.shell_player.specs.declared.session.ShellSession.{ShellSession}
 use Rattle.shell_player.specs.declared.session.ShellTransition.{ShellTransition}
 use Rattle.shell_player.specs.Steps.{nextSession, afterTransition}
-use Rattle.session_dispositions.specs.Dispositions.{isApplied}
-use Rattle.session_apply.specs.Applied.{StepsTo, Stepped, StepsInPlace}
+use Rattle.session_apply.specs.Applied.{isApplied, StepsTo, Stepped, StepsInPlace}
 
 next-is : (s : ShellSession) (r : ShellTransition) → r ≡ afterTransition s (r .result) → r .session ≡ nextSession s (r .result .disposition) (r .result .state)
 unfolding afterTransition

@@ -4,7 +4,7 @@ use mathlib.Core.Path.{_≡_}
 use mathlib.Core.Bool.{Bool, _&&_}
 use mathlib.Core.List.{List, [], map}
 use lib.Dec.{leb}
-use lib.ListN.{length, take}
+use lib.ListN.{length}
 use Rattle.spec_lists.specs.Lists.{if_then_else_}
 use Rattle.spec_patch.specs.Sizes.{anchors}
 use Rattle.spec_projection.specs.Projection.{empty}
@@ -12,7 +12,7 @@ use Rattle.spec_session.specs.Session as model
 use Rattle.session_lifecycle.specs.declared.state.ShellLifecycleLimits.{ShellLifecycleLimits}
 use Rattle.session_lifecycle.specs.declared.state.ShellLifecycle.the-variants.{Closed}
 use Rattle.session_lifecycle.specs.declared.state.ProjectionReplayCursor.the-variants.{Uninitialized}
-use Rattle.active_projection_target_catalog.specs.Catalog.{pairOf, catalogWith}
+use Rattle.active_projection_target_catalog.specs.Catalog.{pairOf, noPair, padded, catalogWith}
 use Rattle.active_projection_target_catalog.specs.declared.catalog.BindingPair.{BindingPair}
 use Rattle.local_projection_state.specs.Stores.{stateOf}
 use Rattle.shell_player.specs.declared.session.ShellSession.{ShellSession}
@@ -37,25 +37,27 @@ noSession = record {
       «max_patches_per_transition» = 0;
       «max_target_references_per_transition» = 0;
     };
-    catalog = catalogWith [] [] 0 [];
+    catalog = catalogWith [] (padded noPair []) 0 [];
   };
   state = record { «session_id» = record { 0 = 0 }; lifecycle = Closed; «replay_cursor» = Uninitialized };
   «local_projection» = stateOf empty;
 }
 
+-- a new session; the pairs stand in the array that the session keeps, and so many of them are given
+abbrev pub freshSession : ℕ → ShellLifecycleLimits → List ℕ → List BindingPair → ℕ → List ℕ → ShellSession
+freshSession id limits nodes pairs given collections =
+    newState (record { «session_id» = record { 0 = id }; limits = limits; catalog = catalogWith nodes pairs given collections })
+
 -- the answer, field by field
 unfoldable pub creationWith : ℕ → ShellLifecycleLimits → List ℕ → List BindingPair → ℕ → List ℕ → ShellSessionCreation
 creationWith id limits nodes pairs given collections =
     if anchorsWithin (length nodes) given (length collections)
-    then record { answer = Created; session = newState (record { «session_id» = record { 0 = id }; limits = limits; catalog = catalogWith nodes pairs given collections }) }
+    then record { answer = Created; session = freshSession id limits nodes pairs given collections }
     else record { answer = Refused AnchorsOverCapacity; session = noSession }
 
--- creation in the model; more pairs than an array holds are over the capacity
-unfoldable pub createWith : ℕ → model.Limits → List ℕ → List BindingPair → ℕ → List ℕ → model.Creation
-createWith id limits nodes pairs given collections =
-    if leb given anchors
-    then model.create id limits (record { nodes = nodes; bindings = map pairOf (take given pairs); collections = collections })
-    else model.refused model.tooManyAnchors
+-- the anchors in the model
+abbrev pub catalogueFrom : List ℕ → List BindingPair → List ℕ → model.Catalogue
+catalogueFrom nodes pairs collections = record { nodes = nodes; bindings = map pairOf pairs; collections = collections }
 
 -- an answer stands for a creation: its session is stored, or there is none
 unfoldable pub Creates : model.Creation → ShellSessionCreation → Type 0

@@ -11,8 +11,7 @@ use session_steps::checks::ActivatedShellSessionContext;
 use shell_player::session::ShellSession;
 ghost use mathlib.Core.Path.{_≡_};
 ghost use Rattle.spec_session.specs.Session.{creationNumber, tooManyAnchors};
-ghost use Rattle.session_creation.specs.Creation.{anchorsWithin, noSession, creationWith, Creates, createWith};
-ghost use Rattle.session_lifecycle.specs.Meaning.{limitsOf};
+ghost use Rattle.session_creation.specs.Creation.{anchorsWithin, noSession, creationWith};
 
 // Why there is no session.
 pub enum CreationRefusal {
@@ -81,7 +80,7 @@ fn no_session() -> ShellSession
     }
 }
 
-// Creates a session with these anchors, the binding pairs being the first given ones.
+// Creates a session with these anchors. The pairs stand in the array that the session keeps, so many as are given.
 pub fn create_shell_session(
     id: u64,
     limits: ShellLifecycleLimits,
@@ -90,8 +89,7 @@ pub fn create_shell_session(
     given: usize,
     collections: &[u64],
 ) -> ShellSessionCreation
-    ensures exactly { λ r. ⌜ r ≡ creationWith id limits (now (nodes .entry)) pairs given (now (collections .entry)) ⌝ }
-    ensures created { λ r. ⌜ Creates (createWith id (limitsOf limits) (now (nodes .entry)) pairs given (now (collections .entry))) r ⌝ }
+    ensures { λ r. ⌜ r ≡ creationWith id limits (now (nodes .entry)) pairs given (now (collections .entry)) ⌝ }
 {
     if anchors_within(nodes.len(), given, collections.len()) {
         let context = ActivatedShellSessionContext {

@@ -1,2 +1,4 @@
+pub mod Pairs
+pub mod PairsLaws
 pub mod CreatesFrom
 pub mod CreatesFromLaws

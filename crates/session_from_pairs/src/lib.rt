@@ -1,16 +1,20 @@
 // Creation of a session whose binding anchors are lent as node and slot pairs.
 use active_projection_target_catalog::catalog::BindingPair;
+use pairs::BindingAnchors;
+use pairs::copy_binding_pairs;
 use session_creation::ShellSessionCreation;
 use session_creation::create_shell_session;
 use session_lifecycle::state::ShellLifecycleLimits;
-use session_pairs::BindingAnchors;
-use session_pairs::copy_binding_pairs;
 ghost use mathlib.Core.Path.{_≡_};
-ghost use Prim.Native.Nat.{min};
+ghost use Prim.Native.Nat.{_+_, min};
 ghost use lib.ListN.{take};
+ghost use Rattle.spec_patch.specs.Sizes.{anchors};
 ghost use Rattle.session_creation.specs.Creation.{creationWith};
 ghost use Rattle.session_from_pairs.specs.CreatesFrom.{CreatesFrom};
 
+mod pairs;
+
+// Creates a session that keeps these binding anchors as they are.
 fn create_with_anchors(
     id: u64,
     limits: ShellLifecycleLimits,
@@ -39,12 +43,12 @@ pub fn create_session(
     create_with_anchors(id, limits, nodes, anchors, collections)
 }
 
-// How many of 129 pairs are lent: one too many where more are given.
+// How many pairs of an array are lent: one too many where more are given.
 fn lent_count(given: usize) -> usize
-    ensures { λ r. ⌜ r ≡ min given 129 ⌝ }
+    ensures { λ r. ⌜ r ≡ min given (anchors + 1) ⌝ }
 {
-    if 129 < given {
-        return 129;
+    if BindingAnchors::LENT < given {
+        return BindingAnchors::LENT;
     }
     given
 }
@@ -54,7 +58,7 @@ pub fn create_from(
     id: u64,
     limits: ShellLifecycleLimits,
     nodes: &[u64],
-    pairs: [BindingPair; 129],
+    pairs: [BindingPair; BindingAnchors::LENT],
     given: usize,
     collections: &[u64],
 ) -> ShellSessionCreation

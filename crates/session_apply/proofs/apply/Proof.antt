@@ -49,9 +49,9 @@ use Rattle.shell_player.proofs.session.ShellSession.transition as step
 use Rattle.shell_player.proofs.session.ShellSession.transition.Symbol as step-def
 use Rattle.shell_player.proofs.session.ShellSession.transition.Symbol.{name as #step}
 use Rattle.shell_player.proofs.session.ShellSession.transition.Met as step-thm
-use Rattle.session_dispositions.proofs.is_applied.Symbol as applied-def
-use Rattle.session_dispositions.proofs.is_applied.Symbol.{name as #applied}
-use Rattle.session_dispositions.proofs.is_applied.Met as applied-thm
+use Rattle.session_apply.proofs.is_applied.Symbol as applied-def
+use Rattle.session_apply.proofs.is_applied.Symbol.{name as #applied}
+use Rattle.session_apply.proofs.is_applied.Met as applied-thm
 use Rattle.session_apply.proofs.apply.Key.{name as #apply}
 use Rattle.session_apply.proofs.apply as f
 use Rattle.session_apply.proofs.apply.Statement as stated
@@ -101,4 +101,4 @@ apply-spec 𝓤 H 𝓜 𝓖 𝓡 =
     (tables 𝓤 H 𝓜 𝓡 code.env .C) (tables 𝓤 H 𝓜 𝓡 code.env .Λ) #apply code.function (code.unfolded 𝓤 H 𝓜 𝓡)
     (apply-meets 𝓤 H (𝓖 .A) (givenOf 𝓤 H 𝓜 𝓖) (𝓜 .mem) (𝓡 .run) (tablesOf 𝓤 H 𝓜 (tables 𝓤 H 𝓜 𝓡 code.env))
     (cited 𝓤 H (Step 𝓤 H (𝓖 .A) (𝓜 .mem) (𝓡 .run)) 𝓜 𝓡 code.env #step step-def.routine code.calls-shell-player·session·ShellSession·transition (step-thm.met 𝓤 H 𝓜 𝓖 𝓡))
-    (cited 𝓤 H (Applied 𝓤 H (𝓖 .A) (𝓜 .mem) (𝓡 .run)) 𝓜 𝓡 code.env #applied applied-def.routine code.calls-transition-dispositions·is-applied (applied-thm.met 𝓤 H 𝓜 𝓖 𝓡)))
+    (cited 𝓤 H (Applied 𝓤 H (𝓖 .A) (𝓜 .mem) (𝓡 .run)) 𝓜 𝓡 code.env #applied applied-def.routine code.calls-session-apply·is-applied (applied-thm.met 𝓤 H 𝓜 𝓖 𝓡)))

@@ -1,17 +1,12 @@
 -- `create_shell_session` meets its contract: an anchor list over its capacity yields no session.
-use mathlib.Core.Path.{_≡_, sym, ap, _∙_}
-use lib.ListN.{length}
+use mathlib.Core.Path.{sym, ap, _∙_}
 use denote.Ref.{now}
 use Rattle.active_projection_target_catalog.specs.declared.catalog.ActiveProjectionTargetCatalog.{ActiveProjectionTargetCatalog}
 use Rattle.shell_player.specs.Steps.{newState}
-use Rattle.session_creation.specs.CreationLaws.{refused-is, created-is, answered}
+use Rattle.session_creation.specs.CreationLaws.{refused-is, created-is}
 use borrow.Author.Needs.{needs}
-use Rattle.spec_lists.specs.ListLaws.{unmapped}
 use Rattle.session_creation.proofs.create_shell_session.Statement.{statement}
 use Rattle.session_creation.proofs.create_shell_session.Tie as tie
-
-long : (c : tie.Start) → length (c .args .pairs) ≡ 128
-long c = search (needs, unmapped)
 
 anchors-within-requires : tie.Need-anchors-within-requires
 anchors-within-requires c κs = search needs
@@ -24,20 +19,17 @@ new-requires c κs = search needs
 
 returns : tie.Need-returns
 returns c =
-    let start = c .before .before .before .before .before .before in
-    let a = start .args in
-    answered (a .id) (a .limits) (now (a .nodes)) (a .pairs) (a .given) (now (a .collections)) (long start) _
-    (created-is (a .id) (a .limits) (now (a .nodes)) (a .pairs) (a .given) (now (a .collections)) (long start) _ (sym (c .before .before .before .anchors-within .ensures) ∙ c .before .before .if1 .taken) (c .new .ensures ∙ ap (λ (k : ActiveProjectionTargetCatalog). newState (record { «session_id» = record { 0 = a .id }; limits = a .limits; catalog = k })) (c .before .from-snapshot .ensures)))
+    let a = c .before .before .before .before .before .before .args in
+    created-is (a .id) (a .limits) (now (a .nodes)) (a .pairs) (a .given) (now (a .collections)) _ (sym (c .before .before .before .anchors-within .ensures) ∙ c .before .before .if1 .taken)
+    (c .new .ensures ∙ ap (λ (k : ActiveProjectionTargetCatalog). newState (record { «session_id» = record { 0 = a .id }; limits = a .limits; catalog = k })) (c .before .from-snapshot .ensures))
 
 no-session-requires : tie.Need-no-session-requires
 no-session-requires c κs = search needs
 
 returns-2 : tie.Need-returns-2
 returns-2 c =
-    let start = c .before .before .before .before .before in
-    let a = start .args in
-    answered (a .id) (a .limits) (now (a .nodes)) (a .pairs) (a .given) (now (a .collections)) (long start) _
-    (refused-is (a .id) (a .limits) (now (a .nodes)) (a .pairs) (a .given) (now (a .collections)) (long start) _ (sym (c .before .before .anchors-within .ensures) ∙ c .before .if1 .left) (c .no-session .ensures))
+    let a = c .before .before .before .before .before .args in
+    refused-is (a .id) (a .limits) (now (a .nodes)) (a .pairs) (a .given) (now (a .collections)) _ (sym (c .before .before .anchors-within .ensures) ∙ c .before .if1 .left) (c .no-session .ensures)
 
 pub create-shell-session-spec : {M : Type 1} → statement M
 create-shell-session-spec = tie.close (tie.spec anchors-within-requires from-snapshot-requires new-requires returns no-session-requires returns-2)

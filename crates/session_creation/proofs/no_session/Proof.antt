@@ -1,7 +1,7 @@
 -- `no_session` meets its contract.
 use Rattle.spec_projection.specs.Projection.{empty}
 use Rattle.spec_projection.specs.ValidLaws.{empty-valid}
-use Rattle.active_projection_target_catalog.specs.Catalog.{catalogWith}
+use Rattle.active_projection_target_catalog.specs.Catalog.{padded, catalogWith}
 use Rattle.local_projection_state.specs.Stores.{stateOf}
 use Rattle.local_projection_state.specs.StoresLaws.{one-state, some-state}
 use Rattle.session_creation.specs.Creation.{noSession}
@@ -22,7 +22,7 @@ empty-requires : tie.Need-empty-requires
 empty-requires c κs = search needs
 
 returns : tie.Need-returns
-unfolding noSession catalogWith
+unfolding noSession padded catalogWith
 returns c = rw (c .before .from-snapshot .ensures, one-state empty (c .empty .result) (stateOf empty) (c .empty .ensures) (some-state empty empty-valid))
 
 pub no-session-spec : {M : Type 1} → statement M

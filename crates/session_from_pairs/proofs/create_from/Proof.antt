@@ -1,7 +1,7 @@
 -- `create_from` meets its contract: a walk of its MIR, by hand. The pairs stand in a local array, whose first part is lent to `create_session` for a lifetime that the walk makes and ends after the call; the rest of the array waits meanwhile (`Parts.antt`).
 -- Assumes nothing.
 use mathlib.Core.Path.{_≡_, refl, sym, ap, _∙_}
-use Prim.Native.Nat.{ℕ, _<_, _^_, min}
+use Prim.Native.Nat.{ℕ, _+_, _≤_, _<_, _^_, min}
 use native.Mathlib.Omega.{arith}
 use mathlib.Core.List.{[], _∷_, List}
 use lib.ListN.{length, take, length-take}
@@ -43,6 +43,7 @@ use denote.Triple.Table.{entered, cited}
 use denote.Triple.Walked.{says, Stays, stay-none, stay-none-slice, walkOf, AllGo, goes-none, goes-none-slice, Walks, ends-at, walked, walk-meets}
 use denote.Triple.Clauses.{ensured, lasts}
 use denote.Exit.{yes}
+use Rattle.spec_patch.specs.Sizes.{anchors}
 use Rattle.session_lifecycle.specs.declared.state.ShellLifecycleLimits.{ShellLifecycleLimits}
 use Rattle.active_projection_target_catalog.specs.declared.catalog.BindingPair.{BindingPair}
 use Rattle.session_creation.specs.declared.ShellSessionCreation.{ShellSessionCreation}
@@ -69,8 +70,12 @@ use Rattle.session_from_pairs.proofs.create_from.Statement as stated
 use Rattle.session_from_pairs.proofs.create_from.Code as code
 use Rattle.session_from_pairs.proofs.create_from.Code.Mir as mir
 
+-- the places of the array that is lent: one more than a session has
+abbrev lent : ℕ
+lent = anchors + 1
+
 abbrev stayed : Stays (f.ended .signature .params) (f.ended .kept)
-stayed = (stay-none (λ _. u64) yes, (stay-none (λ _. Li.the-row) yes, (stay-none-slice (0 ∷ []) tt (plain (λ _. u64)) yes, (stay-none (λ _. Array Bp.the-row 129) yes, (stay-none (λ _. usize) yes, (stay-none-slice (1 ∷ []) tt (plain (λ _. u64)) yes, tt))))))
+stayed = (stay-none (λ _. u64) yes, (stay-none (λ _. Li.the-row) yes, (stay-none-slice (0 ∷ []) tt (plain (λ _. u64)) yes, (stay-none (λ _. Array Bp.the-row lent) yes, (stay-none (λ _. usize) yes, (stay-none-slice (1 ∷ []) tt (plain (λ _. u64)) yes, tt))))))
 
 abbrev bp-vals : BindingPair → List Val
 bp-vals = LL.vals Bp.the-type Bp′.the-laws
@@ -83,10 +88,10 @@ cr-vals = LL.vals Cr.the-type Cr′.the-laws
 
 -- the array of pairs
 abbrev Ar : RattleType
-Ar = Array Bp.the-row 129
+Ar = Array Bp.the-row lent
 
 abbrev ar-mir : Ty
-ar-mir = tyArray Bp′.mir 129
+ar-mir = tyArray Bp′.mir lent
 
 abbrev ar-vals : List BindingPair → List Val
 ar-vals = array-vals bp-vals
@@ -99,8 +104,8 @@ module _ {M : Type 1} (𝓤 : URA M) (H : Heap 𝓤) (A : Atoms 𝓤) (at-mem : 
   abbrev Creating : Contract 𝓤
   Creating = tripleOf 𝓤 H A creates.signature (creates.spec 𝓤 H A at-mem run)
 
-  counts-of : (n : ℕ) (r : ℕ) → ent 𝓤 (ensured 𝓤 H A counts.ended (counts.clauses 𝓤 H A at-mem run) tt (n, tt) tt r) (fact 𝓤 (r ≡ min n 129))
-  counts-of n r = exE 𝓤 _ (λ ws. snd∗ 𝓤 (sem 𝓤 H A (lasts counts.ended tt (n, tt) ws)) (fact 𝓤 (r ≡ min n 129)))
+  counts-of : (n : ℕ) (r : ℕ) → ent 𝓤 (ensured 𝓤 H A counts.ended (counts.clauses 𝓤 H A at-mem run) tt (n, tt) tt r) (fact 𝓤 (r ≡ min n lent))
+  counts-of n r = exE 𝓤 _ (λ ws. snd∗ 𝓤 (sem 𝓤 H A (lasts counts.ended tt (n, tt) ws)) (fact 𝓤 (r ≡ min n lent)))
 
   abbrev to-counts : ℕ → Counts .Ghost
   to-counts n = ((tt, tt, tt, (n, tt), (vint w64 n ∷ [], tt)), tt)
@@ -110,18 +115,18 @@ module _ {M : Type 1} (𝓤 : URA M) (H : Heap 𝓤) (A : Atoms 𝓤) (at-mem : 
 
   module _ (W : Given 𝓤 H A) (b : ℕ) (ps : List BindingPair) where
     -- a local that holds ps is its elements in memory, and back
-    apart : Is Ar ps (ar-vals ps) → ent 𝓤 (H .at fullShare ar-mir b 0 (only (ar-vals ps))) (sem 𝓤 H A (Row Bp.the-row 129 fullShare ps b 0))
+    apart : Is Ar ps (ar-vals ps) → ent 𝓤 (H .at fullShare ar-mir b 0 (only (ar-vals ps))) (sem 𝓤 H A (Row Bp.the-row lent fullShare ps b 0))
     unfolding partOf
     apart is =
         qed W (‵ (fat fullShare ar-mir b 0 (only (ar-vals ps))) ∷ []) ∵ use1 W (‵ (cellAt fullShare (Ar .mir) (ar-vals ps) b 0)) (W .laws .at-raw fullShare ar-mir b 0 (only (ar-vals ps))) $
-        owned ! Ar (Is Ar) (array-makes 𝓤 H A W Bp.the-row (LL.makes Bp.the-type Bp′.the-plain 𝓤 H A) 129) ps _ is $ move ! (1 ∷ 0 ∷ []) $ fjoin ! $
-        fpack ! (List Val) (λ us. fsep (cellAt fullShare (Ar .mir) us b 0) (Ar .own ps us)) (ar-vals ps) $ by ! (array-apart 𝓤 H A W Bp.the-row fullShare tt 129 ps b 0)
+        owned ! Ar (Is Ar) (array-makes 𝓤 H A W Bp.the-row (LL.makes Bp.the-type Bp′.the-plain 𝓤 H A) lent) ps _ is $ move ! (1 ∷ 0 ∷ []) $ fjoin ! $
+        fpack ! (List Val) (λ us. fsep (cellAt fullShare (Ar .mir) us b 0) (Ar .own ps us)) (ar-vals ps) $ by ! (array-apart 𝓤 H A W Bp.the-row fullShare tt lent ps b 0)
 
-    whole : ent 𝓤 (sem 𝓤 H A (Row Bp.the-row 129 fullShare ps b 0)) (H .at fullShare ar-mir b 0 (only (ar-vals ps)))
+    whole : ent 𝓤 (sem 𝓤 H A (Row Bp.the-row lent fullShare ps b 0)) (H .at fullShare ar-mir b 0 (only (ar-vals ps)))
     unfolding partOf
     whole =
-        qed W (‵ (Row Bp.the-row 129 fullShare ps b 0) ∷ []) ∵ use1 W (‵ (partAt Ar fullShare ps b 0)) (array-whole 𝓤 H A W Bp.the-row fullShare 129 ps b 0) $ fpick ! (λ vs. fsplit ! $
-        spelt ! Ar (Is Ar) (shows 𝓤 H A Ar) ar-vals (array-tells Bp.the-row bp-vals (LL.tells Bp.the-type Bp′.the-laws) 129) fullShare ps vs b 0 $
+        qed W (‵ (Row Bp.the-row lent fullShare ps b 0) ∷ []) ∵ use1 W (‵ (partAt Ar fullShare ps b 0)) (array-whole 𝓤 H A W Bp.the-row fullShare lent ps b 0) $ fpick ! (λ vs. fsplit ! $
+        spelt ! Ar (Is Ar) (shows 𝓤 H A Ar) ar-vals (array-tells Bp.the-row bp-vals (LL.tells Bp.the-type Bp′.the-laws) lent) fullShare ps vs b 0 $
         move ! (1 ∷ []) $ drop ! $ by ! (W .laws .raw-at fullShare ar-mir b 0 (only (ar-vals ps))))
 
 -- s: the nodes, ps: the pairs, g: how many are given, t: the collections
@@ -140,13 +145,13 @@ module _ {M : Type 1} (𝓤 : URA M) (H : Heap 𝓤) (A : Atoms 𝓤) (W : Given
   abbrev ys : List BindingPair
   ys = take g ps
 
-  long : length ps ≡ 129
+  long : length ps ≡ lent
   long = is-ps .1 .0 .1
 
-  counted : min g 129 ≡ length ys
+  counted : min g lent ≡ length ys
   counted = ap (min g) (sym long) ∙ sym (length-take g ps)
 
-  few : length ys < 130
+  few : length ys ≤ lent
   few = omega (arith, length-take g ps, long)
 
   room : Room Bp.the-row (length ys)
@@ -164,7 +169,7 @@ module _ {M : Type 1} (𝓤 : URA M) (H : Heap 𝓤) (A : Atoms 𝓤) (W : Given
       qed W (‵ (flft κ q) ∷ ‵ (flft κ″ q″) ∷ ‵ Own-s ∷ ‵ Own-t ∷ []) ∵
       suffices ! _ (ends-at 𝓤 H A f.ended stayed (f.clauses 𝓤 H A at-mem run) W (((κ, (κ″, tt)), (q, (q″, tt)), tt, x, at), tt) (only (cr-vals r)) r (tt, (tt, (tt, (tt, (tt, (tt, tt)))))) (tt, (tt, (tt, (tt, (tt, (tt, tt))))))) $ says ! e $
       nothing ! $ move ! (2 ∷ 0 ∷ []) $ join ! $ move ! (1 ∷ 0 ∷ []) $ join ! $ frame ! $ nothing ! $ move ! (2 ∷ 0 ∷ []) $ fjoin ! $ owned ! usize (Is usize) (uint-makes 𝓤 H A W w64) g _ (refl, fits-g) $ fjoin ! $
-      owned ! Ar (Is Ar) (array-makes 𝓤 H A W Bp.the-row (LL.makes Bp.the-type Bp′.the-plain 𝓤 H A) 129) ps _ is-ps $ fjoin ! $ move ! (1 ∷ 0 ∷ []) $ fjoin ! $
+      owned ! Ar (Is Ar) (array-makes 𝓤 H A W Bp.the-row (LL.makes Bp.the-type Bp′.the-plain 𝓤 H A) lent) ps _ is-ps $ fjoin ! $ move ! (1 ∷ 0 ∷ []) $ fjoin ! $
       owned ! Li.the-row (Is Li.the-row) (LL.makes Li.the-type Li′.the-plain 𝓤 H A) l _ is-l $ fjoin ! $ owned ! u64 (Is u64) (uint-makes 𝓤 H A W w64) n _ (refl, fits) $ fjoin ! $
       owned ! Cr.the-row (Is Cr.the-row) (LL.makes Cr.the-type Cr′.the-plain 𝓤 H A) r _ is-r $ move ! (1 ∷ 0 ∷ []) $ done !
 
@@ -239,9 +244,9 @@ module _ {M : Type 1} (𝓤 : URA M) (H : Heap 𝓤) (A : Atoms 𝓤) (W : Given
         lends : Sq W (Late (‵ (fat fullShare ar-mir l₇ 0 (only (ar-vals ps))) ∷ ‵ (fdies ar-mir l₇) ∷ Early (‵ (froom Cr′.mir l₀ 0) ∷ ‵ (fdies Cr′.mir l₀) ∷ ‵ (flft κ q) ∷ ‵ (flft κ″ q″) ∷ ‵ Own-s ∷ ‵ Own-t ∷ ‵ Own-s ∷ ‵ Own-t ∷ []))) (runs C Λ En mir.t-5 (atRet En Post))
         lends =
             -- the first part of the array is lent, for a new lifetime
-            move ! (6 ∷ []) $ use1 W (‵ (Row Bp.the-row 129 fullShare ps l₇ 0)) (apart 𝓤 H A at-mem run W l₇ ps is-ps) $
-            use1 W (‵ (Front 𝓤 H A W Bp.the-row fullShare 129 g ps l₇ 0) ⊛ ‵ (Back 𝓤 H A W Bp.the-row fullShare 129 g ps l₇ 0)) (cut-row 𝓤 H A W Bp.the-row fullShare 129 g ps l₇ 0) $ split ! $
-            lft-new ! tt (λ α. move ! (1 ∷ []) $ use1 W (later (some (λ (γ : GName). ‵ (Own l₇ α γ) ⊛ ‵ (flent (α ∷ []) (Front 𝓤 H A W Bp.the-row fullShare 129 g ps l₇ 0))))) (lends-shr-slice 𝓤 H A W Bp.the-row (named 0) (α ∷ []) fullShare ys l₇ 0 room) $ await ! tt $ pick ! (λ γ. split ! $
+            move ! (6 ∷ []) $ use1 W (‵ (Row Bp.the-row lent fullShare ps l₇ 0)) (apart 𝓤 H A at-mem run W l₇ ps is-ps) $
+            use1 W (‵ (Front 𝓤 H A W Bp.the-row fullShare lent g ps l₇ 0) ⊛ ‵ (Back 𝓤 H A W Bp.the-row fullShare lent g ps l₇ 0)) (cut-row 𝓤 H A W Bp.the-row fullShare lent g ps l₇ 0) $ split ! $
+            lft-new ! tt (λ α. move ! (1 ∷ []) $ use1 W (later (some (λ (γ : GName). ‵ (Own l₇ α γ) ⊛ ‵ (flent (α ∷ []) (Front 𝓤 H A W Bp.the-row fullShare lent g ps l₇ 0))))) (lends-shr-slice 𝓤 H A W Bp.the-row (named 0) (α ∷ []) fullShare ys l₇ 0 room) $ await ! tt $ pick ! (λ γ. split ! $
             -- [the slice; the lender's part; α's token; the rest of the array; _10 at 4; …; _0 at 23; κ's token at 25; κ″'s; what s and t own, twice]
             move ! (0 ∷ 28 ∷ []) $ join ! $ move ! (27 ∷ 0 ∷ []) $ join ! $ move ! (26 ∷ 0 ∷ []) $ join ! $ move ! (2 ∷ 0 ∷ []) $ join ! $ move ! (24 ∷ 0 ∷ []) $ join ! $
             -- [what the call takes; the lender's part; the rest of the array; _10 at 3; _9 at 5; _8 at 7; _7's end at 9; _6 at 10; _5 at 12; _4 at 14; _3 at 16; _2 at 18; _1 at 20; _0 at 22; what s and t own]
@@ -251,7 +256,7 @@ module _ {M : Type 1} (𝓤 : URA M) (H : Heap 𝓤) (A : Atoms 𝓤) (W : Given
             Cr.the-row cr-vals (LL.tells Cr.the-type Cr′.the-laws) (ensured 𝓤 H A creates.ended (creates.clauses 𝓤 H A at-mem run) (κ, (α ∷ [], (κ″, tt))) (n, (l, (s, (p l₇ α γ, (t, tt))))) tt) (CreatesFrom n l (s .now) ys (t .now)) (creates-of l₇ α γ) (λ v. id⊢ 𝓤 _) (λ r e is-r.
             -- the lifetime ends, and the array is had back
             split ! $ move ! (1 ∷ []) $ split ! $ lft-end ! tt $ move ! (0 ∷ 3 ∷ []) $ lent-back ! tt $ move ! (0 ∷ 3 ∷ []) $
-            use2 W (‵ (Row Bp.the-row 129 fullShare ps l₇ 0)) (join-row 𝓤 H A W Bp.the-row fullShare 129 g ps l₇ 0 long) $ use1 W (‵ (fat fullShare ar-mir l₇ 0 (only (ar-vals ps)))) (whole 𝓤 H A at-mem run W l₇ ps) $
+            use2 W (‵ (Row Bp.the-row lent fullShare ps l₇ 0)) (join-row 𝓤 H A W Bp.the-row fullShare lent g ps l₇ 0 long) $ use1 W (‵ (fat fullShare ar-mir l₇ 0 (only (ar-vals ps)))) (whole 𝓤 H A at-mem run W l₇ ps) $
             move ! (1 ∷ []) $ split ! $ move ! (1 ∷ []) $ drop ! $ move ! (1 ∷ 2 ∷ 0 ∷ []) $
             land ! {rest = mir.t-6} {sp = (Cr′.mir, l₀, 0)} (from ! {i = 0} (stop !)) (init ! 22 {τ = Cr′.mir} {b = l₀} {o = 0} refl (LL.lawful Cr.the-type Cr′.the-laws 𝓤 H A W .typed r _ is-r .0)) $
             leaves r e is-r)))
@@ -268,12 +273,12 @@ module _ {M : Type 1} (𝓤 : URA M) (H : Heap 𝓤) (A : Atoms 𝓤) (W : Given
         enter ! C Λ code.function (vint w64 n ∷ only (li-vals l) ∷ only (slice-vals s) ∷ only (ar-vals ps) ∷ vint w64 g ∷ only (slice-vals t) ∷ []) _ $
         alloc1 ! (λ l₀. alloc1 ! (λ l₁. alloc1 ! (λ l₂. alloc1 ! (λ l₃. alloc1 ! (λ l₄. alloc1 ! (λ l₅. alloc1 ! (λ l₆. alloc1 ! (λ l₇. alloc1 ! (λ l₈. alloc1 ! (λ l₉. alloc1 ! (λ l₁₀. alloc0 ! $ params1 ! $
         pass1 ! (init ! 18 refl (tt, record { fits = fits })) $ pass1 ! (init ! 16 refl (LL.lawful Li.the-type Li′.the-laws 𝓤 H A W .typed l _ is-l .0)) $ pass1 ! (init ! 14 refl (tt, (tt, (record { fits = gs .0 }, tt)))) $
-        pass1 ! (init ! 12 refl (array-lawful 𝓤 H A W Bp.the-row (LL.lawful Bp.the-type Bp′.the-laws 𝓤 H A W) 129 .typed ps _ is-ps .0)) $ pass1 ! (init ! 10 refl (tt, record { fits = fits-g })) $ pass1 ! (init ! 8 refl (tt, (tt, (record { fits = gt .0 }, tt)))) $ pass0 ! $
+        pass1 ! (init ! 12 refl (array-lawful 𝓤 H A W Bp.the-row (LL.lawful Bp.the-type Bp′.the-laws 𝓤 H A W) lent .typed ps _ is-ps .0)) $ pass1 ! (init ! 10 refl (tt, record { fits = fits-g })) $ pass1 ! (init ! 8 refl (tt, (tt, (record { fits = gt .0 }, tt)))) $ pass0 ! $
         -- [_10 at 0; _9 at 2; _8 at 4; _7 at 6; _6 at 8; _5 at 10; _4 at 12; _3 at 14; _2 at 16; _1 at 18; _0 at 20; and the six above at 22]
         assigns ! {rest = mir.t-2} {v = only (ar-vals ps)} {sp = (ar-mir, l₇, 0)} (of-opd ! (load ! {sp = (ar-mir, l₄, 0)} {v = only (ar-vals ps)} (from ! {i = 4} (stop !)) (look ! 12 refl))) (from ! {i = 7} (stop !))
-        (init ! 6 {τ = ar-mir} {b = l₇} {o = 0} refl (array-lawful 𝓤 H A W Bp.the-row (LL.lawful Bp.the-type Bp′.the-laws 𝓤 H A W) 129 .typed ps _ is-ps .0)) $
+        (init ! 6 {τ = ar-mir} {b = l₇} {o = 0} refl (array-lawful 𝓤 H A W Bp.the-row (LL.lawful Bp.the-type Bp′.the-laws 𝓤 H A W) lent .typed ps _ is-ps .0)) $
         calls-plain ! fm {rest = mir.t-3} (Counts 𝓤 H A at-mem run) known-counts (to-counts 𝓤 H A at-mem run g) (goes-counts 𝓤 H A at-mem run W g fits-g) (and-then ! (load ! {sp = (tyInt w64, l₅, 0)} (from ! {i = 5} (stop !)) (look ! 10 refl)) (no-more !))
-        usize (uint-vals w64) (uint-tells w64) (ensured 𝓤 H A counts.ended (counts.clauses 𝓤 H A at-mem run) tt (g, tt) tt) (λ k. k ≡ min g 129) (counts-of 𝓤 H A at-mem run g) (λ v. id⊢ 𝓤 _) (λ k e-k is-k.
+        usize (uint-vals w64) (uint-tells w64) (ensured 𝓤 H A counts.ended (counts.clauses 𝓤 H A at-mem run) tt (g, tt) tt) (λ k. k ≡ min g lent) (counts-of 𝓤 H A at-mem run g) (λ v. id⊢ 𝓤 _) (λ k e-k is-k.
         land ! {rest = mir.t-3} {sp = (tyInt w64, l₈, 0)} (from ! {i = 8} (stop !)) (init ! 4 refl (tt, record { fits = is-k .1 })) $
         rewrite ! 4 (λ (m : ℕ). ‵ (fat fullShare (tyInt w64) l₈ 0 (vint w64 m))) (e-k ∙ counted) refl $
         assigns ! {rest = mir.t-4} {v = vptr l₇ 0} {sp = (Ref, l₉, 0)} (addr ! {sp = (ar-mir, l₇, 0)} (from ! {i = 7} (stop !))) (from ! {i = 9} (stop !)) (init ! 2 {τ = Ref} {b = l₉} {o = 0} refl (tt, tt)) $
@@ -285,12 +290,12 @@ module _ {M : Type 1} (𝓤 : URA M) (H : Heap 𝓤) (A : Atoms 𝓤) (W : Given
   from-walks : (C : Calls 𝓤 H) (Λ : Loops 𝓤 H) → FmC 𝓤 H (W .laws) C → Triple 𝓤 (C #counts) (Counts 𝓤 H A at-mem run) → Triple 𝓤 (C #creates) (Creating 𝓤 H A at-mem run)
       → Walks 𝓤 H A f.ended stayed (WpFn 𝓤 H C Λ code.function) (f.clauses 𝓤 H A at-mem run)
   from-walks C Λ fm known-counts known = walked 𝓤 H A f.ended stayed (f.clauses 𝓤 H A at-mem run) (WpFn 𝓤 H C Λ code.function) (λ κs. (uint-vals w64, (li-vals, (slice-vals, (ar-vals, (uint-vals w64, (slice-vals, tt)))))))
-      (λ κs. (uint-tells w64, (LL.tells Li.the-type Li′.the-laws, (shr-slice-tells (named 0) (κs .0) u64, (array-tells Bp.the-row bp-vals (LL.tells Bp.the-type Bp′.the-laws) 129, (uint-tells w64, (shr-slice-tells (named 1) (κs .1 .0) u64, tt)))))))
+      (λ κs. (uint-tells w64, (LL.tells Li.the-type Li′.the-laws, (shr-slice-tells (named 0) (κs .0) u64, (array-tells Bp.the-row bp-vals (LL.tells Bp.the-type Bp′.the-laws) lent, (uint-tells w64, (shr-slice-tells (named 1) (κs .1 .0) u64, tt)))))))
       (λ κs qs bounds a _ are. via 𝓤 _ (fst∗ 𝓤 _ (emp 𝓤)) (walk 𝓤 H A W at-mem run (κs .0) (κs .1 .0) (qs .0) (qs .1 .0) (a .0) (are .0 .1) (a .1 .0) (are .1 .0) (a .1 .1 .0) (a .1 .1 .1 .0) (are .1 .1 .1 .0) (a .1 .1 .1 .1 .0) (are .1 .1 .1 .1 .0 .1) (a .1 .1 .1 .1 .1 .0) C Λ fm known-counts known
       (are .1 .1 .0 .0 .1) (are .1 .1 .1 .1 .1 .0 .0 .1)))
 
   goes : AllGo 𝓤 H A W 2 (f.signature .params) (f.ended .kept) stayed
-  goes = (goes-none 𝓤 H A W 2 (λ _. u64) yes (λ κs x f. refl), (goes-none 𝓤 H A W 2 (λ _. Li.the-row) yes (λ κs x f. refl), (goes-none-slice 𝓤 H A W 2 (0 ∷ []) tt (plain (λ _. u64)) yes, (goes-none 𝓤 H A W 2 (λ _. Array Bp.the-row 129) yes (λ κs x f. refl), (goes-none 𝓤 H A W 2 (λ _. usize) yes (λ κs x f. refl), (goes-none-slice 𝓤 H A W 2 (1 ∷ []) tt (plain (λ _. u64)) yes, tt))))))
+  goes = (goes-none 𝓤 H A W 2 (λ _. u64) yes (λ κs x f. refl), (goes-none 𝓤 H A W 2 (λ _. Li.the-row) yes (λ κs x f. refl), (goes-none-slice 𝓤 H A W 2 (0 ∷ []) tt (plain (λ _. u64)) yes, (goes-none 𝓤 H A W 2 (λ _. Array Bp.the-row lent) yes (λ κs x f. refl), (goes-none 𝓤 H A W 2 (λ _. usize) yes (λ κs x f. refl), (goes-none-slice 𝓤 H A W 2 (1 ∷ []) tt (plain (λ _. u64)) yes, tt))))))
 
 from-meets : {M : Type 1} (𝓤 : URA M) (H : Heap 𝓤) (A : Atoms 𝓤) (W : Given 𝓤 H A) (at-mem : Memory → SProp 𝓤) (run : Routine → Fun 𝓤) (𝓣 : Tables 𝓤 H)
     → Triple 𝓤 (𝓣 .C #counts) (Counts 𝓤 H A at-mem run) → Triple 𝓤 (𝓣 .C #creates) (Creating 𝓤 H A at-mem run)
@@ -304,5 +309,5 @@ create-from-spec 𝓤 H 𝓜 𝓖 𝓡 =
     entered 𝓤 H (tripleOf 𝓤 H (𝓖 .A) f.signature (f.spec 𝓤 H (𝓖 .A) (𝓜 .mem) (𝓡 .run)))
     (tables 𝓤 H 𝓜 𝓡 code.env .C) (tables 𝓤 H 𝓜 𝓡 code.env .Λ) #from code.function (code.unfolded 𝓤 H 𝓜 𝓡)
     (from-meets 𝓤 H (𝓖 .A) (givenOf 𝓤 H 𝓜 𝓖) (𝓜 .mem) (𝓡 .run) (tablesOf 𝓤 H 𝓜 (tables 𝓤 H 𝓜 𝓡 code.env))
-    (cited 𝓤 H (Counts 𝓤 H (𝓖 .A) (𝓜 .mem) (𝓡 .run)) 𝓜 𝓡 code.env #counts counts-def.routine code.calls-shell-session-creation·lent-count (counts-thm.met 𝓤 H 𝓜 𝓖 𝓡))
-    (cited 𝓤 H (Creating 𝓤 H (𝓖 .A) (𝓜 .mem) (𝓡 .run)) 𝓜 𝓡 code.env #creates creates-def.routine code.calls-shell-session-creation·create-session (creates-thm.met 𝓤 H 𝓜 𝓖 𝓡)))
+    (cited 𝓤 H (Counts 𝓤 H (𝓖 .A) (𝓜 .mem) (𝓡 .run)) 𝓜 𝓡 code.env #counts counts-def.routine code.calls-session-from-pairs·lent-count (counts-thm.met 𝓤 H 𝓜 𝓖 𝓡))
+    (cited 𝓤 H (Creating 𝓤 H (𝓖 .A) (𝓜 .mem) (𝓡 .run)) 𝓜 𝓡 code.env #creates creates-def.routine code.calls-session-from-pairs·create-session (creates-thm.met 𝓤 H 𝓜 𝓖 𝓡)))

@@ -39,8 +39,8 @@ use denote.Triple.Clauses.{ensured, lasts}
 use denote.Exit.{yes}
 use Rattle.session_lifecycle.specs.declared.state.ShellLifecycleLimits.{ShellLifecycleLimits}
 use Rattle.active_projection_target_catalog.specs.declared.catalog.BindingPair.{BindingPair}
-use Rattle.session_pairs.specs.declared.BindingAnchors.{BindingAnchors}
-use Rattle.session_pairs.specs.Pairs.{anchorsOf}
+use Rattle.session_from_pairs.specs.declared.pairs.BindingAnchors.{BindingAnchors}
+use Rattle.session_from_pairs.specs.Pairs.{anchorsOf}
 use Rattle.session_creation.specs.declared.ShellSessionCreation.{ShellSessionCreation}
 use Rattle.session_creation.specs.Creation.{creationWith}
 use Rattle.session_from_pairs.specs.CreatesFrom.{CreatesFrom}
@@ -49,14 +49,14 @@ use Rattle.hand_proof_steps.proofs.Walk.{calls-lent}
 use Rattle.active_projection_target_catalog.proofs.catalog.BindingPair as Bp
 use Rattle.session_lifecycle.proofs.state.ShellLifecycleLimits as Li
 use Rattle.session_lifecycle.proofs.state.ShellLifecycleLimits.Laws as Li′
-use Rattle.session_pairs.proofs.BindingAnchors as Cp
-use Rattle.session_pairs.proofs.BindingAnchors.Laws as Cp′
+use Rattle.session_from_pairs.proofs.pairs.BindingAnchors as Cp
+use Rattle.session_from_pairs.proofs.pairs.BindingAnchors.Laws as Cp′
 use Rattle.session_creation.proofs.ShellSessionCreation as Cr
 use Rattle.session_creation.proofs.ShellSessionCreation.Laws as Cr′
-use Rattle.session_pairs.proofs.copy_binding_pairs as copies
-use Rattle.session_pairs.proofs.copy_binding_pairs.Symbol as copies-def
-use Rattle.session_pairs.proofs.copy_binding_pairs.Symbol.{name as #copies}
-use Rattle.session_pairs.proofs.copy_binding_pairs.Met as copies-thm
+use Rattle.session_from_pairs.proofs.pairs.copy_binding_pairs as copies
+use Rattle.session_from_pairs.proofs.pairs.copy_binding_pairs.Symbol as copies-def
+use Rattle.session_from_pairs.proofs.pairs.copy_binding_pairs.Symbol.{name as #copies}
+use Rattle.session_from_pairs.proofs.pairs.copy_binding_pairs.Met as copies-thm
 use Rattle.session_from_pairs.proofs.create_with_anchors as makes
 use Rattle.session_from_pairs.proofs.create_with_anchors.Symbol as makes-def
 use Rattle.session_from_pairs.proofs.create_with_anchors.Symbol.{name as #makes}
@@ -239,5 +239,5 @@ create-session-spec 𝓤 H 𝓜 𝓖 𝓡 =
     entered 𝓤 H (tripleOf 𝓤 H (𝓖 .A) f.signature (f.spec 𝓤 H (𝓖 .A) (𝓜 .mem) (𝓡 .run)))
     (tables 𝓤 H 𝓜 𝓡 code.env .C) (tables 𝓤 H 𝓜 𝓡 code.env .Λ) #create code.function (code.unfolded 𝓤 H 𝓜 𝓡)
     (create-meets 𝓤 H (𝓖 .A) (givenOf 𝓤 H 𝓜 𝓖) (𝓜 .mem) (𝓡 .run) (tablesOf 𝓤 H 𝓜 (tables 𝓤 H 𝓜 𝓡 code.env))
-    (cited 𝓤 H (Copies 𝓤 H (𝓖 .A) (𝓜 .mem) (𝓡 .run)) 𝓜 𝓡 code.env #copies copies-def.routine code.calls-binding-pairs·copy-binding-pairs (copies-thm.met 𝓤 H 𝓜 𝓖 𝓡))
-    (cited 𝓤 H (Makes 𝓤 H (𝓖 .A) (𝓜 .mem) (𝓡 .run)) 𝓜 𝓡 code.env #makes makes-def.routine code.calls-shell-session-creation·create-with-anchors (makes-thm.met 𝓤 H 𝓜 𝓖 𝓡)))
+    (cited 𝓤 H (Copies 𝓤 H (𝓖 .A) (𝓜 .mem) (𝓡 .run)) 𝓜 𝓡 code.env #copies copies-def.routine code.calls-session-from-pairs·pairs·copy-binding-pairs (copies-thm.met 𝓤 H 𝓜 𝓖 𝓡))
+    (cited 𝓤 H (Makes 𝓤 H (𝓖 .A) (𝓜 .mem) (𝓡 .run)) 𝓜 𝓡 code.env #makes makes-def.routine code.calls-session-from-pairs·create-with-anchors (makes-thm.met 𝓤 H 𝓜 𝓖 𝓡)))

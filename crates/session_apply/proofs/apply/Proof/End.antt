@@ -40,8 +40,7 @@ use Rattle.session_lifecycle.specs.declared.lifecycle.ShellTransitionResult.{Sh
 use Rattle.shell_player.specs.declared.session.ShellSession.{ShellSession}
 use Rattle.shell_player.specs.declared.session.ShellTransition.{ShellTransition}
 use Rattle.shell_player.specs.Steps.{afterTransition}
-use Rattle.session_dispositions.specs.Dispositions.{isApplied}
-use Rattle.session_apply.specs.Applied.{Answers, StepsTo, Stepped, StepsInPlace}
+use Rattle.session_apply.specs.Applied.{isApplied, Answers, StepsTo, Stepped, StepsInPlace}
 use Rattle.session_apply.specs.AppliedLaws.{in-place-next, in-place-same}
 use Rattle.hand_proof_steps.proofs.Walk.{guards, assigns-then, calls-plain, and-fact}
 use Rattle.shell_player.proofs.session.ShellSession as T
@@ -55,8 +54,8 @@ use Rattle.session_lifecycle.proofs.lifecycle.ShellTransitionInput.Laws as In�
 use Rattle.session_lifecycle.proofs.lifecycle.ShellTransitionDisposition as Di
 use Rattle.session_lifecycle.proofs.lifecycle.ShellTransitionDisposition.Laws as Di′
 use Rattle.shell_player.proofs.session.ShellSession.transition as step
-use Rattle.session_dispositions.proofs.is_applied as applied
-use Rattle.session_dispositions.proofs.is_applied.Symbol.{name as #applied}
+use Rattle.session_apply.proofs.is_applied as applied
+use Rattle.session_apply.proofs.is_applied.Symbol.{name as #applied}
 use Rattle.session_apply.proofs.apply as f
 use Rattle.session_apply.proofs.apply.Code.Mir as mir
 

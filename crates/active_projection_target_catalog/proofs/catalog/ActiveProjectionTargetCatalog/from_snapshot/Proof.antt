@@ -8,16 +8,13 @@ use Rattle.active_projection_target_catalog.proofs.catalog.ActiveProjec
 padded-ids-requires : tie.Need-padded-ids-requires
 padded-ids-requires c κs = search needs
 
-padded-pairs-requires : tie.Need-padded-pairs-requires
-padded-pairs-requires c κs = search needs
-
 padded-ids-requires-2 : tie.Need-padded-ids-requires-2
 padded-ids-requires-2 c κs = search needs
 
 returns : tie.Need-returns
 unfolding catalogWith
-returns c = rw (c .before .before .«padded-ids» .ensures, c .before .«padded-pairs» .ensures, c .«padded-ids2» .ensures)
+returns c = rw (c .before .«padded-ids» .ensures, c .«padded-ids2» .ensures)
 
 pub from-snapshot-spec : {M : Type 1} → statement M
 from-snapshot-spec =
-    tie.close (tie.spec padded-ids-requires padded-pairs-requires padded-ids-requires-2 returns)
+    tie.close (tie.spec padded-ids-requires padded-ids-requires-2 returns)

@@ -5,7 +5,7 @@ use lib.ListN.{length, replicate, set}
 use Rattle.spec_patch.specs.Sizes.{anchors}
 use Rattle.active_projection_target_catalog.specs.Catalog.{noPair, padded}
 use Rattle.active_projection_target_catalog.specs.declared.catalog.BindingPair.{BindingPair}
-use Rattle.session_pairs.specs.declared.BindingAnchors.{BindingAnchors}
+use Rattle.session_from_pairs.specs.declared.pairs.BindingAnchors.{BindingAnchors}
 
 -- so many are given, and no pair is copied yet
 unfoldable pub noAnchors : ℕ → BindingAnchors

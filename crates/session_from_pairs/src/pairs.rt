@@ -1,10 +1,10 @@
-// A lent list of node and slot pairs, copied into a session's array of binding anchors.
+// A lent list of node and slot pairs, copied by one loop into the array that a session keeps.
 use active_projection_target_catalog::catalog::ActiveProjectionTargetCatalog;
 use active_projection_target_catalog::catalog::BindingPair;
 ghost use mathlib.Core.Path.{_≡_};
 ghost use Prim.Native.Nat.{min};
 ghost use Rattle.spec_patch.specs.Sizes.{anchors};
-ghost use Rattle.session_pairs.specs.Pairs.{noAnchors, withPair, anchorsOf};
+ghost use Rattle.session_from_pairs.specs.Pairs.{noAnchors, withPair, anchorsOf};
 
 // Binding anchors as a session keeps them: the pairs with zero pairs behind them, and how many were given.
 pub struct BindingAnchors {
@@ -13,6 +13,9 @@ pub struct BindingAnchors {
 }
 
 impl BindingAnchors {
+    // The pairs of an array that is lent: one more than there is room for, so that too many can be told.
+    pub const LENT: usize = ActiveProjectionTargetCatalog::ANCHORS + 1;
+
     // So many pairs are given, and none is copied yet.
     fn none(given: usize) -> BindingAnchors
         ensures { λ r. ⌜ r ≡ noAnchors given ⌝ }
@@ -47,7 +50,7 @@ fn copied_count(given: usize) -> usize
     given
 }
 
-// The lent pairs in a session's array. Pairs past the capacity are left out; creation refuses them.
+// The lent pairs in the array that the session keeps. Pairs past the capacity are left out; creation refuses them.
 pub fn copy_binding_pairs(pairs: &[BindingPair]) -> BindingAnchors
     ensures { λ r. ⌜ r ≡ anchorsOf (now (pairs .entry)) ⌝ }
 {

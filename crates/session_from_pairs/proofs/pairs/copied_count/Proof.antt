@@ -1,7 +1,7 @@
 -- `copied_count` meets its contract.
 use native.Mathlib.Omega.{arith}
-use Rattle.session_pairs.proofs.copied_count.Statement.{statement}
-use Rattle.session_pairs.proofs.copied_count.Tie as tie
+use Rattle.session_from_pairs.proofs.pairs.copied_count.Statement.{statement}
+use Rattle.session_from_pairs.proofs.pairs.copied_count.Tie as tie
 
 returns : tie.Need-returns
 returns c = omega (arith, c .if1 .taken)

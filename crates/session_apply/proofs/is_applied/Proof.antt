@@ -1,9 +1,9 @@
 -- `is_applied` meets its contract.
 use mathlib.Core.Path.{sym, ap}
-use Rattle.session_dispositions.specs.Dispositions.{isApplied}
+use Rattle.session_apply.specs.Applied.{isApplied}
 use borrow.Author.Needs.{needs}
-use Rattle.session_dispositions.proofs.is_applied.Statement.{statement}
-use Rattle.session_dispositions.proofs.is_applied.Tie as tie
+use Rattle.session_apply.proofs.is_applied.Statement.{statement}
+use Rattle.session_apply.proofs.is_applied.Tie as tie
 
 enum-told : tie.Need-enum-told
 enum-told c = search needs

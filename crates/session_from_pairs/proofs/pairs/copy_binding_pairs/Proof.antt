@@ -50,32 +50,32 @@ use denote.Triple.Clauses.{ensured, lasts}
 use denote.Exit.{yes}
 use Rattle.active_projection_target_catalog.specs.declared.catalog.BindingPair.{BindingPair}
 use Rattle.active_projection_target_catalog.specs.Catalog.{noPair}
-use Rattle.session_pairs.specs.declared.BindingAnchors.{BindingAnchors}
-use Rattle.session_pairs.specs.Pairs.{noAnchors, withPair, anchorsOf}
-use Rattle.session_pairs.specs.PairsLaws.{upTo, starts, steps, all-copied}
+use Rattle.session_from_pairs.specs.declared.pairs.BindingAnchors.{BindingAnchors}
+use Rattle.session_from_pairs.specs.Pairs.{noAnchors, withPair, anchorsOf}
+use Rattle.session_from_pairs.specs.PairsLaws.{upTo, starts, steps, all-copied}
 use Rattle.spec_patch.specs.Sizes.{anchors}
 use Rattle.hand_proof_steps.proofs.Walk.{calls-plain}
 use Rattle.active_projection_target_catalog.proofs.catalog.BindingPair as Bp
 use Rattle.active_projection_target_catalog.proofs.catalog.BindingPair.Laws as Bp′
-use Rattle.session_pairs.proofs.BindingAnchors as Cp
-use Rattle.session_pairs.proofs.BindingAnchors.Laws as Cp′
-use Rattle.session_pairs.proofs.BindingAnchors.none as none
-use Rattle.session_pairs.proofs.BindingAnchors.none.Symbol as none-def
-use Rattle.session_pairs.proofs.BindingAnchors.none.Symbol.{name as #none}
-use Rattle.session_pairs.proofs.BindingAnchors.none.Met as none-thm
-use Rattle.session_pairs.proofs.copied_count as counts
-use Rattle.session_pairs.proofs.copied_count.Symbol as counts-def
-use Rattle.session_pairs.proofs.copied_count.Symbol.{name as #counts}
-use Rattle.session_pairs.proofs.copied_count.Met as counts-thm
-use Rattle.session_pairs.proofs.BindingAnchors.put as put
-use Rattle.session_pairs.proofs.BindingAnchors.put.Symbol as put-def
-use Rattle.session_pairs.proofs.BindingAnchors.put.Symbol.{name as #put}
-use Rattle.session_pairs.proofs.BindingAnchors.put.Met as put-thm
-use Rattle.session_pairs.proofs.copy_binding_pairs.Key.{name as #copies}
-use Rattle.session_pairs.proofs.copy_binding_pairs as f
-use Rattle.session_pairs.proofs.copy_binding_pairs.Statement as stated
-use Rattle.session_pairs.proofs.copy_binding_pairs.Code as code
-use Rattle.session_pairs.proofs.copy_binding_pairs.Code.Mir as mir
+use Rattle.session_from_pairs.proofs.pairs.BindingAnchors as Cp
+use Rattle.session_from_pairs.proofs.pairs.BindingAnchors.Laws as Cp′
+use Rattle.session_from_pairs.proofs.pairs.BindingAnchors.none as none
+use Rattle.session_from_pairs.proofs.pairs.BindingAnchors.none.Symbol as none-def
+use Rattle.session_from_pairs.proofs.pairs.BindingAnchors.none.Symbol.{name as #none}
+use Rattle.session_from_pairs.proofs.pairs.BindingAnchors.none.Met as none-thm
+use Rattle.session_from_pairs.proofs.pairs.copied_count as counts
+use Rattle.session_from_pairs.proofs.pairs.copied_count.Symbol as counts-def
+use Rattle.session_from_pairs.proofs.pairs.copied_count.Symbol.{name as #counts}
+use Rattle.session_from_pairs.proofs.pairs.copied_count.Met as counts-thm
+use Rattle.session_from_pairs.proofs.pairs.BindingAnchors.put as put
+use Rattle.session_from_pairs.proofs.pairs.BindingAnchors.put.Symbol as put-def
+use Rattle.session_from_pairs.proofs.pairs.BindingAnchors.put.Symbol.{name as #put}
+use Rattle.session_from_pairs.proofs.pairs.BindingAnchors.put.Met as put-thm
+use Rattle.session_from_pairs.proofs.pairs.copy_binding_pairs.Key.{name as #copies}
+use Rattle.session_from_pairs.proofs.pairs.copy_binding_pairs as f
+use Rattle.session_from_pairs.proofs.pairs.copy_binding_pairs.Statement as stated
+use Rattle.session_from_pairs.proofs.pairs.copy_binding_pairs.Code as code
+use Rattle.session_from_pairs.proofs.pairs.copy_binding_pairs.Code.Mir as mir
 
 abbrev stayed : Stays (f.ended .signature .params) (f.ended .kept)
 stayed = (stay-none-slice (0 ∷ []) tt (plain (λ _. Bp.the-row)) yes, tt)
@@ -324,6 +324,6 @@ copy-binding-pairs-spec 𝓤 H 𝓜 𝓖 𝓡 =
     entered 𝓤 H (tripleOf 𝓤 H (𝓖 .A) f.signature (f.spec 𝓤 H (𝓖 .A) (𝓜 .mem) (𝓡 .run)))
     (tables 𝓤 H 𝓜 𝓡 code.env .C) (tables 𝓤 H 𝓜 𝓡 code.env .Λ) #copies code.function (code.unfolded 𝓤 H 𝓜 𝓡)
     (copies-meets 𝓤 H (𝓖 .A) (givenOf 𝓤 H 𝓜 𝓖) (𝓜 .mem) (𝓡 .run) (tablesOf 𝓤 H 𝓜 (tables 𝓤 H 𝓜 𝓡 code.env))
-    (cited 𝓤 H (Counts 𝓤 H (𝓖 .A) (𝓜 .mem) (𝓡 .run)) 𝓜 𝓡 code.env #counts counts-def.routine code.calls-binding-pairs·copied-count (counts-thm.met 𝓤 H 𝓜 𝓖 𝓡))
-    (cited 𝓤 H (None 𝓤 H (𝓖 .A) (𝓜 .mem) (𝓡 .run)) 𝓜 𝓡 code.env #none none-def.routine code.calls-binding-pairs·BindingAnchors·none (none-thm.met 𝓤 H 𝓜 𝓖 𝓡))
-    (cited 𝓤 H (Put 𝓤 H (𝓖 .A) (𝓜 .mem) (𝓡 .run)) 𝓜 𝓡 code.env #put put-def.routine code.calls-binding-pairs·BindingAnchors·put (put-thm.met 𝓤 H 𝓜 𝓖 𝓡)))
+    (cited 𝓤 H (Counts 𝓤 H (𝓖 .A) (𝓜 .mem) (𝓡 .run)) 𝓜 𝓡 code.env #counts counts-def.routine code.calls-session-from-pairs·pairs·copied-count (counts-thm.met 𝓤 H 𝓜 𝓖 𝓡))
+    (cited 𝓤 H (None 𝓤 H (𝓖 .A) (𝓜 .mem) (𝓡 .run)) 𝓜 𝓡 code.env #none none-def.routine code.calls-session-from-pairs·pairs·BindingAnchors·none (none-thm.met 𝓤 H 𝓜 𝓖 𝓡))
+    (cited 𝓤 H (Put 𝓤 H (𝓖 .A) (𝓜 .mem) (𝓡 .run)) 𝓜 𝓡 code.env #put put-def.routine code.calls-session-from-pairs·pairs·BindingAnchors·put (put-thm.met 𝓤 H 𝓜 𝓖 𝓡)))

@@ -5,11 +5,11 @@ use native.Mathlib.Omega.{arith}
 use lib.ListN.{length}
 use lib.Seq.{set-out}
 use Rattle.active_projection_target_catalog.specs.declared.catalog.BindingPair.{BindingPair}
-use Rattle.session_pairs.specs.Pairs.{withPair}
+use Rattle.session_from_pairs.specs.Pairs.{withPair}
 use borrow.Author.Needs.{needs}
 use Rattle.spec_lists.specs.ListLaws.{unmapped}
-use Rattle.session_pairs.proofs.BindingAnchors.put.Statement.{statement}
-use Rattle.session_pairs.proofs.BindingAnchors.put.Tie as tie
+use Rattle.session_from_pairs.proofs.pairs.BindingAnchors.put.Statement.{statement}
+use Rattle.session_from_pairs.proofs.pairs.BindingAnchors.put.Tie as tie
 
 mul-pair : tie.Need-mul-pair
 mul-pair c = search needs

@@ -11,8 +11,8 @@ use Rattle.spec_patch.specs.Sizes.{anchors}
 use Rattle.active_projection_target_catalog.specs.Catalog.{noPair}
 use Rattle.active_projection_target_catalog.specs.CatalogLaws.{padded-turn, padded-short, padded-full}
 use Rattle.active_projection_target_catalog.specs.declared.catalog.BindingPair.{BindingPair}
-use Rattle.session_pairs.specs.declared.BindingAnchors.{BindingAnchors}
-use Rattle.session_pairs.specs.Pairs.{noAnchors, withPair, anchorsOf}
+use Rattle.session_from_pairs.specs.declared.pairs.BindingAnchors.{BindingAnchors}
+use Rattle.session_from_pairs.specs.Pairs.{noAnchors, withPair, anchorsOf}
 
 abbrev holding : ℕ → List BindingPair → BindingAnchors
 holding given pairs = record { pairs = pairs; given = given }

@@ -1,0 +1,12 @@
+-- `BindingAnchors::none` meets its contract.
+use Rattle.session_from_pairs.specs.Pairs.{noAnchors}
+use borrow.Author.Needs.{needs}
+use Rattle.session_from_pairs.proofs.pairs.BindingAnchors.none.Statement.{statement}
+use Rattle.session_from_pairs.proofs.pairs.BindingAnchors.none.Tie as tie
+
+returns : tie.Need-returns
+unfolding noAnchors
+returns c = search needs
+
+pub none-spec : {M : Type 1} → statement M
+none-spec = tie.close (tie.spec returns)
