@@ -30,9 +30,12 @@ pub record ReplayHolds (s : ReplayState) (m : State) : Type 0 where
 
 -- what a line does to a state and a slice: the state afterwards, and as much of its answer as fits from the slice's start on; where the
 -- replay stops the state stays
-unfoldable pub Stepped : ReplayState → List ℕ → List ℕ → ReplayStep → Step → Type 0
-Stepped s before after r (onward m printed) = (r .stopped ≡ false) × (ReplayHolds (r .state) m × Prints before (Next 0) printed after (r .printed))
-Stepped s before after r (stops printed) = (r .stopped ≡ true) × ((r .state ≡ s) × Prints before (Next 0) printed after (r .printed))
+abbrev pub SteppedBy : ReplayState → List ℕ → List ℕ → ReplayStep → Step → Type 0
+SteppedBy s before after r (onward m printed) = (r .stopped ≡ false) × (ReplayHolds (r .state) m × Prints before (Next 0) printed after (r .printed))
+SteppedBy s before after r (stops printed) = (r .stopped ≡ true) × ((r .state ≡ s) × Prints before (Next 0) printed after (r .printed))
+
+pub record Stepped (s : ReplayState) (before after : List ℕ) (r : ReplayStep) (step : Step) : Type 0 where
+  pub is : SteppedBy s before after r step
 
 -- the state with another session
 abbrev pub withLatest : ReplayState → ShellSession → ReplayState

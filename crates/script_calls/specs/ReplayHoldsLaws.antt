@@ -67,12 +67,10 @@ module _ (s : ReplayState) (m : State) (h : ReplayHolds s m) where
 module _ {s : ReplayState} {before after : List ℕ} where
   -- a step that goes on, by its parts
   pub goes-on : {r : ReplayStep} {m : State} {printed : List ℕ} → r .stopped ≡ false → ReplayHolds (r .state) m → Prints before (Next 0) printed after (r .printed) → Stepped s before after r (onward m printed)
-  unfolding Stepped
-  goes-on e h p = (e, (h, p))
+  goes-on e h p = record { is = (e, (h, p)) }
 
   pub stops-there : (r : ReplayStep) {printed : List ℕ} → r .stopped ≡ true → r .state ≡ s → Prints before (Next 0) printed after (r .printed) → Stepped s before after r (stops printed)
-  unfolding Stepped
-  stops-there r e same p = (e, (same, p))
+  stops-there r e same p = record { is = (e, (same, p)) }
 
 -- a creation takes the place of what there was
 pub created-step : (s : ReplayState) (m : State) → ReplayHolds s m → (c : Creation) (r : ShellSessionCreation) → Creates c r → (b : Bool) → b ≡ isCreated (r .answer)
