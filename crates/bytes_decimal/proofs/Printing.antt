@@ -1,106 +1,58 @@
--- The steps of printing: counting digits, and storing them from the last to the first.
+-- The digits of a number, stored from the last to the first.
 use Prim.Native.Nat.{ℕ, zero, suc, _+_, _-_, _/_, _%_, _^_, _≤_, _<_}
 use mathlib.Core.Path.{_≡_, refl, sym, ap, _∙_}
 use mathlib.Core.List.{List, [], _∷_, _++_, append-assoc, append-nil}
-use mathlib.Core.Option.{none, some}
-use native.Mathlib.Nat.{sub-self}
 use native.Mathlib.Numerals.{add-one}
 use native.Mathlib.Omega.{arith}
-use lib.Dec.{ltb}
-use lib.ListN.{length, take, drop, set, length-append, length-set}
-use lib.Seq.{take-set-le, drop-cons, getD-set-same, drop-set-lt, take-suc-set}
-use borrow.Author.Tests.{ltb-true, le-leb, lt-leb}
-use Rattle.spec_lists.specs.ListLaws.{test-cases}
-use Rattle.spec_decimal.specs.Decimal.{digit, digits, decimal}
-use Rattle.spec_decimal.specs.ReadLaws.{decimal-last, decimal-more}
-use Rattle.bytes_wire.specs.Write.{hasRoom, overwrite}
-use Rattle.bytes_decimal.specs.Print.{nextPosition}
+use lib.ListN.{length, set, replicate, length-append, length-replicate}
+use lib.Seq.{set-at}
+use Rattle.spec_decimal.specs.Decimal.{digit, decimal}
+use Rattle.spec_decimal.specs.ReadLaws.{decimal-last, decimal-more, length-decimal}
 
--- ---- how many digits
+-- the digits of rest are those of n that are not stored: zeros stand up to index start, and the last digits of n behind it
+pub record Stored (n start rest : ℕ) (bytes : List ℕ) : Type 0 where
+  pub small : rest < 2 ^ 64
+  pub last : List ℕ
+  pub digits : decimal rest ++ last ≡ decimal n
+  pub held : bytes ≡ replicate (suc start) 0 ++ last
+  pub size : suc start + length last ≡ 20
 
-pub count-last : (n : ℕ) → n < 10 → length (decimal n) ≡ 1
-count-last n h = ap length (decimal-last n h)
+zeros-snoc : (k : ℕ) (bs : List ℕ) → replicate (suc k) 0 ++ bs ≡ replicate k 0 ++ (0 ∷ bs)
+zeros-snoc zero bs = refl
+zeros-snoc (suc k) bs = ap (λ (l : List ℕ). 0 ∷ l) (zeros-snoc k bs)
 
-pub count-more : (n : ℕ) → n < 2 ^ 64 → 10 ≤ n → length (decimal n) ≡ length (decimal (n / 10)) + 1
-count-more n h g = ap length (decimal-more n h g) ∙ length-append (decimal (n / 10)) (digit (n % 10) ∷ [])
+-- a digit in place of the last zero
+put : (k d : ℕ) (bs : List ℕ) → set (replicate (suc k) 0 ++ bs) k d ≡ replicate k 0 ++ (d ∷ bs)
+put k d bs = ap (λ (l : List ℕ). set l k d) (zeros-snoc k bs) ∙ set-at (replicate k 0) 0 bs d k (length-replicate k 0)
 
--- ---- the digits from the last to the first
+pub stored-start : (n : ℕ) → n < 2 ^ 64 → Stored n 19 n (replicate 20 0)
+stored-start n h = record { small = h; last = []; digits = append-nil (decimal n); held = refl; size = refl }
 
--- the last k digits of n, zeros before its own
-abbrev pub lastDigits : ℕ → ℕ → List ℕ
-lastDigits zero n = []
-lastDigits (suc k) n = lastDigits k (n / 10) ++ (digit (n % 10) ∷ [])
+module _ {n start rest : ℕ} {bytes : List ℕ} (s : Stored n start rest bytes) where
+  -- there is a place for each digit that is left
+  pub place-left : 10 ≤ rest → 1 ≤ start
+  place-left h =
+      let more : length (decimal rest) ≡ length (decimal (rest / 10)) + 1 = ap length (decimal-more rest (s .small) h) ∙ length-append (decimal (rest / 10)) _ in
+      let all : length (decimal rest) + length (s .last) ≡ length (decimal n) = sym (length-append (decimal rest) (s .last)) ∙ ap length (s .digits) in
+      omega (arith, length-decimal n .1, length-decimal (rest / 10) .0, s .size)
 
-last-digits : (k n : ℕ) → lastDigits (length (digits k n)) n ≡ digits k n
-unfolding digits
-last-digits zero n = refl
-last-digits (suc k) n =
-    test-cases (ltb n 10)
-    (λ t.
-    let same : n % 10 ≡ n = omega (arith, ltb-true n 10 t) in
-    rw (t, same))
-    (λ t.
-    let long : length (digits k (n / 10) ++ (digit (n % 10) ∷ [])) ≡ suc (length (digits k (n / 10))) = length-append (digits k (n / 10)) (digit (n % 10) ∷ []) ∙ omega arith in
-    rw (t, long) (ap (λ (l : List ℕ). l ++ (digit (n % 10) ∷ [])) (last-digits k (n / 10))))
+  pub inside : start < 20
+  inside = omega (arith, s .size)
 
-pub last-decimal : (n : ℕ) → lastDigits (length (decimal n)) n ≡ decimal n
-unfolding decimal
-last-decimal n = last-digits 20 n
+  pub stored-turn : 10 ≤ rest → Stored n (start - 1) (rest / 10) (set bytes start (digit (rest % 10)))
+  stored-turn h =
+      let place : suc (start - 1) ≡ start = omega (arith, place-left h) in
+      record {
+        small = omega (arith, s .small);
+        last = digit (rest % 10) ∷ s .last;
+        digits = sym (append-assoc (decimal (rest / 10)) (digit (rest % 10) ∷ []) (s .last)) ∙ ap (λ (l : List ℕ). l ++ s .last) (sym (decimal-more rest (s .small) h)) ∙ s .digits;
+        held = ap (λ (l : List ℕ). set l start (digit (rest % 10))) (s .held) ∙ put start (digit (rest % 10)) (s .last) ∙ ap (λ (k : ℕ). replicate k 0 ++ (digit (rest % 10) ∷ s .last)) (sym place);
+        size = omega (arith, s .size, place);
+      }
 
--- l once the digits of n before index i are stored, from index at on
-abbrev pub stored : List ℕ → ℕ → ℕ → ℕ → List ℕ
-stored l at i n = take at l ++ lastDigits (i - at) n ++ drop i l
-
-pub stored-start : (l : List ℕ) (at count n : ℕ) → count ≡ length (decimal n) → at + count ≤ length l → stored l at (at + count) n ≡ overwrite l at (decimal n)
-unfolding overwrite hasRoom
-stored-start l at count n e h =
-    let k : (at + length (decimal n)) - at ≡ length (decimal n) = omega arith in
-    let room : at + length (decimal n) ≤ length l = omega arith in
-    rw (e, k, last-decimal n, le-leb (at + length (decimal n)) (length l) room)
-
-stored-suc : (l : List ℕ) (at j n : ℕ) → at ≤ j → j < length l → stored (set l j (digit (n % 10))) at j (n / 10) ≡ stored l at (suc j) n
-stored-suc l at j n h g =
-    let k : suc j - at ≡ suc (j - at) = omega arith in
-    let inside : j < length (set l j (digit (n % 10))) = simp length-set (omega arith) in
-    let tail : drop j (set l j (digit (n % 10))) ≡ digit (n % 10) ∷ drop (suc j) l =
-    drop-cons (set l j (digit (n % 10))) j 0 inside ∙ rw (getD-set-same l j (digit (n % 10)) 0 g, drop-set-lt (suc j) l j (digit (n % 10)) (omega arith)) in
-    rw (take-set-le at l j (digit (n % 10)) h, tail, k) (simp append-assoc)
-
-pub stored-turn : (l : List ℕ) (at i n : ℕ) → at < i → i ≤ length l → stored (set l (i - 1) (digit (n % 10))) at (i - 1) (n / 10) ≡ stored l at i n
-stored-turn l at i n h g =
-    let k : suc (i - 1) ≡ i = omega arith in
-    stored-suc l at (i - 1) n (omega arith) (omega arith) ∙ ap (λ (j : ℕ). stored l at j n) k
-
-pub stored-end : (l : List ℕ) (at n : ℕ) → stored l at at n ≡ l
-stored-end l at n = rw (sub-self at, append-nil (take at l)) (take-drop at l)
-  where
-    take-drop : (i : ℕ) (l : List ℕ) → take i l ++ drop i l ≡ l
-    take-drop zero l = refl
-    take-drop (suc i) [] = refl
-    take-drop (suc i) (x ∷ l) = ap (λ (r : List ℕ). x ∷ r) (take-drop i l)
-
--- ---- a sign before the digits
-
-pub sign-first : (l bs : List ℕ) (at sign : ℕ) → at + 1 + length bs ≤ length l → overwrite (set l at sign) (at + 1) bs ≡ overwrite l at (sign ∷ bs)
-unfolding overwrite hasRoom
-sign-first l bs at sign h =
-    let k : at + suc (length bs) ≡ at + 1 + length bs = omega arith in
-    let room : at + 1 + length bs ≤ length (set l at sign) = simp length-set h in
-    let front : take (at + 1) (set l at sign) ≡ take at l ++ (sign ∷ []) = rw add-one (take-suc-set l at sign (omega arith)) in
-    let back : drop (at + 1 + length bs) (set l at sign) ≡ drop (at + 1 + length bs) l = drop-set-lt (at + 1 + length bs) l at sign (omega arith) in
-    rw (k, le-leb (at + 1 + length bs) (length l) h, le-leb (at + 1 + length bs) (length (set l at sign)) room, front, back) (simp append-assoc)
-
--- ---- where there is room, and where there is none
-
-module _ (l bs : List ℕ) (at count : ℕ) (size : count ≡ length bs) where
-  pub room-position : at + count ≤ length l → some (at + count) ≡ nextPosition l at bs
-  unfolding nextPosition hasRoom
-  room-position h = rw (sym size, le-leb (at + count) (length l) h)
-
-  pub no-room-position : length l < at + count → none ≡ nextPosition l at bs
-  unfolding nextPosition hasRoom
-  no-room-position h = rw (sym size, lt-leb (at + count) (length l) h)
-
-  pub no-room : length l < at + count → l ≡ overwrite l at bs
-  unfolding overwrite hasRoom
-  no-room h = rw (sym size, lt-leb (at + count) (length l) h)
+  pub stored-end : rest < 10 → (set bytes start (digit rest) ≡ replicate start 0 ++ decimal n) × (start + length (decimal n) ≡ 20)
+  stored-end h =
+      let all : digit rest ∷ s .last ≡ decimal n = ap (λ (l : List ℕ). l ++ s .last) (sym (decimal-last rest h)) ∙ s .digits in (
+        ap (λ (l : List ℕ). set l start (digit rest)) (s .held) ∙ put start (digit rest) (s .last) ∙ ap (λ (l : List ℕ). replicate start 0 ++ l) all,
+        omega (arith, s .size, ap length all),
+      )

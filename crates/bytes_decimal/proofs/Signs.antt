@@ -1,17 +1,13 @@
--- A number with its sign: what is read of a magnitude, and what is printed of a number below 0 and of any other.
-use Prim.Native.Nat.{ℕ, zero, suc, _+_, _-_, _^_, _≤_, _<_}
-use mathlib.Core.Path.{_≡_, refl, sym, ap, _∙_}
+-- A number with its sign, as it is read of a magnitude.
+use Prim.Native.Nat.{ℕ, zero, suc, _-_, _^_, _≤_, _<_}
+use mathlib.Core.Path.{_≡_, refl}
 use mathlib.Core.List.{List, [], _∷_}
 use mathlib.Core.Option.{none, some}
 use native.Mathlib.Omega.{arith}
 use borrow.Author.Tests.{lt-ltb, le-ltb, eq-eqb, ne-eqb}
-use mir.Syntax.{w64}
-use mir.Val.{SFits, toZ, ofZ}
-use mir.Facts.{toZ-ofZ}
-use lib.IntN.{ℤ, pos, negsuc, natAbs}
+use lib.IntN.{pos, negsuc}
 use lib.ListN.{length, getD, drop}
-use Rattle.bytes_wire.specs.Complement.{flip, Below, AtLeast}
-use Rattle.spec_decimal.specs.Decimal.{decimal, signedDecimal, readDecimal, positive, negative, readSignedDecimal}
+use Rattle.spec_decimal.specs.Decimal.{readDecimal, positive, negative, readSignedDecimal}
 
 -- ---- the sign of a magnitude
 
@@ -63,16 +59,3 @@ pub signed-other : (text : List ℕ) → (length text ≡ 0 → ⊥) → (getD t
 unfolding readSignedDecimal
 signed-other [] h e = absurd (h refl)
 signed-other (b ∷ bs) h e = rw (ne-eqb b 45 e)
-
--- ---- what is printed of either
-
--- the magnitude as the code computes it, of a number below 0 and of any other
-pub signed-below : (z : ℤ) → Below z → signedDecimal z ≡ 45 ∷ decimal (natAbs (toZ w64 (ofZ w64 (flip (toZ w64 (ofZ w64 z))))) + 1)
-unfolding signedDecimal
-signed-below z b =
-    let more : natAbs (toZ w64 (ofZ w64 (flip (toZ w64 (ofZ w64 z))))) + 1 ≡ suc (b .k) = ap (λ (y : ℤ). natAbs y + 1) (b .stored) ∙ omega arith in
-    ap signedDecimal (b .is) ∙ ap (λ (n : ℕ). 45 ∷ decimal n) (sym more)
-
-pub signed-at-least : (z : ℤ) → SFits w64 z → AtLeast z → signedDecimal z ≡ decimal (natAbs (toZ w64 (ofZ w64 z)))
-unfolding signedDecimal
-signed-at-least z f b = ap signedDecimal (b .is) ∙ ap decimal (sym (ap natAbs (toZ-ofZ f ∙ b .is)))

@@ -1,18 +1,16 @@
--- What printing answers.
+-- The digits of a number in an array.
 use Prim.Native.Nat.{ℕ, _+_}
-use mathlib.Core.List.{List}
-use mathlib.Core.Option.{Option, none, some}
-use lib.ListN.{length}
-use Rattle.spec_lists.specs.Lists.{if_then_else_}
-use Rattle.bytes_wire.specs.Write.{hasRoom}
-use Rattle.bytes_decimal.specs.declared.Printed.{Printed}
-use Rattle.bytes_decimal.specs.declared.Printed.the-variants.{Next, NoRoom}
+use mathlib.Core.Path.{_≡_}
+use mathlib.Core.List.{_++_}
+use lib.ListN.{length, replicate}
+use Rattle.spec_decimal.specs.Decimal.{decimal}
+use Rattle.bytes_decimal.specs.declared.Digits.{Digits}
 
--- the position after the bytes, if they fit there
-unfoldable pub nextPosition : List ℕ → ℕ → List ℕ → Option ℕ
-nextPosition l at bs = if hasRoom l at (length bs) then some (at + length bs) else none
+-- a u64 has no more digits
+abbrev pub mostDigits : ℕ
+mostDigits = 20
 
--- the position that an answer holds
-abbrev pub positionOf : Printed → Option ℕ
-positionOf (Next i) = some i
-positionOf NoRoom = none
+-- zeros, and the digits behind them up to the end
+pub record HoldsDigits (n : ℕ) (d : Digits) : Type 0 where
+  pub bytes : d .bytes ≡ replicate (d .start) 0 ++ decimal n
+  pub place : d .start + length (decimal n) ≡ mostDigits

@@ -1,13 +1,10 @@
-// Numbers in decimal, printed into a lent slice and read from one.
+// Numbers in decimal: their digits, and what is read of digits.
 ghost use mathlib.Core.Path.{_≡_};
-ghost use mathlib.Core.List.{_∷_};
 ghost use mathlib.Core.Option.{some};
-ghost use Prim.Native.Nat.{_+_, _≤_};
-ghost use lib.ListN.{length, drop};
-ghost use Rattle.spec_decimal.specs.Decimal.{decimal, signedDecimal, readDecimal, positive, negative, readSignedDecimal};
+ghost use lib.ListN.{drop};
+ghost use Rattle.spec_decimal.specs.Decimal.{readDecimal, positive, negative, readSignedDecimal};
 ghost use Rattle.bytes_decimal.specs.Read.{withDigit, readDigits, numberU64, numberI64};
-ghost use Rattle.bytes_wire.specs.Write.{overwrite};
-ghost use Rattle.bytes_decimal.specs.Print.{nextPosition, positionOf};
+ghost use Rattle.bytes_decimal.specs.Print.{HoldsDigits};
 
 pub enum ReadU64 {
     Read(u64),
@@ -19,10 +16,15 @@ pub enum ReadI64 {
     Malformed,
 }
 
-// The position after what was printed, or that it did not fit and nothing was written.
-pub enum Printed {
-    Next(usize),
-    NoRoom,
+// A number's digits: those from index start on.
+pub struct Digits {
+    pub bytes: [u8; 20],
+    pub start: usize,
+}
+
+impl Digits {
+    // A u64 has no more.
+    pub const MOST: usize = 20;
 }
 
 // The number n with one digit more after its own.
@@ -126,67 +128,21 @@ pub fn read_i64(text: &[u8]) -> ReadI64
     }
 }
 
-fn digit_count(n: u64) -> usize
-    ensures { λ r. ⌜ r ≡ length (decimal n) ⌝ }
+// The digits of n at the end of an array, with zeros before them.
+pub fn digits_of(n: u64) -> Digits
+    ensures { λ r. ⌜ HoldsDigits n r ⌝ }
 {
+    let mut bytes = [0u8; Digits::MOST];
     let mut rest = n;
-    let mut count: usize = 1;
+    let mut start: usize = Digits::MOST - 1;
     while 10 <= rest {
+        bytes[start] = 48 + (rest % 10) as u8;
         rest = rest / 10;
-        count += 1;
+        start -= 1;
     }
-    count
-}
-
-// Stores the digits of n from index at on, the last first.
-fn store_digits(out: &mut [u8], at: usize, count: usize, n: u64)
-    requires { ⌜ (count ≡ length (decimal n)) × (at + count ≤ length (now out)) ⌝ }
-    ensures { λ _. ⌜ now (out .exit) ≡ overwrite (now (out .entry)) at (decimal n) ⌝ }
-{
-    let mut rest = n;
-    let mut i = at + count;
-    while at < i {
-        i -= 1;
-        out[i] = 48 + (rest % 10) as u8;
-        rest = rest / 10;
-    }
-}
-
-pub fn print_u64(out: &mut [u8], at: usize, n: u64) -> Printed
-    ensures { λ r. ⌜ positionOf r ≡ nextPosition (now (out .entry)) at (decimal n) ⌝ }
-    ensures { λ _. ⌜ now (out .exit) ≡ overwrite (now (out .entry)) at (decimal n) ⌝ }
-{
-    let count = digit_count(n);
-    if bytes_wire::has_room(out.len(), at, count) {
-        store_digits(out, at, count, n);
-        Printed::Next(at + count)
-    } else {
-        Printed::NoRoom
-    }
-}
-
-// Prints a minus sign and the digits of n.
-fn print_negative(out: &mut [u8], at: usize, n: u64) -> Printed
-    ensures { λ r. ⌜ positionOf r ≡ nextPosition (now (out .entry)) at (45 ∷ decimal n) ⌝ }
-    ensures { λ _. ⌜ now (out .exit) ≡ overwrite (now (out .entry)) at (45 ∷ decimal n) ⌝ }
-{
-    let count = digit_count(n);
-    if bytes_wire::has_room(out.len(), at, count + 1) {
-        out[at] = 45;
-        store_digits(out, at + 1, count, n);
-        Printed::Next(at + 1 + count)
-    } else {
-        Printed::NoRoom
-    }
-}
-
-pub fn print_i64(out: &mut [u8], at: usize, z: i64) -> Printed
-    ensures { λ r. ⌜ positionOf r ≡ nextPosition (now (out .entry)) at (signedDecimal z) ⌝ }
-    ensures { λ _. ⌜ now (out .exit) ≡ overwrite (now (out .entry)) at (signedDecimal z) ⌝ }
-{
-    if z < 0 {
-        print_negative(out, at, (-1 - z) as u64 + 1)
-    } else {
-        print_u64(out, at, z as u64)
+    bytes[start] = 48 + rest as u8;
+    Digits {
+        bytes: bytes,
+        start: start,
     }
 }

@@ -1,14 +1,12 @@
--- What printing bytes at a position leaves and answers.
-use Prim.Native.Nat.{ℕ, _≤_}
+-- Printing bytes at a position of a slice: as many of them as there is room for.
+use Prim.Native.Nat.{ℕ, _+_, _-_, _≤_}
 use mathlib.Core.Path.{_≡_}
-use mathlib.Core.Bool.{true}
-use mathlib.Core.List.{List, _∷_}
-use mathlib.Core.Option.{Option, none}
-use lib.ListN.{length, take}
-use Rattle.bytes_wire.specs.Write.{hasRoom, overwrite}
-use Rattle.bytes_decimal.specs.Print.{nextPosition, positionOf}
-use Rattle.bytes_decimal.specs.declared.Printed.{Printed}
-use Rattle.bytes_decimal.specs.declared.Printed.the-variants.{Next, NoRoom}
+use mathlib.Core.List.{List, _∷_, _++_}
+use lib.Dec.{leb}
+use lib.ListN.{length, take, drop}
+use Rattle.spec_lists.specs.Lists.{if_then_else_}
+use Rattle.bytes_printer.specs.declared.Printed.{Printed}
+use Rattle.bytes_printer.specs.declared.Printed.the-variants.{Next, NoRoom}
 
 abbrev pub newline : ℕ
 newline = 10
@@ -17,21 +15,20 @@ newline = 10
 abbrev pub field : List ℕ → List ℕ
 field bs = 9 ∷ bs
 
--- where printing goes on: behind the bytes, if there was a position and they fit there
-unfoldable pub nextFrom : List ℕ → Printed → List ℕ → Option ℕ
-nextFrom l (Next i) bs = nextPosition l i bs
-nextFrom l NoRoom bs = none
+-- the slice afterwards: the bytes from the position on, as many as there is room for; nothing where there is no position
+unfoldable pub printed : List ℕ → Printed → List ℕ → List ℕ
+printed l (Next i) bs = take i l ++ take (length l - i) bs ++ drop (i + length bs) l
+printed l NoRoom bs = l
 
--- the slice afterwards: the bytes in place where they fit; what stands before the position stays in any case
-abbrev pub Leaves : List ℕ → Printed → List ℕ → List ℕ → Type 0
-Leaves before (Next i) bs after = (hasRoom before i (length bs) ≡ true → after ≡ overwrite before i bs) × (take i after ≡ take i before)
-Leaves before NoRoom bs after = after ≡ before
+-- where printing goes on: behind the bytes, if all of them have room
+unfoldable pub behind : List ℕ → Printed → List ℕ → Printed
+behind l (Next i) bs = if leb (i + length bs) (length l) then Next (i + length bs) else NoRoom
+behind l NoRoom bs = NoRoom
 
 -- printing the bytes at a position turns the slice from before to after, and answers r
 pub record Prints (before : List ℕ) (at : Printed) (bs after : List ℕ) (r : Printed) : Type 0 where
-  pub told : positionOf r ≡ nextFrom before at bs
-  pub size : length after ≡ length before
-  pub left : Leaves before at bs after
+  pub answer : r ≡ behind before at bs
+  pub output : after ≡ printed before at bs
 
 -- a position that is in the slice or at its end, or none
 abbrev pub Within : List ℕ → Printed → Type 0

@@ -1,174 +1,184 @@
--- Laws of printing: printing once, one behind another, nothing, a line for each element of a list; and what a whole print leaves.
-use Prim.Native.Nat.{ℕ, _+_, _≤_, _<_}
-use mathlib.Core.Path.{_≡_, refl, sym, ap, _∙_, subst}
-use mathlib.Core.Bool.{Bool, true, false}
+-- Laws of printing: one behind another, nothing, one byte, a line for each element of a list; and what a whole print leaves.
+use Prim.Native.Nat.{ℕ, suc, _+_, _-_, _≤_, _<_}
+use mathlib.Core.Path.{_≡_, refl, sym, ap, ap₂, _∙_, subst}
 use mathlib.Core.List.{List, [], _∷_, _++_, append-assoc, append-nil, flatMap}
-use mathlib.Core.Option.{none, some}
 use native.Mathlib.Numerals.{add-one}
 use native.Mathlib.Omega.{arith}
-use lib.ListN.{length, take, drop, getD, length-append, take-append-drop}
-use lib.Seq.{take-at, take-all, take-suc, take-take, length-take-le}
-use Rattle.spec_lists.specs.Lists.{if_then_else_}
-use Rattle.spec_lists.specs.ListLaws.{flatMap-append}
-use Rattle.bytes_wire.specs.Write.{hasRoom, overwrite}
-use Rattle.bytes_wire.specs.WriteLaws.{room-true, room-false, has-room, no-room, overwrite-in-place, overwrite-refused, length-overwrite, overwrite-append, take-overwrite}
-use Rattle.bytes_decimal.specs.Print.{nextPosition, positionOf}
-use Rattle.bytes_decimal.specs.declared.Printed.{Printed}
-use Rattle.bytes_decimal.specs.declared.Printed.the-variants.{Next, NoRoom}
-use Rattle.bytes_printer.specs.Prints.{nextFrom, Prints, Within}
+use lib.Dec.{leb}
+use lib.ListN.{length, take, drop, set, getD, length-append, length-take, length-drop, length-set, take-append-drop, drop-of-length-le}
+use lib.Seq.{take-at, take-all, take-suc, drop-at, drop-drop, drop-cons, set-split, length-take-le, take-append-le, take-append-add}
+use borrow.Author.Tests.{leb-true, leb-false, le-leb, lt-leb}
+use Rattle.spec_lists.specs.ListLaws.{flatMap-append, test-cases}
+use Rattle.bytes_printer.specs.declared.Printed.{Printed}
+use Rattle.bytes_printer.specs.declared.Printed.the-variants.{Next, NoRoom}
+use Rattle.bytes_printer.specs.Prints.{printed, behind, Prints, Within}
 
--- ---- the position behind bytes
+-- ---- bytes that fit, and bytes that do not
 
 module _ (l : List ℕ) (i : ℕ) (bs : List ℕ) where
-  pub position-behind : i + length bs ≤ length l → nextPosition l i bs ≡ some (i + length bs)
-  unfolding nextPosition
-  position-behind h = rw (has-room l i (length bs) h)
+  pub behind-all : i + length bs ≤ length l → behind l (Next i) bs ≡ Next (i + length bs)
+  unfolding behind
+  behind-all h = rw (le-leb (i + length bs) (length l) h)
 
-  pub no-position-behind : length l < i + length bs → nextPosition l i bs ≡ none
-  unfolding nextPosition
-  no-position-behind h = rw (no-room l i (length bs) h)
+  pub behind-none : length l < i + length bs → behind l (Next i) bs ≡ NoRoom
+  unfolding behind
+  behind-none h = rw (lt-leb (i + length bs) (length l) h)
 
-  -- a position that was answered: the bytes fit, and it is behind them
-  fitted : (j : ℕ) → some j ≡ nextPosition l i bs → (i + length bs ≤ length l) × (j ≡ i + length bs)
-  unfolding nextPosition
-  fitted j e = go (hasRoom l i (length bs)) refl e
+  pub printed-all : i + length bs ≤ length l → printed l (Next i) bs ≡ take i l ++ bs ++ drop (i + length bs) l
+  unfolding printed
+  printed-all h = ap (λ (b : List ℕ). take i l ++ b ++ drop (i + length bs) l) (take-all (length l - i) bs (omega arith))
+
+  pub printed-part : length l ≤ i + length bs → printed l (Next i) bs ≡ take i l ++ take (length l - i) bs
+  unfolding printed
+  printed-part h = rw (drop-of-length-le l h) (append-nil _)
+
+-- the slice keeps its length
+pub length-printed : (l : List ℕ) (at : Printed) (bs : List ℕ) → length (printed l at bs) ≡ length l
+unfolding printed
+length-printed l (Next i) bs = simp (length-append, length-take, length-drop) (omega arith)
+length-printed l NoRoom bs = refl
+
+-- ---- one behind another
+
+module _ (l : List ℕ) (i : ℕ) (a b : List ℕ) where
+  -- what stands before and behind a print that fits
+  module _ (h : i + length a ≤ length l) where
+    front : length (take i l ++ a) ≡ i + length a
+    front = length-append (take i l) a ∙ omega (arith, length-take-le i l (omega arith))
+
+    taken : take (i + length a) (printed l (Next i) a) ≡ take i l ++ a
+    taken = ap (take (i + length a)) (printed-all l i a h) ∙ take-at (take i l ++ a) (drop (i + length a) l) (i + length a) front
+
+    dropped : drop (i + length a + length b) (printed l (Next i) a) ≡ drop (i + length (a ++ b)) l
+    dropped =
+        let sum : i + length a + length b ≡ i + length (a ++ b) = omega (arith, length-append a b) in
+        sym (drop-drop (length b) (i + length a) (printed l (Next i) a))
+        ∙ ap (drop (length b)) (ap (drop (i + length a)) (printed-all l i a h) ∙ drop-at (take i l ++ a) (drop (i + length a) l) (i + length a) front)
+        ∙ drop-drop (length b) (i + length a) l
+        ∙ ap (λ (k : ℕ). drop k l) sum
+
+    middle : take (length l - i) (a ++ b) ≡ a ++ take (length l - (i + length a)) b
+    middle =
+        let sum : length l - i ≡ length a + (length l - (i + length a)) = omega arith in
+        ap (λ (k : ℕ). take k (a ++ b)) sum ∙ take-append-add a b (length l - (i + length a))
+
+  output-append : printed (printed l (Next i) a) (behind l (Next i) a) b ≡ printed l (Next i) (a ++ b)
+  unfolding printed
+  output-append = test-cases (leb (i + length a) (length l)) (λ t. all (leb-true _ _ t)) (λ t. part (leb-false _ _ t))
     where
-      go : (t : Bool) → hasRoom l i (length bs) ≡ t → some j ≡ (if t then some (i + length bs) else none) → (i + length bs ≤ length l) × (j ≡ i + length bs)
-      go true is e = (room-true l i (length bs) is, cc)
-      go false is e = absurd (let z : _≡_ {A = ℕ} 0 1 = cc in omega arith)
+      all : i + length a ≤ length l → printed (printed l (Next i) a) (behind l (Next i) a) b ≡ printed l (Next i) (a ++ b)
+      all h =
+          ap (λ (p : Printed). printed (printed l (Next i) a) p b) (behind-all l i a h)
+          ∙ ap₂ (λ (x y : List ℕ). x ++ take (length (printed l (Next i) a) - (i + length a)) b ++ y) (taken h) (dropped h)
+          ∙ ap (λ (k : ℕ). take i l ++ a ++ take (k - (i + length a)) b ++ drop (i + length (a ++ b)) l) (length-printed l (Next i) a)
+          ∙ ap (λ (x : List ℕ). x ++ drop (i + length (a ++ b)) l) (append-assoc (take i l) a _ ∙ ap (λ (x : List ℕ). take i l ++ x) (sym (middle h)))
 
-  -- no position was answered: the bytes do not fit
-  unfitted : none ≡ nextPosition l i bs → length l < i + length bs
-  unfolding nextPosition
-  unfitted e = go (hasRoom l i (length bs)) refl e
+      part : length l < i + length a → printed (printed l (Next i) a) (behind l (Next i) a) b ≡ printed l (Next i) (a ++ b)
+      part h =
+          ap (λ (p : Printed). printed (printed l (Next i) a) p b) (behind-none l i a h)
+          ∙ printed-part l i a (omega arith)
+          ∙ ap (λ (x : List ℕ). take i l ++ x) (sym (take-append-le (length l - i) a b (omega arith)))
+          ∙ sym (printed-part l i (a ++ b) (omega (arith, length-append a b)))
+
+  answer-append : behind (printed l (Next i) a) (behind l (Next i) a) b ≡ behind l (Next i) (a ++ b)
+  unfolding behind
+  answer-append = test-cases (leb (i + length a) (length l)) (λ t. all (leb-true _ _ t)) (λ t. part (leb-false _ _ t))
     where
-      go : (t : Bool) → hasRoom l i (length bs) ≡ t → none ≡ (if t then some (i + length bs) else none) → length l < i + length bs
-      go true is e = absurd (let z : _≡_ {A = ℕ} 0 1 = cc in omega arith)
-      go false is e = room-false l i (length bs) is
+      all : i + length a ≤ length l → behind (printed l (Next i) a) (behind l (Next i) a) b ≡ behind l (Next i) (a ++ b)
+      all h =
+          let sum : i + length a + length b ≡ i + length (a ++ b) = omega (arith, length-append a b) in
+          ap (λ (p : Printed). behind (printed l (Next i) a) p b) (behind-all l i a h) ∙ rw (length-printed l (Next i) a, sum)
 
-  -- what stands before the position stays
-  front-kept : take i (overwrite l i bs) ≡ take i l
-  front-kept = go (hasRoom l i (length bs)) refl
-    where
-      go : (t : Bool) → hasRoom l i (length bs) ≡ t → take i (overwrite l i bs) ≡ take i l
-      go true e =
-          ap (take i) (overwrite-in-place l i bs (length bs) refl e ∙ append-assoc (take i l) bs (drop (i + length bs) l))
-          ∙ take-at (take i l) (bs ++ drop (i + length bs) l) i (length-take-le i l (omega (arith, room-true l i (length bs) e)))
-      go false e = ap (take i) (overwrite-refused l i bs (length bs) refl e)
+      part : length l < i + length a → behind (printed l (Next i) a) (behind l (Next i) a) b ≡ behind l (Next i) (a ++ b)
+      part h =
+          ap (λ (p : Printed). behind (printed l (Next i) a) p b) (behind-none l i a h) ∙ sym (behind-none l i (a ++ b) (omega (arith, length-append a b)))
 
-  at-position : {m : List ℕ} {r : Printed} → positionOf r ≡ nextPosition l i bs → m ≡ overwrite l i bs → Prints l (Next i) bs m r
-  unfolding nextFrom
-  at-position told is = record {
-    told = told;
-    size = ap length is ∙ length-overwrite l i bs;
-    left = ((λ room. is), ap (take i) is ∙ front-kept);
-  }
+infixr 60 _⨾_
+-- printing a, then b where that ended, is printing a ++ b
+pub _⨾_ : {l m n : List ℕ} {at r s : Printed} {a b : List ℕ} → Prints l at a m r → Prints m r b n s → Prints l at (a ++ b) n s
+unfolding printed behind
+_⨾_ {l} {at = at} {a = a} {b = b} p q = record {
+  answer = q .answer ∙ ap₂ (λ (x : List ℕ) (y : Printed). behind x y b) (p .output) (p .answer) ∙ answers at;
+  output = q .output ∙ ap₂ (λ (x : List ℕ) (y : Printed). printed x y b) (p .output) (p .answer) ∙ outputs at;
+}
+  where
+    answers : (at : Printed) → behind (printed l at a) (behind l at a) b ≡ behind l at (a ++ b)
+    answers (Next i) = answer-append l i a b
+    answers NoRoom = refl
 
-  -- ---- printing once
-
-  -- by what a print that writes all or nothing answers and leaves
-  pub printed : {at r : Printed} {m : List ℕ} → at ≡ Next i → positionOf r ≡ nextPosition l i bs → m ≡ overwrite l i bs → Prints l at bs m r
-  printed {at} {r} {m} e told is = subst (λ (a : Printed). Prints l a bs m r) (sym e) (at-position told is)
-
-  -- by what a write answers and leaves
-  pub written : {at : Printed} {m : List ℕ} → at ≡ Next i → hasRoom l i (length bs) ≡ true → m ≡ overwrite l i bs → Prints l at bs m (Next (i + length bs))
-  unfolding nextPosition
-  written e room is = printed e (rw room) is
-
-  pub refused : {at : Printed} {m : List ℕ} → at ≡ Next i → hasRoom l i (length bs) ≡ false → m ≡ overwrite l i bs → Prints l at bs m NoRoom
-  unfolding nextPosition
-  refused e full is = printed e (rw full) is
-
-without-position : (l bs : List ℕ) → Prints l NoRoom bs l NoRoom
-unfolding nextFrom
-without-position l bs = record { told = refl; size = refl; left = refl }
-
--- without a position nothing is printed
-pub not-printed : (l bs : List ℕ) {at : Printed} → at ≡ NoRoom → Prints l at bs l NoRoom
-not-printed l bs e = subst (λ (a : Printed). Prints l a bs l NoRoom) (sym e) (without-position l bs)
+    outputs : (at : Printed) → printed (printed l at a) (behind l at a) b ≡ printed l at (a ++ b)
+    outputs (Next i) = output-append l i a b
+    outputs NoRoom = refl
 
 -- the same bytes, spelt otherwise
 pub same-bytes : {l m bs cs : List ℕ} {at r : Printed} → bs ≡ cs → Prints l at bs m r → Prints l at cs m r
 same-bytes {l} {m} {bs} {cs} {at} {r} e p = subst (λ (b : List ℕ). Prints l at b m r) e p
 
--- ---- one behind another
+-- ---- from a position that a match told
 
-next-append : (l m bs cs : List ℕ) (i j : ℕ) → length m ≡ length l → j ≡ i + length bs → nextPosition m j cs ≡ nextPosition l i (bs ++ cs)
-unfolding nextPosition hasRoom
-next-append l m bs cs i j same e =
-    let sum : i + length bs + length cs ≡ i + (length bs + length cs) = omega arith in
-    rw (e, same, length-append bs cs, sum)
+pub from-next : {l m bs : List ℕ} {at r : Printed} {i : ℕ} → at ≡ Next i → Prints l (Next i) bs m r → Prints l at bs m r
+from-next {l} {m} {bs} {at} {r} e p = subst (λ (a : Printed). Prints l a bs m r) (sym e) p
 
-module _ {l m n : List ℕ} {s : Printed} {bs cs : List ℕ} where
-  no-start : (r : Printed) → Prints l NoRoom bs m r → Prints m r cs n s → Prints l NoRoom (bs ++ cs) n s
-  unfolding nextFrom
-  no-start (Next j) p q = absurd (let z : _≡_ {A = ℕ} 0 1 = cc (p .told) in omega arith)
-  no-start NoRoom p q = record { told = q .told; size = q .size ∙ p .size; left = q .left ∙ p .left }
+-- without a position nothing is printed
+pub not-printed : (l bs : List ℕ) {at : Printed} → at ≡ NoRoom → Prints l at bs l NoRoom
+unfolding printed behind
+not-printed l bs e = subst (λ (a : Printed). Prints l a bs l NoRoom) (sym e) (record { answer = refl; output = refl })
 
-  from-position : (i : ℕ) (r : Printed) → Prints l (Next i) bs m r → Prints m r cs n s → Prints l (Next i) (bs ++ cs) n s
-  unfolding nextFrom
-  from-position i (Next j) p q =
-      let fit = fitted l i bs j (p .told) in
-      let sum = length-append bs cs in
-      record {
-        told = q .told ∙ next-append l m bs cs i j (p .size) (fit .1);
-        size = q .size ∙ p .size;
-        left = (
-          (λ room.
-              let whole : i + (length bs + length cs) ≤ length l = omega (arith, room-true l i (length (bs ++ cs)) room) in
-              q .left .0 (has-room m j (length cs) (omega (arith, p .size)))
-              ∙ ap (λ (k : ℕ). overwrite m k cs) (fit .1)
-              ∙ ap (λ (o : List ℕ). overwrite o (i + length bs) cs) (p .left .0 (has-room l i (length bs) (fit .0)))
-              ∙ overwrite-append l i bs cs (length bs) refl whole),
-          sym (take-take i j n (omega arith)) ∙ ap (take i) (q .left .1) ∙ take-take i j m (omega arith) ∙ p .left .1,
-        );
-      }
-  from-position i NoRoom p q =
-      let full = unfitted l i bs (p .told) in
-      let sum = length-append bs cs in
-      record {
-        told = q .told ∙ sym (no-position-behind l i (bs ++ cs) (omega arith));
-        size = q .size ∙ p .size;
-        left = (
-          (λ room. absurd (omega (arith, room-true l i (length (bs ++ cs)) room))),
-          ap (take i) (q .left) ∙ p .left .1,
-        );
-      }
+-- ---- nothing, one byte, and a slice that is full
 
-  after : (at r : Printed) → Prints l at bs m r → Prints m r cs n s → Prints l at (bs ++ cs) n s
-  after (Next i) r p q = from-position i r p q
-  after NoRoom r p q = no-start r p q
+module _ (l : List ℕ) (i : ℕ) where
+  -- one byte stored
+  pub one-printed : (b : ℕ) → i < length l → Prints l (Next i) (b ∷ []) (set l i b) (Next (i + 1))
+  one-printed b h = record {
+    answer = sym (behind-all l i (b ∷ []) (omega arith));
+    output =
+        let k : suc i ≡ i + 1 = omega arith in
+        set-split l i b h ∙ ap (λ (n : ℕ). take i l ++ b ∷ drop n l) k ∙ sym (append-assoc (take i l) (b ∷ []) (drop (i + 1) l)) ∙ sym (printed-all l i (b ∷ []) (omega arith));
+  }
 
-infixr 60 _⨾_
--- printing bs, then cs where that ended, is printing bs ++ cs
-pub _⨾_ : {l m n : List ℕ} {at r s : Printed} {bs cs : List ℕ} → Prints l at bs m r → Prints m r cs n s → Prints l at (bs ++ cs) n s
-_⨾_ {at = at} {r = r} p q = after at r p q
-
--- a print ends in the slice
-pub ends-within : {l m : List ℕ} {at r : Printed} {bs : List ℕ} → Prints l at bs m r → Within m r
-unfolding nextFrom
-ends-within {l = l} {m = m} {at = at} {r = r} {bs = bs} p = go at r p
-  where
-    go : (at r : Printed) → Prints l at bs m r → Within m r
-    go (Next i) (Next j) p = omega (arith, fitted l i bs j (p .told), p .size)
-    go NoRoom (Next j) p = absurd (let z : _≡_ {A = ℕ} 0 1 = cc (p .told) in omega arith)
-    go (Next i) NoRoom p = tt
-    go NoRoom NoRoom p = tt
-
--- ---- a line for each element of a list
+  -- no room for any
+  pub none-printed : (bs : List ℕ) → length l ≤ i → length l < i + length bs → Prints l (Next i) bs l NoRoom
+  none-printed bs full some = record {
+    answer = sym (behind-none l i bs some);
+    output =
+        let none-left : length l - i ≡ 0 = omega arith in
+        sym (printed-part l i bs (omega arith) ∙ rw none-left (append-nil (take i l)) ∙ take-all i l full);
+  }
 
 -- nothing is printed at a position in the slice
 pub nothing-printed : (l : List ℕ) (at : Printed) → Within l at → Prints l at [] l at
-unfolding nextFrom overwrite
+unfolding printed behind
 nothing-printed l (Next i) h =
-    let room : i + 0 ≤ length l = omega arith in
     let same : i + 0 ≡ i = omega arith in
     record {
-      told = ap some (sym same) ∙ sym (position-behind l i [] room);
-      size = refl;
-      left = ((λ e. sym (rw (e, same, append-nil (take i l)) (take-append-drop i l))), refl);
+      answer = sym (behind-all l i [] (omega arith) ∙ ap Next same);
+      output = sym (printed-all l i [] (omega arith) ∙ rw (same, append-nil (take i l)) (take-append-drop i l));
     }
-nothing-printed l NoRoom h = without-position l []
+nothing-printed l NoRoom h = record { answer = refl; output = refl }
+
+pub keeps-length : {l m : List ℕ} {at r : Printed} {bs : List ℕ} → Prints l at bs m r → length m ≡ length l
+keeps-length {l} {at = at} {bs = bs} p = ap length (p .output) ∙ length-printed l at bs
+
+-- a print ends in the slice
+pub ends-within : {l m : List ℕ} {at r : Printed} {bs : List ℕ} → Prints l at bs m r → Within m r
+unfolding behind
+ends-within {l} {m} {at} {r} {bs} p = subst (λ (x : Printed). Within m x) (sym (p .answer)) (by-position at (keeps-length p))
+  where
+    by-position : (at : Printed) → length m ≡ length l → Within m (behind l at bs)
+    by-position (Next i) size = test-cases (leb (i + length bs) (length l)) (λ t. rw t (omega (arith, leb-true (i + length bs) (length l) t))) (λ t. rw t tt)
+    by-position NoRoom size = tt
+
+-- ---- byte by byte
+
+module _ (text : List ℕ) (i : ℕ) (h : i < length text) {l m : List ℕ} {at : Printed} {to : ℕ} (p : Prints l at (take i text) m (Next to)) where
+  pub byte-turn : to < length m → Prints l at (take (i + 1) text) (set m to (getD text i 0)) (Next (to + 1))
+  byte-turn room = same-bytes (sym (ap (λ (k : ℕ). take k text) (add-one i) ∙ take-suc text i 0 h)) (p ⨾ one-printed m to (getD text i 0) room)
+
+  pub byte-full : length m ≤ to → Prints l at text m NoRoom
+  byte-full full =
+      same-bytes (take-append-drop i text) (p ⨾ none-printed m to (drop i text) full (omega (arith, length-drop i text)))
+
+-- ---- a line for each element of a list
 
 module _ {A : Type 0} (line : A → List ℕ) (xs : List A) {l : List ℕ} {at : Printed} where
   -- before the first turn of a loop over the list
@@ -195,14 +205,7 @@ module _ {A : Type 0} (line : A → List ℕ) (xs : List A) {l : List ℕ} {at :
 
 -- bytes that fit, printed from the start
 pub whole : {l bs m : List ℕ} {r : Printed} → Prints l (Next 0) bs m r → length bs ≤ length l → (r ≡ Next (length bs)) × (take (length bs) m ≡ bs)
-unfolding nextFrom
-whole {l} {bs} {m} {r} p h =
-    let room : hasRoom l 0 (length bs) ≡ true = has-room l 0 (length bs) (omega arith) in
-    (go r p, ap (λ (n : ℕ). take n m) none-before ∙ ap (take (0 + length bs)) (p .left .0 room) ∙ take-overwrite l 0 bs (length bs) refl room)
-  where
-    go : (r : Printed) → Prints l (Next 0) bs m r → r ≡ Next (length bs)
-    go (Next j) p = ap Next (fitted l 0 bs j (p .told) .1 ∙ omega arith)
-    go NoRoom p = absurd (omega (arith, unfitted l 0 bs (p .told)))
-
-    none-before : length bs ≡ 0 + length bs
-    none-before = omega arith
+whole {l} {bs} p h = (
+  p .answer ∙ behind-all l 0 bs (omega arith) ∙ ap Next (omega arith),
+  ap (take (length bs)) (p .output ∙ printed-all l 0 bs (omega arith)) ∙ take-at bs (drop (0 + length bs) l) (length bs) refl,
+)

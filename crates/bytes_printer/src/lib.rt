@@ -1,9 +1,14 @@
-// Fields of a line printed into a lent slice, one behind the other. A call goes on where the one before it ended. Once something does not
-// fit, nothing further is written.
+// Fields of a line printed into a lent slice, one behind the other. A call goes on where the one before it ended. Each prints as much as
+// fits; once something did not fit, nothing further is written.
 ghost use mathlib.Core.List.{[], _∷_};
 ghost use Rattle.spec_decimal.specs.Decimal.{decimal, signedDecimal};
 ghost use Rattle.bytes_printer.specs.Prints.{field, newline, Prints};
-use bytes_decimal::Printed;
+
+// The position behind what was printed, or that it did not fit.
+pub enum Printed {
+    Next(usize),
+    NoRoom,
+}
 
 pub fn print_bytes(out: &mut [u8], at: Printed, text: &[u8]) -> Printed
     ensures { λ r. ⌜ Prints (now (out .entry)) at (now (text .entry)) (now (out .exit)) r ⌝ }
@@ -11,10 +16,20 @@ pub fn print_bytes(out: &mut [u8], at: Printed, text: &[u8]) -> Printed
     let Printed::Next(from) = at else {
         return Printed::NoRoom;
     };
-    if bytes_wire::write_bytes_at(out, from, text) {
-        return Printed::Next(from + text.len());
+    if out.len() < from {
+        return Printed::NoRoom;
     }
-    Printed::NoRoom
+    let mut to = from;
+    let mut i: usize = 0;
+    while i < text.len() {
+        if out.len() <= to {
+            return Printed::NoRoom;
+        }
+        out[to] = text[i];
+        to += 1;
+        i += 1;
+    }
+    Printed::Next(to)
 }
 
 pub fn print_byte(out: &mut [u8], at: Printed, byte: u8) -> Printed
@@ -27,19 +42,22 @@ pub fn print_byte(out: &mut [u8], at: Printed, byte: u8) -> Printed
 pub fn print_u64(out: &mut [u8], at: Printed, n: u64) -> Printed
     ensures { λ r. ⌜ Prints (now (out .entry)) at (decimal n) (now (out .exit)) r ⌝ }
 {
-    let Printed::Next(from) = at else {
-        return Printed::NoRoom;
-    };
-    bytes_decimal::print_u64(out, from, n)
+    let digits = bytes_decimal::digits_of(n);
+    let bytes = digits.bytes;
+    let start = digits.start;
+    print_bytes(out, at, &bytes[start..])
 }
 
+// Of a number below 0 a minus sign and the digits of its magnitude.
 pub fn print_i64(out: &mut [u8], at: Printed, z: i64) -> Printed
     ensures { λ r. ⌜ Prints (now (out .entry)) at (signedDecimal z) (now (out .exit)) r ⌝ }
 {
-    let Printed::Next(from) = at else {
-        return Printed::NoRoom;
-    };
-    bytes_decimal::print_i64(out, from, z)
+    if z < 0 {
+        let sign = print_byte(out, at, 45);
+        print_u64(out, sign, (-1 - z) as u64 + 1)
+    } else {
+        print_u64(out, at, z as u64)
+    }
 }
 
 // A tab, then the field.

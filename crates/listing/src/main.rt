@@ -1,6 +1,6 @@
 // Reads a set from standard input and prints its listing: 01, 'Listing'.
 use libc::STDOUT_FILENO;
-use listing_tables::LISTING_BYTES;
+use listing_lines::tables::LISTING_BYTES;
 use patch_part_writer::written::Written;
 use projection_patch::patch::ProjectionPatchSet;
 

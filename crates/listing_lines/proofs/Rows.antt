@@ -1,17 +1,22 @@
 -- The numbers that stand in the row of a record, and where its value begins.
-use Prim.Native.Nat.{ℕ, _^_, _<_}
-use mathlib.Core.Path.{_≡_, refl, ap, _∙_}
+use Prim.Native.Nat.{ℕ, _-_, _^_, _<_, min}
+use mathlib.Core.Path.{_≡_, refl, sym, ap, _∙_}
 use mathlib.Core.List.{List, [], _∷_, _++_}
 use mathlib.Core.Option.{Option, none, some, Option·some-injective}
 use native.Mathlib.Omega.{arith}
-use lib.ListN.{length, drop}
-use lib.Seq.{drop-at}
+use lib.Dec.{leb}
+use lib.ListN.{length, take, drop}
+use lib.Seq.{take-all, drop-at}
+use borrow.Author.Tests.{leb-true, leb-false}
+use Rattle.spec_lists.specs.ListLaws.{test-cases}
 use Rattle.spec_lists.specs.Bytes.{littleEndian, numberOf}
 use Rattle.spec_lists.specs.BytesLaws.{length-littleEndian}
 use Rattle.spec_patch.specs.Patch.{Availability, available, unavailable, hidden, pending, stale}
 use Rattle.spec_patch.specs.Encode.{u32, u64, availabilityByte}
 use Rattle.spec_projection.specs.Projection.{Binding, NodeAvailability, Entry}
 use Rattle.spec_projection.specs.Valid.{FitsBinding, FitsNodeAvailability, FitsEntry}
+use Rattle.spec_decimal.specs.Decimal.{decimal}
+use Rattle.spec_listing.specs.Listing.{fields}
 use Rattle.bytes_wire.specs.Read.{firstNumber}
 use Rattle.bytes_wire.specs.ReadLaws.{first-of-littleEndian}
 use Rattle.panel_rows.specs.Rows.{padded, bindingRow, availabilityRow, entryRow}
@@ -75,3 +80,20 @@ module _ (row : List ℕ) (a : NodeAvailability) (fits : FitsNodeAvailability a)
       ap (λ (l : List ℕ). firstNumber 1 (drop 8 l)) is
       ∙ ap (firstNumber 1) (drop-at (u64 (a .node)) (availabilityByte (a .availability) ∷ []) 8 (length-littleEndian 8 (a .node)))
       ∙ one-byte (a .availability)
+
+-- ---- the line
+
+-- the same numbers and further fields
+pub same-record : (letter : ℕ) {n m a b : ℕ} {k l : List (List ℕ)} → n ≡ a → m ≡ b → k ≡ l → letter ∷ fields (decimal n ∷ decimal m ∷ k) ≡ letter ∷ fields (decimal a ∷ decimal b ∷ l)
+same-record letter e f g = λ i. letter ∷ fields (decimal (e i) ∷ decimal (f i) ∷ g i)
+
+pub none-more : _≡_ {A = List (List ℕ)} [] []
+none-more = refl
+
+-- ---- a text up to its length
+
+pub front : (text : List ℕ) (n most : ℕ) → length text ≡ most → take (min n most - 0) text ≡ take n text
+front text n most size =
+    test-cases (leb n most)
+    (λ t. let same : min n most - 0 ≡ n = omega (arith, leb-true n most t) in ap (λ (k : ℕ). take k text) same)
+    (λ t. let more = leb-false n most t in take-all (min n most - 0) text (omega arith) ∙ sym (take-all n text (omega arith)))

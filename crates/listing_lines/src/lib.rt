@@ -1,19 +1,21 @@
 // The lines of a listing: 01, 'Listing'. A record's line is printed from its stored row.
+pub mod tables;
+
 ghost use mathlib.Core.Path.{_≡_};
 ghost use mathlib.Core.List.{[], _∷_};
 ghost use mathlib.Core.Option.{some};
-ghost use Prim.Native.Nat.{ℕ};
-ghost use lib.ListN.{drop};
-ghost use Rattle.spec_patch.specs.Patch.{Value};
+ghost use Prim.Native.Nat.{ℕ, min};
+ghost use lib.ListN.{take, drop};
 ghost use Rattle.spec_projection.specs.Projection.{Binding, NodeAvailability, Entry};
 ghost use Rattle.spec_projection.specs.Valid.{FitsBinding, FitsNodeAvailability, FitsEntry};
-ghost use Rattle.spec_decimal.specs.Decimal.{decimal, signedDecimal};
-ghost use Rattle.spec_listing.specs.Listing.{fields, valueFields, bindingLine, availabilityLine, entryLine};
+ghost use Rattle.spec_decimal.specs.Decimal.{decimal};
+ghost use Rattle.spec_listing.specs.Listing.{fields, bindingLine, availabilityLine, entryLine};
 ghost use Rattle.bytes_wire.specs.Read.{firstNumber};
-ghost use Rattle.bytes_printer.specs.Prints.{Prints};
+ghost use Rattle.bytes_printer.specs.Prints.{field, Prints};
 ghost use Rattle.panel_rows.specs.Rows.{bindingRow, availabilityRow, entryRow};
-ghost use Rattle.panel_rows.specs.Lookup.{foundValue};
-use bytes_decimal::Printed;
+ghost use Rattle.listing_lines.specs.LookupFields.{lookupFields};
+ghost use Rattle.listing_lines.specs.RowKinds.{Element, Fits, rowOf, lineOf};
+use bytes_printer::Printed;
 use bytes_wire::ReadU8;
 use bytes_wire::ReadU32;
 use bytes_wire::ReadU64;
@@ -50,52 +52,52 @@ fn byte_number(row: &[u8], at: usize) -> u64
     }
 }
 
-// The last two fields of a line, a kind and a number, and its end.
-fn print_unsigned(out: &mut [u8], at: Printed, kind: u8, n: u64) -> Printed
-    ensures { λ r. ⌜ Prints (now (out .entry)) at (fields ((kind ∷ []) ∷ decimal n ∷ [])) (now (out .exit)) r ⌝ }
+// A field of one letter.
+fn print_letter(out: &mut [u8], at: Printed, letter: u8) -> Printed
+    ensures { λ r. ⌜ Prints (now (out .entry)) at (field (letter ∷ [])) (now (out .exit)) r ⌝ }
 {
-    let letter = [kind; 1];
-    let first = bytes_printer::print_field_bytes(out, at, &letter);
-    let second = bytes_printer::print_field_u64(out, first, n);
-    bytes_printer::print_newline(out, second)
+    let tab = bytes_printer::print_byte(out, at, 9);
+    bytes_printer::print_byte(out, tab, letter)
 }
 
-fn print_signed(out: &mut [u8], at: Printed, z: i64) -> Printed
-    ensures { λ r. ⌜ Prints (now (out .entry)) at (fields ((83 ∷ []) ∷ signedDecimal z ∷ [])) (now (out .exit)) r ⌝ }
-{
-    let first = bytes_printer::print_field_bytes(out, at, b"S");
-    let second = bytes_printer::print_field_i64(out, first, z);
-    bytes_printer::print_newline(out, second)
-}
-
-fn print_text(out: &mut [u8], at: Printed, text: &[u8]) -> Printed
-    ensures { λ r. ⌜ Prints (now (out .entry)) at (fields ((84 ∷ []) ∷ now (text .entry) ∷ [])) (now (out .exit)) r ⌝ }
-{
-    let first = bytes_printer::print_field_bytes(out, at, b"T");
-    let second = bytes_printer::print_field_bytes(out, first, text);
-    bytes_printer::print_newline(out, second)
-}
-
-// The kind and the value of a value that was found, and the end of the line.
+// The kind and the value of a lookup, and the end of the line. A kind that is none of the others is printed as a text.
 pub fn print_value(out: &mut [u8], at: Printed, value: ValueLookup) -> Printed
-    ensures { λ r. ⌜ ((v : Value) → value ≡ foundValue v → Prints (now (out .entry)) at (fields (valueFields v)) (now (out .exit)) r) ⌝ }
+    ensures { λ r. ⌜ Prints (now (out .entry)) at (fields (lookupFields value)) (now (out .exit)) r ⌝ }
 {
     let kind = value.kind;
     if kind == 1 {
-        return print_unsigned(out, at, 81, value.quad as u64);
+        let letter = print_letter(out, at, 81);
+        let number = bytes_printer::print_field_u64(out, letter, value.quad as u64);
+        return bytes_printer::print_newline(out, number);
     }
     if kind == 2 {
-        return print_signed(out, at, value.signed);
+        let letter = print_letter(out, at, 83);
+        let number = bytes_printer::print_field_i64(out, letter, value.signed);
+        return bytes_printer::print_newline(out, number);
     }
     if kind == 4 {
-        return print_unsigned(out, at, 85, value.unsigned);
+        let letter = print_letter(out, at, 85);
+        let number = bytes_printer::print_field_u64(out, letter, value.unsigned);
+        return bytes_printer::print_newline(out, number);
     }
+    print_text(out, at, value)
+}
+
+fn at_most(n: usize, most: usize) -> usize
+    ensures { λ r. ⌜ r ≡ min n most ⌝ }
+{
+    if n < most { n } else { most }
+}
+
+// The kind T, the text of a lookup and the end of the line.
+fn print_text(out: &mut [u8], at: Printed, value: ValueLookup) -> Printed
+    ensures { λ r. ⌜ Prints (now (out .entry)) at (fields ((84 ∷ []) ∷ take (value .«text_len») (value .text) ∷ [])) (now (out .exit)) r ⌝ }
+{
     let text = value.text;
-    let len = value.text_len;
-    if ProjectionPatchValue::TEXT_BYTES < len {
-        return Printed::NoRoom;
-    }
-    print_text(out, at, &text[0..len])
+    let len = at_most(value.text_len, ProjectionPatchValue::TEXT_BYTES);
+    let letter = print_letter(out, at, 84);
+    let bytes = bytes_printer::print_field_bytes(out, letter, &text[0..len]);
+    bytes_printer::print_newline(out, bytes)
 }
 
 // A letter and one number.
@@ -116,8 +118,7 @@ fn print_record(
     b: u64,
     value: ValueLookup,
 ) -> Printed
-    ensures { λ r. ⌜ ((v : Value) → value ≡ foundValue v
-        → Prints (now (out .entry)) at (letter ∷ fields (decimal a ∷ decimal b ∷ valueFields v)) (now (out .exit)) r) ⌝ }
+    ensures { λ r. ⌜ Prints (now (out .entry)) at (letter ∷ fields (decimal a ∷ decimal b ∷ lookupFields value)) (now (out .exit)) r ⌝ }
 {
     let start = bytes_printer::print_byte(out, at, letter);
     let first = bytes_printer::print_field_u64(out, start, a);
@@ -125,7 +126,7 @@ fn print_record(
     print_value(out, second, value)
 }
 
-pub fn print_binding(out: &mut [u8], at: Printed, row: &[u8]) -> Printed
+fn print_binding(out: &mut [u8], at: Printed, row: &[u8]) -> Printed
     ensures { λ r. ⌜ ((b : Binding) → FitsBinding b → now (row .entry) ≡ bindingRow b
         → Prints (now (out .entry)) at (bindingLine b) (now (out .exit)) r) ⌝ }
 {
@@ -135,7 +136,7 @@ pub fn print_binding(out: &mut [u8], at: Printed, row: &[u8]) -> Printed
     print_record(out, at, 66, node, slot, value)
 }
 
-pub fn print_availability(out: &mut [u8], at: Printed, row: &[u8]) -> Printed
+fn print_availability(out: &mut [u8], at: Printed, row: &[u8]) -> Printed
     ensures { λ r. ⌜ ((a : NodeAvailability) → FitsNodeAvailability a → now (row .entry) ≡ availabilityRow a
         → Prints (now (out .entry)) at (availabilityLine a) (now (out .exit)) r) ⌝ }
 {
@@ -147,7 +148,7 @@ pub fn print_availability(out: &mut [u8], at: Printed, row: &[u8]) -> Printed
     bytes_printer::print_newline(out, second)
 }
 
-pub fn print_entry(out: &mut [u8], at: Printed, row: &[u8]) -> Printed
+fn print_entry(out: &mut [u8], at: Printed, row: &[u8]) -> Printed
     ensures { λ r. ⌜ ((e : Entry) → FitsEntry e → now (row .entry) ≡ entryRow e
         → Prints (now (out .entry)) at (entryLine e) (now (out .exit)) r) ⌝ }
 {
@@ -155,4 +156,22 @@ pub fn print_entry(out: &mut [u8], at: Printed, row: &[u8]) -> Printed
     let key = long_number(row, 8);
     let value = panel_rows::values::stored_value(row, 16);
     print_record(out, at, 67, collection, key, value)
+}
+
+// The three kinds of rows.
+pub enum RowKind {
+    Binding,
+    Availability,
+    Entry,
+}
+
+pub(crate) fn print_row(out: &mut [u8], at: Printed, kind: RowKind, row: &[u8]) -> Printed
+    ensures { λ r. ⌜ ((x : Element kind) → Fits kind x → now (row .entry) ≡ rowOf kind x
+        → Prints (now (out .entry)) at (lineOf kind x) (now (out .exit)) r) ⌝ }
+{
+    match kind {
+        RowKind::Binding => print_binding(out, at, row),
+        RowKind::Availability => print_availability(out, at, row),
+        RowKind::Entry => print_entry(out, at, row),
+    }
 }

@@ -1,6 +1,6 @@
 -- Lines that were printed are written whole, or not at all.
 use Prim.Native.Nat.{ℕ, _+_, _-_, _≤_}
-use mathlib.Core.Path.{_≡_, refl, sym, ap, _∙_, subst}
+use mathlib.Core.Path.{_≡_, refl, sym, ap, _∙_}
 use mathlib.Core.Bool.{Bool, true, false}
 use mathlib.Core.List.{List}
 use native.Mathlib.Omega.{arith}
@@ -8,8 +8,8 @@ use lib.ListN.{length, take, drop, length-take}
 use Rattle.spec_lists.specs.Lists.{if_then_else_}
 use Rattle.bytes_wire.specs.Write.{hasRoom, overwrite}
 use Rattle.bytes_wire.specs.WriteLaws.{room-true, has-room, overwrite-refused, take-overwrite, drop-past-overwrite}
-use Rattle.bytes_decimal.specs.declared.Printed.{Printed}
-use Rattle.bytes_decimal.specs.declared.Printed.the-variants.{Next, NoRoom}
+use Rattle.bytes_printer.specs.declared.Printed.{Printed}
+use Rattle.bytes_printer.specs.declared.Printed.the-variants.{Next, NoRoom}
 use Rattle.bytes_printer.specs.Prints.{Prints}
 use Rattle.bytes_printer.specs.PrintsLaws.{whole}
 use Rattle.patch_part_writer.specs.declared.written.WriteRefusal.the-variants.{OutputTooShort}
@@ -20,10 +20,6 @@ use Rattle.listing_panel.specs.Written.{Holds, Writes}
 -- lines that fit, printed from the start of a text, stand there
 pub printed-holds : {before lines text : List ℕ} {end : Printed} → Prints before (Next 0) lines text end → length lines ≤ length before → Holds text end lines
 printed-holds p h = let w = whole p h in record { position = w .0; bytes = w .1 }
-
--- the same lines, spelt otherwise
-pub same-lines : {before lines more after : List ℕ} {r : Written} → lines ≡ more → Writes before lines after r → Writes before more after r
-same-lines {before} {lines} {more} {after} {r} e w = subst (λ (l : List ℕ). Writes before l after r) e w
 
 -- ---- by the position where printing ended
 

@@ -1,18 +1,17 @@
-// The listing of a set and that of a state, written into a lent slice whole or not at all: 01, 'Listing'.
+// The listing of a set, printed; and that of a set or a state, written into a lent slice whole or not at all: 01, 'Listing'.
 ghost use mathlib.Core.List.{List};
 ghost use Prim.Native.Nat.{ℕ};
 ghost use Rattle.spec_projection.specs.Projection.{Projection};
-ghost use Rattle.spec_listing.specs.Listing.{projectionLines, refusalLine, listing};
+ghost use Rattle.spec_listing.specs.Listing.{projectionLines, listing};
+ghost use Rattle.bytes_printer.specs.Prints.{Prints};
 ghost use Rattle.local_projection_state.specs.Stores.{Stores};
 ghost use Rattle.listing_panel.specs.Written.{Holds, Writes, Kept};
-use bytes_decimal::Printed;
-use listing_tables::LISTING_BYTES;
+use bytes_printer::Printed;
+use listing_lines::tables;
+use listing_lines::tables::LISTING_BYTES;
 use local_projection_state::LocalProjectionState;
 use patch_part_writer::written::WriteRefusal;
 use patch_part_writer::written::Written;
-
-// E, a tab, at most 20 digits and a newline.
-const REFUSAL_BYTES: usize = 23;
 
 // Writes the lines that were printed from the start of text up to a position.
 fn write_lines(text: &[u8], end: Printed, out: &mut [u8]) -> Written
@@ -38,23 +37,13 @@ pub fn write_projection(state: LocalProjectionState, out: &mut [u8]) -> Written
 {
     let mut text = [0u8; LISTING_BYTES];
     let start = Printed::Next(0);
-    let end = listing_tables::print_projection(&mut text, start, state);
+    let end = tables::print_projection(&mut text, start, state);
     write_lines(&text, end, out)
 }
 
-// Writes the line of a refusal.
-fn write_refusal(number: u64, out: &mut [u8]) -> Written
-    ensures { λ r. ⌜ Writes (now (out .entry)) (refusalLine number) (now (out .exit)) r ⌝ }
-{
-    let mut text = [0u8; REFUSAL_BYTES];
-    let start = Printed::Next(0);
-    let end = listing_lines::print_number_line(&mut text, start, 69, number);
-    write_lines(&text, end, out)
-}
-
-// Writes the listing of a set: that of an empty projection after it, or the line of its refusal.
-pub fn write_listing(set: &[u8], out: &mut [u8]) -> Written
-    ensures { λ r. ⌜ Writes (now (out .entry)) (listing (now (set .entry))) (now (out .exit)) r ⌝ }
+// Prints the listing of a set: that of an empty projection after it, or the line of its refusal.
+pub fn print_listing(out: &mut [u8], at: Printed, set: &[u8]) -> Printed
+    ensures { λ r. ⌜ Prints (now (out .entry)) at (listing (now (set .entry))) (now (out .exit)) r ⌝ }
 {
     let empty = LocalProjectionState::empty();
     let application = panel_application::apply_projection_patch_set(empty, set);
@@ -62,7 +51,17 @@ pub fn write_listing(set: &[u8], out: &mut [u8]) -> Written
     let outcome = application.outcome;
     let number = outcome.number();
     if number == 0 {
-        return write_projection(state, out);
+        return tables::print_projection(out, at, state);
     }
-    write_refusal(number, out)
+    listing_lines::print_number_line(out, at, 69, number)
+}
+
+// Writes the listing of a set.
+pub fn write_listing(set: &[u8], out: &mut [u8]) -> Written
+    ensures { λ r. ⌜ Writes (now (out .entry)) (listing (now (set .entry))) (now (out .exit)) r ⌝ }
+{
+    let mut text = [0u8; LISTING_BYTES];
+    let start = Printed::Next(0);
+    let end = print_listing(&mut text, start, set);
+    write_lines(&text, end, out)
 }

@@ -1,10 +1,10 @@
 // Answers a replay script from standard input, line by line: docs/DECISIONS.md, 'Replay'.
 ghost use Prim.Native.Nat.{_≤_, _<_};
 ghost use lib.ListN.{length};
-use bytes_decimal::Printed;
+use bytes_printer::Printed;
 use libc::STDIN_FILENO;
 use libc::STDOUT_FILENO;
-use listing_tables::LISTING_BYTES;
+use listing_lines::tables::LISTING_BYTES;
 use script_calls::state::ReplayState;
 use script_parser::ScriptCommand;
 

@@ -1,2 +1,3 @@
 pub mod Creations
-pub mod Lookups
+pub mod Records
+pub mod Checks

@@ -1,3 +1,5 @@
 pub mod OpenFields
 pub mod OpenFieldsLaws
 pub mod CreationAnswers
+pub mod LookupLines
+pub mod CheckOf

@@ -3,7 +3,7 @@ use Prim.Native.Nat.{ℕ}
 use mathlib.Core.Path.{_≡_, refl, sym, ap, _∙_}
 use mathlib.Core.List.{List, [], _∷_, _++_, append-assoc, append-nil}
 use Rattle.spec_listing.specs.Listing.{fields}
-use Rattle.bytes_decimal.specs.declared.Printed.{Printed}
+use Rattle.bytes_printer.specs.declared.Printed.{Printed}
 use Rattle.bytes_printer.specs.Prints.{field, Prints}
 use Rattle.bytes_printer.specs.PrintsLaws.{_⨾_, same-bytes}
 use Rattle.script_answers.specs.OpenFields.{openFields}

@@ -4,7 +4,7 @@ ghost use Rattle.spec_replay.specs.Answers.{dispositionField, lifecycleField, c
 ghost use Rattle.bytes_printer.specs.Prints.{field, Prints};
 ghost use Rattle.session_lifecycle.specs.Meaning.{dispositionMeans, diagnosticsMean, lifecycleOf, cursorOf};
 ghost use Rattle.script_answers.specs.OpenFields.{openFields};
-use bytes_decimal::Printed;
+use bytes_printer::Printed;
 use session_lifecycle::diagnostics::ShellDiagnostics;
 use session_lifecycle::lifecycle::ShellTransitionDisposition;
 use session_lifecycle::state::ProjectionReplayCursor;

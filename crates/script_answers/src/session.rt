@@ -7,7 +7,7 @@ ghost use Rattle.bytes_printer.specs.Prints.{Prints};
 ghost use Rattle.session_lifecycle.specs.Meaning.{dispositionMeans, answerOf};
 ghost use Rattle.session_steps.specs.Answers.{dispositionTold, batchAnswerOf};
 ghost use Rattle.script_answers.specs.CreationAnswers.{creationTo};
-use bytes_decimal::Printed;
+use bytes_printer::Printed;
 use session_creation::CreationAnswer;
 use session_lifecycle::lifecycle::ShellTransitionDisposition;
 use session_lifecycle::lifecycle::ShellTransitionResult;

@@ -1,13 +1,10 @@
 // The line of a value, and that of an availability, that was looked up.
-ghost use mathlib.Core.Path.{_≡_};
 ghost use mathlib.Core.List.{[], _∷_};
-ghost use mathlib.Core.Option.{Option};
-ghost use Rattle.spec_patch.specs.Patch.{Value, Availability};
 ghost use Rattle.spec_listing.specs.Listing.{fields};
-ghost use Rattle.spec_replay.specs.Answers.{dash, valueLine, availabilityLine};
+ghost use Rattle.spec_replay.specs.Answers.{dash};
 ghost use Rattle.bytes_printer.specs.Prints.{Prints};
-ghost use Rattle.panel_rows.specs.Lookup.{valueLookup, availabilityLookup};
-use bytes_decimal::Printed;
+ghost use Rattle.script_answers.specs.LookupLines.{valueLookupLine, availabilityLookupLine};
+use bytes_printer::Printed;
 use panel_rows::values::AvailabilityLookup;
 use panel_rows::values::ValueLookup;
 
@@ -19,7 +16,7 @@ fn print_none(out: &mut [u8], at: Printed) -> Printed
 }
 
 pub fn print_value(out: &mut [u8], at: Printed, lookup: ValueLookup) -> Printed
-    ensures { λ r. ⌜ ((o : Option Value) → lookup ≡ valueLookup o → Prints (now (out .entry)) at (valueLine o) (now (out .exit)) r) ⌝ }
+    ensures { λ r. ⌜ Prints (now (out .entry)) at (valueLookupLine lookup) (now (out .exit)) r ⌝ }
 {
     let letter = bytes_printer::print_byte(out, at, 86);
     if lookup.found {
@@ -29,7 +26,7 @@ pub fn print_value(out: &mut [u8], at: Printed, lookup: ValueLookup) -> Printed
 }
 
 pub fn print_availability(out: &mut [u8], at: Printed, lookup: AvailabilityLookup) -> Printed
-    ensures { λ r. ⌜ ((o : Option Availability) → lookup ≡ availabilityLookup o → Prints (now (out .entry)) at (availabilityLine o) (now (out .exit)) r) ⌝ }
+    ensures { λ r. ⌜ Prints (now (out .entry)) at (availabilityLookupLine lookup) (now (out .exit)) r ⌝ }
 {
     let letter = bytes_printer::print_byte(out, at, 86);
     if lookup.found {

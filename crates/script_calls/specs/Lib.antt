@@ -1,2 +1,4 @@
+pub mod SetsUp
+pub mod SetsUpLaws
 pub mod ReplayHolds
 pub mod ReplayHoldsLaws

@@ -1,4 +1,4 @@
--- A session is asked for: there is one and it answers, or there is none.
+-- What a call does to a replay: a session is asked for, and there is one that answers, or none; a creation takes the place of what there was.
 use Prim.Native.Nat.{ℕ, _-_, min}
 use mathlib.Core.Path.{_≡_, refl, sym, ap, ap₂, subst, _∙_}
 use mathlib.Core.Bool.{Bool, true, false}
@@ -10,18 +10,19 @@ use Rattle.spec_lists.specs.ListLaws.{map-take}
 use Rattle.spec_session.specs.Session.{Session, Limits, Creation, made, refused, create}
 use Rattle.spec_replay.specs.Answers.{noSessionLine, creationLine}
 use Rattle.spec_replay.specs.Replay.{Setup, State, Step, onward, stops, asked, created, withSession, keptAnchors}
-use Rattle.bytes_decimal.specs.declared.Printed.{Printed}
-use Rattle.bytes_decimal.specs.declared.Printed.the-variants.{Next}
+use Rattle.bytes_printer.specs.declared.Printed.{Printed}
+use Rattle.bytes_printer.specs.declared.Printed.the-variants.{Next}
 use Rattle.bytes_printer.specs.Prints.{Prints}
 use Rattle.shell_player.specs.Holds.{Holds}
 use Rattle.session_creation.specs.Creation.{Creates}
 use Rattle.shell_player.specs.declared.session.ShellSession.{ShellSession}
 use Rattle.session_creation.specs.declared.ShellSessionCreation.{ShellSessionCreation}
 use Rattle.session_lifecycle.specs.Meaning.{limitsOf}
-use Rattle.active_projection_target_catalog.specs.Catalog.{pairOf}
+use Rattle.active_projection_target_catalog.specs.Catalog.{pairOf, noPair}
 use Rattle.session_creation.specs.Creation.{catalogueFrom}
-use Rattle.script_setup.specs.SetsUp.{SetsUp}
-use Rattle.script_setup.specs.declared.ReplaySetup.{ReplaySetup}
+use Rattle.script_calls.specs.SetsUp.{SetsUp}
+use Rattle.script_calls.specs.SetsUpLaws.{kept-front}
+use Rattle.script_calls.specs.declared.setup.ReplaySetup.{ReplaySetup}
 use Rattle.script_calls.specs.declared.state.ReplayState.{ReplayState}
 use Rattle.script_calls.specs.declared.state.ReplayStep.{ReplayStep}
 use Rattle.script_calls.specs.ReplayHolds.{SessionHeld, ReplayHolds, Stepped, isCreated}
@@ -48,14 +49,14 @@ module _ (m : State) (f : Session → Step) where
 
 module _ (s : ReplayState) (m : State) (h : ReplayHolds s m) (before after : List ℕ) (r : ReplayStep) (f : Session → Step) where
   -- the session answers
-  pub asked-there : s .exists ≡ true → ((x : Session) → Holds (s .session) x → Stepped before after r (f x)) → Stepped before after r (asked m f)
+  pub asked-there : s .exists ≡ true → ((x : Session) → Holds (s .session) x → Stepped s before after r (f x)) → Stepped s before after r (asked m f)
   asked-there e step =
       let one = held-some (s .exists) (s .session) (m .session) e (h .session-is) in
-      subst (Stepped before after r) (sym (asked-is m f (some (one .0)) (one .1))) (step (one .0) (one .2))
+      subst (Stepped s before after r) (sym (asked-is m f (some (one .0)) (one .1))) (step (one .0) (one .2))
 
   -- there is none
-  pub asked-nowhere : s .exists ≡ false → Stepped before after r (onward m noSessionLine) → Stepped before after r (asked m f)
-  asked-nowhere e step = subst (Stepped before after r) (sym (asked-is m f none (held-none (s .exists) (s .session) (m .session) e (h .session-is)))) step
+  pub asked-nowhere : s .exists ≡ false → Stepped s before after r (onward m noSessionLine) → Stepped s before after r (asked m f)
+  asked-nowhere e step = subst (Stepped s before after r) (sym (asked-is m f none (held-none (s .exists) (s .session) (m .session) e (h .session-is)))) step
 
 module _ (s : ReplayState) (m : State) (h : ReplayHolds s m) where
   -- the state with a later session of the same replay
@@ -63,23 +64,21 @@ module _ (s : ReplayState) (m : State) (h : ReplayHolds s m) where
   unfolding withSession
   holds-latest t x e held = record { setup-is = h .setup-is; session-is = held-as (s .exists) t x e held }
 
-module _ {before after : List ℕ} where
+module _ {s : ReplayState} {before after : List ℕ} where
   -- a step that goes on, by its parts
-  pub goes-on : {r : ReplayStep} {m : State} {printed : List ℕ} → r .stopped ≡ false → ReplayHolds (r .state) m → Prints before (Next 0) printed after (r .printed) → Stepped before after r (onward m printed)
-  unfolding Stepped
-  goes-on e h p = (e, (h, p))
+  pub goes-on : {r : ReplayStep} {m : State} {printed : List ℕ} → r .stopped ≡ false → ReplayHolds (r .state) m → Prints before (Next 0) printed after (r .printed) → Stepped s before after r (onward m printed)
+  goes-on e h p = record { is = (e, (h, p)) }
 
-  pub stops-there : (r : ReplayStep) {printed : List ℕ} → r .stopped ≡ true → Prints before (Next 0) printed after (r .printed) → Stepped before after r (stops printed)
-  unfolding Stepped
-  stops-there r e p = (e, p)
+  pub stops-there : (r : ReplayStep) {printed : List ℕ} → r .stopped ≡ true → r .state ≡ s → Prints before (Next 0) printed after (r .printed) → Stepped s before after r (stops printed)
+  stops-there r e same p = record { is = (e, (same, p)) }
 
 -- a creation takes the place of what there was
 pub created-step : (s : ReplayState) (m : State) → ReplayHolds s m → (c : Creation) (r : ShellSessionCreation) → Creates c r → (b : Bool) → b ≡ isCreated (r .answer)
     → (before after : List ℕ) (p : Printed) → Prints before (Next 0) (creationLine c) after p
-    → Stepped before after (record { state = record { setup = s .setup; exists = b; session = r .session }; printed = p; stopped = false }) (created m c)
+    → Stepped s before after (record { state = record { setup = s .setup; exists = b; session = r .session }; printed = p; stopped = false }) (created m c)
 unfolding created Creates isCreated withSession
 created-step s m h (made x) r k b e before after p printed = goes-on refl (record { setup-is = h .setup-is; session-is = rw (e, k .0) (k .1) }) printed
-created-step s m h (refused f) r k b e before after p printed = goes-on refl (record { setup-is = h .setup-is; session-is = rw (e, k .0) tt }) printed
+created-step s m h (refused f) r k b e before after p printed = goes-on refl (record { setup-is = h .setup-is; session-is = rw (e, k .0) (k .1) }) printed
 
 -- the anchors that a set-up keeps are those of the definitions
 pub setup-creates : (s : ReplaySetup) (m : Setup) → SetsUp s m → (n k : ℕ) → n ≡ min (s .«node_count») keptAnchors → k ≡ min (s .«collection_count») keptAnchors
@@ -87,9 +86,9 @@ pub setup-creates : (s : ReplaySetup) (m : Setup) → SetsUp s m → (n k : ℕ)
 setup-creates s m h n k en ek =
     let nodes : n - 0 ≡ s .«node_count» = omega (arith, h .nodes-kept .few) in
     let collections : k - 0 ≡ s .«collection_count» = omega (arith, h .collections-kept .few) in
-    let one : take (n - 0) (s .nodes) ≡ m .catalogue .nodes = ap (λ (x : ℕ). take x (s .nodes)) nodes ∙ h .nodes-kept .is in
-    let two : map pairOf (take (s .«pair_count») (s .pairs)) ≡ m .catalogue .bindings = map-take pairOf (s .«pair_count») (s .pairs) ∙ h .pairs-kept .is in
-    let three : take (k - 0) (s .collections) ≡ m .catalogue .collections = ap (λ (x : ℕ). take x (s .collections)) collections ∙ h .collections-kept .is in
+    let one : take (n - 0) (s .nodes) ≡ m .catalogue .nodes = ap (λ (x : ℕ). take x (s .nodes)) nodes ∙ kept-front 0 (s .nodes) (s .«node_count») (m .catalogue .nodes) (h .nodes-kept) in
+    let two : map pairOf (take (s .«pair_count») (s .pairs)) ≡ m .catalogue .bindings = map-take pairOf (s .«pair_count») (s .pairs) ∙ kept-front (pairOf noPair) (map pairOf (s .pairs)) (s .«pair_count») (m .catalogue .bindings) (h .pairs-kept) in
+    let three : take (k - 0) (s .collections) ≡ m .catalogue .collections = ap (λ (x : ℕ). take x (s .collections)) collections ∙ kept-front 0 (s .collections) (s .«collection_count») (m .catalogue .collections) (h .collections-kept) in
     let all : catalogueFrom (take (n - 0) (s .nodes)) (take (s .«pair_count») (s .pairs)) (take (k - 0) (s .collections)) ≡ m .catalogue = λ i. record { nodes = one i; bindings = two i; collections = three i } in
     ap₂ (λ (i : ℕ) (l : Limits). create i l (catalogueFrom (take (n - 0) (s .nodes)) (take (s .«pair_count») (s .pairs)) (take (k - 0) (s .collections)))) (h .id-is) (h .limits-are)
     ∙ ap (create (m .id) (m .limits)) all

@@ -1,10 +1,10 @@
 // Creation, lifecycle steps and batches.
+use crate::setup::ReplaySetup;
 use crate::state;
 use crate::state::ReplayState;
 use crate::state::ReplayStep;
-use bytes_decimal::Printed;
+use bytes_printer::Printed;
 use script_answers::session;
-use script_setup::ReplaySetup;
 use session_creation::CreationAnswer;
 use session_creation::ShellSessionCreation;
 use session_gates::gates::OrderedProjectionPatchBatchEnvelope;
@@ -18,13 +18,13 @@ ghost use Rattle.spec_replay.specs.Replay.{Setup, State, keptAnchors, asked, cr
 ghost use Rattle.session_lifecycle.specs.Meaning.{stimulusOf};
 ghost use Rattle.session_gates.specs.Gates.{envelopeMeans};
 ghost use Rattle.session_creation.specs.Creation.{Creates};
-ghost use Rattle.script_setup.specs.SetsUp.{SetsUp};
+ghost use Rattle.script_calls.specs.SetsUp.{SetsUp};
 ghost use Rattle.script_calls.specs.ReplayHolds.{isCreated, ReplayHolds, Stepped};
 
 // A lifecycle step of the session.
 pub fn apply(state: ReplayState, input: ShellTransitionInput, out: &mut [u8]) -> ReplayStep
     ensures { λ r. ⌜ ((m : State) → ReplayHolds state m
-        → Stepped (now (out .entry)) (now (out .exit)) r (asked m (λ (x : Session). applied m (lifecycleStep x (stimulusOf (input .stimulus)) (input .«stimulus_bytes»))))) ⌝ }
+        → Stepped state (now (out .entry)) (now (out .exit)) r (asked m (λ (x : Session). applied m (lifecycleStep x (stimulusOf (input .stimulus)) (input .«stimulus_bytes»))))) ⌝ }
 {
     if state.exists {
         let session = state.session;
@@ -52,7 +52,7 @@ pub fn apply_batch(
     out: &mut [u8],
 ) -> ReplayStep
     ensures { λ r. ⌜ ((m : State) → ReplayHolds state m
-        → Stepped (now (out .entry)) (now (out .exit)) r (asked m (λ (x : Session). batched m (batch x (envelopeMeans envelope) references (now (set .entry)))))) ⌝ }
+        → Stepped state (now (out .entry)) (now (out .exit)) r (asked m (λ (x : Session). batched m (batch x (envelopeMeans envelope) references (now (set .entry)))))) ⌝ }
 {
     if state.exists {
         let session = state.session;
@@ -114,7 +114,7 @@ fn create_session(setup: ReplaySetup) -> ShellSessionCreation
 // A new session, or none where the set-up has too many anchors.
 pub fn create_latest(state: ReplayState, out: &mut [u8]) -> ReplayStep
     ensures { λ r. ⌜ ((m : State) → ReplayHolds state m
-        → Stepped (now (out .entry)) (now (out .exit)) r (created m (create (m .setup .id) (m .setup .limits) (m .setup .catalogue)))) ⌝ }
+        → Stepped state (now (out .entry)) (now (out .exit)) r (created m (create (m .setup .id) (m .setup .limits) (m .setup .catalogue)))) ⌝ }
 {
     let setup = state.setup;
     let creation = create_session(setup);

@@ -1,7 +1,7 @@
 // The state of a replay: its set-up, and the session of the latest creation if there is one.
-use bytes_decimal::Printed;
+use crate::setup::ReplaySetup;
+use bytes_printer::Printed;
 use script_answers::session;
-use script_setup::ReplaySetup;
 use shell_player::session::ShellSession;
 ghost use mathlib.Core.Path.{_≡_};
 ghost use Rattle.spec_replay.specs.Replay.{State, onward};
@@ -32,7 +32,7 @@ pub fn with_latest(state: ReplayState, session: ShellSession) -> ReplayState
 
 // The answer where a session is asked for and there is none.
 pub fn no_session(state: ReplayState, out: &mut [u8]) -> ReplayStep
-    ensures { λ r. ⌜ ((m : State) → ReplayHolds state m → Stepped (now (out .entry)) (now (out .exit)) r (onward m noSessionLine)) ⌝ }
+    ensures { λ r. ⌜ ((m : State) → ReplayHolds state m → Stepped state (now (out .entry)) (now (out .exit)) r (onward m noSessionLine)) ⌝ }
 {
     let start = Printed::Next(0);
     let printed = session::print_no_session(out, start);

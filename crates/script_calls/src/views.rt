@@ -2,7 +2,7 @@
 use crate::state;
 use crate::state::ReplayState;
 use crate::state::ReplayStep;
-use bytes_decimal::Printed;
+use bytes_printer::Printed;
 use script_answers::value;
 ghost use Rattle.spec_projection.specs.Lookups.{bindingOf, availabilityOf, entryOf};
 ghost use Rattle.spec_session.specs.Session.{Session};
@@ -14,13 +14,13 @@ ghost use Rattle.script_calls.specs.ReplayHolds.{ReplayHolds, Stepped};
 // The projection as a listing.
 pub fn show(state: ReplayState, out: &mut [u8]) -> ReplayStep
     ensures { λ r. ⌜ ((m : State) → ReplayHolds state m
-        → Stepped (now (out .entry)) (now (out .exit)) r (asked m (λ (x : Session). onward m (projectionLines (x .projection))))) ⌝ }
+        → Stepped state (now (out .entry)) (now (out .exit)) r (asked m (λ (x : Session). onward m (projectionLines (x .projection))))) ⌝ }
 {
     if state.exists {
         let session = state.session;
         let projection = session.local_projection;
         let start = Printed::Next(0);
-        let printed = listing_tables::print_projection(out, start, projection);
+        let printed = listing_lines::tables::print_projection(out, start, projection);
         return ReplayStep {
             state,
             printed,
@@ -33,7 +33,7 @@ pub fn show(state: ReplayState, out: &mut [u8]) -> ReplayStep
 // The value of a binding.
 pub fn binding_value(state: ReplayState, node: u64, slot: u32, out: &mut [u8]) -> ReplayStep
     ensures { λ r. ⌜ ((m : State) → ReplayHolds state m
-        → Stepped (now (out .entry)) (now (out .exit)) r (asked m (λ (x : Session). onward m (valueLine (bindingOf (x .projection) node slot))))) ⌝ }
+        → Stepped state (now (out .entry)) (now (out .exit)) r (asked m (λ (x : Session). onward m (valueLine (bindingOf (x .projection) node slot))))) ⌝ }
 {
     if state.exists {
         let session = state.session;
@@ -52,7 +52,7 @@ pub fn binding_value(state: ReplayState, node: u64, slot: u32, out: &mut [u8]) -
 // A node's availability.
 pub fn node_availability(state: ReplayState, node: u64, out: &mut [u8]) -> ReplayStep
     ensures { λ r. ⌜ ((m : State) → ReplayHolds state m
-        → Stepped (now (out .entry)) (now (out .exit)) r (asked m (λ (x : Session). onward m (availabilityLine (availabilityOf (x .projection) node))))) ⌝ }
+        → Stepped state (now (out .entry)) (now (out .exit)) r (asked m (λ (x : Session). onward m (availabilityLine (availabilityOf (x .projection) node))))) ⌝ }
 {
     if state.exists {
         let session = state.session;
@@ -71,7 +71,7 @@ pub fn node_availability(state: ReplayState, node: u64, out: &mut [u8]) -> Repla
 // The value of a collection's key.
 pub fn entry_value(state: ReplayState, collection: u64, key: u64, out: &mut [u8]) -> ReplayStep
     ensures { λ r. ⌜ ((m : State) → ReplayHolds state m
-        → Stepped (now (out .entry)) (now (out .exit)) r (asked m (λ (x : Session). onward m (valueLine (entryOf (x .projection) collection key))))) ⌝ }
+        → Stepped state (now (out .entry)) (now (out .exit)) r (asked m (λ (x : Session). onward m (valueLine (entryOf (x .projection) collection key))))) ⌝ }
 {
     if state.exists {
         let session = state.session;

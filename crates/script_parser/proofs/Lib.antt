@@ -1,2 +1,3 @@
-pub mod FirstWord
 pub mod Whole
+pub mod Numbers
+pub mod Searching

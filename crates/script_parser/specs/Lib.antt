@@ -1,1 +1,7 @@
+pub mod Fields
+pub mod FieldsLaws
+pub mod Words
+pub mod Forms
+pub mod FormsLaws
+pub mod FormPlaces
 pub mod Meaning

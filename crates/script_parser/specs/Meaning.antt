@@ -7,8 +7,14 @@ use Rattle.spec_replay.specs.Script as script
 use Rattle.spec_replay.specs.Script.{Command, readHex, given}
 use Rattle.session_lifecycle.specs.Meaning.{limitsOf, stimulusOf}
 use Rattle.script_parser.specs.declared.BatchLine.{BatchLine}
+use Rattle.script_parser.specs.declared.SetupLine.{SetupLine}
+use Rattle.script_parser.specs.declared.SetupLine.the-variants.{Session, Node, Binding, Collection}
+use Rattle.script_parser.specs.declared.CallLine.{CallLine}
+use Rattle.script_parser.specs.declared.CallLine.the-variants.{Create, Apply, Show, ValueBinding, ValueNode, ValueEntry}
+use Rattle.script_parser.specs.declared.SetLine.{SetLine}
+use Rattle.script_parser.specs.declared.SetLine.the-variants.{Batch, Check, List as Listed}
 use Rattle.script_parser.specs.declared.ScriptCommand.{ScriptCommand}
-use Rattle.script_parser.specs.declared.ScriptCommand.the-variants.{Nothing, Session, Node, Binding, Collection, Create, Apply, Batch, Check, List as Listed, Show, ValueBinding, ValueNode, ValueEntry, Other}
+use Rattle.script_parser.specs.declared.ScriptCommand.the-variants.{Nothing, Setup, Call, WithSet, Other}
 
 abbrev pub envelopeOf : BatchLine → BatchEnvelope
 envelopeOf b = record { session = b .«session_id»; sequence = b .«sequence_no»; patches = b .«patch_count»; stimulusBytes = b .«stimulus_bytes» }
@@ -17,19 +23,28 @@ envelopeOf b = record { session = b .«session_id»; sequence = b .«sequence_no
 abbrev pub setFrom : List ℕ → ℕ → (List ℕ → Command) → Command
 setFrom line i next = given (readHex (drop i line)) next
 
+abbrev pub setupOf : SetupLine → Command
+setupOf (Session id limits) = script.session id (limitsOf limits)
+setupOf (Node n) = script.node n
+setupOf (Binding n s) = script.binding (record { node = n; slot = s })
+setupOf (Collection n) = script.collection n
+
+abbrev pub callOf : CallLine → Command
+callOf Create = script.create
+callOf (Apply t) = script.apply (stimulusOf (t .stimulus)) (t .«stimulus_bytes»)
+callOf Show = script.show
+callOf (ValueBinding n s) = script.valueBinding n s
+callOf (ValueNode n) = script.valueNode n
+callOf (ValueEntry c k) = script.valueEntry c k
+
+abbrev pub withSetOf : SetLine → List ℕ → Command
+withSetOf (Batch b) = script.batch (envelopeOf b) (b .«target_references»)
+withSetOf Check = script.check
+withSetOf Listed = script.list
+
 abbrev pub commandOf : List ℕ → ScriptCommand → Command
 commandOf line Nothing = script.nothing
-commandOf line (Session id limits) = script.session id (limitsOf limits)
-commandOf line (Node n) = script.node n
-commandOf line (Binding n s) = script.binding (record { node = n; slot = s })
-commandOf line (Collection n) = script.collection n
-commandOf line Create = script.create
-commandOf line (Apply t) = script.apply (stimulusOf (t .stimulus)) (t .«stimulus_bytes»)
-commandOf line (Batch b) = setFrom line (b .set) (script.batch (envelopeOf b) (b .«target_references»))
-commandOf line (Check i) = setFrom line i script.check
-commandOf line (Listed i) = setFrom line i script.list
-commandOf line Show = script.show
-commandOf line (ValueBinding n s) = script.valueBinding n s
-commandOf line (ValueNode n) = script.valueNode n
-commandOf line (ValueEntry c k) = script.valueEntry c k
+commandOf line (Setup s) = setupOf s
+commandOf line (Call c) = callOf c
+commandOf line (WithSet s i) = setFrom line i (withSetOf s)
 commandOf line Other = script.other

@@ -1,44 +1,62 @@
 // A line of a replay script, read as a command.
-mod arguments;
+mod fields;
+mod forms;
+mod words;
 
 use bytes_hex::Decoded;
-use script_fields::field_end;
-use script_words::CommandWord;
-use script_words::command_word;
+use fields::HexField;
+use fields::NumberFields;
 use session_lifecycle::lifecycle::ShellTransitionInput;
 use session_lifecycle::state::ShellLifecycleLimits;
 ghost use mathlib.Core.Path.{_≡_};
+ghost use Prim.Native.Nat.{_<_};
 ghost use lib.ListN.{length, drop};
 ghost use Rattle.spec_replay.specs.Script.{readHex, fieldsCommand, split, space, command};
 ghost use Rattle.bytes_hex.specs.Decoding.{decoding, decodedInto};
+ghost use Rattle.script_parser.specs.Fields.{fieldsAfter};
+ghost use Rattle.script_parser.specs.Forms.{lastArguments, formCount, formAt};
 ghost use Rattle.script_parser.specs.Meaning.{commandOf};
 
-// The batch's envelope, the declared count of target references, and where the hex of the set starts in the line.
+// The batch's envelope, and the declared count of target references.
 pub struct BatchLine {
     pub session_id: u64,
     pub sequence_no: u64,
     pub patch_count: u64,
     pub stimulus_bytes: u64,
     pub target_references: u64,
-    pub set: usize,
 }
 
-// What a line asks for; Check and List hold where the hex of their set starts in the line. Such a line is Other if that is no hex.
-pub enum ScriptCommand {
-    Nothing,
+// A line for the next creation.
+pub enum SetupLine {
     Session(u64, ShellLifecycleLimits),
     Node(u64),
     Binding(u64, u32),
     Collection(u64),
+}
+
+// A line that calls the session, or makes one.
+pub enum CallLine {
     Create,
     Apply(ShellTransitionInput),
-    Batch(BatchLine),
-    Check(usize),
-    List(usize),
     Show,
     ValueBinding(u64, u32),
     ValueNode(u64),
     ValueEntry(u64, u64),
+}
+
+// What a line asks for with its set.
+pub enum SetLine {
+    Batch(BatchLine),
+    Check,
+    List,
+}
+
+// What a line asks for. WithSet holds where the hex of the set starts in the line; such a line is Other if that is no hex.
+pub enum ScriptCommand {
+    Nothing,
+    Setup(SetupLine),
+    Call(CallLine),
+    WithSet(SetLine, usize),
     Other,
 }
 
@@ -47,25 +65,41 @@ impl ScriptCommand {
     pub const LINE_BYTES: usize = 131072;
 }
 
+// The command of a form and its numbers, whose last field ends at index end.
+fn last_fields(
+    line: &[u8],
+    form: usize,
+    values: [u64; NumberFields::MOST],
+    end: usize,
+) -> ScriptCommand
+    requires { ⌜ form < formCount ⌝ }
+    ensures { λ r. ⌜ commandOf (now (line .entry)) r ≡ lastArguments (formAt form) values (fieldsAfter (now (line .entry)) end) ⌝ }
+{
+    if forms::has_set(form) {
+        return match fields::last_hex(line, end) {
+            HexField::From(from) => ScriptCommand::WithSet(forms::set_line(form, values), from),
+            HexField::Other => ScriptCommand::Other,
+        };
+    }
+    if end < line.len() {
+        return ScriptCommand::Other;
+    }
+    forms::command_of(form, values)
+}
+
 // A line that is neither too long nor a remark.
 fn parse_fields(line: &[u8]) -> ScriptCommand
     ensures { λ r. ⌜ commandOf (now (line .entry)) r ≡ fieldsCommand (split space (now (line .entry))) ⌝ }
 {
-    let end = field_end(line, 0);
-    match command_word(&line[0..end]) {
-        CommandWord::Session => arguments::session_line(line, end),
-        CommandWord::Node => arguments::node_line(line, end),
-        CommandWord::Binding => arguments::binding_line(line, end),
-        CommandWord::Collection => arguments::collection_line(line, end),
-        CommandWord::Create => arguments::create_line(line, end),
-        CommandWord::Apply => arguments::apply_line(line, end),
-        CommandWord::Batch => arguments::batch_line(line, end),
-        CommandWord::Check => arguments::check_line(line, end),
-        CommandWord::List => arguments::list_line(line, end),
-        CommandWord::Show => arguments::show_line(line, end),
-        CommandWord::Value => arguments::value_line(line, end),
-        CommandWord::Other => ScriptCommand::Other,
+    let found = words::find_form(line);
+    let form = found.form;
+    let count = forms::number_count(form);
+    let numbers = fields::read_numbers(line, found.end, count);
+    if numbers.read {
+        let values = numbers.values;
+        return last_fields(line, form, values, numbers.end);
     }
+    ScriptCommand::Other
 }
 
 // Reads a line without its LF.

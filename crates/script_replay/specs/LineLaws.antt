@@ -11,8 +11,8 @@ use lib.ListN.{length, take, drop, length-drop}
 use Rattle.spec_lists.specs.Lists.{if_then_else_}
 use Rattle.spec_replay.specs.Script.{Command, other, lineBytes, readHex, given, command}
 use Rattle.spec_replay.specs.Replay.{Setup, State, onward, replayLine}
-use Rattle.bytes_decimal.specs.declared.Printed.{Printed}
-use Rattle.bytes_decimal.specs.declared.Printed.the-variants.{Next, NoRoom}
+use Rattle.bytes_printer.specs.declared.Printed.{Printed}
+use Rattle.bytes_printer.specs.declared.Printed.the-variants.{Next, NoRoom}
 use Rattle.bytes_wire.specs.Write.{hasRoom}
 use Rattle.bytes_printer.specs.Prints.{Prints}
 use Rattle.bytes_printer.specs.PrintsLaws.{written, refused, nothing-printed}
@@ -22,8 +22,8 @@ use Rattle.bytes_hex.specs.Decoding.{decoding, decodedInto}
 use Rattle.bytes_hex.specs.DecodingLaws.{decoded-part, always-room}
 use Rattle.script_parser.specs.Meaning.{setFrom, commandOf}
 use Rattle.script_parser.specs.declared.ScriptCommand.{ScriptCommand}
-use Rattle.script_setup.specs.SetsUp.{SetsUp}
-use Rattle.script_setup.specs.declared.ReplaySetup.{ReplaySetup}
+use Rattle.script_calls.specs.SetsUp.{SetsUp}
+use Rattle.script_calls.specs.declared.setup.ReplaySetup.{ReplaySetup}
 use Rattle.script_calls.specs.declared.state.ReplayState.{ReplayState}
 use Rattle.listing_panel.specs.Written.{Writes}
 use Rattle.patch_part_writer.specs.declared.written.Written.{Written}

@@ -2,8 +2,8 @@
 use mathlib.Core.Path.{_≡_}
 use mathlib.Core.Bool.{false}
 use Rattle.spec_replay.specs.Replay.{State}
-use Rattle.bytes_decimal.specs.declared.Printed.{Printed}
-use Rattle.bytes_decimal.specs.declared.Printed.the-variants.{Next, NoRoom}
+use Rattle.bytes_printer.specs.declared.Printed.{Printed}
+use Rattle.bytes_printer.specs.declared.Printed.the-variants.{Next, NoRoom}
 use Rattle.patch_part_writer.specs.declared.written.Written.{Written}
 use Rattle.patch_part_writer.specs.declared.written.Written.the-variants.{Wrote, Refused}
 use Rattle.script_calls.specs.declared.state.ReplayStep.{ReplayStep}

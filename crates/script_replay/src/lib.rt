@@ -15,7 +15,7 @@ pub use setup_lines::start;
 
 // Runs the line of a number, from 1, without its LF. What is printed stands from the start of out.
 pub fn run_line(state: ReplayState, number: u64, line: &[u8], out: &mut [u8]) -> ReplayStep
-    ensures { λ r. ⌜ ((m : State) → ReplayHolds state m → Stepped (now (out .entry)) (now (out .exit)) r (replayLine number m (command (now (line .entry))))) ⌝ }
+    ensures { λ r. ⌜ ((m : State) → ReplayHolds state m → Stepped state (now (out .entry)) (now (out .exit)) r (replayLine number m (command (now (line .entry))))) ⌝ }
 {
     if ScriptCommand::LINE_BYTES < line.len() {
         return setup_lines::other(state, number, out);

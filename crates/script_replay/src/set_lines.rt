@@ -1,7 +1,7 @@
 // Lines with a set in hex: a batch, a check and a listing.
 use crate::setup_lines;
-use bytes_decimal::Printed;
 use bytes_hex::Decoded;
+use bytes_printer::Printed;
 use check_set::check_set;
 use patch_part_writer::written::Written;
 use script_calls::calls;
@@ -20,7 +20,7 @@ ghost use Rattle.spec_replay.specs.Script as script;
 ghost use Rattle.spec_replay.specs.Script.{lineBytes};
 ghost use Rattle.spec_replay.specs.Answers.{checkLines};
 ghost use Rattle.spec_replay.specs.Replay.{State, replayLine};
-ghost use Rattle.bytes_decimal.specs.declared.Printed.the-variants.{Next};
+ghost use Rattle.bytes_printer.specs.declared.Printed.the-variants.{Next};
 ghost use Rattle.bytes_printer.specs.Prints.{Prints};
 ghost use Rattle.script_parser.specs.Meaning.{envelopeOf, setFrom};
 ghost use Rattle.script_calls.specs.ReplayHolds.{ReplayHolds, Stepped};
@@ -43,7 +43,7 @@ fn print_checked(set: &[u8], out: &mut [u8]) -> Printed
     let mut records = [0u64; 945];
     let answer = check_set::check(set, &mut records);
     let start = Printed::Next(0);
-    script_checks::print_check(out, start, answer, &records)
+    script_answers::check::print_check(out, start, answer, &records)
 }
 
 fn printed_of(written: Written) -> Printed
@@ -64,7 +64,7 @@ fn print_listing(set: &[u8], out: &mut [u8]) -> Printed
 
 fn use_set(state: ReplayState, wanted: SetUse, set: &[u8], out: &mut [u8]) -> ReplayStep
     ensures { λ r. ⌜ ((m : State) → ReplayHolds state m → (number : ℕ)
-        → Stepped (now (out .entry)) (now (out .exit)) r (replayLine number m (commandWith wanted (now (set .entry))))) ⌝ }
+        → Stepped state (now (out .entry)) (now (out .exit)) r (replayLine number m (commandWith wanted (now (set .entry))))) ⌝ }
 {
     match wanted {
         SetUse::Batch(envelope, references) => {
@@ -99,7 +99,7 @@ pub fn run_with_set(
     out: &mut [u8],
 ) -> ReplayStep
     ensures { λ r. ⌜ ((m : State) → ReplayHolds state m → length (now (line .entry)) ≤ lineBytes
-        → Stepped (now (out .entry)) (now (out .exit)) r (replayLine number m (setFrom (now (line .entry)) from (commandWith wanted)))) ⌝ }
+        → Stepped state (now (out .entry)) (now (out .exit)) r (replayLine number m (setFrom (now (line .entry)) from (commandWith wanted)))) ⌝ }
 {
     let mut set = [0u8; SET_BYTES];
     match script_parser::decode_set(line, from, &mut set) {

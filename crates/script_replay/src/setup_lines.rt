@@ -1,15 +1,15 @@
 // Lines that print nothing, lines that set up the next creation, and any other line.
 use active_projection_target_catalog::catalog::ActiveProjectionTargetCatalog;
 use active_projection_target_catalog::catalog::BindingPair;
-use bytes_decimal::Printed;
+use bytes_printer::Printed;
 use script_answers::session;
+use script_calls::setup::ReplaySetup;
 use script_calls::state::ReplayState;
 use script_calls::state::ReplayStep;
-use script_setup::ReplaySetup;
 use session_lifecycle::state::ShellLifecycleLimits;
 ghost use mathlib.Core.Path.{_≡_};
 ghost use mathlib.Core.Bool.{false};
-ghost use Rattle.bytes_decimal.specs.declared.Printed.the-variants.{Next};
+ghost use Rattle.bytes_printer.specs.declared.Printed.the-variants.{Next};
 ghost use Rattle.spec_replay.specs.Answers.{otherLine};
 ghost use Rattle.spec_replay.specs.Replay as replay;
 ghost use Rattle.spec_replay.specs.Replay.{State, stops, noAnchors, withSetup, withAnchors, withNode, withBinding, withCollection};
@@ -96,7 +96,7 @@ pub fn collection(state: ReplayState, collection: u64) -> ReplayStep
 
 // Any other line ends the replay.
 pub fn other(state: ReplayState, number: u64, out: &mut [u8]) -> ReplayStep
-    ensures { λ r. ⌜ Stepped (now (out .entry)) (now (out .exit)) r (stops (otherLine number)) ⌝ }
+    ensures { λ r. ⌜ Stepped state (now (out .entry)) (now (out .exit)) r (stops (otherLine number)) ⌝ }
 {
     let start = Printed::Next(0);
     let printed = session::print_other(out, start, number);

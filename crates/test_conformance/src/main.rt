@@ -2,9 +2,9 @@
 // each case that an index names.
 ghost use Prim.Native.Nat.{_-_, _≤_};
 ghost use lib.ListN.{length};
-use bytes_decimal::Printed;
+use bytes_printer::Printed;
 use libc::STDOUT_FILENO;
-use listing_tables::LISTING_BYTES;
+use listing_lines::tables::LISTING_BYTES;
 use script_calls::state::ReplayState;
 use script_calls::state::ReplayStep;
 

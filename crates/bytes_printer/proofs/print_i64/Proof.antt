@@ -1,43 +1,76 @@
--- `bytes_printer::print_i64` meets its contract: the sign and the digits at the position, if there is one.
-use mathlib.Core.Path.{ap, _∙_}
+-- `bytes_printer::print_i64` meets its contract: the magnitude of a number below 0 is (-1 - z) + 1.
+use mathlib.Core.Path.{sym, ap, _∙_}
+use native.Mathlib.Omega.{arith}
+use lib.IntN.{ℤ, pos}
+use lib.Signed.{ltZ}
 use mir.Facts.{toZ-ofZ}
+use Rattle.bytes_wire.specs.Complement.{Below, below, AtLeast, at-least}
+use Rattle.bytes_printer.specs.PrintsLaws.{_⨾_, same-bytes}
+use Rattle.bytes_printer.proofs.Signs.{signed-below, signed-at-least}
 use borrow.Author.Needs.{needs}
-use denote.Ref.{now}
-use Rattle.spec_decimal.specs.Decimal.{signedDecimal}
-use Rattle.bytes_wire.specs.Write.{overwrite}
-use Rattle.bytes_decimal.specs.Print.{nextPosition}
-use Rattle.bytes_printer.specs.PrintsLaws.{printed, not-printed}
 use Rattle.bytes_printer.proofs.print_i64.Statement.{statement}
 use Rattle.bytes_printer.proofs.print_i64.Tie as tie
 
-enum-known-at : tie.Need-enum-known-at
-enum-known-at c = search needs
+is-below : (c : tie.Then1) → Below (c .before .before .args .z)
+is-below c = below (c .before .before .args .z) (c .before .before .fits .z) (ap (λ (y : ℤ). ltZ y (pos 0)) (sym (toZ-ofZ (c .before .before .fits .z))) ∙ c .if1 .taken)
 
-enum-told : tie.Need-enum-told
-enum-told c = search needs
+is-at-least : (c : tie.Else1) → AtLeast (c .before .before .args .z)
+is-at-least c = at-least (c .before .before .args .z) (c .before .before .fits .z) (ap (λ (y : ℤ). ltZ y (pos 0)) (sym (toZ-ofZ (c .before .before .fits .z))) ∙ c .if1 .left)
 
-returns : tie.Need-returns
-returns c =
-    let args = c .before .before .before .args in
-    not-printed (now (args .out)) (signedDecimal (args .z)) (c .enum-told .given .1)
+signed-by : (c : tie.After-print-u64-arg) → Below (c .before .before .before .before .before .before .before .args .z)
+signed-by c = is-below (c .before .before .before .before .before)
 
-print-i64-requires : tie.Need-print-i64-requires
-print-i64-requires c κs = search needs
+print-byte-requires : tie.Need-print-byte-requires
+print-byte-requires c κs = search needs
+
+sub-print-u64 : tie.Need-sub-print-u64
+sub-print-u64 c = rw (signed-by c .flipped) (record { sfits = signed-by c .small })
+
+cast-print-u64 : tie.Need-cast-print-u64
+cast-print-u64 c = rw (signed-by c .stored) (tt, omega (arith, signed-by c .small))
+
+add-print-u64 : tie.Need-add-print-u64
+add-print-u64 c = rw (signed-by c .stored) (omega (arith, signed-by c .small))
+
+print-u64-requires : tie.Need-print-u64-requires
+print-u64-requires c κs = search needs
+
+cast-print-u64-2 : tie.Need-cast-print-u64-2
+cast-print-u64-2 c = rw (toZ-ofZ (c .before .before .before .fits .z), is-at-least (c .before) .is) (tt, omega (arith, is-at-least (c .before) .small))
+
+print-u64-requires-2 : tie.Need-print-u64-requires-2
+print-u64-requires-2 c κs = search needs
 
 same-length : tie.Need-same-length
 same-length c = search needs
 
+returns : tie.Need-returns
+returns c =
+    let digits = c .before .before in
+    let sign = digits .before .before .before .before in
+    same-bytes (sym (signed-below _ (signed-by (digits .before)))) (sign .print-byte .ensures ⨾ digits .print-u64 .ensures)
+
+same-length-2 : tie.Need-same-length-2
+same-length-2 c = search needs
+
 returns-2 : tie.Need-returns-2
 returns-2 c =
-    let prints = c .before .before in
-    let start = prints .before .before .before .before .before .before in
-    let args = start .args in
-    let place = prints .before .before .before .at .given in
-    let same = ap signedDecimal (toZ-ofZ (start .fits .z)) in
-    printed (now (args .out)) _ (signedDecimal (args .z)) (place .1)
-    (prints .print-i64 .ensures .0 ∙ ap (nextPosition (now (args .out)) (place .0 .0)) same)
-    (prints .print-i64 .ensures .1 ∙ ap (overwrite (now (args .out)) (place .0 .0)) same)
+    let digits = c .before .before in
+    let start = digits .before .before .before .before in
+    same-bytes (sym (signed-at-least _ (start .fits .z) (is-at-least (digits .before .before)))) (digits .print-u642 .ensures)
 
 pub print-i64-spec : {M : Type 1} → statement M
 print-i64-spec =
-    tie.close (tie.spec enum-known-at enum-told returns print-i64-requires same-length returns-2)
+    tie.close
+    (tie.spec
+    print-byte-requires
+    sub-print-u64
+    cast-print-u64
+    add-print-u64
+    print-u64-requires
+    cast-print-u64-2
+    print-u64-requires-2
+    same-length
+    returns
+    same-length-2
+    returns-2)

@@ -3,7 +3,7 @@ use Prim.Native.Nat.{ℕ}
 use native.Mathlib.Omega.{arith}
 use lib.ListN.{length-replicate}
 use borrow.Author.Needs.{needs}
-use Rattle.listing_tables.specs.ListingBytes.{listingBytes}
+use Rattle.listing_lines.specs.ListingBytes.{listingBytes}
 use Rattle.listing_panel.specs.WrittenLaws.{wrote-within}
 use Rattle.listing.proofs.main.Statement.{statement}
 use Rattle.listing.proofs.main.Tie as tie

@@ -1,14 +1,10 @@
 -- `listing_lines::print_availability` meets its contract: the row's node and its byte in a line.
-use mathlib.Core.Path.{ap₂}
-use mathlib.Core.List.{[], _∷_}
 use borrow.Author.Needs.{needs}
 use denote.Ref.{now}
-use Prim.Native.Nat.{ℕ}
 use Rattle.spec_patch.specs.Encode.{availabilityByte}
-use Rattle.spec_decimal.specs.Decimal.{decimal}
 use Rattle.spec_listing.specs.Listing.{fields, availabilityLine}
 use Rattle.bytes_printer.specs.PrintsLaws.{_⨾_, same-bytes}
-use Rattle.listing_lines.proofs.Rows.{availability-node, availability-byte}
+use Rattle.listing_lines.proofs.Rows.{same-record, none-more, availability-node, availability-byte}
 use Rattle.listing_lines.proofs.print_availability.Statement.{statement}
 use Rattle.listing_lines.proofs.print_availability.Tie as tie
 
@@ -44,9 +40,8 @@ returns c =
     let node = byte .before in
     let row = now (node .before .before .before .args .row) in
     λ a fits is.
-    let same = ap₂ (λ (n m : ℕ). 65 ∷ fields (decimal n ∷ decimal m ∷ []))
-    (node .long-number .ensures (a .node) (availability-node row a fits is)) (byte .byte-number .ensures (availabilityByte (a .availability)) (availability-byte row a fits is)) in
-    same-bytes same (letter .print-byte .ensures ⨾ first .print-field-u64 .ensures ⨾ second .print-field-u642 .ensures ⨾ end .print-newline .ensures)
+    same-bytes (same-record 65 (node .long-number .ensures (a .node) (availability-node row a fits is)) (byte .byte-number .ensures (availabilityByte (a .availability)) (availability-byte row a fits is)) none-more)
+    (letter .print-byte .ensures ⨾ first .print-field-u64 .ensures ⨾ second .print-field-u642 .ensures ⨾ end .print-newline .ensures)
 
 pub print-availability-spec : {M : Type 1} → statement M
 print-availability-spec =

@@ -1,7 +1,7 @@
 -- `listing_lines::print_record` meets its contract: the letter, two fields and the value.
-use borrow.Author.Needs.{needs}
 use Rattle.spec_listing.specs.Listing.{fields}
 use Rattle.bytes_printer.specs.PrintsLaws.{_⨾_}
+use borrow.Author.Needs.{needs}
 use Rattle.listing_lines.proofs.print_record.Statement.{statement}
 use Rattle.listing_lines.proofs.print_record.Tie as tie
 
@@ -27,7 +27,7 @@ returns c =
     let second = value .before .before .before .before in
     let first = second .before .before .before .before in
     let letter = first .before .before .before .before in
-    λ v is. letter .print-byte .ensures ⨾ first .print-field-u64 .ensures ⨾ second .print-field-u642 .ensures ⨾ value .print-value .ensures v is
+    letter .print-byte .ensures ⨾ first .print-field-u64 .ensures ⨾ second .print-field-u642 .ensures ⨾ value .print-value .ensures
 
 pub print-record-spec : {M : Type 1} → statement M
 print-record-spec =

@@ -1,18 +1,40 @@
 -- `listing_lines::print_text` meets its contract: two fields and the end of the line.
-use borrow.Author.Needs.{needs}
+use mathlib.Core.Path.{_≡_, ap, _∙_}
+use mathlib.Core.List.{List}
+use Prim.Native.Nat.{ℕ, _-_}
+use native.Mathlib.Omega.{arith}
+use lib.ListN.{length, take}
+use Rattle.spec_patch.specs.Sizes.{textBytes}
 use Rattle.spec_listing.specs.Listing.{fields}
-use Rattle.bytes_printer.specs.PrintsLaws.{_⨾_}
+use Rattle.bytes_printer.specs.Prints.{field}
+use Rattle.bytes_printer.specs.PrintsLaws.{_⨾_, same-bytes}
+use Rattle.listing_lines.proofs.Rows.{front}
+use borrow.Author.Needs.{needs}
 use Rattle.listing_lines.proofs.print_text.Statement.{statement}
 use Rattle.listing_lines.proofs.print_text.Tie as tie
 
-slice-aggregate-print-field-bytes : tie.Need-slice-aggregate-print-field-bytes
-slice-aggregate-print-field-bytes c = search needs
+long : (c : tie.Start) → length (c .args .value .text) ≡ textBytes
+long c = search needs
+
+at-most-requires : tie.Need-at-most-requires
+at-most-requires c κs = search needs
+
+print-letter-requires : tie.Need-print-letter-requires
+print-letter-requires c κs = search needs
+
+sub-print-field-bytes : tie.Need-sub-print-field-bytes
+sub-print-field-bytes c = search needs
+
+part-print-field-bytes-start : tie.Need-part-print-field-bytes-start
+part-print-field-bytes-start c = search needs
+
+part-print-field-bytes-end : tie.Need-part-print-field-bytes-end
+part-print-field-bytes-end c =
+    let len = c .before .before .before .before .before .before in
+    omega (arith, long (len .before .before .before), len .at-most .ensures)
 
 print-field-bytes-requires : tie.Need-print-field-bytes-requires
 print-field-bytes-requires c κs = search needs
-
-print-field-bytes-requires-2 : tie.Need-print-field-bytes-requires-2
-print-field-bytes-requires-2 c κs = search needs
 
 print-newline-requires : tie.Need-print-newline-requires
 print-newline-requires c κs = search needs
@@ -24,17 +46,24 @@ returns : tie.Need-returns
 unfolding fields
 returns c =
     let end = c .before .before in
-    let second = end .before .before .before .before in
-    let first = second .before .before .before .before in
-    first .print-field-bytes .ensures ⨾ second .print-field-bytes2 .ensures ⨾ end .print-newline .ensures
+    let bytes = end .before .before .before .before in
+    let letter = bytes .before .before .before .before .before .before in
+    let len = letter .before .before in
+    let start = len .before .before .before in
+    let text = start .args .value .text in
+    let same = ap (λ (n : ℕ). take (n - 0) text) (len .at-most .ensures) ∙ front text (start .args .value .«text_len») textBytes (long start) in
+    letter .print-letter .ensures ⨾ same-bytes (ap field same) (bytes .print-field-bytes .ensures) ⨾ end .print-newline .ensures
 
 pub print-text-spec : {M : Type 1} → statement M
 print-text-spec =
     tie.close
     (tie.spec
-    slice-aggregate-print-field-bytes
+    at-most-requires
+    print-letter-requires
+    sub-print-field-bytes
+    part-print-field-bytes-start
+    part-print-field-bytes-end
     print-field-bytes-requires
-    print-field-bytes-requires-2
     print-newline-requires
     same-length
     returns)

@@ -4,8 +4,8 @@ use native.Mathlib.Omega.{arith}
 use lib.ListN.{length-replicate}
 use borrow.Author.Needs.{needs}
 use Rattle.spec_listing.specs.Listing.{projectionLines}
-use Rattle.listing_tables.specs.ListingBytes.{listingBytes}
-use Rattle.listing_tables.specs.ListingBytesLaws.{projection-fits}
+use Rattle.listing_lines.specs.ListingBytes.{listingBytes}
+use Rattle.listing_lines.specs.ListingBytesLaws.{projection-fits}
 use Rattle.listing_panel.specs.WrittenLaws.{printed-holds}
 use Rattle.listing_panel.proofs.write_projection.Statement.{statement}
 use Rattle.listing_panel.proofs.write_projection.Tie as tie

@@ -1,7 +1,8 @@
 -- `script_answers::value::print_value` meets its contract: the value where one was found, else a dash.
 use borrow.Author.Needs.{needs}
 use Rattle.bytes_printer.specs.PrintsLaws.{_⨾_, same-bytes}
-use Rattle.script_answers.proofs.Lookups.{value-line, no-value-line}
+use Rattle.listing_lines.specs.LookupFields.{lookupFields}
+use Rattle.script_answers.specs.LookupLines.{valueLookupLine, found-line, not-found-line}
 use Rattle.script_answers.proofs.value.print_value.Statement.{statement}
 use Rattle.script_answers.proofs.value.print_value.Tie as tie
 
@@ -15,11 +16,12 @@ same-length : tie.Need-same-length
 same-length c = search needs
 
 returns : tie.Need-returns
+unfolding valueLookupLine
 returns c =
     let value = c .before .before in
     let test = value .before .before in
     let letter = test .before .before .before in
-    λ o is. value-line (letter .before .before .before .args .lookup) o is (test .if1 .taken) (letter .print-byte .ensures) (value .print-value .ensures)
+    same-bytes (found-line _ (lookupFields (letter .before .before .before .args .lookup)) (test .if1 .taken)) (letter .print-byte .ensures ⨾ value .print-value .ensures)
 
 print-none-requires : tie.Need-print-none-requires
 print-none-requires c κs = search needs
@@ -28,11 +30,12 @@ same-length-2 : tie.Need-same-length-2
 same-length-2 c = search needs
 
 returns-2 : tie.Need-returns-2
+unfolding valueLookupLine
 returns-2 c =
     let none = c .before .before in
     let test = none .before .before in
     let letter = test .before .before .before in
-    λ o is. same-bytes (no-value-line (letter .before .before .before .args .lookup) o is (test .if1 .left)) (letter .print-byte .ensures ⨾ none .print-none .ensures)
+    same-bytes (not-found-line _ (lookupFields (letter .before .before .before .args .lookup)) (test .if1 .left)) (letter .print-byte .ensures ⨾ none .print-none .ensures)
 
 pub print-value-spec : {M : Type 1} → statement M
 print-value-spec =

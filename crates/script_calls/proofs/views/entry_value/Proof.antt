@@ -1,5 +1,7 @@
 -- `script_calls::views::entry_value` meets its contract: the session there is is looked into, and stays.
-use mathlib.Core.Path.{refl}
+use mathlib.Core.Path.{refl, ap, _∙_}
+use Rattle.bytes_printer.specs.PrintsLaws.{same-bytes}
+use Rattle.script_answers.specs.LookupLines.{valueLookupLine, value-looked-up}
 use Rattle.script_calls.specs.ReplayHoldsLaws.{asked-there, asked-nowhere, goes-on}
 use borrow.Author.Needs.{needs}
 use Rattle.script_calls.proofs.views.entry_value.Statement.{statement}
@@ -15,7 +17,7 @@ same-length : tie.Need-same-length
 same-length c = search needs
 
 returns : tie.Need-returns
-returns c = λ m h. asked-there (c .before .before .before .before .before .before .before .before .args .state) m h _ _ _ _ (c .before .before .before .before .before .before .if1 .taken) (λ x held. goes-on refl h (c .before .before .print-value .ensures _ (c .before .before .before .before .entry-value .ensures x held)))
+returns c = λ m h. asked-there (c .before .before .before .before .before .before .before .before .args .state) m h _ _ _ _ (c .before .before .before .before .before .before .if1 .taken) (λ x held. goes-on refl h (same-bytes (ap valueLookupLine (c .before .before .before .before .entry-value .ensures x held) ∙ value-looked-up _) (c .before .before .print-value .ensures)))
 
 no-session-requires : tie.Need-no-session-requires
 no-session-requires c κs = search needs

@@ -1,0 +1,4 @@
+pub mod LookupFields
+pub mod RowKinds
+pub mod ListingBytes
+pub mod ListingBytesLaws

@@ -1,0 +1,66 @@
+-- `listing_panel::print_listing` meets its contract: what came of the set tells the lines.
+use mathlib.Core.Path.{sym, ap, _∙_}
+use borrow.Author.Needs.{needs}
+use denote.Ref.{now}
+use Rattle.spec_projection.specs.Projection.{empty}
+use Rattle.spec_listing.specs.Listing.{refusalLine}
+use Rattle.bytes_printer.specs.PrintsLaws.{same-bytes}
+use Rattle.listing_panel.specs.SetLines.{set-applied, set-refused}
+use Rattle.listing_panel.proofs.print_listing.Statement.{statement}
+use Rattle.listing_panel.proofs.print_listing.Tie as tie
+
+empty-requires : tie.Need-empty-requires
+empty-requires c κs = search needs
+
+apply-projection-patch-set-requires : tie.Need-apply-projection-patch-set-requires
+apply-projection-patch-set-requires c κs = search needs
+
+number-requires : tie.Need-number-requires
+number-requires c κs = search needs
+
+print-projection-requires : tie.Need-print-projection-requires
+print-projection-requires c κs = search needs
+
+same-length : tie.Need-same-length
+same-length c = search needs
+
+returns : tie.Need-returns
+returns c =
+    let print = c .before .before in
+    let number = print .before .before .before in
+    let apply = number .before .before in
+    let application = apply .apply-projection-patch-set .result in
+    let args = apply .before .before .before .before .args in
+    let shows = set-applied (now (args .set)) (application .state) (application .outcome) (apply .apply-projection-patch-set .ensures .0 empty (apply .before .empty .ensures)) (sym (number .number .ensures) ∙ print .before .before .if1 .taken) in
+    same-bytes (sym (shows .lines)) (print .print-projection .ensures (shows .projection) (shows .stores))
+
+print-number-line-requires : tie.Need-print-number-line-requires
+print-number-line-requires c κs = search needs
+
+same-length-2 : tie.Need-same-length-2
+same-length-2 c = search needs
+
+returns-2 : tie.Need-returns-2
+unfolding refusalLine
+returns-2 c =
+    let print = c .before .before in
+    let number = print .before .before .before in
+    let apply = number .before .before in
+    let application = apply .apply-projection-patch-set .result in
+    let args = apply .before .before .before .before .args in
+    let lines = set-refused (now (args .set)) (application .state) (application .outcome) (apply .apply-projection-patch-set .ensures .0 empty (apply .before .empty .ensures)) (λ e. print .before .before .if1 .left (number .number .ensures ∙ e)) in
+    same-bytes (ap refusalLine (number .number .ensures) ∙ sym lines) (print .print-number-line .ensures)
+
+pub print-listing-spec : {M : Type 1} → statement M
+print-listing-spec =
+    tie.close
+    (tie.spec
+    empty-requires
+    apply-projection-patch-set-requires
+    number-requires
+    print-projection-requires
+    same-length
+    returns
+    print-number-line-requires
+    same-length-2
+    returns-2)

@@ -1,2 +1,0 @@
-pub mod ListingBytes
-pub mod ListingBytesLaws

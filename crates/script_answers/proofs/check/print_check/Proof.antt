@@ -1,0 +1,67 @@
+-- `script_answers::check::print_check` meets its contract: the answer decides, and the records stand in the lent numbers.
+use Prim.Native.Nat.{ℕ}
+use mathlib.Core.Path.{ap, _∙_}
+use mathlib.Core.List.{[], _∷_}
+use borrow.Author.Needs.{needs}
+use denote.Ref.{now}
+use Rattle.spec_decimal.specs.Decimal.{decimal}
+use Rattle.spec_listing.specs.Listing.{fields}
+use Rattle.bytes_printer.specs.PrintsLaws.{same-bytes}
+use Rattle.script_answers.proofs.Checks.{refused-lines, checked-lines}
+use Rattle.script_answers.proofs.check.print_check.Statement.{statement}
+use Rattle.script_answers.proofs.check.print_check.Tie as tie
+
+enum-known-answer : tie.Need-enum-known-answer
+enum-known-answer c = search needs
+
+print-checked-requires : tie.Need-print-checked-requires
+print-checked-requires c κs = search needs
+
+print-findings-requires : tie.Need-print-findings-requires
+print-findings-requires c κs = search needs
+
+enum-known-answer-2 : tie.Need-enum-known-answer-2
+enum-known-answer-2 c = search needs
+
+number-requires : tie.Need-number-requires
+number-requires c κs = search needs
+
+print-number-line-requires : tie.Need-print-number-line-requires
+print-number-line-requires c κs = search needs
+
+same-length : tie.Need-same-length
+same-length c = search needs
+
+returns : tie.Need-returns
+returns c =
+    let records = c .before .before in
+    let head = records .before .before .before .before in
+    let told = head .before .before .before in
+    let args = told .before .before .before .before .args in
+    λ set h. checked-lines set (args .answer) (now (args .records)) h _ _ _ (told .answer .given .1) (head .print-checked .ensures) (records .print-findings .ensures)
+
+same-length-2 : tie.Need-same-length-2
+same-length-2 c = search needs
+
+returns-2 : tie.Need-returns-2
+returns-2 c =
+    let call = c .before .before in
+    let told = call .before .before .before .before in
+    let args = told .before .before .before .before .args in
+    let number = ap (λ (n : ℕ). 75 ∷ fields (decimal n ∷ [])) (call .before .number .ensures) in
+    λ set h. same-bytes (number ∙ refused-lines set (args .answer) (now (args .records)) h _ (told .answer2 .given .1)) (call .print-number-line .ensures)
+
+pub print-check-spec : {M : Type 1} → statement M
+print-check-spec =
+    tie.close
+    (tie.spec
+    enum-known-answer
+    print-checked-requires
+    print-findings-requires
+    enum-known-answer-2
+    number-requires
+    print-number-line-requires
+    same-length
+    returns
+    same-length-2
+    returns-2)

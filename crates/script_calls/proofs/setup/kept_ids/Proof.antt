@@ -1,0 +1,26 @@
+-- `script_calls::setup::kept_ids` meets its contract: a store past the end is none.
+use mathlib.Core.Path.{_≡_, sym}
+use native.Mathlib.Omega.{arith}
+use lib.ListN.{length}
+use lib.Seq.{set-out}
+use borrow.Author.Needs.{needs}
+use Rattle.script_calls.proofs.setup.kept_ids.Statement.{statement}
+use Rattle.script_calls.proofs.setup.kept_ids.Tie as tie
+
+mul-next : tie.Need-mul-next
+mul-next c = search needs
+
+array-write-next : tie.Need-array-write-next
+array-write-next c = search needs
+
+returns : tie.Need-returns
+returns c = search needs
+
+returns-2 : tie.Need-returns-2
+returns-2 c =
+    let a = c .before .args in
+    let long : length (a .ids) ≡ 129 = search needs in
+    sym (set-out (a .ids) (a .count) _ (omega (arith, long)))
+
+pub kept-ids-spec : {M : Type 1} → statement M
+kept-ids-spec = tie.close (tie.spec mul-next array-write-next returns returns-2)

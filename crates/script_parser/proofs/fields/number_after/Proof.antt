@@ -1,0 +1,73 @@
+-- `script_parser::fields::number_after` meets its contract: a field that is a number, any other field, and none.
+use Prim.Native.Nat.{_+_}
+use mathlib.Core.Path.{sym, ap, _∙_}
+use native.Mathlib.Omega.{arith}
+use borrow.Author.Needs.{needs}
+use lib.ListN.{drop, length-drop}
+use Rattle.spec_decimal.specs.Decimal.{readDecimal}
+use Rattle.bytes_decimal.specs.Read.{numberU64}
+use Rattle.script_parser.specs.FieldsLaws.{length-firstField, missing, read-here, not-read}
+use Rattle.script_parser.proofs.fields.number_after.Statement.{statement}
+use Rattle.script_parser.proofs.fields.number_after.Tie as tie
+
+add-from : tie.Need-add-from
+add-from c = search needs
+
+field-end-requires : tie.Need-field-end-requires
+field-end-requires c κs = search needs
+
+sub-read-u64 : tie.Need-sub-read-u64
+sub-read-u64 c = search needs
+
+part-read-u64-start : tie.Need-part-read-u64-start
+part-read-u64-start c = search needs
+
+part-read-u64-end : tie.Need-part-read-u64-end
+part-read-u64-end c =
+    let args = c .before .before .before .args in
+    let rest = drop (args .end + 1) (args .line .now) in
+    omega (arith, length-firstField rest, length-drop (args .end + 1) (args .line .now))
+
+read-u64-requires : tie.Need-read-u64-requires
+read-u64-requires c κs = search needs
+
+enum-known-n : tie.Need-enum-known-n
+enum-known-n c = search needs
+
+enum-told : tie.Need-enum-told
+enum-told c = search needs
+
+returns : tie.Need-returns
+returns c next =
+    let called = c .before .before .before in
+    let found = called .before .before in
+    let args = found .before .before .before .args in
+    read-here readDecimal (args .line .now) (args .end) next (found .field-end .result) _ (found .field-end .ensures) (found .before .if1 .taken) (sym (called .read-u64 .ensures) ∙ ap numberU64 (c .before .n .given .1))
+
+returns-2 : tie.Need-returns-2
+returns-2 c next =
+    let called = c .before .before in
+    let found = called .before .before in
+    let args = found .before .before .before .args in
+    not-read readDecimal (args .line .now) (args .end) next (found .field-end .result) (found .field-end .ensures) (found .before .if1 .taken) (sym (called .read-u64 .ensures) ∙ ap numberU64 (c .enum-told .given .1))
+
+returns-3 : tie.Need-returns-3
+returns-3 c next =
+    let args = c .before .before .args in
+    missing readDecimal (args .line .now) (args .end) next (c .if1 .left)
+
+pub number-after-spec : {M : Type 1} → statement M
+number-after-spec =
+    tie.close
+    (tie.spec
+    add-from
+    field-end-requires
+    sub-read-u64
+    part-read-u64-start
+    part-read-u64-end
+    read-u64-requires
+    enum-known-n
+    enum-told
+    returns
+    returns-2
+    returns-3)

@@ -1,0 +1,108 @@
+-- `script_parser::words::find_form` meets its contract: the forms of the second words of apply and of value, and that of the first word.
+use Prim.Native.Nat.{ℕ, _-_, _≤_}
+use mathlib.Core.Path.{_≡_, refl, sym, ap, _∙_}
+use mathlib.Core.List.{List, _∷_, []}
+use native.Mathlib.Omega.{arith}
+use borrow.Author.Needs.{needs}
+use lib.ListN.{length, take, drop}
+use Rattle.spec_replay.specs.Script.{space, split, prepend, ascii, apply, end, number, stimuli, applyArguments, values, valueArguments, commands, fieldsCommand}
+use Rattle.script_parser.specs.Fields.{fieldsAfter}
+use Rattle.script_parser.specs.FieldsLaws.{field-within}
+use Rattle.script_parser.specs.Words.{indexOf, wordsOf, rowAt, indexOf-most}
+use Rattle.script_parser.specs.Forms.{stimulusBase, valueBase}
+use Rattle.script_parser.specs.FormsLaws.{first-form, stimulus-form, value-form}
+use Rattle.script_parser.proofs.Searching.{first-word, second-numbered, second-asks}
+use Rattle.script_parser.proofs.words.find_form.Statement.{statement}
+use Rattle.script_parser.proofs.words.find_form.Tie as tie
+
+few : (c : tie.After-word-index) → c .word-index .result ≤ 11
+unfolding split prepend
+few c = rw (c .word-index .ensures .0) (indexOf-most (take (c .before .before .before .field-end .result - 0) (drop 0 (c .before .before .before .before .before .args .line .now))) (split space (ascii "session node binding collection create apply batch check list show value")))
+
+by-first : (c : tie.After-word-index) → fieldsCommand (split space (c .before .before .before .before .before .args .line .now))
+    ≡ rowAt (λ a. a) commands (c .word-index .result) (fieldsAfter (c .before .before .before .before .before .args .line .now) (c .before .before .before .field-end .result))
+unfolding split prepend commands
+by-first c =
+    let ended = c .before .before .before in
+    first-word (ended .before .before .args .line .now) (ended .field-end .result) (c .word-index .result) (ascii "session node binding collection create apply batch check list show value") (ended .field-end .ensures) refl (c .word-index .ensures .0)
+
+field-end-requires : tie.Need-field-end-requires
+field-end-requires c κs = search needs
+
+slice-aggregate-word-index : tie.Need-slice-aggregate-word-index
+slice-aggregate-word-index c = search needs
+
+sub-word-index : tie.Need-sub-word-index
+sub-word-index c = search needs
+
+part-word-index-start : tie.Need-part-word-index-start
+part-word-index-start c = search needs
+
+part-word-index-end : tie.Need-part-word-index-end
+part-word-index-end c =
+    let ended = c .before in
+    omega (arith, field-within (ended .before .before .args .line .now) 0 (omega arith), ended .field-end .ensures)
+
+word-index-requires : tie.Need-word-index-requires
+word-index-requires c κs = search needs
+
+slice-aggregate-second-form : tie.Need-slice-aggregate-second-form
+slice-aggregate-second-form c = search needs
+
+second-form-requires : tie.Need-second-form-requires
+second-form-requires c κs = search needs
+
+returns : tie.Need-returns
+unfolding stimuli split prepend applyArguments commands
+returns c =
+    let test = c .before .before in
+    let word = test .before in
+    let args = word .before .before .before .before .before .args in
+    record {
+      numbered = second-numbered (λ s. number (λ n. end (apply s n))) stimuli stimulusBase 5 refl (omega arith) stimulus-form (args .line .now) _ (ascii "activate suspend resume close noop") refl (c .second-form .result) (c .second-form .ensures);
+      asks =
+          by-first word ∙ ap (λ (k : ℕ). rowAt (λ a. a) commands k (fieldsAfter (args .line .now) (word .before .before .before .field-end .result))) (test .if1 .taken)
+          ∙ second-asks (λ s. number (λ n. end (apply s n))) stimuli stimulusBase 5 refl (omega arith) stimulus-form (args .line .now) _ (ascii "activate suspend resume close noop") refl (c .second-form .result) (c .second-form .ensures);
+    }
+
+slice-aggregate-second-form-2 : tie.Need-slice-aggregate-second-form-2
+slice-aggregate-second-form-2 c = search needs
+
+second-form-requires-2 : tie.Need-second-form-requires-2
+second-form-requires-2 c κs = search needs
+
+returns-2 : tie.Need-returns-2
+unfolding values split prepend valueArguments commands
+returns-2 c =
+    let test = c .before .before in
+    let word = test .before .before in
+    let args = word .before .before .before .before .before .args in
+    record {
+      numbered = second-numbered (λ a. a) values valueBase 3 refl (omega arith) value-form (args .line .now) _ (ascii "binding node entry") refl (c .second-form2 .result) (c .second-form2 .ensures);
+      asks =
+          by-first word ∙ ap (λ (k : ℕ). rowAt (λ a. a) commands k (fieldsAfter (args .line .now) (word .before .before .before .field-end .result))) (test .if2 .taken)
+          ∙ second-asks (λ a. a) values valueBase 3 refl (omega arith) value-form (args .line .now) _ (ascii "binding node entry") refl (c .second-form2 .result) (c .second-form2 .ensures);
+    }
+
+returns-3 : tie.Need-returns-3
+returns-3 c =
+    let word = c .before .before in
+    record { numbered = omega (arith, few word); asks = by-first word ∙ first-form (word .word-index .result) (few word) (c .before .if1 .left) (c .if2 .left) _ }
+
+pub find-form-spec : {M : Type 1} → statement M
+find-form-spec =
+    tie.close
+    (tie.spec
+    field-end-requires
+    slice-aggregate-word-index
+    sub-word-index
+    part-word-index-start
+    part-word-index-end
+    word-index-requires
+    slice-aggregate-second-form
+    second-form-requires
+    returns
+    slice-aggregate-second-form-2
+    second-form-requires-2
+    returns-2
+    returns-3)

@@ -1,2 +1,0 @@
-pub mod SetsUp
-pub mod SetsUpLaws
