@@ -47,7 +47,7 @@ fn store_three(out: &mut [u8], at: usize, a: u64, b: u64, c: u64)
 }
 
 // The numbers behind the surface, and the operation count.
-fn store_course(
+fn store_behind_surface(
     out: &mut [u8],
     at: usize,
     envelope: ProjectionPatchEnvelope,
@@ -78,5 +78,5 @@ pub fn store_head(out: &mut [u8], at: usize, patch: ProjectionPatch)
     store_three(out, at, id.raw(), stream.raw(), document.raw());
     store_surface(out, at + 24, surface);
     let count = patch.operation_count;
-    store_course(out, at + 24 + surface_size(surface), envelope, count);
+    store_behind_surface(out, at + 24 + surface_size(surface), envelope, count);
 }

@@ -80,7 +80,8 @@ fn no_session() -> ShellSession
     }
 }
 
-// Creates a session with these anchors. The pairs stand in the array that the session keeps, so many as are given.
+// Creates a session with these anchors. The pairs stand in the array that the session keeps, so many as are given; `session_from_pairs`
+// makes it of a lent list, with zeros behind them, and calls this.
 pub fn create_shell_session(
     id: u64,
     limits: ShellLifecycleLimits,

@@ -50,17 +50,17 @@ add-store-surface c = search needs
 store-surface-requires : tie.Need-store-surface-requires
 store-surface-requires c κs = search needs
 
-add-store-course : tie.Need-add-store-course
-add-store-course c = search needs
+add-store-behind-surface : tie.Need-add-store-behind-surface
+add-store-behind-surface c = search needs
 
 surface-size-requires : tie.Need-surface-size-requires
 surface-size-requires c κs = search needs
 
-add-store-course-2 : tie.Need-add-store-course-2
-add-store-course-2 c = search needs
+add-store-behind-surface-2 : tie.Need-add-store-behind-surface-2
+add-store-behind-surface-2 c = search needs
 
-store-course-requires : tie.Need-store-course-requires
-store-course-requires c κs = search needs
+store-behind-surface-requires : tie.Need-store-behind-surface-requires
+store-behind-surface-requires c κs = search needs
 
 same-length : tie.Need-same-length
 same-length c = search needs
@@ -79,7 +79,7 @@ returns c =
     let placed = next three (surfaceSize surface) (encodeOptional (surfaceOf surface)) (length-surface surface) (omega arith) (c .before .before .before .before .before .before .before .store-surface .ensures) in
     let position : args .at + 24 + c .before .before .before .surface-size .result ≡ args .at + (24 + surfaceSize surface) = omega (arith, c .before .before .before .surface-size .ensures) in
     let rest = course (e .«previous_projection_revision» .0) (e .«projection_revision» .0) (e .epoch .0) (e .sequence .0) (args .patch .«operation_count») in
-    next placed 36 rest (course-long (e .«previous_projection_revision» .0) (e .«projection_revision» .0) (e .epoch .0) (e .sequence .0) (args .patch .«operation_count»)) (omega arith) (c .before .before .store-course .ensures ∙ ap (λ (n : ℕ). overwrite (c .before .before .before .before .before .before .before .store-surface .last .0) n rest) position) .is
+    next placed 36 rest (course-long (e .«previous_projection_revision» .0) (e .«projection_revision» .0) (e .epoch .0) (e .sequence .0) (args .patch .«operation_count»)) (omega arith) (c .before .before .store-behind-surface .ensures ∙ ap (λ (n : ℕ). overwrite (c .before .before .before .before .before .before .before .store-surface .last .0) n rest) position) .is
     ∙ ap (overwrite l (args .at)) (regroup (u64 id) (u64 stream) (u64 document) (encodeOptional (surfaceOf surface)) (u64 (e .«previous_projection_revision» .0)) (u64 (e .«projection_revision» .0)) (u64 (e .epoch .0)) (u64 (e .sequence .0)) (u32 (args .patch .«operation_count»)))
 
 pub store-head-spec : {M : Type 1} → statement M
@@ -92,9 +92,9 @@ store-head-spec =
     store-three-requires
     add-store-surface
     store-surface-requires
-    add-store-course
+    add-store-behind-surface
     surface-size-requires
-    add-store-course-2
-    store-course-requires
+    add-store-behind-surface-2
+    store-behind-surface-requires
     same-length
     returns)

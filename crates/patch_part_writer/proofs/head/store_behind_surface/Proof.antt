@@ -1,4 +1,4 @@
--- `head::store_course` meets its contract: five numbers, one behind the other.
+-- `head::store_behind_surface` meets its contract: five numbers, one behind the other.
 use Prim.Native.Nat.{ℕ, _+_}
 use mathlib.Core.List.{List, _++_}
 use mathlib.Core.Path.{_≡_, ap, _∙_}
@@ -10,8 +10,8 @@ use Rattle.bytes_wire.specs.Write.{overwrite}
 use Rattle.spec_patch.specs.Encode.{u64}
 use Rattle.spec_lists.specs.BytesLaws.{length-littleEndian}
 use Rattle.patch_part_writer.proofs.Stored.{first, next-number}
-use Rattle.patch_part_writer.proofs.head.store_course.Statement.{statement}
-use Rattle.patch_part_writer.proofs.head.store_course.Tie as tie
+use Rattle.patch_part_writer.proofs.head.store_behind_surface.Statement.{statement}
+use Rattle.patch_part_writer.proofs.head.store_behind_surface.Tie as tie
 
 long : (a b c : ℕ) → length (u64 a ++ (u64 b ++ u64 c)) ≡ 24
 long a b c = simp (length-append, length-littleEndian)
@@ -63,8 +63,8 @@ returns c =
     let four = next-number three 8 (args .envelope .sequence .0) (omega arith) (c .before .before .before .before .before .before .write-u64-at .ensures .1 ∙ ap (λ (x : ℕ). overwrite (c .before .before .before .before .before .before .before .before .before .before .before .store-three .last .0) (args .at + 24) (u64 x)) (c .before .before .before .before .before .before .before .raw4 .ensures)) in
     next-number four 4 (args .operation-count) (omega arith) (c .before .before .write-u32-at .ensures .1) .is
 
-pub store-course-spec : {M : Type 1} → statement M
-store-course-spec =
+pub store-behind-surface-spec : {M : Type 1} → statement M
+store-behind-surface-spec =
     tie.close
     (tie.spec
     raw-requires
