@@ -9,7 +9,7 @@ use borrow.Rule.Slice.PartMut.{midOf, putMid}
 use lib.Dec.{leb}
 use lib.ListN.{length, drop, length-append, length-drop}
 use Rattle.bytes_records.specs.Moves.{zeros, overwrite}
-use Rattle.bytes_records.proofs.moves.Parts.{lent}
+use Rattle.bytes_records.proofs.Parts.{lent}
 use Rattle.panel_rows.specs.Rows.{filledRow, writtenRow}
 use Rattle.panel_rows.specs.RowsLaws.{written-filled, written-left}
 
