@@ -25,7 +25,7 @@ module _ {A : Type 0} (value : A → Value) (row : A → List ℕ) (front : ℕ)
   value-of-row (a ∷ l) (suc i) h = value-of-row l i (omega arith)
 
   -- what stands behind the ids of that row
-  old-written : (set : ℕ → Value) (l : List A) (i : ℕ) → i < length l → length l ≤ projectionEntries → padded (valueFrom (map value l) set (old i)) ≡ drop front (getD (map row l) i [])
+  pub old-written : (set : ℕ → Value) (l : List A) (i : ℕ) → i < length l → length l ≤ projectionEntries → padded (valueFrom (map value l) set (old i)) ≡ drop front (getD (map row l) i [])
   old-written set l i h few = ap padded (old-value (map value l) set i (omega arith)) ∙ value-of-row l i h
 
 module _ (p : Projection) (set : ℕ → Value) where

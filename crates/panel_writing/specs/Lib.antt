@@ -1,0 +1,4 @@
+pub mod Writing
+pub mod WritingLaws
+pub mod Sourced
+pub mod StoredLaws
