@@ -9,4 +9,8 @@ pub mod SetValues
 pub mod SetValuesLaws
 pub mod PlanRows
 pub mod PlanRowsLaws
+pub mod NumberedRows
+pub mod NumberedRowsLaws
 pub mod WrittenLaws
+pub mod Sources
+pub mod SourcesLaws

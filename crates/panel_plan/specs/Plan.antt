@@ -1,7 +1,6 @@
--- Sources as numbers, the plan that a batch starts from, and the steps that it makes: a source is a row of the table before the batch, or
--- a position in the bytes of the set.
+-- Sources as numbers, the plan that a batch starts from, and planned operations: a source is a row of the table before the batch, or a
+-- position in the bytes of the set.
 use Prim.Native.Nat.{ℕ, suc, _+_, _-_}
-use mathlib.Core.Path.{_≡_}
 use mathlib.Core.List.{List, [], _∷_, map}
 use lib.Dec.{ltb}
 use lib.ListN.{getD}
@@ -9,7 +8,6 @@ use Rattle.spec_lists.specs.Lists.{if_then_else_}
 use Rattle.spec_patch.specs.Sizes.{projectionEntries}
 use Rattle.spec_patch.specs.Patch.{Value, N, quad, signed, text, unsigned, Operation, setBinding, setAvailability, insert, update, remove, move}
 use Rattle.spec_projection.specs.Projection.{Binding, Entry, Projection}
-use Rattle.spec_projection.specs.Apply.{ReplayStep, stepOf}
 use Rattle.panel_plan.specs.Resolved.{Resolution}
 
 -- ---- sources
@@ -52,12 +50,7 @@ entryWith e v = record { collection = e .collection; key = e .key; value = v }
 unfoldable pub planOf : Projection → Projection
 planOf p = record { bindings = numbered bindingWith 0 (p .bindings); availabilities = p .availabilities; entries = numbered entryWith 0 (p .entries) }
 
--- ---- the steps of a plan
-
--- a step, and the position of its value's bytes in the set
-pub record SitedStep : Type 0 where
-  pub step : ReplayStep
-  pub at : ℕ
+-- ---- planned operations
 
 -- the operation with a source for its value, if it has one
 unfoldable pub withSource : Value → Operation → Operation
@@ -67,16 +60,3 @@ withSource source (insert c k before v) = insert c k before source
 withSource source (update c k v) = update c k source
 withSource source (remove c k) = remove c k
 withSource source (move c k before) = move c k before
-
--- the step with its position for a value
-unfoldable pub plannedStep : SitedStep → ReplayStep
-plannedStep s = stepOf (s .step .patch) (withSource (new (s .at)) (s .step .operation))
-
--- the operation's value, if it has one, is the one that the set has at the position
-unfoldable pub StandsAt : (ℕ → Value) → ℕ → Operation → Type 0
-StandsAt set at (setBinding n s v) = set at ≡ v
-StandsAt set at (setAvailability n a) = Unit {0}
-StandsAt set at (insert c k before v) = set at ≡ v
-StandsAt set at (update c k v) = set at ≡ v
-StandsAt set at (remove c k) = Unit {0}
-StandsAt set at (move c k before) = Unit {0}

@@ -11,9 +11,9 @@ use Rattle.spec_patch.specs.Patch.{Value, quad, signed, text, unsigned, Operati
 use Rattle.spec_projection.specs.Projection.{Binding, Entry, Projection, bindingKey, availabilityKey}
 use Rattle.spec_projection.specs.FirstMatch.{findFirst, insertBeforeFirst, replaceFirst, removeFirst}
 use Rattle.spec_projection.specs.Entries.{isEntry, isLater, contains, containsNeighbour, insertLast, insertBefore, insertEntry, replaceEntry, removeEntry}
-use Rattle.spec_projection.specs.Apply.{Outcome, done, stopped, stepOf, operationFaultNumber, withBindings, withAvailabilities, withEntries, applyBinding, applyAvailability, applyInsert, applyUpdate, applyRemove, applyMove, applyOperation, applyStep, applySteps}
+use Rattle.spec_projection.specs.Apply.{Outcome, done, stopped, ReplayStep, stepOf, operationFaultNumber, withBindings, withAvailabilities, withEntries, applyBinding, applyAvailability, applyInsert, applyUpdate, applyRemove, applyMove, applyOperation, applyStep, applySteps}
 use Rattle.panel_plan.specs.Resolved.{resolvedBinding, resolvedEntry, resolved, resolvedOutcome}
-use Rattle.panel_plan.specs.Plan.{old, new, valueFrom, resolution, numbered, bindingWith, entryWith, planOf, SitedStep, withSource, plannedStep}
+use Rattle.panel_plan.specs.Plan.{old, new, valueFrom, resolution, numbered, bindingWith, entryWith, planOf, withSource}
 
 -- ---- what the examples are made of
 
@@ -35,13 +35,13 @@ full = record { bindings = []; availabilities = []; entries = map keyed (numbers
 set : ℕ → Value
 set at = unsigned (1000 + at)
 
--- an operation whose value is the one at the position
-at : ℕ → (Value → Operation) → SitedStep
-at n o = record { step = stepOf 1 (o (set n)); at = n }
+-- an operation whose value is the one at the position, planned
+at : ℕ → (Value → Operation) → ReplayStep
+at n o = stepOf 1 (withSource (new n) (o (set n)))
 
 -- one without a value
-plain : Operation → SitedStep
-plain o = record { step = stepOf 1 o; at = 0 }
+plain : Operation → ReplayStep
+plain o = stepOf 1 (withSource (new 0) o)
 
 -- ---- questions
 
@@ -65,12 +65,12 @@ bindings : Projection → List ℕ
 bindings p = map (λ (b : Binding). number (b .value)) (p .bindings)
 
 -- what the plan answers after these steps, as sources
-plans : List ℕ → (Projection → List ℕ) → Projection → List SitedStep → Bool
-plans expected f p ss = equalLists eqb (ask f (applySteps (planOf p) (map plannedStep ss))) expected
+plans : List ℕ → (Projection → List ℕ) → Projection → List ReplayStep → Bool
+plans expected f p ss = equalLists eqb (ask f (applySteps (planOf p) ss)) expected
 
 -- and once they are resolved
-resolves : List ℕ → (Projection → List ℕ) → Projection → List SitedStep → Bool
-resolves expected f p ss = equalLists eqb (ask f (resolvedOutcome (resolution p set) (applySteps (planOf p) (map plannedStep ss)))) expected
+resolves : List ℕ → (Projection → List ℕ) → Projection → List ReplayStep → Bool
+resolves expected f p ss = equalLists eqb (ask f (resolvedOutcome (resolution p set) (applySteps (planOf p) ss))) expected
 
 -- ---- the table
 
@@ -111,5 +111,5 @@ unfolding examples failing keyed before numbers full set at plain number ask key
     lexLess upsert bindingKey availabilityKey findFirst insertBeforeFirst replaceFirst removeFirst
     isEntry isLater contains containsNeighbour insertLast insertBefore insertEntry replaceEntry removeEntry
     operationFaultNumber withBindings withAvailabilities withEntries applyBinding applyAvailability applyInsert applyUpdate applyRemove applyMove applyOperation applyStep applySteps
-    resolvedBinding resolvedEntry resolved old new valueFrom resolution numbered bindingWith entryWith planOf withSource plannedStep
+    resolvedBinding resolvedEntry resolved old new valueFrom resolution numbered bindingWith entryWith planOf withSource
 plan-examples = refl

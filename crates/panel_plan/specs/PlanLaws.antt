@@ -1,18 +1,18 @@
--- A plan resolves: the plan of a projection to the projection, and a batch that is planned to the batch that is applied.
+-- A plan resolves: the plan of a projection to the projection, and an operation that is planned to the operation that is applied.
 use Prim.Native.Nat.{ℕ, suc, _+_, _≤_, _<_}
 use mathlib.Core.Path.{_≡_, refl, sym, ap, ap₂, _∙_}
 use mathlib.Core.List.{List, [], _∷_, map}
 use native.Mathlib.Omega.{arith}
 use borrow.Author.Tests.{lt-ltb, le-ltb}
 use lib.ListN.{length, getD}
-use Rattle.spec_lists.specs.Lists.{All}
 use Rattle.spec_patch.specs.Sizes.{projectionEntries}
 use Rattle.spec_patch.specs.Patch.{Value, N, quad, Operation, setBinding, setAvailability, insert, update, remove, move}
+use Rattle.spec_patch.specs.Fits.{OperationHolds}
 use Rattle.spec_projection.specs.Projection.{Binding, Entry, Projection}
-use Rattle.spec_projection.specs.Apply.{stepOf, applySteps}
-use Rattle.panel_plan.specs.Resolved.{resolvedBinding, resolvedEntry, resolved, resolvedOperation, resolvedStep, resolvedOutcome}
-use Rattle.panel_plan.specs.ResolvedLaws.{steps-resolved}
-use Rattle.panel_plan.specs.Plan.{old, new, valueFrom, resolution, numbered, bindingWith, entryWith, planOf, SitedStep, withSource, plannedStep, StandsAt}
+use Rattle.spec_projection.specs.Apply.{applyOperation}
+use Rattle.panel_plan.specs.Resolved.{resolvedBinding, resolvedEntry, resolved, resolvedOperation, resolvedOutcome}
+use Rattle.panel_plan.specs.ResolvedLaws.{operation-resolved}
+use Rattle.panel_plan.specs.Plan.{old, new, valueFrom, resolution, numbered, bindingWith, entryWith, planOf, withSource}
 
 -- ---- sources
 
@@ -56,27 +56,20 @@ plan-resolves p set fewBindings fewEntries =
     (numbered-resolves (λ (b : Binding). b .value) bindingWith (λ b. refl) _ set (resolvedBinding (resolution p set)) (λ b v. refl) 0 (p .bindings) (omega arith) (reads-own (λ (b : Binding). b .value) (quad N) (p .bindings)))
     (numbered-resolves (λ (e : Entry). e .value) entryWith (λ e. refl) _ set (resolvedEntry (resolution p set)) (λ e v. refl) 0 (p .entries) (omega arith) (reads-own (λ (e : Entry). e .value) (quad N) (p .entries)))
 
--- ---- the steps of a plan
+-- ---- planned operations
 
-pub operation-back : (p : Projection) (set : ℕ → Value) (at : ℕ) (o : Operation) → StandsAt set at o → resolvedOperation (resolution p set) (withSource (new at) o) ≡ o
-unfolding StandsAt resolvedOperation withSource resolution
-operation-back p set at (setBinding n s v) h = ap (setBinding n s) (new-value _ set at ∙ h)
+-- an operation whose value the set has at a position, planned with the position and resolved, is the operation
+pub operation-back : (p : Projection) (set : ℕ → Value) (at : ℕ) (o : Operation) → OperationHolds (λ v. set at ≡ v) o → resolvedOperation (resolution p set) (withSource (new at) o) ≡ o
+unfolding OperationHolds resolvedOperation withSource resolution
+operation-back p set at (setBinding n s v) h = ap (setBinding n s) (new-value _ set at ∙ h .1 .1)
 operation-back p set at (setAvailability n a) h = refl
-operation-back p set at (insert c k before v) h = ap (insert c k before) (new-value _ set at ∙ h)
-operation-back p set at (update c k v) h = ap (update c k) (new-value _ set at ∙ h)
+operation-back p set at (insert c k before v) h = ap (insert c k before) (new-value _ set at ∙ h .1 .1 .1)
+operation-back p set at (update c k v) h = ap (update c k) (new-value _ set at ∙ h .1 .1)
 operation-back p set at (remove c k) h = refl
 operation-back p set at (move c k before) h = refl
 
-pub steps-back : (p : Projection) (set : ℕ → Value) (ss : List SitedStep) → All (λ (s : SitedStep). StandsAt set (s .at) (s .step .operation)) ss
-    → map (resolvedStep (resolution p set)) (map plannedStep ss) ≡ map (λ (s : SitedStep). s .step) ss
-unfolding resolvedStep plannedStep
-steps-back p set [] h = refl
-steps-back p set (s ∷ ss) h = ap₂ _∷_ (ap (stepOf (s .step .patch)) (operation-back p set (s .at) (s .step .operation) (h .0))) (steps-back p set ss (h .1))
-
--- planning a batch from the plan of p, and resolving, is applying it to p
-pub planned-batch : (p : Projection) (set : ℕ → Value) (ss : List SitedStep) → length (p .bindings) ≤ projectionEntries → length (p .entries) ≤ projectionEntries
-    → All (λ (s : SitedStep). StandsAt set (s .at) (s .step .operation)) ss
-    → resolvedOutcome (resolution p set) (applySteps (planOf p) (map plannedStep ss)) ≡ applySteps p (map (λ (s : SitedStep). s .step) ss)
-planned-batch p set ss fewBindings fewEntries stand =
-    sym (steps-resolved (resolution p set) (planOf p) (map plannedStep ss))
-    ∙ ap₂ applySteps (plan-resolves p set fewBindings fewEntries) (steps-back p set ss stand)
+-- planning it and resolving is applying it, whatever the plan
+pub planned-operation : (p : Projection) (set : ℕ → Value) (plan : Projection) (at : ℕ) (o : Operation) → OperationHolds (λ v. set at ≡ v) o
+    → applyOperation (resolved (resolution p set) plan) o ≡ resolvedOutcome (resolution p set) (applyOperation plan (withSource (new at) o))
+planned-operation p set plan at o h =
+    ap (applyOperation (resolved (resolution p set) plan)) (sym (operation-back p set at o h)) ∙ operation-resolved (resolution p set) plan (withSource (new at) o)

@@ -1,4 +1,4 @@
--- The plan of a valid projection is valid, and so is what planned steps leave: what the tables' contracts ask of a projection holds of a plan.
+-- The plan of a valid projection is valid, and planned operations fit: what the tables' contracts ask of a projection holds of a plan.
 use Prim.Native.Nat.{ℕ, suc, _+_, _≤_, _<_}
 use mathlib.Core.Path.{_≡_, refl, ap}
 use mathlib.Core.Bool.{true}
@@ -14,8 +14,6 @@ use Rattle.spec_patch.specs.Encode.{kindOf}
 use Rattle.spec_patch.specs.Fits.{U64, StorableBy, FitsValue, OperationHolds, FitsOperation}
 use Rattle.spec_projection.specs.Projection.{Entry, Projection, bindingKey}
 use Rattle.spec_projection.specs.Entries.{isEntry}
-use Rattle.spec_projection.specs.Apply.{done, applyOperation}
-use Rattle.spec_projection.specs.ValidLaws.{applyOperation-valid}
 use Rattle.spec_projection.specs.Valid.{Behind, Grouped, FitsBinding, FitsEntry, Valid}
 use Rattle.panel_plan.specs.Plan.{old, numbered, bindingWith, entryWith, planOf, withSource}
 
@@ -25,11 +23,10 @@ module _ {A : Type 0} (put : A → Value → A) where
   numbered-length i [] = refl
   numbered-length i (x ∷ l) = ap suc (numbered-length (suc i) l)
 
-  numbered-all : (P Q : A → Type 0) → ((x : A) (i : ℕ) → i < projectionEntries → P x → Q (put x (old i)))
-      → (i : ℕ) (l : List A) → i + length l ≤ projectionEntries → All P l → All Q (numbered put i l)
+  pub numbered-all : (P Q : A → Type 0) (n : ℕ) → ((x : A) (i : ℕ) → i < n → P x → Q (put x (old i))) → (i : ℕ) (l : List A) → i + length l ≤ n → All P l → All Q (numbered put i l)
   unfolding numbered
-  numbered-all P Q each i [] few h = tt
-  numbered-all P Q each i (x ∷ l) few h = (each x i (omega arith) (h .0), numbered-all P Q each (suc i) l (omega arith) (h .1))
+  numbered-all P Q n each i [] few h = tt
+  numbered-all P Q n each i (x ∷ l) few h = (each x i (omega arith) (h .0), numbered-all P Q n each (suc i) l (omega arith) (h .1))
 
   -- keys are not changed
   numbered-ascending : (key : A → List ℕ) → ((x : A) (v : Value) → key (put x v) ≡ key x)
@@ -37,7 +34,7 @@ module _ {A : Type 0} (put : A → Value → A) where
   unfolding numbered
   numbered-ascending key same i [] few h = tt
   numbered-ascending key same i (x ∷ l) few h = (
-    numbered-all (λ y. lexLess (key x) (key y) ≡ true) (λ y. lexLess (key (put x (old i))) (key y) ≡ true) (λ y j _ less. rw (same x (old i), same y (old j)) less) (suc i) l (omega arith) (h .0),
+    numbered-all (λ y. lexLess (key x) (key y) ≡ true) (λ y. lexLess (key (put x (old i))) (key y) ≡ true) projectionEntries (λ y j _ less. rw (same x (old i), same y (old j)) less) (suc i) l (omega arith) (h .0),
     numbered-ascending key same (suc i) l (omega arith) (h .1),
   )
 
@@ -45,7 +42,7 @@ numbered-grouped : (i : ℕ) (l : List Entry) → i + length l ≤ projectionEnt
 unfolding numbered entryWith isEntry
 numbered-grouped i [] few h = tt
 numbered-grouped i (x ∷ l) few h = (
-  numbered-all entryWith (Behind x) (Behind (entryWith x (old i))) (λ y j _ b. record { collection = b .collection; other = b .other }) (suc i) l (omega arith) (h .0),
+  numbered-all entryWith (Behind x) (Behind (entryWith x (old i))) projectionEntries (λ y j _ b. record { collection = b .collection; other = b .other }) (suc i) l (omega arith) (h .0),
   numbered-grouped (suc i) l (omega arith) (h .1),
 )
 
@@ -58,28 +55,24 @@ plan-valid p v = record {
   fewBindings = rw (numbered-length bindingWith 0 (p .bindings)) (v .fewBindings);
   fewAvailabilities = v .fewAvailabilities;
   fewEntries = rw (numbered-length entryWith 0 (p .entries)) (v .fewEntries);
-  fitBindings = numbered-all bindingWith FitsBinding FitsBinding (λ b i h f. record { node = f .node; slot = f .slot; value = omega arith }) 0 (p .bindings) (omega (arith, v .fewBindings)) (v .fitBindings);
+  fitBindings = numbered-all bindingWith FitsBinding FitsBinding projectionEntries (λ b i h f. record { node = f .node; slot = f .slot; value = omega arith }) 0 (p .bindings) (omega (arith, v .fewBindings)) (v .fitBindings);
   fitAvailabilities = v .fitAvailabilities;
-  fitEntries = numbered-all entryWith FitsEntry FitsEntry (λ e i h f. record { collection = f .collection; key = f .key; value = omega arith }) 0 (p .entries) (omega (arith, v .fewEntries)) (v .fitEntries);
+  fitEntries = numbered-all entryWith FitsEntry FitsEntry projectionEntries (λ e i h f. record { collection = f .collection; key = f .key; value = omega arith }) 0 (p .entries) (omega (arith, v .fewEntries)) (v .fitEntries);
 }
 
 -- ---- planned operations
 
--- an operation with another value
-with-source-holds : (P Q : Value → Type 0) (v : Value) (o : Operation) → P v → OperationHolds Q o → OperationHolds P (withSource v o)
+-- an operation whose value has a property, with a source that then has one
+pub holds-with : (P Q : Value → Type 0) (source : Value) (o : Operation) → ((v : Value) → P v → Q source) → OperationHolds P o → OperationHolds Q (withSource source o)
 unfolding withSource OperationHolds
-with-source-holds P Q v (setBinding n s x) g h = (h .0, (h .1 .0, g))
-with-source-holds P Q v (setAvailability n a) g h = h
-with-source-holds P Q v (insert c k before x) g h = (h .0, (h .1 .0, (h .1 .1 .0, g)))
-with-source-holds P Q v (update c k x) g h = (h .0, (h .1 .0, g))
-with-source-holds P Q v (remove c k) g h = h
-with-source-holds P Q v (move c k before) g h = h
+holds-with P Q source (setBinding n s v) g h = (h .0, (h .1 .0, g v (h .1 .1)))
+holds-with P Q source (setAvailability n a) g h = h
+holds-with P Q source (insert c k before v) g h = (h .0, (h .1 .0, (h .1 .1 .0, g v (h .1 .1 .1))))
+holds-with P Q source (update c k v) g h = (h .0, (h .1 .0, g v (h .1 .1)))
+holds-with P Q source (remove c k) g h = h
+holds-with P Q source (move c k before) g h = h
 
 -- a source is a number, which the edition of 01 has; the operation may be of any edition
 pub planned-fits : (ed : Edition) (n : ℕ) (o : Operation) → U64 n → FitsOperation ed o → FitsOperation v1 (withSource (unsigned n) o)
 unfolding StorableBy hasKind v1 kindOf
-planned-fits ed n o h f = with-source-holds (FitsValue v1) (FitsValue ed) (unsigned n) o (record { kind = refl; storable = h }) f
-
--- what a planned operation leaves
-pub planned-valid : (ed : Edition) (n : ℕ) (p : Projection) (o : Operation) (q : Projection) → U64 n → FitsOperation ed o → Valid p → applyOperation p (withSource (unsigned n) o) ≡ done q → Valid q
-planned-valid ed n p o q h f v e = applyOperation-valid v1 p (withSource (unsigned n) o) q (planned-fits ed n o h f) v e
+planned-fits ed n o h f = holds-with (FitsValue ed) (FitsValue v1) (unsigned n) o (λ v _. record { kind = refl; storable = h }) f

@@ -2,7 +2,7 @@
 use Prim.Native.Nat.{ℕ}
 use mathlib.Core.Path.{_≡_, refl, ap, _∙_}
 use mathlib.Core.Bool.{Bool, true, false, not}
-use mathlib.Core.List.{List, [], _∷_, map}
+use mathlib.Core.List.{List, map}
 use mathlib.Core.Option.{Option, none, some, Option·map}
 use lib.Dec.{leb}
 use lib.ListN.{length, length-map}
@@ -13,9 +13,9 @@ use Rattle.spec_patch.specs.Patch.{Operation, setBinding, setAvailability, inse
 use Rattle.spec_projection.specs.Projection.{Binding, NodeAvailability, Entry, Projection, bindingKey, availabilityKey}
 use Rattle.spec_projection.specs.FirstMatch.{findFirst}
 use Rattle.spec_projection.specs.Entries.{isEntry, isLater, contains, containsNeighbour, insertLast, insertBefore, insertEntry, replaceEntry, removeEntry}
-use Rattle.spec_projection.specs.Apply.{keyRule, projectionFull, OperationFault, Outcome, done, stopped, withBindings, withAvailabilities, withEntries, applyBinding, applyAvailability, applyInsert, applyUpdate, applyRemove, applyMove, applyOperation, ReplayStep, applyStep, andThen, applySteps}
+use Rattle.spec_projection.specs.Apply.{keyRule, projectionFull, OperationFault, Outcome, done, stopped, withBindings, withAvailabilities, withEntries, applyBinding, applyAvailability, applyInsert, applyUpdate, applyRemove, applyMove, applyOperation}
 use Rattle.panel_plan.specs.MapLaws.{any-map, findFirst-map, insertBeforeFirst-map, replaceFirst-map, removeFirst-map, upsert-map}
-use Rattle.panel_plan.specs.Resolved.{Resolution, resolvedBinding, resolvedEntry, resolved, resolvedOperation, resolvedStep, resolvedOutcome}
+use Rattle.panel_plan.specs.Resolved.{Resolution, resolvedBinding, resolvedEntry, resolved, resolvedOperation, resolvedOutcome}
 
 module _ (r : Resolution) where
   -- ---- entries are found, inserted, replaced and removed by collection and key alone
@@ -118,15 +118,3 @@ module _ (r : Resolution) where
   operation-resolved p (update c k v) = update-resolved p (record { collection = c; key = k; value = v })
   operation-resolved p (remove c k) = remove-resolved p c k
   operation-resolved p (move c k before) = ap (applyMove (resolved r p) before) (found-resolved c k (p .entries)) ∙ move-resolved p before (findFirst (isEntry c k) (p .entries))
-
-  -- all steps in order
-  pub steps-resolved : (p : Projection) (ss : List ReplayStep) → applySteps (resolved r p) (map (resolvedStep r) ss) ≡ resolvedOutcome r (applySteps p ss)
-  unfolding applySteps applyStep resolvedStep
-  steps-resolved p [] = refl
-  steps-resolved p (s ∷ ss) =
-      ap (λ x. andThen x (λ q. applySteps q (map (resolvedStep r) ss))) (operation-resolved p (s .operation)) ∙ further (applyOperation p (s .operation)) (λ q. steps-resolved q ss)
-    where
-      further : (x : Outcome) → ((q : Projection) → applySteps (resolved r q) (map (resolvedStep r) ss) ≡ resolvedOutcome r (applySteps q ss))
-          → andThen (resolvedOutcome r x) (λ q. applySteps q (map (resolvedStep r) ss)) ≡ resolvedOutcome r (andThen x (λ q. applySteps q ss))
-      further (done q) later = later q
-      further (stopped fault) later = refl

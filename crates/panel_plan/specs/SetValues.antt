@@ -1,15 +1,14 @@
--- The values of a set by position: what `planned-batch` takes for the set.
+-- The values of a set by position: what sources in the set stand for.
 use Prim.Native.Nat.{ℕ, _+_}
 use mathlib.Core.Path.{_≡_}
 use mathlib.Core.List.{List, _++_}
 use lib.ListN.{length, drop}
 use Rattle.spec_patch.specs.Patch.{Value, N, quad, Operation, setBinding, setAvailability, insert, update, remove, move}
 use Rattle.spec_patch.specs.Edition.{Edition}
-use Rattle.spec_patch.specs.Encode.{encodeOptional, encodeOperation}
-use Rattle.spec_patch.specs.Fits.{FitsOperation}
+use Rattle.spec_patch.specs.Encode.{encodeOptional, encodeValue}
+use Rattle.spec_patch.specs.Fits.{FitsValue}
 use Rattle.spec_patch.specs.Reader.{Result, read, refused}
 use Rattle.spec_patch.specs.Read.{readValue}
-use Rattle.panel_plan.specs.Plan.{SitedStep}
 
 -- what was read, or N
 abbrev pub valueRead : Result Value → Value
@@ -29,10 +28,8 @@ valueOffset (update c k v) = 17
 valueOffset (remove c k) = 0
 valueOffset (move c k before) = 0
 
--- the step's operation stands in the set, and its value where the step says
-pub record InSet (ed : Edition) (set : List ℕ) (s : SitedStep) : Type 0 where
-  pub from : ℕ
+-- the bytes from a position on begin with a value of the edition
+pub record StandsAt (ed : Edition) (set : List ℕ) (at : ℕ) (v : Value) : Type 0 where
   pub rest : List ℕ
-  pub bytes : drop from set ≡ encodeOperation (s .step .operation) ++ rest
-  pub position : s .at ≡ from + valueOffset (s .step .operation)
-  pub fits : FitsOperation ed (s .step .operation)
+  pub bytes : drop at set ≡ encodeValue v ++ rest
+  pub fits : FitsValue ed v

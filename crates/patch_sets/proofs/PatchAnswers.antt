@@ -38,7 +38,7 @@ envelope-told = record {
   apart = λ x m f e. let z : _≡_ {A = ℕ} 0 1 = cc in omega arith;
 }
 
-head-told : Told head-read.Read head-read.Refused
+pub head-told : Told head-read.Read head-read.Refused
 head-told = record {
   value = λ x y m n e. cc;
   next = λ x y m n e. cc;

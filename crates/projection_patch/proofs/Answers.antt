@@ -1,11 +1,11 @@
 -- What a callee answered of a position, as the readers of spec_patch have it: a tag and the reader that it picks, and an answer taken apart.
 use Prim.Native.Nat.{ℕ, _+_, _-_, _≤_, _<_}
-use mathlib.Core.Path.{_≡_, refl, sym, ap, _∙_}
+use mathlib.Core.Path.{_≡_, refl, sym, ap, ap₂, _∙_}
 use mathlib.Core.List.{List}
 use mathlib.Core.Bool.{Bool}
 use native.Mathlib.Omega.{arith}
 use lib.Dec.{lit<}
-use lib.ListN.{length, getD, drop}
+use lib.ListN.{length, getD, drop, length-append}
 use Rattle.spec_lists.specs.Bytes.{Bytes}
 use Rattle.spec_patch.specs.Sizes.{textBytes}
 use Rattle.spec_patch.specs.Edition.{Edition}
@@ -90,6 +90,31 @@ module _ {A X B : Type 0} {e : A → List ℕ} {Good : A → Type 0} {p : Reader
       pick (refused c) is t = record { fault = c; is = is; same = told .reason (faultTo c) f t }
       pick (read a rest) is t = absurd (told .apart (to (length l - length rest) a) (length l - length rest) f t)
 
+-- the same answer told by other constructors
+module _ {A X B C : Type 0} {reading : X → ℕ → B} {refusal : ProjectionPatchReadFault → B} (to : ℕ → A → X) (told : Told reading refusal) (reading′ : X → ℕ → C) (refusal′ : ProjectionPatchReadFault → C) (n : ℕ) (result : Result A) {r : B} (ensured : r ≡ answer to reading refusal n result) where
+  pub retold : (x : X) (end : ℕ) → r ≡ reading x end → reading′ x end ≡ answer to reading′ refusal′ n result
+  retold x end q = pick result (sym ensured ∙ q)
+    where
+      pick : (s : Result A) → answer to reading refusal n s ≡ reading x end → reading′ x end ≡ answer to reading′ refusal′ n s
+      pick (refused c) t = absurd (told .apart x end (faultTo c) (sym t))
+      pick (read a rest) t =
+          let k = n - length rest in
+          ap₂ reading′ (sym (told .value (to k a) x k end t)) (sym (told .next (to k a) x k end t))
+
+  pub retold-refusal : (f : ProjectionPatchReadFault) → r ≡ refusal f → refusal′ f ≡ answer to reading′ refusal′ n result
+  retold-refusal f q = pick result (sym ensured ∙ q)
+    where
+      pick : (s : Result A) → answer to reading refusal n s ≡ refusal f → refusal′ f ≡ answer to reading′ refusal′ n s
+      pick (refused c) t = ap refusal′ (sym (told .reason (faultTo c) f t))
+      pick (read a rest) t = absurd (told .apart (to (n - length rest) a) (n - length rest) f t)
+
+-- what was read takes a byte or more, and ends within the part
+module _ {A X : Type 0} {e : A → List ℕ} {Good : A → Type 0} {p : Reader A} {to : ℕ → A → X} (codec : Codec e Good p) (some′ : (a : A) → 0 < length (e a)) {l : List ℕ} (all : Bytes l) where
+  pub got-some : (x : X) (end : ℕ) → Got p to l 0 x end → (0 < end) × (end ≤ length l)
+  got-some x end g =
+      let long : length l ≡ length (e (g .a)) + length (drop end l) = ap length (codec .only all (g .a) (drop end l) (g .is) .1) ∙ length-append (e (g .a)) (drop end l) in
+      (omega (arith, some′ (g .a), g .there), omega (arith, g .there))
+
 -- ---- each of the enums
 
 pub count-told : Told count-read.Read count-read.Refused
@@ -124,7 +149,7 @@ value-told = record {
   apart = λ x m f e. let z : _≡_ {A = ℕ} 0 1 = cc in omega arith;
 }
 
-operation-told : Told operation-read.Read operation-read.Refused
+pub operation-told : Told operation-read.Read operation-read.Refused
 operation-told = record {
   value = λ x y m n e. cc;
   next = λ x y m n e. cc;

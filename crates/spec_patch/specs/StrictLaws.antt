@@ -120,6 +120,16 @@ stored-strict (signed z) r k rest s = r
 stored-strict (text t) r k rest s = text-strict t (omega arith) rest (first (readText (encodeText t ++ rest)) _ s)
 stored-strict (unsigned x) r k rest s = r
 
+-- an operation takes a byte or more
+pub operation-some : (o : Operation) → 0 < length (encodeOperation o)
+unfolding encodeOperation
+operation-some (setBinding n s v) = omega arith
+operation-some (setAvailability n a) = omega arith
+operation-some (insert c y b v) = omega arith
+operation-some (update c y v) = omega arith
+operation-some (remove c y) = omega arith
+operation-some (move c y b) = omega arith
+
 module _ (ed : Edition) where
   value-strict : Strict encodeValue InRangeValue (FitsValue ed) (readValue ed)
   unfolding encodeValue readValueBy inEdition
@@ -148,15 +158,6 @@ module _ (ed : Edition) where
 
   operation-strict : Strict encodeOperation (OperationHolds InRangeValue) (FitsOperation ed) (readOperation ed)
   operation-strict = record { good = operation-good }
-
-  operation-some : (o : Operation) → 0 < length (encodeOperation o)
-  unfolding encodeOperation
-  operation-some (setBinding n s v) = omega arith
-  operation-some (setAvailability n a) = omega arith
-  operation-some (insert c y b v) = omega arith
-  operation-some (update c y v) = omega arith
-  operation-some (remove c y) = omega arith
-  operation-some (move c y b) = omega arith
 
   -- ---- patches and sets
 

@@ -1,0 +1,14 @@
+-- The rows of the plan that a batch starts from, by those of the table before it.
+use Prim.Native.Nat.{ℕ, suc}
+use mathlib.Core.List.{List, [], _∷_, _++_}
+use lib.ListN.{take}
+use Rattle.spec_patch.specs.Encode.{u64}
+
+-- the bytes of a row's ids, and its number
+unfoldable pub numberedRow : ℕ → ℕ → List ℕ → List ℕ
+numberedRow ids i row = take ids row ++ u64 i
+
+-- each row with its number, from i on
+unfoldable pub numberedRows : ℕ → ℕ → List (List ℕ) → List (List ℕ)
+numberedRows ids i [] = []
+numberedRows ids i (row ∷ rows) = numberedRow ids i row ∷ numberedRows ids (suc i) rows

@@ -1,0 +1,76 @@
+// The plan that a batch starts from: each row's ids, and its number for a source.
+ghost use mathlib.Core.Path.{_≡_};
+ghost use mathlib.Core.List.{List, [], _++_};
+ghost use Prim.Native.Nat.{ℕ, _+_, _*_, _≤_, _<_};
+ghost use lib.ListN.{length, take};
+ghost use Rattle.spec_patch.specs.Sizes.{projectionBindings, projectionEntries};
+ghost use Rattle.spec_patch.specs.Encode.{u64};
+ghost use Rattle.spec_projection.specs.Projection.{Binding, Entry};
+ghost use Rattle.bytes_records.specs.Table.{Holds};
+ghost use Rattle.panel_rows.specs.Rows.{bindingWidth, entryWidth, bindingRow, entryRow};
+ghost use Rattle.local_projection_state.specs.Stores.{Stored};
+ghost use Rattle.panel_plan.specs.Plan.{numbered, bindingWith, entryWith};
+ghost use Rattle.panel_plan.specs.PlanRows.{sourceWidth, PlannedBindings, PlannedEntries};
+ghost use Rattle.panel_plan.specs.NumberedRows.{numberedRow, numberedRows};
+
+// Writes the ids of an old row, and behind them its number.
+fn number_row(old: &[u8], ids: usize, number: usize, row: &mut [u8])
+    ensures { λ _. ⌜ (ids ≤ length (now (old .entry)) → length (now (row .entry)) ≡ ids + sourceWidth → now (row .exit) ≡ numberedRow ids number (now (old .entry))) ⌝ }
+{
+    if old.len() < ids {
+        return;
+    }
+    if row.len() < ids {
+        return;
+    }
+    bytes_moves::copy(&old[..ids], row);
+    bytes_wire::write_u64_at(row, ids, number as u64);
+}
+
+// Numbers the rows of a table, whose ids are so many bytes, in a table without rows; row is memory for one of them.
+fn number_rows(from: &[u8], width: usize, count: usize, ids: usize, row: &mut [u8], to: &mut [u8])
+    requires { ⌜ (0 < width) × (length (now row) ≡ ids + sourceWidth) ⌝ }
+    ensures { λ _. ⌜ ((rows : List (List ℕ)) → ids ≤ width → Holds width count (now (from .entry)) rows → Holds (ids + sourceWidth) 0 (now (to .entry)) []
+        → count * (ids + sourceWidth) ≤ length (now (to .entry)) → Holds (ids + sourceWidth) count (now (to .exit)) (numberedRows ids 0 rows)) ⌝ }
+{
+    let size = ids + super::SOURCE_WIDTH;
+    let mut i: usize = 0;
+    while i < count {
+        let old = bytes_records::record_at(from, width, count, i);
+        number_row(old, ids, i, row);
+        bytes_records::insert_record(to, size, i, i, row);
+        i += 1;
+    }
+}
+
+// The planned bindings of a table, in one without rows.
+pub fn plan_bindings(from: &[u8], count: usize, to: &mut [u8])
+    ensures { λ _. ⌜ ((bs : List Binding) → Stored bindingRow bindingWidth projectionBindings count (now (from .entry)) bs → PlannedBindings 0 (now (to .entry)) []
+        → PlannedBindings count (now (to .exit)) (numbered bindingWith 0 bs)) ⌝ }
+{
+    let mut row = [0u8; super::BINDING_WIDTH];
+    number_rows(
+        from,
+        panel_rows::BINDING_WIDTH,
+        count,
+        panel_rows::BINDING_VALUE,
+        &mut row,
+        to,
+    );
+}
+
+// The planned entries of a table, in one without rows.
+pub fn plan_entries(from: &[u8], count: usize, to: &mut [u8])
+    ensures { λ _. ⌜ ((es : List Entry) → Stored entryRow entryWidth projectionEntries count (now (from .entry)) es → PlannedEntries 0 (now (to .entry)) []
+        → PlannedEntries count (now (to .exit)) (numbered entryWith 0 es)) ⌝ }
+{
+    let mut row = [0u8; super::ENTRY_WIDTH];
+    number_rows(
+        from,
+        panel_rows::ENTRY_WIDTH,
+        count,
+        panel_rows::ENTRY_VALUE,
+        &mut row,
+        to,
+    );
+}

@@ -1,0 +1,46 @@
+-- `patch_walk::open_set` meets its contract: too many bytes are refused unread, then the heading decides.
+use Prim.Native.Nat.{ℕ}
+use mathlib.Core.Path.{_∙_}
+use native.Mathlib.Omega.{arith}
+use borrow.Author.Tests.{le-leb, lt-leb}
+use lib.ListN.{length}
+use Rattle.spec_patch.specs.Sizes.{setBytes}
+use Rattle.projection_patch.specs.ReadAnswers.{anywhere}
+use Rattle.projection_patch.proofs.Answers.{count-told, retold, retold-refusal}
+use Rattle.patch_sets.specs.Walk.{readHeading}
+use Rattle.patch_walk.specs.Steps.{firstCursor}
+use Rattle.patch_walk.specs.declared.SetOpening.the-variants as opening
+use borrow.Author.Needs.{needs}
+use Rattle.patch_walk.proofs.open_set.Statement.{statement}
+use Rattle.patch_walk.proofs.open_set.Tie as tie
+
+returns : tie.Need-returns
+returns c = rw (lt-leb (length (c .before .before .args .set .now)) setBytes (c .if1 .taken))
+
+read-heading-requires : tie.Need-read-heading-requires
+read-heading-requires c κs = search needs
+
+enum-known-count : tie.Need-enum-known-count
+enum-known-count c = search needs
+
+enum-known-fault : tie.Need-enum-known-fault
+enum-known-fault c = search needs
+
+returns-2 : tie.Need-returns-2
+returns-2 c =
+    let call = c .before .before .before in
+    let set = call .before .before .before .args .set .now in
+    let bound = c .before .count .given in
+    rw (le-leb (length set) setBytes (omega arith)) (retold (anywhere (λ n. n)) count-told (λ count from. opening.At (firstCursor count from)) opening.Refused (length set) (readHeading set) (call .read-heading .ensures) (bound .0 .0) (bound .0 .1 .0) (bound .1))
+
+returns-3 : tie.Need-returns-3
+returns-3 c =
+    let call = c .before .before .before in
+    let set = call .before .before .before .args .set .now in
+    let bound = c .before .fault .given in
+    rw (le-leb (length set) setBytes (omega arith)) (retold-refusal (anywhere (λ n. n)) count-told (λ count from. opening.At (firstCursor count from)) opening.Refused (length set) (readHeading set) (call .read-heading .ensures) (bound .0 .0) (bound .1))
+
+pub open-set-spec : {M : Type 1} → statement M
+open-set-spec =
+    tie.close
+    (tie.spec returns read-heading-requires enum-known-count enum-known-fault returns-2 returns-3)

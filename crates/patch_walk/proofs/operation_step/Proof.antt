@@ -1,0 +1,78 @@
+-- `patch_walk::operation_step` meets its contract: the operation reader's answer, told as a step.
+use Prim.Native.Nat.{ℕ, _+_, _≤_, _<_}
+use native.Mathlib.Omega.{arith}
+use lib.ListN.{length}
+use Rattle.spec_lists.specs.BytesLaws.{bytes-of}
+use Rattle.spec_patch.specs.Edition.{v1}
+use Rattle.patch_walk.proofs.Reading.{no-operation-past, operation-read-is, operation-refused-is, operation-on}
+use borrow.Author.Needs.{needs}
+use Rattle.patch_walk.proofs.operation_step.Statement.{statement}
+use Rattle.patch_walk.proofs.operation_step.Tie as tie
+
+returns : tie.Need-returns
+returns c =
+    let a = c .before .before .args in
+    (no-operation-past (a .set .now) (a .cursor) (a .strict) v1 (c .if1 .taken), tt)
+
+sub-operation-from : tie.Need-sub-operation-from
+sub-operation-from c = search needs
+
+part-operation-from-start : tie.Need-part-operation-from-start
+part-operation-from-start c = search needs
+
+part-operation-from-end : tie.Need-part-operation-from-end
+part-operation-from-end c = search needs
+
+operation-from-requires : tie.Need-operation-from-requires
+operation-from-requires c κs = search needs
+
+enum-known-operation : tie.Need-enum-known-operation
+enum-known-operation c = search needs
+
+-- the operation ends within the set
+on : (c : tie.After-known-told) → let a = c .before .before .before .before .before .before .before .args in (a .cursor .at < a .cursor .at + c .before .operation .given .0 .1 .0) × (a .cursor .at + c .before .operation .given .0 .1 .0 ≤ length (a .set .now))
+on c =
+    let call = c .before .before .before in
+    let a = call .before .before .before .before .args in
+    let bound = c .before .operation .given in
+    operation-on (a .set .now) (a .cursor) (a .strict) v1 (call .operation-from .ensures) (bytes-of (a .set .now) (λ j. call .before .before .before .shared-slice-known .given j .fits)) (bound .0 .0) (bound .0 .1 .0) (bound .1) (omega arith)
+
+add-t16 : tie.Need-add-t16
+add-t16 c = omega (arith, on c .1)
+
+sub-t17 : tie.Need-sub-t17
+sub-t17 c = search needs
+
+enum-known-fault : tie.Need-enum-known-fault
+enum-known-fault c = search needs
+
+returns-2 : tie.Need-returns-2
+returns-2 c =
+    let k = c .before in
+    let call = k .before .before .before in
+    let a = call .before .before .before .before .args in
+    let bound = k .before .operation .given in
+    (operation-read-is (a .set .now) (a .cursor) (a .strict) v1 (call .operation-from .ensures) (bound .0 .0) (bound .0 .1 .0) (bound .1), on k)
+
+returns-3 : tie.Need-returns-3
+returns-3 c =
+    let call = c .before .before .before in
+    let a = call .before .before .before .before .args in
+    let bound = c .before .fault .given in
+    (operation-refused-is (a .set .now) (a .cursor) (a .strict) v1 (call .operation-from .ensures) (bound .0 .0) (bound .1), tt)
+
+pub operation-step-spec : {M : Type 1} → statement M
+operation-step-spec =
+    tie.close
+    (tie.spec
+    returns
+    sub-operation-from
+    part-operation-from-start
+    part-operation-from-end
+    operation-from-requires
+    enum-known-operation
+    add-t16
+    sub-t17
+    enum-known-fault
+    returns-2
+    returns-3)
