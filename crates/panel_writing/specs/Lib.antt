@@ -1,4 +1,3 @@
 pub mod Writing
 pub mod WritingLaws
-pub mod Sourced
 pub mod StoredLaws

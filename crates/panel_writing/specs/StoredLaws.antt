@@ -19,7 +19,7 @@ use Rattle.panel_plan.specs.Resolved.{Resolution, resolvedBinding, resolvedEntr
 use Rattle.panel_plan.specs.Plan.{resolution}
 use Rattle.panel_plan.specs.PlanRows.{plannedBindingRow, plannedEntryRow, PlannedBindings, PlannedEntries}
 use Rattle.panel_plan.specs.SetValues.{valueIn}
-use Rattle.panel_writing.specs.Sourced.{SourcedBinding, SourcedEntry}
+use Rattle.panel_plan.specs.Sources.{SourcedBinding, SourcedEntry}
 use Rattle.panel_writing.specs.Writing.{newRow, rowsTo}
 use Rattle.panel_writing.specs.WritingLaws.{table-resolved}
 

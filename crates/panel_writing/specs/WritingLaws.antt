@@ -30,8 +30,7 @@ use Rattle.panel_plan.specs.Plan.{old, new, valueFrom}
 use Rattle.panel_plan.specs.PlanLaws.{old-value, new-value}
 use Rattle.panel_plan.specs.PlanRows.{sourceNumber, sourceWidth}
 use Rattle.panel_plan.specs.SetValues.{valueRead, valueIn}
-use Rattle.panel_plan.specs.WrittenLaws.{old-written}
-use Rattle.panel_writing.specs.Sourced.{Sourced, from-row, from-set}
+use Rattle.panel_plan.specs.Sources.{Sourced, from-row, from-set}
 use Rattle.panel_writing.specs.Writing.{rowAt, bytesRead, valueBytes, sourceBytes, plannedRow, newRow, rowsTo, canWrite, writtenTable}
 
 -- ---- whether a table is written
@@ -127,6 +126,12 @@ module _ {A : Type 0} (ids : A → List ℕ) (value : A → Value) (planRow row 
   row-behind : (a : A) → drop key (row a) ≡ padded (value a)
   row-behind a = ap (drop key) (row-is a) ∙ drop-at (ids a) (padded (value a)) key (long a)
 
+  -- a source that is a row of the table before the batch stands for what is behind its ids
+  value-of-row : (l : List A) (i : ℕ) → i < length l → padded (getD (map value l) i (quad N)) ≡ drop key (getD (map row l) i [])
+  value-of-row [] i h = absurd (omega arith)
+  value-of-row (a ∷ l) zero h = sym (row-behind a)
+  value-of-row (a ∷ l) (suc i) h = value-of-row l i (omega arith)
+
   stored-value : (l : List A) → All (λ a. Storable (value a)) l → (i : ℕ) → i < length l → Storable (getD (map value l) i (quad N))
   stored-value [] h i below = absurd (omega arith)
   stored-value (a ∷ l) h zero below = h .0
@@ -167,7 +172,7 @@ module _ {A : Type 0} (ids : A → List ℕ) (value : A → Value) (planRow row 
     source-written _ (from-row i h) front to room =
         let below : i < n = omega (arith, s .rows .counted, length-map l row) in
         let bytes : sourceBytes ed key from set i ≡ padded (meaning (old i)) =
-        source-old ed key from set i (omega arith) ∙ ap (drop key) (row-at (s .rows) i below) ∙ sym (old-written value row key row-behind (valueIn ed set) l i h few) in
+        source-old ed key from set i (omega arith) ∙ ap (drop key) (row-at (s .rows) i below) ∙ sym (ap padded (old-value (map value l) (valueIn ed set) i (omega arith)) ∙ value-of-row l i h) in
         ap (λ (bs : List ℕ). writtenRow front bs to) bytes ∙ written-padded front to room (meaning (old i)) (meaning-storable (old i) (from-row i h))
     source-written _ (from-set at v rest fits e) front to room =
         let there : projectionEntries + at - projectionEntries ≡ at = omega arith in

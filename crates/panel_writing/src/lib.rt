@@ -17,7 +17,7 @@ ghost use Rattle.panel_plan.specs.PlanRows.{PlannedBindings, PlannedEntries};
 ghost use Rattle.panel_plan.specs.Plan.{resolution};
 ghost use Rattle.panel_plan.specs.Resolved.{resolved};
 ghost use Rattle.panel_plan.specs.SetValues.{valueIn};
-ghost use Rattle.panel_writing.specs.Sourced.{SourcedBinding, SourcedEntry};
+ghost use Rattle.panel_plan.specs.Sources.{SourcedBinding, SourcedEntry};
 ghost use Rattle.panel_writing.specs.Writing.{rowAt, valueBytes, plannedRow, newRow, rowsTo, canWrite, writtenTable};
 use local_projection_state::LocalProjectionState;
 use panel_plan::SOURCE_WIDTH;
