@@ -28,7 +28,7 @@ use projection_patch::read_values::ValueRead;
 
 // The row at a position of a table, or what there is of it.
 fn row_at(table: &[u8], width: usize, i: usize) -> &[u8]
-    requires { ⌜ (width ≤ 256) × (i ≤ projectionEntries) ⌝ }
+    requires { ⌜ (width ≤ entryWidth) × (i ≤ projectionEntries) ⌝ }
     ensures { λ r. ⌜ now r ≡ rowAt width i (now (table .entry)) ⌝ }
 {
     fields::key_part(fields::value_part(table, i * width), width)

@@ -6,6 +6,7 @@ use native.Mathlib.Omega.{arith}
 use borrow.Author.Needs.{needs}
 use lib.ListN.{take}
 use Rattle.spec_patch.specs.Sizes.{projectionEntries}
+use Rattle.panel_rows.specs.Rows.{entryWidth}
 use Rattle.panel_writing.proofs.row_at.Statement.{statement}
 use Rattle.panel_writing.proofs.row_at.Tie as tie
 
@@ -13,7 +14,7 @@ mul-value-part : tie.Need-mul-value-part
 mul-value-part c =
     let start = c .before in
     let a = start .args in
-    let few : a .i * a .width ≤ projectionEntries * 256 = mul-le-mul (start .pre .1) (start .pre .0) in
+    let few : a .i * a .width ≤ projectionEntries * entryWidth = mul-le-mul (start .pre .1) (start .pre .0) in
     omega arith
 
 value-part-requires : tie.Need-value-part-requires
