@@ -58,18 +58,20 @@ plan-resolves p set fewBindings fewEntries =
 
 -- ---- planned operations
 
--- an operation whose value the set has at a position, planned with the position and resolved, is the operation
-pub operation-back : (p : Projection) (set : ℕ → Value) (at : ℕ) (o : Operation) → OperationHolds (λ v. set at ≡ v) o → resolvedOperation (resolution p set) (withSource (new at) o) ≡ o
-unfolding OperationHolds resolvedOperation withSource resolution
-operation-back p set at (setBinding n s v) h = ap (setBinding n s) (new-value _ set at ∙ h .1 .1)
-operation-back p set at (setAvailability n a) h = refl
-operation-back p set at (insert c k before v) h = ap (insert c k before) (new-value _ set at ∙ h .1 .1 .1)
-operation-back p set at (update c k v) h = ap (update c k) (new-value _ set at ∙ h .1 .1)
-operation-back p set at (remove c k) h = refl
-operation-back p set at (move c k before) h = refl
+-- an operation whose value the set has at a position
+module _ (p : Projection) (set : ℕ → Value) (at : ℕ) (P : Value → Type 0) (there : (v : Value) → P v → set at ≡ v) where
+  -- planned with the position, and resolved, it is the operation
+  operation-back : (o : Operation) → OperationHolds P o → resolvedOperation (resolution p set) (withSource (new at) o) ≡ o
+  unfolding OperationHolds resolvedOperation withSource resolution
+  operation-back (setBinding n s v) h = ap (setBinding n s) (new-value _ set at ∙ there v (h .1 .1))
+  operation-back (setAvailability n a) h = refl
+  operation-back (insert c k before v) h = ap (insert c k before) (new-value _ set at ∙ there v (h .1 .1 .1))
+  operation-back (update c k v) h = ap (update c k) (new-value _ set at ∙ there v (h .1 .1))
+  operation-back (remove c k) h = refl
+  operation-back (move c k before) h = refl
 
--- planning it and resolving is applying it, whatever the plan
-pub planned-operation : (p : Projection) (set : ℕ → Value) (plan : Projection) (at : ℕ) (o : Operation) → OperationHolds (λ v. set at ≡ v) o
-    → applyOperation (resolved (resolution p set) plan) o ≡ resolvedOutcome (resolution p set) (applyOperation plan (withSource (new at) o))
-planned-operation p set plan at o h =
-    ap (applyOperation (resolved (resolution p set) plan)) (sym (operation-back p set at o h)) ∙ operation-resolved (resolution p set) plan (withSource (new at) o)
+  -- planning it and resolving is applying it, whatever the plan
+  pub planned-operation : (plan : Projection) (o : Operation) → OperationHolds P o
+      → applyOperation (resolved (resolution p set) plan) o ≡ resolvedOutcome (resolution p set) (applyOperation plan (withSource (new at) o))
+  planned-operation plan o h =
+      ap (applyOperation (resolved (resolution p set) plan)) (sym (operation-back o h)) ∙ operation-resolved (resolution p set) plan (withSource (new at) o)
