@@ -8,6 +8,7 @@ from checks import findings
 from listing import line, listing, listing_tables, value_fields
 from session import Limits, Session, TooManyAnchors
 from sizes import ANCHORS, LAST_U32, LAST_U64
+from turns import Turns, WrongSenderCount
 
 LINE_BYTES = 131072
 COMMANDS = (b"activate", b"suspend", b"resume", b"close", b"noop")
@@ -134,12 +135,34 @@ class Replay:
         value = lookup(self.session.projection)
         return line(b"V", b"-") if value is None else line(b"V", *value_fields(value))
 
+    # ---- turns among senders (02, Job 14), which belong to no session
+
+    turns = None
+
+    def do_senders(self, senders):
+        try:
+            self.turns = Turns(number(senders))
+        except WrongSenderCount:
+            return line(b"J", 21)
+        return line(b"J", 0)
+
+    def do_wait(self, sender):
+        sender = number(sender)
+        return line(b"N") if self.turns is None else line(b"J", self.turns.register(sender))
+
+    def do_turn(self):
+        if self.turns is None or self.session is None:
+            return line(b"N")
+        named = self.turns.turn(self.session.cursor)
+        return line(b"J", b"none") if named is None else line(b"J", *named)
+
     # ---- one line
 
     # how many fields follow each command
     FIELDS = {
         b"session": 5, b"node": 1, b"binding": 2, b"collection": 1, b"create": 0, b"apply": 2, b"batch": 6,
         b"check": 1, b"list": 1, b"show": 0, b"value binding": 2, b"value node": 1, b"value entry": 2,
+        b"senders": 1, b"wait": 1, b"turn": 0,
     }
 
     def answer(self, text):

@@ -35,6 +35,18 @@ runs-answers t (turnCall c ∷ calls) (a ∷ given) h =
     let later : map turnAnswerOf given ≡ answers (turn (turnsOf t) c .next) calls = runs-answers (h .0 .turns) calls given (h .3) ∙ ap (λ m. answers m calls) next in
     cc
 
+-- every list of calls has a run
+pub some-run : (t : SenderTurns) (calls : List Call) → (given : List TurnAnswer) × Runs t calls given
+some-run t [] = ([], tt)
+some-run t (registers s ∷ calls) =
+    let r = registrationTo t (register (turnsOf t) s) in
+    let later = some-run (r .turns) calls in
+    (later .0, (r, refl, later .1))
+some-run t (turnCall c ∷ calls) =
+    let r = turnTakenTo t (turn (turnsOf t) c) in
+    let later = some-run (r .turns) calls in
+    (r .answer ∷ later .0, (r, refl, refl, later .1))
+
 module _ (t : SenderTurns) (s : ℕ) (calls : List Call) (given : List TurnAnswer) (runs : Runs t calls given) (waiting : waits (turnsOf t) s ≡ true) where
   -- as many answers as turn calls
   long : length given ≡ length (answers (turnsOf t) calls)

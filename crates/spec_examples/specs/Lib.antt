@@ -1,3 +1,4 @@
 pub mod Opened
 pub mod Examples
 pub mod SplitInstances
+pub mod TurnInstances

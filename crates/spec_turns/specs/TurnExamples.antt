@@ -1,19 +1,16 @@
--- Turns computed, from 02's words, and that both claims of `Fairness` speak of something.
-use Prim.Native.Nat.{ℕ, _-_, _^_, _≤_}
-use mathlib.Core.Path.{_≡_, refl}
-use mathlib.Core.Bool.{Bool, true, false}
+-- Turns computed, from 02's words, as one table.
+use Prim.Native.Nat.{ℕ, _-_, _^_}
+use mathlib.Core.Bool.{Bool}
 use mathlib.Core.List.{List, [], _∷_}
-use native.Mathlib.Omega.{arith}
 use lib.Dec.{T, eqb}
-use lib.ListN.{take}
 use Rattle.spec_lists.specs.Lists.{all, equalLists}
-use Rattle.spec_session.specs.Session.{Cursor, uninitialized, at}
+use Rattle.spec_session.specs.Session.{uninitialized, at}
 use Rattle.spec_turns.specs.Turns.{Turns, SetUp, made, refused, setUpNumber, newTurns, setUp, registerNumber, RegisterAnswer, registered, registerRefused, refuseRegister, startWaiting, register, after, firstAsked, firstWaiting, nextSender, numberAfter, TurnAnswer, nobody, turnOf, spendTurn, turnFor, turn}
-use Rattle.spec_turns.specs.Calls.{Call, registers, turnCall, step, run, answers, names, timesNamed, registersFirst, registersAgain}
-use Rattle.spec_turns.specs.Fairness.{named-in-one-circle, named-in-each-circle}
+use Rattle.spec_turns.specs.Calls.{Call, registers, turnCall}
 
-opened : Unit {0}
-unfolding setUp newTurns refuseRegister startWaiting register after firstAsked firstWaiting nextSender numberAfter spendTurn turnFor turn step run answers names timesNamed registersFirst registersAgain
+-- a proof that computes turns opens this
+unfoldable pub opened : Unit {0}
+unfolding setUp newTurns refuseRegister startWaiting register after firstAsked firstWaiting nextSender numberAfter spendTurn turnFor turn
 opened = tt
 
 -- ---- answers as numbers
@@ -41,7 +38,7 @@ told t (turnCall c ∷ cs) = turnTold (turn t c .answer) ∷ told (turn t c .nex
 abbrev tells : ℕ → List Call → List (List ℕ) → Bool
 tells n calls expected = equalLists (equalLists eqb) (told (newTurns n) calls) expected
 
-abbrev now : Call
+abbrev pub now : Call
 now = turnCall uninitialized
 
 abbrev last : ℕ
@@ -71,35 +68,3 @@ examples =
 turn-examples : T (all (λ (b : Bool). b) examples)
 unfolding opened
 turn-examples = tt
-
--- ---- the premises of both claims
-
--- sender 0 waits, and registers after each of its turns; 1 and 2 register once
-abbrev start : Turns
-start = register (newTurns 3) 0 .next
-
-abbrev chatty : List Call
-chatty = registers 1 ∷ registers 2 ∷ now ∷ registers 0 ∷ now ∷ now ∷ now ∷ registers 0 ∷ now ∷ registers 0 ∷ now ∷ []
-
-registered-again : registersAgain 0 start chatty ≡ true
-unfolding opened
-registered-again = refl
-
--- twice in six turn calls
-named-twice : 2 ≤ timesNamed 0 (take 6 (answers start chatty))
-unfolding opened
-named-twice = named-in-each-circle 2 start 0 chatty refl registered-again (omega arith)
-
--- sender 2, which waits as well, within three; it is the third, so two would not do
-others-named : 1 ≤ timesNamed 2 (take 3 (answers (register start 2 .next) chatty))
-unfolding opened
-others-named = named-in-one-circle (register start 2 .next) 2 chatty refl (omega arith)
-
-not-sooner : timesNamed 2 (take 2 (answers (register start 2 .next) chatty)) ≡ 0
-unfolding opened
-not-sooner = refl
-
--- a sender that registers only behind the next turn call does not meet the second premise
-too-late : registersAgain 0 start (now ∷ now ∷ registers 0 ∷ []) ≡ false
-unfolding opened
-too-late = refl

@@ -12,7 +12,8 @@ use lib.ListN.{length, getD, set, length-set, length-replicate}
 use lib.Seq.{getD-set-same, getD-set-other}
 use Rattle.spec_lists.specs.ListLaws.{if-cases, test-cases}
 use Rattle.spec_session.specs.Session.{Cursor}
-use Rattle.spec_turns.specs.Turns.{Turns, senders, waits, newTurns, RegisterRefusal, registerRefused, RegisterStep, refuseRegister, startWaiting, register, firstAsked, nextSender, numberAfter, nobody, turnOf, spendTurn, turnFor, turn}
+use Rattle.spec_session.specs.Diagnostics.{stageOf}
+use Rattle.spec_turns.specs.Turns.{Turns, senders, waits, SetUpRefusal, wrongSenderCount, setUpNumber, newTurns, RegisterRefusal, unknownSender, alreadyWaiting, registerNumber, registerRefused, RegisterStep, refuseRegister, startWaiting, register, firstAsked, nextSender, numberAfter, nobody, turnOf, spendTurn, turnFor, turn}
 use Rattle.spec_turns.specs.Calls.{names}
 use Rattle.spec_turns.specs.Circle.{ahead, Nearest, away}
 use Rattle.spec_turns.specs.CircleLaws.{firstAsked-within, ahead-within, ahead-behind, ahead-same, waits-within, search-finds, found-waits}
@@ -36,7 +37,7 @@ register-refused t x f =
 -- there are as many senders as before
 pub register-senders : (t : Turns) (x : ℕ) → senders (register t x .next) ≡ senders t
 unfolding refuseRegister startWaiting
-register-senders t x = register-cases (λ r. senders (r .next) ≡ senders t) t x (λ f w. refl) (λ h. length-set (t .waiting) x true)
+register-senders t x = register-cases (λ r. senders (r .next) ≡ senders t) t x (λ f w. refl) (λ h. length-set (t .waiting) x _)
 
 -- and the one last named is the same
 pub register-last : (t : Turns) (x : ℕ) → register t x .next .last ≡ t .last
@@ -186,3 +187,13 @@ unfolding newTurns
 newTurns-waits zero s = refl
 newTurns-waits (suc n) zero = refl
 newTurns-waits (suc n) (suc s) = newTurns-waits n s
+
+-- ---- the refusals
+
+-- no stage is given with them
+pub set-up-no-stage : (r : SetUpRefusal) → stageOf (setUpNumber r) ≡ none
+set-up-no-stage wrongSenderCount = refl
+
+pub register-no-stage : (r : RegisterRefusal) → stageOf (registerNumber r) ≡ none
+register-no-stage unknownSender = refl
+register-no-stage alreadyWaiting = refl
