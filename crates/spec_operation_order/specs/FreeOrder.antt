@@ -1,5 +1,5 @@
 -- When operations may be put into another order: 02, Job 9. A target is what an operation is on: one binding (node and slot), one node's
--- availability, or one collection, whichever of its keys.
+-- availability, or one collection as a whole; the patch checks, for their part, tell its keys apart.
 use Prim.Native.Nat.{ℕ, _+_, _≤_}
 use mathlib.Core.Path.{_≡_}
 use mathlib.Core.Logic.{_≢_, _⊎_}
