@@ -1,0 +1,131 @@
+-- Tables that store a projection are as long as they should be, a plan of it starts from them, and what is written of a plan stores what the
+-- plan stands for.
+use Prim.Native.Nat.{ℕ, _≤_}
+use mathlib.Core.Path.{_≡_, refl, sym, ap, _∙_, subst}
+use mathlib.Core.Bool.{Bool, true, false, _&&_}
+use mathlib.Core.List.{List, [], map}
+use native.Mathlib.Omega.{arith}
+use borrow.Author.Tests.{le-leb, eq-eqb, eqb-true}
+use lib.Dec.{leb, eqb}
+use lib.ListN.{length, length-map}
+use Rattle.spec_lists.specs.ListLaws.{and-left, and-right}
+use Rattle.spec_patch.specs.Sizes.{projectionBindings, projectionAvailabilities, projectionEntries}
+use Rattle.spec_patch.specs.Edition.{v1}
+use Rattle.spec_projection.specs.Projection.{Projection}
+use Rattle.spec_projection.specs.Apply.{Outcome, done, stopped}
+use Rattle.spec_projection.specs.Valid.{Valid}
+use Rattle.bytes_records.specs.Table.{Holds}
+use Rattle.panel_rows.specs.Rows.{bindingBytes, availabilityBytes, entryBytes, bindingWidth, availabilityWidth, entryWidth, bindingRow, availabilityRow, entryRow}
+use Rattle.local_projection_state.specs.Stores.{Stored, StoredTables}
+use Rattle.local_projection_state.specs.declared.ProjectionCounts.{ProjectionCounts}
+use Rattle.panel_plan.specs.Plan.{planOf, numbered, bindingWith, entryWith}
+use Rattle.panel_plan.specs.PlanValid.{plan-valid}
+use Rattle.panel_plan.specs.PlanRows.{PlannedBindings, PlannedEntries, StoredPlan}
+use Rattle.panel_plan.specs.Resolved.{Resolution, resolved}
+use Rattle.panel_plan_steps.specs.Runs.{RunBecame, PlannedAs}
+use Rattle.panel_plan_steps.specs.declared.PlanRun.{PlanRun}
+use Rattle.panel_plan_steps.specs.declared.PlanRun.the-variants as plan
+use Rattle.panel_bindings.specs.declared.LocalProjectionApplicationError.{LocalProjectionApplicationError}
+use Rattle.projection_patch.specs.declared.read_values.ProjectionPatchReadFault.{ProjectionPatchReadFault}
+use Rattle.panel_steps.specs.SetChanges.{tablesFit, countsFit, TableLengths, ChangeBecame}
+use Rattle.panel_steps.specs.declared.SetChange.{SetChange}
+use Rattle.panel_steps.specs.declared.SetChange.the-variants as change
+
+-- ---- lengths and counts
+
+pub fit-lengths : (b a e : List ℕ) → tablesFit (length b) (length a) (length e) ≡ true → TableLengths b a e
+unfolding tablesFit
+fit-lengths b a e h =
+    let one = eqb (length b) bindingBytes in
+    let two = eqb (length a) availabilityBytes in
+    let three = eqb (length e) entryBytes in
+    let rest : (two && three) ≡ true = and-right one (two && three) h in
+    record {
+      bindings = eqb-true (length b) bindingBytes (and-left one (two && three) h);
+      availability = eqb-true (length a) availabilityBytes (and-left two three rest);
+      entries = eqb-true (length e) entryBytes (and-right two three rest);
+    }
+
+pub lengths-fit : (b a e : List ℕ) → TableLengths b a e → tablesFit (length b) (length a) (length e) ≡ true
+unfolding tablesFit
+lengths-fit b a e h = rw (eq-eqb (length b) bindingBytes (h .bindings), eq-eqb (length a) availabilityBytes (h .availability), eq-eqb (length e) entryBytes (h .entries))
+
+pub few-fit : (n : ProjectionCounts) → n .bindings ≤ projectionBindings → n .availabilities ≤ projectionAvailabilities → n .entries ≤ projectionEntries → countsFit n ≡ true
+unfolding countsFit
+few-fit n b a e = rw (le-leb (n .bindings) projectionBindings b, le-leb (n .availabilities) projectionAvailabilities a, le-leb (n .entries) projectionEntries e)
+
+module _ {n : ProjectionCounts} {b a e : List ℕ} {p : Projection} where
+  pub stored-lengths : StoredTables n b a e p → TableLengths b a e
+  stored-lengths s = record { bindings = s .bindings .size; availability = s .availabilities .size; entries = s .entries .size }
+
+  -- a count is the length of its list
+  counted : {A : Type 0} {row : A → List ℕ} {width capacity count : ℕ} {table : List ℕ} (l : List A) → Stored row width capacity count table l → length l ≡ count
+  counted {row = row} l s = sym (length-map l row) ∙ s .rows .counted
+
+  pub stored-counts : StoredTables n b a e p → countsFit n ≡ true
+  stored-counts s =
+      few-fit n
+      (omega (arith, counted (p .bindings) (s .bindings), s .valid .fewBindings))
+      (omega (arith, counted (p .availabilities) (s .availabilities), s .valid .fewAvailabilities))
+      (omega (arith, counted (p .entries) (s .entries), s .valid .fewEntries))
+
+  pub planned-counts : StoredPlan n b a e p → countsFit n ≡ true
+  planned-counts s =
+      few-fit n
+      (omega (arith, counted (p .bindings) (s .bindings), s .valid .fewBindings))
+      (omega (arith, counted (p .availabilities) (s .availabilities), s .valid .fewAvailabilities))
+      (omega (arith, counted (p .entries) (s .entries), s .valid .fewEntries))
+
+-- ---- the plan that a set starts from
+
+pub plan-starts : {n : ProjectionCounts} {b a e b′ e′ : List ℕ} {p : Projection} → StoredTables n b a e p → PlannedBindings (n .bindings) b′ (numbered bindingWith 0 (p .bindings)) → PlannedEntries (n .entries) e′ (numbered entryWith 0 (p .entries)) → StoredPlan n b′ a e′ (planOf p)
+unfolding planOf
+plan-starts {p = p} s bs es = record { bindings = bs; availabilities = s .availabilities; entries = es; valid = plan-valid p (s .valid) }
+
+-- ---- what is written of a plan
+
+-- availabilities are not resolved
+same-availabilities : (r : Resolution) (q : Projection) → resolved r q .availabilities ≡ q .availabilities
+unfolding resolved
+same-availabilities r q = refl
+
+pub written-stored : (n : ProjectionCounts) (b a e : List ℕ) (r : Resolution) (q x : Projection) → resolved r q ≡ x → Valid x
+    → Stored bindingRow bindingWidth projectionBindings (n .bindings) b (resolved r q .bindings) → Stored availabilityRow availabilityWidth projectionAvailabilities (n .availabilities) a (q .availabilities)
+    → Stored entryRow entryWidth projectionEntries (n .entries) e (resolved r q .entries) → StoredTables n b a e x
+written-stored n b a e r q x is v bs xs es =
+    subst (StoredTables n b a e) is (
+        record {
+          bindings = bs;
+          availabilities = subst (λ l. Stored availabilityRow availabilityWidth projectionAvailabilities (n .availabilities) a l) (sym (same-availabilities r q)) xs;
+          entries = es;
+          valid = subst Valid (sym is) v;
+        }
+    )
+
+-- ---- what came of a run
+
+module _ (P Next : ProjectionCounts → Projection → Type 0) {r : PlanRun} (x : Outcome) (h : RunBecame P r x) where
+  pub run-planned : (n : ProjectionCounts) → r ≡ plan.Planned n → ((q : Projection) → x ≡ done q → P n q → Next n q) → ChangeBecame Next (change.Applied n) x
+  run-planned n is made = go x refl (subst (λ z. RunBecame P z x) is h)
+    where
+      go : (y : Outcome) → x ≡ y → RunBecame P (plan.Planned n) y → ChangeBecame Next (change.Applied n) y
+      go (done q) e k = made q e k
+      go (stopped f) e k = k
+
+  pub run-refused : (f : LocalProjectionApplicationError) → r ≡ plan.Refused f → ChangeBecame Next (change.Refused f) x
+  run-refused f is = go x (subst (λ z. RunBecame P z x) is h)
+    where
+      go : (y : Outcome) → RunBecame P (plan.Refused f) y → ChangeBecame Next (change.Refused f) y
+      go (done q) k = k
+      go (stopped g) k = k
+
+  pub run-reads : (f : ProjectionPatchReadFault) → r ≡ plan.Unreadable f → ⊥
+  run-reads f is = subst (λ z. RunBecame P z x) is h
+
+  -- a run that ended has left a plan
+  pub run-left : (n : ProjectionCounts) → r ≡ plan.Planned n → (q : Projection) × P n q
+  run-left n is = go x (subst (λ z. RunBecame P z x) is h)
+    where
+      go : (y : Outcome) → RunBecame P (plan.Planned n) y → (q : Projection) × P n q
+      go (done q) k = (q, k)
+      go (stopped f) k = absurd k
