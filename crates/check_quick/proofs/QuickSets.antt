@@ -1,8 +1,8 @@
 -- Runs of patches that are read and checked, one turn at a time: what is left, after what was counted and found, answers as the whole does.
-use Prim.Native.Nat.{ℕ, suc, _+_, _-_, _<_}
+use Prim.Native.Nat.{ℕ, suc, _+_, _-_, _<_, _≤_}
 use mathlib.Core.Path.{_≡_, refl, sym, ap, ap₂, _∙_}
 use mathlib.Core.Bool.{Bool, false, _||_}
-use mathlib.Core.List.{List, [], _∷_, _++_}
+use mathlib.Core.List.{List, [], _∷_, _++_, flatMap}
 use mathlib.Core.Option.{Option, none, some}
 use native.Mathlib.Omega.{arith}
 use borrow.Author.Tests.{lt-ltb, le-ltb}
@@ -10,10 +10,12 @@ use lib.ListN.{length, take, drop, set, length-drop}
 use Rattle.spec_lists.specs.Lists.{if_then_else_}
 use Rattle.spec_lists.specs.Bytes.{Bytes}
 use Rattle.spec_patch.specs.Patch.{Envelope, Patch}
-use Rattle.spec_patch.specs.Edition.{v1}
+use Rattle.spec_patch.specs.Edition.{Edition}
 use Rattle.spec_patch.specs.Reader.{Result, read, refused, onward, many}
 use Rattle.spec_patch.specs.Read.{readPatch, SetReading, patches, fault, ended}
 use Rattle.spec_patch.specs.ReadLaws.{patch-codec}
+use Rattle.spec_checks.specs.Target.{MutationTarget}
+use Rattle.spec_projection.specs.Apply.{operationsOf}
 use Rattle.projection_patch.specs.Meaning.{envelopeOf}
 use Rattle.projection_patch.specs.ReadAnswers.{faultTo, anywhere}
 use Rattle.projection_patch.specs.declared.read_values.ProjectionPatchReadFault.{ProjectionPatchReadFault}
@@ -21,14 +23,16 @@ use Rattle.projection_patch.proofs.Answers.{Told, Got, NotGot, got, not-got}
 use Rattle.patch_sets.specs.SetAnswers.{operationCount}
 use Rattle.check_findings.specs.IdsLaws.{ids-snoc}
 use Rattle.check_targets.specs.ToldLaws.{envelope-back}
+use Rattle.check_quick.specs.Anchors.{absentAmong, absentOf}
+use Rattle.check_quick.specs.AnchorsLaws.{absent-append, absent-few}
 use Rattle.check_quick.specs.Quick.{patchFound, afterFound, patchesFound}
 use Rattle.check_quick.specs.QuickLaws.{or-assoc, or-false, quick-found}
-use Rattle.check_quick.specs.QuickAnswers.{checkedTo, patchAnswer, quickAnswer, endAnswer}
+use Rattle.check_quick.specs.QuickAnswers.{checkedTo, patchAnswer, inspectedBy, endAnswer}
 use Rattle.check_quick.specs.declared.quick_patches.PatchChecked.{PatchChecked}
 use Rattle.check_quick.specs.declared.quick_patches.PatchCheckRead.{PatchCheckRead}
 use Rattle.check_quick.specs.declared.quick_patches.PatchCheckRead.the-variants as patch-read
-use Rattle.check_quick.specs.declared.quick_set.QuickCheck.{QuickCheck}
-use Rattle.check_quick.specs.declared.quick_set.QuickCheck.the-variants as quick
+use Rattle.check_quick.specs.declared.inspection.SetInspection.{SetInspection}
+use Rattle.check_quick.specs.declared.inspection.SetInspection.the-variants as inspection
 
 -- ---- a patch's answer taken apart
 
@@ -40,91 +44,107 @@ patch-told = record {
   apart = λ x m f e. let z : _≡_ {A = ℕ} 0 1 = cc in omega arith;
 }
 
-module _ (l : List ℕ) (at : ℕ) (r : PatchCheckRead) (ensured : r ≡ patchAnswer (length l) (readPatch v1 (drop at l))) where
-  pub patch-got : Bytes l → (x : PatchChecked) (end : ℕ) → r ≡ patch-read.Read x end → Got (readPatch v1) (anywhere checkedTo) l at x end
-  patch-got = got (anywhere checkedTo) (patch-codec v1) patch-told l at r ensured
+module _ (ed : Edition) (known : MutationTarget → Bool) (l : List ℕ) (at : ℕ) {r : PatchCheckRead} (ensured : r ≡ patchAnswer known (length l) (readPatch ed (drop at l))) where
+  pub patch-got : Bytes l → {x : PatchChecked} {end : ℕ} → r ≡ patch-read.Read x end → Got (readPatch ed) (anywhere (checkedTo known)) l at x end
+  patch-got bytes {x} {end} = got (anywhere (checkedTo known)) (patch-codec ed) patch-told l at r ensured bytes x end
 
-  pub no-patch : (f : ProjectionPatchReadFault) → r ≡ patch-read.Refused f → NotGot (readPatch v1) l at f
-  no-patch = not-got (anywhere checkedTo) (patch-codec v1) patch-told l at r ensured
+  pub no-patch : {f : ProjectionPatchReadFault} → r ≡ patch-read.Refused f → NotGot (readPatch ed) l at f
+  no-patch {f} = not-got (anywhere (checkedTo known)) (patch-codec ed) patch-told l at r ensured f
 
 -- ---- patches
 
--- the answer where d patches with o operations have been read before, and what they left
-abbrev pub counted : ℕ → ℕ → Bool → List ℕ → Option Envelope → SetReading → QuickCheck
-counted d o found ids previous (patches ps) = if found || patchesFound ids previous ps then quick.Found else quick.Clean (d + length ps) (o + operationCount ps)
-counted d o found ids previous (fault f) = quick.Refused (faultTo f)
+-- what was counted and found of the patches before
+pub record Passed : Type 0 where
+  pub done : ℕ
+  pub operations : ℕ
+  pub absent : ℕ
+  pub found : Bool
 
-pub counted-none : (r : SetReading) → counted 0 0 false [] none r ≡ quickAnswer r
-counted-none (patches ps) =
-    let one : 0 + length ps ≡ length ps = omega arith in
-    let two : 0 + operationCount ps ≡ operationCount ps = omega arith in
-    ap₂ (λ (t : Bool) (q : QuickCheck). if t then quick.Found else q) (quick-found ps) (ap₂ quick.Clean one two)
-counted-none (fault f) = refl
+-- an answer where there is no refusal
+abbrev told : Bool → ℕ → ℕ → ℕ → SetInspection
+told found n m k = if found then inspection.Found else inspection.Clean n m k
 
-module _ (l : List ℕ) (at n d o : ℕ) (found : Bool) (previous : Option Envelope) where
-  pub patch-refused : (ids : List ℕ) (f : ProjectionPatchReadFault) → NotGot (readPatch v1) l at f → quick.Refused f ≡ counted d o found ids previous (ended (many (suc n) (readPatch v1) (drop at l)))
-  unfolding many ended
-  patch-refused ids f g = rw (g .is, g .same)
+same-told : {b c : Bool} {n m k n′ m′ k′ : ℕ} → b ≡ c → n ≡ n′ → m ≡ m′ → k ≡ k′ → told b n m k ≡ told c n′ m′ k′
+same-told p q r s = λ i. told (p i) (q i) (r i) (s i)
 
-  patch-turn : (ids : List ℕ) (p : Patch) (end : ℕ) → readPatch v1 (drop at l) ≡ read p (drop end l)
-      → counted (d + 1) (o + length (p .operations)) ((found || patchFound p) || afterFound ids previous (p .envelope)) (ids ++ (p .envelope .id ∷ [])) (some (p .envelope)) (ended (many n (readPatch v1) (drop end l)))
-      ≡ counted d o found ids previous (ended (many (suc n) (readPatch v1) (drop at l)))
-  unfolding many ended operationCount patchesFound
-  patch-turn ids p end e = rw e (go (many n (readPatch v1) (drop end l)))
+-- the answer of the patches that are left, after others with these ids, the last of them with the previous envelope
+abbrev after : (MutationTarget → Bool) → Passed → List ℕ → Option Envelope → SetReading → SetInspection
+after known t ids previous (patches ps) = told (t .found || patchesFound ids previous ps) (t .done + length ps) (t .operations + operationCount ps) (t .absent + absentOf known (operationsOf ps))
+after known t ids previous (fault f) = inspection.Refused (faultTo f)
+
+abbrev pub patchesLeft : Edition → (MutationTarget → Bool) → List ℕ → (at left : ℕ) → Passed → List ℕ → Option Envelope → SetInspection
+patchesLeft ed known l at left t ids previous = after known t ids previous (ended (many left (readPatch ed) (drop at l)))
+
+abbrev pub passed : ℕ → ℕ → ℕ → Bool → Passed
+passed d o a found = record { done = d; operations = o; absent = a; found = found }
+
+module _ (ed : Edition) (known : MutationTarget → Bool) (l : List ℕ) (at left : ℕ) where
+  pub none-passed : patchesLeft ed known l at left (passed 0 0 0 false) [] none ≡ inspectedBy known (ended (many left (readPatch ed) (drop at l)))
+  unfolding inspectedBy
+  none-passed = go (ended (many left (readPatch ed) (drop at l)))
     where
-      go : (r : Result (List Patch)) → counted (d + 1) (o + length (p .operations)) ((found || patchFound p) || afterFound ids previous (p .envelope)) (ids ++ (p .envelope .id ∷ [])) (some (p .envelope)) (ended r)
-          ≡ counted d o found ids previous (ended (onward r (λ more rest. read (p ∷ more) rest)))
-      go (read ps []) =
-          let one : d + 1 + length ps ≡ d + suc (length ps) = omega arith in
-          let two : o + length (p .operations) + operationCount ps ≡ o + (length (p .operations) + operationCount ps) = omega arith in
-          let rest = patchesFound (ids ++ (p .envelope .id ∷ [])) (some (p .envelope)) ps in
-          let own = afterFound ids previous (p .envelope) in
-          ap₂ (λ (t : Bool) (q : QuickCheck). if t then quick.Found else q) (or-assoc (found || patchFound p) own rest ∙ or-assoc found (patchFound p) (own || rest)) (ap₂ quick.Clean one two)
-      go (read ps (b ∷ rest)) = refl
-      go (refused f) = refl
+      go : (r : SetReading) → after known (passed 0 0 0 false) [] none r ≡ inspectedBy known r
+      go (patches ps) = same-told (quick-found ps) (omega arith) (omega arith) (omega arith)
+      go (fault f) = refl
 
-  module _ (x : PatchChecked) (end : ℕ) (g : Got (readPatch v1) (anywhere checkedTo) l at x end) where
-    abbrev p : Patch
-    p = g .a
+  module _ (t : Passed) (previous : Option Envelope) where
+    pub end-is : (ids : List ℕ) (count : ℕ) → left ≡ 0 → t .done ≡ count → endAnswer (length l - at) (t .found) count (t .operations) (t .absent) ≡ patchesLeft ed known l at left t ids previous
+    unfolding many ended patchesFound operationCount operationsOf flatMap absentAmong
+    end-is ids count all e = rw all (go (drop at l) (length-drop at l))
+      where
+        go : (rest : List ℕ) → length rest ≡ length l - at → endAnswer (length l - at) (t .found) count (t .operations) (t .absent) ≡ after known t ids previous (ended (read [] rest))
+        go [] h = rw (le-ltb 0 (length l - at) (omega arith)) (same-told (sym (or-false (t .found))) (omega arith) (omega arith) (omega arith))
+        go (b ∷ rest) h = rw (lt-ltb 0 (length l - at) (omega arith))
 
-    abbrev envelope : Envelope
-    envelope = envelopeOf (x .head .envelope)
+    module _ (more : 0 < left) where
+      one-more : (ids : List ℕ) (r : SetInspection) → r ≡ patchesLeft ed known l at (suc (left - 1)) t ids previous → r ≡ patchesLeft ed known l at left t ids previous
+      one-more ids r e = let same : suc (left - 1) ≡ left = omega arith in e ∙ ap (λ (n : ℕ). patchesLeft ed known l at n t ids previous) same
 
-    envelope-is : envelope ≡ p .envelope
-    envelope-is = sym (ap (λ (y : PatchChecked). envelopeOf (y .head .envelope)) (g .same)) ∙ envelope-back (p .envelope)
+      pub patch-refused : (ids : List ℕ) (f : ProjectionPatchReadFault) → NotGot (readPatch ed) l at f → inspection.Refused f ≡ patchesLeft ed known l at left t ids previous
+      unfolding many ended
+      patch-refused ids f g = one-more ids (inspection.Refused f) (rw (g .is, g .same))
 
-    pub count-is : x .head .«operation_count» ≡ length (p .operations)
-    count-is = sym (ap (λ (y : PatchChecked). y .head .«operation_count») (g .same))
+      module _ (x : PatchChecked) (end : ℕ) (g : Got (readPatch ed) (anywhere (checkedTo known)) l at x end) where
+        abbrev p : Patch
+        p = g .a
 
-    found-is : x .found ≡ patchFound p
-    found-is = sym (ap (λ (y : PatchChecked). y .found) (g .same))
+        -- behind the patch, by its envelope and by what was told of it
+        abbrev next : Envelope → PatchChecked → Bool → Passed
+        next e y found = passed (t .done + 1) (t .operations + y .head .«operation_count») (t .absent + y .absent) found
 
-    module _ (found′ : Bool) (ids ids′ : List ℕ) (room : d < length ids)
-        (found-now : found′ ≡ ((found || x .found) || afterFound (take d ids) previous envelope))
-        (ids-now : ids′ ≡ set ids d (envelope .id)) where
-      front : take (d + 1) ids′ ≡ take d ids ++ (envelope .id ∷ [])
-      front = let next : d + 1 ≡ suc d = omega arith in ap₂ (λ (k : ℕ) (m : List ℕ). take k m) next ids-now ∙ ids-snoc ids d (envelope .id) room
+        abbrev behind : List ℕ → Envelope → PatchChecked → SetInspection
+        behind ids e y = patchesLeft ed known l end (left - 1) (next e y ((t .found || y .found) || afterFound ids previous e)) (ids ++ (e .id ∷ [])) (some e)
 
-      pub turn : counted (d + 1) (o + x .head .«operation_count») found′ (take (d + 1) ids′) (some envelope) (ended (many n (readPatch v1) (drop end l)))
-          ≡ counted d o found (take d ids) previous (ended (many (suc n) (readPatch v1) (drop at l)))
-      turn =
-          let rest = ended (many n (readPatch v1) (drop end l)) in
-          let seen = take d ids in
-          ap₂ (λ (b : Bool) (m : List ℕ). counted (d + 1) (o + x .head .«operation_count») b m (some envelope) rest) found-now front
-          ∙ ap₂ (λ (e : Envelope) (k : ℕ). counted (d + 1) (o + k) ((found || x .found) || afterFound seen previous e) (seen ++ (e .id ∷ [])) (some e) rest) envelope-is count-is
-          ∙ ap (λ (b : Bool). counted (d + 1) (o + length (p .operations)) ((found || b) || afterFound seen previous (p .envelope)) (seen ++ (p .envelope .id ∷ [])) (some (p .envelope)) rest) found-is
-          ∙ patch-turn seen p end (g .is)
+        step : (ids : List ℕ) → behind ids (p .envelope) (checkedTo known p) ≡ patchesLeft ed known l at left t ids previous
+        unfolding many ended operationCount patchesFound operationsOf flatMap
+        step ids = one-more ids (behind ids (p .envelope) (checkedTo known p)) (rw (g .is) (go (many (left - 1) (readPatch ed) (drop end l))))
+          where
+            go : (r : Result (List Patch)) → after known (next (p .envelope) (checkedTo known p) ((t .found || patchFound p) || afterFound ids previous (p .envelope))) (ids ++ (p .envelope .id ∷ [])) (some (p .envelope)) (ended r)
+                ≡ after known t ids previous (ended (onward r (λ ps rest. read (p ∷ ps) rest)))
+            go (read ps []) =
+                let rest = patchesFound (ids ++ (p .envelope .id ∷ [])) (some (p .envelope)) ps in
+                let own = afterFound ids previous (p .envelope) in
+                same-told (or-assoc (t .found || patchFound p) own rest ∙ or-assoc (t .found) (patchFound p) (own || rest)) (omega arith) (omega arith) (omega (arith, absent-append known (p .operations) (operationsOf ps)))
+            go (read ps (b ∷ rest)) = refl
+            go (refused f) = refl
 
--- ---- the end
+        pub turn : (found′ : Bool) (ids ids′ : List ℕ) → t .done < length ids
+            → found′ ≡ ((t .found || x .found) || afterFound (take (t .done) ids) previous (envelopeOf (x .head .envelope)))
+            → ids′ ≡ set ids (t .done) (envelopeOf (x .head .envelope) .id)
+            → patchesLeft ed known l end (left - 1) (next (envelopeOf (x .head .envelope)) x found′) (take (t .done + 1) ids′) (some (envelopeOf (x .head .envelope))) ≡ patchesLeft ed known l at left t (take (t .done) ids) previous
+        turn found′ ids ids′ room found-is ids-are =
+            let e = envelopeOf (x .head .envelope) in
+            let seen = take (t .done) ids in
+            let more : t .done + 1 ≡ suc (t .done) = omega arith in
+            let front : take (t .done + 1) ids′ ≡ seen ++ (e .id ∷ []) = ap₂ (λ (k : ℕ) (m : List ℕ). take k m) more ids-are ∙ ids-snoc ids (t .done) (e .id) room in
+            let own : e ≡ p .envelope = sym (ap (λ (y : PatchChecked). envelopeOf (y .head .envelope)) (g .same)) ∙ envelope-back (p .envelope) in
+            ap₂ (λ (b : Bool) (m : List ℕ). patchesLeft ed known l end (left - 1) (next e x b) m (some e)) found-is front
+            ∙ ap₂ (behind seen) own (sym (g .same))
+            ∙ step seen
 
-pub end-is : (l : List ℕ) (at d o : ℕ) (found : Bool) (ids : List ℕ) (previous : Option Envelope) (count : ℕ) → d ≡ count
-    → endAnswer (length l - at) found count o ≡ counted d o found ids previous (ended (many 0 (readPatch v1) (drop at l)))
-unfolding many ended patchesFound operationCount
-end-is l at d o found ids previous count e = go (drop at l) (length-drop at l)
-  where
-    go : (rest : List ℕ) → length rest ≡ length l - at → endAnswer (length l - at) found count o ≡ counted d o found ids previous (ended (read [] rest))
-    go [] h =
-        let one : count ≡ d + 0 = omega arith in
-        let two : o ≡ o + 0 = omega arith in
-        rw (le-ltb 0 (length l - at) (omega arith)) (ap₂ (λ (t : Bool) (q : QuickCheck). if t then quick.Found else q) (sym (or-false found)) (ap₂ quick.Clean one two))
-    go (b ∷ rest) h = rw (lt-ltb 0 (length l - at) (omega arith))
+        -- no more targets are absent than there are operations
+        pub few-absent : x .absent ≤ x .head .«operation_count»
+        few-absent = rw (← g .same) (absent-few known (p .operations))
+
+        pub count-is : x .head .«operation_count» ≡ length (p .operations)
+        count-is = sym (ap (λ (y : PatchChecked). y .head .«operation_count») (g .same))

@@ -6,21 +6,30 @@ use mathlib.Core.List.{List, [], _∷_, _++_, map, flatMap, reverse, reverse-app
 use mathlib.Core.Option.{Option, none, some}
 use lib.Dec.{eqb}
 use lib.ListN.{length}
-use Rattle.spec_lists.specs.Lists.{any, isEmpty}
+use Rattle.spec_lists.specs.Lists.{if_then_else_, any, isEmpty}
 use Rattle.spec_lists.specs.ListLaws.{any-reverse, empty-count}
 use Rattle.spec_lists.specs.Order.{upsert, sortUnique}
 use Rattle.spec_lists.specs.OrderLaws.{upsert-cases}
 use Rattle.spec_patch.specs.Patch.{Operation, Envelope, Patch}
 use Rattle.spec_checks.specs.Finding.{Finding, findingKey, report, checkEach}
-use Rattle.spec_checks.specs.Target.{sameTarget}
+use Rattle.spec_patch.specs.Read.{SetReading, patches, fault}
+use Rattle.spec_checks.specs.Target.{MutationTarget, sameTarget}
 use Rattle.spec_checks.specs.PatchChecks.{beforeSelf, operationFindings, envelopeFindings, rawPatchFindings, patchFindings}
 use Rattle.spec_checks.specs.SetChecks.{duplicateIdFindings, previousFindings, afterFindings, rawSetFindings, setFindings}
 use Rattle.spec_checks.specs.Findings.{inSet, Findings, firstFindings, findings}
+use Rattle.spec_projection.specs.Apply.{operationsOf}
+use Rattle.patch_sets.specs.SetAnswers.{operationCount}
 use Rattle.check_findings.specs.Ids.{idSeen}
 use Rattle.check_targets.specs.Targets.{targetNumbers}
 use Rattle.check_targets.specs.TargetsLaws.{seen-earlier, targets-snoc}
 use Rattle.check_findings.specs.Found.{isFound}
 use Rattle.check_findings.specs.FoundLaws.{found-append, found-report}
+use Rattle.check_quick.specs.Anchors.{absentOf}
+use Rattle.check_quick.specs.QuickAnswers.{inspectedBy, quickAnswer}
+use Rattle.check_quick.specs.declared.inspection.SetInspection.{SetInspection}
+use Rattle.check_quick.specs.declared.inspection.SetInspection.the-variants as inspection
+use Rattle.check_quick.specs.declared.quick_set.QuickCheck.{QuickCheck}
+use Rattle.check_quick.specs.declared.quick_set.QuickCheck.the-variants as quick
 use Rattle.check_quick.specs.Quick.{operationFound, foundFrom, headFound, patchFound, previousFound, afterFound, patchesFound}
 
 -- ---- tests
@@ -158,3 +167,19 @@ first-found i (p ∷ ps) set = go (patchFindings p) refl (first-found (i + 1) ps
 pub quick-found : (ps : List Patch) → patchesFound [] none ps ≡ isFound (findings ps .found)
 unfolding findings
 quick-found ps = apart [] none ps ∙ ap (λ t. any patchFound ps || t) (set-found ps) ∙ first-found 0 ps (record { place = inSet; found = setFindings ps })
+
+-- ---- without the absent targets
+
+abbrev pub quickOf : SetInspection → QuickCheck
+quickOf (inspection.Clean n m k) = quick.Clean n m
+quickOf inspection.Found = quick.Found
+quickOf (inspection.Refused f) = quick.Refused f
+
+pub quick-is : (known : MutationTarget → Bool) (x : SetReading) → quickOf (inspectedBy known x) ≡ quickAnswer x
+unfolding inspectedBy
+quick-is known (patches ps) = go (isFound (findings ps .found))
+  where
+    go : (t : Bool) → quickOf (if t then inspection.Found else inspection.Clean (length ps) (operationCount ps) (absentOf known (operationsOf ps))) ≡ (if t then quick.Found else quick.Clean (length ps) (operationCount ps))
+    go true = refl
+    go false = refl
+quick-is known (fault f) = refl

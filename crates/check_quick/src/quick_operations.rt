@@ -1,4 +1,5 @@
 // The operations of a patch, read and checked one after the other.
+use crate::anchors;
 use check_targets::MutationTarget;
 use projection_patch::patch::ProjectionPatchOperation;
 use projection_patch::read_operations;
@@ -12,17 +13,23 @@ ghost use lib.ListN.{length, take, drop};
 ghost use Rattle.spec_patch.specs.Edition.{v1};
 ghost use Rattle.spec_patch.specs.Reader.{many};
 ghost use Rattle.spec_patch.specs.Read.{readOperation};
-ghost use Rattle.spec_checks.specs.Target.{mutationTarget};
-ghost use Rattle.projection_patch.specs.Meaning.{operationOf};
-ghost use Rattle.check_targets.specs.Targets.{targetNumbers, withTarget};
-ghost use Rattle.check_targets.specs.Marks.{Marked};
 ghost use Rattle.spec_patch.specs.Sizes.{patchOperations};
-ghost use Rattle.check_quick.specs.Quick.{operationFound, operationsFound};
-ghost use Rattle.check_quick.specs.QuickAnswers.{operationsAnswer};
+ghost use Rattle.spec_checks.specs.PatchChecks.{beforeSelf};
+ghost use Rattle.projection_patch.specs.Meaning.{operationOf};
+ghost use Rattle.check_targets.specs.Targets.{targetOf, numbersOf, targetSeen, withTarget};
+ghost use Rattle.check_targets.specs.Marks.{markPlaces, Marked};
+ghost use Rattle.check_quick.specs.Anchors.{anchored};
+ghost use Rattle.check_quick.specs.QuickAnswers.{tallyOf, operationsAnswer};
 
-// Whether some operation was found fault with, and the position behind the last.
+// Whether some operation was found fault with, and how many have an absent target.
+pub struct Tally {
+    pub found: bool,
+    pub absent: usize,
+}
+
+// What the operations told, and the position behind the last.
 pub enum OperationsChecked {
-    Read(bool, usize),
+    Read(Tally, usize),
     Refused(ProjectionPatchReadFault),
 }
 
@@ -32,22 +39,21 @@ fn operation_found(
     targets: &mut [u64],
     marks: &mut [u8],
     used: usize,
+    target: MutationTarget,
     operation: ProjectionPatchOperation,
 ) -> bool
     requires { ⌜ (used + 3 ≤ length (now targets)) × Marked (now marks) (take used (now targets)) ⌝ }
-    ensures found { λ r. ⌜ ((texts : List ℕ) → r ≡ (found || operationFound (take used (now (targets .entry))) (operationOf texts operation))) ⌝ }
-    ensures kept { λ _. ⌜ ((texts : List ℕ) → now (targets .exit) ≡ withTarget used (mutationTarget (operationOf texts operation)) (now (targets .entry))) ⌝ }
-    ensures marked { λ _. ⌜ ((texts : List ℕ) → Marked (now (marks .exit)) (take used (now (targets .entry)) ++ targetNumbers (operationOf texts operation))) ⌝ }
+    ensures found { λ r. ⌜ ((texts : List ℕ) → r ≡ (found || (targetSeen (targetOf target) (take used (now (targets .entry))) || beforeSelf (operationOf texts operation)))) ⌝ }
+    ensures kept { λ _. ⌜ now (targets .exit) ≡ withTarget used (targetOf target) (now (targets .entry)) ⌝ }
+    ensures marked { λ _. ⌜ Marked (now (marks .exit)) (take used (now (targets .entry)) ++ numbersOf (targetOf target)) ⌝ }
 {
-    let target = check_targets::mutation_target(operation);
-    let seen = check_targets::seen_by_mark(targets, marks, used, target);
-    if found {
+    if check_targets::seen_by_mark(targets, marks, used, target) {
         return true;
     }
-    if seen {
+    if check_targets::before_self(operation) {
         return true;
     }
-    check_targets::before_self(operation)
+    found
 }
 
 // Reads count operations of a set, the first of them at from, with room lent for their targets and marks.
@@ -55,11 +61,15 @@ fn check_with(
     set: &[u8],
     from: usize,
     count: usize,
+    nodes: &[u64],
+    bindings: &[u64],
+    collections: &[u64],
     targets: &mut [u64],
     marks: &mut [u8],
 ) -> OperationsChecked
-    requires { ⌜ (from ≤ length (now set)) × ((3 * count ≤ length (now targets)) × (length (now marks) ≡ 512)) ⌝ }
-    ensures { λ r. ⌜ r ≡ operationsAnswer operationsFound (length (now (set .entry))) (many count (readOperation v1) (drop from (now (set .entry)))) ⌝ }
+    requires { ⌜ (from ≤ length (now set)) × ((3 * count ≤ length (now targets)) × (length (now marks) ≡ markPlaces)) ⌝ }
+    ensures { λ r. ⌜ r ≡ operationsAnswer (tallyOf (anchored (now (nodes .entry)) (now (bindings .entry)) (now (collections .entry))))
+        (length (now (set .entry))) (many count (readOperation v1) (drop from (now (set .entry)))) ⌝ }
 {
     let mut at = from;
     let mut left = count;
@@ -68,8 +78,9 @@ fn check_with(
     while 0 < left {
         match read_operations::read_operation(&set[at..]) {
             OperationRead::Read(operation, taken) => {
-                found = operation_found(found, targets, marks, used, operation);
-                used = used + 3;
+                let target = check_targets::mutation_target(operation);
+                found = operation_found(found, targets, marks, used, target, operation);
+                used = used + MutationTarget::NUMBERS;
                 at = at + taken;
                 left = left - 1;
             }
@@ -78,35 +89,72 @@ fn check_with(
             }
         }
     }
-    OperationsChecked::Read(found, at)
+    let absent = anchors::absent_among(&targets[0..used], nodes, bindings, collections);
+    OperationsChecked::Read(Tally { found, absent }, at)
 }
 
 // Reads the one operation of a patch, which repeats no target.
-fn check_one(set: &[u8], at: usize) -> OperationsChecked
+fn check_one(
+    set: &[u8],
+    at: usize,
+    nodes: &[u64],
+    bindings: &[u64],
+    collections: &[u64],
+) -> OperationsChecked
     requires { ⌜ at ≤ length (now set) ⌝ }
-    ensures { λ r. ⌜ r ≡ operationsAnswer operationsFound (length (now (set .entry))) (many 1 (readOperation v1) (drop at (now (set .entry)))) ⌝ }
+    ensures { λ r. ⌜ r ≡ operationsAnswer (tallyOf (anchored (now (nodes .entry)) (now (bindings .entry)) (now (collections .entry))))
+        (length (now (set .entry))) (many 1 (readOperation v1) (drop at (now (set .entry)))) ⌝ }
 {
     match read_operations::read_operation(&set[at..]) {
         OperationRead::Read(operation, taken) => {
-            OperationsChecked::Read(check_targets::before_self(operation), at + taken)
+            let target = check_targets::mutation_target(operation);
+            let absent = anchors::one_if_absent(nodes, bindings, collections, target);
+            let found = check_targets::before_self(operation);
+            OperationsChecked::Read(Tally { found, absent }, at + taken)
         }
         OperationRead::Refused(fault) => OperationsChecked::Refused(fault),
     }
 }
 
 // Reads count operations of a set, the first of them at from. Most patches have few, and little is cleared for them.
-pub fn check_operations(set: &[u8], from: usize, count: usize) -> OperationsChecked
+pub fn check_operations(
+    set: &[u8],
+    from: usize,
+    count: usize,
+    nodes: &[u64],
+    bindings: &[u64],
+    collections: &[u64],
+) -> OperationsChecked
     requires { ⌜ (from ≤ length (now set)) × (count ≤ patchOperations) ⌝ }
-    ensures { λ r. ⌜ r ≡ operationsAnswer operationsFound (length (now (set .entry))) (many count (readOperation v1) (drop from (now (set .entry)))) ⌝ }
+    ensures { λ r. ⌜ r ≡ operationsAnswer (tallyOf (anchored (now (nodes .entry)) (now (bindings .entry)) (now (collections .entry))))
+        (length (now (set .entry))) (many count (readOperation v1) (drop from (now (set .entry)))) ⌝ }
 {
     if count == 1 {
-        return check_one(set, from);
+        return check_one(set, from, nodes, bindings, collections);
     }
     let mut marks = [0u8; MutationTarget::MARKS];
-    if count <= 16 {
-        let mut few = [0u64; 48];
-        return check_with(set, from, count, &mut few, &mut marks);
+    if count <= MutationTarget::FEW {
+        let mut few = [0u64; MutationTarget::FEW_NUMBERS];
+        return check_with(
+            set,
+            from,
+            count,
+            nodes,
+            bindings,
+            collections,
+            &mut few,
+            &mut marks,
+        );
     }
-    let mut targets = [0u64; 384];
-    check_with(set, from, count, &mut targets, &mut marks)
+    let mut targets = [0u64; MutationTarget::PATCH_NUMBERS];
+    check_with(
+        set,
+        from,
+        count,
+        nodes,
+        bindings,
+        collections,
+        &mut targets,
+        &mut marks,
+    )
 }

@@ -15,6 +15,7 @@ ghost use lib.ListN.{length, take, drop, set};
 ghost use Rattle.spec_patch.specs.Edition.{v1};
 ghost use Rattle.spec_patch.specs.Read.{readPatch};
 ghost use Rattle.projection_patch.specs.Meaning.{envelopeOf};
+ghost use Rattle.check_quick.specs.Anchors.{anchored};
 ghost use Rattle.check_quick.specs.Quick.{headFound, previousFound, afterFound};
 ghost use Rattle.check_quick.specs.QuickAnswers.{previousOf, patchAnswer};
 
@@ -23,10 +24,11 @@ pub enum PreviousEnvelope {
     Some(ProjectionPatchEnvelope),
 }
 
-// A patch's head, and whether the patch has a finding.
+// A patch's head, whether the patch has a finding, and how many of its operations have an absent target.
 pub struct PatchChecked {
     pub head: ProjectionPatch,
     pub found: bool,
+    pub absent: usize,
 }
 
 // A patch that was checked, and the position behind it.
@@ -50,20 +52,31 @@ fn patch_found(head: ProjectionPatch, operations: bool) -> bool
 }
 
 // Reads and checks the patch at a position.
-pub fn check_patch(set: &[u8], at: usize) -> PatchCheckRead
+pub fn check_patch(
+    set: &[u8],
+    at: usize,
+    nodes: &[u64],
+    bindings: &[u64],
+    collections: &[u64],
+) -> PatchCheckRead
     requires { ⌜ at ≤ length (now set) ⌝ }
-    ensures { λ r. ⌜ r ≡ patchAnswer (length (now (set .entry))) (readPatch v1 (drop at (now (set .entry)))) ⌝ }
+    ensures { λ r. ⌜ r ≡ patchAnswer (anchored (now (nodes .entry)) (now (bindings .entry)) (now (collections .entry)))
+        (length (now (set .entry))) (readPatch v1 (drop at (now (set .entry)))) ⌝ }
 {
     match patch_sets::read_patch_head(&set[at..]) {
         PatchHeadRead::Read(head, taken) => match quick_operations::check_operations(
             set,
             at + taken,
             head.operation_count,
+            nodes,
+            bindings,
+            collections,
         ) {
-            OperationsChecked::Read(found, end) => PatchCheckRead::Read(
+            OperationsChecked::Read(tally, end) => PatchCheckRead::Read(
                 PatchChecked {
                     head,
-                    found: patch_found(head, found),
+                    found: patch_found(head, tally.found),
+                    absent: tally.absent,
                 },
                 end,
             ),

@@ -7,16 +7,20 @@ use Rattle.spec_lists.specs.Lists.{All}
 use Rattle.spec_checks.specs.Target.{MutationTarget}
 use Rattle.check_targets.specs.Targets.{numbersOf}
 
+-- how many places there are for marks
+abbrev pub markPlaces : ℕ
+markPlaces = 512
+
 -- the place of a target's mark
 unfoldable pub markOf : MutationTarget → ℕ
-markOf t = (t .first % 512 * 5 + t .second % 512 * 3 + t .kind % 512) % 512
+markOf t = (t .first % markPlaces * 115 + t .kind % markPlaces * 91 + t .second % markPlaces) % markPlaces
 
 abbrev pub HasMark : List ℕ → MutationTarget → Type 0
 HasMark marks t = getD marks (markOf t) 0 ≡ 1
 
 -- the numbers are those of targets that all have their marks
 pub record Marked (marks numbers : List ℕ) : Type 0 where
-  pub long : length marks ≡ 512
+  pub long : length marks ≡ markPlaces
   pub targets : List MutationTarget
   pub are : numbers ≡ flatMap numbersOf targets
   pub each : All (HasMark marks) targets

@@ -13,9 +13,9 @@ use Rattle.spec_lists.specs.Lists.{All}
 use Rattle.spec_lists.specs.ListLaws.{flatMap-append, test-cases, and-left, and-right}
 use Rattle.spec_checks.specs.Target.{MutationTarget}
 use Rattle.check_targets.specs.Targets.{equalTargets, numbersOf, targetSeen}
-use Rattle.check_targets.specs.Marks.{markOf, HasMark, Marked}
+use Rattle.check_targets.specs.Marks.{markPlaces, markOf, HasMark, Marked}
 
-pub mark-within : (t : MutationTarget) → markOf t < 512
+pub mark-within : (t : MutationTarget) → markOf t < markPlaces
 unfolding markOf
 mark-within t = mod-lt _ (omega arith)
 
@@ -41,11 +41,11 @@ pub unmarked-unseen : (marks numbers : List ℕ) (t : MutationTarget) → Marked
 unmarked-unseen marks numbers t m z = ap (targetSeen t) (m .are) ∙ unseen marks t z (m .targets) (m .each)
 
 -- no numbers need marks
-pub marked-none : (marks : List ℕ) → length marks ≡ 512 → Marked marks []
+pub marked-none : (marks : List ℕ) → length marks ≡ markPlaces → Marked marks []
 unfolding flatMap
 marked-none marks long = record { long = long; targets = []; are = refl; each = tt }
 
-module _ (marks : List ℕ) (long : length marks ≡ 512) (t : MutationTarget) where
+module _ (marks : List ℕ) (long : length marks ≡ markPlaces) (t : MutationTarget) where
   own-mark : HasMark (set marks (markOf t) 1) t
   own-mark = getD-set-same marks (markOf t) 1 0 (omega (arith, mark-within t))
 

@@ -10,6 +10,7 @@ ghost use Rattle.check_targets.specs.Targets.{targetOf, madeOf, equalTar
 ghost use Rattle.check_targets.specs.Marks.{markOf, Marked};
 use projection_patch::contract_primitives::CollectionKey;
 use projection_patch::patch::OptionalKey;
+use projection_patch::patch::ProjectionPatch;
 use projection_patch::patch::ProjectionPatchOperation;
 
 // The kind of operation by its canonical number, and the ids that tell it from others of that kind.
@@ -20,8 +21,18 @@ pub struct MutationTarget {
 }
 
 impl MutationTarget {
-    // The length of an array of marks.
-    pub const MARKS: usize = 512;
+    // How many places there are for marks, and so the length of an array of them.
+    const PLACES: u64 = 512;
+
+    pub const MARKS: usize = MutationTarget::PLACES as usize;
+    // How many numbers of a list one target is.
+    pub const NUMBERS: usize = 3;
+    // Most patches have no more operations than these few.
+    pub const FEW: usize = 16;
+    // The numbers of the targets of few operations, and of as many as a patch may have.
+    pub const FEW_NUMBERS: usize = MutationTarget::FEW * MutationTarget::NUMBERS;
+
+    pub const PATCH_NUMBERS: usize = ProjectionPatch::OPERATIONS * MutationTarget::NUMBERS;
 }
 
 fn target_of(kind: u64, first: u64, second: u64) -> MutationTarget
@@ -171,11 +182,14 @@ pub fn seen_before(targets: &mut [u64], used: usize, target: MutationTarget) -> 
     seen
 }
 
-// The place of a target's mark. Targets that differ may share it.
+// The place of a target's mark. Targets that differ may share it; the factors keep neighbouring keys and kinds apart.
 fn mark_of(target: MutationTarget) -> usize
     ensures { λ r. ⌜ r ≡ markOf (targetOf target) ⌝ }
 {
-    ((target.first % 512 * 5 + target.second % 512 * 3 + target.kind % 512) % 512) as usize
+    let first = target.first % MutationTarget::PLACES;
+    let second = target.second % MutationTarget::PLACES;
+    let kind = target.kind % MutationTarget::PLACES;
+    ((first * 115 + kind * 91 + second) % MutationTarget::PLACES) as usize
 }
 
 // As seen_before, with a mark for each target among the first used numbers: one without a mark is not among them, and

@@ -1,14 +1,19 @@
 -- Every refusal of the steps comes with a logical count that fits it.
-use Prim.Native.Nat.{ℕ, _<_}
+use Prim.Native.Nat.{ℕ}
 use mathlib.Core.Path.{_≡_, refl}
 use mathlib.Core.Bool.{Bool, true, false}
-use borrow.Author.Tests.{lt-ltb}
-use Rattle.spec_patch.specs.Reader.{Fault}
-use Rattle.spec_patch.specs.Reader as reading
+use native.Mathlib.Omega.{arith}
+use lib.Dec.{eqb}
+use borrow.Author.Tests.{lt-ltb, eqb-false}
+use Rattle.spec_lists.specs.Lists.{if_then_else_}
+use Rattle.spec_lists.specs.ListLaws.{test-cases}
 use Rattle.spec_session.specs.Session.{Lifecycle, Cursor, Limits}
-use Rattle.spec_session.specs.Diagnostics.{SessionRefusal, sessionMismatch, sessionClosed, limitExceeded, countsDiffer, unknownTarget, cursorMismatch, ofReading}
-use Rattle.spec_session.specs.Batch.{BatchEnvelope, Check, pass, refuse, _>>_, require}
-use Rattle.session_gates.specs.Gates.{preflightBy, countsBy, replayBy, countFits, counted}
+use Rattle.spec_session.specs.Diagnostics.{SessionRefusal, sessionMismatch, sessionClosed, limitExceeded, countsDiffer, cursorMismatch, ofReading}
+use Rattle.spec_session.specs.Batch.{BatchEnvelope, Check, pass, refuse, _>>_, require, knownTargets}
+use Rattle.projection_patch.specs.declared.read_values.ProjectionPatchReadFault.the-variants.{Malformed, OverCapacity}
+use Rattle.check_quick.specs.declared.inspection.SetInspection.{SetInspection}
+use Rattle.check_quick.specs.declared.inspection.SetInspection.the-variants as inspection
+use Rattle.session_gates.specs.Gates.{preflightBy, countsBy, replayBy, targetsBy, inspectionBy, countFits, counted}
 
 then-counted : (a b : Check (Unit {0})) → counted a ≡ true → counted b ≡ true → counted (a >> b) ≡ true
 then-counted (pass u) b h k = k
@@ -19,23 +24,31 @@ unfolding counted require
 require-counted true r h = refl
 require-counted false r h = h
 
-pub preflight-counted : (id : ℕ) (l : Limits) (life : Lifecycle) (e : BatchEnvelope) → counted (preflightBy id l life e) ≡ true
+preflight-counted : (id : ℕ) (l : Limits) (life : Lifecycle) (e : BatchEnvelope) → counted (preflightBy id l life e) ≡ true
 unfolding preflightBy countFits
 preflight-counted id l life e = then-counted _ _ (require-counted _ sessionMismatch refl) (then-counted _ _ (require-counted _ sessionClosed refl) (require-counted _ limitExceeded refl))
 
-pub counts-counted : (l : Limits) (e : BatchEnvelope) (declared n k : ℕ) → counted (countsBy l e declared n k) ≡ true
+counts-counted : (l : Limits) (e : BatchEnvelope) (declared n k : ℕ) → counted (countsBy l e declared n k) ≡ true
 unfolding countsBy countFits
 counts-counted l e declared n k = then-counted _ _ (require-counted _ countsDiffer refl) (require-counted _ limitExceeded refl)
 
-pub replay-counted : (c : Cursor) (e : BatchEnvelope) → counted (replayBy c e) ≡ true
-unfolding replayBy countFits
-replay-counted c e = require-counted _ cursorMismatch refl
+known-counted : (absent : ℕ) → counted (knownTargets absent) ≡ true
+unfolding knownTargets counted countFits
+known-counted absent =
+    test-cases (eqb absent 0)
+    (λ e. rw e)
+    (λ e. rw e (lt-ltb 0 absent (let some = eqb-false absent 0 e in omega (arith, some))))
 
-pub reading-counted : (f : Fault) → countFits (ofReading f) 1 ≡ true
-unfolding countFits
-reading-counted reading.malformed = refl
-reading-counted reading.overCapacity = refl
+clean-counted : (l : Limits) (c : Cursor) (e : BatchEnvelope) (declared n k absent : ℕ) → counted (countsBy l e declared n k >> targetsBy absent c e) ≡ true
+unfolding targetsBy replayBy countFits
+clean-counted l c e declared n k absent = then-counted _ _ (counts-counted l e declared n k) (then-counted _ _ (known-counted absent) (require-counted _ cursorMismatch refl))
 
-pub absent-counted : (n : ℕ) → 0 < n → countFits unknownTarget n ≡ true
-unfolding countFits
-absent-counted n h = lt-ltb 0 n h
+inspection-counted : (l : Limits) (c : Cursor) (e : BatchEnvelope) (declared : ℕ) (i : SetInspection) → counted (inspectionBy l c e declared i) ≡ true
+unfolding inspectionBy counted countFits
+inspection-counted l c e declared (inspection.Refused Malformed) = refl
+inspection-counted l c e declared (inspection.Refused OverCapacity) = refl
+inspection-counted l c e declared inspection.Found = refl
+inspection-counted l c e declared (inspection.Clean n k absent) = clean-counted l c e declared n k absent
+
+pub steps-counted : (id : ℕ) (l : Limits) (life : Lifecycle) (c : Cursor) (e : BatchEnvelope) (declared : ℕ) (i : SetInspection) → counted (preflightBy id l life e >> inspectionBy l c e declared i) ≡ true
+steps-counted id l life c e declared i = then-counted _ _ (preflight-counted id l life e) (inspection-counted l c e declared i)

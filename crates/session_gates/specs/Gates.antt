@@ -5,16 +5,15 @@ use mathlib.Core.Path.{_≡_}
 use mathlib.Core.Bool.{Bool, true, not, _&&_, _||_}
 use mathlib.Core.List.{List}
 use lib.Dec.{leb, ltb, eqb}
-use lib.ListN.{length}
-use Rattle.spec_lists.specs.Lists.{if_then_else_, isEmpty}
+use Rattle.spec_lists.specs.Lists.{if_then_else_}
 use Rattle.spec_patch.specs.Patch.{Patch}
-use Rattle.spec_patch.specs.Read.{SetReading, patches, fault}
-use Rattle.spec_checks.specs.Findings.{findings}
-use Rattle.spec_projection.specs.Apply.{operationsOf}
-use Rattle.spec_session.specs.Session.{Lifecycle, Cursor, Limits, Catalogue, Session}
+use Rattle.spec_session.specs.Session.{Lifecycle, Cursor, Limits}
 use Rattle.spec_session.specs.Diagnostics.{SessionRefusal, sessionNumber, sessionMismatch, sessionClosed, limitExceeded, countsDiffer, cursorMismatch, checksFailed, ofReading}
 use Rattle.spec_session.specs.Lifecycle.{isClosed}
-use Rattle.spec_session.specs.Batch.{BatchEnvelope, Check, pass, refuse, _>>_, require, absentTargets, knownTargets, takesNumber}
+use Rattle.spec_session.specs.Batch.{BatchEnvelope, Check, pass, refuse, _>>_, require, knownTargets, takesNumber}
+use Rattle.projection_patch.specs.ReadAnswers.{faultOf}
+use Rattle.check_quick.specs.declared.inspection.SetInspection.{SetInspection}
+use Rattle.check_quick.specs.declared.inspection.SetInspection.the-variants as inspection
 use Rattle.session_lifecycle.specs.Meaning.{refusalOf}
 use Rattle.session_gates.specs.declared.gates.OrderedProjectionPatchBatchEnvelope.{OrderedProjectionPatchBatchEnvelope}
 use Rattle.session_gates.specs.declared.gates.BatchGate.{BatchGate}
@@ -42,18 +41,15 @@ countsBy l e declared n k = require (eqb (e .patches) n && eqb declared k) count
 unfoldable pub replayBy : Cursor → BatchEnvelope → Check (Unit {0})
 replayBy c e = require (eqb (e .patches) 0 || takesNumber c (e .sequence)) cursorMismatch
 
--- steps 7 and 8 of patches
-unfoldable pub targetsBy : Catalogue → Cursor → BatchEnvelope → List Patch → Check (Unit {0})
-targetsBy k c e ps = knownTargets (absentTargets k (operationsOf ps)) >> replayBy c e
+-- steps 7 and 8, where so many targets are absent
+unfoldable pub targetsBy : ℕ → Cursor → BatchEnvelope → Check (Unit {0})
+targetsBy absent c e = knownTargets absent >> replayBy c e
 
--- steps 5 to 8 of patches
-unfoldable pub patchesBy : Session → BatchEnvelope → ℕ → List Patch → Check (Unit {0})
-patchesBy s e declared ps = countsBy (s .limits) e declared (length ps) (length (operationsOf ps)) >> targetsBy (s .catalogue) (s .cursor) e ps
-
--- steps 4 to 8 of a set
-unfoldable pub setBy : Session → BatchEnvelope → ℕ → SetReading → Check (Unit {0})
-setBy s e declared (patches ps) = require (isEmpty (findings ps .found)) checksFailed >> patchesBy s e declared ps
-setBy s e declared (fault f) = refuse (ofReading f) 1
+-- steps 4 to 8, by what the pass over the set found
+unfoldable pub inspectionBy : Limits → Cursor → BatchEnvelope → ℕ → SetInspection → Check (Unit {0})
+inspectionBy l c e declared (inspection.Refused f) = refuse (ofReading (faultOf f)) 1
+inspectionBy l c e declared inspection.Found = refuse checksFailed 1
+inspectionBy l c e declared (inspection.Clean n k absent) = countsBy l e declared n k >> targetsBy absent c e
 
 -- whether all steps passed, without the patches
 abbrev pub erased : Check (List Patch) → Check (Unit {0})

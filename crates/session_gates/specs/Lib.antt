@@ -1,5 +1,6 @@
 pub mod Gates
+pub mod Lent
+pub mod LentLaws
 pub mod GatesLaws
 pub mod Seen
-pub mod StepLaws
 pub mod CountedLaws

@@ -3,7 +3,7 @@ use Prim.Native.Nat.{ℕ}
 use mathlib.Core.Path.{_≡_}
 use mathlib.Core.List.{List}
 use Rattle.spec_session.specs.Session.{Session}
-use Rattle.session_targets.specs.Lent.{Lent}
+use Rattle.session_gates.specs.Lent.{Lent}
 use Rattle.session_lifecycle.specs.Meaning.{lifecycleOf, cursorOf, limitsOf}
 use Rattle.session_lifecycle.specs.declared.state.ShellLifecycleLimits.{ShellLifecycleLimits}
 use Rattle.session_lifecycle.specs.declared.state.ShellLocalState.{ShellLocalState}

@@ -1,9 +1,10 @@
-// Steps 1 to 8 in order. The anchors are lent as numbers, as step 7 wants them.
+// Steps 1 to 8 in order. One pass over the set finds what steps 4 to 7 ask of it; in which order they refuse is decided after it. The
+// anchors are lent as numbers, as that pass wants them.
 use crate::gates;
 use crate::gates::BatchGate;
 use crate::gates::OrderedProjectionPatchBatchEnvelope;
-use check_quick::quick_set;
-use check_quick::quick_set::QuickCheck;
+use check_quick::inspection;
+use check_quick::inspection::SetInspection;
 use projection_patch::read_values::ProjectionPatchReadFault;
 use session_lifecycle::diagnostics::ShellRefusal;
 use session_lifecycle::state::ProjectionReplayCursor;
@@ -11,17 +12,12 @@ use session_lifecycle::state::ShellLifecycleLimits;
 use session_lifecycle::state::ShellLocalState;
 ghost use mathlib.Core.Path.{_≡_};
 ghost use mathlib.Core.Bool.{true};
-ghost use mathlib.Core.List.{List};
-ghost use Rattle.spec_patch.specs.Patch.{Patch};
-ghost use Rattle.spec_patch.specs.Edition.{v1};
-ghost use Rattle.spec_patch.specs.Read.{patches, readSet};
-ghost use Rattle.spec_session.specs.Session.{Catalogue, Session};
+ghost use Rattle.spec_session.specs.Session.{Session};
 ghost use Rattle.spec_session.specs.Diagnostics.{ofReading};
 ghost use Rattle.spec_session.specs.Batch.{batchChecks};
 ghost use Rattle.projection_patch.specs.ReadAnswers.{faultOf};
-ghost use Rattle.session_targets.specs.Lent.{Lent};
 ghost use Rattle.session_lifecycle.specs.Meaning.{refusalOf, lifecycleOf, cursorOf, limitsOf};
-ghost use Rattle.session_gates.specs.Gates.{gateOf, envelopeMeans, preflightBy, targetsBy, setBy, erased, counted, Decides};
+ghost use Rattle.session_gates.specs.Gates.{gateOf, envelopeMeans, preflightBy, targetsBy, inspectionBy, erased, counted, Decides};
 ghost use Rattle.session_gates.specs.Seen.{Seen};
 
 // The refusal of a set that does not read.
@@ -34,48 +30,37 @@ fn refusal_of(fault: ProjectionPatchReadFault) -> ShellRefusal
     }
 }
 
-// Steps 7 and 8.
+// Steps 7 and 8, where so many operations have an absent target.
 fn check_targets(
     cursor: ProjectionReplayCursor,
-    nodes: &[u64],
-    bindings: &[u64],
-    collections: &[u64],
     envelope: OrderedProjectionPatchBatchEnvelope,
-    set: &[u8],
+    absent: u64,
 ) -> BatchGate
-    ensures checked { λ r. ⌜ ((k : Catalogue) (ps : List Patch) → Lent k (now (nodes .entry)) (now (bindings .entry)) (now (collections .entry))
-        → readSet v1 (now (set .entry)) ≡ patches ps → gateOf r ≡ targetsBy k (cursorOf cursor) (envelopeMeans envelope) ps) ⌝ }
-    ensures whatever { λ r. ⌜ counted (gateOf r) ≡ true ⌝ }
+    ensures { λ r. ⌜ gateOf r ≡ targetsBy absent (cursorOf cursor) (envelopeMeans envelope) ⌝ }
 {
-    let absent = session_targets::absent_targets(nodes, bindings, collections, set);
     if 0 < absent {
-        return BatchGate::Refused(ShellRefusal::InvalidTarget, absent as u64);
+        return BatchGate::Refused(ShellRefusal::InvalidTarget, absent);
     }
     gates::evaluate_replay_compatibility(cursor, envelope)
 }
 
-// Steps 4 to 8.
-fn check_set(
+// Steps 4 to 8, by what the pass over the set found.
+fn check_inspection(
     limits: ShellLifecycleLimits,
     cursor: ProjectionReplayCursor,
-    nodes: &[u64],
-    bindings: &[u64],
-    collections: &[u64],
     envelope: OrderedProjectionPatchBatchEnvelope,
     declared: u64,
-    set: &[u8],
+    inspected: SetInspection,
 ) -> BatchGate
-    ensures checked { λ r. ⌜ ((s : Session) → limitsOf limits ≡ s .limits → cursorOf cursor ≡ s .cursor
-        → Lent (s .catalogue) (now (nodes .entry)) (now (bindings .entry)) (now (collections .entry))
-        → gateOf r ≡ setBy s (envelopeMeans envelope) declared (readSet v1 (now (set .entry)))) ⌝ }
-    ensures whatever { λ r. ⌜ counted (gateOf r) ≡ true ⌝ }
+    ensures { λ r. ⌜ gateOf r ≡ inspectionBy (limitsOf limits) (cursorOf cursor) (envelopeMeans envelope) declared inspected ⌝ }
 {
-    match quick_set::quick_check(set) {
-        QuickCheck::Refused(fault) => BatchGate::Refused(refusal_of(fault), 1),
-        QuickCheck::Found => BatchGate::Refused(ShellRefusal::ChecksFailed, 1),
-        QuickCheck::Clean {
+    match inspected {
+        SetInspection::Refused(fault) => BatchGate::Refused(refusal_of(fault), 1),
+        SetInspection::Found => BatchGate::Refused(ShellRefusal::ChecksFailed, 1),
+        SetInspection::Clean {
             patch_count,
             operation_count,
+            absent,
         } => match gates::evaluate_counts(
             limits,
             envelope,
@@ -84,9 +69,7 @@ fn check_set(
             operation_count as u64,
         ) {
             BatchGate::Refused(refusal, logical) => BatchGate::Refused(refusal, logical),
-            BatchGate::Passed => {
-                check_targets(cursor, nodes, bindings, collections, envelope, set)
-            }
+            BatchGate::Passed => check_targets(cursor, envelope, absent as u64),
         },
     }
 }
@@ -112,15 +95,9 @@ pub fn check_batch(
     let cursor = state.replay_cursor;
     match gates::evaluate_preflight(id, limits, lifecycle, envelope) {
         BatchGate::Refused(refusal, logical) => BatchGate::Refused(refusal, logical),
-        BatchGate::Passed => check_set(
-            limits,
-            cursor,
-            nodes,
-            bindings,
-            collections,
-            envelope,
-            declared,
-            set,
-        ),
+        BatchGate::Passed => {
+            let inspected = inspection::inspect_set(set, nodes, bindings, collections);
+            check_inspection(limits, cursor, envelope, declared, inspected)
+        }
     }
 }

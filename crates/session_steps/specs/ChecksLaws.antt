@@ -9,7 +9,7 @@ use Rattle.spec_session.specs.Session.{Catalogue}
 use Rattle.active_projection_target_catalog.specs.Catalog.{pairTo, pairNumbers, catalogueOf}
 use Rattle.active_projection_target_catalog.specs.CatalogLaws.{pairs-again, take-held, pairs-taken}
 use Rattle.active_projection_target_catalog.specs.declared.catalog.ActiveProjectionTargetCatalog.{ActiveProjectionTargetCatalog}
-use Rattle.session_targets.specs.Lent.{Lent}
+use Rattle.session_gates.specs.Lent.{Lent}
 
 module _ (k : ActiveProjectionTargetCatalog) (long-nodes : length (k .«node_anchors») ≡ anchors) (long-pairs : length (k .«binding_anchors») ≡ anchors) (long-collections : length (k .«collection_anchors») ≡ anchors) where
   pub lent-anchors : (m : Catalogue) → catalogueOf k ≡ m → (a b c : ℕ) → a ≡ min (k .«node_count») anchors → b ≡ min (k .«binding_count») anchors → c ≡ min (k .«collection_count») anchors

@@ -1,33 +1,36 @@
 -- `check_quick::quick_operations::check_one` meets its contract: nothing stands before the operation that its target could repeat.
 use Prim.Native.Nat.{ℕ, _+_}
-use mathlib.Core.Path.{ap, _∙_}
-use mathlib.Core.Bool.{false}
+use mathlib.Core.Path.{refl, _∙_}
+use mathlib.Core.Bool.{Bool, false}
 use mathlib.Core.List.{List, []}
 use native.Mathlib.Omega.{arith}
-use denote.Ref.{now}
-use Rattle.spec_lists.specs.Bytes.{Bytes}
 use Rattle.spec_lists.specs.BytesLaws.{bytes-of}
+use Rattle.spec_patch.specs.Edition.{v1}
+use Rattle.spec_checks.specs.Target.{MutationTarget}
 use Rattle.patch_sets.proofs.ReadAt.{OperationAt, operation-at, no-operation-at}
-use Rattle.check_quick.specs.declared.quick_operations.OperationsChecked.the-variants as operations-checked
-use Rattle.check_quick.proofs.QuickRuns.{refusal, alone}
+use Rattle.check_targets.specs.Targets.{targetOf, numbersOf, targetSeen}
+use Rattle.check_quick.specs.Anchors.{anchored, absentAmong}
+use Rattle.check_quick.proofs.QuickRuns.{none-left, refusal, turn}
 use borrow.Author.Needs.{needs}
 use Rattle.check_quick.proofs.quick_operations.check_one.Statement.{statement}
 use Rattle.check_quick.proofs.quick_operations.check_one.Tie as tie
 
+abbrev start : tie.After-read-operation → tie.Start
+start c = c .before .before .before .before .before .before
+
 abbrev set : tie.After-read-operation → List ℕ
-set c = now (c .before .before .before .args .set)
+set c = start c .args .set .now
 
-abbrev at : tie.After-read-operation → ℕ
-at c = c .before .before .before .args .at
-
-all-bytes : (c : tie.After-read-operation) → Bytes (set c)
-all-bytes c = bytes-of (set c) (λ j. c .before .before .shared-slice-known .given j .fits)
+abbrev known : tie.After-read-operation → MutationTarget → Bool
+known c = let a = start c .args in anchored (a .nodes .now) (a .bindings .now) (a .collections .now)
 
 abbrev taken : tie.After-known-told → ℕ
 taken c = c .before .operation .given .0 .1 .0
 
-one : (c : tie.After-known-told) → let k = c .before .before .before in OperationAt (set k) (at k) (c .before .operation .given .0 .0) (taken c)
-one c = let k = c .before .before .before in operation-at (set k) (at k) (k .read-operation .ensures) (all-bytes k) (omega arith) (c .before .operation .given .1)
+one : (c : tie.After-known-told) → let k = c .before .before .before in OperationAt (set k) (start k .args .at) (c .before .operation .given .0 .0) (taken c)
+one c =
+    let k = c .before .before .before in
+    operation-at (set k) (start k .args .at) (k .read-operation .ensures) (bytes-of (set k) (λ j. k .before .before .before .before .before .shared-slice-known .given j .fits)) (omega arith) (c .before .operation .given .1)
 
 sub-read-operation : tie.Need-sub-read-operation
 sub-read-operation c = search needs
@@ -44,26 +47,36 @@ read-operation-requires c κs = search needs
 enum-known-operation : tie.Need-enum-known-operation
 enum-known-operation c = search needs
 
+mutation-target-requires : tie.Need-mutation-target-requires
+mutation-target-requires c κs = search needs
+
+one-if-absent-requires : tie.Need-one-if-absent-requires
+one-if-absent-requires c κs = search needs
+
 before-self-requires : tie.Need-before-self-requires
 before-self-requires c κs = search needs
 
-add-t13 : tie.Need-add-t13
-add-t13 c = omega (arith, one (c .before) .within)
+add-t19 : tie.Need-add-t19
+add-t19 c = omega (arith, one (c .before .before .before) .within)
 
 enum-known-fault : tie.Need-enum-known-fault
 enum-known-fault c = search needs
 
 returns : tie.Need-returns
+unfolding targetSeen absentAmong
 returns c =
-    let k = c .before in
-    let r = k .before .before .before in
-    ap (λ b. operations-checked.Read b (at r + taken k)) (c .before-self .ensures []) ∙ alone (set r) (at r) _ (taken k) (one k .got) (one k .within)
+    let told = c .before .before .before in
+    let k = told .before .before .before in
+    let at = start k .args .at in
+    let target = c .before .before .mutation-target .result in
+    none-left v1 (known k) (set k) (at + taken told) 0 (c .before-self .result) (numbersOf (targetOf target)) (one told .within) refl (c .before .one-if-absent .result) (omega (arith, c .before .one-if-absent .ensures))
+    ∙ turn v1 (known k) (set k) at 1 false [] (omega arith) _ (taken told) (one told .got) (targetOf target) (c .before-self .result) (numbersOf (targetOf target)) (c .before .before .mutation-target .ensures []) (c .before-self .ensures []) refl
 
 returns-2 : tie.Need-returns-2
 returns-2 c =
-    let r = c .before .before .before in
+    let k = c .before .before .before in
     let bound = c .before .fault .given in
-    refusal (set r) (at r) 0 false [] (bound .0 .0) (no-operation-at (set r) (at r) (r .read-operation .ensures) (bound .1))
+    refusal v1 (known k) (set k) (start k .args .at) 1 false [] (omega arith) (bound .0 .0) (no-operation-at (set k) (start k .args .at) (k .read-operation .ensures) (bound .1))
 
 pub check-one-spec : {M : Type 1} → statement M
 check-one-spec =
@@ -74,8 +87,10 @@ check-one-spec =
     part-read-operation-end
     read-operation-requires
     enum-known-operation
+    mutation-target-requires
+    one-if-absent-requires
     before-self-requires
-    add-t13
+    add-t19
     enum-known-fault
     returns
     returns-2)

@@ -1,12 +1,11 @@
 -- `check_quick::quick_operations::check_operations` meets its contract.
 use Prim.Native.Nat.{ℕ}
 use mathlib.Core.Path.{sym, ap, _∙_}
-use lib.ListN.{length, drop}
+use mathlib.Core.Bool.{false}
+use mathlib.Core.List.{[]}
 use Rattle.spec_patch.specs.Edition.{v1}
-use Rattle.spec_patch.specs.Reader.{many}
-use Rattle.spec_patch.specs.Read.{readOperation}
-use Rattle.check_quick.specs.Quick.{operationsFound}
-use Rattle.check_quick.specs.QuickAnswers.{operationsAnswer}
+use Rattle.check_quick.specs.Anchors.{anchored}
+use Rattle.check_quick.proofs.QuickRuns.{leftAnswer}
 use borrow.Author.Needs.{needs}
 use Rattle.check_quick.proofs.quick_operations.check_operations.Statement.{statement}
 use Rattle.check_quick.proofs.quick_operations.check_operations.Tie as tie
@@ -16,9 +15,8 @@ check-one-requires c κs = search needs
 
 returns : tie.Need-returns
 returns c =
-    let set = c .before .before .before .args .set .now in
-    let from = c .before .before .before .args .from in
-    c .check-one .ensures ∙ sym (ap (λ (n : ℕ). operationsAnswer operationsFound (length set) (many n (readOperation v1) (drop from set))) (c .before .if1 .taken))
+    let a = c .before .before .before .before .before .before .args in
+    c .check-one .ensures ∙ sym (ap (λ (n : ℕ). leftAnswer v1 (anchored (a .nodes .now) (a .bindings .now) (a .collections .now)) (a .set .now) (a .from) n false []) (c .before .if1 .taken))
 
 slice-aggregate-check-with : tie.Need-slice-aggregate-check-with
 slice-aggregate-check-with c = search needs

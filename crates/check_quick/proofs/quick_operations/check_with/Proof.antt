@@ -1,71 +1,64 @@
 -- `check_quick::quick_operations::check_with` meets its contract: what is left to read, after what was found, answers as the whole does; the measure is what is left.
-use Prim.Native.Nat.{ℕ, suc, _+_, _-_, _*_, _≤_}
+use Prim.Native.Nat.{ℕ, _+_, _-_, _*_, _≤_}
 use mathlib.Core.Path.{_≡_, refl, sym, ap, _∙_}
-use mathlib.Core.Bool.{_||_}
+use mathlib.Core.Bool.{Bool, false}
 use mathlib.Core.List.{List, []}
 use native.Mathlib.Omega.{arith}
-use lib.ListN.{length, take, drop}
-use Rattle.spec_lists.specs.Bytes.{Bytes}
+use lib.ListN.{length, take}
 use Rattle.spec_lists.specs.BytesLaws.{bytes-of}
 use Rattle.spec_patch.specs.Edition.{v1}
-use Rattle.spec_patch.specs.Reader.{many}
-use Rattle.spec_patch.specs.Read.{readOperation}
-use Rattle.projection_patch.proofs.At.{from}
+use Rattle.spec_checks.specs.Target.{MutationTarget}
 use Rattle.patch_sets.proofs.ReadAt.{OperationAt, operation-at, no-operation-at}
-use Rattle.check_targets.specs.TargetsLaws.{with-target-length}
+use Rattle.check_targets.specs.Targets.{targetOf}
+use Rattle.check_targets.specs.TargetsLaws.{with-target-front, with-target-length}
 use Rattle.check_targets.specs.Marks.{Marked}
 use Rattle.check_targets.specs.MarksLaws.{marked-none}
-use Rattle.check_quick.specs.Quick.{foundFrom, operationsFound}
-use Rattle.check_quick.specs.QuickAnswers.{operationsAnswer}
-use Rattle.check_quick.proofs.QuickRuns.{refusal, put, turn, none-left}
+use Rattle.check_quick.specs.Anchors.{anchored, absentAmong}
+use Rattle.check_quick.proofs.QuickRuns.{leftAnswer, none-left, refusal, turn}
+use mir.Val.{Fits}
+use mir.Syntax.{w64}
 use borrow.Author.Needs.{needs}
 use Rattle.check_quick.proofs.quick_operations.check_with.Statement.{statement}
 use Rattle.check_quick.proofs.quick_operations.check_with.Tie as tie
 
 abbrev Inv-loop : tie.InvT-loop
-Inv-loop set first count targets₀ marks₀ at₀ left₀ used₀ found₀ targets marks at left used found =
+Inv-loop set from count nodes bindings collections targets₀ marks₀ at₀ left₀ used₀ found₀ targets marks at left used found =
     (at ≤ length set) × ((used + 3 * left ≤ length targets) × ((length targets ≡ length targets₀) × (Marked marks (take used targets)
-    × (operationsAnswer (λ os. found || foundFrom (take used targets) os) (length set) (many left (readOperation v1) (drop at set)) ≡ operationsAnswer operationsFound (length set) (many count (readOperation v1) (drop first set))))))
+    × (leftAnswer v1 (anchored nodes bindings collections) set at left found (take used targets) ≡ leftAnswer v1 (anchored nodes bindings collections) set from count false []))))
 
 abbrev μ-loop : tie.MeasureT-loop
-μ-loop set first count targets₀ marks₀ at₀ left₀ used₀ found₀ targets marks at left used found = left
+μ-loop set from count nodes bindings collections targets₀ marks₀ at₀ left₀ used₀ found₀ targets marks at left used found = left
+
+abbrev start : tie.At-loop Inv-loop μ-loop → tie.Start Inv-loop μ-loop
+start c = c .before .before .before .before .before .before .before
+
+abbrev known : tie.At-loop Inv-loop μ-loop → MutationTarget → Bool
+known c = let a = start c .args in anchored (a .nodes .now) (a .bindings .now) (a .collections .now)
 
 -- what the loop has in hand where the operation has been read
 abbrev head : tie.After-read-operation Inv-loop μ-loop → tie.At-loop Inv-loop μ-loop
 head c = c .before .before .before
 
 abbrev set : tie.After-read-operation Inv-loop μ-loop → List ℕ
-set c = head c .before .before .before .before .args .set .now
-
-abbrev at : tie.After-read-operation Inv-loop μ-loop → ℕ
-at c = head c .loop .at
-
-abbrev left : tie.After-read-operation Inv-loop μ-loop → ℕ
-left c = head c .loop .left
-
-abbrev targets : tie.After-read-operation Inv-loop μ-loop → List ℕ
-targets c = head c .loop .targets
-
-all-bytes : (c : tie.After-read-operation Inv-loop μ-loop) → Bytes (set c)
-all-bytes c = bytes-of (set c) (λ j. head c .before .before .before .shared-slice-known .given j .fits)
+set c = start (head c) .args .set .now
 
 abbrev taken : tie.After-known-told Inv-loop μ-loop → ℕ
 taken c = c .before .operation .given .0 .1 .0
 
-one : (c : tie.After-known-told Inv-loop μ-loop) → let k = c .before .before .before in OperationAt (set k) (at k) (c .before .operation .given .0 .0) (taken c)
-one c = let k = c .before .before .before in operation-at (set k) (at k) (k .read-operation .ensures) (all-bytes k) (omega arith) (c .before .operation .given .1)
+one : (c : tie.After-known-told Inv-loop μ-loop) → let k = c .before .before .before in OperationAt (set k) (head k .loop .at) (c .before .operation .given .0 .0) (taken c)
+one c =
+    let k = c .before .before .before in
+    operation-at (set k) (head k .loop .at) (k .read-operation .ensures) (bytes-of (set k) (λ j. head k .before .before .before .before .before .before .shared-slice-known .given j .fits)) (omega arith) (c .before .operation .given .1)
 
--- the operations left, one of them counted apart
-again : (c : tie.After-read-operation Inv-loop μ-loop) → let l = head c .loop in
-    operationsAnswer (λ os. l .found || foundFrom (take (l .used) (targets c)) os) (length (set c)) (many (suc (left c - 1)) (readOperation v1) (drop (at c) (set c)))
-    ≡ operationsAnswer operationsFound (length (set c)) (many (head c .before .before .before .before .args .count) (readOperation v1) (drop (head c .before .before .before .before .args .from) (set c)))
-again c =
-    let same : suc (left c - 1) ≡ left c = omega arith in
-    let l = head c .loop in
-    ap (λ (n : ℕ). operationsAnswer (λ os. l .found || foundFrom (take (l .used) (targets c)) os) (length (set c)) (many n (readOperation v1) (drop (at c) (set c)))) same ∙ l .inv .1 .1 .1 .1
+short : (c : tie.At-loop Inv-loop μ-loop) → Fits w64 (length (c .loop .targets))
+short c = omega arith
+
+-- where the operation was read, from where its target was put
+abbrev read : tie.After-operation-found Inv-loop μ-loop → tie.After-known-told Inv-loop μ-loop
+read c = c .before .before .before .before
 
 loop-holds : tie.Need-loop-holds Inv-loop μ-loop
-loop-holds c = (omega arith, (omega arith, (refl, (marked-none (c .before .before .before .args .marks .now) (search needs), refl))))
+loop-holds c = (omega arith, (omega arith, (refl, (marked-none (c .before .before .before .before .before .before .args .marks .now) (search needs), refl))))
 
 sub-read-operation : tie.Need-sub-read-operation Inv-loop μ-loop
 sub-read-operation c = search needs
@@ -82,14 +75,17 @@ read-operation-requires c κs = search needs
 enum-known-operation : tie.Need-enum-known-operation Inv-loop μ-loop
 enum-known-operation c = search needs
 
+mutation-target-requires : tie.Need-mutation-target-requires Inv-loop μ-loop
+mutation-target-requires c κs = search needs
+
 operation-found-requires : tie.Need-operation-found-requires Inv-loop μ-loop
 operation-found-requires c κs = (omega arith, search needs)
 
 add-used : tie.Need-add-used Inv-loop μ-loop
-add-used c = search needs
+add-used c = omega (arith, short (head (read (c .before .before .before .before) .before .before .before)))
 
 add-at : tie.Need-add-at Inv-loop μ-loop
-add-at c = omega (arith, one (c .before .before .before .before .before .before .before) .within)
+add-at c = omega (arith, one (read (c .before .before .before .before)) .within)
 
 sub-left : tie.Need-sub-left Inv-loop μ-loop
 sub-left c = search needs
@@ -100,14 +96,16 @@ loop-less c = search needs
 loop-again : tie.Need-loop-again Inv-loop μ-loop
 loop-again c =
     let call = c .before .before .before .before in
-    let k = call .before .before .before in
+    let k = read call in
+    let target = call .before .before .before .mutation-target in
     let r = k .before .before .before in
     let l = head r .loop in
     let found = call .operation-found .ensures in
-    let room : l .used + 3 ≤ length (targets r) = omega arith in
-    let same = ap length (found .1 .0 []) ∙ with-target-length (l .used) _ (targets r) room in (
+    let room : l .used + 3 ≤ length (l .targets) = omega arith in
+    let same = ap length (found .1 .0) ∙ with-target-length (l .used) _ (l .targets) room in
+    let front = ap (take (l .used + 3)) (found .1 .0) ∙ with-target-front (l .used) (targetOf (target .result)) (l .targets) room in (
       one k .within,
-      (omega (arith, same), (omega (arith, same), (rw (put (set r) (at r) (left r - 1) (l .found) _ (taken k) (one k .got) _ (targets r) _ (l .used) room (found .0 []) (found .1 .0 [])) (found .1 .1 []), turn (set r) (at r) (left r - 1) (l .found) _ (taken k) (one k .got) _ (targets r) _ (l .used) room (found .0 []) (found .1 .0 []) ∙ again r))),
+      (omega (arith, same), (omega (arith, same), (rw front (found .1 .1), turn v1 (known (head r)) (set r) (l .at) (l .left) (l .found) (take (l .used) (l .targets)) (omega arith) _ (taken k) (one k .got) (targetOf (target .result)) _ _ (target .ensures []) (found .0 []) front ∙ l .inv .1 .1 .1 .1))),
     )
 
 enum-known-fault : tie.Need-enum-known-fault Inv-loop μ-loop
@@ -117,28 +115,41 @@ same-length : tie.Need-same-length Inv-loop μ-loop
 same-length c = search needs
 
 same-length-2 : tie.Need-same-length-2 Inv-loop μ-loop
-same-length-2 c = let h = head (c .before .before .before) in h .loop .inv .1 .1 .1 .0 .long ∙ sym (h .before .before .before .before .pre .1 .1)
+same-length-2 c = let h = head (c .before .before .before) in h .loop .inv .1 .1 .1 .0 .long ∙ sym (start h .pre .1 .1)
 
 returns : tie.Need-returns Inv-loop μ-loop
 returns c =
     let r = c .before .before .before in
+    let l = head r .loop in
     let bound = c .before .fault .given in
-    refusal (set r) (at r) (left r - 1) (head r .loop .found) (take (head r .loop .used) (targets r)) (bound .0 .0) (no-operation-at (set r) (at r) (r .read-operation .ensures) (bound .1))
-    ∙ again r
+    refusal v1 (known (head r)) (set r) (l .at) (l .left) (l .found) (take (l .used) (l .targets)) (omega arith) (bound .0 .0) (no-operation-at (set r) (l .at) (r .read-operation .ensures) (bound .1))
+    ∙ l .inv .1 .1 .1 .1
+
+sub-absent-among : tie.Need-sub-absent-among Inv-loop μ-loop
+sub-absent-among c = search needs
+
+part-absent-among-start : tie.Need-part-absent-among-start Inv-loop μ-loop
+part-absent-among-start c = search needs
+
+part-absent-among-end : tie.Need-part-absent-among-end Inv-loop μ-loop
+part-absent-among-end c = omega arith
+
+absent-among-requires : tie.Need-absent-among-requires Inv-loop μ-loop
+absent-among-requires c κs = search needs
 
 same-length-3 : tie.Need-same-length-3 Inv-loop μ-loop
 same-length-3 c = search needs
 
 same-length-4 : tie.Need-same-length-4 Inv-loop μ-loop
-same-length-4 c = c .before .loop .inv .1 .1 .1 .0 .long ∙ sym (c .before .before .before .before .before .pre .1 .1)
+same-length-4 c = let h = c .before .before .before .before in h .loop .inv .1 .1 .1 .0 .long ∙ sym (start h .pre .1 .1)
 
 returns-2 : tie.Need-returns-2 Inv-loop μ-loop
 returns-2 c =
-    let l = c .before .loop in
-    let whole = c .before .before .before .before .before .args .set .now in
-    let none : 0 ≡ l .left = omega arith in
-    none-left whole (l .at) (l .found) (take (l .used) (l .targets)) (omega arith)
-    ∙ ap (λ (n : ℕ). operationsAnswer (λ os. l .found || foundFrom (take (l .used) (l .targets)) os) (length whole) (many n (readOperation v1) (drop (l .at) whole))) none
+    let h = c .before .before .before .before in
+    let l = h .loop in
+    let all : l .used - 0 ≡ l .used = omega arith in
+    none-left v1 (known h) (start h .args .set .now) (l .at) (l .left) (l .found) (take (l .used) (l .targets)) (omega arith) (omega arith) (c .absent-among .result)
+    (c .absent-among .ensures ∙ ap (λ (n : ℕ). absentAmong (known h) (take n (l .targets))) all)
     ∙ l .inv .1 .1 .1 .1
 
 pub check-with-spec : {M : Type 1} → statement M
@@ -153,6 +164,7 @@ check-with-spec =
     part-read-operation-end
     read-operation-requires
     enum-known-operation
+    mutation-target-requires
     operation-found-requires
     add-used
     add-at
@@ -163,6 +175,10 @@ check-with-spec =
     same-length
     same-length-2
     returns
+    sub-absent-among
+    part-absent-among-start
+    part-absent-among-end
+    absent-among-requires
     same-length-3
     same-length-4
     returns-2)

@@ -1,9 +1,7 @@
 -- `check_batch` meets its contract: the preflight, then what the set must pass.
 use mathlib.Core.Path.{sym, ap, _∙_}
-use Rattle.spec_session.specs.BatchLaws.{never-passes}
-use Rattle.session_gates.specs.Gates.{gateOf, counted}
-use Rattle.session_gates.specs.StepLaws.{batch-refused, batch-on}
-use Rattle.session_gates.specs.CountedLaws.{preflight-counted}
+use Rattle.session_gates.specs.Gates.{gateOf}
+use Rattle.session_gates.specs.GatesLaws.{preflight-refused, preflight-passed}
 use borrow.Author.Needs.{needs}
 use Rattle.session_gates.proofs.batch.check_batch.Statement.{statement}
 use Rattle.session_gates.proofs.batch.check_batch.Tie as tie
@@ -17,22 +15,20 @@ enum-known-refusal c = search needs
 enum-told : tie.Need-enum-told
 enum-told c = search needs
 
-check-set-requires : tie.Need-check-set-requires
-check-set-requires c κs = search needs
+inspect-set-requires : tie.Need-inspect-set-requires
+inspect-set-requires c κs = search needs
+
+check-inspection-requires : tie.Need-check-inspection-requires
+check-inspection-requires c κs = search needs
 
 returns : tie.Need-returns
 unfolding gateOf
-returns c =
-    let answer = ap gateOf (sym (c .before .refusal .given .1)) ∙ c .before .before .before .evaluate-preflight .ensures in
-    (λ s seen. batch-refused s _ _ _ _ _ _ seen _ _ _ _ _ answer, (ap counted answer ∙ preflight-counted _ _ _ _, λ r n h. answer ∙ h))
+returns c = preflight-refused _ _ _ _ _ _ _ _ _ _ _ (ap gateOf (sym (c .before .refusal .given .1)) ∙ c .before .before .before .evaluate-preflight .ensures)
 
 returns-2 : tie.Need-returns-2
 unfolding gateOf
 returns-2 c =
-    let passes = ap gateOf (sym (c .before .enum-told .given .1)) ∙ c .before .before .before .evaluate-preflight .ensures in (
-      λ s seen. batch-on s _ _ _ _ _ _ seen _ _ _ _ passes (c .check-set .ensures .0 s (seen .limits-are) (seen .cursor-is) (seen .anchors-are)),
-      (c .check-set .ensures .1, λ r n h. never-passes (sym (passes ∙ h))),
-    )
+    preflight-passed _ _ _ _ _ _ _ _ _ _ (ap gateOf (sym (c .before .before .enum-told .given .1)) ∙ c .before .before .before .before .evaluate-preflight .ensures) _ (c .before .inspect-set .ensures) (c .check-inspection .ensures)
 
 pub check-batch-spec : {M : Type 1} → statement M
 check-batch-spec =
@@ -41,6 +37,7 @@ check-batch-spec =
     evaluate-preflight-requires
     enum-known-refusal
     enum-told
-    check-set-requires
+    inspect-set-requires
+    check-inspection-requires
     returns
     returns-2)

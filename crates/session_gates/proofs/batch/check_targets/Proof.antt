@@ -1,29 +1,23 @@
--- `check_targets` meets its contract.
-use mathlib.Core.Path.{ap, _∙_}
-use Rattle.session_gates.specs.Gates.{gateOf, counted}
-use Rattle.session_gates.specs.StepLaws.{targets-absent, targets-known}
-use Rattle.session_gates.specs.CountedLaws.{replay-counted, absent-counted}
+-- `check_targets` meets its contract: absent targets, then the cursor.
+use mathlib.Core.Path.{_∙_}
 use borrow.Author.Needs.{needs}
+use borrow.Author.Tests.{eq-eqb, ne-eqb}
+use native.Mathlib.Omega.{arith}
+use Rattle.spec_session.specs.Batch.{knownTargets}
+use Rattle.session_gates.specs.Gates.{gateOf, targetsBy}
 use Rattle.session_gates.proofs.batch.check_targets.Statement.{statement}
 use Rattle.session_gates.proofs.batch.check_targets.Tie as tie
 
-absent-targets-requires : tie.Need-absent-targets-requires
-absent-targets-requires c κs = search needs
-
 returns : tie.Need-returns
-unfolding gateOf counted
-returns c = (λ k ps lent reads. targets-absent k _ _ ps _ (c .before .absent-targets .ensures k lent ps reads) (c .if1 .taken), absent-counted _ (c .if1 .taken))
+unfolding gateOf targetsBy knownTargets
+returns c = rw (ne-eqb (c .before .args .absent) 0 (λ z. omega arith))
 
 evaluate-replay-compatibility-requires : tie.Need-evaluate-replay-compatibility-requires
 evaluate-replay-compatibility-requires c κs = search needs
 
 returns-2 : tie.Need-returns-2
-returns-2 c = (
-  λ k ps lent reads. c .evaluate-replay-compatibility .ensures ∙ targets-known k _ _ ps _ (c .before .before .absent-targets .ensures k lent ps reads) (c .before .if1 .left),
-  ap counted (c .evaluate-replay-compatibility .ensures) ∙ replay-counted _ _,
-)
+unfolding targetsBy knownTargets
+returns-2 c = c .evaluate-replay-compatibility .ensures ∙ rw (eq-eqb (c .before .before .args .absent) 0 (omega arith))
 
 pub check-targets-spec : {M : Type 1} → statement M
-check-targets-spec =
-    tie.close
-    (tie.spec absent-targets-requires returns evaluate-replay-compatibility-requires returns-2)
+check-targets-spec = tie.close (tie.spec returns evaluate-replay-compatibility-requires returns-2)

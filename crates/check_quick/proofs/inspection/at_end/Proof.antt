@@ -1,8 +1,8 @@
--- `check_quick::quick_set::at_end` meets its contract.
+-- `check_quick::inspection::at_end` meets its contract.
 use borrow.Author.Needs.{needs}
 use borrow.Author.Tests.{lt-ltb, le-ltb}
-use Rattle.check_quick.proofs.quick_set.at_end.Statement.{statement}
-use Rattle.check_quick.proofs.quick_set.at_end.Tie as tie
+use Rattle.check_quick.proofs.inspection.at_end.Statement.{statement}
+use Rattle.check_quick.proofs.inspection.at_end.Tie as tie
 
 returns : tie.Need-returns
 returns c = let left = c .before .args .left in rw (lt-ltb 0 left (c .if1 .taken))

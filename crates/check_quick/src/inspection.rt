@@ -1,0 +1,113 @@
+// A whole set, read and checked in one pass: what steps 4 to 7 of a batch ask of it. In which order they refuse is decided afterwards.
+use crate::quick_patches;
+use crate::quick_patches::PatchCheckRead;
+use crate::quick_patches::PreviousEnvelope;
+use projection_patch::patch::ProjectionPatchSet;
+use projection_patch::read_values::CountRead;
+use projection_patch::read_values::ProjectionPatchReadFault;
+ghost use mathlib.Core.Path.{_≡_};
+ghost use Prim.Native.Nat.{_≤_};
+ghost use lib.ListN.{length, drop};
+ghost use Rattle.spec_patch.specs.Sizes.{setPatches};
+ghost use Rattle.spec_patch.specs.Edition.{v1};
+ghost use Rattle.spec_patch.specs.Reader.{many};
+ghost use Rattle.spec_patch.specs.Read.{readPatch, ended, readSet};
+ghost use Rattle.check_quick.specs.QuickAnswers.{inspectionAnswer, endAnswer};
+
+// Clean: the set has no findings, so many patches and operations, and so many operations whose target is absent.
+pub enum SetInspection {
+    Clean {
+        patch_count: usize,
+        operation_count: usize,
+        absent: usize,
+    },
+    Found,
+    Refused(ProjectionPatchReadFault),
+}
+
+// The answer behind the last patch, where so many bytes are left.
+fn at_end(
+    left: usize,
+    found: bool,
+    patch_count: usize,
+    operation_count: usize,
+    absent: usize,
+) -> SetInspection
+    ensures { λ r. ⌜ r ≡ endAnswer left found «patch_count» «operation_count» absent ⌝ }
+{
+    if 0 < left {
+        return SetInspection::Refused(ProjectionPatchReadFault::Malformed);
+    }
+    if found {
+        return SetInspection::Found;
+    }
+    SetInspection::Clean {
+        patch_count,
+        operation_count,
+        absent,
+    }
+}
+
+// Reads and checks count patches, the first of them at from, behind which the set ends.
+fn inspect_patches(
+    set: &[u8],
+    from: usize,
+    count: usize,
+    nodes: &[u64],
+    bindings: &[u64],
+    collections: &[u64],
+) -> SetInspection
+    requires { ⌜ (from ≤ length (now set)) × (count ≤ setPatches) ⌝ }
+    ensures { λ r. ⌜ r ≡ inspectionAnswer (now (nodes .entry)) (now (bindings .entry)) (now (collections .entry))
+        (ended (many count (readPatch v1) (drop from (now (set .entry))))) ⌝ }
+{
+    let mut ids = [0u64; ProjectionPatchSet::PATCHES];
+    let mut previous = PreviousEnvelope::None;
+    let mut at = from;
+    let mut left = count;
+    let mut done: usize = 0;
+    let mut operations: usize = 0;
+    let mut absent: usize = 0;
+    let mut found = false;
+    while 0 < left {
+        match quick_patches::check_patch(set, at, nodes, bindings, collections) {
+            PatchCheckRead::Read(patch, end) => {
+                let own = patch.found;
+                let head = patch.head;
+                let envelope = head.envelope;
+                found = quick_patches::after_found(found, own, &mut ids, done, previous, envelope);
+                previous = PreviousEnvelope::Some(envelope);
+                operations = operations + head.operation_count;
+                absent = absent + patch.absent;
+                at = end;
+                left = left - 1;
+                done = done + 1;
+            }
+            PatchCheckRead::Refused(fault) => {
+                return SetInspection::Refused(fault);
+            }
+        }
+    }
+    at_end(set.len() - at, found, count, operations, absent)
+}
+
+// Reads a whole set and says whether it has a finding; if not, how many patches and operations it has, and how many of the operations have
+// a target that is none of the lent anchors, repeats included. A binding's anchor is two numbers.
+pub fn inspect_set(
+    set: &[u8],
+    nodes: &[u64],
+    bindings: &[u64],
+    collections: &[u64],
+) -> SetInspection
+    ensures { λ r. ⌜ r ≡ inspectionAnswer (now (nodes .entry)) (now (bindings .entry)) (now (collections .entry)) (readSet v1 (now (set .entry))) ⌝ }
+{
+    if ProjectionPatchSet::BYTES < set.len() {
+        return SetInspection::Refused(ProjectionPatchReadFault::OverCapacity);
+    }
+    match patch_sets::read_heading(set) {
+        CountRead::Read(count, at) => {
+            inspect_patches(set, at, count, nodes, bindings, collections)
+        }
+        CountRead::Refused(fault) => SetInspection::Refused(fault),
+    }
+}

@@ -1,3 +1,0 @@
-pub mod Lent
-pub mod Counted
-pub mod CountedLaws
