@@ -40,7 +40,7 @@ module _ {A : Type 0} (row : A → List ℕ) (Fits : A → Type 0) (width : ℕ)
       → Stored row width capacity count table l → Stored row width capacity count table m → l ≡ m
   one-list capacity count table l m g h s t = rows-tell l m g h (holds-unique width count table (map row l) (map row m) (s .rows) (t .rows))
 
-  stored : (capacity : ℕ) (l : List A) → All Fits l → length l ≤ capacity → Stored row width capacity (length l) (tableBytes (capacity * width) (map row l)) l
+  pub stored : (capacity : ℕ) (l : List A) → All Fits l → length l ≤ capacity → Stored row width capacity (length l) (tableBytes (capacity * width) (map row l)) l
   unfolding tableBytes
   stored capacity l g few =
       let rows = map row l in

@@ -13,15 +13,15 @@ use Rattle.spec_projection.specs.Entries.{isEntry}
 use Rattle.spec_projection.specs.Lookups.{bindingOf, availabilityOf, entryOf}
 use Rattle.spec_projection.specs.Valid.{FitsBinding, FitsNodeAvailability, FitsEntry, Valid}
 use Rattle.bytes_keys.specs.Keys.{leadingNumbers}
-use Rattle.bytes_records.specs.Search.{placeOf, isPair, findFirst}
-use Rattle.bytes_records.specs.SearchLaws.{place-map, find-map, find-absent}
+use Rattle.bytes_records.specs.Search.{placeOf, findFirst}
+use Rattle.bytes_records.specs.SearchLaws.{place-map, find-absent}
 use Rattle.bytes_records.specs.declared.Place.{Place}
 use Rattle.bytes_records.specs.declared.Place.the-variants.{Taken, Before}
 use Rattle.bytes_records.specs.declared.Found.{Found}
 use Rattle.bytes_records.specs.declared.Found.the-variants.{At, Absent}
-use Rattle.panel_rows.specs.Rows.{bindingValueAt, entryValueAt, entryWidth, padded, bindingRow, availabilityRow, entryRow, bindingFields, availabilityFields}
-use Rattle.panel_rows.specs.RowsLaws.{binding-key, availability-key, entry-pair, binding-behind, entry-behind}
-use Rattle.panel_collections.specs.PlacesLaws.{found-at, found-none}
+use Rattle.panel_rows.specs.Rows.{bindingValueAt, entryValueAt, padded, bindingRow, availabilityRow, entryRow, bindingFields, availabilityFields}
+use Rattle.panel_rows.specs.RowsLaws.{binding-key, availability-key, binding-behind, entry-behind}
+use Rattle.panel_entries.specs.PlacesLaws.{found-at, found-none}
 use Rattle.panel_rows.specs.Lookup.{noValue, foundValue, valueLookup, availabilityLookup}
 use Rattle.panel_rows.specs.declared.values.ValueLookup.{ValueLookup}
 use Rattle.panel_rows.specs.declared.values.AvailabilityLookup.{AvailabilityLookup}
@@ -70,10 +70,7 @@ module _ (p : Projection) (v : Valid p) where
 
   -- ---- entries
 
-  module _ (c k : ℕ) (place : Found) (found : place ≡ findFirst (isPair c k) (map entryRow (p .entries))) where
-    told : place ≡ findFirst (isEntry c k) (p .entries)
-    told = found ∙ find-map entryRow (isPair c k) (isEntry c k) (p .entries) (all-map FitsEntry _ (entry-pair c k) (p .entries) (v .fitEntries))
-
+  module _ (c k : ℕ) (place : Found) (told : place ≡ findFirst (isEntry c k) (p .entries)) where
     pub entry-found : (i : ℕ) → place ≡ At i → (row : List ℕ) → row ≡ getD (map entryRow (p .entries)) i [] → (r : ValueLookup) → ReadsAt entryValueAt row r → r ≡ valueLookup (entryOf p c k)
     unfolding entryOf valueLookup
     entry-found i e row is r reads =

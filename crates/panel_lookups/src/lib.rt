@@ -13,6 +13,7 @@ ghost use Rattle.local_projection_state.specs.Stores.{Stored};
 ghost use Rattle.panel_rows.specs.Lookup.{valueLookup, availabilityLookup};
 use bytes_records::Found;
 use bytes_records::Place;
+use panel_entries::find;
 use panel_rows::fields;
 use panel_rows::values;
 use panel_rows::values::AvailabilityLookup;
@@ -77,7 +78,7 @@ pub fn entry_value(table: &[u8], count: usize, collection: u64, key: u64) -> Val
         → r ≡ valueLookup (entryOf p collection key)) ⌝ }
 {
     let width = panel_rows::ENTRY_WIDTH;
-    match bytes_records::find_pair(table, width, count, collection, key) {
+    match find::find_entry(table, width, count, collection, key) {
         Found::At(at) => values::stored_value(
             bytes_records::record_at(table, width, count, at),
             panel_rows::ENTRY_VALUE,

@@ -11,6 +11,5 @@ pub mod PlanRows
 pub mod PlanRowsLaws
 pub mod NumberedRows
 pub mod NumberedRowsLaws
-pub mod WrittenLaws
 pub mod Sources
 pub mod SourcesLaws

@@ -14,7 +14,7 @@ use Rattle.panel_rows.specs.Rows.{filledRow, writtenRow}
 use Rattle.panel_rows.specs.RowsLaws.{written-filled, written-left}
 
 -- what stands from a position on is lent, and comes back as what f makes of it
-rest-lent : (xs a s : List ℕ) (from : ℕ) (f : List ℕ → List ℕ) {ys : List ℕ} → xs ≡ a ++ s → length a ≡ from
+pub rest-lent : (xs a s : List ℕ) (from : ℕ) (f : List ℕ → List ℕ) {ys : List ℕ} → xs ≡ a ++ s → length a ≡ from
     → ys ≡ f (midOf from (length xs - from) xs) → putMid from (length xs - from) xs ys ≡ a ++ f s
 rest-lent xs a s from f {ys} split front e =
     let size : length s ≡ length xs - from = omega (arith, simp length-append at (ap length split)) in

@@ -194,16 +194,17 @@ module _ (key value row : List ℕ) where
       ap length (written-filled room) ∙ simp (length-append, length-replicate) (omega arith))
       (λ t. ap length (written-left (leb-false (length key + length value) (length row) t)))
 
--- a value's canonical bytes, and those that stand behind the key of a row, fill a row to the same bytes
-module _ (width : ℕ) (key : List ℕ) (room : length key + valueWidth ≡ width) (v : Value) (h : Storable v) where
-  pub filled-encoded : filledRow width key (encodeValue v) ≡ key ++ padded v
+-- a value's canonical bytes, and a stored value's bytes, make the same row
+module _ (key row : List ℕ) (room : length key + valueWidth ≡ length row) (v : Value) (h : Storable v) where
+  pub written-encoded : writtenRow key (encodeValue v) row ≡ key ++ padded v
   unfolding filledRow padded
-  filled-encoded =
-      let rest : width - (length key + length (encodeValue v)) ≡ valueWidth - length (encodeValue v) = omega arith in
-      ap (λ (n : ℕ). key ++ (encodeValue v ++ zeros n)) rest
+  written-encoded =
+      let rest : length row - (length key + length (encodeValue v)) ≡ valueWidth - length (encodeValue v) = omega arith in
+      written-filled key (encodeValue v) row (omega (arith, value-fits v h)) ∙ ap (λ (n : ℕ). key ++ (encodeValue v ++ zeros n)) rest
 
-  pub filled-padded : filledRow width key (padded v) ≡ key ++ padded v
+  pub written-padded : writtenRow key (padded v) row ≡ key ++ padded v
   unfolding filledRow
-  filled-padded =
-      let none : width - (length key + length (padded v)) ≡ 0 = omega (arith, length-padded v h) in
-      ap (λ (n : ℕ). key ++ (padded v ++ zeros n)) none ∙ ap (λ (l : List ℕ). key ++ l) (append-nil (padded v))
+  written-padded =
+      let none : length row - (length key + length (padded v)) ≡ 0 = omega (arith, length-padded v h) in
+      written-filled key (padded v) row (omega (arith, length-padded v h)) ∙ ap (λ (n : ℕ). key ++ (padded v ++ zeros n)) none
+      ∙ ap (λ (l : List ℕ). key ++ l) (append-nil (padded v))

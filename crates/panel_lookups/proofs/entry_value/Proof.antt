@@ -3,13 +3,13 @@ use mathlib.Core.List.{map}
 use borrow.Author.Needs.{needs}
 use denote.Ref.{now}
 use Rattle.panel_rows.specs.Rows.{entryRow}
-use Rattle.panel_rows.specs.RowsLaws.{entries-rising}
+use Rattle.panel_entries.specs.EntryRowsLaws.{stored-keyed}
 use Rattle.panel_lookups.proofs.Found.{entry-found, entry-absent}
 use Rattle.panel_lookups.proofs.entry_value.Statement.{statement}
 use Rattle.panel_lookups.proofs.entry_value.Tie as tie
 
-find-pair-requires : tie.Need-find-pair-requires
-find-pair-requires c κs = search needs
+find-entry-requires : tie.Need-find-entry-requires
+find-entry-requires c κs = search needs
 
 enum-known-at : tie.Need-enum-known-at
 enum-known-at c = search needs
@@ -31,20 +31,20 @@ returns c =
     let find = c .before .before .before .before .before in
     let a = c .before .before .before .before .before .before .before .args in
     λ p s v.
-    entry-found p v (a .collection) (a .key) (find .find-pair .result) (find .find-pair .ensures .0 (map entryRow (p .entries)) (s .rows) (entries-rising (p .entries) (v .fitEntries) (v .entries))) _ (c .before .before .before .at .given .1) (now (c .before .record-at .result)) (c .before .record-at .ensures .0 (map entryRow (p .entries)) (s .rows)) (c .stored-value .result) (c .stored-value .ensures)
+    entry-found p v (a .collection) (a .key) (find .find-entry .result) (find .find-entry .ensures .0 entryRow stored-keyed (p .entries) (v .fitEntries) (v .entries) (s .rows)) _ (c .before .before .before .at .given .1) (now (c .before .record-at .result)) (c .before .record-at .ensures .0 (map entryRow (p .entries)) (s .rows)) (c .stored-value .result) (c .stored-value .ensures)
 
 returns-2 : tie.Need-returns-2
 returns-2 c =
     let find = c .before .before .before in
     let a = c .before .before .before .before .before .args in
     λ p s v.
-    entry-absent p v (a .collection) (a .key) (find .find-pair .result) (find .find-pair .ensures .0 (map entryRow (p .entries)) (s .rows) (entries-rising (p .entries) (v .fitEntries) (v .entries))) (c .before .enum-told .given .1) (c .no-value .result) (c .no-value .ensures)
+    entry-absent p v (a .collection) (a .key) (find .find-entry .result) (find .find-entry .ensures .0 entryRow stored-keyed (p .entries) (v .fitEntries) (v .entries) (s .rows)) (c .before .enum-told .given .1) (c .no-value .result) (c .no-value .ensures)
 
 pub entry-value-spec : {M : Type 1} → statement M
 entry-value-spec =
     tie.close
     (tie.spec
-    find-pair-requires
+    find-entry-requires
     enum-known-at
     record-at-requires
     stored-value-requires

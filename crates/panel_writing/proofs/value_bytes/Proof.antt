@@ -1,0 +1,60 @@
+-- `value_bytes` meets its contract: the bytes up to where the value ends.
+use mathlib.Core.Path.{sym, ap, _∙_}
+use mathlib.Core.Bool.{false}
+use borrow.Author.Needs.{needs}
+use denote.Ref.{now}
+use lib.ListN.{drop}
+use Rattle.spec_patch.specs.Edition.{v1}
+use Rattle.spec_patch.specs.Read.{readValueBy}
+use Rattle.panel_writing.specs.Writing.{valueBytes}
+use Rattle.panel_writing.proofs.Bytes.{bytes-of-read, bytes-of-refused}
+use Rattle.panel_writing.proofs.value_bytes.Statement.{statement}
+use Rattle.panel_writing.proofs.value_bytes.Tie as tie
+
+value-at-requires : tie.Need-value-at-requires
+value-at-requires c κs = search needs
+
+enum-known-end : tie.Need-enum-known-end
+enum-known-end c = search needs
+
+key-part-requires : tie.Need-key-part-requires
+key-part-requires c κs = search needs
+
+value-part-requires : tie.Need-value-part-requires
+value-part-requires c κs = search needs
+
+enum-told : tie.Need-enum-told
+enum-told c = search needs
+
+slice-aggregate-result : tie.Need-slice-aggregate-result
+slice-aggregate-result c = search needs
+
+returns : tie.Need-returns
+unfolding valueBytes
+returns c =
+    let told = c .before .before .before in
+    let read = told .before .before in
+    let a = read .before .before .args in
+    c .value-part .ensures ∙ ap (drop (a .at)) (c .before .key-part .ensures)
+    ∙ bytes-of-read (now (a .set)) (a .at) (readValueBy false v1 (drop (a .at) (now (a .set)))) _ _ (sym (told .end .given .1) ∙ read .value-at .ensures)
+
+returns-2 : tie.Need-returns-2
+unfolding valueBytes
+returns-2 c =
+    let told = c .before in
+    let read = told .before .before in
+    let a = read .before .before .args in
+    bytes-of-refused (now (a .set)) (a .at) (readValueBy false v1 (drop (a .at) (now (a .set)))) _ (sym (told .enum-told .given .1) ∙ read .value-at .ensures)
+
+pub value-bytes-spec : {M : Type 1} → statement M
+value-bytes-spec =
+    tie.close
+    (tie.spec
+    value-at-requires
+    enum-known-end
+    key-part-requires
+    value-part-requires
+    enum-told
+    slice-aggregate-result
+    returns
+    returns-2)

@@ -1,0 +1,136 @@
+-- `write_rows` meets its contract: the rows before the i-th are written; the measure is the rows left.
+use Prim.Native.Nat.{_+_, _-_, _*_, _≤_}
+use mathlib.Core.Path.{_≡_, refl, subst}
+use native.Mathlib.Nat.{suc-mul}
+use native.Mathlib.Omega.{arith}
+use borrow.Author.Needs.{needs}
+use denote.Ref.{now}
+use lib.ListN.{length}
+use Rattle.spec_patch.specs.Edition.{v1}
+use Rattle.bytes_records.proofs.Offsets.{start-le, end-le}
+use Rattle.panel_rows.specs.Rows.{valueWidth}
+use Rattle.panel_writing.specs.Writing.{newRow}
+use Rattle.panel_writing.proofs.Bytes.{planned, planned-keeps, planned-by}
+use Rattle.panel_writing.proofs.Turns.{RowsWritten, none-written, same-size, one-written, rest-cleared}
+use Rattle.panel_writing.proofs.write_rows.Statement.{statement}
+use Rattle.panel_writing.proofs.write_rows.Tie as tie
+
+abbrev Inv-loop : tie.InvT-loop
+Inv-loop key plan count from set to₀ width i₀ to i = (i ≤ count) × ((length to ≡ length to₀) × RowsWritten (key + valueWidth) to₀ (planned v1 key plan from set) i to)
+
+abbrev μ-loop : tie.MeasureT-loop
+μ-loop key plan count from set to₀ width i₀ to i = count - i
+
+-- the i-th row stands in the table, and so do all
+room : (c : tie.In-loop Inv-loop μ-loop) → let a = c .before .before .before .before .before .before .args in
+    c .before .loop .i * (a .key + valueWidth) + (a .key + valueWidth) ≤ length (now (a .to))
+room c =
+    let start = c .before .before .before .before .before .before in
+    omega (arith, end-le (start .args .key + valueWidth) (c .before .loop .i) (start .args .count) (c .loop-test .taken), start .pre .2)
+
+fits : (c : tie.At-loop Inv-loop μ-loop) → let a = c .before .before .before .before .before .args in c .loop .i * (a .key + valueWidth) ≤ length (now (a .to))
+fits c =
+    let start = c .before .before .before .before .before in
+    omega (arith, start-le (start .args .key + valueWidth) (c .loop .inv .0), start .pre .2)
+
+add-width : tie.Need-add-width Inv-loop μ-loop
+add-width c = search needs
+
+loop-holds : tie.Need-loop-holds Inv-loop μ-loop
+loop-holds c = (search needs, (refl, none-written _ _ _))
+
+add-row-at : tie.Need-add-row-at Inv-loop μ-loop
+add-row-at c = search needs
+
+row-at-requires : tie.Need-row-at-requires Inv-loop μ-loop
+row-at-requires c κs = search needs
+
+mul-start : tie.Need-mul-start Inv-loop μ-loop
+mul-start c = omega (arith, room (c .before))
+
+add-end : tie.Need-add-end Inv-loop μ-loop
+add-end c = omega (arith, room (c .before))
+
+sub-write-planned : tie.Need-sub-write-planned Inv-loop μ-loop
+sub-write-planned c = search needs
+
+part-write-planned-start : tie.Need-part-write-planned-start Inv-loop μ-loop
+part-write-planned-start c = search needs
+
+part-write-planned-end : tie.Need-part-write-planned-end Inv-loop μ-loop
+part-write-planned-end c = omega (arith, room (c .before))
+
+write-planned-requires : tie.Need-write-planned-requires Inv-loop μ-loop
+write-planned-requires c κs = search needs
+
+add-i : tie.Need-add-i Inv-loop μ-loop
+add-i c = search needs
+
+loop-less : tie.Need-loop-less Inv-loop μ-loop
+loop-less c = search needs
+
+loop-again : tie.Need-loop-again Inv-loop μ-loop
+loop-again c =
+    let call = c .before .before in
+    let turn = call .before .before .before in
+    let h = turn .before in
+    let a = h .before .before .before .before .before .args in
+    let next = one-written (a .key + valueWidth) (now (a .to)) (planned v1 (a .key) (now (a .plan)) (now (a .from)) (now (a .set))) (h .loop .i) (h .loop .inv .1 .1)
+    (planned-keeps v1 (a .key) (now (a .plan)) (now (a .from)) (now (a .set)) (h .loop .i)) (room turn)
+    (planned-by v1 (a .key) (now (a .plan)) (now (a .from)) (now (a .set)) (h .loop .i) _ (call .before .before .row-at .ensures) (call .write-planned .ensures)) in
+    (search needs, (same-size (a .key + valueWidth) (now (a .to)) _ (h .loop .i + 1) next (omega (arith, room turn, suc-mul (h .loop .i) (a .key + valueWidth))), next))
+
+mul-used : tie.Need-mul-used Inv-loop μ-loop
+mul-used c = omega (arith, c .before .before .before .before .before .before .pre .2)
+
+sub-clear : tie.Need-sub-clear Inv-loop μ-loop
+sub-clear c = omega (arith, c .before .before .before .before .before .before .pre .2, c .before .loop .inv .1 .0)
+
+part-clear-start : tie.Need-part-clear-start Inv-loop μ-loop
+part-clear-start c = omega (arith, c .before .before .before .before .before .before .pre .2, c .before .loop .inv .1 .0)
+
+part-clear-end : tie.Need-part-clear-end Inv-loop μ-loop
+part-clear-end c = search needs
+
+clear-requires : tie.Need-clear-requires Inv-loop μ-loop
+clear-requires c κs = search needs
+
+same-length : tie.Need-same-length Inv-loop μ-loop
+same-length c = search (needs, c .before .before .before .before .before .loop .inv .1 .0)
+
+returns : tie.Need-returns Inv-loop μ-loop
+unfolding newRow
+returns c =
+    let h = c .before .before .before .before .before in
+    let start = h .before .before .before .before .before in
+    let a = start .args in
+    let last : h .loop .i ≡ a .count = omega arith in
+    rest-cleared (a .key + valueWidth) (now (a .to)) _ (a .count) (subst (λ n. RowsWritten (a .key + valueWidth) (now (a .to)) (planned v1 (a .key) (now (a .plan)) (now (a .from)) (now (a .set))) n (h .loop .to)) last (h .loop .inv .1 .1))
+    (start .pre .2) (c .before .before .clear .ensures)
+
+pub write-rows-spec : {M : Type 1} → statement M
+write-rows-spec =
+    tie.close
+    (tie.spec
+    Inv-loop
+    μ-loop
+    add-width
+    loop-holds
+    add-row-at
+    row-at-requires
+    mul-start
+    add-end
+    sub-write-planned
+    part-write-planned-start
+    part-write-planned-end
+    write-planned-requires
+    add-i
+    loop-less
+    loop-again
+    mul-used
+    sub-clear
+    part-clear-start
+    part-clear-end
+    clear-requires
+    same-length
+    returns)

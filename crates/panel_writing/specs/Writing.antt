@@ -1,0 +1,55 @@
+-- The bytes that a plan's rows are written as, from any bytes of the plan, of the table before the batch and of the set.
+use Prim.Native.Nat.{ℕ, zero, suc, _+_, _-_, _*_}
+use mathlib.Core.Bool.{Bool, false, _&&_}
+use mathlib.Core.List.{List, [], _∷_, _++_}
+use lib.Dec.{ltb, leb, eqb}
+use lib.ListN.{length, take, drop}
+use Rattle.spec_lists.specs.Lists.{if_then_else_}
+use Rattle.spec_patch.specs.Sizes.{projectionEntries}
+use Rattle.spec_patch.specs.Patch.{Value}
+use Rattle.spec_patch.specs.Edition.{Edition}
+use Rattle.spec_patch.specs.Reader.{Result, read, refused}
+use Rattle.spec_patch.specs.Read.{readValueBy}
+use Rattle.bytes_records.specs.Table.{tableBytes}
+use Rattle.panel_rows.specs.Rows.{valueWidth, fieldAt, writtenRow}
+use Rattle.panel_plan.specs.PlanRows.{sourceWidth}
+
+-- row i of a table of rows so wide
+abbrev pub rowAt : (width i : ℕ) → List ℕ → List ℕ
+rowAt width i table = take width (drop (i * width) table)
+
+-- the bytes of a value that was read from a position of a set on
+abbrev pub bytesRead : List ℕ → ℕ → Result Value → List ℕ
+bytesRead set at (read v rest) = drop at (take (length set - length rest) set)
+bytesRead set at (refused fault) = []
+
+-- the bytes of the value that begins at a position of a set
+unfoldable pub valueBytes : Edition → List ℕ → ℕ → List ℕ
+valueBytes ed set at = bytesRead set at (readValueBy false ed (drop at set))
+
+-- the bytes that a source stands for: those behind the ids of a row of the table before the batch, or those of a value of the set
+unfoldable pub sourceBytes : Edition → (key : ℕ) (from set : List ℕ) → ℕ → List ℕ
+sourceBytes ed key from set n = if ltb n projectionEntries then drop key (rowAt (key + valueWidth) n from) else valueBytes ed set (n - projectionEntries)
+
+-- what becomes of a row of the new table
+unfoldable pub plannedRow : Edition → (key : ℕ) (row from set old : List ℕ) → List ℕ
+plannedRow ed key row from set old = writtenRow (take key row) (sourceBytes ed key from set (fieldAt key sourceWidth row)) old
+
+-- row i of the new table
+unfoldable pub newRow : Edition → (key : ℕ) (plan from set to : List ℕ) → ℕ → List ℕ
+newRow ed key plan from set to i = plannedRow ed key (rowAt (key + sourceWidth) i plan) from set (rowAt (key + valueWidth) i to)
+
+-- the first n rows
+unfoldable pub rowsTo : (ℕ → List ℕ) → ℕ → List (List ℕ)
+rowsTo row zero = []
+rowsTo row (suc n) = rowsTo row n ++ (row n ∷ [])
+
+-- ---- the new table
+
+-- it is a table of so many places, and has one for each row
+unfoldable pub canWrite : (key capacity count : ℕ) → List ℕ → Bool
+canWrite key capacity count to = leb count capacity && eqb (length to) (capacity * (key + valueWidth))
+
+-- the rows, and 0 in every place that is not used; another table is left as it is
+unfoldable pub writtenTable : Edition → (key capacity count : ℕ) (plan from set to : List ℕ) → List ℕ
+writtenTable ed key capacity count plan from set to = if canWrite key capacity count to then tableBytes (length to) (rowsTo (newRow ed key plan from set to) count) else to

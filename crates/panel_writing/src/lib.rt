@@ -1,0 +1,155 @@
+// Writes the tables that a plan stands for: each row once, its value straight from the table before the batch or from the
+// set. What is read is lent read-only, and a refusal leaves every byte of the new table.
+ghost use mathlib.Core.Path.{_≡_};
+ghost use mathlib.Core.Bool.{true};
+ghost use Prim.Native.Nat.{ℕ, _+_, _*_, _≤_};
+ghost use lib.Dec.{eqb};
+ghost use lib.ListN.{length};
+ghost use Rattle.spec_lists.specs.Lists.{if_then_else_, All};
+ghost use Rattle.spec_patch.specs.Sizes.{projectionBindings, projectionEntries};
+ghost use Rattle.spec_patch.specs.Edition.{v1};
+ghost use Rattle.spec_projection.specs.Projection.{Projection};
+ghost use Rattle.spec_projection.specs.Valid.{Valid};
+ghost use Rattle.bytes_records.specs.Table.{tableBytes};
+ghost use Rattle.panel_rows.specs.Rows.{valueWidth, bindingValueAt, bindingWidth, bindingRow, entryValueAt, entryWidth, entryRow};
+ghost use Rattle.local_projection_state.specs.Stores.{Stored};
+ghost use Rattle.panel_plan.specs.PlanRows.{PlannedBindings, PlannedEntries};
+ghost use Rattle.panel_plan.specs.Plan.{resolution};
+ghost use Rattle.panel_plan.specs.Resolved.{resolved};
+ghost use Rattle.panel_plan.specs.SetValues.{valueIn};
+ghost use Rattle.panel_plan.specs.Sources.{SourcedBinding, SourcedEntry};
+ghost use Rattle.panel_writing.specs.Writing.{rowAt, valueBytes, plannedRow, newRow, rowsTo, canWrite, writtenTable};
+use local_projection_state::LocalProjectionState;
+use panel_plan::SOURCE_WIDTH;
+use panel_rows::fields;
+use panel_rows::written;
+use projection_patch::read_values;
+use projection_patch::read_values::ValueRead;
+
+// The row at a position of a table, or what there is of it.
+fn row_at(table: &[u8], width: usize, i: usize) -> &[u8]
+    requires { ⌜ (width ≤ entryWidth) × (i ≤ projectionEntries) ⌝ }
+    ensures { λ r. ⌜ now r ≡ rowAt width i (now (table .entry)) ⌝ }
+{
+    fields::key_part(fields::value_part(table, i * width), width)
+}
+
+// The bytes of the value that begins at a position of the set, as long as its kind and its length say.
+fn value_bytes(set: &[u8], at: usize) -> &[u8]
+    ensures { λ r. ⌜ now r ≡ valueBytes v1 (now (set .entry)) at ⌝ }
+{
+    match read_values::value_at(set, at, false) {
+        ValueRead::Read(_, end) => fields::value_part(fields::key_part(set, end), at),
+        ValueRead::Refused(_) => &set[..0],
+    }
+}
+
+// Writes one row: the ids of the plan's row, and the bytes of its value, which stand behind the ids of an old row or in the
+// set.
+fn write_planned(key: usize, row: &[u8], from: &[u8], set: &[u8], to: &mut [u8])
+    requires { ⌜ key ≤ entryValueAt ⌝ }
+    ensures { λ _. ⌜ now (to .exit) ≡ plannedRow v1 key (now (row .entry)) (now (from .entry)) (now (set .entry)) (now (to .entry)) ⌝ }
+{
+    let ids = fields::key_part(row, key);
+    let source = fields::number_at(row, key, SOURCE_WIDTH) as usize;
+    if source < LocalProjectionState::ENTRIES {
+        let old = row_at(from, key + panel_rows::VALUE_WIDTH, source);
+        written::write_row(to, ids, fields::value_part(old, key));
+    } else {
+        let at = source - LocalProjectionState::ENTRIES;
+        written::write_row(to, ids, value_bytes(set, at));
+    }
+}
+
+// Writes so many rows from the front of the new table, and zeros behind them.
+fn write_rows(key: usize, plan: &[u8], count: usize, from: &[u8], set: &[u8], to: &mut [u8])
+    requires { ⌜ (key ≤ entryValueAt) × (count ≤ projectionEntries) × (count * (key + valueWidth) ≤ length (now to)) ⌝ }
+    ensures { λ _. ⌜ now (to .exit) ≡ tableBytes (length (now (to .entry)))
+        (rowsTo (newRow v1 key (now (plan .entry)) (now (from .entry)) (now (set .entry)) (now (to .entry))) count) ⌝ }
+{
+    let width = key + panel_rows::VALUE_WIDTH;
+    let mut i = 0;
+    while i < count {
+        let row = row_at(plan, key + SOURCE_WIDTH, i);
+        let start = i * width;
+        let end = start + width;
+        write_planned(key, row, from, set, &mut to[start..end]);
+        i += 1;
+    }
+    let used = count * width;
+    bytes_moves::clear(&mut to[used..]);
+}
+
+// Writes the rows of a plan into a table of so many places. Answers whether it is that table, and has a place for each.
+fn write_table(
+    key: usize,
+    capacity: usize,
+    plan: &[u8],
+    count: usize,
+    from: &[u8],
+    set: &[u8],
+    to: &mut [u8],
+) -> bool
+    requires { ⌜ (key ≤ entryValueAt) × (capacity ≤ projectionEntries) ⌝ }
+    ensures { λ r. ⌜ r ≡ canWrite key capacity count (now (to .entry)) ⌝ }
+    ensures { λ r. ⌜ now (to .exit) ≡ writtenTable v1 key capacity count (now (plan .entry)) (now (from .entry)) (now (set .entry)) (now (to .entry)) ⌝ }
+{
+    if capacity < count {
+        return false;
+    }
+    if to.len() != capacity * (key + panel_rows::VALUE_WIDTH) {
+        return false;
+    }
+    write_rows(key, plan, count, from, set, to);
+    true
+}
+
+// Writes the bindings of a plan: each row's ids, and its value from the table before the batch or from the set.
+pub fn write_bindings(plan: &[u8], count: usize, from: &[u8], set: &[u8], to: &mut [u8]) -> bool
+    ensures told { λ r. ⌜ r ≡ canWrite bindingValueAt projectionBindings count (now (to .entry)) ⌝ }
+    ensures made { λ r. ⌜ now (to .exit) ≡ writtenTable v1 bindingValueAt projectionBindings count (now (plan .entry)) (now (from .entry)) (now (set .entry)) (now (to .entry)) ⌝ }
+    ensures stores { λ r. ⌜ (r ≡ true → (p q : Projection) (n : ℕ) → Stored bindingRow bindingWidth projectionBindings n (now (from .entry)) (p .bindings) → Valid p
+        → PlannedBindings count (now (plan .entry)) (q .bindings) → Valid q → All (SourcedBinding v1 p (now (set .entry))) (q .bindings)
+        → Stored bindingRow bindingWidth projectionBindings count (now (to .exit)) (resolved (resolution p (valueIn v1 (now (set .entry)))) q .bindings)) ⌝ }
+{
+    write_table(
+        panel_rows::BINDING_VALUE,
+        LocalProjectionState::BINDINGS,
+        plan,
+        count,
+        from,
+        set,
+        to,
+    )
+}
+
+// Writes the entries of a plan, likewise.
+pub fn write_entries(plan: &[u8], count: usize, from: &[u8], set: &[u8], to: &mut [u8]) -> bool
+    ensures told { λ r. ⌜ r ≡ canWrite entryValueAt projectionEntries count (now (to .entry)) ⌝ }
+    ensures made { λ r. ⌜ now (to .exit) ≡ writtenTable v1 entryValueAt projectionEntries count (now (plan .entry)) (now (from .entry)) (now (set .entry)) (now (to .entry)) ⌝ }
+    ensures stores { λ r. ⌜ (r ≡ true → (p q : Projection) (n : ℕ) → Stored entryRow entryWidth projectionEntries n (now (from .entry)) (p .entries) → Valid p
+        → PlannedEntries count (now (plan .entry)) (q .entries) → Valid q → All (SourcedEntry v1 p (now (set .entry))) (q .entries)
+        → Stored entryRow entryWidth projectionEntries count (now (to .exit)) (resolved (resolution p (valueIn v1 (now (set .entry)))) q .entries)) ⌝ }
+{
+    write_table(
+        panel_rows::ENTRY_VALUE,
+        LocalProjectionState::ENTRIES,
+        plan,
+        count,
+        from,
+        set,
+        to,
+    )
+}
+
+// Writes the availabilities of a plan, whose rows are those of the table. Answers whether the table is as long.
+pub fn write_availabilities(plan: &[u8], to: &mut [u8]) -> bool
+    ensures told { λ r. ⌜ r ≡ eqb (length (now (plan .entry))) (length (now (to .entry))) ⌝ }
+    ensures made { λ r. ⌜ now (to .exit) ≡ (if r then now (plan .entry) else now (to .entry)) ⌝ }
+{
+    if plan.len() != to.len() {
+        return false;
+    }
+    bytes_moves::copy(plan, to);
+    true
+}
