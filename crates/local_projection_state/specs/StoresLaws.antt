@@ -102,7 +102,7 @@ some-state p v = record {
 
 -- ---- the empty projection
 
-pub none-stored : {A : Type 0} (row : A → List ℕ) (width capacity : ℕ) → Stored row width capacity 0 (zeros (capacity * width)) []
+none-stored : {A : Type 0} (row : A → List ℕ) (width capacity : ℕ) → Stored row width capacity 0 (zeros (capacity * width)) []
 none-stored row width capacity = record { size = length-replicate (capacity * width) 0; rows = holds-none width (capacity * width) }
 
 pub empty-stored : StoredTables (record { bindings = 0; availabilities = 0; entries = 0 })

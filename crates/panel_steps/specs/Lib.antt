@@ -1,2 +1,1 @@
-pub mod SetChanges
-pub mod SetChangesLaws
+pub mod Replay

@@ -1,185 +1,158 @@
-// A set's operations, applied from the tables before it to those after it: planned on ids first, and then each row is written once.
+// The operations of a set, read and applied in order to the three lent tables of a projection.
 // After crates/prom-ui/src/local_projection_state.rs.
 ghost use mathlib.Core.Path.{_≡_};
-ghost use mathlib.Core.Bool.{true, false};
-ghost use mathlib.Core.List.{List, []};
+ghost use mathlib.Core.List.{List, [], _∷_, map};
 ghost use Prim.Native.Nat.{ℕ, _≤_};
 ghost use lib.ListN.{length};
-ghost use Rattle.spec_patch.specs.Sizes.{setBytes};
-ghost use Rattle.spec_patch.specs.Patch.{Patch};
-ghost use Rattle.spec_patch.specs.Edition.{v1};
-ghost use Rattle.spec_patch.specs.Read.{patches, readSet};
+ghost use Rattle.spec_patch.specs.Patch.{Operation, Patch};
 ghost use Rattle.spec_projection.specs.Projection.{Projection};
-ghost use Rattle.spec_projection.specs.Apply.{replaySteps, applySteps};
-ghost use Rattle.spec_projection.specs.Valid.{Valid};
-ghost use Rattle.patch_walk.specs.Steps.{AtSteps};
-ghost use Rattle.panel_rows.specs.Rows.{bindingBytes, availabilityBytes, entryBytes};
+ghost use Rattle.spec_projection.specs.Apply.{applyOperation, stepOf, patchSteps, replaySteps, applySteps};
+ghost use Rattle.patch_sets.specs.Walk.{AtPatches, AtOperations};
 ghost use Rattle.local_projection_state.specs.Stores.{StoredTables};
-ghost use Rattle.panel_plan_steps.specs.Runs.{PlannedAs};
-ghost use Rattle.panel_steps.specs.SetChanges.{tablesFit, countsFit, TableLengths, ChangeBecame, KeptUnlessApplied};
-use local_projection_state::LocalProjectionState;
+ghost use Rattle.panel_steps.specs.Replay.{RunBecame, EndWithin};
 use local_projection_state::ProjectionCounts;
 use panel_bindings::LocalProjectionApplicationError;
-use panel_plan::fill;
-use panel_plan_steps::PlanRun;
-use patch_walk::SetCursor;
-use patch_walk::SetOpening;
+use panel_operations::OperationChange;
+use patch_sets::PatchHeadRead;
+use projection_patch::read_operations::OperationRead;
 use projection_patch::read_values::ProjectionPatchReadFault;
 
-// How many rows each new table has, or why the set is not applied: BadTables is a table of another length, or a count over its
-// capacity.
-pub enum SetChange {
-    Applied(ProjectionCounts),
+// Where a run ended and how many rows each table has then; or why it stopped.
+pub enum ReplayRun {
+    At(usize, ProjectionCounts),
     Refused(LocalProjectionApplicationError),
     Unreadable(ProjectionPatchReadFault),
-    BadTables,
 }
 
-// Whether so many bytes are the lengths of the three tables.
-fn tables_fit(bindings: usize, availability: usize, entries: usize) -> bool
-    ensures { λ r. ⌜ r ≡ tablesFit bindings availability entries ⌝ }
-{
-    if bindings != LocalProjectionState::BINDING_BYTES {
-        return false;
-    }
-    if availability != LocalProjectionState::AVAILABILITY_BYTES {
-        return false;
-    }
-    entries == LocalProjectionState::ENTRY_BYTES
-}
-
-// Whether each table has a place for so many rows.
-fn counts_fit(counts: ProjectionCounts) -> bool
-    ensures { λ r. ⌜ r ≡ countsFit counts ⌝ }
-{
-    if LocalProjectionState::BINDINGS < counts.bindings {
-        return false;
-    }
-    if LocalProjectionState::AVAILABILITIES < counts.availabilities {
-        return false;
-    }
-    counts.entries <= LocalProjectionState::ENTRIES
-}
-
-// Writes the tables that a plan stands for, unless it has more rows than they have places.
-fn write_tables(
-    plan_bindings: &[u8],
-    plan_availability: &[u8],
-    plan_entries: &[u8],
-    counts: ProjectionCounts,
-    from_bindings: &[u8],
-    from_entries: &[u8],
-    set: &[u8],
-    to_bindings: &mut [u8],
-    to_availability: &mut [u8],
-    to_entries: &mut [u8],
-) -> bool
-    requires { ⌜ TableLengths (now «to_bindings») (now «to_availability») (now «to_entries») × (length (now «plan_availability») ≡ availabilityBytes) ⌝ }
-    ensures told { λ r. ⌜ r ≡ countsFit counts ⌝ }
-    ensures kept { λ r. ⌜ (r ≡ false → (now («to_bindings» .exit) ≡ now («to_bindings» .entry)) × ((now («to_availability» .exit) ≡ now («to_availability» .entry)) × (now («to_entries» .exit) ≡ now («to_entries» .entry)))) ⌝ }
-    ensures stored { λ r. ⌜ (r ≡ true → (p x : Projection) (n : ProjectionCounts) (a : List ℕ) → StoredTables n (now («from_bindings» .entry)) a (now («from_entries» .entry)) p
-        → PlannedAs v1 p (now (set .entry)) (now («plan_bindings» .entry)) (now («plan_availability» .entry)) (now («plan_entries» .entry)) counts x → Valid x
-        → StoredTables counts (now («to_bindings» .exit)) (now («to_availability» .exit)) (now («to_entries» .exit)) x) ⌝ }
-{
-    if counts_fit(counts) {
-        panel_writing::write_bindings(plan_bindings, counts.bindings, from_bindings, set, to_bindings);
-        panel_writing::write_availabilities(plan_availability, to_availability);
-        panel_writing::write_entries(plan_entries, counts.entries, from_entries, set, to_entries);
-        return true;
-    }
-    false
-}
-
-// Plans the operations from a cursor on, and writes the tables when all of them have run.
-fn apply_from(
-    from_bindings: &[u8],
-    from_availability: &[u8],
-    from_entries: &[u8],
+// Reads the operation at a position, and applies it.
+fn replay_operation(
+    bindings: &mut [u8],
+    availability: &mut [u8],
+    entries: &mut [u8],
     counts: ProjectionCounts,
     set: &[u8],
-    cursor: SetCursor,
-    to_bindings: &mut [u8],
-    to_availability: &mut [u8],
-    to_entries: &mut [u8],
-) -> SetChange
-    requires { ⌜ (length (now set) ≤ setBytes) × ((length (now «from_availability») ≡ availabilityBytes) × TableLengths (now «to_bindings») (now «to_availability») (now «to_entries»)) ⌝ }
-    ensures changed { λ r. ⌜ ((p : Projection) (ps : List Patch) → StoredTables counts (now («from_bindings» .entry)) (now («from_availability» .entry)) (now («from_entries» .entry)) p
-        → AtSteps v1 (now (set .entry)) cursor [] ps
-        → ChangeBecame (λ n q. StoredTables n (now («to_bindings» .exit)) (now («to_availability» .exit)) (now («to_entries» .exit)) q) r (applySteps p (replaySteps ps))) ⌝ }
-    ensures kept { λ r. ⌜ KeptUnlessApplied r (now («to_bindings» .entry)) (now («to_availability» .entry)) (now («to_entries» .entry)) (now («to_bindings» .exit)) (now («to_availability» .exit)) (now («to_entries» .exit)) ⌝ }
+    at: usize,
+) -> ReplayRun
+    requires { ⌜ at ≤ length (now set) ⌝ }
+    ensures run { λ r. ⌜ ((o : Operation) (os : List Operation) (ps : List Patch) (p : Projection) → AtOperations (now (set .entry)) at (o ∷ os) ps
+        → StoredTables counts (now (bindings .entry)) (now (availability .entry)) (now (entries .entry)) p
+        → RunBecame (λ end n q. AtOperations (now (set .entry)) end os ps × StoredTables n (now (bindings .exit)) (now (availability .exit)) (now (entries .exit)) q) r
+        (applyOperation p o)) ⌝ }
+    ensures within { λ r. ⌜ EndWithin (length (now (set .entry))) r ⌝ }
 {
-    let mut bindings = [0u8; panel_plan::BINDING_BYTES];
-    let mut availability = [0u8; LocalProjectionState::AVAILABILITY_BYTES];
-    let mut entries = [0u8; panel_plan::ENTRY_BYTES];
-    fill::plan_bindings(from_bindings, counts.bindings, &mut bindings);
-    bytes_records::moves::copy(from_availability, &mut availability);
-    fill::plan_entries(from_entries, counts.entries, &mut entries);
-    match panel_plan_steps::plan_steps(
-        &mut bindings,
-        &mut availability,
-        &mut entries,
-        counts,
-        set,
-        cursor,
-    ) {
-        PlanRun::Planned(n) => {
-            if write_tables(
-                &bindings,
-                &availability,
-                &entries,
-                n,
-                from_bindings,
-                from_entries,
-                set,
-                to_bindings,
-                to_availability,
-                to_entries,
-            ) {
-                SetChange::Applied(n)
-            } else {
-                SetChange::BadTables
+    match readable_operations::reread_operation(&set[at..]) {
+        OperationRead::Read(operation, taken) => match panel_operations::apply_operation(
+            bindings,
+            availability,
+            entries,
+            counts,
+            operation,
+            &set[at..],
+        ) {
+            OperationChange::Applied(n) => ReplayRun::At(at + taken, n),
+            OperationChange::Refused(error) => ReplayRun::Refused(error),
+        },
+        OperationRead::Refused(fault) => ReplayRun::Unreadable(fault),
+    }
+}
+
+// Applies count operations, the first of them at from.
+fn replay_operations(
+    bindings: &mut [u8],
+    availability: &mut [u8],
+    entries: &mut [u8],
+    counts: ProjectionCounts,
+    set: &[u8],
+    from: usize,
+    count: usize,
+) -> ReplayRun
+    requires { ⌜ from ≤ length (now set) ⌝ }
+    ensures run { λ r. ⌜ ((id : ℕ) (os : List Operation) (ps : List Patch) (p : Projection) → AtOperations (now (set .entry)) from os ps → length os ≡ count
+        → StoredTables counts (now (bindings .entry)) (now (availability .entry)) (now (entries .entry)) p
+        → RunBecame (λ end n q. AtOperations (now (set .entry)) end [] ps × StoredTables n (now (bindings .exit)) (now (availability .exit)) (now (entries .exit)) q) r
+        (applySteps p (map (stepOf id) os))) ⌝ }
+    ensures within { λ r. ⌜ EndWithin (length (now (set .entry))) r ⌝ }
+{
+    let mut at = from;
+    let mut left = count;
+    let mut held = counts;
+    while 0 < left {
+        match replay_operation(bindings, availability, entries, held, set, at) {
+            ReplayRun::At(end, n) => {
+                at = end;
+                held = n;
+                left -= 1;
+            }
+            ReplayRun::Refused(error) => {
+                return ReplayRun::Refused(error);
+            }
+            ReplayRun::Unreadable(fault) => {
+                return ReplayRun::Unreadable(fault);
             }
         }
-        PlanRun::Refused(error) => SetChange::Refused(error),
-        PlanRun::Unreadable(fault) => SetChange::Unreadable(fault),
+    }
+    ReplayRun::At(at, held)
+}
+
+// Reads the head of the patch at a position, and applies its operations.
+fn replay_patch(
+    bindings: &mut [u8],
+    availability: &mut [u8],
+    entries: &mut [u8],
+    counts: ProjectionCounts,
+    set: &[u8],
+    at: usize,
+) -> ReplayRun
+    requires { ⌜ at ≤ length (now set) ⌝ }
+    ensures run { λ r. ⌜ ((x : Patch) (ps : List Patch) (p : Projection) → AtPatches (now (set .entry)) at (x ∷ ps)
+        → StoredTables counts (now (bindings .entry)) (now (availability .entry)) (now (entries .entry)) p
+        → RunBecame (λ end n q. AtPatches (now (set .entry)) end ps × StoredTables n (now (bindings .exit)) (now (availability .exit)) (now (entries .exit)) q) r
+        (applySteps p (patchSteps x))) ⌝ }
+    ensures within { λ r. ⌜ EndWithin (length (now (set .entry))) r ⌝ }
+{
+    match patch_sets::read_patch_head(&set[at..]) {
+        PatchHeadRead::Read(head, taken) => {
+            let n = head.operation_count;
+            replay_operations(bindings, availability, entries, counts, set, at + taken, n)
+        }
+        PatchHeadRead::Refused(fault) => ReplayRun::Unreadable(fault),
     }
 }
 
-// Applies the operations of a set that is known to be readable: what the first tables store is read, and what the set makes of it is
-// written to the others, whole or not at all.
-pub fn apply_set(
-    from_bindings: &[u8],
-    from_availability: &[u8],
-    from_entries: &[u8],
+// Applies count patches, the first of them at from.
+pub fn replay_patches(
+    bindings: &mut [u8],
+    availability: &mut [u8],
+    entries: &mut [u8],
     counts: ProjectionCounts,
     set: &[u8],
-    to_bindings: &mut [u8],
-    to_availability: &mut [u8],
-    to_entries: &mut [u8],
-) -> SetChange
-    ensures changed { λ r. ⌜ ((p : Projection) (ps : List Patch) → StoredTables counts (now («from_bindings» .entry)) (now («from_availability» .entry)) (now («from_entries» .entry)) p
-        → readSet v1 (now (set .entry)) ≡ patches ps → TableLengths (now («to_bindings» .entry)) (now («to_availability» .entry)) (now («to_entries» .entry))
-        → ChangeBecame (λ n q. StoredTables n (now («to_bindings» .exit)) (now («to_availability» .exit)) (now («to_entries» .exit)) q) r (applySteps p (replaySteps ps))) ⌝ }
-    ensures kept { λ r. ⌜ KeptUnlessApplied r (now («to_bindings» .entry)) (now («to_availability» .entry)) (now («to_entries» .entry)) (now («to_bindings» .exit)) (now («to_availability» .exit)) (now («to_entries» .exit)) ⌝ }
+    from: usize,
+    count: usize,
+) -> ReplayRun
+    requires { ⌜ from ≤ length (now set) ⌝ }
+    ensures run { λ r. ⌜ ((ps : List Patch) (p : Projection) → AtPatches (now (set .entry)) from ps → length ps ≡ count
+        → StoredTables counts (now (bindings .entry)) (now (availability .entry)) (now (entries .entry)) p
+        → RunBecame (λ end n q. AtPatches (now (set .entry)) end [] × StoredTables n (now (bindings .exit)) (now (availability .exit)) (now (entries .exit)) q) r
+        (applySteps p (replaySteps ps))) ⌝ }
+    ensures within { λ r. ⌜ EndWithin (length (now (set .entry))) r ⌝ }
 {
-    let here = tables_fit(from_bindings.len(), from_availability.len(), from_entries.len());
-    let there = tables_fit(to_bindings.len(), to_availability.len(), to_entries.len());
-    if here && there && counts_fit(counts) {
-        match patch_walk::open_set(set) {
-            SetOpening::At(cursor) => apply_from(
-                from_bindings,
-                from_availability,
-                from_entries,
-                counts,
-                set,
-                cursor,
-                to_bindings,
-                to_availability,
-                to_entries,
-            ),
-            SetOpening::Refused(fault) => SetChange::Unreadable(fault),
+    let mut at = from;
+    let mut left = count;
+    let mut held = counts;
+    while 0 < left {
+        match replay_patch(bindings, availability, entries, held, set, at) {
+            ReplayRun::At(end, n) => {
+                at = end;
+                held = n;
+                left -= 1;
+            }
+            ReplayRun::Refused(error) => {
+                return ReplayRun::Refused(error);
+            }
+            ReplayRun::Unreadable(fault) => {
+                return ReplayRun::Unreadable(fault);
+            }
         }
-    } else {
-        SetChange::BadTables
     }
+    ReplayRun::At(at, held)
 }

@@ -1,0 +1,124 @@
+-- `collection_insert` meets its contract: the key is there, the neighbour is not, there is no room, or the row is inserted.
+use mathlib.Core.Path.{refl, sym, _∙_}
+use native.Mathlib.Omega.{arith}
+use denote.Ref.{now}
+use borrow.Author.Needs.{needs}
+use Rattle.bytes_records.specs.Table.{Wide}
+use Rattle.panel_rows.specs.Rows.{entryWidth}
+use Rattle.panel_bindings.specs.RowChanges.{insert-room}
+use Rattle.panel_collections.proofs.Entries.{position-at, inserted-there, insert-full, key-present, neighbour-missing}
+use Rattle.panel_collections.proofs.collection_insert.Statement.{statement}
+use Rattle.panel_collections.proofs.collection_insert.Tie as tie
+
+find-entry-requires : tie.Need-find-entry-requires
+find-entry-requires c κs = search needs
+
+enum-told : tie.Need-enum-told
+enum-told c = search needs
+
+same-length : tie.Need-same-length
+same-length c = search needs
+
+returns : tie.Need-returns
+returns c =
+    let find = c .before .before in (
+      (λ p s v.
+          key-present (now (c .before .before .before .before .before .before .args .table)) p _ _ _ (sym (find .find-entry .ensures .0 (p .entries) (v .fitEntries) (v .entries) (s .rows)) ∙ c .enum-told .given .1)),
+      refl,
+    )
+
+enum-told-2 : tie.Need-enum-told-2
+enum-told-2 c = search needs
+
+place-before-requires : tie.Need-place-before-requires
+place-before-requires c κs = search needs
+
+enum-known-at : tie.Need-enum-known-at
+enum-known-at c = search needs
+
+entry-row-requires : tie.Need-entry-row-requires
+entry-row-requires c κs = search needs
+
+slice-aggregate-insert-record : tie.Need-slice-aggregate-insert-record
+slice-aggregate-insert-record c = search needs
+
+insert-record-requires : tie.Need-insert-record-requires
+insert-record-requires c κs = search needs
+
+add-t24 : tie.Need-add-t24
+add-t24 c = omega (arith, insert-room _ _ _ _ _ (search needs) (sym (c .before .before .before .insert-record .ensures .told) ∙ c .if1 .taken))
+
+same-length-2 : tie.Need-same-length-2
+same-length-2 c = search needs
+
+-- the row is as wide as the table's
+row-wide : (c : tie.After-entry-row) → Wide entryWidth (c .entry-row .result)
+row-wide c = search needs
+
+returns-2 : tie.Need-returns-2
+returns-2 c =
+    let call = c .before .before .before in
+    let place = c .before .before .before .before .before .before .before .before .before .before in
+    let find = c .before .before .before .before .before .before .before .before .before .before .before .before .before .before in (
+      (λ p s v.
+          inserted-there (call .insert-record .last .0) (search needs) p s _ (c .before .before .before .before .before .before .entry-row .result) (c .before .before .before .before .before .before .entry-row .ensures) (row-wide (c .before .before .before .before .before .before)) _ _
+          (sym (find .find-entry .ensures .0 (p .entries) (v .fitEntries) (v .entries) (s .rows)) ∙ c .before .before .before .before .before .before .before .before .before .before .before .before .enum-told2 .given .1)
+          (sym (place .place-before .ensures .0 (p .entries) (v .fitEntries) (v .entries) (s .rows)) ∙ c .before .before .before .before .before .before .before .before .at .given .1) (call .insert-record .ensures) (c .if1 .taken)),
+      tt,
+    )
+
+enum-told-3 : tie.Need-enum-told-3
+enum-told-3 c = search needs
+
+same-length-3 : tie.Need-same-length-3
+same-length-3 c = search needs
+
+returns-3 : tie.Need-returns-3
+returns-3 c =
+    let call = c .before .before .before in
+    let place = c .before .before .before .before .before .before .before .before .before .before in
+    let find = c .before .before .before .before .before .before .before .before .before .before .before .before .before .before in (
+      (λ p s v.
+          insert-full (call .insert-record .last .0) (search needs) p s _ (c .before .before .before .before .before .before .entry-row .result) (c .before .before .before .before .before .before .entry-row .ensures) (row-wide (c .before .before .before .before .before .before)) _ _
+          (sym (find .find-entry .ensures .0 (p .entries) (v .fitEntries) (v .entries) (s .rows)) ∙ c .before .before .before .before .before .before .before .before .before .before .before .before .enum-told2 .given .1)
+          (sym (place .place-before .ensures .0 (p .entries) (v .fitEntries) (v .entries) (s .rows)) ∙ c .before .before .before .before .before .before .before .before .at .given .1) (call .insert-record .ensures)
+          (position-at _ _ (c .before .before .before .before .before .before .before .before .at .given .1) (place .place-before .ensures .1)) (c .if1 .left)),
+      call .insert-record .ensures .kept (c .if1 .left),
+    )
+
+same-length-4 : tie.Need-same-length-4
+same-length-4 c = search needs
+
+returns-4 : tie.Need-returns-4
+returns-4 c =
+    let place = c .before .before in
+    let find = c .before .before .before .before .before .before in (
+      (λ p s v.
+          neighbour-missing (now (c .before .before .before .before .before .before .before .before .before .before .args .table)) p _ _
+          (sym (find .find-entry .ensures .0 (p .entries) (v .fitEntries) (v .entries) (s .rows)) ∙ c .before .before .before .before .enum-told2 .given .1)
+          (sym (place .place-before .ensures .0 (p .entries) (v .fitEntries) (v .entries) (s .rows)) ∙ c .enum-told3 .given .1)),
+      refl,
+    )
+
+pub collection-insert-spec : {M : Type 1} → statement M
+collection-insert-spec =
+    tie.close
+    (tie.spec
+    find-entry-requires
+    enum-told
+    same-length
+    returns
+    enum-told-2
+    place-before-requires
+    enum-known-at
+    entry-row-requires
+    slice-aggregate-insert-record
+    insert-record-requires
+    add-t24
+    same-length-2
+    returns-2
+    enum-told-3
+    same-length-3
+    returns-3
+    same-length-4
+    returns-4)

@@ -1,0 +1,67 @@
+// Positions of entries in a table of the entries of all collections.
+ghost use mathlib.Core.Path.{_≡_};
+ghost use mathlib.Core.List.{List, map};
+ghost use Rattle.spec_lists.specs.Lists.{All};
+ghost use Rattle.spec_projection.specs.Projection.{Entry};
+ghost use Rattle.spec_projection.specs.Entries.{isEntry};
+ghost use Rattle.spec_projection.specs.Valid.{FitsEntry, Grouped};
+ghost use Rattle.bytes_records.specs.Table.{Holds};
+ghost use Rattle.bytes_records.specs.Search.{findFirst, Within};
+ghost use Rattle.projection_patch.specs.Meaning.{beforeOf};
+ghost use Rattle.panel_rows.specs.Rows.{entryWidth, entryRow};
+ghost use Rattle.panel_collections.specs.Places.{placeBefore, PositionWithin, isItself, placeBeforeOther};
+use bytes_records::Found;
+use projection_patch::patch::OptionalKey;
+
+// The position of a collection's key.
+pub fn find_entry(table: &[u8], count: usize, collection: u64, key: u64) -> Found
+    ensures first { λ r. ⌜ ((es : List Entry) → All FitsEntry es → Grouped es → Holds entryWidth count (now (table .entry)) (map entryRow es)
+        → r ≡ findFirst (isEntry collection key) es) ⌝ }
+    ensures within { λ r. ⌜ Within count r ⌝ }
+{
+    bytes_records::find_pair(table, panel_rows::ENTRY_WIDTH, count, collection, key)
+}
+
+// Where an entry goes: before its neighbour, or last of its collection.
+pub fn place_before(table: &[u8], count: usize, collection: u64, before: OptionalKey) -> Found
+    ensures first { λ r. ⌜ ((es : List Entry) → All FitsEntry es → Grouped es → Holds entryWidth count (now (table .entry)) (map entryRow es)
+        → r ≡ placeBefore collection (beforeOf before) es) ⌝ }
+    ensures within { λ r. ⌜ PositionWithin count r ⌝ }
+{
+    match before {
+        OptionalKey::None => Found::At(bytes_records::find_above(
+            table,
+            panel_rows::ENTRY_WIDTH,
+            count,
+            collection,
+        )),
+        OptionalKey::Some(neighbour) => find_entry(table, count, collection, neighbour.raw()),
+    }
+}
+
+fn is_itself(key: u64, before: OptionalKey) -> bool
+    ensures { λ r. ⌜ r ≡ isItself key (beforeOf before) ⌝ }
+{
+    match before {
+        OptionalKey::None => false,
+        OptionalKey::Some(neighbour) => neighbour.raw() == key,
+    }
+}
+
+// Where an entry goes that is taken out: a neighbour that is the entry itself is not there.
+pub fn place_before_other(
+    table: &[u8],
+    count: usize,
+    collection: u64,
+    key: u64,
+    before: OptionalKey,
+) -> Found
+    ensures first { λ r. ⌜ ((es : List Entry) → All FitsEntry es → Grouped es → Holds entryWidth count (now (table .entry)) (map entryRow es)
+        → r ≡ placeBeforeOther collection key (beforeOf before) es) ⌝ }
+    ensures within { λ r. ⌜ PositionWithin count r ⌝ }
+{
+    if is_itself(key, before) {
+        return Found::Absent;
+    }
+    place_before(table, count, collection, before)
+}

@@ -1,0 +1,2 @@
+pub mod OperationChange
+pub mod OperationLaws
