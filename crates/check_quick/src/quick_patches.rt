@@ -103,10 +103,10 @@ fn previous_found(previous: PreviousEnvelope, envelope: ProjectionPatchEnvelope)
 pub fn larger(highest: u64, id: u64) -> u64
     ensures { λ r. ⌜ (highest ≤ r) × (id ≤ r) ⌝ }
 {
-    if highest < id {
-        return id;
+    if id < highest {
+        return highest;
     }
-    highest
+    id
 }
 
 // Whether the id is among the first used numbers, none of which is above the highest; it is put behind them. Ids mostly ascend, and then

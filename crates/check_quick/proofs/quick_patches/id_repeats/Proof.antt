@@ -1,5 +1,6 @@
 -- `check_quick::quick_patches::id_repeats` meets its contract: an id above all others is none of them.
 use mathlib.Core.Path.{refl, sym}
+use native.Mathlib.Omega.{arith}
 use lib.ListN.{take}
 use Rattle.check_quick.specs.QuickLaws.{above-unseen}
 use borrow.Author.Needs.{needs}
@@ -19,7 +20,7 @@ returns : tie.Need-returns
 returns c =
     let start = c .before .before in
     let a = start .args in
-    (sym (above-unseen (a .highest) (a .id) (take (a .used) (a .ids .now)) (start .pre .1) (c .if1 .taken)), refl)
+    (sym (above-unseen (a .highest) (a .id) (take (a .used) (a .ids .now)) (start .pre .1) (omega arith)), refl)
 
 id-before-requires : tie.Need-id-before-requires
 id-before-requires c κs = search needs
