@@ -25,8 +25,8 @@ use Rattle.check_findings.specs.IdsLaws.{ids-snoc}
 use Rattle.check_targets.specs.ToldLaws.{envelope-back}
 use Rattle.check_quick.specs.Anchors.{absentAmong, absentOf}
 use Rattle.check_quick.specs.AnchorsLaws.{absent-append, absent-few}
-use Rattle.check_quick.specs.Quick.{patchFound, afterFound, patchesFound}
-use Rattle.check_quick.specs.QuickLaws.{or-assoc, or-false, quick-found}
+use Rattle.check_quick.specs.Quick.{patchFound, afterFound, patchesFound, AtMost}
+use Rattle.check_quick.specs.QuickLaws.{or-assoc, or-false, quick-found, at-most-more}
 use Rattle.check_quick.specs.QuickAnswers.{checkedTo, patchAnswer, inspectedBy, endAnswer}
 use Rattle.check_quick.specs.declared.quick_patches.PatchChecked.{PatchChecked}
 use Rattle.check_quick.specs.declared.quick_patches.PatchCheckRead.{PatchCheckRead}
@@ -50,6 +50,14 @@ module _ (ed : Edition) (known : MutationTarget → Bool) (l : List ℕ) (at : �
 
   pub no-patch : {f : ProjectionPatchReadFault} → r ≡ patch-read.Refused f → NotGot (readPatch ed) l at f
   no-patch {f} = not-got (anywhere (checkedTo known)) (patch-codec ed) patch-told l at r ensured f
+
+-- ---- ids
+
+ids-front : (ids ids′ : List ℕ) (used id : ℕ) → used < length ids → ids′ ≡ set ids used id → take (used + 1) ids′ ≡ take used ids ++ (id ∷ [])
+ids-front ids ids′ used id room are = let next : used + 1 ≡ suc used = omega arith in ap₂ (λ (k : ℕ) (m : List ℕ). take k m) next are ∙ ids-snoc ids used id room
+
+pub at-most-still : (ids ids′ : List ℕ) (used id highest higher : ℕ) → used < length ids → ids′ ≡ set ids used id → AtMost highest (take used ids) → highest ≤ higher → id ≤ higher → AtMost higher (take (used + 1) ids′)
+at-most-still ids ids′ used id highest higher room are h up below = rw (ids-front ids ids′ used id room are) (at-most-more highest higher id (take used ids) h up below)
 
 -- ---- patches
 
@@ -135,8 +143,7 @@ module _ (ed : Edition) (known : MutationTarget → Bool) (l : List ℕ) (at lef
         turn found′ ids ids′ room found-is ids-are =
             let e = envelopeOf (x .head .envelope) in
             let seen = take (t .done) ids in
-            let more : t .done + 1 ≡ suc (t .done) = omega arith in
-            let front : take (t .done + 1) ids′ ≡ seen ++ (e .id ∷ []) = ap₂ (λ (k : ℕ) (m : List ℕ). take k m) more ids-are ∙ ids-snoc ids (t .done) (e .id) room in
+            let front = ids-front ids ids′ (t .done) (e .id) room ids-are in
             let own : e ≡ p .envelope = sym (ap (λ (y : PatchChecked). envelopeOf (y .head .envelope)) (g .same)) ∙ envelope-back (p .envelope) in
             ap₂ (λ (b : Bool) (m : List ℕ). patchesLeft ed known l end (left - 1) (next e x b) m (some e)) found-is front
             ∙ ap₂ (behind seen) own (sym (g .same))

@@ -1,10 +1,11 @@
 -- Whether there is a finding, told element by element, with what earlier elements left: 01, 'Patch checks'.
-use Prim.Native.Nat.{ℕ}
+use Prim.Native.Nat.{ℕ, _≤_}
 use mathlib.Core.Bool.{Bool, false, _||_}
 use mathlib.Core.List.{List, [], _∷_, _++_}
 use mathlib.Core.Option.{Option, none, some}
 use lib.Dec.{eqb}
 use lib.ListN.{length}
+use Rattle.spec_lists.specs.Lists.{All}
 use Rattle.spec_patch.specs.Patch.{Operation, Envelope, Patch}
 use Rattle.spec_checks.specs.Target.{mutationTarget}
 use Rattle.spec_checks.specs.PatchChecks.{beforeSelf, envelopeFindings}
@@ -46,3 +47,7 @@ unfoldable pub patchesFound : List ℕ → Option Envelope → List Patch → Bo
 patchesFound ids previous [] = false
 patchesFound ids previous (p ∷ ps) =
     patchFound p || (afterFound ids previous (p .envelope) || patchesFound (ids ++ (p .envelope .id ∷ [])) (some (p .envelope)) ps)
+
+-- no id is above the highest
+abbrev pub AtMost : ℕ → List ℕ → Type 0
+AtMost highest = All (λ n. n ≤ highest)

@@ -1,9 +1,11 @@
 -- What is told element by element is whether spec_checks finds anything.
-use Prim.Native.Nat.{ℕ, _+_}
+use Prim.Native.Nat.{ℕ, _+_, _≤_, _<_}
 use mathlib.Core.Path.{_≡_, refl, sym, ap, ap₂, _∙_}
 use mathlib.Core.Bool.{Bool, true, false, _||_}
 use mathlib.Core.List.{List, [], _∷_, _++_, map, flatMap, reverse, reverse-append}
 use mathlib.Core.Option.{Option, none, some}
+use native.Mathlib.Omega.{arith}
+use borrow.Author.Tests.{ne-eqb}
 use lib.Dec.{eqb}
 use lib.ListN.{length}
 use Rattle.spec_lists.specs.Lists.{if_then_else_, any, isEmpty}
@@ -30,7 +32,7 @@ use Rattle.check_quick.specs.declared.inspection.SetInspection.{SetInspe
 use Rattle.check_quick.specs.declared.inspection.SetInspection.the-variants as inspection
 use Rattle.check_quick.specs.declared.quick_set.QuickCheck.{QuickCheck}
 use Rattle.check_quick.specs.declared.quick_set.QuickCheck.the-variants as quick
-use Rattle.check_quick.specs.Quick.{operationFound, foundFrom, headFound, patchFound, previousFound, afterFound, patchesFound}
+use Rattle.check_quick.specs.Quick.{operationFound, foundFrom, headFound, patchFound, previousFound, afterFound, patchesFound, AtMost}
 
 -- ---- tests
 
@@ -167,6 +169,18 @@ first-found i (p ∷ ps) set = go (patchFindings p) refl (first-found (i + 1) ps
 pub quick-found : (ps : List Patch) → patchesFound [] none ps ≡ isFound (findings ps .found)
 unfolding findings
 quick-found ps = apart [] none ps ∙ ap (λ t. any patchFound ps || t) (set-found ps) ∙ first-found 0 ps (record { place = inSet; found = setFindings ps })
+
+-- ---- ids that ascend
+
+-- an id above the highest was not seen
+pub above-unseen : (highest id : ℕ) (ids : List ℕ) → AtMost highest ids → highest < id → idSeen id ids ≡ false
+unfolding idSeen
+above-unseen highest id [] h above = refl
+above-unseen highest id (n ∷ ids) h above = rw (ne-eqb n id (λ e. omega (arith, h .0, e))) (above-unseen highest id ids (h .1) above)
+
+pub at-most-more : (highest higher id : ℕ) (ids : List ℕ) → AtMost highest ids → highest ≤ higher → id ≤ higher → AtMost higher (ids ++ (id ∷ []))
+at-most-more highest higher id [] h up below = (below, tt)
+at-most-more highest higher id (n ∷ ids) h up below = (omega (arith, h .0), at-most-more highest higher id ids (h .1) up below)
 
 -- ---- without the absent targets
 

@@ -55,7 +55,7 @@ pub fn absent_among(targets: &[u64], nodes: &[u64], bindings: &[u64], collection
             first,
             second,
         };
-        absent += one_if_absent(nodes, bindings, collections, target);
+        absent = absent + one_if_absent(nodes, bindings, collections, target);
         at += MutationTarget::NUMBERS;
     }
     absent

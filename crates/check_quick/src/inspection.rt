@@ -62,6 +62,7 @@ fn inspect_patches(
         (ended (many count (readPatch v1) (drop from (now (set .entry))))) ⌝ }
 {
     let mut ids = [0u64; ProjectionPatchSet::PATCHES];
+    let mut highest = 0;
     let mut previous = PreviousEnvelope::None;
     let mut at = from;
     let mut left = count;
@@ -75,7 +76,16 @@ fn inspect_patches(
                 let own = patch.found;
                 let head = patch.head;
                 let envelope = head.envelope;
-                found = quick_patches::after_found(found, own, &mut ids, done, previous, envelope);
+                found = quick_patches::after_found(
+                    found,
+                    own,
+                    &mut ids,
+                    done,
+                    highest,
+                    previous,
+                    envelope,
+                );
+                highest = quick_patches::larger(highest, envelope.patch_id.raw());
                 previous = PreviousEnvelope::Some(envelope);
                 operations = operations + head.operation_count;
                 absent = absent + patch.absent;

@@ -16,7 +16,8 @@ ghost use Rattle.spec_patch.specs.Edition.{v1};
 ghost use Rattle.spec_patch.specs.Read.{readPatch};
 ghost use Rattle.projection_patch.specs.Meaning.{envelopeOf};
 ghost use Rattle.check_quick.specs.Anchors.{anchored};
-ghost use Rattle.check_quick.specs.Quick.{headFound, previousFound, afterFound};
+ghost use Rattle.check_findings.specs.Ids.{idSeen};
+ghost use Rattle.check_quick.specs.Quick.{headFound, previousFound, afterFound, AtMost};
 ghost use Rattle.check_quick.specs.QuickAnswers.{previousOf, patchAnswer};
 
 pub enum PreviousEnvelope {
@@ -98,6 +99,30 @@ fn previous_found(previous: PreviousEnvelope, envelope: ProjectionPatchEnvelope)
     }
 }
 
+// The larger of two ids.
+pub fn larger(highest: u64, id: u64) -> u64
+    ensures { λ r. ⌜ (highest ≤ r) × (id ≤ r) ⌝ }
+{
+    if id < highest {
+        return highest;
+    }
+    id
+}
+
+// Whether the id is among the first used numbers, none of which is above the highest; it is put behind them. Ids mostly ascend, and then
+// nothing is searched.
+fn id_repeats(ids: &mut [u64], used: usize, highest: u64, id: u64) -> bool
+    requires { ⌜ (used < length (now ids)) × AtMost highest (take used (now ids)) ⌝ }
+    ensures seen { λ r. ⌜ r ≡ idSeen id (take used (now (ids .entry))) ⌝ }
+    ensures kept { λ _. ⌜ now (ids .exit) ≡ set (now (ids .entry)) used id ⌝ }
+{
+    if highest < id {
+        ids[used] = id;
+        return false;
+    }
+    ids::id_before(ids, used, id)
+}
+
 // Whether there was a finding before, or in the patch itself, or in its envelope after those before it. Its id is put behind the first
 // used numbers.
 pub fn after_found(
@@ -105,14 +130,15 @@ pub fn after_found(
     own: bool,
     ids: &mut [u64],
     used: usize,
+    highest: u64,
     previous: PreviousEnvelope,
     envelope: ProjectionPatchEnvelope,
 ) -> bool
-    requires { ⌜ used < length (now ids) ⌝ }
+    requires { ⌜ (used < length (now ids)) × AtMost highest (take used (now ids)) ⌝ }
     ensures found { λ r. ⌜ r ≡ ((earlier || own) || afterFound (take used (now (ids .entry))) (previousOf previous) (envelopeOf envelope)) ⌝ }
     ensures kept { λ _. ⌜ now (ids .exit) ≡ set (now (ids .entry)) used (envelopeOf envelope .id) ⌝ }
 {
-    let seen = ids::id_before(ids, used, envelope.patch_id.raw());
+    let seen = id_repeats(ids, used, highest, envelope.patch_id.raw());
     if earlier {
         return true;
     }

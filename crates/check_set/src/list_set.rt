@@ -5,7 +5,9 @@ use check_findings::insert_findings;
 use check_patch::list_patch;
 use check_patch::list_patch::PatchListRead;
 use check_quick::quick_patches::PreviousEnvelope;
+use check_targets::MutationTarget;
 use projection_patch::patch::ProjectionPatchEnvelope;
+use projection_patch::patch::ProjectionPatchSet;
 use projection_patch::read_values::ProjectionPatchReadFault;
 ghost use mathlib.Core.Path.{_≡_};
 ghost use Prim.Native.Nat.{_≤_, _<_};
@@ -72,8 +74,8 @@ pub fn list_patches(set: &[u8], from: usize, count: usize, records: &mut [u64]) 
     requires { ⌜ (from ≤ length (now set)) × ((count ≤ setPatches) × (tableLength ≤ length (now records))) ⌝ }
     ensures { λ r. ⌜ SetListedAs (now (records .entry)) r (now (records .exit)) (ended (many count (readPatch v1) (drop from (now (set .entry))))) ⌝ }
 {
-    let mut targets = [0u64; 384];
-    let mut ids = [0u64; 64];
+    let mut targets = [0u64; MutationTarget::PATCH_NUMBERS];
+    let mut ids = [0u64; ProjectionPatchSet::PATCHES];
     let mut previous = PreviousEnvelope::None;
     let mut at = from;
     let mut left = count;

@@ -1,5 +1,5 @@
 -- `check_quick::inspection::inspect_patches` meets its contract: what is left, after what was counted and found, answers as the whole does; the measure is the patches left.
-use Prim.Native.Nat.{ℕ, _+_, _-_, _*_, _≤_}
+use Prim.Native.Nat.{ℕ, _+_, _-_, _*_, _≤_, _<_}
 use mathlib.Core.Path.{_≡_, ap, _∙_}
 use mathlib.Core.Bool.{Bool, false}
 use mathlib.Core.List.{List, []}
@@ -13,13 +13,15 @@ use Rattle.spec_patch.specs.Edition.{v1}
 use Rattle.spec_patch.specs.Reader.{many}
 use Rattle.spec_patch.specs.Read.{readPatch, ended}
 use Rattle.spec_checks.specs.Target.{MutationTarget}
+use Rattle.projection_patch.specs.Meaning.{envelopeOf}
 use Rattle.projection_patch.specs.ReadAnswers.{anywhere}
 use Rattle.projection_patch.proofs.Answers.{Got}
 use Rattle.patch_sets.proofs.Runs.{few}
 use Rattle.check_quick.specs.Anchors.{anchored}
+use Rattle.check_quick.specs.Quick.{AtMost}
 use Rattle.check_quick.specs.QuickAnswers.{previousOf, checkedTo, inspectionAnswer}
 use Rattle.check_quick.specs.declared.quick_patches.PatchChecked.{PatchChecked}
-use Rattle.check_quick.proofs.QuickSets.{Passed, passed, patch-got, no-patch, patchesLeft, none-passed, patch-refused, count-is, few-absent, turn, end-is}
+use Rattle.check_quick.proofs.QuickSets.{Passed, passed, patch-got, no-patch, patchesLeft, none-passed, patch-refused, count-is, few-absent, at-most-still, turn, end-is}
 use mir.Val.{Fits}
 use mir.Syntax.{w64}
 use borrow.Author.Needs.{needs}
@@ -27,13 +29,13 @@ use Rattle.check_quick.proofs.inspection.inspect_patches.Statement.{sta
 use Rattle.check_quick.proofs.inspection.inspect_patches.Tie as tie
 
 abbrev Inv-loop : tie.InvT-loop
-Inv-loop set from count nodes bindings collections ids₀ previous₀ at₀ left₀ done₀ operations₀ absent₀ found₀ ids previous at left done operations absent found =
+Inv-loop set from count nodes bindings collections ids₀ highest₀ previous₀ at₀ left₀ done₀ operations₀ absent₀ found₀ ids highest previous at left done operations absent found =
     (at ≤ length set) × ((done + left ≡ count) × ((operations + left * patchOperations ≤ count * patchOperations) × ((absent ≤ operations)
-    × ((length ids ≡ setPatches)
-    × (patchesLeft v1 (anchored nodes bindings collections) set at left (passed done operations absent found) (take done ids) (previousOf previous) ≡ inspectionAnswer nodes bindings collections (ended (many count (readPatch v1) (drop from set))))))))
+    × ((length ids ≡ setPatches) × (AtMost highest (take done ids)
+    × (patchesLeft v1 (anchored nodes bindings collections) set at left (passed done operations absent found) (take done ids) (previousOf previous) ≡ inspectionAnswer nodes bindings collections (ended (many count (readPatch v1) (drop from set)))))))))
 
 abbrev μ-loop : tie.MeasureT-loop
-μ-loop set from count nodes bindings collections ids₀ previous₀ at₀ left₀ done₀ operations₀ absent₀ found₀ ids previous at left done operations absent found = left
+μ-loop set from count nodes bindings collections ids₀ highest₀ previous₀ at₀ left₀ done₀ operations₀ absent₀ found₀ ids highest previous at left done operations absent found = left
 
 abbrev start : tie.At-loop Inv-loop μ-loop → tie.Start Inv-loop μ-loop
 start c = c .before .before .before .before .before
@@ -79,7 +81,7 @@ room c = let s = small c in (omega (arith, s .0), (omega (arith, s .0, s .1), om
 loop-holds : tie.Need-loop-holds Inv-loop μ-loop
 loop-holds c =
     let a = c .before .before .before .before .args in
-    (omega arith, (omega arith, (omega arith, (omega arith, (search needs, none-passed v1 (anchored (a .nodes .now) (a .bindings .now) (a .collections .now)) (a .set .now) (a .from) (a .count))))))
+    (omega arith, (omega arith, (omega arith, (omega arith, (search needs, (tt, none-passed v1 (anchored (a .nodes .now) (a .bindings .now) (a .collections .now)) (a .set .now) (a .from) (a .count)))))))
 
 check-patch-requires : tie.Need-check-patch-requires Inv-loop μ-loop
 check-patch-requires c κs = search needs
@@ -93,32 +95,43 @@ slice-aggregate-after-found c = search needs
 after-found-requires : tie.Need-after-found-requires Inv-loop μ-loop
 after-found-requires c κs = search needs
 
+raw-requires : tie.Need-raw-requires Inv-loop μ-loop
+raw-requires c κs = search needs
+
+larger-requires : tie.Need-larger-requires Inv-loop μ-loop
+larger-requires c κs = search needs
+
 add-operations : tie.Need-add-operations Inv-loop μ-loop
-add-operations c = omega (arith, room (c .before .before .before .before .before .before) .0)
+add-operations c = omega (arith, room (c .before .before .before .before .before .before .before .before) .0)
 
 add-absent : tie.Need-add-absent Inv-loop μ-loop
-add-absent c = omega (arith, room (c .before .before .before .before .before .before .before) .1 .0)
+add-absent c = omega (arith, room (c .before .before .before .before .before .before .before .before .before) .1 .0)
 
 sub-left : tie.Need-sub-left Inv-loop μ-loop
 sub-left c = search needs
 
 add-done : tie.Need-add-done Inv-loop μ-loop
-add-done c = omega (arith, room (c .before .before .before .before .before .before .before) .1 .1)
+add-done c = omega (arith, room (c .before .before .before .before .before .before .before .before .before) .1 .1)
 
 loop-less : tie.Need-loop-less Inv-loop μ-loop
 loop-less c = search needs
 
 loop-again : tie.Need-loop-again Inv-loop μ-loop
 loop-again c =
-    let call = c .before .before .before in
+    let highest = c .before .before .larger .ensures in
+    let own = c .before .before .before .raw .ensures in
+    let call = c .before .before .before .before .before in
     let read = call .before .before .before .before in
     let h = head read in
     let l = h .loop in
     let g = one read in
     let found = call .after-found .ensures in
-    let s = small read in (
+    let s = small read in
+    let below : l .done < length (l .ids) = search needs in
+    let id = envelopeOf (patch read .head .envelope) .id in
+    let still = at-most-still (l .ids) _ (l .done) id (l .highest) _ below (found .1) (l .inv .1 .1 .1 .1 .1 .0) (highest .0) (omega (arith, highest .1, own)) in (
       omega (arith, g .there),
-      (omega arith, (omega (arith, s .0), (omega (arith, s .1), (ap length (found .1) ∙ length-set (l .ids) (l .done) _ ∙ l .inv .1 .1 .1 .1 .0, turn v1 (known h) (set h) (l .at) (l .left) (before h) (previousOf (l .previous)) (omega arith) (patch read) (end read) g _ (l .ids) _ (search needs) (found .0) (found .1) ∙ l .inv .1 .1 .1 .1 .1)))),
+      (omega arith, (omega (arith, s .0), (omega (arith, s .1), (ap length (found .1) ∙ length-set (l .ids) (l .done) _ ∙ l .inv .1 .1 .1 .1 .0, (still, turn v1 (known h) (set h) (l .at) (l .left) (before h) (previousOf (l .previous)) (omega arith) (patch read) (end read) g _ (l .ids) _ below (found .0) (found .1) ∙ l .inv .1 .1 .1 .1 .1 .1))))),
     )
 
 enum-known-fault : tie.Need-enum-known-fault Inv-loop μ-loop
@@ -131,7 +144,7 @@ returns c =
     let bound = c .before .fault .given in
     patch-refused v1 (known h) (set h) (l .at) (l .left) (before h) (previousOf (l .previous)) (omega arith) (take (l .done) (l .ids)) (bound .0 .0)
     (no-patch v1 (known h) (set h) (l .at) (c .before .before .before .check-patch .ensures) (bound .1))
-    ∙ l .inv .1 .1 .1 .1 .1
+    ∙ l .inv .1 .1 .1 .1 .1 .1
 
 sub-at-end : tie.Need-sub-at-end Inv-loop μ-loop
 sub-at-end c = search needs
@@ -145,7 +158,7 @@ returns-2 c =
     let l = h .loop in
     c .at-end .ensures
     ∙ end-is v1 (known h) (set h) (l .at) (l .left) (before h) (previousOf (l .previous)) (take (l .done) (l .ids)) (start h .args .count) (omega arith) (omega arith)
-    ∙ l .inv .1 .1 .1 .1 .1
+    ∙ l .inv .1 .1 .1 .1 .1 .1
 
 pub inspect-patches-spec : {M : Type 1} → statement M
 inspect-patches-spec =
@@ -158,6 +171,8 @@ inspect-patches-spec =
     enum-known-patch
     slice-aggregate-after-found
     after-found-requires
+    raw-requires
+    larger-requires
     add-operations
     add-absent
     sub-left

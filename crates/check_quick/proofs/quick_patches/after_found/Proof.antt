@@ -11,8 +11,8 @@ use Rattle.check_quick.proofs.quick_patches.after_found.Tie as tie
 raw-requires : tie.Need-raw-requires
 raw-requires c κs = search needs
 
-id-before-requires : tie.Need-id-before-requires
-id-before-requires c κs = search needs
+id-repeats-requires : tie.Need-id-repeats-requires
+id-repeats-requires c κs = search needs
 
 same-length : tie.Need-same-length
 same-length c = search needs
@@ -21,7 +21,7 @@ returns : tie.Need-returns
 returns c =
     let call = c .before .before .before in
     let a = call .before .before .before .before .args in
-    (rw (c .if1 .taken), call .id-before .ensures .1 ∙ ap (λ (n : ℕ). set (a .ids .now) (a .used) n) (call .before .raw .ensures))
+    (rw (c .if1 .taken), call .id-repeats .ensures .1 ∙ ap (λ (n : ℕ). set (a .ids .now) (a .used) n) (call .before .raw .ensures))
 
 same-length-2 : tie.Need-same-length-2
 same-length-2 c = search needs
@@ -30,7 +30,7 @@ returns-2 : tie.Need-returns-2
 returns-2 c =
     let call = c .before .before .before .before in
     let a = call .before .before .before .before .args in
-    (rw (c .before .if1 .left, c .if2 .taken), call .id-before .ensures .1 ∙ ap (λ (n : ℕ). set (a .ids .now) (a .used) n) (call .before .raw .ensures))
+    (rw (c .before .if1 .left, c .if2 .taken), call .id-repeats .ensures .1 ∙ ap (λ (n : ℕ). set (a .ids .now) (a .used) n) (call .before .raw .ensures))
 
 same-length-3 : tie.Need-same-length-3
 same-length-3 c = search needs
@@ -40,7 +40,7 @@ unfolding afterFound
 returns-3 c =
     let call = c .before .before .before .before .before in
     let a = call .before .before .before .before .args in
-    (rw (c .before .before .if1 .left, c .before .if2 .left, sym (call .id-before .ensures .0 ∙ ap (λ (n : ℕ). idSeen n (take (a .used) (a .ids .now))) (call .before .raw .ensures)) ∙ c .if3 .taken), call .id-before .ensures .1 ∙ ap (λ (n : ℕ). set (a .ids .now) (a .used) n) (call .before .raw .ensures))
+    (rw (c .before .before .if1 .left, c .before .if2 .left, sym (call .id-repeats .ensures .0 ∙ ap (λ (n : ℕ). idSeen n (take (a .used) (a .ids .now))) (call .before .raw .ensures)) ∙ c .if3 .taken), call .id-repeats .ensures .1 ∙ ap (λ (n : ℕ). set (a .ids .now) (a .used) n) (call .before .raw .ensures))
 
 previous-found-requires : tie.Need-previous-found-requires
 previous-found-requires c κs = search needs
@@ -53,14 +53,14 @@ unfolding afterFound
 returns-4 c =
     let call = c .before .before .before .before .before .before in
     let a = call .before .before .before .before .args in
-    (c .previous-found .ensures ∙ rw (c .before .before .before .if1 .left, c .before .before .if2 .left, sym (call .id-before .ensures .0 ∙ ap (λ (n : ℕ). idSeen n (take (a .used) (a .ids .now))) (call .before .raw .ensures)) ∙ c .before .if3 .left), call .id-before .ensures .1 ∙ ap (λ (n : ℕ). set (a .ids .now) (a .used) n) (call .before .raw .ensures))
+    (c .previous-found .ensures ∙ rw (c .before .before .before .if1 .left, c .before .before .if2 .left, sym (call .id-repeats .ensures .0 ∙ ap (λ (n : ℕ). idSeen n (take (a .used) (a .ids .now))) (call .before .raw .ensures)) ∙ c .before .if3 .left), call .id-repeats .ensures .1 ∙ ap (λ (n : ℕ). set (a .ids .now) (a .used) n) (call .before .raw .ensures))
 
 pub after-found-spec : {M : Type 1} → statement M
 after-found-spec =
     tie.close
     (tie.spec
     raw-requires
-    id-before-requires
+    id-repeats-requires
     same-length
     returns
     same-length-2

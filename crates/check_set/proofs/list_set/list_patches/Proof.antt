@@ -1,11 +1,12 @@
 -- `check_set::list_set::list_patches` meets its contract: what is right for what is left to read is right for the whole; the measure is the patches left.
-use Prim.Native.Nat.{ℕ, suc, _+_, _-_, _≤_}
+use Prim.Native.Nat.{ℕ, suc, _+_, _-_, _*_, _≤_}
 use mathlib.Core.Path.{_≡_, refl, sym, ap, _∙_, subst}
 use mathlib.Core.List.{List}
 use native.Mathlib.Omega.{arith}
 use lib.ListN.{length, take, drop, length-set}
 use Rattle.spec_lists.specs.Bytes.{Bytes}
 use Rattle.spec_lists.specs.BytesLaws.{bytes-of}
+use Rattle.spec_patch.specs.Sizes.{setPatches, patchOperations}
 use Rattle.spec_patch.specs.Edition.{v1}
 use Rattle.spec_patch.specs.Reader.{many}
 use Rattle.spec_patch.specs.Read.{readPatch, ended}
@@ -21,7 +22,7 @@ use Rattle.check_set.proofs.list_set.list_patches.Tie as tie
 
 abbrev Inv-loop : tie.InvT-loop
 Inv-loop set first count records₀ targets₀ ids₀ previous₀ at₀ left₀ done₀ kept₀ records targets ids previous at left done kept =
-    (at ≤ length set) × ((done + left ≡ count) × ((tableLength ≤ length records₀) × ((length records ≡ length records₀) × ((length targets ≡ 384) × ((length ids ≡ 64)
+    (at ≤ length set) × ((done + left ≡ count) × ((tableLength ≤ length records₀) × ((length records ≡ length records₀) × ((length targets ≡ 3 * patchOperations) × ((length ids ≡ setPatches)
     × ((r : FindingsListed) (after : List ℕ) → ReadListedAs done (take done ids) (previousOf previous) kept records r after (ended (many left (readPatch v1) (drop at set)))
     → SetListedAs records₀ r after (ended (many count (readPatch v1) (drop first set)))))))))
 
