@@ -10,8 +10,8 @@ ghost use Rattle.bytes_records.specs.Table.{Holds};
 ghost use Rattle.bytes_printer.specs.Prints.{Prints, Within};
 ghost use Rattle.local_projection_state.specs.Stores.{Stores};
 ghost use Rattle.listing_lines.specs.RowKinds.{Element, Fits, rowOf, widthOf, lineOf};
-use bytes_printer::Printed;
 use crate::RowKind;
+use bytes_printer::Printed;
 use local_projection_state::LocalProjectionState;
 use local_projection_state::ProjectionCounts;
 use projection_patch::patch::ProjectionPatchValue;
@@ -34,13 +34,7 @@ fn row_width(kind: RowKind) -> usize
 }
 
 // The line of each row of a table. A table that is too short for its count answers NoRoom.
-fn print_rows(
-    out: &mut [u8],
-    from: Printed,
-    kind: RowKind,
-    table: &[u8],
-    count: usize,
-) -> Printed
+fn print_rows(out: &mut [u8], from: Printed, kind: RowKind, table: &[u8], count: usize) -> Printed
     ensures { λ r. ⌜ ((xs : List (Element kind)) → All (Fits kind) xs → Holds (widthOf kind) count (now (table .entry)) (map (rowOf kind) xs) → Within (now (out .entry)) from
         → Prints (now (out .entry)) from (flatMap (lineOf kind) xs) (now (out .exit)) r) ⌝ }
 {

@@ -1,10 +1,10 @@
 // Creation, lifecycle steps and batches.
+use crate::setup::ReplaySetup;
 use crate::state;
 use crate::state::ReplayState;
 use crate::state::ReplayStep;
 use bytes_printer::Printed;
 use script_answers::session;
-use crate::setup::ReplaySetup;
 use session_creation::CreationAnswer;
 use session_creation::ShellSessionCreation;
 use session_gates::gates::OrderedProjectionPatchBatchEnvelope;

@@ -1,7 +1,7 @@
 // The state of a replay: its set-up, and the session of the latest creation if there is one.
+use crate::setup::ReplaySetup;
 use bytes_printer::Printed;
 use script_answers::session;
-use crate::setup::ReplaySetup;
 use shell_player::session::ShellSession;
 ghost use mathlib.Core.Path.{_≡_};
 ghost use Rattle.spec_replay.specs.Replay.{State, onward};

@@ -20,7 +20,30 @@ ghost use Rattle.script_parser.specs.Forms.{withSlot, formCount, formAt}
 ghost use Rattle.script_parser.specs.Meaning.{withSetOf, commandOf};
 
 // In the order of the tables of words, with a place for none behind each.
-const NUMBERS: [usize; 22] = [5, 1, 2, 1, 0, 0, 5, 0, 0, 0, 0, 0, 1, 1, 1, 1, 1, 0, 2, 1, 2, 0];
+const NUMBERS: [usize; 22] = [
+    5,
+    1,
+    2,
+    1,
+    0,
+    0,
+    5,
+    0,
+    0,
+    0,
+    0,
+    0,
+    1,
+    1,
+    1,
+    1,
+    1,
+    0,
+    2,
+    1,
+    2,
+    0,
+];
 
 pub(crate) fn number_count(form: usize) -> usize
     requires { ⌜ form < formCount ⌝ }
@@ -54,7 +77,7 @@ fn binding(node: u64, slot: u64) -> ScriptCommand
 fn value_binding(node: u64, slot: u64) -> ScriptCommand
     ensures { λ r. ⌜ ((line : List ℕ) → commandOf line r ≡ withSlot slot (script.valueBinding node)) ⌝ }
 {
-    if slot <= 0xffff_ffff {
+    if slot < 0x1_0000_0000 {
         ScriptCommand::Call(CallLine::ValueBinding(node, slot as u32))
     } else {
         ScriptCommand::Other

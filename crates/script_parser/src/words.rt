@@ -4,7 +4,8 @@ use crate::fields::is_word;
 ghost use mathlib.Core.Path.{_≡_};
 ghost use Prim.Native.Nat.{_+_, _≤_};
 ghost use lib.ListN.{length};
-ghost use Rattle.spec_replay.specs.Script.{space, split, fieldsCommand};
+ghost use Rattle.spec_replay.specs.Lines.{space, split};
+ghost use Rattle.spec_replay.specs.Script.{fieldsCommand};
 ghost use Rattle.script_parser.specs.Words.{indexOf};
 ghost use Rattle.script_parser.specs.Forms.{formCount};
 ghost use Rattle.script_parser.specs.FormPlaces.{SecondWord, FormOf};
@@ -18,7 +19,9 @@ pub struct FormAt {
 impl FormAt {
     // Where the forms of apply's words and of value's words begin, and what is no form.
     const STIMULI: usize = 12;
+
     const VALUES: usize = 18;
+
     const NONE: usize = 21;
 }
 

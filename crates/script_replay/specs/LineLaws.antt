@@ -9,7 +9,8 @@ use borrow.Author.Tests.{lt-leb, leb-true}
 use lib.Dec.{leb}
 use lib.ListN.{length, take, drop, length-drop}
 use Rattle.spec_lists.specs.Lists.{if_then_else_}
-use Rattle.spec_replay.specs.Script.{Command, other, lineBytes, readHex, given, command}
+use Rattle.spec_replay.specs.Hex.{readHex}
+use Rattle.spec_replay.specs.Script.{Command, other, lineBytes, given, command}
 use Rattle.spec_replay.specs.Replay.{State, onward, replayLine}
 use Rattle.bytes_printer.specs.declared.Printed.{Printed}
 use Rattle.bytes_printer.specs.declared.Printed.the-variants.{Next}

@@ -1,7 +1,7 @@
 // Lines with a set in hex: a batch, a check and a listing.
 use crate::setup_lines;
-use bytes_printer::Printed;
 use bytes_hex::Decoded;
+use bytes_printer::Printed;
 use script_calls::calls;
 use script_calls::state::ReplayState;
 use script_calls::state::ReplayStep;

@@ -24,12 +24,12 @@ enum-told : tie.Need-enum-told Inv-loop μ-loop
 enum-told c = search needs
 
 returns : tie.Need-returns Inv-loop μ-loop
-returns c = 
+returns c =
     let args = c .before .before .args in
     not-printed (now (args .out)) (now (args .text)) (c .enum-told .given .1)
 
 returns-2 : tie.Need-returns-2 Inv-loop μ-loop
-returns-2 c = 
+returns-2 c =
     let args = c .before .before .before .before .args in
     from-next (c .before .before .at .given .1) (none-printed (now (args .out)) _ (now (args .text)) (omega arith) (omega arith))
 
@@ -40,7 +40,7 @@ same-length : tie.Need-same-length Inv-loop μ-loop
 same-length c = keeps-length (c .before .before .loop .inv)
 
 returns-3 : tie.Need-returns-3 Inv-loop μ-loop
-returns-3 c = 
+returns-3 c =
     let start = c .before .before .before .before .before in
     from-next (start .at .given .1) (byte-full (now (start .before .before .args .text)) _ (c .before .loop-test .taken) (c .before .before .loop .inv) (omega arith))
 
@@ -66,7 +66,7 @@ same-length-2 : tie.Need-same-length-2 Inv-loop μ-loop
 same-length-2 c = keeps-length (c .before .loop .inv)
 
 returns-4 : tie.Need-returns-4 Inv-loop μ-loop
-returns-4 c = 
+returns-4 c =
     let start = c .before .before .before .before in
     from-next (start .at .given .1) (same-bytes (take-all (c .before .loop .i) (now (start .before .before .args .text)) (omega arith)) (c .before .loop .inv))
 

@@ -45,7 +45,7 @@ same-length : tie.Need-same-length
 same-length c = search needs
 
 returns : tie.Need-returns
-returns c = 
+returns c =
     let digits = c .before .before in
     let sign = digits .before .before .before .before in
     same-bytes (sym (signed-below _ (signed-by (digits .before)))) (sign .print-byte .ensures ⨾ digits .print-u64 .ensures)
@@ -54,7 +54,7 @@ same-length-2 : tie.Need-same-length-2
 same-length-2 c = search needs
 
 returns-2 : tie.Need-returns-2
-returns-2 c = 
+returns-2 c =
     let digits = c .before .before in
     let start = digits .before .before .before .before in
     same-bytes (sym (signed-at-least _ (start .fits .z) (is-at-least (digits .before .before)))) (digits .print-u642 .ensures)

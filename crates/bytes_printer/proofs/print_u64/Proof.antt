@@ -16,7 +16,7 @@ part-print-bytes-start : tie.Need-part-print-bytes-start
 part-print-bytes-start c = search needs
 
 part-print-bytes-end : tie.Need-part-print-bytes-end
-part-print-bytes-end c = 
+part-print-bytes-end c =
     let made = c .before .before .before in
     omega (arith, digits-long _ (made .digits-of .result) (made .digits-of .ensures))
 
@@ -27,7 +27,7 @@ same-length : tie.Need-same-length
 same-length c = search needs
 
 returns : tie.Need-returns
-returns c = 
+returns c =
     let printed = c .before .before in
     let made = printed .before .before .before .before .before in
     same-bytes (digits-behind _ (made .digits-of .result) (made .digits-of .ensures)) (printed .print-bytes .ensures)

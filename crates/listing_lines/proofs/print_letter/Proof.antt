@@ -14,7 +14,7 @@ same-length : tie.Need-same-length
 same-length c = search needs
 
 returns : tie.Need-returns
-returns c = 
+returns c =
     let letter = c .before .before in
     letter .before .before .before .before .print-byte .ensures ⨾ letter .print-byte2 .ensures
 

@@ -22,7 +22,7 @@ same-length c = search needs
 
 returns : tie.Need-returns
 unfolding fields
-returns c = 
+returns c =
     let value = c .before .before in
     let second = value .before .before .before .before in
     let first = second .before .before .before .before in

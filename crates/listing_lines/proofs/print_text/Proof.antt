@@ -44,7 +44,7 @@ same-length c = search needs
 
 returns : tie.Need-returns
 unfolding fields
-returns c = 
+returns c =
     let end = c .before .before in
     let bytes = end .before .before .before .before in
     let letter = bytes .before .before .before .before .before .before in

@@ -30,7 +30,7 @@ same-length c = search needs
 
 returns : tie.Need-returns
 unfolding fields
-returns c = 
+returns c =
     let end = c .before .before in
     let number = end .before .before .before .before in
     let letter = number .before .before .before .before .before in
@@ -50,7 +50,7 @@ same-length-2 c = search needs
 
 returns-2 : tie.Need-returns-2
 unfolding fields
-returns-2 c = 
+returns-2 c =
     let end = c .before .before in
     let number = end .before .before .before .before in
     let letter = number .before .before .before .before .before in
@@ -71,7 +71,7 @@ same-length-3 c = search needs
 
 returns-3 : tie.Need-returns-3
 unfolding fields
-returns-3 c = 
+returns-3 c =
     let end = c .before .before in
     let number = end .before .before .before .before in
     let letter = number .before .before .before .before in
@@ -84,7 +84,7 @@ same-length-4 : tie.Need-same-length-4
 same-length-4 c = search needs
 
 returns-4 : tie.Need-returns-4
-returns-4 c = 
+returns-4 c =
     let text = c .before .before in
     let test = text .before .before in
     same-bytes (ap fields (sym (text-fields _ (test .before .before .if1 .left) (test .before .if2 .left) (test .if3 .left)))) (text .print-text .ensures)

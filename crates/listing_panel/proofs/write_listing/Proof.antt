@@ -28,7 +28,7 @@ same-length : tie.Need-same-length
 same-length c = search needs
 
 returns : tie.Need-returns
-returns c = 
+returns c =
     let write = c .before .before in
     let print = write .before .before .before .before in
     let given = print .before .before .before in

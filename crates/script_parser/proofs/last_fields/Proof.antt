@@ -30,7 +30,7 @@ enum-known-from : tie.Need-enum-known-from
 enum-known-from c = search needs
 
 set-line-requires : tie.Need-set-line-requires
-set-line-requires c κs = 
+set-line-requires c κs =
     let test = c .before .before .before .before in
     test .before .has-set .ensures .1 (test .if1 .taken)
 
@@ -38,7 +38,7 @@ enum-told : tie.Need-enum-told
 enum-told c = search needs
 
 returns : tie.Need-returns
-returns c = 
+returns c =
     let called = c .before .before .before .before in
     let test = called .before in
     let args = test .before .before .before .args in
@@ -47,7 +47,7 @@ returns c =
     ∙ called .last-hex .ensures _ ∙ ap (λ (h : HexField). hexThen (args .line .now) h (formAt (args .form) .makes (args .values))) (c .before .before .from .given .1))
 
 returns-2 : tie.Need-returns-2
-returns-2 c = 
+returns-2 c =
     let called = c .before .before in
     let test = called .before in
     let args = test .before .before .before .args in
@@ -55,18 +55,18 @@ returns-2 c =
     ∙ called .last-hex .ensures _ ∙ ap (λ (h : HexField). hexThen (args .line .now) h (formAt (args .form) .makes (args .values))) (c .enum-told .given .1))
 
 returns-3 : tie.Need-returns-3
-returns-3 c = 
+returns-3 c =
     let test = c .before in
     let args = test .before .before .before .args in
     sym (without-set (formAt (args .form)) (args .values) (fieldsAfter (args .line .now) (args .end)) (sym (test .before .has-set .ensures .0) ∙ test .if1 .left) ∙ not-ended (args .line .now) (args .end) _ (c .if2 .taken))
 
 command-of-requires : tie.Need-command-of-requires
-command-of-requires c κs = 
+command-of-requires c κs =
     let test = c .before in
     sym (test .before .has-set .ensures .0) ∙ test .if1 .left
 
 returns-4 : tie.Need-returns-4
-returns-4 c = 
+returns-4 c =
     let test = c .before .before in
     let args = test .before .before .before .args in
     c .command-of .ensures (args .line .now)

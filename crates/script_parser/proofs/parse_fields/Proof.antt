@@ -4,7 +4,8 @@ use mathlib.Core.Bool.{Bool}
 use mathlib.Core.List.{List}
 use Prim.Native.Nat.{ℕ}
 use Rattle.spec_lists.specs.Lists.{if_then_else_}
-use Rattle.spec_replay.specs.Script.{other, space, split, fieldsCommand}
+use Rattle.spec_replay.specs.Lines.{space, split}
+use Rattle.spec_replay.specs.Script.{other, fieldsCommand}
 use Rattle.script_parser.specs.Fields.{fieldsAfter, numbers, filled}
 use Rattle.script_parser.specs.Forms.{lastArguments, formAt}
 use borrow.Author.Needs.{needs}
@@ -34,12 +35,12 @@ last-fields-requires : tie.Need-last-fields-requires
 last-fields-requires c κs = search needs
 
 returns : tie.Need-returns
-returns c = 
+returns c =
     let read = c .before .before .before in
     c .last-fields .ensures ∙ sym (by-numbers read ∙ ap (λ (t : Bool). if t then lastArguments (formAt (read .before .before .find-form .result .form)) (read .read-numbers .result .values) (fieldsAfter (read .before .before .before .before .args .line .now) (read .read-numbers .result .end)) else other) (c .before .before .if1 .taken))
 
 returns-2 : tie.Need-returns-2
-returns-2 c = 
+returns-2 c =
     let read = c .before in
     sym (by-numbers read ∙ ap (λ (t : Bool). if t then lastArguments (formAt (read .before .before .find-form .result .form)) (read .read-numbers .result .values) (fieldsAfter (read .before .before .before .before .args .line .now) (read .read-numbers .result .end)) else other) (c .if1 .left))
 

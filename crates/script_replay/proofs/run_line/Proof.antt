@@ -14,7 +14,7 @@ same-length c = search needs
 
 returns : tie.Need-returns
 unfolding replayLine
-returns c = 
+returns c =
     let a = c .before .before .before .before .before .before .before .args in
     λ m h. line-step (a .number) m _ _ (sym (long-other (a .line .now) (c .before .before .before .before .if1 .taken))) (c .before .before .other .ensures)
 
@@ -52,13 +52,13 @@ other-requires-2 : tie.Need-other-requires-2
 other-requires-2 c κs = search needs
 
 returns-2 : tie.Need-returns-2
-returns-2 c = 
+returns-2 c =
     let a = c .before .before .before .before .before .before .before .args in
     let p = c .before .before .before .parse-line in
     λ m h. line-step (a .number) m _ _ (parsed-as (a .line .now) (p .result) _ (p .ensures) (c .before .enum-told .given .1)) (c .nothing .ensures m h (a .number) (a .out .now))
 
 returns-3 : tie.Need-returns-3
-returns-3 c = 
+returns-3 c =
     let a = c .before .before .before .before .before .before .before .before .args in
     let p = c .before .before .before .before .parse-line in
     λ m h. line-step (a .number) m _ _ (parsed-as (a .line .now) (p .result) _ (p .ensures) (c .before .before .wanted .given .1)) (c .set-up .ensures m h (a .number) (a .out .now))
@@ -67,7 +67,7 @@ same-length-2 : tie.Need-same-length-2
 same-length-2 c = search needs
 
 returns-4 : tie.Need-returns-4
-returns-4 c = 
+returns-4 c =
     let a = c .before .before .before .before .before .before .before .before .before .before .before .args in
     let p = c .before .before .before .before .before .before .before .parse-line in
     λ m h. line-step (a .number) m _ _ (parsed-as (a .line .now) (p .result) _ (p .ensures) (c .before .before .before .before .before .wanted2 .given .1)) (c .before .before .call .ensures m h (a .number))
@@ -76,7 +76,7 @@ same-length-3 : tie.Need-same-length-3
 same-length-3 c = search needs
 
 returns-5 : tie.Need-returns-5
-returns-5 c = 
+returns-5 c =
     let a = c .before .before .before .before .before .before .before .before .before .before .before .args in
     let p = c .before .before .before .before .before .before .before .parse-line in
     λ m h. line-step (a .number) m _ _ (parsed-as (a .line .now) (p .result) _ (p .ensures) (c .before .before .before .before .before .wanted3 .given .1)) (c .before .before .run-with-set .ensures m h (c .before .before .before .before .before .before .before .before .if1 .left))
@@ -86,7 +86,7 @@ same-length-4 c = search needs
 
 returns-6 : tie.Need-returns-6
 unfolding replayLine
-returns-6 c = 
+returns-6 c =
     let a = c .before .before .before .before .before .before .before .before .before .before .args in
     let p = c .before .before .before .before .before .before .parse-line in
     λ m h. line-step (a .number) m _ _ (parsed-as (a .line .now) (p .result) _ (p .ensures) (c .before .before .before .before .enum-told2 .given .1)) (c .before .before .other2 .ensures)

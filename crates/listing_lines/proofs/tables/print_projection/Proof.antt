@@ -37,7 +37,7 @@ print-rows-requires-2 : tie.Need-print-rows-requires-2
 print-rows-requires-2 c κs = search needs
 
 slice-aggregate-print-rows-3 : tie.Need-slice-aggregate-print-rows-3
-slice-aggregate-print-rows-3 c = 
+slice-aggregate-print-rows-3 c =
     let second = c .before .before .before .before in
     sym (long (second .before .before .before .before .before .before .before .before .before .before .before .before .before .before .before .before .before .before))
 
@@ -49,7 +49,7 @@ same-length c = search needs
 
 returns : tie.Need-returns
 unfolding recordCount projectionLines
-returns c = 
+returns c =
     let third = c .before .before in
     let second = third .before .before .before .before .before in
     let first = second .before .before .before .before .before in

@@ -27,7 +27,7 @@ enum-told : tie.Need-enum-told Inv-loop μ-loop
 enum-told c = search needs
 
 returns : tie.Need-returns Inv-loop μ-loop
-returns c = 
+returns c =
     let called = c .before .before in
     let at-loop = called .before .before in
     λ next. reading-off (at-loop .loop .inv) (called .before .loop-test .taken) (called .number-after .result) (called .number-after .ensures) (c .enum-told .given .1) _
@@ -45,7 +45,7 @@ loop-less : tie.Need-loop-less Inv-loop μ-loop
 loop-less c = search needs
 
 loop-again : tie.Need-loop-again Inv-loop μ-loop
-loop-again c = 
+loop-again c =
     let called = c .before .before .before in
     let at-loop = called .before .before in
     reading-turn (at-loop .loop .inv) (called .before .loop-test .taken) (at-loop .before .before .pre) (called .number-after .result) _ _ (called .number-after .ensures) (c .before .n .given .1)

@@ -107,7 +107,7 @@ returns-14 c = λ line. by-form (c .before) 20 (c .match .keys14)
 
 returns-15 : tie.Need-returns-15
 unfolding formAt
-returns-15 c = 
+returns-15 c =
     let form = c .before .args .form in
     let none = c .match .rest in
     λ line. rw (

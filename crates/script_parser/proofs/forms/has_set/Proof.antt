@@ -9,12 +9,12 @@ use Rattle.script_parser.proofs.forms.has_set.Statement.{statement}
 use Rattle.script_parser.proofs.forms.has_set.Tie as tie
 
 returns : tie.Need-returns
-returns c = 
+returns c =
     let form = c .before .args .form in
     (rw (lt-leb 6 form (c .if1 .taken)) at (set-forms form (c .before .pre)), λ e. absurd (let z : _≡_ {A = ℕ} 0 1 = cc in omega arith))
 
 returns-2 : tie.Need-returns-2
-returns-2 c = 
+returns-2 c =
     let form = c .before .args .form in
     (rw (le-leb 6 form (c .if1 .left)) at (set-forms form (c .before .pre)), λ e. (c .if1 .left, ltb-true form 9 e))
 

@@ -5,7 +5,8 @@ use mathlib.Core.List.{List, _∷_, []}
 use native.Mathlib.Omega.{arith}
 use borrow.Author.Needs.{needs}
 use lib.ListN.{length, take, drop}
-use Rattle.spec_replay.specs.Script.{space, split, prepend, ascii, apply, end, number, stimuli, applyArguments, values, valueArguments, commands, fieldsCommand}
+use Rattle.spec_replay.specs.Lines.{space, split, prepend}
+use Rattle.spec_replay.specs.Script.{ascii, apply, end, number, stimuli, applyArguments, values, valueArguments, commands, fieldsCommand}
 use Rattle.script_parser.specs.Fields.{fieldsAfter}
 use Rattle.script_parser.specs.FieldsLaws.{field-within}
 use Rattle.script_parser.specs.Words.{indexOf, wordsOf, rowAt, indexOf-most}
@@ -39,7 +40,7 @@ part-word-index-start : tie.Need-part-word-index-start
 part-word-index-start c = search needs
 
 part-word-index-end : tie.Need-part-word-index-end
-part-word-index-end c = 
+part-word-index-end c =
     let ended = c .before in
     omega (arith, field-within (ended .before .before .args .line .now) 0 (omega arith), ended .field-end .ensures)
 
@@ -54,7 +55,7 @@ second-form-requires c κs = search needs
 
 returns : tie.Need-returns
 unfolding stimuli split prepend applyArguments commands
-returns c = 
+returns c =
     let test = c .before .before in
     let word = test .before in
     let args = word .before .before .before .before .before .args in
@@ -73,7 +74,7 @@ second-form-requires-2 c κs = search needs
 
 returns-2 : tie.Need-returns-2
 unfolding values split prepend valueArguments commands
-returns-2 c = 
+returns-2 c =
     let test = c .before .before in
     let word = test .before .before in
     let args = word .before .before .before .before .before .args in
@@ -85,7 +86,7 @@ returns-2 c =
     }
 
 returns-3 : tie.Need-returns-3
-returns-3 c = 
+returns-3 c =
     let word = c .before .before in
     record { numbered = omega (arith, few word); asks = by-first word ∙ first-form (word .word-index .result) (few word) (c .before .if1 .left) (c .if2 .left) _ }
 

@@ -4,7 +4,7 @@ use mathlib.Core.Path.{_≡_, refl, ap, _∙_}
 use mathlib.Core.List.{List}
 use native.Mathlib.Omega.{arith}
 use borrow.Author.Needs.{needs}
-use Rattle.spec_replay.specs.Script.{space, split}
+use Rattle.spec_replay.specs.Lines.{space, split}
 use Rattle.script_parser.specs.FieldsLaws.{field-within, field-part}
 use Rattle.script_parser.specs.Words.{indexOf}
 use Rattle.script_parser.proofs.words.second_form.Statement.{statement}
@@ -26,7 +26,7 @@ part-word-index-start : tie.Need-part-word-index-start
 part-word-index-start c = search needs
 
 part-word-index-end : tie.Need-part-word-index-end
-part-word-index-end c = 
+part-word-index-end c =
     let args = c .before .before .before .before .args in
     omega (arith, field-within (args .line .now) (args .end + 1) (omega arith), c .field-end .ensures)
 
@@ -37,7 +37,7 @@ add-t8 : tie.Need-add-t8
 add-t8 c = search needs
 
 returns-2 : tie.Need-returns-2
-returns-2 c = 
+returns-2 c =
     let ended = c .before .before in
     let args = ended .before .before .before .before .args in
     record {

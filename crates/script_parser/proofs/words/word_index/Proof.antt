@@ -4,7 +4,7 @@ use mathlib.Core.Path.{_≡_, refl, sym, _∙_}
 use native.Mathlib.Omega.{arith}
 use lib.ListN.{length, drop}
 use borrow.Author.Needs.{needs}
-use Rattle.spec_replay.specs.Script.{space, split}
+use Rattle.spec_replay.specs.Lines.{space, split}
 use Rattle.script_parser.specs.Words.{indexOf}
 use Rattle.script_parser.specs.FieldsLaws.{field-within}
 use Rattle.script_parser.proofs.Searching.{word-here, word-nowhere, word-later}
@@ -39,7 +39,7 @@ is-word-requires : tie.Need-is-word-requires Inv-loop μ-loop
 is-word-requires c κs = search needs
 
 returns : tie.Need-returns Inv-loop μ-loop
-returns c = 
+returns c =
     let test = c .before in
     let ended = test .before .before in
     let at-loop = ended .before in
@@ -51,7 +51,7 @@ add-result : tie.Need-add-result Inv-loop μ-loop
 add-result c = omega arith
 
 returns-2 : tie.Need-returns-2 Inv-loop μ-loop
-returns-2 c = 
+returns-2 c =
     let test = c .before .before in
     let ended = test .before .before in
     let at-loop = ended .before in
@@ -69,7 +69,7 @@ loop-less : tie.Need-loop-less Inv-loop μ-loop
 loop-less c = omega (arith, ends (c .before .before .before .before))
 
 loop-again : tie.Need-loop-again Inv-loop μ-loop
-loop-again c = 
+loop-again c =
     let test = c .before .before in
     let ended = test .before .before in
     let at-loop = ended .before in

@@ -32,7 +32,7 @@ same-length c = search needs
 
 returns : tie.Need-returns
 unfolding replayLine
-returns c = 
+returns c =
     let a = c .before .before .before .before .before .before .before .before .before .args in
     λ m h n. line-step n m _ _ (ap (λ (w : SetLine). withSetOf w (a .set .now)) (sym (c .before .before .before .before .before .wanted .given .1))) (c .before .before .apply-batch .ensures m h)
 
@@ -41,7 +41,7 @@ same-length-2 c = search needs
 
 returns-2 : tie.Need-returns-2
 unfolding replayLine
-returns-2 c = 
+returns-2 c =
     let a = c .before .before .before .before .before .before .before .before .args in
     λ m h n. line-step n m _ _ (ap (λ (w : SetLine). withSetOf w (a .set .now)) (sym (c .before .before .before .before .enum-told .given .1))) (goes-on refl h (c .before .before .print-checked .ensures))
 
@@ -50,7 +50,7 @@ same-length-3 c = search needs
 
 returns-3 : tie.Need-returns-3
 unfolding replayLine
-returns-3 c = 
+returns-3 c =
     let a = c .before .before .before .before .before .before .before .before .args in
     λ m h n. line-step n m _ _ (ap (λ (w : SetLine). withSetOf w (a .set .now)) (sym (c .before .before .before .before .enum-told2 .given .1))) (goes-on refl h (c .before .before .print-listing .ensures))
 

@@ -8,7 +8,7 @@ next-setup-requires : tie.Need-next-setup-requires
 next-setup-requires c κs = search needs
 
 returns : tie.Need-returns
-returns c = 
+returns c =
     let a = c .before .before .args in
     λ m h n out. set-up-step (a .state) m h (c .next-setup .result) (a .line) (c .next-setup .ensures (m .setup) (h .setup-is)) n out
 
