@@ -10,7 +10,7 @@ use lib.ListN.{length, getD}
 use borrow.Author.Tests.{eqb-true, eq-eqb, ne-eqb, le-leb, lt-leb}
 use Rattle.spec_lists.specs.Lists.{all}
 use Rattle.spec_lists.specs.ListLaws.{and-left, test-cases}
-use Rattle.spec_replay.specs.Script.{hexPairs, readHex}
+use Rattle.spec_replay.specs.Hex.{hexPairs, readHex}
 use Rattle.bytes_wire.specs.Write.{overwrite}
 use Rattle.bytes_wire.specs.WriteLaws.{has-room, no-room, overwrite-in-place, overwrite-refused}
 use Rattle.bytes_hex.specs.declared.Decoded.the-variants.{Bytes, Malformed, NoRoom}

@@ -11,7 +11,7 @@ use borrow.Author.Tests.{le-leb, leb-true}
 use Rattle.spec_lists.specs.Lists.{if_then_else_, all, equalLists}
 use Rattle.spec_lists.specs.ListLaws.{test-cases}
 use Rattle.spec_decimal.specs.Decimal.{isDigit}
-use Rattle.spec_replay.specs.Script.{hexDigit, hexByte, consByte, hexPairs, readHex}
+use Rattle.spec_replay.specs.Hex.{hexDigit, hexByte, consByte, hexPairs, readHex}
 use Rattle.bytes_wire.specs.Write.{hasRoom, overwrite}
 use Rattle.bytes_wire.specs.WriteLaws.{has-room, take-overwrite}
 use Rattle.bytes_hex.specs.declared.Decoded.the-variants as Answer

@@ -3,7 +3,7 @@ ghost use mathlib.Core.Path.{_≡_};
 ghost use Prim.Native.Nat.{_*_, _≤_, _<_};
 ghost use lib.ListN.{length};
 ghost use Rattle.bytes_wire.specs.Write.{overwrite};
-ghost use Rattle.spec_replay.specs.Script.{hexPairs, readHex};
+ghost use Rattle.spec_replay.specs.Hex.{hexPairs, readHex};
 ghost use Rattle.bytes_hex.specs.Decoding.{isHexDigit, hexValue, isPairs, pairBytes, decoding, decodedInto};
 
 // How many bytes were decoded; or nothing was written, since the text is no hex or there is no room for its bytes.

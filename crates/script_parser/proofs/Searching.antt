@@ -9,7 +9,8 @@ use lib.Dec.{eqb, ltb}
 use lib.ListN.{length, take, drop}
 use Rattle.spec_lists.specs.Lists.{equalLists}
 use Rattle.spec_lists.specs.ListLaws.{test-cases}
-use Rattle.spec_replay.specs.Script.{other, space, split, prepend, Arguments, readBy, given, Row, byWord, commands, fieldsCommand}
+use Rattle.spec_replay.specs.Lines.{space, split, prepend}
+use Rattle.spec_replay.specs.Script.{other, Arguments, readBy, given, Row, byWord, commands, fieldsCommand}
 use Rattle.script_parser.specs.Fields.{firstField, fieldsAfter}
 use Rattle.script_parser.specs.FieldsLaws.{fieldsAfter-drop, none-after, some-after, one-after, split-first, field-part}
 use Rattle.script_parser.specs.Words.{indexOf, wordsOf, rowAt, indexOf-most, by-index}

@@ -5,7 +5,8 @@ use mathlib.Core.List.{List, [], _∷_}
 use native.Mathlib.Omega.{arith}
 use lib.ListN.{length, getD}
 use borrow.Author.Tests.{le-leb, lt-leb, eq-eqb, ne-eqb}
-use Rattle.spec_replay.specs.Script.{nothing, other, lineBytes, commentMark, space, split, fieldsCommand, isRemark, command}
+use Rattle.spec_replay.specs.Lines.{space, split}
+use Rattle.spec_replay.specs.Script.{nothing, other, lineBytes, commentMark, fieldsCommand, isRemark, command}
 
 pub too-long : (line : List ℕ) → lineBytes < length line → command line ≡ other
 unfolding command

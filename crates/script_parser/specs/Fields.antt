@@ -5,7 +5,9 @@ use mathlib.Core.List.{List, [], _∷_, _++_}
 use lib.Dec.{ltb, eqb}
 use lib.ListN.{length, drop, replicate}
 use Rattle.spec_lists.specs.Lists.{if_then_else_}
-use Rattle.spec_replay.specs.Script.{Command, other, space, split, readHex, Arguments, end, given, number, hex}
+use Rattle.spec_replay.specs.Lines.{space, split}
+use Rattle.spec_replay.specs.Hex.{readHex}
+use Rattle.spec_replay.specs.Script.{Command, other, Arguments, end, given, number, hex}
 use Rattle.script_parser.specs.declared.fields.NumberField.{NumberField}
 use Rattle.script_parser.specs.declared.fields.NumberField.the-variants as NumberAnswer
 use Rattle.script_parser.specs.declared.fields.NumberFields.{NumberFields}

@@ -10,7 +10,9 @@ use lib.ListN.{length, getD, take, drop, length-drop, drop-of-length-le}
 use lib.Seq.{drop-drop, drop-cons, take-all}
 use borrow.Author.Tests.{lt-ltb, le-ltb, ltb-true, ltb-false, eq-eqb, ne-eqb}
 use Rattle.spec_lists.specs.ListLaws.{test-cases}
-use Rattle.spec_replay.specs.Script.{Command, other, space, prepend, split, readHex, Arguments, end, given, readBy, hex}
+use Rattle.spec_replay.specs.Lines.{space, prepend, split}
+use Rattle.spec_replay.specs.Hex.{readHex}
+use Rattle.spec_replay.specs.Script.{Command, other, Arguments, end, given, readBy, hex}
 use Rattle.script_parser.specs.Fields.{firstField, fieldsAfter}
 
 -- ---- the first field

@@ -3,7 +3,8 @@ use Prim.Native.Nat.{ℕ, _+_, _≤_, _<_}
 use mathlib.Core.Path.{_≡_}
 use mathlib.Core.List.{List}
 use lib.ListN.{length, drop}
-use Rattle.spec_replay.specs.Script.{space, split, fieldsCommand}
+use Rattle.spec_replay.specs.Lines.{space, split}
+use Rattle.spec_replay.specs.Script.{fieldsCommand}
 use Rattle.script_parser.specs.Fields.{firstField, fieldsAfter}
 use Rattle.script_parser.specs.Words.{indexOf}
 use Rattle.script_parser.specs.Forms.{formArguments, noneFound, formCount, formAt}

@@ -4,7 +4,8 @@ use mathlib.Core.List.{List}
 use lib.ListN.{drop}
 use Rattle.spec_session.specs.Batch.{BatchEnvelope}
 use Rattle.spec_replay.specs.Script as script
-use Rattle.spec_replay.specs.Script.{Command, readHex, given}
+use Rattle.spec_replay.specs.Hex.{readHex}
+use Rattle.spec_replay.specs.Script.{Command, given}
 use Rattle.session_lifecycle.specs.Meaning.{limitsOf, stimulusOf}
 use Rattle.script_parser.specs.declared.BatchLine.{BatchLine}
 use Rattle.script_parser.specs.declared.SetupLine.{SetupLine}

@@ -77,7 +77,7 @@ fn binding(node: u64, slot: u64) -> ScriptCommand
 fn value_binding(node: u64, slot: u64) -> ScriptCommand
     ensures { λ r. ⌜ ((line : List ℕ) → commandOf line r ≡ withSlot slot (script.valueBinding node)) ⌝ }
 {
-    if slot <= 0xffff_ffff {
+    if slot < 0x1_0000_0000 {
         ScriptCommand::Call(CallLine::ValueBinding(node, slot as u32))
     } else {
         ScriptCommand::Other

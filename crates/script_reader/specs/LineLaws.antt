@@ -7,7 +7,7 @@ use native.Mathlib.Omega.{arith}
 use lib.ListN.{length, getD, drop, drop-of-length-le}
 use lib.Seq.{drop-cons}
 use borrow.Author.Tests.{eq-eqb, ne-eqb}
-use Rattle.spec_replay.specs.Script.{newline, prepend, split}
+use Rattle.spec_replay.specs.Lines.{newline, prepend, split}
 use Rattle.script_reader.specs.Lines.{firstPart, firstLine}
 
 -- a byte before the first part is one before its first byte

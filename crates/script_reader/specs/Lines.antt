@@ -1,7 +1,7 @@
 -- The first line of bytes: the first of the parts that spec_replay's `split` gives.
 use Prim.Native.Nat.{ℕ}
 use mathlib.Core.List.{List, [], _∷_}
-use Rattle.spec_replay.specs.Script.{newline, split}
+use Rattle.spec_replay.specs.Lines.{newline, split}
 
 unfoldable pub firstPart : List (List ℕ) → List ℕ
 firstPart [] = []

@@ -1,3 +1,2 @@
-pub mod Silent
-pub mod SetUses
+pub mod SetupLines
 pub mod LineLaws

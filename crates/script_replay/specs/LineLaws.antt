@@ -1,4 +1,4 @@
--- Laws of the lines: what is silent, what a decoded set is, and where a listing ends.
+-- Laws of the lines: what prints nothing, and what a decoded set is.
 use Prim.Native.Nat.{ℕ, _+_, _-_, _≤_, _<_}
 use mathlib.Core.Path.{_≡_, refl, sym, ap, subst, _∙_}
 use mathlib.Core.Bool.{Bool, true, false}
@@ -9,49 +9,44 @@ use borrow.Author.Tests.{lt-leb, leb-true}
 use lib.Dec.{leb}
 use lib.ListN.{length, take, drop, length-drop}
 use Rattle.spec_lists.specs.Lists.{if_then_else_}
-use Rattle.spec_replay.specs.Script.{Command, other, lineBytes, readHex, given, command}
-use Rattle.spec_replay.specs.Replay.{Setup, State, onward, replayLine}
+use Rattle.spec_replay.specs.Hex.{readHex}
+use Rattle.spec_replay.specs.Script.{Command, other, lineBytes, given, command}
+use Rattle.spec_replay.specs.Replay.{State, onward, replayLine}
 use Rattle.bytes_printer.specs.declared.Printed.{Printed}
-use Rattle.bytes_printer.specs.declared.Printed.the-variants.{Next, NoRoom}
-use Rattle.bytes_wire.specs.Write.{hasRoom}
+use Rattle.bytes_printer.specs.declared.Printed.the-variants.{Next}
 use Rattle.bytes_printer.specs.Prints.{Prints}
-use Rattle.bytes_printer.specs.PrintsLaws.{written, refused, nothing-printed}
+use Rattle.bytes_printer.specs.PrintsLaws.{nothing-printed}
 use Rattle.bytes_hex.specs.declared.Decoded.{Decoded}
 use Rattle.bytes_hex.specs.declared.Decoded.the-variants as decoded
 use Rattle.bytes_hex.specs.Decoding.{decoding, decodedInto}
 use Rattle.bytes_hex.specs.DecodingLaws.{decoded-part, always-room}
-use Rattle.script_parser.specs.Meaning.{setFrom, commandOf}
+use Rattle.script_parser.specs.Meaning.{setFrom, setupOf, commandOf}
+use Rattle.script_parser.specs.declared.SetupLine.{SetupLine}
 use Rattle.script_parser.specs.declared.ScriptCommand.{ScriptCommand}
 use Rattle.script_calls.specs.SetsUp.{SetsUp}
 use Rattle.script_calls.specs.declared.setup.ReplaySetup.{ReplaySetup}
 use Rattle.script_calls.specs.declared.state.ReplayState.{ReplayState}
-use Rattle.listing_panel.specs.Written.{Writes}
-use Rattle.patch_part_writer.specs.declared.written.Written.{Written}
-use Rattle.patch_part_writer.specs.declared.written.Written.the-variants.{Wrote, Refused}
-use Rattle.patch_part_writer.specs.declared.written.WriteRefusal.the-variants.{OutputTooShort}
 use Rattle.script_calls.specs.declared.state.ReplayStep.{ReplayStep}
 use Rattle.script_calls.specs.ReplayHolds.{ReplayHolds, Stepped}
 use Rattle.script_calls.specs.ReplayHoldsLaws.{goes-on}
-use Rattle.script_replay.specs.Silent.{Silent, printedOf}
+use Rattle.script_replay.specs.SetupLines.{nextSetup, setup-line}
 
--- a silent line leaves the slice as it was
-pub silent-step : (l : List ℕ) (r : ReplayStep) (m : State) → Silent r m → Stepped l l r (onward m [])
-silent-step l r m s = goes-on (s .goes) (s .holds) (subst (λ (p : Printed). Prints l (Next 0) [] l p) (sym (s .none)) (nothing-printed l (Next 0) (omega arith)))
+-- a line that prints nothing leaves the slice as it was
+pub silent-step : (s : ReplayState) (l : List ℕ) (r : ReplayStep) (m : State) → r .stopped ≡ false → r .printed ≡ Next 0 → ReplayHolds (r .state) m → Stepped s l l r (onward m [])
+silent-step s l r m goes unprinted h = goes-on goes h (subst (λ (p : Printed). Prints l (Next 0) [] l p) (sym unprinted) (nothing-printed l (Next 0) (omega arith)))
 
--- a new set-up is silent, and the session stays
-pub set-up : (s : ReplayState) (m : State) → ReplayHolds s m → (t : ReplaySetup) (n : Setup) → SetsUp t n → (r : ReplayStep)
-    → (r .state ≡ record { setup = t; exists = s .exists; session = s .session }) × ((r .printed ≡ Next 0) × (r .stopped ≡ false)) → Silent r (record { setup = n; session = m .session })
-set-up s m h t n new r is = record {
-  goes = is .1 .1;
-  holds = subst (λ (x : ReplayState). ReplayHolds x (record { setup = n; session = m .session })) (sym (is .0)) (record { setup-is = new; session-is = h .session-is });
-  none = is .1 .0;
-}
+-- a line for the next creation
+pub set-up-step : (s : ReplayState) (m : State) → ReplayHolds s m → (t : ReplaySetup) (line : SetupLine) → SetsUp t (nextSetup (m .setup) line) → (n : ℕ) (l : List ℕ)
+    → Stepped s l l (record { state = record { setup = t; exists = s .exists; session = s .session }; printed = Next 0; stopped = false }) (replayLine n m (setupOf line))
+set-up-step s m h t line new n l =
+    subst (Stepped s l l (record { state = record { setup = t; exists = s .exists; session = s .session }; printed = Next 0; stopped = false })) (setup-line n m line)
+    (silent-step s l _ _ refl refl (record { setup-is = new; session-is = h .session-is }))
 
 -- ---- lines
 
 -- a step at a command is one at the same command told otherwise
-pub line-step : (before after : List ℕ) (r : ReplayStep) (n : ℕ) (m : State) (k j : Command) → j ≡ k → Stepped before after r (replayLine n m j) → Stepped before after r (replayLine n m k)
-line-step before after r n m k j e step = subst (λ (x : Command). Stepped before after r (replayLine n m x)) e step
+pub line-step : {s : ReplayState} {before after : List ℕ} {r : ReplayStep} (n : ℕ) (m : State) (k j : Command) → j ≡ k → Stepped s before after r (replayLine n m j) → Stepped s before after r (replayLine n m k)
+line-step {s} {before} {after} {r} n m k j e step = subst (λ (x : Command). Stepped s before after r (replayLine n m x)) e step
 
 -- a line that is too long
 pub long-other : (line : List ℕ) → lineBytes < length line → command line ≡ other
@@ -102,16 +97,3 @@ module _ (line : List ℕ) (from : ℕ) (next : List ℕ → Command) (lent afte
   -- there is always room for what a line spells
   pub has-room : 65536 ≤ length lent → length line ≤ lineBytes → r ≡ decoded.NoRoom → ⊥
   has-room room short e = always-room (drop from line) (length lent) (omega (arith, length-drop from line)) (sym told ∙ e)
-
--- where a listing ends
-pub listing-printed : (before lines after : List ℕ) (r : Written) → Writes before lines after r → Prints before (Next 0) lines after (printedOf r)
-unfolding printedOf
-listing-printed before lines after r w = go (hasRoom before 0 (length lines)) refl
-  where
-    go : (t : Bool) → hasRoom before 0 (length lines) ≡ t → Prints before (Next 0) lines after (printedOf r)
-    go true room =
-        let is : r ≡ Wrote (0 + length lines) = w .answer ∙ rw room in
-        subst (λ (x : Written). Prints before (Next 0) lines after (printedOf x)) (sym is) (written before 0 lines refl room (w .output))
-    go false room =
-        let is : r ≡ Refused OutputTooShort = w .answer ∙ rw room in
-        subst (λ (x : Written). Prints before (Next 0) lines after (printedOf x)) (sym is) (refused before 0 lines refl room (w .output))

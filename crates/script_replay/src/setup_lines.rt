@@ -6,18 +6,20 @@ use script_answers::session;
 use script_calls::setup::ReplaySetup;
 use script_calls::state::ReplayState;
 use script_calls::state::ReplayStep;
+use script_parser::SetupLine;
 use session_lifecycle::state::ShellLifecycleLimits;
-ghost use mathlib.Core.Path.{_≡_};
-ghost use mathlib.Core.Bool.{false};
-ghost use Rattle.bytes_printer.specs.declared.Printed.the-variants.{Next};
+ghost use mathlib.Core.List.{List};
+ghost use Prim.Native.Nat.{ℕ};
 ghost use Rattle.spec_replay.specs.Answers.{otherLine};
+ghost use Rattle.spec_replay.specs.Script as script;
 ghost use Rattle.spec_replay.specs.Replay as replay;
-ghost use Rattle.spec_replay.specs.Replay.{State, stops, noAnchors, withSetup, withAnchors, withNode, withBinding, withCollection};
-ghost use Rattle.session_lifecycle.specs.Meaning.{limitsOf};
+ghost use Rattle.spec_replay.specs.Replay.{Setup, State, stops, replayLine};
+ghost use Rattle.script_parser.specs.Meaning.{setupOf};
+ghost use Rattle.script_calls.specs.SetsUp.{SetsUp};
 ghost use Rattle.script_calls.specs.ReplayHolds.{ReplayHolds, Stepped};
-ghost use Rattle.script_replay.specs.Silent.{Silent};
+ghost use Rattle.script_replay.specs.SetupLines.{nextSetup};
 
-// The state before the first line: no limits, no anchors and no session.
+// The state before the first line: no limits, no anchors and no session. What stands for none is what a creation gives that is refused.
 pub fn start() -> ReplayState
     ensures { λ r. ⌜ ReplayHolds r replay.start ⌝ }
 {
@@ -29,8 +31,15 @@ pub fn start() -> ReplayState
     };
     let setup = ReplaySetup::new(0, limits);
     let pairs = [BindingPair { node: 0, slot: 0 }; ActiveProjectionTargetCatalog::ANCHORS];
-    let creation = session_creation::create_shell_session(0, limits, &[], pairs, 0, &[]);
-    let session = creation.session;
+    let refused = session_creation::create_shell_session(
+        0,
+        limits,
+        &[],
+        pairs,
+        ActiveProjectionTargetCatalog::ANCHORS + 1,
+        &[],
+    );
+    let session = refused.session;
     ReplayState {
         setup,
         exists: false,
@@ -38,9 +47,9 @@ pub fn start() -> ReplayState
     }
 }
 
-// A line that prints nothing.
-pub fn nothing(state: ReplayState) -> ReplayStep
-    ensures { λ r. ⌜ ((m : State) → ReplayHolds state m → Silent r m) ⌝ }
+// A line that asks for nothing.
+pub(crate) fn nothing(state: ReplayState) -> ReplayStep
+    ensures { λ r. ⌜ ((m : State) → ReplayHolds state m → (number : ℕ) (out : List ℕ) → Stepped state out out r (replayLine number m script.nothing)) ⌝ }
 {
     ReplayStep {
         state,
@@ -49,10 +58,27 @@ pub fn nothing(state: ReplayState) -> ReplayStep
     }
 }
 
-// A new set-up; the session stays.
-fn with_setup(state: ReplayState, setup: ReplaySetup) -> ReplayStep
-    ensures { λ r. ⌜ (r .state ≡ record { setup = setup; exists = state .exists; session = state .session }) × ((r .printed ≡ Next 0) × (r .stopped ≡ false)) ⌝ }
+// What a line makes of the set-up.
+fn next_setup(own: ReplaySetup, line: SetupLine) -> ReplaySetup
+    ensures { λ r. ⌜ ((m : Setup) → SetsUp own m → SetsUp r (nextSetup m line)) ⌝ }
 {
+    match line {
+        SetupLine::Session(id, limits) => ReplaySetup::new(id, limits),
+        SetupLine::Node(node) => own.with_node(node),
+        SetupLine::Binding(node, slot) => {
+            let pair = BindingPair { node, slot };
+            own.with_binding(pair)
+        }
+        SetupLine::Collection(collection) => own.with_collection(collection),
+    }
+}
+
+// A line for the next creation; the session stays.
+pub(crate) fn set_up(state: ReplayState, line: SetupLine) -> ReplayStep
+    ensures { λ r. ⌜ ((m : State) → ReplayHolds state m → (number : ℕ) (out : List ℕ) → Stepped state out out r (replayLine number m (setupOf line))) ⌝ }
+{
+    let own = state.setup;
+    let setup = next_setup(own, line);
     let mut next = state;
     next.setup = setup;
     ReplayStep {
@@ -62,40 +88,8 @@ fn with_setup(state: ReplayState, setup: ReplaySetup) -> ReplayStep
     }
 }
 
-pub fn session(state: ReplayState, id: u64, limits: ShellLifecycleLimits) -> ReplayStep
-    ensures { λ r. ⌜ ((m : State) → ReplayHolds state m → Silent r (withSetup m id (limitsOf limits) noAnchors)) ⌝ }
-{
-    let setup = ReplaySetup::new(id, limits);
-    with_setup(state, setup)
-}
-
-pub fn node(state: ReplayState, node: u64) -> ReplayStep
-    ensures { λ r. ⌜ ((m : State) → ReplayHolds state m → Silent r (withAnchors m (withNode (m .setup .catalogue) node))) ⌝ }
-{
-    let own = state.setup;
-    let setup = own.with_node(node);
-    with_setup(state, setup)
-}
-
-pub fn binding(state: ReplayState, node: u64, slot: u32) -> ReplayStep
-    ensures { λ r. ⌜ ((m : State) → ReplayHolds state m → Silent r (withAnchors m (withBinding (m .setup .catalogue) (record { node = node; slot = slot })))) ⌝ }
-{
-    let own = state.setup;
-    let pair = BindingPair { node, slot };
-    let setup = own.with_binding(pair);
-    with_setup(state, setup)
-}
-
-pub fn collection(state: ReplayState, collection: u64) -> ReplayStep
-    ensures { λ r. ⌜ ((m : State) → ReplayHolds state m → Silent r (withAnchors m (withCollection (m .setup .catalogue) collection))) ⌝ }
-{
-    let own = state.setup;
-    let setup = own.with_collection(collection);
-    with_setup(state, setup)
-}
-
 // Any other line ends the replay.
-pub fn other(state: ReplayState, number: u64, out: &mut [u8]) -> ReplayStep
+pub(crate) fn other(state: ReplayState, number: u64, out: &mut [u8]) -> ReplayStep
     ensures { λ r. ⌜ Stepped state (now (out .entry)) (now (out .exit)) r (stops (otherLine number)) ⌝ }
 {
     let start = Printed::Next(0);

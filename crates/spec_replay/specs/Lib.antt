@@ -1,3 +1,5 @@
+pub mod Lines
+pub mod Hex
 pub mod Script
 pub mod Answers
 pub mod Replay

@@ -15,7 +15,8 @@ use Rattle.spec_session.specs.Lifecycle.{LifecycleStep, lifecycleStep}
 use Rattle.spec_session.specs.Batch as batches
 use Rattle.spec_session.specs.Batch.{BatchStep}
 use Rattle.spec_listing.specs.Listing.{projectionLines, listing}
-use Rattle.spec_replay.specs.Script.{Command, nothing, session, node, binding, collection, create, apply, batch, check, list, show, valueBinding, valueNode, valueEntry, other, newline, split, command}
+use Rattle.spec_replay.specs.Lines.{newline, split}
+use Rattle.spec_replay.specs.Script.{Command, nothing, session, node, binding, collection, create, apply, batch, check, list, show, valueBinding, valueNode, valueEntry, other, command}
 use Rattle.spec_replay.specs.Answers.{creationLine, lifecycleLine, batchLine, checkLines, valueLine, availabilityLine, noSessionLine, otherLine}
 
 -- what a creation takes

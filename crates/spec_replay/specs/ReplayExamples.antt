@@ -22,7 +22,9 @@ use Rattle.spec_session.specs.Diagnostics.{diagnosticsOf}
 use Rattle.spec_session.specs.Lifecycle.{transition, dispositionOf, stateOf, withLifecycle, rejectLifecycle, enterLifecycle, lifecycleStep}
 use Rattle.spec_session.specs.Batch.{require, readable, absentTargets, knownTargets, batchChecks, rejectBatch, keepSession, candidate, commit, concludeBatch, batch}
 use Rattle.spec_listing.specs.Listing.{fields, recordCount, projectionLines, refusalLine, outcomeLines, readingLines, listing}
-use Rattle.spec_replay.specs.Script.{ascii, prepend, split, hexDigit, hexByte, consByte, hexPairs, readHex, end, given, readBy, slotOf, byWord, stimuli, sessionArguments, bindingArguments, applyArguments, batchArguments, valueBindingArguments, valueEntryArguments, values, valueArguments, commands, fieldsCommand, isRemark, command}
+use Rattle.spec_replay.specs.Lines.{prepend, split}
+use Rattle.spec_replay.specs.Hex.{hexDigit, hexByte, consByte, hexPairs, readHex}
+use Rattle.spec_replay.specs.Script.{ascii, end, given, readBy, slotOf, byWord, stimuli, sessionArguments, bindingArguments, applyArguments, batchArguments, valueBindingArguments, valueEntryArguments, values, valueArguments, commands, fieldsCommand, isRemark, command}
 use Rattle.spec_replay.specs.Answers.{dispositionField, lifecycleField, cursorField, placeField, sessionFields, creationLine, lifecycleLine, batchLine, checkedLine, checkLines, availabilityLine, noSessionLine, otherLine}
 use Rattle.spec_replay.specs.Replay.{noAnchors, start, keep, withSetup, withAnchors, withNode, withBinding, withSession, asked, created, applied, batched, replayLine, replayLines, commandsOf, replayFrom, replay}
 

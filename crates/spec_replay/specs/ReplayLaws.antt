@@ -8,7 +8,8 @@ use lib.Dec.{eqb}
 use borrow.Author.Tests.{eq-eqb}
 use Rattle.spec_lists.specs.Lists.{all}
 use Rattle.spec_lists.specs.ListLaws.{and-left, and-right, test-cases}
-use Rattle.spec_replay.specs.Script.{newline, prepend, split, command}
+use Rattle.spec_replay.specs.Lines.{newline, prepend, split}
+use Rattle.spec_replay.specs.Script.{command}
 use Rattle.spec_replay.specs.Answers.{otherLine}
 use Rattle.spec_replay.specs.Replay.{State, replayLine, andThen, replayLines, commandsOf, replayFrom}
 

@@ -1,17 +1,19 @@
 -- The commands of a replay script, one to a line, as bytes: the table `commands`, and the fields of each above it.
-use Prim.Native.Nat.{ℕ, _+_, _-_, _*_}
+use Prim.Native.Nat.{ℕ}
 use Prim.Native.Char.{code}
 use Prim.Native.String.{String, [] as noText, _∷_ as _before_}
 use mathlib.Core.Bool.{Bool, true}
 use mathlib.Core.List.{List, [], _∷_}
-use mathlib.Core.Option.{Option, none, some, Option·map}
+use mathlib.Core.Option.{Option, none, some}
 use lib.Dec.{leb, eqb}
 use lib.ListN.{length}
-use Rattle.spec_lists.specs.Lists.{if_then_else_, between, equalLists}
-use Rattle.spec_decimal.specs.Decimal.{isDigit, readDecimal}
+use Rattle.spec_lists.specs.Lists.{if_then_else_, equalLists}
+use Rattle.spec_decimal.specs.Decimal.{readDecimal}
 use Rattle.spec_session.specs.Session.{Limits, BindingPair}
 use Rattle.spec_session.specs.Lifecycle.{Stimulus, activate, suspend, resume, close, noOp}
 use Rattle.spec_session.specs.Batch.{BatchEnvelope}
+use Rattle.spec_replay.specs.Lines.{space, split}
+use Rattle.spec_replay.specs.Hex.{readHex}
 
 -- what a line asks for; `nothing` is a comment or an empty line, and `other` is any other line
 pub data Command : Type 0 where
@@ -35,54 +37,9 @@ pub data Command : Type 0 where
 abbrev pub lineBytes : ℕ
 lineBytes = 131072
 
--- ---- lines and fields
-
-abbrev pub newline : ℕ
-newline = 10
-
-abbrev pub space : ℕ
-space = 32
-
 -- the character # before a comment
 abbrev pub commentMark : ℕ
 commentMark = 35
-
--- a byte before the first part
-unfoldable pub prepend : ℕ → List (List ℕ) → List (List ℕ)
-prepend b [] = (b ∷ []) ∷ []
-prepend b (part ∷ parts) = (b ∷ part) ∷ parts
-
--- the parts between the separators; two separators in a row have an empty part between them
-unfoldable pub split : ℕ → List ℕ → List (List ℕ)
-split separator [] = [] ∷ []
-split separator (b ∷ bs) = if eqb b separator then [] ∷ split separator bs else prepend b (split separator bs)
-
--- ---- lower-case hex
-
--- 0 to 9 are the characters 48 to 57, a to f are 97 to 102
-unfoldable pub hexDigit : ℕ → Option ℕ
-hexDigit b = if isDigit b then some (b - 48) else if between 97 102 b then some (b - 87) else none
-
--- the byte of two digits
-unfoldable pub hexByte : Option ℕ → Option ℕ → Option ℕ
-hexByte none low = none
-hexByte (some h) none = none
-hexByte (some h) (some l) = some (16 * h + l)
-
-unfoldable pub consByte : Option ℕ → Option (List ℕ) → Option (List ℕ)
-consByte none rest = none
-consByte (some b) rest = Option·map (λ (bs : List ℕ). b ∷ bs) rest
-
--- pairs of digits
-unfoldable pub hexPairs : List ℕ → Option (List ℕ)
-hexPairs [] = some []
-hexPairs (h ∷ []) = none
-hexPairs (h ∷ l ∷ rest) = consByte (hexByte (hexDigit h) (hexDigit l)) (hexPairs rest)
-
--- the character - alone spells the empty set; the empty field is no hex
-unfoldable pub readHex : List ℕ → Option (List ℕ)
-readHex [] = none
-readHex (b ∷ bs) = if equalLists eqb (b ∷ bs) (45 ∷ []) then some [] else hexPairs (b ∷ bs)
 
 -- ---- the fields behind a command's word
 

@@ -5,7 +5,7 @@ use mathlib.Core.List.{List}
 use borrow.Author.Needs.{needs}
 use borrow.Rule.Slice.PartAt.{part-to-end}
 use lib.ListN.{length, drop, drop-of-length-le}
-use Rattle.spec_replay.specs.Script.{readHex}
+use Rattle.spec_replay.specs.Hex.{readHex}
 use Rattle.bytes_hex.specs.declared.Decoded.the-variants.{Malformed}
 use Rattle.bytes_hex.specs.Decoding.{decoding, decodedInto}
 use Rattle.script_parser.proofs.decode_set.Statement.{statement}

@@ -4,7 +4,8 @@ use mathlib.Core.Bool.{Bool}
 use mathlib.Core.List.{List}
 use Prim.Native.Nat.{ℕ}
 use Rattle.spec_lists.specs.Lists.{if_then_else_}
-use Rattle.spec_replay.specs.Script.{other, space, split, fieldsCommand}
+use Rattle.spec_replay.specs.Lines.{space, split}
+use Rattle.spec_replay.specs.Script.{other, fieldsCommand}
 use Rattle.script_parser.specs.Fields.{fieldsAfter, numbers, filled}
 use Rattle.script_parser.specs.Forms.{lastArguments, formAt}
 use borrow.Author.Needs.{needs}

@@ -1,6 +1,7 @@
 -- `script_parser::fields::last_hex` meets its contract: a field that is not the last, the last field, and no field.
 use borrow.Author.Needs.{needs}
-use Rattle.spec_replay.specs.Script.{readHex, end}
+use Rattle.spec_replay.specs.Hex.{readHex}
+use Rattle.spec_replay.specs.Script.{end}
 use Rattle.script_parser.specs.FieldsLaws.{missing, hex-not-last, hex-last}
 use Rattle.script_parser.proofs.fields.last_hex.Statement.{statement}
 use Rattle.script_parser.proofs.fields.last_hex.Tie as tie

@@ -9,7 +9,7 @@ cast-t5 : tie.Need-cast-t5
 cast-t5 c = search needs
 
 returns : tie.Need-returns
-returns c = λ line. slot-fits _ _ (c .if1 .taken)
+returns c = λ line. slot-fits _ _ (omega arith)
 
 returns-2 : tie.Need-returns-2
 returns-2 c = λ line. slot-exceeds _ _ (omega arith)

@@ -5,7 +5,8 @@ use mathlib.Core.List.{List, _∷_, []}
 use native.Mathlib.Omega.{arith}
 use borrow.Author.Needs.{needs}
 use lib.ListN.{length, take, drop}
-use Rattle.spec_replay.specs.Script.{space, split, prepend, ascii, apply, end, number, stimuli, applyArguments, values, valueArguments, commands, fieldsCommand}
+use Rattle.spec_replay.specs.Lines.{space, split, prepend}
+use Rattle.spec_replay.specs.Script.{ascii, apply, end, number, stimuli, applyArguments, values, valueArguments, commands, fieldsCommand}
 use Rattle.script_parser.specs.Fields.{fieldsAfter}
 use Rattle.script_parser.specs.FieldsLaws.{field-within}
 use Rattle.script_parser.specs.Words.{indexOf, wordsOf, rowAt, indexOf-most}

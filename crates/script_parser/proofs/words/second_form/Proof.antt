@@ -4,7 +4,7 @@ use mathlib.Core.Path.{_≡_, refl, ap, _∙_}
 use mathlib.Core.List.{List}
 use native.Mathlib.Omega.{arith}
 use borrow.Author.Needs.{needs}
-use Rattle.spec_replay.specs.Script.{space, split}
+use Rattle.spec_replay.specs.Lines.{space, split}
 use Rattle.script_parser.specs.FieldsLaws.{field-within, field-part}
 use Rattle.script_parser.specs.Words.{indexOf}
 use Rattle.script_parser.proofs.words.second_form.Statement.{statement}

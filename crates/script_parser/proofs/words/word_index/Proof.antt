@@ -4,7 +4,7 @@ use mathlib.Core.Path.{_≡_, refl, sym, _∙_}
 use native.Mathlib.Omega.{arith}
 use lib.ListN.{length, drop}
 use borrow.Author.Needs.{needs}
-use Rattle.spec_replay.specs.Script.{space, split}
+use Rattle.spec_replay.specs.Lines.{space, split}
 use Rattle.script_parser.specs.Words.{indexOf}
 use Rattle.script_parser.specs.FieldsLaws.{field-within}
 use Rattle.script_parser.proofs.Searching.{word-here, word-nowhere, word-later}

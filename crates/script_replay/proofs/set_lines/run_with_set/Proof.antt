@@ -3,7 +3,7 @@ use mathlib.Core.Path.{sym}
 use native.Mathlib.Omega.{arith}
 use lib.ListN.{replicate}
 use Rattle.spec_replay.specs.Replay.{replayLine}
-use Rattle.script_replay.specs.SetUses.{commandWith}
+use Rattle.script_parser.specs.Meaning.{withSetOf}
 use Rattle.script_replay.specs.LineLaws.{line-step, set-is, set-within, no-set, has-room}
 use borrow.Author.Needs.{needs}
 use Rattle.script_replay.proofs.set_lines.run_with_set.Statement.{statement}
@@ -27,7 +27,7 @@ part-use-set-start c = search needs
 part-use-set-end : tie.Need-part-use-set-end
 part-use-set-end c =
     let a = c .before .before .before .before .before .before .before .before .before .args in
-    omega (arith, set-within (a .line .now) (a .from) (commandWith (a .wanted)) (replicate 65536 0) (replicate 65536 0) _ (c .before .before .before .before .before .decode-set .ensures .0) (c .before .before .len .given .0 .0) (c .before .before .len .given .1))
+    omega (arith, set-within (a .line .now) (a .from) (withSetOf (a .wanted)) (replicate 65536 0) (replicate 65536 0) _ (c .before .before .before .before .before .decode-set .ensures .0) (c .before .before .len .given .0 .0) (c .before .before .len .given .1))
 
 use-set-requires : tie.Need-use-set-requires
 use-set-requires c κs = search needs
@@ -52,8 +52,8 @@ unfolding replayLine
 returns c =
     let a = c .before .before .before .before .before .before .before .before .before .before .before .before .before .before .args in
     let d = c .before .before .before .before .before .before .before .before .before .before .decode-set in
-    λ m h short. line-step _ _ _ (a .number) m _ _
-    (sym (set-is (a .line .now) (a .from) (commandWith (a .wanted)) (replicate 65536 0) _ (d .result) (d .ensures .0) (d .ensures .1) (c .before .before .before .before .before .before .before .len .given .0 .0) (c .before .before .before .before .before .before .before .len .given .1)))
+    λ m h short. line-step (a .number) m _ _
+    (sym (set-is (a .line .now) (a .from) (withSetOf (a .wanted)) (replicate 65536 0) _ (d .result) (d .ensures .0) (d .ensures .1) (c .before .before .before .before .before .before .before .len .given .0 .0) (c .before .before .before .before .before .before .before .len .given .1)))
     (c .before .before .use-set .ensures m h (a .number))
 
 same-length-2 : tie.Need-same-length-2
@@ -64,7 +64,7 @@ unfolding replayLine
 returns-2 c =
     let a = c .before .before .before .before .before .before .before .before .before .before .before .args in
     let d = c .before .before .before .before .before .before .before .decode-set in
-    λ m h short. line-step _ _ _ (a .number) m _ _ (sym (no-set (a .line .now) (a .from) (commandWith (a .wanted)) (replicate 65536 0) (a .line .now) (d .result) (d .ensures .0) (c .before .before .before .before .enum-told .given .1))) (c .before .before .other .ensures)
+    λ m h short. line-step (a .number) m _ _ (sym (no-set (a .line .now) (a .from) (withSetOf (a .wanted)) (replicate 65536 0) (a .line .now) (d .result) (d .ensures .0) (c .before .before .before .before .enum-told .given .1))) (c .before .before .other .ensures)
 
 same-length-3 : tie.Need-same-length-3
 same-length-3 c = search needs
@@ -73,7 +73,7 @@ returns-3 : tie.Need-returns-3
 returns-3 c =
     let a = c .before .before .before .before .before .before .before .before .before .before .before .args in
     let d = c .before .before .before .before .before .before .before .decode-set in
-    λ m h short. absurd (has-room (a .line .now) (a .from) (commandWith (a .wanted)) (replicate 65536 0) (a .line .now) (d .result) (d .ensures .0) (search needs) short (c .before .before .before .before .enum-told2 .given .1))
+    λ m h short. absurd (has-room (a .line .now) (a .from) (withSetOf (a .wanted)) (replicate 65536 0) (a .line .now) (d .result) (d .ensures .0) (search needs) short (c .before .before .before .before .enum-told2 .given .1))
 
 pub run-with-set-spec : {M : Type 1} → statement M
 run-with-set-spec =

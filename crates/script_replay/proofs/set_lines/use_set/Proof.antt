@@ -1,10 +1,10 @@
 -- `script_replay::set_lines::use_set` meets its contract: each use in its turn.
 use mathlib.Core.Path.{refl, sym, ap}
 use Rattle.spec_replay.specs.Replay.{replayLine}
+use Rattle.script_parser.specs.Meaning.{withSetOf}
+use Rattle.script_parser.specs.declared.SetLine.{SetLine}
 use Rattle.script_calls.specs.ReplayHoldsLaws.{goes-on}
-use Rattle.script_replay.specs.SetUses.{commandWith}
 use Rattle.script_replay.specs.LineLaws.{line-step}
-use Rattle.script_replay.specs.declared.set_lines.SetUse.{SetUse}
 use borrow.Author.Needs.{needs}
 use Rattle.script_replay.proofs.set_lines.use_set.Statement.{statement}
 use Rattle.script_replay.proofs.set_lines.use_set.Tie as tie
@@ -34,7 +34,7 @@ returns : tie.Need-returns
 unfolding replayLine
 returns c =
     let a = c .before .before .before .before .before .before .before .before .before .args in
-    λ m h n. line-step _ _ _ n m _ _ (ap (λ (w : SetUse). commandWith w (a .set .now)) (sym (c .before .before .before .before .before .wanted .given .1))) (c .before .before .apply-batch .ensures m h)
+    λ m h n. line-step n m _ _ (ap (λ (w : SetLine). withSetOf w (a .set .now)) (sym (c .before .before .before .before .before .wanted .given .1))) (c .before .before .apply-batch .ensures m h)
 
 same-length-2 : tie.Need-same-length-2
 same-length-2 c = search needs
@@ -43,7 +43,7 @@ returns-2 : tie.Need-returns-2
 unfolding replayLine
 returns-2 c =
     let a = c .before .before .before .before .before .before .before .before .args in
-    λ m h n. line-step _ _ _ n m _ _ (ap (λ (w : SetUse). commandWith w (a .set .now)) (sym (c .before .before .before .before .enum-told .given .1))) (goes-on refl h (c .before .before .print-checked .ensures))
+    λ m h n. line-step n m _ _ (ap (λ (w : SetLine). withSetOf w (a .set .now)) (sym (c .before .before .before .before .enum-told .given .1))) (goes-on refl h (c .before .before .print-checked .ensures))
 
 same-length-3 : tie.Need-same-length-3
 same-length-3 c = search needs
@@ -52,7 +52,7 @@ returns-3 : tie.Need-returns-3
 unfolding replayLine
 returns-3 c =
     let a = c .before .before .before .before .before .before .before .before .args in
-    λ m h n. line-step _ _ _ n m _ _ (ap (λ (w : SetUse). commandWith w (a .set .now)) (sym (c .before .before .before .before .enum-told2 .given .1))) (goes-on refl h (c .before .before .print-listing .ensures))
+    λ m h n. line-step n m _ _ (ap (λ (w : SetLine). withSetOf w (a .set .now)) (sym (c .before .before .before .before .enum-told2 .given .1))) (goes-on refl h (c .before .before .print-listing .ensures))
 
 pub use-set-spec : {M : Type 1} → statement M
 use-set-spec =

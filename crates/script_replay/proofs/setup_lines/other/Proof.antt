@@ -12,7 +12,7 @@ same-length : tie.Need-same-length
 same-length c = search needs
 
 returns : tie.Need-returns
-returns c = stops-there _ refl (c .before .before .print-other .ensures)
+returns c = stops-there _ refl refl (c .before .before .print-other .ensures)
 
 pub other-spec : {M : Type 1} → statement M
 other-spec = tie.close (tie.spec print-other-requires same-length returns)

@@ -1,5 +1,8 @@
--- `script_replay::setup_lines::start` meets its contract: nothing is set up, and there is no session.
+-- `script_replay::setup_lines::start` meets its contract: nothing is set up, and what stands for no session is in its place.
+use mathlib.Core.Path.{ap}
 use Rattle.spec_replay.specs.Replay as replay
+use Rattle.session_creation.specs.Creation.{anchorsWithin, creationWith}
+use Rattle.session_creation.specs.declared.ShellSessionCreation.{ShellSessionCreation}
 use borrow.Author.Needs.{needs}
 use Rattle.script_replay.proofs.setup_lines.start.Statement.{statement}
 use Rattle.script_replay.proofs.setup_lines.start.Tie as tie
@@ -10,6 +13,9 @@ new-requires c κs = search needs
 slice-aggregate-create-shell-session : tie.Need-slice-aggregate-create-shell-session
 slice-aggregate-create-shell-session c = search needs
 
+add-create-shell-session : tie.Need-add-create-shell-session
+add-create-shell-session c = search needs
+
 slice-aggregate-create-shell-session-2 : tie.Need-slice-aggregate-create-shell-session-2
 slice-aggregate-create-shell-session-2 c = search needs
 
@@ -17,8 +23,10 @@ create-shell-session-requires : tie.Need-create-shell-session-requires
 create-shell-session-requires c κs = search needs
 
 returns : tie.Need-returns
-unfolding replay.start
-returns c = record { setup-is = c .before .before .before .before .new .ensures; session-is = tt }
+unfolding replay.start creationWith anchorsWithin
+returns c =
+    let refused = c .before in
+    record { setup-is = refused .before .before .before .new .ensures; session-is = ap (λ (r : ShellSessionCreation). r .session) (refused .create-shell-session .ensures) }
 
 pub start-spec : {M : Type 1} → statement M
 start-spec =
@@ -26,6 +34,7 @@ start-spec =
     (tie.spec
     new-requires
     slice-aggregate-create-shell-session
+    add-create-shell-session
     slice-aggregate-create-shell-session-2
     create-shell-session-requires
     returns)

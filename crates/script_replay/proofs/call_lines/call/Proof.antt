@@ -1,0 +1,115 @@
+-- `script_replay::call_lines::call` meets its contract: each call in its turn.
+use mathlib.Core.Path.{sym, ap}
+use Rattle.spec_replay.specs.Replay.{replayLine}
+use Rattle.script_parser.specs.Meaning.{callOf}
+use Rattle.script_replay.specs.LineLaws.{line-step}
+use borrow.Author.Needs.{needs}
+use Rattle.script_replay.proofs.call_lines.call.Statement.{statement}
+use Rattle.script_replay.proofs.call_lines.call.Tie as tie
+
+enum-told : tie.Need-enum-told
+enum-told c = search needs
+
+create-latest-requires : tie.Need-create-latest-requires
+create-latest-requires c κs = search needs
+
+enum-known-wanted : tie.Need-enum-known-wanted
+enum-known-wanted c = search needs
+
+apply-requires : tie.Need-apply-requires
+apply-requires c κs = search needs
+
+enum-told-2 : tie.Need-enum-told-2
+enum-told-2 c = search needs
+
+show-requires : tie.Need-show-requires
+show-requires c κs = search needs
+
+enum-known-wanted-2 : tie.Need-enum-known-wanted-2
+enum-known-wanted-2 c = search needs
+
+binding-value-requires : tie.Need-binding-value-requires
+binding-value-requires c κs = search needs
+
+enum-known-wanted-3 : tie.Need-enum-known-wanted-3
+enum-known-wanted-3 c = search needs
+
+node-availability-requires : tie.Need-node-availability-requires
+node-availability-requires c κs = search needs
+
+enum-known-wanted-4 : tie.Need-enum-known-wanted-4
+enum-known-wanted-4 c = search needs
+
+entry-value-requires : tie.Need-entry-value-requires
+entry-value-requires c κs = search needs
+
+same-length : tie.Need-same-length
+same-length c = search needs
+
+returns : tie.Need-returns
+unfolding replayLine
+returns c = λ m h n. line-step n m _ _ (ap callOf (sym (c .before .before .before .before .enum-told .given .1))) (c .before .before .create-latest .ensures m h)
+
+same-length-2 : tie.Need-same-length-2
+same-length-2 c = search needs
+
+returns-2 : tie.Need-returns-2
+unfolding replayLine
+returns-2 c = λ m h n. line-step n m _ _ (ap callOf (sym (c .before .before .before .before .before .wanted .given .1))) (c .before .before .apply .ensures m h)
+
+same-length-3 : tie.Need-same-length-3
+same-length-3 c = search needs
+
+returns-3 : tie.Need-returns-3
+unfolding replayLine
+returns-3 c = λ m h n. line-step n m _ _ (ap callOf (sym (c .before .before .before .before .enum-told2 .given .1))) (c .before .before .show .ensures m h)
+
+same-length-4 : tie.Need-same-length-4
+same-length-4 c = search needs
+
+returns-4 : tie.Need-returns-4
+unfolding replayLine
+returns-4 c = λ m h n. line-step n m _ _ (ap callOf (sym (c .before .before .before .before .before .wanted2 .given .1))) (c .before .before .binding-value .ensures m h)
+
+same-length-5 : tie.Need-same-length-5
+same-length-5 c = search needs
+
+returns-5 : tie.Need-returns-5
+unfolding replayLine
+returns-5 c = λ m h n. line-step n m _ _ (ap callOf (sym (c .before .before .before .before .before .wanted3 .given .1))) (c .before .before .node-availability .ensures m h)
+
+same-length-6 : tie.Need-same-length-6
+same-length-6 c = search needs
+
+returns-6 : tie.Need-returns-6
+unfolding replayLine
+returns-6 c = λ m h n. line-step n m _ _ (ap callOf (sym (c .before .before .before .before .before .wanted4 .given .1))) (c .before .before .entry-value .ensures m h)
+
+pub call-spec : {M : Type 1} → statement M
+call-spec =
+    tie.close
+    (tie.spec
+    enum-told
+    create-latest-requires
+    enum-known-wanted
+    apply-requires
+    enum-told-2
+    show-requires
+    enum-known-wanted-2
+    binding-value-requires
+    enum-known-wanted-3
+    node-availability-requires
+    enum-known-wanted-4
+    entry-value-requires
+    same-length
+    returns
+    same-length-2
+    returns-2
+    same-length-3
+    returns-3
+    same-length-4
+    returns-4
+    same-length-5
+    returns-5
+    same-length-6
+    returns-6)

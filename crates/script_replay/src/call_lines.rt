@@ -1,0 +1,23 @@
+// Lines that call the session, or make one.
+use script_calls::calls;
+use script_calls::state::ReplayState;
+use script_calls::state::ReplayStep;
+use script_calls::views;
+use script_parser::CallLine;
+ghost use Prim.Native.Nat.{ℕ};
+ghost use Rattle.spec_replay.specs.Replay.{State, replayLine};
+ghost use Rattle.script_parser.specs.Meaning.{callOf};
+ghost use Rattle.script_calls.specs.ReplayHolds.{ReplayHolds, Stepped};
+
+pub(crate) fn call(state: ReplayState, wanted: CallLine, out: &mut [u8]) -> ReplayStep
+    ensures { λ r. ⌜ ((m : State) → ReplayHolds state m → (number : ℕ) → Stepped state (now (out .entry)) (now (out .exit)) r (replayLine number m (callOf wanted))) ⌝ }
+{
+    match wanted {
+        CallLine::Create => calls::create_latest(state, out),
+        CallLine::Apply(input) => calls::apply(state, input, out),
+        CallLine::Show => views::show(state, out),
+        CallLine::ValueBinding(node, slot) => views::binding_value(state, node, slot, out),
+        CallLine::ValueNode(node) => views::node_availability(state, node, out),
+        CallLine::ValueEntry(collection, key) => views::entry_value(state, collection, key, out),
+    }
+}
