@@ -7,14 +7,14 @@ use check_set::check_set;
 use check_set::check_set::PatchSetCheck;
 use libc::STDIN_FILENO;
 use libc::STDOUT_FILENO;
-use patch_sets::SetRead;
+use patch_walk::SetRead;
 
 // The surface of the first patch, which no rule looks at; a new one for each use keeps the uses apart.
 const SURFACE: usize = 60;
 
 // The number of operations, or the refusal's number.
 fn read(set: &[u8]) -> u64 {
-    match patch_sets::read_set(set) {
+    match patch_walk::read_set(set) {
         SetRead::Read {
             patch_count: _,
             operation_count,

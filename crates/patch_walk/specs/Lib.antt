@@ -1,2 +1,4 @@
 pub mod Steps
 pub mod StepsLaws
+pub mod SetReads
+pub mod SetReadsLaws
