@@ -1,6 +1,6 @@
 -- From the listed findings to the answer, and to the numbers of the lent slice.
 use Prim.Native.Nat.{ℕ, zero, suc, _*_, _/_, _≤_, min}
-use mathlib.Core.Path.{_≡_, refl, sym, ap, ap₂, _∙_, subst}
+use mathlib.Core.Path.{_≡_, refl, sym, ap, ap₂, _∙_}
 use mathlib.Core.Bool.{Bool, true, false}
 use mathlib.Core.List.{List, [], _∷_, _++_, flatMap}
 use native.Mathlib.Omega.{arith}
@@ -9,34 +9,23 @@ use lib.ListN.{length, take, drop, length-take}
 use lib.Seq.{take-all}
 use borrow.Author.Tests.{leb-true, leb-false}
 use Rattle.spec_lists.specs.Lists.{if_then_else_}
-use Rattle.spec_lists.specs.ListLaws.{all-map, test-cases}
-use Rattle.spec_lists.specs.Bytes.{Bytes}
-use Rattle.spec_patch.specs.Sizes.{setBytes, patchOperations}
+use Rattle.spec_lists.specs.ListLaws.{test-cases}
 use Rattle.spec_patch.specs.Patch.{Patch}
-use Rattle.spec_patch.specs.Edition.{v1}
-use Rattle.spec_patch.specs.Fits.{FitsPatch}
-use Rattle.spec_patch.specs.Reader.{many}
-use Rattle.spec_patch.specs.Read.{readPatch, SetReading, patches, fault, ended, readSet}
-use Rattle.spec_patch.specs.SetLaws.{was-encoded}
+use Rattle.spec_patch.specs.Read.{SetReading, patches, fault}
 use Rattle.spec_checks.specs.Finding.{Finding, findingKey}
 use Rattle.spec_checks.specs.Findings.{Place, inPatch, inSet, Findings, findings}
 use Rattle.spec_checks.specs.PartsLaws.{clean-of-findings, findings-of-clean}
 use Rattle.spec_checks.specs.Answer.{recordLength, findingWords, fitting, writeFindings, checked}
 use Rattle.spec_checks.specs.AnswerLaws.{findingWords-length, fitting-length, fitting-all}
-use Rattle.projection_patch.specs.ReadAnswers.{faultTo, anywhere}
+use Rattle.projection_patch.specs.ReadAnswers.{faultTo}
 use Rattle.projection_patch.specs.declared.read_values.ProjectionPatchReadFault.{ProjectionPatchReadFault}
-use Rattle.projection_patch.proofs.Answers.{Got}
-use Rattle.patch_sets.specs.Walk.{readHeading}
 use Rattle.patch_sets.specs.SetAnswers.{operationCount}
-use Rattle.patch_sets.proofs.Runs.{set-by-patches}
 use Rattle.check_findings.specs.Found.{isFound}
 use Rattle.check_quick.specs.QuickAnswers.{quickAnswer}
 use Rattle.check_quick.specs.declared.quick_set.QuickCheck.the-variants as quick
-use Rattle.check_set.specs.SetListed.{tableLength, SetListedAs}
-use Rattle.check_set.specs.SetListedLaws.{listedTo, FindingsListedAs, listed-is}
+use Rattle.check_set.specs.Listed.{listedTo, FindingsListedAs}
 use Rattle.check_set.specs.CheckAnswers.{placeTo, checkedTo, checkAnswer, checkNumbers}
 use Rattle.check_set.specs.declared.list_set.FindingsListed.{FindingsListed}
-use Rattle.check_set.specs.declared.list_set.FindingsListed.the-variants as listed
 use Rattle.check_set.specs.declared.check_set.CheckPlace.the-variants as place
 use Rattle.check_set.specs.declared.check_set.PatchSetCheck.{PatchSetCheck}
 use Rattle.check_set.specs.declared.check_set.PatchSetCheck.the-variants as set-check
@@ -93,10 +82,6 @@ place-told (inPatch i) inSet m n e = absurd (let z : _≡_ {A = ℕ} 0 1 = cc in
 place-told inSet (inPatch j) m n e = absurd (let z : _≡_ {A = ℕ} 0 1 = cc in omega arith)
 place-told inSet inSet m n e = (refl, cc)
 
-place-not-refused : (p : Place) (n : ℕ) (f : ProjectionPatchReadFault) → listedTo p n ≡ listed.Refused f → ⊥
-place-not-refused (inPatch i) n f e = let z : _≡_ {A = ℕ} 0 1 = cc in omega arith
-place-not-refused inSet n f e = let z : _≡_ {A = ℕ} 0 1 = cc in omega arith
-
 module _ (ps : List Patch) (r : FindingsListed) (records : List ℕ) (h : FindingsListedAs (findings ps) r records) where
   module _ (p : Place) (logical w : ℕ) (told : r ≡ listedTo p logical) (out : List ℕ) (counted : w ≡ min (length records / 3) (min (length out / 3) logical)) where
     same : (findings ps .place ≡ p) × (length (findings ps .found) ≡ logical)
@@ -113,22 +98,6 @@ module _ (ps : List Patch) (r : FindingsListed) (records : List ℕ) (h : Findin
 
     pub numbers-are : take (3 * w) records ++ drop (3 * w) out ≡ writeFindings (findings ps .found) out
     numbers-are = written-numbers (findings ps .found) records out w (h .1) counted-now
-
-  pub listed-no-fault : (f : ProjectionPatchReadFault) → r ≡ listed.Refused f → ⊥
-  listed-no-fault f e = place-not-refused (findings ps .place) _ f (sym (h .0) ∙ e)
-
--- a readable set, behind its heading
-module _ (set : List ℕ) (bytes : Bytes set) (ps : List Patch) (readable : readSet v1 set ≡ patches ps) (count at : ℕ) (g : Got readHeading (anywhere (λ n. n)) set 0 count at) where
-  left-is : ended (many count (readPatch v1) (drop at set)) ≡ patches ps
-  left-is =
-      let fits = was-encoded v1 set ps bytes readable in
-      let short : length set ≤ setBytes = omega (arith, ap length (fits .0), fits .1 .short) in
-      sym (set-by-patches set short g) ∙ readable
-
-  pub found-is : (before : List ℕ) (r : FindingsListed) (after : List ℕ) → tableLength ≤ length before → SetListedAs before r after (ended (many count (readPatch v1) (drop at set))) → FindingsListedAs (findings ps) r after
-  found-is before r after room told =
-      let fits = was-encoded v1 set ps bytes readable .1 in
-      listed-is ps before r after (fits .few) (all-map (FitsPatch v1) (λ (p : Patch). length (p .operations) ≤ patchOperations) (λ p k. k .few) ps (fits .patches)) room (subst (SetListedAs before r after) left-is told)
 
 -- ---- by the quick check
 

@@ -1,4 +1,5 @@
 // Findings written into a lent slice.
+use crate::list_set::FindingsListed;
 ghost use mathlib.Core.Path.{_≡_};
 ghost use mathlib.Core.List.{_++_};
 ghost use Prim.Native.Nat.{_*_, _/_, _≤_, min};
@@ -20,7 +21,7 @@ fn copy_front(part: &[u64], out: &mut [u64])
 fn fitting(count: usize, places: usize) -> usize
     ensures { λ r. ⌜ r ≡ min (places / 3) count ⌝ }
 {
-    let room = places / 3;
+    let room = places / FindingsListed::RECORD;
     if room < count {
         return room;
     }
@@ -33,7 +34,7 @@ pub fn write_findings(records: &[u64], count: usize, out: &mut [u64]) -> usize
     ensures written { λ r. ⌜ now (out .exit) ≡ take (3 * r) (now (records .entry)) ++ drop (3 * r) (now (out .entry)) ⌝ }
 {
     let written = fitting(fitting(count, out.len()), records.len());
-    let end = 3 * written;
+    let end = FindingsListed::RECORD * written;
     copy_front(&records[0..end], out);
     written
 }

@@ -10,6 +10,7 @@ ghost use Rattle.check_targets.specs.Targets.{targetOf, madeOf, equalTar
 ghost use Rattle.check_targets.specs.Marks.{markOf, Marked};
 use projection_patch::contract_primitives::CollectionKey;
 use projection_patch::patch::OptionalKey;
+use projection_patch::patch::ProjectionPatch;
 use projection_patch::patch::ProjectionPatchOperation;
 
 // The kind of operation by its canonical number, and the ids that tell it from others of that kind.
@@ -22,6 +23,10 @@ pub struct MutationTarget {
 impl MutationTarget {
     // The length of an array of marks.
     pub const MARKS: usize = 512;
+    // How many numbers of a list one target is.
+    pub const NUMBERS: usize = 3;
+    // The numbers of the targets of as many operations as a patch may have.
+    pub const PATCH_NUMBERS: usize = ProjectionPatch::OPERATIONS * MutationTarget::NUMBERS;
 }
 
 fn target_of(kind: u64, first: u64, second: u64) -> MutationTarget

@@ -88,6 +88,17 @@ module _ (set : List ℕ) (all : Bytes set) (ps : List Patch) (readable : readSe
         patches = refl;
       }
 
+  module _ {r : SetOpening} (answer-is : r ≡ openAnswer set) where
+    -- so an answer is before the first patch, and no refusal
+    pub opened-at : (c : SetCursor) → r ≡ opening.At c → AtSteps v1 set c [] ps
+    opened-at c q =
+        let same : opening.At (firstCursor (length ps) from) ≡ opening.At c = sym opens ∙ sym answer-is ∙ q in
+        let cursor : firstCursor (length ps) from ≡ c = cc same in
+        subst (λ d. AtSteps v1 set d [] ps) cursor at-start
+
+    pub never-unopened : (f : ProjectionPatchReadFault) → r ≡ opening.Refused f → ⊥
+    never-unopened f q = let z : _≡_ {A = ℕ} 0 1 = cc (sym opens ∙ sym answer-is ∙ q) in omega arith
+
 -- ---- a step
 
 -- what a step on an operation tells

@@ -1,12 +1,12 @@
--- `check_patch::list_operations::insert_operation` meets its contract: two findings in their order.
+-- `check_set::list_operations::insert_operation` meets its contract: two findings in their order.
 use mathlib.Core.Path.{ap, ap₂, _∙_}
 use mathlib.Core.List.{List, _++_}
 use Rattle.spec_checks.specs.Finding.{Finding}
 use Rattle.check_findings.specs.InsertFindings.{insertedAll}
 use Rattle.check_findings.specs.InsertFindingsLaws.{inserted-then}
 use borrow.Author.Needs.{needs}
-use Rattle.check_patch.proofs.list_operations.insert_operation.Statement.{statement}
-use Rattle.check_patch.proofs.list_operations.insert_operation.Tie as tie
+use Rattle.check_set.proofs.list_operations.insert_operation.Statement.{statement}
+use Rattle.check_set.proofs.list_operations.insert_operation.Tie as tie
 
 report-if-requires : tie.Need-report-if-requires
 report-if-requires c κs = search needs

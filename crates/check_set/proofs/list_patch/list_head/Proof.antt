@@ -1,4 +1,4 @@
--- `check_patch::list_patch::list_head` meets its contract: the finding of no operations, then those of the envelope.
+-- `check_set::list_patch::list_head` meets its contract: the finding of no operations, then those of the envelope.
 use mathlib.Core.Path.{ap, ap₂, _∙_}
 use Prim.Native.Nat.{ℕ}
 use mathlib.Core.List.{List, _++_}
@@ -7,10 +7,10 @@ use Rattle.spec_checks.specs.Finding.{Finding, kindNumber, report}
 use Rattle.check_findings.specs.EnvelopeChecks.{row}
 use Rattle.check_findings.specs.InsertFindings.{insertedAll}
 use Rattle.check_findings.specs.InsertFindingsLaws.{inserted-then}
-use Rattle.check_patch.specs.Listed.{headFindings}
+use Rattle.check_set.specs.Listed.{headFindings}
 use borrow.Author.Needs.{needs}
-use Rattle.check_patch.proofs.list_patch.list_head.Statement.{statement}
-use Rattle.check_patch.proofs.list_patch.list_head.Tie as tie
+use Rattle.check_set.proofs.list_patch.list_head.Statement.{statement}
+use Rattle.check_set.proofs.list_patch.list_head.Tie as tie
 
 raw-requires : tie.Need-raw-requires
 raw-requires c κs = search needs
