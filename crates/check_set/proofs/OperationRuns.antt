@@ -1,12 +1,9 @@
 -- The findings of a patch's operations, listed one after the other: what is left makes of the table what the whole makes of the first.
-use Prim.Native.Nat.{ℕ, _+_, _≤_, _<_}
-use mathlib.Core.Path.{_≡_, refl, sym, ap, ap₂, _∙_, subst}
+use Prim.Native.Nat.{ℕ, _+_, _≤_}
+use mathlib.Core.Path.{_≡_, refl, sym, ap, ap₂, _∙_}
 use mathlib.Core.Bool.{Bool, false}
 use mathlib.Core.List.{List, [], _∷_, _++_, flatMap, reverse, reverse-append}
 use native.Mathlib.Omega.{arith}
-use mathlib.Core.Logic.{inl, inr}
-use types.Run.{OneOf}
-use denote.Enum.Declared.{tagOf}
 use lib.ListN.{length, take, length-append}
 use Rattle.spec_patch.specs.Patch.{Operation, Patch}
 use Rattle.spec_patch.specs.Edition.{v1}
@@ -15,9 +12,8 @@ use Rattle.spec_checks.specs.Target.{MutationTarget, mutationTarget}
 use Rattle.spec_checks.specs.PatchChecks.{beforeSelf, operationFindings}
 use Rattle.projection_patch.specs.Meaning.{operationOf}
 use Rattle.projection_patch.specs.declared.patch.ProjectionPatchOperation.{ProjectionPatchOperation}
-use Rattle.patch_walk.proofs.SetStep.{the-type}
 use Rattle.patch_walk.specs.Steps.{stepAnswer, AtSteps}
-use Rattle.patch_walk.specs.StepsLaws.{Visited, visited, operation-is}
+use Rattle.patch_walk.specs.StepsLaws.{Visited, visited}
 use Rattle.patch_walk.specs.declared.SetCursor.{SetCursor}
 use Rattle.patch_walk.specs.declared.SetStep.{SetStep}
 use Rattle.patch_walk.specs.declared.SetStep.the-variants as set-step
@@ -104,19 +100,6 @@ module _ (set : List ℕ) (id : ℕ) (os : List Operation) (ps : List Patch) (fi
         seen = front;
         counted = omega (arith, run .counted, length-append (run .done) (o ∷ []));
       }
-
-    -- while some are left, the step is on an operation
-    pub run-goes-on : {r : SetStep} → 0 < c .«operations_left» → r ≡ stepAnswer false v1 c set → OneOf (0 ∷ 2 ∷ 3 ∷ []) (tagOf the-type r) → ⊥
-    run-goes-on {r} some′ answer-is other = go (run .rest) (run .here)
-      where
-        no : OneOf (0 ∷ 2 ∷ 3 ∷ []) 1 → ⊥
-        no (inl e) = omega arith
-        no (inr (inl e)) = omega arith
-        no (inr (inr e)) = omega arith
-
-        go : (l : List Operation) → AtSteps v1 set c l ps → ⊥
-        go [] here = omega (arith, here .operations)
-        go (o ∷ l) here = no (subst (λ (s : SetStep). OneOf (0 ∷ 2 ∷ 3 ∷ []) (tagOf the-type s)) (answer-is ∙ operation-is false v1 set c o l ps here) other)
 
     -- where none is left
     pub run-end : c .«operations_left» ≤ 0 → Inserted (checkEach own [] os) first before kept records × AtSteps v1 set c [] ps

@@ -5,10 +5,7 @@ use mathlib.Core.Bool.{false}
 use mathlib.Core.List.{List, [], _∷_, _++_, append-assoc, append-nil, map, reverse, reverse-append}
 use mathlib.Core.Option.{Option, none, some}
 use native.Mathlib.Omega.{arith}
-use mathlib.Core.Logic.{inl, inr}
 use lib.ListN.{length, take, set, length-append}
-use types.Run.{OneOf}
-use denote.Enum.Declared.{tagOf}
 use Rattle.spec_lists.specs.Lists.{All}
 use Rattle.spec_lists.specs.Order.{sortUnique}
 use Rattle.spec_patch.specs.Sizes.{setPatches, patchOperations}
@@ -25,9 +22,8 @@ use Rattle.projection_patch.specs.Meaning.{envelopeOf}
 use Rattle.projection_patch.specs.declared.patch.ProjectionPatch.{ProjectionPatch}
 use Rattle.patch_sets.specs.Walk.{headOf}
 use Rattle.patch_sets.specs.SetAnswers.{headTo}
-use Rattle.patch_walk.proofs.SetStep.{the-type}
 use Rattle.patch_walk.specs.Steps.{stepAnswer, AtSteps}
-use Rattle.patch_walk.specs.StepsLaws.{Opened, opened, head-is}
+use Rattle.patch_walk.specs.StepsLaws.{Opened, opened}
 use Rattle.patch_walk.specs.declared.SetCursor.{SetCursor}
 use Rattle.patch_walk.specs.declared.SetStep.{SetStep}
 use Rattle.patch_walk.specs.declared.SetStep.the-variants as set-step
@@ -65,19 +61,6 @@ module _ (bytes : List ℕ) (ps : List Patch) where
       record { before = []; rest = ps; here = here; place = refl; raw = []; holds = kept-none records; all = refl; known = refl; last = refl }
 
   module _ {c : SetCursor} {done kept : ℕ} {ids : List ℕ} {previous : Option Envelope} {records : List ℕ} (run : Run c done kept ids previous records) where
-    -- while some are left, the step is on a head
-    pub run-goes-on : {r : SetStep} → 0 < c .«patches_left» → r ≡ stepAnswer false v1 c bytes → OneOf (1 ∷ 2 ∷ 3 ∷ []) (tagOf the-type r) → ⊥
-    run-goes-on {r} some′ answer-is other = go (run .rest) (run .here)
-      where
-        no : OneOf (1 ∷ 2 ∷ 3 ∷ []) 0 → ⊥
-        no (inl e) = omega arith
-        no (inr (inl e)) = omega arith
-        no (inr (inr e)) = omega arith
-
-        go : (l : List Patch) → AtSteps v1 bytes c [] l → ⊥
-        go [] here = omega (arith, here .patches)
-        go (p ∷ l) here = no (subst (λ (s : SetStep). OneOf (1 ∷ 2 ∷ 3 ∷ []) (tagOf the-type s)) (answer-is ∙ head-is false v1 bytes c p l here) other)
-
     -- where none is left, the table is the set's
     pub run-end : c .«patches_left» ≤ 0 → FindingsListedAs (findings ps) (listedTo inSet kept) records
     unfolding firstFindings checkEach setFindings

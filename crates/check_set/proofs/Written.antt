@@ -38,20 +38,20 @@ take-less (suc m) zero l h = absurd (omega arith)
 take-less (suc m) (suc n) [] h = refl
 take-less (suc m) (suc n) (x ∷ l) h = ap (λ k. x ∷ k) (take-less m n l (omega arith))
 
-words-take : (w : ℕ) (fs : List Finding) → take (3 * w) (findingWords fs) ≡ findingWords (take w fs)
+words-take : (w : ℕ) (fs : List Finding) → take (recordLength * w) (findingWords fs) ≡ findingWords (take w fs)
 unfolding findingWords flatMap findingKey
 words-take zero fs = refl
-words-take (suc w) [] = let three : 3 * suc w ≡ suc (suc (suc (3 * w))) = omega arith in ap (λ (n : ℕ). take n (findingWords [])) three
+words-take (suc w) [] = let three : recordLength * suc w ≡ suc (suc (suc (recordLength * w))) = omega arith in ap (λ (n : ℕ). take n (findingWords [])) three
 words-take (suc w) (f ∷ fs) =
-    let three : 3 * suc w ≡ suc (suc (suc (3 * w))) = omega arith in
+    let three : recordLength * suc w ≡ suc (suc (suc (recordLength * w))) = omega arith in
     ap (λ (n : ℕ). take n (findingWords (f ∷ fs))) three ∙ ap (λ l. f .kind ∷ f .domain ∷ f .secondary ∷ l) (words-take w fs)
 
 module _ (found : List Finding) (records out : List ℕ) (w : ℕ) (front : take (recordLength * length found) records ≡ findingWords found)
-    (counted : w ≡ min (length records / 3) (min (length out / 3) (length found))) where
+    (counted : w ≡ min (length records / recordLength) (min (length out / recordLength) (length found))) where
   long : recordLength * length found ≤ length records
   long = omega (arith, ap length front, length-take (recordLength * length found) records, findingWords-length found)
 
-  count-is : w ≡ min (length out / 3) (length found)
+  count-is : w ≡ min (length out / recordLength) (length found)
   count-is = omega (arith, long, counted)
 
   pub written-count : w ≡ length (fitting (length out) found)
@@ -60,18 +60,18 @@ module _ (found : List Finding) (records out : List ℕ) (w : ℕ) (front : take
   same-front : take w found ≡ fitting (length out) found
   unfolding fitting
   same-front =
-      test-cases (leb (length out / 3) (length found))
-      (λ t. let k = leb-true (length out / 3) (length found) t in let same : w ≡ length out / 3 = omega (arith, count-is, k) in ap (λ (n : ℕ). take n found) same)
-      (λ t. let k = leb-false (length out / 3) (length found) t in take-all w found (omega (arith, count-is, k)) ∙ sym (take-all (length out / 3) found (omega (arith, k))))
+      test-cases (leb (length out / recordLength) (length found))
+      (λ t. let k = leb-true (length out / recordLength) (length found) t in let same : w ≡ length out / recordLength = omega (arith, count-is, k) in ap (λ (n : ℕ). take n found) same)
+      (λ t. let k = leb-false (length out / recordLength) (length found) t in take-all w found (omega (arith, count-is, k)) ∙ sym (take-all (length out / recordLength) found (omega (arith, k))))
 
-  words : take (3 * w) records ≡ findingWords (fitting (length out) found)
+  words : take (recordLength * w) records ≡ findingWords (fitting (length out) found)
   words =
-      sym (take-less (3 * w) (recordLength * length found) records (omega (arith, count-is))) ∙ ap (take (3 * w)) front ∙ words-take w found ∙ ap findingWords same-front
+      sym (take-less (recordLength * w) (recordLength * length found) records (omega (arith, count-is))) ∙ ap (take (recordLength * w)) front ∙ words-take w found ∙ ap findingWords same-front
 
-  pub written-numbers : take (3 * w) records ++ drop (3 * w) out ≡ writeFindings found out
+  pub written-numbers : take (recordLength * w) records ++ drop (recordLength * w) out ≡ writeFindings found out
   unfolding writeFindings
   written-numbers =
-      let size : 3 * w ≡ length (findingWords (fitting (length out) found)) = omega (arith, written-count, findingWords-length (fitting (length out) found)) in
+      let size : recordLength * w ≡ length (findingWords (fitting (length out) found)) = omega (arith, written-count, findingWords-length (fitting (length out) found)) in
       ap₂ (λ (l : List ℕ) (n : ℕ). l ++ drop n out) words size
 
 -- ---- the answer
@@ -83,12 +83,12 @@ place-told inSet (inPatch j) m n e = absurd (let z : _≡_ {A = ℕ} 0 1 = cc in
 place-told inSet inSet m n e = (refl, cc)
 
 module _ (ps : List Patch) (r : FindingsListed) (records : List ℕ) (h : FindingsListedAs (findings ps) r records) where
-  module _ (p : Place) (logical w : ℕ) (told : r ≡ listedTo p logical) (out : List ℕ) (counted : w ≡ min (length records / 3) (min (length out / 3) logical)) where
+  module _ (p : Place) (logical w : ℕ) (told : r ≡ listedTo p logical) (out : List ℕ) (counted : w ≡ min (length records / recordLength) (min (length out / recordLength) logical)) where
     same : (findings ps .place ≡ p) × (length (findings ps .found) ≡ logical)
     same = place-told (findings ps .place) p _ _ (sym (h .0) ∙ told)
 
-    counted-now : w ≡ min (length records / 3) (min (length out / 3) (length (findings ps .found)))
-    counted-now = counted ∙ ap (λ (n : ℕ). min (length records / 3) (min (length out / 3) n)) (sym (same .1))
+    counted-now : w ≡ min (length records / recordLength) (min (length out / recordLength) (length (findings ps .found)))
+    counted-now = counted ∙ ap (λ (n : ℕ). min (length records / recordLength) (min (length out / recordLength) n)) (sym (same .1))
 
     pub answer-is : set-check.Checked (placeTo p) logical w ≡ checkedTo (checked ps (length out))
     unfolding checked
@@ -96,7 +96,7 @@ module _ (ps : List Patch) (r : FindingsListed) (records : List ℕ) (h : Findin
         ap₂ (λ (q : Place) (n : ℕ). set-check.Checked (placeTo q) n w) (sym (same .0)) (sym (same .1))
         ∙ ap (set-check.Checked (placeTo (findings ps .place)) (length (findings ps .found))) (written-count (findings ps .found) records out w (h .1) counted-now)
 
-    pub numbers-are : take (3 * w) records ++ drop (3 * w) out ≡ writeFindings (findings ps .found) out
+    pub numbers-are : take (recordLength * w) records ++ drop (recordLength * w) out ≡ writeFindings (findings ps .found) out
     numbers-are = written-numbers (findings ps .found) records out w (h .1) counted-now
 
 -- ---- by the quick check

@@ -1,9 +1,9 @@
 -- On a readable set a walk visits exactly the heads and the operations of its patches, whatever the edition, and whether texts are checked
 -- or not. Each law takes the answer of one step.
 use Prim.Native.Nat.{ℕ, _+_, _-_, _≤_, _<_}
-use mathlib.Core.Path.{_≡_, refl, sym, ap, ap₂, _∙_, subst}
+use mathlib.Core.Path.{_≡_, refl, sym, ap, _∙_, subst}
 use mathlib.Core.Bool.{Bool}
-use mathlib.Core.List.{List, [], _∷_, _++_, append-assoc, flatMap, map}
+use mathlib.Core.List.{List, [], _∷_, _++_, append-assoc, flatMap}
 use native.Mathlib.Omega.{arith}
 use borrow.Author.Tests.{lt-ltb, le-ltb, le-leb}
 use lib.ListN.{length, drop, length-append, length-drop}
@@ -26,7 +26,7 @@ use Rattle.projection_patch.specs.declared.read_values.ProjectionPatchReadFault
 use Rattle.patch_sets.specs.Walk.{readHeading, readHead, headOf, encodeHeading, encodeHead}
 use Rattle.patch_sets.specs.HeadLaws.{heading-codec, head-codec}
 use Rattle.patch_sets.specs.SetAnswers.{headTo}
-use Rattle.patch_walk.specs.Steps.{firstCursor, afterOperation, afterHead, openAnswer, operationStep, headStep, stepAnswer, AtSteps}
+use Rattle.patch_walk.specs.Steps.{firstCursor, afterOperation, afterHead, openAnswer, stepAnswer, AtSteps}
 use Rattle.patch_walk.specs.declared.SetCursor.{SetCursor}
 use Rattle.patch_walk.specs.declared.SetOpening.{SetOpening}
 use Rattle.patch_walk.specs.declared.SetOpening.the-variants as opening

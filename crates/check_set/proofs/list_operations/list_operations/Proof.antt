@@ -11,8 +11,9 @@ use Rattle.spec_patch.specs.Edition.{v1}
 use Rattle.patch_walk.specs.Steps.{AtSteps}
 use Rattle.patch_walk.specs.CountLaws.{StepCounts, step-counts}
 use Rattle.patch_walk.specs.declared.SetStep.{SetStep}
+use Rattle.patch_walk.proofs.Matches.{operation-matches}
 use Rattle.check_targets.specs.TargetsLaws.{with-target-length}
-use Rattle.check_set.proofs.OperationRuns.{Run, run-start, run-turn, run-goes-on, run-end}
+use Rattle.check_set.proofs.OperationRuns.{Run, run-start, run-turn, run-end}
 use borrow.Author.Needs.{needs}
 use Rattle.check_set.proofs.list_operations.list_operations.Statement.{statement}
 use Rattle.check_set.proofs.list_operations.list_operations.Tie as tie
@@ -71,10 +72,8 @@ same-length-2 c = search needs
 returns : tie.Need-returns Inv-loop μ-loop
 returns c =
     let k = c .before in
-    let l = head k .loop in (
-      λ os ps here. absurd (run-goes-on _ _ os ps _ _ (l .inv .1 .1 .1 .1 .1 os ps here) (some-left k) (k .next-step .ensures .0) (c .match .keys2)),
-      l .inv .1 .1 .1 .1 .0,
-    )
+    let l = head k .loop in
+    (λ os ps here. absurd (operation-matches false v1 (set k) (l .cursor) (k .next-step .ensures .0) _ ps (l .inv .1 .1 .1 .1 .1 os ps here .here) (some-left k) (c .match .keys2)), l .inv .1 .1 .1 .1 .0)
 
 mutation-target-requires : tie.Need-mutation-target-requires Inv-loop μ-loop
 mutation-target-requires c κs = search needs

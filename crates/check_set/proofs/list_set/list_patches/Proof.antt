@@ -12,9 +12,10 @@ use Rattle.spec_patch.specs.Edition.{v1}
 use Rattle.patch_walk.specs.Steps.{AtSteps}
 use Rattle.patch_walk.specs.CountLaws.{StepCounts, step-counts}
 use Rattle.patch_walk.specs.declared.SetStep.{SetStep}
+use Rattle.patch_walk.proofs.Matches.{head-matches}
 use Rattle.check_quick.specs.QuickAnswers.{previousOf}
 use Rattle.check_set.specs.Listed.{tableLength}
-use Rattle.check_set.proofs.PatchRuns.{Run, run-start, run-goes-on, run-end, run-found, run-turn}
+use Rattle.check_set.proofs.PatchRuns.{Run, run-start, run-end, run-found, run-turn}
 use borrow.Author.Needs.{needs}
 use Rattle.check_set.proofs.list_set.list_patches.Statement.{statement}
 use Rattle.check_set.proofs.list_set.list_patches.Tie as tie
@@ -76,7 +77,8 @@ same-length c = search needs
 returns : tie.Need-returns Inv-loop μ-loop
 returns c =
     let k = c .before in
-    λ ps here. absurd (run-goes-on _ ps (head k .loop .inv .1 .1 .1 .1 ps here) (some-left k) (k .next-step .ensures .0) (c .match .keys2))
+    let l = head k .loop in
+    λ ps here. absurd (head-matches false v1 (set k) (l .cursor) (k .next-step .ensures .0) _ (l .inv .1 .1 .1 .1 ps here .here) (some-left k) (c .match .keys2))
 
 slice-aggregate-list-patch : tie.Need-slice-aggregate-list-patch Inv-loop μ-loop
 slice-aggregate-list-patch c = search needs
