@@ -3,7 +3,7 @@ ghost use mathlib.Core.Path.{_≡_};
 ghost use lib.ListN.{length};
 use crate::sums;
 use active_projection_target_catalog::catalog::BindingPair;
-use patch_sets::SetRead;
+use patch_walk::SetRead;
 use projection_patch::patch::ProjectionPatchSet;
 use session_from_pairs::pairs::BindingAnchors;
 use session_gates::gates::OrderedProjectionPatchBatchEnvelope;
@@ -20,7 +20,7 @@ struct SetCounts {
 }
 
 fn counted(set: &[u8]) -> SetCounts {
-    match patch_sets::read_set(set) {
+    match patch_walk::read_set(set) {
         SetRead::Read {
             patch_count,
             operation_count,

@@ -3,7 +3,7 @@ use check_quick::quick_set;
 use check_quick::quick_set::QuickCheck;
 use check_set::check_set as set_check;
 use check_set::check_set::PatchSetCheck;
-use patch_sets::SetRead;
+use patch_walk::SetRead;
 
 // The surface of the first patch, which no rule looks at; a new one for each use keeps the uses apart.
 const SURFACE: usize = 60;
@@ -13,7 +13,7 @@ const LENT: usize = 48;
 
 // The number of operations, or the refusal's number.
 fn read(set: &[u8]) -> u64 {
-    match patch_sets::read_set(set) {
+    match patch_walk::read_set(set) {
         SetRead::Read {
             patch_count: _,
             operation_count,

@@ -1,4 +1,5 @@
 -- Laws that belong to no one function.
-mod SetRuns
+mod OperationRuns
+mod PatchRuns
 mod Copies
 mod Written

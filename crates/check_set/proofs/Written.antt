@@ -1,6 +1,6 @@
 -- From the listed findings to the answer, and to the numbers of the lent slice.
 use Prim.Native.Nat.{ℕ, zero, suc, _*_, _/_, _≤_, min}
-use mathlib.Core.Path.{_≡_, refl, sym, ap, ap₂, _∙_, subst}
+use mathlib.Core.Path.{_≡_, refl, sym, ap, ap₂, _∙_}
 use mathlib.Core.Bool.{Bool, true, false}
 use mathlib.Core.List.{List, [], _∷_, _++_, flatMap}
 use native.Mathlib.Omega.{arith}
@@ -9,34 +9,23 @@ use lib.ListN.{length, take, drop, length-take}
 use lib.Seq.{take-all}
 use borrow.Author.Tests.{leb-true, leb-false}
 use Rattle.spec_lists.specs.Lists.{if_then_else_}
-use Rattle.spec_lists.specs.ListLaws.{all-map, test-cases}
-use Rattle.spec_lists.specs.Bytes.{Bytes}
-use Rattle.spec_patch.specs.Sizes.{setBytes, patchOperations}
+use Rattle.spec_lists.specs.ListLaws.{test-cases}
 use Rattle.spec_patch.specs.Patch.{Patch}
-use Rattle.spec_patch.specs.Edition.{v1}
-use Rattle.spec_patch.specs.Fits.{FitsPatch}
-use Rattle.spec_patch.specs.Reader.{many}
-use Rattle.spec_patch.specs.Read.{readPatch, SetReading, patches, fault, ended, readSet}
-use Rattle.spec_patch.specs.SetLaws.{was-encoded}
+use Rattle.spec_patch.specs.Read.{SetReading, patches, fault}
 use Rattle.spec_checks.specs.Finding.{Finding, findingKey}
 use Rattle.spec_checks.specs.Findings.{Place, inPatch, inSet, Findings, findings}
 use Rattle.spec_checks.specs.PartsLaws.{clean-of-findings, findings-of-clean}
 use Rattle.spec_checks.specs.Answer.{recordLength, findingWords, fitting, writeFindings, checked}
 use Rattle.spec_checks.specs.AnswerLaws.{findingWords-length, fitting-length, fitting-all}
-use Rattle.projection_patch.specs.ReadAnswers.{faultTo, anywhere}
+use Rattle.projection_patch.specs.ReadAnswers.{faultTo}
 use Rattle.projection_patch.specs.declared.read_values.ProjectionPatchReadFault.{ProjectionPatchReadFault}
-use Rattle.projection_patch.proofs.Answers.{Got}
-use Rattle.patch_sets.specs.Walk.{readHeading}
 use Rattle.patch_sets.specs.SetAnswers.{operationCount}
-use Rattle.patch_sets.proofs.Runs.{set-by-patches}
 use Rattle.check_findings.specs.Found.{isFound}
 use Rattle.check_quick.specs.QuickAnswers.{quickAnswer}
 use Rattle.check_quick.specs.declared.quick_set.QuickCheck.the-variants as quick
-use Rattle.check_set.specs.SetListed.{tableLength, SetListedAs}
-use Rattle.check_set.specs.SetListedLaws.{listedTo, FindingsListedAs, listed-is}
+use Rattle.check_set.specs.Listed.{listedTo, FindingsListedAs}
 use Rattle.check_set.specs.CheckAnswers.{placeTo, checkedTo, checkAnswer, checkNumbers}
 use Rattle.check_set.specs.declared.list_set.FindingsListed.{FindingsListed}
-use Rattle.check_set.specs.declared.list_set.FindingsListed.the-variants as listed
 use Rattle.check_set.specs.declared.check_set.CheckPlace.the-variants as place
 use Rattle.check_set.specs.declared.check_set.PatchSetCheck.{PatchSetCheck}
 use Rattle.check_set.specs.declared.check_set.PatchSetCheck.the-variants as set-check
@@ -49,20 +38,20 @@ take-less (suc m) zero l h = absurd (omega arith)
 take-less (suc m) (suc n) [] h = refl
 take-less (suc m) (suc n) (x ∷ l) h = ap (λ k. x ∷ k) (take-less m n l (omega arith))
 
-words-take : (w : ℕ) (fs : List Finding) → take (3 * w) (findingWords fs) ≡ findingWords (take w fs)
+words-take : (w : ℕ) (fs : List Finding) → take (recordLength * w) (findingWords fs) ≡ findingWords (take w fs)
 unfolding findingWords flatMap findingKey
 words-take zero fs = refl
-words-take (suc w) [] = let three : 3 * suc w ≡ suc (suc (suc (3 * w))) = omega arith in ap (λ (n : ℕ). take n (findingWords [])) three
+words-take (suc w) [] = let three : recordLength * suc w ≡ suc (suc (suc (recordLength * w))) = omega arith in ap (λ (n : ℕ). take n (findingWords [])) three
 words-take (suc w) (f ∷ fs) =
-    let three : 3 * suc w ≡ suc (suc (suc (3 * w))) = omega arith in
+    let three : recordLength * suc w ≡ suc (suc (suc (recordLength * w))) = omega arith in
     ap (λ (n : ℕ). take n (findingWords (f ∷ fs))) three ∙ ap (λ l. f .kind ∷ f .domain ∷ f .secondary ∷ l) (words-take w fs)
 
 module _ (found : List Finding) (records out : List ℕ) (w : ℕ) (front : take (recordLength * length found) records ≡ findingWords found)
-    (counted : w ≡ min (length records / 3) (min (length out / 3) (length found))) where
+    (counted : w ≡ min (length records / recordLength) (min (length out / recordLength) (length found))) where
   long : recordLength * length found ≤ length records
   long = omega (arith, ap length front, length-take (recordLength * length found) records, findingWords-length found)
 
-  count-is : w ≡ min (length out / 3) (length found)
+  count-is : w ≡ min (length out / recordLength) (length found)
   count-is = omega (arith, long, counted)
 
   pub written-count : w ≡ length (fitting (length out) found)
@@ -71,18 +60,18 @@ module _ (found : List Finding) (records out : List ℕ) (w : ℕ) (front : take
   same-front : take w found ≡ fitting (length out) found
   unfolding fitting
   same-front =
-      test-cases (leb (length out / 3) (length found))
-      (λ t. let k = leb-true (length out / 3) (length found) t in let same : w ≡ length out / 3 = omega (arith, count-is, k) in ap (λ (n : ℕ). take n found) same)
-      (λ t. let k = leb-false (length out / 3) (length found) t in take-all w found (omega (arith, count-is, k)) ∙ sym (take-all (length out / 3) found (omega (arith, k))))
+      test-cases (leb (length out / recordLength) (length found))
+      (λ t. let k = leb-true (length out / recordLength) (length found) t in let same : w ≡ length out / recordLength = omega (arith, count-is, k) in ap (λ (n : ℕ). take n found) same)
+      (λ t. let k = leb-false (length out / recordLength) (length found) t in take-all w found (omega (arith, count-is, k)) ∙ sym (take-all (length out / recordLength) found (omega (arith, k))))
 
-  words : take (3 * w) records ≡ findingWords (fitting (length out) found)
+  words : take (recordLength * w) records ≡ findingWords (fitting (length out) found)
   words =
-      sym (take-less (3 * w) (recordLength * length found) records (omega (arith, count-is))) ∙ ap (take (3 * w)) front ∙ words-take w found ∙ ap findingWords same-front
+      sym (take-less (recordLength * w) (recordLength * length found) records (omega (arith, count-is))) ∙ ap (take (recordLength * w)) front ∙ words-take w found ∙ ap findingWords same-front
 
-  pub written-numbers : take (3 * w) records ++ drop (3 * w) out ≡ writeFindings found out
+  pub written-numbers : take (recordLength * w) records ++ drop (recordLength * w) out ≡ writeFindings found out
   unfolding writeFindings
   written-numbers =
-      let size : 3 * w ≡ length (findingWords (fitting (length out) found)) = omega (arith, written-count, findingWords-length (fitting (length out) found)) in
+      let size : recordLength * w ≡ length (findingWords (fitting (length out) found)) = omega (arith, written-count, findingWords-length (fitting (length out) found)) in
       ap₂ (λ (l : List ℕ) (n : ℕ). l ++ drop n out) words size
 
 -- ---- the answer
@@ -93,17 +82,13 @@ place-told (inPatch i) inSet m n e = absurd (let z : _≡_ {A = ℕ} 0 1 = cc in
 place-told inSet (inPatch j) m n e = absurd (let z : _≡_ {A = ℕ} 0 1 = cc in omega arith)
 place-told inSet inSet m n e = (refl, cc)
 
-place-not-refused : (p : Place) (n : ℕ) (f : ProjectionPatchReadFault) → listedTo p n ≡ listed.Refused f → ⊥
-place-not-refused (inPatch i) n f e = let z : _≡_ {A = ℕ} 0 1 = cc in omega arith
-place-not-refused inSet n f e = let z : _≡_ {A = ℕ} 0 1 = cc in omega arith
-
 module _ (ps : List Patch) (r : FindingsListed) (records : List ℕ) (h : FindingsListedAs (findings ps) r records) where
-  module _ (p : Place) (logical w : ℕ) (told : r ≡ listedTo p logical) (out : List ℕ) (counted : w ≡ min (length records / 3) (min (length out / 3) logical)) where
+  module _ (p : Place) (logical w : ℕ) (told : r ≡ listedTo p logical) (out : List ℕ) (counted : w ≡ min (length records / recordLength) (min (length out / recordLength) logical)) where
     same : (findings ps .place ≡ p) × (length (findings ps .found) ≡ logical)
     same = place-told (findings ps .place) p _ _ (sym (h .0) ∙ told)
 
-    counted-now : w ≡ min (length records / 3) (min (length out / 3) (length (findings ps .found)))
-    counted-now = counted ∙ ap (λ (n : ℕ). min (length records / 3) (min (length out / 3) n)) (sym (same .1))
+    counted-now : w ≡ min (length records / recordLength) (min (length out / recordLength) (length (findings ps .found)))
+    counted-now = counted ∙ ap (λ (n : ℕ). min (length records / recordLength) (min (length out / recordLength) n)) (sym (same .1))
 
     pub answer-is : set-check.Checked (placeTo p) logical w ≡ checkedTo (checked ps (length out))
     unfolding checked
@@ -111,24 +96,8 @@ module _ (ps : List Patch) (r : FindingsListed) (records : List ℕ) (h : Findin
         ap₂ (λ (q : Place) (n : ℕ). set-check.Checked (placeTo q) n w) (sym (same .0)) (sym (same .1))
         ∙ ap (set-check.Checked (placeTo (findings ps .place)) (length (findings ps .found))) (written-count (findings ps .found) records out w (h .1) counted-now)
 
-    pub numbers-are : take (3 * w) records ++ drop (3 * w) out ≡ writeFindings (findings ps .found) out
+    pub numbers-are : take (recordLength * w) records ++ drop (recordLength * w) out ≡ writeFindings (findings ps .found) out
     numbers-are = written-numbers (findings ps .found) records out w (h .1) counted-now
-
-  pub listed-no-fault : (f : ProjectionPatchReadFault) → r ≡ listed.Refused f → ⊥
-  listed-no-fault f e = place-not-refused (findings ps .place) _ f (sym (h .0) ∙ e)
-
--- a readable set, behind its heading
-module _ (set : List ℕ) (bytes : Bytes set) (ps : List Patch) (readable : readSet v1 set ≡ patches ps) (count at : ℕ) (g : Got readHeading (anywhere (λ n. n)) set 0 count at) where
-  left-is : ended (many count (readPatch v1) (drop at set)) ≡ patches ps
-  left-is =
-      let fits = was-encoded v1 set ps bytes readable in
-      let short : length set ≤ setBytes = omega (arith, ap length (fits .0), fits .1 .short) in
-      sym (set-by-patches set short g) ∙ readable
-
-  pub found-is : (before : List ℕ) (r : FindingsListed) (after : List ℕ) → tableLength ≤ length before → SetListedAs before r after (ended (many count (readPatch v1) (drop at set))) → FindingsListedAs (findings ps) r after
-  found-is before r after room told =
-      let fits = was-encoded v1 set ps bytes readable .1 in
-      listed-is ps before r after (fits .few) (all-map (FitsPatch v1) (λ (p : Patch). length (p .operations) ≤ patchOperations) (λ p k. k .few) ps (fits .patches)) room (subst (SetListedAs before r after) left-is told)
 
 -- ---- by the quick check
 

@@ -1,3 +1,3 @@
-pub mod SetListed
-pub mod SetListedLaws
+pub mod Listed
+pub mod ListedLaws
 pub mod CheckAnswers

@@ -4,7 +4,7 @@ use crate::list_set::FindingsListed;
 use crate::write_findings;
 use check_quick::quick_set;
 use check_quick::quick_set::QuickCheck;
-use projection_patch::read_values::CountRead;
+use patch_walk::SetOpening;
 use projection_patch::read_values::ProjectionPatchReadFault;
 ghost use mathlib.Core.Path.{_≡_};
 ghost use mathlib.Core.List.{List};
@@ -55,16 +55,15 @@ fn find(set: &[u8], out: &mut [u64]) -> PatchSetCheck
     ensures answered { λ r. ⌜ ((ps : List Patch) → readSet v1 (now (set .entry)) ≡ patches ps → r ≡ checkedTo (checked ps (length (now (out .entry))))) ⌝ }
     ensures written { λ _. ⌜ ((ps : List Patch) → readSet v1 (now (set .entry)) ≡ patches ps → now (out .exit) ≡ writeFindings (findings ps .found) (now (out .entry))) ⌝ }
 {
-    let mut records = [0u64; 945];
-    match patch_sets::read_heading(set) {
-        CountRead::Read(count, at) => match list_set::list_patches(set, at, count, &mut records) {
+    let mut records = [0u64; FindingsListed::NUMBERS];
+    match patch_walk::open_set(set) {
+        SetOpening::At(start) => match list_set::list_patches(set, start, &mut records) {
             FindingsListed::Patch(index, logical) => {
                 write_answer(CheckPlace::Patch(index), logical, &records, out)
             }
             FindingsListed::Set(logical) => write_answer(CheckPlace::Set, logical, &records, out),
-            FindingsListed::Refused(fault) => PatchSetCheck::Refused(fault),
         },
-        CountRead::Refused(fault) => PatchSetCheck::Refused(fault),
+        SetOpening::Refused(fault) => PatchSetCheck::Refused(fault),
     }
 }
 

@@ -1,31 +1,40 @@
-// The findings of the first patch that has any, or else those of the set, listed in a table while the set is read.
+// The findings of the first patch that has any, or else those of the set, listed in a table.
+use crate::list_patch;
 use check_findings::envelope_checks;
 use check_findings::ids;
 use check_findings::insert_findings;
-use check_patch::list_patch;
-use check_patch::list_patch::PatchListRead;
 use check_quick::quick_patches::PreviousEnvelope;
 use check_targets::MutationTarget;
+use patch_walk::SetCursor;
+use patch_walk::SetStep;
 use projection_patch::patch::ProjectionPatchEnvelope;
 use projection_patch::patch::ProjectionPatchSet;
-use projection_patch::read_values::ProjectionPatchReadFault;
 ghost use mathlib.Core.Path.{_≡_};
+ghost use mathlib.Core.List.{List, []};
 ghost use Prim.Native.Nat.{_≤_, _<_};
-ghost use lib.ListN.{length, take, drop, set};
+ghost use lib.ListN.{length, take, set};
 ghost use Rattle.spec_patch.specs.Sizes.{setPatches};
+ghost use Rattle.spec_patch.specs.Patch.{Patch};
 ghost use Rattle.spec_patch.specs.Edition.{v1};
-ghost use Rattle.spec_patch.specs.Reader.{many};
-ghost use Rattle.spec_patch.specs.Read.{readPatch, ended};
+ghost use Rattle.spec_checks.specs.Findings.{findings};
 ghost use Rattle.projection_patch.specs.Meaning.{envelopeOf};
+ghost use Rattle.patch_walk.specs.Steps.{AtSteps};
 ghost use Rattle.check_findings.specs.InsertFindings.{insertedAll};
 ghost use Rattle.check_quick.specs.QuickAnswers.{previousOf};
-ghost use Rattle.check_set.specs.SetListed.{previousListed, afterListed, SetListedAs, tableLength};
+ghost use Rattle.check_set.specs.Listed.{previousListed, afterListed, FindingsListedAs, tableLength};
 
 // How many records there are, of the patch of an index or of the set.
 pub enum FindingsListed {
     Patch(usize, usize),
     Set(usize),
-    Refused(ProjectionPatchReadFault),
+}
+
+impl FindingsListed {
+    // How many numbers a record is.
+    pub const RECORD: usize = 3;
+    // The numbers of as many records as a set may have: five for each patch but the first, which is more than two for each operation of a
+    // patch and four.
+    pub const NUMBERS: usize = FindingsListed::RECORD * 5 * (ProjectionPatchSet::PATCHES - 1);
 }
 
 // Inserts the findings of an envelope after that of the patch just before it.
@@ -69,36 +78,30 @@ fn insert_after(
     insert_previous(records, more, previous, envelope)
 }
 
-// Reads count patches, the first of them at from, up to the first that has findings.
-pub fn list_patches(set: &[u8], from: usize, count: usize, records: &mut [u64]) -> FindingsListed
-    requires { ⌜ (from ≤ length (now set)) × ((count ≤ setPatches) × (tableLength ≤ length (now records))) ⌝ }
-    ensures { λ r. ⌜ SetListedAs (now (records .entry)) r (now (records .exit)) (ended (many count (readPatch v1) (drop from (now (set .entry))))) ⌝ }
+// Walks over the patches that are left, up to the first that has findings.
+pub fn list_patches(set: &[u8], start: SetCursor, records: &mut [u64]) -> FindingsListed
+    requires { ⌜ (start .«patches_left» ≤ setPatches) × (tableLength ≤ length (now records)) ⌝ }
+    ensures { λ r. ⌜ ((ps : List Patch) → AtSteps v1 (now (set .entry)) start [] ps → FindingsListedAs (findings ps) r (now (records .exit))) ⌝ }
 {
     let mut targets = [0u64; MutationTarget::PATCH_NUMBERS];
     let mut ids = [0u64; ProjectionPatchSet::PATCHES];
     let mut previous = PreviousEnvelope::None;
-    let mut at = from;
-    let mut left = count;
+    let mut cursor = start;
     let mut done: usize = 0;
     let mut kept: usize = 0;
-    while 0 < left {
-        match list_patch::list_patch(set, at, &mut targets, records) {
-            PatchListRead::Read(patch, end) => {
-                if 0 < patch.count {
-                    return FindingsListed::Patch(done, patch.count);
-                }
-                let head = patch.head;
-                let envelope = head.envelope;
-                kept = insert_after(records, kept, &mut ids, done, previous, envelope);
-                previous = PreviousEnvelope::Some(envelope);
-                at = end;
-                left = left - 1;
-                done = done + 1;
-            }
-            PatchListRead::Refused(fault) => {
-                return FindingsListed::Refused(fault);
-            }
+    while 0 < cursor.patches_left {
+        let SetStep::Head(head, inside) = patch_walk::next_step(set, cursor, false) else {
+            return FindingsListed::Set(kept);
+        };
+        let patch = list_patch::list_patch(set, head, inside, &mut targets, records);
+        if 0 < patch.count {
+            return FindingsListed::Patch(done, patch.count);
         }
+        let envelope = head.envelope;
+        kept = insert_after(records, kept, &mut ids, done, previous, envelope);
+        previous = PreviousEnvelope::Some(envelope);
+        cursor = patch.next;
+        done = done + 1;
     }
     FindingsListed::Set(kept)
 }

@@ -1,8 +1,10 @@
 // Findings written into a lent slice.
+use crate::list_set::FindingsListed;
 ghost use mathlib.Core.Path.{_≡_};
 ghost use mathlib.Core.List.{_++_};
 ghost use Prim.Native.Nat.{_*_, _/_, _≤_, min};
 ghost use lib.ListN.{length, take, drop};
+ghost use Rattle.spec_checks.specs.Answer.{recordLength};
 
 // Copies the numbers of part to the start of out.
 fn copy_front(part: &[u64], out: &mut [u64])
@@ -18,9 +20,9 @@ fn copy_front(part: &[u64], out: &mut [u64])
 
 // How many of count records fit so many places.
 fn fitting(count: usize, places: usize) -> usize
-    ensures { λ r. ⌜ r ≡ min (places / 3) count ⌝ }
+    ensures { λ r. ⌜ r ≡ min (places / recordLength) count ⌝ }
 {
-    let room = places / 3;
+    let room = places / FindingsListed::RECORD;
     if room < count {
         return room;
     }
@@ -29,11 +31,11 @@ fn fitting(count: usize, places: usize) -> usize
 
 // Copies the first count records, or those that fit, to the start of out, and answers how many they are.
 pub fn write_findings(records: &[u64], count: usize, out: &mut [u64]) -> usize
-    ensures counted { λ r. ⌜ r ≡ min (length (now (records .entry)) / 3) (min (length (now (out .entry)) / 3) count) ⌝ }
-    ensures written { λ r. ⌜ now (out .exit) ≡ take (3 * r) (now (records .entry)) ++ drop (3 * r) (now (out .entry)) ⌝ }
+    ensures counted { λ r. ⌜ r ≡ min (length (now (records .entry)) / recordLength) (min (length (now (out .entry)) / recordLength) count) ⌝ }
+    ensures written { λ r. ⌜ now (out .exit) ≡ take (recordLength * r) (now (records .entry)) ++ drop (recordLength * r) (now (out .entry)) ⌝ }
 {
     let written = fitting(fitting(count, out.len()), records.len());
-    let end = 3 * written;
+    let end = FindingsListed::RECORD * written;
     copy_front(&records[0..end], out);
     written
 }

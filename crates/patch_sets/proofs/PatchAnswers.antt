@@ -1,17 +1,14 @@
--- Answers of heads, runs of operations and patches taken apart, by the laws for every such enum.
+-- Answers of heads taken apart, by the laws for every such enum.
 use Prim.Native.Nat.{ℕ}
-use mathlib.Core.Path.{_≡_, refl}
+use mathlib.Core.Path.{_≡_}
 use mathlib.Core.List.{List}
 use native.Mathlib.Omega.{arith}
 use lib.Dec.{lit<}
 use lib.ListN.{length, drop}
 use Rattle.spec_lists.specs.Bytes.{Bytes}
 use Rattle.spec_patch.specs.Sizes.{patchOperations}
-use Rattle.spec_patch.specs.Edition.{v1}
-use Rattle.spec_patch.specs.Reader.{many}
-use Rattle.spec_patch.specs.Read.{readCount, readOperation, readEnvelope, readPatch}
-use Rattle.spec_patch.specs.Codec.{many-codec}
-use Rattle.spec_patch.specs.ReadLaws.{count-codec, operation-codec, envelope-codec, patch-codec}
+use Rattle.spec_patch.specs.Read.{readCount, readEnvelope}
+use Rattle.spec_patch.specs.ReadLaws.{count-codec, envelope-codec}
 use Rattle.projection_patch.specs.Meaning.{envelopeTo}
 use Rattle.projection_patch.specs.ReadAnswers.{anywhere, countAnswer}
 use Rattle.projection_patch.specs.declared.patch.ProjectionPatch.{ProjectionPatch}
@@ -22,13 +19,11 @@ use Rattle.projection_patch.specs.declared.read_values.CountRead.the-variants a
 use Rattle.projection_patch.proofs.Answers.{Told, Got, NotGot, got, not-got, count-told}
 use Rattle.patch_sets.specs.Walk.{readHeading, readHead}
 use Rattle.patch_sets.specs.HeadLaws.{heading-codec, head-codec}
-use Rattle.patch_sets.specs.SetAnswers.{envelopeAnswer, headTo, headAnswer, operationsAnswer, patchAnswer}
+use Rattle.patch_sets.specs.SetAnswers.{envelopeAnswer, headTo, headAnswer}
 use Rattle.patch_sets.specs.declared.EnvelopeRead.{EnvelopeRead}
 use Rattle.patch_sets.specs.declared.EnvelopeRead.the-variants as envelope-read
 use Rattle.patch_sets.specs.declared.PatchHeadRead.{PatchHeadRead}
 use Rattle.patch_sets.specs.declared.PatchHeadRead.the-variants as head-read
-use Rattle.patch_sets.specs.declared.OperationsRead.{OperationsRead}
-use Rattle.patch_sets.specs.declared.OperationsRead.the-variants as operations-read
 
 envelope-told : Told envelope-read.Read envelope-read.Refused
 envelope-told = record {
@@ -41,14 +36,6 @@ envelope-told = record {
 pub head-told : Told head-read.Read head-read.Refused
 head-told = record {
   value = λ x y m n e. cc;
-  next = λ x y m n e. cc;
-  reason = λ f g e. cc;
-  apart = λ x m f e. let z : _≡_ {A = ℕ} 0 1 = cc in omega arith;
-}
-
-operations-told : Told (λ (u : Unit {0}) (end : ℕ). operations-read.At end) operations-read.Refused
-operations-told = record {
-  value = λ x y m n e. refl;
   next = λ x y m n e. cc;
   reason = λ f g e. cc;
   apart = λ x m f e. let z : _≡_ {A = ℕ} 0 1 = cc in omega arith;
@@ -78,15 +65,3 @@ module _ (l : List ℕ) (at : ℕ) where
 
   pub no-heading : (r : CountRead) → r ≡ countAnswer (length l) (readHeading (drop at l)) → (f : ProjectionPatchReadFault) → r ≡ count-read.Refused f → NotGot readHeading l at f
   no-heading = not-got (anywhere (λ n. n)) heading-codec count-told l at
-
-  pub operations-got : (n : ℕ) (r : OperationsRead) → r ≡ operationsAnswer (length l) (many n (readOperation v1) (drop at l)) → Bytes l → (end : ℕ) → r ≡ operations-read.At end → Got (many n (readOperation v1)) (anywhere (λ os. tt {0})) l at (tt {0}) end
-  operations-got n r e h end q = got (anywhere (λ os. tt {0})) (many-codec (operation-codec v1) n) operations-told l at r e h (tt {0}) end q
-
-  pub no-operations : (n : ℕ) (r : OperationsRead) → r ≡ operationsAnswer (length l) (many n (readOperation v1) (drop at l)) → (f : ProjectionPatchReadFault) → r ≡ operations-read.Refused f → NotGot (many n (readOperation v1)) l at f
-  no-operations n r e f q = not-got (anywhere (λ os. tt {0})) (many-codec (operation-codec v1) n) operations-told l at r e f q
-
-  pub patch-got : (r : CountRead) → r ≡ patchAnswer (length l) (readPatch v1 (drop at l)) → Bytes l → (n end : ℕ) → r ≡ count-read.Read n end → Got (readPatch v1) (anywhere (λ p. length (p .operations))) l at n end
-  patch-got = got (anywhere (λ p. length (p .operations))) (patch-codec v1) count-told l at
-
-  pub no-patch : (r : CountRead) → r ≡ patchAnswer (length l) (readPatch v1 (drop at l)) → (f : ProjectionPatchReadFault) → r ≡ count-read.Refused f → NotGot (readPatch v1) l at f
-  no-patch = not-got (anywhere (λ p. length (p .operations))) (patch-codec v1) count-told l at

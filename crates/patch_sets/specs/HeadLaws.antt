@@ -5,7 +5,7 @@ use mathlib.Core.List.{List}
 use lib.Dec.{lit<}
 use Rattle.spec_patch.specs.Sizes.{setPatches, patchOperations}
 use Rattle.spec_patch.specs.Patch.{Operation, Envelope, Patch}
-use Rattle.spec_patch.specs.Edition.{v1}
+use Rattle.spec_patch.specs.Edition.{Edition, v1}
 use Rattle.spec_patch.specs.Encode.{heading}
 use Rattle.spec_patch.specs.Fits.{InRangeEnvelope}
 use Rattle.spec_patch.specs.Reader.{Fault, Result, read, refused, Reader, onward, followed, mapped, many, literal}
@@ -63,23 +63,24 @@ patches-by-heading bs = by-letters (literal (heading v1) bs)
     by-letters (refused f) = refl
 
 -- a patch's operations behind its head
-abbrev pub behindHead : Envelope × ℕ → Reader Patch
-behindHead h = mapped (λ os. toPatch (h .0, os)) (many (h .1) (readOperation v1))
+module _ (ed : Edition) where
+  abbrev pub behindHead : Envelope × ℕ → Reader Patch
+  behindHead h = mapped (λ os. toPatch (h .0, os)) (many (h .1) (readOperation ed))
 
-pub patch-by-head : (bs : List ℕ) → readPatch v1 bs ≡ followed readHead behindHead bs
-unfolding readPatch readHead
-patch-by-head bs = by-envelope (readEnvelope bs)
-  where
-    by-operations : (e : Envelope) (r : Result (List Operation)) → onward (onward r (λ os rest. read (e, os) rest)) (λ t rest. read (toPatch t) rest) ≡ onward r (λ os rest. read (toPatch (e, os)) rest)
-    by-operations e (read os rest) = refl
-    by-operations e (refused f) = refl
+  pub patch-by-head : (bs : List ℕ) → readPatch ed bs ≡ followed readHead behindHead bs
+  unfolding readPatch readHead
+  patch-by-head bs = by-envelope (readEnvelope bs)
+    where
+      by-operations : (e : Envelope) (r : Result (List Operation)) → onward (onward r (λ os rest. read (e, os) rest)) (λ t rest. read (toPatch t) rest) ≡ onward r (λ os rest. read (toPatch (e, os)) rest)
+      by-operations e (read os rest) = refl
+      by-operations e (refused f) = refl
 
-    by-count : (e : Envelope) (r : Result ℕ) → onward (onward (onward r (λ n. many n (readOperation v1))) (λ os rest. read (e, os) rest)) (λ t rest. read (toPatch t) rest)
-        ≡ onward (onward r (λ n rest. read (e, n) rest)) behindHead
-    by-count e (read n rest) = by-operations e (many n (readOperation v1) rest)
-    by-count e (refused f) = refl
+      by-count : (e : Envelope) (r : Result ℕ) → onward (onward (onward r (λ n. many n (readOperation ed))) (λ os rest. read (e, os) rest)) (λ t rest. read (toPatch t) rest)
+          ≡ onward (onward r (λ n rest. read (e, n) rest)) behindHead
+      by-count e (read n rest) = by-operations e (many n (readOperation ed) rest)
+      by-count e (refused f) = refl
 
-    by-envelope : (r : Result Envelope) → onward (onward r (λ e. followed (followed (readCount patchOperations) (λ n. many n (readOperation v1))) (λ os rest. read (e, os) rest))) (λ t rest. read (toPatch t) rest)
-        ≡ onward (onward r (λ e. followed (readCount patchOperations) (λ n rest. read (e, n) rest))) behindHead
-    by-envelope (read e rest) = by-count e (readCount patchOperations rest)
-    by-envelope (refused f) = refl
+      by-envelope : (r : Result Envelope) → onward (onward r (λ e. followed (followed (readCount patchOperations) (λ n. many n (readOperation ed))) (λ os rest. read (e, os) rest))) (λ t rest. read (toPatch t) rest)
+          ≡ onward (onward r (λ e. followed (readCount patchOperations) (λ n rest. read (e, n) rest))) behindHead
+      by-envelope (read e rest) = by-count e (readCount patchOperations rest)
+      by-envelope (refused f) = refl

@@ -1,16 +1,13 @@
-// Reading of a patch's head, of the heading and of a whole set.
+// Reading of a patch's head and of the heading.
 ghost use mathlib.Core.Path.{_≡_};
-ghost use Prim.Native.Nat.{_≤_};
 ghost use lib.ListN.{length, drop};
-ghost use Rattle.spec_patch.specs.Sizes.{setPatches};
 ghost use Rattle.spec_patch.specs.Edition.{v1};
-ghost use Rattle.spec_patch.specs.Reader.{many};
-ghost use Rattle.spec_patch.specs.Read.{readOperation, toEnvelope, readEnvelope, readPatch, ended, readSet};
+ghost use Rattle.spec_patch.specs.Read.{toEnvelope, readEnvelope};
 ghost use Rattle.bytes_wire.specs.Prefix.{startsWith};
 ghost use Rattle.projection_patch.specs.Meaning.{surfaceTo, envelopeTo};
 ghost use Rattle.patch_sets.specs.Walk.{readHead, readHeading};
 ghost use Rattle.projection_patch.specs.ReadAnswers.{optionalOf, countAnswer};
-ghost use Rattle.patch_sets.specs.SetAnswers.{envelopeAnswer, headAnswer, operationsAnswer, patchAnswer, setAnswer};
+ghost use Rattle.patch_sets.specs.SetAnswers.{envelopeAnswer, headAnswer};
 use bytes_wire::ReadU32;
 use bytes_wire::ReadU64;
 use projection_patch::contract_primitives::Epoch;
@@ -24,8 +21,6 @@ use projection_patch::patch::ProjectionPatchId;
 use projection_patch::patch::ProjectionPatchSequence;
 use projection_patch::patch::ProjectionPatchSet;
 use projection_patch::patch::ProjectionPatchStreamId;
-use projection_patch::read_operations;
-use projection_patch::read_operations::OperationRead;
 use projection_patch::read_values;
 use projection_patch::read_values::CountRead;
 use projection_patch::read_values::NumbersRead;
@@ -41,20 +36,6 @@ pub enum EnvelopeRead {
 // A patch's head, and how many bytes it took.
 pub enum PatchHeadRead {
     Read(ProjectionPatch, usize),
-    Refused(ProjectionPatchReadFault),
-}
-
-// The position behind some operations.
-pub enum OperationsRead {
-    At(usize),
-    Refused(ProjectionPatchReadFault),
-}
-
-pub enum SetRead {
-    Read {
-        patch_count: usize,
-        operation_count: usize,
-    },
     Refused(ProjectionPatchReadFault),
 }
 
@@ -169,86 +150,5 @@ pub fn read_heading(set: &[u8]) -> CountRead
         read_values::count_at(set, 31, ProjectionPatchSet::PATCHES)
     } else {
         CountRead::Refused(ProjectionPatchReadFault::Malformed)
-    }
-}
-
-// The position behind count operations of a set, the first of them at from.
-fn operations_from(set: &[u8], from: usize, count: usize) -> OperationsRead
-    requires { ⌜ from ≤ length (now set) ⌝ }
-    ensures { λ r. ⌜ r ≡ operationsAnswer (length (now (set .entry))) (many count (readOperation v1) (drop from (now (set .entry)))) ⌝ }
-{
-    let mut at = from;
-    let mut left = count;
-    while 0 < left {
-        match read_operations::read_operation(&set[at..]) {
-            OperationRead::Read(_, taken) => {
-                at = at + taken;
-                left = left - 1;
-            }
-            OperationRead::Refused(fault) => {
-                return OperationsRead::Refused(fault);
-            }
-        }
-    }
-    OperationsRead::At(at)
-}
-
-// How many operations the patch at a position has, and where it ends.
-fn patch_at(set: &[u8], at: usize) -> CountRead
-    requires { ⌜ at ≤ length (now set) ⌝ }
-    ensures { λ r. ⌜ r ≡ patchAnswer (length (now (set .entry))) (readPatch v1 (drop at (now (set .entry)))) ⌝ }
-{
-    match read_patch_head(&set[at..]) {
-        PatchHeadRead::Read(head, taken) => match operations_from(
-            set,
-            at + taken,
-            head.operation_count,
-        ) {
-            OperationsRead::At(end) => CountRead::Read(head.operation_count, end),
-            OperationsRead::Refused(fault) => CountRead::Refused(fault),
-        },
-        PatchHeadRead::Refused(fault) => CountRead::Refused(fault),
-    }
-}
-
-// Counts the operations of count patches, the first of them at from, behind which the set ends.
-fn patches_from(set: &[u8], from: usize, count: usize) -> SetRead
-    requires { ⌜ (from ≤ length (now set)) × (count ≤ setPatches) ⌝ }
-    ensures { λ r. ⌜ r ≡ setAnswer (ended (many count (readPatch v1) (drop from (now (set .entry))))) ⌝ }
-{
-    let mut at = from;
-    let mut left = count;
-    let mut operations: usize = 0;
-    while 0 < left {
-        match patch_at(set, at) {
-            CountRead::Read(n, end) => {
-                at = end;
-                operations = operations + n;
-                left = left - 1;
-            }
-            CountRead::Refused(fault) => {
-                return SetRead::Refused(fault);
-            }
-        }
-    }
-    if at < set.len() {
-        return SetRead::Refused(ProjectionPatchReadFault::Malformed);
-    }
-    SetRead::Read {
-        patch_count: count,
-        operation_count: operations,
-    }
-}
-
-// Reads a whole set: how many patches and operations it has.
-pub fn read_set(set: &[u8]) -> SetRead
-    ensures { λ r. ⌜ r ≡ setAnswer (readSet v1 (now (set .entry))) ⌝ }
-{
-    if ProjectionPatchSet::BYTES < set.len() {
-        return SetRead::Refused(ProjectionPatchReadFault::OverCapacity);
-    }
-    match read_heading(set) {
-        CountRead::Read(count, at) => patches_from(set, at, count),
-        CountRead::Refused(fault) => SetRead::Refused(fault),
     }
 }

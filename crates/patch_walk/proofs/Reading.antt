@@ -1,5 +1,5 @@
 -- What the readers answered at a cursor, told as a step of the walk.
-use Prim.Native.Nat.{ℕ, _+_, _-_, _≤_, _<_}
+use Prim.Native.Nat.{ℕ, _+_, _≤_, _<_}
 use mathlib.Core.Path.{_≡_, ap, _∙_}
 use mathlib.Core.Bool.{Bool}
 use mathlib.Core.List.{List}
@@ -31,7 +31,6 @@ use Rattle.patch_sets.specs.declared.PatchHeadRead.the-variants as head-read
 use Rattle.patch_sets.proofs.PatchAnswers.{head-told, head-got}
 use Rattle.patch_walk.specs.Steps.{afterOperation, afterHead, operationStep, headStep}
 use Rattle.patch_walk.specs.declared.SetCursor.{SetCursor}
-use Rattle.patch_walk.specs.declared.SetStep.{SetStep}
 use Rattle.patch_walk.specs.declared.SetStep.the-variants as set-step
 
 -- a head takes a byte or more

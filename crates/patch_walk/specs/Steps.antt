@@ -11,12 +11,10 @@ use Rattle.spec_patch.specs.Patch as model
 use Rattle.spec_patch.specs.Edition.{Edition}
 use Rattle.spec_patch.specs.Encode.{encodeOperation, encodePatch}
 use Rattle.spec_patch.specs.Fits.{FitsOperation, FitsPatch}
-use Rattle.spec_patch.specs.Reader.{Result}
 use Rattle.spec_patch.specs.Read.{readOperationBy}
 use Rattle.projection_patch.specs.Meaning.{operationTo}
 use Rattle.projection_patch.specs.ReadAnswers.{answer, anywhere}
 use Rattle.projection_patch.specs.declared.patch.ProjectionPatch.{ProjectionPatch}
-use Rattle.projection_patch.specs.declared.patch.ProjectionPatchOperation.{ProjectionPatchOperation}
 use Rattle.projection_patch.specs.declared.read_values.ProjectionPatchReadFault.the-variants.{OverCapacity}
 use Rattle.patch_sets.specs.Walk.{readHeading, readHead}
 use Rattle.patch_sets.specs.SetAnswers.{headTo}

@@ -1,9 +1,9 @@
 -- On a readable set a walk visits exactly the heads and the operations of its patches, whatever the edition, and whether texts are checked
 -- or not. Each law takes the answer of one step.
 use Prim.Native.Nat.{ℕ, _+_, _-_, _≤_, _<_}
-use mathlib.Core.Path.{_≡_, refl, sym, ap, ap₂, _∙_, subst}
+use mathlib.Core.Path.{_≡_, refl, sym, ap, _∙_, subst}
 use mathlib.Core.Bool.{Bool}
-use mathlib.Core.List.{List, [], _∷_, _++_, append-assoc, flatMap, map}
+use mathlib.Core.List.{List, [], _∷_, _++_, append-assoc, flatMap}
 use native.Mathlib.Omega.{arith}
 use borrow.Author.Tests.{lt-ltb, le-ltb, le-leb}
 use lib.ListN.{length, drop, length-append, length-drop}
@@ -26,7 +26,7 @@ use Rattle.projection_patch.specs.declared.read_values.ProjectionPatchReadFault
 use Rattle.patch_sets.specs.Walk.{readHeading, readHead, headOf, encodeHeading, encodeHead}
 use Rattle.patch_sets.specs.HeadLaws.{heading-codec, head-codec}
 use Rattle.patch_sets.specs.SetAnswers.{headTo}
-use Rattle.patch_walk.specs.Steps.{firstCursor, afterOperation, afterHead, openAnswer, operationStep, headStep, stepAnswer, AtSteps}
+use Rattle.patch_walk.specs.Steps.{firstCursor, afterOperation, afterHead, openAnswer, stepAnswer, AtSteps}
 use Rattle.patch_walk.specs.declared.SetCursor.{SetCursor}
 use Rattle.patch_walk.specs.declared.SetOpening.{SetOpening}
 use Rattle.patch_walk.specs.declared.SetOpening.the-variants as opening
@@ -87,6 +87,17 @@ module _ (set : List ℕ) (all : Bytes set) (ps : List Patch) (readable : readSe
         operations = refl;
         patches = refl;
       }
+
+  module _ {r : SetOpening} (answer-is : r ≡ openAnswer set) where
+    -- so an answer is before the first patch, and no refusal
+    pub opened-at : (c : SetCursor) → r ≡ opening.At c → AtSteps v1 set c [] ps
+    opened-at c q =
+        let same : opening.At (firstCursor (length ps) from) ≡ opening.At c = sym opens ∙ sym answer-is ∙ q in
+        let cursor : firstCursor (length ps) from ≡ c = cc same in
+        subst (λ d. AtSteps v1 set d [] ps) cursor at-start
+
+    pub never-unopened : (f : ProjectionPatchReadFault) → r ≡ opening.Refused f → ⊥
+    never-unopened f q = let z : _≡_ {A = ℕ} 0 1 = cc (sym opens ∙ sym answer-is ∙ q) in omega arith
 
 -- ---- a step
 

@@ -3,7 +3,9 @@ ghost use mathlib.Core.Path.{_≡_};
 ghost use Prim.Native.Nat.{_<_};
 ghost use lib.ListN.{length};
 ghost use Rattle.spec_patch.specs.Edition.{v1};
+ghost use Rattle.spec_patch.specs.Read.{readSet};
 ghost use Rattle.patch_walk.specs.Steps.{openAnswer, operationStep, headStep, stepAnswer, StepWithin};
+ghost use Rattle.patch_walk.specs.SetReads.{setAnswer, endAnswer, leftAt};
 use patch_sets::PatchHeadRead;
 use projection_patch::patch::ProjectionPatch;
 use projection_patch::patch::ProjectionPatchOperation;
@@ -34,6 +36,14 @@ pub enum SetStep {
     Head(ProjectionPatch, SetCursor),
     Operation(ProjectionPatchOperation, SetCursor),
     End,
+    Refused(ProjectionPatchReadFault),
+}
+
+pub enum SetRead {
+    Read {
+        patch_count: usize,
+        operation_count: usize,
+    },
     Refused(ProjectionPatchReadFault),
 }
 
@@ -124,4 +134,52 @@ pub fn next_step(set: &[u8], cursor: SetCursor, strict: bool) -> SetStep
         return head_step(set, cursor);
     }
     SetStep::End
+}
+
+// The answer behind the last step, in a set of so many bytes.
+fn set_end(bytes: usize, cursor: SetCursor, operations: usize) -> SetRead
+    ensures { λ r. ⌜ r ≡ endAnswer bytes cursor operations ⌝ }
+{
+    if cursor.at < bytes {
+        return SetRead::Refused(ProjectionPatchReadFault::Malformed);
+    }
+    SetRead::Read {
+        patch_count: cursor.patch_count,
+        operation_count: operations,
+    }
+}
+
+// Reads what is left at a cursor, and counts its operations.
+fn read_steps(set: &[u8], first: SetCursor) -> SetRead
+    ensures { λ r. ⌜ r ≡ leftAt v1 (now (set .entry)) first 0 ⌝ }
+{
+    let mut cursor = first;
+    let mut operations: usize = 0;
+    loop {
+        match next_step(set, cursor, true) {
+            SetStep::Head(_, next) => {
+                cursor = next;
+            }
+            SetStep::Operation(_, next) => {
+                cursor = next;
+                operations = operations + 1;
+            }
+            SetStep::End => {
+                return set_end(set.len(), cursor, operations);
+            }
+            SetStep::Refused(fault) => {
+                return SetRead::Refused(fault);
+            }
+        }
+    }
+}
+
+// Reads a whole set: how many patches and operations it has.
+pub fn read_set(set: &[u8]) -> SetRead
+    ensures { λ r. ⌜ r ≡ setAnswer (readSet v1 (now (set .entry))) ⌝ }
+{
+    match open_set(set) {
+        SetOpening::At(first) => read_steps(set, first),
+        SetOpening::Refused(fault) => SetRead::Refused(fault),
+    }
 }

@@ -1,6 +1,4 @@
 -- `patch_walk::open_set` meets its contract: too many bytes are refused unread, then the heading decides.
-use Prim.Native.Nat.{ℕ}
-use mathlib.Core.Path.{_∙_}
 use native.Mathlib.Omega.{arith}
 use borrow.Author.Tests.{le-leb, lt-leb}
 use lib.ListN.{length}

@@ -1,5 +1,5 @@
 -- `patch_walk::operation_step` meets its contract: the operation reader's answer, told as a step.
-use Prim.Native.Nat.{ℕ, _+_, _≤_, _<_}
+use Prim.Native.Nat.{_+_, _≤_, _<_}
 use native.Mathlib.Omega.{arith}
 use lib.ListN.{length}
 use Rattle.spec_lists.specs.BytesLaws.{bytes-of}

@@ -1,6 +1,6 @@
--- `check_set::check_set::find` meets its contract: the heading, the listing, then the records that fit.
+-- `check_set::check_set::find` meets its contract: the opening, the listing, then the records that fit.
 use Prim.Native.Nat.{ℕ}
-use mathlib.Core.Path.{_≡_, refl, _∙_}
+use mathlib.Core.Path.{_≡_, refl, sym, _∙_, subst}
 use mathlib.Core.List.{List}
 use Rattle.spec_lists.specs.Bytes.{Bytes}
 use Rattle.spec_lists.specs.BytesLaws.{bytes-of}
@@ -8,40 +8,34 @@ use Rattle.spec_patch.specs.Patch.{Patch}
 use Rattle.spec_patch.specs.Edition.{v1}
 use Rattle.spec_patch.specs.Read.{patches, readSet}
 use Rattle.spec_checks.specs.Findings.{inPatch, inSet, findings}
-use Rattle.patch_sets.specs.WalkLaws.{walk-heading-reads}
-use Rattle.patch_sets.proofs.ReadAt.{HeadingAt, heading-at}
-use Rattle.check_set.specs.SetListedLaws.{FindingsListedAs}
-use Rattle.check_set.proofs.Written.{answer-is, numbers-are, listed-no-fault, found-is}
+use Rattle.patch_walk.specs.StepsLaws.{opened-at, never-unopened}
+use Rattle.patch_walk.specs.CountLaws.{OpeningCounts, opening-counts}
+use Rattle.check_set.specs.Listed.{FindingsListedAs}
+use Rattle.check_set.proofs.Written.{answer-is, numbers-are}
 use borrow.Author.Needs.{needs}
 use Rattle.check_set.proofs.check_set.find.Statement.{statement}
 use Rattle.check_set.proofs.check_set.find.Tie as tie
 
-abbrev set : tie.After-read-heading → List ℕ
+abbrev set : tie.After-open-set → List ℕ
 set c = c .before .before .before .args .set .now
 
-all-bytes : (c : tie.After-read-heading) → Bytes (set c)
+all-bytes : (c : tie.After-open-set) → Bytes (set c)
 all-bytes c = bytes-of (set c) (λ j. c .before .before .shared-slice-known .given j .fits)
 
-abbrev count : tie.After-known-told → ℕ
-count c = c .before .count .given .0 .0
+open-set-requires : tie.Need-open-set-requires
+open-set-requires c κs = search needs
 
-abbrev at : tie.After-known-told → ℕ
-at c = c .before .count .given .0 .1 .0
-
-front : (c : tie.After-known-told) → HeadingAt (set (c .before .before .before)) (count c) (at c)
-front c = let call = c .before .before .before in heading-at (set call) (all-bytes call) (call .read-heading .ensures) (c .before .count .given .1)
-
-read-heading-requires : tie.Need-read-heading-requires
-read-heading-requires c κs = search needs
-
-enum-known-count : tie.Need-enum-known-count
-enum-known-count c = search needs
+enum-known-start : tie.Need-enum-known-start
+enum-known-start c = search needs
 
 slice-aggregate-list-patches : tie.Need-slice-aggregate-list-patches
 slice-aggregate-list-patches c = search needs
 
 list-patches-requires : tie.Need-list-patches-requires
-list-patches-requires c κs = let k = c .before in (front k .within, (front k .few, search needs))
+list-patches-requires c κs =
+    let k = c .before in
+    let call = k .before .before .before in
+    (subst OpeningCounts (sym (call .open-set .ensures) ∙ k .before .start .given .1) (opening-counts (set call) (all-bytes call)), search needs)
 
 enum-known-index : tie.Need-enum-known-index
 enum-known-index c = search needs
@@ -64,17 +58,14 @@ write-answer-requires-2 c κs = search needs
 enum-known-fault : tie.Need-enum-known-fault
 enum-known-fault c = search needs
 
-enum-known-fault-2 : tie.Need-enum-known-fault-2
-enum-known-fault-2 c = search needs
-
 same-length : tie.Need-same-length
 same-length c = search needs
 
-listed-findings : (c : tie.After-list-patches) (ps : List Patch) → readSet v1 (set (c .before .before .before .before .before)) ≡ patches ps → FindingsListedAs (findings ps) (c .list-patches .result) (c .list-patches .last .1 .1 .1 .0)
+listed-findings : (c : tie.After-list-patches) (ps : List Patch) → readSet v1 (set (c .before .before .before .before .before)) ≡ patches ps → FindingsListedAs (findings ps) (c .list-patches .result) (c .list-patches .last .1 .1 .0)
 listed-findings c ps e =
     let k = c .before .before in
-    let start = k .before .before .before in
-    found-is (set start) (all-bytes start) ps e (count k) (at k) (front k .got) _ (c .list-patches .result) _ (search needs) (c .list-patches .ensures)
+    let call = k .before .before .before in
+    c .list-patches .ensures ps (opened-at (set call) (all-bytes call) ps e (call .open-set .ensures) _ (k .before .start .given .1))
 
 returns : tie.Need-returns
 returns c =
@@ -99,24 +90,19 @@ returns-2 c =
       λ ps e. w .write-answer2 .ensures .1 ∙ numbers-are ps (call .list-patches .result) _ (listed-findings call ps e) inSet _ _ (bound .1) lent refl,
     )
 
-returns-3 : tie.Need-returns-3
-returns-3 c =
-    let call = c .before .before .before .before in
-    let bound = c .before .fault .given in
-    (λ ps e. absurd (listed-no-fault ps (call .list-patches .result) _ (listed-findings call ps e) (bound .0 .0) (bound .1)), λ ps e. absurd (listed-no-fault ps (call .list-patches .result) _ (listed-findings call ps e) (bound .0 .0) (bound .1)))
+-- a readable set is not refused
+never : (c : tie.After-known-told4) (ps : List Patch) → readSet v1 (set (c .before .before .before)) ≡ patches ps → ⊥
+never c ps e = let k = c .before .before .before in never-unopened (set k) (all-bytes k) ps e (k .open-set .ensures) _ (c .before .fault .given .1)
 
-returns-4 : tie.Need-returns-4
-returns-4 c =
-    let k = c .before .before .before in
-    let bound = c .before .fault2 .given in
-    (λ ps e. absurd (walk-heading-reads (set k) (all-bytes k) ps e (k .read-heading .result) (k .read-heading .ensures) (bound .0 .0) (bound .1)), λ ps e. absurd (walk-heading-reads (set k) (all-bytes k) ps e (k .read-heading .result) (k .read-heading .ensures) (bound .0 .0) (bound .1)))
+returns-3 : tie.Need-returns-3
+returns-3 c = (λ ps e. absurd (never c ps e), λ ps e. absurd (never c ps e))
 
 pub find-spec : {M : Type 1} → statement M
 find-spec =
     tie.close
     (tie.spec
-    read-heading-requires
-    enum-known-count
+    open-set-requires
+    enum-known-start
     slice-aggregate-list-patches
     list-patches-requires
     enum-known-index
@@ -126,10 +112,8 @@ find-spec =
     slice-aggregate-write-answer-2
     write-answer-requires-2
     enum-known-fault
-    enum-known-fault-2
     same-length
     returns
     same-length-2
     returns-2
-    returns-3
-    returns-4)
+    returns-3)

@@ -11,7 +11,7 @@ use Rattle.check_findings.specs.Ids.{idSeen}
 use Rattle.check_findings.specs.InsertFindings.{insertedAll}
 use Rattle.check_findings.specs.InsertFindingsLaws.{inserted-then}
 use Rattle.check_quick.specs.QuickAnswers.{previousOf}
-use Rattle.check_set.specs.SetListed.{previousListed, afterListed}
+use Rattle.check_set.specs.Listed.{previousListed, afterListed}
 use borrow.Author.Needs.{needs}
 use Rattle.check_set.proofs.list_set.insert_after.Statement.{statement}
 use Rattle.check_set.proofs.list_set.insert_after.Tie as tie

@@ -3,7 +3,7 @@ use mathlib.Core.Path.{ap, _∙_}
 use mathlib.Core.List.{List}
 use Rattle.spec_checks.specs.Finding.{Finding}
 use Rattle.check_findings.specs.InsertFindings.{insertedAll}
-use Rattle.check_set.specs.SetListed.{previousListed}
+use Rattle.check_set.specs.Listed.{previousListed}
 use borrow.Author.Needs.{needs}
 use Rattle.check_set.proofs.list_set.insert_previous.Statement.{statement}
 use Rattle.check_set.proofs.list_set.insert_previous.Tie as tie

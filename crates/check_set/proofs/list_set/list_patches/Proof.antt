@@ -1,163 +1,151 @@
--- `check_set::list_set::list_patches` meets its contract: what is right for what is left to read is right for the whole; the measure is the patches left.
-use Prim.Native.Nat.{ℕ, suc, _+_, _-_, _*_, _≤_}
+-- `check_set::list_set::list_patches` meets its contract: no patch that is done has findings, and the table holds those of the set so far; the measure is the patches left.
+use Prim.Native.Nat.{ℕ, _+_, _*_, _≤_, _<_}
 use mathlib.Core.Path.{_≡_, refl, sym, ap, _∙_, subst}
-use mathlib.Core.List.{List}
+use mathlib.Core.Bool.{false}
+use mathlib.Core.List.{List, []}
 use native.Mathlib.Omega.{arith}
-use lib.ListN.{length, take, drop, length-set}
-use Rattle.spec_lists.specs.Bytes.{Bytes}
+use lib.ListN.{length, length-set}
 use Rattle.spec_lists.specs.BytesLaws.{bytes-of}
 use Rattle.spec_patch.specs.Sizes.{setPatches, patchOperations}
+use Rattle.spec_patch.specs.Patch.{Patch}
 use Rattle.spec_patch.specs.Edition.{v1}
-use Rattle.spec_patch.specs.Reader.{many}
-use Rattle.spec_patch.specs.Read.{readPatch, ended}
-use Rattle.check_patch.specs.declared.list_patch.PatchListed.{PatchListed}
+use Rattle.patch_walk.specs.Steps.{AtSteps}
+use Rattle.patch_walk.specs.CountLaws.{StepCounts, step-counts}
+use Rattle.patch_walk.specs.declared.SetStep.{SetStep}
+use Rattle.patch_walk.proofs.Matches.{head-matches}
 use Rattle.check_quick.specs.QuickAnswers.{previousOf}
-use Rattle.check_set.specs.SetListed.{tableLength, ReadListedAs, SetListedAs}
-use Rattle.check_set.specs.declared.list_set.FindingsListed.{FindingsListed}
-use Rattle.check_set.specs.declared.list_set.FindingsListed.the-variants as listed
-use Rattle.check_set.proofs.SetRuns.{patch-got, patch-refused, turn-found, turn-clean, none-left}
+use Rattle.check_set.specs.Listed.{tableLength}
+use Rattle.check_set.proofs.PatchRuns.{Run, run-start, run-end, run-found, run-turn}
 use borrow.Author.Needs.{needs}
 use Rattle.check_set.proofs.list_set.list_patches.Statement.{statement}
 use Rattle.check_set.proofs.list_set.list_patches.Tie as tie
 
 abbrev Inv-loop : tie.InvT-loop
-Inv-loop set first count records₀ targets₀ ids₀ previous₀ at₀ left₀ done₀ kept₀ records targets ids previous at left done kept =
-    (at ≤ length set) × ((done + left ≡ count) × ((tableLength ≤ length records₀) × ((length records ≡ length records₀) × ((length targets ≡ 3 * patchOperations) × ((length ids ≡ setPatches)
-    × ((r : FindingsListed) (after : List ℕ) → ReadListedAs done (take done ids) (previousOf previous) kept records r after (ended (many left (readPatch v1) (drop at set)))
-    → SetListedAs records₀ r after (ended (many count (readPatch v1) (drop first set)))))))))
+Inv-loop set records₀ targets₀ ids₀ previous₀ cursor₀ done₀ kept₀ records targets ids previous cursor done kept =
+    (done + cursor .«patches_left» ≤ setPatches) × ((length records ≡ length records₀) × ((length targets ≡ 3 * patchOperations) × ((length ids ≡ setPatches)
+    × ((ps : List Patch) → AtSteps v1 set cursor₀ [] ps → Run set ps cursor done kept ids (previousOf previous) records))))
 
 abbrev μ-loop : tie.MeasureT-loop
-μ-loop set first count records₀ targets₀ ids₀ previous₀ at₀ left₀ done₀ kept₀ records targets ids previous at left done kept = left
+μ-loop set records₀ targets₀ ids₀ previous₀ cursor₀ done₀ kept₀ records targets ids previous cursor done kept = cursor .«patches_left»
 
--- what the loop has in hand where a patch has been read
-abbrev head : tie.After-list-patch Inv-loop μ-loop → tie.At-loop Inv-loop μ-loop
-head c = c .before .before .before .before
+-- what the loop has in hand where a step has been made
+abbrev head : tie.After-next-step Inv-loop μ-loop → tie.At-loop Inv-loop μ-loop
+head c = c .before .before .before
 
-abbrev start : tie.After-list-patch Inv-loop μ-loop → tie.Start Inv-loop μ-loop
+abbrev start : tie.After-next-step Inv-loop μ-loop → tie.Start Inv-loop μ-loop
 start c = head c .before .before .before
 
-abbrev set : tie.After-list-patch Inv-loop μ-loop → List ℕ
+abbrev set : tie.After-next-step Inv-loop μ-loop → List ℕ
 set c = start c .args .set .now
 
-all-bytes : (c : tie.After-list-patch Inv-loop μ-loop) → Bytes (set c)
-all-bytes c = bytes-of (set c) (λ j. head c .before .before .shared-slice-known .given j .fits)
+counts : (c : tie.After-next-step Inv-loop μ-loop) (r : SetStep) → c .next-step .result ≡ r → StepCounts (head c .loop .cursor) r
+counts c r q =
+    subst (StepCounts (head c .loop .cursor)) (sym (c .next-step .ensures .0) ∙ q)
+    (step-counts false v1 (set c) (bytes-of (set c) (λ j. head c .before .before .shared-slice-known .given j .fits)) (head c .loop .cursor))
 
-abbrev patch : tie.After-known-told Inv-loop μ-loop → PatchListed
-patch c = c .before .patch .given .0 .0
+-- a patch is left
+some-left : (c : tie.After-next-step Inv-loop μ-loop) → 0 < head c .loop .cursor .«patches_left»
+some-left c = c .before .if1 .taken
 
-abbrev end : tie.After-known-told Inv-loop μ-loop → ℕ
-end c = c .before .patch .given .0 .1 .0
+-- the step of a turn
+abbrev step : tie.After-known-told Inv-loop μ-loop → tie.After-next-step Inv-loop μ-loop
+step c = c .before .before .before
 
--- where the patch has been read, and where it has no findings
-abbrev read : tie.After-known-told Inv-loop μ-loop → tie.After-list-patch Inv-loop μ-loop
-read c = c .before .before .before .before .before .before
+-- the turn of a patch that was listed
+abbrev known : tie.After-list-patch Inv-loop μ-loop → tie.After-known-told Inv-loop μ-loop
+known c = c .before .before .before
 
-abbrev known : tie.After-ids Inv-loop μ-loop → tie.After-known-told Inv-loop μ-loop
-known c = c .before .before .before .before .before .before
+-- that has no findings
+abbrev call : tie.Else2 Inv-loop μ-loop → tie.After-list-patch Inv-loop μ-loop
+call c = c .before .before .before .before .before
 
--- the patches left, one of them counted apart
-again : (c : tie.After-list-patch Inv-loop μ-loop) → let l = head c .loop in (r : FindingsListed) (after : List ℕ)
-    → ReadListedAs (l .done) (take (l .done) (l .ids)) (previousOf (l .previous)) (l .kept) (l .records) r after (ended (many (suc (l .left - 1)) (readPatch v1) (drop (l .at) (set c))))
-    → SetListedAs (start c .args .records .now) r after (ended (many (start c .args .count) (readPatch v1) (drop (start c .args .from) (set c))))
-again c r after h =
-    let l = head c .loop in
-    let same : suc (l .left - 1) ≡ l .left = omega arith in
-    l .inv .1 .1 .1 .1 .1 .1 r after
-    (subst (λ (m : ℕ). ReadListedAs (l .done) (take (l .done) (l .ids)) (previousOf (l .previous)) (l .kept) (l .records) r after (ended (many m (readPatch v1) (drop (l .at) (set c))))) same h)
+room : (c : tie.After-next-step Inv-loop μ-loop) → tableLength ≤ length (head c .loop .records)
+room c = omega (arith, head c .loop .inv .1 .0, start c .pre)
 
 loop-holds : tie.Need-loop-holds Inv-loop μ-loop
-loop-holds c = (omega arith, (omega arith, (omega arith, (refl, (search needs, (search needs, λ r after h. h))))))
+loop-holds c = (omega (arith, c .before .before .pre), (refl, (search needs, (search needs, λ ps here. run-start _ ps _ _ _ here))))
+
+next-step-requires : tie.Need-next-step-requires Inv-loop μ-loop
+next-step-requires c κs = search needs
+
+enum-known-head : tie.Need-enum-known-head Inv-loop μ-loop
+enum-known-head c = search needs
+
+same-length : tie.Need-same-length Inv-loop μ-loop
+same-length c = search needs
+
+returns : tie.Need-returns Inv-loop μ-loop
+returns c =
+    let k = c .before in
+    let l = head k .loop in
+    λ ps here. absurd (head-matches false v1 (set k) (l .cursor) (k .next-step .ensures .0) _ (l .inv .1 .1 .1 .1 ps here .here) (some-left k) (c .match .keys2))
 
 slice-aggregate-list-patch : tie.Need-slice-aggregate-list-patch Inv-loop μ-loop
 slice-aggregate-list-patch c = search needs
 
 list-patch-requires : tie.Need-list-patch-requires Inv-loop μ-loop
-list-patch-requires c κs = search needs
+list-patch-requires c κs = let k = c .before .before in omega (arith, counts (step k) _ (k .before .head .given .1) .1, head (step k) .loop .inv .1 .1 .0)
 
-enum-known-patch : tie.Need-enum-known-patch Inv-loop μ-loop
-enum-known-patch c = search needs
+same-length-2 : tie.Need-same-length-2 Inv-loop μ-loop
+same-length-2 c =
+    let k = step (known (c .before .before .before .before .before)) in
+    search (needs, c .before .before .slice-known2 .given, c .before .before .before .records .given, head k .loop .inv .1 .0)
 
-same-length : tie.Need-same-length Inv-loop μ-loop
-same-length c =
-    let told = c .before .before in
-    search (needs, told .before .before .before .before .records .given, told .before .before .before .slice-known2 .given, head (read told) .loop .inv .1 .1 .1 .0)
-
-returns : tie.Need-returns Inv-loop μ-loop
-returns c =
-    let known = c .before .before in
-    let k = known .before .before .before .before .before .before in
-    let l = head k .loop in
-    let g = patch-got (set k) (l .at) (l .records) _ (k .list-patch .result) (k .list-patch .ensures) (all-bytes k) (patch known) (end known) (known .before .patch .given .1) in
-    again k _ _ (turn-found (set k) (all-bytes k) (l .at) (l .left - 1) (l .done) (previousOf (l .previous)) (l .kept) (l .records) _ (omega arith) (listed.Patch (l .done) (patch known .count)) _ (patch known) (end known) g (take (l .done) (l .ids)) (c .if1 .taken) refl refl)
+returns-2 : tie.Need-returns-2 Inv-loop μ-loop
+returns-2 c =
+    let l = c .before .before .before .before .before in
+    let k = step (known l) in
+    λ ps here. run-found _ ps (head k .loop .inv .1 .1 .1 .1 ps here) (omega (arith, here .patches, start k .pre)) (room k) (k .next-step .ensures .0) _ _ (known l .before .head .given .1) _ _ (l .list-patch .ensures .0) (c .if2 .taken)
 
 slice-aggregate-insert-after : tie.Need-slice-aggregate-insert-after Inv-loop μ-loop
-slice-aggregate-insert-after c = sym (head (read (known c)) .loop .inv .1 .1 .1 .1 .1 .0)
+slice-aggregate-insert-after c = sym (head (step (known (call (c .before .before .before)))) .loop .inv .1 .1 .1 .0)
 
 insert-after-requires : tie.Need-insert-after-requires Inv-loop μ-loop
-insert-after-requires c κs = let l = head (read (known c)) .loop in omega (arith, l .inv .0, l .inv .1 .0, l .inv .1 .1 .1 .1 .1 .0, start (read (known c)) .pre)
-
-sub-left : tie.Need-sub-left Inv-loop μ-loop
-sub-left c = search needs
+insert-after-requires c κs =
+    let k = step (known (call (c .before .before .before))) in
+    let l = head k .loop in
+    omega (arith, some-left k, l .inv .0, l .inv .1 .1 .1 .0)
 
 add-done : tie.Need-add-done Inv-loop μ-loop
-add-done c = let k = known (c .before .before .before .before) in omega (arith, head (read k) .loop .inv .1 .0, start (read k) .pre)
+add-done c =
+    let k = step (known (call (c .before .before .before .before .before .before .before .before))) in
+    omega (arith, some-left k, head k .loop .inv .0)
 
 loop-less : tie.Need-loop-less Inv-loop μ-loop
-loop-less c = search needs
+loop-less c =
+    let l = call (c .before .before .before .before .before .before .before .before) in
+    let n = counts (step (known l)) _ (known l .before .head .given .1) in
+    omega (arith, n .0, l .list-patch .ensures .1)
 
 loop-again : tie.Need-loop-again Inv-loop μ-loop
 loop-again c =
-    let call = c .before .before .before in
-    let test = call .before .before .before .before .before in
-    let known = test .before .before in
-    let k = read known in
+    let inserted = c .before .before .before .before in
+    let test = inserted .before .before .before .before in
+    let listed = call test in
+    let k = step (known listed) in
     let l = head k .loop in
-    let after-is = call .insert-after .ensures in
-    let g = patch-got (set k) (l .at) (l .records) _ (k .list-patch .result) (k .list-patch .ensures) (all-bytes k) (patch known) (end known) (known .before .patch .given .1) in (
-      g .inside,
+    let q = known listed .before .head .given .1 in
+    let n = counts k _ q in
+    let after-is = inserted .insert-after .ensures in
+    let space : l .done < length (l .ids) = omega (arith, some-left k, l .inv .0, l .inv .1 .1 .1 .0) in (
+      omega (arith, n .0, listed .list-patch .ensures .1, l .inv .0),
       (
-        omega arith,
+        search (needs, l .inv .1 .0, test .before .before .slice-known2 .given, test .before .before .before .records .given, c .before .before .slice-known3 .given, c .before .before .before .records2 .given),
         (
-          omega arith,
+          search (needs, test .before .before .before .before .targets2 .given),
           (
-            search (needs, l .inv .1 .1 .1 .0, known .before .before .before .before .records .given, known .before .before .before .slice-known2 .given, c .before .before .records2 .given, c .before .slice-known3 .given),
-            (
-              search (needs, known .before .before .before .before .before .targets2 .given),
-              (
-                ap length (after-is .1 .1) ∙ length-set (l .ids) (l .done) _ ∙ l .inv .1 .1 .1 .1 .1 .0,
-                λ r after h. again k r after
-                    (turn-clean (set k) (all-bytes k) (l .at) (l .left - 1) (l .done) (previousOf (l .previous)) (l .kept) (l .records) _ (omega (arith, l .inv .1 .1 .0, l .inv .1 .1 .1 .0)) r after (patch known) (end known) g (omega (arith, test .if1 .left)) (l .ids) _ _ _ (omega (arith, l .inv .1 .0, l .inv .1 .1 .1 .1 .1 .0, start k .pre, head k .loop)) (after-is .0, after-is .1 .0) (after-is .1 .1) h),
-              ),
-            ),
+            ap length (after-is .1 .1) ∙ length-set (l .ids) (l .done) _ ∙ l .inv .1 .1 .1 .0,
+            λ ps here. run-turn _ ps (l .inv .1 .1 .1 .1 ps here) (omega (arith, here .patches, start k .pre)) (room k) (k .next-step .ensures .0) _ _ q _ _ (listed .list-patch .ensures .0) (omega (arith, test .if2 .left)) _ _ _ space (after-is .0, after-is .1 .0) (after-is .1 .1),
           ),
         ),
       ),
     )
 
-enum-known-fault : tie.Need-enum-known-fault Inv-loop μ-loop
-enum-known-fault c = search needs
-
-same-length-2 : tie.Need-same-length-2 Inv-loop μ-loop
-same-length-2 c = search needs
-
-returns-2 : tie.Need-returns-2 Inv-loop μ-loop
-returns-2 c =
-    let k = c .before .before .before .before .before .before in
-    let l = head k .loop in
-    let bound = c .before .fault .given in
-    again k _ _ (patch-refused (set k) (l .at) (l .records) _ (k .list-patch .result) (k .list-patch .ensures) (bound .0 .0) (bound .1) (l .left - 1) (l .done) (take (l .done) (l .ids)) (previousOf (l .previous)) (l .kept) (l .records) _ _)
-
 same-length-3 : tie.Need-same-length-3 Inv-loop μ-loop
 same-length-3 c = search needs
 
 returns-3 : tie.Need-returns-3 Inv-loop μ-loop
-returns-3 c =
-    let l = c .before .loop in
-    let a = c .before .before .before .before .args in
-    let none : 0 ≡ l .left = omega arith in
-    l .inv .1 .1 .1 .1 .1 .1 _ _
-    (subst (λ (m : ℕ). ReadListedAs (l .done) (take (l .done) (l .ids)) (previousOf (l .previous)) (l .kept) (l .records) (listed.Set (l .kept)) (l .records) (ended (many m (readPatch v1) (drop (l .at) (a .set .now))))) none
-    (none-left (a .set .now) (l .at) (l .done) (take (l .done) (l .ids)) (previousOf (l .previous)) (l .kept) (l .records)))
+returns-3 c = λ ps here. run-end _ ps (c .before .before .loop .inv .1 .1 .1 .1 ps here) (c .if1 .left)
 
 pub list-patches-spec : {M : Type 1} → statement M
 list-patches-spec =
@@ -166,19 +154,18 @@ list-patches-spec =
     Inv-loop
     μ-loop
     loop-holds
-    slice-aggregate-list-patch
-    list-patch-requires
-    enum-known-patch
+    next-step-requires
+    enum-known-head
     same-length
     returns
+    slice-aggregate-list-patch
+    list-patch-requires
+    same-length-2
+    returns-2
     slice-aggregate-insert-after
     insert-after-requires
-    sub-left
     add-done
     loop-less
     loop-again
-    enum-known-fault
-    same-length-2
-    returns-2
     same-length-3
     returns-3)

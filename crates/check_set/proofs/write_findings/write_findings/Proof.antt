@@ -4,6 +4,7 @@ use mathlib.Core.Path.{_≡_, ap, _∙_}
 use mathlib.Core.List.{_++_}
 use native.Mathlib.Omega.{arith}
 use lib.ListN.{length, take, drop, length-take}
+use Rattle.spec_checks.specs.Answer.{recordLength}
 use borrow.Author.Needs.{needs}
 use Rattle.check_set.proofs.write_findings.write_findings.Statement.{statement}
 use Rattle.check_set.proofs.write_findings.write_findings.Tie as tie
@@ -39,12 +40,12 @@ returns c =
     let inner = outer .before in
     let a = inner .before .before .before .args in
     let w = outer .fitting2 .result in
-    let all : 3 * w - 0 ≡ 3 * w = omega arith in
-    let size : length (take (3 * w) (a .records .now)) ≡ 3 * w = omega (arith, length-take (3 * w) (a .records .now), outer .fitting2 .ensures) in (
-      outer .fitting2 .ensures ∙ ap (λ (n : ℕ). min (length (a .records .now) / 3) n) (inner .fitting .ensures),
+    let all : recordLength * w - 0 ≡ recordLength * w = omega arith in
+    let size : length (take (recordLength * w) (a .records .now)) ≡ recordLength * w = omega (arith, length-take (recordLength * w) (a .records .now), outer .fitting2 .ensures) in (
+      outer .fitting2 .ensures ∙ ap (λ (n : ℕ). min (length (a .records .now) / recordLength) n) (inner .fitting .ensures),
       call .copy-front .ensures
           ∙ ap (λ (n : ℕ). take n (a .records .now) ++ drop (length (take n (a .records .now))) (a .out .now)) all
-          ∙ ap (λ (n : ℕ). take (3 * w) (a .records .now) ++ drop n (a .out .now)) size,
+          ∙ ap (λ (n : ℕ). take (recordLength * w) (a .records .now) ++ drop n (a .out .now)) size,
     )
 
 pub write-findings-spec : {M : Type 1} → statement M
