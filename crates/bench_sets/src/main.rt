@@ -3,7 +3,7 @@
 use bytes_decimal::ReadU64;
 use check_quick::quick_set;
 use check_quick::quick_set::QuickCheck;
-use check_set::check_set;
+use check_set::check_set as set_check;
 use check_set::check_set::PatchSetCheck;
 use libc::STDIN_FILENO;
 use libc::STDOUT_FILENO;
@@ -59,7 +59,7 @@ fn quick_check_often(set: &mut [u8], times: u64) -> u64 {
 
 // The number of findings, or the refusal's number.
 fn check(set: &[u8], findings: &mut [u64]) -> u64 {
-    match check_set::check(set, findings) {
+    match set_check::check(set, findings) {
         PatchSetCheck::Checked {
             place: _,
             logical,

@@ -3,6 +3,7 @@ use crate::setup_lines;
 use bytes_decimal::Printed;
 use bytes_hex::Decoded;
 use check_set::check_set;
+use check_set::list_set::FindingsListed;
 use patch_part_writer::written::Written;
 use script_calls::calls;
 use script_calls::state::ReplayState;
@@ -40,7 +41,7 @@ pub enum SetUse {
 fn print_checked(set: &[u8], out: &mut [u8]) -> Printed
     ensures { λ r. ⌜ Prints (now (out .entry)) (Next 0) (checkLines (readSet v1 (now (set .entry)))) (now (out .exit)) r ⌝ }
 {
-    let mut records = [0u64; 945];
+    let mut records = [0u64; FindingsListed::NUMBERS];
     let answer = check_set::check(set, &mut records);
     let start = Printed::Next(0);
     script_checks::print_check(out, start, answer, &records)
