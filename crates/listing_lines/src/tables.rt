@@ -27,9 +27,9 @@ fn row_width(kind: RowKind) -> usize
     ensures { λ r. ⌜ r ≡ widthOf kind ⌝ }
 {
     match kind {
-        RowKind::Binding => LocalProjectionState::BINDING_WIDTH,
-        RowKind::Availability => LocalProjectionState::AVAILABILITY_WIDTH,
-        RowKind::Entry => LocalProjectionState::ENTRY_WIDTH,
+        RowKind::Binding => panel_rows::BINDING_WIDTH,
+        RowKind::Availability => panel_rows::AVAILABILITY_WIDTH,
+        RowKind::Entry => panel_rows::ENTRY_WIDTH,
     }
 }
 

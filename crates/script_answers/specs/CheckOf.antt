@@ -7,7 +7,7 @@ use Rattle.spec_lists.specs.Bytes.{Bytes}
 use Rattle.spec_patch.specs.Edition.{v1}
 use Rattle.spec_patch.specs.Read.{readSet}
 use Rattle.spec_checks.specs.Finding.{Finding}
-use Rattle.check_set.specs.SetListed.{tableLength}
+use Rattle.check_set.specs.Listed.{tableLength}
 use Rattle.check_set.specs.CheckAnswers.{checkAnswer, checkNumbers}
 use Rattle.check_set.specs.declared.check_set.PatchSetCheck.{PatchSetCheck}
 

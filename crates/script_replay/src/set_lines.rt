@@ -21,7 +21,7 @@ ghost use Rattle.script_parser.specs.Meaning.{setFrom, withSetOf};
 ghost use Rattle.script_calls.specs.ReplayHolds.{ReplayHolds, Stepped};
 
 // Room for the record of every finding that a check can list.
-const RECORD_NUMBERS: usize = 945;
+const RECORD_NUMBERS: usize = check_set::list_set::FindingsListed::NUMBERS;
 
 // The longest set that a line can spell.
 const SET_BYTES: usize = 65536;

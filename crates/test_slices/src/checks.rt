@@ -8,7 +8,7 @@ use check_set::check_set::PatchSetCheck;
 use libc::STDOUT_FILENO;
 
 // The longest slice that is lent.
-const NUMBERS: usize = 945;
+const NUMBERS: usize = check_set::list_set::FindingsListed::NUMBERS;
 
 fn show(number: u64) {
     io::print_decimal(STDOUT_FILENO, number);

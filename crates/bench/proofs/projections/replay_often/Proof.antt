@@ -3,8 +3,8 @@ use mathlib.Core.Path.{_≡_}
 use lib.ListN.{length}
 use borrow.Author.Needs.{needs}
 use Rattle.panel_rows.specs.Rows.{bindingBytes, availabilityBytes, entryBytes}
-use Rattle.bench_sessions.proofs.projections.replay_often.Statement.{statement}
-use Rattle.bench_sessions.proofs.projections.replay_often.Tie as tie
+use Rattle.bench.proofs.projections.replay_often.Statement.{statement}
+use Rattle.bench.proofs.projections.replay_often.Tie as tie
 
 abbrev Inv-loop : tie.InvT-loop
 Inv-loop fill set times bindings₀ availability₀ entries₀ counts₀ sum₀ left₀ bindings availability entries counts sum left =
