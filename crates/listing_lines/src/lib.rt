@@ -3,54 +3,20 @@ pub mod tables;
 
 ghost use mathlib.Core.Path.{_≡_};
 ghost use mathlib.Core.List.{[], _∷_};
-ghost use mathlib.Core.Option.{some};
-ghost use Prim.Native.Nat.{ℕ, min};
-ghost use lib.ListN.{take, drop};
+ghost use Prim.Native.Nat.{min};
+ghost use lib.ListN.{take};
 ghost use Rattle.spec_projection.specs.Projection.{Binding, NodeAvailability, Entry};
 ghost use Rattle.spec_projection.specs.Valid.{FitsBinding, FitsNodeAvailability, FitsEntry};
 ghost use Rattle.spec_decimal.specs.Decimal.{decimal};
 ghost use Rattle.spec_listing.specs.Listing.{fields, bindingLine, availabilityLine, entryLine};
-ghost use Rattle.bytes_wire.specs.Read.{firstNumber};
 ghost use Rattle.bytes_printer.specs.Prints.{field, Prints};
 ghost use Rattle.panel_rows.specs.Rows.{bindingRow, availabilityRow, entryRow};
 ghost use Rattle.listing_lines.specs.LookupFields.{lookupFields};
 ghost use Rattle.listing_lines.specs.RowKinds.{Element, Fits, rowOf, lineOf};
 use bytes_printer::Printed;
-use bytes_wire::ReadU8;
-use bytes_wire::ReadU32;
-use bytes_wire::ReadU64;
+use panel_rows::fields as row_fields;
 use panel_rows::values::ValueLookup;
 use projection_patch::patch::ProjectionPatchValue;
-
-// The number of eight bytes that stands in a row from index at on, or 0 where the row is too short.
-fn long_number(row: &[u8], at: usize) -> u64
-    ensures { λ r. ⌜ ((x : ℕ) → firstNumber 8 (drop at (now (row .entry))) ≡ some x → r ≡ x) ⌝ }
-{
-    match bytes_wire::read_u64_at(row, at) {
-        ReadU64::Read(x) => x,
-        ReadU64::Short => 0,
-    }
-}
-
-// The same of four bytes.
-fn short_number(row: &[u8], at: usize) -> u64
-    ensures { λ r. ⌜ ((x : ℕ) → firstNumber 4 (drop at (now (row .entry))) ≡ some x → r ≡ x) ⌝ }
-{
-    match bytes_wire::read_u32_at(row, at) {
-        ReadU32::Read(x) => x as u64,
-        ReadU32::Short => 0,
-    }
-}
-
-// The same of one byte.
-fn byte_number(row: &[u8], at: usize) -> u64
-    ensures { λ r. ⌜ ((x : ℕ) → firstNumber 1 (drop at (now (row .entry))) ≡ some x → r ≡ x) ⌝ }
-{
-    match bytes_wire::read_u8_at(row, at) {
-        ReadU8::Read(x) => x as u64,
-        ReadU8::Short => 0,
-    }
-}
 
 // A field of one letter.
 fn print_letter(out: &mut [u8], at: Printed, letter: u8) -> Printed
@@ -130,9 +96,9 @@ fn print_binding(out: &mut [u8], at: Printed, row: &[u8]) -> Printed
     ensures { λ r. ⌜ ((b : Binding) → FitsBinding b → now (row .entry) ≡ bindingRow b
         → Prints (now (out .entry)) at (bindingLine b) (now (out .exit)) r) ⌝ }
 {
-    let node = long_number(row, 0);
-    let slot = short_number(row, 8);
-    let value = panel_rows::values::stored_value(row, 12);
+    let node = row_fields::binding_node(row);
+    let slot = row_fields::binding_slot(row);
+    let value = panel_rows::values::stored_value(row, panel_rows::BINDING_VALUE);
     print_record(out, at, 66, node, slot, value)
 }
 
@@ -140,11 +106,11 @@ fn print_availability(out: &mut [u8], at: Printed, row: &[u8]) -> Printed
     ensures { λ r. ⌜ ((a : NodeAvailability) → FitsNodeAvailability a → now (row .entry) ≡ availabilityRow a
         → Prints (now (out .entry)) at (availabilityLine a) (now (out .exit)) r) ⌝ }
 {
-    let node = long_number(row, 0);
-    let availability = byte_number(row, 8);
+    let node = row_fields::availability_node(row);
+    let availability = row_fields::availability_byte(row);
     let start = bytes_printer::print_byte(out, at, 65);
     let first = bytes_printer::print_field_u64(out, start, node);
-    let second = bytes_printer::print_field_u64(out, first, availability);
+    let second = bytes_printer::print_field_u64(out, first, availability as u64);
     bytes_printer::print_newline(out, second)
 }
 
@@ -152,9 +118,9 @@ fn print_entry(out: &mut [u8], at: Printed, row: &[u8]) -> Printed
     ensures { λ r. ⌜ ((e : Entry) → FitsEntry e → now (row .entry) ≡ entryRow e
         → Prints (now (out .entry)) at (entryLine e) (now (out .exit)) r) ⌝ }
 {
-    let collection = long_number(row, 0);
-    let key = long_number(row, 8);
-    let value = panel_rows::values::stored_value(row, 16);
+    let collection = row_fields::entry_collection(row);
+    let key = row_fields::entry_key(row);
+    let value = panel_rows::values::stored_value(row, panel_rows::ENTRY_VALUE);
     print_record(out, at, 67, collection, key, value)
 }
 
