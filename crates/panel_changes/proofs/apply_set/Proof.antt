@@ -1,0 +1,83 @@
+-- `panel_changes::apply_set` meets its contract: the arguments are tested first, then the heading, and then the operations are applied.
+use mathlib.Core.Path.{_≡_, refl, sym, _∙_}
+use mathlib.Core.Bool.{true, _&&_, false≢true}
+use lib.ListN.{length}
+use Rattle.spec_lists.specs.BytesLaws.{bytes-of}
+use Rattle.spec_patch.specs.Edition.{v1}
+use Rattle.spec_patch.specs.SetLaws.{was-encoded}
+use Rattle.panel_changes.specs.SetChanges.{tablesFit, countsFit}
+use Rattle.panel_changes.specs.SetChangesLaws.{fit-lengths, lengths-fit, stored-lengths, stored-counts, fit-arguments, opened-short, opened-at, never-unopened}
+use borrow.Author.Needs.{needs}
+use Rattle.panel_changes.proofs.apply_set.Statement.{statement}
+use Rattle.panel_changes.proofs.apply_set.Tie as tie
+
+arguments-fit-requires : tie.Need-arguments-fit-requires
+arguments-fit-requires c κs = search needs
+
+open-set-requires : tie.Need-open-set-requires
+open-set-requires c κs = search needs
+
+enum-known-cursor : tie.Need-enum-known-cursor
+enum-known-cursor c = search needs
+
+apply-from-requires : tie.Need-apply-from-requires
+apply-from-requires c κs =
+    let a = c .before .before .before .before .before .before .before .before .before .before .before .before .before .before .before .before .args in
+    let fit = fit-arguments (tablesFit (length (a .from-bindings .now)) (length (a .from-availability .now)) (length (a .from-entries .now))) (tablesFit (length (a .to-bindings .now)) (length (a .to-availability .now)) (length (a .to-entries .now))) (countsFit (a .counts)) (c .before .before .before .before .before .before .before .before .arguments-fit .ensures) (c .before .before .before .before .before .before .before .if1 .taken) in
+    let bound = c .before .before .before .before .cursor .given in
+    (opened-short (a .set .now) (bound .0 .0) (sym (c .before .before .before .before .before .before .open-set .ensures) ∙ bound .1), (fit-lengths (a .from-bindings .now) (a .from-availability .now) (a .from-entries .now) (fit .0) .availability, fit-lengths (a .to-bindings .now) (a .to-availability .now) (a .to-entries .now) (fit .1 .0)))
+
+enum-known-fault : tie.Need-enum-known-fault
+enum-known-fault c = search needs
+
+same-length : tie.Need-same-length
+same-length c = search needs
+
+same-length-2 : tie.Need-same-length-2
+same-length-2 c = search needs
+
+same-length-3 : tie.Need-same-length-3
+same-length-3 c = search needs
+
+returns : tie.Need-returns
+returns c =
+    let a = c .before .before .before .before .before .before .before .before .before .before .before .before .before .before .before .before .before .before .before .before .before .before .before .args in
+    let set = a .set .now in
+    let all = bytes-of set (λ j. c .before .before .before .before .before .before .before .before .before .before .before .before .before .before .before .before .before .before .before .shared-slice-known4 .given j .fits) in
+    let bound = c .before .before .before .before .before .before .before .before .before .before .before .cursor .given in
+    let call = c .before .before .before .before .before .before .apply-from in
+    (λ p ps st readable long. call .ensures .0 p ps st (was-encoded v1 set ps all readable .1 .patches) (opened-at set all ps readable (bound .0 .0) (sym (c .before .before .before .before .before .before .before .before .before .before .before .before .before .open-set .ensures) ∙ bound .1)), call .ensures .1)
+
+returns-2 : tie.Need-returns-2
+returns-2 c =
+    let a = c .before .before .before .before .before .before .before .before .before .before .before .before .before .args in
+    let set = a .set .now in
+    let all = bytes-of set (λ j. c .before .before .before .before .before .before .before .before .before .shared-slice-known4 .given j .fits) in
+    let bound = c .before .fault .given in
+    (λ p ps st readable long. never-unopened set all ps readable (bound .0 .0) (sym (c .before .before .before .open-set .ensures) ∙ bound .1), (refl, (refl, refl)))
+
+returns-3 : tie.Need-returns-3
+returns-3 c =
+    let a = c .before .before .before .before .before .before .before .before .before .args in (
+      λ p ps st readable long.
+          let whole : (tablesFit (length (a .from-bindings .now)) (length (a .from-availability .now)) (length (a .from-entries .now)) && (tablesFit (length (a .to-bindings .now)) (length (a .to-availability .now)) (length (a .to-entries .now)) && countsFit (a .counts))) ≡ true =
+          rw (lengths-fit (a .from-bindings .now) (a .from-availability .now) (a .from-entries .now) (stored-lengths st), lengths-fit (a .to-bindings .now) (a .to-availability .now) (a .to-entries .now) long, stored-counts st) in
+          false≢true (sym (c .if1 .left) ∙ c .before .arguments-fit .ensures ∙ whole),
+      (refl, (refl, refl)),
+    )
+
+pub apply-set-spec : {M : Type 1} → statement M
+apply-set-spec =
+    tie.close
+    (tie.spec
+    arguments-fit-requires
+    open-set-requires
+    enum-known-cursor
+    apply-from-requires
+    enum-known-fault
+    same-length
+    same-length-2
+    same-length-3
+    returns
+    returns-2
+    returns-3)

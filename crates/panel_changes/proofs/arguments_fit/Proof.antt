@@ -1,0 +1,28 @@
+-- `panel_changes::arguments_fit` meets its contract: one test after the other.
+use mathlib.Core.Path.{sym, _∙_}
+use borrow.Author.Needs.{needs}
+use Rattle.panel_changes.proofs.arguments_fit.Statement.{statement}
+use Rattle.panel_changes.proofs.arguments_fit.Tie as tie
+
+tables-fit-requires : tie.Need-tables-fit-requires
+tables-fit-requires c κs = search needs
+
+tables-fit-requires-2 : tie.Need-tables-fit-requires-2
+tables-fit-requires-2 c κs = search needs
+
+counts-fit-requires : tie.Need-counts-fit-requires
+counts-fit-requires c κs = search needs
+
+returns : tie.Need-returns
+returns c = c .counts-fit .ensures ∙ rw (sym (c .before .before .before .before .tables-fit .ensures) ∙ c .before .before .before .if1 .taken, sym (c .before .before .tables-fit2 .ensures) ∙ c .before .if2 .taken)
+
+returns-2 : tie.Need-returns-2
+returns-2 c = rw (sym (c .before .before .before .tables-fit .ensures) ∙ c .before .before .if1 .taken, sym (c .before .tables-fit2 .ensures) ∙ c .if2 .left)
+
+returns-3 : tie.Need-returns-3
+returns-3 c = rw (sym (c .before .tables-fit .ensures) ∙ c .if1 .left)
+
+pub arguments-fit-spec : {M : Type 1} → statement M
+arguments-fit-spec =
+    tie.close
+    (tie.spec tables-fit-requires tables-fit-requires-2 counts-fit-requires returns returns-2 returns-3)

@@ -1,0 +1,83 @@
+-- `panel_changes::write_tables` meets its contract: what is written stores what the plan stands for, and more rows than places are refused first.
+use Prim.Native.Nat.{ℕ, _≤_}
+use mathlib.Core.Path.{_≡_, refl, sym, ap, _∙_, subst}
+use mathlib.Core.Bool.{Bool, true, false, false≢true}
+use mathlib.Core.List.{List}
+use native.Mathlib.Omega.{arith}
+use borrow.Author.Tests.{eq-eqb}
+use lib.ListN.{length}
+use Rattle.spec_lists.specs.Lists.{if_then_else_}
+use Rattle.spec_patch.specs.Sizes.{projectionBindings, projectionAvailabilities, projectionEntries}
+use Rattle.spec_patch.specs.Edition.{v1}
+use Rattle.panel_rows.specs.Rows.{availabilityRow, availabilityWidth, bindingValueAt, entryValueAt}
+use Rattle.local_projection_state.specs.Stores.{Stored}
+use Rattle.panel_plan.specs.Plan.{resolution}
+use Rattle.panel_plan.specs.SetValues.{valueIn}
+use Rattle.panel_changes.specs.SetChanges.{countsFit}
+use Rattle.panel_changes.specs.SetChangesLaws.{fit-few, can-write, written-stored}
+use borrow.Author.Needs.{needs}
+use Rattle.panel_changes.proofs.write_tables.Statement.{statement}
+use Rattle.panel_changes.proofs.write_tables.Tie as tie
+
+counts-fit-requires : tie.Need-counts-fit-requires
+counts-fit-requires c κs = search needs
+
+write-bindings-requires : tie.Need-write-bindings-requires
+write-bindings-requires c κs = search needs
+
+write-availabilities-requires : tie.Need-write-availabilities-requires
+write-availabilities-requires c κs = search needs
+
+write-entries-requires : tie.Need-write-entries-requires
+write-entries-requires c κs = search needs
+
+same-length : tie.Need-same-length
+same-length c = search needs
+
+same-length-2 : tie.Need-same-length-2
+same-length-2 c = search needs
+
+same-length-3 : tie.Need-same-length-3
+same-length-3 c = search needs
+
+picked : (r : Bool) (x y : List ℕ) → r ≡ true → (if r then x else y) ≡ x
+picked r x y e = rw e
+
+returns : tie.Need-returns
+returns c =
+    let bindings = c .before .before .before .before .before .before .before .before .before .before .write-bindings in
+    let availability = c .before .before .before .before .before .before .write-availabilities in
+    let entries = c .before .before .write-entries in
+    let start = c .before .before .before .before .before .before .before .before .before .before .before .before .before .before .before .before .before .before .before .before .before .before .before in
+    let a = start .args in
+    let told : true ≡ countsFit (a .counts) = sym (c .before .before .before .before .before .before .before .before .before .before .before .before .if1 .taken) ∙ c .before .before .before .before .before .before .before .before .before .before .before .before .before .counts-fit .ensures in
+    let few = fit-few (a .counts) (sym told) in (
+      told,
+      (
+        λ no. absurd (false≢true (sym no)),
+        λ _ p x n s st pl v.
+            written-stored (a .counts) _ _ _ (resolution p (valueIn v1 (a .set .now))) (pl .plan) x (pl .resolves) v
+            (bindings .ensures .1 .1 (bindings .ensures .0 ∙ can-write bindingValueAt projectionBindings (a .counts .bindings) (a .to-bindings .now) (few .0) (start .pre .0 .bindings)) p (pl .plan) (n .bindings) (st .bindings) (st .valid) (pl .stored .bindings) (pl .stored .valid) (pl .sourced .bindings))
+            (subst (λ l. Stored availabilityRow availabilityWidth projectionAvailabilities (a .counts .availabilities) l (pl .plan .availabilities)) (sym (availability .ensures .1 ∙ picked (availability .result) _ _ (availability .ensures .0 ∙ eq-eqb (length (a .plan-availability .now)) (length (a .to-availability .now)) (start .pre .1 ∙ sym (start .pre .0 .availability))))) (pl .stored .availabilities))
+            (entries .ensures .1 .1 (entries .ensures .0 ∙ can-write entryValueAt projectionEntries (a .counts .entries) (a .to-entries .now) (few .1) (start .pre .0 .entries)) p (pl .plan) (n .entries) (st .entries) (st .valid) (pl .stored .entries) (pl .stored .valid) (pl .sourced .entries)),
+      ),
+    )
+
+returns-2 : tie.Need-returns-2
+returns-2 c =
+    let told = sym (c .if1 .left) ∙ c .before .counts-fit .ensures in
+    (told, (λ no. (refl, (refl, refl)), λ yes. absurd (false≢true yes)))
+
+pub write-tables-spec : {M : Type 1} → statement M
+write-tables-spec =
+    tie.close
+    (tie.spec
+    counts-fit-requires
+    write-bindings-requires
+    write-availabilities-requires
+    write-entries-requires
+    same-length
+    same-length-2
+    same-length-3
+    returns
+    returns-2)

@@ -1,0 +1,2 @@
+pub mod SetChanges
+pub mod SetChangesLaws

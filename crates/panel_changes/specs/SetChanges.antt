@@ -1,0 +1,47 @@
+-- What a set makes of three tables, and what the code answers.
+use Prim.Native.Nat.{ℕ}
+use mathlib.Core.Path.{_≡_}
+use mathlib.Core.Bool.{Bool, _&&_}
+use mathlib.Core.List.{List}
+use lib.Dec.{leb, eqb}
+use lib.ListN.{length}
+use Rattle.spec_patch.specs.Sizes.{projectionBindings, projectionAvailabilities, projectionEntries}
+use Rattle.spec_projection.specs.Projection.{Projection}
+use Rattle.spec_projection.specs.Apply.{Outcome, done, stopped}
+use Rattle.panel_rows.specs.Rows.{bindingBytes, availabilityBytes, entryBytes}
+use Rattle.local_projection_state.specs.declared.ProjectionCounts.{ProjectionCounts}
+use Rattle.panel_bindings.specs.Change.{faultOf}
+use Rattle.panel_changes.specs.declared.SetChange.{SetChange}
+use Rattle.panel_changes.specs.declared.SetChange.the-variants.{Applied, Refused, Unreadable, BadTables}
+
+-- so many bytes are the lengths of the three tables
+unfoldable pub tablesFit : ℕ → ℕ → ℕ → Bool
+tablesFit b a e = eqb b bindingBytes && (eqb a availabilityBytes && eqb e entryBytes)
+
+-- each table has a place for so many rows
+unfoldable pub countsFit : ProjectionCounts → Bool
+countsFit n = leb (n .bindings) projectionBindings && (leb (n .availabilities) projectionAvailabilities && leb (n .entries) projectionEntries)
+
+pub record TableLengths (b a e : List ℕ) : Type 0 where
+  pub bindings : length b ≡ bindingBytes
+  pub availability : length a ≡ availabilityBytes
+  pub entries : length e ≡ entryBytes
+
+-- the answer is the outcome's: with these counts the tables store the next projection, or the refusal is the fault's
+abbrev pub ChangeBecame : (ProjectionCounts → Projection → Type 0) → SetChange → Outcome → Type 0
+ChangeBecame Next (Applied n) (done q) = Next n q
+ChangeBecame Next (Applied n) (stopped f) = ⊥
+ChangeBecame Next (Refused e) (done q) = ⊥
+ChangeBecame Next (Refused e) (stopped f) = faultOf e ≡ f
+ChangeBecame Next (Unreadable f) x = ⊥
+ChangeBecame Next BadTables x = ⊥
+
+-- a set that is not applied leaves the tables that it was to be written to
+abbrev pub Same : (b a e b′ a′ e′ : List ℕ) → Type 0
+Same b a e b′ a′ e′ = (b′ ≡ b) × ((a′ ≡ a) × (e′ ≡ e))
+
+abbrev pub KeptUnlessApplied : SetChange → (b a e b′ a′ e′ : List ℕ) → Type 0
+KeptUnlessApplied (Applied n) b a e b′ a′ e′ = Unit {0}
+KeptUnlessApplied (Refused f) b a e b′ a′ e′ = Same b a e b′ a′ e′
+KeptUnlessApplied (Unreadable f) b a e b′ a′ e′ = Same b a e b′ a′ e′
+KeptUnlessApplied BadTables b a e b′ a′ e′ = Same b a e b′ a′ e′

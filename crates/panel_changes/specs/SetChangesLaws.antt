@@ -1,0 +1,199 @@
+-- Tables that store a projection are as long as they should be, a plan of it starts from them, and what is written of a plan stores what the
+-- plan stands for.
+use Prim.Native.Nat.{ℕ, _+_, _*_, _≤_}
+use mathlib.Core.Path.{_≡_, refl, sym, ap, _∙_, subst}
+use mathlib.Core.Bool.{Bool, true, false, _&&_}
+use mathlib.Core.List.{List, [], _++_, append-nil, map}
+use native.Mathlib.Omega.{arith}
+use borrow.Author.Tests.{le-leb, leb-true, eq-eqb, eqb-true}
+use lib.Dec.{leb, eqb}
+use lib.ListN.{length, drop, length-map, length-replicate, drop-of-length-le}
+use Rattle.spec_lists.specs.ListLaws.{and-left, and-right}
+use Rattle.spec_patch.specs.Sizes.{setBytes, projectionBindings, projectionAvailabilities, projectionEntries}
+use Rattle.spec_lists.specs.Lists.{if_then_else_}
+use Rattle.spec_lists.specs.Bytes.{Bytes}
+use Rattle.spec_patch.specs.Patch.{Patch}
+use Rattle.spec_patch.specs.Edition.{v1}
+use Rattle.spec_patch.specs.Read.{patches, readSet}
+use Rattle.projection_patch.specs.ReadAnswers.{answer, anywhere}
+use Rattle.projection_patch.specs.declared.read_values.ProjectionPatchReadFault.the-variants.{OverCapacity}
+use Rattle.patch_sets.specs.Walk.{readHeading, encodeHeading}
+use Rattle.patch_walk.specs.Steps.{firstCursor, openAnswer, AtSteps}
+use Rattle.patch_walk.specs.StepsLaws.{opens, at-start}
+use Rattle.patch_walk.specs.declared.SetCursor.{SetCursor}
+use Rattle.patch_walk.specs.declared.SetOpening.the-variants as opening
+use Rattle.spec_projection.specs.Projection.{Projection}
+use Rattle.spec_projection.specs.Apply.{Outcome, done, stopped}
+use Rattle.spec_projection.specs.Valid.{Valid}
+use Rattle.bytes_records.specs.Moves.{zeros, overwrite}
+use Rattle.bytes_records.specs.Table.{Holds}
+use Rattle.bytes_records.specs.TableLaws.{holds-none}
+use Rattle.panel_rows.specs.Rows.{valueWidth, bindingBytes, availabilityBytes, entryBytes, bindingWidth, availabilityWidth, entryWidth, bindingRow, availabilityRow, entryRow}
+use Rattle.local_projection_state.specs.Stores.{Stored, StoredTables}
+use Rattle.local_projection_state.specs.declared.ProjectionCounts.{ProjectionCounts}
+use Rattle.panel_plan.specs.Plan.{planOf, numbered, bindingWith, entryWith}
+use Rattle.panel_plan.specs.PlanValid.{plan-valid}
+use Rattle.panel_plan.specs.PlanRows.{PlannedBindings, PlannedEntries, StoredPlan}
+use Rattle.panel_plan.specs.Resolved.{Resolution, resolved}
+use Rattle.panel_plan_steps.specs.Runs.{RunBecame, PlannedAs}
+use Rattle.panel_plan_steps.specs.declared.PlanRun.{PlanRun}
+use Rattle.panel_plan_steps.specs.declared.PlanRun.the-variants as plan
+use Rattle.panel_bindings.specs.declared.LocalProjectionApplicationError.{LocalProjectionApplicationError}
+use Rattle.projection_patch.specs.declared.read_values.ProjectionPatchReadFault.{ProjectionPatchReadFault}
+use Rattle.panel_writing.specs.Writing.{canWrite}
+use Rattle.panel_changes.specs.SetChanges.{tablesFit, countsFit, TableLengths, ChangeBecame}
+use Rattle.panel_changes.specs.declared.SetChange.{SetChange}
+use Rattle.panel_changes.specs.declared.SetChange.the-variants as change
+
+-- ---- lengths and counts
+
+pub fit-lengths : (b a e : List ℕ) → tablesFit (length b) (length a) (length e) ≡ true → TableLengths b a e
+unfolding tablesFit
+fit-lengths b a e h =
+    let one = eqb (length b) bindingBytes in
+    let two = eqb (length a) availabilityBytes in
+    let three = eqb (length e) entryBytes in
+    let rest : (two && three) ≡ true = and-right one (two && three) h in
+    record {
+      bindings = eqb-true (length b) bindingBytes (and-left one (two && three) h);
+      availability = eqb-true (length a) availabilityBytes (and-left two three rest);
+      entries = eqb-true (length e) entryBytes (and-right two three rest);
+    }
+
+pub lengths-fit : (b a e : List ℕ) → TableLengths b a e → tablesFit (length b) (length a) (length e) ≡ true
+unfolding tablesFit
+lengths-fit b a e h = rw (eq-eqb (length b) bindingBytes (h .bindings), eq-eqb (length a) availabilityBytes (h .availability), eq-eqb (length e) entryBytes (h .entries))
+
+-- zeros store no rows
+pub none-stored : {A : Type 0} (row : A → List ℕ) (width capacity : ℕ) → Stored row width capacity 0 (zeros (capacity * width)) []
+none-stored row width capacity = record { size = length-replicate {A = ℕ} (capacity * width) 0; rows = holds-none width (capacity * width) }
+
+-- new tables are zeros
+pub zeros-lengths : TableLengths (zeros bindingBytes) (zeros availabilityBytes) (zeros entryBytes)
+zeros-lengths = record {
+  bindings = length-replicate {A = ℕ} bindingBytes 0;
+  availability = length-replicate {A = ℕ} availabilityBytes 0;
+  entries = length-replicate {A = ℕ} entryBytes 0;
+}
+
+pub few-fit : (n : ProjectionCounts) → n .bindings ≤ projectionBindings → n .availabilities ≤ projectionAvailabilities → n .entries ≤ projectionEntries → countsFit n ≡ true
+unfolding countsFit
+few-fit n b a e = rw (le-leb (n .bindings) projectionBindings b, le-leb (n .availabilities) projectionAvailabilities a, le-leb (n .entries) projectionEntries e)
+
+pub fit-few : (n : ProjectionCounts) → countsFit n ≡ true → (n .bindings ≤ projectionBindings) × (n .entries ≤ projectionEntries)
+unfolding countsFit
+fit-few n h =
+    let one = leb (n .bindings) projectionBindings in
+    let two = leb (n .availabilities) projectionAvailabilities in
+    let three = leb (n .entries) projectionEntries in
+    (leb-true (n .bindings) projectionBindings (and-left one (two && three) h), leb-true (n .entries) projectionEntries (and-right two three (and-right one (two && three) h)))
+
+pub can-write : (key capacity count : ℕ) (to : List ℕ) → count ≤ capacity → length to ≡ capacity * (key + valueWidth) → canWrite key capacity count to ≡ true
+unfolding canWrite
+can-write key capacity count to few long = rw (le-leb count capacity few, eq-eqb (length to) (capacity * (key + valueWidth)) long)
+
+-- a count is the length of its list
+counted : {A : Type 0} {row : A → List ℕ} {width capacity count : ℕ} {table : List ℕ} (l : List A) → Stored row width capacity count table l → length l ≡ count
+counted {row = row} l s = sym (length-map l row) ∙ s .rows .counted
+
+module _ {n : ProjectionCounts} {b a e : List ℕ} {p : Projection} where
+  pub stored-lengths : StoredTables n b a e p → TableLengths b a e
+  stored-lengths s = record { bindings = s .bindings .size; availability = s .availabilities .size; entries = s .entries .size }
+
+  pub stored-counts : StoredTables n b a e p → countsFit n ≡ true
+  stored-counts s =
+      few-fit n
+      (omega (arith, counted (p .bindings) (s .bindings), s .valid .fewBindings))
+      (omega (arith, counted (p .availabilities) (s .availabilities), s .valid .fewAvailabilities))
+      (omega (arith, counted (p .entries) (s .entries), s .valid .fewEntries))
+
+  pub planned-counts : StoredPlan n b a e p → countsFit n ≡ true
+  planned-counts s =
+      few-fit n
+      (omega (arith, counted (p .bindings) (s .bindings), s .valid .fewBindings))
+      (omega (arith, counted (p .availabilities) (s .availabilities), s .valid .fewAvailabilities))
+      (omega (arith, counted (p .entries) (s .entries), s .valid .fewEntries))
+
+-- ---- the plan that a set starts from
+
+-- a copy over a table as long is the other table
+pub whole-copy : (s t : List ℕ) → length s ≡ length t → overwrite s t ≡ s
+whole-copy s t e = let none : length t ≤ length s = omega arith in ap (λ (l : List ℕ). s ++ l) (drop-of-length-le t none) ∙ append-nil s
+
+pub plan-starts : {n : ProjectionCounts} {b a e b′ a′ e′ : List ℕ} {p : Projection} → StoredTables n b a e p → a′ ≡ a → PlannedBindings (n .bindings) b′ (numbered bindingWith 0 (p .bindings)) → PlannedEntries (n .entries) e′ (numbered entryWith 0 (p .entries)) → StoredPlan n b′ a′ e′ (planOf p)
+unfolding planOf
+plan-starts {n = n} {p = p} s same bs es = record { bindings = bs; availabilities = subst (λ l. Stored availabilityRow availabilityWidth projectionAvailabilities (n .availabilities) l (p .availabilities)) (sym same) (s .availabilities); entries = es; valid = plan-valid p (s .valid) }
+
+-- ---- what is written of a plan
+
+-- availabilities are not resolved
+same-availabilities : (r : Resolution) (q : Projection) → resolved r q .availabilities ≡ q .availabilities
+unfolding resolved
+same-availabilities r q = refl
+
+pub written-stored : (n : ProjectionCounts) (b a e : List ℕ) (r : Resolution) (q x : Projection) → resolved r q ≡ x → Valid x
+    → Stored bindingRow bindingWidth projectionBindings (n .bindings) b (resolved r q .bindings) → Stored availabilityRow availabilityWidth projectionAvailabilities (n .availabilities) a (q .availabilities)
+    → Stored entryRow entryWidth projectionEntries (n .entries) e (resolved r q .entries) → StoredTables n b a e x
+written-stored n b a e r q x is v bs xs es =
+    subst (StoredTables n b a e) is (
+    record {
+      bindings = bs;
+      availabilities = subst (λ l. Stored availabilityRow availabilityWidth projectionAvailabilities (n .availabilities) a l) (sym (same-availabilities r q)) xs;
+      entries = es;
+      valid = subst Valid (sym is) v;
+    }
+    )
+
+-- ---- the arguments, and the opening of a set
+
+pub fit-arguments : (x y z : Bool) {r : Bool} → r ≡ (x && (y && z)) → r ≡ true → (x ≡ true) × ((y ≡ true) × (z ≡ true))
+fit-arguments x y z e t =
+    let h : (x && (y && z)) ≡ true = sym e ∙ t in
+    let rest = and-right x (y && z) h in
+    (and-left x (y && z) h, (and-left y z rest, and-right y z rest))
+
+-- a set that is opened is not too long
+pub opened-short : (set : List ℕ) (c : SetCursor) → openAnswer set ≡ opening.At c → length set ≤ setBytes
+opened-short set c e = go (leb (length set) setBytes) refl e
+  where
+    go : (t : Bool) → leb (length set) setBytes ≡ t → (if t then answer (anywhere (λ n. n)) (λ count from. opening.At (firstCursor count from)) opening.Refused (length set) (readHeading set) else opening.Refused OverCapacity) ≡ opening.At c → length set ≤ setBytes
+    go true is e = leb-true (length set) setBytes is
+    go false is e = absurd (let z : _≡_ {A = ℕ} 0 1 = cc e in omega arith)
+
+-- a readable set is opened before its first patch
+module _ (set : List ℕ) (all : Bytes set) (ps : List Patch) (readable : readSet v1 set ≡ patches ps) where
+  pub opened-at : (c : SetCursor) → openAnswer set ≡ opening.At c → AtSteps v1 set c [] ps
+  opened-at c e =
+      let same : firstCursor (length ps) (length (encodeHeading (length ps))) ≡ c = cc (sym (opens set all ps readable) ∙ e) in
+      subst (λ d. AtSteps v1 set d [] ps) same (at-start set all ps readable)
+
+  pub never-unopened : (f : ProjectionPatchReadFault) → openAnswer set ≡ opening.Refused f → ⊥
+  never-unopened f e = let z : _≡_ {A = ℕ} 0 1 = cc (sym (opens set all ps readable) ∙ e) in omega arith
+
+-- ---- what came of a run
+
+module _ (P Next : ProjectionCounts → Projection → Type 0) {r : PlanRun} (x : Outcome) (h : RunBecame P r x) where
+  pub run-planned : (n : ProjectionCounts) → r ≡ plan.Planned n → ((q : Projection) → x ≡ done q → P n q → Next n q) → ChangeBecame Next (change.Applied n) x
+  run-planned n is made = go x refl (subst (λ z. RunBecame P z x) is h)
+    where
+      go : (y : Outcome) → x ≡ y → RunBecame P (plan.Planned n) y → ChangeBecame Next (change.Applied n) y
+      go (done q) e k = made q e k
+      go (stopped f) e k = k
+
+  pub run-refused : (f : LocalProjectionApplicationError) → r ≡ plan.Refused f → ChangeBecame Next (change.Refused f) x
+  run-refused f is = go x (subst (λ z. RunBecame P z x) is h)
+    where
+      go : (y : Outcome) → RunBecame P (plan.Refused f) y → ChangeBecame Next (change.Refused f) y
+      go (done q) k = k
+      go (stopped g) k = k
+
+  pub run-reads : (f : ProjectionPatchReadFault) → r ≡ plan.Unreadable f → ⊥
+  run-reads f is = subst (λ z. RunBecame P z x) is h
+
+  -- a run that ended has left a plan
+  pub run-left : (n : ProjectionCounts) → r ≡ plan.Planned n → (q : Projection) × P n q
+  run-left n is = go x (subst (λ z. RunBecame P z x) is h)
+    where
+      go : (y : Outcome) → RunBecame P (plan.Planned n) y → (q : Projection) × P n q
+      go (done q) k = (q, k)
+      go (stopped f) k = absurd k

@@ -1,0 +1,243 @@
+// A set's operations, applied from the tables before it to those after it: planned on ids first, and then each row is written once.
+// After crates/prom-ui/src/local_projection_state.rs.
+ghost use mathlib.Core.Path.{_≡_};
+ghost use mathlib.Core.Bool.{true, false, _&&_};
+ghost use mathlib.Core.List.{List, []};
+ghost use Prim.Native.Nat.{ℕ, _≤_};
+ghost use lib.ListN.{length};
+ghost use Rattle.spec_lists.specs.Lists.{All};
+ghost use Rattle.spec_patch.specs.Sizes.{setBytes};
+ghost use Rattle.spec_patch.specs.Fits.{FitsPatch};
+ghost use Rattle.spec_patch.specs.Patch.{Patch};
+ghost use Rattle.spec_patch.specs.Edition.{v1};
+ghost use Rattle.spec_patch.specs.Read.{patches, readSet};
+ghost use Rattle.spec_projection.specs.Projection.{Projection};
+ghost use Rattle.spec_projection.specs.Apply.{replaySteps, applySteps};
+ghost use Rattle.spec_projection.specs.Valid.{Valid};
+ghost use Rattle.patch_walk.specs.Steps.{AtSteps};
+ghost use Rattle.panel_rows.specs.Rows.{bindingBytes, availabilityBytes, entryBytes};
+ghost use Rattle.local_projection_state.specs.Stores.{StoredTables};
+ghost use Rattle.panel_plan.specs.PlanRows.{PlannedBindings, PlannedEntries};
+ghost use Rattle.panel_plan_steps.specs.Runs.{RunBecame, PlannedAs};
+ghost use Rattle.panel_changes.specs.SetChanges.{tablesFit, countsFit, TableLengths, ChangeBecame, KeptUnlessApplied};
+use local_projection_state::LocalProjectionState;
+use local_projection_state::ProjectionCounts;
+use panel_bindings::LocalProjectionApplicationError;
+use panel_plan::fill;
+use panel_plan_steps::PlanRun;
+use patch_walk::SetCursor;
+use patch_walk::SetOpening;
+use projection_patch::read_values::ProjectionPatchReadFault;
+
+// How many rows each new table has, or why the set is not applied: BadTables is a table of another length, or a count over its
+// capacity.
+pub enum SetChange {
+    Applied(ProjectionCounts),
+    Refused(LocalProjectionApplicationError),
+    Unreadable(ProjectionPatchReadFault),
+    BadTables,
+}
+
+// Whether so many bytes are the lengths of the three tables.
+fn tables_fit(bindings: usize, availability: usize, entries: usize) -> bool
+    ensures { λ r. ⌜ r ≡ tablesFit bindings availability entries ⌝ }
+{
+    if bindings != LocalProjectionState::BINDING_BYTES {
+        return false;
+    }
+    if availability != LocalProjectionState::AVAILABILITY_BYTES {
+        return false;
+    }
+    entries == LocalProjectionState::ENTRY_BYTES
+}
+
+// Whether each table has a place for so many rows.
+fn counts_fit(counts: ProjectionCounts) -> bool
+    ensures { λ r. ⌜ r ≡ countsFit counts ⌝ }
+{
+    if LocalProjectionState::BINDINGS < counts.bindings {
+        return false;
+    }
+    if LocalProjectionState::AVAILABILITIES < counts.availabilities {
+        return false;
+    }
+    counts.entries <= LocalProjectionState::ENTRIES
+}
+
+// Whether the lengths of the tables that are read and of those that are written fit, and the counts.
+fn arguments_fit(
+    from_bindings: usize,
+    from_availability: usize,
+    from_entries: usize,
+    to_bindings: usize,
+    to_availability: usize,
+    to_entries: usize,
+    counts: ProjectionCounts,
+) -> bool
+    ensures { λ r. ⌜ r ≡ (tablesFit «from_bindings» «from_availability» «from_entries» && (tablesFit «to_bindings» «to_availability» «to_entries» && countsFit counts)) ⌝ }
+{
+    if tables_fit(from_bindings, from_availability, from_entries) {
+        if tables_fit(to_bindings, to_availability, to_entries) {
+            return counts_fit(counts);
+        }
+    }
+    false
+}
+
+// Writes the tables that a plan stands for, unless it has more rows than they have places.
+fn write_tables(
+    plan_bindings: &[u8],
+    plan_availability: &[u8],
+    plan_entries: &[u8],
+    counts: ProjectionCounts,
+    from_bindings: &[u8],
+    from_entries: &[u8],
+    set: &[u8],
+    to_bindings: &mut [u8],
+    to_availability: &mut [u8],
+    to_entries: &mut [u8],
+) -> bool
+    requires { ⌜ TableLengths (now «to_bindings») (now «to_availability») (now «to_entries») × (length (now «plan_availability») ≡ availabilityBytes) ⌝ }
+    ensures told { λ r. ⌜ r ≡ countsFit counts ⌝ }
+    ensures kept { λ r. ⌜ (r ≡ false → (now («to_bindings» .exit) ≡ now («to_bindings» .entry)) × ((now («to_availability» .exit) ≡ now («to_availability» .entry)) × (now («to_entries» .exit) ≡ now («to_entries» .entry)))) ⌝ }
+    ensures stored { λ r. ⌜ (r ≡ true → (p x : Projection) (n : ProjectionCounts) (a : List ℕ) → StoredTables n (now («from_bindings» .entry)) a (now («from_entries» .entry)) p
+        → PlannedAs v1 p (now (set .entry)) (now («plan_bindings» .entry)) (now («plan_availability» .entry)) (now («plan_entries» .entry)) counts x → Valid x
+        → StoredTables counts (now («to_bindings» .exit)) (now («to_availability» .exit)) (now («to_entries» .exit)) x) ⌝ }
+{
+    if counts_fit(counts) {
+        panel_writing::write_bindings(
+            plan_bindings,
+            counts.bindings,
+            from_bindings,
+            set,
+            to_bindings,
+        );
+        panel_writing::write_availabilities(plan_availability, to_availability);
+        panel_writing::write_entries(plan_entries, counts.entries, from_entries, set, to_entries);
+        return true;
+    }
+    false
+}
+
+// Plans the operations from a cursor on, in tables without rows that are lent for it.
+fn plan_set(
+    from_bindings: &[u8],
+    from_availability: &[u8],
+    from_entries: &[u8],
+    counts: ProjectionCounts,
+    set: &[u8],
+    cursor: SetCursor,
+    bindings: &mut [u8],
+    availability: &mut [u8],
+    entries: &mut [u8],
+) -> PlanRun
+    requires { ⌜ (length (now set) ≤ setBytes) × (length (now «from_availability») ≡ length (now availability)) ⌝ }
+    ensures { λ r. ⌜ ((p : Projection) (ps : List Patch) → StoredTables counts (now («from_bindings» .entry)) (now («from_availability» .entry)) (now («from_entries» .entry)) p
+        → PlannedBindings 0 (now (bindings .entry)) [] → PlannedEntries 0 (now (entries .entry)) [] → AtSteps v1 (now (set .entry)) cursor [] ps
+        → RunBecame (PlannedAs v1 p (now (set .entry)) (now (bindings .exit)) (now (availability .exit)) (now (entries .exit))) r (applySteps p (replaySteps ps))) ⌝ }
+{
+    fill::plan_bindings(from_bindings, counts.bindings, bindings);
+    bytes_records::moves::copy(from_availability, availability);
+    fill::plan_entries(from_entries, counts.entries, entries);
+    panel_plan_steps::plan_steps(bindings, availability, entries, counts, set, cursor)
+}
+
+// Plans the operations from a cursor on, and writes the tables when all of them have run.
+fn apply_from(
+    from_bindings: &[u8],
+    from_availability: &[u8],
+    from_entries: &[u8],
+    counts: ProjectionCounts,
+    set: &[u8],
+    cursor: SetCursor,
+    to_bindings: &mut [u8],
+    to_availability: &mut [u8],
+    to_entries: &mut [u8],
+) -> SetChange
+    requires { ⌜ (length (now set) ≤ setBytes) × ((length (now «from_availability») ≡ availabilityBytes) × TableLengths (now «to_bindings») (now «to_availability») (now «to_entries»)) ⌝ }
+    ensures changed { λ r. ⌜ ((p : Projection) (ps : List Patch) → StoredTables counts (now («from_bindings» .entry)) (now («from_availability» .entry)) (now («from_entries» .entry)) p
+        → All (FitsPatch v1) ps → AtSteps v1 (now (set .entry)) cursor [] ps
+        → ChangeBecame (λ n q. StoredTables n (now («to_bindings» .exit)) (now («to_availability» .exit)) (now («to_entries» .exit)) q) r (applySteps p (replaySteps ps))) ⌝ }
+    ensures kept { λ r. ⌜ KeptUnlessApplied r (now («to_bindings» .entry)) (now («to_availability» .entry)) (now («to_entries» .entry)) (now («to_bindings» .exit)) (now («to_availability» .exit)) (now («to_entries» .exit)) ⌝ }
+{
+    let mut bindings = [0u8; panel_plan::BINDING_BYTES];
+    let mut availability = [0u8; LocalProjectionState::AVAILABILITY_BYTES];
+    let mut entries = [0u8; panel_plan::ENTRY_BYTES];
+    match plan_set(
+        from_bindings,
+        from_availability,
+        from_entries,
+        counts,
+        set,
+        cursor,
+        &mut bindings,
+        &mut availability,
+        &mut entries,
+    ) {
+        PlanRun::Planned(n) => {
+            if write_tables(
+                &bindings,
+                &availability,
+                &entries,
+                n,
+                from_bindings,
+                from_entries,
+                set,
+                to_bindings,
+                to_availability,
+                to_entries,
+            ) {
+                SetChange::Applied(n)
+            } else {
+                SetChange::BadTables
+            }
+        }
+        PlanRun::Refused(error) => SetChange::Refused(error),
+        PlanRun::Unreadable(fault) => SetChange::Unreadable(fault),
+    }
+}
+
+// Applies the operations of a set that is known to be readable: what the first tables store is read, and what the set makes of it is
+// written to the others, whole or not at all.
+pub fn apply_set<'a>(
+    from_bindings: &'a [u8],
+    from_availability: &'a [u8],
+    from_entries: &'a [u8],
+    counts: ProjectionCounts,
+    set: &[u8],
+    to_bindings: &mut [u8],
+    to_availability: &mut [u8],
+    to_entries: &mut [u8],
+) -> SetChange
+    ensures changed { λ r. ⌜ ((p : Projection) (ps : List Patch) → StoredTables counts (now («from_bindings» .entry)) (now («from_availability» .entry)) (now («from_entries» .entry)) p
+        → readSet v1 (now (set .entry)) ≡ patches ps → TableLengths (now («to_bindings» .entry)) (now («to_availability» .entry)) (now («to_entries» .entry))
+        → ChangeBecame (λ n q. StoredTables n (now («to_bindings» .exit)) (now («to_availability» .exit)) (now («to_entries» .exit)) q) r (applySteps p (replaySteps ps))) ⌝ }
+    ensures kept { λ r. ⌜ KeptUnlessApplied r (now («to_bindings» .entry)) (now («to_availability» .entry)) (now («to_entries» .entry)) (now («to_bindings» .exit)) (now («to_availability» .exit)) (now («to_entries» .exit)) ⌝ }
+{
+    if arguments_fit(
+        from_bindings.len(),
+        from_availability.len(),
+        from_entries.len(),
+        to_bindings.len(),
+        to_availability.len(),
+        to_entries.len(),
+        counts,
+    ) {
+        match patch_walk::open_set(set) {
+            SetOpening::At(cursor) => apply_from(
+                from_bindings,
+                from_availability,
+                from_entries,
+                counts,
+                set,
+                cursor,
+                to_bindings,
+                to_availability,
+                to_entries,
+            ),
+            SetOpening::Refused(fault) => SetChange::Unreadable(fault),
+        }
+    } else {
+        SetChange::BadTables
+    }
+}
