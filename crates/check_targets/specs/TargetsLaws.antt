@@ -2,14 +2,16 @@
 use Prim.Native.Nat.{ℕ, zero, suc, _+_, _-_, _≤_, _<_}
 use mathlib.Core.Path.{_≡_, refl, sym, ap, _∙_}
 use mathlib.Core.Bool.{Bool, true, false, _&&_, _||_}
-use mathlib.Core.List.{List, [], _∷_, _++_, append-assoc, flatMap, reverse}
+use mathlib.Core.List.{List, [], _∷_, _++_, List·Memᴰ, append-assoc, flatMap, reverse}
+use mathlib.Core.Logic.{_↔_}
 use native.Mathlib.Omega.{arith}
 use lib.ListN.{length, take, drop, getD, set, length-append, length-take, length-drop}
 use lib.Seq.{take-at}
 use Rattle.spec_lists.specs.Lists.{any}
-use Rattle.spec_lists.specs.ListLaws.{flatMap-append, any-reverse}
+use Rattle.spec_lists.specs.ListLaws.{flatMap-append, any-reverse, any-member, member-any}
 use Rattle.spec_patch.specs.Patch.{Operation}
 use Rattle.spec_checks.specs.Target.{MutationTarget, mutationTarget, sameTarget}
+use Rattle.spec_checks.specs.RulesLaws.{sameTarget-true, true-sameTarget}
 use Rattle.check_targets.specs.Targets.{equalTargets, numbersOf, targetNumbers, targetSeen, withTarget}
 use Rattle.check_targets.specs.Threes.{three-at}
 
@@ -39,7 +41,14 @@ unfolding targetSeen targetNumbers flatMap sameTarget equalTargets
 seen-each o [] = refl
 seen-each o (u ∷ os) = ap (λ t. sameTarget o u || t) (seen-each o os)
 
--- the target is seen exactly if an earlier operation has it
+-- the scan finds a repeat exactly if an earlier operation of the patch has the same kind, ids, slot and key: what `repeatedAt` of Rules asks
+pub scan-finds-repeats : (o : Operation) (earlier : List Operation)
+    → (targetSeen (mutationTarget o) (flatMap targetNumbers earlier) ≡ true) ↔ ((u : Operation) × List·Memᴰ u earlier × (mutationTarget u ≡ mutationTarget o))
+scan-finds-repeats o earlier =
+    ( (λ h. let w = any-member (sameTarget o) earlier (sym (seen-each o earlier) ∙ h) in (w .0, w .1, sameTarget-true o (w .0) (w .2)))
+    , λ w. seen-each o earlier ∙ member-any (sameTarget o) earlier (w .1) (true-sameTarget o (w .0) (w .2)) )
+
+-- the same with the earlier operations named last first, as the checks of the meaning do
 pub seen-earlier : (o : Operation) (os : List Operation) → targetSeen (mutationTarget o) (flatMap targetNumbers os) ≡ any (sameTarget o) (reverse os)
 seen-earlier o os = seen-each o os ∙ sym (any-reverse (sameTarget o) os)
 

@@ -38,7 +38,7 @@ unfolding beforeSelf isSelf
 true-beforeSelf o (inserted collection key v e) = ap beforeSelf e ∙ eq-eqb key key refl
 true-beforeSelf o (moved collection key e) = ap beforeSelf e ∙ eq-eqb key key refl
 
-sameTarget-true : (o u : Operation) → sameTarget o u ≡ true → mutationTarget u ≡ mutationTarget o
+pub sameTarget-true : (o u : Operation) → sameTarget o u ≡ true → mutationTarget u ≡ mutationTarget o
 unfolding sameTarget
 sameTarget-true o u h = path (mutationTarget o) (mutationTarget u) h
   where
@@ -50,7 +50,7 @@ sameTarget-true o u h = path (mutationTarget o) (mutationTarget u) h
         let seconds = sym (eqb-true _ _ (and-right (eqb (a .first) (b .first)) _ ids)) in
         λ i. record { kind = kinds i; first = firsts i; second = seconds i }
 
-true-sameTarget : (o u : Operation) → mutationTarget u ≡ mutationTarget o → sameTarget o u ≡ true
+pub true-sameTarget : (o u : Operation) → mutationTarget u ≡ mutationTarget o → sameTarget o u ≡ true
 unfolding sameTarget
 true-sameTarget o u e = rw (e, eq-eqb (mutationTarget o .kind) _ refl, eq-eqb (mutationTarget o .first) _ refl, eq-eqb (mutationTarget o .second) _ refl)
 
