@@ -76,7 +76,7 @@ fn check_with(
     let mut used: usize = 0;
     let mut found = false;
     while 0 < left {
-        match read_operations::read_operation(&set[at..]) {
+        match read_operations::operation_from(&set[at..], true) {
             OperationRead::Read(operation, taken) => {
                 let target = check_targets::mutation_target(operation);
                 found = operation_found(found, targets, marks, used, target, operation);
@@ -105,7 +105,7 @@ fn check_one(
     ensures { λ r. ⌜ r ≡ operationsAnswer (tallyOf (anchored (now (nodes .entry)) (now (bindings .entry)) (now (collections .entry))))
         (length (now (set .entry))) (many 1 (readOperation v1) (drop at (now (set .entry)))) ⌝ }
 {
-    match read_operations::read_operation(&set[at..]) {
+    match read_operations::operation_from(&set[at..], true) {
         OperationRead::Read(operation, taken) => {
             let target = check_targets::mutation_target(operation);
             let absent = anchors::one_if_absent(nodes, bindings, collections, target);

@@ -92,6 +92,17 @@ pub fn checking(program: &str) {
     }
 }
 
+/// So many lists built, and checked where that is asked, so that the difference counts the instructions of the checks.
+pub fn checking_often(check: bool, times: u64, patches: u64, operations: u64) {
+    let list = bench_sets::grid(patches, operations);
+    for _ in 0..times {
+        let argument = black_box(built(&list));
+        if check {
+            black_box(admitted(glue::check(argument)));
+        }
+    }
+}
+
 /// Reading and the quick check of texts, beside the constructors, for a small and a large set.
 pub fn sizes(program: &str) {
     for most in [1_024, 32_768] {

@@ -35,6 +35,7 @@ oracle vectors ANSWERS SEED FOLDER [SCRIPT_BYTES]
 oracle sets COUNT SEED
 oracle rewrite COUNT SEED PROGRAM...
 oracle bench-read PROGRAM | bench-check PROGRAM | bench-sizes PROGRAM
+oracle bench-original build|check TIMES PATCHES OPERATIONS
 oracle bench-set texts | bench-set PATCHES OPERATIONS
 oracle bench-session PROGRAM COLLECTIONS
 oracle bench-operation PROGRAM COLLECTIONS
@@ -61,6 +62,9 @@ fn main() {
         ["bench-read", program] => bench::reading(program),
         ["bench-check", program] => bench::checking(program),
         ["bench-sizes", program] => bench::sizes(program),
+        ["bench-original", way @ ("build" | "check"), times, patches, operations] => {
+            bench::checking_often(*way == "check", number(times), number(patches), number(operations))
+        }
         ["bench-session", program, collections] => bench_sessions::batches(program, number(collections)),
         ["bench-operation", program, collections] => bench_sessions::operation(program, number(collections)),
         ["bench-lookup", program] => bench_sessions::lookups(program),

@@ -15,13 +15,13 @@ use borrow.Author.Needs.{needs}
 use Rattle.check_quick.proofs.quick_operations.check_one.Statement.{statement}
 use Rattle.check_quick.proofs.quick_operations.check_one.Tie as tie
 
-abbrev start : tie.After-read-operation → tie.Start
+abbrev start : tie.After-operation-from → tie.Start
 start c = c .before .before .before .before .before .before
 
-abbrev set : tie.After-read-operation → List ℕ
+abbrev set : tie.After-operation-from → List ℕ
 set c = start c .args .set .now
 
-abbrev known : tie.After-read-operation → MutationTarget → Bool
+abbrev known : tie.After-operation-from → MutationTarget → Bool
 known c = let a = start c .args in anchored (a .nodes .now) (a .bindings .now) (a .collections .now)
 
 abbrev taken : tie.After-known-told → ℕ
@@ -30,19 +30,19 @@ taken c = c .before .operation .given .0 .1 .0
 one : (c : tie.After-known-told) → let k = c .before .before .before in OperationAt (set k) (start k .args .at) (c .before .operation .given .0 .0) (taken c)
 one c =
     let k = c .before .before .before in
-    operation-at (set k) (start k .args .at) (k .read-operation .ensures) (bytes-of (set k) (λ j. k .before .before .before .before .before .shared-slice-known .given j .fits)) (omega arith) (c .before .operation .given .1)
+    operation-at (set k) (start k .args .at) (k .operation-from .ensures) (bytes-of (set k) (λ j. k .before .before .before .before .before .shared-slice-known .given j .fits)) (omega arith) (c .before .operation .given .1)
 
-sub-read-operation : tie.Need-sub-read-operation
-sub-read-operation c = search needs
+sub-operation-from : tie.Need-sub-operation-from
+sub-operation-from c = search needs
 
-part-read-operation-start : tie.Need-part-read-operation-start
-part-read-operation-start c = search needs
+part-operation-from-start : tie.Need-part-operation-from-start
+part-operation-from-start c = search needs
 
-part-read-operation-end : tie.Need-part-read-operation-end
-part-read-operation-end c = search needs
+part-operation-from-end : tie.Need-part-operation-from-end
+part-operation-from-end c = search needs
 
-read-operation-requires : tie.Need-read-operation-requires
-read-operation-requires c κs = search needs
+operation-from-requires : tie.Need-operation-from-requires
+operation-from-requires c κs = search needs
 
 enum-known-operation : tie.Need-enum-known-operation
 enum-known-operation c = search needs
@@ -76,16 +76,16 @@ returns-2 : tie.Need-returns-2
 returns-2 c =
     let k = c .before .before .before in
     let bound = c .before .fault .given in
-    refusal v1 (known k) (set k) (start k .args .at) 1 false [] (omega arith) (bound .0 .0) (no-operation-at (set k) (start k .args .at) (k .read-operation .ensures) (bound .1))
+    refusal v1 (known k) (set k) (start k .args .at) 1 false [] (omega arith) (bound .0 .0) (no-operation-at (set k) (start k .args .at) (k .operation-from .ensures) (bound .1))
 
 pub check-one-spec : {M : Type 1} → statement M
 check-one-spec =
     tie.close
     (tie.spec
-    sub-read-operation
-    part-read-operation-start
-    part-read-operation-end
-    read-operation-requires
+    sub-operation-from
+    part-operation-from-start
+    part-operation-from-end
+    operation-from-requires
     enum-known-operation
     mutation-target-requires
     one-if-absent-requires

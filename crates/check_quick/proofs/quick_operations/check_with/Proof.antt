@@ -36,10 +36,10 @@ abbrev known : tie.At-loop Inv-loop μ-loop → MutationTarget → Bool
 known c = let a = start c .args in anchored (a .nodes .now) (a .bindings .now) (a .collections .now)
 
 -- what the loop has in hand where the operation has been read
-abbrev head : tie.After-read-operation Inv-loop μ-loop → tie.At-loop Inv-loop μ-loop
+abbrev head : tie.After-operation-from Inv-loop μ-loop → tie.At-loop Inv-loop μ-loop
 head c = c .before .before .before
 
-abbrev set : tie.After-read-operation Inv-loop μ-loop → List ℕ
+abbrev set : tie.After-operation-from Inv-loop μ-loop → List ℕ
 set c = start (head c) .args .set .now
 
 abbrev taken : tie.After-known-told Inv-loop μ-loop → ℕ
@@ -48,7 +48,7 @@ taken c = c .before .operation .given .0 .1 .0
 one : (c : tie.After-known-told Inv-loop μ-loop) → let k = c .before .before .before in OperationAt (set k) (head k .loop .at) (c .before .operation .given .0 .0) (taken c)
 one c =
     let k = c .before .before .before in
-    operation-at (set k) (head k .loop .at) (k .read-operation .ensures) (bytes-of (set k) (λ j. head k .before .before .before .before .before .before .shared-slice-known .given j .fits)) (omega arith) (c .before .operation .given .1)
+    operation-at (set k) (head k .loop .at) (k .operation-from .ensures) (bytes-of (set k) (λ j. head k .before .before .before .before .before .before .shared-slice-known .given j .fits)) (omega arith) (c .before .operation .given .1)
 
 short : (c : tie.At-loop Inv-loop μ-loop) → Fits w64 (length (c .loop .targets))
 short c = omega arith
@@ -60,17 +60,17 @@ read c = c .before .before .before .before
 loop-holds : tie.Need-loop-holds Inv-loop μ-loop
 loop-holds c = (omega arith, (omega arith, (refl, (marked-none (c .before .before .before .before .before .before .args .marks .now) (search needs), refl))))
 
-sub-read-operation : tie.Need-sub-read-operation Inv-loop μ-loop
-sub-read-operation c = search needs
+sub-operation-from : tie.Need-sub-operation-from Inv-loop μ-loop
+sub-operation-from c = search needs
 
-part-read-operation-start : tie.Need-part-read-operation-start Inv-loop μ-loop
-part-read-operation-start c = search needs
+part-operation-from-start : tie.Need-part-operation-from-start Inv-loop μ-loop
+part-operation-from-start c = search needs
 
-part-read-operation-end : tie.Need-part-read-operation-end Inv-loop μ-loop
-part-read-operation-end c = search needs
+part-operation-from-end : tie.Need-part-operation-from-end Inv-loop μ-loop
+part-operation-from-end c = search needs
 
-read-operation-requires : tie.Need-read-operation-requires Inv-loop μ-loop
-read-operation-requires c κs = search needs
+operation-from-requires : tie.Need-operation-from-requires Inv-loop μ-loop
+operation-from-requires c κs = search needs
 
 enum-known-operation : tie.Need-enum-known-operation Inv-loop μ-loop
 enum-known-operation c = search needs
@@ -122,7 +122,7 @@ returns c =
     let r = c .before .before .before in
     let l = head r .loop in
     let bound = c .before .fault .given in
-    refusal v1 (known (head r)) (set r) (l .at) (l .left) (l .found) (take (l .used) (l .targets)) (omega arith) (bound .0 .0) (no-operation-at (set r) (l .at) (r .read-operation .ensures) (bound .1))
+    refusal v1 (known (head r)) (set r) (l .at) (l .left) (l .found) (take (l .used) (l .targets)) (omega arith) (bound .0 .0) (no-operation-at (set r) (l .at) (r .operation-from .ensures) (bound .1))
     ∙ l .inv .1 .1 .1 .1
 
 sub-absent-among : tie.Need-sub-absent-among Inv-loop μ-loop
@@ -159,10 +159,10 @@ check-with-spec =
     Inv-loop
     μ-loop
     loop-holds
-    sub-read-operation
-    part-read-operation-start
-    part-read-operation-end
-    read-operation-requires
+    sub-operation-from
+    part-operation-from-start
+    part-operation-from-end
+    operation-from-requires
     enum-known-operation
     mutation-target-requires
     operation-found-requires
