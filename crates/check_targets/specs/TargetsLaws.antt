@@ -44,9 +44,10 @@ seen-each o (u ∷ os) = ap (λ t. sameTarget o u || t) (seen-each o os)
 -- the scan finds a repeat exactly if an earlier operation of the patch has the same kind, ids, slot and key: what `repeatedAt` of Rules asks
 pub scan-finds-repeats : (o : Operation) (earlier : List Operation)
     → (targetSeen (mutationTarget o) (flatMap targetNumbers earlier) ≡ true) ↔ ((u : Operation) × List·Memᴰ u earlier × (mutationTarget u ≡ mutationTarget o))
-scan-finds-repeats o earlier =
-    ( (λ h. let w = any-member (sameTarget o) earlier (sym (seen-each o earlier) ∙ h) in (w .0, w .1, sameTarget-true o (w .0) (w .2)))
-    , λ w. seen-each o earlier ∙ member-any (sameTarget o) earlier (w .1) (true-sameTarget o (w .0) (w .2)) )
+scan-finds-repeats o earlier = (
+  (λ h. let w = any-member (sameTarget o) earlier (sym (seen-each o earlier) ∙ h) in (w .0, w .1, sameTarget-true o (w .0) (w .2))),
+  λ w. seen-each o earlier ∙ member-any (sameTarget o) earlier (w .1) (true-sameTarget o (w .0) (w .2)),
+)
 
 -- the same with the earlier operations named last first, as the checks of the meaning do
 pub seen-earlier : (o : Operation) (os : List Operation) → targetSeen (mutationTarget o) (flatMap targetNumbers os) ≡ any (sameTarget o) (reverse os)

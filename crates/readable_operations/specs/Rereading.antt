@@ -4,12 +4,10 @@ use mathlib.Core.Path.{_≡_}
 use mathlib.Core.List.{List}
 use lib.ListN.{length}
 use Rattle.spec_patch.specs.Reader.{Result, read}
-use Rattle.projection_patch.specs.declared.read_values.ValueRead.{ValueRead}
-use Rattle.projection_patch.specs.declared.read_values.ValueRead.the-variants as value-read
 use Rattle.projection_patch.specs.declared.read_operations.OperationRead.{OperationRead}
 use Rattle.projection_patch.specs.declared.read_operations.OperationRead.the-variants as operation-read
 use Rattle.patch_part_writer.specs.declared.extent.TextPlace.{TextPlace}
-use Rattle.patch_part_writer.specs.Extent.{valueText, operationText, Within}
+use Rattle.patch_part_writer.specs.Extent.{operationText, Within}
 
 -- where a reading is no refusal, r is its answer
 abbrev pub Again : {A B : Type 0} → (Result A → B) → Result A → B → Type 0
@@ -19,10 +17,6 @@ Again {A} {B} answer reading r = (a : A) (rest : List ℕ) → reading ≡ read 
 pub record Inside (part : List ℕ) (place : TextPlace) (end : ℕ) : Type 0 where
   pub taken : end ≤ length part
   pub text : Within part place
-
-abbrev pub ValueWithin : List ℕ → ValueRead → Type 0
-ValueWithin part (value-read.Read v end) = Inside part (valueText v) end
-ValueWithin part (value-read.Refused f) = Unit {0}
 
 abbrev pub OperationWithin : List ℕ → OperationRead → Type 0
 OperationWithin part (operation-read.Read o taken) = Inside part (operationText o) taken
