@@ -1,9 +1,7 @@
-// The operations of a set in place on a projection, without a session.
+// The operations of a set on a projection, without a session.
 use crate::sums;
 use local_projection_state::LocalProjectionState;
-use local_projection_state::ProjectionCounts;
-use panel_steps::ReplayRun;
-use projection_patch::read_values::CountRead;
+use panel_changes::SetChange;
 
 fn filled(fill: &[u8]) -> LocalProjectionState {
     let empty = LocalProjectionState::empty();
@@ -11,49 +9,29 @@ fn filled(fill: &[u8]) -> LocalProjectionState {
     application.state
 }
 
-// The counts after a set's operations were applied in place; those before where one fails.
-fn replay(
-    bindings: &mut [u8],
-    availability: &mut [u8],
-    entries: &mut [u8],
-    counts: ProjectionCounts,
-    set: &[u8],
-) -> ProjectionCounts {
-    match patch_sets::read_heading(set) {
-        CountRead::Read(count, from) => {
-            if set.len() < from {
-                return counts;
-            }
-            match panel_steps::replay_patches(
-                bindings,
-                availability,
-                entries,
-                counts,
-                set,
-                from,
-                count,
-            ) {
-                ReplayRun::At(_, held) => held,
-                ReplayRun::Refused(_) => counts,
-                ReplayRun::Unreadable(_) => counts,
-            }
-        }
-        CountRead::Refused(_) => counts,
-    }
-}
-
-// Applies the operations of a set in place that takes the panel back itself, and sums the numbers of entries.
+// Applies the operations of a set that takes the panel back itself, each time from the panel's tables to others, and sums the numbers of
+// entries.
 pub(crate) fn replay_often(fill: &[u8], set: &[u8], times: u64) -> u64 {
     let state = filled(fill);
-    let mut bindings = state.bindings;
-    let mut availability = state.availability;
-    let mut entries = state.entries;
-    let mut counts = state.counts;
+    let mut bindings = [0u8; LocalProjectionState::BINDING_BYTES];
+    let mut availability = [0u8; LocalProjectionState::AVAILABILITY_BYTES];
+    let mut entries = [0u8; LocalProjectionState::ENTRY_BYTES];
     let mut sum: u64 = 0;
     let mut left = times;
     while 0 < left {
-        counts = replay(&mut bindings, &mut availability, &mut entries, counts, set);
-        sum = sums::mix(sum, counts.entries as u64);
+        let change = panel_changes::apply_set(
+            &state.bindings,
+            &state.availability,
+            &state.entries,
+            state.counts,
+            set,
+            &mut bindings,
+            &mut availability,
+            &mut entries,
+        );
+        if let SetChange::Applied(counts) = change {
+            sum = sums::mix(sum, counts.entries as u64);
+        }
         left -= 1;
     }
     sum

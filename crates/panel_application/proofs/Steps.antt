@@ -1,4 +1,4 @@
--- What came of a run over the patches, by its answer.
+-- What came of a set's operations, by the answer of `apply_set`.
 use Prim.Native.Nat.{ℕ}
 use mathlib.Core.Path.{_≡_, subst}
 use mathlib.Core.List.{List}
@@ -9,30 +9,34 @@ use Rattle.local_projection_state.specs.declared.LocalProjectionState.{LocalPro
 use Rattle.local_projection_state.specs.declared.ProjectionCounts.{ProjectionCounts}
 use Rattle.panel_bindings.specs.declared.LocalProjectionApplicationError.{LocalProjectionApplicationError}
 use Rattle.projection_patch.specs.declared.read_values.ProjectionPatchReadFault.{ProjectionPatchReadFault}
-use Rattle.panel_steps.specs.Replay.{RunBecame}
-use Rattle.panel_steps.specs.declared.ReplayRun.{ReplayRun}
-use Rattle.panel_steps.specs.declared.ReplayRun.the-variants as run
+use Rattle.panel_changes.specs.SetChanges.{ChangeBecame}
+use Rattle.panel_changes.specs.declared.SetChange.{SetChange}
+use Rattle.panel_changes.specs.declared.SetChange.the-variants as change
 use Rattle.panel_application.specs.Application.{StepsBecame}
 use Rattle.panel_application.specs.declared.ProjectionOutcome.the-variants.{Applied, Refused}
 
--- what is stored where the run ended
-abbrev pub Last : List ℕ → List ℕ → List ℕ → ℕ → ProjectionCounts → Projection → Type 0
-Last b a e end n q = StoredTables n b a e q
+-- the tables store what came of the operations
+abbrev Became : (b a e : List ℕ) → SetChange → Outcome → Type 0
+Became b a e = ChangeBecame (λ n q. StoredTables n b a e q)
 
-module _ (b a e : List ℕ) {r : ReplayRun} (x : Outcome) where
-  pub run-applied : (end : ℕ) (n : ProjectionCounts) → r ≡ run.At end n → RunBecame (Last b a e) r x → StepsBecame (record { counts = n; bindings = b; availability = a; entries = e }) Applied x
-  run-applied end n is h = go x (subst (λ z. RunBecame (Last b a e) z x) is h)
+module _ (b a e : List ℕ) {r : SetChange} (x : Outcome) (h : Became b a e r x) where
+
+  pub set-applied : (n : ProjectionCounts) → r ≡ change.Applied n → StepsBecame (record { counts = n; bindings = b; availability = a; entries = e }) Applied x
+  set-applied n is = go x (subst (λ z. Became b a e z x) is h)
     where
-      go : (x : Outcome) → RunBecame (Last b a e) (run.At end n) x → StepsBecame (record { counts = n; bindings = b; availability = a; entries = e }) Applied x
+      go : (x : Outcome) → Became b a e (change.Applied n) x → StepsBecame (record { counts = n; bindings = b; availability = a; entries = e }) Applied x
       go (done q) h = h
       go (stopped f) h = h
 
-  pub run-refused : (state : LocalProjectionState) (fault : LocalProjectionApplicationError) → r ≡ run.Refused fault → RunBecame (Last b a e) r x → StepsBecame state (Refused fault) x
-  run-refused state fault is h = go x (subst (λ z. RunBecame (Last b a e) z x) is h)
+  pub set-refused : (state : LocalProjectionState) (fault : LocalProjectionApplicationError) → r ≡ change.Refused fault → StepsBecame state (Refused fault) x
+  set-refused state fault is = go x (subst (λ z. Became b a e z x) is h)
     where
-      go : (x : Outcome) → RunBecame (Last b a e) (run.Refused fault) x → StepsBecame state (Refused fault) x
+      go : (x : Outcome) → Became b a e (change.Refused fault) x → StepsBecame state (Refused fault) x
       go (done q) h = h
       go (stopped f) h = h
 
-  pub run-reads : (fault : ProjectionPatchReadFault) → r ≡ run.Unreadable fault → RunBecame (Last b a e) r x → ⊥
-  run-reads fault is h = subst (λ z. RunBecame (Last b a e) z x) is h
+  pub set-reads : (fault : ProjectionPatchReadFault) → r ≡ change.Unreadable fault → ⊥
+  set-reads fault is = subst (λ z. Became b a e z x) is h
+
+  pub set-fits : r ≡ change.BadTables → ⊥
+  set-fits is = subst (λ z. Became b a e z x) is h

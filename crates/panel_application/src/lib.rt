@@ -6,16 +6,13 @@ ghost use Rattle.spec_patch.specs.Edition.{v1};
 ghost use Rattle.spec_patch.specs.Read.{patches, readSet};
 ghost use Rattle.spec_projection.specs.Projection.{Projection};
 ghost use Rattle.spec_projection.specs.Apply.{replaySteps, applySteps};
-ghost use Rattle.local_projection_state.specs.Stores.{StoredTables, Stores};
-ghost use Rattle.panel_steps.specs.Replay.{RunBecame};
+ghost use Rattle.local_projection_state.specs.Stores.{Stores};
 ghost use Rattle.panel_application.specs.Application.{applySet, outcomeNumber, StepsBecame, SetBecame, KeptUnlessApplied};
 use check_quick::quick_set;
 use check_quick::quick_set::QuickCheck;
 use local_projection_state::LocalProjectionState;
-use local_projection_state::ProjectionCounts;
 use panel_bindings::LocalProjectionApplicationError;
-use panel_steps::ReplayRun;
-use projection_patch::read_values::CountRead;
+use panel_changes::SetChange;
 use projection_patch::read_values::ProjectionPatchReadFault;
 
 // Why a set is not applied, or that it is.
@@ -46,59 +43,45 @@ pub struct ProjectionApplication {
     pub outcome: ProjectionOutcome,
 }
 
-// Applies all operations of a set that is known to be readable to the lent tables.
-pub fn replay_readable(
-    bindings: &mut [u8],
-    availability: &mut [u8],
-    entries: &mut [u8],
-    counts: ProjectionCounts,
-    set: &[u8],
-) -> ReplayRun
-    ensures { λ r. ⌜ ((ps : List Patch) (p : Projection) → readSet v1 (now (set .entry)) ≡ patches ps
-        → StoredTables counts (now (bindings .entry)) (now (availability .entry)) (now (entries .entry)) p
-        → RunBecame (λ end n q. StoredTables n (now (bindings .exit)) (now (availability .exit)) (now (entries .exit)) q) r (applySteps p (replaySteps ps))) ⌝ }
-{
-    match patch_sets::read_heading(set) {
-        CountRead::Read(count, from) => panel_steps::replay_patches(
-            bindings,
-            availability,
-            entries,
-            counts,
-            set,
-            from,
-            count,
-        ),
-        CountRead::Refused(fault) => ReplayRun::Unreadable(fault),
-    }
-}
-
-// Applies all operations of a readable set to a copy of the state's tables. The first that fails hands the state back as it came.
+// Applies all operations of a readable set, from the state's tables to new ones. The first that fails hands the state back as it came.
 fn apply_readable(state: LocalProjectionState, set: &[u8]) -> ProjectionApplication
     ensures steps { λ r. ⌜ ((ps : List Patch) (p : Projection) → readSet v1 (now (set .entry)) ≡ patches ps → Stores state p
         → StepsBecame (r .state) (r .outcome) (applySteps p (replaySteps ps))) ⌝ }
     ensures kept { λ r. ⌜ KeptUnlessApplied state (r .state) (r .outcome) ⌝ }
 {
-    let counts = state.counts;
-    let mut bindings = state.bindings;
-    let mut availability = state.availability;
-    let mut entries = state.entries;
-    match replay_readable(&mut bindings, &mut availability, &mut entries, counts, set) {
-        ReplayRun::At(_, held) => ProjectionApplication {
+    let mut bindings = [0u8; LocalProjectionState::BINDING_BYTES];
+    let mut availability = [0u8; LocalProjectionState::AVAILABILITY_BYTES];
+    let mut entries = [0u8; LocalProjectionState::ENTRY_BYTES];
+    match panel_changes::apply_set(
+        &state.bindings,
+        &state.availability,
+        &state.entries,
+        state.counts,
+        set,
+        &mut bindings,
+        &mut availability,
+        &mut entries,
+    ) {
+        SetChange::Applied(counts) => ProjectionApplication {
             state: LocalProjectionState {
-                counts: held,
+                counts,
                 bindings,
                 availability,
                 entries,
             },
             outcome: ProjectionOutcome::Applied,
         },
-        ReplayRun::Refused(error) => ProjectionApplication {
+        SetChange::Refused(error) => ProjectionApplication {
             state,
             outcome: ProjectionOutcome::Refused(error),
         },
-        ReplayRun::Unreadable(fault) => ProjectionApplication {
+        SetChange::Unreadable(fault) => ProjectionApplication {
             state,
             outcome: ProjectionOutcome::Unreadable(fault),
+        },
+        SetChange::BadTables => ProjectionApplication {
+            state,
+            outcome: ProjectionOutcome::Unreadable(ProjectionPatchReadFault::Malformed),
         },
     }
 }

@@ -8,8 +8,8 @@ use Rattle.spec_session.specs.Lifecycle.{Disposition, applied, noChange, reject
 use Rattle.spec_session.specs.Batch.{BatchAnswer}
 use Rattle.session_lifecycle.specs.Meaning.{cursorOf, diagnosticsMean}
 use Rattle.panel_bindings.specs.Change.{faultOf}
-use Rattle.panel_steps.specs.declared.ReplayRun.{ReplayRun}
-use Rattle.panel_steps.specs.declared.ReplayRun.the-variants.{At, Refused, Unreadable}
+use Rattle.panel_changes.specs.declared.SetChange.{SetChange}
+use Rattle.panel_changes.specs.declared.SetChange.the-variants as change
 use Rattle.session_gates.specs.Gates.{countFits}
 use Rattle.session_steps.specs.declared.answers.ProjectionPatchApplicationDisposition.{ProjectionPatchApplicationDisposition}
 use Rattle.session_steps.specs.declared.answers.ProjectionPatchApplicationDisposition.the-variants.{Applied, NoChange, Rejected}
@@ -32,16 +32,18 @@ abbrev pub answerAt : Disposition → Cursor → BatchAnswer
 answerAt d c = record { disposition = d; diagnostics = noDiagnostics; cursor = c }
 
 -- the answer of step 9, by what came of the operations
-unfoldable pub runAnswer : ℕ → Cursor → ℕ → ReplayRun → BatchAnswer
-runAnswer cap c n (At end counts) = answerAt applied (at n)
-runAnswer cap c n (Refused e) = rejectedAt cap (ofOperation (faultOf e)) 1 c
-runAnswer cap c n (Unreadable f) = rejectedAt cap malformed 1 c
+unfoldable pub changeAnswer : ℕ → Cursor → ℕ → SetChange → BatchAnswer
+changeAnswer cap c n (change.Applied counts) = answerAt applied (at n)
+changeAnswer cap c n (change.Refused e) = rejectedAt cap (ofOperation (faultOf e)) 1 c
+changeAnswer cap c n (change.Unreadable f) = rejectedAt cap malformed 1 c
+changeAnswer cap c n change.BadTables = rejectedAt cap malformed 1 c
 
--- some operation was not applied
-abbrev pub Stopped : ReplayRun → Type 0
-Stopped (At end counts) = ⊥
-Stopped (Refused e) = Unit {0}
-Stopped (Unreadable f) = Unit {0}
+-- the set was not applied
+abbrev pub Stopped : SetChange → Type 0
+Stopped (change.Applied counts) = ⊥
+Stopped (change.Refused e) = Unit {0}
+Stopped (change.Unreadable f) = Unit {0}
+Stopped change.BadTables = Unit {0}
 
 -- ---- the answers for every struct whatever
 

@@ -10,12 +10,12 @@ use Rattle.spec_session.specs.Diagnostics.{SessionRefusal, malformed, ofOperati
 use Rattle.spec_session.specs.Lifecycle.{applied}
 use Rattle.spec_session.specs.Batch.{BatchAnswer, Check, refuse}
 use Rattle.panel_bindings.specs.Change.{faultOf}
-use Rattle.panel_steps.specs.declared.ReplayRun.{ReplayRun}
-use Rattle.panel_steps.specs.declared.ReplayRun.the-variants.{At, Refused, Unreadable}
+use Rattle.panel_changes.specs.declared.SetChange.{SetChange}
+use Rattle.panel_changes.specs.declared.SetChange.the-variants as change
 use Rattle.session_gates.specs.Gates.{countFits}
 use Rattle.session_steps.specs.declared.answers.ProjectionPatchApplicationDisposition.{ProjectionPatchApplicationDisposition}
 use Rattle.session_steps.specs.declared.answers.ProjectionPatchApplicationDisposition.the-variants.{Applied, NoChange, Rejected}
-use Rattle.session_steps.specs.Answers.{dispositionTold, rejectedAt, runAnswer, AnswerRow, rejectedRow, appliedRow}
+use Rattle.session_steps.specs.Answers.{dispositionTold, rejectedAt, changeAnswer, AnswerRow, rejectedRow, appliedRow}
 
 pub applied-told : (d : ProjectionPatchApplicationDisposition) → dispositionTold d ≡ applied → d ≡ Applied
 unfolding dispositionTold
@@ -31,11 +31,12 @@ operation-counted applying.keyRule = refl
 operation-counted applying.projectionFull = refl
 
 -- whatever came of the operations, the answer has its row
-pub run-row : (limit : ℕ) (c : Cursor) (n : ℕ) (a : BatchAnswer) (run : ReplayRun) → a ≡ runAnswer limit c n run → AnswerRow limit c n a
-unfolding runAnswer countFits
-run-row limit c n a (At end k) h = appliedRow h
-run-row limit c n a (Refused f) h = rejectedRow (ofOperation (faultOf f)) 1 (operation-counted (faultOf f)) h
-run-row limit c n a (Unreadable f) h = rejectedRow malformed 1 refl h
+pub change-row : (limit : ℕ) (c : Cursor) (n : ℕ) (a : BatchAnswer) (s : SetChange) → a ≡ changeAnswer limit c n s → AnswerRow limit c n a
+unfolding changeAnswer countFits
+change-row limit c n a (change.Applied k) h = appliedRow h
+change-row limit c n a (change.Refused f) h = rejectedRow (ofOperation (faultOf f)) 1 (operation-counted (faultOf f)) h
+change-row limit c n a (change.Unreadable f) h = rejectedRow malformed 1 refl h
+change-row limit c n a change.BadTables h = rejectedRow malformed 1 refl h
 
 pub same-rejection : {f g : SessionRefusal} {n k : ℕ} (limit : ℕ) (c : Cursor) → _≡_ {A = Check (Unit {0})} (refuse f n) (refuse g k) → rejectedAt limit f n c ≡ rejectedAt limit g k c
 same-rejection {f = f} {g = g} {n = n} {k = k} limit c e =

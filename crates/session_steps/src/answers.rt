@@ -1,6 +1,6 @@
 // The answers of a batch.
 use panel_bindings::LocalProjectionApplicationError;
-use panel_steps::ReplayRun;
+use panel_changes::SetChange;
 use session_lifecycle::diagnostics;
 use session_lifecycle::diagnostics::ShellDiagnostics;
 use session_lifecycle::diagnostics::ShellRefusal;
@@ -11,7 +11,7 @@ ghost use Rattle.spec_session.specs.Diagnostics.{ofOperation};
 ghost use Rattle.spec_session.specs.Lifecycle.{applied, noChange};
 ghost use Rattle.panel_bindings.specs.Change.{faultOf};
 ghost use Rattle.session_lifecycle.specs.Meaning.{refusalOf, cursorOf};
-ghost use Rattle.session_steps.specs.Answers.{batchAnswerOf, rejectedAt, answerAt, runAnswer};
+ghost use Rattle.session_steps.specs.Answers.{batchAnswerOf, rejectedAt, answerAt, changeAnswer};
 
 pub enum ProjectionPatchApplicationDisposition {
     Applied,
@@ -72,15 +72,16 @@ fn applied_at(number: u64) -> ProjectionPatchApplicationResult
 // The answer of step 9, by what came of the operations.
 pub fn concluded(
     cap: u64,
-    run: ReplayRun,
+    change: SetChange,
     cursor: ProjectionReplayCursor,
     number: u64,
 ) -> ProjectionPatchApplicationResult
-    ensures { λ r. ⌜ batchAnswerOf r ≡ runAnswer cap (cursorOf cursor) number run ⌝ }
+    ensures { λ r. ⌜ batchAnswerOf r ≡ changeAnswer cap (cursorOf cursor) number change ⌝ }
 {
-    match run {
-        ReplayRun::At(_, _) => applied_at(number),
-        ReplayRun::Refused(error) => rejected(cap, refusal_of(error), 1, cursor),
-        ReplayRun::Unreadable(_) => rejected(cap, ShellRefusal::Malformed, 1, cursor),
+    match change {
+        SetChange::Applied(_) => applied_at(number),
+        SetChange::Refused(error) => rejected(cap, refusal_of(error), 1, cursor),
+        SetChange::Unreadable(_) => rejected(cap, ShellRefusal::Malformed, 1, cursor),
+        SetChange::BadTables => rejected(cap, ShellRefusal::Malformed, 1, cursor),
     }
 }

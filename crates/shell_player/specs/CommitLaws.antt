@@ -23,15 +23,15 @@ use Rattle.active_projection_target_catalog.specs.Catalog.{catalogueOf}
 use Rattle.active_projection_target_catalog.specs.CatalogLaws.{catalogue-back}
 use Rattle.local_projection_state.specs.Stores.{StoredTables}
 use Rattle.local_projection_state.specs.declared.ProjectionCounts.{ProjectionCounts}
-use Rattle.panel_steps.specs.Replay.{RunBecame}
-use Rattle.panel_steps.specs.declared.ReplayRun.{ReplayRun}
-use Rattle.panel_steps.specs.declared.ReplayRun.the-variants.{At, Refused, Unreadable}
+use Rattle.panel_changes.specs.SetChanges.{ChangeBecame}
+use Rattle.panel_changes.specs.declared.SetChange.{SetChange}
+use Rattle.panel_changes.specs.declared.SetChange.the-variants as change
 use Rattle.session_gates.specs.Gates.{erased}
 use Rattle.shell_player.specs.declared.session.ShellSession.{ShellSession}
 use Rattle.session_steps.specs.declared.answers.ProjectionPatchApplicationResult.{ProjectionPatchApplicationResult}
 use Rattle.shell_player.specs.declared.batch.ProjectionPatchBatch.{ProjectionPatchBatch}
 use Rattle.shell_player.specs.Holds.{Holds}
-use Rattle.session_steps.specs.Answers.{batchAnswerOf, rejectedAt, answerAt, runAnswer, Stopped}
+use Rattle.session_steps.specs.Answers.{batchAnswerOf, rejectedAt, answerAt, changeAnswer, Stopped}
 use Rattle.session_steps.specs.AnswersLaws.{applied-told}
 use Rattle.session_steps.specs.Checks.{SeenSession}
 use Rattle.session_steps.specs.States.{movedTo}
@@ -87,25 +87,26 @@ module _ (s : ShellSession) (m : Session) (holds : Holds s m) where
         go [] c = rw (eq-eqb (e .patches) 0 none) (record { answer = h ∙ ap (λ (k : Cursor). answerAt noChange k) (seen .cursor-is); next = holds })
         go (q ∷ qs) c = absurd (omega arith)
 
-    -- a run that stopped hands the session back
-    pub commits-stopped : (run : ReplayRun) (Next : ℕ → ProjectionCounts → Projection → Type 0) (r : ProjectionPatchApplicationResult) → Stopped run → RunBecame Next run (candidate m ps) → batchAnswerOf r ≡ runAnswer cap cursor (e .sequence) run
+    -- a set that was not applied hands the session back
+    pub commits-stopped : (became : SetChange) (Next : ProjectionCounts → Projection → Type 0) (r : ProjectionPatchApplicationResult) → Stopped became → ChangeBecame Next became (candidate m ps) → batchAnswerOf r ≡ changeAnswer cap cursor (e .sequence) became
         → BatchBecame (record { session = s; result = r }) (commit m e (candidate m ps))
-    unfolding commit runAnswer
-    commits-stopped run Next r stop became h = go run (candidate m ps) stop became h
+    unfolding commit changeAnswer
+    commits-stopped became Next r stop is h = go became (candidate m ps) stop is h
       where
-        go : (u : ReplayRun) (x : Outcome) → Stopped u → RunBecame Next u x → batchAnswerOf r ≡ runAnswer cap cursor (e .sequence) u → BatchBecame (record { session = s; result = r }) (commit m e x)
-        go (At end n) x stop b h = absurd stop
-        go (Refused f) (done q) stop b h = absurd b
-        go (Refused f) (stopped g) stop b h = rejects r (ofOperation g) 1 (h ∙ ap (λ k. rejectedAt cap (ofOperation k) 1 cursor) b)
-        go (Unreadable f) x stop b h = absurd b
+        go : (u : SetChange) (x : Outcome) → Stopped u → ChangeBecame Next u x → batchAnswerOf r ≡ changeAnswer cap cursor (e .sequence) u → BatchBecame (record { session = s; result = r }) (commit m e x)
+        go (change.Applied n) x stop b h = absurd stop
+        go (change.Refused f) (done q) stop b h = absurd b
+        go (change.Refused f) (stopped g) stop b h = rejects r (ofOperation g) 1 (h ∙ ap (λ k. rejectedAt cap (ofOperation k) 1 cursor) b)
+        go (change.Unreadable f) x stop b h = absurd b
+        go change.BadTables x stop b h = absurd b
 
-    -- a run that ended stores what the tables hold
-    pub commits-applied : (end : ℕ) (n : ProjectionCounts) (b a y : List ℕ) (t : ShellLocalState) (r : ProjectionPatchApplicationResult) → (e .patches ≡ 0 → ⊥) → RunBecame (λ i k q. StoredTables k b a y q) (At end n) (candidate m ps)
+    -- a set that was applied stores what the tables hold
+    pub commits-applied : (n : ProjectionCounts) (b a y : List ℕ) (t : ShellLocalState) (r : ProjectionPatchApplicationResult) → (e .patches ≡ 0 → ⊥) → ChangeBecame (λ k q. StoredTables k b a y q) (change.Applied n) (candidate m ps)
         → stateTold t ≡ movedTo (stateTold (s .state)) (e .sequence) → batchAnswerOf r ≡ answerAt applied (at (e .sequence)) → BatchBecame (record { session = sessionOf (s .context) t n b a y; result = r }) (commit m e (candidate m ps))
     unfolding commit applyBatch advanced stateOf
-    commits-applied end n b a y t r some became moved h = go (candidate m ps) became
+    commits-applied n b a y t r some became moved h = go (candidate m ps) became
       where
-        go : (x : Outcome) → RunBecame (λ i k q. StoredTables k b a y q) (At end n) x → BatchBecame (record { session = sessionOf (s .context) t n b a y; result = r }) (commit m e x)
+        go : (x : Outcome) → ChangeBecame (λ k q. StoredTables k b a y q) (change.Applied n) x → BatchBecame (record { session = sessionOf (s .context) t n b a y; result = r }) (commit m e x)
         go (done q) stored = rw (ne-eqb (e .patches) 0 some) (
             record {
               answer = h;

@@ -1,8 +1,8 @@
-// One batch of patches: steps 1 to 8 on what the session tells, then step 9 on a copy of its projection.
+// One batch of patches: steps 1 to 8 on what the session tells, then step 9 from its tables to those of the next session.
 use crate::session::ShellSession;
 use local_projection_state::LocalProjectionState;
 use local_projection_state::ProjectionCounts;
-use panel_steps::ReplayRun;
+use panel_changes::SetChange;
 use session_gates::gates::BatchGate;
 use session_gates::gates::OrderedProjectionPatchBatchEnvelope;
 use session_lifecycle::state::ShellLocalState;
@@ -44,7 +44,7 @@ fn session_of(
 }
 
 impl ShellSession {
-    // One batch: steps 1 to 9. The operations change a copy of the tables; a batch that is not applied hands the session back as it came.
+    // One batch: steps 1 to 9. The tables of the next session are written once; a batch that is not applied hands the session back as it came.
     pub fn apply_projection_patch_batch(
         self,
         envelope: OrderedProjectionPatchBatchEnvelope,
@@ -72,19 +72,21 @@ impl ShellSession {
                 result: answers::unchanged(cursor),
             };
         }
-        let counts = self.local_projection.counts;
-        let mut bindings = self.local_projection.bindings;
-        let mut availability = self.local_projection.availability;
-        let mut entries = self.local_projection.entries;
-        let run = panel_application::replay_readable(
+        let mut bindings = [0u8; LocalProjectionState::BINDING_BYTES];
+        let mut availability = [0u8; LocalProjectionState::AVAILABILITY_BYTES];
+        let mut entries = [0u8; LocalProjectionState::ENTRY_BYTES];
+        let change = panel_changes::apply_set(
+            &self.local_projection.bindings,
+            &self.local_projection.availability,
+            &self.local_projection.entries,
+            self.local_projection.counts,
+            set,
             &mut bindings,
             &mut availability,
             &mut entries,
-            counts,
-            set,
         );
-        let result = answers::concluded(cap, run, cursor, envelope.sequence_no);
-        let ReplayRun::At(_, held) = run else {
+        let result = answers::concluded(cap, change, cursor, envelope.sequence_no);
+        let SetChange::Applied(held) = change else {
             return ProjectionPatchBatch {
                 session: self,
                 result,

@@ -1,7 +1,7 @@
 -- `concluded` meets its contract: each outcome has its answer.
 use mathlib.Core.Path.{sym, ap, _∙_}
 use Rattle.session_lifecycle.specs.Meaning.{cursorOf}
-use Rattle.session_steps.specs.Answers.{rejectedAt, runAnswer}
+use Rattle.session_steps.specs.Answers.{rejectedAt, changeAnswer}
 use borrow.Author.Needs.{needs}
 use Rattle.session_steps.proofs.answers.concluded.Statement.{statement}
 use Rattle.session_steps.proofs.answers.concluded.Tie as tie
@@ -12,8 +12,8 @@ enum-told c = search needs
 applied-at-requires : tie.Need-applied-at-requires
 applied-at-requires c κs = search needs
 
-enum-known-run : tie.Need-enum-known-run
-enum-known-run c = search needs
+enum-known-change : tie.Need-enum-known-change
+enum-known-change c = search needs
 
 refusal-of-requires : tie.Need-refusal-of-requires
 refusal-of-requires c κs = search needs
@@ -27,25 +27,37 @@ enum-told-2 c = search needs
 rejected-requires-2 : tie.Need-rejected-requires-2
 rejected-requires-2 c κs = search needs
 
+enum-told-3 : tie.Need-enum-told-3
+enum-told-3 c = search needs
+
+rejected-requires-3 : tie.Need-rejected-requires-3
+rejected-requires-3 c κs = search needs
+
 returns : tie.Need-returns
-unfolding runAnswer
+unfolding changeAnswer
 returns c =
     let a = c .before .before .before .args in
-    c .applied-at .ensures ∙ sym (ap (runAnswer (a .cap) (cursorOf (a .cursor)) (a .number)) (c .before .enum-told .given .1))
+    c .applied-at .ensures ∙ sym (ap (changeAnswer (a .cap) (cursorOf (a .cursor)) (a .number)) (c .before .enum-told .given .1))
 
 returns-2 : tie.Need-returns-2
-unfolding runAnswer
+unfolding changeAnswer
 returns-2 c =
     let a = c .before .before .before .before .before .args in
     c .rejected .ensures
     ∙ ap (λ f. rejectedAt (a .cap) f 1 (cursorOf (a .cursor))) (c .before .refusal-of .ensures)
-    ∙ sym (ap (runAnswer (a .cap) (cursorOf (a .cursor)) (a .number)) (c .before .before .before .run .given .1))
+    ∙ sym (ap (changeAnswer (a .cap) (cursorOf (a .cursor)) (a .number)) (c .before .before .before .change .given .1))
 
 returns-3 : tie.Need-returns-3
-unfolding runAnswer
+unfolding changeAnswer
 returns-3 c =
     let a = c .before .before .before .args in
-    c .rejected2 .ensures ∙ sym (ap (runAnswer (a .cap) (cursorOf (a .cursor)) (a .number)) (c .before .enum-told2 .given .1))
+    c .rejected2 .ensures ∙ sym (ap (changeAnswer (a .cap) (cursorOf (a .cursor)) (a .number)) (c .before .enum-told2 .given .1))
+
+returns-4 : tie.Need-returns-4
+unfolding changeAnswer
+returns-4 c =
+    let a = c .before .before .before .args in
+    c .rejected3 .ensures ∙ sym (ap (changeAnswer (a .cap) (cursorOf (a .cursor)) (a .number)) (c .before .enum-told3 .given .1))
 
 pub concluded-spec : {M : Type 1} → statement M
 concluded-spec =
@@ -53,11 +65,14 @@ concluded-spec =
     (tie.spec
     enum-told
     applied-at-requires
-    enum-known-run
+    enum-known-change
     refusal-of-requires
     rejected-requires
     enum-told-2
     rejected-requires-2
+    enum-told-3
+    rejected-requires-3
     returns
     returns-2
-    returns-3)
+    returns-3
+    returns-4)

@@ -18,16 +18,17 @@ use Rattle.spec_session.specs.Batch.{candidate, commit}
 use Rattle.spec_session.specs.BatchLaws.{never-passes}
 use Rattle.panel_rows.specs.Rows.{bindingBytes, availabilityBytes, entryBytes}
 use Rattle.local_projection_state.specs.Stores.{StoredTables}
-use Rattle.panel_steps.proofs.ReplayRun as replay-run
-use Rattle.panel_steps.specs.Replay.{RunBecame}
-use Rattle.panel_steps.specs.declared.ReplayRun.{ReplayRun}
-use Rattle.panel_steps.specs.declared.ReplayRun.the-variants.{At, Refused, Unreadable}
+use Rattle.panel_changes.proofs.SetChange as set-change
+use Rattle.panel_changes.specs.SetChanges.{ChangeBecame}
+use Rattle.panel_changes.specs.SetChangesLaws.{zeros-lengths}
+use Rattle.panel_changes.specs.declared.SetChange.{SetChange}
+use Rattle.panel_changes.specs.declared.SetChange.the-variants.{Applied, Refused, Unreadable, BadTables}
 use Rattle.session_lifecycle.specs.Meaning.{cursorOf}
 use Rattle.session_gates.specs.Gates.{gateOf, counted, envelopeMeans}
 use Rattle.shell_player.specs.declared.session.ShellSession.{ShellSession}
 use Rattle.shell_player.specs.Holds.{Holds}
-use Rattle.session_steps.specs.Answers.{batchAnswerOf, answerAt, runAnswer, Stopped, rejectedRow, unchangedRow, appliedRow}
-use Rattle.session_steps.specs.AnswersLaws.{same-rejection, run-row}
+use Rattle.session_steps.specs.Answers.{batchAnswerOf, answerAt, changeAnswer, Stopped, rejectedRow, unchangedRow, appliedRow}
+use Rattle.session_steps.specs.AnswersLaws.{same-rejection, change-row}
 use Rattle.shell_player.specs.Batches.{BatchBecame}
 use Rattle.shell_player.specs.CommitLaws.{kept-applied, seen, commits-none, commits-stopped, commits-applied, batch-rejects, batch-commits}
 use borrow.Author.Needs.{needs}
@@ -47,13 +48,13 @@ long-entries : (c : tie.Start) → length (c .args .self .«local_projection» .
 long-entries c = search (needs, c .good .0 .1 .1 .1 .1 .0 .1 .1 .1 .1 .1 .0)
 
 -- what the run says of the operations
-became : (c : tie.After-replay-readable) → let a = c .before .before .before .before .before .before .before .before .before .before .before .before .before .before .before .before .args in (m : Session) (ps : List Patch) → Holds (a .self) m → readSet v1 (now (a .set)) ≡ patches ps
-    → RunBecame (λ i k q. StoredTables k (c .replay-readable .last .0) (c .replay-readable .last .1 .0) (c .replay-readable .last .1 .1 .0) q) (c .replay-readable .result) (candidate m ps)
+became : (c : tie.After-apply-set) → let a = c .before .before .before .before .before .before .before .before .before .before .before .before .before .before .before .before .args in (m : Session) (ps : List Patch) → Holds (a .self) m → readSet v1 (now (a .set)) ≡ patches ps
+    → ChangeBecame (λ i k q. StoredTables k (c .apply-set .last .0) (c .apply-set .last .1 .0) (c .apply-set .last .1 .1 .0) q) (c .apply-set .result) (candidate m ps)
 unfolding candidate
-became c m ps h reads = c .replay-readable .ensures ps (m .projection) reads (h .projection)
+became c m ps h reads = c .apply-set .ensures ps (m .projection) reads (h .projection)
 
 -- a run of another variant than At
-other : (r : ReplayRun) → OneOf (1 ∷ 2 ∷ []) (tagOf replay-run.the-type r) → Stopped r
+other : (r : SetChange) → OneOf (1 ∷ 2 ∷ []) (tagOf replay-run.the-type r) → Stopped r
 other (At end n) (inl e) = absurd (omega arith)
 other (At end n) (inr e) = absurd (omega arith)
 other (Refused e) k = tt
@@ -103,36 +104,36 @@ returns-2 c =
       },
     )
 
-slice-aggregate-replay-readable : tie.Need-slice-aggregate-replay-readable
-slice-aggregate-replay-readable c = sym (long-bindings (c .before .before .before .before .before .before .before .before .before .before .before .before .before))
+slice-aggregate-apply-set : tie.Need-slice-aggregate-apply-set
+slice-aggregate-apply-set c = sym (long-bindings (c .before .before .before .before .before .before .before .before .before .before .before .before .before))
 
-slice-aggregate-replay-readable-2 : tie.Need-slice-aggregate-replay-readable-2
-slice-aggregate-replay-readable-2 c = sym (long-availability (c .before .before .before .before .before .before .before .before .before .before .before .before .before .before))
+slice-aggregate-apply-set-2 : tie.Need-slice-aggregate-apply-set-2
+slice-aggregate-apply-set-2 c = sym (long-availability (c .before .before .before .before .before .before .before .before .before .before .before .before .before .before))
 
-slice-aggregate-replay-readable-3 : tie.Need-slice-aggregate-replay-readable-3
-slice-aggregate-replay-readable-3 c = sym (long-entries (c .before .before .before .before .before .before .before .before .before .before .before .before .before .before .before))
+slice-aggregate-apply-set-3 : tie.Need-slice-aggregate-apply-set-3
+slice-aggregate-apply-set-3 c = sym (long-entries (c .before .before .before .before .before .before .before .before .before .before .before .before .before .before .before))
 
-replay-readable-requires : tie.Need-replay-readable-requires
-replay-readable-requires c κs = search needs
+apply-set-requires : tie.Need-apply-set-requires
+apply-set-requires c κs = search needs
 
 concluded-requires : tie.Need-concluded-requires
 concluded-requires c κs = search needs
 
-enum-known-run : tie.Need-enum-known-run
-enum-known-run c = search needs
+enum-known-change : tie.Need-enum-known-change
+enum-known-change c = search needs
 
 returns-3 : tie.Need-returns-3
 unfolding gateOf
 returns-3 c =
     let gate = ap gateOf (sym (c .before .before .before .before .before .before .before .before .before .before .before .before .before .before .before .enum-told .given .1)) in
     let checked = c .before .before .before .before .before .before .before .before .before .before .before .before .before .before .before .before .before .check-session .ensures in
-    let run = c .before .before .before .before .before .replay-readable .result in (
+    let run = c .before .before .before .before .before .apply-set .result in (
       record {
         became = λ m h. batch-commits _ m h _ _ _ _ (gate ∙ checked .0 m (seen _ m h)) (λ ps reads count. commits-stopped _ m h _ ps run _ _ (other run (c .match2 .keys2)) (became (c .before .before .before .before .before) m ps h reads) (c .before .concluded .ensures));
       },
       record {
         kept = λ n. refl;
-        row = run-row _ _ _ _ run (c .before .concluded .ensures);
+        row = change-row _ _ _ _ run (c .before .concluded .ensures);
         preflight = λ f n h. never-passes (sym (gate ∙ checked .1 .1 f n h));
       },
     )
@@ -145,23 +146,23 @@ session-of-requires c κs = search needs
 
 -- the answer where the run ended
 answered : (c : tie.After-session-of) → let a = c .before .before .before .before .before .before .before .before .before .before .before .before .before .before .before .before .before .before .before .before .before .before .before .before .before .args in batchAnswerOf (c .before .before .before .before .before .concluded .result) ≡ answerAt applied (at (a .envelope .«sequence_no»))
-unfolding runAnswer
+unfolding changeAnswer
 answered c =
     let a = c .before .before .before .before .before .before .before .before .before .before .before .before .before .before .before .before .before .before .before .before .before .before .before .before .before .args in
-    c .before .before .before .before .before .concluded .ensures ∙ ap (runAnswer (a .self .context .limits .«max_diagnostics_per_transition») (cursorOf (a .self .state .«replay_cursor»)) (a .envelope .«sequence_no»)) (c .before .before .before .run .given .1)
+    c .before .before .before .before .before .concluded .ensures ∙ ap (changeAnswer (a .self .context .limits .«max_diagnostics_per_transition») (cursorOf (a .self .state .«replay_cursor»)) (a .envelope .«sequence_no»)) (c .before .before .before .change .given .1)
 
 -- a run that ended, with the session that was made of the tables
 handed : (c : tie.After-session-of) → let a = c .before .before .before .before .before .before .before .before .before .before .before .before .before .before .before .before .before .before .before .before .before .before .before .before .before .args in (m : Session) (ps : List Patch) → Holds (a .self) m → readSet v1 (now (a .set)) ≡ patches ps
     → BatchBecame (record { session = c .session-of .result; result = c .before .before .before .before .before .concluded .result }) (commit m (envelopeMeans (a .envelope)) (candidate m ps))
-unfolding runAnswer
+unfolding changeAnswer
 handed c m ps h reads =
     let a = c .before .before .before .before .before .before .before .before .before .before .before .before .before .before .before .before .before .before .before .before .before .before .before .before .before .args in
     let call = c .before .before .before .before .before .before .before .before .before in
     let result = c .before .before .before .before .before .concluded .result in
-    let ended = c .before .before .before .run .given in
-    let stored = subst (λ (r : ReplayRun). RunBecame (λ i k q. StoredTables k (call .replay-readable .last .0) (call .replay-readable .last .1 .0) (call .replay-readable .last .1 .1 .0) q) r (candidate m ps)) (ended .1) (became call m ps h reads) in
+    let ended = c .before .before .before .change .given in
+    let stored = subst (λ (r : SetChange). ChangeBecame (λ i k q. StoredTables k (call .apply-set .last .0) (call .apply-set .last .1 .0) (call .apply-set .last .1 .1 .0) q) r (candidate m ps)) (ended .1) (became call m ps h reads) in
     subst (λ (s : ShellSession). BatchBecame (record { session = s; result = result }) (commit m (envelopeMeans (a .envelope)) (candidate m ps))) (sym (c .session-of .ensures))
-    (commits-applied (a .self) m h (envelopeMeans (a .envelope)) ps (ended .0 .0) (ended .0 .1 .0) (call .replay-readable .last .0) (call .replay-readable .last .1 .0) (call .replay-readable .last .1 .1 .0) (c .before .advanced .result) result (λ none. false≢true (sym (sym (c .before .before .before .before .before .before .before .before .before .before .before .before .before .before .before .before .before .before .is-empty .ensures) ∙ c .before .before .before .before .before .before .before .before .before .before .before .before .before .before .before .before .before .if1 .left) ∙ eq-eqb (a .envelope .«patch_count») 0 none)) stored (c .before .advanced .ensures) (answered c))
+    (commits-applied (a .self) m h (envelopeMeans (a .envelope)) ps (ended .0 .0) (ended .0 .1 .0) (call .apply-set .last .0) (call .apply-set .last .1 .0) (call .apply-set .last .1 .1 .0) (c .before .advanced .result) result (λ none. false≢true (sym (sym (c .before .before .before .before .before .before .before .before .before .before .before .before .before .before .before .before .before .before .is-empty .ensures) ∙ c .before .before .before .before .before .before .before .before .before .before .before .before .before .before .before .before .before .if1 .left) ∙ eq-eqb (a .envelope .«patch_count») 0 none)) stored (c .before .advanced .ensures) (answered c))
 
 returns-4 : tie.Need-returns-4
 unfolding gateOf
@@ -188,12 +189,12 @@ apply-projection-patch-batch-spec =
     is-empty-requires
     unchanged-requires
     returns-2
-    slice-aggregate-replay-readable
-    slice-aggregate-replay-readable-2
-    slice-aggregate-replay-readable-3
-    replay-readable-requires
+    slice-aggregate-apply-set
+    slice-aggregate-apply-set-2
+    slice-aggregate-apply-set-3
+    apply-set-requires
     concluded-requires
-    enum-known-run
+    enum-known-change
     returns-3
     advanced-requires
     session-of-requires
