@@ -1,64 +1,18 @@
 -- `ShellSession::apply_projection_patch_batch` meets its contract: steps 1 to 8, then step 9, by what came of the operations.
 use borrow.Author.Tests.{eq-eqb, eqb-true}
-use mathlib.Core.Path.{_≡_, refl, sym, ap, subst, _∙_}
+use mathlib.Core.Path.{refl, sym, ap, _∙_}
 use mathlib.Core.Bool.{false≢true}
-use mathlib.Core.List.{List, [], _∷_}
-use mathlib.Core.Logic.{inl, inr}
-use lib.ListN.{length}
-use denote.Enum.Declared.{tagOf}
-use denote.Ref.{now}
-use types.Run.{OneOf}
-use native.Mathlib.Omega.{arith}
-use Rattle.spec_patch.specs.Patch.{Patch}
-use Rattle.spec_patch.specs.Edition.{v1}
-use Rattle.spec_patch.specs.Read.{patches, readSet}
-use Rattle.spec_session.specs.Session.{at, Session}
-use Rattle.spec_session.specs.Lifecycle.{applied}
-use Rattle.spec_session.specs.Batch.{candidate, commit}
 use Rattle.spec_session.specs.BatchLaws.{never-passes}
-use Rattle.panel_rows.specs.Rows.{bindingBytes, availabilityBytes, entryBytes}
-use Rattle.local_projection_state.specs.Stores.{StoredTables}
-use Rattle.panel_changes.proofs.SetChange as set-change
-use Rattle.panel_changes.specs.SetChanges.{ChangeBecame}
-use Rattle.panel_changes.specs.SetChangesLaws.{zeros-lengths}
-use Rattle.panel_changes.specs.declared.SetChange.{SetChange}
-use Rattle.panel_changes.specs.declared.SetChange.the-variants.{Applied, Refused, Unreadable, BadTables}
-use Rattle.session_lifecycle.specs.Meaning.{cursorOf}
-use Rattle.session_gates.specs.Gates.{gateOf, counted, envelopeMeans}
+use Rattle.session_gates.specs.Gates.{gateOf, counted}
 use Rattle.shell_player.specs.declared.session.ShellSession.{ShellSession}
-use Rattle.shell_player.specs.Holds.{Holds}
-use Rattle.session_steps.specs.Answers.{batchAnswerOf, answerAt, changeAnswer, Stopped, rejectedRow, unchangedRow, appliedRow}
-use Rattle.session_steps.specs.AnswersLaws.{same-rejection, change-row}
-use Rattle.shell_player.specs.Batches.{BatchBecame}
-use Rattle.shell_player.specs.CommitLaws.{kept-applied, seen, commits-none, commits-stopped, commits-applied, batch-rejects, batch-commits}
+use Rattle.session_steps.specs.Answers.{rejectedRow, unchangedRow}
+use Rattle.session_steps.specs.AnswersLaws.{same-rejection}
+use Rattle.shell_player.specs.CommitLaws.{seen, commits-none, batch-rejects, batch-commits}
 use borrow.Author.Needs.{needs}
 use Rattle.shell_player.proofs.session.ShellSession.apply_projection_patch_batch.Statement.{
   statement,
 }
 use Rattle.shell_player.proofs.session.ShellSession.apply_projection_patch_batch.Tie as tie
-
--- what is lent is as long as its table
-long-bindings : (c : tie.Start) → length (c .args .self .«local_projection» .bindings) ≡ bindingBytes
-long-bindings c = search needs
-
-long-availability : (c : tie.Start) → length (c .args .self .«local_projection» .availability) ≡ availabilityBytes
-long-availability c = search (needs, c .good .0 .1 .1 .1 .1 .0 .1 .1 .1 .1 .0)
-
-long-entries : (c : tie.Start) → length (c .args .self .«local_projection» .entries) ≡ entryBytes
-long-entries c = search (needs, c .good .0 .1 .1 .1 .1 .0 .1 .1 .1 .1 .1 .0)
-
--- what the run says of the operations
-became : (c : tie.After-apply-set) → let a = c .before .before .before .before .before .before .before .before .before .before .before .before .before .before .before .before .args in (m : Session) (ps : List Patch) → Holds (a .self) m → readSet v1 (now (a .set)) ≡ patches ps
-    → ChangeBecame (λ i k q. StoredTables k (c .apply-set .last .0) (c .apply-set .last .1 .0) (c .apply-set .last .1 .1 .0) q) (c .apply-set .result) (candidate m ps)
-unfolding candidate
-became c m ps h reads = c .apply-set .ensures ps (m .projection) reads (h .projection)
-
--- a run of another variant than At
-other : (r : SetChange) → OneOf (1 ∷ 2 ∷ []) (tagOf replay-run.the-type r) → Stopped r
-other (At end n) (inl e) = absurd (omega arith)
-other (At end n) (inr e) = absurd (omega arith)
-other (Refused e) k = tt
-other (Unreadable f) k = tt
 
 check-session-requires : tie.Need-check-session-requires
 check-session-requires c κs = search needs
@@ -104,75 +58,19 @@ returns-2 c =
       },
     )
 
-slice-aggregate-apply-set : tie.Need-slice-aggregate-apply-set
-slice-aggregate-apply-set c = sym (long-bindings (c .before .before .before .before .before .before .before .before .before .before .before .before .before))
-
-slice-aggregate-apply-set-2 : tie.Need-slice-aggregate-apply-set-2
-slice-aggregate-apply-set-2 c = sym (long-availability (c .before .before .before .before .before .before .before .before .before .before .before .before .before .before))
-
-slice-aggregate-apply-set-3 : tie.Need-slice-aggregate-apply-set-3
-slice-aggregate-apply-set-3 c = sym (long-entries (c .before .before .before .before .before .before .before .before .before .before .before .before .before .before .before))
-
-apply-set-requires : tie.Need-apply-set-requires
-apply-set-requires c κs = search needs
-
-concluded-requires : tie.Need-concluded-requires
-concluded-requires c κs = search needs
-
-enum-known-change : tie.Need-enum-known-change
-enum-known-change c = search needs
+commit-batch-requires : tie.Need-commit-batch-requires
+commit-batch-requires c κs = search needs
 
 returns-3 : tie.Need-returns-3
 unfolding gateOf
 returns-3 c =
-    let gate = ap gateOf (sym (c .before .before .before .before .before .before .before .before .before .before .before .before .before .before .before .enum-told .given .1)) in
-    let checked = c .before .before .before .before .before .before .before .before .before .before .before .before .before .before .before .before .before .check-session .ensures in
-    let run = c .before .before .before .before .before .apply-set .result in (
+    let gate = ap gateOf (sym (c .before .before .before .enum-told .given .1)) in
+    let checked = c .before .before .before .before .before .check-session .ensures in
+    let done = c .commit-batch .ensures in (
+      record { became = λ m h. batch-commits _ m h _ _ _ _ (gate ∙ checked .0 m (seen _ m h)) (λ ps reads count. done .0 m ps h reads (λ none. false≢true (sym (sym (c .before .before .is-empty .ensures) ∙ c .before .if1 .left) ∙ eq-eqb _ 0 none))) },
       record {
-        became = λ m h. batch-commits _ m h _ _ _ _ (gate ∙ checked .0 m (seen _ m h)) (λ ps reads count. commits-stopped _ m h _ ps run _ _ (other run (c .match2 .keys2)) (became (c .before .before .before .before .before) m ps h reads) (c .before .concluded .ensures));
-      },
-      record {
-        kept = λ n. refl;
-        row = change-row _ _ _ _ run (c .before .concluded .ensures);
-        preflight = λ f n h. never-passes (sym (gate ∙ checked .1 .1 f n h));
-      },
-    )
-
-advanced-requires : tie.Need-advanced-requires
-advanced-requires c κs = search needs
-
-session-of-requires : tie.Need-session-of-requires
-session-of-requires c κs = search needs
-
--- the answer where the run ended
-answered : (c : tie.After-session-of) → let a = c .before .before .before .before .before .before .before .before .before .before .before .before .before .before .before .before .before .before .before .before .before .before .before .before .before .args in batchAnswerOf (c .before .before .before .before .before .concluded .result) ≡ answerAt applied (at (a .envelope .«sequence_no»))
-unfolding changeAnswer
-answered c =
-    let a = c .before .before .before .before .before .before .before .before .before .before .before .before .before .before .before .before .before .before .before .before .before .before .before .before .before .args in
-    c .before .before .before .before .before .concluded .ensures ∙ ap (changeAnswer (a .self .context .limits .«max_diagnostics_per_transition») (cursorOf (a .self .state .«replay_cursor»)) (a .envelope .«sequence_no»)) (c .before .before .before .change .given .1)
-
--- a run that ended, with the session that was made of the tables
-handed : (c : tie.After-session-of) → let a = c .before .before .before .before .before .before .before .before .before .before .before .before .before .before .before .before .before .before .before .before .before .before .before .before .before .args in (m : Session) (ps : List Patch) → Holds (a .self) m → readSet v1 (now (a .set)) ≡ patches ps
-    → BatchBecame (record { session = c .session-of .result; result = c .before .before .before .before .before .concluded .result }) (commit m (envelopeMeans (a .envelope)) (candidate m ps))
-unfolding changeAnswer
-handed c m ps h reads =
-    let a = c .before .before .before .before .before .before .before .before .before .before .before .before .before .before .before .before .before .before .before .before .before .before .before .before .before .args in
-    let call = c .before .before .before .before .before .before .before .before .before in
-    let result = c .before .before .before .before .before .concluded .result in
-    let ended = c .before .before .before .change .given in
-    let stored = subst (λ (r : SetChange). ChangeBecame (λ i k q. StoredTables k (call .apply-set .last .0) (call .apply-set .last .1 .0) (call .apply-set .last .1 .1 .0) q) r (candidate m ps)) (ended .1) (became call m ps h reads) in
-    subst (λ (s : ShellSession). BatchBecame (record { session = s; result = result }) (commit m (envelopeMeans (a .envelope)) (candidate m ps))) (sym (c .session-of .ensures))
-    (commits-applied (a .self) m h (envelopeMeans (a .envelope)) ps (ended .0 .0) (ended .0 .1 .0) (call .apply-set .last .0) (call .apply-set .last .1 .0) (call .apply-set .last .1 .1 .0) (c .before .advanced .result) result (λ none. false≢true (sym (sym (c .before .before .before .before .before .before .before .before .before .before .before .before .before .before .before .before .before .before .is-empty .ensures) ∙ c .before .before .before .before .before .before .before .before .before .before .before .before .before .before .before .before .before .if1 .left) ∙ eq-eqb (a .envelope .«patch_count») 0 none)) stored (c .before .advanced .ensures) (answered c))
-
-returns-4 : tie.Need-returns-4
-unfolding gateOf
-returns-4 c =
-    let gate = ap gateOf (sym (c .before .before .before .before .before .before .before .before .before .before .before .before .before .before .before .before .before .before .before .enum-told .given .1)) in
-    let checked = c .before .before .before .before .before .before .before .before .before .before .before .before .before .before .before .before .before .before .before .before .before .check-session .ensures in (
-      record { became = λ m h. batch-commits _ m h _ _ _ _ (gate ∙ checked .0 m (seen _ m h)) (λ ps reads count. handed c m ps h reads) },
-      record {
-        kept = kept-applied _ _ _ (answered c);
-        row = appliedRow (answered c);
+        kept = done .1 .0;
+        row = done .1 .1;
         preflight = λ f n h. never-passes (sym (gate ∙ checked .1 .1 f n h));
       },
     )
@@ -189,13 +87,5 @@ apply-projection-patch-batch-spec =
     is-empty-requires
     unchanged-requires
     returns-2
-    slice-aggregate-apply-set
-    slice-aggregate-apply-set-2
-    slice-aggregate-apply-set-3
-    apply-set-requires
-    concluded-requires
-    enum-known-change
-    returns-3
-    advanced-requires
-    session-of-requires
-    returns-4)
+    commit-batch-requires
+    returns-3)

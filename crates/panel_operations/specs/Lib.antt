@@ -1,2 +1,0 @@
-pub mod OperationChange
-pub mod OperationLaws
