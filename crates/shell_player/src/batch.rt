@@ -12,15 +12,7 @@ use session_steps::checks;
 use session_steps::checks::ActivatedShellSessionContext;
 use session_steps::states;
 ghost use mathlib.Core.Path.{_≡_};
-ghost use mathlib.Core.List.{List};
-ghost use Rattle.spec_patch.specs.Patch.{Patch};
-ghost use Rattle.spec_patch.specs.Edition.{v1};
-ghost use Rattle.spec_patch.specs.Read.{patches, readSet};
-ghost use Rattle.spec_session.specs.Session.{Session};
-ghost use Rattle.spec_session.specs.Batch.{commit, candidate};
-ghost use Rattle.session_gates.specs.Gates.{envelopeMeans};
-ghost use Rattle.shell_player.specs.Holds.{Holds};
-ghost use Rattle.shell_player.specs.Batches.{sessionOf, BatchBecame, KeptUnlessApplied, CallRow, BatchCall, AnyBatchCall};
+ghost use Rattle.shell_player.specs.Batches.{sessionOf, BatchCall, AnyBatchCall};
 
 // The session after a batch, and the batch's answer.
 pub struct ProjectionPatchBatch {
@@ -51,50 +43,8 @@ fn session_of(
     }
 }
 
-// Step 9, of a batch with patches that passed steps 1 to 8: the tables of the next session are written once. A batch that is not applied
-// hands the session back as it came.
-fn commit_batch(
-    session: ShellSession,
-    envelope: OrderedProjectionPatchBatchEnvelope,
-    set: &[u8],
-) -> ProjectionPatchBatch
-    ensures committed { λ r. ⌜ ((m : Session) (ps : List Patch) → Holds session m → readSet v1 (now (set .entry)) ≡ patches ps → (envelope .«patch_count» ≡ 0 → ⊥)
-        → BatchBecame r (commit m (envelopeMeans envelope) (candidate m ps))) ⌝ }
-    ensures kept { λ r. ⌜ KeptUnlessApplied session r ⌝ }
-    ensures row { λ r. ⌜ CallRow session envelope r ⌝ }
-{
-    let context = session.context;
-    let cap = context.limits.max_diagnostics_per_transition;
-    let state = session.state;
-    let cursor = state.replay_cursor;
-    let number = envelope.sequence_no;
-    let mut bindings = [0u8; LocalProjectionState::BINDING_BYTES];
-    let mut availability = [0u8; LocalProjectionState::AVAILABILITY_BYTES];
-    let mut entries = [0u8; LocalProjectionState::ENTRY_BYTES];
-    let change = panel_changes::apply_set(
-        &session.local_projection.bindings,
-        &session.local_projection.availability,
-        &session.local_projection.entries,
-        session.local_projection.counts,
-        set,
-        &mut bindings,
-        &mut availability,
-        &mut entries,
-    );
-    let result = answers::concluded(cap, change, cursor, number);
-    let SetChange::Applied(held) = change else {
-        return ProjectionPatchBatch { session, result };
-    };
-    let moved = states::advanced(state, number);
-    let next = session_of(context, moved, held, bindings, availability, entries);
-    ProjectionPatchBatch {
-        session: next,
-        result,
-    }
-}
-
 impl ShellSession {
-    // One batch: steps 1 to 9.
+    // One batch: steps 1 to 9. The tables of the next session are written once; a batch that is not applied hands the session back as it came.
     pub fn apply_projection_patch_batch(
         self,
         envelope: OrderedProjectionPatchBatchEnvelope,
@@ -122,6 +72,28 @@ impl ShellSession {
                 result: answers::unchanged(cursor),
             };
         }
-        commit_batch(self, envelope, set)
+        let mut bindings = [0u8; LocalProjectionState::BINDING_BYTES];
+        let mut availability = [0u8; LocalProjectionState::AVAILABILITY_BYTES];
+        let mut entries = [0u8; LocalProjectionState::ENTRY_BYTES];
+        let change = panel_changes::apply_set(
+            &self.local_projection.bindings,
+            &self.local_projection.availability,
+            &self.local_projection.entries,
+            self.local_projection.counts,
+            set,
+            &mut bindings,
+            &mut availability,
+            &mut entries,
+        );
+        let result = answers::concluded(cap, change, cursor, envelope.sequence_no);
+        let SetChange::Applied(held) = change else {
+            return ProjectionPatchBatch {
+                session: self,
+                result,
+            };
+        };
+        let moved = states::advanced(state, envelope.sequence_no);
+        let session = session_of(context, moved, held, bindings, availability, entries);
+        ProjectionPatchBatch { session, result }
     }
 }

@@ -7,11 +7,11 @@ use Rattle.bench.proofs.projections.replay_often.Statement.{statement}
 use Rattle.bench.proofs.projections.replay_often.Tie as tie
 
 abbrev Inv-loop : tie.InvT-loop
-Inv-loop fill set times bindings₀ availability₀ entries₀ counts₀ sum₀ left₀ bindings availability entries counts sum left =
+Inv-loop fill set times state bindings₀ availability₀ entries₀ sum₀ left₀ bindings availability entries sum left =
     (length bindings ≡ bindingBytes) × (length availability ≡ availabilityBytes) × (length entries ≡ entryBytes)
 
 abbrev μ-loop : tie.MeasureT-loop
-μ-loop fill set times bindings₀ availability₀ entries₀ counts₀ sum₀ left₀ bindings availability entries counts sum left =
+μ-loop fill set times state bindings₀ availability₀ entries₀ sum₀ left₀ bindings availability entries sum left =
     left
 
 filled-requires : tie.Need-filled-requires Inv-loop μ-loop
@@ -20,17 +20,20 @@ filled-requires c κs = search needs
 loop-holds : tie.Need-loop-holds Inv-loop μ-loop
 loop-holds c = search needs
 
-slice-aggregate-replay : tie.Need-slice-aggregate-replay Inv-loop μ-loop
-slice-aggregate-replay c = search needs
+slice-aggregate-apply-set : tie.Need-slice-aggregate-apply-set Inv-loop μ-loop
+slice-aggregate-apply-set c = search needs
 
-slice-aggregate-replay-2 : tie.Need-slice-aggregate-replay-2 Inv-loop μ-loop
-slice-aggregate-replay-2 c = search needs
+slice-aggregate-apply-set-2 : tie.Need-slice-aggregate-apply-set-2 Inv-loop μ-loop
+slice-aggregate-apply-set-2 c = search needs
 
-slice-aggregate-replay-3 : tie.Need-slice-aggregate-replay-3 Inv-loop μ-loop
-slice-aggregate-replay-3 c = search needs
+slice-aggregate-apply-set-3 : tie.Need-slice-aggregate-apply-set-3 Inv-loop μ-loop
+slice-aggregate-apply-set-3 c = search needs
 
-replay-requires : tie.Need-replay-requires Inv-loop μ-loop
-replay-requires c κs = search needs
+apply-set-requires : tie.Need-apply-set-requires Inv-loop μ-loop
+apply-set-requires c κs = search needs
+
+enum-known-change : tie.Need-enum-known-change Inv-loop μ-loop
+enum-known-change c = search needs
 
 mix-requires : tie.Need-mix-requires Inv-loop μ-loop
 mix-requires c κs = search needs
@@ -55,10 +58,11 @@ replay-often-spec =
     μ-loop
     filled-requires
     loop-holds
-    slice-aggregate-replay
-    slice-aggregate-replay-2
-    slice-aggregate-replay-3
-    replay-requires
+    slice-aggregate-apply-set
+    slice-aggregate-apply-set-2
+    slice-aggregate-apply-set-3
+    apply-set-requires
+    enum-known-change
     mix-requires
     sub-left
     loop-less

@@ -1,18 +1,56 @@
 -- `ShellSession::apply_projection_patch_batch` meets its contract: steps 1 to 8, then step 9, by what came of the operations.
-use borrow.Author.Tests.{eq-eqb, eqb-true}
-use mathlib.Core.Path.{refl, sym, ap, _∙_}
+use mathlib.Core.Path.{_≡_, refl, sym, ap, subst, _∙_}
 use mathlib.Core.Bool.{false≢true}
-use Rattle.spec_session.specs.BatchLaws.{never-passes}
-use Rattle.session_gates.specs.Gates.{gateOf, counted}
-use Rattle.shell_player.specs.declared.session.ShellSession.{ShellSession}
-use Rattle.session_steps.specs.Answers.{rejectedRow, unchangedRow}
-use Rattle.session_steps.specs.AnswersLaws.{same-rejection}
-use Rattle.shell_player.specs.CommitLaws.{seen, commits-none, batch-rejects, batch-commits}
+use mathlib.Core.List.{List, [], _∷_}
+use mathlib.Core.Logic.{inl, inr}
+use denote.Enum.Declared.{tagOf}
+use denote.Ref.{now}
+use types.Run.{OneOf}
+use native.Mathlib.Omega.{arith}
 use borrow.Author.Needs.{needs}
+use borrow.Author.Tests.{eq-eqb, eqb-true}
+use Rattle.spec_patch.specs.Patch.{Patch}
+use Rattle.spec_patch.specs.Edition.{v1}
+use Rattle.spec_patch.specs.Read.{patches, readSet}
+use Rattle.spec_session.specs.Session.{at, Session}
+use Rattle.spec_session.specs.Lifecycle.{applied}
+use Rattle.spec_session.specs.Batch.{candidate, commit}
+use Rattle.spec_session.specs.BatchLaws.{never-passes}
+use Rattle.local_projection_state.specs.Stores.{StoredTables}
+use Rattle.panel_changes.proofs.SetChange as set-change
+use Rattle.panel_changes.specs.SetChanges.{ChangeBecame}
+use Rattle.panel_changes.specs.SetChangesLaws.{zeros-lengths}
+use Rattle.panel_changes.specs.declared.SetChange.{SetChange}
+use Rattle.panel_changes.specs.declared.SetChange.the-variants.{Applied, Refused, Unreadable, BadTables}
+use Rattle.session_gates.specs.Gates.{gateOf, counted, envelopeMeans}
+use Rattle.session_steps.specs.Answers.{batchAnswerOf, answerAt, changeAnswer, Stopped, rejectedRow, unchangedRow, appliedRow}
+use Rattle.session_steps.specs.AnswersLaws.{same-rejection, change-row}
+use Rattle.shell_player.specs.declared.session.ShellSession.{ShellSession}
+use Rattle.shell_player.specs.Holds.{Holds}
+use Rattle.shell_player.specs.Batches.{BatchBecame}
+use Rattle.shell_player.specs.CommitLaws.{kept-applied, seen, commits-none, commits-stopped, commits-applied, batch-rejects, batch-commits}
 use Rattle.shell_player.proofs.session.ShellSession.apply_projection_patch_batch.Statement.{
   statement,
 }
 use Rattle.shell_player.proofs.session.ShellSession.apply_projection_patch_batch.Tie as tie
+
+-- a change of another variant than Applied
+other : (r : SetChange) → OneOf (1 ∷ 2 ∷ 3 ∷ []) (tagOf set-change.the-type r) → Stopped r
+other (Applied n) (inl e) = absurd (omega arith)
+other (Applied n) (inr (inl e)) = absurd (omega arith)
+other (Applied n) (inr (inr e)) = absurd (omega arith)
+other (Refused e) k = tt
+other (Unreadable f) k = tt
+other BadTables k = tt
+
+-- the tables that the call wrote
+abbrev Tables : tie.After-apply-set → SetChange → (m : Session) (ps : List Patch) → Type 0
+Tables c r m ps = ChangeBecame (λ n q. StoredTables n (c .apply-set .last .1 .1 .1 .1 .1 .0) (c .apply-set .last .1 .1 .1 .1 .1 .1 .0) (c .apply-set .last .1 .1 .1 .1 .1 .1 .1 .0) q) r (candidate m ps)
+
+-- what came of the operations
+became : (c : tie.After-apply-set) → let a = c .before .before .before .before .before .before .before .before .before .before .before .before .before .before .before .before .before .before .before .before .args in (m : Session) (ps : List Patch) → Holds (a .t1) m → readSet v1 (now (a .set)) ≡ patches ps → Tables c (c .apply-set .result) m ps
+unfolding candidate
+became c m ps h reads = c .apply-set .ensures .0 (m .projection) ps (h .projection) reads zeros-lengths
 
 check-session-requires : tie.Need-check-session-requires
 check-session-requires c κs = search needs
@@ -58,19 +96,74 @@ returns-2 c =
       },
     )
 
-commit-batch-requires : tie.Need-commit-batch-requires
-commit-batch-requires c κs = search needs
+slice-aggregate-apply-set : tie.Need-slice-aggregate-apply-set
+slice-aggregate-apply-set c = search needs
+
+slice-aggregate-apply-set-2 : tie.Need-slice-aggregate-apply-set-2
+slice-aggregate-apply-set-2 c = search needs
+
+slice-aggregate-apply-set-3 : tie.Need-slice-aggregate-apply-set-3
+slice-aggregate-apply-set-3 c = search needs
+
+apply-set-requires : tie.Need-apply-set-requires
+apply-set-requires c κs = search needs
+
+concluded-requires : tie.Need-concluded-requires
+concluded-requires c κs = search needs
+
+enum-known-change : tie.Need-enum-known-change
+enum-known-change c = search needs
 
 returns-3 : tie.Need-returns-3
 unfolding gateOf
 returns-3 c =
-    let gate = ap gateOf (sym (c .before .before .before .enum-told .given .1)) in
-    let checked = c .before .before .before .before .before .check-session .ensures in
-    let done = c .commit-batch .ensures in (
-      record { became = λ m h. batch-commits _ m h _ _ _ _ (gate ∙ checked .0 m (seen _ m h)) (λ ps reads count. done .0 m ps h reads (λ none. false≢true (sym (sym (c .before .before .is-empty .ensures) ∙ c .before .if1 .left) ∙ eq-eqb _ 0 none))) },
+    let gate = ap gateOf (sym (c .before .before .before .before .before .before .before .before .before .before .before .before .before .before .before .before .before .before .before .enum-told .given .1)) in
+    let checked = c .before .before .before .before .before .before .before .before .before .before .before .before .before .before .before .before .before .before .before .before .before .check-session .ensures in
+    let call = c .before .before .before .before .before in
+    let change = call .apply-set .result in
+    let told = c .before .concluded .ensures in (
+      record { became = λ m h. batch-commits _ m h _ _ _ _ (gate ∙ checked .0 m (seen _ m h)) (λ ps reads count. commits-stopped _ m h _ ps change _ _ (other change (c .match2 .keys2)) (became call m ps h reads) told) },
       record {
-        kept = done .1 .0;
-        row = done .1 .1;
+        kept = λ n. refl;
+        row = change-row _ _ _ _ change told;
+        preflight = λ f n h. never-passes (sym (gate ∙ checked .1 .1 f n h));
+      },
+    )
+
+advanced-requires : tie.Need-advanced-requires
+advanced-requires c κs = search needs
+
+session-of-requires : tie.Need-session-of-requires
+session-of-requires c κs = search needs
+
+-- the answer where the set was applied
+answered : (c : tie.After-session-of) → batchAnswerOf (c .before .before .before .before .before .concluded .result) ≡ answerAt applied (at (c .before .before .before .before .before .before .before .before .before .before .before .before .before .before .before .before .before .before .before .before .before .before .before .before .before .before .before .before .before .args .envelope .«sequence_no»))
+unfolding changeAnswer
+answered c = c .before .before .before .before .before .concluded .ensures ∙ ap (changeAnswer _ _ _) (c .before .before .before .change .given .1)
+
+-- the session that was made of the tables
+handed : (c : tie.After-session-of) → let a = c .before .before .before .before .before .before .before .before .before .before .before .before .before .before .before .before .before .before .before .before .before .before .before .before .before .before .before .before .before .args in (m : Session) (ps : List Patch) → Holds (a .t1) m → readSet v1 (now (a .set)) ≡ patches ps → (a .envelope .«patch_count» ≡ 0 → ⊥)
+    → BatchBecame (record { session = c .session-of .result; result = c .before .before .before .before .before .concluded .result }) (commit m (envelopeMeans (a .envelope)) (candidate m ps))
+handed c m ps h reads some =
+    let a = c .before .before .before .before .before .before .before .before .before .before .before .before .before .before .before .before .before .before .before .before .before .before .before .before .before .before .before .before .before .args in
+    let call = c .before .before .before .before .before .before .before .before .before in
+    let result = c .before .before .before .before .before .concluded .result in
+    let ended = c .before .before .before .change .given in
+    let stored : Tables call (Applied (ended .0 .0)) m ps = subst (λ r. Tables call r m ps) (ended .1) (became call m ps h reads) in
+    subst (λ (s : ShellSession). BatchBecame (record { session = s; result = result }) (commit m (envelopeMeans (a .envelope)) (candidate m ps))) (sym (c .session-of .ensures))
+    (commits-applied (a .t1) m h (envelopeMeans (a .envelope)) ps (ended .0 .0) _ _ _ (c .before .advanced .result) result some stored (c .before .advanced .ensures) (answered c))
+
+returns-4 : tie.Need-returns-4
+unfolding gateOf
+returns-4 c =
+    let gate = ap gateOf (sym (c .before .before .before .before .before .before .before .before .before .before .before .before .before .before .before .before .before .before .before .before .before .before .before .enum-told .given .1)) in
+    let checked = c .before .before .before .before .before .before .before .before .before .before .before .before .before .before .before .before .before .before .before .before .before .before .before .before .before .check-session .ensures in (
+      record {
+        became = λ m h. batch-commits _ m h _ _ _ _ (gate ∙ checked .0 m (seen _ m h)) (λ ps reads count. handed c m ps h reads (λ none. false≢true (sym (sym (c .before .before .before .before .before .before .before .before .before .before .before .before .before .before .before .before .before .before .before .before .before .before .is-empty .ensures) ∙ c .before .before .before .before .before .before .before .before .before .before .before .before .before .before .before .before .before .before .before .before .before .if1 .left) ∙ eq-eqb _ 0 none)));
+      },
+      record {
+        kept = kept-applied _ _ _ (answered c);
+        row = appliedRow (answered c);
         preflight = λ f n h. never-passes (sym (gate ∙ checked .1 .1 f n h));
       },
     )
@@ -87,5 +180,13 @@ apply-projection-patch-batch-spec =
     is-empty-requires
     unchanged-requires
     returns-2
-    commit-batch-requires
-    returns-3)
+    slice-aggregate-apply-set
+    slice-aggregate-apply-set-2
+    slice-aggregate-apply-set-3
+    apply-set-requires
+    concluded-requires
+    enum-known-change
+    returns-3
+    advanced-requires
+    session-of-requires
+    returns-4)
