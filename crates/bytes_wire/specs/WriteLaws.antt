@@ -4,7 +4,7 @@ use mathlib.Core.Path.{_≡_, refl, sym, ap, ap₂, _∙_}
 use mathlib.Core.Bool.{Bool, true, false}
 use mathlib.Core.List.{List, _++_, append-assoc}
 use native.Mathlib.Omega.{arith}
-use borrow.Author.Tests.{leb-true, leb-false, le-leb, lt-leb}
+use borrow.Author.Tests.{leb-true, le-leb, lt-leb}
 use lib.ListN.{length, take, drop, length-append}
 use lib.Seq.{length-paste, take-length, take-at, drop-at, drop-drop, length-take-le}
 use Rattle.bytes_wire.specs.Write.{hasRoom, overwrite}
@@ -15,10 +15,6 @@ module _ (l : List ℕ) (at n : ℕ) where
   pub room-true : hasRoom l at n ≡ true → at + n ≤ length l
   unfolding hasRoom
   room-true = leb-true (at + n) (length l)
-
-  pub room-false : hasRoom l at n ≡ false → length l < at + n
-  unfolding hasRoom
-  room-false = leb-false (at + n) (length l)
 
   pub has-room : at + n ≤ length l → hasRoom l at n ≡ true
   unfolding hasRoom

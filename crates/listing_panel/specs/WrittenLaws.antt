@@ -7,7 +7,7 @@ use native.Mathlib.Omega.{arith}
 use lib.ListN.{length, take, drop, length-take}
 use Rattle.spec_lists.specs.Lists.{if_then_else_}
 use Rattle.bytes_wire.specs.Write.{hasRoom, overwrite}
-use Rattle.bytes_wire.specs.WriteLaws.{room-true, has-room, overwrite-refused, take-overwrite, drop-past-overwrite}
+use Rattle.bytes_wire.specs.WriteLaws.{room-true, overwrite-refused, drop-past-overwrite}
 use Rattle.bytes_printer.specs.declared.Printed.{Printed}
 use Rattle.bytes_printer.specs.declared.Printed.the-variants.{Next, NoRoom}
 use Rattle.bytes_printer.specs.Prints.{Prints}
@@ -68,12 +68,3 @@ module _ {before lines after : List ℕ} {r : Written} (w : Writes before lines 
       go : (t : Bool) → hasRoom before 0 (length lines) ≡ t → Wrote n ≡ (if t then Wrote (0 + length lines) else Refused OutputTooShort) → n ≤ length before
       go true room q = let same : n ≡ 0 + length lines = cc in omega (arith, room-true before 0 (length lines) room)
       go false full q = absurd (let z : _≡_ {A = ℕ} 0 1 = cc in omega arith)
-
-  -- where there is room the lines are written
-  pub whole-written : length lines ≤ length before → (r ≡ Wrote (length lines)) × (take (length lines) after ≡ lines)
-  whole-written h =
-      let room : hasRoom before 0 (length lines) ≡ true = has-room before 0 (length lines) (omega arith) in
-      let none-before : 0 + length lines ≡ length lines = omega arith in (
-        w .answer ∙ rw room (ap Wrote none-before),
-        ap (λ (n : ℕ). take n after) (sym none-before) ∙ ap (take (0 + length lines)) (w .output) ∙ take-overwrite before 0 lines (length lines) refl room,
-      )

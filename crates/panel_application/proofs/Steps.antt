@@ -19,7 +19,6 @@ abbrev Became : (b a e : List ℕ) → SetChange → Outcome → Type 0
 Became b a e = ChangeBecame (λ n q. StoredTables n b a e q)
 
 module _ (b a e : List ℕ) {r : SetChange} (x : Outcome) (h : Became b a e r x) where
-
   pub set-applied : (n : ProjectionCounts) → r ≡ change.Applied n → StepsBecame (record { counts = n; bindings = b; availability = a; entries = e }) Applied x
   set-applied n is = go x (subst (λ z. Became b a e z x) is h)
     where

@@ -4,22 +4,20 @@ ghost use mathlib.Core.Path.{_≡_};
 ghost use mathlib.Core.List.{List};
 ghost use Prim.Native.Nat.{ℕ, _*_, _<_};
 ghost use lib.ListN.{length};
-ghost use Rattle.spec_patch.specs.Sizes.{projectionBindings, projectionAvailabilities};
+ghost use Rattle.spec_patch.specs.Sizes.{projectionAvailabilities};
 ghost use Rattle.spec_patch.specs.Patch.{unsigned};
 ghost use Rattle.spec_projection.specs.Projection.{Projection};
 ghost use Rattle.spec_projection.specs.Apply.{operationFaultNumber, applyBinding, applyAvailability};
 ghost use Rattle.spec_projection.specs.Valid.{Valid};
 ghost use Rattle.bytes_records.specs.Table.{Holds, Wide};
 ghost use Rattle.bytes_records.specs.Search.{upsertAt, PlaceWithin};
-ghost use Rattle.patch_part_writer.specs.Extent.{valueText, Within};
-ghost use Rattle.projection_patch.specs.Meaning.{valueOf, availabilityOf};
-ghost use Rattle.panel_rows.specs.Rows.{bindingWidth, availabilityWidth, bindingRow, availabilityRow};
+ghost use Rattle.projection_patch.specs.Meaning.{availabilityOf};
+ghost use Rattle.panel_rows.specs.Rows.{availabilityWidth, availabilityRow};
 ghost use Rattle.local_projection_state.specs.Stores.{Stored};
 ghost use Rattle.panel_plan.specs.PlanRows.{PlannedBindings};
 ghost use Rattle.panel_bindings.specs.Change.{faultOf, Became, Kept, RowsBecame};
 use bytes_records::Place;
 use projection_patch::patch::ProjectionNodeAvailability;
-use projection_patch::patch::ProjectionPatchValue;
 
 // Why an operation is refused.
 pub enum LocalProjectionApplicationError {
@@ -64,34 +62,6 @@ fn upsert_row(table: &mut [u8], width: usize, count: usize, place: Place, row: &
             TableChange::Refused(LocalProjectionApplicationError::ProjectionFull)
         }
     }
-}
-
-// Sets a binding's value in a table of bindings.
-pub fn set_binding_value(
-    table: &mut [u8],
-    count: usize,
-    node: u64,
-    slot: u32,
-    value: ProjectionPatchValue,
-    texts: &[u8],
-) -> TableChange
-    requires { ⌜ Within (now texts) (valueText value) ⌝ }
-    ensures made { λ r. ⌜ ((p : Projection) → Stored bindingRow bindingWidth projectionBindings count (now (table .entry)) (p .bindings) → Valid p
-        → Became (λ n q. Stored bindingRow bindingWidth projectionBindings n (now (table .exit)) (q .bindings)) r
-        (applyBinding p (record { node = node; slot = slot; value = valueOf (now (texts .entry)) value }))) ⌝ }
-    ensures kept { λ r. ⌜ Kept r (now (table .entry)) (now (table .exit)) ⌝ }
-{
-    let width = panel_rows::BINDING_WIDTH;
-    let row = panel_rows::binding_row(node, slot, value, texts);
-    let place = bytes_records::find_pair_place(
-        table,
-        width,
-        count,
-        node,
-        panel_rows::SLOT_WIDTH,
-        slot as u64,
-    );
-    upsert_row(table, width, count, place, &row)
 }
 
 // Sets a binding's source in a table of planned bindings.

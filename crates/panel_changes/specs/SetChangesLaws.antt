@@ -35,9 +35,9 @@ use Rattle.panel_plan.specs.Plan.{planOf, numbered, bindingWith, entryWith}
 use Rattle.panel_plan.specs.PlanValid.{plan-valid}
 use Rattle.panel_plan.specs.PlanRows.{PlannedBindings, PlannedEntries, StoredPlan}
 use Rattle.panel_plan.specs.Resolved.{Resolution, resolved}
-use Rattle.panel_plan_steps.specs.Runs.{RunBecame, PlannedAs}
-use Rattle.panel_plan_steps.specs.declared.PlanRun.{PlanRun}
-use Rattle.panel_plan_steps.specs.declared.PlanRun.the-variants as plan
+use Rattle.panel_steps.specs.Runs.{RunBecame, PlannedAs}
+use Rattle.panel_steps.specs.declared.PlanRun.{PlanRun}
+use Rattle.panel_steps.specs.declared.PlanRun.the-variants as plan
 use Rattle.panel_bindings.specs.declared.LocalProjectionApplicationError.{LocalProjectionApplicationError}
 use Rattle.projection_patch.specs.declared.read_values.ProjectionPatchReadFault.{ProjectionPatchReadFault}
 use Rattle.panel_writing.specs.Writing.{canWrite}

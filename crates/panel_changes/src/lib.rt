@@ -18,13 +18,13 @@ ghost use Rattle.patch_walk.specs.Steps.{AtSteps};
 ghost use Rattle.panel_rows.specs.Rows.{bindingBytes, availabilityBytes, entryBytes};
 ghost use Rattle.local_projection_state.specs.Stores.{StoredTables};
 ghost use Rattle.panel_plan.specs.PlanRows.{PlannedBindings, PlannedEntries};
-ghost use Rattle.panel_plan_steps.specs.Runs.{RunBecame, PlannedAs};
+ghost use Rattle.panel_steps.specs.Runs.{RunBecame, PlannedAs};
 ghost use Rattle.panel_changes.specs.SetChanges.{tablesFit, countsFit, TableLengths, ChangeBecame, KeptUnlessApplied};
 use local_projection_state::LocalProjectionState;
 use local_projection_state::ProjectionCounts;
 use panel_bindings::LocalProjectionApplicationError;
 use panel_plan::fill;
-use panel_plan_steps::PlanRun;
+use panel_steps::PlanRun;
 use patch_walk::SetCursor;
 use patch_walk::SetOpening;
 use projection_patch::read_values::ProjectionPatchReadFault;
@@ -139,7 +139,7 @@ fn plan_set(
     fill::plan_bindings(from_bindings, counts.bindings, bindings);
     bytes_records::moves::copy(from_availability, availability);
     fill::plan_entries(from_entries, counts.entries, entries);
-    panel_plan_steps::plan_steps(bindings, availability, entries, counts, set, cursor)
+    panel_steps::plan_steps(bindings, availability, entries, counts, set, cursor)
 }
 
 // Plans the operations from a cursor on, and writes the tables when all of them have run.

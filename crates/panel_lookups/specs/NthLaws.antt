@@ -17,10 +17,6 @@ use Rattle.spec_projection.specs.Valid.{FitsEntry}
 use Rattle.panel_rows.specs.Rows.{entryRow}
 use Rattle.panel_lookups.specs.Nth.{countsFor}
 
-pub counts-one : (c : ℕ) (e : Entry) → countsFor c e ≤ 1
-unfolding entriesIn
-counts-one c e = test-cases (eqb (e .collection) c) (λ t. rw t (omega arith)) (λ t. rw t (omega arith))
-
 pub counts-test : (c : ℕ) (e : Entry) (n : ℕ) → (eqb (e .collection) c ≡ true → n ≡ 1) → (eqb (e .collection) c ≡ false → n ≡ 0) → n ≡ countsFor c e
 unfolding entriesIn
 counts-test c e n f g = test-cases (eqb (e .collection) c) (λ t. rw t (f t)) (λ t. rw t (g t))

@@ -1,6 +1,6 @@
 -- Rows that are numbered are the rows of the plan that a batch starts from.
 use Prim.Native.Nat.{ℕ, suc, _+_, _*_, _≤_, _<_}
-use mathlib.Core.Path.{_≡_, refl, sym, ap, ap₂, _∙_, subst}
+use mathlib.Core.Path.{_≡_, refl, ap₂, _∙_, subst}
 use mathlib.Core.List.{List, [], _∷_, _++_, map, append-assoc}
 use native.Mathlib.Nat.{mul-le-mul-right, le-of-mul-le-mul-right}
 use native.Mathlib.Omega.{arith}
@@ -9,15 +9,13 @@ use lib.Seq.{take-at}
 use Rattle.spec_lists.specs.BytesLaws.{length-littleEndian}
 use Rattle.spec_patch.specs.Patch.{Value}
 use Rattle.spec_patch.specs.Encode.{u32, u64}
-use Rattle.spec_projection.specs.Projection.{Binding, Entry, Projection}
+use Rattle.spec_projection.specs.Projection.{Binding, Entry}
 use Rattle.bytes_records.specs.Table.{Holds}
 use Rattle.bytes_records.specs.TableLaws.{fitting}
 use Rattle.panel_rows.specs.Rows.{bindingValueAt, entryValueAt, padded, bindingRow, entryRow}
-use Rattle.local_projection_state.specs.Stores.{Stored, StoredTables}
-use Rattle.local_projection_state.specs.declared.ProjectionCounts.{ProjectionCounts}
-use Rattle.panel_plan.specs.Plan.{old, numbered, bindingWith, entryWith, planOf}
-use Rattle.panel_plan.specs.PlanValid.{plan-valid}
-use Rattle.panel_plan.specs.PlanRows.{sourceWidth, plannedBindingRow, plannedEntryRow, PlannedBindings, PlannedEntries, StoredPlan}
+use Rattle.local_projection_state.specs.Stores.{Stored}
+use Rattle.panel_plan.specs.Plan.{old, numbered, bindingWith, entryWith}
+use Rattle.panel_plan.specs.PlanRows.{sourceWidth, plannedBindingRow, plannedEntryRow}
 use Rattle.panel_plan.specs.NumberedRows.{numberedRow, numberedRows}
 
 -- ids a and b, the number behind them
@@ -50,9 +48,3 @@ module _ {A : Type 0} (row planned : A → List ℕ) (put : A → Value → A) (
         size = same ∙ none .size;
         rows = subst (Holds (ids + sourceWidth) n exit) (rows-numbered 0 l) (made (map row l) wide (s .rows) (none .rows) (omega (arith, none .size)));
       }
-
--- the three tables: the plan that a batch starts from
-pub plan-stored : (p : Projection) {n : ProjectionCounts} {b a e b′ e′ : List ℕ} → StoredTables n b a e p → PlannedBindings (n .bindings) b′ (numbered bindingWith 0 (p .bindings))
-    → PlannedEntries (n .entries) e′ (numbered entryWith 0 (p .entries)) → StoredPlan n b′ a e′ (planOf p)
-unfolding planOf
-plan-stored p s bindings entries = record { bindings = bindings; availabilities = s .availabilities; entries = entries; valid = plan-valid p (s .valid) }

@@ -1,16 +1,13 @@
 -- Fields written one behind another over zeros are a row, with zeros behind them.
 use Prim.Native.Nat.{ℕ, _+_, _-_, _≤_}
 use mathlib.Core.Path.{_≡_, ap, _∙_}
-use mathlib.Core.List.{List, _++_, append-assoc, append-nil}
+use mathlib.Core.List.{List, _++_, append-nil}
 use native.Mathlib.Omega.{arith}
 use lib.ListN.{length, drop, length-append}
-use Rattle.spec_patch.specs.Patch.{Value}
-use Rattle.spec_patch.specs.Encode.{encodeValue}
 use Rattle.bytes_records.specs.Moves.{zeros}
 use Rattle.bytes_records.specs.MovesLaws.{length-zeros, drop-zeros}
 use Rattle.bytes_wire.specs.Write.{overwrite}
 use Rattle.bytes_wire.specs.WriteLaws.{has-room, overwrite-in-place, overwrite-append}
-use Rattle.panel_rows.specs.Rows.{valueWidth, padded}
 
 -- the first bytes over zeros
 over-zeros : (n k : ℕ) (bs : List ℕ) → length bs ≡ k → k ≤ n → overwrite (zeros n) 0 bs ≡ bs ++ zeros (n - k)
@@ -34,15 +31,3 @@ two-fields n k a b long h e f =
     both n k a b long (omega arith) e f
     ∙ over-zeros n n (a ++ b) (length-append a b ∙ omega arith) (omega arith)
     ∙ ap (λ (m : ℕ). a ++ b ++ zeros m) none ∙ append-nil (a ++ b)
-
--- two fields, and a value behind them that is padded to its width
-pub with-value : (front k size : ℕ) (a b : List ℕ) (v : Value) {one two three : List ℕ} → length a ≡ k → k + length b ≡ front → length (encodeValue v) ≡ size → size ≤ valueWidth
-    → one ≡ overwrite (zeros (front + valueWidth)) 0 a → two ≡ overwrite one k b → three ≡ overwrite two front (encodeValue v) → three ≡ a ++ (b ++ padded v)
-unfolding padded
-with-value front k size a b v long next value small e f g =
-    let rest : front + valueWidth - (front + size) ≡ valueWidth - length (encodeValue v) = omega arith in
-    let fields : length (a ++ b) ≡ front = length-append a b ∙ omega arith in
-    both (front + valueWidth) front (a ++ b) (encodeValue v) fields (omega arith) (both (front + valueWidth) k a b long (omega arith) e f) g
-    ∙ over-zeros (front + valueWidth) (front + size) (a ++ b ++ encodeValue v) (length-append (a ++ b) (encodeValue v) ∙ omega arith) (omega arith)
-    ∙ ap (λ (n : ℕ). a ++ b ++ encodeValue v ++ zeros n) rest
-    ∙ simp append-assoc

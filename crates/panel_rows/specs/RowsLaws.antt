@@ -1,15 +1,14 @@
 -- Laws of rows: their widths, that a row tells its record, and that the searches in a table see the model's keys.
 use Prim.Native.Nat.{ℕ, _+_, _-_, _^_, _≤_, _<_}
 use mathlib.Core.Path.{_≡_, refl, sym, ap, ap₂, _∙_}
-use mathlib.Core.Bool.{Bool, true, _&&_}
-use mathlib.Core.List.{List, [], _∷_, _++_, map, append-assoc, append-nil}
+use mathlib.Core.Bool.{Bool, true}
+use mathlib.Core.List.{List, [], _∷_, _++_, append-assoc, append-nil}
 use native.Mathlib.Omega.{arith}
 use borrow.Author.Tests.{leb-true, leb-false, le-leb, lt-leb}
-use lib.Dec.{ltb, eqb, leb}
+use lib.Dec.{leb}
 use lib.ListN.{length, length-append, length-replicate, drop}
 use lib.Seq.{take-at, drop-at, getD-at}
 use Rattle.spec_lists.specs.Bytes.{littleEndian}
-use Rattle.spec_lists.specs.Lists.{All}
 use Rattle.spec_lists.specs.ListLaws.{drop-behind, test-cases}
 use Rattle.spec_lists.specs.BytesLaws.{length-littleEndian, numberOf-littleEndian}
 use Rattle.spec_patch.specs.Patch.{Value, quad, signed, text, unsigned}
@@ -21,12 +20,10 @@ use Rattle.spec_patch.specs.Read.{readValueBy}
 use Rattle.spec_patch.specs.Codec.{Codec, pair-codec, injective}
 use Rattle.spec_patch.specs.ReadLaws.{u64-codec, value-codec-by, value-any, binding-fields, update-fields, availability-codec}
 use Rattle.spec_projection.specs.Projection.{Binding, NodeAvailability, Entry, bindingKey, availabilityKey}
-use Rattle.spec_projection.specs.Entries.{isEntry, isLater}
-use Rattle.spec_projection.specs.Valid.{Behind, Grouped, FitsBinding, FitsNodeAvailability, FitsEntry}
+use Rattle.spec_projection.specs.Valid.{FitsBinding, FitsNodeAvailability, FitsEntry}
 use Rattle.bytes_records.specs.Moves.{zeros}
 use Rattle.bytes_records.specs.Keys.{leadingNumbers}
 use Rattle.bytes_records.specs.Table.{Wide}
-use Rattle.bytes_records.specs.Search.{firstNumber, isAbove, isPair, Rising}
 use Rattle.panel_rows.specs.Rows.{idWidth, slotWidth, valueWidth, bindingSlotAt, bindingValueAt, bindingWidth, availabilityAt, availabilityWidth, entryKeyAt, entryValueAt, entryWidth, padded, bindingRow, availabilityRow, entryRow, fieldAt, nodeIn, slotIn, availabilityIn, collectionIn, keyIn, bindingFields, availabilityFields, filledRow, writtenRow}
 
 -- ---- widths
@@ -157,24 +154,6 @@ module _ (e : Entry) (h : FitsEntry e) where
   pub entry-key : keyIn (entryRow e) ≡ e .key
   unfolding entryRow
   entry-key = field-behind (u64 (e .collection)) _ entryKeyAt idWidth (e .key) (length-littleEndian idWidth (e .collection)) (h .key)
-
-pub entry-pair : (c k : ℕ) (e : Entry) → FitsEntry e → isPair c k (entryRow e) ≡ isEntry c k e
-unfolding isEntry
-entry-pair c k e h = ap₂ (λ x y. eqb x c && eqb y k) (entry-collection e h) (entry-key e h)
-
-pub entry-above : (c : ℕ) (e : Entry) → FitsEntry e → isAbove c (entryRow e) ≡ isLater c e
-unfolding isLater
-entry-above c e h = ap (λ x. ltb c x) (entry-collection e h)
-
--- rows of grouped entries rise by their collections
-behind-rows : (x : Entry) → FitsEntry x → (es : List Entry) → All FitsEntry es → All (Behind x) es → All (λ later. firstNumber (entryRow x) ≤ firstNumber later) (map entryRow es)
-behind-rows x h [] fit behind = tt
-behind-rows x h (e ∷ es) fit behind =
-    (omega (arith, entry-collection x h, entry-collection e (fit .0), behind .0 .collection), behind-rows x h es (fit .1) (behind .1))
-
-pub entries-rising : (es : List Entry) → All FitsEntry es → Grouped es → Rising (map entryRow es)
-entries-rising [] fit grouped = tt
-entries-rising (e ∷ es) fit grouped = (behind-rows e (fit .0) es (fit .1) (grouped .0), entries-rising es (fit .1) (grouped .1))
 
 -- ---- rows that are written
 

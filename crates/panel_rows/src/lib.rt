@@ -4,9 +4,8 @@ pub mod values;
 pub mod written;
 
 ghost use mathlib.Core.Path.{_≡_};
-ghost use Rattle.patch_part_writer.specs.Extent.{valueText, Within};
-ghost use Rattle.projection_patch.specs.Meaning.{valueOf, availabilityOf};
-ghost use Rattle.panel_rows.specs.Rows.{bindingRow, availabilityRow, entryRow};
+ghost use Rattle.projection_patch.specs.Meaning.{availabilityOf};
+ghost use Rattle.panel_rows.specs.Rows.{availabilityRow};
 use patch_part_writer::fields as operation_fields;
 use projection_patch::patch::ProjectionNodeAvailability;
 use projection_patch::patch::ProjectionPatchValue;
@@ -37,38 +36,6 @@ pub const ENTRY_KEY: usize = ID_WIDTH;
 pub const ENTRY_VALUE: usize = ENTRY_KEY + ID_WIDTH;
 
 pub const ENTRY_WIDTH: usize = ENTRY_VALUE + VALUE_WIDTH;
-
-pub fn entry_row(
-    collection: u64,
-    key: u64,
-    value: ProjectionPatchValue,
-    texts: &[u8],
-) -> [u8; ENTRY_WIDTH]
-    requires { ⌜ Within (now texts) (valueText value) ⌝ }
-    ensures { λ r. ⌜ r ≡ entryRow (record { collection = collection; key = key; value = valueOf (now (texts .entry)) value }) ⌝ }
-{
-    let mut row = [0u8; ENTRY_WIDTH];
-    bytes_wire::write_u64_at(&mut row, 0, collection);
-    bytes_wire::write_u64_at(&mut row, ENTRY_KEY, key);
-    operation_fields::store_value(&mut row, ENTRY_VALUE, value, texts);
-    row
-}
-
-pub fn binding_row(
-    node: u64,
-    slot: u32,
-    value: ProjectionPatchValue,
-    texts: &[u8],
-) -> [u8; BINDING_WIDTH]
-    requires { ⌜ Within (now texts) (valueText value) ⌝ }
-    ensures { λ r. ⌜ r ≡ bindingRow (record { node = node; slot = slot; value = valueOf (now (texts .entry)) value }) ⌝ }
-{
-    let mut row = [0u8; BINDING_WIDTH];
-    bytes_wire::write_u64_at(&mut row, 0, node);
-    bytes_wire::write_u32_at(&mut row, BINDING_SLOT, slot);
-    operation_fields::store_value(&mut row, BINDING_VALUE, value, texts);
-    row
-}
 
 pub fn availability_row(
     node: u64,

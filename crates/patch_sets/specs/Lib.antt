@@ -1,4 +1,3 @@
 pub mod Walk
 pub mod HeadLaws
 pub mod SetAnswers
-pub mod WalkLaws

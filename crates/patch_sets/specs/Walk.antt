@@ -1,14 +1,11 @@
 -- A walk over a set, as a client makes it: the heading, then each patch's head, then each of its operations.
-use Prim.Native.Nat.{ℕ, _+_, _≤_}
-use mathlib.Core.Path.{_≡_}
-use mathlib.Core.List.{List, _++_, flatMap}
-use lib.ListN.{length, drop}
-use Rattle.spec_lists.specs.Lists.{All}
+use Prim.Native.Nat.{ℕ, _+_}
+use mathlib.Core.List.{List, _++_}
+use lib.ListN.{length}
 use Rattle.spec_patch.specs.Sizes.{setPatches, patchOperations}
-use Rattle.spec_patch.specs.Patch.{Operation, Envelope, Patch}
+use Rattle.spec_patch.specs.Patch.{Envelope, Patch}
 use Rattle.spec_patch.specs.Edition.{v1}
-use Rattle.spec_patch.specs.Encode.{u32, encodeOperation, encodeEnvelope, encodePatch, heading}
-use Rattle.spec_patch.specs.Fits.{FitsOperation, FitsPatch}
+use Rattle.spec_patch.specs.Encode.{u32, encodeEnvelope, heading}
 use Rattle.spec_patch.specs.Reader.{Reader, mapped, pair, literal}
 use Rattle.spec_patch.specs.Read.{readCount, readEnvelope}
 
@@ -32,18 +29,3 @@ encodeHeading n = heading v1 ++ u32 n
 
 unfoldable pub encodeHead : Envelope × ℕ → List ℕ
 encodeHead h = encodeEnvelope (h .0) ++ u32 (h .1)
-
--- ---- where a walk stands
-
--- at a patch's start: these patches are left, and then the set ends
-pub record AtPatches (set : List ℕ) (at : ℕ) (ps : List Patch) : Type 0 where
-  pub inside : at ≤ length set
-  pub fit : All (FitsPatch v1) ps
-  pub left : drop at set ≡ flatMap encodePatch ps
-
--- inside a patch: these operations are left of it, then these patches, and then the set ends
-pub record AtOperations (set : List ℕ) (at : ℕ) (os : List Operation) (ps : List Patch) : Type 0 where
-  pub inside : at ≤ length set
-  pub fit : All (FitsOperation v1) os
-  pub fit-rest : All (FitsPatch v1) ps
-  pub left : drop at set ≡ flatMap encodeOperation os ++ flatMap encodePatch ps

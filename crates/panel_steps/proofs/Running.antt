@@ -1,0 +1,192 @@
+-- A run over a set, one step at a time: what is left, from the projection that the plan stands for now, gives what the whole gives.
+use Prim.Native.Nat.{ℕ, _+_, _≤_, _<_}
+use mathlib.Core.Path.{_≡_, refl, sym, ap, ap₂, _∙_, subst}
+use mathlib.Core.List.{List, [], _∷_, _++_, map, flatMap}
+use mathlib.Core.Option.{none, some}
+use native.Mathlib.Omega.{arith}
+use lib.ListN.{length, drop}
+use Rattle.spec_lists.specs.Lists.{All}
+use Rattle.spec_lists.specs.BytesLaws.{length-littleEndian}
+use Rattle.spec_patch.specs.Sizes.{projectionEntries}
+use Rattle.spec_patch.specs.Edition.{v1}
+use Rattle.spec_patch.specs.Patch.{unsigned, Operation, setBinding, setAvailability, insert, update, remove, move, Patch}
+use Rattle.spec_patch.specs.Encode.{encodeOptional}
+use Rattle.spec_patch.specs.Fits.{U64, OperationHolds, FitsOperation}
+use Rattle.spec_projection.specs.Projection.{Projection}
+use Rattle.spec_projection.specs.Apply.{Outcome, done, stopped, stepOf, patchSteps, replaySteps, applyStep, andThen, applyOperation, applySteps}
+use Rattle.spec_projection.specs.Valid.{Valid}
+use Rattle.projection_patch.specs.Meaning.{operationOf}
+use Rattle.projection_patch.specs.ReadAnswers.{lentFrom}
+use Rattle.projection_patch.specs.declared.patch.ProjectionPatch.{ProjectionPatch}
+use Rattle.projection_patch.specs.declared.patch.ProjectionPatchOperation.{ProjectionPatchOperation}
+use Rattle.projection_patch.specs.declared.patch.ProjectionPatchOperation.the-variants.{SetBindingValue, SetNodeAvailability, CollectionInsert, CollectionUpdate, CollectionRemove, CollectionMove}
+use Rattle.patch_walk.specs.Steps.{StepWithin, AtSteps}
+use Rattle.patch_walk.specs.StepsLaws.{Visited, Opened}
+use Rattle.patch_walk.specs.declared.SetCursor.{SetCursor}
+use Rattle.patch_walk.specs.declared.SetStep.{SetStep}
+use Rattle.patch_walk.specs.declared.SetStep.the-variants as set-step
+use Rattle.local_projection_state.specs.declared.ProjectionCounts.{ProjectionCounts}
+use Rattle.panel_plan.specs.Resolved.{Resolution, resolved, resolvedOutcome}
+use Rattle.panel_plan.specs.Plan.{new, resolution, planOf, withSource}
+use Rattle.panel_plan.specs.PlanLaws.{plan-resolves, planned-operation}
+use Rattle.panel_plan.specs.PlanRows.{StoredPlan}
+use Rattle.panel_plan.specs.PlanValid.{planned-fits}
+use Rattle.panel_plan.specs.SetValues.{valueIn, valueOffset, StandsAt}
+use Rattle.panel_plan.specs.SetValuesLaws.{value-there, value-stands}
+use Rattle.panel_plan.specs.SourcesLaws.{plan-sourced, operation-sourced}
+use Rattle.panel_bindings.specs.Change.{faultOf}
+use Rattle.panel_bindings.specs.declared.LocalProjectionApplicationError.{LocalProjectionApplicationError}
+use Rattle.panel_operations.specs.OperationChange.{plannedOperation, OperationBecame}
+use Rattle.panel_operations.specs.OperationLaws.{planned-is}
+use Rattle.panel_operations.specs.declared.OperationChange.{OperationChange}
+use Rattle.panel_operations.specs.declared.OperationChange.the-variants as operation
+use Rattle.panel_steps.specs.Runs.{RunBecame, PlannedAs}
+use Rattle.panel_steps.specs.declared.PlanRun.the-variants.{Planned, Refused}
+
+-- the bytes before a value are as many, whatever the value
+pub offset-is : (texts : List ℕ) (o : ProjectionPatchOperation) → valueOffset (operationOf texts o) ≡ valueOffset (operationOf [] o)
+unfolding valueOffset
+offset-is texts (SetBindingValue t v) = refl
+offset-is texts (SetNodeAvailability n a) = refl
+offset-is texts (CollectionInsert c k b v) = refl
+offset-is texts (CollectionUpdate c k v) = refl
+offset-is texts (CollectionRemove c k) = refl
+offset-is texts (CollectionMove c k b) = refl
+
+pub offset-small : (o : Operation) → valueOffset o ≤ 26
+unfolding valueOffset encodeOptional
+offset-small (setBinding n s v) = omega arith
+offset-small (setAvailability n a) = omega arith
+offset-small (insert c k none v) = omega arith
+offset-small (insert c k (some i) v) = omega (arith, length-littleEndian 8 i)
+offset-small (update c k v) = omega arith
+offset-small (remove c k) = omega arith
+offset-small (move c k before) = omega arith
+
+-- ---- where a step ends
+
+pub operation-within : (c : SetCursor) (size : ℕ) {r : SetStep} (x : ProjectionPatchOperation) (d : SetCursor) → r ≡ set-step.Operation x d → StepWithin c size r → (c .at < d .at) × (d .at ≤ size)
+operation-within c size x d is h = subst (StepWithin c size) is h
+
+pub head-within : (c : SetCursor) (size : ℕ) {r : SetStep} (x : ProjectionPatch) (d : SetCursor) → r ≡ set-step.Head x d → StepWithin c size r → (c .at < d .at) × (d .at ≤ size)
+head-within c size x d is h = subst (StepWithin c size) is h
+
+-- ---- a run
+
+-- operations of a patch are left, then patches; applying their steps to what the plan stands for gives what the whole run gives
+pub record Running (p : Projection) (set : List ℕ) (c : SetCursor) (n : ProjectionCounts) (b a e : List ℕ) (whole : Outcome) : Type 0 where
+  pub id : ℕ
+  pub os : List Operation
+  pub ps : List Patch
+  pub here : AtSteps v1 set c os ps
+  pub model : Projection
+  pub planned : PlannedAs v1 p set b a e n model
+  pub same : applySteps model (map (stepOf id) os ++ replaySteps ps) ≡ whole
+
+-- what an operation's answer makes of a run: it goes on, or its outcome is the operation's refusal
+abbrev After : Projection → List ℕ → SetCursor → (b a e : List ℕ) → Outcome → OperationChange → Type 0
+After p set d b a e whole (operation.Applied m) = Running p set d m b a e whole
+After p set d b a e whole (operation.Refused error) = whole ≡ stopped (faultOf error)
+
+pub record Turned (p : Projection) (set : List ℕ) (d : SetCursor) (b a e : List ℕ) (whole : Outcome) (r : OperationChange) : Type 0 where
+  after : After p set d b a e whole r
+
+module _ {p : Projection} {set : List ℕ} {d : SetCursor} {b a e : List ℕ} {whole : Outcome} {r : OperationChange} (t : Turned p set d b a e whole r) where
+  pub turned-on : {m : ProjectionCounts} → r ≡ operation.Applied m → Running p set d m b a e whole
+  turned-on is = subst (After p set d b a e whole) is (t .after)
+
+  pub turned-stop : (Next : ProjectionCounts → Projection → Type 0) {error : LocalProjectionApplicationError} → r ≡ operation.Refused error → RunBecame Next (Refused error) whole
+  turned-stop Next {error} is = subst (RunBecame Next (Refused error)) (sym (subst (After p set d b a e whole) is (t .after))) refl
+
+module _ {p : Projection} {set : List ℕ} where
+  pub run-start : {c : SetCursor} {n : ProjectionCounts} {b a e : List ℕ} (ps : List Patch) → Valid p → StoredPlan n b a e (planOf p) → AtSteps v1 set c [] ps → Running p set c n b a e (applySteps p (replaySteps ps))
+  run-start ps v s h = record {
+    id = 0;
+    os = [];
+    ps = ps;
+    here = h;
+    model = p;
+    planned = record { plan = planOf p; stored = s; sourced = plan-sourced v1 p set v; resolves = plan-resolves p (valueIn v1 set) (omega (arith, v .fewBindings)) (v .fewEntries) };
+    same = refl;
+  }
+
+  module _ {c : SetCursor} {n : ProjectionCounts} {b a e : List ℕ} {whole : Outcome} (run : Running p set c n b a e whole) where
+    pub run-end : (run .os ≡ []) × (run .ps ≡ []) → RunBecame (PlannedAs v1 p set b a e) (Planned n) whole
+    unfolding replaySteps flatMap applySteps
+    run-end all =
+        subst (RunBecame (PlannedAs v1 p set b a e) (Planned n))
+        (ap₂ (λ (os : List Operation) (ps : List Patch). applySteps (run .model) (map (stepOf (run .id)) os ++ replaySteps ps)) (sym (all .0)) (sym (all .1)) ∙ run .same) (run .planned)
+
+    -- a patch's head: its operations are left now
+    pub run-head : {head : ProjectionPatch} {d : SetCursor} → Opened v1 set c (run .os) (run .ps) head d → Running p set d n b a e whole
+    unfolding replaySteps patchSteps flatMap
+    run-head o = record {
+      id = o .first .envelope .id;
+      os = o .first .operations;
+      ps = o .rest;
+      here = o .next;
+      model = run .model;
+      planned = run .planned;
+      same = ap₂ (λ (os : List Operation) (ps : List Patch). applySteps (run .model) (map (stepOf (run .id)) os ++ replaySteps ps)) (sym (o .none)) (sym (o .is)) ∙ run .same;
+    }
+
+    -- ---- an operation
+
+    module _ {x : ProjectionPatchOperation} {d : SetCursor} (v : Visited v1 set c (run .os) (run .ps) x d) {source : ℕ} (is : source ≡ projectionEntries + (c .at + valueOffset (operationOf [] x))) where
+      abbrev at : ℕ
+      at = c .at + valueOffset (v .first)
+
+      fits : FitsOperation v1 (v .first)
+      fits = (subst (All (FitsOperation v1)) (v .is) (run .here .fit)) .0
+
+      -- its value stands at the source's position
+      stands : OperationHolds (StandsAt v1 set at) (v .first)
+      stands = value-stands v1 set (c .at) (v .first) (drop (d .at) set) fits (v .taken)
+
+      -- what is planned is the operation with that position
+      pub planned-here : plannedOperation source x ≡ withSource (new at) (v .first)
+      unfolding new
+      planned-here =
+          sym (planned-is (lentFrom set (c .at)) source x)
+          ∙ ap₂ (λ (n : ℕ) (o : Operation). withSource (unsigned n) o) (is ∙ ap (λ (k : ℕ). projectionEntries + (c .at + k)) (sym (offset-is (lentFrom set (c .at)) x) ∙ ap valueOffset (v .means))) (v .means)
+
+      pub fits-planned : U64 source → FitsOperation v1 (plannedOperation source x)
+      fits-planned h = subst (FitsOperation v1) (ap (withSource (unsigned source)) (sym (v .means)) ∙ planned-is (lentFrom set (c .at)) source x) (planned-fits v1 source (v .first) h fits)
+
+      abbrev R : Resolution
+      R = resolution p (valueIn v1 set)
+
+      abbrev left : Projection → Outcome
+      left q = applySteps q (map (stepOf (run .id)) (v .rest) ++ replaySteps (run .ps))
+
+      -- the whole, by what planning the operation gives
+      by-step : (y : Outcome) → applyOperation (run .planned .plan) (plannedOperation source x) ≡ y → andThen (resolvedOutcome R y) left ≡ whole
+      unfolding applySteps applyStep
+      by-step y e =
+          ap (λ z. andThen z left)
+          (sym (ap (λ q. applyOperation q (v .first)) (sym (run .planned .resolves)) ∙ planned-operation p (valueIn v1 set) at (StandsAt v1 set at) (value-there at) (run .planned .plan) (v .first) stands
+          ∙ ap (resolvedOutcome R) (ap (applyOperation (run .planned .plan)) (sym planned-here) ∙ e)))
+          ∙ ap (λ (os : List Operation). applySteps (run .model) (map (stepOf (run .id)) os ++ replaySteps (run .ps))) (sym (v .is)) ∙ run .same
+
+      -- the run after the operation, or the outcome of all: the operation's refusal
+      pub run-turn : (b′ a′ e′ : List ℕ) (r : OperationChange) → OperationBecame (λ m q. StoredPlan m b′ a′ e′ q) r (applyOperation (run .planned .plan) (plannedOperation source x)) → Turned p set d b′ a′ e′ whole r
+      run-turn b′ a′ e′ r became = record { after = go r (applyOperation (run .planned .plan) (plannedOperation source x)) refl became }
+        where
+          go : (r : OperationChange) (y : Outcome) → applyOperation (run .planned .plan) (plannedOperation source x) ≡ y → OperationBecame (λ m q. StoredPlan m b′ a′ e′ q) r y → After p set d b′ a′ e′ whole r
+          go (operation.Applied m) (done q) e h = record {
+            id = run .id;
+            os = v .rest;
+            ps = run .ps;
+            here = v .next;
+            model = resolved R q;
+            planned = record {
+              plan = q;
+              stored = h;
+              sourced = operation-sourced v1 p set (run .planned .plan) q at (v .first) stands (ap (applyOperation (run .planned .plan)) (sym planned-here) ∙ e) (run .planned .sourced);
+              resolves = refl;
+            };
+            same = by-step (done q) e;
+          }
+          go (operation.Applied m) (stopped f) e h = absurd h
+          go (operation.Refused error) (done q) e h = absurd h
+          go (operation.Refused error) (stopped f) e h = sym (by-step (stopped f) e) ∙ ap stopped (sym h)

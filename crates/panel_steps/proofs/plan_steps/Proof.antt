@@ -1,0 +1,203 @@
+-- `plan_steps` meets its contract: what is left, from the plan that is stored now, gives what the whole run gives; the measure is the bytes left.
+use Prim.Native.Nat.{ℕ, _+_, _-_}
+use mathlib.Core.Path.{_≡_, refl, ap}
+use mathlib.Core.Bool.{false}
+use mathlib.Core.List.{List, []}
+use native.Mathlib.Omega.{arith}
+use borrow.Author.Needs.{needs}
+use denote.Ref.{now}
+use lib.ListN.{length}
+use Rattle.spec_patch.specs.Sizes.{projectionEntries}
+use Rattle.spec_patch.specs.Edition.{v1}
+use Rattle.spec_patch.specs.Patch.{Patch}
+use Rattle.spec_projection.specs.Projection.{Projection}
+use Rattle.spec_projection.specs.Apply.{Outcome, replaySteps, applySteps}
+use Rattle.spec_projection.specs.Valid.{Valid}
+use Rattle.projection_patch.specs.Meaning.{operationOf}
+use Rattle.patch_walk.specs.Steps.{AtSteps}
+use Rattle.patch_walk.specs.StepsLaws.{visited, opened, done, never-refused}
+use Rattle.panel_plan.specs.Plan.{planOf}
+use Rattle.panel_plan.specs.PlanRows.{StoredPlan}
+use Rattle.panel_steps.proofs.Running.{offset-small, operation-within, head-within, Running, Turned, turned-on, turned-stop, run-start, run-head, run-end, fits-planned, run-turn}
+use Rattle.panel_steps.proofs.plan_steps.Statement.{statement}
+use Rattle.panel_steps.proofs.plan_steps.Tie as tie
+
+abbrev Inv-loop : tie.InvT-loop
+Inv-loop bindings₀ availability₀ entries₀ set held₀ cursor₀ bindings availability entries held cursor =
+    (length bindings ≡ length bindings₀) × (length availability ≡ length availability₀) × (length entries ≡ length entries₀)
+    × ((p : Projection) (ps : List Patch) → Valid p → StoredPlan held₀ bindings₀ availability₀ entries₀ (planOf p) → AtSteps v1 set cursor₀ [] ps
+    → Running p set cursor held bindings availability entries (applySteps p (replaySteps ps)))
+
+abbrev μ-loop : tie.MeasureT-loop
+μ-loop bindings₀ availability₀ entries₀ set held₀ cursor₀ bindings availability entries held cursor = length set - cursor .at
+
+loop-holds : tie.Need-loop-holds Inv-loop μ-loop
+loop-holds c = (refl, refl, refl, λ p ps v s h. run-start ps v s h)
+
+abbrev start : tie.At-loop Inv-loop μ-loop → tie.Start Inv-loop μ-loop
+start k = k .before .before .before .before .before
+
+-- where an operation's turn began
+abbrev top : tie.After-apply-operation Inv-loop μ-loop → tie.At-loop Inv-loop μ-loop
+top k = k .before .before .before .before .before .before .before .before .before .before
+
+next-step-requires : tie.Need-next-step-requires Inv-loop μ-loop
+next-step-requires c κs = search needs
+
+enum-known-next : tie.Need-enum-known-next Inv-loop μ-loop
+enum-known-next c = search needs
+
+loop-less : tie.Need-loop-less Inv-loop μ-loop
+loop-less c =
+    let top = c .before .before .before .before in
+    let within = head-within (top .loop .cursor) (length (now (start top .args .set))) _ _ (c .before .next .given .1) (c .before .before .before .next-step .ensures .1) in
+    omega (arith, within .0, within .1)
+
+loop-again : tie.Need-loop-again Inv-loop μ-loop
+loop-again c =
+    let step = c .before .before .before in
+    let l = step .before .loop in (
+      l .inv .0,
+      l .inv .1,
+      l .inv .2,
+      λ p ps v s h. let run = l .inv .3 p ps v s h in run-head run (opened false v1 (now (start (step .before) .args .set)) (l .cursor) (run .here) (step .next-step .ensures .0) _ _ (c .before .next .given .1)),
+    )
+
+enum-known-operation : tie.Need-enum-known-operation Inv-loop μ-loop
+enum-known-operation c = search needs
+
+value-offset-requires : tie.Need-value-offset-requires Inv-loop μ-loop
+value-offset-requires c κs = search needs
+
+add-at : tie.Need-add-at Inv-loop μ-loop
+add-at c =
+    let top = c .before .before .before .before .before .before in
+    let within = operation-within (top .loop .cursor) (length (now (start top .args .set))) _ _ (c .before .before .before .operation .given .1) (c .before .before .before .before .before .next-step .ensures .1) in
+    omega (arith, within .0, within .1, c .before .value-offset .ensures, offset-small (operationOf [] (c .before .before .before .operation .given .0 .0)))
+
+add-source : tie.Need-add-source Inv-loop μ-loop
+add-source c =
+    let top = c .before .before .before .before .before .before in
+    let within = operation-within (top .loop .cursor) (length (now (start top .args .set))) _ _ (c .before .before .before .operation .given .1) (c .before .before .before .before .before .next-step .ensures .1) in
+    omega (arith, within .0, within .1, c .before .value-offset .ensures, offset-small (operationOf [] (c .before .before .before .operation .given .0 .0)))
+
+apply-operation-requires : tie.Need-apply-operation-requires Inv-loop μ-loop
+apply-operation-requires c κs = search needs
+
+-- the operation's turn, whatever its answer
+turn : (k : tie.After-apply-operation Inv-loop μ-loop) (p : Projection) (whole : Outcome) → let l = top k .loop in let last = k .apply-operation .last in
+    Running p (now (start (top k) .args .set)) (l .cursor) (l .held) (l .bindings) (l .availability) (l .entries) whole
+    → Turned p (now (start (top k) .args .set)) (k .before .before .before .before .before .before .before .operation .given .0 .1 .0) (last .0) (last .1 .0) (last .1 .1 .0) whole (k .apply-operation .result)
+turn k p whole run =
+    let step = k .before .before .before .before .before .before .before .before .before in
+    let known = k .before .before .before .before .before .before .before in
+    let l = top k .loop in
+    let last = k .apply-operation .last in
+    let seen = visited false v1 (now (start (top k) .args .set)) (l .cursor) (run .here) (step .next-step .ensures .0) _ _ (known .operation .given .1) in
+    let is = ap (λ (n : ℕ). projectionEntries + (l .cursor .at + n)) (k .before .before .before .before .before .value-offset .ensures) in
+    let within = operation-within (l .cursor) (length (now (start (top k) .args .set))) _ _ (known .operation .given .1) (step .next-step .ensures .1) in
+    let small = offset-small (operationOf [] (known .operation .given .0 .0)) in
+    run-turn run seen is (last .0) (last .1 .0) (last .1 .1 .0) (k .apply-operation .result)
+    (k .apply-operation .ensures .0 (run .planned .plan) (run .planned .stored) (fits-planned run seen is (omega (arith, within .0, within .1, small, k .before .before .before .before .before .value-offset .ensures))))
+
+enum-known-n : tie.Need-enum-known-n Inv-loop μ-loop
+enum-known-n c = search needs
+
+loop-less-2 : tie.Need-loop-less-2 Inv-loop μ-loop
+loop-less-2 c =
+    let top = c .before .before .before .before .before .before .before .before .before .before .before .before .before .before .before .before .before .before .before in
+    let within = operation-within (top .loop .cursor) (length (now (start top .args .set))) _ _ (c .before .before .before .before .before .before .before .before .before .before .before .before .before .before .before .before .operation .given .1) (c .before .before .before .before .before .before .before .before .before .before .before .before .before .before .before .before .before .before .next-step .ensures .1) in
+    omega (arith, within .0, within .1)
+
+loop-again-2 : tie.Need-loop-again-2 Inv-loop μ-loop
+loop-again-2 c =
+    let k = c .before .before .before .before .before .before .before .before .before in
+    (search needs, search needs, search needs, λ p ps v s h. turned-on (turn k p _ (top k .loop .inv .3 p ps v s h)) (c .before .n .given .1))
+
+enum-known-error : tie.Need-enum-known-error Inv-loop μ-loop
+enum-known-error c = search needs
+
+same-length : tie.Need-same-length Inv-loop μ-loop
+same-length c = search needs
+
+same-length-2 : tie.Need-same-length-2 Inv-loop μ-loop
+same-length-2 c = search needs
+
+same-length-3 : tie.Need-same-length-3 Inv-loop μ-loop
+same-length-3 c = search needs
+
+returns : tie.Need-returns Inv-loop μ-loop
+returns c =
+    let k = c .before .before .before .before .before .before .before .before .before in
+    λ p ps v s h. turned-stop (turn k p _ (top k .loop .inv .3 p ps v s h)) _ (c .before .error .given .1)
+
+enum-told : tie.Need-enum-told Inv-loop μ-loop
+enum-told c = search needs
+
+same-length-4 : tie.Need-same-length-4 Inv-loop μ-loop
+same-length-4 c = search needs
+
+same-length-5 : tie.Need-same-length-5 Inv-loop μ-loop
+same-length-5 c = search needs
+
+same-length-6 : tie.Need-same-length-6 Inv-loop μ-loop
+same-length-6 c = search needs
+
+returns-2 : tie.Need-returns-2 Inv-loop μ-loop
+returns-2 c =
+    let step = c .before .before in
+    let l = step .before .loop in
+    λ p ps v s h. let run = l .inv .3 p ps v s h in run-end run (done false v1 (now (start (step .before) .args .set)) (l .cursor) (run .here) (step .next-step .ensures .0) (c .enum-told .given .1))
+
+enum-known-fault : tie.Need-enum-known-fault Inv-loop μ-loop
+enum-known-fault c = search needs
+
+same-length-7 : tie.Need-same-length-7 Inv-loop μ-loop
+same-length-7 c = search needs
+
+same-length-8 : tie.Need-same-length-8 Inv-loop μ-loop
+same-length-8 c = search needs
+
+same-length-9 : tie.Need-same-length-9 Inv-loop μ-loop
+same-length-9 c = search needs
+
+returns-3 : tie.Need-returns-3 Inv-loop μ-loop
+returns-3 c =
+    let step = c .before .before .before in
+    let l = step .before .loop in
+    λ p ps v s h. let run = l .inv .3 p ps v s h in never-refused false v1 (now (start (step .before) .args .set)) (l .cursor) (run .here) (step .next-step .ensures .0) _ (c .before .fault .given .1)
+
+pub plan-steps-spec : {M : Type 1} → statement M
+plan-steps-spec =
+    tie.close
+    (tie.spec
+    Inv-loop
+    μ-loop
+    loop-holds
+    next-step-requires
+    enum-known-next
+    loop-less
+    loop-again
+    enum-known-operation
+    value-offset-requires
+    add-at
+    add-source
+    apply-operation-requires
+    enum-known-n
+    loop-less-2
+    loop-again-2
+    enum-known-error
+    same-length
+    same-length-2
+    same-length-3
+    returns
+    enum-told
+    same-length-4
+    same-length-5
+    same-length-6
+    returns-2
+    enum-known-fault
+    same-length-7
+    same-length-8
+    same-length-9
+    returns-3)

@@ -1,0 +1,31 @@
+-- What a run over a set answers, and the plan that it leaves.
+use Prim.Native.Nat.{ℕ}
+use mathlib.Core.Path.{_≡_}
+use mathlib.Core.List.{List}
+use Rattle.spec_patch.specs.Edition.{Edition}
+use Rattle.spec_projection.specs.Projection.{Projection}
+use Rattle.spec_projection.specs.Apply.{Outcome, done, stopped}
+use Rattle.local_projection_state.specs.declared.ProjectionCounts.{ProjectionCounts}
+use Rattle.panel_plan.specs.Resolved.{resolved}
+use Rattle.panel_plan.specs.Plan.{resolution}
+use Rattle.panel_plan.specs.PlanRows.{StoredPlan}
+use Rattle.panel_plan.specs.SetValues.{valueIn}
+use Rattle.panel_plan.specs.Sources.{SourcedPlan}
+use Rattle.panel_bindings.specs.Change.{faultOf}
+use Rattle.panel_steps.specs.declared.PlanRun.{PlanRun}
+use Rattle.panel_steps.specs.declared.PlanRun.the-variants.{Planned, Refused, Unreadable}
+
+-- the answer is the outcome's: with these counts the tables are what the next projection says, or the refusal is the fault's
+abbrev pub RunBecame : (ProjectionCounts → Projection → Type 0) → PlanRun → Outcome → Type 0
+RunBecame Next (Planned n) (done q) = Next n q
+RunBecame Next (Planned n) (stopped f) = ⊥
+RunBecame Next (Refused e) (done q) = ⊥
+RunBecame Next (Refused e) (stopped f) = faultOf e ≡ f
+RunBecame Next (Unreadable f) x = ⊥
+
+-- tables that store a plan of the projection x, for a batch on p: its sources stand for values, and resolving them gives x
+pub record PlannedAs (ed : Edition) (p : Projection) (set b a e : List ℕ) (n : ProjectionCounts) (x : Projection) : Type 0 where
+  pub plan : Projection
+  pub stored : StoredPlan n b a e plan
+  pub sourced : SourcedPlan ed p set plan
+  pub resolves : resolved (resolution p (valueIn ed set)) plan ≡ x
