@@ -21,12 +21,13 @@ use Rattle.spec_session.specs.Session.{newSession, anchorsFit, create}
 use Rattle.spec_session.specs.Diagnostics.{diagnosticsOf}
 use Rattle.spec_session.specs.Lifecycle.{transition, dispositionOf, stateOf, withLifecycle, rejectLifecycle, enterLifecycle, lifecycleStep}
 use Rattle.spec_session.specs.Batch.{require, readable, absentTargets, knownTargets, batchChecks, rejectBatch, keepSession, candidate, commit, concludeBatch, batch}
+use Rattle.spec_turns.specs.Turns.{newTurns, setUp, refuseRegister, startWaiting, register, after, firstAsked, firstWaiting, nextSender, numberAfter, spendTurn, turnFor, turn}
 use Rattle.spec_listing.specs.Listing.{fields, recordCount, projectionLines, refusalLine, outcomeLines, readingLines, listing}
 use Rattle.spec_replay.specs.Lines.{prepend, split}
 use Rattle.spec_replay.specs.Hex.{hexDigit, hexByte, consByte, hexPairs, readHex}
 use Rattle.spec_replay.specs.Script.{ascii, end, given, readBy, slotOf, byWord, stimuli, sessionArguments, bindingArguments, applyArguments, batchArguments, valueBindingArguments, valueEntryArguments, values, valueArguments, commands, fieldsCommand, isRemark, command}
-use Rattle.spec_replay.specs.Answers.{dispositionField, lifecycleField, cursorField, placeField, sessionFields, creationLine, lifecycleLine, batchLine, checkedLine, checkLines, availabilityLine, noSessionLine, otherLine}
-use Rattle.spec_replay.specs.Replay.{noAnchors, start, keep, withSetup, withAnchors, withNode, withBinding, withSession, asked, created, applied, batched, replayLine, replayLines, commandsOf, replayFrom, replay}
+use Rattle.spec_replay.specs.Answers.{dispositionField, lifecycleField, cursorField, placeField, sessionFields, creationLine, lifecycleLine, batchLine, checkedLine, checkLines, availabilityLine, setUpLine, registerLine, turnLine, noSessionLine, otherLine}
+use Rattle.spec_replay.specs.Replay.{noAnchors, start, keep, withSetup, withAnchors, withNode, withBinding, withSession, withTurns, asked, askedTurns, created, applied, batched, settled, registered, turned, replayLine, replayLines, commandsOf, replayFrom, replay}
 
 prints : String → String → Bool
 prints script answers = equalLists eqb (replay (ascii script)) (ascii answers)
@@ -47,6 +48,10 @@ examples =
     ∷ prints "session 7 100 4 8 8\ncreate\nbatch 7 77 0 0 0 1b00000055495f444e41325f50524f4a454354494f4e5f50415443485f563100000000\nshow\nvalue node 5\n"
     "S\t0\nR\tno-change\t0\t0\t0\t0\t-\nP\t0\nV\t-\n"
     ∷ prints "check 1b00000055495f444e41325f50524f4a454354494f4e5f50415443485f563100000000\ncheck -\nlist -\n" "K\t0\tset\t0\nK\t10\nE\t10\n"
+    -- turns: the number of senders, who waits, and whose turn it is
+    ∷ prints "senders 0\nsenders 9\nwait 0\nturn\nsenders 2\nturn\nwait 1\nwait 1\nwait 2\n" "J\t21\nJ\t21\nN\nN\nJ\t0\nN\nJ\t0\nJ\t20\nJ\t19\n"
+    ∷ prints "senders 3\nwait 2\nwait 0\nsession 7 0 0 0 0\ncreate\nturn\nwait 0\nturn\nturn\nturn\nsenders 9\nwait 0\nwait 1\nturn\n"
+    "J\t0\nJ\t0\nJ\t0\nS\t0\nJ\t0\t1\nJ\t0\nJ\t2\t1\nJ\t0\t1\nJ\tnone\nJ\t21\nJ\t0\nJ\t0\nJ\t1\t1\n"
     -- any other line ends the replay
     ∷ prints "create \nshow\n" "?\t1\n"
     ∷ prints "node 01\n" "?\t1\n"
@@ -55,6 +60,8 @@ examples =
     ∷ prints "check 0A\n" "?\t1\n"
     ∷ prints "check 0\n" "?\t1\n"
     ∷ prints "check \n" "?\t1\n"
+    ∷ prints "senders 01\n" "?\t1\n"
+    ∷ prints "turn 0\n" "?\t1\n"
     -- a line that no LF ends
     ∷ prints "show\nshow" "N\n?\t2\n"
     ∷ []
@@ -67,9 +74,10 @@ unfolding examples prints
     newSession anchorsFit create diagnosticsOf
     transition dispositionOf stateOf withLifecycle rejectLifecycle enterLifecycle lifecycleStep
     require readable absentTargets knownTargets batchChecks rejectBatch keepSession candidate commit concludeBatch batch
+    newTurns setUp refuseRegister startWaiting register after firstAsked firstWaiting nextSender numberAfter spendTurn turnFor turn
     fields recordCount projectionLines refusalLine outcomeLines readingLines listing
     prepend split hexDigit hexByte consByte hexPairs readHex end given readBy slotOf byWord stimuli sessionArguments bindingArguments applyArguments batchArguments
     valueBindingArguments valueEntryArguments values valueArguments commands fieldsCommand isRemark command
-    dispositionField lifecycleField cursorField placeField sessionFields creationLine lifecycleLine batchLine checkedLine checkLines availabilityLine noSessionLine otherLine
-    noAnchors start keep withSetup withAnchors withNode withBinding withSession asked created applied batched replayLine replayLines commandsOf replayFrom replay
+    dispositionField lifecycleField cursorField placeField sessionFields creationLine lifecycleLine batchLine checkedLine checkLines availabilityLine setUpLine registerLine turnLine noSessionLine otherLine
+    noAnchors start keep withSetup withAnchors withNode withBinding withSession withTurns asked askedTurns created applied batched settled registered turned replayLine replayLines commandsOf replayFrom replay
 replay-examples = tt
