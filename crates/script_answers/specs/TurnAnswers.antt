@@ -1,10 +1,9 @@
--- The answers of the turns' calls in the definitions' words.
+-- The answer of a registration in the definitions' words.
 use mathlib.Core.Path.{_≡_, refl}
 use Rattle.spec_turns.specs.Turns as model
 use Rattle.session_turns.specs.declared.RegisterAnswer.{RegisterAnswer}
 use Rattle.session_turns.specs.declared.RegisterAnswer.the-variants.{Registered, Refused}
-use Rattle.session_turns.specs.Meaning.{registerRefusalOf, registerAnswerTo, turnAnswerTo}
-use Rattle.session_turns.specs.Runs.{turnAnswerOf}
+use Rattle.session_turns.specs.Meaning.{registerRefusalOf, registerAnswerTo}
 
 abbrev pub registerAnswerOf : RegisterAnswer → model.RegisterAnswer
 registerAnswerOf Registered = model.registered
@@ -14,7 +13,3 @@ pub registration-told : (a : model.RegisterAnswer) → registerAnswerOf (registe
 registration-told model.registered = refl
 registration-told (model.registerRefused model.unknownSender) = refl
 registration-told (model.registerRefused model.alreadyWaiting) = refl
-
-pub turn-told : (a : model.TurnAnswer) → turnAnswerOf (turnAnswerTo a) ≡ a
-turn-told model.nobody = refl
-turn-told (model.turnOf s n) = refl

@@ -1,14 +1,14 @@
 -- What a line on turns does to a replay: there are senders whose turns answer, or none; a set-up takes the place of the one before.
 use Prim.Native.Nat.{ℕ, _≤_, _<_}
 use mathlib.Core.Path.{_≡_, refl, sym, ap, subst, _∙_}
-use mathlib.Core.Bool.{Bool, true, false, _&&_}
+use mathlib.Core.Bool.{Bool, true, false}
 use mathlib.Core.List.{List}
 use mathlib.Core.Option.{Option, none, some}
 use lib.Dec.{leb}
 use native.Mathlib.Omega.{arith}
 use borrow.Author.Tests.{leb-true}
 use Rattle.spec_lists.specs.Lists.{if_then_else_, between}
-use Rattle.spec_lists.specs.ListLaws.{test-cases, and-left, and-right}
+use Rattle.spec_lists.specs.ListLaws.{and-left, and-right}
 use Rattle.spec_session.specs.Session.{Cursor}
 use Rattle.spec_turns.specs.Turns as model
 use Rattle.spec_turns.specs.Turns.{Turns, senders, mostSenders, SetUp, setUp, register, turn}
@@ -22,9 +22,10 @@ use Rattle.session_turns.specs.declared.SenderTurns.{SenderTurns}
 use Rattle.session_turns.specs.declared.TurnsSetUp.{TurnsSetUp}
 use Rattle.session_turns.specs.declared.Registration.{Registration}
 use Rattle.session_turns.specs.declared.TurnTaken.{TurnTaken}
-use Rattle.session_turns.specs.Meaning.{turnsOf, setUpTo, registrationTo, turnTakenTo, Registers, TakesTurn}
+use Rattle.session_turns.specs.Meaning.{setUpTo, registrationTo, turnTakenTo, Registers, TakesTurn}
 use Rattle.session_turns.specs.Runs.{turnAnswerOf}
-use Rattle.script_answers.specs.TurnAnswers.{registerAnswerOf, registration-told, turn-told}
+use Rattle.session_turns.specs.RunsLaws.{answer-back}
+use Rattle.script_answers.specs.TurnAnswers.{registerAnswerOf, registration-told}
 use Rattle.script_calls.specs.TurnsHeld.{heldTurns, TurnsHeld, afterSetUp}
 use Rattle.script_calls.specs.TurnsHeldLaws.{turns-there, turns-nowhere, told-turns, held-next}
 use Rattle.script_calls.specs.declared.state.ReplayState.{ReplayState}
@@ -79,7 +80,7 @@ module _ (x : SenderTurns) (t : Turns) (h : TurnsHeld x (some t)) where
 
     pub turned-answer : turnAnswerOf (r .answer) ≡ turn t c .answer
     unfolding turnTakenTo
-    turned-answer = ap (λ (k : TurnTaken). turnAnswerOf (k .answer)) taken ∙ turn-told (turn t c .answer)
+    turned-answer = ap (λ (k : TurnTaken). turnAnswerOf (k .answer)) taken ∙ answer-back (turn t c .answer)
 
 -- a turn at a cursor is one at the same cursor told otherwise
 pub at-cursor : {s : ReplayState} {before after : List ℕ} {r : ReplayStep} (m : State) (c d : Cursor) → c ≡ d → Stepped s before after r (askedTurns m (λ t. turned m (turn t c)))

@@ -1,5 +1,5 @@
 -- What it is that a struct stores the turns of a replay.
-use Prim.Native.Nat.{ℕ, _≤_}
+use Prim.Native.Nat.{_≤_}
 use mathlib.Core.Path.{_≡_}
 use mathlib.Core.Option.{Option, none, some}
 use Rattle.spec_turns.specs.Turns.{Turns, senders, mostSenders}

@@ -1,18 +1,12 @@
 -- The struct of a replay's turns tells them, and what a call leaves is stored alike.
-use Prim.Native.Nat.{ℕ, zero, suc, _≤_, _<_, min}
+use Prim.Native.Nat.{ℕ, zero, suc, _≤_, _<_}
 use mathlib.Core.Path.{_≡_, refl, sym, ap, _∙_}
-use mathlib.Core.Bool.{Bool, true, false}
+use mathlib.Core.Bool.{Bool, false}
 use mathlib.Core.List.{List, [], _∷_, _++_}
 use mathlib.Core.Option.{Option, none, some}
 use native.Mathlib.Omega.{arith}
-use lib.Dec.{leb}
 use lib.ListN.{length, drop, replicate, length-take, length-replicate}
-use borrow.Author.Tests.{leb-true}
-use Rattle.spec_lists.specs.Lists.{if_then_else_, between}
-use Rattle.spec_lists.specs.ListLaws.{test-cases}
-use Rattle.spec_turns.specs.Turns as model
-use Rattle.spec_turns.specs.Turns.{Turns, senders, mostSenders, newTurns, setUp}
-use Rattle.spec_turns.specs.TurnsLaws.{newTurns-senders}
+use Rattle.spec_turns.specs.Turns.{Turns, senders, mostSenders}
 use Rattle.session_turns.specs.declared.SenderTurns.{SenderTurns}
 use Rattle.session_turns.specs.Meaning.{turnsOf, turnsTo, freshTurns, senderTo}
 use Rattle.session_turns.specs.MeaningLaws.{told-next}
@@ -58,8 +52,3 @@ module _ (s : SenderTurns) (t : Turns) (h : TurnsHeld s (some t)) where
     where
       behind : drop (senders t) (t .waiting ++ drop (senders t) (replicate mostSenders false)) ≡ drop (senders n) (replicate mostSenders false)
       behind = drop-front (senders t) (t .waiting) (drop (senders t) (replicate mostSenders false)) refl ∙ ap (λ (k : ℕ). drop k (replicate mostSenders false)) (sym e)
-
--- no senders
-pub held-none : TurnsHeld (freshTurns 0) none
-unfolding heldTurns
-held-none = record { are = refl; few = tt }
