@@ -1,4 +1,4 @@
-"""Seeded random runs: whole and pieces alike, and long runs on one session."""
+"""Seeded random runs: whole and pieces alike, long runs on one session, and turns among senders."""
 
 from chance import Chance
 from checks import findings, mutation_target
@@ -190,3 +190,45 @@ random_case(
     "random_long_run", "300 random batches on one session; a rejected one leaves its number to the next",
     "spec_session Batch.batch", long_run(1, 300, 12, 40),
 )
+
+# ---- turns among senders
+
+rules_of("Job 14 in document 02", answers="02")
+
+
+def turn_run(chance, senders, calls):
+    """A new circle, and random calls: somebody registers, a number out of the range now and then, or there is a turn call."""
+    lines = ["senders %d" % senders]
+    for _ in range(calls):
+        lines.append("turn" if chance.once_in(3) else "wait %d" % chance.below(senders + chance.below(2)))
+    return lines
+
+
+def check_turns(lines, answers):
+    """Whoever waits is named within as many turn calls as there are senders; 19 and 20 tell the range and who waits."""
+    for line, answer in zip(lines, answers):
+        word, _, number = line.partition(" ")
+        if word == "senders":
+            senders, since = int(number), {}
+            assert answer == b"J\t0"
+        elif word == "wait":
+            told = 19 if int(number) >= senders else 20 if int(number) in since else 0
+            assert answer == b"J\t%d" % told
+            if told == 0:
+                since[int(number)] = 0
+        else:
+            since = {sender: turns + 1 for sender, turns in since.items()}
+            named = answer.split(b"\t")[1:]
+            assert (named == [b"none"]) == (not since)
+            if since:
+                assert since.pop(int(named[0])) <= senders and named[1] == b"1"
+                assert all(turns < senders for turns in since.values())
+
+
+CHANCE = Chance(14)
+CALLS = [line for count in (3, 8, 1, 5, 2, 8, 4, 7, 6) for line in turn_run(CHANCE, count, 120)]
+ANSWERED = random_case(
+    "random_turns", "nine circles of one to eight senders with 120 random calls each: whoever waits is named within one circle",
+    "spec_turns Fairness.named-in-one-circle", ["session 7 0 0 0 0", "create"] + CALLS,
+)
+check_turns(CALLS, ANSWERED.splitlines()[1:])

@@ -54,6 +54,10 @@ case(
     "script_bad_line_without_a_session", "a bad field is met before the question whether there is a session", COMMAND,
     ["show", "apply start 0", "show"], ["N", "? 5"],
 )
+case(
+    "script_bad_line_without_senders", "a bad field is met before the question whether there are senders", COMMAND,
+    ["wait 0", "turn", "wait one", "turn"], ["N", "N", "? 6"],
+)
 
 # ---- commands and fields
 
@@ -72,13 +76,14 @@ bad("carriage_return", "a line ends with LF alone", COMMAND, b"show\r")
 bad("nul_byte", "a zero byte is a byte as any other", COMMAND, b"show\0")
 bad("bytes_that_are_no_text", "a line of any bytes is answered", COMMAND, b"\xff\xfe\x80")
 for line in ["session 7 100 10 8", "node", "binding 5", "collection", "apply activate", "batch 7 4 0 10 0", "check", "list",
-    "value", "value binding 5", "value node", "value entry 9"]:
+    "senders", "wait", "value", "value binding 5", "value node", "value entry 9"]:
     bad(
         "missing_field_" + "_".join(line.split()[: 2 if line.startswith("value ") else 1]),
         "every command has just its number of fields", COMMAND, line,
     )
 for line in ["session 7 100 10 8 64 1", "node 5 5", "binding 5 0 0", "collection 9 9", "create 7", "apply activate 0 0",
     "batch 7 4 0 10 0 - -", "check - -", "list - -", "show 1",
+    "senders 2 2", "wait 0 0", "turn 0",
              "value binding 5 0 0", "value node 5 0", "value entry 9 1 1"]:
     bad(
         "extra_field_" + "_".join(line.split()[: 2 if line.startswith("value ") else 1]),
@@ -96,6 +101,9 @@ bad(
     "unknown_value", "values are looked up by binding, node or entry", "spec_replay Script.values",
     "value collection 9",
 )
+bad("turn_upper_case", "the commands on turns are in lower case", COMMAND, "Turn")
+bad("turn_trailing_space", "a space at the end begins an empty field, which turn does not have", COMMAND, "turn ")
+bad("wait_two_spaces", "fields are parted by exactly one space", COMMAND, "wait  0")
 
 # ---- numbers
 
@@ -130,6 +138,12 @@ for at, field in enumerate(["id", "sequence", "patches", "bytes", "references"])
         "batch_%s_2_64" % field, "each number of a batch line is a u64", "spec_replay Script.batchArguments",
         "batch %s %s" % (" ".join(numbers), hex_of([])),
     )
+for word in ["senders", "wait"]:
+    bad(word + "_empty", "an empty field is no number of senders, and names none", NUMBER, word + " ")
+    bad(word + "_leading_zero", "the number of senders, and a sender's, has no leading zero", NUMBER, word + " 01")
+    bad(word + "_minus", "the number of senders, and a sender's, has no sign", NUMBER, word + " -1")
+    bad(word + "_2_64", "2^64 is no number of senders, and names none: the line is no command, not 21 or 19", NUMBER,
+        word + " 18446744073709551616")
 bad("slot_2_32", "2^32 is no slot", "spec_replay Script.slot", "binding 5 4294967296")
 bad("value_slot_2_32", "2^32 is no slot in a lookup either", "spec_replay Script.slot", "value binding 5 4294967296")
 case(

@@ -7,6 +7,7 @@ from projection import Stopped, apply_operations
 from replay import LINE_BYTES, BadLine, Replay, set_bytes
 
 NO_COMMAND = "a line that is no command"
+TURNS = (b"senders", b"wait", b"turn")
 
 
 def _ids(patch):
@@ -68,6 +69,8 @@ def _answer_outside(state, text):
         answer = state.answer(text)
     except BadLine:
         return NO_COMMAND
+    if text.split(b" ")[0] in TURNS:
+        return "turns among senders"
     if answer == b"N\n":
         return "a call without a session"
     if answer == b"S\t13\n":

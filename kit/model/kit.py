@@ -11,17 +11,17 @@ from canonical import encode_set
 from patch import operations_of
 from replay import replay
 
-Case = namedtuple("Case", "name rule definition script answers by_hand")
+Case = namedtuple("Case", "name rule definition script answers by_hand paper")
 
 CASES = {}
 
-# where the rules of the cases that follow stand
+# where the rules of the cases that follow stand, and the paper that their answers were written from
 _source = []
 
 
-def rules_of(section):
+def rules_of(section, answers="01"):
     """The cases that follow show rules of this section of 01, or of another paper if it is named."""
-    _source[:] = [section if " in " in section else "01, '%s'" % section]
+    _source[:] = [section if " in " in section else "01, '%s'" % section, answers]
 
 
 def _bytes(lines):
@@ -37,9 +37,9 @@ def _add(name, rule, definition, lines, answers):
     assert name not in CASES, name
     script = _bytes(["# %s" % name, "# Rule: %s: %s" % (_source[0], rule), "# Definition: %s" % definition] + list(lines))
     if answers is None:
-        CASES[name] = Case(name, rule, definition, script, answered(script), False)
+        CASES[name] = Case(name, rule, definition, script, answered(script), False, _source[1])
     else:
-        CASES[name] = Case(name, rule, definition, script, _answers(answers), True)
+        CASES[name] = Case(name, rule, definition, script, _answers(answers), True, _source[1])
 
 
 def case(name, rule, definition, lines, answers):

@@ -1,4 +1,4 @@
-"""Answers a replay script: python3 replay.py < SCRIPT. Lines are read one by one; nothing is kept but the session."""
+"""Answers a replay script: python3 replay.py < SCRIPT. Lines are read one by one; nothing is kept but the set-up, the session and the turns."""
 
 import re
 import sys
@@ -44,7 +44,7 @@ def check_lines(data):
 
 
 class Replay:
-    """The set-up for the next session, and the current session, if there is one."""
+    """The set-up for the next session, the current session and the current turns, if there are any."""
 
     def __init__(self):
         self.session = None

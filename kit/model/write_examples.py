@@ -159,11 +159,92 @@ ANSWERS = (
 ).replace("|", "\t").encode()
 
 
+# ---- turns among senders (02, Job 14)
+
+PUMP, SCRIPT = SCRIPT, []
+say("Three senders to one panel: the memory is 0, the term base 1, the draft engine 2. The draft engine has much to send.", "",
+    "The session: id 4711; node 6 is the panel, collection 9 its list of matches.")
+for anchor in ("session 4711 4096 4 4 16", "node 6", "collection 9", "create", "apply activate 16"):
+    call(anchor)
+SCRIPT.append("")
+say("Three senders. The draft engine registers first, then the memory and the term base.")
+for line in ("senders 3", "wait 2", "wait 0", "wait 1"):
+    call(line)
+SCRIPT.append("")
+say("The memory is named, with number 1: the session has taken no batch yet.")
+call("turn")
+send(1, """
+patch
+insert 9 101 T Fully open the suction valve.
+""")
+SCRIPT.append("")
+say("The draft engine asks once more; it waits already. The term base is next, with the number after the cursor.")
+call("wait 2")
+call("turn")
+send(2, """
+patch id=2 sequence=2 previous=1 revision=2
+insert 9 201 T suction valve: Saugventil
+""")
+SCRIPT.append("")
+say("Now the draft engine; it registers at once again, and so does the memory, which comes first then.")
+call("turn")
+send(3, """
+patch id=3 sequence=3 previous=2 revision=3
+insert 9 301 T Open up the valve at the suction side.
+""")
+for line in ("wait 2", "wait 0", "turn"):
+    call(line)
+SCRIPT.append("")
+say("The memory sends nothing after all: its turn is spent, and the draft engine gets the same number.")
+call("turn")
+send(4, """
+patch id=4 sequence=4 previous=3 revision=4
+remove 9 301
+""")
+SCRIPT.append("")
+say("Nobody waits. There is no sender 3, and no circle of nine; the three senders stay.")
+for line in ("turn", "wait 3", "senders 9", "wait 1", "turn", "show"):
+    call(line)
+SENDERS, SCRIPT = SCRIPT, PUMP
+SENDERS_ANSWERS = """S|0
+L|applied|0|0|0|0|active|-|16
+J|0
+J|0
+J|0
+J|0
+J|0|1
+R|applied|0|0|0|0|1
+J|20
+J|1|2
+R|applied|0|0|0|0|2
+J|2|3
+R|applied|0|0|0|0|3
+J|0
+J|0
+J|0|4
+J|2|4
+R|applied|0|0|0|0|4
+J|none
+J|19
+J|21
+J|0
+J|1|5
+P|2
+C|9|101|T|Fully open the suction valve.
+C|9|201|T|suction valve: Saugventil
+""".replace("|", "\t").encode()
+
+
+def write(folder, name, lines, answers):
+    script = "".join(line + "\n" for line in lines).encode()
+    assert answered(script) == answers, answered(script).decode()
+    (folder / (name + ".script")).write_bytes(script)
+    (folder / (name + ".answers")).write_bytes(answers)
+
+
 def main(folder):
-    script = "".join(line + "\n" for line in SCRIPT).encode()
-    assert answered(script) == ANSWERS, answered(script).decode()
-    (folder / "pump_manual.script").write_bytes(script)
-    (folder / "pump_manual.answers").write_bytes(ANSWERS)
+    write(folder, "pump_manual", SCRIPT, ANSWERS)
+    write(folder, "three_senders", SENDERS, SENDERS_ANSWERS)
     (folder / "panel.set").write_bytes(encode_set(PANEL_SET))
 
 

@@ -26,6 +26,7 @@ SUBJECTS = {
     "script": "The script's own rules",
     "split": "Whole and pieces",
     "regroup": "Which order of work is free",
+    "turns": "Turns among senders",
     "random": "Random runs",
 }
 
@@ -62,7 +63,7 @@ def write_data(folder, cases):
 
 def row(case):
     why = outside(case.script)
-    source = ("01 by hand" if case.by_hand else "the model of 01") + ("; the Rust" if why is None else "")
+    source = (case.paper + " by hand" if case.by_hand else "the model of " + case.paper) + ("; the Rust" if why is None else "")
     return "| `%s` | %s | %s | %s | %s |\n" % (case.name, case.rule, case.definition, source, why or "")
 
 

@@ -265,6 +265,57 @@ WRONG = [
         "    for operation in operations:\n",
         "    for operation in sorted(operations, key=lambda made: getattr(made, 'key', 0)):\n",
     ),
+    # turns
+    ("sets up no senders", "turns.py", "if not 1 <= senders", "if not 0 <= senders"),
+    ("sets up nine senders", "turns.py", "MOST_SENDERS = 8", "MOST_SENDERS = 9"),
+    ("sets up seven at most", "turns.py", "MOST_SENDERS = 8", "MOST_SENDERS = 7"),
+    ("takes the first number past the range", "turns.py", "if sender >= self.senders", "if sender > self.senders"),
+    ("takes eight senders whatever was set up", "turns.py", "if sender >= self.senders", "if sender >= MOST_SENDERS"),
+    ("cuts a sender's number to a byte", "turns.py", "        if sender >= self.senders", "        sender %= 256\n        if sender >= self.senders"),
+    ("calls a number out of the range 20", "turns.py", "return 19", "return 20"),
+    ("registers twice", "turns.py", "            return 20\n", "            return 0\n"),
+    ("registering again ends the waiting", "turns.py", "            return 20\n", "            self.waiting.remove(sender)\n            return 20\n"),
+    ("leaves the named one waiting", "turns.py", "        self.waiting.remove(self.last)\n", ""),
+    ("names the lowest waiting sender", "turns.py", "(sender - start) % self.senders", "sender"),
+    ("asks the one last named first", "turns.py", "else self.last + 1", "else self.last"),
+    ("goes round the other way", "turns.py", "(sender - start)", "(start - sender)"),
+    ("begins the circle with sender 1", "turns.py", "start = 0 if", "start = 1 if"),
+    ("none starts the circle anew", "turns.py", "            return None\n", "            self.last = None\n            return None\n"),
+    ("gives the cursor itself", "turns.py", "min(cursor + 1, LAST_U64)", "cursor"),
+    ("gives 0 while Uninitialized", "turns.py", "1 if cursor is None", "0 if cursor is None"),
+    ("gives 0 after the largest number", "turns.py", "min(cursor + 1, LAST_U64)", "(cursor + 1) % 2**64"),
+    (
+        "a refused set-up ends the turns", "replay.py",
+        '            return line(b"J", 21)', '            self.turns = None\n            return line(b"J", 21)',
+    ),
+    (
+        "a set-up of as many changes nothing", "replay.py",
+        "            self.turns = Turns(number(senders))\n",
+        "            made = Turns(number(senders))\n"
+        "            if self.turns is None or self.turns.senders != made.senders:\n"
+        "                self.turns = made\n",
+    ),
+    (
+        "a creation ends the turns", "replay.py",
+        "    def do_create(self):\n", "    def do_create(self):\n        self.turns = None\n",
+    ),
+    (
+        "registers only where there is a session", "replay.py",
+        'return line(b"N") if self.turns is None else line(b"J", self.turns.register',
+        'return line(b"N") if self.turns is None or self.session is None else line(b"J", self.turns.register',
+    ),
+    (
+        "spends a turn without a session", "replay.py",
+        "        if self.turns is None or self.session is None:\n",
+        "        if self.session is None and self.turns is not None:\n            self.turns.turn(None)\n"
+        "        if self.turns is None or self.session is None:\n",
+    ),
+    (
+        "a closed session gives no numbers", "replay.py",
+        "        named = self.turns.turn(self.session.cursor)\n",
+        '        if self.session.lifecycle == "closed":\n            return line(b"J", b"none")\n'
+        "        named = self.turns.turn(self.session.cursor)\n",
+    ),
     # reading
     ("refuses counts at their capacity", "canonical.py", "number > capacity", "number >= capacity"),
     ("reads counts over their capacity", "canonical.py", "number > capacity", "number > capacity + 1"),

@@ -1,3 +1,4 @@
 pub mod Creations
 pub mod Records
 pub mod Checks
+pub mod SetUps

@@ -3,3 +3,4 @@ pub mod OpenFieldsLaws
 pub mod CreationAnswers
 pub mod LookupLines
 pub mod CheckOf
+pub mod TurnAnswers

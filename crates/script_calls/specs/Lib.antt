@@ -1,4 +1,7 @@
 pub mod SetsUp
 pub mod SetsUpLaws
+pub mod TurnsHeld
+pub mod TurnsHeldLaws
 pub mod ReplayHolds
 pub mod ReplayHoldsLaws
+pub mod TurnSteps

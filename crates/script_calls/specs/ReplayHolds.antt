@@ -13,7 +13,9 @@ use Rattle.shell_player.specs.declared.session.ShellSession.{ShellSession}
 use Rattle.session_creation.specs.Creation.{noSession}
 use Rattle.session_creation.specs.declared.CreationAnswer.{CreationAnswer}
 use Rattle.session_creation.specs.declared.CreationAnswer.the-variants.{Created, Refused}
+use Rattle.session_turns.specs.declared.SenderTurns.{SenderTurns}
 use Rattle.script_calls.specs.SetsUp.{SetsUp}
+use Rattle.script_calls.specs.TurnsHeld.{TurnsHeld}
 use Rattle.script_calls.specs.declared.state.ReplayState.{ReplayState}
 use Rattle.script_calls.specs.declared.state.ReplayStep.{ReplayStep}
 
@@ -27,6 +29,7 @@ SessionHeld false s none = s ≡ noSession
 pub record ReplayHolds (s : ReplayState) (m : State) : Type 0 where
   pub setup-is : SetsUp (s .setup) (m .setup)
   pub session-is : SessionHeld (s .exists) (s .session) (m .session)
+  pub turns-are : TurnsHeld (s .turns) (m .turns)
 
 -- what a line does to a state and a slice: the state afterwards, and as much of its answer as fits from the slice's start on; where the
 -- replay stops the state stays
@@ -39,7 +42,11 @@ pub record Stepped (s : ReplayState) (before after : List ℕ) (r : ReplayStep) 
 
 -- the state with another session
 abbrev pub withLatest : ReplayState → ShellSession → ReplayState
-withLatest s x = record { setup = s .setup; exists = s .exists; session = x }
+withLatest s x = record { setup = s .setup; exists = s .exists; session = x; turns = s .turns }
+
+-- the state with other turns
+abbrev pub withLatestTurns : ReplayState → SenderTurns → ReplayState
+withLatestTurns s t = record { setup = s .setup; exists = s .exists; session = s .session; turns = t }
 
 unfoldable pub isCreated : CreationAnswer → Bool
 isCreated Created = true

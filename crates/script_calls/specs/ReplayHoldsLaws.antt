@@ -60,9 +60,9 @@ module _ (s : ReplayState) (m : State) (h : ReplayHolds s m) (before after : Lis
 
 module _ (s : ReplayState) (m : State) (h : ReplayHolds s m) where
   -- the state with a later session of the same replay
-  pub holds-latest : (t : ShellSession) (x : Session) → s .exists ≡ true → Holds t x → ReplayHolds (record { setup = s .setup; exists = s .exists; session = t }) (withSession m (some x))
+  pub holds-latest : (t : ShellSession) (x : Session) → s .exists ≡ true → Holds t x → ReplayHolds (record { setup = s .setup; exists = s .exists; session = t; turns = s .turns }) (withSession m (some x))
   unfolding withSession
-  holds-latest t x e held = record { setup-is = h .setup-is; session-is = held-as (s .exists) t x e held }
+  holds-latest t x e held = record { setup-is = h .setup-is; session-is = held-as (s .exists) t x e held; turns-are = h .turns-are }
 
 module _ {s : ReplayState} {before after : List ℕ} where
   -- a step that goes on, by its parts
@@ -75,10 +75,10 @@ module _ {s : ReplayState} {before after : List ℕ} where
 -- a creation takes the place of what there was
 pub created-step : (s : ReplayState) (m : State) → ReplayHolds s m → (c : Creation) (r : ShellSessionCreation) → Creates c r → (b : Bool) → b ≡ isCreated (r .answer)
     → (before after : List ℕ) (p : Printed) → Prints before (Next 0) (creationLine c) after p
-    → Stepped s before after (record { state = record { setup = s .setup; exists = b; session = r .session }; printed = p; stopped = false }) (created m c)
+    → Stepped s before after (record { state = record { setup = s .setup; exists = b; session = r .session; turns = s .turns }; printed = p; stopped = false }) (created m c)
 unfolding created Creates isCreated withSession
-created-step s m h (made x) r k b e before after p printed = goes-on refl (record { setup-is = h .setup-is; session-is = rw (e, k .0) (k .1) }) printed
-created-step s m h (refused f) r k b e before after p printed = goes-on refl (record { setup-is = h .setup-is; session-is = rw (e, k .0) (k .1) }) printed
+created-step s m h (made x) r k b e before after p printed = goes-on refl (record { setup-is = h .setup-is; session-is = rw (e, k .0) (k .1); turns-are = h .turns-are }) printed
+created-step s m h (refused f) r k b e before after p printed = goes-on refl (record { setup-is = h .setup-is; session-is = rw (e, k .0) (k .1); turns-are = h .turns-are }) printed
 
 -- the anchors that a set-up keeps are those of the definitions
 pub setup-creates : (s : ReplaySetup) (m : Setup) → SetsUp s m → (n k : ℕ) → n ≡ min (s .«node_count») keptAnchors → k ≡ min (s .«collection_count») keptAnchors

@@ -123,11 +123,13 @@ pub fn create_latest(state: ReplayState, out: &mut [u8]) -> ReplayStep
     let printed = session::print_creation(out, start, answer);
     let session = creation.session;
     let exists = is_created(answer);
+    let turns = state.turns;
     ReplayStep {
         state: ReplayState {
             setup,
             exists,
             session,
+            turns,
         },
         printed,
         stopped: false,

@@ -2,4 +2,5 @@
 pub mod calls;
 pub mod setup;
 pub mod state;
+pub mod turns;
 pub mod views;

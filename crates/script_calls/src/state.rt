@@ -1,17 +1,20 @@
-// The state of a replay: its set-up, and the session of the latest creation if there is one.
+// The state of a replay: its set-up, the session of the latest creation if there is one, and the turns of the latest senders.
 use crate::setup::ReplaySetup;
 use bytes_printer::Printed;
 use script_answers::session;
+use session_turns::SenderTurns;
 use shell_player::session::ShellSession;
 ghost use mathlib.Core.Path.{_≡_};
 ghost use Rattle.spec_replay.specs.Replay.{State, onward};
 ghost use Rattle.spec_replay.specs.Answers.{noSessionLine};
-ghost use Rattle.script_calls.specs.ReplayHolds.{ReplayHolds, Stepped, withLatest};
+ghost use Rattle.script_calls.specs.ReplayHolds.{ReplayHolds, Stepped, withLatest, withLatestTurns};
 
+// Turns of no senders stand for none.
 pub struct ReplayState {
     pub setup: ReplaySetup,
     pub exists: bool,
     pub session: ShellSession,
+    pub turns: SenderTurns,
 }
 
 // The state after a line, where what was printed ends, and whether the replay stops there.
@@ -30,7 +33,16 @@ pub fn with_latest(state: ReplayState, session: ShellSession) -> ReplayState
     next
 }
 
-// The answer where a session is asked for and there is none.
+// The state with other turns.
+pub fn with_turns(state: ReplayState, turns: SenderTurns) -> ReplayState
+    ensures { λ r. ⌜ r ≡ withLatestTurns state turns ⌝ }
+{
+    let mut next = state;
+    next.turns = turns;
+    next
+}
+
+// The answer where a session or senders are asked for and there are none.
 pub fn no_session(state: ReplayState, out: &mut [u8]) -> ReplayStep
     ensures { λ r. ⌜ ((m : State) → ReplayHolds state m → Stepped state (now (out .entry)) (now (out .exit)) r (onward m noSessionLine)) ⌝ }
 {

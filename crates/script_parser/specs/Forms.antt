@@ -7,7 +7,7 @@ use lib.Dec.{eqb}
 use lib.ListN.{getD}
 use Rattle.spec_lists.specs.Lists.{if_then_else_}
 use Rattle.spec_session.specs.Lifecycle.{Stimulus, activate, suspend, resume, close, noOp}
-use Rattle.spec_replay.specs.Script.{Command, session, node, binding, collection, create, apply, batch, check, list, show, valueBinding, valueNode, valueEntry, other, Arguments, end, given, slotOf, hex}
+use Rattle.spec_replay.specs.Script.{Command, session, node, binding, collection, create, apply, batch, check, list, show, valueBinding, valueNode, valueEntry, senders, wait, turn, other, Arguments, end, given, slotOf, hex}
 use Rattle.script_parser.specs.Fields.{numbers, filled}
 
 pub record Form : Type 0 where
@@ -39,16 +39,16 @@ noForm = record { count = 0; withSet = false; makes = λ ns set. other }
 
 -- where the forms of the second words begin, behind the first words and the place of none; and how many numbers there are
 abbrev pub stimulusBase : ℕ
-stimulusBase = 12
+stimulusBase = 15
 
 abbrev pub valueBase : ℕ
-valueBase = 18
+valueBase = 21
 
 abbrev pub noneFound : ℕ
-noneFound = 21
+noneFound = 24
 
 abbrev pub formCount : ℕ
-formCount = 22
+formCount = 25
 
 -- ---- the table
 
@@ -76,14 +76,17 @@ forms =
     ∷ (7 ⇛ record { count = 0; withSet = true; makes = λ ns. check })
     ∷ (8 ⇛ record { count = 0; withSet = true; makes = λ ns. list })
     ∷ (9 ⇛ record { count = 0; withSet = false; makes = λ ns set. show })
-    ∷ (12 ⇛ stimulusForm activate)
-    ∷ (13 ⇛ stimulusForm suspend)
-    ∷ (14 ⇛ stimulusForm resume)
-    ∷ (15 ⇛ stimulusForm close)
-    ∷ (16 ⇛ stimulusForm noOp)
-    ∷ (18 ⇛ record { count = 2; withSet = false; makes = λ ns set. withSlot (at ns 1) (valueBinding (at ns 0)) })
-    ∷ (19 ⇛ record { count = 1; withSet = false; makes = λ ns set. valueNode (at ns 0) })
-    ∷ (20 ⇛ record { count = 2; withSet = false; makes = λ ns set. valueEntry (at ns 0) (at ns 1) })
+    ∷ (11 ⇛ record { count = 1; withSet = false; makes = λ ns set. senders (at ns 0) })
+    ∷ (12 ⇛ record { count = 1; withSet = false; makes = λ ns set. wait (at ns 0) })
+    ∷ (13 ⇛ record { count = 0; withSet = false; makes = λ ns set. turn })
+    ∷ (15 ⇛ stimulusForm activate)
+    ∷ (16 ⇛ stimulusForm suspend)
+    ∷ (17 ⇛ stimulusForm resume)
+    ∷ (18 ⇛ stimulusForm close)
+    ∷ (19 ⇛ stimulusForm noOp)
+    ∷ (21 ⇛ record { count = 2; withSet = false; makes = λ ns set. withSlot (at ns 1) (valueBinding (at ns 0)) })
+    ∷ (22 ⇛ record { count = 1; withSet = false; makes = λ ns set. valueNode (at ns 0) })
+    ∷ (23 ⇛ record { count = 2; withSet = false; makes = λ ns set. valueEntry (at ns 0) (at ns 1) })
     ∷ []
 
 unfoldable pub formAt : ℕ → Form

@@ -43,7 +43,7 @@ number-and-slot next fs = λ i. number (λ n gs. slot-last (next n) gs i) fs
 
 -- ---- the tables
 
-pub first-form : (k : ℕ) → k ≤ 11 → (k ≡ 5 → ⊥) → (k ≡ 10 → ⊥) → (fs : List (List ℕ)) → rowAt (λ a. a) commands k fs ≡ formArguments (formAt k) fs
+pub first-form : (k : ℕ) → k ≤ 14 → (k ≡ 5 → ⊥) → (k ≡ 10 → ⊥) → (fs : List (List ℕ)) → rowAt (λ a. a) commands k fs ≡ formArguments (formAt k) fs
 unfolding commands formAt sessionArguments bindingArguments batchArguments
 first-form zero h a b fs = refl
 first-form (suc zero) h a b fs = refl
@@ -56,8 +56,11 @@ first-form (suc (suc (suc (suc (suc (suc (suc zero))))))) h a b fs = refl
 first-form (suc (suc (suc (suc (suc (suc (suc (suc zero)))))))) h a b fs = refl
 first-form (suc (suc (suc (suc (suc (suc (suc (suc (suc zero))))))))) h a b fs = refl
 first-form (suc (suc (suc (suc (suc (suc (suc (suc (suc (suc zero)))))))))) h a b fs = absurd (b refl)
-first-form (suc (suc (suc (suc (suc (suc (suc (suc (suc (suc (suc zero))))))))))) h a b fs = none-form fs
-first-form (suc (suc (suc (suc (suc (suc (suc (suc (suc (suc (suc (suc k)))))))))))) h a b fs = absurd (omega arith)
+first-form (suc (suc (suc (suc (suc (suc (suc (suc (suc (suc (suc zero))))))))))) h a b fs = refl
+first-form (suc (suc (suc (suc (suc (suc (suc (suc (suc (suc (suc (suc zero)))))))))))) h a b fs = refl
+first-form (suc (suc (suc (suc (suc (suc (suc (suc (suc (suc (suc (suc (suc zero))))))))))))) h a b fs = refl
+first-form (suc (suc (suc (suc (suc (suc (suc (suc (suc (suc (suc (suc (suc (suc zero)))))))))))))) h a b fs = none-form fs
+first-form (suc (suc (suc (suc (suc (suc (suc (suc (suc (suc (suc (suc (suc (suc (suc k))))))))))))))) h a b fs = absurd (omega arith)
 
 pub stimulus-form : (j : ℕ) → j ≤ 5 → (fs : List (List ℕ)) → rowAt (λ s. number (λ n. end (apply s n))) stimuli j fs ≡ formArguments (formAt (stimulusBase + j)) fs
 unfolding stimuli formAt
@@ -107,7 +110,7 @@ set-forms k h = alike-true _ _ (rule (λ i. alike (leb 6 i && ltb i 9) (formAt i
 
 -- how many numbers each form has, as a list
 abbrev pub numberCounts : List ℕ
-numberCounts = 5 ∷ 1 ∷ 2 ∷ 1 ∷ 0 ∷ 0 ∷ 5 ∷ 0 ∷ 0 ∷ 0 ∷ 0 ∷ 0 ∷ 1 ∷ 1 ∷ 1 ∷ 1 ∷ 1 ∷ 0 ∷ 2 ∷ 1 ∷ 2 ∷ 0 ∷ []
+numberCounts = 5 ∷ 1 ∷ 2 ∷ 1 ∷ 0 ∷ 0 ∷ 5 ∷ 0 ∷ 0 ∷ 0 ∷ 0 ∷ 1 ∷ 1 ∷ 0 ∷ 0 ∷ 1 ∷ 1 ∷ 1 ∷ 1 ∷ 1 ∷ 0 ∷ 2 ∷ 1 ∷ 2 ∷ 0 ∷ []
 
 pub counted-forms : (k : ℕ) → k < formCount → (getD numberCounts k 0 ≡ formAt k .count) × (getD numberCounts k 0 ≤ mostNumbers)
 unfolding formAt

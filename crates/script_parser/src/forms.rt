@@ -20,7 +20,7 @@ ghost use Rattle.script_parser.specs.Forms.{withSlot, formCount, formAt}
 ghost use Rattle.script_parser.specs.Meaning.{withSetOf, commandOf};
 
 // In the order of the tables of words, with a place for none behind each.
-const NUMBERS: [usize; 22] = [
+const NUMBERS: [usize; 25] = [
     5,
     1,
     2,
@@ -31,6 +31,9 @@ const NUMBERS: [usize; 22] = [
     0,
     0,
     0,
+    0,
+    1,
+    1,
     0,
     0,
     1,
@@ -115,17 +118,20 @@ pub(crate) fn command_of(form: usize, values: [u64; NumberFields::MOST]) -> Scri
         3 => ScriptCommand::Setup(SetupLine::Collection(first)),
         4 => ScriptCommand::Call(CallLine::Create),
         9 => ScriptCommand::Call(CallLine::Show),
-        12 => lifecycle_step(ShellLifecycleCommand::Activate, first),
-        13 => lifecycle_step(ShellLifecycleCommand::Suspend, first),
-        14 => lifecycle_step(ShellLifecycleCommand::Resume, first),
-        15 => lifecycle_step(ShellLifecycleCommand::Close, first),
-        16 => ScriptCommand::Call(CallLine::Apply(ShellTransitionInput {
+        11 => ScriptCommand::Call(CallLine::Senders(first)),
+        12 => ScriptCommand::Call(CallLine::Wait(first)),
+        13 => ScriptCommand::Call(CallLine::Turn),
+        15 => lifecycle_step(ShellLifecycleCommand::Activate, first),
+        16 => lifecycle_step(ShellLifecycleCommand::Suspend, first),
+        17 => lifecycle_step(ShellLifecycleCommand::Resume, first),
+        18 => lifecycle_step(ShellLifecycleCommand::Close, first),
+        19 => ScriptCommand::Call(CallLine::Apply(ShellTransitionInput {
             stimulus: ShellLifecycleStimulus::ExplicitNoOp,
             stimulus_bytes: first,
         })),
-        18 => value_binding(first, second),
-        19 => ScriptCommand::Call(CallLine::ValueNode(first)),
-        20 => ScriptCommand::Call(CallLine::ValueEntry(first, second)),
+        21 => value_binding(first, second),
+        22 => ScriptCommand::Call(CallLine::ValueNode(first)),
+        23 => ScriptCommand::Call(CallLine::ValueEntry(first, second)),
         _ => ScriptCommand::Other,
     }
 }

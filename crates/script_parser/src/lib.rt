@@ -36,7 +36,7 @@ pub enum SetupLine {
     Collection(u64),
 }
 
-// A line that calls the session, or makes one.
+// A line that calls the session or the senders' turns, or makes one of these.
 pub enum CallLine {
     Create,
     Apply(ShellTransitionInput),
@@ -44,6 +44,9 @@ pub enum CallLine {
     ValueBinding(u64, u32),
     ValueNode(u64),
     ValueEntry(u64, u64),
+    Senders(u64),
+    Wait(u64),
+    Turn,
 }
 
 // What a line asks for with its set.

@@ -18,11 +18,11 @@ pub struct FormAt {
 
 impl FormAt {
     // Where the forms of apply's words and of value's words begin, and what is no form.
-    const STIMULI: usize = 12;
+    const STIMULI: usize = 15;
 
-    const VALUES: usize = 18;
+    const VALUES: usize = 21;
 
-    const NONE: usize = 21;
+    const NONE: usize = 24;
 }
 
 // The number of the field among words that are parted by spaces: that of all of them where it is none.
@@ -70,7 +70,7 @@ pub(crate) fn find_form(line: &[u8]) -> FormAt
 {
     let end = field_end(line, 0);
     let first = word_index(
-        b"session node binding collection create apply batch check list show value",
+        b"session node binding collection create apply batch check list show value senders wait turn",
         &line[0..end],
     );
     if first == 5 {

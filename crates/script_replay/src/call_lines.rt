@@ -1,7 +1,8 @@
-// Lines that call the session, or make one.
+// Lines that call the session or the senders' turns, or make one of these.
 use script_calls::calls;
 use script_calls::state::ReplayState;
 use script_calls::state::ReplayStep;
+use script_calls::turns;
 use script_calls::views;
 use script_parser::CallLine;
 ghost use Prim.Native.Nat.{ℕ};
@@ -19,5 +20,8 @@ pub(crate) fn call(state: ReplayState, wanted: CallLine, out: &mut [u8]) -> Repl
         CallLine::ValueBinding(node, slot) => views::binding_value(state, node, slot, out),
         CallLine::ValueNode(node) => views::node_availability(state, node, out),
         CallLine::ValueEntry(collection, key) => views::entry_value(state, collection, key, out),
+        CallLine::Senders(count) => turns::set_up(state, count, out),
+        CallLine::Wait(sender) => turns::register(state, sender, out),
+        CallLine::Turn => turns::turn(state, out),
     }
 }

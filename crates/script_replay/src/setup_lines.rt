@@ -8,6 +8,7 @@ use script_calls::state::ReplayState;
 use script_calls::state::ReplayStep;
 use script_parser::SetupLine;
 use session_lifecycle::state::ShellLifecycleLimits;
+use session_turns::SenderTurns;
 ghost use mathlib.Core.List.{List};
 ghost use Prim.Native.Nat.{ℕ};
 ghost use Rattle.spec_replay.specs.Answers.{otherLine};
@@ -19,7 +20,8 @@ ghost use Rattle.script_calls.specs.SetsUp.{SetsUp};
 ghost use Rattle.script_calls.specs.ReplayHolds.{ReplayHolds, Stepped};
 ghost use Rattle.script_replay.specs.SetupLines.{nextSetup};
 
-// The state before the first line: no limits, no anchors and no session. What stands for none is what a creation gives that is refused.
+// The state before the first line: no limits, no anchors, no session and no senders. What stands for none is what a creation gives that is
+// refused, and likewise a set-up of senders.
 pub fn start() -> ReplayState
     ensures { λ r. ⌜ ReplayHolds r replay.start ⌝ }
 {
@@ -40,10 +42,13 @@ pub fn start() -> ReplayState
         &[],
     );
     let session = refused.session;
+    let unmade = SenderTurns::new(0);
+    let turns = unmade.turns;
     ReplayState {
         setup,
         exists: false,
         session,
+        turns,
     }
 }
 
@@ -73,7 +78,7 @@ fn next_setup(own: ReplaySetup, line: SetupLine) -> ReplaySetup
     }
 }
 
-// A line for the next creation; the session stays.
+// A line for the next creation; session and turns stay.
 pub(crate) fn set_up(state: ReplayState, line: SetupLine) -> ReplayStep
     ensures { λ r. ⌜ ((m : State) → ReplayHolds state m → (number : ℕ) (out : List ℕ) → Stepped state out out r (replayLine number m (setupOf line))) ⌝ }
 {

@@ -16,7 +16,7 @@ use Rattle.session_turns.specs.Meaning.{turnsOf, registrationTo, turnAns
 use Rattle.session_turns.specs.MeaningLaws.{told-next}
 use Rattle.session_turns.specs.Runs.{Runs, turnAnswerOf}
 
-answer-back : (a : model.TurnAnswer) → turnAnswerOf (turnAnswerTo a) ≡ a
+pub answer-back : (a : model.TurnAnswer) → turnAnswerOf (turnAnswerTo a) ≡ a
 answer-back model.nobody = refl
 answer-back (model.turnOf s n) = refl
 

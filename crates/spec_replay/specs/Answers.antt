@@ -13,6 +13,8 @@ use Rattle.spec_session.specs.Session.{Lifecycle, created, active, suspended, c
 use Rattle.spec_session.specs.Diagnostics.{Diagnostics}
 use Rattle.spec_session.specs.Lifecycle.{Disposition, applied, noChange, rejected, LifecycleAnswer}
 use Rattle.spec_session.specs.Batch.{BatchAnswer}
+use Rattle.spec_turns.specs.Turns as turns
+use Rattle.spec_turns.specs.Turns.{SetUp, setUpNumber, RegisterAnswer, registered, registerRefused, registerNumber, TurnAnswer, nobody, turnOf}
 use Rattle.spec_decimal.specs.Decimal.{decimal}
 use Rattle.spec_listing.specs.Listing.{fields, valueFields}
 use Rattle.spec_replay.specs.Script.{ascii}
@@ -87,7 +89,22 @@ unfoldable pub availabilityLine : Option Availability → List ℕ
 availabilityLine none = 86 ∷ fields (dash ∷ [])
 availabilityLine (some a) = 86 ∷ fields ((65 ∷ []) ∷ decimal (availabilityByte a) ∷ [])
 
--- N: there is no session
+-- senders: J and 0, or J and 21
+unfoldable pub setUpLine : SetUp → List ℕ
+setUpLine (turns.made t) = 74 ∷ fields (decimal 0 ∷ [])
+setUpLine (turns.refused r) = 74 ∷ fields (decimal (setUpNumber r) ∷ [])
+
+-- wait: J and 0, or J and 19 or 20
+unfoldable pub registerLine : RegisterAnswer → List ℕ
+registerLine registered = 74 ∷ fields (decimal 0 ∷ [])
+registerLine (registerRefused r) = 74 ∷ fields (decimal (registerNumber r) ∷ [])
+
+-- turn: J, the sender, the number for its batch, or J and the word none
+unfoldable pub turnLine : TurnAnswer → List ℕ
+turnLine nobody = 74 ∷ fields (ascii "none" ∷ [])
+turnLine (turnOf s n) = 74 ∷ fields (decimal s ∷ decimal n ∷ [])
+
+-- N: there is no session, or there are no senders
 unfoldable pub noSessionLine : List ℕ
 noSessionLine = 78 ∷ fields []
 

@@ -1,4 +1,4 @@
--- The replay of a script: a set-up, the session of the latest creation, and what each line prints.
+-- The replay of a script: a set-up, the session of the latest creation, the turns of the latest senders, and what each line prints.
 use Prim.Native.Nat.{ℕ, _+_}
 use mathlib.Core.List.{List, [], _∷_, _++_}
 use mathlib.Core.Option.{Option, none, some}
@@ -14,10 +14,12 @@ use Rattle.spec_session.specs.Session.{Limits, BindingPair, Catalogue, Session,
 use Rattle.spec_session.specs.Lifecycle.{LifecycleStep, lifecycleStep}
 use Rattle.spec_session.specs.Batch as batches
 use Rattle.spec_session.specs.Batch.{BatchStep}
+use Rattle.spec_turns.specs.Turns as turns
+use Rattle.spec_turns.specs.Turns.{Turns, SetUp, RegisterStep, TurnStep}
 use Rattle.spec_listing.specs.Listing.{projectionLines, listing}
 use Rattle.spec_replay.specs.Lines.{newline, split}
-use Rattle.spec_replay.specs.Script.{Command, nothing, session, node, binding, collection, create, apply, batch, check, list, show, valueBinding, valueNode, valueEntry, other, command}
-use Rattle.spec_replay.specs.Answers.{creationLine, lifecycleLine, batchLine, checkLines, valueLine, availabilityLine, noSessionLine, otherLine}
+use Rattle.spec_replay.specs.Script.{Command, nothing, session, node, binding, collection, create, apply, batch, check, list, show, valueBinding, valueNode, valueEntry, senders, wait, turn, other, command}
+use Rattle.spec_replay.specs.Answers.{creationLine, lifecycleLine, batchLine, checkLines, valueLine, availabilityLine, setUpLine, registerLine, turnLine, noSessionLine, otherLine}
 
 -- what a creation takes
 pub record Setup : Type 0 where
@@ -28,17 +30,19 @@ pub record Setup : Type 0 where
 pub record State : Type 0 where
   pub setup : Setup
   pub session : Option Session
+  pub turns : Option Turns
 
 -- ---- the set-up
 
 unfoldable pub noAnchors : Catalogue
 noAnchors = record { nodes = []; bindings = []; collections = [] }
 
--- before the first session line: id 0, limits 0, no anchors, no session
+-- before the first line: id 0, limits 0, no anchors, no session, no senders
 unfoldable pub start : State
 start = record {
   setup = record { id = 0; limits = record { stimulusBytes = 0; diagnostics = 0; patches = 0; references = 0 }; catalogue = noAnchors };
   session = none;
+  turns = none;
 }
 
 -- the first 129 of a kind are kept, so that 13 can be shown
@@ -48,9 +52,9 @@ keptAnchors = anchors + 1
 unfoldable pub keep : {A : Type 0} → List A → A → List A
 keep l a = if ltb (length l) keptAnchors then l ++ (a ∷ []) else l
 
--- a new set-up; the session stays
+-- a new set-up; session and turns stay
 unfoldable pub withSetup : State → ℕ → Limits → Catalogue → State
-withSetup s i l c = record { setup = record { id = i; limits = l; catalogue = c }; session = s .session }
+withSetup s i l c = record { setup = record { id = i; limits = l; catalogue = c }; session = s .session; turns = s .turns }
 
 -- the same set-up with other anchors
 unfoldable pub withAnchors : State → Catalogue → State
@@ -73,11 +77,18 @@ pub data Step : Type 0 where
   stops : (printed : List ℕ) → Step
 
 unfoldable pub withSession : State → Option Session → State
-withSession s x = record { setup = s .setup; session = x }
+withSession s x = record { setup = s .setup; session = x; turns = s .turns }
+
+unfoldable pub withTurns : State → Turns → State
+withTurns s t = record { setup = s .setup; session = s .session; turns = some t }
 
 -- a call of the session; without one, N
 unfoldable pub asked : State → (Session → Step) → Step
 asked s f = elim (s .session) [ none ↦ onward s noSessionLine | some x ↦ f x ]
+
+-- a call of the turns; without senders, N
+unfoldable pub askedTurns : State → (Turns → Step) → Step
+askedTurns s f = elim (s .turns) [ none ↦ onward s noSessionLine | some t ↦ f t ]
 
 -- 13 leaves no session, and not the earlier one either
 unfoldable pub created : State → Creation → Step
@@ -89,6 +100,17 @@ applied s r = onward (withSession s (some (r .next))) (lifecycleLine (r .answer)
 
 unfoldable pub batched : State → BatchStep → Step
 batched s r = onward (withSession s (some (r .next))) (batchLine (r .answer))
+
+-- a new circle takes the place of the one before; 21 leaves that one as it was
+unfoldable pub settled : State → SetUp → Step
+settled s (turns.made t) = onward (withTurns s t) (setUpLine (turns.made t))
+settled s (turns.refused r) = onward s (setUpLine (turns.refused r))
+
+unfoldable pub registered : State → RegisterStep → Step
+registered s r = onward (withTurns s (r .next)) (registerLine (r .answer))
+
+unfoldable pub turned : State → TurnStep → Step
+turned s r = onward (withTurns s (r .next)) (turnLine (r .answer))
 
 -- the line of a number, from 1
 unfoldable pub replayLine : ℕ → State → Command → Step
@@ -106,6 +128,9 @@ replayLine n s show = asked s (λ x. onward s (projectionLines (x .projection)))
 replayLine n s (valueBinding i slot) = asked s (λ x. onward s (valueLine (bindingOf (x .projection) i slot)))
 replayLine n s (valueNode i) = asked s (λ x. onward s (availabilityLine (availabilityOf (x .projection) i)))
 replayLine n s (valueEntry c k) = asked s (λ x. onward s (valueLine (entryOf (x .projection) c k)))
+replayLine n s (senders k) = settled s (turns.setUp k)
+replayLine n s (wait i) = askedTurns s (λ t. registered s (turns.register t i))
+replayLine n s turn = asked s (λ x. askedTurns s (λ t. turned s (turns.turn t (x .cursor))))
 replayLine n s other = stops (otherLine n)
 
 -- ---- the whole script

@@ -1,7 +1,9 @@
 -- Short scripts and what they print, as one table that the checker computes.
+use Prim.Native.Nat.{ℕ}
 use Prim.Native.String.{String}
 use mathlib.Core.Bool.{Bool}
 use mathlib.Core.List.{List, [], _∷_, flatMap}
+use mathlib.Core.Option.{none, some}
 use lib.Dec.{T, eqb}
 use Rattle.spec_lists.specs.Lists.{all, equalLists}
 use Rattle.spec_lists.specs.Bytes.{littleEndian, numberOf}
@@ -17,19 +19,31 @@ use Rattle.spec_lists.specs.Order.{sortUnique, lookup}
 use Rattle.spec_projection.specs.Projection.{empty}
 use Rattle.spec_projection.specs.Apply.{replaySteps, applySteps, operationsOf}
 use Rattle.spec_projection.specs.Lookups.{availabilityOf}
-use Rattle.spec_session.specs.Session.{newSession, anchorsFit, create}
+use Rattle.spec_session.specs.Session.{closed, at, newSession, anchorsFit, create}
 use Rattle.spec_session.specs.Diagnostics.{diagnosticsOf}
 use Rattle.spec_session.specs.Lifecycle.{transition, dispositionOf, stateOf, withLifecycle, rejectLifecycle, enterLifecycle, lifecycleStep}
 use Rattle.spec_session.specs.Batch.{require, readable, absentTargets, knownTargets, batchChecks, rejectBatch, keepSession, candidate, commit, concludeBatch, batch}
+use Rattle.spec_turns.specs.Turns.{newTurns, setUp, refuseRegister, startWaiting, register, after, firstAsked, firstWaiting, nextSender, numberAfter, spendTurn, turnFor, turn}
 use Rattle.spec_listing.specs.Listing.{fields, recordCount, projectionLines, refusalLine, outcomeLines, readingLines, listing}
 use Rattle.spec_replay.specs.Lines.{prepend, split}
 use Rattle.spec_replay.specs.Hex.{hexDigit, hexByte, consByte, hexPairs, readHex}
 use Rattle.spec_replay.specs.Script.{ascii, end, given, readBy, slotOf, byWord, stimuli, sessionArguments, bindingArguments, applyArguments, batchArguments, valueBindingArguments, valueEntryArguments, values, valueArguments, commands, fieldsCommand, isRemark, command}
-use Rattle.spec_replay.specs.Answers.{dispositionField, lifecycleField, cursorField, placeField, sessionFields, creationLine, lifecycleLine, batchLine, checkedLine, checkLines, availabilityLine, noSessionLine, otherLine}
-use Rattle.spec_replay.specs.Replay.{noAnchors, start, keep, withSetup, withAnchors, withNode, withBinding, withSession, asked, created, applied, batched, replayLine, replayLines, commandsOf, replayFrom, replay}
+use Rattle.spec_replay.specs.Answers.{dispositionField, lifecycleField, cursorField, placeField, sessionFields, creationLine, lifecycleLine, batchLine, checkedLine, checkLines, availabilityLine, setUpLine, registerLine, turnLine, noSessionLine, otherLine}
+use Rattle.spec_replay.specs.Replay.{State, noAnchors, start, keep, withSetup, withAnchors, withNode, withBinding, withSession, withTurns, asked, askedTurns, created, applied, batched, settled, registered, turned, replayLine, replayLines, commandsOf, replayFrom, replay}
 
 prints : String → String → Bool
 prints script answers = equalLists eqb (replay (ascii script)) (ascii answers)
+
+-- the same from a closed session on whose cursor stands at a number
+closedAt : ℕ → State
+closedAt n = record {
+  setup = start .setup;
+  session = some (record { id = 7; limits = start .setup .limits; catalogue = noAnchors; lifecycle = closed; cursor = at n; projection = empty });
+  turns = none;
+}
+
+printsAt : ℕ → String → String → Bool
+printsAt n script answers = equalLists eqb (replayFrom 1 (closedAt n) (ascii script)) (ascii answers)
 
 -- a script prints nothing of remarks, an answer of each call, and stops at the first other line
 pub examples : List Bool
@@ -47,6 +61,14 @@ examples =
     ∷ prints "session 7 100 4 8 8\ncreate\nbatch 7 77 0 0 0 1b00000055495f444e41325f50524f4a454354494f4e5f50415443485f563100000000\nshow\nvalue node 5\n"
     "S\t0\nR\tno-change\t0\t0\t0\t0\t-\nP\t0\nV\t-\n"
     ∷ prints "check 1b00000055495f444e41325f50524f4a454354494f4e5f50415443485f563100000000\ncheck -\nlist -\n" "K\t0\tset\t0\nK\t10\nE\t10\n"
+    -- turns: the number of senders, who waits, and whose turn it is
+    ∷ prints "senders 0\nsenders 9\nwait 0\nturn\nsenders 2\nturn\nwait 1\nwait 1\nwait 2\n" "J\t21\nJ\t21\nN\nN\nJ\t0\nN\nJ\t0\nJ\t20\nJ\t19\n"
+    ∷ prints "senders 3\nwait 2\nwait 0\nsession 7 0 0 0 0\ncreate\nturn\nwait 0\nturn\nturn\nturn\nsenders 9\nwait 0\nwait 1\nturn\n"
+    "J\t0\nJ\t0\nJ\t0\nS\t0\nJ\t0\t1\nJ\t0\nJ\t2\t1\nJ\t0\t1\nJ\tnone\nJ\t21\nJ\t0\nJ\t0\nJ\t1\t1\n"
+    -- the number is the one after the cursor, up to the largest
+    ∷ printsAt 3 "senders 2\nwait 1\nturn\nturn\n" "J\t0\nJ\t0\nJ\t1\t4\nJ\tnone\n"
+    ∷ printsAt 18446744073709551614 "senders 1\nwait 0\nturn\n" "J\t0\nJ\t0\nJ\t0\t18446744073709551615\n"
+    ∷ printsAt 18446744073709551615 "senders 1\nwait 0\nturn\n" "J\t0\nJ\t0\nJ\t0\t18446744073709551615\n"
     -- any other line ends the replay
     ∷ prints "create \nshow\n" "?\t1\n"
     ∷ prints "node 01\n" "?\t1\n"
@@ -55,21 +77,24 @@ examples =
     ∷ prints "check 0A\n" "?\t1\n"
     ∷ prints "check 0\n" "?\t1\n"
     ∷ prints "check \n" "?\t1\n"
+    ∷ prints "senders 01\n" "?\t1\n"
+    ∷ prints "turn 0\n" "?\t1\n"
     -- a line that no LF ends
     ∷ prints "show\nshow" "N\n?\t2\n"
     ∷ []
 
 -- all rows hold
 pub replay-examples : T (all (λ (b : Bool). b) examples)
-unfolding examples prints
+unfolding examples prints closedAt printsAt
     flatMap littleEndian numberOf digits decimal isNumeral numberWith readDecimal v1 heading faultNumber many literal readPatch readPatches ended readSet
     afterFindings rawSetFindings setFindings firstFindings findings checkEach sortUnique lookup empty replaySteps applySteps operationsOf availabilityOf
     newSession anchorsFit create diagnosticsOf
     transition dispositionOf stateOf withLifecycle rejectLifecycle enterLifecycle lifecycleStep
     require readable absentTargets knownTargets batchChecks rejectBatch keepSession candidate commit concludeBatch batch
+    newTurns setUp refuseRegister startWaiting register after firstAsked firstWaiting nextSender numberAfter spendTurn turnFor turn
     fields recordCount projectionLines refusalLine outcomeLines readingLines listing
     prepend split hexDigit hexByte consByte hexPairs readHex end given readBy slotOf byWord stimuli sessionArguments bindingArguments applyArguments batchArguments
     valueBindingArguments valueEntryArguments values valueArguments commands fieldsCommand isRemark command
-    dispositionField lifecycleField cursorField placeField sessionFields creationLine lifecycleLine batchLine checkedLine checkLines availabilityLine noSessionLine otherLine
-    noAnchors start keep withSetup withAnchors withNode withBinding withSession asked created applied batched replayLine replayLines commandsOf replayFrom replay
+    dispositionField lifecycleField cursorField placeField sessionFields creationLine lifecycleLine batchLine checkedLine checkLines availabilityLine setUpLine registerLine turnLine noSessionLine otherLine
+    noAnchors start keep withSetup withAnchors withNode withBinding withSession withTurns asked askedTurns created applied batched settled registered turned replayLine replayLines commandsOf replayFrom replay
 replay-examples = tt

@@ -31,6 +31,9 @@ pub data Command : Type 0 where
   valueBinding : (node slot : ℕ) → Command
   valueNode : (node : ℕ) → Command
   valueEntry : (collection key : ℕ) → Command
+  senders : (count : ℕ) → Command
+  wait : (sender : ℕ) → Command
+  turn : Command
   other : Command
 
 -- a line has at most 131,072 bytes without its LF
@@ -196,6 +199,9 @@ commands =
     ∷ (ascii "list" ⇒ hex (λ set. end (list set)))
     ∷ (ascii "show" ⇒ end show)
     ∷ (ascii "value" ⇒ valueArguments)
+    ∷ (ascii "senders" ⇒ number (λ n. end (senders n)))
+    ∷ (ascii "wait" ⇒ number (λ n. end (wait n)))
+    ∷ (ascii "turn" ⇒ end turn)
     ∷ []
 
 -- the fields of a line: a known word and its arguments

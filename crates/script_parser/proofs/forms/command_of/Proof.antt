@@ -74,60 +74,75 @@ unfolding formAt
 returns-6 c = λ line. by-form (c .before) 9 (c .match .keys6)
 
 returns-7 : tie.Need-returns-7
-unfolding formAt stimulusOf commandOf
-returns-7 c = λ line. c .lifecycle-step .ensures line ∙ by-form (c .before .before) 12 (c .before .match .keys7)
+unfolding formAt
+returns-7 c = λ line. by-form (c .before) 11 (c .match .keys7)
 
 returns-8 : tie.Need-returns-8
-unfolding formAt stimulusOf commandOf
-returns-8 c = λ line. c .lifecycle-step2 .ensures line ∙ by-form (c .before .before) 13 (c .before .match .keys8)
+unfolding formAt
+returns-8 c = λ line. by-form (c .before) 12 (c .match .keys8)
 
 returns-9 : tie.Need-returns-9
-unfolding formAt stimulusOf commandOf
-returns-9 c = λ line. c .lifecycle-step3 .ensures line ∙ by-form (c .before .before) 14 (c .before .match .keys9)
+unfolding formAt
+returns-9 c = λ line. by-form (c .before) 13 (c .match .keys9)
 
 returns-10 : tie.Need-returns-10
 unfolding formAt stimulusOf commandOf
-returns-10 c = λ line. c .lifecycle-step4 .ensures line ∙ by-form (c .before .before) 15 (c .before .match .keys10)
+returns-10 c = λ line. c .lifecycle-step .ensures line ∙ by-form (c .before .before) 15 (c .before .match .keys10)
 
 returns-11 : tie.Need-returns-11
 unfolding formAt stimulusOf commandOf
-returns-11 c = λ line. by-form (c .before) 16 (c .match .keys11)
+returns-11 c = λ line. c .lifecycle-step2 .ensures line ∙ by-form (c .before .before) 16 (c .before .match .keys11)
 
 returns-12 : tie.Need-returns-12
-unfolding formAt
-returns-12 c = λ line. c .value-binding .ensures line ∙ by-form (c .before .before) 18 (c .before .match .keys12)
+unfolding formAt stimulusOf commandOf
+returns-12 c = λ line. c .lifecycle-step3 .ensures line ∙ by-form (c .before .before) 17 (c .before .match .keys12)
 
 returns-13 : tie.Need-returns-13
-unfolding formAt
-returns-13 c = λ line. by-form (c .before) 19 (c .match .keys13)
+unfolding formAt stimulusOf commandOf
+returns-13 c = λ line. c .lifecycle-step4 .ensures line ∙ by-form (c .before .before) 18 (c .before .match .keys13)
 
 returns-14 : tie.Need-returns-14
-unfolding formAt
-returns-14 c = λ line. by-form (c .before) 20 (c .match .keys14)
+unfolding formAt stimulusOf commandOf
+returns-14 c = λ line. by-form (c .before) 19 (c .match .keys14)
 
 returns-15 : tie.Need-returns-15
 unfolding formAt
-returns-15 c =
+returns-15 c = λ line. c .value-binding .ensures line ∙ by-form (c .before .before) 21 (c .before .match .keys15)
+
+returns-16 : tie.Need-returns-16
+unfolding formAt
+returns-16 c = λ line. by-form (c .before) 22 (c .match .keys16)
+
+returns-17 : tie.Need-returns-17
+unfolding formAt
+returns-17 c = λ line. by-form (c .before) 23 (c .match .keys17)
+
+returns-18 : tie.Need-returns-18
+unfolding formAt
+returns-18 c =
     let form = c .before .args .form in
     let none = c .match .rest in
     λ line. rw (
-      ne-eqb form 0 (none .0 .0 .0 .0 .0 .0 .0 .0 .0 .0 .0 .0 .0 .1),
-      ne-eqb form 1 (none .0 .0 .0 .0 .0 .0 .0 .0 .0 .0 .0 .0 .1),
-      ne-eqb form 2 (none .0 .0 .0 .0 .0 .0 .0 .0 .0 .0 .0 .1),
-      ne-eqb form 3 (none .0 .0 .0 .0 .0 .0 .0 .0 .0 .0 .1),
-      ne-eqb form 4 (none .0 .0 .0 .0 .0 .0 .0 .0 .0 .1),
+      ne-eqb form 0 (none .0 .0 .0 .0 .0 .0 .0 .0 .0 .0 .0 .0 .0 .0 .0 .0 .1),
+      ne-eqb form 1 (none .0 .0 .0 .0 .0 .0 .0 .0 .0 .0 .0 .0 .0 .0 .0 .1),
+      ne-eqb form 2 (none .0 .0 .0 .0 .0 .0 .0 .0 .0 .0 .0 .0 .0 .0 .1),
+      ne-eqb form 3 (none .0 .0 .0 .0 .0 .0 .0 .0 .0 .0 .0 .0 .0 .1),
+      ne-eqb form 4 (none .0 .0 .0 .0 .0 .0 .0 .0 .0 .0 .0 .0 .1),
       ne-eqb form 6 (no-set c 6 refl),
       ne-eqb form 7 (no-set c 7 refl),
       ne-eqb form 8 (no-set c 8 refl),
-      ne-eqb form 9 (none .0 .0 .0 .0 .0 .0 .0 .0 .1),
-      ne-eqb form 12 (none .0 .0 .0 .0 .0 .0 .0 .1),
-      ne-eqb form 13 (none .0 .0 .0 .0 .0 .0 .1),
-      ne-eqb form 14 (none .0 .0 .0 .0 .0 .1),
-      ne-eqb form 15 (none .0 .0 .0 .0 .1),
-      ne-eqb form 16 (none .0 .0 .0 .1),
-      ne-eqb form 18 (none .0 .0 .1),
-      ne-eqb form 19 (none .0 .1),
-      ne-eqb form 20 (none .1),
+      ne-eqb form 9 (none .0 .0 .0 .0 .0 .0 .0 .0 .0 .0 .0 .1),
+      ne-eqb form 11 (none .0 .0 .0 .0 .0 .0 .0 .0 .0 .0 .1),
+      ne-eqb form 12 (none .0 .0 .0 .0 .0 .0 .0 .0 .0 .1),
+      ne-eqb form 13 (none .0 .0 .0 .0 .0 .0 .0 .0 .1),
+      ne-eqb form 15 (none .0 .0 .0 .0 .0 .0 .0 .1),
+      ne-eqb form 16 (none .0 .0 .0 .0 .0 .0 .1),
+      ne-eqb form 17 (none .0 .0 .0 .0 .0 .1),
+      ne-eqb form 18 (none .0 .0 .0 .0 .1),
+      ne-eqb form 19 (none .0 .0 .0 .1),
+      ne-eqb form 21 (none .0 .0 .1),
+      ne-eqb form 22 (none .0 .1),
+      ne-eqb form 23 (none .1),
     )
 
 pub command-of-spec : {M : Type 1} → statement M
@@ -159,4 +174,7 @@ command-of-spec =
     returns-12
     returns-13
     returns-14
-    returns-15)
+    returns-15
+    returns-16
+    returns-17
+    returns-18)

@@ -16,16 +16,16 @@ use Rattle.script_parser.proofs.Searching.{first-word, second-numbered,
 use Rattle.script_parser.proofs.words.find_form.Statement.{statement}
 use Rattle.script_parser.proofs.words.find_form.Tie as tie
 
-few : (c : tie.After-word-index) → c .word-index .result ≤ 11
+few : (c : tie.After-word-index) → c .word-index .result ≤ 14
 unfolding split prepend
-few c = rw (c .word-index .ensures .0) (indexOf-most (take (c .before .before .before .field-end .result - 0) (drop 0 (c .before .before .before .before .before .args .line .now))) (split space (ascii "session node binding collection create apply batch check list show value")))
+few c = rw (c .word-index .ensures .0) (indexOf-most (take (c .before .before .before .field-end .result - 0) (drop 0 (c .before .before .before .before .before .args .line .now))) (split space (ascii "session node binding collection create apply batch check list show value senders wait turn")))
 
 by-first : (c : tie.After-word-index) → fieldsCommand (split space (c .before .before .before .before .before .args .line .now))
     ≡ rowAt (λ a. a) commands (c .word-index .result) (fieldsAfter (c .before .before .before .before .before .args .line .now) (c .before .before .before .field-end .result))
 unfolding split prepend commands
 by-first c =
     let ended = c .before .before .before in
-    first-word (ended .before .before .args .line .now) (ended .field-end .result) (c .word-index .result) (ascii "session node binding collection create apply batch check list show value") (ended .field-end .ensures) refl (c .word-index .ensures .0)
+    first-word (ended .before .before .args .line .now) (ended .field-end .result) (c .word-index .result) (ascii "session node binding collection create apply batch check list show value senders wait turn") (ended .field-end .ensures) refl (c .word-index .ensures .0)
 
 field-end-requires : tie.Need-field-end-requires
 field-end-requires c κs = search needs

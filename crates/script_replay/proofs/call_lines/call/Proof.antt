@@ -43,6 +43,24 @@ enum-known-wanted-4 c = search needs
 entry-value-requires : tie.Need-entry-value-requires
 entry-value-requires c κs = search needs
 
+enum-known-wanted-5 : tie.Need-enum-known-wanted-5
+enum-known-wanted-5 c = search needs
+
+set-up-requires : tie.Need-set-up-requires
+set-up-requires c κs = search needs
+
+enum-known-wanted-6 : tie.Need-enum-known-wanted-6
+enum-known-wanted-6 c = search needs
+
+register-requires : tie.Need-register-requires
+register-requires c κs = search needs
+
+enum-told-3 : tie.Need-enum-told-3
+enum-told-3 c = search needs
+
+turn-requires : tie.Need-turn-requires
+turn-requires c κs = search needs
+
 same-length : tie.Need-same-length
 same-length c = search needs
 
@@ -85,6 +103,27 @@ returns-6 : tie.Need-returns-6
 unfolding replayLine
 returns-6 c = λ m h n. line-step n m _ _ (ap callOf (sym (c .before .before .before .before .before .wanted4 .given .1))) (c .before .before .entry-value .ensures m h)
 
+same-length-7 : tie.Need-same-length-7
+same-length-7 c = search needs
+
+returns-7 : tie.Need-returns-7
+unfolding replayLine
+returns-7 c = λ m h n. line-step n m _ _ (ap callOf (sym (c .before .before .before .before .before .wanted5 .given .1))) (c .before .before .set-up .ensures m h)
+
+same-length-8 : tie.Need-same-length-8
+same-length-8 c = search needs
+
+returns-8 : tie.Need-returns-8
+unfolding replayLine
+returns-8 c = λ m h n. line-step n m _ _ (ap callOf (sym (c .before .before .before .before .before .wanted6 .given .1))) (c .before .before .register .ensures m h)
+
+same-length-9 : tie.Need-same-length-9
+same-length-9 c = search needs
+
+returns-9 : tie.Need-returns-9
+unfolding replayLine
+returns-9 c = λ m h n. line-step n m _ _ (ap callOf (sym (c .before .before .before .before .enum-told3 .given .1))) (c .before .before .turn .ensures m h)
+
 pub call-spec : {M : Type 1} → statement M
 call-spec =
     tie.close
@@ -101,6 +140,12 @@ call-spec =
     node-availability-requires
     enum-known-wanted-4
     entry-value-requires
+    enum-known-wanted-5
+    set-up-requires
+    enum-known-wanted-6
+    register-requires
+    enum-told-3
+    turn-requires
     same-length
     returns
     same-length-2
@@ -112,4 +157,10 @@ call-spec =
     same-length-5
     returns-5
     same-length-6
-    returns-6)
+    returns-6
+    same-length-7
+    returns-7
+    same-length-8
+    returns-8
+    same-length-9
+    returns-9)

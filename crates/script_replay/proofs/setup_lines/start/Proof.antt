@@ -1,6 +1,10 @@
 -- `script_replay::setup_lines::start` meets its contract: nothing is set up, and what stands for no session is in its place.
 use mathlib.Core.Path.{ap}
 use Rattle.spec_replay.specs.Replay as replay
+use Rattle.spec_turns.specs.Turns.{setUp}
+use Rattle.session_turns.specs.Meaning.{setUpTo}
+use Rattle.session_turns.specs.declared.TurnsSetUp.{TurnsSetUp}
+use Rattle.script_calls.specs.TurnsHeld.{heldTurns}
 use Rattle.session_creation.specs.Creation.{anchorsWithin, creationWith}
 use Rattle.session_creation.specs.declared.ShellSessionCreation.{ShellSessionCreation}
 use borrow.Author.Needs.{needs}
@@ -22,11 +26,19 @@ slice-aggregate-create-shell-session-2 c = search needs
 create-shell-session-requires : tie.Need-create-shell-session-requires
 create-shell-session-requires c κs = search needs
 
+new-requires-2 : tie.Need-new-requires-2
+new-requires-2 c κs = search needs
+
 returns : tie.Need-returns
-unfolding replay.start creationWith anchorsWithin
+unfolding replay.start creationWith anchorsWithin setUp setUpTo heldTurns
 returns c =
-    let refused = c .before in
-    record { setup-is = refused .before .before .before .new .ensures; session-is = ap (λ (r : ShellSessionCreation). r .session) (refused .create-shell-session .ensures) }
+    let unmade = c .before in
+    let refused = unmade .before .before in
+    record {
+      setup-is = refused .before .before .before .new .ensures;
+      session-is = ap (λ (r : ShellSessionCreation). r .session) (refused .create-shell-session .ensures);
+      turns-are = record { are = ap (λ (r : TurnsSetUp). r .turns) (unmade .new2 .ensures); few = tt };
+    }
 
 pub start-spec : {M : Type 1} → statement M
 start-spec =
@@ -37,4 +49,5 @@ start-spec =
     add-create-shell-session
     slice-aggregate-create-shell-session-2
     create-shell-session-requires
+    new-requires-2
     returns)

@@ -1,0 +1,85 @@
+-- `script_answers::turns::print_turn` meets its contract: the word none, or the sender and its number.
+use Prim.Native.Nat.{ℕ}
+use mathlib.Core.Path.{sym, ap}
+use mathlib.Core.List.{List}
+use borrow.Author.Needs.{needs}
+use Rattle.spec_listing.specs.Listing.{fields}
+use Rattle.spec_replay.specs.Answers.{turnLine}
+use Rattle.bytes_printer.specs.PrintsLaws.{_⨾_, same-bytes}
+use Rattle.session_turns.specs.declared.TurnAnswer.{TurnAnswer}
+use Rattle.session_turns.specs.Runs.{turnAnswerOf}
+use Rattle.script_answers.proofs.turns.print_turn.Statement.{statement}
+use Rattle.script_answers.proofs.turns.print_turn.Tie as tie
+
+abbrev line : TurnAnswer → List ℕ
+line x = turnLine (turnAnswerOf x)
+
+print-byte-requires : tie.Need-print-byte-requires
+print-byte-requires c κs = search needs
+
+enum-told : tie.Need-enum-told
+enum-told c = search needs
+
+slice-aggregate-print-field-bytes : tie.Need-slice-aggregate-print-field-bytes
+slice-aggregate-print-field-bytes c = search needs
+
+print-field-bytes-requires : tie.Need-print-field-bytes-requires
+print-field-bytes-requires c κs = search needs
+
+print-newline-requires : tie.Need-print-newline-requires
+print-newline-requires c κs = search needs
+
+enum-known-answer : tie.Need-enum-known-answer
+enum-known-answer c = search needs
+
+print-field-u64-requires : tie.Need-print-field-u64-requires
+print-field-u64-requires c κs = search needs
+
+print-field-u64-requires-2 : tie.Need-print-field-u64-requires-2
+print-field-u64-requires-2 c κs = search needs
+
+print-newline-requires-2 : tie.Need-print-newline-requires-2
+print-newline-requires-2 c κs = search needs
+
+same-length : tie.Need-same-length
+same-length c = search needs
+
+returns : tie.Need-returns
+unfolding turnLine fields
+returns c =
+    let end = c .before .before in
+    let word = end .before .before .before .before in
+    let told = word .before .before .before in
+    let letter = told .before .before .before .before in
+    same-bytes (sym (ap line (told .enum-told .given .1))) (letter .print-byte .ensures ⨾ word .print-field-bytes .ensures ⨾ end .print-newline .ensures)
+
+same-length-2 : tie.Need-same-length-2
+same-length-2 c = search needs
+
+returns-2 : tie.Need-returns-2
+unfolding turnLine fields
+returns-2 c =
+    let end = c .before .before in
+    let number = end .before .before .before .before in
+    let sender = number .before .before .before .before in
+    let told = sender .before .before .before in
+    let letter = told .before .before .before .before in
+    same-bytes (sym (ap line (told .answer .given .1))) (letter .print-byte .ensures ⨾ sender .print-field-u64 .ensures ⨾ number .print-field-u642 .ensures ⨾ end .print-newline2 .ensures)
+
+pub print-turn-spec : {M : Type 1} → statement M
+print-turn-spec =
+    tie.close
+    (tie.spec
+    print-byte-requires
+    enum-told
+    slice-aggregate-print-field-bytes
+    print-field-bytes-requires
+    print-newline-requires
+    enum-known-answer
+    print-field-u64-requires
+    print-field-u64-requires-2
+    print-newline-requires-2
+    same-length
+    returns
+    same-length-2
+    returns-2)

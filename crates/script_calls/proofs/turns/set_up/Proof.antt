@@ -1,0 +1,41 @@
+-- `script_calls::turns::set_up` meets its contract: the new turns take the place of the own ones, or these stay.
+use mathlib.Core.Path.{ap}
+use Rattle.session_turns.specs.declared.TurnsSetUp.{TurnsSetUp}
+use Rattle.script_calls.specs.TurnSteps.{settled-step}
+use borrow.Author.Needs.{needs}
+use Rattle.script_calls.proofs.turns.set_up.Statement.{statement}
+use Rattle.script_calls.proofs.turns.set_up.Tie as tie
+
+new-requires : tie.Need-new-requires
+new-requires c κs = search needs
+
+print-set-up-requires : tie.Need-print-set-up-requires
+print-set-up-requires c κs = search needs
+
+after-set-up-requires : tie.Need-after-set-up-requires
+after-set-up-requires c κs = search needs
+
+with-turns-requires : tie.Need-with-turns-requires
+with-turns-requires c κs = search needs
+
+same-length : tie.Need-same-length
+same-length c = search needs
+
+returns : tie.Need-returns
+returns c =
+    let a = c .before .before .before .before .before .before .before .before .before .before .args in
+    let made = c .before .before .before .before .before .before .before .new in
+    let chosen = c .before .after-set-up in
+    λ m h. rw (c .with-turns .ensures)
+    (settled-step (a .state) m h (made .result) (chosen .result) (chosen .ensures) _ _ _ (a .senders) (made .ensures) (c .before .before .before .before .before .print-set-up .ensures _ (ap (λ (k : TurnsSetUp). k .answer) (made .ensures))))
+
+pub set-up-spec : {M : Type 1} → statement M
+set-up-spec =
+    tie.close
+    (tie.spec
+    new-requires
+    print-set-up-requires
+    after-set-up-requires
+    with-turns-requires
+    same-length
+    returns)

@@ -1,0 +1,53 @@
+-- `script_calls::turns::turn_at` meets its contract: the turns there are answer, and their next ones take their place.
+use mathlib.Core.Path.{refl, ap}
+use Rattle.spec_replay.specs.Replay.{turned}
+use Rattle.spec_replay.specs.Answers.{turnLine}
+use Rattle.bytes_printer.specs.PrintsLaws.{same-bytes}
+use Rattle.script_calls.specs.ReplayHoldsLaws.{goes-on}
+use Rattle.script_calls.specs.TurnSteps.{turns-asked, no-turns-asked, holds-turns, turned-next, turned-answer}
+use borrow.Author.Needs.{needs}
+use Rattle.script_calls.proofs.turns.turn_at.Statement.{statement}
+use Rattle.script_calls.proofs.turns.turn_at.Tie as tie
+
+turn-requires : tie.Need-turn-requires
+turn-requires c κs = search needs
+
+print-turn-requires : tie.Need-print-turn-requires
+print-turn-requires c κs = search needs
+
+with-turns-requires : tie.Need-with-turns-requires
+with-turns-requires c κs = search needs
+
+same-length : tie.Need-same-length
+same-length c = search needs
+
+returns : tie.Need-returns
+unfolding turned
+returns c =
+    let a = c .before .before .before .before .before .before .before .before .before .before .before .args in
+    let step = c .before .before .before .before .before .before .turn in
+    λ m h. turns-asked (a .state) m h _ _ _ _ (c .before .before .before .before .before .before .before .if1 .taken) (λ t held.
+    goes-on refl (rw (c .with-turns .ensures) (holds-turns (a .state) m h _ _ (turned-next _ t held _ (step .result) (step .ensures))))
+    (same-bytes (ap turnLine (turned-answer _ t held _ (step .result) (step .ensures))) (c .before .before .before .before .print-turn .ensures)))
+
+no-session-requires : tie.Need-no-session-requires
+no-session-requires c κs = search needs
+
+same-length-2 : tie.Need-same-length-2
+same-length-2 c = search needs
+
+returns-2 : tie.Need-returns-2
+returns-2 c = λ m h. no-turns-asked (c .before .before .before .before .before .before .before .before .args .state) m h _ _ _ _ (c .before .before .before .before .if1 .left) (c .before .before .no-session .ensures m h)
+
+pub turn-at-spec : {M : Type 1} → statement M
+turn-at-spec =
+    tie.close
+    (tie.spec
+    turn-requires
+    print-turn-requires
+    with-turns-requires
+    same-length
+    returns
+    no-session-requires
+    same-length-2
+    returns-2)
