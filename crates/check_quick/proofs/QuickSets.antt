@@ -6,11 +6,13 @@ use mathlib.Core.List.{List, [], _∷_, _++_, flatMap}
 use mathlib.Core.Option.{Option, none, some}
 use native.Mathlib.Omega.{arith}
 use borrow.Author.Tests.{lt-ltb, le-ltb}
-use lib.ListN.{length, take, drop, set, length-drop}
+use lib.ListN.{length, take, drop, set, length-append, length-drop}
 use Rattle.spec_lists.specs.Lists.{if_then_else_}
 use Rattle.spec_lists.specs.Bytes.{Bytes}
+use Rattle.spec_lists.specs.BytesLaws.{bytes-drop, length-littleEndian}
 use Rattle.spec_patch.specs.Patch.{Envelope, Patch}
 use Rattle.spec_patch.specs.Edition.{Edition}
+use Rattle.spec_patch.specs.Encode.{u32, u64, encodeOptional, encodeOperation, encodeEnvelope, encodeCounted, encodePatch}
 use Rattle.spec_patch.specs.Reader.{Result, read, refused, onward, many}
 use Rattle.spec_patch.specs.Read.{readPatch, SetReading, patches, fault, ended}
 use Rattle.spec_patch.specs.ReadLaws.{patch-codec}
@@ -25,7 +27,7 @@ use Rattle.check_findings.specs.IdsLaws.{ids-snoc}
 use Rattle.check_targets.specs.ToldLaws.{envelope-back}
 use Rattle.check_quick.specs.Anchors.{absentAmong, absentOf}
 use Rattle.check_quick.specs.AnchorsLaws.{absent-append, absent-few}
-use Rattle.check_quick.specs.Quick.{patchFound, afterFound, patchesFound, AtMost}
+use Rattle.check_quick.specs.Quick.{patchFound, afterFound, patchesFound, AtMost, leastPatch}
 use Rattle.check_quick.specs.QuickLaws.{or-assoc, or-false, quick-found, at-most-more}
 use Rattle.check_quick.specs.QuickAnswers.{checkedTo, patchAnswer, inspectedBy, endAnswer}
 use Rattle.check_quick.specs.declared.quick_patches.PatchChecked.{PatchChecked}
@@ -50,6 +52,38 @@ module _ (ed : Edition) (known : MutationTarget → Bool) (l : List ℕ) (at : �
 
   pub no-patch : {f : ProjectionPatchReadFault} → r ≡ patch-read.Refused f → NotGot (readPatch ed) l at f
   no-patch {f} = not-got (anywhere (checkedTo known)) (patch-codec ed) patch-told l at r ensured f
+
+-- ---- the bytes of a patch
+
+before-number : (n x : ℕ) (r : List ℕ) → n ≤ length r → n + 8 ≤ length (u64 x ++ r)
+before-number n x r h = omega (arith, length-append (u64 x) r, length-littleEndian 8 x)
+
+before-optional : (n : ℕ) (x : Option ℕ) (r : List ℕ) → n ≤ length r → n + 1 ≤ length (encodeOptional x ++ r)
+unfolding encodeOptional
+before-optional n none r h = omega arith
+before-optional n (some x) r h = omega (arith, length-append (u64 x) r)
+
+-- seven numbers and the surface
+envelope-least : (e : Envelope) → 57 ≤ length (encodeEnvelope e)
+unfolding encodeEnvelope
+envelope-least e =
+    before-number 49 (e .id) _ (before-number 41 (e .stream) _ (before-number 33 (e .document) _ (before-optional 32 (e .surface) _
+    (before-number 24 (e .previous) _ (before-number 16 (e .revision) _ (before-number 8 (e .epoch) (u64 (e .sequence)) (omega (arith, length-littleEndian 8 (e .sequence)))))))))
+
+-- with the count of operations
+encoded-least : (p : Patch) → leastPatch ≤ length (encodePatch p)
+unfolding encodePatch encodeCounted
+encoded-least p =
+    let e = encodeEnvelope (p .envelope) in
+    let count = u32 (length (p .operations)) in
+    let operations = flatMap encodeOperation (p .operations) in
+    omega (arith, length-append e (count ++ operations), length-append count operations, length-littleEndian 4 (length (p .operations)), envelope-least (p .envelope))
+
+-- a patch that was read takes the fewest bytes or more
+pub least-taken : (ed : Edition) (known : MutationTarget → Bool) (l : List ℕ) (at : ℕ) → Bytes l → at ≤ length l → (x : PatchChecked) (end : ℕ) → Got (readPatch ed) (anywhere (checkedTo known)) l at x end → at + leastPatch ≤ end
+least-taken ed known l at bytes within x end g =
+    let all = patch-codec ed .only (bytes-drop at l bytes) (g .a) (drop end l) (g .is) .1 in
+    omega (arith, ap length all, length-drop at l, length-drop end l, length-append (encodePatch (g .a)) (drop end l), encoded-least (g .a), g .there)
 
 -- ---- ids
 

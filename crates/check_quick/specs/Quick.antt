@@ -1,11 +1,12 @@
 -- Whether there is a finding, told element by element, with what earlier elements left: 01, 'Patch checks'.
-use Prim.Native.Nat.{ℕ, _≤_}
+use Prim.Native.Nat.{ℕ, _*_, _≤_}
 use mathlib.Core.Bool.{Bool, false, _||_}
 use mathlib.Core.List.{List, [], _∷_, _++_}
 use mathlib.Core.Option.{Option, none, some}
 use lib.Dec.{eqb}
 use lib.ListN.{length}
 use Rattle.spec_lists.specs.Lists.{All}
+use Rattle.spec_patch.specs.Sizes.{setPatches}
 use Rattle.spec_patch.specs.Patch.{Operation, Envelope, Patch}
 use Rattle.spec_checks.specs.Target.{mutationTarget}
 use Rattle.spec_checks.specs.PatchChecks.{beforeSelf, envelopeFindings}
@@ -51,3 +52,11 @@ patchesFound ids previous (p ∷ ps) =
 -- no id is above the highest
 abbrev pub AtMost : ℕ → List ℕ → Type 0
 AtMost highest = All (λ n. n ≤ highest)
+
+-- the fewest bytes of a patch: seven numbers, no surface, no operations
+abbrev pub leastPatch : ℕ
+leastPatch = 61
+
+-- as many ids have room as there can be patches in so many bytes
+abbrev pub RoomForIds : ℕ → ℕ → Type 0
+RoomForIds bytes room = (n : ℕ) → n ≤ setPatches → n * leastPatch ≤ bytes → n ≤ room

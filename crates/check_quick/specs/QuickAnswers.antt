@@ -22,6 +22,8 @@ use Rattle.check_findings.specs.Found.{isFound}
 use Rattle.check_quick.specs.Anchors.{anchored, absentAmong, absentOf}
 use Rattle.check_quick.specs.Quick.{foundFrom, patchFound}
 use Rattle.check_quick.specs.declared.quick_operations.Tally.{Tally}
+use Rattle.check_quick.specs.declared.quick_operations.OperationsFound.{OperationsFound}
+use Rattle.check_quick.specs.declared.quick_operations.OperationsFound.the-variants as operations-found
 use Rattle.check_quick.specs.declared.quick_operations.OperationsChecked.{OperationsChecked}
 use Rattle.check_quick.specs.declared.quick_operations.OperationsChecked.the-variants as operations-checked
 use Rattle.check_quick.specs.declared.quick_patches.PreviousEnvelope.{PreviousEnvelope}
@@ -40,6 +42,11 @@ tallyFrom known found targets os = record { found = found || foundFrom targets o
 
 abbrev pub tallyOf : (MutationTarget → Bool) → List Operation → Tally
 tallyOf known = tallyFrom known false []
+
+-- what was found, with how many of the targets, three numbers each, are not known
+abbrev pub talliedBy : (MutationTarget → Bool) → List ℕ → OperationsFound → OperationsChecked
+talliedBy known targets (operations-found.Read found end) = operations-checked.Read (record { found = found; absent = absentAmong known targets }) end
+talliedBy known targets (operations-found.Refused f) = operations-checked.Refused f
 
 abbrev pub operationsAnswer : (List Operation → Tally) → ℕ → Result (List Operation) → OperationsChecked
 operationsAnswer tally = answer (anywhere tally) operations-checked.Read operations-checked.Refused

@@ -12,7 +12,13 @@ ghost use Rattle.spec_patch.specs.Sizes.{setPatches};
 ghost use Rattle.spec_patch.specs.Edition.{v1};
 ghost use Rattle.spec_patch.specs.Reader.{many};
 ghost use Rattle.spec_patch.specs.Read.{readPatch, ended, readSet};
+ghost use Rattle.check_quick.specs.Quick.{RoomForIds};
 ghost use Rattle.check_quick.specs.QuickAnswers.{inspectionAnswer, endAnswer};
+
+// Most sets are this short, and little is cleared for their ids.
+const SHORT_BYTES: usize = 512;
+// The patches that so many bytes hold; each takes 61 or more.
+const SHORT_PATCHES: usize = 8;
 
 // Clean: the set has no findings, so many patches and operations, and so many operations whose target is absent.
 pub enum SetInspection {
@@ -48,7 +54,8 @@ fn at_end(
     }
 }
 
-// Reads and checks count patches, the first of them at from, behind which the set ends.
+// Reads and checks count patches, the first of them at from, behind which the set ends. The ids have room for all patches that the bytes of
+// the set can hold.
 fn inspect_patches(
     set: &[u8],
     from: usize,
@@ -56,12 +63,12 @@ fn inspect_patches(
     nodes: &[u64],
     bindings: &[u64],
     collections: &[u64],
+    ids: &mut [u64],
 ) -> SetInspection
-    requires { ⌜ (from ≤ length (now set)) × (count ≤ setPatches) ⌝ }
+    requires { ⌜ (from ≤ length (now set)) × ((count ≤ setPatches) × RoomForIds (length (now set)) (length (now ids))) ⌝ }
     ensures { λ r. ⌜ r ≡ inspectionAnswer (now (nodes .entry)) (now (bindings .entry)) (now (collections .entry))
         (ended (many count (readPatch v1) (drop from (now (set .entry))))) ⌝ }
 {
-    let mut ids = [0u64; ProjectionPatchSet::PATCHES];
     let mut highest = 0;
     let mut previous = PreviousEnvelope::None;
     let mut at = from;
@@ -79,7 +86,7 @@ fn inspect_patches(
                 found = quick_patches::after_found(
                     found,
                     own,
-                    &mut ids,
+                    ids,
                     done,
                     highest,
                     previous,
@@ -87,9 +94,9 @@ fn inspect_patches(
                 );
                 highest = quick_patches::larger(highest, envelope.patch_id.raw());
                 previous = PreviousEnvelope::Some(envelope);
-                operations = operations + head.operation_count;
-                absent = absent + patch.absent;
                 at = end;
+                absent = absent + patch.absent;
+                operations = operations + head.operation_count;
                 left = left - 1;
                 done = done + 1;
             }
@@ -98,7 +105,29 @@ fn inspect_patches(
             }
         }
     }
-    at_end(set.len() - at, found, count, operations, absent)
+    at_end(set.len() - at, found, done, operations, absent)
+}
+
+// Reads a whole set, with room lent for the ids of its patches.
+fn inspect_with(
+    set: &[u8],
+    nodes: &[u64],
+    bindings: &[u64],
+    collections: &[u64],
+    ids: &mut [u64],
+) -> SetInspection
+    requires { ⌜ RoomForIds (length (now set)) (length (now ids)) ⌝ }
+    ensures { λ r. ⌜ r ≡ inspectionAnswer (now (nodes .entry)) (now (bindings .entry)) (now (collections .entry)) (readSet v1 (now (set .entry))) ⌝ }
+{
+    if ProjectionPatchSet::BYTES < set.len() {
+        return SetInspection::Refused(ProjectionPatchReadFault::OverCapacity);
+    }
+    match patch_sets::read_heading(set) {
+        CountRead::Read(count, at) => {
+            inspect_patches(set, at, count, nodes, bindings, collections, ids)
+        }
+        CountRead::Refused(fault) => SetInspection::Refused(fault),
+    }
 }
 
 // Reads a whole set and says whether it has a finding; if not, how many patches and operations it has, and how many of the operations have
@@ -111,13 +140,10 @@ pub fn inspect_set(
 ) -> SetInspection
     ensures { λ r. ⌜ r ≡ inspectionAnswer (now (nodes .entry)) (now (bindings .entry)) (now (collections .entry)) (readSet v1 (now (set .entry))) ⌝ }
 {
-    if ProjectionPatchSet::BYTES < set.len() {
-        return SetInspection::Refused(ProjectionPatchReadFault::OverCapacity);
+    if set.len() <= SHORT_BYTES {
+        let mut few = [0u64; SHORT_PATCHES];
+        return inspect_with(set, nodes, bindings, collections, &mut few);
     }
-    match patch_sets::read_heading(set) {
-        CountRead::Read(count, at) => {
-            inspect_patches(set, at, count, nodes, bindings, collections)
-        }
-        CountRead::Refused(fault) => SetInspection::Refused(fault),
-    }
+    let mut ids = [0u64; ProjectionPatchSet::PATCHES];
+    inspect_with(set, nodes, bindings, collections, &mut ids)
 }

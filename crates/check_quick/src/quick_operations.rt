@@ -1,30 +1,34 @@
 // The operations of a patch, read and checked one after the other.
 use crate::anchors;
 use check_targets::MutationTarget;
-use projection_patch::patch::ProjectionPatchOperation;
 use projection_patch::read_operations;
 use projection_patch::read_operations::OperationRead;
 use projection_patch::read_values::ProjectionPatchReadFault;
 ghost use mathlib.Core.Path.{_≡_};
-ghost use mathlib.Core.Bool.{_||_};
-ghost use mathlib.Core.List.{List, _++_};
-ghost use Prim.Native.Nat.{ℕ, _+_, _*_, _≤_};
+ghost use mathlib.Core.Bool.{Bool, _||_};
+ghost use mathlib.Core.List.{_++_};
+ghost use Prim.Native.Nat.{_+_, _*_, _≤_};
 ghost use lib.ListN.{length, take, drop};
 ghost use Rattle.spec_patch.specs.Edition.{v1};
 ghost use Rattle.spec_patch.specs.Reader.{many};
 ghost use Rattle.spec_patch.specs.Read.{readOperation};
 ghost use Rattle.spec_patch.specs.Sizes.{patchOperations};
-ghost use Rattle.spec_checks.specs.PatchChecks.{beforeSelf};
-ghost use Rattle.projection_patch.specs.Meaning.{operationOf};
+ghost use Rattle.spec_checks.specs.Target.{MutationTarget as Target};
 ghost use Rattle.check_targets.specs.Targets.{targetOf, numbersOf, targetSeen, withTarget};
 ghost use Rattle.check_targets.specs.Marks.{markPlaces, Marked};
 ghost use Rattle.check_quick.specs.Anchors.{anchored};
-ghost use Rattle.check_quick.specs.QuickAnswers.{tallyOf, operationsAnswer};
+ghost use Rattle.check_quick.specs.QuickAnswers.{tallyOf, talliedBy, operationsAnswer};
 
 // Whether some operation was found fault with, and how many have an absent target.
 pub struct Tally {
     pub found: bool,
     pub absent: usize,
+}
+
+// Whether some operation was found fault with, and the position behind the last.
+pub enum OperationsFound {
+    Read(bool, usize),
+    Refused(ProjectionPatchReadFault),
 }
 
 // What the operations told, and the position behind the last.
@@ -33,43 +37,41 @@ pub enum OperationsChecked {
     Refused(ProjectionPatchReadFault),
 }
 
-// Whether there was a finding before, or the operation is one. Its target is put behind the first used numbers, with its mark.
+// Whether there was a finding before, or an operation with this target is one. The target is put behind the first used numbers, with its
+// mark.
 fn operation_found(
     found: bool,
     targets: &mut [u64],
     marks: &mut [u8],
     used: usize,
     target: MutationTarget,
-    operation: ProjectionPatchOperation,
+    before_self: bool,
 ) -> bool
     requires { ⌜ (used + 3 ≤ length (now targets)) × Marked (now marks) (take used (now targets)) ⌝ }
-    ensures found { λ r. ⌜ ((texts : List ℕ) → r ≡ (found || (targetSeen (targetOf target) (take used (now (targets .entry))) || beforeSelf (operationOf texts operation)))) ⌝ }
+    ensures found { λ r. ⌜ r ≡ (found || (targetSeen (targetOf target) (take used (now (targets .entry))) || «before_self»)) ⌝ }
     ensures kept { λ _. ⌜ now (targets .exit) ≡ withTarget used (targetOf target) (now (targets .entry)) ⌝ }
     ensures marked { λ _. ⌜ Marked (now (marks .exit)) (take used (now (targets .entry)) ++ numbersOf (targetOf target)) ⌝ }
 {
     if check_targets::seen_by_mark(targets, marks, used, target) {
         return true;
     }
-    if check_targets::before_self(operation) {
+    if before_self {
         return true;
     }
     found
 }
 
-// Reads count operations of a set, the first of them at from, with room lent for their targets and marks.
+// Reads count operations of a set, the first of them at from, with room lent for their targets and marks. The targets stay in front.
 fn check_with(
     set: &[u8],
     from: usize,
     count: usize,
-    nodes: &[u64],
-    bindings: &[u64],
-    collections: &[u64],
     targets: &mut [u64],
     marks: &mut [u8],
-) -> OperationsChecked
+) -> OperationsFound
     requires { ⌜ (from ≤ length (now set)) × ((3 * count ≤ length (now targets)) × (length (now marks) ≡ markPlaces)) ⌝ }
-    ensures { λ r. ⌜ r ≡ operationsAnswer (tallyOf (anchored (now (nodes .entry)) (now (bindings .entry)) (now (collections .entry))))
-        (length (now (set .entry))) (many count (readOperation v1) (drop from (now (set .entry)))) ⌝ }
+    ensures { λ r. ⌜ ((known : Target → Bool) → talliedBy known (take (3 * count) (now (targets .exit))) r
+        ≡ operationsAnswer (tallyOf known) (length (now (set .entry))) (many count (readOperation v1) (drop from (now (set .entry))))) ⌝ }
 {
     let mut at = from;
     let mut left = count;
@@ -78,19 +80,38 @@ fn check_with(
     while 0 < left {
         match read_operations::operation_from(&set[at..], true) {
             OperationRead::Read(operation, taken) => {
-                let target = check_targets::mutation_target(operation);
-                found = operation_found(found, targets, marks, used, target, operation);
-                used = used + MutationTarget::NUMBERS;
                 at = at + taken;
                 left = left - 1;
+                let target = check_targets::mutation_target(operation);
+                let own = check_targets::before_self(operation);
+                found = operation_found(found, targets, marks, used, target, own);
+                used = used + MutationTarget::NUMBERS;
             }
             OperationRead::Refused(fault) => {
-                return OperationsChecked::Refused(fault);
+                return OperationsFound::Refused(fault);
             }
         }
     }
-    let absent = anchors::absent_among(&targets[0..used], nodes, bindings, collections);
-    OperationsChecked::Read(Tally { found, absent }, at)
+    OperationsFound::Read(found, at)
+}
+
+// What was found, with how many of the targets are absent.
+fn tallied(
+    run: OperationsFound,
+    targets: &[u64],
+    nodes: &[u64],
+    bindings: &[u64],
+    collections: &[u64],
+) -> OperationsChecked
+    ensures { λ r. ⌜ r ≡ talliedBy (anchored (now (nodes .entry)) (now (bindings .entry)) (now (collections .entry))) (now (targets .entry)) run ⌝ }
+{
+    match run {
+        OperationsFound::Read(found, end) => {
+            let absent = anchors::absent_among(targets, nodes, bindings, collections);
+            OperationsChecked::Read(Tally { found, absent }, end)
+        }
+        OperationsFound::Refused(fault) => OperationsChecked::Refused(fault),
+    }
 }
 
 // Reads the one operation of a patch, which repeats no target.
@@ -108,8 +129,8 @@ fn check_one(
     match read_operations::operation_from(&set[at..], true) {
         OperationRead::Read(operation, taken) => {
             let target = check_targets::mutation_target(operation);
-            let absent = anchors::one_if_absent(nodes, bindings, collections, target);
             let found = check_targets::before_self(operation);
+            let absent = anchors::one_if_absent(nodes, bindings, collections, target);
             OperationsChecked::Read(Tally { found, absent }, at + taken)
         }
         OperationRead::Refused(fault) => OperationsChecked::Refused(fault),
@@ -132,29 +153,14 @@ pub fn check_operations(
     if count == 1 {
         return check_one(set, from, nodes, bindings, collections);
     }
+    let used = MutationTarget::NUMBERS * count;
     let mut marks = [0u8; MutationTarget::MARKS];
     if count <= MutationTarget::FEW {
         let mut few = [0u64; MutationTarget::FEW_NUMBERS];
-        return check_with(
-            set,
-            from,
-            count,
-            nodes,
-            bindings,
-            collections,
-            &mut few,
-            &mut marks,
-        );
+        let run = check_with(set, from, count, &mut few, &mut marks);
+        return tallied(run, &few[..used], nodes, bindings, collections);
     }
     let mut targets = [0u64; MutationTarget::PATCH_NUMBERS];
-    check_with(
-        set,
-        from,
-        count,
-        nodes,
-        bindings,
-        collections,
-        &mut targets,
-        &mut marks,
-    )
+    let run = check_with(set, from, count, &mut targets, &mut marks);
+    tallied(run, &targets[..used], nodes, bindings, collections)
 }

@@ -13,6 +13,7 @@ ghost use Rattle.spec_patch.specs.Edition.{v1};
 ghost use Rattle.spec_checks.specs.Finding.{report, checkEach};
 ghost use Rattle.spec_checks.specs.PatchChecks.{operationFindings};
 ghost use Rattle.patch_walk.specs.Steps.{AtSteps};
+ghost use Rattle.check_targets.specs.Marks.{markPlaces};
 ghost use Rattle.check_findings.specs.EnvelopeChecks.{row};
 ghost use Rattle.check_findings.specs.InsertFindings.{insertedAll};
 ghost use Rattle.check_set.specs.Listed.{ListedAs};
@@ -41,15 +42,17 @@ fn insert_operation(
     insert_findings::insert_optional(records, more, seen_finding)
 }
 
-// Walks over the operations that are left of the open patch, and inserts the findings of each behind the first records.
+// Walks over the operations that are left of the open patch, and inserts the findings of each behind the first records. Room is lent for
+// their targets and marks.
 pub fn list_operations(
     set: &[u8],
     start: SetCursor,
     targets: &mut [u64],
+    marks: &mut [u8],
     records: &mut [u64],
     first: usize,
 ) -> Listed
-    requires { ⌜ 3 * start .«operations_left» ≤ length (now targets) ⌝ }
+    requires { ⌜ (3 * start .«operations_left» ≤ length (now targets)) × (length (now marks) ≡ markPlaces) ⌝ }
     ensures listed { λ r. ⌜ ((os : List Operation) (ps : List Patch) → AtSteps v1 (now (set .entry)) start os ps
         → ListedAs (now (set .entry)) (checkEach (operationFindings (start .«patch_id»)) [] os) first (now (records .entry)) r (now (records .exit)) ps) ⌝ }
     ensures patches { λ r. ⌜ r .next .«patches_left» ≡ start .«patches_left» ⌝ }
@@ -66,8 +69,8 @@ pub fn list_operations(
             };
         };
         let target = check_targets::mutation_target(operation);
-        let seen = check_targets::seen_before(targets, used, target);
         let before_self = check_targets::before_self(operation);
+        let seen = check_targets::seen_by_mark(targets, marks, used, target);
         kept = insert_operation(records, kept, start.patch_id, index, before_self, seen);
         used = used + MutationTarget::NUMBERS;
         index = index + 1;

@@ -3,12 +3,13 @@ use crate::list_operations;
 use crate::list_operations::Listed;
 use check_findings::envelope_checks;
 use check_findings::insert_findings;
+use check_targets::MutationTarget;
 use patch_walk::SetCursor;
 use projection_patch::patch::ProjectionPatch;
 ghost use mathlib.Core.Path.{_≡_};
 ghost use mathlib.Core.List.{List};
-ghost use Prim.Native.Nat.{_*_, _≤_};
-ghost use lib.ListN.{length};
+ghost use Prim.Native.Nat.{_≤_};
+ghost use Rattle.spec_patch.specs.Sizes.{patchOperations};
 ghost use Rattle.spec_patch.specs.Patch.{Patch};
 ghost use Rattle.spec_patch.specs.Edition.{v1};
 ghost use Rattle.spec_checks.specs.PatchChecks.{rawPatchFindings};
@@ -32,19 +33,25 @@ fn list_head(head: ProjectionPatch, records: &mut [u64]) -> usize
     insert_findings::insert_envelope_findings(records, one, findings)
 }
 
-// Lists the findings of the patch that was opened last, whose head it is, from the start of records.
+// Lists the findings of the patch that was opened last, whose head it is, from the start of records. Most patches have few operations, and
+// little is cleared for them.
 pub fn list_patch(
     set: &[u8],
     head: ProjectionPatch,
     start: SetCursor,
-    targets: &mut [u64],
     records: &mut [u64],
 ) -> Listed
-    requires { ⌜ 3 * start .«operations_left» ≤ length (now targets) ⌝ }
+    requires { ⌜ start .«operations_left» ≤ patchOperations ⌝ }
     ensures listed { λ r. ⌜ ((p : Patch) (ps : List Patch) → head ≡ headTo (headOf p) → start .«patch_id» ≡ p .envelope .id → AtSteps v1 (now (set .entry)) start (p .operations) ps
         → ListedAs (now (set .entry)) (rawPatchFindings p) 0 (now (records .entry)) r (now (records .exit)) ps) ⌝ }
     ensures patches { λ r. ⌜ r .next .«patches_left» ≡ start .«patches_left» ⌝ }
 {
     let first = list_head(head, records);
-    list_operations::list_operations(set, start, targets, records, first)
+    let mut marks = [0u8; MutationTarget::MARKS];
+    if start.operations_left <= MutationTarget::FEW {
+        let mut few = [0u64; MutationTarget::FEW_NUMBERS];
+        return list_operations::list_operations(set, start, &mut few, &mut marks, records, first);
+    }
+    let mut targets = [0u64; MutationTarget::PATCH_NUMBERS];
+    list_operations::list_operations(set, start, &mut targets, &mut marks, records, first)
 }

@@ -4,7 +4,6 @@ use check_findings::envelope_checks;
 use check_findings::ids;
 use check_findings::insert_findings;
 use check_quick::quick_patches::PreviousEnvelope;
-use check_targets::MutationTarget;
 use patch_walk::SetCursor;
 use patch_walk::SetStep;
 use projection_patch::patch::ProjectionPatchEnvelope;
@@ -83,7 +82,6 @@ pub fn list_patches(set: &[u8], start: SetCursor, records: &mut [u64]) -> Findin
     requires { ⌜ (start .«patches_left» ≤ setPatches) × (tableLength ≤ length (now records)) ⌝ }
     ensures { λ r. ⌜ ((ps : List Patch) → AtSteps v1 (now (set .entry)) start [] ps → FindingsListedAs (findings ps) r (now (records .exit))) ⌝ }
 {
-    let mut targets = [0u64; MutationTarget::PATCH_NUMBERS];
     let mut ids = [0u64; ProjectionPatchSet::PATCHES];
     let mut previous = PreviousEnvelope::None;
     let mut cursor = start;
@@ -93,7 +91,7 @@ pub fn list_patches(set: &[u8], start: SetCursor, records: &mut [u64]) -> Findin
         let SetStep::Head(head, inside) = patch_walk::next_step(set, cursor, false) else {
             return FindingsListed::Set(kept);
         };
-        let patch = list_patch::list_patch(set, head, inside, &mut targets, records);
+        let patch = list_patch::list_patch(set, head, inside, records);
         if 0 < patch.count {
             return FindingsListed::Patch(done, patch.count);
         }

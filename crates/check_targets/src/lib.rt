@@ -138,7 +138,7 @@ fn same_target(a: MutationTarget, b: MutationTarget) -> bool
 }
 
 // Whether the target is among those that stand in targets, three numbers each.
-pub fn target_seen(targets: &[u64], target: MutationTarget) -> bool
+fn target_seen(targets: &[u64], target: MutationTarget) -> bool
     ensures { λ r. ⌜ r ≡ targetSeen (targetOf target) (now (targets .entry)) ⌝ }
 {
     let mut at = 0;
@@ -172,7 +172,7 @@ fn put_target(targets: &mut [u64], used: usize, target: MutationTarget)
 }
 
 // Whether the target is among those in the first used numbers, behind which it is put for later operations.
-pub fn seen_before(targets: &mut [u64], used: usize, target: MutationTarget) -> bool
+fn seen_before(targets: &mut [u64], used: usize, target: MutationTarget) -> bool
     requires { ⌜ used + 3 ≤ length (now targets) ⌝ }
     ensures seen { λ r. ⌜ r ≡ targetSeen (targetOf target) (take used (now (targets .entry))) ⌝ }
     ensures kept { λ _. ⌜ now (targets .exit) ≡ withTarget used (targetOf target) (now (targets .entry)) ⌝ }
@@ -189,7 +189,7 @@ fn mark_of(target: MutationTarget) -> usize
     let first = target.first % MutationTarget::PLACES;
     let second = target.second % MutationTarget::PLACES;
     let kind = target.kind % MutationTarget::PLACES;
-    ((first * 115 + kind * 91 + second) % MutationTarget::PLACES) as usize
+    ((first * 183 + kind * 215 + second) % MutationTarget::PLACES) as usize
 }
 
 // As seen_before, with a mark for each target among the first used numbers: one without a mark is not among them, and

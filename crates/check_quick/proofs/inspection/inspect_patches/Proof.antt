@@ -1,6 +1,6 @@
 -- `check_quick::inspection::inspect_patches` meets its contract: what is left, after what was counted and found, answers as the whole does; the measure is the patches left.
 use Prim.Native.Nat.{ℕ, _+_, _-_, _*_, _≤_, _<_}
-use mathlib.Core.Path.{_≡_, ap, _∙_}
+use mathlib.Core.Path.{_≡_, refl, ap, _∙_}
 use mathlib.Core.Bool.{Bool, false}
 use mathlib.Core.List.{List, []}
 use mathlib.Core.Option.{none}
@@ -8,7 +8,7 @@ use native.Mathlib.Omega.{arith}
 use lib.ListN.{length, take, drop, length-set}
 use Rattle.spec_lists.specs.Bytes.{Bytes}
 use Rattle.spec_lists.specs.BytesLaws.{bytes-of}
-use Rattle.spec_patch.specs.Sizes.{setPatches, patchOperations}
+use Rattle.spec_patch.specs.Sizes.{patchOperations}
 use Rattle.spec_patch.specs.Edition.{v1}
 use Rattle.spec_patch.specs.Reader.{many}
 use Rattle.spec_patch.specs.Read.{readPatch, ended}
@@ -18,10 +18,10 @@ use Rattle.projection_patch.specs.ReadAnswers.{anywhere}
 use Rattle.projection_patch.proofs.Answers.{Got}
 use Rattle.patch_sets.proofs.Runs.{few}
 use Rattle.check_quick.specs.Anchors.{anchored}
-use Rattle.check_quick.specs.Quick.{AtMost}
+use Rattle.check_quick.specs.Quick.{AtMost, leastPatch}
 use Rattle.check_quick.specs.QuickAnswers.{previousOf, checkedTo, inspectionAnswer}
 use Rattle.check_quick.specs.declared.quick_patches.PatchChecked.{PatchChecked}
-use Rattle.check_quick.proofs.QuickSets.{Passed, passed, patch-got, no-patch, patchesLeft, none-passed, patch-refused, count-is, few-absent, at-most-still, turn, end-is}
+use Rattle.check_quick.proofs.QuickSets.{Passed, passed, patch-got, no-patch, least-taken, patchesLeft, none-passed, patch-refused, count-is, few-absent, at-most-still, turn, end-is}
 use mir.Val.{Fits}
 use mir.Syntax.{w64}
 use borrow.Author.Needs.{needs}
@@ -31,14 +31,14 @@ use Rattle.check_quick.proofs.inspection.inspect_patches.Tie as tie
 abbrev Inv-loop : tie.InvT-loop
 Inv-loop set from count nodes bindings collections ids₀ highest₀ previous₀ at₀ left₀ done₀ operations₀ absent₀ found₀ ids highest previous at left done operations absent found =
     (at ≤ length set) × ((done + left ≡ count) × ((operations + left * patchOperations ≤ count * patchOperations) × ((absent ≤ operations)
-    × ((length ids ≡ setPatches) × (AtMost highest (take done ids)
+    × (((length ids ≡ length ids₀) × (done * leastPatch ≤ at)) × (AtMost highest (take done ids)
     × (patchesLeft v1 (anchored nodes bindings collections) set at left (passed done operations absent found) (take done ids) (previousOf previous) ≡ inspectionAnswer nodes bindings collections (ended (many count (readPatch v1) (drop from set)))))))))
 
 abbrev μ-loop : tie.MeasureT-loop
 μ-loop set from count nodes bindings collections ids₀ highest₀ previous₀ at₀ left₀ done₀ operations₀ absent₀ found₀ ids highest previous at left done operations absent found = left
 
 abbrev start : tie.At-loop Inv-loop μ-loop → tie.Start Inv-loop μ-loop
-start c = c .before .before .before .before .before
+start c = c .before .before .before .before .before .before
 
 abbrev set : tie.At-loop Inv-loop μ-loop → List ℕ
 set c = start c .args .set .now
@@ -54,7 +54,7 @@ abbrev head : tie.After-known-told Inv-loop μ-loop → tie.At-loop Inv-loop μ-
 head c = c .before .before .before .before .before
 
 all-bytes : (c : tie.At-loop Inv-loop μ-loop) → Bytes (set c)
-all-bytes c = bytes-of (set c) (λ j. c .before .before .before .before .shared-slice-known .given j .fits)
+all-bytes c = bytes-of (set c) (λ j. c .before .before .before .before .before .shared-slice-known .given j .fits)
 
 abbrev patch : tie.After-known-told Inv-loop μ-loop → PatchChecked
 patch c = c .before .patch .given .0 .0
@@ -78,10 +78,25 @@ small c =
 room : (c : tie.After-known-told Inv-loop μ-loop) → let l = head c .loop in Fits w64 (l .operations + patch c .head .«operation_count») × (Fits w64 (l .absent + patch c .absent) × Fits w64 (l .done + 1))
 room c = let s = small c in (omega (arith, s .0), (omega (arith, s .0, s .1), omega arith))
 
+-- the patch takes its bytes, and so there is room for its id
+taken : (c : tie.After-known-told Inv-loop μ-loop) → let h = head c in (h .loop .at + leastPatch ≤ end c) × (end c ≤ length (set h))
+taken c =
+    let h = head c in
+    let g = one c in
+    (least-taken v1 (known h) (set h) (h .loop .at) (all-bytes h) (omega arith) (patch c) (end c) g, omega (arith, g .there))
+
+below : (c : tie.After-known-told Inv-loop μ-loop) → let l = head c .loop in l .done < length (l .ids)
+below c =
+    let h = head c in
+    let l = h .loop in
+    let t = taken c in
+    let room : l .done + 1 ≤ length (start h .args .ids .now) = start h .pre .1 .1 (l .done + 1) (omega arith) (omega (arith, t .0, t .1)) in
+    omega (arith, room)
+
 loop-holds : tie.Need-loop-holds Inv-loop μ-loop
 loop-holds c =
-    let a = c .before .before .before .before .args in
-    (omega arith, (omega arith, (omega arith, (omega arith, (search needs, (tt, none-passed v1 (anchored (a .nodes .now) (a .bindings .now) (a .collections .now)) (a .set .now) (a .from) (a .count)))))))
+    let a = c .before .before .before .before .before .args in
+    (omega arith, (omega arith, (omega arith, (omega arith, ((refl, omega arith), (tt, none-passed v1 (anchored (a .nodes .now) (a .bindings .now) (a .collections .now)) (a .set .now) (a .from) (a .count)))))))
 
 check-patch-requires : tie.Need-check-patch-requires Inv-loop μ-loop
 check-patch-requires c κs = search needs
@@ -89,11 +104,8 @@ check-patch-requires c κs = search needs
 enum-known-patch : tie.Need-enum-known-patch Inv-loop μ-loop
 enum-known-patch c = search needs
 
-slice-aggregate-after-found : tie.Need-slice-aggregate-after-found Inv-loop μ-loop
-slice-aggregate-after-found c = search needs
-
 after-found-requires : tie.Need-after-found-requires Inv-loop μ-loop
-after-found-requires c κs = search needs
+after-found-requires c κs = let k = c .before .before .before in (below k, head k .loop .inv .1 .1 .1 .1 .1 .0)
 
 raw-requires : tie.Need-raw-requires Inv-loop μ-loop
 raw-requires c κs = search needs
@@ -101,17 +113,17 @@ raw-requires c κs = search needs
 larger-requires : tie.Need-larger-requires Inv-loop μ-loop
 larger-requires c κs = search needs
 
-add-operations : tie.Need-add-operations Inv-loop μ-loop
-add-operations c = omega (arith, room (c .before .before .before .before .before .before .before .before) .0)
-
 add-absent : tie.Need-add-absent Inv-loop μ-loop
 add-absent c = omega (arith, room (c .before .before .before .before .before .before .before .before .before) .1 .0)
+
+add-operations : tie.Need-add-operations Inv-loop μ-loop
+add-operations c = omega (arith, room (c .before .before .before .before .before .before .before .before .before .before) .0)
 
 sub-left : tie.Need-sub-left Inv-loop μ-loop
 sub-left c = search needs
 
 add-done : tie.Need-add-done Inv-loop μ-loop
-add-done c = omega (arith, room (c .before .before .before .before .before .before .before .before .before) .1 .1)
+add-done c = omega (arith, room (c .before .before .before .before .before .before .before .before .before .before) .1 .1)
 
 loop-less : tie.Need-loop-less Inv-loop μ-loop
 loop-less c = search needs
@@ -120,22 +132,26 @@ loop-again : tie.Need-loop-again Inv-loop μ-loop
 loop-again c =
     let highest = c .before .before .larger .ensures in
     let own = c .before .before .before .raw .ensures in
-    let call = c .before .before .before .before .before in
+    let call = c .before .before .before .before .before .before in
     let read = call .before .before .before .before in
     let h = head read in
     let l = h .loop in
     let g = one read in
     let found = call .after-found .ensures in
     let s = small read in
-    let below : l .done < length (l .ids) = search needs in
+    let fits = below read in
+    let t = taken read in
     let id = envelopeOf (patch read .head .envelope) .id in
-    let still = at-most-still (l .ids) _ (l .done) id (l .highest) _ below (found .1) (l .inv .1 .1 .1 .1 .1 .0) (highest .0) (omega (arith, highest .1, own)) in (
-      omega (arith, g .there),
-      (omega arith, (omega (arith, s .0), (omega (arith, s .1), (ap length (found .1) ∙ length-set (l .ids) (l .done) _ ∙ l .inv .1 .1 .1 .1 .0, (still, turn v1 (known h) (set h) (l .at) (l .left) (before h) (previousOf (l .previous)) (omega arith) (patch read) (end read) g _ (l .ids) _ below (found .0) (found .1) ∙ l .inv .1 .1 .1 .1 .1 .1))))),
+    let still = at-most-still (l .ids) _ (l .done) id (l .highest) _ fits (found .1) (l .inv .1 .1 .1 .1 .1 .0) (highest .0) (omega (arith, highest .1, own)) in (
+      t .1,
+      (omega arith, (omega (arith, s .0), (omega (arith, s .1), ((ap length (found .1) ∙ length-set (l .ids) (l .done) _ ∙ l .inv .1 .1 .1 .1 .0 .0, omega (arith, t .0)), (still, turn v1 (known h) (set h) (l .at) (l .left) (before h) (previousOf (l .previous)) (omega arith) (patch read) (end read) g _ (l .ids) _ fits (found .0) (found .1) ∙ l .inv .1 .1 .1 .1 .1 .1))))),
     )
 
 enum-known-fault : tie.Need-enum-known-fault Inv-loop μ-loop
 enum-known-fault c = search needs
+
+same-length : tie.Need-same-length Inv-loop μ-loop
+same-length c = search needs
 
 returns : tie.Need-returns Inv-loop μ-loop
 returns c =
@@ -152,12 +168,15 @@ sub-at-end c = search needs
 at-end-requires : tie.Need-at-end-requires Inv-loop μ-loop
 at-end-requires c κs = search needs
 
+same-length-2 : tie.Need-same-length-2 Inv-loop μ-loop
+same-length-2 c = search needs
+
 returns-2 : tie.Need-returns-2 Inv-loop μ-loop
 returns-2 c =
     let h = c .before .before in
     let l = h .loop in
     c .at-end .ensures
-    ∙ end-is v1 (known h) (set h) (l .at) (l .left) (before h) (previousOf (l .previous)) (take (l .done) (l .ids)) (start h .args .count) (omega arith) (omega arith)
+    ∙ end-is v1 (known h) (set h) (l .at) (l .left) (before h) (previousOf (l .previous)) (take (l .done) (l .ids)) (l .done) (omega arith) refl
     ∙ l .inv .1 .1 .1 .1 .1 .1
 
 pub inspect-patches-spec : {M : Type 1} → statement M
@@ -169,18 +188,19 @@ inspect-patches-spec =
     loop-holds
     check-patch-requires
     enum-known-patch
-    slice-aggregate-after-found
     after-found-requires
     raw-requires
     larger-requires
-    add-operations
     add-absent
+    add-operations
     sub-left
     add-done
     loop-less
     loop-again
     enum-known-fault
+    same-length
     returns
     sub-at-end
     at-end-requires
+    same-length-2
     returns-2)

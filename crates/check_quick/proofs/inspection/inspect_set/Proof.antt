@@ -1,77 +1,26 @@
--- `check_quick::inspection::inspect_set` meets its contract: the length of the set, its heading, then its patches.
-use Prim.Native.Nat.{ℕ}
-use mathlib.Core.Path.{sym, ap, _∙_}
-use mathlib.Core.List.{List}
+-- `check_quick::inspection::inspect_set` meets its contract: so few bytes hold no more patches than the short table has ids.
 use native.Mathlib.Omega.{arith}
-use borrow.Author.Tests.{lt-leb}
-use lib.ListN.{length}
-use Rattle.spec_lists.specs.BytesLaws.{bytes-of}
-use Rattle.spec_patch.specs.Sizes.{setBytes}
-use Rattle.spec_patch.specs.Read.{readSet}
-use Rattle.patch_sets.proofs.PatchAnswers.{no-heading}
-use Rattle.patch_sets.proofs.ReadAt.{HeadingAt, heading-at}
-use Rattle.patch_sets.proofs.Runs.{set-by-patches, no-set}
-use Rattle.check_quick.specs.QuickAnswers.{inspectedBy, inspectionAnswer}
 use borrow.Author.Needs.{needs}
 use Rattle.check_quick.proofs.inspection.inspect_set.Statement.{statement}
 use Rattle.check_quick.proofs.inspection.inspect_set.Tie as tie
 
-abbrev start : tie.After-read-heading → tie.Start
-start c = c .before .before .before .before .before .before
+slice-aggregate-inspect-with : tie.Need-slice-aggregate-inspect-with
+slice-aggregate-inspect-with c = search needs
 
-abbrev set : tie.After-read-heading → List ℕ
-set c = start c .args .set .now
-
-abbrev count : tie.After-known-told → ℕ
-count c = c .before .count .given .0 .0
-
-abbrev at : tie.After-known-told → ℕ
-at c = c .before .count .given .0 .1 .0
-
-front : (c : tie.After-known-told) → HeadingAt (set (c .before .before .before)) (count c) (at c)
-front c =
-    let k = c .before .before .before in
-    heading-at (set k) (bytes-of (set k) (λ j. k .before .before .before .before .before .shared-slice-known .given j .fits)) (k .read-heading .ensures) (c .before .count .given .1)
+inspect-with-requires : tie.Need-inspect-with-requires
+inspect-with-requires c κs = λ n few fits. omega arith
 
 returns : tie.Need-returns
-unfolding readSet inspectedBy
-returns c = let l = c .before .before .before .before .before .args .set .now in rw (lt-leb (length l) setBytes (c .if1 .taken))
+returns c = search needs
 
-read-heading-requires : tie.Need-read-heading-requires
-read-heading-requires c κs = search needs
+slice-aggregate-inspect-with-2 : tie.Need-slice-aggregate-inspect-with-2
+slice-aggregate-inspect-with-2 c = search needs
 
-enum-known-count : tie.Need-enum-known-count
-enum-known-count c = search needs
-
-inspect-patches-requires : tie.Need-inspect-patches-requires
-inspect-patches-requires c κs = (front c .within, front c .few)
-
-enum-known-fault : tie.Need-enum-known-fault
-enum-known-fault c = search needs
+inspect-with-requires-2 : tie.Need-inspect-with-requires-2
+inspect-with-requires-2 c κs = λ n few fits. omega arith
 
 returns-2 : tie.Need-returns-2
-returns-2 c =
-    let k = c .before .before .before .before in
-    let a = start k .args in
-    c .inspect-patches .ensures
-    ∙ ap (inspectionAnswer (a .nodes .now) (a .bindings .now) (a .collections .now)) (sym (set-by-patches (set k) (omega arith) (front (c .before) .got)))
-
-returns-3 : tie.Need-returns-3
-unfolding inspectedBy
-returns-3 c =
-    let k = c .before .before .before in
-    let bound = c .before .fault .given in
-    let g = no-heading (set k) 0 (k .read-heading .result) (k .read-heading .ensures) (bound .0 .0) (bound .1) in
-    rw (no-set (set k) (omega arith) g, g .same)
+returns-2 c = search needs
 
 pub inspect-set-spec : {M : Type 1} → statement M
-inspect-set-spec =
-    tie.close
-    (tie.spec
-    returns
-    read-heading-requires
-    enum-known-count
-    inspect-patches-requires
-    enum-known-fault
-    returns-2
-    returns-3)
+inspect-set-spec = tie.close (tie.spec slice-aggregate-inspect-with inspect-with-requires returns slice-aggregate-inspect-with-2 inspect-with-requires-2 returns-2)

@@ -50,11 +50,11 @@ enum-known-operation c = search needs
 mutation-target-requires : tie.Need-mutation-target-requires
 mutation-target-requires c κs = search needs
 
-one-if-absent-requires : tie.Need-one-if-absent-requires
-one-if-absent-requires c κs = search needs
-
 before-self-requires : tie.Need-before-self-requires
 before-self-requires c κs = search needs
+
+one-if-absent-requires : tie.Need-one-if-absent-requires
+one-if-absent-requires c κs = search needs
 
 add-t19 : tie.Need-add-t19
 add-t19 c = omega (arith, one (c .before .before .before) .within)
@@ -69,8 +69,9 @@ returns c =
     let k = told .before .before .before in
     let at = start k .args .at in
     let target = c .before .before .mutation-target .result in
-    none-left v1 (known k) (set k) (at + taken told) 0 (c .before-self .result) (numbersOf (targetOf target)) (one told .within) refl (c .before .one-if-absent .result) (omega (arith, c .before .one-if-absent .ensures))
-    ∙ turn v1 (known k) (set k) at 1 false [] (omega arith) _ (taken told) (one told .got) (targetOf target) (c .before-self .result) (numbersOf (targetOf target)) (c .before .before .mutation-target .ensures []) (c .before-self .ensures []) refl
+    let self = c .before .before-self in
+    none-left v1 (known k) (set k) (at + taken told) 0 (self .result) (numbersOf (targetOf target)) (one told .within) refl (c .one-if-absent .result) (omega (arith, c .one-if-absent .ensures))
+    ∙ turn v1 (known k) (set k) at 1 false [] (omega arith) _ (taken told) (one told .got) (targetOf target) (self .result) (numbersOf (targetOf target)) (c .before .before .mutation-target .ensures []) (self .ensures []) refl
 
 returns-2 : tie.Need-returns-2
 returns-2 c =
@@ -88,8 +89,8 @@ check-one-spec =
     operation-from-requires
     enum-known-operation
     mutation-target-requires
-    one-if-absent-requires
     before-self-requires
+    one-if-absent-requires
     add-t19
     enum-known-fault
     returns

@@ -1,7 +1,7 @@
 -- `check_quick::quick_operations::check_with` meets its contract: what is left to read, after what was found, answers as the whole does; the measure is what is left.
-use Prim.Native.Nat.{ℕ, _+_, _-_, _*_, _≤_}
+use Prim.Native.Nat.{ℕ, _+_, _*_, _≤_}
 use mathlib.Core.Path.{_≡_, refl, sym, ap, _∙_}
-use mathlib.Core.Bool.{Bool, false}
+use mathlib.Core.Bool.{Bool, false, _||_}
 use mathlib.Core.List.{List, []}
 use native.Mathlib.Omega.{arith}
 use lib.ListN.{length, take}
@@ -9,11 +9,11 @@ use Rattle.spec_lists.specs.BytesLaws.{bytes-of}
 use Rattle.spec_patch.specs.Edition.{v1}
 use Rattle.spec_checks.specs.Target.{MutationTarget}
 use Rattle.patch_sets.proofs.ReadAt.{OperationAt, operation-at, no-operation-at}
-use Rattle.check_targets.specs.Targets.{targetOf}
+use Rattle.check_targets.specs.Targets.{targetOf, targetSeen}
 use Rattle.check_targets.specs.TargetsLaws.{with-target-front, with-target-length}
 use Rattle.check_targets.specs.Marks.{Marked}
 use Rattle.check_targets.specs.MarksLaws.{marked-none}
-use Rattle.check_quick.specs.Anchors.{anchored, absentAmong}
+use Rattle.check_quick.specs.Anchors.{absentAmong}
 use Rattle.check_quick.proofs.QuickRuns.{leftAnswer, none-left, refusal, turn}
 use mir.Val.{Fits}
 use mir.Syntax.{w64}
@@ -22,18 +22,15 @@ use Rattle.check_quick.proofs.quick_operations.check_with.Statement.{st
 use Rattle.check_quick.proofs.quick_operations.check_with.Tie as tie
 
 abbrev Inv-loop : tie.InvT-loop
-Inv-loop set from count nodes bindings collections targets₀ marks₀ at₀ left₀ used₀ found₀ targets marks at left used found =
-    (at ≤ length set) × ((used + 3 * left ≤ length targets) × ((length targets ≡ length targets₀) × (Marked marks (take used targets)
-    × (leftAnswer v1 (anchored nodes bindings collections) set at left found (take used targets) ≡ leftAnswer v1 (anchored nodes bindings collections) set from count false []))))
+Inv-loop set from count targets₀ marks₀ at₀ left₀ used₀ found₀ targets marks at left used found =
+    (at ≤ length set) × ((used + 3 * left ≡ 3 * count) × ((length targets ≡ length targets₀) × (Marked marks (take used targets)
+    × ((known : MutationTarget → Bool) → leftAnswer v1 known set at left found (take used targets) ≡ leftAnswer v1 known set from count false []))))
 
 abbrev μ-loop : tie.MeasureT-loop
-μ-loop set from count nodes bindings collections targets₀ marks₀ at₀ left₀ used₀ found₀ targets marks at left used found = left
+μ-loop set from count targets₀ marks₀ at₀ left₀ used₀ found₀ targets marks at left used found = left
 
 abbrev start : tie.At-loop Inv-loop μ-loop → tie.Start Inv-loop μ-loop
-start c = c .before .before .before .before .before .before .before
-
-abbrev known : tie.At-loop Inv-loop μ-loop → MutationTarget → Bool
-known c = let a = start c .args in anchored (a .nodes .now) (a .bindings .now) (a .collections .now)
+start c = c .before .before .before .before
 
 -- what the loop has in hand where the operation has been read
 abbrev head : tie.After-operation-from Inv-loop μ-loop → tie.At-loop Inv-loop μ-loop
@@ -48,17 +45,21 @@ taken c = c .before .operation .given .0 .1 .0
 one : (c : tie.After-known-told Inv-loop μ-loop) → let k = c .before .before .before in OperationAt (set k) (head k .loop .at) (c .before .operation .given .0 .0) (taken c)
 one c =
     let k = c .before .before .before in
-    operation-at (set k) (head k .loop .at) (k .operation-from .ensures) (bytes-of (set k) (λ j. head k .before .before .before .before .before .before .shared-slice-known .given j .fits)) (omega arith) (c .before .operation .given .1)
+    operation-at (set k) (head k .loop .at) (k .operation-from .ensures) (bytes-of (set k) (λ j. head k .before .before .before .shared-slice-known .given j .fits)) (omega arith) (c .before .operation .given .1)
+
+-- there is room for the targets of the operations left
+room : (c : tie.At-loop Inv-loop μ-loop) → c .loop .used + 3 * c .loop .left ≤ length (c .loop .targets)
+room c = omega arith
 
 short : (c : tie.At-loop Inv-loop μ-loop) → Fits w64 (length (c .loop .targets))
 short c = omega arith
 
 -- where the operation was read, from where its target was put
 abbrev read : tie.After-operation-found Inv-loop μ-loop → tie.After-known-told Inv-loop μ-loop
-read c = c .before .before .before .before
+read c = c .before .before .before .before .before
 
 loop-holds : tie.Need-loop-holds Inv-loop μ-loop
-loop-holds c = (omega arith, (omega arith, (refl, (marked-none (c .before .before .before .before .before .before .args .marks .now) (search needs), refl))))
+loop-holds c = (omega arith, (omega arith, (refl, (marked-none (c .before .before .before .args .marks .now) (search needs), λ known. refl))))
 
 sub-operation-from : tie.Need-sub-operation-from Inv-loop μ-loop
 sub-operation-from c = search needs
@@ -78,17 +79,20 @@ enum-known-operation c = search needs
 mutation-target-requires : tie.Need-mutation-target-requires Inv-loop μ-loop
 mutation-target-requires c κs = search needs
 
-operation-found-requires : tie.Need-operation-found-requires Inv-loop μ-loop
-operation-found-requires c κs = (omega arith, search needs)
+before-self-requires : tie.Need-before-self-requires Inv-loop μ-loop
+before-self-requires c κs = search needs
 
-add-used : tie.Need-add-used Inv-loop μ-loop
-add-used c = omega (arith, short (head (read (c .before .before .before .before) .before .before .before)))
+operation-found-requires : tie.Need-operation-found-requires Inv-loop μ-loop
+operation-found-requires c κs = let h = head (c .before .before .before .before .before .before .before) in (omega (arith, room h), search needs)
 
 add-at : tie.Need-add-at Inv-loop μ-loop
-add-at c = omega (arith, one (read (c .before .before .before .before)) .within)
+add-at c = omega (arith, one c .within)
 
 sub-left : tie.Need-sub-left Inv-loop μ-loop
 sub-left c = search needs
+
+add-used : tie.Need-add-used Inv-loop μ-loop
+add-used c = let h = head (read (c .before .before .before .before) .before .before .before) in omega (arith, short h, room h)
 
 loop-less : tie.Need-loop-less Inv-loop μ-loop
 loop-less c = search needs
@@ -97,15 +101,17 @@ loop-again : tie.Need-loop-again Inv-loop μ-loop
 loop-again c =
     let call = c .before .before .before .before in
     let k = read call in
-    let target = call .before .before .before .mutation-target in
+    let self = call .before .before .before .before-self in
+    let target = call .before .before .before .before .mutation-target in
     let r = k .before .before .before in
     let l = head r .loop in
     let found = call .operation-found .ensures in
-    let room : l .used + 3 ≤ length (l .targets) = omega arith in
-    let same = ap length (found .1 .0) ∙ with-target-length (l .used) _ (l .targets) room in
-    let front = ap (take (l .used + 3)) (found .1 .0) ∙ with-target-front (l .used) (targetOf (target .result)) (l .targets) room in (
+    let more : l .used + 3 ≤ length (l .targets) = omega (arith, room (head r)) in
+    let same = ap length (found .1 .0) ∙ with-target-length (l .used) _ (l .targets) more in
+    let front = ap (take (l .used + 3)) (found .1 .0) ∙ with-target-front (l .used) (targetOf (target .result)) (l .targets) more in
+    let told = found .0 ∙ ap (λ (b : Bool). l .found || (targetSeen (targetOf (target .result)) (take (l .used) (l .targets)) || b)) (self .ensures []) in (
       one k .within,
-      (omega (arith, same), (omega (arith, same), (rw front (found .1 .1), turn v1 (known (head r)) (set r) (l .at) (l .left) (l .found) (take (l .used) (l .targets)) (omega arith) _ (taken k) (one k .got) (targetOf (target .result)) _ _ (target .ensures []) (found .0 []) front ∙ l .inv .1 .1 .1 .1))),
+      (omega arith, (omega (arith, same), (rw front (found .1 .1), λ known. turn v1 known (set r) (l .at) (l .left) (l .found) (take (l .used) (l .targets)) (omega arith) _ (taken k) (one k .got) (targetOf (target .result)) _ _ (target .ensures []) told front ∙ l .inv .1 .1 .1 .1 known))),
     )
 
 enum-known-fault : tie.Need-enum-known-fault Inv-loop μ-loop
@@ -122,35 +128,23 @@ returns c =
     let r = c .before .before .before in
     let l = head r .loop in
     let bound = c .before .fault .given in
-    refusal v1 (known (head r)) (set r) (l .at) (l .left) (l .found) (take (l .used) (l .targets)) (omega arith) (bound .0 .0) (no-operation-at (set r) (l .at) (r .operation-from .ensures) (bound .1))
-    ∙ l .inv .1 .1 .1 .1
-
-sub-absent-among : tie.Need-sub-absent-among Inv-loop μ-loop
-sub-absent-among c = search needs
-
-part-absent-among-start : tie.Need-part-absent-among-start Inv-loop μ-loop
-part-absent-among-start c = search needs
-
-part-absent-among-end : tie.Need-part-absent-among-end Inv-loop μ-loop
-part-absent-among-end c = omega arith
-
-absent-among-requires : tie.Need-absent-among-requires Inv-loop μ-loop
-absent-among-requires c κs = search needs
+    λ known. refusal v1 known (set r) (l .at) (l .left) (l .found) (take (l .used) (l .targets)) (omega arith) (bound .0 .0) (no-operation-at (set r) (l .at) (r .operation-from .ensures) (bound .1))
+    ∙ l .inv .1 .1 .1 .1 known
 
 same-length-3 : tie.Need-same-length-3 Inv-loop μ-loop
 same-length-3 c = search needs
 
 same-length-4 : tie.Need-same-length-4 Inv-loop μ-loop
-same-length-4 c = let h = c .before .before .before .before in h .loop .inv .1 .1 .1 .0 .long ∙ sym (start h .pre .1 .1)
+same-length-4 c = let h = c .before in h .loop .inv .1 .1 .1 .0 .long ∙ sym (start h .pre .1 .1)
 
 returns-2 : tie.Need-returns-2 Inv-loop μ-loop
 returns-2 c =
-    let h = c .before .before .before .before in
+    let h = c .before in
     let l = h .loop in
-    let all : l .used - 0 ≡ l .used = omega arith in
-    none-left v1 (known h) (start h .args .set .now) (l .at) (l .left) (l .found) (take (l .used) (l .targets)) (omega arith) (omega arith) (c .absent-among .result)
-    (c .absent-among .ensures ∙ ap (λ (n : ℕ). absentAmong (known h) (take n (l .targets))) all)
-    ∙ l .inv .1 .1 .1 .1
+    let all : 3 * start h .args .count ≡ l .used = omega arith in
+    λ known. none-left v1 known (start h .args .set .now) (l .at) (l .left) (l .found) (take (l .used) (l .targets)) (omega arith) (omega arith) (absentAmong known (take (3 * start h .args .count) (l .targets)))
+    (ap (λ (n : ℕ). absentAmong known (take n (l .targets))) all)
+    ∙ l .inv .1 .1 .1 .1 known
 
 pub check-with-spec : {M : Type 1} → statement M
 check-with-spec =
@@ -164,21 +158,18 @@ check-with-spec =
     part-operation-from-end
     operation-from-requires
     enum-known-operation
-    mutation-target-requires
-    operation-found-requires
-    add-used
     add-at
     sub-left
+    mutation-target-requires
+    before-self-requires
+    operation-found-requires
+    add-used
     loop-less
     loop-again
     enum-known-fault
     same-length
     same-length-2
     returns
-    sub-absent-among
-    part-absent-among-start
-    part-absent-among-end
-    absent-among-requires
     same-length-3
     same-length-4
     returns-2)

@@ -20,10 +20,7 @@ returns : tie.Need-returns
 returns c =
     let call = c .before .before .before .before .before in
     let found = call .before .before .before .before .before .args .found in
-    (λ texts. rw (sym (call .seen-by-mark .ensures .0) ∙ c .if1 .taken) (sym (or-true found true refl)), call .seen-by-mark .ensures .1)
-
-before-self-requires : tie.Need-before-self-requires
-before-self-requires c κs = search needs
+    (rw (sym (call .seen-by-mark .ensures .0) ∙ c .if1 .taken) (sym (or-true found true refl)), call .seen-by-mark .ensures .1)
 
 same-length-3 : tie.Need-same-length-3
 same-length-3 c = search needs
@@ -33,9 +30,9 @@ same-length-4 c = search needs
 
 returns-2 : tie.Need-returns-2
 returns-2 c =
-    let call = c .before .before .before .before .before .before .before in
+    let call = c .before .before .before .before .before .before in
     let found = call .before .before .before .before .before .args .found in
-    (λ texts. rw (sym (call .seen-by-mark .ensures .0) ∙ c .before .before .if1 .left, sym (c .before .before-self .ensures texts) ∙ c .if2 .taken) (sym (or-true found true refl)), call .seen-by-mark .ensures .1)
+    (rw (sym (call .seen-by-mark .ensures .0) ∙ c .before .if1 .left, c .if2 .taken) (sym (or-true found true refl)), call .seen-by-mark .ensures .1)
 
 same-length-5 : tie.Need-same-length-5
 same-length-5 c = search needs
@@ -45,9 +42,9 @@ same-length-6 c = search needs
 
 returns-3 : tie.Need-returns-3
 returns-3 c =
-    let call = c .before .before .before .before .before .before .before in
+    let call = c .before .before .before .before .before .before in
     let found = call .before .before .before .before .before .args .found in
-    (λ texts. rw (sym (call .seen-by-mark .ensures .0) ∙ c .before .before .if1 .left, sym (c .before .before-self .ensures texts) ∙ c .if2 .left) (sym (or-false found)), call .seen-by-mark .ensures .1)
+    (rw (sym (call .seen-by-mark .ensures .0) ∙ c .before .if1 .left, c .if2 .left) (sym (or-false found)), call .seen-by-mark .ensures .1)
 
 pub operation-found-spec : {M : Type 1} → statement M
 operation-found-spec =
@@ -57,7 +54,6 @@ operation-found-spec =
     same-length
     same-length-2
     returns
-    before-self-requires
     same-length-3
     same-length-4
     returns-2

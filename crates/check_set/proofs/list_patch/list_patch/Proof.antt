@@ -12,7 +12,7 @@ use Rattle.patch_sets.specs.Walk.{headOf}
 use Rattle.patch_sets.specs.SetAnswers.{headTo}
 use Rattle.check_targets.specs.ToldLaws.{envelope-back}
 use Rattle.check_findings.specs.InsertFindings.{insertedAll}
-use Rattle.check_findings.specs.InsertFindingsLaws.{inserted-then}
+use Rattle.check_findings.specs.InsertFindingsLaws.{Inserted, inserted-then}
 use Rattle.check_set.specs.Listed.{headFindings}
 use Rattle.check_set.specs.ListedLaws.{listed-patch}
 use borrow.Author.Needs.{needs}
@@ -22,15 +22,6 @@ use Rattle.check_set.proofs.list_patch.list_patch.Tie as tie
 list-head-requires : tie.Need-list-head-requires
 list-head-requires c κs = search needs
 
-list-operations-requires : tie.Need-list-operations-requires
-list-operations-requires c κs = search needs
-
-same-length : tie.Need-same-length
-same-length c = search needs
-
-same-length-2 : tie.Need-same-length-2
-same-length-2 c = search needs
-
 -- both lists are the patch's
 list-is : (p : Patch) (head : ProjectionPatch) (id : ℕ) → head ≡ headTo (headOf p) → id ≡ p .envelope .id
     → headFindings (envelopeOf (head .envelope)) (head .«operation_count») ++ checkEach (operationFindings id) [] (p .operations) ≡ rawPatchFindings p
@@ -39,20 +30,74 @@ list-is p head id placed same =
     ∙ ap (λ (e : Envelope). headFindings e (length (p .operations)) ++ checkEach (operationFindings (p .envelope .id)) [] (p .operations)) (envelope-back (p .envelope))
     ∙ listed-patch p
 
+-- the table with the findings of the head, then of the operations
+findings-of : (p : Patch) (head : ProjectionPatch) (id : ℕ) → head ≡ headTo (headOf p) → id ≡ p .envelope .id → (before middle after : List ℕ) (first last : ℕ)
+    → Inserted (headFindings (envelopeOf (head .envelope)) (head .«operation_count»)) 0 before first middle
+    → Inserted (checkEach (operationFindings id) [] (p .operations)) first middle last after
+    → Inserted (rawPatchFindings p) 0 before last after
+findings-of p head id placed same before middle after first last heads operations =
+    let both = inserted-then _ _ _ _ _ _ _ _ heads operations in
+    let list = list-is p head id placed same in
+    (both .0 ∙ ap (λ (l : List Finding). insertedAll l 0 before .0) list, both .1 ∙ ap (λ (l : List Finding). insertedAll l 0 before .1) list)
+
+slice-aggregate-list-operations : tie.Need-slice-aggregate-list-operations
+slice-aggregate-list-operations c = search needs
+
+slice-aggregate-list-operations-2 : tie.Need-slice-aggregate-list-operations-2
+slice-aggregate-list-operations-2 c = search needs
+
+list-operations-requires : tie.Need-list-operations-requires
+list-operations-requires c κs = search needs
+
+same-length : tie.Need-same-length
+same-length c = search needs
+
 returns : tie.Need-returns
 returns c =
     let call = c .before .before .before .before in
-    let first = call .before .before .before .before .before in
-    let a = first .before .before .before .before .before .args in (
+    let first = call .before .before .before .before .before .before .before .before in
+    let a = first .before .before .before .before .args in (
       λ p ps placed same here.
           let told = call .list-operations .ensures .0 (p .operations) ps here in
-          let both = inserted-then _ _ _ _ _ _ _ _ (first .list-head .ensures) (told .0) in
-          let list = list-is p (a .head) (a .start .«patch_id») placed same in
-          ((both .0 ∙ ap (λ (l : List Finding). insertedAll l 0 (a .records .now) .0) list, both .1 ∙ ap (λ (l : List Finding). insertedAll l 0 (a .records .now) .1) list), told .1),
+          (findings-of p (a .head) (a .start .«patch_id») placed same _ _ _ _ _ (first .list-head .ensures) (told .0), told .1),
       call .list-operations .ensures .1,
+    )
+
+slice-aggregate-list-operations-3 : tie.Need-slice-aggregate-list-operations-3
+slice-aggregate-list-operations-3 c = search needs
+
+slice-aggregate-list-operations-4 : tie.Need-slice-aggregate-list-operations-4
+slice-aggregate-list-operations-4 c = search needs
+
+list-operations-requires-2 : tie.Need-list-operations-requires-2
+list-operations-requires-2 c κs = search needs
+
+same-length-2 : tie.Need-same-length-2
+same-length-2 c = search needs
+
+returns-2 : tie.Need-returns-2
+returns-2 c =
+    let call = c .before .before .before .before in
+    let first = call .before .before .before .before .before .before .before .before in
+    let a = first .before .before .before .before .args in (
+      λ p ps placed same here.
+          let told = call .list-operations2 .ensures .0 (p .operations) ps here in
+          (findings-of p (a .head) (a .start .«patch_id») placed same _ _ _ _ _ (first .list-head .ensures) (told .0), told .1),
+      call .list-operations2 .ensures .1,
     )
 
 pub list-patch-spec : {M : Type 1} → statement M
 list-patch-spec =
     tie.close
-    (tie.spec list-head-requires list-operations-requires same-length same-length-2 returns)
+    (tie.spec
+    list-head-requires
+    slice-aggregate-list-operations
+    slice-aggregate-list-operations-2
+    list-operations-requires
+    same-length
+    returns
+    slice-aggregate-list-operations-3
+    slice-aggregate-list-operations-4
+    list-operations-requires-2
+    same-length-2
+    returns-2)
