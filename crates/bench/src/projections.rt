@@ -1,6 +1,7 @@
 // The operations of a set on a projection, without a session.
 use crate::sums;
 use local_projection_state::LocalProjectionState;
+use local_projection_state::ProjectionCounts;
 use panel_changes::SetChange;
 
 fn filled(fill: &[u8]) -> LocalProjectionState {
@@ -16,6 +17,11 @@ pub(crate) fn replay_often(fill: &[u8], set: &[u8], times: u64) -> u64 {
     let mut bindings = [0u8; LocalProjectionState::BINDING_BYTES];
     let mut availability = [0u8; LocalProjectionState::AVAILABILITY_BYTES];
     let mut entries = [0u8; LocalProjectionState::ENTRY_BYTES];
+    let used = ProjectionCounts {
+        bindings: LocalProjectionState::BINDINGS,
+        availabilities: LocalProjectionState::AVAILABILITIES,
+        entries: LocalProjectionState::ENTRIES,
+    };
     let mut sum: u64 = 0;
     let mut left = times;
     while 0 < left {
@@ -28,6 +34,7 @@ pub(crate) fn replay_often(fill: &[u8], set: &[u8], times: u64) -> u64 {
             &mut bindings,
             &mut availability,
             &mut entries,
+            used,
         );
         if let SetChange::Applied(counts) = change {
             sum = sums::mix(sum, counts.entries as u64);

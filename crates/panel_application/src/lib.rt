@@ -11,6 +11,7 @@ ghost use Rattle.panel_application.specs.Application.{applySet, outcomeN
 use check_quick::quick_set;
 use check_quick::quick_set::QuickCheck;
 use local_projection_state::LocalProjectionState;
+use local_projection_state::ProjectionCounts;
 use panel_bindings::LocalProjectionApplicationError;
 use panel_changes::SetChange;
 use projection_patch::read_values::ProjectionPatchReadFault;
@@ -52,6 +53,11 @@ fn apply_readable(state: LocalProjectionState, set: &[u8]) -> ProjectionApplicat
     let mut bindings = [0u8; LocalProjectionState::BINDING_BYTES];
     let mut availability = [0u8; LocalProjectionState::AVAILABILITY_BYTES];
     let mut entries = [0u8; LocalProjectionState::ENTRY_BYTES];
+    let used = ProjectionCounts {
+        bindings: 0,
+        availabilities: 0,
+        entries: 0,
+    };
     match panel_changes::apply_set(
         &state.bindings,
         &state.availability,
@@ -61,6 +67,7 @@ fn apply_readable(state: LocalProjectionState, set: &[u8]) -> ProjectionApplicat
         &mut bindings,
         &mut availability,
         &mut entries,
+        used,
     ) {
         SetChange::Applied(counts) => ProjectionApplication {
             state: LocalProjectionState {

@@ -1,16 +1,17 @@
 -- What a set makes of three tables, and what the code answers.
 use Prim.Native.Nat.{ℕ}
 use mathlib.Core.Path.{_≡_}
-use mathlib.Core.Bool.{Bool, _&&_}
+use mathlib.Core.Bool.{Bool, true, _&&_}
 use mathlib.Core.List.{List}
 use lib.Dec.{leb, eqb}
 use lib.ListN.{length}
 use Rattle.spec_patch.specs.Sizes.{projectionBindings, projectionAvailabilities, projectionEntries}
 use Rattle.spec_projection.specs.Projection.{Projection}
 use Rattle.spec_projection.specs.Apply.{Outcome, done, stopped}
-use Rattle.panel_rows.specs.Rows.{bindingBytes, availabilityBytes, entryBytes}
+use Rattle.panel_rows.specs.Rows.{bindingWidth, bindingBytes, availabilityBytes, entryWidth, entryBytes}
 use Rattle.local_projection_state.specs.declared.ProjectionCounts.{ProjectionCounts}
 use Rattle.panel_bindings.specs.Change.{faultOf}
+use Rattle.panel_writing.specs.Writing.{ClearBehind}
 use Rattle.panel_changes.specs.declared.SetChange.{SetChange}
 use Rattle.panel_changes.specs.declared.SetChange.the-variants.{Applied, Refused, Unreadable, BadTables}
 
@@ -26,6 +27,13 @@ pub record TableLengths (b a e : List ℕ) : Type 0 where
   pub bindings : length b ≡ bindingBytes
   pub availability : length a ≡ availabilityBytes
   pub entries : length e ≡ entryBytes
+
+-- the tables that are written: as long as they should be, and zero behind the rows that were used
+pub record Ready (used : ProjectionCounts) (b a e : List ℕ) : Type 0 where
+  pub lengths : TableLengths b a e
+  pub few : countsFit used ≡ true
+  pub bindings : ClearBehind (used .bindings) bindingWidth b
+  pub entries : ClearBehind (used .entries) entryWidth e
 
 -- the answer is the outcome's: with these counts the tables store the next projection, or the refusal is the fault's
 abbrev pub ChangeBecame : (ProjectionCounts → Projection → Type 0) → SetChange → Outcome → Type 0

@@ -1,9 +1,10 @@
 -- Tables that store a projection are as long as they should be, a plan of it starts from them, and what is written of a plan stores what the
 -- plan stands for.
-use Prim.Native.Nat.{ℕ, _+_, _*_, _≤_}
+use Prim.Native.Nat.{ℕ, _+_, _-_, _*_, _≤_}
 use mathlib.Core.Path.{_≡_, refl, sym, ap, _∙_, subst}
 use mathlib.Core.Bool.{Bool, true, false, _&&_}
 use mathlib.Core.List.{List, [], _++_, append-nil, map}
+use native.Mathlib.Nat.{zero-mul}
 use native.Mathlib.Omega.{arith}
 use borrow.Author.Tests.{le-leb, leb-true, eq-eqb, eqb-true}
 use lib.Dec.{leb, eqb}
@@ -26,6 +27,7 @@ use Rattle.spec_projection.specs.Projection.{Projection}
 use Rattle.spec_projection.specs.Apply.{Outcome, done, stopped}
 use Rattle.spec_projection.specs.Valid.{Valid}
 use Rattle.bytes_records.specs.Moves.{zeros, overwrite}
+use Rattle.bytes_records.specs.MovesLaws.{length-zeros, drop-zeros}
 use Rattle.bytes_records.specs.Table.{Holds}
 use Rattle.bytes_records.specs.TableLaws.{holds-none}
 use Rattle.panel_rows.specs.Rows.{valueWidth, bindingBytes, availabilityBytes, entryBytes, bindingWidth, availabilityWidth, entryWidth, bindingRow, availabilityRow, entryRow}
@@ -40,8 +42,8 @@ use Rattle.panel_steps.specs.declared.PlanRun.{PlanRun}
 use Rattle.panel_steps.specs.declared.PlanRun.the-variants as plan
 use Rattle.panel_bindings.specs.declared.LocalProjectionApplicationError.{LocalProjectionApplicationError}
 use Rattle.projection_patch.specs.declared.read_values.ProjectionPatchReadFault.{ProjectionPatchReadFault}
-use Rattle.panel_writing.specs.Writing.{canWrite}
-use Rattle.panel_changes.specs.SetChanges.{tablesFit, countsFit, TableLengths, ChangeBecame}
+use Rattle.panel_writing.specs.Writing.{ClearBehind}
+use Rattle.panel_changes.specs.SetChanges.{tablesFit, countsFit, TableLengths, Ready, ChangeBecame}
 use Rattle.panel_changes.specs.declared.SetChange.{SetChange}
 use Rattle.panel_changes.specs.declared.SetChange.the-variants as change
 
@@ -68,12 +70,22 @@ lengths-fit b a e h = rw (eq-eqb (length b) bindingBytes (h .bindings), eq-eqb (
 pub none-stored : {A : Type 0} (row : A → List ℕ) (width capacity : ℕ) → Stored row width capacity 0 (zeros (capacity * width)) []
 none-stored row width capacity = record { size = length-replicate {A = ℕ} (capacity * width) 0; rows = holds-none width (capacity * width) }
 
--- new tables are zeros
-pub zeros-lengths : TableLengths (zeros bindingBytes) (zeros availabilityBytes) (zeros entryBytes)
-zeros-lengths = record {
-  bindings = length-replicate {A = ℕ} bindingBytes 0;
-  availability = length-replicate {A = ℕ} availabilityBytes 0;
-  entries = length-replicate {A = ℕ} entryBytes 0;
+-- nothing is used of new tables
+abbrev pub noneUsed : ProjectionCounts
+noneUsed = record { bindings = 0; availabilities = 0; entries = 0 }
+
+clear-zeros : (width n : ℕ) → ClearBehind 0 width (zeros n)
+clear-zeros width n =
+    let none : 0 * width ≡ 0 = zero-mul width in
+    ap (λ (k : ℕ). drop k (zeros n)) none ∙ drop-zeros 0 n (omega arith) ∙ ap zeros (ap (λ (k : ℕ). k - 0) (sym (length-zeros n)) ∙ ap (λ (k : ℕ). length (zeros n) - k) (sym none))
+
+pub zeros-ready : Ready noneUsed (zeros bindingBytes) (zeros availabilityBytes) (zeros entryBytes)
+unfolding countsFit
+zeros-ready = record {
+  lengths = record { bindings = length-zeros bindingBytes; availability = length-zeros availabilityBytes; entries = length-zeros entryBytes };
+  few = refl;
+  bindings = clear-zeros bindingWidth bindingBytes;
+  entries = clear-zeros entryWidth entryBytes;
 }
 
 pub few-fit : (n : ProjectionCounts) → n .bindings ≤ projectionBindings → n .availabilities ≤ projectionAvailabilities → n .entries ≤ projectionEntries → countsFit n ≡ true
@@ -87,10 +99,6 @@ fit-few n h =
     let two = leb (n .availabilities) projectionAvailabilities in
     let three = leb (n .entries) projectionEntries in
     (leb-true (n .bindings) projectionBindings (and-left one (two && three) h), leb-true (n .entries) projectionEntries (and-right two three (and-right one (two && three) h)))
-
-pub can-write : (key capacity count : ℕ) (to : List ℕ) → count ≤ capacity → length to ≡ capacity * (key + valueWidth) → canWrite key capacity count to ≡ true
-unfolding canWrite
-can-write key capacity count to few long = rw (le-leb count capacity few, eq-eqb (length to) (capacity * (key + valueWidth)) long)
 
 -- a count is the length of its list
 counted : {A : Type 0} {row : A → List ℕ} {width capacity count : ℕ} {table : List ℕ} (l : List A) → Stored row width capacity count table l → length l ≡ count
@@ -146,11 +154,12 @@ written-stored n b a e r q x is v bs xs es =
 
 -- ---- the arguments, and the opening of a set
 
-pub fit-arguments : (x y z : Bool) {r : Bool} → r ≡ (x && (y && z)) → r ≡ true → (x ≡ true) × ((y ≡ true) × (z ≡ true))
-fit-arguments x y z e t =
-    let h : (x && (y && z)) ≡ true = sym e ∙ t in
-    let rest = and-right x (y && z) h in
-    (and-left x (y && z) h, (and-left y z rest, and-right y z rest))
+pub fit-arguments : (x y z w : Bool) {r : Bool} → r ≡ (x && (y && (z && w))) → r ≡ true → (x ≡ true) × ((y ≡ true) × ((z ≡ true) × (w ≡ true)))
+fit-arguments x y z w e t =
+    let h : (x && (y && (z && w))) ≡ true = sym e ∙ t in
+    let rest = and-right x (y && (z && w)) h in
+    let last = and-right y (z && w) rest in
+    (and-left x (y && (z && w)) h, (and-left y (z && w) rest, (and-left z w last, and-right z w last)))
 
 -- a set that is opened is not too long
 pub opened-short : (set : List ℕ) (c : SetCursor) → openAnswer set ≡ opening.At c → length set ≤ setBytes

@@ -19,7 +19,7 @@ ghost use Rattle.panel_rows.specs.Rows.{bindingBytes, availabilityBytes, entryB
 ghost use Rattle.local_projection_state.specs.Stores.{StoredTables};
 ghost use Rattle.panel_plan.specs.PlanRows.{PlannedBindings, PlannedEntries};
 ghost use Rattle.panel_steps.specs.Runs.{RunBecame, PlannedAs};
-ghost use Rattle.panel_changes.specs.SetChanges.{tablesFit, countsFit, TableLengths, ChangeBecame, KeptUnlessApplied};
+ghost use Rattle.panel_changes.specs.SetChanges.{tablesFit, countsFit, TableLengths, Ready, ChangeBecame, KeptUnlessApplied};
 use local_projection_state::LocalProjectionState;
 use local_projection_state::ProjectionCounts;
 use panel_bindings::LocalProjectionApplicationError;
@@ -73,12 +73,15 @@ fn arguments_fit(
     to_availability: usize,
     to_entries: usize,
     counts: ProjectionCounts,
+    used: ProjectionCounts,
 ) -> bool
-    ensures { λ r. ⌜ r ≡ (tablesFit «from_bindings» «from_availability» «from_entries» && (tablesFit «to_bindings» «to_availability» «to_entries» && countsFit counts)) ⌝ }
+    ensures { λ r. ⌜ r ≡ (tablesFit «from_bindings» «from_availability» «from_entries» && (tablesFit «to_bindings» «to_availability» «to_entries» && (countsFit counts && countsFit used))) ⌝ }
 {
     if tables_fit(from_bindings, from_availability, from_entries) {
         if tables_fit(to_bindings, to_availability, to_entries) {
-            return counts_fit(counts);
+            if counts_fit(counts) {
+                return counts_fit(used);
+            }
         }
     }
     false
@@ -96,11 +99,12 @@ fn write_tables(
     to_bindings: &mut [u8],
     to_availability: &mut [u8],
     to_entries: &mut [u8],
+    used: ProjectionCounts,
 ) -> bool
-    requires { ⌜ TableLengths (now «to_bindings») (now «to_availability») (now «to_entries») × (length (now «plan_availability») ≡ availabilityBytes) ⌝ }
+    requires { ⌜ TableLengths (now «to_bindings») (now «to_availability») (now «to_entries») × ((length (now «plan_availability») ≡ availabilityBytes) × (countsFit used ≡ true)) ⌝ }
     ensures told { λ r. ⌜ r ≡ countsFit counts ⌝ }
     ensures kept { λ r. ⌜ (r ≡ false → (now («to_bindings» .exit) ≡ now («to_bindings» .entry)) × ((now («to_availability» .exit) ≡ now («to_availability» .entry)) × (now («to_entries» .exit) ≡ now («to_entries» .entry)))) ⌝ }
-    ensures stored { λ r. ⌜ (r ≡ true → (p x : Projection) (n : ProjectionCounts) (a : List ℕ) → StoredTables n (now («from_bindings» .entry)) a (now («from_entries» .entry)) p
+    ensures stored { λ r. ⌜ (r ≡ true → Ready used (now («to_bindings» .entry)) (now («to_availability» .entry)) (now («to_entries» .entry)) → (p x : Projection) (n : ProjectionCounts) (a : List ℕ) → StoredTables n (now («from_bindings» .entry)) a (now («from_entries» .entry)) p
         → PlannedAs v1 p (now (set .entry)) (now («plan_bindings» .entry)) (now («plan_availability» .entry)) (now («plan_entries» .entry)) counts x → Valid x
         → StoredTables counts (now («to_bindings» .exit)) (now («to_availability» .exit)) (now («to_entries» .exit)) x) ⌝ }
 {
@@ -108,12 +112,20 @@ fn write_tables(
         panel_writing::write_bindings(
             plan_bindings,
             counts.bindings,
+            used.bindings,
             from_bindings,
             set,
             to_bindings,
         );
         panel_writing::write_availabilities(plan_availability, to_availability);
-        panel_writing::write_entries(plan_entries, counts.entries, from_entries, set, to_entries);
+        panel_writing::write_entries(
+            plan_entries,
+            counts.entries,
+            used.entries,
+            from_entries,
+            set,
+            to_entries,
+        );
         return true;
     }
     false
@@ -153,10 +165,11 @@ fn apply_from(
     to_bindings: &mut [u8],
     to_availability: &mut [u8],
     to_entries: &mut [u8],
+    used: ProjectionCounts,
 ) -> SetChange
-    requires { ⌜ (length (now set) ≤ setBytes) × ((length (now «from_availability») ≡ availabilityBytes) × TableLengths (now «to_bindings») (now «to_availability») (now «to_entries»)) ⌝ }
+    requires { ⌜ (length (now set) ≤ setBytes) × ((length (now «from_availability») ≡ availabilityBytes) × (TableLengths (now «to_bindings») (now «to_availability») (now «to_entries») × (countsFit used ≡ true))) ⌝ }
     ensures changed { λ r. ⌜ ((p : Projection) (ps : List Patch) → StoredTables counts (now («from_bindings» .entry)) (now («from_availability» .entry)) (now («from_entries» .entry)) p
-        → All (FitsPatch v1) ps → AtSteps v1 (now (set .entry)) cursor [] ps
+        → All (FitsPatch v1) ps → AtSteps v1 (now (set .entry)) cursor [] ps → Ready used (now («to_bindings» .entry)) (now («to_availability» .entry)) (now («to_entries» .entry))
         → ChangeBecame (λ n q. StoredTables n (now («to_bindings» .exit)) (now («to_availability» .exit)) (now («to_entries» .exit)) q) r (applySteps p (replaySteps ps))) ⌝ }
     ensures kept { λ r. ⌜ KeptUnlessApplied r (now («to_bindings» .entry)) (now («to_availability» .entry)) (now («to_entries» .entry)) (now («to_bindings» .exit)) (now («to_availability» .exit)) (now («to_entries» .exit)) ⌝ }
 {
@@ -186,6 +199,7 @@ fn apply_from(
                 to_bindings,
                 to_availability,
                 to_entries,
+                used,
             ) {
                 SetChange::Applied(n)
             } else {
@@ -198,7 +212,7 @@ fn apply_from(
 }
 
 // Applies the operations of a set that is known to be readable: what the first tables store is read, and what the set makes of it is
-// written to the others, whole or not at all.
+// written to the others, whole or not at all. Of those so many rows were used, and what stands behind them is zero.
 pub fn apply_set<'a>(
     from_bindings: &'a [u8],
     from_availability: &'a [u8],
@@ -208,9 +222,10 @@ pub fn apply_set<'a>(
     to_bindings: &mut [u8],
     to_availability: &mut [u8],
     to_entries: &mut [u8],
+    used: ProjectionCounts,
 ) -> SetChange
     ensures changed { λ r. ⌜ ((p : Projection) (ps : List Patch) → StoredTables counts (now («from_bindings» .entry)) (now («from_availability» .entry)) (now («from_entries» .entry)) p
-        → readSet v1 (now (set .entry)) ≡ patches ps → TableLengths (now («to_bindings» .entry)) (now («to_availability» .entry)) (now («to_entries» .entry))
+        → readSet v1 (now (set .entry)) ≡ patches ps → Ready used (now («to_bindings» .entry)) (now («to_availability» .entry)) (now («to_entries» .entry))
         → ChangeBecame (λ n q. StoredTables n (now («to_bindings» .exit)) (now («to_availability» .exit)) (now («to_entries» .exit)) q) r (applySteps p (replaySteps ps))) ⌝ }
     ensures kept { λ r. ⌜ KeptUnlessApplied r (now («to_bindings» .entry)) (now («to_availability» .entry)) (now («to_entries» .entry)) (now («to_bindings» .exit)) (now («to_availability» .exit)) (now («to_entries» .exit)) ⌝ }
 {
@@ -222,6 +237,7 @@ pub fn apply_set<'a>(
         to_availability.len(),
         to_entries.len(),
         counts,
+        used,
     ) {
         match patch_walk::open_set(set) {
             SetOpening::At(cursor) => apply_from(
@@ -234,6 +250,7 @@ pub fn apply_set<'a>(
                 to_bindings,
                 to_availability,
                 to_entries,
+                used,
             ),
             SetOpening::Refused(fault) => SetChange::Unreadable(fault),
         }

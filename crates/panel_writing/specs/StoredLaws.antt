@@ -1,9 +1,9 @@
 -- The tables that a plan is written as store the projection that it resolves to.
-use Prim.Native.Nat.{ℕ}
+use Prim.Native.Nat.{ℕ, _≤_}
 use mathlib.Core.Path.{_≡_, refl, sym, _∙_}
 use mathlib.Core.List.{List, _++_, append-assoc}
 use native.Mathlib.Omega.{arith}
-use lib.ListN.{length, length-append}
+use lib.ListN.{length, take, drop, length-append}
 use Rattle.spec_lists.specs.Lists.{All}
 use Rattle.spec_lists.specs.BytesLaws.{length-littleEndian}
 use Rattle.spec_patch.specs.Sizes.{projectionBindings, projectionEntries}
@@ -20,28 +20,28 @@ use Rattle.panel_plan.specs.Plan.{resolution}
 use Rattle.panel_plan.specs.PlanRows.{plannedBindingRow, plannedEntryRow, PlannedBindings, PlannedEntries}
 use Rattle.panel_plan.specs.SetValues.{valueIn}
 use Rattle.panel_plan.specs.Sources.{SourcedBinding, SourcedEntry}
-use Rattle.panel_writing.specs.Writing.{newRow, rowsTo}
+use Rattle.panel_writing.specs.Writing.{newRow, rowsTo, usedBytes, ClearBehind}
 use Rattle.panel_writing.specs.WritingLaws.{table-resolved}
 
 -- what the sources of a batch on p stand for
 abbrev pub sources : Edition → Projection → List ℕ → Resolution
 sources ed p set = resolution p (valueIn ed set)
 
-module _ (ed : Edition) (p q : Projection) (set : List ℕ) (vp : Valid p) (vq : Valid q) {n count : ℕ} {plan from : List ℕ} (to : List ℕ) where
-  pub bindings-stored : Stored bindingRow bindingWidth projectionBindings n from (p .bindings) → PlannedBindings count plan (q .bindings) → All (SourcedBinding ed p set) (q .bindings) → length to ≡ bindingBytes
-      → Stored bindingRow bindingWidth projectionBindings count (tableBytes (length to) (rowsTo (newRow ed bindingValueAt plan from set to) count)) (resolved (sources ed p set) q .bindings)
+module _ (ed : Edition) (p q : Projection) (set : List ℕ) (vp : Valid p) (vq : Valid q) {n count : ℕ} {plan from : List ℕ} (used : ℕ) (to : List ℕ) where
+  pub bindings-stored : Stored bindingRow bindingWidth projectionBindings n from (p .bindings) → PlannedBindings count plan (q .bindings) → All (SourcedBinding ed p set) (q .bindings) → used ≤ projectionBindings → length to ≡ bindingBytes → ClearBehind used bindingWidth to
+      → Stored bindingRow bindingWidth projectionBindings count (tableBytes (usedBytes bindingValueAt count used) (rowsTo (newRow ed bindingValueAt plan from set (take (usedBytes bindingValueAt count used) to)) count) ++ drop (usedBytes bindingValueAt count used) to) (resolved (sources ed p set) q .bindings)
   unfolding bindingRow plannedBindingRow resolved resolvedBinding resolution
-  bindings-stored s t sourced size =
+  bindings-stored s t sourced fewer size clear =
       table-resolved (λ (b : Binding). u64 (b .node) ++ u32 (b .slot)) (λ b. b .value) plannedBindingRow bindingRow bindingValueAt (λ b. length-append (u64 (b .node)) (u32 (b .slot)) ∙ simp length-littleEndian)
       (λ b. sym (append-assoc (u64 (b .node)) (u32 (b .slot)) _)) (λ b. sym (append-assoc (u64 (b .node)) (u32 (b .slot)) _))
       FitsBinding binding-wide binding-tells (λ b f. f .value) (resolvedBinding (sources ed p set)) (λ b. refl) (λ b f h. record { node = f .node; slot = f .slot; value = h })
-      ed set (p .bindings) (q .bindings) (vp .fitBindings) (vq .fitBindings) (omega (arith, vp .fewBindings)) (λ b. refl) (vq .fewBindings) s t sourced to size
+      ed set (p .bindings) (q .bindings) (vp .fitBindings) (vq .fitBindings) (omega (arith, vp .fewBindings)) (λ b. refl) (vq .fewBindings) s t sourced used to fewer size clear
 
-  pub entries-stored : Stored entryRow entryWidth projectionEntries n from (p .entries) → PlannedEntries count plan (q .entries) → All (SourcedEntry ed p set) (q .entries) → length to ≡ entryBytes
-      → Stored entryRow entryWidth projectionEntries count (tableBytes (length to) (rowsTo (newRow ed entryValueAt plan from set to) count)) (resolved (sources ed p set) q .entries)
+  pub entries-stored : Stored entryRow entryWidth projectionEntries n from (p .entries) → PlannedEntries count plan (q .entries) → All (SourcedEntry ed p set) (q .entries) → used ≤ projectionEntries → length to ≡ entryBytes → ClearBehind used entryWidth to
+      → Stored entryRow entryWidth projectionEntries count (tableBytes (usedBytes entryValueAt count used) (rowsTo (newRow ed entryValueAt plan from set (take (usedBytes entryValueAt count used) to)) count) ++ drop (usedBytes entryValueAt count used) to) (resolved (sources ed p set) q .entries)
   unfolding entryRow plannedEntryRow resolved resolvedEntry resolution
-  entries-stored s t sourced size =
+  entries-stored s t sourced fewer size clear =
       table-resolved (λ (e : Entry). u64 (e .collection) ++ u64 (e .key)) (λ e. e .value) plannedEntryRow entryRow entryValueAt (λ e. length-append (u64 (e .collection)) (u64 (e .key)) ∙ simp length-littleEndian)
       (λ e. sym (append-assoc (u64 (e .collection)) (u64 (e .key)) _)) (λ e. sym (append-assoc (u64 (e .collection)) (u64 (e .key)) _))
       FitsEntry entry-wide entry-tells (λ e f. f .value) (resolvedEntry (sources ed p set)) (λ e. refl) (λ e f h. record { collection = f .collection; key = f .key; value = h })
-      ed set (p .entries) (q .entries) (vp .fitEntries) (vq .fitEntries) (vp .fewEntries) (λ e. refl) (vq .fewEntries) s t sourced to size
+      ed set (p .entries) (q .entries) (vp .fitEntries) (vq .fitEntries) (vp .fewEntries) (λ e. refl) (vq .fewEntries) s t sourced used to fewer size clear

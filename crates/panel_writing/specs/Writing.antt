@@ -1,5 +1,6 @@
 -- The bytes that a plan's rows are written as, from any bytes of the plan, of the table before the batch and of the set.
-use Prim.Native.Nat.{ℕ, zero, suc, _+_, _-_, _*_}
+use Prim.Native.Nat.{ℕ, zero, suc, _+_, _-_, _*_, max}
+use mathlib.Core.Path.{_≡_}
 use mathlib.Core.Bool.{Bool, false, _&&_}
 use mathlib.Core.List.{List, [], _∷_, _++_}
 use lib.Dec.{ltb, leb, eqb}
@@ -10,6 +11,7 @@ use Rattle.spec_patch.specs.Patch.{Value}
 use Rattle.spec_patch.specs.Edition.{Edition}
 use Rattle.spec_patch.specs.Reader.{Result, read, refused}
 use Rattle.spec_patch.specs.Read.{readValueBy}
+use Rattle.bytes_records.specs.Moves.{zeros}
 use Rattle.bytes_records.specs.Table.{tableBytes}
 use Rattle.panel_rows.specs.Rows.{valueWidth, fieldAt, writtenRow}
 use Rattle.panel_plan.specs.PlanRows.{sourceWidth}
@@ -46,10 +48,21 @@ rowsTo row (suc n) = rowsTo row n ++ (row n ∷ [])
 
 -- ---- the new table
 
--- it is a table of so many places, and has one for each row
-unfoldable pub canWrite : (key capacity count : ℕ) → List ℕ → Bool
-canWrite key capacity count to = leb count capacity && eqb (length to) (capacity * (key + valueWidth))
+-- it is a table of so many places, and has one for each row and for each that was used
+unfoldable pub canWrite : (key capacity count used : ℕ) → List ℕ → Bool
+canWrite key capacity count used to = leb count capacity && (leb used capacity && eqb (length to) (capacity * (key + valueWidth)))
 
--- the rows, and 0 in every place that is not used; another table is left as it is
-unfoldable pub writtenTable : Edition → (key capacity count : ℕ) (plan from set to : List ℕ) → List ℕ
-writtenTable ed key capacity count plan from set to = if canWrite key capacity count to then tableBytes (length to) (rowsTo (newRow ed key plan from set to) count) else to
+-- the bytes of the places that are used now, or were
+abbrev pub usedBytes : (key count used : ℕ) → ℕ
+usedBytes key count used = max count used * (key + valueWidth)
+
+-- the rows, 0 in every place that was used and is used no more, and the rest as it was; another table is left as it is
+unfoldable pub writtenTable : Edition → (key capacity count used : ℕ) (plan from set to : List ℕ) → List ℕ
+writtenTable ed key capacity count used plan from set to =
+    if canWrite key capacity count used to
+    then tableBytes (usedBytes key count used) (rowsTo (newRow ed key plan from set (take (usedBytes key count used) to)) count) ++ drop (usedBytes key count used) to
+    else to
+
+-- nothing stands behind so many rows of such a width
+abbrev pub ClearBehind : (used width : ℕ) → List ℕ → Type 0
+ClearBehind used width to = drop (used * width) to ≡ zeros (length to - used * width)

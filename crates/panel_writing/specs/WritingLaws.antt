@@ -1,17 +1,17 @@
 -- A plan whose sources stand for values is written as the rows of what it resolves to.
-use Prim.Native.Nat.{ℕ, zero, suc, _+_, _-_, _*_, _≤_, _<_}
+use Prim.Native.Nat.{ℕ, zero, suc, _+_, _-_, _*_, _≤_, _<_, max}
 use mathlib.Core.Path.{_≡_, refl, sym, ap, ap₂, _∙_, subst}
 use mathlib.Core.Logic.{_≢_}
 use mathlib.Core.Bool.{true, false}
-use mathlib.Core.List.{List, [], _∷_, _++_, map, append-assoc}
-use native.Mathlib.Nat.{mul-le-mul-right, suc-mul}
+use mathlib.Core.List.{List, [], _∷_, _++_, map, flatten, append-assoc}
+use native.Mathlib.Nat.{mul-le-mul-right, suc-mul, le-max-left, le-max-right, max-le}
 use native.Mathlib.Omega.{arith}
-use borrow.Author.Tests.{lt-ltb, le-ltb, le-leb, lt-leb, eq-eqb, ne-eqb, eqb-true}
+use borrow.Author.Tests.{lt-ltb, le-ltb, le-leb, lt-leb, eq-eqb, ne-eqb, eqb-true, leb-true}
 use lib.Dec.{leb}
 use lib.ListN.{length, take, drop, getD, length-append, length-drop, length-map, take-append-drop}
-use lib.Seq.{take-at, drop-at, take-suc, take-all, length-take-le}
+use lib.Seq.{take-at, drop-at, drop-drop, take-suc, take-all, length-take-le}
 use Rattle.spec_lists.specs.Lists.{All}
-use Rattle.spec_lists.specs.ListLaws.{and-right, all-map}
+use Rattle.spec_lists.specs.ListLaws.{and-left, and-right, all-map}
 use Rattle.spec_lists.specs.BytesLaws.{length-littleEndian, numberOf-littleEndian}
 use Rattle.spec_patch.specs.Sizes.{projectionEntries}
 use Rattle.spec_patch.specs.Patch.{Value, N, quad, signed, text, unsigned}
@@ -20,8 +20,10 @@ use Rattle.spec_patch.specs.Encode.{u64, encodeValue}
 use Rattle.spec_patch.specs.Fits.{U64, Storable, StorableBy, FitsValue}
 use Rattle.spec_patch.specs.Read.{readValueBy, readValue}
 use Rattle.spec_patch.specs.ReadLaws.{value-codec, value-codec-by, value-any}
+use Rattle.bytes_records.specs.Moves.{zeros}
+use Rattle.bytes_records.specs.MovesLaws.{drop-zeros}
 use Rattle.bytes_records.specs.Table.{Wide, tableBytes}
-use Rattle.bytes_records.specs.TableLaws.{row-at}
+use Rattle.bytes_records.specs.TableLaws.{row-at, length-flatten, zeros-split}
 use Rattle.panel_rows.specs.Rows.{valueWidth, padded, fieldAt, writtenRow}
 use Rattle.panel_rows.specs.RowsLaws.{written-encoded, written-padded}
 use Rattle.local_projection_state.specs.Stores.{Stored}
@@ -31,35 +33,61 @@ use Rattle.panel_plan.specs.PlanLaws.{old-value, new-value}
 use Rattle.panel_plan.specs.PlanRows.{sourceNumber, sourceWidth}
 use Rattle.panel_plan.specs.SetValues.{valueRead, valueIn}
 use Rattle.panel_plan.specs.Sources.{Sourced, from-row, from-set}
-use Rattle.panel_writing.specs.Writing.{rowAt, bytesRead, valueBytes, sourceBytes, plannedRow, newRow, rowsTo, canWrite, writtenTable}
+use Rattle.panel_writing.specs.Writing.{rowAt, bytesRead, valueBytes, sourceBytes, plannedRow, newRow, rowsTo, canWrite, usedBytes, writtenTable, ClearBehind}
 
 -- ---- whether a table is written
 
-module _ (key capacity count : ℕ) (to : List ℕ) where
-  pub can-write : count ≤ capacity → length to ≡ capacity * (key + valueWidth) → canWrite key capacity count to ≡ true
+module _ (key capacity count used : ℕ) (to : List ℕ) where
+  pub can-write : count ≤ capacity → used ≤ capacity → length to ≡ capacity * (key + valueWidth) → canWrite key capacity count used to ≡ true
   unfolding canWrite
-  can-write h e = rw (le-leb count capacity h, eq-eqb (length to) (capacity * (key + valueWidth)) e)
+  can-write h u e = rw (le-leb count capacity h, le-leb used capacity u, eq-eqb (length to) (capacity * (key + valueWidth)) e)
 
-  pub too-many : capacity < count → canWrite key capacity count to ≡ false
+  pub too-many : capacity < count → canWrite key capacity count used to ≡ false
   unfolding canWrite
   too-many h = rw (lt-leb count capacity h)
 
-  pub other-table : count ≤ capacity → length to ≢ capacity * (key + valueWidth) → canWrite key capacity count to ≡ false
+  pub too-many-used : count ≤ capacity → capacity < used → canWrite key capacity count used to ≡ false
   unfolding canWrite
-  other-table h n = rw (le-leb count capacity h, ne-eqb (length to) (capacity * (key + valueWidth)) n)
+  too-many-used h u = rw (le-leb count capacity h, lt-leb used capacity u)
 
-  pub right-size : canWrite key capacity count to ≡ true → length to ≡ capacity * (key + valueWidth)
+  pub other-table : count ≤ capacity → used ≤ capacity → length to ≢ capacity * (key + valueWidth) → canWrite key capacity count used to ≡ false
   unfolding canWrite
-  right-size e = eqb-true (length to) (capacity * (key + valueWidth)) (and-right (leb count capacity) _ e)
+  other-table h u n = rw (le-leb count capacity h, le-leb used capacity u, ne-eqb (length to) (capacity * (key + valueWidth)) n)
+
+  pub right-size : canWrite key capacity count used to ≡ true → (count ≤ capacity) × (used ≤ capacity) × (length to ≡ capacity * (key + valueWidth))
+  unfolding canWrite
+  right-size e =
+      let rest = and-right (leb count capacity) _ e in
+      (leb-true count capacity (and-left (leb count capacity) _ e), leb-true used capacity (and-left (leb used capacity) _ rest), eqb-true (length to) (capacity * (key + valueWidth)) (and-right (leb used capacity) _ rest))
 
   module _ (ed : Edition) (plan from set : List ℕ) where
-    pub table-written : canWrite key capacity count to ≡ true → writtenTable ed key capacity count plan from set to ≡ tableBytes (length to) (rowsTo (newRow ed key plan from set to) count)
+    pub table-written : canWrite key capacity count used to ≡ true → writtenTable ed key capacity count used plan from set to
+        ≡ tableBytes (usedBytes key count used) (rowsTo (newRow ed key plan from set (take (usedBytes key count used) to)) count) ++ drop (usedBytes key count used) to
     unfolding writtenTable
     table-written e = rw e
 
-    pub table-left : canWrite key capacity count to ≡ false → writtenTable ed key capacity count plan from set to ≡ to
+    pub table-left : canWrite key capacity count used to ≡ false → writtenTable ed key capacity count used plan from set to ≡ to
     unfolding writtenTable
     table-left e = rw e
+
+-- rows and zeros, and zeros behind them
+pub zeros-behind : (rows : List (List ℕ)) (k : ℕ) (to : List ℕ) → length (flatten rows) ≤ k → k ≤ length to → drop k to ≡ zeros (length to - k) → tableBytes k rows ++ drop k to ≡ tableBytes (length to) rows
+unfolding tableBytes
+zeros-behind rows k to used room rest =
+    let n = length (flatten rows) in
+    let left : length to - n - (k - n) ≡ length to - k = omega arith in
+    ap (λ (l : List ℕ). (flatten rows ++ zeros (k - n)) ++ l) (rest ∙ ap zeros (sym left))
+    ∙ append-assoc (flatten rows) (zeros (k - n)) (zeros (length to - n - (k - n)))
+    ∙ ap (λ (l : List ℕ). flatten rows ++ l) (sym (zeros-split (k - n) (length to - n) (omega arith)))
+
+-- what is clear behind some rows is clear behind more
+pub clear-behind-more : (used count width : ℕ) (to : List ℕ) → max count used * width ≤ length to → ClearBehind used width to → ClearBehind (max count used) width to
+clear-behind-more used count width to room clear =
+    let more : used * width ≤ max count used * width = mul-le-mul-right {m = used} {n = max count used} width (le-max-right count used) in
+    let step = max count used * width - used * width in
+    let sum : used * width + step ≡ max count used * width = omega arith in
+    let left : length to - used * width - step ≡ length to - max count used * width = omega arith in
+    ap (λ (k : ℕ). drop k to) (sym sum) ∙ sym (drop-drop step (used * width) to) ∙ ap (drop step) clear ∙ drop-zeros step (length to - used * width) (omega arith) ∙ ap zeros left
 
 -- ---- a source
 
@@ -219,16 +247,23 @@ module _ {A : Type 0} (ids : A → List ℕ) (value : A → Value) (planRow row 
     (resolve : A → A) (same-ids : (a : A) → ids (resolve a) ≡ ids a) (fits-resolved : (a : A) → Fits a → Storable (value (resolve a)) → Fits (resolve a)) where
   pub table-resolved : (ed : Edition) (set : List ℕ) (l m : List A) → All Fits l → All Fits m → length l ≤ projectionEntries → ((a : A) → value (resolve a) ≡ valueFrom (map value l) (valueIn ed set) (value a))
       → {capacity n count : ℕ} {plan from : List ℕ} → length m ≤ capacity → Stored row (key + valueWidth) capacity n from l → Stored planRow (key + sourceWidth) capacity count plan m
-      → All (λ a. Sourced ed (length l) set (value a)) m → (to : List ℕ) → length to ≡ capacity * (key + valueWidth)
-      → Stored row (key + valueWidth) capacity count (tableBytes (length to) (rowsTo (newRow ed key plan from set to) count)) (map resolve m)
-  table-resolved ed set l m fl fm few same-value {capacity} {n} {count} small s t sourced to size =
+      → All (λ a. Sourced ed (length l) set (value a)) m → (used : ℕ) (to : List ℕ) → used ≤ capacity → length to ≡ capacity * (key + valueWidth) → ClearBehind used (key + valueWidth) to
+      → Stored row (key + valueWidth) capacity count (tableBytes (usedBytes key count used) (rowsTo (newRow ed key plan from set (take (usedBytes key count used) to)) count) ++ drop (usedBytes key count used) to) (map resolve m)
+  table-resolved ed set l m fl fm few same-value {capacity} {n} {count} small s t sourced used to fewer size clear =
       let storable = all-map Fits (λ a. Storable (value a)) fits-value l fl in
       let both = all-pair Fits (λ a. Sourced ed (length l) set (value a)) m fm sourced in
       let numbers = all-map (λ a. Fits a × Sourced ed (length l) set (value a)) (λ a. U64 (sourceNumber (value a)) × Sourced ed (length l) set (value a)) (λ a h. (number-fits (value a) (fits-value a (h .0)), h .1)) m both in
       let fits = all-image resolve (λ a. Fits a × Sourced ed (length l) set (value a)) Fits (λ a h. fits-resolved a (h .0)
       (subst Storable (sym (same-value a)) (meaning-storable ids value planRow row key long plan-is row-is ed set l storable few s (value a) (h .1)))) m both in
       let counted : length (map resolve m) ≡ count = length-map m resolve ∙ sym (length-map m planRow) ∙ t .rows .counted in
-      let room : count * (key + valueWidth) ≤ length to = omega (arith, mul-le-mul-right {m = count} {n = capacity} (key + valueWidth) (omega (arith, length-map m resolve))) in
-      stored-as row (key + valueWidth) capacity (length to) count (map resolve m) size
-      (rows-resolved ids value planRow row key long plan-is row-is ed set l storable few s resolve same-ids same-value m t numbers to room) counted
-      (stored row Fits (key + valueWidth) wide tells capacity (map resolve m) fits (omega (arith, length-map m resolve)))
+      let w = key + valueWidth in
+      let places = max count used * w in
+      let rows : count * w ≤ places = mul-le-mul-right {m = count} {n = max count used} w (le-max-left count used) in
+      let inside : places ≤ length to = omega (arith, mul-le-mul-right {m = max count used} {n = capacity} w (max-le (omega (arith, length-map m resolve)) fewer)) in
+      let part : length (take places to) ≡ places = length-take-le places to inside in
+      let are = rows-resolved ids value planRow row key long plan-is row-is ed set l storable few s resolve same-ids same-value m t numbers (take places to) (omega arith) in
+      let whole = stored row Fits w wide tells capacity (map resolve m) fits (omega (arith, length-map m resolve)) in
+      let flat : length (flatten (map row (map resolve m))) ≡ count * w = length-flatten w (map row (map resolve m)) (whole .rows .wide) ∙ ap (λ (k : ℕ). k * w) (length-map (map resolve m) row ∙ counted) in
+      let bytes = ap (λ (r : List (List ℕ)). tableBytes places r ++ drop places to) are ∙ zeros-behind (map row (map resolve m)) places to (omega arith) inside (clear-behind-more used count w to inside clear) in
+      subst (λ (x : List ℕ). Stored row w capacity count x (map resolve m)) (sym bytes)
+      (stored-as row w capacity (length to) count (map resolve m) size refl counted whole)

@@ -2,7 +2,7 @@
 // set. What is read is lent read-only, and a refusal leaves every byte of the new table.
 ghost use mathlib.Core.Path.{_≡_};
 ghost use mathlib.Core.Bool.{true};
-ghost use Prim.Native.Nat.{ℕ, _+_, _*_, _≤_};
+ghost use Prim.Native.Nat.{ℕ, _+_, _*_, _≤_, max};
 ghost use lib.Dec.{eqb};
 ghost use lib.ListN.{length};
 ghost use Rattle.spec_lists.specs.Lists.{if_then_else_, All};
@@ -18,7 +18,7 @@ ghost use Rattle.panel_plan.specs.Plan.{resolution};
 ghost use Rattle.panel_plan.specs.Resolved.{resolved};
 ghost use Rattle.panel_plan.specs.SetValues.{valueIn};
 ghost use Rattle.panel_plan.specs.Sources.{SourcedBinding, SourcedEntry};
-ghost use Rattle.panel_writing.specs.Writing.{rowAt, valueBytes, plannedRow, newRow, rowsTo, canWrite, writtenTable};
+ghost use Rattle.panel_writing.specs.Writing.{rowAt, valueBytes, plannedRow, newRow, rowsTo, canWrite, writtenTable, ClearBehind};
 use local_projection_state::LocalProjectionState;
 use panel_plan::SOURCE_WIDTH;
 use panel_rows::fields;
@@ -80,35 +80,59 @@ fn write_rows(key: usize, plan: &[u8], count: usize, from: &[u8], set: &[u8], to
     bytes_records::moves::clear(&mut to[used..]);
 }
 
-// Writes the rows of a plan into a table of so many places. Answers whether it is that table, and has a place for each.
+fn greater(a: usize, b: usize) -> usize
+    ensures { λ r. ⌜ r ≡ max a b ⌝ }
+{
+    if a < b {
+        return b;
+    }
+    a
+}
+
+// Writes the rows of a plan into a table of so many places, of which so many were used. Answers whether it is that table, and has a place
+// for each.
 fn write_table(
     key: usize,
     capacity: usize,
     plan: &[u8],
     count: usize,
+    used: usize,
     from: &[u8],
     set: &[u8],
     to: &mut [u8],
 ) -> bool
     requires { ⌜ (key ≤ entryValueAt) × (capacity ≤ projectionEntries) ⌝ }
-    ensures { λ r. ⌜ r ≡ canWrite key capacity count (now (to .entry)) ⌝ }
-    ensures { λ r. ⌜ now (to .exit) ≡ writtenTable v1 key capacity count (now (plan .entry)) (now (from .entry)) (now (set .entry)) (now (to .entry)) ⌝ }
+    ensures { λ r. ⌜ r ≡ canWrite key capacity count used (now (to .entry)) ⌝ }
+    ensures { λ r. ⌜ now (to .exit) ≡ writtenTable v1 key capacity count used (now (plan .entry)) (now (from .entry)) (now (set .entry)) (now (to .entry)) ⌝ }
 {
     if capacity < count {
         return false;
     }
-    if to.len() != capacity * (key + panel_rows::VALUE_WIDTH) {
+    if capacity < used {
         return false;
     }
-    write_rows(key, plan, count, from, set, to);
+    let width = key + panel_rows::VALUE_WIDTH;
+    if to.len() != capacity * width {
+        return false;
+    }
+    let size = greater(count, used) * width;
+    write_rows(key, plan, count, from, set, &mut to[0..size]);
     true
 }
 
-// Writes the bindings of a plan: each row's ids, and its value from the table before the batch or from the set.
-pub fn write_bindings(plan: &[u8], count: usize, from: &[u8], set: &[u8], to: &mut [u8]) -> bool
-    ensures told { λ r. ⌜ r ≡ canWrite bindingValueAt projectionBindings count (now (to .entry)) ⌝ }
-    ensures made { λ r. ⌜ now (to .exit) ≡ writtenTable v1 bindingValueAt projectionBindings count (now (plan .entry)) (now (from .entry)) (now (set .entry)) (now (to .entry)) ⌝ }
-    ensures stores { λ r. ⌜ (r ≡ true → (p q : Projection) (n : ℕ) → Stored bindingRow bindingWidth projectionBindings n (now (from .entry)) (p .bindings) → Valid p
+// Writes the bindings of a plan: each row's ids, and its value from the table before the batch or from the set. Places that were used and
+// are used no more become zero; behind those nothing is written.
+pub fn write_bindings(
+    plan: &[u8],
+    count: usize,
+    used: usize,
+    from: &[u8],
+    set: &[u8],
+    to: &mut [u8],
+) -> bool
+    ensures told { λ r. ⌜ r ≡ canWrite bindingValueAt projectionBindings count used (now (to .entry)) ⌝ }
+    ensures made { λ r. ⌜ now (to .exit) ≡ writtenTable v1 bindingValueAt projectionBindings count used (now (plan .entry)) (now (from .entry)) (now (set .entry)) (now (to .entry)) ⌝ }
+    ensures stores { λ r. ⌜ (r ≡ true → ClearBehind used bindingWidth (now (to .entry)) → (p q : Projection) (n : ℕ) → Stored bindingRow bindingWidth projectionBindings n (now (from .entry)) (p .bindings) → Valid p
         → PlannedBindings count (now (plan .entry)) (q .bindings) → Valid q → All (SourcedBinding v1 p (now (set .entry))) (q .bindings)
         → Stored bindingRow bindingWidth projectionBindings count (now (to .exit)) (resolved (resolution p (valueIn v1 (now (set .entry)))) q .bindings)) ⌝ }
 {
@@ -117,6 +141,7 @@ pub fn write_bindings(plan: &[u8], count: usize, from: &[u8], set: &[u8], to: &m
         LocalProjectionState::BINDINGS,
         plan,
         count,
+        used,
         from,
         set,
         to,
@@ -124,10 +149,17 @@ pub fn write_bindings(plan: &[u8], count: usize, from: &[u8], set: &[u8], to: &m
 }
 
 // Writes the entries of a plan, likewise.
-pub fn write_entries(plan: &[u8], count: usize, from: &[u8], set: &[u8], to: &mut [u8]) -> bool
-    ensures told { λ r. ⌜ r ≡ canWrite entryValueAt projectionEntries count (now (to .entry)) ⌝ }
-    ensures made { λ r. ⌜ now (to .exit) ≡ writtenTable v1 entryValueAt projectionEntries count (now (plan .entry)) (now (from .entry)) (now (set .entry)) (now (to .entry)) ⌝ }
-    ensures stores { λ r. ⌜ (r ≡ true → (p q : Projection) (n : ℕ) → Stored entryRow entryWidth projectionEntries n (now (from .entry)) (p .entries) → Valid p
+pub fn write_entries(
+    plan: &[u8],
+    count: usize,
+    used: usize,
+    from: &[u8],
+    set: &[u8],
+    to: &mut [u8],
+) -> bool
+    ensures told { λ r. ⌜ r ≡ canWrite entryValueAt projectionEntries count used (now (to .entry)) ⌝ }
+    ensures made { λ r. ⌜ now (to .exit) ≡ writtenTable v1 entryValueAt projectionEntries count used (now (plan .entry)) (now (from .entry)) (now (set .entry)) (now (to .entry)) ⌝ }
+    ensures stores { λ r. ⌜ (r ≡ true → ClearBehind used entryWidth (now (to .entry)) → (p q : Projection) (n : ℕ) → Stored entryRow entryWidth projectionEntries n (now (from .entry)) (p .entries) → Valid p
         → PlannedEntries count (now (plan .entry)) (q .entries) → Valid q → All (SourcedEntry v1 p (now (set .entry))) (q .entries)
         → Stored entryRow entryWidth projectionEntries count (now (to .exit)) (resolved (resolution p (valueIn v1 (now (set .entry)))) q .entries)) ⌝ }
 {
@@ -136,6 +168,7 @@ pub fn write_entries(plan: &[u8], count: usize, from: &[u8], set: &[u8], to: &mu
         LocalProjectionState::ENTRIES,
         plan,
         count,
+        used,
         from,
         set,
         to,

@@ -75,6 +75,11 @@ impl ShellSession {
         let mut bindings = [0u8; LocalProjectionState::BINDING_BYTES];
         let mut availability = [0u8; LocalProjectionState::AVAILABILITY_BYTES];
         let mut entries = [0u8; LocalProjectionState::ENTRY_BYTES];
+        let used = ProjectionCounts {
+            bindings: 0,
+            availabilities: 0,
+            entries: 0,
+        };
         let change = panel_changes::apply_set(
             &self.local_projection.bindings,
             &self.local_projection.availability,
@@ -84,6 +89,7 @@ impl ShellSession {
             &mut bindings,
             &mut availability,
             &mut entries,
+            used,
         );
         let result = answers::concluded(cap, change, cursor, envelope.sequence_no);
         let SetChange::Applied(held) = change else {

@@ -2,7 +2,7 @@
 use mathlib.Core.Path.{refl}
 use borrow.Author.Needs.{needs}
 use Rattle.spec_projection.specs.Apply.{replaySteps, applySteps}
-use Rattle.panel_changes.specs.SetChangesLaws.{zeros-lengths}
+use Rattle.panel_changes.specs.SetChangesLaws.{zeros-ready}
 use Rattle.panel_application.proofs.Steps.{set-applied, set-refused, set-reads, set-fits}
 use Rattle.panel_application.proofs.apply_readable.Statement.{statement}
 use Rattle.panel_application.proofs.apply_readable.Tie as tie
@@ -34,22 +34,22 @@ enum-told c = search needs
 returns : tie.Need-returns
 returns c =
     let call = c .before .before .before .before .before .before in
-    ((λ ps p readable s. set-applied (call .apply-set .last .1 .1 .1 .1 .1 .0) (call .apply-set .last .1 .1 .1 .1 .1 .1 .0) (call .apply-set .last .1 .1 .1 .1 .1 .1 .1 .0) (applySteps p (replaySteps ps)) (call .apply-set .ensures .0 p ps s readable zeros-lengths) _ (c .before .counts .given .1)), tt)
+    ((λ ps p readable s. set-applied (call .apply-set .last .1 .1 .1 .1 .1 .0) (call .apply-set .last .1 .1 .1 .1 .1 .1 .0) (call .apply-set .last .1 .1 .1 .1 .1 .1 .1 .0) (applySteps p (replaySteps ps)) (call .apply-set .ensures .0 p ps s readable zeros-ready) _ (c .before .counts .given .1)), tt)
 
 returns-2 : tie.Need-returns-2
 returns-2 c =
     let call = c .before .before .before .before .before .before in
-    ((λ ps p readable s. set-refused (call .apply-set .last .1 .1 .1 .1 .1 .0) (call .apply-set .last .1 .1 .1 .1 .1 .1 .0) (call .apply-set .last .1 .1 .1 .1 .1 .1 .1 .0) (applySteps p (replaySteps ps)) (call .apply-set .ensures .0 p ps s readable zeros-lengths) _ _ (c .before .error .given .1)), refl)
+    ((λ ps p readable s. set-refused (call .apply-set .last .1 .1 .1 .1 .1 .0) (call .apply-set .last .1 .1 .1 .1 .1 .1 .0) (call .apply-set .last .1 .1 .1 .1 .1 .1 .1 .0) (applySteps p (replaySteps ps)) (call .apply-set .ensures .0 p ps s readable zeros-ready) _ _ (c .before .error .given .1)), refl)
 
 returns-3 : tie.Need-returns-3
 returns-3 c =
     let call = c .before .before .before .before .before .before in
-    ((λ ps p readable s. absurd (set-reads (call .apply-set .last .1 .1 .1 .1 .1 .0) (call .apply-set .last .1 .1 .1 .1 .1 .1 .0) (call .apply-set .last .1 .1 .1 .1 .1 .1 .1 .0) (applySteps p (replaySteps ps)) (call .apply-set .ensures .0 p ps s readable zeros-lengths) _ (c .before .fault .given .1))), refl)
+    ((λ ps p readable s. absurd (set-reads (call .apply-set .last .1 .1 .1 .1 .1 .0) (call .apply-set .last .1 .1 .1 .1 .1 .1 .0) (call .apply-set .last .1 .1 .1 .1 .1 .1 .1 .0) (applySteps p (replaySteps ps)) (call .apply-set .ensures .0 p ps s readable zeros-ready) _ (c .before .fault .given .1))), refl)
 
 returns-4 : tie.Need-returns-4
 returns-4 c =
     let call = c .before .before .before .before .before in
-    ((λ ps p readable s. absurd (set-fits (call .apply-set .last .1 .1 .1 .1 .1 .0) (call .apply-set .last .1 .1 .1 .1 .1 .1 .0) (call .apply-set .last .1 .1 .1 .1 .1 .1 .1 .0) (applySteps p (replaySteps ps)) (call .apply-set .ensures .0 p ps s readable zeros-lengths) (c .enum-told .given .1))), refl)
+    ((λ ps p readable s. absurd (set-fits (call .apply-set .last .1 .1 .1 .1 .1 .0) (call .apply-set .last .1 .1 .1 .1 .1 .1 .0) (call .apply-set .last .1 .1 .1 .1 .1 .1 .1 .0) (applySteps p (replaySteps ps)) (call .apply-set .ensures .0 p ps s readable zeros-ready) (c .enum-told .given .1))), refl)
 
 pub apply-readable-spec : {M : Type 1} → statement M
 apply-readable-spec =

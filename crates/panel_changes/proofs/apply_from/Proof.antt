@@ -46,7 +46,7 @@ slice-aggregate-write-tables-3 : tie.Need-slice-aggregate-write-tables-3
 slice-aggregate-write-tables-3 c = search needs
 
 write-tables-requires : tie.Need-write-tables-requires
-write-tables-requires c κs = search needs
+write-tables-requires c κs = let start = c .before .before .before .before .before .before .before .before .before .before .before .before .before .before .before .before .before .before .before .before .before .before .before in (start .pre .1 .1 .0, (search needs, start .pre .1 .1 .1))
 
 enum-known-error : tie.Need-enum-known-error
 enum-known-error c = search needs
@@ -70,9 +70,9 @@ returns c =
     let planned = c .before .before .before .before .before .before .before .before .before .before .before .before .before .before .before .before .before .before .before .before .plan-set in
     let written = c .before .before .before .before .before .before .before .write-tables in
     let n = c .before .before .before .before .before .before .before .before .before .before .before .before .before .before .before .n .given in (
-      λ p ps st fit at.
+      λ p ps st fit at ready.
           run-planned _ _ (applySteps p (replaySteps ps)) (planned .ensures p ps st no-bindings no-entries at) (n .0 .0) (n .1)
-          (λ q is pl. written .ensures .1 .1 (c .if1 .taken) p q (a .counts) (a .from-availability .now) st pl (applySteps-valid v1 p (replaySteps ps) q (replaySteps-fit v1 ps fit) (st .valid) is)),
+          (λ q is pl. written .ensures .1 .1 (c .if1 .taken) ready p q (a .counts) (a .from-availability .now) st pl (applySteps-valid v1 p (replaySteps ps) q (replaySteps-fit v1 ps fit) (st .valid) is)),
       tt,
     )
 
@@ -90,7 +90,7 @@ returns-2 c =
     let planned = c .before .before .before .before .before .before .before .before .before .before .before .before .before .before .before .before .before .before .before .before .plan-set in
     let written = c .before .before .before .before .before .before .before .write-tables in
     let n = c .before .before .before .before .before .before .before .before .before .before .before .before .before .before .before .n .given in (
-      λ p ps st fit at.
+      λ p ps st fit at ready.
           let left = run-left _ (λ k q. ⊥) (applySteps p (replaySteps ps)) (planned .ensures p ps st no-bindings no-entries at) (n .0 .0) (n .1) in
           false≢true (sym (c .if1 .left) ∙ written .ensures .0 ∙ planned-counts (left .1 .stored)),
       written .ensures .1 .0 (c .if1 .left),
@@ -100,13 +100,13 @@ returns-3 : tie.Need-returns-3
 returns-3 c =
     let planned = c .before .before .before .before .before .before .plan-set in
     let bound = c .before .error .given in
-    (λ p ps st fit at. run-refused _ _ (applySteps p (replaySteps ps)) (planned .ensures p ps st no-bindings no-entries at) (bound .0 .0) (bound .1), (refl, (refl, refl)))
+    (λ p ps st fit at ready. run-refused _ _ (applySteps p (replaySteps ps)) (planned .ensures p ps st no-bindings no-entries at) (bound .0 .0) (bound .1), (refl, (refl, refl)))
 
 returns-4 : tie.Need-returns-4
 returns-4 c =
     let planned = c .before .before .before .before .before .before .plan-set in
     let bound = c .before .fault .given in
-    (λ p ps st fit at. run-reads _ (λ k q. ⊥) (applySteps p (replaySteps ps)) (planned .ensures p ps st no-bindings no-entries at) (bound .0 .0) (bound .1), (refl, (refl, refl)))
+    (λ p ps st fit at ready. run-reads _ (λ k q. ⊥) (applySteps p (replaySteps ps)) (planned .ensures p ps st no-bindings no-entries at) (bound .0 .0) (bound .1), (refl, (refl, refl)))
 
 pub apply-from-spec : {M : Type 1} → statement M
 apply-from-spec =

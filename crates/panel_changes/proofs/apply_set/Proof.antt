@@ -23,9 +23,9 @@ enum-known-cursor c = search needs
 apply-from-requires : tie.Need-apply-from-requires
 apply-from-requires c κs =
     let a = c .before .before .before .before .before .before .before .before .before .before .before .before .before .before .before .before .args in
-    let fit = fit-arguments (tablesFit (length (a .from-bindings .now)) (length (a .from-availability .now)) (length (a .from-entries .now))) (tablesFit (length (a .to-bindings .now)) (length (a .to-availability .now)) (length (a .to-entries .now))) (countsFit (a .counts)) (c .before .before .before .before .before .before .before .before .arguments-fit .ensures) (c .before .before .before .before .before .before .before .if1 .taken) in
+    let fit = fit-arguments (tablesFit (length (a .from-bindings .now)) (length (a .from-availability .now)) (length (a .from-entries .now))) (tablesFit (length (a .to-bindings .now)) (length (a .to-availability .now)) (length (a .to-entries .now))) (countsFit (a .counts)) (countsFit (a .used)) (c .before .before .before .before .before .before .before .before .arguments-fit .ensures) (c .before .before .before .before .before .before .before .if1 .taken) in
     let bound = c .before .before .before .before .cursor .given in
-    (opened-short (a .set .now) (bound .0 .0) (sym (c .before .before .before .before .before .before .open-set .ensures) ∙ bound .1), (fit-lengths (a .from-bindings .now) (a .from-availability .now) (a .from-entries .now) (fit .0) .availability, fit-lengths (a .to-bindings .now) (a .to-availability .now) (a .to-entries .now) (fit .1 .0)))
+    (opened-short (a .set .now) (bound .0 .0) (sym (c .before .before .before .before .before .before .open-set .ensures) ∙ bound .1), (fit-lengths (a .from-bindings .now) (a .from-availability .now) (a .from-entries .now) (fit .0) .availability, (fit-lengths (a .to-bindings .now) (a .to-availability .now) (a .to-entries .now) (fit .1 .0), fit .1 .1 .1)))
 
 enum-known-fault : tie.Need-enum-known-fault
 enum-known-fault c = search needs
@@ -46,7 +46,7 @@ returns c =
     let all = bytes-of set (λ j. c .before .before .before .before .before .before .before .before .before .before .before .before .before .before .before .before .before .before .before .shared-slice-known4 .given j .fits) in
     let bound = c .before .before .before .before .before .before .before .before .before .before .before .cursor .given in
     let call = c .before .before .before .before .before .before .apply-from in
-    (λ p ps st readable long. call .ensures .0 p ps st (was-encoded v1 set ps all readable .1 .patches) (opened-at set all ps readable (bound .0 .0) (sym (c .before .before .before .before .before .before .before .before .before .before .before .before .before .open-set .ensures) ∙ bound .1)), call .ensures .1)
+    (λ p ps st readable ready. call .ensures .0 p ps st (was-encoded v1 set ps all readable .1 .patches) (opened-at set all ps readable (bound .0 .0) (sym (c .before .before .before .before .before .before .before .before .before .before .before .before .before .open-set .ensures) ∙ bound .1)) ready, call .ensures .1)
 
 returns-2 : tie.Need-returns-2
 returns-2 c =
@@ -54,14 +54,14 @@ returns-2 c =
     let set = a .set .now in
     let all = bytes-of set (λ j. c .before .before .before .before .before .before .before .before .before .shared-slice-known4 .given j .fits) in
     let bound = c .before .fault .given in
-    (λ p ps st readable long. never-unopened set all ps readable (bound .0 .0) (sym (c .before .before .before .open-set .ensures) ∙ bound .1), (refl, (refl, refl)))
+    (λ p ps st readable ready. never-unopened set all ps readable (bound .0 .0) (sym (c .before .before .before .open-set .ensures) ∙ bound .1), (refl, (refl, refl)))
 
 returns-3 : tie.Need-returns-3
 returns-3 c =
     let a = c .before .before .before .before .before .before .before .before .before .args in (
-      λ p ps st readable long.
-          let whole : (tablesFit (length (a .from-bindings .now)) (length (a .from-availability .now)) (length (a .from-entries .now)) && (tablesFit (length (a .to-bindings .now)) (length (a .to-availability .now)) (length (a .to-entries .now)) && countsFit (a .counts))) ≡ true =
-          rw (lengths-fit (a .from-bindings .now) (a .from-availability .now) (a .from-entries .now) (stored-lengths st), lengths-fit (a .to-bindings .now) (a .to-availability .now) (a .to-entries .now) long, stored-counts st) in
+      λ p ps st readable ready.
+          let whole : (tablesFit (length (a .from-bindings .now)) (length (a .from-availability .now)) (length (a .from-entries .now)) && (tablesFit (length (a .to-bindings .now)) (length (a .to-availability .now)) (length (a .to-entries .now)) && (countsFit (a .counts) && countsFit (a .used)))) ≡ true =
+          rw (lengths-fit (a .from-bindings .now) (a .from-availability .now) (a .from-entries .now) (stored-lengths st), lengths-fit (a .to-bindings .now) (a .to-availability .now) (a .to-entries .now) (ready .lengths), stored-counts st, ready .few) in
           false≢true (sym (c .if1 .left) ∙ c .before .arguments-fit .ensures ∙ whole),
       (refl, (refl, refl)),
     )

@@ -13,16 +13,33 @@ tables-fit-requires-2 c κs = search needs
 counts-fit-requires : tie.Need-counts-fit-requires
 counts-fit-requires c κs = search needs
 
+counts-fit-requires-2 : tie.Need-counts-fit-requires-2
+counts-fit-requires-2 c κs = search needs
+
 returns : tie.Need-returns
-returns c = c .counts-fit .ensures ∙ rw (sym (c .before .before .before .before .tables-fit .ensures) ∙ c .before .before .before .if1 .taken, sym (c .before .before .tables-fit2 .ensures) ∙ c .before .if2 .taken)
+returns c =
+    c .counts-fit2 .ensures
+    ∙ rw (sym (c .before .before .before .before .before .before .tables-fit .ensures) ∙ c .before .before .before .before .before .if1 .taken, sym (c .before .before .before .before .tables-fit2 .ensures) ∙ c .before .before .before .if2 .taken, sym (c .before .before .counts-fit .ensures) ∙ c .before .if3 .taken)
 
 returns-2 : tie.Need-returns-2
-returns-2 c = rw (sym (c .before .before .before .tables-fit .ensures) ∙ c .before .before .if1 .taken, sym (c .before .tables-fit2 .ensures) ∙ c .if2 .left)
+returns-2 c =
+    rw (sym (c .before .before .before .before .before .tables-fit .ensures) ∙ c .before .before .before .before .if1 .taken, sym (c .before .before .before .tables-fit2 .ensures) ∙ c .before .before .if2 .taken, sym (c .before .counts-fit .ensures) ∙ c .if3 .left)
 
 returns-3 : tie.Need-returns-3
-returns-3 c = rw (sym (c .before .tables-fit .ensures) ∙ c .if1 .left)
+returns-3 c = rw (sym (c .before .before .before .tables-fit .ensures) ∙ c .before .before .if1 .taken, sym (c .before .tables-fit2 .ensures) ∙ c .if2 .left)
+
+returns-4 : tie.Need-returns-4
+returns-4 c = rw (sym (c .before .tables-fit .ensures) ∙ c .if1 .left)
 
 pub arguments-fit-spec : {M : Type 1} → statement M
 arguments-fit-spec =
     tie.close
-    (tie.spec tables-fit-requires tables-fit-requires-2 counts-fit-requires returns returns-2 returns-3)
+    (tie.spec
+    tables-fit-requires
+    tables-fit-requires-2
+    counts-fit-requires
+    counts-fit-requires-2
+    returns
+    returns-2
+    returns-3
+    returns-4)

@@ -13,8 +13,9 @@ use Rattle.panel_rows.specs.Rows.{availabilityRow, availabilityWidth, bindingVa
 use Rattle.local_projection_state.specs.Stores.{Stored}
 use Rattle.panel_plan.specs.Plan.{resolution}
 use Rattle.panel_plan.specs.SetValues.{valueIn}
+use Rattle.panel_writing.specs.WritingLaws.{can-write}
 use Rattle.panel_changes.specs.SetChanges.{countsFit}
-use Rattle.panel_changes.specs.SetChangesLaws.{fit-few, can-write, written-stored}
+use Rattle.panel_changes.specs.SetChangesLaws.{fit-few, written-stored}
 use borrow.Author.Needs.{needs}
 use Rattle.panel_changes.proofs.write_tables.Statement.{statement}
 use Rattle.panel_changes.proofs.write_tables.Tie as tie
@@ -51,15 +52,16 @@ returns c =
     let start = c .before .before .before .before .before .before .before .before .before .before .before .before .before .before .before .before .before .before .before .before .before .before .before in
     let a = start .args in
     let told : true ≡ countsFit (a .counts) = sym (c .before .before .before .before .before .before .before .before .before .before .before .before .if1 .taken) ∙ c .before .before .before .before .before .before .before .before .before .before .before .before .before .counts-fit .ensures in
-    let few = fit-few (a .counts) (sym told) in (
+    let few = fit-few (a .counts) (sym told) in
+    let before = fit-few (a .used) (start .pre .1 .1) in (
       told,
       (
         λ no. absurd (false≢true (sym no)),
-        λ _ p x n s st pl v.
+        λ _ ready p x n s st pl v.
             written-stored (a .counts) _ _ _ (resolution p (valueIn v1 (a .set .now))) (pl .plan) x (pl .resolves) v
-            (bindings .ensures .1 .1 (bindings .ensures .0 ∙ can-write bindingValueAt projectionBindings (a .counts .bindings) (a .to-bindings .now) (few .0) (start .pre .0 .bindings)) p (pl .plan) (n .bindings) (st .bindings) (st .valid) (pl .stored .bindings) (pl .stored .valid) (pl .sourced .bindings))
-            (subst (λ l. Stored availabilityRow availabilityWidth projectionAvailabilities (a .counts .availabilities) l (pl .plan .availabilities)) (sym (availability .ensures .1 ∙ picked (availability .result) _ _ (availability .ensures .0 ∙ eq-eqb (length (a .plan-availability .now)) (length (a .to-availability .now)) (start .pre .1 ∙ sym (start .pre .0 .availability))))) (pl .stored .availabilities))
-            (entries .ensures .1 .1 (entries .ensures .0 ∙ can-write entryValueAt projectionEntries (a .counts .entries) (a .to-entries .now) (few .1) (start .pre .0 .entries)) p (pl .plan) (n .entries) (st .entries) (st .valid) (pl .stored .entries) (pl .stored .valid) (pl .sourced .entries)),
+            (bindings .ensures .1 .1 (bindings .ensures .0 ∙ can-write bindingValueAt projectionBindings (a .counts .bindings) (a .used .bindings) (a .to-bindings .now) (few .0) (before .0) (start .pre .0 .bindings)) (ready .bindings) p (pl .plan) (n .bindings) (st .bindings) (st .valid) (pl .stored .bindings) (pl .stored .valid) (pl .sourced .bindings))
+            (subst (λ l. Stored availabilityRow availabilityWidth projectionAvailabilities (a .counts .availabilities) l (pl .plan .availabilities)) (sym (availability .ensures .1 ∙ picked (availability .result) _ _ (availability .ensures .0 ∙ eq-eqb (length (a .plan-availability .now)) (length (a .to-availability .now)) (start .pre .1 .0 ∙ sym (start .pre .0 .availability))))) (pl .stored .availabilities))
+            (entries .ensures .1 .1 (entries .ensures .0 ∙ can-write entryValueAt projectionEntries (a .counts .entries) (a .used .entries) (a .to-entries .now) (few .1) (before .1) (start .pre .0 .entries)) (ready .entries) p (pl .plan) (n .entries) (st .entries) (st .valid) (pl .stored .entries) (pl .stored .valid) (pl .sourced .entries)),
       ),
     )
 

@@ -26,10 +26,11 @@ returns c =
       call .write-table .ensures .0,
       (
         call .write-table .ensures .1,
-        (λ yes p q n s vp t vq sourced.
+        (λ yes clear p q n s vp t vq sourced.
             let may = sym (call .write-table .ensures .0) ∙ yes in
-            subst (λ table. Stored entryRow entryWidth projectionEntries (a .count) table (resolved (sources v1 p (now (a .set))) q .entries)) (sym (call .write-table .ensures .1 ∙ table-written entryValueAt projectionEntries (a .count) to v1 (now (a .plan)) (now (a .from)) (now (a .set)) may))
-            (entries-stored v1 p q (now (a .set)) vp vq to s t sourced (right-size entryValueAt projectionEntries (a .count) to may))),
+            let size = right-size entryValueAt projectionEntries (a .count) (a .used) to may in
+            subst (λ table. Stored entryRow entryWidth projectionEntries (a .count) table (resolved (sources v1 p (now (a .set))) q .entries)) (sym (call .write-table .ensures .1 ∙ table-written entryValueAt projectionEntries (a .count) (a .used) to v1 (now (a .plan)) (now (a .from)) (now (a .set)) may))
+            (entries-stored v1 p q (now (a .set)) vp vq (a .used) to s t sourced (size .1) (size .2) clear)),
       ),
     )
 

@@ -19,7 +19,7 @@ use Rattle.spec_session.specs.BatchLaws.{never-passes}
 use Rattle.local_projection_state.specs.Stores.{StoredTables}
 use Rattle.panel_changes.proofs.SetChange as set-change
 use Rattle.panel_changes.specs.SetChanges.{ChangeBecame}
-use Rattle.panel_changes.specs.SetChangesLaws.{zeros-lengths}
+use Rattle.panel_changes.specs.SetChangesLaws.{zeros-ready}
 use Rattle.panel_changes.specs.declared.SetChange.{SetChange}
 use Rattle.panel_changes.specs.declared.SetChange.the-variants.{Applied, Refused, Unreadable, BadTables}
 use Rattle.session_gates.specs.Gates.{gateOf, counted, envelopeMeans}
@@ -50,7 +50,7 @@ Tables c r m ps = ChangeBecame (λ n q. StoredTables n (c .apply-set .last .1 .1
 -- what came of the operations
 became : (c : tie.After-apply-set) → let a = c .before .before .before .before .before .before .before .before .before .before .before .before .before .before .before .before .before .before .before .before .args in (m : Session) (ps : List Patch) → Holds (a .t1) m → readSet v1 (now (a .set)) ≡ patches ps → Tables c (c .apply-set .result) m ps
 unfolding candidate
-became c m ps h reads = c .apply-set .ensures .0 (m .projection) ps (h .projection) reads zeros-lengths
+became c m ps h reads = c .apply-set .ensures .0 (m .projection) ps (h .projection) reads zeros-ready
 
 check-session-requires : tie.Need-check-session-requires
 check-session-requires c κs = search needs
