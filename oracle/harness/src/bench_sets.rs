@@ -69,6 +69,13 @@ pub fn grid(patches: u64, operations: u64) -> Vec<RawPatch> {
     of(&|i| BridgePatchOperation::SetNodeAvailability { node: i, availability: sets::availability(0) })
 }
 
+/// One patch of so many operations with different targets, whose revision does not go up: its findings are listed.
+pub fn found(operations: u64) -> Vec<RawPatch> {
+    let mut list = grid(1, operations);
+    list.iter_mut().for_each(|p| p.envelope.revision = p.envelope.previous_revision);
+    list
+}
+
 /// One patch of 128 bindings with a text each.
 pub fn bindings() -> Vec<RawPatch> {
     let binding = |node: u64| BridgePatchOperation::SetBindingValue {

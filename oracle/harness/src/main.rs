@@ -26,6 +26,7 @@ use std::io::Write;
 use std::process::exit;
 
 use bench_panels::Layout;
+use prom_ui::shell_bridge::glue::RawPatch;
 
 const USAGE: &str = "\
 oracle answer < SCRIPT
@@ -35,8 +36,8 @@ oracle vectors ANSWERS SEED FOLDER [SCRIPT_BYTES]
 oracle sets COUNT SEED
 oracle rewrite COUNT SEED PROGRAM...
 oracle bench-read PROGRAM | bench-check PROGRAM | bench-sizes PROGRAM
-oracle bench-original build|check TIMES PATCHES OPERATIONS
-oracle bench-set texts | bench-set PATCHES OPERATIONS
+oracle bench-original build|check TIMES PATCHES OPERATIONS | bench-original build|check TIMES found OPERATIONS
+oracle bench-set texts | bench-set PATCHES OPERATIONS | bench-set found OPERATIONS
 oracle bench-session PROGRAM COLLECTIONS
 oracle bench-operation PROGRAM COLLECTIONS
 oracle bench-lookup PROGRAM | bench-text PROGRAM | bench-write PROGRAM
@@ -63,7 +64,7 @@ fn main() {
         ["bench-check", program] => bench::checking(program),
         ["bench-sizes", program] => bench::sizes(program),
         ["bench-original", way @ ("build" | "check"), times, patches, operations] => {
-            bench::checking_often(*way == "check", number(times), number(patches), number(operations))
+            bench::checking_often(*way == "check", number(times), &benchmark_list(patches, number(operations)))
         }
         ["bench-session", program, collections] => bench_sessions::batches(program, number(collections)),
         ["bench-operation", program, collections] => bench_sessions::operation(program, number(collections)),
@@ -76,10 +77,16 @@ fn main() {
             put(&bench_panels::data(&layout.panel(number(operations))))
         }
         ["bench-set", "texts"] => put(&sets::encode(&bench_sets::texts(32_768))),
-        ["bench-set", patches, operations] => {
-            put(&sets::encode(&bench_sets::grid(number(patches), number(operations))))
-        }
+        ["bench-set", patches, operations] => put(&sets::encode(&benchmark_list(patches, number(operations)))),
         _ => eprintln!("{USAGE}"),
+    }
+}
+
+/// So many patches without findings, or one that has some.
+fn benchmark_list(patches: &str, operations: u64) -> Vec<RawPatch> {
+    match patches {
+        "found" => bench_sets::found(operations),
+        _ => bench_sets::grid(number(patches), operations),
     }
 }
 
