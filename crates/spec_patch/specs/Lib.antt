@@ -13,3 +13,5 @@ pub mod SetLaws
 pub mod FitsLaws
 pub mod WriteLaws
 pub mod StrictLaws
+pub mod Former
+pub mod FormerLaws
