@@ -15,3 +15,4 @@ pub mod WriteLaws
 pub mod StrictLaws
 pub mod Former
 pub mod FormerLaws
+pub mod TextLaws

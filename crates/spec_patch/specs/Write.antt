@@ -5,8 +5,8 @@ use mathlib.Core.List.{List}
 use lib.Dec.{leb}
 use lib.ListN.{length}
 use Rattle.spec_lists.specs.Lists.{if_then_else_, all}
-use Rattle.spec_patch.specs.TextRule.{allowed, fewCharacters}
-use Rattle.spec_patch.specs.Sizes.{setBytes, setPatches, patchOperations, textBytes}
+use Rattle.spec_patch.specs.TextRule.{fewBytes, allowed, fewCharacters}
+use Rattle.spec_patch.specs.Sizes.{setBytes, setPatches, patchOperations}
 use Rattle.spec_patch.specs.Patch.{Value, quad, signed, text, unsigned, Operation, setBinding, setAvailability, insert, update, remove, move, Patch}
 use Rattle.spec_patch.specs.Edition.{Edition, hasKind}
 use Rattle.spec_patch.specs.Encode.{kindOf, encode}
@@ -38,7 +38,7 @@ allValues test ps = all (λ (p : Patch). all (valuePasses test) (p .operations))
 unfoldable pub shortEnough : Value → Bool
 shortEnough (quad q) = true
 shortEnough (signed z) = true
-shortEnough (text t) = leb (length t) textBytes
+shortEnough (text t) = fewBytes t
 shortEnough (unsigned x) = true
 
 -- the patch count, each operation count, each text's length and the set's bytes are within their capacities
