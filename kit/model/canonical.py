@@ -1,8 +1,8 @@
-"""01, 'Canonical bytes': the encoder, and the strict reader with 10 and 12."""
+"""01, 'Canonical bytes', and 02, 'Job 5': the encoder, and the strict reader with 10 and 12."""
 
 from patch import Availability, Binding, Insert, Move, Patch, Remove, Update
-from sizes import PATCH_OPERATIONS, SET_BYTES, SET_PATCHES, TEXT_BYTES
-from utf8 import is_utf8
+from sizes import PATCH_OPERATIONS, SET_BYTES, SET_PATCHES, TEXT_BYTES, TEXT_CHARACTERS
+from utf8 import characters, is_utf8
 
 HEADING = b"UI_DNA2_PROJECTION_PATCH_V1"
 
@@ -120,6 +120,8 @@ class Reader:
             text = self.take(self.count(TEXT_BYTES))
             if not is_utf8(text):
                 raise Fault(10)
+            if characters(text) > TEXT_CHARACTERS:
+                raise Fault(12)
             return (3, text)
         return (4, self.number(8))
 

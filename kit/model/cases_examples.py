@@ -141,8 +141,8 @@ case(
 )
 
 on_panel(
-    "example_14_text_of_160_bytes", "settled example: a text of 160 bytes passes, 161 give 12",
-    "spec_patch Read.readText and Sizes.textBytes",
+    "example_14_text_of_160_bytes", "settled example: a text of 160 one-byte characters passes, 161 give 12",
+    "spec_patch Read.readText and Sizes.textCharacters",
     [batch(4, patches_of([binding(5, 1, text("x" * 161))])), batch(4, patches_of([binding(5, 1, text("x" * 160))]))],
     ["R rejected 12 4 1 1 3", "R applied 0 0 0 0 4"],
     panel=["P 5", "B 5 0 Q 2", "B 5 1 T " + "x" * 160, "A 5 3", "C 9 1 T Ok", "C 9 2 S -4"],

@@ -1,10 +1,10 @@
-"""Texts: their length, and what RFC 3629 allows."""
+"""Texts: their length in bytes and in characters, and what RFC 3629 allows."""
 
 from build import patches_of, text
 from canonical import u32, u64
 from cases_reading import refused, with_operations
-from kit import batch, on_panel, rules_of
-from patch import update
+from kit import batch, case, on_panel, rules_of, set_up
+from patch import binding, insert, update
 
 rules_of("Canonical bytes")
 
@@ -41,14 +41,19 @@ def allowed(name, rule, *texts):
 
 # ---- length
 
+rules_of("Job 5 in document 02")
+
 refused(
-    "text_161_bytes_is_12", "a text length over 160 is 12 at its field, whatever follows", READ, 12,
-    with_operations(update_bytes(161, b"x" * 161)), with_operations(update_bytes(161, b"")),
-    with_operations(update_bytes(161, b"\xff" * 161)), with_operations(update_bytes(2**32 - 1, b"")),
+    "text_241_bytes_is_12", "a text length over 240 is 12 at its field, whatever follows", READ, 12,
+    with_operations(update_bytes(241, b"x" * 241)), with_operations(update_bytes(241, b"")),
+    with_operations(update_bytes(241, b"\xff" * 241)), with_operations(update_bytes(2**32 - 1, b"")),
 )
+
+rules_of("Canonical bytes")
+
 refused(
     "text_cut_10", "fewer bytes than the text's length: 10", READ, 10, with_operations(update_bytes(160, b"x" * 159)),
-    with_operations(update_bytes(1, b"")),
+    with_operations(update_bytes(1, b"")), with_operations(update_bytes(240, b"x" * 239)),
 )
 refused(
     "text_length_cut_10", "a text length of fewer than four bytes: 10", READ, 10,
@@ -57,17 +62,75 @@ refused(
 allowed("of_160_bytes", "a text of 160 bytes passes, also with characters of four bytes", "78" * 160, "f09f9aab" * 40)
 allowed("of_0_bytes", "a text of no bytes passes", "")
 refused(
-    "text_161_bytes_in_characters_is_12",
-    "the capacity counts bytes and not characters: 54 characters of three bytes are 162", READ, 12,
-    with_operations(update_bytes(162, "€".encode() * 54)),
-)
-refused(
     "text_character_across_its_end_10",
     "a character may not run on past the text's length, though the bytes behind would complete it", SYNTAX, 10,
     with_operations(update_bytes(1, b"\xc3"), b"\xa9"),
 )
 
+# ---- characters: a letter, alpha, a kanji and a musical sign have one byte to four
+
+rules_of("Job 5 in document 02")
+
+LIMIT = "spec_patch Read.readText and TextRule.fewCharacters"
+ONE, TWO, THREE, FOUR = "61", "ceb1", "e697a5", "f09d849e"
+
+
+def too_many(name, rule, *texts):
+    """Texts in hex that give 12."""
+    refused(
+        "text_%s_is_12" % name, rule, LIMIT, 12,
+        *(with_operations(update_bytes(len(bytes.fromhex(t)), bytes.fromhex(t))) for t in texts),
+    )
+
+
+allowed("of_160_characters", "160 characters of one byte pass", ONE * 160)
+too_many("161_characters", "161 characters of one byte are too many, and so are 240", ONE * 161, ONE * 240)
+allowed(
+    "of_240_bytes", "240 bytes pass: 120 characters of two bytes, 80 of three and 60 of four", TWO * 120, THREE * 80,
+    FOUR * 60,
+)
+too_many(
+    "over_240_bytes", "121 characters of two bytes, 81 of three and 61 of four are too many bytes", TWO * 121, THREE * 81,
+    FOUR * 61,
+)
+allowed(
+    "of_160_characters_of_mixed_widths", "160 characters of mixed widths within 240 bytes pass", TWO * 80 + ONE * 80,
+    FOUR * 26 + THREE + ONE * 133, ONE * 159 + TWO,
+)
+too_many(
+    "161_characters_of_mixed_widths", "161 characters within 240 bytes are too many", TWO * 79 + ONE * 82,
+    ONE * 160 + TWO, FOUR + ONE * 160,
+)
+forbidden(
+    "many_characters_and_bad_last_byte", "over the characters and not UTF-8 at the last byte: UTF-8 is asked first",
+    ONE * 161 + "ff", ONE * 239 + "c3", ONE * 160 + "80",
+)
+refused(
+    "text_many_characters_before_bad_text_is_12", "two texts, the first with too many characters, the second not UTF-8",
+    LIMIT, 12, with_operations(update_bytes(161, b"a" * 161), b"\4" + u64(9) + u64(2) + b"\3" + u32(1) + b"\xff"),
+)
+refused(
+    "text_bad_before_many_characters_10", "two texts, the first not UTF-8, the second with too many characters", LIMIT, 10,
+    with_operations(update_bytes(1, b"\xff"), b"\4" + u64(9) + u64(2) + b"\3" + u32(161) + b"a" * 161),
+)
+KANJI = bytes.fromhex(THREE) * 80
+case(
+    "text_of_240_bytes_everywhere", "the panel's tables hold 240 bytes in each of 64 bindings and 128 entries", LIMIT,
+    set_up(references=128, bindings=[(5, slot) for slot in range(64)])
+    + [
+        batch(1, patches_of([binding(5, slot, text(KANJI)) for slot in range(64)])),
+        batch(2, patches_of([insert(9, key, text(KANJI)) for key in range(1, 65)])),
+        batch(3, patches_of([insert(9, key, text(KANJI)) for key in range(65, 129)])), "show", "value binding 5 63",
+        "value entry 9 128", batch(4, patches_of([insert(9, 129, text(KANJI))])),
+    ],
+    ["S 0", "R applied 0 0 0 0 1", "R applied 0 0 0 0 2", "R applied 0 0 0 0 3", "P 192"]
+    + [b"B\t5\t%d\tT\t" % slot + KANJI for slot in range(64)] + [b"C\t9\t%d\tT\t" % key + KANJI for key in range(1, 129)]
+    + [b"V\tT\t" + KANJI, b"V\tT\t" + KANJI, "R rejected 9 8 1 1 3"],
+)
+
 # ---- RFC 3629
+
+rules_of("Canonical bytes")
 
 allowed("one_byte_characters", "U+0000 to U+007F are one byte", "00", "7f", "41427a")
 allowed("two_byte_characters", "U+0080 and U+07FF, the ends of two bytes", "c280", "dfbf")

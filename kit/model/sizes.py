@@ -1,9 +1,10 @@
-"""The capacities of 01, 'Sizes'."""
+"""The capacities of 01, 'Sizes', and of 02, 'Job 5', for texts."""
 
 SET_BYTES = 32768
 SET_PATCHES = 64
 PATCH_OPERATIONS = 128
-TEXT_BYTES = 160
+TEXT_BYTES = 240
+TEXT_CHARACTERS = 160
 BINDINGS = 64
 AVAILABILITIES = 64
 ENTRIES = 128

@@ -1,4 +1,4 @@
-"""Which bytes are UTF-8, by RFC 3629, section 3: each character is decoded and held to the shortest form."""
+"""Which bytes are UTF-8, by RFC 3629, section 3: each character is decoded and held to the shortest form; and how many characters they are."""
 
 
 def _length(lead):
@@ -36,3 +36,8 @@ def is_utf8(data):
             return False
         at += size
     return True
+
+
+def characters(data):
+    """How many characters bytes have that are UTF-8: every byte but a continuation begins one."""
+    return sum(1 for byte in data if byte >> 6 != 0b10)

@@ -351,6 +351,17 @@ WRONG = [
     ("takes overlong forms", "utf8.py", "scalar < _LEAST[size] or ", ""),
     ("takes what is beyond U+10FFFF", "utf8.py", "scalar > 0x10FFFF or ", ""),
     ("takes any continuation", "utf8.py", "if byte >> 6 != 0b10", "if False"),
+    # the limit of texts
+    ("counts characters in bytes", "canonical.py", "characters(text) >", "len(text) >"),
+    ("counts no characters", "canonical.py", "characters(text) > TEXT_CHARACTERS", "False"),
+    ("takes 161 characters", "canonical.py", "characters(text) > TEXT_CHARACTERS", "characters(text) > TEXT_CHARACTERS + 1"),
+    ("takes texts of 160 bytes only", "canonical.py", "self.count(TEXT_BYTES)", "self.count(TEXT_CHARACTERS)"),
+    ("takes texts of 241 bytes", "sizes.py", "TEXT_BYTES = 240", "TEXT_BYTES = 241"),
+    (
+        "asks for the characters before UTF-8", "canonical.py",
+        "if not is_utf8(text):\n                raise Fault(10)\n            if characters(text) > TEXT_CHARACTERS:\n                raise Fault(12)",
+        "if characters(text) > TEXT_CHARACTERS:\n                raise Fault(12)\n            if not is_utf8(text):\n                raise Fault(10)",
+    ),
     # the script
     ("reads leading zeros", "replay.py", 'rb"0|[1-9][0-9]{0,19}"', 'rb"[0-9]{1,20}"'),
     ("takes any slot", "replay.py", "int(field) > last", "int(field) > LAST_U64"),

@@ -1,4 +1,4 @@
--- Bytes below 0x80 from one position to another: none, a group more, and one more.
+-- Bytes below 0x80 from one position to another: none, fewer, a group more, and one more.
 use Prim.Native.Nat.{ℕ, _+_, _-_, _≤_, _<_}
 use mathlib.Core.Path.{_≡_}
 use mathlib.Core.List.{List}
@@ -10,6 +10,9 @@ use Rattle.bytes_utf8.specs.Characters.{AsciiBetween}
 
 pub ascii-none : {text : List ℕ} {from : ℕ} → from ≤ length text → AsciiBetween text from from
 ascii-none h = record { ascends = omega arith; within = h; ascii = λ k l g. absurd (omega arith) }
+
+pub ascii-fewer : {text : List ℕ} {from i : ℕ} (to : ℕ) → AsciiBetween text from i → from ≤ to → to ≤ i → AsciiBetween text from to
+ascii-fewer to a l h = record { ascends = l; within = omega (arith, a .within); ascii = λ k f u. a .ascii k f (omega arith) }
 
 -- a part of the text that is all such bytes
 pub ascii-group : {text : List ℕ} {from i : ℕ} (to : ℕ) → AsciiBetween text from i → i ≤ to → to ≤ length text

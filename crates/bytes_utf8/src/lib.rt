@@ -127,11 +127,14 @@ fn groups_end(text: &[u8], from: usize) -> usize
     i
 }
 
-// The position behind the bytes of class 0 that stand there.
+// The position behind the bytes of class 0 that stand there. Groups are tried only where one stands, not at a lone space between words.
 fn ascii_end(classes: &[u8; 256], text: &[u8], from: usize) -> usize
     requires { ⌜ IsClassTable (now classes) × (from ≤ length (now text)) ⌝ }
     ensures { λ r. ⌜ AsciiBetween (now (text .entry)) from r ⌝ }
 {
+    if from == text.len() || class_of(classes, text[from]) != 0 {
+        return from;
+    }
     let mut i = groups_end(text, from);
     while i < text.len() {
         if class_of(classes, text[i]) != 0 {
@@ -165,11 +168,32 @@ fn check_from(classes: &[u8; 256], text: &[u8], from: usize) -> Utf8Check
     Utf8Check::Valid { characters }
 }
 
+// The position behind the groups below 0x80 at the start. Where only a part of a group is left, the last 16 bytes are a group too.
+fn front_end(text: &[u8]) -> usize
+    ensures { λ r. ⌜ AsciiBetween (now (text .entry)) 0 r ⌝ }
+{
+    let passed = groups_end(text, 0);
+    let len = text.len();
+    if passed == len {
+        return passed;
+    }
+    if len < 16 {
+        return passed;
+    }
+    if 16 <= len - passed {
+        return passed;
+    }
+    if is_ascii(&text[len - 16..len]) {
+        return len;
+    }
+    passed
+}
+
 // Whether the text is UTF-8, and the number of its characters. The table is written out for a text that is not whole groups of bytes below 0x80.
 pub fn check(text: &[u8]) -> Utf8Check
     ensures { λ r. ⌜ r ≡ answer (now (text .entry)) ⌝ }
 {
-    let passed = groups_end(text, 0);
+    let passed = front_end(text);
     if passed == text.len() {
         return Utf8Check::Valid { characters: passed };
     }

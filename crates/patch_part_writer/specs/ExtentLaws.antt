@@ -70,13 +70,13 @@ pub surface-small : (s : OptionalSurfaceId) → surfaceSize s ≤ 9
 surface-small surface.None = omega arith
 surface-small (surface.Some s) = omega arith
 
-pub value-small : (v : ProjectionPatchValue) → valueText v .len ≤ textBytes → valueSize v ≤ 165
+pub value-small : (v : ProjectionPatchValue) → valueText v .len ≤ textBytes → valueSize v ≤ 5 + textBytes
 value-small (Quad q) short = omega arith
 value-small (SignedScalar z) short = omega arith
 value-small (UnsignedScalar x) short = omega arith
 value-small (Text start len) short = omega arith
 
-pub operation-small : (o : ProjectionPatchOperation) → operationText o .len ≤ textBytes → operationSize o ≤ 191
+pub operation-small : (o : ProjectionPatchOperation) → operationText o .len ≤ textBytes → operationSize o ≤ 31 + textBytes
 operation-small (SetBindingValue t v) short = omega (arith, value-small v short)
 operation-small (SetNodeAvailability n a) short = omega arith
 operation-small (CollectionInsert c k b v) short = omega (arith, before-small b, value-small v short)

@@ -10,12 +10,15 @@ use Rattle.spec_lists.specs.Lists.{all}
 use Rattle.spec_patch.specs.Sizes.{patchOperations, textBytes}
 use Rattle.projection_patch.specs.declared.patch.ProjectionPatch.{ProjectionPatch}
 use Rattle.projection_patch.specs.declared.patch.OperationPlace.{OperationPlace}
+use Rattle.projection_patch.specs.declared.text_rule.TextJudgement.{TextJudgement}
+use Rattle.projection_patch.specs.declared.text_rule.TextJudgement.the-variants.{Fits, Malformed, ManyCharacters}
+use Rattle.projection_patch.specs.TextRule.{judged}
 use Rattle.patch_writer.specs.declared.survey.HeadSurvey.the-variants as ofHeads
 use Rattle.patch_writer.specs.declared.survey.OperationSurvey.the-variants as ofOperations
 use Rattle.patch_part_writer.specs.Extent.{headSize, operationSize, operationText}
 use Rattle.patch_part_writer.specs.ExtentLaws.{surface-small, operation-small}
-use Rattle.patch_writer.specs.Set.{operationTotal, headSizes, operationSizes, fewOperations, shortAt, allowedAt}
-use Rattle.patch_writer.specs.Survey.{headSurvey, operationSurvey}
+use Rattle.patch_writer.specs.Set.{operationTotal, headSizes, operationSizes, fewOperations, shortAt, textAllowed, allowedAt, textFew, fewAt}
+use Rattle.patch_writer.specs.Survey.{headSurvey, judgedText, judgedTexts, worse, operationSurvey}
 
 and-false : (a b : Bool) → a ≡ false → (a && b) ≡ false
 and-false true b e = absurd (let z : _≡_ {A = ℕ} 0 1 = cc in omega arith)
@@ -24,14 +27,6 @@ and-false false b e = refl
 and-true : (a b : Bool) → a ≡ true → (a && b) ≡ b
 and-true true b e = refl
 and-true false b e = absurd (let z : _≡_ {A = ℕ} 0 1 = cc in omega arith)
-
-and-assoc : (a b c : Bool) → ((a && b) && c) ≡ (a && (b && c))
-and-assoc true b c = refl
-and-assoc false b c = refl
-
-and-true-right : (a : Bool) → (a && true) ≡ a
-and-true-right true = refl
-and-true-right false = refl
 
 -- ---- heads
 
@@ -77,23 +72,55 @@ module _ {hs : List ProjectionPatch} {operations bytes p : ℕ} (seen : HeadsSee
 
 -- ---- operations
 
-pub record OperationsSeen (texts : List ℕ) (ps : List OperationPlace) (bytes : ℕ) (allowed : Bool) (i : ℕ) : Type 0 where
+-- judgements come together in any order of brackets
+worse-assoc : (a b c : TextJudgement) → worse (worse a b) c ≡ worse a (worse b c)
+worse-assoc Fits b c = refl
+worse-assoc Malformed b c = refl
+worse-assoc ManyCharacters Fits c = refl
+worse-assoc ManyCharacters Malformed c = refl
+worse-assoc ManyCharacters ManyCharacters Fits = refl
+worse-assoc ManyCharacters ManyCharacters Malformed = refl
+worse-assoc ManyCharacters ManyCharacters ManyCharacters = refl
+
+worse-fits : (a : TextJudgement) → worse a Fits ≡ a
+worse-fits Fits = refl
+worse-fits Malformed = refl
+worse-fits ManyCharacters = refl
+
+-- the tests of two, one by one and together
+worse-judged : (a b c d : Bool) → worse (judged a b) (judged c d) ≡ judged (a && c) (b && d)
+worse-judged true true c d = refl
+worse-judged true false true true = refl
+worse-judged true false true false = refl
+worse-judged true false false d = refl
+worse-judged false b c d = refl
+
+judged-first : (texts : List ℕ) (x : OperationPlace) (ps : List OperationPlace)
+    → worse (judgedText texts (operationText (x .operation))) (judgedTexts texts ps) ≡ judgedTexts texts (x ∷ ps)
+unfolding judgedText
+judged-first texts x ps = worse-judged (allowedAt texts x) (fewAt texts x) (all (allowedAt texts) ps) (all (fewAt texts) ps)
+
+pub record OperationsSeen (texts : List ℕ) (ps : List OperationPlace) (bytes : ℕ) (judgement : TextJudgement) (i : ℕ) : Type 0 where
   pub sized : bytes + operationSizes (drop i ps) ≡ operationSizes ps
   pub tested : all shortAt (drop i ps) ≡ all shortAt ps
-  pub judged : (allowed && all (allowedAt texts) (drop i ps)) ≡ all (allowedAt texts) ps
-  pub small : bytes ≤ 191 * i
+  pub together : worse judgement (judgedTexts texts (drop i ps)) ≡ judgedTexts texts ps
+  pub small : bytes ≤ (31 + textBytes) * i
 
-pub operations-start : (texts : List ℕ) (ps : List OperationPlace) → OperationsSeen texts ps 0 true 0
-operations-start texts ps = record { sized = omega arith; tested = refl; judged = refl; small = omega arith }
+pub operations-start : (texts : List ℕ) (ps : List OperationPlace) → OperationsSeen texts ps 0 Fits 0
+operations-start texts ps = record { sized = omega arith; tested = refl; together = refl; small = omega arith }
 
-module _ {texts : List ℕ} {ps : List OperationPlace} {bytes : ℕ} {allowed : Bool} {i : ℕ} (seen : OperationsSeen texts ps bytes allowed i) where
+module _ {texts : List ℕ} {ps : List OperationPlace} {bytes : ℕ} {judgement : TextJudgement} {i : ℕ} (seen : OperationsSeen texts ps bytes judgement i) where
   module _ (x : OperationPlace) (rest : drop i ps ≡ x ∷ drop (i + 1) ps) where
-    pub operations-next : operationText (x .operation) .len ≤ textBytes → OperationsSeen texts ps (bytes + operationSize (x .operation)) (allowed && allowedAt texts x) (i + 1)
+    pub operations-next : operationText (x .operation) .len ≤ textBytes → OperationsSeen texts ps (bytes + operationSize (x .operation)) (worse judgement (judgedText texts (operationText (x .operation)))) (i + 1)
     unfolding operationSizes
     operations-next short = record {
       sized = omega (arith, seen .sized, ap operationSizes rest);
       tested = sym (ap (all shortAt) rest ∙ and-true (shortAt x) (all shortAt (drop (i + 1) ps)) (le-leb (operationText (x .operation) .len) textBytes short)) ∙ seen .tested;
-      judged = and-assoc allowed (allowedAt texts x) (all (allowedAt texts) (drop (i + 1) ps)) ∙ sym (ap (λ (l : List OperationPlace). allowed && all (allowedAt texts) l) rest) ∙ seen .judged;
+      together =
+          worse-assoc judgement (judgedText texts (operationText (x .operation))) (judgedTexts texts (drop (i + 1) ps))
+          ∙ ap (worse judgement) (judged-first texts x (drop (i + 1) ps))
+          ∙ sym (ap (λ (l : List OperationPlace). worse judgement (judgedTexts texts l)) rest)
+          ∙ seen .together;
       small = omega (arith, seen .small, operation-small (x .operation) short);
     }
 
@@ -104,10 +131,10 @@ module _ {texts : List ℕ} {ps : List OperationPlace} {bytes : ℕ} {allowed : 
         sym (seen .tested) ∙ ap (all shortAt) rest ∙ and-false (shortAt x) (all shortAt (drop (i + 1) ps)) (lt-leb (operationText (x .operation) .len) textBytes over) in
         rw no
 
-  pub operations-end : drop i ps ≡ [] → operationSurvey texts ps ≡ ofOperations.Within bytes allowed
+  pub operations-end : drop i ps ≡ [] → operationSurvey texts ps ≡ ofOperations.Within bytes judgement
   unfolding operationSurvey operationSizes
   operations-end none =
       let size : operationSizes ps ≡ bytes = omega (arith, seen .sized, ap operationSizes none) in
       let every : all shortAt ps ≡ true = sym (seen .tested) ∙ ap (all shortAt) none in
-      let verdict : all (allowedAt texts) ps ≡ allowed = sym (seen .judged) ∙ ap (λ (l : List OperationPlace). allowed && all (allowedAt texts) l) none ∙ and-true-right allowed in
+      let verdict : judgedTexts texts ps ≡ judgement = sym (seen .together) ∙ ap (λ (l : List OperationPlace). worse judgement (judgedTexts texts l)) none ∙ worse-fits judgement in
       rw (every, size, verdict)

@@ -17,6 +17,8 @@ use Rattle.spec_patch.specs.Write as model
 use Rattle.projection_patch.specs.declared.patch.ProjectionPatch.{ProjectionPatch}
 use Rattle.projection_patch.specs.declared.patch.OperationPlace.{OperationPlace}
 use Rattle.projection_patch.specs.declared.patch.ProjectionPatchSet.{ProjectionPatchSet}
+use Rattle.projection_patch.specs.declared.text_rule.TextJudgement.{TextJudgement}
+use Rattle.projection_patch.specs.TextRule.{judged}
 use Rattle.patch_part_writer.specs.declared.written.WriteRefusal.{WriteRefusal}
 use Rattle.patch_part_writer.specs.declared.written.WriteRefusal.the-variants as refusal
 use Rattle.patch_writer.specs.declared.survey.HeadSurvey.the-variants as ofHeads
@@ -25,9 +27,9 @@ use Rattle.patch_writer.specs.declared.survey.Survey.the-variants as ofS
 use Rattle.patch_part_writer.specs.Answer.{refusalOf}
 use Rattle.patch_part_writer.specs.Extent.{operationText}
 use Rattle.patch_part_writer.specs.ExtentLaws.{operation-small}
-use Rattle.patch_writer.specs.Set.{setPlaces, heads, listOf, used, operationTotal, headSizes, operationSizes, setSize, fewOperations, shortAt, insideAt, allowedAt, countsFit, capacitiesKept, patchSetBytes}
+use Rattle.patch_writer.specs.Set.{setPlaces, heads, listOf, used, operationTotal, headSizes, operationSizes, setSize, fewOperations, shortAt, insideAt, allowedAt, fewAt, countsFit, capacitiesKept, patchSetBytes}
 use Rattle.patch_writer.specs.CallLaws.{Arrays, allowed-inside}
-use Rattle.patch_writer.specs.Survey.{headSurvey, operationSurvey, judged, setSurvey}
+use Rattle.patch_writer.specs.Survey.{headSurvey, judgedTexts, operationSurvey, byTexts, surveyed, setSurvey}
 use Rattle.patch_writer.proofs.Surveyed.{head-small}
 
 -- ---- what an answer says
@@ -57,20 +59,20 @@ pub operations-refused : (texts : List ℕ) (ps : List OperationPlace) → opera
 unfolding operationSurvey
 operations-refused texts ps e = go (all shortAt ps) e
   where
-    go : (t : Bool) → (if t then ofOperations.Within (operationSizes ps) (all (allowedAt texts) ps) else ofOperations.OverCapacity) ≡ ofOperations.OverCapacity → t ≡ false
+    go : (t : Bool) → (if t then ofOperations.Within (operationSizes ps) (judgedTexts texts ps) else ofOperations.OverCapacity) ≡ ofOperations.OverCapacity → t ≡ false
     go true e = absurd (let z : _≡_ {A = ℕ} 0 1 = cc in omega arith)
     go false e = refl
 
-pub record OperationsWithin (texts : List ℕ) (ps : List OperationPlace) (bytes : ℕ) (allowed : Bool) : Type 0 where
+pub record OperationsWithin (texts : List ℕ) (ps : List OperationPlace) (bytes : ℕ) (judgement : TextJudgement) : Type 0 where
   pub short : all shortAt ps ≡ true
   pub sized : bytes ≡ operationSizes ps
-  pub verdict : allowed ≡ all (allowedAt texts) ps
+  pub verdict : judgement ≡ judgedTexts texts ps
 
-pub operations-within : (texts : List ℕ) (ps : List OperationPlace) (bytes : ℕ) (allowed : Bool) → operationSurvey texts ps ≡ ofOperations.Within bytes allowed → OperationsWithin texts ps bytes allowed
+pub operations-within : (texts : List ℕ) (ps : List OperationPlace) (bytes : ℕ) (judgement : TextJudgement) → operationSurvey texts ps ≡ ofOperations.Within bytes judgement → OperationsWithin texts ps bytes judgement
 unfolding operationSurvey
-operations-within texts ps bytes allowed e = go (all shortAt ps) refl e
+operations-within texts ps bytes judgement e = go (all shortAt ps) refl e
   where
-    go : (t : Bool) → all shortAt ps ≡ t → (if t then ofOperations.Within (operationSizes ps) (all (allowedAt texts) ps) else ofOperations.OverCapacity) ≡ ofOperations.Within bytes allowed → OperationsWithin texts ps bytes allowed
+    go : (t : Bool) → all shortAt ps ≡ t → (if t then ofOperations.Within (operationSizes ps) (judgedTexts texts ps) else ofOperations.OverCapacity) ≡ ofOperations.Within bytes judgement → OperationsWithin texts ps bytes judgement
     go true is e = record { short = is; sized = cc; verdict = cc }
     go false is e = absurd (let z : _≡_ {A = ℕ} 0 1 = cc in omega arith)
 
@@ -81,7 +83,7 @@ unfolding headSizes
 head-sizes-small [] = omega arith
 head-sizes-small (h ∷ hs) = omega (arith, head-small h, head-sizes-small hs)
 
-operation-sizes-small : (ps : List OperationPlace) → all shortAt ps ≡ true → operationSizes ps ≤ 191 * length ps
+operation-sizes-small : (ps : List OperationPlace) → all shortAt ps ≡ true → operationSizes ps ≤ (31 + textBytes) * length ps
 unfolding operationSizes
 operation-sizes-small [] e = omega arith
 operation-sizes-small (p ∷ ps) e =
@@ -127,21 +129,21 @@ module _ (texts : List ℕ) (set : ProjectionPatchSet) where
       over (and-no (countsFit set) _ (ap (λ (t : Bool). t && leb (setSize set) setBytes) no))
 
   -- the counts fit and the texts are short
-  module _ (operations bytes rest : ℕ) (allowed : Bool) (few : set .«patch_count» ≤ setPatches) (enough : operations ≤ setPlaces) (hw : HeadsWithin (heads set) operations bytes) (ow : OperationsWithin texts (take operations (set .operations)) rest allowed) where
+  module _ (operations bytes rest : ℕ) (judgement : TextJudgement) (few : set .«patch_count» ≤ setPatches) (enough : operations ≤ setPlaces) (hw : HeadsWithin (heads set) operations bytes) (ow : OperationsWithin texts (take operations (set .operations)) rest judgement) where
     -- the bytes and the texts decide
-    pub both-passed : judged operations (35 + (bytes + rest)) allowed ≡ setSurvey texts set
-    unfolding judged setSurvey capacitiesKept countsFit setSize
+    pub both-passed : surveyed operations (35 + (bytes + rest)) judgement ≡ setSurvey texts set
+    unfolding surveyed setSurvey capacitiesKept countsFit setSize
     both-passed =
         let same : take operations (set .operations) ≡ used set = ap (λ (n : ℕ). take n (set .operations)) (hw .counted) in
         let one : leb (set .«patch_count») setPatches ≡ true = le-leb (set .«patch_count») setPatches few in
         let two : leb (operationTotal (heads set)) setPlaces ≡ true = le-leb (operationTotal (heads set)) setPlaces (omega (arith, hw .counted)) in
         let three : all shortAt (used set) ≡ true = ap (all shortAt) (sym same) ∙ ow .short in
         let size : rest ≡ operationSizes (used set) = ow .sized ∙ ap operationSizes same in
-        let verdict : allowed ≡ all (allowedAt texts) (used set) = ow .verdict ∙ ap (all (allowedAt texts)) same in
+        let verdict : judgement ≡ judgedTexts texts (used set) = ow .verdict ∙ ap (judgedTexts texts) same in
         rw (one, hw .few, two, three, hw .counted, hw .sized, size, verdict)
 
     -- the bytes are few
-    pub small-sum : Arrays set → bytes + rest ≤ 69 * setPatches + 191 * setPlaces
+    pub small-sum : Arrays set → bytes + rest ≤ 69 * setPatches + (31 + textBytes) * setPlaces
     small-sum arrays =
         let patches : set .«patch_count» ≤ length (set .patches) = omega (arith, arrays .patches) in
         let places : operations ≤ length (set .operations) = omega (arith, arrays .operations) in
@@ -159,13 +161,17 @@ module _ (texts : List ℕ) (set : ProjectionPatchSet) where
 
   pub survey-refused : (r : WriteRefusal) → setSurvey texts set ≡ ofSet.Refused r → patchSetBytes texts set ≡ model.refused (refusalOf r)
   unfolding setSurvey patchSetBytes
-  survey-refused r e = go (capacitiesKept set) (all (allowedAt texts) (used set)) e
+  survey-refused r e = go (capacitiesKept set) (all (allowedAt texts) (used set)) (all (fewAt texts) (used set)) e
     where
-      go : (k a : Bool) → (if k then (if a then ofSet.Within (operationTotal (heads set)) (setSize set) else ofSet.Refused refusal.Malformed) else ofSet.Refused refusal.OverCapacity) ≡ ofSet.Refused r
-          → (if k then (if a then model.wrote (encode v1 (listOf texts set)) else model.refused model.malformed) else model.refused model.overCapacity) ≡ model.refused (refusalOf r)
-      go true true e = absurd (let z : _≡_ {A = ℕ} 0 1 = cc in omega arith)
-      go true false e = let is : refusal.Malformed ≡ r = cc in ap (λ (w : WriteRefusal). model.refused (refusalOf w)) is
-      go false a e = let is : refusal.OverCapacity ≡ r = cc in ap (λ (w : WriteRefusal). model.refused (refusalOf w)) is
+      told : (w : WriteRefusal) → ofSet.Refused w ≡ ofSet.Refused r → model.refused (refusalOf w) ≡ model.refused (refusalOf r)
+      told w e = let is : w ≡ r = cc in ap (λ (x : WriteRefusal). model.refused (refusalOf x)) is
+
+      go : (k a f : Bool) → (if k then byTexts (operationTotal (heads set)) (setSize set) (judged a f) else ofSet.Refused refusal.OverCapacity) ≡ ofSet.Refused r
+          → (if k then (if a then (if f then model.wrote (encode v1 (listOf texts set)) else model.refused model.overCapacity) else model.refused model.malformed) else model.refused model.overCapacity) ≡ model.refused (refusalOf r)
+      go true true true e = absurd (let z : _≡_ {A = ℕ} 0 1 = cc in omega arith)
+      go true true false e = told refusal.OverCapacity e
+      go true false f e = told refusal.Malformed e
+      go false a f e = told refusal.OverCapacity e
 
   pub record SurveyWithin (operations bytes : ℕ) : Type 0 where
     pub fit : countsFit set ≡ true
@@ -177,18 +183,19 @@ module _ (texts : List ℕ) (set : ProjectionPatchSet) where
 
   pub survey-within : (operations bytes : ℕ) → setSurvey texts set ≡ ofSet.Within operations bytes → SurveyWithin operations bytes
   unfolding setSurvey patchSetBytes capacitiesKept
-  survey-within operations bytes e = go (capacitiesKept set) refl (all (allowedAt texts) (used set)) refl e
+  survey-within operations bytes e = go (capacitiesKept set) refl (all (allowedAt texts) (used set)) refl (all (fewAt texts) (used set)) refl e
     where
-      go : (k : Bool) → capacitiesKept set ≡ k → (a : Bool) → all (allowedAt texts) (used set) ≡ a
-          → (if k then (if a then ofSet.Within (operationTotal (heads set)) (setSize set) else ofSet.Refused refusal.Malformed) else ofSet.Refused refusal.OverCapacity) ≡ ofSet.Within operations bytes
+      go : (k : Bool) → capacitiesKept set ≡ k → (a : Bool) → all (allowedAt texts) (used set) ≡ a → (f : Bool) → all (fewAt texts) (used set) ≡ f
+          → (if k then byTexts (operationTotal (heads set)) (setSize set) (judged a f) else ofSet.Refused refusal.OverCapacity) ≡ ofSet.Within operations bytes
           → SurveyWithin operations bytes
-      go true kept true allowed e = record {
+      go true kept true allowed true few e = record {
         fit = and-left (countsFit set) _ kept;
         short = and-left (all shortAt (used set)) _ (and-right (countsFit set) _ kept);
         inside = allowed-inside texts (used set) allowed;
         counted = cc;
         sized = cc;
-        result = rw (kept, allowed);
+        result = rw (kept, allowed, few);
       }
-      go true kept false allowed e = absurd (let z : _≡_ {A = ℕ} 0 1 = cc in omega arith)
-      go false kept a allowed e = absurd (let z : _≡_ {A = ℕ} 0 1 = cc in omega arith)
+      go true kept true allowed false few e = absurd (let z : _≡_ {A = ℕ} 0 1 = cc in omega arith)
+      go true kept false allowed f few e = absurd (let z : _≡_ {A = ℕ} 0 1 = cc in omega arith)
+      go false kept a allowed f few e = absurd (let z : _≡_ {A = ℕ} 0 1 = cc in omega arith)

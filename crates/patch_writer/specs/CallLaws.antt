@@ -19,8 +19,8 @@ use Rattle.spec_patch.specs.Encode.{u32, heading, encodeCounted, encodePatch, e
 use Rattle.spec_patch.specs.Fits.{InRange, Fits}
 use Rattle.spec_patch.specs.Read.{patches, readSet}
 use Rattle.spec_patch.specs.SetLaws.{reads-back, was-encoded}
-use Rattle.spec_patch.specs.Write.{WriteRefusal, overCapacity, malformed, outputTooShort, Written, wrote, refused, write, allValues, shortEnough, wellFormed, withinCapacities}
-use Rattle.spec_patch.specs.WriteLaws.{fits-of-tests, capacities-of-fits, well-formed-of-fits}
+use Rattle.spec_patch.specs.Write.{WriteRefusal, overCapacity, malformed, outputTooShort, Written, wrote, refused, write, allValues, shortEnough, wellFormed, fewEnough, withinCapacities}
+use Rattle.spec_patch.specs.WriteLaws.{fits-of-tests, capacities-of-fits, well-formed-of-fits, few-of-fits}
 use Rattle.bytes_wire.specs.Write.{hasRoom, overwrite}
 use Rattle.bytes_wire.specs.WriteLaws.{take-overwrite, overwrite-in-place, overwrite-refused}
 use Rattle.projection_patch.specs.declared.patch.OperationPlace.{OperationPlace}
@@ -30,9 +30,9 @@ use Rattle.patch_part_writer.specs.declared.written.Written.the-variants.{Wrote
 use Rattle.patch_part_writer.specs.declared.written.WriteRefusal.the-variants.{OutputTooShort}
 use Rattle.patch_part_writer.specs.Answer.{refusalTo, answerAt, outputAt, withRoom, answerOf, outputOf}
 use Rattle.patch_part_writer.specs.ExtentLaws.{length-heading}
-use Rattle.patch_writer.specs.Set.{setPlaces, heads, listOf, operationTotal, used, headSizes, operationSizes, setSize, fewOperations, countsFit, shortAt, insideAt, capacitiesKept, textAllowed, allowedAt, patchSetBytes}
+use Rattle.patch_writer.specs.Set.{setPlaces, heads, listOf, operationTotal, used, headSizes, operationSizes, setSize, fewOperations, countsFit, shortAt, insideAt, capacitiesKept, textAllowed, allowedAt, fewAt, patchSetBytes}
 use Rattle.patch_writer.specs.RangeLaws.{Passed, passed-in-range}
-use Rattle.patch_writer.specs.SetLaws.{length-list, counts-list, values-list, size-list, place-short, place-allowed}
+use Rattle.patch_writer.specs.SetLaws.{length-list, counts-list, values-list, size-list, place-short, place-allowed, place-few}
 
 -- the arrays of a set have their lengths, as those of every set that is passed have
 pub record Arrays (set : ProjectionPatchSet) : Type 0 where
@@ -137,15 +137,19 @@ module _ (texts : List ℕ) (set : ProjectionPatchSet) (arrays : Arrays set) (fi
     allowed-agree : allValues (wellFormed v1) (listOf texts set) ≡ all (allowedAt texts) (used set)
     allowed-agree = values-list texts (wellFormed v1) (allowedAt texts) (place-allowed texts) (heads set) (set .operations) enough-places inside
 
+    few-agree : allValues fewEnough (listOf texts set) ≡ all (fewAt texts) (used set)
+    few-agree = values-list texts fewEnough (fewAt texts) (place-few texts) (heads set) (set .operations) enough-places inside
+
     -- the set is written as the list that it stands for
     pub write-agrees : (room : ℕ) → write v1 (listOf texts set) room ≡ withRoom room (patchSetBytes texts set)
     unfolding write patchSetBytes
-    write-agrees room = rw (capacities-agree, allowed-agree) (go (capacitiesKept set) (all (allowedAt texts) (used set)))
+    write-agrees room = rw (capacities-agree, allowed-agree, few-agree) (go (capacitiesKept set) (all (allowedAt texts) (used set)) (all (fewAt texts) (used set)))
       where
-        go : (k a : Bool) → (if k then (if a then (if leb (length (encode v1 (listOf texts set))) room then wrote (encode v1 (listOf texts set)) else refused outputTooShort) else refused malformed) else refused overCapacity) ≡ withRoom room (if k then (if a then wrote (encode v1 (listOf texts set)) else refused malformed) else refused overCapacity)
-        go true true = refl
-        go true false = refl
-        go false a = refl
+        go : (k a f : Bool) → (if k then (if a then (if f then withRoom room (wrote (encode v1 (listOf texts set))) else refused overCapacity) else refused malformed) else refused overCapacity) ≡ withRoom room (if k then (if a then (if f then wrote (encode v1 (listOf texts set)) else refused overCapacity) else refused malformed) else refused overCapacity)
+        go true true true = refl
+        go true true false = refl
+        go true false f = refl
+        go false a f = refl
 
     -- a list that was read is written back byte for byte
     pub written-back : (bs : List ℕ) → Bytes bs → readSet v1 bs ≡ patches (listOf texts set) → patchSetBytes texts set ≡ wrote bs
@@ -154,10 +158,11 @@ module _ (texts : List ℕ) (set : ProjectionPatchSet) (arrays : Arrays set) (fi
         let encoded = was-encoded v1 bs (listOf texts set) all-bytes e in
         let kept : capacitiesKept set ≡ true = sym capacities-agree ∙ capacities-of-fits v1 (listOf texts set) (encoded .1) in
         let allowed : all (allowedAt texts) (used set) ≡ true = sym allowed-agree ∙ well-formed-of-fits v1 (listOf texts set) (encoded .1) in
-        rw (kept, allowed) (ap wrote (sym (encoded .0)))
+        let few : all (fewAt texts) (used set) ≡ true = sym few-agree ∙ few-of-fits v1 (listOf texts set) (encoded .1) in
+        rw (kept, allowed, few) (ap wrote (sym (encoded .0)))
 
-    fits-list : InRange (listOf texts set) → capacitiesKept set ≡ true → all (allowedAt texts) (used set) ≡ true → Fits v1 (listOf texts set)
-    fits-list range kept allowed = fits-of-tests v1 (listOf texts set) range (capacities-agree ∙ kept) (allowed-agree ∙ allowed)
+    fits-list : InRange (listOf texts set) → capacitiesKept set ≡ true → all (allowedAt texts) (used set) ≡ true → all (fewAt texts) (used set) ≡ true → Fits v1 (listOf texts set)
+    fits-list range kept allowed few = fits-of-tests v1 (listOf texts set) range (capacities-agree ∙ kept) (allowed-agree ∙ allowed) (few-agree ∙ few)
 
 -- ---- any set
 
@@ -166,20 +171,22 @@ module _ (texts : List ℕ) (set : ProjectionPatchSet) where
   pub record Success (bs : List ℕ) : Type 0 where
     pub kept : capacitiesKept set ≡ true
     pub allowed : all (allowedAt texts) (used set) ≡ true
+    pub few : all (fewAt texts) (used set) ≡ true
     pub bytes : bs ≡ encode v1 (listOf texts set)
 
   pub success : (bs : List ℕ) → patchSetBytes texts set ≡ wrote bs → Success bs
   unfolding patchSetBytes
-  success bs e = go (capacitiesKept set) refl (all (allowedAt texts) (used set)) refl e
+  success bs e = go (capacitiesKept set) refl (all (allowedAt texts) (used set)) refl (all (fewAt texts) (used set)) refl e
     where
       never : {C : Type 0} (n : WriteRefusal) → refused n ≡ wrote bs → C
       never n e = absurd (let z : _≡_ {A = ℕ} 0 1 = cc in omega arith)
 
-      go : (k : Bool) → capacitiesKept set ≡ k → (a : Bool) → all (allowedAt texts) (used set) ≡ a
-          → (if k then (if a then wrote (encode v1 (listOf texts set)) else refused malformed) else refused overCapacity) ≡ wrote bs → Success bs
-      go true k true a e = record { kept = k; allowed = a; bytes = cc }
-      go true k false a e = never malformed e
-      go false k a b e = never overCapacity e
+      go : (k : Bool) → capacitiesKept set ≡ k → (a : Bool) → all (allowedAt texts) (used set) ≡ a → (f : Bool) → all (fewAt texts) (used set) ≡ f
+          → (if k then (if a then (if f then wrote (encode v1 (listOf texts set)) else refused overCapacity) else refused malformed) else refused overCapacity) ≡ wrote bs → Success bs
+      go true k true a true f e = record { kept = k; allowed = a; few = f; bytes = cc }
+      go true k true a false f e = never overCapacity e
+      go true k false a f g e = never malformed e
+      go false k a b f g e = never overCapacity e
 
   counted : capacitiesKept set ≡ true → countsFit set ≡ true
   unfolding capacitiesKept
@@ -198,7 +205,7 @@ module _ (texts : List ℕ) (set : ProjectionPatchSet) where
       by-room bs is true room e =
           let s = success bs is in
           let position : n ≡ 0 + length bs = cc in
-          let fits = fits-list texts set (passed-arrays set passed) (counted (s .kept)) (allowed-inside texts (used set) (s .allowed)) (passed-in-range texts set passed) (s .kept) (s .allowed) in
+          let fits = fits-list texts set (passed-arrays set passed) (counted (s .kept)) (allowed-inside texts (used set) (s .allowed)) (passed-in-range texts set passed) (s .kept) (s .allowed) (s .few) in
           ap (readSet v1) (ap (λ (k : ℕ). take k (overwrite out 0 bs)) position ∙ take-overwrite out 0 bs (length bs) refl room ∙ s .bytes) ∙ reads-back v1 (listOf texts set) fits
       by-room bs is false room e = never outputTooShort e
 

@@ -1,11 +1,12 @@
--- The patch list that a set by value stands for, its texts lent beside it, and what writing it gives: 01, 'Rejections': 12, then 10, then 14.
+-- The patch list that a set by value stands for, its texts lent beside it, and what writing it gives: 01, 'Rejections', and 02,
+-- 'Job 5': 12, then 10, then 12 for the characters of texts, then 14.
 use Prim.Native.Nat.{ℕ, _+_}
-use mathlib.Core.Bool.{Bool, _&&_}
+use mathlib.Core.Bool.{Bool, true, _&&_}
 use mathlib.Core.List.{List, [], _∷_, map}
 use lib.Dec.{leb}
 use lib.ListN.{take, drop}
 use Rattle.spec_lists.specs.Lists.{if_then_else_, all}
-use Rattle.spec_text.specs.Syntax.{isUtf8}
+use Rattle.spec_patch.specs.TextRule.{allowed, fewCharacters}
 use Rattle.spec_patch.specs.Sizes.{setBytes, setPatches, patchOperations}
 use Rattle.spec_patch.specs.Patch as model
 use Rattle.spec_patch.specs.Edition.{v1}
@@ -88,14 +89,23 @@ capacitiesKept set = countsFit set && (all shortAt (used set) && leb (setSize se
 
 -- a text stands within the texts, and RFC 3629 allows it
 unfoldable pub textAllowed : List ℕ → TextPlace → Bool
-textAllowed texts t = insideTexts texts t && isUtf8 (take (t .len) (drop (t .start) texts))
+textAllowed texts t = insideTexts texts t && allowed true (take (t .len) (drop (t .start) texts))
 
 abbrev pub allowedAt : List ℕ → OperationPlace → Bool
 allowedAt texts p = textAllowed texts (operationText (p .operation))
 
--- the bytes of the list, or 12 for any capacity, then 10 for any text; 14 is the output's
+-- a text's characters are within their capacity
+unfoldable pub textFew : List ℕ → TextPlace → Bool
+textFew texts t = fewCharacters true (take (t .len) (drop (t .start) texts))
+
+abbrev pub fewAt : List ℕ → OperationPlace → Bool
+fewAt texts p = textFew texts (operationText (p .operation))
+
+-- the bytes of the list, or 12 for any capacity, then 10 for any text, then 12 for the characters of any; 14 is the output's
 unfoldable pub patchSetBytes : List ℕ → ProjectionPatchSet → Written
 patchSetBytes texts set =
     if capacitiesKept set then
-    (if all (allowedAt texts) (used set) then wrote (encode v1 (listOf texts set)) else refused malformed)
+    (if all (allowedAt texts) (used set) then
+    (if all (fewAt texts) (used set) then wrote (encode v1 (listOf texts set)) else refused overCapacity)
+    else refused malformed)
     else refused overCapacity

@@ -12,11 +12,12 @@ use Rattle.spec_lists.specs.Lists.{all}
 use Rattle.spec_lists.specs.ListLaws.{and-left, and-right}
 use Rattle.spec_lists.specs.BytesLaws.{length-littleEndian}
 use Rattle.spec_text.specs.SyntaxLaws.{isUtf8-empty}
+use Rattle.spec_patch.specs.TextRule.{fewCharacters}
 use Rattle.spec_patch.specs.Sizes.{patchOperations, textBytes}
 use Rattle.spec_patch.specs.Patch as model
 use Rattle.spec_patch.specs.Edition.{v1, hasKind}
 use Rattle.spec_patch.specs.Encode.{u32, encodeOperation, encodeEnvelope, encodeCounted, encodePatch, kindOf}
-use Rattle.spec_patch.specs.Write.{valuePasses, allValues, shortEnough, allowedText, wellFormed}
+use Rattle.spec_patch.specs.Write.{valuePasses, allValues, shortEnough, allowedText, wellFormed, fewEnough}
 use Rattle.projection_patch.specs.Meaning.{valueOf, operationOf, envelopeOf}
 use Rattle.projection_patch.specs.declared.patch.ProjectionPatch.{ProjectionPatch}
 use Rattle.projection_patch.specs.declared.patch.OperationPlace.{OperationPlace}
@@ -27,7 +28,7 @@ use Rattle.projection_patch.specs.declared.patch.ProjectionPatchOperation.the-v
 use Rattle.patch_part_writer.specs.Extent.{valueText, operationText}
 use Rattle.patch_part_writer.specs.ExtentLaws.{length-text, length-operation, length-head}
 use Rattle.patch_part_writer.specs.Parts.{shortText, insideTexts}
-use Rattle.patch_writer.specs.Set.{operationAt, listFrom, operationTotal, headSizes, operationSizes, fewOperations, shortAt, insideAt, textAllowed, allowedAt}
+use Rattle.patch_writer.specs.Set.{operationAt, listFrom, operationTotal, headSizes, operationSizes, fewOperations, shortAt, insideAt, textAllowed, allowedAt, textFew, fewAt}
 
 -- ---- tests of lists
 
@@ -66,6 +67,18 @@ module _ (texts : List ℕ) where
   unfolding textAllowed
   none-allowed e = rw e (sym isUtf8-empty)
 
+  -- a text that no value has is empty
+  none-few : true ≡ textFew texts (record { start = 0; len = 0 })
+  unfolding textFew
+  none-few = refl
+
+  value-few : (v : ProjectionPatchValue) → insideTexts texts (valueText v) ≡ true → fewEnough (valueOf texts v) ≡ textFew texts (valueText v)
+  unfolding fewEnough textFew
+  value-few (Quad q) e = refl
+  value-few (SignedScalar z) e = refl
+  value-few (UnsignedScalar x) e = refl
+  value-few (Text start len) e = refl
+
   pub place-short : (p : OperationPlace) → insideAt texts p ≡ true → valuePasses shortEnough (operationAt texts p) ≡ shortAt p
   unfolding valuePasses
   place-short p e = go (p .operation) e
@@ -89,6 +102,18 @@ module _ (texts : List ℕ) where
       go (CollectionUpdate c k v) e = value-allowed v e
       go (CollectionRemove c k) e = none-allowed e
       go (CollectionMove c k b) e = none-allowed e
+
+  pub place-few : (p : OperationPlace) → insideAt texts p ≡ true → valuePasses fewEnough (operationAt texts p) ≡ fewAt texts p
+  unfolding valuePasses
+  place-few p e = go (p .operation) e
+    where
+      go : (o : ProjectionPatchOperation) → insideTexts texts (operationText o) ≡ true → valuePasses fewEnough (operationOf texts o) ≡ textFew texts (operationText o)
+      go (SetBindingValue t v) e = value-few v e
+      go (SetNodeAvailability n a) e = none-few
+      go (CollectionInsert c k b v) e = value-few v e
+      go (CollectionUpdate c k v) e = value-few v e
+      go (CollectionRemove c k) e = none-few
+      go (CollectionMove c k b) e = none-few
 
   -- ---- heads and the operations behind them
 

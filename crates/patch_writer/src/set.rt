@@ -62,7 +62,8 @@ fn write_patches(
 }
 
 // Writes a patch list from the start of the output on: 12 for any capacity, then 10 for a text that RFC 3629 forbids or that is not within the
-// texts, then 14. A refusal leaves every byte of the output as it was, and what is behind the list stays.
+// texts, then 12 for one with too many characters, then 14. A refusal leaves every byte of the output as it was, and what is behind the list
+// stays.
 // What was written is read back as the same list.
 pub fn write_patch_set(set: ProjectionPatchSet, texts: &[u8], out: &mut [u8]) -> Written
     ensures { λ r. ⌜ r ≡ answerAt (now (out .entry)) 0 (patchSetBytes (now (texts .entry)) set) ⌝ }

@@ -1,13 +1,11 @@
-// The passes over a set before anything is written: 12 for any capacity, then 10 for any text. A set is about 200 KB, so the pass over its
-// operations measures and checks the texts in one loop.
+// The passes over a set before anything is written: 12 for any capacity, then 10 for any text, then 12 for the characters of any. A set is about
+// 200 KB, so the pass over its operations measures and judges the texts in one loop.
 ghost use mathlib.Core.Path.{_≡_};
-ghost use mathlib.Core.Bool.{_&&_};
 ghost use Prim.Native.Nat.{_≤_};
 ghost use lib.ListN.{take};
 ghost use Rattle.spec_patch.specs.Sizes.{setPatches};
-ghost use Rattle.patch_writer.specs.Set.{setPlaces, textAllowed};
-ghost use Rattle.patch_writer.specs.Survey.{headSurvey, operationSurvey, judged, setSurvey};
-use bytes_utf8::Utf8Check;
+ghost use Rattle.patch_writer.specs.Set.{setPlaces};
+ghost use Rattle.patch_writer.specs.Survey.{headSurvey, judgedText, worse, operationSurvey, surveyed, setSurvey};
 use patch_part_writer::extent::HEADING_BYTES;
 use patch_part_writer::extent::TextPlace;
 use patch_part_writer::extent::head_size;
@@ -17,6 +15,8 @@ use patch_part_writer::written::WriteRefusal;
 use projection_patch::patch::ProjectionPatch;
 use projection_patch::patch::ProjectionPatchSet;
 use projection_patch::patch::ProjectionPatchValue;
+use projection_patch::text_rule::TextJudgement;
+use projection_patch::text_rule::judge_text;
 
 // How many operations the heads count, and the bytes of the heads.
 pub enum HeadSurvey {
@@ -24,10 +24,13 @@ pub enum HeadSurvey {
     Within { operations: usize, bytes: usize },
 }
 
-// The bytes of the operations, and whether every text is allowed.
+// The bytes of the operations, and the judgement of their texts.
 pub enum OperationSurvey {
     OverCapacity,
-    Within { bytes: usize, allowed: bool },
+    Within {
+        bytes: usize,
+        judgement: TextJudgement,
+    },
 }
 
 // How many operations and bytes a set has that may be written.
@@ -36,25 +39,31 @@ pub enum Survey {
     Within { operations: usize, bytes: usize },
 }
 
-fn both(a: bool, b: bool) -> bool
-    ensures { λ r. ⌜ r ≡ (a && b) ⌝ }
+// The judgement of two texts.
+fn worse_of(a: TextJudgement, b: TextJudgement) -> TextJudgement
+    ensures { λ r. ⌜ r ≡ worse a b ⌝ }
 {
-    if a { b } else { false }
+    match a {
+        TextJudgement::Fits => b,
+        TextJudgement::Malformed => TextJudgement::Malformed,
+        TextJudgement::ManyCharacters => match b {
+            TextJudgement::Fits => TextJudgement::ManyCharacters,
+            TextJudgement::Malformed => TextJudgement::Malformed,
+            TextJudgement::ManyCharacters => TextJudgement::ManyCharacters,
+        },
+    }
 }
 
-// Whether a text is within the texts, and RFC 3629 allows it.
-fn text_allowed(text: TextPlace, texts: &[u8]) -> bool
-    ensures { λ r. ⌜ r ≡ textAllowed (now (texts .entry)) text ⌝ }
+// The judgement of a text; one that is not within the texts is malformed.
+fn judge_place(text: TextPlace, texts: &[u8]) -> TextJudgement
+    ensures { λ r. ⌜ r ≡ judgedText (now (texts .entry)) text ⌝ }
 {
     let start = text.start;
     let len = text.len;
     if !bytes_wire::has_room(texts.len(), start, len) {
-        return false;
+        return TextJudgement::Malformed;
     }
-    match bytes_utf8::check(&texts[start..start + len]) {
-        Utf8Check::Valid { characters: _ } => true,
-        Utf8Check::Invalid => false,
-    }
+    judge_text(&texts[start..start + len])
 }
 
 fn survey_heads(
@@ -85,7 +94,7 @@ fn survey_operations(set: ProjectionPatchSet, operations: usize, texts: &[u8]) -
     ensures { λ r. ⌜ r ≡ operationSurvey (now (texts .entry)) (take operations (set .operations)) ⌝ }
 {
     let mut bytes: usize = 0;
-    let mut allowed = true;
+    let mut judgement = TextJudgement::Fits;
     let mut i: usize = 0;
     while i < operations {
         let place = set.operations[i];
@@ -95,23 +104,24 @@ fn survey_operations(set: ProjectionPatchSet, operations: usize, texts: &[u8]) -
             return OperationSurvey::OverCapacity;
         }
         bytes += operation_size(operation);
-        allowed = both(allowed, text_allowed(text, texts));
+        judgement = worse_of(judgement, judge_place(text, texts));
         i += 1;
     }
-    OperationSurvey::Within { bytes, allowed }
+    OperationSurvey::Within { bytes, judgement }
 }
 
-// 12 before 10.
-fn judge(operations: usize, bytes: usize, allowed: bool) -> Survey
-    ensures { λ r. ⌜ r ≡ judged operations bytes allowed ⌝ }
+// The bytes of the set before the judgement of its texts.
+fn judge(operations: usize, bytes: usize, judgement: TextJudgement) -> Survey
+    ensures { λ r. ⌜ r ≡ surveyed operations bytes judgement ⌝ }
 {
     if ProjectionPatchSet::BYTES < bytes {
         return Survey::Refused(WriteRefusal::OverCapacity);
     }
-    if !allowed {
-        return Survey::Refused(WriteRefusal::Malformed);
+    match judgement {
+        TextJudgement::Fits => Survey::Within { operations, bytes },
+        TextJudgement::Malformed => Survey::Refused(WriteRefusal::Malformed),
+        TextJudgement::ManyCharacters => Survey::Refused(WriteRefusal::OverCapacity),
     }
-    Survey::Within { operations, bytes }
 }
 
 pub fn survey_set(set: ProjectionPatchSet, texts: &[u8]) -> Survey
@@ -132,8 +142,8 @@ pub fn survey_set(set: ProjectionPatchSet, texts: &[u8]) -> Survey
                 OperationSurvey::OverCapacity => Survey::Refused(WriteRefusal::OverCapacity),
                 OperationSurvey::Within {
                     bytes: rest,
-                    allowed,
-                } => judge(operations, HEADING_BYTES + (bytes + rest), allowed),
+                    judgement,
+                } => judge(operations, HEADING_BYTES + (bytes + rest), judgement),
             }
         }
     }

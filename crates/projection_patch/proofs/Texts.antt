@@ -1,7 +1,7 @@
 -- A text of a length that was read, at a position.
 use Prim.Native.Nat.{ℕ, _+_, _-_, _≤_, _<_}
-use mathlib.Core.Path.{_≡_, refl, sym, _∙_}
-use mathlib.Core.Bool.{Bool, true, false}
+use mathlib.Core.Path.{_≡_, refl}
+use mathlib.Core.Bool.{Bool, true, false, not}
 use mathlib.Core.List.{List, []}
 use native.Mathlib.Omega.{arith}
 use borrow.Author.Tests.{le-leb, lt-leb}
@@ -9,51 +9,81 @@ use lib.Dec.{leb}
 use lib.ListN.{length, take, drop, length-drop}
 use lib.Seq.{length-take-le, drop-drop}
 use Rattle.spec_lists.specs.Lists.{if_then_else_}
-use Rattle.spec_text.specs.Syntax.{isUtf8, characters}
-use Rattle.spec_patch.specs.TextRule.{allowed}
+use Rattle.spec_patch.specs.TextRule.{allowed, fewCharacters}
 use Rattle.spec_patch.specs.Patch.{text}
-use Rattle.spec_patch.specs.Reader.{refused, malformed, mapped, checked, bytes}
-use Rattle.bytes_utf8.specs.Answer as utf8
-use Rattle.bytes_utf8.specs.declared.Utf8Check.{Utf8Check}
-use Rattle.bytes_utf8.specs.declared.Utf8Check.the-variants.{Valid, Invalid}
+use Rattle.spec_patch.specs.Reader.{refused, malformed, overCapacity, mapped}
+use Rattle.spec_patch.specs.Read.{textBody}
+use Rattle.projection_patch.specs.TextRule.{judged, judgement}
+use Rattle.projection_patch.specs.declared.text_rule.TextJudgement.the-variants.{Fits, Malformed, ManyCharacters}
 use Rattle.projection_patch.specs.ReadAnswers.{valueAnswer, lentPart}
 use Rattle.projection_patch.specs.declared.patch.ProjectionPatchValue.the-variants.{Text}
 use Rattle.projection_patch.specs.declared.read_values.ValueRead.the-variants.{Read}
 use Rattle.projection_patch.proofs.At.{position}
 
--- what the check of a text says
-module _ (t : List ℕ) (r : Utf8Check) (e : r ≡ utf8.answer t) where
-  pub valid : {n : ℕ} → r ≡ Valid n → isUtf8 t ≡ true
-  valid {n} f = pick (isUtf8 t) (sym e ∙ f)
+-- what a judgement says of a text, under the rule of one that is checked
+module _ (check : Bool) (t : List ℕ) (strict : not check ≡ false) where
+  pub judged-fits : judgement t ≡ Fits → (allowed check t ≡ true) × (fewCharacters check t ≡ true)
+  judged-fits e = by-check check strict (pick (allowed true t) (fewCharacters true t) e)
     where
-      pick : (b : Bool) → (if b then Valid (characters t) else Invalid) ≡ Valid n → b ≡ true
-      pick true q = refl
-      pick false q = absurd (let z : _≡_ {A = ℕ} 0 1 = cc q in omega arith)
+      pick : (a b : Bool) → judged a b ≡ Fits → (a ≡ true) × (b ≡ true)
+      pick true true q = (refl, refl)
+      pick true false q = absurd (let z : _≡_ {A = ℕ} 0 1 = cc q in omega arith)
+      pick false b q = absurd (let z : _≡_ {A = ℕ} 0 1 = cc q in omega arith)
 
-  pub invalid : r ≡ Invalid → isUtf8 t ≡ false
-  invalid f = pick (isUtf8 t) (sym e ∙ f)
+      by-check : (c : Bool) → not c ≡ false → (allowed true t ≡ true) × (fewCharacters true t ≡ true) → (allowed c t ≡ true) × (fewCharacters c t ≡ true)
+      by-check true s h = h
+      by-check false s h = absurd (let z : _≡_ {A = ℕ} 0 1 = cc s in omega arith)
+
+  pub judged-malformed : judgement t ≡ Malformed → allowed check t ≡ false
+  judged-malformed e = by-check check strict (pick (allowed true t) (fewCharacters true t) e)
     where
-      pick : (b : Bool) → (if b then Valid (characters t) else Invalid) ≡ Invalid → b ≡ false
-      pick true q = absurd (let z : _≡_ {A = ℕ} 0 1 = cc q in omega arith)
-      pick false q = refl
+      pick : (a b : Bool) → judged a b ≡ Malformed → a ≡ false
+      pick true true q = absurd (let z : _≡_ {A = ℕ} 0 1 = cc q in omega arith)
+      pick true false q = absurd (let z : _≡_ {A = ℕ} 0 1 = cc q in omega arith)
+      pick false b q = refl
+
+      by-check : (c : Bool) → not c ≡ false → allowed true t ≡ false → allowed c t ≡ false
+      by-check true s h = h
+      by-check false s h = absurd (let z : _≡_ {A = ℕ} 0 1 = cc s in omega arith)
+
+  pub judged-many : judgement t ≡ ManyCharacters → (allowed check t ≡ true) × (fewCharacters check t ≡ false)
+  judged-many e = by-check check strict (pick (allowed true t) (fewCharacters true t) e)
+    where
+      pick : (a b : Bool) → judged a b ≡ ManyCharacters → (a ≡ true) × (b ≡ false)
+      pick true true q = absurd (let z : _≡_ {A = ℕ} 0 1 = cc q in omega arith)
+      pick true false q = (refl, refl)
+      pick false b q = absurd (let z : _≡_ {A = ℕ} 0 1 = cc q in omega arith)
+
+      by-check : (c : Bool) → not c ≡ false → (allowed true t ≡ true) × (fewCharacters true t ≡ false) → (allowed c t ≡ true) × (fewCharacters c t ≡ false)
+      by-check true s h = h
+      by-check false s h = absurd (let z : _≡_ {A = ℕ} 0 1 = cc s in omega arith)
+
+-- one that is not checked may be any bytes
+pub unchecked : (check : Bool) (t : List ℕ) → not check ≡ true → (allowed check t ≡ true) × (fewCharacters check t ≡ true)
+unchecked true t e = absurd (let z : _≡_ {A = ℕ} 0 1 = cc e in omega arith)
+unchecked false t e = (refl, refl)
 
 module _ (check : Bool) (l : List ℕ) (start n : ℕ) where
-  pub short : length l - start < n → checked (allowed check) malformed (bytes n) (drop start l) ≡ refused malformed
+  pub short : length l - start < n → textBody check n (drop start l) ≡ refused malformed
   short h = rw (lt-leb n (length (drop start l)) (omega (arith, length-drop start l)))
 
   module _ (room : n ≤ length l - start) where
     inside : n ≤ length (drop start l)
     inside = omega (arith, length-drop start l)
 
-    pub bad : allowed check (take n (drop start l)) ≡ false → checked (allowed check) malformed (bytes n) (drop start l) ≡ refused malformed
+    pub bad : allowed check (take n (drop start l)) ≡ false → textBody check n (drop start l) ≡ refused malformed
     bad u = rw (le-leb n (length (drop start l)) inside, u)
 
+    pub many : (allowed check (take n (drop start l)) ≡ true) × (fewCharacters check (take n (drop start l)) ≡ false) → textBody check n (drop start l) ≡ refused overCapacity
+    many u = rw (le-leb n (length (drop start l)) inside, u .0, u .1)
+
     -- the text's place, told by where it ends
-    pub placed : start ≤ length l → allowed check (take n (drop start l)) ≡ true → Read (Text start n) (start + n) ≡ valueAnswer (length l) (mapped text (checked (allowed check) malformed (bytes n)) (drop start l))
+    pub placed : start ≤ length l → (allowed check (take n (drop start l)) ≡ true) × (fewCharacters check (take n (drop start l)) ≡ true)
+        → Read (Text start n) (start + n) ≡ valueAnswer (length l) (mapped text (textBody check n) (drop start l))
     placed h u =
         let end : start + n ≤ length l = omega arith in
         let back : start + n - n ≡ start = omega arith in
-        rw (le-leb n (length (drop start l)) inside, u, drop-drop n start l, position l (start + n) end, length-take-le n (drop start l) inside, back)
+        rw (le-leb n (length (drop start l)) inside, u .0, u .1, drop-drop n start l, position l (start + n) end, length-take-le n (drop start l) inside, back)
 
 -- ---- a part that is lent
 

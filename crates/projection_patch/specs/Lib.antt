@@ -2,3 +2,4 @@ pub mod Meaning
 pub mod ReadAnswers
 pub mod FaultLaws
 pub mod TextLaws
+pub mod TextRule

@@ -4,3 +4,4 @@ pub mod contract_primitives;
 pub mod patch;
 pub mod read_operations;
 pub mod read_values;
+pub mod text_rule;

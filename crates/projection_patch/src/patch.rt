@@ -135,8 +135,10 @@ pub enum ProjectionPatchOperation {
 }
 
 impl ProjectionPatchValue {
-    // The most bytes of a text.
-    pub const TEXT_BYTES: usize = 160;
+    // The most bytes of a text, and the most characters.
+    pub const TEXT_BYTES: usize = 240;
+
+    pub const TEXT_CHARACTERS: usize = 160;
 }
 
 // A patch's head: its envelope, and how many operations follow it.

@@ -5,16 +5,16 @@ ghost use Prim.Native.Nat.{_+_, _-_, _≤_};
 ghost use mathlib.Core.Option.{some};
 ghost use lib.ListN.{length, drop};
 ghost use Rattle.spec_patch.specs.Edition.{v1};
-ghost use Rattle.spec_patch.specs.TextRule.{allowed};
 ghost use Rattle.spec_patch.specs.Patch as model;
-ghost use Rattle.spec_patch.specs.Reader.{faultNumber, malformed, mapped, checked, bytes};
-ghost use Rattle.spec_patch.specs.Read.{readU64, readI64, readCount, readQuad, readTextBy, readOptional, readAvailability, readValueBy, readValue};
+ghost use Rattle.spec_patch.specs.Reader.{faultNumber, mapped};
+ghost use Rattle.spec_patch.specs.Read.{readU64, readI64, readCount, readQuad, textBody, readTextBy, readOptional, readAvailability, readValueBy, readValue};
 ghost use Rattle.bytes_wire.specs.Read.{firstNumber};
 ghost use Rattle.projection_patch.specs.ReadAnswers.{faultOf, numbersAnswer, countAnswer, optionalAnswer, availabilityAnswer, valueAnswer, lentPart};
 use crate::patch::ProjectionNodeAvailability;
 use crate::patch::ProjectionPatchValue;
 use crate::patch::ProjectionQuadState;
-use bytes_utf8::Utf8Check;
+use crate::text_rule;
+use crate::text_rule::TextJudgement;
 use bytes_wire::ReadI64;
 use bytes_wire::ReadU32;
 use bytes_wire::ReadU64;
@@ -193,32 +193,22 @@ pub fn text_of(set: &[u8], a: usize, b: usize) -> &[u8]
     &set[a..b]
 }
 
-// Whether a text may stand there: RFC 3629 is asked where the reading is strict.
-fn text_allowed(strict: bool, text: &[u8]) -> bool
-    ensures { λ r. ⌜ r ≡ allowed strict (now (text .entry)) ⌝ }
-{
-    if !strict {
-        return true;
-    }
-    match bytes_utf8::check(text) {
-        Utf8Check::Valid { characters: _ } => true,
-        Utf8Check::Invalid => false,
-    }
-}
-
-// The text of len bytes from start on.
+// The text of len bytes from start on. The rule is asked where the reading is strict.
 fn text_from(part: &[u8], start: usize, len: usize, strict: bool) -> ValueRead
     requires { ⌜ start ≤ length (now part) ⌝ }
-    ensures { λ r. ⌜ r ≡ valueAnswer (length (now (part .entry))) (mapped model.text (checked (allowed strict) malformed (bytes len)) (drop start (now (part .entry)))) ⌝ }
+    ensures { λ r. ⌜ r ≡ valueAnswer (length (now (part .entry))) (mapped model.text (textBody strict len) (drop start (now (part .entry)))) ⌝ }
 {
     if part.len() - start < len {
         return ValueRead::Refused(ProjectionPatchReadFault::Malformed);
     }
     let end = start + len;
-    if text_allowed(strict, text_of(part, start, end)) {
-        ValueRead::Read(ProjectionPatchValue::Text { start, len }, end)
-    } else {
-        ValueRead::Refused(ProjectionPatchReadFault::Malformed)
+    if !strict {
+        return ValueRead::Read(ProjectionPatchValue::Text { start, len }, end);
+    }
+    match text_rule::judge_text(text_of(part, start, end)) {
+        TextJudgement::Fits => ValueRead::Read(ProjectionPatchValue::Text { start, len }, end),
+        TextJudgement::Malformed => ValueRead::Refused(ProjectionPatchReadFault::Malformed),
+        TextJudgement::ManyCharacters => ValueRead::Refused(ProjectionPatchReadFault::OverCapacity),
     }
 }
 

@@ -2,3 +2,4 @@ pub mod Opened
 pub mod Examples
 pub mod SplitInstances
 pub mod TurnInstances
+pub mod TextInstances

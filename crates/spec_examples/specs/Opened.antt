@@ -94,6 +94,7 @@ unfolding
     Rattle.spec_patch.specs.Write.withinCapacities
     Rattle.spec_patch.specs.Write.allowedText
     Rattle.spec_patch.specs.Write.wellFormed
+    Rattle.spec_patch.specs.Write.fewEnough
     Rattle.spec_patch.specs.Write.write
     Rattle.spec_checks.specs.Finding.kindNumber
     Rattle.spec_checks.specs.Finding.codeText

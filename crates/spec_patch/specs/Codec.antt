@@ -69,12 +69,18 @@ module _ {A : Type 0} (n : ℕ) (make : List ℕ → A) where
       let r : _≡_ {A = Result A} (read (make (take n bs)) (drop n bs)) (read a rest) = p .result in
       record { enough = leb-true n (length bs) (p .passed); value-is = cc r; rest-is = cc r }
 
+-- as many bytes as were asked for
+pub bytes-long : (n : ℕ) (bs l rest : List ℕ) → bytes n bs ≡ read l rest → length l ≡ n
+bytes-long n bs l rest e =
+    let t = cut n (λ x. x) bs l rest e in
+    ap length (sym (t .value-is)) ∙ length-take-le n bs (t .enough)
+
 pub bytes-codec : (n : ℕ) → Codec (λ (l : List ℕ). l) (λ (l : List ℕ). length l ≡ n) (bytes n)
 bytes-codec n = record {
   back = λ l h rest. front n (λ x. x) l rest h;
   only = λ {bs} h l rest e.
       let t = cut n (λ x. x) bs l rest e in (
-        ap length (sym (t .value-is)) ∙ length-take-le n bs (t .enough),
+        bytes-long n bs l rest e,
         sym (take-append-drop n bs) ∙ ap₂ (λ (x y : List ℕ). x ++ y) (t .value-is) (t .rest-is),
       );
 }

@@ -1,5 +1,5 @@
 -- The patch lists that canonical bytes of an edition can hold: each number fits its field (`InRange`); and those that also keep the
--- capacities of 01, 'Sizes', the text rule of RFC 3629 and the edition's value kinds (`Fits`).
+-- capacities of 01 and 02, the text rule of RFC 3629 and the edition's value kinds (`Fits`).
 use Prim.Native.Nat.{ℕ, _≤_, _<_, _^_}
 use mathlib.Core.Path.{_≡_}
 use mathlib.Core.Bool.{Bool, true}
@@ -9,7 +9,7 @@ use lib.ListN.{length}
 use mir.Syntax.{w64}
 use mir.Val.{SFits}
 use Rattle.spec_lists.specs.Lists.{All}
-use Rattle.spec_patch.specs.TextRule.{allowed}
+use Rattle.spec_patch.specs.TextRule.{allowed, fewCharacters}
 use Rattle.spec_patch.specs.Sizes.{setBytes, setPatches, patchOperations, textBytes}
 use Rattle.spec_patch.specs.Patch.{Value, quad, signed, text, unsigned, Operation, setBinding, setAvailability, insert, update, remove, move, Envelope, Patch}
 use Rattle.spec_patch.specs.Edition.{Edition, hasKind}
@@ -64,10 +64,11 @@ InRange = All InRangePatch
 
 -- ---- what an edition can hold
 
--- a text of at most 160 bytes, which the rule of texts allows
+-- a text within its bytes and its characters, which the rule of texts allows
 pub record FitsTextBy (check : Bool) (t : List ℕ) : Type 0 where
   pub short : length t ≤ textBytes
   pub utf8 : allowed check t ≡ true
+  pub few : fewCharacters check t ≡ true
 
 -- a value that can be stored, whatever its edition
 unfoldable pub StorableBy : Bool → Value → Type 0

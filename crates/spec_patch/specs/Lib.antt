@@ -13,3 +13,6 @@ pub mod SetLaws
 pub mod FitsLaws
 pub mod WriteLaws
 pub mod StrictLaws
+pub mod Former
+pub mod FormerLaws
+pub mod TextLaws

@@ -1,4 +1,5 @@
--- Reading a set: 01, 'Canonical bytes' and step 4. The first fault in reading decides.
+-- Reading a set: 01, 'Canonical bytes' and step 4, and 02, 'Job 5'. The first fault in reading decides. What is read of texts is a reader that
+-- the others are given (`…With`), so that reading under another rule of texts is told in a line each.
 use Prim.Native.Nat.{ℕ}
 use mathlib.Core.Bool.{Bool, true}
 use mathlib.Core.List.{List, [], _∷_}
@@ -9,7 +10,7 @@ use lib.IntN.{ℤ}
 use mir.Syntax.{w64}
 use mir.Val.{toZ}
 use Rattle.spec_lists.specs.Lists.{if_then_else_}
-use Rattle.spec_patch.specs.TextRule.{allowed}
+use Rattle.spec_patch.specs.TextRule.{allowed, fewCharacters}
 use Rattle.spec_patch.specs.Sizes.{setBytes, setPatches, patchOperations, textBytes}
 use Rattle.spec_patch.specs.Patch.{Quad, N, F, T, S, Availability, available, unavailable, hidden, pending, stale, Value, quad, signed, text, unsigned, Operation, setBinding, setAvailability, insert, update, remove, move, Envelope, Patch}
 use Rattle.spec_patch.specs.Edition.{Edition, hasKind}
@@ -72,19 +73,26 @@ readAvailability = followed byte availabilityAfter
 
 -- ---- texts: `check` says whether RFC 3629 is asked, or the bytes may be any, as where they were checked before
 
--- a text: its length within the capacity, then as many bytes, which the rule allows, else 10
+-- as many bytes as the length says, which the rule allows, else 10; then characters within their capacity, else 12
+abbrev pub textBody : Bool → ℕ → Reader (List ℕ)
+textBody check n = checked (fewCharacters check) overCapacity (checked (allowed check) malformed (bytes n))
+
+-- a text: its length within the capacity, then its bytes
 unfoldable pub readTextBy : Bool → Reader (List ℕ)
-readTextBy check = followed (readCount textBytes) (λ n. checked (allowed check) malformed (bytes n))
+readTextBy check = followed (readCount textBytes) (textBody check)
 
 -- ---- values
 
 -- 1 quad byte; 2 i64; 3 u32 length and text; 4 u64
-unfoldable pub valueAfter : Bool → ℕ → Reader Value
-valueAfter check =
+abbrev pub valueAfterWith : Reader (List ℕ) → ℕ → Reader Value
+valueAfterWith readTexts =
     orTag 1 (mapped quad readQuad)
     (orTag 2 (mapped signed readI64)
-    (orTag 3 (mapped text (readTextBy check))
+    (orTag 3 (mapped text readTexts)
     (orTag 4 (mapped unsigned readU64) noTag)))
+
+unfoldable pub valueAfter : Bool → ℕ → Reader Value
+valueAfter check = valueAfterWith (readTextBy check)
 
 -- a kind that the edition lacks is 10
 unfoldable pub inEdition : Edition → (ℕ → Reader Value) → ℕ → Reader Value
@@ -114,14 +122,17 @@ abbrev pub toMove : ℕ × (ℕ × Option ℕ) → Operation
 toMove t = move (t .0) (t .1 .0) (t .1 .1)
 
 -- operations 1 to 6
-unfoldable pub operationAfter : Bool → Edition → ℕ → Reader Operation
-operationAfter check ed =
-    orTag 1 (mapped toSetBinding (pair readU64 (pair readU32 (readValueBy check ed))))
+abbrev pub operationAfterWith : Reader Value → ℕ → Reader Operation
+operationAfterWith readValues =
+    orTag 1 (mapped toSetBinding (pair readU64 (pair readU32 readValues)))
     (orTag 2 (mapped toSetAvailability (pair readU64 readAvailability))
-    (orTag 3 (mapped toInsert (pair readU64 (pair readU64 (pair readOptional (readValueBy check ed)))))
-    (orTag 4 (mapped toUpdate (pair readU64 (pair readU64 (readValueBy check ed))))
+    (orTag 3 (mapped toInsert (pair readU64 (pair readU64 (pair readOptional readValues))))
+    (orTag 4 (mapped toUpdate (pair readU64 (pair readU64 readValues)))
     (orTag 5 (mapped toRemove (pair readU64 readU64))
     (orTag 6 (mapped toMove (pair readU64 (pair readU64 readOptional))) noTag)))))
+
+unfoldable pub operationAfter : Bool → Edition → ℕ → Reader Operation
+operationAfter check ed = operationAfterWith (readValueBy check ed)
 
 unfoldable pub readOperationBy : Bool → Edition → Reader Operation
 readOperationBy check ed = followed byte (operationAfter check ed)
@@ -163,12 +174,18 @@ abbrev pub toPatch : Envelope × List Operation → Patch
 toPatch t = record { envelope = t .0; operations = t .1 }
 
 -- the envelope, then the operations behind their count
+abbrev pub readPatchWith : Reader Operation → Reader Patch
+readPatchWith readOperations = mapped toPatch (pair readEnvelope (readCounted patchOperations readOperations))
+
 unfoldable pub readPatch : Edition → Reader Patch
-readPatch ed = mapped toPatch (pair readEnvelope (readCounted patchOperations (readOperation ed)))
+readPatch ed = readPatchWith (readOperation ed)
 
 -- the heading, then the patches behind their count
+abbrev pub readPatchesWith : Edition → Reader Patch → Reader (List Patch)
+readPatchesWith ed readOne = mapped (λ t. t .1) (pair (literal (heading ed)) (readCounted setPatches readOne))
+
 unfoldable pub readPatches : Edition → Reader (List Patch)
-readPatches ed = mapped (λ t. t .1) (pair (literal (heading ed)) (readCounted setPatches (readPatch ed)))
+readPatches ed = readPatchesWith ed (readPatch ed)
 
 -- what reading a whole set gives
 pub data SetReading : Type 0 where
@@ -182,5 +199,8 @@ ended (read ps (b ∷ rest)) = fault malformed
 ended (refused f) = fault f
 
 -- more than 32,768 bytes is 12 before any reading
+abbrev pub readSetWith : Reader (List Patch) → List ℕ → SetReading
+readSetWith readAll bs = if leb (length bs) setBytes then ended (readAll bs) else fault overCapacity
+
 unfoldable pub readSet : Edition → List ℕ → SetReading
-readSet ed bs = if leb (length bs) setBytes then ended (readPatches ed bs) else fault overCapacity
+readSet ed = readSetWith (readPatches ed)

@@ -13,13 +13,13 @@ use mir.Syntax.{w64}
 use mir.Val.{SFits, toZ, ofZ}
 use mir.Facts.{toZ-ofZ, ofZ-toZ, fits-ofZ, sfits-toZ}
 use Rattle.spec_lists.specs.Lists.{All}
-use Rattle.spec_patch.specs.TextRule.{allowed}
+use Rattle.spec_patch.specs.TextRule.{allowed, fewCharacters}
 use Rattle.spec_patch.specs.Sizes.{setPatches, patchOperations, textBytes}
 use Rattle.spec_patch.specs.Patch.{Quad, N, F, T, S, Availability, available, unavailable, hidden, pending, stale, Value, quad, signed, text, unsigned, Operation, setBinding, setAvailability, insert, update, remove, move, Patch}
 use Rattle.spec_patch.specs.Edition.{Edition, hasKind}
 use Rattle.spec_patch.specs.Encode.{u32, u64, encodeOptional, quadByte, availabilityByte, encodeText, kindOf, valueBody, encodeValue, encodeOperation, encodeEnvelope, encodeCounted, encodePatch, heading, encode}
-use Rattle.spec_patch.specs.Reader.{malformed, overCapacity, read, Reader, pair, checked, many, bytes}
-use Rattle.spec_patch.specs.Read.{readU32, readU64, readI64, withinCapacity, readCount, readCounted, optionalAfter, readOptional, quadAfter, readQuad, availabilityAfter, readAvailability, readTextBy, valueAfter, inEdition, readValueBy, readValue, toSetBinding, toSetAvailability, toInsert, toUpdate, toRemove, toMove, operationAfter, readOperationBy, readOperation, toEnvelope, readEnvelope, toPatch, readPatch, readPatches}
+use Rattle.spec_patch.specs.Reader.{malformed, overCapacity, read, Reader, pair, many}
+use Rattle.spec_patch.specs.Read.{readU32, readU64, readI64, withinCapacity, readCount, readCounted, optionalAfter, readOptional, quadAfter, readQuad, availabilityAfter, readAvailability, textBody, readTextBy, valueAfter, inEdition, readValueBy, readValue, toSetBinding, toSetAvailability, toInsert, toUpdate, toRemove, toMove, operationAfter, readOperationBy, readOperation, toEnvelope, readEnvelope, toPatch, readPatch, readPatches}
 use Rattle.spec_patch.specs.Fits.{U64, U32, OptionalU64, OperationHolds, InRangeEnvelope, FitsTextBy, FitsText, StorableBy, Storable, FitsValueBy, FitsValue, FitsOperation, FitsPatch}
 use Rattle.spec_patch.specs.Codec.{Codec, if-read, nothing-codec, bytes-codec, number-codec, iso-codec, checked-codec, good-codec, followed-codec, pair-codec, many-codec, literal-codec, OnlyAfter, only-none, only-tag, back-after, tag-codec}
 
@@ -126,18 +126,26 @@ availability-codec = tag-codec availabilityAfter availabilityBytes Any availabil
 -- ---- values: whether texts are checked, or may be any bytes
 
 module _ (check : Bool) where
+  -- what the rule asks of a text's bytes
+  abbrev GoodBody : List ℕ → Type 0
+  GoodBody t = (allowed check t ≡ true) × (fewCharacters check t ≡ true)
+
+  body-codec : (n : ℕ) → Codec (λ (l : List ℕ). l) (λ (l : List ℕ). GoodBody l × (length l ≡ n)) (textBody check n)
+  body-codec n =
+      good-codec
+      (checked-codec (checked-codec (bytes-codec n) (allowed check) malformed) (fewCharacters check) overCapacity)
+      (λ l. GoodBody l × (length l ≡ n))
+      (λ l g. ((g .1, g .0 .0), g .0 .1))
+      (λ l g. ((g .0 .1, g .1), g .0 .0))
+
   pub text-codec : Codec encodeText (FitsTextBy check) (readTextBy check)
   unfolding encodeText readTextBy
   text-codec =
       good-codec
-      (followed-codec (count-codec textBytes (lit< tt)) (λ l. l) (λ l. allowed check l ≡ true) length
-      (λ n. checked (allowed check) malformed (bytes n))
-      (λ n. good-codec (checked-codec (bytes-codec n) (allowed check) malformed) (λ l. (allowed check l ≡ true) × (length l ≡ n))
-      (λ l g. (g .1, g .0))
-      (λ l g. (g .1, g .0))))
+      (followed-codec (count-codec textBytes (lit< tt)) (λ l. l) GoodBody length (textBody check) body-codec)
       (FitsTextBy check)
-      (λ t g. (g .short, g .utf8))
-      (λ t g. record { short = g .0; utf8 = g .1 })
+      (λ t g. (g .short, (g .utf8, g .few)))
+      (λ t g. record { short = g .0; utf8 = g .1 .0; few = g .1 .1 })
 
   -- a value whose kind the edition has
   stored-back : (v : Value) → StorableBy check v → (rest : List ℕ) → valueAfter check (kindOf v) (valueBody v ++ rest) ≡ read v rest
@@ -225,7 +233,7 @@ operation-codec ed = operation-codec-by true ed
 
 text-any : (check : Bool) (t : List ℕ) → FitsText t → FitsTextBy check t
 text-any true t h = h
-text-any false t h = record { short = h .short; utf8 = refl }
+text-any false t h = record { short = h .short; utf8 = refl; few = refl }
 
 pub storable-any : (check : Bool) (v : Value) → Storable v → StorableBy check v
 unfolding StorableBy

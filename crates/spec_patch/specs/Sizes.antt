@@ -1,4 +1,4 @@
--- The capacities of 01, 'Sizes', and the largest u64. Laws use the names and not the figures.
+-- The capacities of 01, 'Sizes', a text's by 02, 'Job 5', and the largest u64. Laws use the names and not the figures.
 use Prim.Native.Nat.{ℕ}
 
 -- a set, in bytes
@@ -13,9 +13,16 @@ setPatches = 64
 abbrev pub patchOperations : ℕ
 patchOperations = 128
 
--- a text, in bytes
+-- a text, in bytes and in characters
 abbrev pub textBytes : ℕ
-textBytes = 160
+textBytes = 240
+
+abbrev pub textCharacters : ℕ
+textCharacters = 160
+
+-- a text before its characters were counted, in bytes
+abbrev pub formerTextBytes : ℕ
+formerTextBytes = 160
 
 -- a projection, in bindings, availabilities and entries of all collections
 abbrev pub projectionBindings : ℕ

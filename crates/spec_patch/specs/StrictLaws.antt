@@ -11,13 +11,14 @@ use lib.ListN.{length, length-append}
 use Rattle.spec_lists.specs.Lists.{if_then_else_, All}
 use Rattle.spec_lists.specs.BytesLaws.{length-littleEndian}
 use Rattle.spec_text.specs.Syntax.{isUtf8}
+use Rattle.spec_patch.specs.TextRule.{fewCharacters}
 use Rattle.spec_patch.specs.Sizes.{setBytes, setPatches, patchOperations, textBytes}
 use Rattle.spec_patch.specs.Patch.{Value, quad, signed, text, unsigned, Operation, setBinding, setAvailability, insert, update, remove, move, Patch}
 use Rattle.spec_patch.specs.Edition.{Edition, hasKind}
 use Rattle.spec_patch.specs.Encode.{u32, u64, encodeOptional, encodeText, kindOf, valueBody, encodeValue, encodeOperation, encodeEnvelope, encodeCounted, encodePatch, heading, encode}
 use Rattle.spec_patch.specs.Fits.{U64, U32, OptionalU64, InRangeValue, OperationHolds, InRangeEnvelope, InRangePatch, InRange, FitsText, Storable, StorableBy, FitsValue, FitsOperation, FitsPatch, Fits}
-use Rattle.spec_patch.specs.Reader.{malformed, overCapacity, Result, read, refused, Reader, onward, pair, checked, many, bytes, literal}
-use Rattle.spec_patch.specs.Read.{readU64, readU32, readOptional, readCount, readCounted, readTextBy, readText, valueAfter, inEdition, readValueBy, readValue, operationAfter, readOperationBy, readOperation, readEnvelope, readPatch, readPatches, patches, fault, ended, readSet}
+use Rattle.spec_patch.specs.Reader.{malformed, overCapacity, Result, read, refused, Reader, onward, pair, many, literal}
+use Rattle.spec_patch.specs.Read.{readU64, readU32, readOptional, readCount, readCounted, textBody, readTextBy, readText, valueAfter, inEdition, readValueBy, readValue, operationAfter, readOperationBy, readOperation, readEnvelope, readPatch, readPatches, patches, fault, ended, readSet}
 use Rattle.spec_patch.specs.Codec.{Codec}
 use Rattle.spec_patch.specs.ReadLaws.{u64-codec, u32-codec, optional-codec, count-codec, operation-codec, envelope-codec, patch-codec}
 use Rattle.spec_patch.specs.Codec.{bytes-codec, literal-codec}
@@ -100,12 +101,17 @@ unfolding encodeText readTextBy Succeeds
 text-strict t k rest s =
     let long = length-append (u32 (length t)) t in
     let s₁ = rw (append-assoc (u32 (length t)) t rest) at s in
-    let few = count-strict (length t) textBytes (t ++ rest) (λ n. checked isUtf8 malformed (bytes n)) (omega arith) s₁ in
+    let few = count-strict (length t) textBytes (t ++ rest) (textBody true) (omega arith) s₁ in
     let s₂ = rw (count-codec textBytes (lit< tt) .back (length t) few (t ++ rest), bytes-codec (length t) .back t refl rest) at s₁ in
-    record { short = few; utf8 = go (isUtf8 t) s₂ }
+    let tested = go (isUtf8 t) s₂ in
+    record { short = few; utf8 = tested .0; few = tested .1 }
   where
-    go : (b : Bool) → Succeeds (if b then read t rest else refused malformed) → b ≡ true
-    go true s = refl
+    counted : (c : Bool) → Succeeds (if c then read t rest else refused overCapacity) → c ≡ true
+    counted true s = refl
+    counted false s = absurd s
+
+    go : (b : Bool) → Succeeds (onward (if b then read t rest else refused malformed) (λ l rest′. if fewCharacters true l then read l rest′ else refused overCapacity)) → (b ≡ true) × (fewCharacters true t ≡ true)
+    go true s = (refl, counted (fewCharacters true t) s)
     go false s = absurd s
 
 kind-strict : (t : Bool) (r : Result Value) → Succeeds (if t then r else refused malformed) → (t ≡ true) × Succeeds r

@@ -1,12 +1,12 @@
--- The writer: 01, 'Rejections': it tests 12, then 10, then 14.
+-- The writer: 01, 'Rejections', and 02, 'Job 5': it tests 12 for the capacities, then 10, then 12 for the characters of texts, then 14.
 use Prim.Native.Nat.{ℕ}
 use mathlib.Core.Bool.{Bool, true, _&&_}
 use mathlib.Core.List.{List}
 use lib.Dec.{leb}
 use lib.ListN.{length}
 use Rattle.spec_lists.specs.Lists.{if_then_else_, all}
-use Rattle.spec_text.specs.Syntax.{isUtf8}
-use Rattle.spec_patch.specs.Sizes.{setBytes, setPatches, patchOperations, textBytes}
+use Rattle.spec_patch.specs.TextRule.{fewBytes, allowed, fewCharacters}
+use Rattle.spec_patch.specs.Sizes.{setBytes, setPatches, patchOperations}
 use Rattle.spec_patch.specs.Patch.{Value, quad, signed, text, unsigned, Operation, setBinding, setAvailability, insert, update, remove, move, Patch}
 use Rattle.spec_patch.specs.Edition.{Edition, hasKind}
 use Rattle.spec_patch.specs.Encode.{kindOf, encode}
@@ -38,7 +38,7 @@ allValues test ps = all (λ (p : Patch). all (valuePasses test) (p .operations))
 unfoldable pub shortEnough : Value → Bool
 shortEnough (quad q) = true
 shortEnough (signed z) = true
-shortEnough (text t) = leb (length t) textBytes
+shortEnough (text t) = fewBytes t
 shortEnough (unsigned x) = true
 
 -- the patch count, each operation count, each text's length and the set's bytes are within their capacities
@@ -53,12 +53,19 @@ withinCapacities ed ps =
 unfoldable pub allowedText : Value → Bool
 allowedText (quad q) = true
 allowedText (signed z) = true
-allowedText (text t) = isUtf8 t
+allowedText (text t) = allowed true t
 allowedText (unsigned x) = true
 
 -- a value of a kind that the edition has, and an allowed text
 unfoldable pub wellFormed : Edition → Value → Bool
 wellFormed ed v = hasKind ed (kindOf v) && allowedText v
+
+-- a text's characters are within their capacity; other values pass
+unfoldable pub fewEnough : Value → Bool
+fewEnough (quad q) = true
+fewEnough (signed z) = true
+fewEnough (text t) = fewCharacters true t
+fewEnough (unsigned x) = true
 
 -- what writing gives
 pub data Written : Type 0 where
@@ -70,6 +77,8 @@ unfoldable pub write : Edition → List Patch → ℕ → Written
 write ed ps room =
     if withinCapacities ed ps then
     (if allValues (wellFormed ed) ps then
+    (if allValues fewEnough ps then
     (if leb (length (encode ed ps)) room then wrote (encode ed ps) else refused outputTooShort)
+    else refused overCapacity)
     else refused malformed)
     else refused overCapacity

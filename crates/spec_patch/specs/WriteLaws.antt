@@ -14,9 +14,9 @@ use Rattle.spec_patch.specs.Sizes.{setBytes, setPatches, patchOperations
 use Rattle.spec_patch.specs.Patch.{Value, quad, signed, text, unsigned, Operation, setBinding, setAvailability, insert, update, remove, move, Patch}
 use Rattle.spec_patch.specs.Edition.{Edition, hasKind}
 use Rattle.spec_patch.specs.Encode.{kindOf, encode}
-use Rattle.spec_patch.specs.Fits.{InRangeValue, OperationHolds, InRangePatch, InRange, Storable, StorableBy, FitsValue, FitsOperation, FitsPatch, Fits}
+use Rattle.spec_patch.specs.Fits.{InRangeValue, OperationHolds, InRangeEnvelope, InRangePatch, InRange, Storable, StorableBy, FitsValue, FitsOperation, FitsPatch, Fits}
 use Rattle.spec_patch.specs.Read.{patches, readSet}
-use Rattle.spec_patch.specs.Write.{WriteRefusal, overCapacity, malformed, outputTooShort, valuePasses, allValues, shortEnough, withinCapacities, allowedText, wellFormed, wrote, refused, write}
+use Rattle.spec_patch.specs.Write.{WriteRefusal, overCapacity, malformed, outputTooShort, valuePasses, allValues, shortEnough, withinCapacities, allowedText, wellFormed, fewEnough, wrote, refused, write}
 use Rattle.spec_patch.specs.SetLaws.{reads-back}
 
 -- ---- a property of an operation's value, and a test of it
@@ -58,19 +58,24 @@ holds-map P Q f (move c k b) h = h
 abbrev Short : Value → Type 0
 Short v = InRangeValue v × (shortEnough v ≡ true)
 
-storable : (v : Value) → Short v → allowedText v ≡ true → Storable v
-unfolding InRangeValue shortEnough allowedText StorableBy
-storable (quad q) h e = tt
-storable (signed z) h e = h .0
-storable (text t) h e = record { short = leb-true (length t) textBytes (h .1); utf8 = e }
-storable (unsigned x) h e = h .0
+storable : (v : Value) → Short v → allowedText v ≡ true → fewEnough v ≡ true → Storable v
+unfolding InRangeValue shortEnough allowedText fewEnough StorableBy
+storable (quad q) h e c = tt
+storable (signed z) h e c = h .0
+storable (text t) h e c = record { short = leb-true (length t) textBytes (h .1); utf8 = e; few = c }
+storable (unsigned x) h e c = h .0
 
-storable-short : (v : Value) → Storable v → (shortEnough v ≡ true) × (allowedText v ≡ true)
-unfolding shortEnough allowedText StorableBy
-storable-short (quad q) h = (refl, refl)
-storable-short (signed z) h = (refl, refl)
-storable-short (text t) h = (le-leb (length t) textBytes (h .short), h .utf8)
-storable-short (unsigned x) h = (refl, refl)
+record Tested (v : Value) : Type 0 where
+  short : shortEnough v ≡ true
+  allowed : allowedText v ≡ true
+  few : fewEnough v ≡ true
+
+storable-tested : (v : Value) → Storable v → Tested v
+unfolding shortEnough allowedText fewEnough StorableBy
+storable-tested (quad q) h = record { short = refl; allowed = refl; few = refl }
+storable-tested (signed z) h = record { short = refl; allowed = refl; few = refl }
+storable-tested (text t) h = record { short = le-leb (length t) textBytes (h .short); allowed = h .utf8; few = h .few }
+storable-tested (unsigned x) h = record { short = refl; allowed = refl; few = refl }
 
 pub storable-in-range : (v : Value) → Storable v → InRangeValue v
 unfolding InRangeValue StorableBy
@@ -80,63 +85,85 @@ storable-in-range (text t) h = tt
 storable-in-range (unsigned x) h = h
 
 module _ (ed : Edition) where
-  value-fits : (v : Value) → Short v → wellFormed ed v ≡ true → FitsValue ed v
+  -- in range, short enough and well formed
+  abbrev Formed : Value → Type 0
+  Formed v = Short v × (wellFormed ed v ≡ true)
+
+  value-fits : (v : Value) → Formed v → fewEnough v ≡ true → FitsValue ed v
   unfolding wellFormed
-  value-fits v h e = record { kind = and-left (hasKind ed (kindOf v)) _ e; storable = storable v h (and-right (hasKind ed (kindOf v)) _ e) }
+  value-fits v h e = record { kind = and-left (hasKind ed (kindOf v)) _ (h .1); storable = storable v (h .0) (and-right (hasKind ed (kindOf v)) _ (h .1)) e }
 
   value-well-formed : (v : Value) → FitsValue ed v → wellFormed ed v ≡ true
   unfolding wellFormed
-  value-well-formed v h = rw (h .kind) (storable-short v (h .storable) .1)
+  value-well-formed v h = rw (h .kind) (storable-tested v (h .storable) .allowed)
 
   -- ---- patches and sets
 
-  -- what the capacities leave to test of a patch
-  abbrev ShortPatch : Patch → Type 0
-  ShortPatch p = (length (p .operations) ≤ patchOperations) × (InRangePatch p × All (OperationHolds Short) (p .operations))
+  -- the envelope is in range, the operations are few, and their values have the property
+  record PatchHolds (P : Value → Type 0) (p : Patch) : Type 0 where
+    envelope : InRangeEnvelope (p .envelope)
+    few : length (p .operations) ≤ patchOperations
+    operations : All (OperationHolds P) (p .operations)
 
-  patch-fits : (p : Patch) → ShortPatch p → all (valuePasses (wellFormed ed)) (p .operations) ≡ true → FitsPatch ed p
-  patch-fits p h e = record {
-    envelope = h .1 .0 .envelope;
-    few = h .0;
-    operations = all-of-test (OperationHolds Short) (FitsOperation ed) (valuePasses (wellFormed ed)) (holds-of-test Short (FitsValue ed) (wellFormed ed) value-fits) (p .operations) (h .1 .1) e;
-  }
+  patch-counted : (p : Patch) → InRangePatch p → leb (length (p .operations)) patchOperations ≡ true → PatchHolds InRangeValue p
+  patch-counted p h e = record { envelope = h .envelope; few = leb-true (length (p .operations)) patchOperations e; operations = h .operations }
 
-  patch-short : (p : Patch) → (length (p .operations) ≤ patchOperations) × InRangePatch p → all (valuePasses shortEnough) (p .operations) ≡ true → ShortPatch p
-  patch-short p h e =
-      (h .0, (h .1, all-of-test (OperationHolds InRangeValue) (OperationHolds Short) (valuePasses shortEnough) (holds-of-test InRangeValue Short shortEnough (λ v r s. (r, s))) (p .operations) (h .1 .operations) e))
+  -- a test of every value gives every value another property
+  list-of-test : (P Q : Value → Type 0) (test : Value → Bool) → ((v : Value) → P v → test v ≡ true → Q v)
+      → (ps : List Patch) → All (PatchHolds P) ps → allValues test ps ≡ true → All (PatchHolds Q) ps
+  unfolding allValues
+  list-of-test P Q test f ps h e = all-of-test (PatchHolds P) (PatchHolds Q) (λ (p : Patch). all (valuePasses test) (p .operations)) patch ps h e
+    where
+      patch : (p : Patch) → PatchHolds P p → all (valuePasses test) (p .operations) ≡ true → PatchHolds Q p
+      patch p g t = record {
+        envelope = g .envelope;
+        few = g .few;
+        operations = all-of-test (OperationHolds P) (OperationHolds Q) (valuePasses test) (holds-of-test P Q test f) (p .operations) (g .operations) t;
+      }
+
+  patch-fits : (p : Patch) → PatchHolds (FitsValue ed) p → FitsPatch ed p
+  patch-fits p h = record { envelope = h .envelope; few = h .few; operations = h .operations }
 
   -- a list that passes the writer's tests fits
-  pub fits-of-tests : (ps : List Patch) → InRange ps → withinCapacities ed ps ≡ true → allValues (wellFormed ed) ps ≡ true → Fits ed ps
-  unfolding withinCapacities allValues
-  fits-of-tests ps r w t =
+  pub fits-of-tests : (ps : List Patch) → InRange ps → withinCapacities ed ps ≡ true → allValues (wellFormed ed) ps ≡ true → allValues fewEnough ps ≡ true → Fits ed ps
+  unfolding withinCapacities
+  fits-of-tests ps r w t f =
       let counts : Patch → Bool = λ p. leb (length (p .operations)) patchOperations in
       let b = and-right (leb (length ps) setPatches) _ w in
       let c = and-right (all counts ps) _ b in
-      let short : Patch → Bool = λ p. all (valuePasses shortEnough) (p .operations) in
-      let formed : Patch → Bool = λ p. all (valuePasses (wellFormed ed)) (p .operations) in
-      let few = all-of-test InRangePatch (λ (p : Patch). (length (p .operations) ≤ patchOperations) × InRangePatch p) counts (λ p h e. (leb-true (length (p .operations)) patchOperations e, h)) ps r (and-left (all counts ps) _ b) in
-      let shorts = all-of-test (λ (p : Patch). (length (p .operations) ≤ patchOperations) × InRangePatch p) ShortPatch short patch-short ps few (and-left (all short ps) _ c) in
+      let counted = all-of-test InRangePatch (PatchHolds InRangeValue) counts patch-counted ps r (and-left (all counts ps) _ b) in
+      let shorts = list-of-test InRangeValue Short shortEnough (λ v h e. (h, e)) ps counted (and-left (allValues shortEnough ps) _ c) in
+      let formed = list-of-test Short Formed (wellFormed ed) (λ v h e. (h, e)) ps shorts t in
+      let good = list-of-test Formed (FitsValue ed) fewEnough value-fits ps formed f in
       record {
         few = leb-true (length ps) setPatches (and-left (leb (length ps) setPatches) _ w);
-        patches = all-of-test ShortPatch (FitsPatch ed) formed patch-fits ps shorts t;
-        short = leb-true (length (encode ed ps)) setBytes (and-right (all short ps) _ c);
+        patches = all-map (PatchHolds (FitsValue ed)) (FitsPatch ed) patch-fits ps good;
+        short = leb-true (length (encode ed ps)) setBytes (and-right (allValues shortEnough ps) _ c);
       }
+
+  -- what every value of a list that fits passes
+  all-of-fits : (test : Value → Bool) → ((v : Value) → FitsValue ed v → test v ≡ true) → (ps : List Patch) → All (FitsPatch ed) ps → allValues test ps ≡ true
+  unfolding allValues
+  all-of-fits test f ps h =
+      test-of-all (FitsPatch ed) (λ (p : Patch). all (valuePasses test) (p .operations))
+      (λ p g. test-of-all (FitsOperation ed) (valuePasses test) (passes-of-holds (FitsValue ed) test f) (p .operations) (g .operations)) ps h
 
   -- a list that fits passes them
   pub capacities-of-fits : (ps : List Patch) → Fits ed ps → withinCapacities ed ps ≡ true
-  unfolding withinCapacities allValues
+  unfolding withinCapacities
   capacities-of-fits ps h =
       rw (
         le-leb (length ps) setPatches (h .few),
         test-of-all (FitsPatch ed) (λ (p : Patch). leb (length (p .operations)) patchOperations) (λ p f. le-leb (length (p .operations)) patchOperations (f .few)) ps (h .patches),
-        test-of-all (FitsPatch ed) (λ (p : Patch). all (valuePasses shortEnough) (p .operations)) (λ p f. test-of-all (FitsOperation ed) (valuePasses shortEnough) (passes-of-holds (FitsValue ed) shortEnough (λ v s. storable-short v (s .storable) .0)) (p .operations) (f .operations)) ps (h .patches),
+        all-of-fits shortEnough (λ v s. storable-tested v (s .storable) .short) ps (h .patches),
         le-leb (length (encode ed ps)) setBytes (h .short),
       )
 
   pub well-formed-of-fits : (ps : List Patch) → Fits ed ps → allValues (wellFormed ed) ps ≡ true
-  unfolding allValues
-  well-formed-of-fits ps h =
-      test-of-all (FitsPatch ed) (λ (p : Patch). all (valuePasses (wellFormed ed)) (p .operations)) (λ p f. test-of-all (FitsOperation ed) (valuePasses (wellFormed ed)) (passes-of-holds (FitsValue ed) (wellFormed ed) value-well-formed) (p .operations) (f .operations)) ps (h .patches)
+  well-formed-of-fits ps h = all-of-fits (wellFormed ed) value-well-formed ps (h .patches)
+
+  pub few-of-fits : (ps : List Patch) → Fits ed ps → allValues fewEnough ps ≡ true
+  few-of-fits ps h = all-of-fits fewEnough (λ v s. storable-tested v (s .storable) .few) ps (h .patches)
 
   -- numbers of a list that fits are in range
   pub fits-in-range : (ps : List Patch) → Fits ed ps → InRange ps
@@ -153,22 +180,23 @@ module _ (ed : Edition) where
   -- a list that fits is written, given room
   pub writes : (ps : List Patch) (room : ℕ) → Fits ed ps → length (encode ed ps) ≤ room → write ed ps room ≡ wrote (encode ed ps)
   unfolding write
-  writes ps room h l = rw (capacities-of-fits ps h, well-formed-of-fits ps h, le-leb (length (encode ed ps)) room l)
+  writes ps room h l = rw (capacities-of-fits ps h, well-formed-of-fits ps h, few-of-fits ps h, le-leb (length (encode ed ps)) room l)
 
   -- a list that is written fits, and what is written is its canonical bytes
   pub written-fits : (ps : List Patch) (room : ℕ) (bs : List ℕ) → InRange ps → write ed ps room ≡ wrote bs → Success ps room bs
   unfolding write
-  written-fits ps room bs r e = go (withinCapacities ed ps) refl (allValues (wellFormed ed) ps) refl (leb (length (encode ed ps)) room) refl e
+  written-fits ps room bs r e = go (withinCapacities ed ps) refl (allValues (wellFormed ed) ps) refl (allValues fewEnough ps) refl (leb (length (encode ed ps)) room) refl e
     where
       never : {C : Type 0} (n : WriteRefusal) → refused n ≡ wrote bs → C
       never n e = absurd (let z : _≡_ {A = ℕ} 0 1 = cc in omega arith)
 
-      go : (w : Bool) → withinCapacities ed ps ≡ w → (t : Bool) → allValues (wellFormed ed) ps ≡ t → (l : Bool) → leb (length (encode ed ps)) room ≡ l
-          → (if w then (if t then (if l then wrote (encode ed ps) else refused outputTooShort) else refused malformed) else refused overCapacity) ≡ wrote bs → Success ps room bs
-      go true w true t true l e = record { fits = fits-of-tests ps r w t; bytes = cc; enough = leb-true (length (encode ed ps)) room l }
-      go true w true t false l e = never outputTooShort e
-      go true w false t l m e = never malformed e
-      go false w t u l m e = never overCapacity e
+      go : (w : Bool) → withinCapacities ed ps ≡ w → (t : Bool) → allValues (wellFormed ed) ps ≡ t → (f : Bool) → allValues fewEnough ps ≡ f → (l : Bool) → leb (length (encode ed ps)) room ≡ l
+          → (if w then (if t then (if f then (if l then wrote (encode ed ps) else refused outputTooShort) else refused overCapacity) else refused malformed) else refused overCapacity) ≡ wrote bs → Success ps room bs
+      go true w true t true f true l e = record { fits = fits-of-tests ps r w t f; bytes = cc; enough = leb-true (length (encode ed ps)) room l }
+      go true w true t true f false l e = never outputTooShort e
+      go true w true t false f l m e = never overCapacity e
+      go true w false t f g l m e = never malformed e
+      go false w t u f g l m e = never overCapacity e
 
   -- given room, the writer succeeds exactly for the lists that fit
   pub writes-exactly : (ps : List Patch) (room : ℕ) → InRange ps → length (encode ed ps) ≤ room → (write ed ps room ≡ wrote (encode ed ps)) ↔ Fits ed ps

@@ -1,15 +1,16 @@
--- A text in the syntax consists of bytes: every range of the syntax ends below 256.
-use Prim.Native.Nat.{ℕ, _≤_, _<_}
+-- A text in the syntax consists of bytes: every range of the syntax ends below 256. It has no more characters than bytes.
+use Prim.Native.Nat.{ℕ, _+_, _≤_, _<_}
 use mathlib.Core.Path.{_≡_, refl, sym, _∙_}
 use mathlib.Core.Bool.{Bool, true, false, false≢true}
 use mathlib.Core.List.{List, [], _∷_}
 use native.Mathlib.Omega.{arith}
 use lib.Dec.{leb, ltb}
+use lib.ListN.{length}
 use borrow.Author.Tests.{leb-true, ltb-true}
 use Rattle.spec_lists.specs.Lists.{if_then_else_, all}
 use Rattle.spec_lists.specs.ListLaws.{and-left, and-right}
 use Rattle.spec_lists.specs.Bytes.{Bytes}
-use Rattle.spec_text.specs.Syntax.{Range, inside, sequences, After, expects, refused, lead, isUtf8After, isUtf8}
+use Rattle.spec_text.specs.Syntax.{Range, inside, sequences, After, expects, refused, lead, advance, whole, isUtf8After, charactersAfter, isUtf8, characters}
 
 pub isUtf8-empty : isUtf8 [] ≡ true
 isUtf8-empty = refl
@@ -56,3 +57,17 @@ bytes-after (b ∷ bs) refused o e = absurd (false≢true (sym (refused-stays bs
 
 pub utf8-bytes : (text : List ℕ) → isUtf8 text ≡ true → Bytes text
 utf8-bytes text e = bytes-after text (expects []) refl e
+
+-- ---- the number of characters
+
+-- each octet ends one character at the most
+few-after : (a : After) (text : List ℕ) → charactersAfter a text ≤ length text
+few-after a [] = omega arith
+few-after a (b ∷ bs) = go (whole (advance a b)) (few-after (advance a b) bs)
+  where
+    go : (t : Bool) → charactersAfter (advance a b) bs ≤ length bs → (if t then 1 else 0) + charactersAfter (advance a b) bs ≤ length (b ∷ bs)
+    go true h = omega arith
+    go false h = omega arith
+
+pub characters-few : (text : List ℕ) → characters text ≤ length text
+characters-few text = few-after (expects []) text

@@ -1,5 +1,5 @@
 // Runs the writer and the patch checks on refused lists and sets, and on slices that are too short for the answer. Each item of standard input is
-// three u32, which say what it is (0 a set, 1 a list), how many places are lent and how many bytes follow, and these bytes: the set, or the row of
+// three u32, which say what it is (0 a set, 1 a list, 2 a list of wide texts), how many places are lent and how many bytes follow, and these bytes: the set, or the row of
 // the list (`lists::set_of`). docs/DECISIONS.md says how the files stdin and stdout were made.
 mod checks;
 mod lists;
@@ -13,10 +13,10 @@ const BYTES: usize = 32769;
 
 fn run(list: u32, places: usize, item: &mut [u8]) {
     io::read_full(STDIN_FILENO, item);
-    if list == 1 {
-        writes::write(item, places);
-    } else {
-        checks::check(item, places);
+    match list {
+        1 => writes::write(item, &writes::texts(), places),
+        2 => writes::write(item, &writes::wide_texts(), places),
+        _ => checks::check(item, places),
     }
 }
 

@@ -10,8 +10,10 @@ use projection_patch::patch::ProjectionPatchSet;
 // The places of the output.
 const OUTPUT: usize = 32800;
 
-// The bytes of the texts.
+// The bytes of the texts, and of those that have characters of each width.
 const TEXTS: usize = 220;
+
+const WIDE_TEXTS: usize = 726;
 
 fn wide(byte: u8) -> u32
     ensures { λ r. ⌜ r < 256 ⌝ }
@@ -52,11 +54,37 @@ fn show_answer(written: Written) {
 }
 
 // The texts: the letter a, but for a surrogate at 0, the last scalar value at 10 and a character of two bytes at 20.
-fn texts() -> [u8; TEXTS] {
+pub(crate) fn texts() -> [u8; TEXTS] {
     let mut texts = [b'a'; TEXTS];
     bytes_wire::write_bytes_at(&mut texts, 0, b"\xed\xa0\x80");
     bytes_wire::write_bytes_at(&mut texts, 10, b"\xf4\x8f\xbf\xbf");
     bytes_wire::write_bytes_at(&mut texts, 20, b"\xc3\xa9");
+    texts
+}
+
+// From 240 on 121 characters of two bytes, from 482 on 81 of three.
+fn wide_byte(i: usize) -> u8 {
+    if i < 240 {
+        return b'a';
+    }
+    if i < 482 {
+        return if i % 2 == 0 { 0xc3 } else { 0xa9 };
+    }
+    match (i - 482) % 3 {
+        0 => 0xe6,
+        1 => 0x97,
+        _ => 0xa5,
+    }
+}
+
+// Texts of each width, and a byte at 725 that is in no text.
+pub(crate) fn wide_texts() -> [u8; WIDE_TEXTS] {
+    let mut texts = [0xffu8; WIDE_TEXTS];
+    let mut i: usize = 0;
+    while i < WIDE_TEXTS - 1 {
+        texts[i] = wide_byte(i);
+        i += 1;
+    }
     texts
 }
 
@@ -68,10 +96,9 @@ fn write_front(set: ProjectionPatchSet, lent: &[u8], out: &mut [u8], places: usi
     write_patch_set(set, lent, &mut out[0..places])
 }
 
-pub(crate) fn write(row: &[u8], places: usize) {
-    let lent = texts();
+pub(crate) fn write(row: &[u8], lent: &[u8], places: usize) {
     let mut out = [0xaau8; OUTPUT];
-    show_answer(write_front(lists::set_of(row), &lent, &mut out, places));
+    show_answer(write_front(lists::set_of(row), lent, &mut out, places));
     show_digest(&out);
 }
 

@@ -1,4 +1,4 @@
-//! Raw patch lists from canonical bytes: the inverse of the encoder, for sets inside the capacities of document 01.
+//! Raw patch lists from canonical bytes: the inverse of the encoder, for sets inside the capacities of documents 01 and 02.
 //! The original has no reader; whoever decodes asks its `canonical_bytes` whether the same bytes come out.
 use prom_ui::shell_bridge::glue::RawPatch;
 use prom_ui::shell_bridge::{BridgePatchEnvelope, BridgePatchOperation, BridgeValue};
@@ -8,7 +8,8 @@ use crate::sets;
 pub const SET_BYTES: usize = 32_768;
 pub const PATCHES: u32 = 64;
 pub const OPERATIONS: u32 = 128;
-pub const TEXT_BYTES: u32 = 160;
+pub const TEXT_BYTES: u32 = 240;
+pub const TEXT_CHARACTERS: usize = 160;
 
 struct Input<'a>(&'a [u8]);
 
@@ -49,7 +50,8 @@ impl<'a> Input<'a> {
 
     fn text(&mut self) -> Option<String> {
         let length = self.count(TEXT_BYTES)?;
-        String::from_utf8(self.take(length as usize)?.to_vec()).ok()
+        let text = String::from_utf8(self.take(length as usize)?.to_vec()).ok()?;
+        Some(text).filter(|text| text.chars().count() <= TEXT_CHARACTERS)
     }
 
     fn value(&mut self) -> Option<BridgeValue> {

@@ -1,4 +1,4 @@
--- `bytes_utf8::check` meets its contract: a text of whole groups below 0x80 has as many characters as bytes, and the table for any other is right.
+-- `bytes_utf8::check` meets its contract: a text of groups below 0x80 has as many characters as bytes, and the table for any other is right.
 use mathlib.Core.Path.{refl, sym}
 use native.Mathlib.Omega.{arith}
 use borrow.Author.Needs.{needs}
@@ -8,18 +8,18 @@ use Rattle.bytes_utf8.proofs.Reached.{reached-front, reached-end}
 use Rattle.bytes_utf8.proofs.check.Statement.{statement}
 use Rattle.bytes_utf8.proofs.check.Tie as tie
 
-groups-end-requires : tie.Need-groups-end-requires
-groups-end-requires c κs = search needs
+front-end-requires : tie.Need-front-end-requires
+front-end-requires c κs = search needs
 
 returns : tie.Need-returns
-returns c = sym (reached-end (reached-front (c .before .groups-end .ensures)) (omega arith))
+returns c = sym (reached-end (reached-front (c .before .front-end .ensures)) (omega arith))
 
 check-from-requires : tie.Need-check-from-requires
 unfolding classOf
-check-from-requires c κs = (class-table _ refl, c .before .before .groups-end .ensures)
+check-from-requires c κs = (class-table _ refl, c .before .before .front-end .ensures)
 
 returns-2 : tie.Need-returns-2
 returns-2 c = search needs
 
 pub check-spec : {M : Type 1} → statement M
-check-spec = tie.close (tie.spec groups-end-requires returns check-from-requires returns-2)
+check-spec = tie.close (tie.spec front-end-requires returns check-from-requires returns-2)

@@ -67,11 +67,11 @@ pub fn full_panel(tally: &mut Tally) -> Recorded {
 pub fn longest_set(tally: &mut Tally) -> Recorded {
     let (mut recorder, rng) = (Recorder::started(&wide_setup(), tally), &mut Rng::new(9));
     let long = || BridgeValue::Text("é".repeat(TEXT_BYTES as usize / 2));
-    let inserts = (0..128).map(|i| insert(i, long())).collect();
-    let updates = (0..45).map(|i| update(i, if i == 44 { BridgeValue::Text(String::new()) } else { long() })).collect();
+    let inserts = (0..99).map(|i| insert(i, long())).collect();
+    let updates = (0..23).map(|i| update(i, if i == 22 { BridgeValue::Text(String::new()) } else { long() })).collect();
     let mut list = patches::chain(rng, vec![inserts, updates]);
     let missing = SET_BYTES - sets::encode(&list).len();
-    *list[1].operations.last_mut().unwrap() = update(44, BridgeValue::Text("e".repeat(missing)));
+    *list[1].operations.last_mut().unwrap() = update(22, BridgeValue::Text("e".repeat(missing)));
     let set = patches::canonical(&mut list);
     assert!(set.len() == SET_BYTES && list.len() == 2);
     recorder.add(Command::Check(set.clone()));

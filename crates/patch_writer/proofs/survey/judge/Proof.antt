@@ -1,23 +1,37 @@
 -- `survey::judge` meets its contract: the bytes first, then the texts.
 use mathlib.Core.Path.{sym}
+use borrow.Author.Needs.{needs}
 use borrow.Author.Tests.{le-leb, lt-leb}
 use Rattle.spec_patch.specs.Sizes.{setBytes}
-use Rattle.patch_writer.specs.Survey.{judged}
-use Rattle.patch_part_writer.proofs.Flags.{fails, holds}
+use Rattle.patch_writer.specs.Survey.{surveyed}
 use Rattle.patch_writer.proofs.survey.judge.Statement.{statement}
 use Rattle.patch_writer.proofs.survey.judge.Tie as tie
 
 returns : tie.Need-returns
-unfolding judged
+unfolding surveyed
 returns c = let args = c .before .args in sym (rw (lt-leb (args .bytes) setBytes (c .if1 .taken)))
 
+enum-told : tie.Need-enum-told
+enum-told c = search needs
+
+enum-told-2 : tie.Need-enum-told-2
+enum-told-2 c = search needs
+
+enum-told-3 : tie.Need-enum-told-3
+enum-told-3 c = search needs
+
 returns-2 : tie.Need-returns-2
-unfolding judged
-returns-2 c = let args = c .before .before .args in sym (rw (le-leb (args .bytes) setBytes (c .before .if1 .left), fails (args .allowed) (c .if2 .taken)))
+unfolding surveyed
+returns-2 c = let k = c .before .before in sym (rw (le-leb (k .before .args .bytes) setBytes (k .if1 .left), c .enum-told .given .1))
 
 returns-3 : tie.Need-returns-3
-unfolding judged
-returns-3 c = let args = c .before .before .args in sym (rw (le-leb (args .bytes) setBytes (c .before .if1 .left), holds (args .allowed) (c .if2 .left)))
+unfolding surveyed
+returns-3 c = let k = c .before .before in sym (rw (le-leb (k .before .args .bytes) setBytes (k .if1 .left), c .enum-told2 .given .1))
+
+returns-4 : tie.Need-returns-4
+unfolding surveyed
+returns-4 c = let k = c .before .before in sym (rw (le-leb (k .before .args .bytes) setBytes (k .if1 .left), c .enum-told3 .given .1))
 
 pub judge-spec : {M : Type 1} → statement M
-judge-spec = tie.close (tie.spec returns returns-2 returns-3)
+judge-spec =
+    tie.close (tie.spec returns enum-told enum-told-2 enum-told-3 returns-2 returns-3 returns-4)

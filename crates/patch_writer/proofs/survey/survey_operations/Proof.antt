@@ -1,7 +1,6 @@
 -- `survey::survey_operations` meets its contract. The invariant: what is left of the operations answers as the whole does. The measure is what is left.
 use Prim.Native.Nat.{ℕ, _+_, _-_, _≤_, _<_}
 use mathlib.Core.Path.{_≡_, sym, ap, subst, _∙_}
-use mathlib.Core.Bool.{Bool, _&&_}
 use mathlib.Core.List.{List}
 use native.Mathlib.Omega.{arith}
 use borrow.Author.Needs.{needs}
@@ -10,26 +9,27 @@ use denote.Ref.{now}
 use lib.ListN.{length, getD, take}
 use Rattle.spec_patch.specs.Sizes.{textBytes}
 use Rattle.projection_patch.specs.declared.patch.OperationPlace.{OperationPlace}
+use Rattle.projection_patch.specs.declared.text_rule.TextJudgement.{TextJudgement}
 use Rattle.patch_part_writer.specs.declared.extent.TextPlace.{TextPlace}
 use Rattle.patch_part_writer.specs.ExtentLaws.{operation-small}
 use Rattle.patch_part_writer.specs.PartsLaws.{size-kept}
-use Rattle.patch_writer.specs.Set.{textAllowed}
+use Rattle.patch_writer.specs.Survey.{judgedText, worse}
 use Rattle.patch_writer.proofs.Elements.{noPlace, left-cons, left-none}
 use Rattle.patch_writer.proofs.Surveyed.{OperationsSeen, operations-start, operations-next, operations-over, operations-end}
 use Rattle.patch_writer.proofs.survey.survey_operations.Statement.{statement}
 use Rattle.patch_writer.proofs.survey.survey_operations.Tie as tie
 
--- the size and the verdict as the calls give them
-turned : (texts : List ℕ) (ps : List OperationPlace) (bytes i : ℕ) {n m : ℕ} {a b : Bool} → n ≡ m → a ≡ b → OperationsSeen texts ps (bytes + m) b i → OperationsSeen texts ps (bytes + n) a i
+-- the size and the judgement as the calls give them
+turned : (texts : List ℕ) (ps : List OperationPlace) (bytes i : ℕ) {n m : ℕ} {a b : TextJudgement} → n ≡ m → a ≡ b → OperationsSeen texts ps (bytes + m) b i → OperationsSeen texts ps (bytes + n) a i
 turned texts ps bytes i {n} {m} {a} {b} e f seen =
-    subst (λ (k : ℕ). OperationsSeen texts ps (bytes + k) a i) (sym e) (subst (λ (t : Bool). OperationsSeen texts ps (bytes + m) t i) (sym f) seen)
+    subst (λ (k : ℕ). OperationsSeen texts ps (bytes + k) a i) (sym e) (subst (λ (t : TextJudgement). OperationsSeen texts ps (bytes + m) t i) (sym f) seen)
 
 abbrev Inv-loop : tie.InvT-loop
-Inv-loop operations texts set bytes₀ allowed₀ i₀ bytes allowed i =
-    (i ≤ operations) × OperationsSeen texts (take operations (set .operations)) bytes allowed i
+Inv-loop operations texts set bytes₀ judgement₀ i₀ bytes judgement i =
+    (i ≤ operations) × OperationsSeen texts (take operations (set .operations)) bytes judgement i
 
 abbrev μ-loop : tie.MeasureT-loop
-μ-loop operations texts set bytes₀ allowed₀ i₀ bytes allowed i = operations - i
+μ-loop operations texts set bytes₀ judgement₀ i₀ bytes judgement i = operations - i
 
 long : (c : tie.Start Inv-loop μ-loop) → length (c .args .t1 .operations) ≡ 3120
 long c = search (needs, unmapped)
@@ -66,11 +66,11 @@ add-bytes c =
     let short = subst (λ (t : TextPlace). t .len ≤ textBytes) (c .before .before .before .operation-text .ensures) (c .before .if1 .left) in
     omega (arith, loop .inv .1 .small, c .operation-size .ensures ∙ size-kept (place .operation) short, operation-small (place .operation) short)
 
-text-allowed-requires : tie.Need-text-allowed-requires Inv-loop μ-loop
-text-allowed-requires c κs = search needs
+judge-place-requires : tie.Need-judge-place-requires Inv-loop μ-loop
+judge-place-requires c κs = search needs
 
-both-requires : tie.Need-both-requires Inv-loop μ-loop
-both-requires c κs = search needs
+worse-of-requires : tie.Need-worse-of-requires Inv-loop μ-loop
+worse-of-requires c κs = search needs
 
 add-i : tie.Need-add-i Inv-loop μ-loop
 add-i c = search needs
@@ -88,7 +88,7 @@ loop-again c =
     let parted = left-cons (args .operations) ps (loop .i) noPlace (c .before .before .before .before .before .before .before .loop-test .taken) (omega arith) in
     let short = subst (λ (t : TextPlace). t .len ≤ textBytes) (c .before .before .before .before .before .operation-text .ensures) (c .before .before .before .if1 .left) in
     let next = operations-next (loop .inv .1) place parted short in
-    let verdict = c .both .ensures ∙ ap (λ (b : Bool). loop .allowed && b) (c .before .text-allowed .ensures ∙ ap (textAllowed (now (args .texts))) (c .before .before .before .before .before .operation-text .ensures)) in
+    let verdict = c .worse-of .ensures ∙ ap (worse (loop .judgement)) (c .before .judge-place .ensures ∙ ap (judgedText (now (args .texts))) (c .before .before .before .before .before .operation-text .ensures)) in
     (omega arith, turned (now (args .texts)) (take (args .operations) ps) (loop .bytes) (loop .i + 1) (c .before .before .operation-size .ensures ∙ size-kept (place .operation) short) verdict next)
 
 returns-2 : tie.Need-returns-2 Inv-loop μ-loop
@@ -112,8 +112,8 @@ survey-operations-spec =
     returns
     operation-size-requires
     add-bytes
-    text-allowed-requires
-    both-requires
+    judge-place-requires
+    worse-of-requires
     add-i
     loop-less
     loop-again

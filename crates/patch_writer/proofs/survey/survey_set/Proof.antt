@@ -6,7 +6,7 @@ use borrow.Author.Needs.{needs}
 use Rattle.spec_lists.specs.ListLaws.{unmapped}
 use denote.Ref.{now}
 use lib.ListN.{take}
-use Rattle.spec_patch.specs.Sizes.{setPatches}
+use Rattle.spec_patch.specs.Sizes.{setPatches, textBytes}
 use Rattle.patch_writer.specs.Set.{setPlaces, heads}
 use Rattle.patch_writer.specs.CallLaws.{Arrays}
 use Rattle.patch_writer.proofs.Verdict.{heads-refused, HeadsWithin, heads-within, operations-refused, OperationsWithin, operations-within, many-patches, many-operations, many-places, long-text, both-passed, small-sum}
@@ -61,7 +61,7 @@ enum-told-2 c = search needs
 enum-known-rest : tie.Need-enum-known-rest
 enum-known-rest c = search needs
 
-small : (k : tie.After-rest) → front k .operations .given .0 .1 .0 + k .rest .given .0 .0 ≤ 69 * setPatches + 191 * setPlaces
+small : (k : tie.After-rest) → front k .operations .given .0 .1 .0 + k .rest .given .0 .0 ≤ 69 * setPatches + (31 + textBytes) * setPlaces
 small k =
     let start = start (front k) in
     small-sum (now (start .args .texts)) (start .args .set) _ _ _ _ (few (front k)) (k .before .before .before .if2 .left) (counted (front k)) (passed k) (arrays start)

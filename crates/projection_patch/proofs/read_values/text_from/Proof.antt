@@ -1,12 +1,13 @@
 -- `projection_patch::read_values::text_from` meets its contract: as many bytes, and the rule of texts of them.
 use Prim.Native.Nat.{ℕ}
 use mathlib.Core.Path.{_≡_, sym, ap, _∙_}
+use mathlib.Core.List.{List}
 use native.Mathlib.Omega.{arith}
 use native.Mathlib.Nat.{add-sub-cancel-left}
-use lib.ListN.{take, drop}
-use Rattle.spec_patch.specs.TextRule.{allowed}
-use Rattle.projection_patch.proofs.Texts.{short, bad, placed, just-there}
 use borrow.Author.Needs.{needs}
+use lib.ListN.{take, drop}
+use Rattle.projection_patch.specs.TextRule.{judgement}
+use Rattle.projection_patch.proofs.Texts.{judged-fits, judged-malformed, judged-many, unchecked, short, bad, many, placed, just-there}
 use Rattle.projection_patch.proofs.read_values.text_from.Statement.{statement}
 use Rattle.projection_patch.proofs.read_values.text_from.Tie as tie
 
@@ -19,30 +20,72 @@ returns c = let a = c .before .before .args in rw (short (a .strict) (a .part .n
 add-end : tie.Need-add-end
 add-end c = search needs
 
+returns-2 : tie.Need-returns-2
+returns-2 c =
+    let a = c .before .before .before .args in
+    placed (a .strict) (a .part .now) (a .start) (a .len) (omega arith) (omega arith) (unchecked (a .strict) _ (c .if2 .taken))
+
 text-of-requires : tie.Need-text-of-requires
 text-of-requires c κs = search needs
 
-text-allowed-requires : tie.Need-text-allowed-requires
-text-allowed-requires c κs = search needs
+judge-text-requires : tie.Need-judge-text-requires
+judge-text-requires c κs = search needs
 
--- the rule is asked of the text's own bytes
-tested : (c : tie.After-text-allowed) → let a = c .before .before .before .before .args in c .text-allowed .result ≡ allowed (a .strict) (take (a .len) (drop (a .start) (a .part .now)))
-tested c =
-    let a = c .before .before .before .before .args in
-    c .text-allowed .ensures
-    ∙ ap (allowed (a .strict)) (c .before .text-of .ensures ∙ sym (just-there (a .part .now) (a .start) _ (omega arith)) ∙ ap (λ (m : ℕ). take m (drop (a .start) (a .part .now))) (add-sub-cancel-left (a .start) (a .len)))
+enum-told : tie.Need-enum-told
+enum-told c = search needs
 
-returns-2 : tie.Need-returns-2
-returns-2 c =
-    let a = c .before .before .before .before .before .args in
-    placed (a .strict) (a .part .now) (a .start) (a .len) (omega arith) (omega arith) (sym (tested (c .before)) ∙ c .if2 .taken)
+enum-told-2 : tie.Need-enum-told-2
+enum-told-2 c = search needs
+
+enum-told-3 : tie.Need-enum-told-3
+enum-told-3 c = search needs
+
+abbrev begun : tie.After-judge-text → tie.Start
+begun k = k .before .before .before .before .before
+
+-- the text's own bytes
+abbrev text : tie.After-judge-text → List ℕ
+text k = let a = begun k .args in take (a .len) (drop (a .start) (a .part .now))
+
+-- the rule is asked of them
+asked : (k : tie.After-judge-text) → k .judge-text .result ≡ judgement (text k)
+asked k =
+    let a = begun k .args in
+    k .judge-text .ensures
+    ∙ ap judgement (k .before .text-of .ensures ∙ sym (just-there (a .part .now) (a .start) _ (omega arith)) ∙ ap (λ (m : ℕ). take m (drop (a .start) (a .part .now))) (add-sub-cancel-left (a .start) (a .len)))
 
 returns-3 : tie.Need-returns-3
 returns-3 c =
-    let a = c .before .before .before .before .before .args in
-    rw (bad (a .strict) (a .part .now) (a .start) (a .len) (omega arith) (sym (tested (c .before)) ∙ c .if2 .left))
+    let k = c .before .before in
+    let a = begun k .args in
+    placed (a .strict) (a .part .now) (a .start) (a .len) (omega arith) (omega arith)
+    (judged-fits (a .strict) (text k) (k .before .before .if2 .left) (sym (asked k) ∙ c .enum-told .given .1))
+
+returns-4 : tie.Need-returns-4
+returns-4 c =
+    let k = c .before .before in
+    let a = begun k .args in
+    rw (bad (a .strict) (a .part .now) (a .start) (a .len) (omega arith) (judged-malformed (a .strict) (text k) (k .before .before .if2 .left) (sym (asked k) ∙ c .enum-told2 .given .1)))
+
+returns-5 : tie.Need-returns-5
+returns-5 c =
+    let k = c .before .before in
+    let a = begun k .args in
+    rw (many (a .strict) (a .part .now) (a .start) (a .len) (omega arith) (judged-many (a .strict) (text k) (k .before .before .if2 .left) (sym (asked k) ∙ c .enum-told3 .given .1)))
 
 pub text-from-spec : {M : Type 1} → statement M
 text-from-spec =
     tie.close
-    (tie.spec sub-if1 returns add-end text-of-requires text-allowed-requires returns-2 returns-3)
+    (tie.spec
+    sub-if1
+    returns
+    add-end
+    returns-2
+    text-of-requires
+    judge-text-requires
+    enum-told
+    enum-told-2
+    enum-told-3
+    returns-3
+    returns-4
+    returns-5)

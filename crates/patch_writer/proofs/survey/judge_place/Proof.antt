@@ -1,0 +1,60 @@
+-- `survey::judge_place` meets its contract: the place first, then the bytes there.
+use Prim.Native.Nat.{ℕ, _+_, _-_}
+use mathlib.Core.Path.{_≡_, sym, ap, _∙_}
+use native.Mathlib.Omega.{arith}
+use borrow.Author.Tests.{leb-true}
+use borrow.Author.Needs.{needs}
+use denote.Ref.{now}
+use lib.ListN.{length, take, drop}
+use Rattle.projection_patch.specs.TextRule.{judgement}
+use Rattle.patch_writer.specs.Set.{textAllowed, textFew}
+use Rattle.patch_writer.specs.Survey.{judgedText}
+use Rattle.patch_part_writer.proofs.Flags.{fails, holds}
+use Rattle.patch_writer.proofs.survey.judge_place.Statement.{statement}
+use Rattle.patch_writer.proofs.survey.judge_place.Tie as tie
+
+has-room-requires : tie.Need-has-room-requires
+has-room-requires c κs = search needs
+
+returns : tie.Need-returns
+unfolding judgedText textAllowed
+returns c = sym (rw (sym (c .before .has-room .ensures) ∙ fails (c .before .has-room .result) (c .if1 .taken)))
+
+add-judge-text : tie.Need-add-judge-text
+add-judge-text c = let args = c .before .before .before .args in omega (arith, leb-true (args .text .start + args .text .len) (length (now (args .texts))) (sym (c .before .has-room .ensures) ∙ holds (c .before .has-room .result) (c .if1 .left)))
+
+sub-judge-text : tie.Need-sub-judge-text
+sub-judge-text c = search needs
+
+part-judge-text-start : tie.Need-part-judge-text-start
+part-judge-text-start c = search needs
+
+part-judge-text-end : tie.Need-part-judge-text-end
+part-judge-text-end c = let args = c .before .before .before .args in omega (arith, leb-true (args .text .start + args .text .len) (length (now (args .texts))) (sym (c .before .has-room .ensures) ∙ holds (c .before .has-room .result) (c .if1 .left)))
+
+judge-text-requires : tie.Need-judge-text-requires
+judge-text-requires c κs = search needs
+
+returns-2 : tie.Need-returns-2
+unfolding judgedText textAllowed textFew
+returns-2 c =
+    let room = c .before .before .before in
+    let args = room .before .before .args in
+    let part : args .text .start + args .text .len - args .text .start ≡ args .text .len = omega arith in
+    let bytes = drop (args .text .start) (now (args .texts)) in
+    c .judge-text .ensures
+    ∙ ap (λ (n : ℕ). judgement (take n bytes)) part
+    ∙ sym (rw (sym (room .has-room .ensures) ∙ holds (room .has-room .result) (c .before .before .if1 .left)))
+
+pub judge-place-spec : {M : Type 1} → statement M
+judge-place-spec =
+    tie.close
+    (tie.spec
+    has-room-requires
+    returns
+    add-judge-text
+    sub-judge-text
+    part-judge-text-start
+    part-judge-text-end
+    judge-text-requires
+    returns-2)
