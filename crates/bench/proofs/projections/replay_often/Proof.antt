@@ -7,11 +7,11 @@ use Rattle.bench.proofs.projections.replay_often.Statement.{statement}
 use Rattle.bench.proofs.projections.replay_often.Tie as tie
 
 abbrev Inv-loop : tie.InvT-loop
-Inv-loop fill set times state bindings₀ availability₀ entries₀ sum₀ left₀ bindings availability entries sum left =
+Inv-loop fill set times state used bindings₀ availability₀ entries₀ sum₀ left₀ bindings availability entries sum left =
     (length bindings ≡ bindingBytes) × (length availability ≡ availabilityBytes) × (length entries ≡ entryBytes)
 
 abbrev μ-loop : tie.MeasureT-loop
-μ-loop fill set times state bindings₀ availability₀ entries₀ sum₀ left₀ bindings availability entries sum left =
+μ-loop fill set times state used bindings₀ availability₀ entries₀ sum₀ left₀ bindings availability entries sum left =
     left
 
 filled-requires : tie.Need-filled-requires Inv-loop μ-loop
