@@ -13,7 +13,7 @@ markPlaces = 512
 
 -- the place of a target's mark
 unfoldable pub markOf : MutationTarget → ℕ
-markOf t = (t .first % markPlaces * 183 + t .kind % markPlaces * 215 + t .second % markPlaces) % markPlaces
+markOf t = (t .first % markPlaces * 447 + t .kind % markPlaces * 419 + t .second % markPlaces) % markPlaces
 
 abbrev pub HasMark : List ℕ → MutationTarget → Type 0
 HasMark marks t = getD marks (markOf t) 0 ≡ 1

@@ -189,7 +189,7 @@ fn mark_of(target: MutationTarget) -> usize
     let first = target.first % MutationTarget::PLACES;
     let second = target.second % MutationTarget::PLACES;
     let kind = target.kind % MutationTarget::PLACES;
-    ((first * 183 + kind * 215 + second) % MutationTarget::PLACES) as usize
+    ((first * 447 + kind * 419 + second) % MutationTarget::PLACES) as usize
 }
 
 // As seen_before, with a mark for each target among the first used numbers: one without a mark is not among them, and

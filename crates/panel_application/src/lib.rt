@@ -11,7 +11,6 @@ ghost use Rattle.panel_application.specs.Application.{applySet, outcomeN
 use check_quick::quick_set;
 use check_quick::quick_set::QuickCheck;
 use local_projection_state::LocalProjectionState;
-use local_projection_state::ProjectionCounts;
 use panel_bindings::LocalProjectionApplicationError;
 use panel_changes::SetChange;
 use projection_patch::read_values::ProjectionPatchReadFault;
@@ -53,11 +52,7 @@ fn apply_readable(state: LocalProjectionState, set: &[u8]) -> ProjectionApplicat
     let mut bindings = [0u8; LocalProjectionState::BINDING_BYTES];
     let mut availability = [0u8; LocalProjectionState::AVAILABILITY_BYTES];
     let mut entries = [0u8; LocalProjectionState::ENTRY_BYTES];
-    let used = ProjectionCounts {
-        bindings: 0,
-        availabilities: 0,
-        entries: 0,
-    };
+    let used = panel_changes::none_used();
     match panel_changes::apply_set(
         &state.bindings,
         &state.availability,

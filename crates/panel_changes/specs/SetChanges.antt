@@ -28,6 +28,10 @@ pub record TableLengths (b a e : List ℕ) : Type 0 where
   pub availability : length a ≡ availabilityBytes
   pub entries : length e ≡ entryBytes
 
+-- nothing is used of tables that are all zeros
+abbrev pub noneUsed : ProjectionCounts
+noneUsed = record { bindings = 0; availabilities = 0; entries = 0 }
+
 -- the tables that are written: as long as they should be, and zero behind the rows that were used
 pub record Ready (used : ProjectionCounts) (b a e : List ℕ) : Type 0 where
   pub lengths : TableLengths b a e

@@ -43,7 +43,7 @@ use Rattle.panel_steps.specs.declared.PlanRun.the-variants as plan
 use Rattle.panel_bindings.specs.declared.LocalProjectionApplicationError.{LocalProjectionApplicationError}
 use Rattle.projection_patch.specs.declared.read_values.ProjectionPatchReadFault.{ProjectionPatchReadFault}
 use Rattle.panel_writing.specs.Writing.{ClearBehind}
-use Rattle.panel_changes.specs.SetChanges.{tablesFit, countsFit, TableLengths, Ready, ChangeBecame}
+use Rattle.panel_changes.specs.SetChanges.{tablesFit, countsFit, TableLengths, noneUsed, Ready, ChangeBecame}
 use Rattle.panel_changes.specs.declared.SetChange.{SetChange}
 use Rattle.panel_changes.specs.declared.SetChange.the-variants as change
 
@@ -69,10 +69,6 @@ lengths-fit b a e h = rw (eq-eqb (length b) bindingBytes (h .bindings), eq-eqb (
 -- zeros store no rows
 pub none-stored : {A : Type 0} (row : A → List ℕ) (width capacity : ℕ) → Stored row width capacity 0 (zeros (capacity * width)) []
 none-stored row width capacity = record { size = length-replicate {A = ℕ} (capacity * width) 0; rows = holds-none width (capacity * width) }
-
--- nothing is used of new tables
-abbrev pub noneUsed : ProjectionCounts
-noneUsed = record { bindings = 0; availabilities = 0; entries = 0 }
 
 clear-zeros : (width n : ℕ) → ClearBehind 0 width (zeros n)
 clear-zeros width n =

@@ -19,7 +19,7 @@ ghost use Rattle.panel_rows.specs.Rows.{bindingBytes, availabilityBytes, entryB
 ghost use Rattle.local_projection_state.specs.Stores.{StoredTables};
 ghost use Rattle.panel_plan.specs.PlanRows.{PlannedBindings, PlannedEntries};
 ghost use Rattle.panel_steps.specs.Runs.{RunBecame, PlannedAs};
-ghost use Rattle.panel_changes.specs.SetChanges.{tablesFit, countsFit, TableLengths, Ready, ChangeBecame, KeptUnlessApplied};
+ghost use Rattle.panel_changes.specs.SetChanges.{tablesFit, countsFit, TableLengths, noneUsed, Ready, ChangeBecame, KeptUnlessApplied};
 use local_projection_state::LocalProjectionState;
 use local_projection_state::ProjectionCounts;
 use panel_bindings::LocalProjectionApplicationError;
@@ -208,6 +208,17 @@ fn apply_from(
         }
         PlanRun::Refused(error) => SetChange::Refused(error),
         PlanRun::Unreadable(fault) => SetChange::Unreadable(fault),
+    }
+}
+
+// How many rows were used of tables that are all zeros.
+pub fn none_used() -> ProjectionCounts
+    ensures { λ r. ⌜ r ≡ noneUsed ⌝ }
+{
+    ProjectionCounts {
+        bindings: 0,
+        availabilities: 0,
+        entries: 0,
     }
 }
 

@@ -12,6 +12,7 @@ use Rattle.session_gates.specs.Gates.{envelopeMeans, preflightBy}
 use Rattle.session_gates.specs.declared.gates.OrderedProjectionPatchBatchEnvelope.{OrderedProjectionPatchBatchEnvelope}
 use Rattle.session_steps.specs.Answers.{batchAnswerOf, rejectedAt, AnswerRow}
 use Rattle.session_steps.specs.declared.answers.ProjectionPatchApplicationDisposition.the-variants.{Applied}
+use Rattle.session_steps.specs.declared.answers.ProjectionPatchApplicationResult.{ProjectionPatchApplicationResult}
 use Rattle.session_steps.specs.declared.checks.ActivatedShellSessionContext.{ActivatedShellSessionContext}
 use Rattle.shell_player.specs.declared.session.ShellSession.{ShellSession}
 use Rattle.shell_player.specs.declared.batch.ProjectionPatchBatch.{ProjectionPatchBatch}
@@ -20,6 +21,10 @@ use Rattle.shell_player.specs.Holds.{Holds}
 -- the session of these parts
 abbrev pub sessionOf : ActivatedShellSessionContext → ShellLocalState → ProjectionCounts → List ℕ → List ℕ → List ℕ → ShellSession
 sessionOf c t n b a e = record { context = c; state = t; «local_projection» = record { counts = n; bindings = b; availability = a; entries = e } }
+
+-- a batch's session and answer
+abbrev pub batchOf : ShellSession → ProjectionPatchApplicationResult → ProjectionPatchBatch
+batchOf s r = record { session = s; result = r }
 
 -- ---- the relation of a batch call
 

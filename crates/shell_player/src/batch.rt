@@ -12,7 +12,7 @@ use session_steps::checks;
 use session_steps::checks::ActivatedShellSessionContext;
 use session_steps::states;
 ghost use mathlib.Core.Path.{_≡_};
-ghost use Rattle.shell_player.specs.Batches.{sessionOf, BatchCall, AnyBatchCall};
+ghost use Rattle.shell_player.specs.Batches.{sessionOf, batchOf, BatchCall, AnyBatchCall};
 
 // The session after a batch, and the batch's answer.
 pub struct ProjectionPatchBatch {
@@ -43,6 +43,13 @@ fn session_of(
     }
 }
 
+// A batch's session and answer, made by a call for the same reason.
+fn batch_of(session: ShellSession, result: ProjectionPatchApplicationResult) -> ProjectionPatchBatch
+    ensures { λ r. ⌜ r ≡ batchOf session result ⌝ }
+{
+    ProjectionPatchBatch { session, result }
+}
+
 impl ShellSession {
     // One batch: steps 1 to 9. The tables of the next session are written once; a batch that is not applied hands the session back as it came.
     pub fn apply_projection_patch_batch(
@@ -61,25 +68,15 @@ impl ShellSession {
         let declared = declared_target_reference_count;
         let gate = checks::check_session(context, state, envelope, declared, set);
         if let BatchGate::Refused(refusal, logical) = gate {
-            return ProjectionPatchBatch {
-                session: self,
-                result: answers::rejected(cap, refusal, logical, cursor),
-            };
+            return batch_of(self, answers::rejected(cap, refusal, logical, cursor));
         }
         if checks::is_empty(envelope) {
-            return ProjectionPatchBatch {
-                session: self,
-                result: answers::unchanged(cursor),
-            };
+            return batch_of(self, answers::unchanged(cursor));
         }
         let mut bindings = [0u8; LocalProjectionState::BINDING_BYTES];
         let mut availability = [0u8; LocalProjectionState::AVAILABILITY_BYTES];
         let mut entries = [0u8; LocalProjectionState::ENTRY_BYTES];
-        let used = ProjectionCounts {
-            bindings: 0,
-            availabilities: 0,
-            entries: 0,
-        };
+        let used = panel_changes::none_used();
         let change = panel_changes::apply_set(
             &self.local_projection.bindings,
             &self.local_projection.availability,
@@ -93,13 +90,10 @@ impl ShellSession {
         );
         let result = answers::concluded(cap, change, cursor, envelope.sequence_no);
         let SetChange::Applied(held) = change else {
-            return ProjectionPatchBatch {
-                session: self,
-                result,
-            };
+            return batch_of(self, result);
         };
         let moved = states::advanced(state, envelope.sequence_no);
         let session = session_of(context, moved, held, bindings, availability, entries);
-        ProjectionPatchBatch { session, result }
+        batch_of(session, result)
     }
 }

@@ -1,11 +1,18 @@
 -- `apply_readable` meets its contract: what `apply_set` wrote is the next state's, or the state goes back as it came.
-use mathlib.Core.Path.{refl}
+use mathlib.Core.Path.{refl, sym, subst}
 use borrow.Author.Needs.{needs}
 use Rattle.spec_projection.specs.Apply.{replaySteps, applySteps}
+use Rattle.bytes_records.specs.Moves.{zeros}
+use Rattle.panel_rows.specs.Rows.{bindingBytes, availabilityBytes, entryBytes}
+use Rattle.local_projection_state.specs.declared.ProjectionCounts.{ProjectionCounts}
+use Rattle.panel_changes.specs.SetChanges.{Ready}
 use Rattle.panel_changes.specs.SetChangesLaws.{zeros-ready}
 use Rattle.panel_application.proofs.Steps.{set-applied, set-refused, set-reads, set-fits}
 use Rattle.panel_application.proofs.apply_readable.Statement.{statement}
 use Rattle.panel_application.proofs.apply_readable.Tie as tie
+
+none-used-requires : tie.Need-none-used-requires
+none-used-requires c κs = search needs
 
 slice-aggregate-apply-set : tie.Need-slice-aggregate-apply-set
 slice-aggregate-apply-set c = search needs
@@ -31,30 +38,35 @@ enum-known-fault c = search needs
 enum-told : tie.Need-enum-told
 enum-told c = search needs
 
+-- nothing is used of the new tables
+ready : (c : tie.After-apply-set) → Ready (c .before .before .before .before .before .before .before .before .before .before .before .before .none-used .result) (zeros bindingBytes) (zeros availabilityBytes) (zeros entryBytes)
+ready c = subst (λ (u : ProjectionCounts). Ready u (zeros bindingBytes) (zeros availabilityBytes) (zeros entryBytes)) (sym (c .before .before .before .before .before .before .before .before .before .before .before .before .none-used .ensures)) zeros-ready
+
 returns : tie.Need-returns
 returns c =
     let call = c .before .before .before .before .before .before in
-    ((λ ps p readable s. set-applied (call .apply-set .last .1 .1 .1 .1 .1 .0) (call .apply-set .last .1 .1 .1 .1 .1 .1 .0) (call .apply-set .last .1 .1 .1 .1 .1 .1 .1 .0) (applySteps p (replaySteps ps)) (call .apply-set .ensures .0 p ps s readable zeros-ready) _ (c .before .counts .given .1)), tt)
+    ((λ ps p readable s. set-applied (call .apply-set .last .1 .1 .1 .1 .1 .0) (call .apply-set .last .1 .1 .1 .1 .1 .1 .0) (call .apply-set .last .1 .1 .1 .1 .1 .1 .1 .0) (applySteps p (replaySteps ps)) (call .apply-set .ensures .0 p ps s readable (ready call)) _ (c .before .counts .given .1)), tt)
 
 returns-2 : tie.Need-returns-2
 returns-2 c =
     let call = c .before .before .before .before .before .before in
-    ((λ ps p readable s. set-refused (call .apply-set .last .1 .1 .1 .1 .1 .0) (call .apply-set .last .1 .1 .1 .1 .1 .1 .0) (call .apply-set .last .1 .1 .1 .1 .1 .1 .1 .0) (applySteps p (replaySteps ps)) (call .apply-set .ensures .0 p ps s readable zeros-ready) _ _ (c .before .error .given .1)), refl)
+    ((λ ps p readable s. set-refused (call .apply-set .last .1 .1 .1 .1 .1 .0) (call .apply-set .last .1 .1 .1 .1 .1 .1 .0) (call .apply-set .last .1 .1 .1 .1 .1 .1 .1 .0) (applySteps p (replaySteps ps)) (call .apply-set .ensures .0 p ps s readable (ready call)) _ _ (c .before .error .given .1)), refl)
 
 returns-3 : tie.Need-returns-3
 returns-3 c =
     let call = c .before .before .before .before .before .before in
-    ((λ ps p readable s. absurd (set-reads (call .apply-set .last .1 .1 .1 .1 .1 .0) (call .apply-set .last .1 .1 .1 .1 .1 .1 .0) (call .apply-set .last .1 .1 .1 .1 .1 .1 .1 .0) (applySteps p (replaySteps ps)) (call .apply-set .ensures .0 p ps s readable zeros-ready) _ (c .before .fault .given .1))), refl)
+    ((λ ps p readable s. absurd (set-reads (call .apply-set .last .1 .1 .1 .1 .1 .0) (call .apply-set .last .1 .1 .1 .1 .1 .1 .0) (call .apply-set .last .1 .1 .1 .1 .1 .1 .1 .0) (applySteps p (replaySteps ps)) (call .apply-set .ensures .0 p ps s readable (ready call)) _ (c .before .fault .given .1))), refl)
 
 returns-4 : tie.Need-returns-4
 returns-4 c =
     let call = c .before .before .before .before .before in
-    ((λ ps p readable s. absurd (set-fits (call .apply-set .last .1 .1 .1 .1 .1 .0) (call .apply-set .last .1 .1 .1 .1 .1 .1 .0) (call .apply-set .last .1 .1 .1 .1 .1 .1 .1 .0) (applySteps p (replaySteps ps)) (call .apply-set .ensures .0 p ps s readable zeros-ready) (c .enum-told .given .1))), refl)
+    ((λ ps p readable s. absurd (set-fits (call .apply-set .last .1 .1 .1 .1 .1 .0) (call .apply-set .last .1 .1 .1 .1 .1 .1 .0) (call .apply-set .last .1 .1 .1 .1 .1 .1 .1 .0) (applySteps p (replaySteps ps)) (call .apply-set .ensures .0 p ps s readable (ready call)) (c .enum-told .given .1))), refl)
 
 pub apply-readable-spec : {M : Type 1} → statement M
 apply-readable-spec =
     tie.close
     (tie.spec
+    none-used-requires
     slice-aggregate-apply-set
     slice-aggregate-apply-set-2
     slice-aggregate-apply-set-3

@@ -1,4 +1,5 @@
 -- `ShellSession::apply_projection_patch_batch` meets its contract: steps 1 to 8, then step 9, by what came of the operations.
+use Prim.Native.Nat.{ℕ}
 use mathlib.Core.Path.{_≡_, refl, sym, ap, subst, _∙_}
 use mathlib.Core.Bool.{false≢true}
 use mathlib.Core.List.{List, [], _∷_}
@@ -16,18 +17,24 @@ use Rattle.spec_session.specs.Session.{at, Session}
 use Rattle.spec_session.specs.Lifecycle.{applied}
 use Rattle.spec_session.specs.Batch.{candidate, commit}
 use Rattle.spec_session.specs.BatchLaws.{never-passes}
+use Rattle.bytes_records.specs.Moves.{zeros}
+use Rattle.panel_rows.specs.Rows.{bindingBytes, availabilityBytes, entryBytes}
 use Rattle.local_projection_state.specs.Stores.{StoredTables}
+use Rattle.local_projection_state.specs.declared.ProjectionCounts.{ProjectionCounts}
 use Rattle.panel_changes.proofs.SetChange as set-change
-use Rattle.panel_changes.specs.SetChanges.{ChangeBecame}
+use Rattle.panel_changes.specs.SetChanges.{Ready, ChangeBecame}
 use Rattle.panel_changes.specs.SetChangesLaws.{zeros-ready}
 use Rattle.panel_changes.specs.declared.SetChange.{SetChange}
 use Rattle.panel_changes.specs.declared.SetChange.the-variants.{Applied, Refused, Unreadable, BadTables}
 use Rattle.session_gates.specs.Gates.{gateOf, counted, envelopeMeans}
+use Rattle.session_gates.specs.declared.gates.OrderedProjectionPatchBatchEnvelope.{OrderedProjectionPatchBatchEnvelope}
+use Rattle.session_steps.specs.declared.answers.ProjectionPatchApplicationResult.{ProjectionPatchApplicationResult}
 use Rattle.session_steps.specs.Answers.{batchAnswerOf, answerAt, changeAnswer, Stopped, rejectedRow, unchangedRow, appliedRow}
 use Rattle.session_steps.specs.AnswersLaws.{same-rejection, change-row}
 use Rattle.shell_player.specs.declared.session.ShellSession.{ShellSession}
+use Rattle.shell_player.specs.declared.batch.ProjectionPatchBatch.{ProjectionPatchBatch}
 use Rattle.shell_player.specs.Holds.{Holds}
-use Rattle.shell_player.specs.Batches.{BatchBecame}
+use Rattle.shell_player.specs.Batches.{batchOf, BatchBecame, BatchCall, AnyBatchCall}
 use Rattle.shell_player.specs.CommitLaws.{kept-applied, seen, commits-none, commits-stopped, commits-applied, batch-rejects, batch-commits}
 use Rattle.shell_player.proofs.session.ShellSession.apply_projection_patch_batch.Statement.{
   statement,
@@ -48,9 +55,14 @@ abbrev Tables : tie.After-apply-set → SetChange → (m : Session) (ps : List P
 Tables c r m ps = ChangeBecame (λ n q. StoredTables n (c .apply-set .last .1 .1 .1 .1 .1 .0) (c .apply-set .last .1 .1 .1 .1 .1 .1 .0) (c .apply-set .last .1 .1 .1 .1 .1 .1 .1 .0) q) r (candidate m ps)
 
 -- what came of the operations
-became : (c : tie.After-apply-set) → let a = c .before .before .before .before .before .before .before .before .before .before .before .before .before .before .before .before .before .before .before .before .args in (m : Session) (ps : List Patch) → Holds (a .t1) m → readSet v1 (now (a .set)) ≡ patches ps → Tables c (c .apply-set .result) m ps
+became : (c : tie.After-apply-set) → let a = c .before .before .before .before .before .before .before .before .before .before .before .before .before .before .before .before .before .before .before .before .before .args in (m : Session) (ps : List Patch) → Holds (a .t1) m → readSet v1 (now (a .set)) ≡ patches ps → Tables c (c .apply-set .result) m ps
 unfolding candidate
-became c m ps h reads = c .apply-set .ensures .0 (m .projection) ps (h .projection) reads zeros-ready
+became c m ps h reads = c .apply-set .ensures .0 (m .projection) ps (h .projection) reads (subst (λ (u : ProjectionCounts). Ready u (zeros bindingBytes) (zeros availabilityBytes) (zeros entryBytes)) (sym (c .before .before .before .before .before .before .before .before .before .before .before .before .none-used .ensures)) zeros-ready)
+
+-- what is told of a session and an answer is told of the batch that is made of them
+told : {s : ShellSession} {e : OrderedProjectionPatchBatchEnvelope} {declared : ℕ} {set : List ℕ} (session : ShellSession) (result : ProjectionPatchApplicationResult) {r : ProjectionPatchBatch} → r ≡ batchOf session result
+    → BatchCall s e declared set (batchOf session result) × AnyBatchCall s e (batchOf session result) → BatchCall s e declared set r × AnyBatchCall s e r
+told {s = s} {e = e} {declared = declared} {set = set} session result is h = subst (λ x. BatchCall s e declared set x × AnyBatchCall s e x) (sym is) h
 
 check-session-requires : tie.Need-check-session-requires
 check-session-requires c κs = search needs
@@ -61,16 +73,21 @@ enum-known-gate c = search needs
 rejected-requires : tie.Need-rejected-requires
 rejected-requires c κs = search needs
 
+batch-of-requires : tie.Need-batch-of-requires
+batch-of-requires c κs = search needs
+
 returns : tie.Need-returns
 unfolding gateOf counted
 returns c =
-    let gate = ap gateOf (sym (c .before .before .gate .given .1)) in
-    let checked = c .before .before .before .before .check-session .ensures in (
-      record { became = λ m h. batch-rejects _ m h _ _ _ _ _ _ (gate ∙ checked .0 m (seen _ m h)) (c .rejected .ensures) },
+    let gate = ap gateOf (sym (c .before .before .before .gate .given .1)) in
+    let checked = c .before .before .before .before .before .check-session .ensures in
+    let answer = c .before .rejected .ensures in
+    told _ _ (c .batch-of .ensures) (
+      record { became = λ m h. batch-rejects _ m h _ _ _ _ _ _ (gate ∙ checked .0 m (seen _ m h)) answer },
       record {
         kept = λ n. refl;
-        row = rejectedRow _ _ (ap counted gate ∙ checked .1 .0) (c .rejected .ensures);
-        preflight = λ f n h. c .rejected .ensures ∙ same-rejection _ _ (gate ∙ checked .1 .1 f n h);
+        row = rejectedRow _ _ (ap counted gate ∙ checked .1 .0) answer;
+        preflight = λ f n h. answer ∙ same-rejection _ _ (gate ∙ checked .1 .1 f n h);
       },
     )
 
@@ -83,18 +100,26 @@ is-empty-requires c κs = search needs
 unchanged-requires : tie.Need-unchanged-requires
 unchanged-requires c κs = search needs
 
+batch-of-requires-2 : tie.Need-batch-of-requires-2
+batch-of-requires-2 c κs = search needs
+
 returns-2 : tie.Need-returns-2
 unfolding gateOf
 returns-2 c =
-    let gate = ap gateOf (sym (c .before .before .before .enum-told .given .1)) in
-    let checked = c .before .before .before .before .before .check-session .ensures in (
-      record { became = λ m h. batch-commits _ m h _ _ _ _ (gate ∙ checked .0 m (seen _ m h)) (λ ps reads count. commits-none _ m h _ ps _ (c .unchanged .ensures) (eqb-true _ 0 (sym (c .before .before .is-empty .ensures) ∙ c .before .if1 .taken)) count) },
+    let gate = ap gateOf (sym (c .before .before .before .before .enum-told .given .1)) in
+    let checked = c .before .before .before .before .before .before .check-session .ensures in
+    let answer = c .before .unchanged .ensures in
+    told _ _ (c .batch-of2 .ensures) (
+      record { became = λ m h. batch-commits _ m h _ _ _ _ (gate ∙ checked .0 m (seen _ m h)) (λ ps reads count. commits-none _ m h _ ps _ answer (eqb-true _ 0 (sym (c .before .before .before .is-empty .ensures) ∙ c .before .before .if1 .taken)) count) },
       record {
         kept = λ n. refl;
-        row = unchangedRow (c .unchanged .ensures);
+        row = unchangedRow answer;
         preflight = λ f n h. never-passes (sym (gate ∙ checked .1 .1 f n h));
       },
     )
+
+none-used-requires : tie.Need-none-used-requires
+none-used-requires c κs = search needs
 
 slice-aggregate-apply-set : tie.Need-slice-aggregate-apply-set
 slice-aggregate-apply-set c = search needs
@@ -114,18 +139,22 @@ concluded-requires c κs = search needs
 enum-known-change : tie.Need-enum-known-change
 enum-known-change c = search needs
 
+batch-of-requires-3 : tie.Need-batch-of-requires-3
+batch-of-requires-3 c κs = search needs
+
 returns-3 : tie.Need-returns-3
 unfolding gateOf
 returns-3 c =
-    let gate = ap gateOf (sym (c .before .before .before .before .before .before .before .before .before .before .before .before .before .before .before .before .before .before .before .enum-told .given .1)) in
-    let checked = c .before .before .before .before .before .before .before .before .before .before .before .before .before .before .before .before .before .before .before .before .before .check-session .ensures in
-    let call = c .before .before .before .before .before in
+    let gate = ap gateOf (sym (c .before .before .before .before .before .before .before .before .before .before .before .before .before .before .before .before .before .before .before .before .before .enum-told .given .1)) in
+    let checked = c .before .before .before .before .before .before .before .before .before .before .before .before .before .before .before .before .before .before .before .before .before .before .before .check-session .ensures in
+    let call = c .before .before .before .before .before .before in
     let change = call .apply-set .result in
-    let told = c .before .concluded .ensures in (
-      record { became = λ m h. batch-commits _ m h _ _ _ _ (gate ∙ checked .0 m (seen _ m h)) (λ ps reads count. commits-stopped _ m h _ ps change _ _ (other change (c .match2 .keys2)) (became call m ps h reads) told) },
+    let answer = c .before .before .concluded .ensures in
+    told _ _ (c .batch-of3 .ensures) (
+      record { became = λ m h. batch-commits _ m h _ _ _ _ (gate ∙ checked .0 m (seen _ m h)) (λ ps reads count. commits-stopped _ m h _ ps change _ _ (other change (c .before .match2 .keys2)) (became call m ps h reads) answer) },
       record {
         kept = λ n. refl;
-        row = change-row _ _ _ _ change told;
+        row = change-row _ _ _ _ change answer;
         preflight = λ f n h. never-passes (sym (gate ∙ checked .1 .1 f n h));
       },
     )
@@ -137,33 +166,38 @@ session-of-requires : tie.Need-session-of-requires
 session-of-requires c κs = search needs
 
 -- the answer where the set was applied
-answered : (c : tie.After-session-of) → batchAnswerOf (c .before .before .before .before .before .concluded .result) ≡ answerAt applied (at (c .before .before .before .before .before .before .before .before .before .before .before .before .before .before .before .before .before .before .before .before .before .before .before .before .before .before .before .before .before .args .envelope .«sequence_no»))
+answered : (c : tie.After-session-of) → batchAnswerOf (c .before .before .before .before .before .concluded .result) ≡ answerAt applied (at (c .before .before .before .before .before .before .before .before .before .before .before .before .before .before .before .before .before .before .before .before .before .before .before .before .before .before .before .before .before .before .args .envelope .«sequence_no»))
 unfolding changeAnswer
 answered c = c .before .before .before .before .before .concluded .ensures ∙ ap (changeAnswer _ _ _) (c .before .before .before .change .given .1)
 
 -- the session that was made of the tables
-handed : (c : tie.After-session-of) → let a = c .before .before .before .before .before .before .before .before .before .before .before .before .before .before .before .before .before .before .before .before .before .before .before .before .before .before .before .before .before .args in (m : Session) (ps : List Patch) → Holds (a .t1) m → readSet v1 (now (a .set)) ≡ patches ps → (a .envelope .«patch_count» ≡ 0 → ⊥)
-    → BatchBecame (record { session = c .session-of .result; result = c .before .before .before .before .before .concluded .result }) (commit m (envelopeMeans (a .envelope)) (candidate m ps))
+handed : (c : tie.After-session-of) → let a = c .before .before .before .before .before .before .before .before .before .before .before .before .before .before .before .before .before .before .before .before .before .before .before .before .before .before .before .before .before .before .args in (m : Session) (ps : List Patch) → Holds (a .t1) m → readSet v1 (now (a .set)) ≡ patches ps → (a .envelope .«patch_count» ≡ 0 → ⊥)
+    → BatchBecame (batchOf (c .session-of .result) (c .before .before .before .before .before .concluded .result)) (commit m (envelopeMeans (a .envelope)) (candidate m ps))
 handed c m ps h reads some =
-    let a = c .before .before .before .before .before .before .before .before .before .before .before .before .before .before .before .before .before .before .before .before .before .before .before .before .before .before .before .before .before .args in
+    let a = c .before .before .before .before .before .before .before .before .before .before .before .before .before .before .before .before .before .before .before .before .before .before .before .before .before .before .before .before .before .before .args in
     let call = c .before .before .before .before .before .before .before .before .before in
     let result = c .before .before .before .before .before .concluded .result in
     let ended = c .before .before .before .change .given in
     let stored : Tables call (Applied (ended .0 .0)) m ps = subst (λ r. Tables call r m ps) (ended .1) (became call m ps h reads) in
-    subst (λ (s : ShellSession). BatchBecame (record { session = s; result = result }) (commit m (envelopeMeans (a .envelope)) (candidate m ps))) (sym (c .session-of .ensures))
+    subst (λ (s : ShellSession). BatchBecame (batchOf s result) (commit m (envelopeMeans (a .envelope)) (candidate m ps))) (sym (c .session-of .ensures))
     (commits-applied (a .t1) m h (envelopeMeans (a .envelope)) ps (ended .0 .0) _ _ _ (c .before .advanced .result) result some stored (c .before .advanced .ensures) (answered c))
+
+batch-of-requires-4 : tie.Need-batch-of-requires-4
+batch-of-requires-4 c κs = search needs
 
 returns-4 : tie.Need-returns-4
 unfolding gateOf
 returns-4 c =
-    let gate = ap gateOf (sym (c .before .before .before .before .before .before .before .before .before .before .before .before .before .before .before .before .before .before .before .before .before .before .before .enum-told .given .1)) in
-    let checked = c .before .before .before .before .before .before .before .before .before .before .before .before .before .before .before .before .before .before .before .before .before .before .before .before .before .check-session .ensures in (
+    let made = c .before in
+    let gate = ap gateOf (sym (made .before .before .before .before .before .before .before .before .before .before .before .before .before .before .before .before .before .before .before .before .before .before .before .before .enum-told .given .1)) in
+    let checked = made .before .before .before .before .before .before .before .before .before .before .before .before .before .before .before .before .before .before .before .before .before .before .before .before .before .before .check-session .ensures in
+    told _ _ (c .batch-of4 .ensures) (
       record {
-        became = λ m h. batch-commits _ m h _ _ _ _ (gate ∙ checked .0 m (seen _ m h)) (λ ps reads count. handed c m ps h reads (λ none. false≢true (sym (sym (c .before .before .before .before .before .before .before .before .before .before .before .before .before .before .before .before .before .before .before .before .before .before .is-empty .ensures) ∙ c .before .before .before .before .before .before .before .before .before .before .before .before .before .before .before .before .before .before .before .before .before .if1 .left) ∙ eq-eqb _ 0 none)));
+        became = λ m h. batch-commits _ m h _ _ _ _ (gate ∙ checked .0 m (seen _ m h)) (λ ps reads count. handed made m ps h reads (λ none. false≢true (sym (sym (made .before .before .before .before .before .before .before .before .before .before .before .before .before .before .before .before .before .before .before .before .before .before .before .is-empty .ensures) ∙ made .before .before .before .before .before .before .before .before .before .before .before .before .before .before .before .before .before .before .before .before .before .before .if1 .left) ∙ eq-eqb _ 0 none)));
       },
       record {
-        kept = kept-applied _ _ _ (answered c);
-        row = appliedRow (answered c);
+        kept = kept-applied _ _ _ (answered made);
+        row = appliedRow (answered made);
         preflight = λ f n h. never-passes (sym (gate ∙ checked .1 .1 f n h));
       },
     )
@@ -175,18 +209,23 @@ apply-projection-patch-batch-spec =
     check-session-requires
     enum-known-gate
     rejected-requires
+    batch-of-requires
     returns
     enum-told
     is-empty-requires
     unchanged-requires
+    batch-of-requires-2
     returns-2
+    none-used-requires
     slice-aggregate-apply-set
     slice-aggregate-apply-set-2
     slice-aggregate-apply-set-3
     apply-set-requires
     concluded-requires
     enum-known-change
+    batch-of-requires-3
     returns-3
     advanced-requires
     session-of-requires
+    batch-of-requires-4
     returns-4)
