@@ -16,3 +16,5 @@ pub mod StrictLaws
 pub mod Former
 pub mod FormerLaws
 pub mod TextLaws
+pub mod LengthFirst
+pub mod CutLaws
