@@ -16,7 +16,8 @@ use Rattle.spec_patch.specs.Encode.{u32, heading, encode}
 use Rattle.spec_patch.specs.Reader.{malformed, overCapacity, faultNumber}
 use Rattle.spec_patch.specs.Read.{SetReading, patches, fault, readSet}
 use Rattle.spec_patch.specs.LengthFirst.{patchesOver, lengthFirstText, lengthFirstSet}
-use Rattle.spec_patch.specs.CutLaws.{CutOff, SetChange, asBefore, changed, set-changed}
+use Rattle.spec_patch.specs.CutOff.{CutOff, SetChange, asBefore, changed}
+use Rattle.spec_patch.specs.CutLaws.{set-changed}
 use Rattle.spec_examples.specs.TextInstances.{updating}
 use Rattle.spec_examples.specs.Opened.{opened}
 

@@ -1,5 +1,5 @@
--- What telling a text cut off from one too long has changed in reading, and nothing else. Every list of bytes is read as it was, but for those
--- in which reading comes to the length of a text that is over the capacity, with fewer bytes behind it: 12 before, and 10 now.
+-- What telling a text cut off from one too long has changed in reading, and nothing else: every list of bytes is read as it was, or a text in
+-- it is cut off, and then it was 12 and is 10. One law for each way of putting readers together.
 use Prim.Native.Nat.{ℕ, zero, suc, _≤_, _<_, _^_}
 use mathlib.Core.Path.{_≡_, refl, sym, ap, subst, _∙_}
 use mathlib.Core.Bool.{Bool, true, false}
@@ -16,31 +16,15 @@ use Rattle.spec_patch.specs.Sizes.{setBytes, setPatches, patchOperations
 use Rattle.spec_patch.specs.Patch.{Value, quad, signed, text, unsigned}
 use Rattle.spec_patch.specs.Edition.{Edition, hasKind}
 use Rattle.spec_patch.specs.Encode.{u32, heading}
-use Rattle.spec_patch.specs.Reader.{Fault, malformed, overCapacity, Result, read, refused, Reader, onward, followed, mapped, pair, orTag, noTag, many, byte, bytes}
+use Rattle.spec_patch.specs.Reader.{Fault, malformed, overCapacity, Result, read, refused, Reader, Kept, onward, followed, mapped, pair, orTag, noTag, many, byte, bytes}
 use Rattle.spec_patch.specs.Read.{readU32, readU64, readI64, readCount, readCounted, readOptional, readQuad, readAvailability, readTextBy, readText, valueAfterWith, valueAfter, inEdition, readValueBy, toSetBinding, toSetAvailability, toInsert, toUpdate, toRemove, toMove, operationAfterWith, operationAfter, readOperationBy, toPatch, readPatch, readPatches, fault, ended, readSet}
 use Rattle.spec_patch.specs.Codec.{Codec, never, literal-codec}
 use Rattle.spec_patch.specs.ReadLaws.{u64-codec, u32-codec, count-codec, optional-codec, operation-codec-by, envelope-codec, patch-codec}
-use Rattle.spec_patch.specs.FormerLaws.{Kept, same, kept-followed, kept-mapped}
+use Rattle.spec_patch.specs.FormerLaws.{same, kept-followed, kept-mapped}
 use Rattle.spec_patch.specs.LengthFirst.{lengthFirstText, Over, textOver, valueOver, operationOver, patchOver, patchesOver, lengthFirstSet}
+use Rattle.spec_patch.specs.CutOff.{CutOff, Change, alike, cutOff, SetChange, asBefore, changed}
 
 module _ (check : Bool) where
-  -- reading comes to the length n of a text, over the capacity, with fewer bytes behind it up to the end
-  pub record CutOff {A : Type 0} (reader : Over A) (bs : List ℕ) : Type 0 where
-    pub front : List ℕ
-    pub n : ℕ
-    pub rest : List ℕ
-    pub stands : bs ≡ front ++ (u32 n ++ rest)
-    pub field : n < 2 ^ 32
-    pub long : textBytes < n
-    pub fewer : length rest < n
-    -- it comes there: whatever fault a reader of texts gives there is what the whole gives
-    pub reached : (texts : Reader (List ℕ)) → Kept (readTextBy check) texts → (f : Fault) → texts (u32 n ++ rest) ≡ refused f → reader texts bs ≡ refused f
-
-  -- before and now are alike, or the bytes are cut off
-  pub data Change {A : Type 0} (reader : Over A) (bs : List ℕ) : Type 0 where
-    alike : reader (lengthFirstText check) bs ≡ reader (readTextBy check) bs → Change reader bs
-    cutOff : CutOff reader bs → Change reader bs
-
   -- ---- texts
 
   data TextChange (bs : List ℕ) : Type 0 where
@@ -87,12 +71,12 @@ module _ (check : Bool) where
 
   record Changes {A : Type 0} (reader : Over A) : Type 0 where
     kept : (texts : Reader (List ℕ)) → Kept (readTextBy check) texts → Kept (reader (readTextBy check)) (reader texts)
-    change : (bs : List ℕ) → Bytes bs → Change reader bs
+    change : (bs : List ℕ) → Bytes bs → Change check reader bs
 
   changes-text : Changes textOver
   changes-text = record { kept = λ texts k. k; change = λ bs h. by-change bs h (text-change bs) }
     where
-      by-change : (bs : List ℕ) → Bytes bs → TextChange bs → Change textOver bs
+      by-change : (bs : List ℕ) → Bytes bs → TextChange bs → Change check textOver bs
       by-change bs h (sameText e) = alike e
       by-change bs h (cutText n rest is long fewer) =
           let o = u32-codec .only h n rest is in
@@ -104,7 +88,7 @@ module _ (check : Bool) where
 
   -- what is cut off behind a front, where a fault there is the whole's
   carried : {A B : Type 0} {reader : Over A} {whole : Over B} {bs rest : List ℕ} (front : List ℕ) → bs ≡ front ++ rest
-      → ((texts : Reader (List ℕ)) → Kept (readTextBy check) texts → (f : Fault) → reader texts rest ≡ refused f → whole texts bs ≡ refused f) → CutOff reader rest → CutOff whole bs
+      → ((texts : Reader (List ℕ)) → Kept (readTextBy check) texts → (f : Fault) → reader texts rest ≡ refused f → whole texts bs ≡ refused f) → CutOff check reader rest → CutOff check whole bs
   carried front e on c = record {
     front = front ++ c .front;
     n = c .n;
@@ -123,7 +107,7 @@ module _ (check : Bool) where
         made : Result A → Result B
         made r = onward r (λ a rest. read (f a) rest)
 
-        by-change : (bs : List ℕ) → Change reader bs → Change (λ texts. mapped f (reader texts)) bs
+        by-change : (bs : List ℕ) → Change check reader bs → Change check (λ texts. mapped f (reader texts)) bs
         by-change bs (alike e) = alike (ap made e)
         by-change bs (cutOff c) = cutOff (carried [] refl (λ texts k g q. ap made q) c)
 
@@ -137,17 +121,17 @@ module _ (check : Bool) where
         on : Reader (List ℕ) → Result A → Result B
         on texts r = onward r (next texts)
 
-        by-next : (bs : List ℕ) (a : A) (rest : List ℕ) → reader (lengthFirstText check) bs ≡ read a rest → reader (readTextBy check) bs ≡ read a rest → bs ≡ e a ++ rest → Change (λ texts. next texts a) rest → Change (λ texts. followed (reader texts) (next texts)) bs
+        by-next : (bs : List ℕ) (a : A) (rest : List ℕ) → reader (lengthFirstText check) bs ≡ read a rest → reader (readTextBy check) bs ≡ read a rest → bs ≡ e a ++ rest → Change check (λ texts. next texts a) rest → Change check (λ texts. followed (reader texts) (next texts)) bs
         by-next bs a rest was is front (alike d) = alike (ap (on (lengthFirstText check)) was ∙ d ∙ sym (ap (on (readTextBy check)) is))
         by-next bs a rest was is front (cutOff c) = cutOff (carried (e a) front (λ texts k f q. ap (on texts) (one .kept texts k .reads bs a rest is) ∙ q) c)
 
-        by-result : (bs : List ℕ) → Bytes bs → reader (lengthFirstText check) bs ≡ reader (readTextBy check) bs → (r : Result A) → reader (readTextBy check) bs ≡ r → Change (λ texts. followed (reader texts) (next texts)) bs
+        by-result : (bs : List ℕ) → Bytes bs → reader (lengthFirstText check) bs ≡ reader (readTextBy check) bs → (r : Result A) → reader (readTextBy check) bs ≡ r → Change check (λ texts. followed (reader texts) (next texts)) bs
         by-result bs h q (refused f) is = alike (ap (on (lengthFirstText check)) (q ∙ is) ∙ sym (ap (on (readTextBy check)) is))
         by-result bs h q (read a rest) is =
             let o = codec .only h a rest is in
             by-next bs a rest (q ∙ is) is (o .1) (each a .change rest (bytes-right (e a) rest (subst Bytes (o .1) h)))
 
-        by-first : (bs : List ℕ) → Bytes bs → Change reader bs → Change (λ texts. followed (reader texts) (next texts)) bs
+        by-first : (bs : List ℕ) → Bytes bs → Change check reader bs → Change check (λ texts. followed (reader texts) (next texts)) bs
         by-first bs h (alike q) = by-result bs h q (reader (readTextBy check) bs) refl
         by-first bs h (cutOff c) = cutOff (carried [] refl (λ texts k f q. ap (on texts) q) c)
 
@@ -164,11 +148,11 @@ module _ (check : Bool) where
       change = by-bytes;
     }
       where
-        by-next : (t : ℕ) (bs : List ℕ) → Change (λ texts. next texts t) bs → Change (λ texts. followed byte (next texts)) (t ∷ bs)
+        by-next : (t : ℕ) (bs : List ℕ) → Change check (λ texts. next texts t) bs → Change check (λ texts. followed byte (next texts)) (t ∷ bs)
         by-next t bs (alike e) = alike e
         by-next t bs (cutOff c) = cutOff (carried (t ∷ []) refl (λ texts k f q. q) c)
 
-        by-bytes : (bs : List ℕ) → Bytes bs → Change (λ texts. followed byte (next texts)) bs
+        by-bytes : (bs : List ℕ) → Bytes bs → Change check (λ texts. followed byte (next texts)) bs
         by-bytes [] h = alike refl
         by-bytes (t ∷ bs) h = by-next t bs (each t .change bs (h .1))
 
@@ -230,7 +214,7 @@ module _ (check : Bool) where
   -- ---- the theorem, of each reader
 
   -- where a text is cut off, 12 was given and 10 is
-  module _ {A : Type 0} {reader : Over A} {bs : List ℕ} (c : CutOff reader bs) where
+  module _ {A : Type 0} {reader : Over A} {bs : List ℕ} (c : CutOff check reader bs) where
     pub cut-before : reader (lengthFirstText check) bs ≡ refused overCapacity
     cut-before =
         let is = u32-codec .back (c .n) (c .field) (c .rest) in
@@ -241,16 +225,16 @@ module _ (check : Bool) where
         let is = u32-codec .back (c .n) (c .field) (c .rest) in
         c .reached (readTextBy check) (same (readTextBy check)) malformed (field-now (c .n) (u32 (c .n) ++ c .rest) (c .rest) is (c .fewer))
 
-  pub text-changed : (bs : List ℕ) → Bytes bs → Change textOver bs
+  pub text-changed : (bs : List ℕ) → Bytes bs → Change check textOver bs
   text-changed = changes-text .change
 
-  pub value-changed : (ed : Edition) (bs : List ℕ) → Bytes bs → Change (valueOver ed) bs
+  pub value-changed : (ed : Edition) (bs : List ℕ) → Bytes bs → Change check (valueOver ed) bs
   value-changed ed = changes-value ed .change
 
-  pub operation-changed : (ed : Edition) (bs : List ℕ) → Bytes bs → Change (operationOver ed) bs
+  pub operation-changed : (ed : Edition) (bs : List ℕ) → Bytes bs → Change check (operationOver ed) bs
   operation-changed ed = changes-operation ed .change
 
-  pub patch-changed : (ed : Edition) (bs : List ℕ) → Bytes bs → Change (patchOver ed) bs
+  pub patch-changed : (ed : Edition) (bs : List ℕ) → Bytes bs → Change check (patchOver ed) bs
   patch-changed ed = changes-patch ed .change
 
   -- over the reader of texts as it is now, they are the readers of `Read`
@@ -279,11 +263,6 @@ module _ (ed : Edition) where
       changes-mapped true (λ t. t .1)
       (changes-pair true (literal-codec (heading ed)) (changes-counted true setPatches (lit< tt) (patchOver ed) (patch-codec ed) (changes-patch true ed)))
 
-  -- a set is read as it was, or it is within its bytes and a text in it is cut off: 12 before, and 10 now
-  pub data SetChange (bs : List ℕ) : Type 0 where
-    asBefore : lengthFirstSet ed bs ≡ readSet ed bs → SetChange bs
-    changed : length bs ≤ setBytes → CutOff true (patchesOver ed) bs → lengthFirstSet ed bs ≡ fault overCapacity → readSet ed bs ≡ fault malformed → SetChange bs
-
   module _ (bs : List ℕ) (within : length bs ≤ setBytes) (c : CutOff true (patchesOver ed) bs) where
     pub cut-set-before : lengthFirstSet ed bs ≡ fault overCapacity
     unfolding lengthFirstSet ended
@@ -301,13 +280,13 @@ module _ (ed : Edition) where
   unfolding lengthFirstSet readSet
   over-set bs t = rw t
 
-  pub set-changed : (bs : List ℕ) → Bytes bs → SetChange bs
+  pub set-changed : (bs : List ℕ) → Bytes bs → SetChange ed bs
   set-changed bs h = by-length (leb (length bs) setBytes) refl
     where
-      by-change : length bs ≤ setBytes → Change true (patchesOver ed) bs → SetChange bs
+      by-change : length bs ≤ setBytes → Change true (patchesOver ed) bs → SetChange ed bs
       by-change within (alike e) = asBefore (same-set bs (e ∙ ap (λ p. p bs) patches-now))
       by-change within (cutOff c) = changed within c (cut-set-before bs within c) (cut-set-now bs within c)
 
-      by-length : (t : Bool) → leb (length bs) setBytes ≡ t → SetChange bs
+      by-length : (t : Bool) → leb (length bs) setBytes ≡ t → SetChange ed bs
       by-length true t = by-change (leb-true (length bs) setBytes t) (changes-patches .change bs h)
       by-length false t = asBefore (over-set bs t)

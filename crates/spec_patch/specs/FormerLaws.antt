@@ -16,16 +16,13 @@ use Rattle.spec_patch.specs.Patch.{Value, quad, signed, text, unsigned, 
 use Rattle.spec_patch.specs.Edition.{Edition, hasKind}
 use Rattle.spec_patch.specs.Encode.{heading}
 use Rattle.spec_patch.specs.Fits.{FitsText}
-use Rattle.spec_patch.specs.Reader.{malformed, overCapacity, Result, read, refused, Reader, followed, mapped, pair, checked, orTag, noTag, many, byte, bytes, literal}
+use Rattle.spec_patch.specs.Reader.{malformed, overCapacity, Result, read, refused, Reader, Kept, followed, mapped, pair, checked, orTag, noTag, many, byte, bytes, literal}
 use Rattle.spec_patch.specs.Read.{readU32, readU64, readI64, withinCapacity, readCount, readCounted, readOptional, readQuad, readAvailability, readTextBy, readText, valueAfterWith, valueAfter, inEdition, readValueBy, readValue, toSetBinding, toSetAvailability, toInsert, toUpdate, toRemove, toMove, operationAfterWith, operationAfter, readOperationBy, readOperation, readEnvelope, toPatch, readPatch, readPatches, patches, fault, ended, readSet}
 use Rattle.spec_patch.specs.Codec.{onward-read, if-read, bytes-long}
 use Rattle.spec_patch.specs.SetLaws.{no-patches}
 use Rattle.spec_patch.specs.Former.{formerText, formerValue, formerOperation, formerPatch, formerPatches, formerSet}
 
 -- ---- what the first reader reads, the second reads alike
-
-pub record Kept {A : Type 0} (p q : Reader A) : Type 0 where
-  pub reads : (bs : List ℕ) (a : A) (rest : List ℕ) → p bs ≡ read a rest → q bs ≡ read a rest
 
 pub same : {A : Type 0} (p : Reader A) → Kept p p
 same p = record { reads = λ bs a rest e. e }

@@ -17,4 +17,5 @@ pub mod Former
 pub mod FormerLaws
 pub mod TextLaws
 pub mod LengthFirst
+pub mod CutOff
 pub mod CutLaws
