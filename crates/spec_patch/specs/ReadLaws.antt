@@ -133,7 +133,7 @@ module _ (check : Bool) where
   body-codec : (n : ℕ) → Codec (λ (l : List ℕ). l) (λ (l : List ℕ). GoodBody l × (length l ≡ n)) (textBody check n)
   body-codec n =
       good-codec
-      (checked-codec (checked-codec (checked-codec (bytes-codec n) fewBytes overCapacity) (allowed check) malformed) (fewCharacters check) overCapacity)
+      (checked-codec (checked-codec (checked-codec (bytes-codec n) fewBytes _) (allowed check) _) (fewCharacters check) _)
       (λ l. GoodBody l × (length l ≡ n))
       (λ l g. (((g .1, g .0 .0), g .0 .1 .0), g .0 .1 .1))
       (λ l g. ((g .0 .0 .1, (g .0 .1, g .1)), g .0 .0 .0))
