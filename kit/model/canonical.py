@@ -117,7 +117,9 @@ class Reader:
         if kind == 2:
             return (2, int.from_bytes(self.take(8), "little", signed=True))
         if kind == 3:
-            text = self.take(self.count(TEXT_BYTES))
+            text = self.take(self.number(4))
+            if len(text) > TEXT_BYTES:
+                raise Fault(12)
             if not is_utf8(text):
                 raise Fault(10)
             if characters(text) > TEXT_CHARACTERS:

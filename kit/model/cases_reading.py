@@ -197,11 +197,11 @@ refused(
 LONG = b"\4" + u64(9) + u64(1) + b"\3" + u32(241)
 BAD = b"\4" + u64(9) + u64(1) + b"\1\4"
 refused(
-    "read_12_before_10", "a text length over its capacity before a bad quad byte: 12", "spec_patch Reader.followed", 12,
-    with_operations(LONG + b"x" * 241, BAD), with_operations(LONG, count=1),
+    "read_12_before_10", "a text over its capacity before a bad quad byte: 12", "spec_patch Reader.followed", 12,
+    with_operations(LONG + b"x" * 241, BAD), with_operations(LONG + b"x" * 241, count=1),
 )
 refused(
-    "read_10_before_12", "a bad quad byte before a text length over its capacity: 10", "spec_patch Reader.followed", 10,
+    "read_10_before_12", "a bad quad byte before a text over its capacity: 10", "spec_patch Reader.followed", 10,
     with_operations(BAD, LONG + b"x" * 241),
 )
 refused(

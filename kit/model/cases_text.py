@@ -1,7 +1,7 @@
 """Texts: their length in bytes and in characters, and what RFC 3629 allows."""
 
 from build import patches_of, text
-from canonical import u32, u64
+from canonical import encode_patch, encode_set, u32, u64
 from cases_reading import refused, with_operations
 from kit import batch, case, on_panel, rules_of, set_up
 from patch import binding, insert, update
@@ -44,9 +44,9 @@ def allowed(name, rule, *texts):
 rules_of("Job 5 in document 02")
 
 refused(
-    "text_241_bytes_is_12", "a text length over 240 is 12 at its field, whatever follows", READ, 12,
-    with_operations(update_bytes(241, b"x" * 241)), with_operations(update_bytes(241, b"")),
-    with_operations(update_bytes(241, b"\xff" * 241)), with_operations(update_bytes(2**32 - 1, b"")),
+    "text_241_bytes_is_12", "a text of over 240 bytes is 12, whatever they are", READ, 12,
+    with_operations(update_bytes(241, b"x" * 241)), with_operations(update_bytes(241, b"\xff" * 241)),
+    with_operations(update_bytes(1000, b"\x80" * 1000)),
 )
 
 rules_of("Canonical bytes")
@@ -126,6 +126,74 @@ case(
     ["S 0", "R applied 0 0 0 0 1", "R applied 0 0 0 0 2", "R applied 0 0 0 0 3", "P 192"]
     + [b"B\t5\t%d\tT\t" % slot + KANJI for slot in range(64)] + [b"C\t9\t%d\tT\t" % key + KANJI for key in range(1, 129)]
     + [b"V\tT\t" + KANJI, b"V\tT\t" + KANJI, "R rejected 9 8 1 1 3"],
+)
+
+# ---- cut off, or too long: a length over 240 with too few bytes behind it, or with all of them
+
+rules_of("Job 6 in document 02")
+
+TAKEN = "spec_patch Read.textTaken"
+LARGEST = 2**32 - 1
+
+
+def last(length, behind):
+    """The length as the last field, and so many bytes behind it."""
+    return with_operations(update_bytes(length, b"x" * behind))
+
+
+def amid(length, behind):
+    """The length in the first of two operations; the bytes behind it are the second's."""
+    return with_operations(update_bytes(length, b""), b"\4" + u64(9) + u64(2) + b"\3" + u32(behind - 22) + b"x" * (behind - 22))
+
+
+def before_a_patch(length, behind):
+    """The length in the last operation of the first patch; the bytes behind it are the second patch's."""
+    first, second = patches_of([update(9, 1, text(""))], [update(9, 2, text("x" * (behind - 83)))])
+    data = encode_set([first, second])
+    assert len(encode_patch(second)) == behind
+    return data[: -behind - 4] + u32(length) + data[-behind:]
+
+
+refused(
+    "text_cut_off_10", "a length over 240 as the last field, with no bytes behind it or one too few: cut off, 10", TAKEN, 10,
+    last(241, 0), last(241, 240), last(1000, 0), last(1000, 999), last(LARGEST, 0), last(LARGEST, 1000),
+)
+refused(
+    "text_long_with_its_bytes_is_12", "a length over 240 as the last field, with just its bytes behind it or one more: 12",
+    TAKEN, 12, last(241, 241), last(241, 242), last(1000, 1000), last(1000, 1001),
+)
+refused(
+    "text_cut_off_amid_10", "what stands behind it up to the end of the set remains, and is too little: 10", TAKEN, 10,
+    with_operations(update_bytes(241, b""), count=2), amid(241, 22), amid(241, 240), amid(1000, 240), amid(LARGEST, 240),
+)
+refused(
+    "text_long_amid_is_12", "the bytes of the operations behind it remain, and are enough: 12", TAKEN, 12, amid(241, 241),
+    amid(241, 242), amid(242, 242),
+)
+refused(
+    "text_cut_off_before_a_patch_10", "the bytes of the patches behind it remain, one too few: 10", TAKEN, 10,
+    before_a_patch(241, 240), before_a_patch(LARGEST, 240),
+)
+refused(
+    "text_long_before_a_patch_is_12", "the bytes of the patches behind it remain, and are enough: 12", TAKEN, 12,
+    before_a_patch(241, 241), before_a_patch(241, 242),
+)
+WHOLE = len(last(LARGEST, 0))
+refused(
+    "text_cut_off_in_32768_bytes_10", "a length that no set can hold, by one byte, in a set of 32,768 bytes: 10", TAKEN, 10,
+    last(32768 - WHOLE + 1, 32768 - WHOLE),
+)
+refused(
+    "text_long_in_32768_bytes_is_12", "the longest length whose bytes a set can hold: 12", TAKEN, 12,
+    last(32768 - WHOLE, 32768 - WHOLE),
+)
+refused(
+    "text_cut_off_in_32769_bytes_is_12", "one byte too many for a set is 12, and no length is looked at",
+    "spec_patch Read.readSet", 12, last(LARGEST, 32769 - WHOLE),
+)
+refused(
+    "text_cut_off_behind_a_long_one_is_12", "a length cut off behind a text too long is not reached: the first fault decides",
+    "spec_patch Reader.followed", 12, with_operations(update_bytes(241, b"x" * 241), update_bytes(241, b"")),
 )
 
 # ---- RFC 3629

@@ -355,12 +355,45 @@ WRONG = [
     ("counts characters in bytes", "canonical.py", "characters(text) >", "len(text) >"),
     ("counts no characters", "canonical.py", "characters(text) > TEXT_CHARACTERS", "False"),
     ("takes 161 characters", "canonical.py", "characters(text) > TEXT_CHARACTERS", "characters(text) > TEXT_CHARACTERS + 1"),
-    ("takes texts of 160 bytes only", "canonical.py", "self.count(TEXT_BYTES)", "self.count(TEXT_CHARACTERS)"),
+    ("takes texts of 160 bytes only", "canonical.py", "len(text) > TEXT_BYTES", "len(text) > TEXT_CHARACTERS"),
     ("takes texts of 241 bytes", "sizes.py", "TEXT_BYTES = 240", "TEXT_BYTES = 241"),
     (
         "asks for the characters before UTF-8", "canonical.py",
         "if not is_utf8(text):\n                raise Fault(10)\n            if characters(text) > TEXT_CHARACTERS:\n                raise Fault(12)",
         "if characters(text) > TEXT_CHARACTERS:\n                raise Fault(12)\n            if not is_utf8(text):\n                raise Fault(10)",
+    ),
+    # cut off, or too long
+    ("tells every long length as 12", "canonical.py", "self.take(self.number(4))", "self.take(self.count(TEXT_BYTES))"),
+    (
+        "counts the bytes left from the text's tag", "canonical.py",
+        "            text = self.take(self.number(4))\n",
+        "            size = self.number(4)\n"
+        "            if TEXT_BYTES < size <= len(self.data) - self.at + 5:\n                raise Fault(12)\n"
+        "            text = self.take(size)\n",
+    ),
+    (
+        "looks for 240 bytes behind a long length", "canonical.py",
+        "            text = self.take(self.number(4))\n",
+        "            size = self.number(4)\n"
+        "            if size > TEXT_BYTES:\n                raise Fault(12 if len(self.data) - self.at >= TEXT_BYTES else 10)\n"
+        "            text = self.take(size)\n",
+    ),
+    (
+        "wants one byte more behind a long length", "canonical.py",
+        "            text = self.take(self.number(4))\n",
+        "            size = self.number(4)\n"
+        "            if TEXT_BYTES < size == len(self.data) - self.at:\n                raise Fault(10)\n"
+        "            text = self.take(size)\n",
+    ),
+    (
+        "tells every long text as 10", "canonical.py",
+        "if len(text) > TEXT_BYTES:\n                raise Fault(12)",
+        "if len(text) > TEXT_BYTES:\n                raise Fault(10)",
+    ),
+    (
+        "tells counts with too little behind them as 10", "canonical.py",
+        "if number > capacity:\n            raise Fault(12)",
+        "if number > capacity:\n            raise Fault(12 if len(self.data) - self.at >= number else 10)",
     ),
     # the script
     ("reads leading zeros", "replay.py", 'rb"0|[1-9][0-9]{0,19}"', 'rb"[0-9]{1,20}"'),

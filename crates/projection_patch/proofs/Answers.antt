@@ -4,22 +4,19 @@ use mathlib.Core.Path.{_≡_, refl, sym, ap, ap₂, _∙_}
 use mathlib.Core.List.{List}
 use mathlib.Core.Bool.{Bool}
 use native.Mathlib.Omega.{arith}
-use lib.Dec.{lit<}
 use lib.ListN.{length, getD, drop, length-append}
 use Rattle.spec_lists.specs.Bytes.{Bytes}
-use Rattle.spec_patch.specs.Sizes.{textBytes}
 use Rattle.spec_patch.specs.Edition.{Edition}
 use Rattle.spec_patch.specs.Reader.{Fault, Result, read, refused, malformed, Reader, followed, byte}
-use Rattle.spec_patch.specs.Read.{readCount, readOptional, readAvailability, readValueBy, readOperationBy}
+use Rattle.spec_patch.specs.Read.{readOptional, readAvailability, readValueBy, readOperationBy}
 use Rattle.spec_patch.specs.Codec.{Codec, suffix}
-use Rattle.spec_patch.specs.ReadLaws.{count-codec, optional-codec, availability-codec, value-codec-by, operation-codec-by}
+use Rattle.spec_patch.specs.ReadLaws.{optional-codec, availability-codec, value-codec-by, operation-codec-by}
 use Rattle.projection_patch.specs.Meaning.{valueTo, availabilityTo, operationTo}
-use Rattle.projection_patch.specs.ReadAnswers.{faultTo, answer, anywhere, optionalTo, countAnswer, optionalAnswer, availabilityAnswer, valueAnswer, operationAnswer}
+use Rattle.projection_patch.specs.ReadAnswers.{faultTo, answer, anywhere, optionalTo, optionalAnswer, availabilityAnswer, valueAnswer, operationAnswer}
 use Rattle.projection_patch.specs.declared.patch.ProjectionNodeAvailability.{ProjectionNodeAvailability}
 use Rattle.projection_patch.specs.declared.patch.ProjectionPatchValue.{ProjectionPatchValue}
 use Rattle.projection_patch.specs.declared.read_values.ProjectionPatchReadFault.{ProjectionPatchReadFault}
 use Rattle.projection_patch.specs.declared.read_values.OptionalNumber.{OptionalNumber}
-use Rattle.projection_patch.specs.declared.read_values.CountRead.{CountRead}
 use Rattle.projection_patch.specs.declared.read_values.CountRead.the-variants as count-read
 use Rattle.projection_patch.specs.declared.read_values.OptionalRead.{OptionalRead}
 use Rattle.projection_patch.specs.declared.read_values.OptionalRead.the-variants as optional-read
@@ -158,12 +155,6 @@ operation-told = record {
 }
 
 module _ (l : List ℕ) (at : ℕ) where
-  pub text-count-got : (r : CountRead) → r ≡ countAnswer (length l) (readCount textBytes (drop at l)) → Bytes l → (n end : ℕ) → r ≡ count-read.Read n end → Got (readCount textBytes) (anywhere (λ n. n)) l at n end
-  text-count-got = got (anywhere (λ n. n)) (count-codec textBytes (lit< tt)) count-told l at
-
-  pub no-text-count : (r : CountRead) → r ≡ countAnswer (length l) (readCount textBytes (drop at l)) → (f : ProjectionPatchReadFault) → r ≡ count-read.Refused f → NotGot (readCount textBytes) l at f
-  no-text-count = not-got (anywhere (λ n. n)) (count-codec textBytes (lit< tt)) count-told l at
-
   pub optional-got : (r : OptionalRead) → r ≡ optionalAnswer (length l) (readOptional (drop at l)) → Bytes l → (o : OptionalNumber) (end : ℕ) → r ≡ optional-read.Read o end → Got readOptional (anywhere optionalTo) l at o end
   optional-got = got (anywhere optionalTo) optional-codec optional-told l at
 

@@ -9,10 +9,11 @@ use lib.Dec.{leb}
 use lib.ListN.{length, take, drop, length-drop}
 use lib.Seq.{length-take-le, drop-drop}
 use Rattle.spec_lists.specs.Lists.{if_then_else_}
+use Rattle.spec_patch.specs.Sizes.{textBytes}
 use Rattle.spec_patch.specs.TextRule.{allowed, fewCharacters}
 use Rattle.spec_patch.specs.Patch.{text}
-use Rattle.spec_patch.specs.Reader.{refused, malformed, overCapacity, mapped}
-use Rattle.spec_patch.specs.Read.{textBody}
+use Rattle.spec_patch.specs.Reader.{read, refused, malformed, overCapacity, mapped}
+use Rattle.spec_patch.specs.Read.{textTaken, textBody}
 use Rattle.projection_patch.specs.TextRule.{judged, judgement}
 use Rattle.projection_patch.specs.declared.text_rule.TextJudgement.the-variants.{Fits, Malformed, ManyCharacters}
 use Rattle.projection_patch.specs.ReadAnswers.{valueAnswer, lentPart}
@@ -71,19 +72,30 @@ module _ (check : Bool) (l : List ℕ) (start n : ℕ) where
     inside : n ≤ length (drop start l)
     inside = omega (arith, length-drop start l)
 
-    pub bad : allowed check (take n (drop start l)) ≡ false → textBody check n (drop start l) ≡ refused malformed
-    bad u = rw (le-leb n (length (drop start l)) inside, u)
+    -- as many bytes as the length names
+    named : length (take n (drop start l)) ≡ n
+    named = length-take-le n (drop start l) inside
 
-    pub many : (allowed check (take n (drop start l)) ≡ true) × (fewCharacters check (take n (drop start l)) ≡ false) → textBody check n (drop start l) ≡ refused overCapacity
-    many u = rw (le-leb n (length (drop start l)) inside, u .0, u .1)
+    pub long : textBytes < n → textBody check n (drop start l) ≡ refused overCapacity
+    long over = rw (le-leb n (length (drop start l)) inside, lt-leb (length (take n (drop start l))) textBytes (omega (arith, named)))
 
-    -- the text's place, told by where it ends
-    pub placed : start ≤ length l → (allowed check (take n (drop start l)) ≡ true) × (fewCharacters check (take n (drop start l)) ≡ true)
-        → Read (Text start n) (start + n) ≡ valueAnswer (length l) (mapped text (textBody check n) (drop start l))
-    placed h u =
-        let end : start + n ≤ length l = omega arith in
-        let back : start + n - n ≡ start = omega arith in
-        rw (le-leb n (length (drop start l)) inside, u .0, u .1, drop-drop n start l, position l (start + n) end, length-take-le n (drop start l) inside, back)
+    module _ (few : n ≤ textBytes) where
+      taken : textTaken n (drop start l) ≡ read (take n (drop start l)) (drop n (drop start l))
+      taken = rw (le-leb n (length (drop start l)) inside, le-leb (length (take n (drop start l))) textBytes (omega (arith, named)))
+
+      pub bad : allowed check (take n (drop start l)) ≡ false → textBody check n (drop start l) ≡ refused malformed
+      bad u = rw (taken, u)
+
+      pub many : (allowed check (take n (drop start l)) ≡ true) × (fewCharacters check (take n (drop start l)) ≡ false) → textBody check n (drop start l) ≡ refused overCapacity
+      many u = rw (taken, u .0, u .1)
+
+      -- the text's place, told by where it ends
+      pub placed : start ≤ length l → (allowed check (take n (drop start l)) ≡ true) × (fewCharacters check (take n (drop start l)) ≡ true)
+          → Read (Text start n) (start + n) ≡ valueAnswer (length l) (mapped text (textBody check n) (drop start l))
+      placed h u =
+          let end : start + n ≤ length l = omega arith in
+          let back : start + n - n ≡ start = omega arith in
+          rw (taken, u .0, u .1, drop-drop n start l, position l (start + n) end, named, back)
 
 -- ---- a part that is lent
 

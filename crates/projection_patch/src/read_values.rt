@@ -80,7 +80,7 @@ pub fn numbers_at(part: &[u8], at: usize) -> NumbersRead
     NumbersRead::Read(first, second)
 }
 
-// A count or a length, at most the capacity.
+// A count, at most the capacity.
 pub fn count_at(part: &[u8], at: usize, capacity: usize) -> CountRead
     ensures { λ r. ⌜ r ≡ countAnswer (length (now (part .entry))) (readCount capacity (drop at (now (part .entry)))) ⌝ }
 {
@@ -193,13 +193,16 @@ pub fn text_of(set: &[u8], a: usize, b: usize) -> &[u8]
     &set[a..b]
 }
 
-// The text of len bytes from start on. The rule is asked where the reading is strict.
+// The text of len bytes from start on: they must be there, and then be few enough. The rule is asked where the reading is strict.
 fn text_from(part: &[u8], start: usize, len: usize, strict: bool) -> ValueRead
     requires { ⌜ start ≤ length (now part) ⌝ }
     ensures { λ r. ⌜ r ≡ valueAnswer (length (now (part .entry))) (mapped model.text (textBody strict len) (drop start (now (part .entry)))) ⌝ }
 {
     if part.len() - start < len {
         return ValueRead::Refused(ProjectionPatchReadFault::Malformed);
+    }
+    if ProjectionPatchValue::TEXT_BYTES < len {
+        return ValueRead::Refused(ProjectionPatchReadFault::OverCapacity);
     }
     let end = start + len;
     if !strict {
@@ -215,9 +218,9 @@ fn text_from(part: &[u8], start: usize, len: usize, strict: bool) -> ValueRead
 fn text_at(part: &[u8], at: usize, strict: bool) -> ValueRead
     ensures { λ r. ⌜ r ≡ valueAnswer (length (now (part .entry))) (mapped model.text (readTextBy strict) (drop at (now (part .entry)))) ⌝ }
 {
-    match count_at(part, at, ProjectionPatchValue::TEXT_BYTES) {
-        CountRead::Read(len, start) => text_from(part, start, len, strict),
-        CountRead::Refused(fault) => ValueRead::Refused(fault),
+    match bytes_wire::read_u32_at(part, at) {
+        ReadU32::Read(len) => text_from(part, at + 4, len as usize, strict),
+        ReadU32::Short => ValueRead::Refused(ProjectionPatchReadFault::Malformed),
     }
 }
 

@@ -3,3 +3,4 @@ pub mod Examples
 pub mod SplitInstances
 pub mod TurnInstances
 pub mod TextInstances
+pub mod CutInstances

@@ -16,7 +16,7 @@ use Rattle.spec_patch.specs.Patch.{Value, quad, signed, text, unsigned, 
 use Rattle.spec_patch.specs.Edition.{Edition, hasKind}
 use Rattle.spec_patch.specs.Encode.{heading}
 use Rattle.spec_patch.specs.Fits.{FitsText}
-use Rattle.spec_patch.specs.Reader.{malformed, overCapacity, Result, read, refused, Reader, followed, mapped, pair, checked, orTag, noTag, many, byte, bytes, literal}
+use Rattle.spec_patch.specs.Reader.{malformed, overCapacity, Result, read, refused, Reader, Kept, followed, mapped, pair, checked, orTag, noTag, many, byte, bytes, literal}
 use Rattle.spec_patch.specs.Read.{readU32, readU64, readI64, withinCapacity, readCount, readCounted, readOptional, readQuad, readAvailability, readTextBy, readText, valueAfterWith, valueAfter, inEdition, readValueBy, readValue, toSetBinding, toSetAvailability, toInsert, toUpdate, toRemove, toMove, operationAfterWith, operationAfter, readOperationBy, readOperation, readEnvelope, toPatch, readPatch, readPatches, patches, fault, ended, readSet}
 use Rattle.spec_patch.specs.Codec.{onward-read, if-read, bytes-long}
 use Rattle.spec_patch.specs.SetLaws.{no-patches}
@@ -24,14 +24,11 @@ use Rattle.spec_patch.specs.Former.{formerText, formerValue, formerOpera
 
 -- ---- what the first reader reads, the second reads alike
 
-pub record Kept {A : Type 0} (p q : Reader A) : Type 0 where
-  pub reads : (bs : List ℕ) (a : A) (rest : List ℕ) → p bs ≡ read a rest → q bs ≡ read a rest
-
-same : {A : Type 0} (p : Reader A) → Kept p p
+pub same : {A : Type 0} (p : Reader A) → Kept p p
 same p = record { reads = λ bs a rest e. e }
 
 module _ {A B : Type 0} {p q : Reader A} (first : Kept p q) where
-  kept-followed : (f g : A → Reader B) → ((a : A) → Kept (f a) (g a)) → Kept (followed p f) (followed q g)
+  pub kept-followed : (f g : A → Reader B) → ((a : A) → Kept (f a) (g a)) → Kept (followed p f) (followed q g)
   kept-followed f g next = record {
     reads = λ bs b rest e.
         let t = onward-read (p bs) f b rest e in
@@ -39,7 +36,7 @@ module _ {A B : Type 0} {p q : Reader A} (first : Kept p q) where
   }
 
 module _ {A B : Type 0} {p q : Reader A} (first : Kept p q) where
-  kept-mapped : (f : A → B) → Kept (mapped f p) (mapped f q)
+  pub kept-mapped : (f : A → B) → Kept (mapped f p) (mapped f q)
   kept-mapped f = kept-followed first (λ a rest. read (f a) rest) (λ a rest. read (f a) rest) (λ a. same (λ rest. read (f a) rest))
 
 module _ {A B : Type 0} (p : Reader A) {q r : Reader B} (second : Kept q r) where
@@ -49,14 +46,14 @@ module _ {A B : Type 0} (p : Reader A) {q r : Reader B} (second : Kept q r) wher
       (λ a. kept-followed second (λ b rest. read (a, b) rest) (λ b rest. read (a, b) rest) (λ b. same (λ rest. read (a, b) rest)))
 
 module _ {A : Type 0} where
-  kept-tag : (k : ℕ) {p q : Reader A} {f g : ℕ → Reader A} → Kept p q → ((t : ℕ) → Kept (f t) (g t)) → (t : ℕ) → Kept (orTag k p f t) (orTag k q g t)
+  pub kept-tag : (k : ℕ) {p q : Reader A} {f g : ℕ → Reader A} → Kept p q → ((t : ℕ) → Kept (f t) (g t)) → (t : ℕ) → Kept (orTag k p f t) (orTag k q g t)
   kept-tag k {p} {q} {f} {g} here others t = record { reads = λ bs a rest e. go bs a rest (eqb t k) e }
     where
       go : (bs : List ℕ) (a : A) (rest : List ℕ) (b : Bool) → (if b then p bs else f t bs) ≡ read a rest → (if b then q bs else g t bs) ≡ read a rest
       go bs a rest true e = here .reads bs a rest e
       go bs a rest false e = others t .reads bs a rest e
 
-  kept-many : {p q : Reader A} → Kept p q → (n : ℕ) → Kept (many n p) (many n q)
+  pub kept-many : {p q : Reader A} → Kept p q → (n : ℕ) → Kept (many n p) (many n q)
   unfolding many
   kept-many h zero = same (λ bs. read [] bs)
   kept-many {p} {q} h (suc n) =
@@ -76,7 +73,7 @@ former-fits t h u = record {
   few = le-leb (characters t) textCharacters (omega (arith, characters-few t));
 }
 
--- a count within a capacity is within a larger one
+-- a length within the capacity that was
 record Counted (n : ℕ) (bs mid : List ℕ) : Type 0 where
   number : readU32 bs ≡ read n mid
   within : n ≤ formerTextBytes
@@ -108,13 +105,13 @@ kept-text = record {
       let b = checked-text (u .a) (u .mid) t rest (u .next) in
       let long : length t ≡ u .a = bytes-long (u .a) (u .mid) t rest (b .taken) in
       let fits = former-fits t (omega (arith, c .within)) (b .utf8) in
-      rw (c .number, le-leb (u .a) textBytes (omega (arith, c .within)), b .taken, b .utf8, fits .few);
+      rw (c .number, b .taken, le-leb (length t) textBytes (omega (arith, c .within)), b .utf8, fits .few);
 }
 
 -- ---- values, operations, patches and sets
 
 module _ (ed : Edition) where
-  kept-edition : {f g : ℕ → Reader Value} → ((t : ℕ) → Kept (f t) (g t)) → (t : ℕ) → Kept (inEdition ed f t) (inEdition ed g t)
+  pub kept-edition : {f g : ℕ → Reader Value} → ((t : ℕ) → Kept (f t) (g t)) → (t : ℕ) → Kept (inEdition ed f t) (inEdition ed g t)
   unfolding inEdition
   kept-edition {f} {g} h t = record { reads = λ bs v rest e. go bs v rest (hasKind ed t) e }
     where

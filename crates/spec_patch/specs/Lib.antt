@@ -16,3 +16,6 @@ pub mod StrictLaws
 pub mod Former
 pub mod FormerLaws
 pub mod TextLaws
+pub mod LengthFirst
+pub mod CutOff
+pub mod CutLaws

@@ -1,4 +1,4 @@
--- Reading a set: 01, 'Canonical bytes' and step 4, and 02, 'Job 5'. The first fault in reading decides. What is read of texts is a reader that
+-- Reading a set: 01, 'Canonical bytes' and step 4, and 02, 'Job 5' and 'Job 6'. The first fault in reading decides. What is read of texts is a reader that
 -- the others are given (`…With`), so that reading under another rule of texts is told in a line each.
 use Prim.Native.Nat.{ℕ}
 use mathlib.Core.Bool.{Bool, true}
@@ -10,8 +10,8 @@ use lib.IntN.{ℤ}
 use mir.Syntax.{w64}
 use mir.Val.{toZ}
 use Rattle.spec_lists.specs.Lists.{if_then_else_}
-use Rattle.spec_patch.specs.TextRule.{allowed, fewCharacters}
-use Rattle.spec_patch.specs.Sizes.{setBytes, setPatches, patchOperations, textBytes}
+use Rattle.spec_patch.specs.TextRule.{fewBytes, allowed, fewCharacters}
+use Rattle.spec_patch.specs.Sizes.{setBytes, setPatches, patchOperations}
 use Rattle.spec_patch.specs.Patch.{Quad, N, F, T, S, Availability, available, unavailable, hidden, pending, stale, Value, quad, signed, text, unsigned, Operation, setBinding, setAvailability, insert, update, remove, move, Envelope, Patch}
 use Rattle.spec_patch.specs.Edition.{Edition, hasKind}
 use Rattle.spec_patch.specs.Encode.{heading}
@@ -31,7 +31,7 @@ readI64 = mapped (toZ w64) readU64
 abbrev pub withinCapacity : ℕ → ℕ → Bool
 withinCapacity capacity n = leb n capacity
 
--- a count or a length; over its capacity is 12 at its field, before what follows is read
+-- a count; over its capacity is 12 at its field, before what follows is read
 abbrev pub readCount : ℕ → Reader ℕ
 readCount capacity = checked (withinCapacity capacity) overCapacity readU32
 
@@ -73,13 +73,17 @@ readAvailability = followed byte availabilityAfter
 
 -- ---- texts: `check` says whether RFC 3629 is asked, or the bytes may be any, as where they were checked before
 
--- as many bytes as the length says, which the rule allows, else 10; then characters within their capacity, else 12
-abbrev pub textBody : Bool → ℕ → Reader (List ℕ)
-textBody check n = checked (fewCharacters check) overCapacity (checked (allowed check) malformed (bytes n))
+-- as many bytes as the length says, else 10; within their capacity, else 12
+abbrev pub textTaken : ℕ → Reader (List ℕ)
+textTaken n = checked fewBytes overCapacity (bytes n)
 
--- a text: its length within the capacity, then its bytes
+-- then RFC 3629 allows them, else 10; and their characters are within their capacity, else 12
+abbrev pub textBody : Bool → ℕ → Reader (List ℕ)
+textBody check n = checked (fewCharacters check) overCapacity (checked (allowed check) malformed (textTaken n))
+
+-- a text: its length, then its bytes
 unfoldable pub readTextBy : Bool → Reader (List ℕ)
-readTextBy check = followed (readCount textBytes) (textBody check)
+readTextBy check = followed readU32 (textBody check)
 
 -- ---- values
 

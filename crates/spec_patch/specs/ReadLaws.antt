@@ -13,7 +13,7 @@ use mir.Syntax.{w64}
 use mir.Val.{SFits, toZ, ofZ}
 use mir.Facts.{toZ-ofZ, ofZ-toZ, fits-ofZ, sfits-toZ}
 use Rattle.spec_lists.specs.Lists.{All}
-use Rattle.spec_patch.specs.TextRule.{allowed, fewCharacters}
+use Rattle.spec_patch.specs.TextRule.{fewBytes, allowed, fewCharacters}
 use Rattle.spec_patch.specs.Sizes.{setPatches, patchOperations, textBytes}
 use Rattle.spec_patch.specs.Patch.{Quad, N, F, T, S, Availability, available, unavailable, hidden, pending, stale, Value, quad, signed, text, unsigned, Operation, setBinding, setAvailability, insert, update, remove, move, Patch}
 use Rattle.spec_patch.specs.Edition.{Edition, hasKind}
@@ -128,24 +128,24 @@ availability-codec = tag-codec availabilityAfter availabilityBytes Any availabil
 module _ (check : Bool) where
   -- what the rule asks of a text's bytes
   abbrev GoodBody : List ℕ → Type 0
-  GoodBody t = (allowed check t ≡ true) × (fewCharacters check t ≡ true)
+  GoodBody t = (fewBytes t ≡ true) × ((allowed check t ≡ true) × (fewCharacters check t ≡ true))
 
   body-codec : (n : ℕ) → Codec (λ (l : List ℕ). l) (λ (l : List ℕ). GoodBody l × (length l ≡ n)) (textBody check n)
   body-codec n =
       good-codec
-      (checked-codec (checked-codec (bytes-codec n) (allowed check) malformed) (fewCharacters check) overCapacity)
+      (checked-codec (checked-codec (checked-codec (bytes-codec n) fewBytes _) (allowed check) _) (fewCharacters check) _)
       (λ l. GoodBody l × (length l ≡ n))
-      (λ l g. ((g .1, g .0 .0), g .0 .1))
-      (λ l g. ((g .0 .1, g .1), g .0 .0))
+      (λ l g. (((g .1, g .0 .0), g .0 .1 .0), g .0 .1 .1))
+      (λ l g. ((g .0 .0 .1, (g .0 .1, g .1)), g .0 .0 .0))
 
   pub text-codec : Codec encodeText (FitsTextBy check) (readTextBy check)
   unfolding encodeText readTextBy
   text-codec =
       good-codec
-      (followed-codec (count-codec textBytes (lit< tt)) (λ l. l) GoodBody length (textBody check) body-codec)
+      (followed-codec u32-codec (λ l. l) GoodBody length (textBody check) body-codec)
       (FitsTextBy check)
-      (λ t g. (g .short, (g .utf8, g .few)))
-      (λ t g. record { short = g .0; utf8 = g .1 .0; few = g .1 .1 })
+      (λ t g. (omega (arith, g .short), (le-leb (length t) textBytes (g .short), (g .utf8, g .few))))
+      (λ t g. record { short = leb-true (length t) textBytes (g .1 .0); utf8 = g .1 .1 .0; few = g .1 .1 .1 })
 
   -- a value whose kind the edition has
   stored-back : (v : Value) → StorableBy check v → (rest : List ℕ) → valueAfter check (kindOf v) (valueBody v ++ rest) ≡ read v rest

@@ -1,6 +1,7 @@
 -- Reading from the start of a list of bytes: what was read with the bytes that are left, or the fault that ended the reading.
 -- Each way of putting readers together is defined here, and has its law in `Codec`.
 use Prim.Native.Nat.{ℕ, zero, suc}
+use mathlib.Core.Path.{_≡_}
 use mathlib.Core.List.{List, [], _∷_}
 use mathlib.Core.Bool.{Bool}
 use lib.ListN.{length, take, drop}
@@ -83,3 +84,7 @@ number n bs = if leb n (length bs) then read (numberOf (take n bs)) (drop n bs) 
 unfoldable pub literal : List ℕ → Reader (Unit {0})
 literal [] bs = read tt bs
 literal (x ∷ xs) bs = onward (byte bs) (λ b rest. if eqb b x then literal xs rest else refused malformed)
+
+-- what the first reader reads, the second reads alike
+pub record Kept {A : Type 0} (p q : Reader A) : Type 0 where
+  pub reads : (bs : List ℕ) (a : A) (rest : List ℕ) → p bs ≡ read a rest → q bs ≡ read a rest

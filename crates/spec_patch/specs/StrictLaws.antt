@@ -11,14 +11,14 @@ use lib.ListN.{length, length-append}
 use Rattle.spec_lists.specs.Lists.{if_then_else_, All}
 use Rattle.spec_lists.specs.BytesLaws.{length-littleEndian}
 use Rattle.spec_text.specs.Syntax.{isUtf8}
-use Rattle.spec_patch.specs.TextRule.{fewCharacters}
+use Rattle.spec_patch.specs.TextRule.{fewBytes, fewCharacters}
 use Rattle.spec_patch.specs.Sizes.{setBytes, setPatches, patchOperations, textBytes}
 use Rattle.spec_patch.specs.Patch.{Value, quad, signed, text, unsigned, Operation, setBinding, setAvailability, insert, update, remove, move, Patch}
 use Rattle.spec_patch.specs.Edition.{Edition, hasKind}
 use Rattle.spec_patch.specs.Encode.{u32, u64, encodeOptional, encodeText, kindOf, valueBody, encodeValue, encodeOperation, encodeEnvelope, encodeCounted, encodePatch, heading, encode}
 use Rattle.spec_patch.specs.Fits.{U64, U32, OptionalU64, InRangeValue, OperationHolds, InRangeEnvelope, InRangePatch, InRange, FitsText, Storable, StorableBy, FitsValue, FitsOperation, FitsPatch, Fits}
 use Rattle.spec_patch.specs.Reader.{malformed, overCapacity, Result, read, refused, Reader, onward, pair, many, literal}
-use Rattle.spec_patch.specs.Read.{readU64, readU32, readOptional, readCount, readCounted, textBody, readTextBy, readText, valueAfter, inEdition, readValueBy, readValue, operationAfter, readOperationBy, readOperation, readEnvelope, readPatch, readPatches, patches, fault, ended, readSet}
+use Rattle.spec_patch.specs.Read.{readU64, readU32, readOptional, readCount, readCounted, readTextBy, readText, valueAfter, inEdition, readValueBy, readValue, operationAfter, readOperationBy, readOperation, readEnvelope, readPatch, readPatches, patches, fault, ended, readSet}
 use Rattle.spec_patch.specs.Codec.{Codec}
 use Rattle.spec_patch.specs.ReadLaws.{u64-codec, u32-codec, optional-codec, count-codec, operation-codec, envelope-codec, patch-codec}
 use Rattle.spec_patch.specs.Codec.{bytes-codec, literal-codec}
@@ -100,19 +100,21 @@ text-strict : (t : List ℕ) → length (encodeText t) < 2 ^ 32 → (rest : List
 unfolding encodeText readTextBy Succeeds
 text-strict t k rest s =
     let long = length-append (u32 (length t)) t in
-    let s₁ = rw (append-assoc (u32 (length t)) t rest) at s in
-    let few = count-strict (length t) textBytes (t ++ rest) (textBody true) (omega arith) s₁ in
-    let s₂ = rw (count-codec textBytes (lit< tt) .back (length t) few (t ++ rest), bytes-codec (length t) .back t refl rest) at s₁ in
-    let tested = go (isUtf8 t) s₂ in
-    record { short = few; utf8 = tested .0; few = tested .1 }
+    let s₁ = rw (append-assoc (u32 (length t)) t rest, u32-codec .back (length t) (omega arith) (t ++ rest), bytes-codec (length t) .back t refl rest) at s in
+    let tested = by-bytes (fewBytes t) s₁ in
+    record { short = leb-true (length t) textBytes (tested .0); utf8 = tested .1 .0; few = tested .1 .1 }
   where
-    counted : (c : Bool) → Succeeds (if c then read t rest else refused overCapacity) → c ≡ true
-    counted true s = refl
-    counted false s = absurd s
+    by-characters : (c : Bool) → Succeeds (if c then read t rest else refused overCapacity) → c ≡ true
+    by-characters true s = refl
+    by-characters false s = absurd s
 
-    go : (b : Bool) → Succeeds (onward (if b then read t rest else refused malformed) (λ l rest′. if fewCharacters true l then read l rest′ else refused overCapacity)) → (b ≡ true) × (fewCharacters true t ≡ true)
-    go true s = (refl, counted (fewCharacters true t) s)
-    go false s = absurd s
+    by-rule : (b : Bool) → Succeeds (onward (if b then read t rest else refused malformed) (λ l rest′. if fewCharacters true l then read l rest′ else refused overCapacity)) → (b ≡ true) × (fewCharacters true t ≡ true)
+    by-rule true s = (refl, by-characters (fewCharacters true t) s)
+    by-rule false s = absurd s
+
+    by-bytes : (b : Bool) → Succeeds (onward (onward (if b then read t rest else refused overCapacity) (λ l rest′. if isUtf8 l then read l rest′ else refused malformed)) (λ l rest′. if fewCharacters true l then read l rest′ else refused overCapacity)) → (b ≡ true) × ((isUtf8 t ≡ true) × (fewCharacters true t ≡ true))
+    by-bytes true s = (refl, by-rule (isUtf8 t) s)
+    by-bytes false s = absurd s
 
 kind-strict : (t : Bool) (r : Result Value) → Succeeds (if t then r else refused malformed) → (t ≡ true) × Succeeds r
 unfolding Succeeds

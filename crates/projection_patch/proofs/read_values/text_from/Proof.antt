@@ -1,4 +1,4 @@
--- `projection_patch::read_values::text_from` meets its contract: as many bytes, and the rule of texts of them.
+-- `projection_patch::read_values::text_from` meets its contract: as many bytes, few enough, and the rule of texts of them.
 use Prim.Native.Nat.{ℕ}
 use mathlib.Core.Path.{_≡_, sym, ap, _∙_}
 use mathlib.Core.List.{List}
@@ -7,7 +7,7 @@ use native.Mathlib.Nat.{add-sub-cancel-left}
 use borrow.Author.Needs.{needs}
 use lib.ListN.{take, drop}
 use Rattle.projection_patch.specs.TextRule.{judgement}
-use Rattle.projection_patch.proofs.Texts.{judged-fits, judged-malformed, judged-many, unchecked, short, bad, many, placed, just-there}
+use Rattle.projection_patch.proofs.Texts.{judged-fits, judged-malformed, judged-many, unchecked, short, long, bad, many, placed, just-there}
 use Rattle.projection_patch.proofs.read_values.text_from.Statement.{statement}
 use Rattle.projection_patch.proofs.read_values.text_from.Tie as tie
 
@@ -15,15 +15,18 @@ sub-if1 : tie.Need-sub-if1
 sub-if1 c = search needs
 
 returns : tie.Need-returns
-returns c = let a = c .before .before .args in rw (short (a .strict) (a .part .now) (a .start) (a .len) (c .if1 .taken))
+returns c = let a = c .before .before .args in rw (short (a .strict) (a .part .now) (a .start) (a .len) (omega arith))
+
+returns-2 : tie.Need-returns-2
+returns-2 c = let a = c .before .before .before .args in rw (long (a .strict) (a .part .now) (a .start) (a .len) (omega arith) (omega arith))
 
 add-end : tie.Need-add-end
 add-end c = search needs
 
-returns-2 : tie.Need-returns-2
-returns-2 c =
-    let a = c .before .before .before .args in
-    placed (a .strict) (a .part .now) (a .start) (a .len) (omega arith) (omega arith) (unchecked (a .strict) _ (c .if2 .taken))
+returns-3 : tie.Need-returns-3
+returns-3 c =
+    let a = c .before .before .before .before .args in
+    placed (a .strict) (a .part .now) (a .start) (a .len) (omega arith) (omega arith) (omega arith) (unchecked (a .strict) _ (c .if3 .taken))
 
 text-of-requires : tie.Need-text-of-requires
 text-of-requires c κs = search needs
@@ -41,7 +44,7 @@ enum-told-3 : tie.Need-enum-told-3
 enum-told-3 c = search needs
 
 abbrev begun : tie.After-judge-text → tie.Start
-begun k = k .before .before .before .before .before
+begun k = k .before .before .before .before .before .before
 
 -- the text's own bytes
 abbrev text : tie.After-judge-text → List ℕ
@@ -54,24 +57,24 @@ asked k =
     k .judge-text .ensures
     ∙ ap judgement (k .before .text-of .ensures ∙ sym (just-there (a .part .now) (a .start) _ (omega arith)) ∙ ap (λ (m : ℕ). take m (drop (a .start) (a .part .now))) (add-sub-cancel-left (a .start) (a .len)))
 
-returns-3 : tie.Need-returns-3
-returns-3 c =
-    let k = c .before .before in
-    let a = begun k .args in
-    placed (a .strict) (a .part .now) (a .start) (a .len) (omega arith) (omega arith)
-    (judged-fits (a .strict) (text k) (k .before .before .if2 .left) (sym (asked k) ∙ c .enum-told .given .1))
-
 returns-4 : tie.Need-returns-4
 returns-4 c =
     let k = c .before .before in
     let a = begun k .args in
-    rw (bad (a .strict) (a .part .now) (a .start) (a .len) (omega arith) (judged-malformed (a .strict) (text k) (k .before .before .if2 .left) (sym (asked k) ∙ c .enum-told2 .given .1)))
+    placed (a .strict) (a .part .now) (a .start) (a .len) (omega arith) (omega arith) (omega arith)
+    (judged-fits (a .strict) (text k) (k .before .before .if3 .left) (sym (asked k) ∙ c .enum-told .given .1))
 
 returns-5 : tie.Need-returns-5
 returns-5 c =
     let k = c .before .before in
     let a = begun k .args in
-    rw (many (a .strict) (a .part .now) (a .start) (a .len) (omega arith) (judged-many (a .strict) (text k) (k .before .before .if2 .left) (sym (asked k) ∙ c .enum-told3 .given .1)))
+    rw (bad (a .strict) (a .part .now) (a .start) (a .len) (omega arith) (omega arith) (judged-malformed (a .strict) (text k) (k .before .before .if3 .left) (sym (asked k) ∙ c .enum-told2 .given .1)))
+
+returns-6 : tie.Need-returns-6
+returns-6 c =
+    let k = c .before .before in
+    let a = begun k .args in
+    rw (many (a .strict) (a .part .now) (a .start) (a .len) (omega arith) (omega arith) (judged-many (a .strict) (text k) (k .before .before .if3 .left) (sym (asked k) ∙ c .enum-told3 .given .1)))
 
 pub text-from-spec : {M : Type 1} → statement M
 text-from-spec =
@@ -79,13 +82,14 @@ text-from-spec =
     (tie.spec
     sub-if1
     returns
-    add-end
     returns-2
+    add-end
+    returns-3
     text-of-requires
     judge-text-requires
     enum-told
     enum-told-2
     enum-told-3
-    returns-3
     returns-4
-    returns-5)
+    returns-5
+    returns-6)
