@@ -164,11 +164,12 @@ refused(
 )
 refused(
     "text_cut_off_amid_10", "what stands behind it up to the end of the set remains, and is too little: 10", TAKEN, 10,
-    with_operations(update_bytes(241, b""), count=2), amid(241, 22), amid(241, 240), amid(1000, 240), amid(LARGEST, 240),
+    *(with_operations(update_bytes(length, b""), count=2) for length in (241, 1000, LARGEST)), amid(241, 22),
+    amid(241, 240), amid(1000, 999), amid(LARGEST, 1000),
 )
 refused(
     "text_long_amid_is_12", "the bytes of the operations behind it remain, and are enough: 12", TAKEN, 12, amid(241, 241),
-    amid(241, 242), amid(242, 242),
+    amid(241, 242), amid(1000, 1000), amid(1000, 1001),
 )
 refused(
     "text_cut_off_before_a_patch_10", "the bytes of the patches behind it remain, one too few: 10", TAKEN, 10,
