@@ -74,19 +74,28 @@ fn admission(panel: &PanelSets) -> f64 {
     (one(&panel.forth) + one(&panel.back)) / 2.0
 }
 
-/// Batches on sessions; the original's with and without its admission, which the proved call has inside.
+/// Nanoseconds of a batch without patches, which the proved call copies in and out.
+fn copies(program: &str, panel: &PanelSets) -> f64 {
+    let none = PanelSets { fill: panel.fill.clone(), forth: vec![], back: vec![] };
+    proved(program, 'b', &bench_panels::data(&none)) / 2.0
+}
+
+/// Batches on sessions; the original's with and without its admission, which the proved call has inside. The last ratio is that of the time
+/// over a batch without patches.
 pub fn batches(program: &str, collections: u64) {
-    println!("entries operations       proved     original  ratio    admitted  ratio");
+    println!("entries operations       proved     original  ratio    admitted  ratio       copies   over");
     for entries in ENTRIES {
         for operations in OPERATIONS {
             let panel = Layout { entries, collections }.panel(operations);
             let ours = proved(program, 'b', &bench_panels::data(&panel)) / 2.0;
+            let bare = copies(program, &panel);
             let theirs = original_batch(&panel);
             let whole = theirs + admission(&panel);
             println!(
-                "{entries:7} {operations:10} {ours:9.0} ns {theirs:9.0} ns {:6.2} {whole:8.0} ns {:6.2}",
+                "{entries:7} {operations:10} {ours:9.0} ns {theirs:9.0} ns {:6.2} {whole:8.0} ns {:6.2} {bare:9.0} ns {:6.2}",
                 ours / theirs,
-                ours / whole
+                ours / whole,
+                (ours - bare) / whole
             );
         }
     }
