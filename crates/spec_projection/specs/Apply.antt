@@ -68,21 +68,21 @@ applyUpdate p e = if contains (e .collection) (e .key) (p .entries) then done (w
 unfoldable pub applyRemove : Projection → ℕ → ℕ → Outcome
 applyRemove p c k = if contains c k (p .entries) then done (withEntries p (removeEntry c k (p .entries))) else stopped keyRule
 
--- needs the entry; takes it out, then finds the neighbour and inserts the same entry again
+-- needs the entry; takes it out, then finds the neighbour and inserts the same entry again, with its mark
 unfoldable pub applyMove : Projection → Option ℕ → Option Entry → Outcome
 applyMove p before none = stopped keyRule
 applyMove p before (some e) =
     let rest = removeEntry (e .collection) (e .key) (p .entries) in
     if containsNeighbour (e .collection) before rest then done (withEntries p (insertEntry before e rest)) else stopped keyRule
 
--- one operation
-unfoldable pub applyOperation : Projection → Operation → Outcome
-applyOperation p (setBinding n s v) = applyBinding p (record { node = n; slot = s; value = v })
-applyOperation p (setAvailability n a) = applyAvailability p (record { node = n; availability = a })
-applyOperation p (insert c k before v) = applyInsert p before (record { collection = c; key = k; value = v })
-applyOperation p (update c k v) = applyUpdate p (record { collection = c; key = k; value = v })
-applyOperation p (remove c k) = applyRemove p c k
-applyOperation p (move c k before) = applyMove p before (findFirst (isEntry c k) (p .entries))
+-- one operation of the patch of that id, which marks each value that it gives
+unfoldable pub applyOperation : Projection → ℕ → Operation → Outcome
+applyOperation p id (setBinding n s v) = applyBinding p (record { node = n; slot = s; mark = id; value = v })
+applyOperation p id (setAvailability n a) = applyAvailability p (record { node = n; mark = id; availability = a })
+applyOperation p id (insert c k before v) = applyInsert p before (record { collection = c; key = k; mark = id; value = v })
+applyOperation p id (update c k v) = applyUpdate p (record { collection = c; key = k; mark = id; value = v })
+applyOperation p id (remove c k) = applyRemove p c k
+applyOperation p id (move c k before) = applyMove p before (findFirst (isEntry c k) (p .entries))
 
 -- ---- the operations of patches, in order
 
@@ -106,9 +106,9 @@ replaySteps ps = flatMap patchSteps ps
 unfoldable pub operationsOf : List Patch → List Operation
 operationsOf ps = flatMap (λ (p : Patch). p .operations) ps
 
--- one step; nothing that is stored depends on the patch's id
+-- one step
 unfoldable pub applyStep : Projection → ReplayStep → Outcome
-applyStep p s = applyOperation p (s .operation)
+applyStep p s = applyOperation p (s .patch) (s .operation)
 
 -- goes on with the projection, unless stopped
 abbrev pub andThen : Outcome → (Projection → Outcome) → Outcome

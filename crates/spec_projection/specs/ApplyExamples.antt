@@ -27,14 +27,14 @@ numbers i (suc n) = i ∷ numbers (suc i) n
 
 -- a collection's entries of the keys 1 to n, each with its key as value
 keyed : ℕ → ℕ → List Entry
-keyed c n = map (λ (k : ℕ). record { collection = c; key = k; value = unsigned k }) (numbers 1 n)
+keyed c n = map (λ (k : ℕ). record { collection = c; key = k; mark = 0; value = unsigned k }) (numbers 1 n)
 
 -- a projection with these entries, n bindings of node 5 and n availabilities
 stored : ℕ → List Entry → Projection
 stored n es =
     record {
-      bindings = map (λ (s : ℕ). record { node = 5; slot = s; value = unsigned 0 }) (numbers 0 n);
-      availabilities = map (λ (i : ℕ). record { node = i; availability = pending }) (numbers 0 n);
+      bindings = map (λ (s : ℕ). record { node = 5; slot = s; mark = 0; value = unsigned 0 }) (numbers 0 n);
+      availabilities = map (λ (i : ℕ). record { node = i; mark = 0; availability = pending }) (numbers 0 n);
       entries = es;
     }
 

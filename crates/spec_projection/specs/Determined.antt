@@ -2,13 +2,16 @@
 use Prim.Native.Nat.{ℕ, _<_}
 use mathlib.Core.Path.{_≡_, refl, sym, ap, _∙_}
 use mathlib.Core.List.{List, [], _∷_, cons≢nil, head-eq-of-cons-eq, tail-eq-of-cons-eq}
+use mathlib.Core.Option.{Option, none, some, Option·map, Option·some-injective, Option·some-ne-none}
 use native.Mathlib.Omega.{arith}
 use borrow.Author.Tests.{ltb-true, ltb-false, eqb-true, eqb-false}
 use lib.Dec.{ltb, eqb}
 use Rattle.spec_lists.specs.ListLaws.{test-cases}
+use Rattle.spec_lists.specs.Order.{lookup}
 use Rattle.spec_lists.specs.LookupLaws.{ascending-determined}
+use Rattle.spec_patch.specs.Patch.{Value, Availability}
 use Rattle.spec_projection.specs.Projection.{Binding, NodeAvailability, Entry, Projection, bindingKey, availabilityKey}
-use Rattle.spec_projection.specs.Lookups.{bindingOf, availabilityOf, KeyedValue, keyedValue, entriesIn, entriesOf}
+use Rattle.spec_projection.specs.Lookups.{bindingOf, bindingMark, availabilityOf, availabilityMark, keyedValue, entriesIn, entriesOf}
 use Rattle.spec_projection.specs.Valid.{Grouped, Ordered}
 use Rattle.spec_projection.specs.CollectionLaws.{entriesIn-own, entriesIn-other, none-later}
 
@@ -17,8 +20,8 @@ first-not-before : (x y : Entry) (l m : List Entry) → Grouped (y ∷ m) → ((
 first-not-before x y l m h e less =
     cons≢nil (sym (entriesIn-own x l) ∙ e (x .collection) ∙ none-later (x .collection) y m less (h .0))
 
-entry-equal : (x y : Entry) → x .collection ≡ y .collection → x .key ≡ y .key → x .value ≡ y .value → x ≡ y
-entry-equal x y c k v = λ i. record { collection = c i; key = k i; value = v i }
+entry-equal : (x y : Entry) → x .collection ≡ y .collection → keyedValue x ≡ keyedValue y → x ≡ y
+entry-equal x y c v = λ i. record { collection = c i; key = v i .key; mark = v i .mark; value = v i .value }
 
 -- ---- entries
 
@@ -45,8 +48,7 @@ grouped-determined (x ∷ l) (y ∷ m) g h e = heads (grouped-determined l m (g 
 
     heads : (((c : ℕ) → entriesIn c l ≡ entriesIn c m) → l ≡ m) → _≡_ {A = List Entry} (x ∷ l) (y ∷ m)
     heads rest =
-        let item = head-eq-of-cons-eq own in
-        let first = entry-equal x y collections (ap (λ (i : KeyedValue). i .key) item) (ap (λ (i : KeyedValue). i .value) item) in
+        let first = entry-equal x y collections (head-eq-of-cons-eq own) in
         let others = rest tails in
         cc
 
@@ -60,23 +62,39 @@ pub determined : (p q : Projection) → Ordered p → Ordered q → p .bindings 
 unfolding entriesOf
 determined p q v w b a e = projection-equal p q b a (grouped-determined (p .entries) (q .entries) (v .entries) (w .entries) e)
 
-binding-equal : (x y : Binding) → bindingKey x ≡ bindingKey y → x .value ≡ y .value → x ≡ y
-unfolding bindingKey
-binding-equal x y k v = λ i. record { node = head-eq-of-cons-eq k i; slot = head-eq-of-cons-eq (tail-eq-of-cons-eq k) i; value = v i }
+-- what a row holds beside its key
+abbrev held : {A B : Type 0} → (A → B) → (A → ℕ) → A → B × ℕ
+held value mark a = (value a, mark a)
 
-availability-equal : (x y : NodeAvailability) → availabilityKey x ≡ availabilityKey y → x .availability ≡ y .availability → x ≡ y
+-- lookups that agree in value and in mark agree in both together
+agree : {A B : Type 0} (value : A → B) (mark : A → ℕ) (x y : Option A) → Option·map value x ≡ Option·map value y → Option·map mark x ≡ Option·map mark y
+    → Option·map (held value mark) x ≡ Option·map (held value mark) y
+agree value mark none none v m = refl
+agree value mark none (some b) v m = absurd (Option·some-ne-none (value b) (sym v))
+agree value mark (some a) none v m = absurd (Option·some-ne-none (value a) v)
+agree value mark (some a) (some b) v m = λ i. some (Option·some-injective (value a) (value b) v i, Option·some-injective (mark a) (mark b) m i)
+
+binding-equal : (x y : Binding) → bindingKey x ≡ bindingKey y → _≡_ {A = Value × ℕ} (x .value, x .mark) (y .value, y .mark) → x ≡ y
+unfolding bindingKey
+binding-equal x y k v = λ i. record { node = head-eq-of-cons-eq k i; slot = head-eq-of-cons-eq (tail-eq-of-cons-eq k) i; mark = v i .1; value = v i .0 }
+
+availability-equal : (x y : NodeAvailability) → availabilityKey x ≡ availabilityKey y → _≡_ {A = Availability × ℕ} (x .availability, x .mark) (y .availability, y .mark) → x ≡ y
 unfolding availabilityKey
-availability-equal x y k v = λ i. record { node = head-eq-of-cons-eq k i; availability = v i }
+availability-equal x y k v = λ i. record { node = head-eq-of-cons-eq k i; mark = v i .1; availability = v i .0 }
 
 -- by its lookups and each collection's entries in order
 pub determined-by-lookups : (p q : Projection) → Ordered p → Ordered q
     → ((node slot : ℕ) → bindingOf p node slot ≡ bindingOf q node slot)
+    → ((node slot : ℕ) → bindingMark p node slot ≡ bindingMark q node slot)
     → ((node : ℕ) → availabilityOf p node ≡ availabilityOf q node)
+    → ((node : ℕ) → availabilityMark p node ≡ availabilityMark q node)
     → ((c : ℕ) → entriesOf p c ≡ entriesOf q c)
     → p ≡ q
-unfolding bindingOf availabilityOf bindingKey availabilityKey
-determined-by-lookups p q v w b a e =
+unfolding bindingOf bindingMark availabilityOf availabilityMark bindingKey availabilityKey
+determined-by-lookups p q v w b m a n e =
     determined p q v w
-    (ascending-determined bindingKey (λ (x : Binding). x .value) binding-equal (p .bindings) (q .bindings) (v .bindings) (w .bindings) (λ x. b (x .node) (x .slot)))
-    (ascending-determined availabilityKey (λ (x : NodeAvailability). x .availability) availability-equal (p .availabilities) (q .availabilities) (v .availabilities) (w .availabilities) (λ x. a (x .node)))
+    (ascending-determined bindingKey (held (λ (x : Binding). x .value) (λ (x : Binding). x .mark)) binding-equal (p .bindings) (q .bindings) (v .bindings) (w .bindings)
+    (λ x. agree (λ (y : Binding). y .value) (λ (y : Binding). y .mark) (lookup bindingKey (bindingKey x) (p .bindings)) (lookup bindingKey (bindingKey x) (q .bindings)) (b (x .node) (x .slot)) (m (x .node) (x .slot))))
+    (ascending-determined availabilityKey (held (λ (x : NodeAvailability). x .availability) (λ (x : NodeAvailability). x .mark)) availability-equal (p .availabilities) (q .availabilities) (v .availabilities) (w .availabilities)
+    (λ x. agree (λ (y : NodeAvailability). y .availability) (λ (y : NodeAvailability). y .mark) (lookup availabilityKey (availabilityKey x) (p .availabilities)) (lookup availabilityKey (availabilityKey x) (q .availabilities)) (a (x .node)) (n (x .node))))
     e

@@ -37,11 +37,11 @@ unfoldable pub moveKeyed : Option ℕ → ℕ → Option KeyedValue → List Key
 moveKeyed before k none l = l
 moveKeyed before k (some e) l = insertKeyed before e (removeFirst (hasKey k) l)
 
--- the list of an operation's collection, after an operation that applies
-unfoldable pub collectionAfter : Operation → List KeyedValue → List KeyedValue
-collectionAfter (setBinding node slot v) l = l
-collectionAfter (setAvailability node a) l = l
-collectionAfter (insert c k before v) l = insertKeyed before (record { key = k; value = v }) l
-collectionAfter (update c k v) l = replaceFirst (hasKey k) (record { key = k; value = v }) l
-collectionAfter (remove c k) l = removeFirst (hasKey k) l
-collectionAfter (move c k before) l = moveKeyed before k (findFirst (hasKey k) l) l
+-- the list of an operation's collection, after an operation of that patch that applies
+unfoldable pub collectionAfter : ℕ → Operation → List KeyedValue → List KeyedValue
+collectionAfter id (setBinding node slot v) l = l
+collectionAfter id (setAvailability node a) l = l
+collectionAfter id (insert c k before v) l = insertKeyed before (record { key = k; mark = id; value = v }) l
+collectionAfter id (update c k v) l = replaceFirst (hasKey k) (record { key = k; mark = id; value = v }) l
+collectionAfter id (remove c k) l = removeFirst (hasKey k) l
+collectionAfter id (move c k before) l = moveKeyed before k (findFirst (hasKey k) l) l

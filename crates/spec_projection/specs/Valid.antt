@@ -23,18 +23,21 @@ abbrev pub Grouped : List Entry → Type 0
 Grouped [] = Unit {0}
 Grouped (x ∷ xs) = All (Behind x) xs × Grouped xs
 
--- ids are u64, a slot is a u32
+-- ids and marks are u64, a slot is a u32
 pub record FitsBinding (b : Binding) : Type 0 where
   pub node : U64 (b .node)
   pub slot : U32 (b .slot)
+  pub mark : U64 (b .mark)
   pub value : Storable (b .value)
 
 pub record FitsNodeAvailability (a : NodeAvailability) : Type 0 where
   pub node : U64 (a .node)
+  pub mark : U64 (a .mark)
 
 pub record FitsEntry (e : Entry) : Type 0 where
   pub collection : U64 (e .collection)
   pub key : U64 (e .key)
+  pub mark : U64 (e .mark)
   pub value : Storable (e .value)
 
 -- the stored order alone

@@ -119,20 +119,20 @@ applyMove-valid p c k before q v h =
     (insertEntry-all FitsEntry before e rest (findFirst-all (isEntry c k) FitsEntry (p .entries) e (a .found-entry) (v .fitEntries))
     (removeEntry-all FitsEntry (e .collection) (e .key) (p .entries) (v .fitEntries))))
 
-pub applyOperation-valid : (ed : Edition) (p : Projection) (o : Operation) (q : Projection) → FitsOperation ed o → Valid p → applyOperation p o ≡ done q → Valid q
+pub applyOperation-valid : (ed : Edition) (p : Projection) (id : ℕ) (o : Operation) (q : Projection) → U64 id → FitsOperation ed o → Valid p → applyOperation p id o ≡ done q → Valid q
 unfolding applyOperation OperationHolds
-applyOperation-valid ed p (setBinding n s x) q f v e = applyBinding-valid p _ q (record { node = f .0; slot = f .1 .0; value = f .1 .1 .storable }) v e
-applyOperation-valid ed p (setAvailability n a) q f v e = applyAvailability-valid p _ q (record { node = f }) v e
-applyOperation-valid ed p (insert c k before x) q f v e = applyInsert-valid p before _ q (record { collection = f .0; key = f .1 .0; value = f .1 .1 .1 .storable }) v e
-applyOperation-valid ed p (update c k x) q f v e = applyUpdate-valid p _ q (record { collection = f .0; key = f .1 .0; value = f .1 .1 .storable }) v e
-applyOperation-valid ed p (remove c k) q f v e = applyRemove-valid p c k q v e
-applyOperation-valid ed p (move c k before) q f v e = applyMove-valid p c k before q v e
+applyOperation-valid ed p id (setBinding n s x) q u f v e = applyBinding-valid p _ q (record { node = f .0; slot = f .1 .0; mark = u; value = f .1 .1 .storable }) v e
+applyOperation-valid ed p id (setAvailability n a) q u f v e = applyAvailability-valid p _ q (record { node = f; mark = u }) v e
+applyOperation-valid ed p id (insert c k before x) q u f v e = applyInsert-valid p before _ q (record { collection = f .0; key = f .1 .0; mark = u; value = f .1 .1 .1 .storable }) v e
+applyOperation-valid ed p id (update c k x) q u f v e = applyUpdate-valid p _ q (record { collection = f .0; key = f .1 .0; mark = u; value = f .1 .1 .storable }) v e
+applyOperation-valid ed p id (remove c k) q u f v e = applyRemove-valid p c k q v e
+applyOperation-valid ed p id (move c k before) q u f v e = applyMove-valid p c k before q v e
 
 -- ---- all steps
 
 pub applyStep-valid : (ed : Edition) (p : Projection) (s : ReplayStep) (q : Projection) → FitsStep ed s → Valid p → applyStep p s ≡ done q → Valid q
 unfolding applyStep
-applyStep-valid ed p s q f v e = applyOperation-valid ed p (s .operation) q (f .operation) v e
+applyStep-valid ed p s q f v e = applyOperation-valid ed p (s .patch) (s .operation) q (f .patch) (f .operation) v e
 
 pub applySteps-valid : (ed : Edition) (p : Projection) (ss : List ReplayStep) (q : Projection) → All (FitsStep ed) ss → Valid p → applySteps p ss ≡ done q → Valid q
 unfolding applySteps
@@ -160,24 +160,24 @@ withEntries-ordered : (p : Projection) (es : List Entry) → Ordered p → Group
 unfolding withEntries
 withEntries-ordered p es w g = record { bindings = w .bindings; availabilities = w .availabilities; entries = g }
 
-pub applyOperation-ordered : (p : Projection) (o : Operation) (q : Projection) → Ordered p → applyOperation p o ≡ done q → Ordered q
+pub applyOperation-ordered : (p : Projection) (id : ℕ) (o : Operation) (q : Projection) → Ordered p → applyOperation p id o ≡ done q → Ordered q
 unfolding applyOperation withBindings withAvailabilities
-applyOperation-ordered p (setBinding n s x) q w e =
-    let b : Binding = record { node = n; slot = s; value = x } in
+applyOperation-ordered p id (setBinding n s x) q w e =
+    let b : Binding = record { node = n; slot = s; mark = id; value = x } in
     subst Ordered (sym (applied-binding p b q e .1)) (record { bindings = upsert-ascending bindingKey b (p .bindings) (w .bindings); availabilities = w .availabilities; entries = w .entries })
-applyOperation-ordered p (setAvailability n x) q w e =
-    let a : NodeAvailability = record { node = n; availability = x } in
+applyOperation-ordered p id (setAvailability n x) q w e =
+    let a : NodeAvailability = record { node = n; mark = id; availability = x } in
     subst Ordered (sym (applied-availability p a q e .1)) (record { bindings = w .bindings; availabilities = upsert-ascending availabilityKey a (p .availabilities) (w .availabilities); entries = w .entries })
-applyOperation-ordered p (insert c k before x) q w h =
-    let e : Entry = record { collection = c; key = k; value = x } in
+applyOperation-ordered p id (insert c k before x) q w h =
+    let e : Entry = record { collection = c; key = k; mark = id; value = x } in
     let a = applied-insert p before e q h in
     subst Ordered (sym (a .result)) (withEntries-ordered p _ w (insertEntry-grouped before e (p .entries) (a .absent) (a .neighbour) (w .entries)))
-applyOperation-ordered p (update c k x) q w h =
-    let e : Entry = record { collection = c; key = k; value = x } in
+applyOperation-ordered p id (update c k x) q w h =
+    let e : Entry = record { collection = c; key = k; mark = id; value = x } in
     subst Ordered (sym (applied-update p e q h .1)) (withEntries-ordered p _ w (replaceEntry-grouped e (p .entries) (w .entries)))
-applyOperation-ordered p (remove c k) q w h =
+applyOperation-ordered p id (remove c k) q w h =
     subst Ordered (sym (applied-remove p c k q h .1)) (withEntries-ordered p _ w (removeEntry-grouped c k (p .entries) (w .entries)))
-applyOperation-ordered p (move c k before) q w h =
+applyOperation-ordered p id (move c k before) q w h =
     let a = applied-move p before (findFirst (isEntry c k) (p .entries)) q h in
     let e = a .entry in
     let rest = removeEntry (e .collection) (e .key) (p .entries) in
