@@ -94,6 +94,10 @@ pub record ReplayStep : Type 0 where
 abbrev pub stepOf : ℕ → Operation → ReplayStep
 stepOf id o = record { patch = id; operation = o }
 
+-- the operations of steps, without the ids of their patches
+abbrev pub stepOperations : List ReplayStep → List Operation
+stepOperations ss = map (λ (s : ReplayStep). s .operation) ss
+
 -- the steps of one patch
 unfoldable pub patchSteps : Patch → List ReplayStep
 patchSteps p = map (stepOf (p .envelope .id)) (p .operations)

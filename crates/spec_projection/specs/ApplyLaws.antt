@@ -7,7 +7,7 @@ use lib.ListN.{length, length-map}
 use Rattle.spec_lists.specs.ListLaws.{flatMap-append}
 use Rattle.spec_patch.specs.Patch.{Operation, Patch}
 use Rattle.spec_projection.specs.Projection.{Projection}
-use Rattle.spec_projection.specs.Apply.{OperationFault, Outcome, done, stopped, ReplayStep, stepOf, patchSteps, replaySteps, operationsOf, applyStep, andThen, applySteps}
+use Rattle.spec_projection.specs.Apply.{OperationFault, Outcome, done, stopped, ReplayStep, stepOf, stepOperations, patchSteps, replaySteps, operationsOf, applyStep, andThen, applySteps}
 
 -- ---- outcomes
 
@@ -45,13 +45,13 @@ unfolding operationsOf
 operationsOf-append a b = flatMap-append (λ (p : Patch). p .operations) a b
 
 -- the steps are the operations, in the same order
-pub replaySteps-operations : (ps : List Patch) → map (λ (s : ReplayStep). s .operation) (replaySteps ps) ≡ operationsOf ps
+pub replaySteps-operations : (ps : List Patch) → stepOperations (replaySteps ps) ≡ operationsOf ps
 unfolding replaySteps patchSteps operationsOf flatMap
 replaySteps-operations [] = refl
 replaySteps-operations (p ∷ ps) = map-steps (p .operations) (replaySteps ps) ∙ ap (λ l. p .operations ++ l) (replaySteps-operations ps)
   where
     map-steps : (os : List Operation) (rest : List ReplayStep)
-        → map (λ (s : ReplayStep). s .operation) (map (stepOf (p .envelope .id)) os ++ rest) ≡ os ++ map (λ (s : ReplayStep). s .operation) rest
+        → stepOperations (map (stepOf (p .envelope .id)) os ++ rest) ≡ os ++ stepOperations rest
     map-steps [] rest = refl
     map-steps (o ∷ os) rest = ap (λ l. o ∷ l) (map-steps os rest)
 

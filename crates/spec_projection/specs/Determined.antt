@@ -63,12 +63,12 @@ unfolding entriesOf
 determined p q v w b a e = projection-equal p q b a (grouped-determined (p .entries) (q .entries) (v .entries) (w .entries) e)
 
 -- what a row holds beside its key
-abbrev held : {A B : Type 0} → (A → B) → (A → ℕ) → A → B × ℕ
-held value mark a = (value a, mark a)
+abbrev valueAndMark : {A B : Type 0} → (A → B) → (A → ℕ) → A → B × ℕ
+valueAndMark value mark a = (value a, mark a)
 
 -- lookups that agree in value and in mark agree in both together
 agree : {A B : Type 0} (value : A → B) (mark : A → ℕ) (x y : Option A) → Option·map value x ≡ Option·map value y → Option·map mark x ≡ Option·map mark y
-    → Option·map (held value mark) x ≡ Option·map (held value mark) y
+    → Option·map (valueAndMark value mark) x ≡ Option·map (valueAndMark value mark) y
 agree value mark none none v m = refl
 agree value mark none (some b) v m = absurd (Option·some-ne-none (value b) (sym v))
 agree value mark (some a) none v m = absurd (Option·some-ne-none (value a) v)
@@ -93,8 +93,8 @@ pub determined-by-lookups : (p q : Projection) → Ordered p → Ordered q
 unfolding bindingOf bindingMark availabilityOf availabilityMark bindingKey availabilityKey
 determined-by-lookups p q v w b m a n e =
     determined p q v w
-    (ascending-determined bindingKey (held (λ (x : Binding). x .value) (λ (x : Binding). x .mark)) binding-equal (p .bindings) (q .bindings) (v .bindings) (w .bindings)
+    (ascending-determined bindingKey (valueAndMark (λ (x : Binding). x .value) (λ (x : Binding). x .mark)) binding-equal (p .bindings) (q .bindings) (v .bindings) (w .bindings)
     (λ x. agree (λ (y : Binding). y .value) (λ (y : Binding). y .mark) (lookup bindingKey (bindingKey x) (p .bindings)) (lookup bindingKey (bindingKey x) (q .bindings)) (b (x .node) (x .slot)) (m (x .node) (x .slot))))
-    (ascending-determined availabilityKey (held (λ (x : NodeAvailability). x .availability) (λ (x : NodeAvailability). x .mark)) availability-equal (p .availabilities) (q .availabilities) (v .availabilities) (w .availabilities)
+    (ascending-determined availabilityKey (valueAndMark (λ (x : NodeAvailability). x .availability) (λ (x : NodeAvailability). x .mark)) availability-equal (p .availabilities) (q .availabilities) (v .availabilities) (w .availabilities)
     (λ x. agree (λ (y : NodeAvailability). y .availability) (λ (y : NodeAvailability). y .mark) (lookup availabilityKey (availabilityKey x) (p .availabilities)) (lookup availabilityKey (availabilityKey x) (q .availabilities)) (a (x .node)) (n (x .node))))
     e

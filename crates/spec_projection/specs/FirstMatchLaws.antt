@@ -7,7 +7,7 @@ use mathlib.Core.Option.{none, some, Option·some-injective, Option·some-ne-non
 use native.Mathlib.Omega.{arith}
 use lib.ListN.{length}
 use Rattle.spec_lists.specs.Lists.{any, All}
-use Rattle.spec_lists.specs.ListLaws.{test-cases}
+use Rattle.spec_lists.specs.ListLaws.{or-left, or-right, or-second, test-cases}
 use Rattle.spec_projection.specs.FirstMatch.{findFirst, insertBeforeFirst, replaceFirst, removeFirst}
 
 module _ {A : Type 0} (test : A → Bool) where
@@ -69,3 +69,39 @@ module _ {A : Type 0} (test : A → Bool) where
   unfolding findFirst
   findFirst-all P [] a h k = let z : _≡_ {A = ℕ} 0 1 = cc in absurd (omega arith)
   findFirst-all P (x ∷ l) a h k = test-cases (test x) (λ f. subst P (Option·some-injective x a (rw f at h)) (k .0)) (λ f. findFirst-all P l a (rw f at h) (k .1))
+
+  pub findFirst-absent : (l : List A) → any test l ≡ false → findFirst test l ≡ none
+  unfolding findFirst
+  findFirst-absent [] h = refl
+  findFirst-absent (x ∷ l) h = rw (or-left (test x) _ h) (findFirst-absent l (or-right (test x) _ h))
+
+  -- ---- what is found after an edit, at a place that another test gives
+
+  -- an element that passes where no other does
+  pub insertBeforeFirst-found : (place : A → Bool) (a : A) (l : List A) → test a ≡ true → any test l ≡ false → findFirst test (insertBeforeFirst place a l) ≡ some a
+  unfolding findFirst insertBeforeFirst
+  insertBeforeFirst-found place a [] t n = rw t
+  insertBeforeFirst-found place a (x ∷ l) t n =
+      test-cases (place x) (λ f. rw (f, t)) (λ f. rw (f, or-left (test x) _ n) (insertBeforeFirst-found place a l t (or-right (test x) _ n)))
+
+  -- an element that does not pass
+  pub insertBeforeFirst-beside : (place : A → Bool) (a : A) (l : List A) → test a ≡ false → findFirst test (insertBeforeFirst place a l) ≡ findFirst test l
+  unfolding findFirst insertBeforeFirst
+  insertBeforeFirst-beside place a [] t = rw t
+  insertBeforeFirst-beside place a (x ∷ l) t = test-cases (place x) (λ f. rw (f, t)) (λ f. rw (f, insertBeforeFirst-beside place a l t))
+
+  pub replaceFirst-found : (a : A) (l : List A) → test a ≡ true → any test l ≡ true → findFirst test (replaceFirst test a l) ≡ some a
+  unfolding findFirst replaceFirst
+  replaceFirst-found a [] t h = cc
+  replaceFirst-found a (x ∷ l) t h = test-cases (test x) (λ f. rw (f, t)) (λ f. rw (f, f) (replaceFirst-found a l t (or-second _ _ h f)))
+
+  -- elements that do not pass, one in place of the other
+  pub replaceFirst-beside : (place : A → Bool) (a : A) (l : List A) → test a ≡ false → ((x : A) → place x ≡ true → test x ≡ false) → findFirst test (replaceFirst place a l) ≡ findFirst test l
+  unfolding findFirst replaceFirst
+  replaceFirst-beside place a [] t n = refl
+  replaceFirst-beside place a (x ∷ l) t n = test-cases (place x) (λ f. rw (f, t, n x f)) (λ f. rw (f, replaceFirst-beside place a l t n))
+
+  pub removeFirst-beside : (place : A → Bool) (l : List A) → ((x : A) → place x ≡ true → test x ≡ false) → findFirst test (removeFirst place l) ≡ findFirst test l
+  unfolding findFirst removeFirst
+  removeFirst-beside place [] n = refl
+  removeFirst-beside place (x ∷ l) n = test-cases (place x) (λ f. rw (f, n x f)) (λ f. rw (f, removeFirst-beside place l n))

@@ -13,4 +13,12 @@ pub mod ValidLaws
 pub mod Effects
 pub mod CollectionLaws
 pub mod Determined
+pub mod MapLaws
+pub mod RowMap
+pub mod RowMapLaws
+pub mod Marks
+pub mod UnmarkedLaws
+pub mod FoundLaws
+pub mod MarksLaws
+pub mod MarkExamples
 pub mod EffectsLaws
