@@ -21,7 +21,7 @@ use Rattle.spec_operation_order.specs.Grouping.{groupedBy, isAmong, dist
 -- ---- the lists
 
 abbrev pub entry : ℕ → ℕ → ℕ → Entry
-entry c k v = record { collection = c; key = k; value = unsigned v }
+entry c k v = record { collection = c; key = k; mark = 0; value = unsigned v }
 
 -- n entries of a collection, with the keys from k on
 unfoldable pub entriesFrom : ℕ → ℕ → ℕ → List Entry
@@ -81,8 +81,8 @@ grouped =
 -- what both leave
 abbrev pub afterwards : Projection
 afterwards = record {
-  bindings = record { node = 5; slot = 0; value = unsigned 2 } ∷ record { node = 5; slot = 1; value = unsigned 7 } ∷ [];
-  availabilities = record { node = 5; availability = stale } ∷ record { node = 6; availability = hidden } ∷ [];
+  bindings = record { node = 5; slot = 0; mark = 0; value = unsigned 2 } ∷ record { node = 5; slot = 1; mark = 0; value = unsigned 7 } ∷ [];
+  availabilities = record { node = 5; mark = 0; availability = stale } ∷ record { node = 6; mark = 0; availability = hidden } ∷ [];
   entries = entry 8 1 10 ∷ entry 9 1 21 ∷ entry 9 2 22 ∷ [];
 }
 

@@ -4,14 +4,15 @@ use Prim.Native.Nat.{ℕ, _+_, _≤_}
 use mathlib.Core.Path.{_≡_}
 use mathlib.Core.Logic.{_≢_, _⊎_}
 use mathlib.Core.Bool.{Bool, false, _&&_}
-use mathlib.Core.List.{List, [], _∷_, map}
+use mathlib.Core.List.{List, [], _∷_}
 use lib.Dec.{eqb}
 use lib.ListN.{length}
 use Rattle.spec_lists.specs.Lists.{if_then_else_}
 use Rattle.spec_patch.specs.Sizes.{projectionEntries}
 use Rattle.spec_patch.specs.Patch.{Operation, setBinding, setAvailability, insert, update, remove, move}
 use Rattle.spec_projection.specs.Projection.{Projection}
-use Rattle.spec_projection.specs.Apply.{projectionFull, Outcome, done, stopped, ReplayStep, applyOperation, andThen, applySteps}
+use Rattle.spec_projection.specs.Apply.{projectionFull, Outcome, done, stopped, ReplayStep, stepOperations, applyOperation, andThen, applySteps}
+use Rattle.spec_projection.specs.Marks.{withoutMarks}
 use Rattle.spec_projection.specs.Valid.{Valid}
 use Rattle.spec_projection.specs.Effects.{Target, bindingTarget, nodeTarget, collectionTarget, targetOf}
 
@@ -48,24 +49,20 @@ pub data Exchanges : List Operation → List Operation → Type 0 where
 
 -- ---- the claim
 
--- operations in order; the first that fails, with 8 or 9, ends the run
+-- operations in order, all of patch 0, so that marks tell nothing apart; the first that fails, with 8 or 9, ends the run
 unfoldable pub applyOperations : Projection → List Operation → Outcome
 applyOperations p [] = done p
-applyOperations p (o ∷ os) = andThen (applyOperation p o) (λ q. applyOperations q os)
+applyOperations p (o ∷ os) = andThen (applyOperation p 0 o) (λ q. applyOperations q os)
 
 -- where both lists run to their end, from a projection that a session can hold, they leave the same projection
 abbrev pub OrderIsFree : Projection → List Operation → List Operation → Type 0
 OrderIsFree p left right =
     (q r : Projection) → Valid p → OrderKept left right → applyOperations p left ≡ done q → applyOperations p right ≡ done r → q ≡ r
 
--- the operations of steps, without the ids of their patches
-abbrev pub stepOperations : List ReplayStep → List Operation
-stepOperations ss = map (λ (s : ReplayStep). s .operation) ss
-
--- the claim for steps: whatever patches the operations belong to. Were a row to carry its patch's id, q and r would be compared without it
+-- the claim for steps, whatever patches the operations belong to: the same projection without its marks
 abbrev pub StepOrderIsFree : Projection → List ReplayStep → List ReplayStep → Type 0
 StepOrderIsFree p left right =
-    (q r : Projection) → Valid p → OrderKept (stepOperations left) (stepOperations right) → applySteps p left ≡ done q → applySteps p right ≡ done r → q ≡ r
+    (q r : Projection) → Valid p → OrderKept (stepOperations left) (stepOperations right) → applySteps p left ≡ done q → applySteps p right ≡ done r → withoutMarks q ≡ withoutMarks r
 
 -- ---- where only one list is known to run
 

@@ -6,18 +6,19 @@ use native.Mathlib.Omega.{arith}
 use borrow.Author.Tests.{ne-eqb, eq-eqb}
 use Rattle.spec_lists.specs.Lists.{All}
 use Rattle.spec_patch.specs.Fits.{StorableBy}
-use Rattle.spec_patch.specs.Patch.{Operation}
-use Rattle.spec_projection.specs.Projection.{Entry, Projection, empty}
+use Rattle.spec_patch.specs.Patch.{pending, Operation, setAvailability}
+use Rattle.spec_projection.specs.Projection.{NodeAvailability, Entry, Projection, empty}
 use Rattle.spec_projection.specs.Entries.{isEntry}
-use Rattle.spec_projection.specs.Apply.{done}
+use Rattle.spec_projection.specs.Apply.{done, ReplayStep, stepOf, stepOperations, applyStep, applySteps}
+use Rattle.spec_projection.specs.Marks.{withoutMarks}
 use Rattle.spec_projection.specs.Valid.{Behind, Grouped, FitsEntry, Valid}
 use Rattle.spec_projection.specs.ValidLaws.{empty-valid}
 use Rattle.spec_projection.specs.Effects.{collectionTarget, targetOf}
 use Rattle.spec_operation_order.specs.FreeOrder.{sameTarget, OrderKept, applyOperations, inserted, insertCount, HasRoom}
 use Rattle.spec_operation_order.specs.Grouping.{isAmong, distinct, covers}
 use Rattle.spec_operation_order.specs.GroupingLaws.{grouping-keeps}
-use Rattle.spec_operation_order.specs.Examples.{entry, entriesFrom, full, removeThenInsert, insertThenRemove, oneThenTwo, twoThenOne, interleaved, targets, grouped, afterwards, runs-hold, grouped-is, full-grouped-is, grouping-needs}
-use Rattle.spec_operation_order.specs.Theorem.{order-is-free, runs-with-room}
+use Rattle.spec_operation_order.specs.Examples.{entry, entriesFrom, full, removeThenInsert, insertThenRemove, oneThenTwo, twoThenOne, interleaved, targets, grouped, afterwards, opened, runs-hold, grouped-is, full-grouped-is, grouping-needs}
+use Rattle.spec_operation_order.specs.Theorem.{order-is-free, step-order-is-free, runs-with-room}
 
 -- ---- the full panel is one that a session can hold
 
@@ -35,7 +36,7 @@ from-grouped c k (suc n) = (later-behind c k (suc k) n (omega arith), from-group
 from-fit : (c k n : ℕ) → c < 1000 → k + n < 1000 → All FitsEntry (entriesFrom c k n)
 unfolding entriesFrom StorableBy
 from-fit c k zero h g = tt
-from-fit c k (suc n) h g = (record { collection = omega arith; key = omega arith; value = omega arith }, from-fit c (suc k) n h (omega arith))
+from-fit c k (suc n) h g = (record { collection = omega arith; key = omega arith; mark = omega arith; value = omega arith }, from-fit c (suc k) n h (omega arith))
 
 pub full-valid : Valid full
 unfolding full entriesFrom
@@ -83,3 +84,24 @@ empty-room = omega arith
 
 pub runs-alike : applyOperations empty grouped ≡ done afterwards
 runs-alike = runs-with-room empty interleaved grouped afterwards empty-valid grouped-kept empty-room (runs-hold .1 .1 .1 .1 .0)
+
+-- ---- marks must be dropped: the same operation of two patches leaves two marks
+
+abbrev setBy : ℕ → List ReplayStep
+setBy id = stepOf id (setAvailability 5 pending) ∷ []
+
+abbrev availableBy : ℕ → Projection
+availableBy id = record { bindings = []; availabilities = record { node = 5; mark = id; availability = pending } ∷ []; entries = [] }
+
+set-leaves : (id : ℕ) → applySteps empty (setBy id) ≡ done (availableBy id)
+unfolding opened applySteps applyStep
+set-leaves id = refl
+
+pub marks-dropped : ((p : Projection) (left right : List ReplayStep) (q r : Projection) → Valid p → OrderKept (stepOperations left) (stepOperations right) → applySteps p left ≡ done q → applySteps p right ≡ done r → q ≡ r) → ⊥
+marks-dropped claim =
+    let same = claim empty (setBy 7) (setBy 8) _ _ empty-valid (λ t. refl) (set-leaves 7) (set-leaves 8) in
+    let marks : _≡_ {A = ℕ} 7 8 = ap (λ (x : NodeAvailability). x .mark) (head-eq-of-cons-eq (ap (λ (p : Projection). p .availabilities) same)) in omega arith
+
+-- without them both leave the same
+pub set-alike : withoutMarks (availableBy 7) ≡ withoutMarks (availableBy 8)
+set-alike = step-order-is-free empty (setBy 7) (setBy 8) _ _ empty-valid (λ t. refl) (set-leaves 7) (set-leaves 8)

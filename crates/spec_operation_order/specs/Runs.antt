@@ -24,30 +24,30 @@ use Rattle.spec_operation_order.specs.Rows.{putAll}
 -- a collection's list after its operations, or none where a key or a neighbour does not fit
 unfoldable pub listAfter : List KeyedValue → List Operation → Option (List KeyedValue)
 listAfter l [] = some l
-listAfter l (o ∷ os) = if keysFit l o then listAfter (collectionAfter o l) os else none
+listAfter l (o ∷ os) = if keysFit l o then listAfter (collectionAfter 0 o l) os else none
 
 -- what an operation leaves at its own target, and at others
-pub own-list : (p : Projection) (o : Operation) (q : Projection) → Ordered p → applyOperation p o ≡ done q → listOf q (targetOf o) ≡ collectionAfter o (listOf p (targetOf o))
+pub own-list : (p : Projection) (o : Operation) (q : Projection) → Ordered p → applyOperation p 0 o ≡ done q → listOf q (targetOf o) ≡ collectionAfter 0 o (listOf p (targetOf o))
 unfolding targetOf collectionAfter
 own-list p (setBinding n s v) q w h = refl
 own-list p (setAvailability n a) q w h = refl
-own-list p (insert c k before v) q w h = own-collection p (insert c k before v) q c (w .entries) h refl
-own-list p (update c k v) q w h = own-collection p (update c k v) q c (w .entries) h refl
-own-list p (remove c k) q w h = own-collection p (remove c k) q c (w .entries) h refl
-own-list p (move c k before) q w h = own-collection p (move c k before) q c (w .entries) h refl
+own-list p (insert c k before v) q w h = own-collection p 0 (insert c k before v) q c (w .entries) h refl
+own-list p (update c k v) q w h = own-collection p 0 (update c k v) q c (w .entries) h refl
+own-list p (remove c k) q w h = own-collection p 0 (remove c k) q c (w .entries) h refl
+own-list p (move c k before) q w h = own-collection p 0 (move c k before) q c (w .entries) h refl
 
-pub other-list : (p : Projection) (o : Operation) (q : Projection) (t : Target) → applyOperation p o ≡ done q → targetOf o ≢ t → listOf q t ≡ listOf p t
+pub other-list : (p : Projection) (o : Operation) (q : Projection) (t : Target) → applyOperation p 0 o ≡ done q → targetOf o ≢ t → listOf q t ≡ listOf p t
 other-list p o q (bindingTarget node slot) h n = refl
 other-list p o q (nodeTarget node) h n = refl
-other-list p o q (collectionTarget c) h n = other-collections p o q h c n
+other-list p o q (collectionTarget c) h n = other-collections p 0 o q h c n
 
 -- the lists before the rest of a run, from those before the whole
-pub rest-after : (p : Projection) (o : Operation) (os : List Operation) (q : Projection) (t : Target) → Ordered p → applyOperation p o ≡ done q
+pub rest-after : (p : Projection) (o : Operation) (os : List Operation) (q : Projection) (t : Target) → Ordered p → applyOperation p 0 o ≡ done q
     → listAfter (listOf p t) (operationsOn t (o ∷ os)) ≡ listAfter (listOf q t) (operationsOn t os)
 unfolding listAfter
 rest-after p o os q t w h = target-cases (targetOf o) t
     (λ e. let fit : keysFit (listOf p t) o ≡ true = rw e at (subst (Verdict p o) h (verdict p o) .fit) in
-    let own : listOf q t ≡ collectionAfter o (listOf p t) = rw e at (own-list p o q w h) in
+    let own : listOf q t ≡ collectionAfter 0 o (listOf p t) = rw e at (own-list p o q w h) in
     rw (on-own t o os e, fit, own))
     (λ n. rw (on-other t o os n, other-list p o q t h n))
 
@@ -62,9 +62,9 @@ pub ran : (p : Projection) (os : List Operation) (q : Projection) → Ordered p 
 unfolding applyOperations operationsOn listAfter putAll
 ran p [] q w h = subst (Ran p []) (done-injective h) (record { ordered = w; lists = λ t. refl; bindings = refl; availabilities = refl; fits = λ f. f })
 ran p (o ∷ os) q w h =
-    let (r, first, others) = andThen-done (applyOperation p o) (λ r. applyOperations r os) q h in
+    let (r, first, others) = andThen-done (applyOperation p 0 o) (λ r. applyOperations r os) q h in
     let s : Leaves p o r = subst (Verdict p o) first (verdict p o) in
-    let later = ran r os q (applyOperation-ordered p o r w first) others in
+    let later = ran r os q (applyOperation-ordered p 0 o r w first) others in
     record {
       ordered = later .ordered;
       lists = λ t. rest-after p o os r t w first ∙ later .lists t;

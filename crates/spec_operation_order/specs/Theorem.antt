@@ -3,19 +3,21 @@ use Prim.Native.Nat.{ℕ, _+_}
 use mathlib.Core.Path.{_≡_, refl, sym, ap, _∙_, subst}
 use mathlib.Core.Logic.{_≢_, _⊎_, inl, inr, ⊎-elim}
 use mathlib.Core.Bool.{true}
-use mathlib.Core.List.{List, [], _∷_}
+use mathlib.Core.List.{List, [], _∷_, map}
 use mathlib.Core.Option.{none, Option·some-injective, Option·some-ne-none}
 use native.Mathlib.Omega.{arith}
 use lib.ListN.{length}
 use Rattle.spec_patch.specs.Patch.{Operation, Patch}
 use Rattle.spec_projection.specs.Projection.{Projection, bindingKey, availabilityKey}
-use Rattle.spec_projection.specs.Apply.{OperationFault, keyRule, projectionFull, Outcome, done, stopped, ReplayStep, replaySteps, operationsOf, applyOperation, applyStep, andThen, applySteps}
+use Rattle.spec_projection.specs.Apply.{OperationFault, keyRule, projectionFull, Outcome, done, stopped, ReplayStep, stepOf, stepOperations, replaySteps, operationsOf, applyOperation, applyStep, andThen, applySteps}
 use Rattle.spec_projection.specs.ApplyLaws.{stopped-not-done, replaySteps-operations}
 use Rattle.spec_projection.specs.Valid.{Ordered, Valid}
 use Rattle.spec_projection.specs.ValidLaws.{valid-ordered, applyOperation-ordered}
+use Rattle.spec_projection.specs.Marks.{withoutMarks, outcomeWithoutMarks, withoutPatches}
+use Rattle.spec_projection.specs.UnmarkedLaws.{unmarked-valid, run-unmarked}
 use Rattle.spec_projection.specs.Effects.{Target, collectionTarget, targetOf}
 use Rattle.spec_projection.specs.Determined.{determined}
-use Rattle.spec_operation_order.specs.FreeOrder.{operationsOn, OrderKept, Exchanges, unchanged, exchange, behind, further, applyOperations, OrderIsFree, stepOperations, StepOrderIsFree, AlikeOrFull, inserted, insertCount, HasRoom, RunsWithRoom}
+use Rattle.spec_operation_order.specs.FreeOrder.{operationsOn, OrderKept, Exchanges, unchanged, exchange, behind, further, applyOperations, OrderIsFree, StepOrderIsFree, AlikeOrFull, inserted, insertCount, HasRoom, RunsWithRoom}
 use Rattle.spec_operation_order.specs.FreeOrderLaws.{on-own, kept-exactly}
 use Rattle.spec_operation_order.specs.Grouping.{groupedBy, distinct, covers}
 use Rattle.spec_operation_order.specs.GroupingLaws.{grouping-keeps}
@@ -35,23 +37,28 @@ order-is-free p left right q r v k g h =
     (a .availabilities ∙ availabilities-exchange x (p .availabilities) (v .availabilities) ∙ sym (b .availabilities))
     (λ c. let t = collectionTarget c in Option·some-injective _ _ (sym (a .lists t) ∙ ap (listAfter (listOf p t)) (k t) ∙ b .lists t))
 
--- steps run as their operations do
-steps-run : (p : Projection) (ss : List ReplayStep) → applySteps p ss ≡ applyOperations p (stepOperations ss)
+-- steps of patch 0 run as their operations do
+steps-run : (p : Projection) (os : List Operation) → applySteps p (map (stepOf 0) os) ≡ applyOperations p os
 unfolding applySteps applyStep applyOperations
 steps-run p [] = refl
-steps-run p (s ∷ ss) = go (applyOperation p (s .operation)) (λ q. steps-run q ss)
+steps-run p (o ∷ os) = go (applyOperation p 0 o) (λ q. steps-run q os)
   where
-    go : (x : Outcome) → ((q : Projection) → applySteps q ss ≡ applyOperations q (stepOperations ss)) → andThen x (λ q. applySteps q ss) ≡ andThen x (λ q. applyOperations q (stepOperations ss))
+    go : (x : Outcome) → ((q : Projection) → applySteps q (map (stepOf 0) os) ≡ applyOperations q os) → andThen x (λ q. applySteps q (map (stepOf 0) os)) ≡ andThen x (λ q. applyOperations q os)
     go (done q) later = later q
     go (stopped fault) later = refl
 
+-- without marks, steps of any patches leave what their operations leave
+operations-leave : (p : Projection) (ss : List ReplayStep) (q : Projection) → applySteps p ss ≡ done q → applyOperations (withoutMarks p) (stepOperations ss) ≡ done (withoutMarks q)
+unfolding withoutPatches withoutMarks
+operations-leave p ss q h = sym (steps-run (withoutMarks p) (stepOperations ss)) ∙ sym (run-unmarked p ss) ∙ ap outcomeWithoutMarks h
+
 pub step-order-is-free : (p : Projection) (left right : List ReplayStep) → StepOrderIsFree p left right
 step-order-is-free p left right q r v k g h =
-    order-is-free p (stepOperations left) (stepOperations right) q r v k (sym (steps-run p left) ∙ g) (sym (steps-run p right) ∙ h)
+    order-is-free (withoutMarks p) (stepOperations left) (stepOperations right) (withoutMarks q) (withoutMarks r) (unmarked-valid p v) k (operations-leave p left q g) (operations-leave p right r h)
 
 -- two patch lists, as a batch applies them
 pub patch-order-is-free : (p : Projection) (left right : List Patch) (q r : Projection) → Valid p → OrderKept (operationsOf left) (operationsOf right)
-    → applySteps p (replaySteps left) ≡ done q → applySteps p (replaySteps right) ≡ done r → q ≡ r
+    → applySteps p (replaySteps left) ≡ done q → applySteps p (replaySteps right) ≡ done r → withoutMarks q ≡ withoutMarks r
 patch-order-is-free p left right q r v k g h =
     step-order-is-free p (replaySteps left) (replaySteps right) q r v
     (λ t. ap (operationsOn t) (replaySteps-operations left) ∙ k t ∙ sym (ap (operationsOn t) (replaySteps-operations right))) g h
@@ -65,11 +72,11 @@ KeysFit p os = (t : Target) → listAfter (listOf p t) (operationsOn t os) ≢ n
 keys-fit-full : (p : Projection) (os : List Operation) (f : OperationFault) → Ordered p → KeysFit p os → applyOperations p os ≡ stopped f → f ≡ projectionFull
 unfolding applyOperations listAfter
 keys-fit-full p [] f w k h = absurd (stopped-not-done (sym h))
-keys-fit-full p (o ∷ os) f w k h = go (applyOperation p o) refl h (λ r. keys-fit-full r os f)
+keys-fit-full p (o ∷ os) f w k h = go (applyOperation p 0 o) refl h (λ r. keys-fit-full r os f)
   where
-    go : (x : Outcome) → applyOperation p o ≡ x → andThen x (λ r. applyOperations r os) ≡ stopped f
+    go : (x : Outcome) → applyOperation p 0 o ≡ x → andThen x (λ r. applyOperations r os) ≡ stopped f
         → ((r : Projection) → Ordered r → KeysFit r os → applyOperations r os ≡ stopped f → f ≡ projectionFull) → f ≡ projectionFull
-    go (done r) e h later = later r (applyOperation-ordered p o r w e) (λ t n. k t (rest-after p o os r t w e ∙ n)) h
+    go (done r) e h later = later r (applyOperation-ordered p 0 o r w e) (λ t n. k t (rest-after p o os r t w e ∙ n)) h
     go (stopped projectionFull) e h later = cc
     go (stopped keyRule) e h later = absurd (k (targetOf o) (rw (on-own (targetOf o) o os refl, subst (Verdict p o) e (verdict p o))))
 
@@ -104,7 +111,7 @@ room-rest p o os r s w = record { bindings = rw (s .bindings) (w .bindings); ava
 never-full : (p : Projection) (os : List Operation) → Room p os → applyOperations p os ≢ stopped projectionFull
 unfolding applyOperations
 never-full p [] w h = stopped-not-done (sym h)
-never-full p (o ∷ os) w h = go (applyOperation p o) (verdict p o) h (λ r. never-full r os)
+never-full p (o ∷ os) w h = go (applyOperation p 0 o) (verdict p o) h (λ r. never-full r os)
   where
     go : (x : Outcome) → Verdict p o x → andThen x (λ r. applyOperations r os) ≡ stopped projectionFull → ((r : Projection) → Room r os → applyOperations r os ≢ stopped projectionFull) → ⊥
     go (done r) s h later = later r (room-rest p o os r s w) h

@@ -53,7 +53,7 @@ put key none l = l
 put key (some a) l = upsert key a l
 
 unfoldable pub setsBinding : Operation → Option Binding
-setsBinding (setBinding n s v) = some (record { node = n; slot = s; value = v })
+setsBinding (setBinding n s v) = some (record { node = n; slot = s; mark = 0; value = v })
 setsBinding (setAvailability n a) = none
 setsBinding (insert c k before v) = none
 setsBinding (update c k v) = none
@@ -62,7 +62,7 @@ setsBinding (move c k before) = none
 
 unfoldable pub setsAvailability : Operation → Option NodeAvailability
 setsAvailability (setBinding n s v) = none
-setsAvailability (setAvailability n a) = some (record { node = n; availability = a })
+setsAvailability (setAvailability n a) = some (record { node = n; mark = 0; availability = a })
 setsAvailability (insert c k before v) = none
 setsAvailability (update c k v) = none
 setsAvailability (remove c k) = none
@@ -134,7 +134,7 @@ places-decide : (p : Projection) (o : Operation) (rows capacity : ℕ) (q : Proj
 places-decide p o rows capacity q fit leaves place =
     if-cases (Verdict p o) (leb rows capacity) _ _ (λ e. leaves (leb-true rows capacity e)) (λ e. (fit, λ w. omega (arith, leb-false rows capacity e, place w)))
 
-pub verdict : (p : Projection) (o : Operation) → Verdict p o (applyOperation p o)
+pub verdict : (p : Projection) (o : Operation) → Verdict p o (applyOperation p 0 o)
 unfolding applyOperation applyBinding applyAvailability applyInsert applyUpdate applyRemove withBindings withAvailabilities keysFit targetOf entriesOf put setsBinding setsAvailability inserted
 verdict p (setBinding n s v) = places-decide p (setBinding n s v) _ projectionBindings _ refl
     (λ few. record { fit = refl; place = λ f. record { bindings = few; availabilities = f .availabilities; entries = omega (arith, f .entries) }; bindings = refl; availabilities = refl; entries = omega arith })
@@ -144,7 +144,7 @@ verdict p (setAvailability n a) = places-decide p (setAvailability n a) _ projec
     (λ w. w .availabilities)
 verdict p (insert c k before v) =
     let o = insert c k before v in
-    let x : Entry = record { collection = c; key = k; value = v } in
+    let x : Entry = record { collection = c; key = k; mark = 0; value = v } in
     let es = p .entries in
     let grown = insertEntry-length before x es in
     if-cases (Verdict p o) (contains c k es) _ _
@@ -156,7 +156,7 @@ verdict p (insert c k before v) =
     (λ few. entries-leave p o (insertEntry before x es) refl refl fit (λ f. omega (arith, grown, few)) (omega (arith, grown)))
     (λ w. omega (arith, grown, w .entries))))
 verdict p (update c k v) =
-    let x : Entry = record { collection = c; key = k; value = v } in
+    let x : Entry = record { collection = c; key = k; mark = 0; value = v } in
     let es = p .entries in
     if-cases (Verdict p (update c k v)) (contains c k es) _ _
     (λ there. entries-leave p (update c k v) (replaceEntry x es) refl refl (sym (contains-own c k es) ∙ there) (λ f. omega (arith, f .entries)) (omega (arith, replaceEntry-length x es)))

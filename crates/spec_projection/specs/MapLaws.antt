@@ -1,12 +1,12 @@
--- Edits at the first match, and by a key, under a map that keeps what the test or the key looks at.
+-- Edits at the first match, and by a key, under a map that keeps what the test or the key looks at; properties of all images.
 use Prim.Native.Nat.{ℕ}
 use mathlib.Core.Path.{_≡_, refl, ap}
-use mathlib.Core.Bool.{Bool}
+use mathlib.Core.Bool.{Bool, true}
 use mathlib.Core.List.{List, [], _∷_, map}
 use mathlib.Core.Option.{Option·map}
-use Rattle.spec_lists.specs.Lists.{any}
+use Rattle.spec_lists.specs.Lists.{any, All}
 use Rattle.spec_lists.specs.ListLaws.{test-cases}
-use Rattle.spec_lists.specs.Order.{lexLess, upsert}
+use Rattle.spec_lists.specs.Order.{lexLess, upsert, Ascending}
 use Rattle.spec_projection.specs.FirstMatch.{findFirst, insertBeforeFirst, replaceFirst, removeFirst}
 
 module _ {A B : Type 0} (f : A → B) where
@@ -45,3 +45,12 @@ module _ {A B : Type 0} (f : A → B) where
       (λ s. test-cases (lexLess (own x) (own a))
       (λ t. rw (same a, same x, s, t) (ap (λ m. f x ∷ m) (upsert-map key own same a l)))
       (λ t. rw (same a, same x, s, t)))
+
+  pub all-image : (P : A → Type 0) (Q : B → Type 0) → ((a : A) → P a → Q (f a)) → (l : List A) → All P l → All Q (map f l)
+  all-image P Q each [] h = tt
+  all-image P Q each (x ∷ l) h = (each x (h .0), all-image P Q each l (h .1))
+
+  pub ascending-map : (key : B → List ℕ) (own : A → List ℕ) → ((x : A) → key (f x) ≡ own x) → (l : List A) → Ascending own l → Ascending key (map f l)
+  ascending-map key own same [] h = tt
+  ascending-map key own same (x ∷ l) h =
+      (all-image (λ y. lexLess (own x) (own y) ≡ true) (λ y. lexLess (key (f x)) (key y) ≡ true) (λ y less. rw (same x, same y) less) l (h .0), ascending-map key own same l (h .1))

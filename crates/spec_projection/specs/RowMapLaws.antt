@@ -1,8 +1,9 @@
--- A change of rows that keeps their keys commutes with every operation, for done and stopped alike. Nothing is asked of the projection.
+-- A change of rows that keeps their keys commutes with every operation, for done and stopped alike, whatever the projection; and it keeps the
+-- stored order.
 use Prim.Native.Nat.{ℕ}
 use mathlib.Core.Path.{_≡_, refl, ap, ap₂, _∙_}
 use mathlib.Core.Bool.{Bool, true, false, not}
-use mathlib.Core.List.{List, map}
+use mathlib.Core.List.{List, [], _∷_, map}
 use mathlib.Core.Option.{Option, none, some, Option·map}
 use lib.Dec.{leb}
 use lib.ListN.{length, length-map}
@@ -13,7 +14,8 @@ use Rattle.spec_projection.specs.Projection.{Binding, NodeAvailability, 
 use Rattle.spec_projection.specs.FirstMatch.{findFirst}
 use Rattle.spec_projection.specs.Entries.{isEntry, isLater, contains, containsNeighbour, insertLast, insertBefore, insertEntry, replaceEntry, removeEntry}
 use Rattle.spec_projection.specs.Apply.{keyRule, projectionFull, OperationFault, done, stopped, withBindings, withAvailabilities, withEntries, applyBinding, applyAvailability, applyInsert, applyUpdate, applyRemove, applyMove}
-use Rattle.spec_projection.specs.MapLaws.{any-map, findFirst-map, insertBeforeFirst-map, replaceFirst-map, removeFirst-map, upsert-map}
+use Rattle.spec_projection.specs.MapLaws.{any-map, findFirst-map, insertBeforeFirst-map, replaceFirst-map, removeFirst-map, upsert-map, all-image, ascending-map}
+use Rattle.spec_projection.specs.Valid.{Behind, Grouped, Ordered}
 use Rattle.spec_projection.specs.RowMap.{RowMap, mapRows, mapOutcome, KeepsKeys}
 
 module _ (f : RowMap) (keeps : KeepsKeys f) where
@@ -109,3 +111,23 @@ module _ (f : RowMap) (keeps : KeepsKeys f) where
       ap₂ (λ c k. removeEntry c k (map (f .entry) (p .entries))) (keeps .collection e) (keeps .key e) ∙ removed-mapped (e .collection) (e .key) (p .entries) in
       rw (taken, inserted-mapped before e rest, keeps .collection e, neighbour-mapped (e .collection) before rest)
       (if-made (containsNeighbour (e .collection) before rest) (withEntries p (insertEntry before e rest)) keyRule)
+
+  -- ---- the stored order
+
+  grouped-mapped : (l : List Entry) → Grouped l → Grouped (map (f .entry) l)
+  grouped-mapped [] h = tt
+  grouped-mapped (x ∷ l) h = (all-image (f .entry) (Behind x) (Behind (f .entry x)) behind l (h .0), grouped-mapped l (h .1))
+    where
+      behind : (y : Entry) → Behind x y → Behind (f .entry x) (f .entry y)
+      behind y b = record {
+        collection = rw (keeps .collection x, keeps .collection y) (b .collection);
+        other = isEntry-mapped (f .entry x .collection) (f .entry x .key) y ∙ ap₂ (λ c k. isEntry c k y) (keeps .collection x) (keeps .key x) ∙ b .other;
+      }
+
+  pub mapRows-ordered : (p : Projection) → Ordered p → Ordered (mapRows f p)
+  unfolding mapRows
+  mapRows-ordered p w = record {
+    bindings = ascending-map (f .binding) bindingKey bindingKey (keeps .binding) (p .bindings) (w .bindings);
+    availabilities = ascending-map (f .availability) availabilityKey availabilityKey (keeps .availability) (p .availabilities) (w .availabilities);
+    entries = grouped-mapped (p .entries) (w .entries);
+  }

@@ -2,18 +2,40 @@
 use Prim.Native.Nat.{ℕ}
 use mathlib.Core.Path.{_≡_, refl, sym, ap, ap₂, _∙_}
 use mathlib.Core.List.{List, [], _∷_, map}
+use native.Mathlib.Omega.{arith}
+use lib.ListN.{length-map}
 use Rattle.spec_patch.specs.Patch.{Operation, setBinding, setAvailability, insert, update, remove, move}
 use Rattle.spec_projection.specs.Projection.{Projection, bindingKey, availabilityKey}
 use Rattle.spec_projection.specs.FirstMatch.{findFirst}
 use Rattle.spec_projection.specs.Entries.{isEntry}
 use Rattle.spec_projection.specs.Apply.{Outcome, done, stopped, ReplayStep, stepOf, stepOperations, applyMove, applyOperation, applyStep, andThen, applySteps}
+use Rattle.spec_projection.specs.Valid.{FitsBinding, FitsNodeAvailability, FitsEntry, Valid}
+use Rattle.spec_projection.specs.ValidLaws.{valid-ordered}
+use Rattle.spec_projection.specs.MapLaws.{all-image}
 use Rattle.spec_projection.specs.RowMap.{mapRows, KeepsKeys}
-use Rattle.spec_projection.specs.RowMapLaws.{found-mapped, binding-mapped, availability-mapped, insert-mapped, update-mapped, remove-mapped, move-mapped}
+use Rattle.spec_projection.specs.RowMapLaws.{found-mapped, binding-mapped, availability-mapped, insert-mapped, update-mapped, remove-mapped, move-mapped, mapRows-ordered}
 use Rattle.spec_projection.specs.Marks.{unmarked, withoutMarks, outcomeWithoutMarks, withoutPatches}
 
 pub unmarked-keeps : KeepsKeys unmarked
 unfolding unmarked bindingKey availabilityKey
 unmarked-keeps = record { binding = λ b. refl; availability = λ a. refl; collection = λ e. refl; key = λ e. refl }
+
+-- a projection that a session can hold is one without its marks too
+pub unmarked-valid : (p : Projection) → Valid p → Valid (withoutMarks p)
+unfolding withoutMarks mapRows unmarked
+unmarked-valid p v =
+    let w = mapRows-ordered unmarked unmarked-keeps p (valid-ordered p v) in
+    record {
+      bindings = w .bindings;
+      availabilities = w .availabilities;
+      entries = w .entries;
+      fewBindings = rw (length-map (p .bindings) (unmarked .binding)) (v .fewBindings);
+      fewAvailabilities = rw (length-map (p .availabilities) (unmarked .availability)) (v .fewAvailabilities);
+      fewEntries = rw (length-map (p .entries) (unmarked .entry)) (v .fewEntries);
+      fitBindings = all-image (unmarked .binding) FitsBinding FitsBinding (λ b f. record { node = f .node; slot = f .slot; mark = omega arith; value = f .value }) (p .bindings) (v .fitBindings);
+      fitAvailabilities = all-image (unmarked .availability) FitsNodeAvailability FitsNodeAvailability (λ a f. record { node = f .node; mark = omega arith }) (p .availabilities) (v .fitAvailabilities);
+      fitEntries = all-image (unmarked .entry) FitsEntry FitsEntry (λ e f. record { collection = f .collection; key = f .key; mark = omega arith; value = f .value }) (p .entries) (v .fitEntries);
+    }
 
 -- one operation, of whichever patch
 pub operation-unmarked : (p : Projection) (id : ℕ) (o : Operation) → applyOperation (withoutMarks p) 0 o ≡ outcomeWithoutMarks (applyOperation p id o)
