@@ -3,12 +3,13 @@
 use Prim.Native.Nat.{ℕ, _+_}
 use mathlib.Core.Path.{_≡_, refl}
 use mathlib.Core.List.{List, [], _∷_}
-use mathlib.Core.Option.{none}
+use mathlib.Core.Option.{Option, none, some}
 use native.Mathlib.Omega.{arith}
 use lib.ListN.{length}
 use Rattle.spec_patch.specs.Patch.{Operation, Patch, unsigned, setAvailability, insert, remove, pending}
 use Rattle.spec_patch.specs.Fits.{OperationHolds, InRangeValue, OptionalU64}
 use Rattle.spec_projection.specs.Projection.{empty}
+use Rattle.spec_projection.specs.Lookups.{availabilityMark, entryMark}
 use Rattle.spec_projection.specs.Apply.{keyRule}
 use Rattle.spec_session.specs.Session.{uninitialized, Session, active}
 use Rattle.spec_splitting.specs.Splitting.{Piece, envelopeOf, references, send, continue, isRejected, sendAll, patchesOf, Given, Applies, AllApply, FailsAtOperation, StopsAtPiece}
@@ -62,6 +63,14 @@ premise-applies = refl
 -- and so do the two pieces
 pub conclusion-applies : AllApply 40 (send start 40 (piece (first ∷ second ∷ []))) pieces (sendAll start 40 pieces)
 conclusion-applies = whole-and-pieces start 40 _ pieces given .applies premise-applies
+
+-- rows are marked by their patches, 1 and 2, and not by the numbers of the batches, 40 and 41: 02, Job 11
+abbrev pub splitMarks : Session → List (Option ℕ)
+splitMarks s = entryMark (s .projection) 9 1 ∷ availabilityMark (s .projection) 5 ∷ []
+
+pub marks-alike : (splitMarks (send start 40 (piece (first ∷ second ∷ [])) .next) ≡ some 1 ∷ some 2 ∷ []) × (splitMarks (sendAll start 40 pieces .last) ≡ some 1 ∷ some 2 ∷ [])
+unfolding opened send sendAll continue isRejected envelopeOf references start piece first second patchOf entryMark availabilityMark
+marks-alike = (refl, refl)
 
 -- ---- a list that fails in its second piece
 

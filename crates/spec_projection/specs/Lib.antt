@@ -5,6 +5,9 @@ pub mod Entries
 pub mod Lookups
 pub mod Apply
 pub mod ApplyExamples
+pub mod RowMap
+pub mod Marks
+pub mod MarkExamples
 pub mod ApplyLaws
 pub mod Valid
 pub mod EntriesLaws
@@ -13,12 +16,10 @@ pub mod ValidLaws
 pub mod Effects
 pub mod CollectionLaws
 pub mod Determined
+pub mod EffectsLaws
 pub mod MapLaws
-pub mod RowMap
 pub mod RowMapLaws
-pub mod Marks
 pub mod UnmarkedLaws
 pub mod FoundLaws
 pub mod MarksLaws
-pub mod MarkExamples
-pub mod EffectsLaws
+pub mod MarkPremises

@@ -1,4 +1,4 @@
--- Whose mark a row has after some runs, as one table that the checker computes, and a run that meets the premises of the theorem on marks.
+-- Whose mark a row has after some runs, as one table that the checker computes: 02, Job 11.
 use Prim.Native.Nat.{ℕ}
 use mathlib.Core.Path.{_≡_, refl}
 use mathlib.Core.List.{List, [], _∷_}
@@ -12,8 +12,6 @@ use Rattle.spec_projection.specs.Entries.{isEntry, isLater, contains, co
 use Rattle.spec_projection.specs.Lookups.{bindingMark, availabilityMark, entryMark}
 use Rattle.spec_projection.specs.Apply.{Outcome, done, stopped, ReplayStep, stepOf, withBindings, withAvailabilities, withEntries, applyBinding, applyAvailability, applyInsert, applyUpdate, applyRemove, applyMove, applyOperation, applyStep, applySteps}
 use Rattle.spec_projection.specs.Marks.{RowId, bindingId, availabilityId, entryId, rowMark, sameRow, givesValue, lastSetter}
-use Rattle.spec_projection.specs.MarksLaws.{last-setter-marks}
-use Rattle.spec_projection.specs.ValidLaws.{empty-valid, valid-ordered}
 
 abbrev pub markedEntry : ℕ → ℕ → Entry
 markedEntry k id = record { collection = 9; key = k; mark = id; value = unsigned 0 }
@@ -52,21 +50,15 @@ abbrev pub markLeft : Outcome → RowId → Option ℕ
 markLeft (done p) r = rowMark p r
 markLeft (stopped fault) r = none
 
-pub marked-runs-hold : All (λ (r : MarkedRun). (lastSetter (r .row) (r .steps) ≡ r .setter) × (markLeft (applySteps started (r .steps)) (r .row) ≡ r .mark)) markedRuns
-unfolding lastSetter givesValue sameRow orElse rowMark bindingMark availabilityMark entryMark lexLess upsert lookup bindingKey availabilityKey findFirst insertBeforeFirst replaceFirst removeFirst
+-- what a run and its marks compute through
+unfoldable pub openedMarks : Unit {0}
+unfolding
+    lastSetter givesValue sameRow orElse rowMark bindingMark availabilityMark entryMark
+    lexLess upsert lookup empty bindingKey availabilityKey findFirst insertBeforeFirst replaceFirst removeFirst
     isEntry isLater contains containsNeighbour insertLast insertBefore insertEntry replaceEntry removeEntry
     withBindings withAvailabilities withEntries applyBinding applyAvailability applyInsert applyUpdate applyRemove applyMove applyOperation applyStep applySteps
+openedMarks = tt
+
+pub marked-runs-hold : All (λ (r : MarkedRun). (lastSetter (r .row) (r .steps) ≡ r .setter) × (markLeft (applySteps started (r .steps)) (r .row) ≡ r .mark)) markedRuns
+unfolding openedMarks
 marked-runs-hold = ((refl, refl), ((refl, refl), ((refl, refl), ((refl, refl), ((refl, refl), ((refl, refl), tt))))))
-
--- the theorem's premises are met: two patches fill an empty projection, a third moves
-abbrev pub fills : List ReplayStep
-fills = stepOf 7 (insert 9 1 none (unsigned 4)) ∷ stepOf 8 (update 9 1 (unsigned 0)) ∷ stepOf 8 (insert 9 2 none (unsigned 0)) ∷ stepOf 9 (move 9 1 none) ∷ []
-
-fills-leave : applySteps empty fills ≡ done (record { bindings = []; availabilities = []; entries = markedEntry 2 8 ∷ markedEntry 1 8 ∷ [] })
-unfolding empty lexLess upsert findFirst insertBeforeFirst replaceFirst removeFirst isEntry isLater contains containsNeighbour insertLast insertBefore insertEntry replaceEntry removeEntry
-    withEntries applyInsert applyUpdate applyMove applyOperation applyStep applySteps
-fills-leave = refl
-
-pub marks-premises-met : orElse (lastSetter (entryId 9 1) fills) (rowMark empty (entryId 9 1)) ≡ some 8
-unfolding rowMark entryMark findFirst isEntry
-marks-premises-met = last-setter-marks empty fills _ (entryId 9 1) 8 (valid-ordered empty empty-valid) fills-leave refl
