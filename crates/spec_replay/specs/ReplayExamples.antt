@@ -73,6 +73,7 @@ examples =
     -- the edition in force: the empty set of one, read as the other
     ∷ prints "edition 2\ncheck 1b00000055495f444e41325f50524f4a454354494f4e5f50415443485f563100000000\ncheck 1b00000055495f444e41325f50524f4a454354494f4e5f50415443485f563200000000\nedition 1\ncheck 1b00000055495f444e41325f50524f4a454354494f4e5f50415443485f563200000000\n"
     "K\t10\nK\t0\tset\t0\nK\t10\n"
+    ∷ prints "edition 2\nsession 7 100 4 8 8\ncreate\ncheck 1b00000055495f444e41325f50524f4a454354494f4e5f50415443485f563200000000\n" "S\t0\nK\t0\tset\t0\n"
     ∷ prints "edition 3\n" "?\t1\n"
     -- any other line ends the replay
     ∷ prints "create \nshow\n" "?\t1\n"
