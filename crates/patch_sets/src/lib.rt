@@ -135,8 +135,16 @@ fn has_letters(set: &[u8], edition: ProjectionPatchEdition) -> bool
     ensures { λ r. ⌜ r ≡ startsWith (letters (editionOf edition)) (drop 4 (now (set .entry))) ⌝ }
 {
     match edition {
-        ProjectionPatchEdition::V1 => bytes_wire::starts_with(set, 4, b"UI_DNA2_PROJECTION_PATCH_V1"),
-        ProjectionPatchEdition::V2 => bytes_wire::starts_with(set, 4, b"UI_DNA2_PROJECTION_PATCH_V2"),
+        ProjectionPatchEdition::V1 => bytes_wire::starts_with(
+            set,
+            4,
+            b"UI_DNA2_PROJECTION_PATCH_V1",
+        ),
+        ProjectionPatchEdition::V2 => bytes_wire::starts_with(
+            set,
+            4,
+            b"UI_DNA2_PROJECTION_PATCH_V2",
+        ),
     }
 }
 
