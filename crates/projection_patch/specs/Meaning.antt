@@ -5,6 +5,7 @@ use mathlib.Core.List.{List}
 use mathlib.Core.Option.{Option, none, some}
 use lib.ListN.{length, take, drop}
 use Rattle.spec_patch.specs.Patch as model
+use Rattle.spec_patch.specs.Edition.{Edition, v1, v2}
 use Rattle.projection_patch.specs.declared.contract_primitives.StaticNodeId.{StaticNodeId}
 use Rattle.projection_patch.specs.declared.contract_primitives.CollectionKey.{CollectionKey}
 use Rattle.projection_patch.specs.declared.binding_graph.BindingTarget.{BindingTarget}
@@ -12,13 +13,15 @@ use Rattle.projection_patch.specs.declared.patch.OptionalSurfaceId.{Opti
 use Rattle.projection_patch.specs.declared.patch.OptionalSurfaceId.the-variants as surface
 use Rattle.projection_patch.specs.declared.patch.OptionalKey.{OptionalKey}
 use Rattle.projection_patch.specs.declared.patch.OptionalKey.the-variants as key
+use Rattle.projection_patch.specs.declared.patch.ProjectionPatchEdition.{ProjectionPatchEdition}
+use Rattle.projection_patch.specs.declared.patch.ProjectionPatchEdition.the-variants.{V1, V2}
 use Rattle.projection_patch.specs.declared.patch.ProjectionPatchEnvelope.{ProjectionPatchEnvelope}
 use Rattle.projection_patch.specs.declared.patch.ProjectionQuadState.{ProjectionQuadState}
 use Rattle.projection_patch.specs.declared.patch.ProjectionQuadState.the-variants as quad
 use Rattle.projection_patch.specs.declared.patch.ProjectionNodeAvailability.{ProjectionNodeAvailability}
 use Rattle.projection_patch.specs.declared.patch.ProjectionNodeAvailability.the-variants.{Available, Unavailable, Hidden, Pending, Stale}
 use Rattle.projection_patch.specs.declared.patch.ProjectionPatchValue.{ProjectionPatchValue}
-use Rattle.projection_patch.specs.declared.patch.ProjectionPatchValue.the-variants.{Quad, SignedScalar, UnsignedScalar, Text}
+use Rattle.projection_patch.specs.declared.patch.ProjectionPatchValue.the-variants.{Quad, SignedScalar, UnsignedScalar, Text, Score}
 use Rattle.projection_patch.specs.declared.patch.ProjectionPatchOperation.{ProjectionPatchOperation}
 use Rattle.projection_patch.specs.declared.patch.ProjectionPatchOperation.the-variants.{SetBindingValue, SetNodeAvailability, CollectionInsert, CollectionUpdate, CollectionRemove, CollectionMove}
 
@@ -60,6 +63,7 @@ valueTo end (model.quad q) = Quad (quadTo q)
 valueTo end (model.signed z) = SignedScalar z
 valueTo end (model.text t) = Text (end - length t) (length t)
 valueTo end (model.unsigned n) = UnsignedScalar n
+valueTo end (model.score n) = Score n
 
 abbrev pub operationTo : ℕ → model.Operation → ProjectionPatchOperation
 operationTo end (model.setBinding n s v) = SetBindingValue (targetTo n s) (valueTo end v)
@@ -82,6 +86,10 @@ envelopeTo e = record {
 }
 
 -- ---- from the types to the model
+
+abbrev pub editionOf : ProjectionPatchEdition → Edition
+editionOf V1 = v1
+editionOf V2 = v2
 
 abbrev pub beforeOf : OptionalKey → Option ℕ
 beforeOf key.None = none
@@ -110,6 +118,7 @@ valueOf texts (Quad q) = model.quad (quadOf q)
 valueOf texts (SignedScalar z) = model.signed z
 valueOf texts (UnsignedScalar n) = model.unsigned n
 valueOf texts (Text start len) = model.text (take len (drop start texts))
+valueOf texts (Score n) = model.score n
 
 abbrev pub operationOf : List ℕ → ProjectionPatchOperation → model.Operation
 operationOf texts (SetBindingValue t v) = model.setBinding (t .node .0) (t .slot .0) (valueOf texts v)

@@ -12,7 +12,7 @@ use lib.Seq.{take-at, drop-at, drop-drop, take-all}
 use mir.Syntax.{w64}
 use mir.Val.{ofZ}
 use Rattle.spec_lists.specs.Bytes.{Bytes}
-use Rattle.spec_patch.specs.Patch.{Quad, N, F, T, S, Availability, available, unavailable, hidden, pending, stale, Value, quad, signed, text, unsigned, Operation, setBinding, setAvailability, insert, update, remove, move}
+use Rattle.spec_patch.specs.Patch.{Quad, N, F, T, S, Availability, available, unavailable, hidden, pending, stale, Value, quad, signed, text, unsigned, score, Operation, setBinding, setAvailability, insert, update, remove, move}
 use Rattle.spec_patch.specs.Edition.{Edition}
 use Rattle.spec_patch.specs.Encode.{u32, u64, encodeOptional, quadByte, availabilityByte, encodeText, kindOf, valueBody, encodeValue, encodeOperation}
 use Rattle.spec_patch.specs.Reader.{read}
@@ -28,6 +28,7 @@ textIn (quad q) = []
 textIn (signed z) = []
 textIn (text t) = t
 textIn (unsigned n) = []
+textIn (score n) = []
 
 unfoldable pub textOf : Operation → List ℕ
 textOf (setBinding n s v) = textIn v
@@ -56,6 +57,7 @@ value-end (quad q) = none-at-end (1 ∷ (quadByte q ∷ []))
 value-end (signed z) = none-at-end (2 ∷ u64 (ofZ w64 z))
 value-end (text t) = record { front = 3 ∷ u32 (length t); is = refl }
 value-end (unsigned n) = none-at-end (4 ∷ u64 n)
+value-end (score n) = none-at-end (5 ∷ (n ∷ []))
 
 operation-end : (o : Operation) → Ends (encodeOperation o) (textOf o)
 unfolding encodeOperation textOf
@@ -111,6 +113,7 @@ value-back l end (quad q) h = ap quad (quad-back q)
 value-back l end (signed z) h = refl
 value-back l end (text t) h = ap text h
 value-back l end (unsigned n) h = refl
+value-back l end (score n) h = refl
 
 placed-back : (l : List ℕ) (end : ℕ) (o : Operation) → Placed l end (textOf o) → operationOf l (operationTo end o) ≡ o
 unfolding textOf

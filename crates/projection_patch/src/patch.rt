@@ -1,5 +1,7 @@
 // What a patch is made of. After crates/prom-ui/src/projection_patch.rs.
 ghost use mathlib.Core.Path.{_≡_};
+ghost use Rattle.spec_patch.specs.Edition.{hasKind};
+ghost use Rattle.projection_patch.specs.Meaning.{editionOf};
 use crate::binding_graph::BindingTarget;
 use crate::contract_primitives::CollectionKey;
 use crate::contract_primitives::Epoch;
@@ -75,6 +77,23 @@ pub struct ProjectionPatchEnvelope {
     pub sequence: ProjectionPatchSequence,
 }
 
+// The edition that a set is written in. The second has match scores.
+pub enum ProjectionPatchEdition {
+    V1,
+    V2,
+}
+
+impl ProjectionPatchEdition {
+    pub fn has_scores(self) -> bool
+        ensures { λ r. ⌜ r ≡ hasKind (editionOf self) 5 ⌝ }
+    {
+        match self {
+            ProjectionPatchEdition::V1 => false,
+            ProjectionPatchEdition::V2 => true,
+        }
+    }
+}
+
 pub enum ProjectionQuadState {
     N,
     F,
@@ -88,6 +107,7 @@ pub enum ProjectionPatchValue {
     SignedScalar(i64),
     UnsignedScalar(u64),
     Text { start: usize, len: usize },
+    Score(u8),
 }
 
 pub enum ProjectionNodeAvailability {
@@ -139,6 +159,8 @@ impl ProjectionPatchValue {
     pub const TEXT_BYTES: usize = 240;
 
     pub const TEXT_CHARACTERS: usize = 160;
+    // The highest match score.
+    pub const HIGHEST_SCORE: u8 = 100;
 }
 
 // A patch's head: its envelope, and how many operations follow it.

@@ -2,9 +2,9 @@
 ghost use mathlib.Core.Path.{_≡_};
 ghost use mathlib.Core.Bool.{Bool};
 ghost use lib.ListN.{length, drop};
-ghost use Rattle.spec_patch.specs.Edition.{v1};
+ghost use Rattle.spec_patch.specs.Edition.{Edition};
 ghost use Rattle.spec_patch.specs.Read.{operationAfter, readOperationBy, readOperation};
-ghost use Rattle.projection_patch.specs.Meaning.{beforeTo};
+ghost use Rattle.projection_patch.specs.Meaning.{editionOf, beforeTo};
 ghost use Rattle.bytes_wire.specs.Read.{firstNumber};
 ghost use Rattle.projection_patch.specs.ReadAnswers.{optionalOf, numbersAnswer, placeTo, operationAnswer};
 use crate::binding_graph::BindingSlot;
@@ -12,6 +12,7 @@ use crate::binding_graph::BindingTarget;
 use crate::contract_primitives::CollectionKey;
 use crate::contract_primitives::StaticNodeId;
 use crate::patch::OptionalKey;
+use crate::patch::ProjectionPatchEdition;
 use crate::patch::ProjectionPatchOperation;
 use crate::read_values;
 use crate::read_values::AvailabilityRead;
@@ -57,8 +58,8 @@ pub fn key_of(number: OptionalNumber) -> OptionalKey
     }
 }
 
-fn set_binding_value(part: &[u8], strict: bool) -> OperationRead
-    ensures { λ r. ⌜ r ≡ operationAnswer (length (now (part .entry))) (operationAfter strict v1 1 (drop 1 (now (part .entry)))) ⌝ }
+fn set_binding_value(part: &[u8], strict: bool, edition: ProjectionPatchEdition) -> OperationRead
+    ensures { λ r. ⌜ r ≡ operationAnswer (length (now (part .entry))) (operationAfter strict (editionOf edition) 1 (drop 1 (now (part .entry)))) ⌝ }
 {
     let ReadU64::Read(node) = bytes_wire::read_u64_at(part, 1) else {
         return OperationRead::Refused(ProjectionPatchReadFault::Malformed);
@@ -70,7 +71,7 @@ fn set_binding_value(part: &[u8], strict: bool) -> OperationRead
         node: StaticNodeId::new(node),
         slot: BindingSlot(slot),
     };
-    match read_values::value_at(part, 13, strict) {
+    match read_values::value_at(part, 13, strict, edition) {
         ValueRead::Read(value, end) => OperationRead::Read(
             ProjectionPatchOperation::SetBindingValue { target, value },
             end,
@@ -80,7 +81,7 @@ fn set_binding_value(part: &[u8], strict: bool) -> OperationRead
 }
 
 fn set_node_availability(part: &[u8]) -> OperationRead
-    ensures { λ r. ⌜ ((strict : Bool) → r ≡ operationAnswer (length (now (part .entry))) (operationAfter strict v1 2 (drop 1 (now (part .entry))))) ⌝ }
+    ensures { λ r. ⌜ ((strict : Bool) (ed : Edition) → r ≡ operationAnswer (length (now (part .entry))) (operationAfter strict ed 2 (drop 1 (now (part .entry))))) ⌝ }
 {
     let ReadU64::Read(number) = bytes_wire::read_u64_at(part, 1) else {
         return OperationRead::Refused(ProjectionPatchReadFault::Malformed);
@@ -95,14 +96,19 @@ fn set_node_availability(part: &[u8]) -> OperationRead
     }
 }
 
-fn collection_insert(part: &[u8], strict: bool) -> OperationRead
-    ensures { λ r. ⌜ r ≡ operationAnswer (length (now (part .entry))) (operationAfter strict v1 3 (drop 1 (now (part .entry)))) ⌝ }
+fn collection_insert(part: &[u8], strict: bool, edition: ProjectionPatchEdition) -> OperationRead
+    ensures { λ r. ⌜ r ≡ operationAnswer (length (now (part .entry))) (operationAfter strict (editionOf edition) 3 (drop 1 (now (part .entry)))) ⌝ }
 {
     let PlaceRead::Read(collection, key) = place(part) else {
         return OperationRead::Refused(ProjectionPatchReadFault::Malformed);
     };
     match read_values::optional_at(part, 17) {
-        OptionalRead::Read(neighbour, body) => match read_values::value_at(part, body, strict) {
+        OptionalRead::Read(neighbour, body) => match read_values::value_at(
+            part,
+            body,
+            strict,
+            edition,
+        ) {
             ValueRead::Read(value, end) => OperationRead::Read(
                 ProjectionPatchOperation::CollectionInsert {
                     collection,
@@ -118,13 +124,13 @@ fn collection_insert(part: &[u8], strict: bool) -> OperationRead
     }
 }
 
-fn collection_update(part: &[u8], strict: bool) -> OperationRead
-    ensures { λ r. ⌜ r ≡ operationAnswer (length (now (part .entry))) (operationAfter strict v1 4 (drop 1 (now (part .entry)))) ⌝ }
+fn collection_update(part: &[u8], strict: bool, edition: ProjectionPatchEdition) -> OperationRead
+    ensures { λ r. ⌜ r ≡ operationAnswer (length (now (part .entry))) (operationAfter strict (editionOf edition) 4 (drop 1 (now (part .entry)))) ⌝ }
 {
     let PlaceRead::Read(collection, key) = place(part) else {
         return OperationRead::Refused(ProjectionPatchReadFault::Malformed);
     };
-    match read_values::value_at(part, 17, strict) {
+    match read_values::value_at(part, 17, strict, edition) {
         ValueRead::Read(value, end) => OperationRead::Read(
             ProjectionPatchOperation::CollectionUpdate {
                 collection,
@@ -138,7 +144,7 @@ fn collection_update(part: &[u8], strict: bool) -> OperationRead
 }
 
 fn collection_remove(part: &[u8]) -> OperationRead
-    ensures { λ r. ⌜ ((strict : Bool) → r ≡ operationAnswer (length (now (part .entry))) (operationAfter strict v1 5 (drop 1 (now (part .entry))))) ⌝ }
+    ensures { λ r. ⌜ ((strict : Bool) (ed : Edition) → r ≡ operationAnswer (length (now (part .entry))) (operationAfter strict ed 5 (drop 1 (now (part .entry))))) ⌝ }
 {
     let PlaceRead::Read(collection, key) = place(part) else {
         return OperationRead::Refused(ProjectionPatchReadFault::Malformed);
@@ -150,7 +156,7 @@ fn collection_remove(part: &[u8]) -> OperationRead
 }
 
 fn collection_move(part: &[u8]) -> OperationRead
-    ensures { λ r. ⌜ ((strict : Bool) → r ≡ operationAnswer (length (now (part .entry))) (operationAfter strict v1 6 (drop 1 (now (part .entry))))) ⌝ }
+    ensures { λ r. ⌜ ((strict : Bool) (ed : Edition) → r ≡ operationAnswer (length (now (part .entry))) (operationAfter strict ed 6 (drop 1 (now (part .entry))))) ⌝ }
 {
     let PlaceRead::Read(collection, key) = place(part) else {
         return OperationRead::Refused(ProjectionPatchReadFault::Malformed);
@@ -169,18 +175,18 @@ fn collection_move(part: &[u8]) -> OperationRead
 }
 
 // An operation from the start of a part. Its text, which is its last field, is checked where the reading is strict.
-pub fn operation_from(part: &[u8], strict: bool) -> OperationRead
-    ensures { λ r. ⌜ r ≡ operationAnswer (length (now (part .entry))) (readOperationBy strict v1 (now (part .entry))) ⌝ }
+pub fn operation_from(part: &[u8], strict: bool, edition: ProjectionPatchEdition) -> OperationRead
+    ensures { λ r. ⌜ r ≡ operationAnswer (length (now (part .entry))) (readOperationBy strict (editionOf edition) (now (part .entry))) ⌝ }
 {
     if part.len() == 0 {
         return OperationRead::Refused(ProjectionPatchReadFault::Malformed);
     }
     let tag = part[0];
     match tag {
-        1 => set_binding_value(part, strict),
+        1 => set_binding_value(part, strict, edition),
         2 => set_node_availability(part),
-        3 => collection_insert(part, strict),
-        4 => collection_update(part, strict),
+        3 => collection_insert(part, strict, edition),
+        4 => collection_update(part, strict, edition),
         5 => collection_remove(part),
         6 => collection_move(part),
         _ => OperationRead::Refused(ProjectionPatchReadFault::Malformed),
@@ -188,8 +194,8 @@ pub fn operation_from(part: &[u8], strict: bool) -> OperationRead
 }
 
 // Reads an operation from the start of a part.
-pub fn read_operation(part: &[u8]) -> OperationRead
-    ensures { λ r. ⌜ r ≡ operationAnswer (length (now (part .entry))) (readOperation v1 (now (part .entry))) ⌝ }
+pub fn read_operation(part: &[u8], edition: ProjectionPatchEdition) -> OperationRead
+    ensures { λ r. ⌜ r ≡ operationAnswer (length (now (part .entry))) (readOperation (editionOf edition) (now (part .entry))) ⌝ }
 {
-    operation_from(part, true)
+    operation_from(part, true, edition)
 }

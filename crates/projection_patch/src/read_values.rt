@@ -4,13 +4,16 @@ ghost use mathlib.Core.Path.{_≡_};
 ghost use Prim.Native.Nat.{_+_, _-_, _≤_};
 ghost use mathlib.Core.Option.{some};
 ghost use lib.ListN.{length, drop};
-ghost use Rattle.spec_patch.specs.Edition.{v1};
+ghost use Rattle.spec_patch.specs.Edition.{hasKind};
 ghost use Rattle.spec_patch.specs.Patch as model;
-ghost use Rattle.spec_patch.specs.Reader.{faultNumber, mapped};
-ghost use Rattle.spec_patch.specs.Read.{readU64, readI64, readCount, readQuad, textBody, readTextBy, readOptional, readAvailability, readValueBy, readValue};
+ghost use Rattle.spec_patch.specs.Reader.{faultNumber, malformed, refused, mapped};
+ghost use Rattle.spec_patch.specs.Read.{readU64, readI64, readCount, readQuad, textBody, readTextBy, readOptional, readAvailability, readScore, readValueBy, readValue};
+ghost use Rattle.spec_lists.specs.Lists.{if_then_else_};
 ghost use Rattle.bytes_wire.specs.Read.{firstNumber};
+ghost use Rattle.projection_patch.specs.Meaning.{editionOf};
 ghost use Rattle.projection_patch.specs.ReadAnswers.{faultOf, numbersAnswer, countAnswer, optionalAnswer, availabilityAnswer, valueAnswer, lentPart};
 use crate::patch::ProjectionNodeAvailability;
+use crate::patch::ProjectionPatchEdition;
 use crate::patch::ProjectionPatchValue;
 use crate::patch::ProjectionQuadState;
 use crate::text_rule;
@@ -224,9 +227,36 @@ fn text_at(part: &[u8], at: usize, strict: bool) -> ValueRead
     }
 }
 
+// A byte that is a score.
+fn score_byte_at(part: &[u8], at: usize) -> ValueRead
+    ensures { λ r. ⌜ r ≡ valueAnswer (length (now (part .entry))) (mapped model.score readScore (drop at (now (part .entry)))) ⌝ }
+{
+    if part.len() <= at {
+        return ValueRead::Refused(ProjectionPatchReadFault::Malformed);
+    }
+    let score = part[at];
+    let end = at + 1;
+    if score <= ProjectionPatchValue::HIGHEST_SCORE {
+        ValueRead::Read(ProjectionPatchValue::Score(score), end)
+    } else {
+        ValueRead::Refused(ProjectionPatchReadFault::Malformed)
+    }
+}
+
+// A score, where the edition has them.
+fn score_at(part: &[u8], at: usize, edition: ProjectionPatchEdition) -> ValueRead
+    ensures { λ r. ⌜ r ≡ valueAnswer (length (now (part .entry))) (if hasKind (editionOf edition) 5 then mapped model.score readScore (drop at (now (part .entry))) else refused malformed) ⌝ }
+{
+    if edition.has_scores() {
+        score_byte_at(part, at)
+    } else {
+        ValueRead::Refused(ProjectionPatchReadFault::Malformed)
+    }
+}
+
 // The value at a position. A text's bytes are checked where the reading is strict, and may be any where they were checked before.
-pub fn value_at(part: &[u8], at: usize, strict: bool) -> ValueRead
-    ensures { λ r. ⌜ r ≡ valueAnswer (length (now (part .entry))) (readValueBy strict v1 (drop at (now (part .entry)))) ⌝ }
+pub fn value_at(part: &[u8], at: usize, strict: bool, edition: ProjectionPatchEdition) -> ValueRead
+    ensures { λ r. ⌜ r ≡ valueAnswer (length (now (part .entry))) (readValueBy strict (editionOf edition) (drop at (now (part .entry)))) ⌝ }
 {
     if part.len() <= at {
         return ValueRead::Refused(ProjectionPatchReadFault::Malformed);
@@ -238,13 +268,14 @@ pub fn value_at(part: &[u8], at: usize, strict: bool) -> ValueRead
         2 => signed_at(part, body),
         3 => text_at(part, body, strict),
         4 => unsigned_at(part, body),
+        5 => score_at(part, body, edition),
         _ => ValueRead::Refused(ProjectionPatchReadFault::Malformed),
     }
 }
 
 // Reads a value from the start of a part. The place of a text counts from that start.
-pub fn read_value(part: &[u8]) -> ValueRead
-    ensures { λ r. ⌜ r ≡ valueAnswer (length (now (part .entry))) (readValue v1 (now (part .entry))) ⌝ }
+pub fn read_value(part: &[u8], edition: ProjectionPatchEdition) -> ValueRead
+    ensures { λ r. ⌜ r ≡ valueAnswer (length (now (part .entry))) (readValue (editionOf edition) (now (part .entry))) ⌝ }
 {
-    value_at(part, 0, true)
+    value_at(part, 0, true, edition)
 }

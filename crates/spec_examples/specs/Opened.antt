@@ -48,7 +48,10 @@ unfolding
     Rattle.spec_decimal.specs.Decimal.positive
     Rattle.spec_decimal.specs.Decimal.negative
     Rattle.spec_decimal.specs.Decimal.readSignedDecimal
-    Rattle.spec_patch.specs.Edition.v1
+    Rattle.spec_patch.specs.Edition.digit
+    Rattle.spec_patch.specs.Edition.letters
+    Rattle.spec_patch.specs.Edition.addedKinds
+    Rattle.spec_patch.specs.Edition.kinds
     Rattle.spec_patch.specs.Edition.hasKind
     Rattle.spec_patch.specs.Encode.encodeOptional
     Rattle.spec_patch.specs.Encode.quadByte
@@ -92,7 +95,7 @@ unfolding
     Rattle.spec_patch.specs.Write.allValues
     Rattle.spec_patch.specs.Write.shortEnough
     Rattle.spec_patch.specs.Write.withinCapacities
-    Rattle.spec_patch.specs.Write.allowedText
+    Rattle.spec_patch.specs.Write.allowedValue
     Rattle.spec_patch.specs.Write.wellFormed
     Rattle.spec_patch.specs.Write.fewEnough
     Rattle.spec_patch.specs.Write.write

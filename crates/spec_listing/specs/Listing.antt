@@ -3,8 +3,8 @@ use Prim.Native.Nat.{ℕ, _+_}
 use mathlib.Core.List.{List, [], _∷_, _++_, flatMap}
 use lib.ListN.{length}
 use Rattle.spec_lists.specs.Lists.{if_then_else_, isEmpty}
-use Rattle.spec_patch.specs.Patch.{Value, quad, signed, text, unsigned}
-use Rattle.spec_patch.specs.Edition.{v1}
+use Rattle.spec_patch.specs.Patch.{Value, quad, signed, text, unsigned, score}
+use Rattle.spec_patch.specs.Edition.{Edition}
 use Rattle.spec_patch.specs.Encode.{quadByte, availabilityByte}
 use Rattle.spec_patch.specs.Reader.{faultNumber}
 use Rattle.spec_patch.specs.Read.{SetReading, patches, fault, readSet}
@@ -24,12 +24,13 @@ unfoldable pub fields : List (List ℕ) → List ℕ
 fields [] = newline ∷ []
 fields (f ∷ fs) = tab ∷ f ++ fields fs
 
--- kinds Q, S, U print decimals, T its bytes as they are
+-- kinds Q, S, U and M, a score, print decimals, T its bytes as they are
 unfoldable pub valueFields : Value → List (List ℕ)
 valueFields (quad q) = (81 ∷ []) ∷ decimal (quadByte q) ∷ []
 valueFields (signed z) = (83 ∷ []) ∷ signedDecimal z ∷ []
 valueFields (text t) = (84 ∷ []) ∷ t ∷ []
 valueFields (unsigned x) = (85 ∷ []) ∷ decimal x ∷ []
+valueFields (score n) = (77 ∷ []) ∷ decimal n ∷ []
 
 -- B, node, slot, kind, value
 unfoldable pub bindingLine : Binding → List ℕ
@@ -66,6 +67,6 @@ unfoldable pub readingLines : SetReading → List ℕ
 readingLines (fault f) = refusalLine (faultNumber f)
 readingLines (patches ps) = if isEmpty (findings ps .found) then outcomeLines (applySteps empty (replaySteps ps)) else refusalLine 11
 
--- what the program prints of its input
-unfoldable pub listing : List ℕ → List ℕ
-listing set = readingLines (readSet v1 set)
+-- what the program of an edition prints of its input
+unfoldable pub listing : Edition → List ℕ → List ℕ
+listing ed set = readingLines (readSet ed set)

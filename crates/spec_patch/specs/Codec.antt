@@ -51,6 +51,13 @@ module _ {A : Type 0} where
 pub nothing-codec : Codec (λ (u : Unit {0}). []) (λ (u : Unit {0}). Unit {0}) nothing
 nothing-codec = record { back = λ u h rest. refl; only = λ h u rest e. (tt, (cc)) }
 
+pub byte-codec : Codec (λ (b : ℕ). b ∷ []) (λ (b : ℕ). b < 256) byte
+byte-codec = record { back = λ b h rest. refl; only = λ h b rest e. byte-only _ h b rest e }
+  where
+    byte-only : (bs : List ℕ) → Bytes bs → (b : ℕ) (rest : List ℕ) → byte bs ≡ read b rest → (b < 256) × (bs ≡ b ∷ rest)
+    byte-only [] h b rest e = never e
+    byte-only (x ∷ bs) h b rest e = let same : x ≡ b = cc e in (rw (← same) (h .0), cc e)
+
 -- exactly n bytes, taken for what `make` gives of them
 module _ {A : Type 0} (n : ℕ) (make : List ℕ → A) where
   front : (l rest : List ℕ) → length l ≡ n

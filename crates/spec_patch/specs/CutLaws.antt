@@ -13,11 +13,11 @@ use Rattle.spec_lists.specs.Lists.{if_then_else_}
 use Rattle.spec_lists.specs.Bytes.{Bytes}
 use Rattle.spec_lists.specs.BytesLaws.{bytes-right}
 use Rattle.spec_patch.specs.Sizes.{setBytes, setPatches, patchOperations, textBytes}
-use Rattle.spec_patch.specs.Patch.{Value, quad, signed, text, unsigned}
+use Rattle.spec_patch.specs.Patch.{Value, quad, signed, text, unsigned, score}
 use Rattle.spec_patch.specs.Edition.{Edition, hasKind}
 use Rattle.spec_patch.specs.Encode.{u32, heading}
 use Rattle.spec_patch.specs.Reader.{Fault, malformed, overCapacity, Result, read, refused, Reader, Kept, onward, followed, mapped, pair, orTag, noTag, many, byte, bytes}
-use Rattle.spec_patch.specs.Read.{readU32, readU64, readI64, readCount, readCounted, readOptional, readQuad, readAvailability, readTextBy, readText, valueAfterWith, valueAfter, inEdition, readValueBy, toSetBinding, toSetAvailability, toInsert, toUpdate, toRemove, toMove, operationAfterWith, operationAfter, readOperationBy, toPatch, readPatch, readPatches, fault, ended, readSet}
+use Rattle.spec_patch.specs.Read.{readU32, readScore, readU64, readI64, readCount, readCounted, readOptional, readQuad, readAvailability, readTextBy, readText, valueAfterWith, valueAfter, inEdition, readValueBy, toSetBinding, toSetAvailability, toInsert, toUpdate, toRemove, toMove, operationAfterWith, operationAfter, readOperationBy, toPatch, readPatch, readPatches, fault, ended, readSet}
 use Rattle.spec_patch.specs.Codec.{Codec, never, literal-codec}
 use Rattle.spec_patch.specs.ReadLaws.{u64-codec, u32-codec, count-codec, optional-codec, operation-codec-by, envelope-codec, patch-codec}
 use Rattle.spec_patch.specs.FormerLaws.{same, kept-followed, kept-mapped}
@@ -193,7 +193,8 @@ module _ (check : Bool) where
         (changes-tag 1 (plain (mapped quad readQuad))
         (changes-tag 2 (plain (mapped signed readI64))
         (changes-tag 3 (changes-mapped text changes-text)
-        (changes-tag 4 (plain (mapped unsigned readU64)) (λ t. plain (noTag t)))))))
+        (changes-tag 4 (plain (mapped unsigned readU64))
+        (changes-tag 5 (plain (mapped score readScore)) (λ t. plain (noTag t))))))))
 
     changes-operation : Changes (operationOver ed)
     changes-operation =

@@ -1,21 +1,34 @@
--- What an edition of the format fixes: its letters in the heading, and the value kinds that it has.
+-- What an edition of the format fixes: its letters in the heading, and the value kinds that it has. All else is laid out alike.
 use Prim.Native.Nat.{ℕ}
 use mathlib.Core.Bool.{Bool}
 use mathlib.Core.List.{List, [], _∷_}
 use lib.Dec.{eqb}
 use Rattle.spec_lists.specs.Lists.{any}
 
-pub record Edition : Type 0 where
-  pub letters : List ℕ
-  pub kinds : List ℕ
+-- the edition of 01, and that of 02, 'Job 13', which has match scores
+pub data Edition : Type 0 where
+  v1 v2 : Edition
 
--- the edition of 01: the 27 letters UI_DNA2_PROJECTION_PATCH_V1, and the value kinds 1 to 4
-unfoldable pub v1 : Edition
-v1 = record {
-  letters = 85 ∷ 73 ∷ 95 ∷ 68 ∷ 78 ∷ 65 ∷ 50 ∷ 95 ∷ 80 ∷ 82 ∷ 79 ∷ 74 ∷ 69 ∷ 67 ∷ 84 ∷ 73 ∷ 79 ∷ 78 ∷ 95 ∷ 80 ∷ 65 ∷ 84 ∷ 67 ∷ 72 ∷ 95 ∷ 86 ∷ 49 ∷ [];
-  kinds = 1 ∷ 2 ∷ 3 ∷ 4 ∷ [];
-}
+-- the digit that the heading ends in
+unfoldable pub digit : Edition → ℕ
+digit v1 = 49
+digit v2 = 50
+
+-- the 27 letters UI_DNA2_PROJECTION_PATCH_V, and the digit
+unfoldable pub letters : Edition → List ℕ
+letters ed =
+    85 ∷ 73 ∷ 95 ∷ 68 ∷ 78 ∷ 65 ∷ 50 ∷ 95 ∷ 80 ∷ 82 ∷ 79 ∷ 74 ∷ 69 ∷ 67 ∷ 84 ∷ 73 ∷ 79 ∷ 78 ∷ 95 ∷ 80 ∷ 65 ∷ 84 ∷ 67 ∷ 72 ∷ 95 ∷ 86
+    ∷ digit ed ∷ []
+
+-- the kinds that an edition has beside those of 01: 5 is a score
+unfoldable pub addedKinds : Edition → List ℕ
+addedKinds v1 = []
+addedKinds v2 = 5 ∷ []
+
+-- the value kinds 1 to 4, and those added
+unfoldable pub kinds : Edition → List ℕ
+kinds ed = 1 ∷ 2 ∷ 3 ∷ 4 ∷ addedKinds ed
 
 -- the edition has values of the kind
 unfoldable pub hasKind : Edition → ℕ → Bool
-hasKind ed kind = any (eqb kind) (ed .kinds)
+hasKind ed kind = any (eqb kind) (kinds ed)

@@ -6,8 +6,8 @@ use lib.ListN.{length}
 use mir.Syntax.{w64}
 use mir.Val.{ofZ}
 use Rattle.spec_lists.specs.Bytes.{littleEndian}
-use Rattle.spec_patch.specs.Edition.{Edition}
-use Rattle.spec_patch.specs.Patch.{Quad, N, F, T, S, Availability, available, unavailable, hidden, pending, stale, Value, quad, signed, text, unsigned, Operation, setBinding, setAvailability, insert, update, remove, move, Envelope, Patch}
+use Rattle.spec_patch.specs.Edition.{Edition, letters}
+use Rattle.spec_patch.specs.Patch.{Quad, N, F, T, S, Availability, available, unavailable, hidden, pending, stale, Value, quad, signed, text, unsigned, score, Operation, setBinding, setAvailability, insert, update, remove, move, Envelope, Patch}
 
 abbrev pub u32 : ℕ → List ℕ
 u32 = littleEndian 4
@@ -39,12 +39,13 @@ availabilityByte stale = 4
 unfoldable pub encodeText : List ℕ → List ℕ
 encodeText t = u32 (length t) ++ t
 
--- the kind of a value: 1 quad byte, 2 i64, 3 text, 4 u64
+-- the kind of a value: 1 quad byte, 2 i64, 3 text, 4 u64, 5 score byte
 unfoldable pub kindOf : Value → ℕ
 kindOf (quad q) = 1
 kindOf (signed z) = 2
 kindOf (text t) = 3
 kindOf (unsigned x) = 4
+kindOf (score n) = 5
 
 -- what follows the kind; an i64 is in two's complement
 unfoldable pub valueBody : Value → List ℕ
@@ -52,6 +53,7 @@ valueBody (quad q) = quadByte q ∷ []
 valueBody (signed z) = u64 (ofZ w64 z)
 valueBody (text t) = encodeText t
 valueBody (unsigned x) = u64 x
+valueBody (score n) = n ∷ []
 
 unfoldable pub encodeValue : Value → List ℕ
 encodeValue v = kindOf v ∷ valueBody v
@@ -81,7 +83,7 @@ encodePatch p = encodeEnvelope (p .envelope) ++ encodeCounted encodeOperation (p
 
 -- u32 27 and the letters
 unfoldable pub heading : Edition → List ℕ
-heading ed = u32 (length (ed .letters)) ++ ed .letters
+heading ed = u32 (length (letters ed)) ++ letters ed
 
 -- a set: the heading, u32 patch count, the patches
 unfoldable pub encode : Edition → List Patch → List ℕ

@@ -10,17 +10,20 @@ use mir.Syntax.{w64}
 use mir.Val.{SFits}
 use Rattle.spec_lists.specs.Lists.{All}
 use Rattle.spec_patch.specs.TextRule.{allowed, fewCharacters}
-use Rattle.spec_patch.specs.Sizes.{setBytes, setPatches, patchOperations, textBytes}
-use Rattle.spec_patch.specs.Patch.{Value, quad, signed, text, unsigned, Operation, setBinding, setAvailability, insert, update, remove, move, Envelope, Patch}
+use Rattle.spec_patch.specs.Sizes.{setBytes, setPatches, patchOperations, textBytes, highestScore}
+use Rattle.spec_patch.specs.Patch.{Value, quad, signed, text, unsigned, score, Operation, setBinding, setAvailability, insert, update, remove, move, Envelope, Patch}
 use Rattle.spec_patch.specs.Edition.{Edition, hasKind}
 use Rattle.spec_patch.specs.Encode.{kindOf, encode}
 
--- a u64, and a u32
+-- a u64, a u32 and a byte
 abbrev pub U64 : ℕ → Type 0
 U64 x = x < 2 ^ 64
 
 abbrev pub U32 : ℕ → Type 0
 U32 x = x < 2 ^ 32
+
+abbrev pub Byte : ℕ → Type 0
+Byte x = x < 256
 
 -- none, or a u64
 unfoldable pub OptionalU64 : Option ℕ → Type 0
@@ -34,6 +37,7 @@ InRangeValue (quad q) = Unit {0}
 InRangeValue (signed z) = SFits w64 z
 InRangeValue (text t) = Unit {0}
 InRangeValue (unsigned x) = U64 x
+InRangeValue (score n) = Byte n
 
 -- ids are u64, a slot a u32; the value has the property
 unfoldable pub OperationHolds : (Value → Type 0) → Operation → Type 0
@@ -76,6 +80,7 @@ StorableBy check (quad q) = Unit {0}
 StorableBy check (signed z) = SFits w64 z
 StorableBy check (text t) = FitsTextBy check t
 StorableBy check (unsigned x) = U64 x
+StorableBy check (score n) = n ≤ highestScore
 
 -- a storable value of a kind that the edition has
 pub record FitsValueBy (check : Bool) (ed : Edition) (v : Value) : Type 0 where

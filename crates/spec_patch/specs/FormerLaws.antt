@@ -12,12 +12,12 @@ use Rattle.spec_lists.specs.Lists.{if_then_else_}
 use Rattle.spec_text.specs.Syntax.{isUtf8, characters}
 use Rattle.spec_text.specs.SyntaxLaws.{characters-few}
 use Rattle.spec_patch.specs.Sizes.{setBytes, setPatches, patchOperations, textCharacters, textBytes, formerTextBytes}
-use Rattle.spec_patch.specs.Patch.{Value, quad, signed, text, unsigned, Operation, Patch}
+use Rattle.spec_patch.specs.Patch.{Value, quad, signed, text, unsigned, score, Operation, Patch}
 use Rattle.spec_patch.specs.Edition.{Edition, hasKind}
 use Rattle.spec_patch.specs.Encode.{heading}
 use Rattle.spec_patch.specs.Fits.{FitsText}
 use Rattle.spec_patch.specs.Reader.{malformed, overCapacity, Result, read, refused, Reader, Kept, followed, mapped, pair, checked, orTag, noTag, many, byte, bytes, literal}
-use Rattle.spec_patch.specs.Read.{readU32, readU64, readI64, withinCapacity, readCount, readCounted, readOptional, readQuad, readAvailability, readTextBy, readText, valueAfterWith, valueAfter, inEdition, readValueBy, readValue, toSetBinding, toSetAvailability, toInsert, toUpdate, toRemove, toMove, operationAfterWith, operationAfter, readOperationBy, readOperation, readEnvelope, toPatch, readPatch, readPatches, patches, fault, ended, readSet}
+use Rattle.spec_patch.specs.Read.{readU32, readScore, readU64, readI64, withinCapacity, readCount, readCounted, readOptional, readQuad, readAvailability, readTextBy, readText, valueAfterWith, valueAfter, inEdition, readValueBy, readValue, toSetBinding, toSetAvailability, toInsert, toUpdate, toRemove, toMove, operationAfterWith, operationAfter, readOperationBy, readOperation, readEnvelope, toPatch, readPatch, readPatches, patches, fault, ended, readSet}
 use Rattle.spec_patch.specs.Codec.{onward-read, if-read, bytes-long}
 use Rattle.spec_patch.specs.SetLaws.{no-patches}
 use Rattle.spec_patch.specs.Former.{formerText, formerValue, formerOperation, formerPatch, formerPatches, formerSet}
@@ -127,7 +127,8 @@ module _ (ed : Edition) where
       (kept-tag 1 (same (mapped quad readQuad))
       (kept-tag 2 (same (mapped signed readI64))
       (kept-tag 3 (kept-mapped kept-text text)
-      (kept-tag 4 (same (mapped unsigned readU64)) (λ t. same (noTag t)))))))
+      (kept-tag 4 (same (mapped unsigned readU64))
+      (kept-tag 5 (same (mapped score readScore)) (λ t. same (noTag t))))))))
 
   kept-operation : Kept (formerOperation ed) (readOperation ed)
   unfolding formerOperation readOperationBy operationAfter

@@ -1,4 +1,4 @@
--- What a patch is, as plain values: 01, 'Canonical bytes'. A text is its bytes. A number is a natural number here; `Fits` says that it is a
+-- What a patch is, as plain values: 01, 'Canonical bytes', and the score of 02, 'Job 13'. A text is its bytes. A number is a natural number here; `Fits` says that it is a
 -- u64, or a u32 for a slot. A signed number is an integer.
 use Prim.Native.Nat.{ℕ}
 use mathlib.Core.List.{List}
@@ -16,6 +16,7 @@ pub data Value : Type 0 where
   signed : ℤ → Value
   text : List ℕ → Value
   unsigned : ℕ → Value
+  score : ℕ → Value
 
 -- `before` is 01's neighbour
 pub data Operation : Type 0 where

@@ -11,8 +11,8 @@ use mir.Syntax.{w64}
 use mir.Val.{toZ}
 use Rattle.spec_lists.specs.Lists.{if_then_else_}
 use Rattle.spec_patch.specs.TextRule.{fewBytes, allowed, fewCharacters}
-use Rattle.spec_patch.specs.Sizes.{setBytes, setPatches, patchOperations}
-use Rattle.spec_patch.specs.Patch.{Quad, N, F, T, S, Availability, available, unavailable, hidden, pending, stale, Value, quad, signed, text, unsigned, Operation, setBinding, setAvailability, insert, update, remove, move, Envelope, Patch}
+use Rattle.spec_patch.specs.Sizes.{setBytes, setPatches, patchOperations, highestScore}
+use Rattle.spec_patch.specs.Patch.{Quad, N, F, T, S, Availability, available, unavailable, hidden, pending, stale, Value, quad, signed, text, unsigned, score, Operation, setBinding, setAvailability, insert, update, remove, move, Envelope, Patch}
 use Rattle.spec_patch.specs.Edition.{Edition, hasKind}
 use Rattle.spec_patch.specs.Encode.{heading}
 use Rattle.spec_patch.specs.Reader.{Fault, malformed, overCapacity, Result, read, refused, Reader, followed, mapped, pair, checked, orTag, noTag, many, nothing, byte, bytes, number, literal}
@@ -87,13 +87,18 @@ readTextBy check = followed readU32 (textBody check)
 
 -- ---- values
 
--- 1 quad byte; 2 i64; 3 u32 length and text; 4 u64
+-- a score is a byte, and above 100 it is 10
+abbrev pub readScore : Reader ℕ
+readScore = checked (withinCapacity highestScore) malformed byte
+
+-- 1 quad byte; 2 i64; 3 u32 length and text; 4 u64; 5 score
 abbrev pub valueAfterWith : Reader (List ℕ) → ℕ → Reader Value
 valueAfterWith readTexts =
     orTag 1 (mapped quad readQuad)
     (orTag 2 (mapped signed readI64)
     (orTag 3 (mapped text readTexts)
-    (orTag 4 (mapped unsigned readU64) noTag)))
+    (orTag 4 (mapped unsigned readU64)
+    (orTag 5 (mapped score readScore) noTag))))
 
 unfoldable pub valueAfter : Bool → ℕ → Reader Value
 valueAfter check = valueAfterWith (readTextBy check)

@@ -14,14 +14,14 @@ use mir.Val.{SFits, toZ, ofZ}
 use mir.Facts.{toZ-ofZ, ofZ-toZ, fits-ofZ, sfits-toZ}
 use Rattle.spec_lists.specs.Lists.{All}
 use Rattle.spec_patch.specs.TextRule.{fewBytes, allowed, fewCharacters}
-use Rattle.spec_patch.specs.Sizes.{setPatches, patchOperations, textBytes}
-use Rattle.spec_patch.specs.Patch.{Quad, N, F, T, S, Availability, available, unavailable, hidden, pending, stale, Value, quad, signed, text, unsigned, Operation, setBinding, setAvailability, insert, update, remove, move, Patch}
+use Rattle.spec_patch.specs.Sizes.{setPatches, patchOperations, textBytes, highestScore}
+use Rattle.spec_patch.specs.Patch.{Quad, N, F, T, S, Availability, available, unavailable, hidden, pending, stale, Value, quad, signed, text, unsigned, score, Operation, setBinding, setAvailability, insert, update, remove, move, Patch}
 use Rattle.spec_patch.specs.Edition.{Edition, hasKind}
 use Rattle.spec_patch.specs.Encode.{u32, u64, encodeOptional, quadByte, availabilityByte, encodeText, kindOf, valueBody, encodeValue, encodeOperation, encodeEnvelope, encodeCounted, encodePatch, heading, encode}
 use Rattle.spec_patch.specs.Reader.{malformed, overCapacity, read, Reader, pair, many}
-use Rattle.spec_patch.specs.Read.{readU32, readU64, readI64, withinCapacity, readCount, readCounted, optionalAfter, readOptional, quadAfter, readQuad, availabilityAfter, readAvailability, textBody, readTextBy, valueAfter, inEdition, readValueBy, readValue, toSetBinding, toSetAvailability, toInsert, toUpdate, toRemove, toMove, operationAfter, readOperationBy, readOperation, toEnvelope, readEnvelope, toPatch, readPatch, readPatches}
+use Rattle.spec_patch.specs.Read.{readU32, readScore, readU64, readI64, withinCapacity, readCount, readCounted, optionalAfter, readOptional, quadAfter, readQuad, availabilityAfter, readAvailability, textBody, readTextBy, valueAfter, inEdition, readValueBy, readValue, toSetBinding, toSetAvailability, toInsert, toUpdate, toRemove, toMove, operationAfter, readOperationBy, readOperation, toEnvelope, readEnvelope, toPatch, readPatch, readPatches}
 use Rattle.spec_patch.specs.Fits.{U64, U32, OptionalU64, OperationHolds, InRangeEnvelope, FitsTextBy, FitsText, StorableBy, Storable, FitsValueBy, FitsValue, FitsOperation, FitsPatch}
-use Rattle.spec_patch.specs.Codec.{Codec, if-read, nothing-codec, bytes-codec, number-codec, iso-codec, checked-codec, good-codec, followed-codec, pair-codec, many-codec, literal-codec, OnlyAfter, only-none, only-tag, back-after, tag-codec}
+use Rattle.spec_patch.specs.Codec.{Codec, if-read, nothing-codec, byte-codec, bytes-codec, number-codec, iso-codec, checked-codec, good-codec, followed-codec, pair-codec, many-codec, literal-codec, OnlyAfter, only-none, only-tag, back-after, tag-codec}
 
 -- ---- numbers
 
@@ -123,6 +123,12 @@ pub availability-codec : Codec availabilityBytes Any readAvailability
 unfolding readAvailability
 availability-codec = tag-codec availabilityAfter availabilityBytes Any availability-back availability-only
 
+pub score-codec : Codec (λ (n : ℕ). n ∷ []) (λ (n : ℕ). n ≤ highestScore) readScore
+score-codec =
+    good-codec (checked-codec byte-codec (withinCapacity highestScore) malformed) (λ n. n ≤ highestScore)
+    (λ n g. (omega (arith, g), le-leb n highestScore g))
+    (λ n g. leb-true n highestScore (g .1))
+
 -- ---- values: whether texts are checked, or may be any bytes
 
 module _ (check : Bool) where
@@ -154,6 +160,7 @@ module _ (check : Bool) where
   stored-back (signed z) g rest = back-after i64-codec signed z g rest
   stored-back (text t) g rest = back-after text-codec text t g rest
   stored-back (unsigned n) g rest = back-after u64-codec unsigned n g rest
+  stored-back (score n) g rest = back-after score-codec score n g rest
 
   stored-only : OnlyAfter encodeValue (StorableBy check) (valueAfter check)
   unfolding StorableBy encodeValue kindOf valueBody valueAfter
@@ -162,7 +169,8 @@ module _ (check : Bool) where
       (only-tag i64-codec 2 signed encodeValue (StorableBy check) _ (λ z g. g) (λ z. refl)
       (only-tag text-codec 3 text encodeValue (StorableBy check) _ (λ t g. g) (λ t. refl)
       (only-tag u64-codec 4 unsigned encodeValue (StorableBy check) _ (λ n g. g) (λ n. refl)
-      (only-none encodeValue (StorableBy check)))))
+      (only-tag score-codec 5 score encodeValue (StorableBy check) _ (λ n g. g) (λ n. refl)
+      (only-none encodeValue (StorableBy check))))))
 
 module _ (check : Bool) (ed : Edition) where
   value-back : (v : Value) → FitsValueBy check ed v → (rest : List ℕ) → readValueBy check ed (encodeValue v ++ rest) ≡ read v rest
@@ -241,6 +249,7 @@ storable-any check (quad q) h = h
 storable-any check (signed z) h = h
 storable-any check (text t) h = text-any check t h
 storable-any check (unsigned n) h = h
+storable-any check (score n) h = h
 
 module _ (check : Bool) (ed : Edition) where
   pub value-any : (v : Value) → FitsValue ed v → FitsValueBy check ed v

@@ -20,6 +20,10 @@ textBytes = 240
 abbrev pub textCharacters : ℕ
 textCharacters = 160
 
+-- the highest match score
+abbrev pub highestScore : ℕ
+highestScore = 100
+
 -- a text before its characters were counted, in bytes
 abbrev pub formerTextBytes : ℕ
 formerTextBytes = 160

@@ -12,13 +12,13 @@ use Rattle.spec_lists.specs.Lists.{if_then_else_, All}
 use Rattle.spec_lists.specs.BytesLaws.{length-littleEndian}
 use Rattle.spec_text.specs.Syntax.{isUtf8}
 use Rattle.spec_patch.specs.TextRule.{fewBytes, fewCharacters}
-use Rattle.spec_patch.specs.Sizes.{setBytes, setPatches, patchOperations, textBytes}
-use Rattle.spec_patch.specs.Patch.{Value, quad, signed, text, unsigned, Operation, setBinding, setAvailability, insert, update, remove, move, Patch}
+use Rattle.spec_patch.specs.Sizes.{setBytes, setPatches, patchOperations, textBytes, highestScore}
+use Rattle.spec_patch.specs.Patch.{Value, quad, signed, text, unsigned, score, Operation, setBinding, setAvailability, insert, update, remove, move, Patch}
 use Rattle.spec_patch.specs.Edition.{Edition, hasKind}
 use Rattle.spec_patch.specs.Encode.{u32, u64, encodeOptional, encodeText, kindOf, valueBody, encodeValue, encodeOperation, encodeEnvelope, encodeCounted, encodePatch, heading, encode}
 use Rattle.spec_patch.specs.Fits.{U64, U32, OptionalU64, InRangeValue, OperationHolds, InRangeEnvelope, InRangePatch, InRange, FitsText, Storable, StorableBy, FitsValue, FitsOperation, FitsPatch, Fits}
 use Rattle.spec_patch.specs.Reader.{malformed, overCapacity, Result, read, refused, Reader, onward, pair, many, literal}
-use Rattle.spec_patch.specs.Read.{readU64, readU32, readOptional, readCount, readCounted, readTextBy, readText, valueAfter, inEdition, readValueBy, readValue, operationAfter, readOperationBy, readOperation, readEnvelope, readPatch, readPatches, patches, fault, ended, readSet}
+use Rattle.spec_patch.specs.Read.{readU64, readU32, readScore, readOptional, readCount, readCounted, readTextBy, readText, valueAfter, inEdition, readValueBy, readValue, operationAfter, readOperationBy, readOperation, readEnvelope, readPatch, readPatches, patches, fault, ended, readSet}
 use Rattle.spec_patch.specs.Codec.{Codec}
 use Rattle.spec_patch.specs.ReadLaws.{u64-codec, u32-codec, optional-codec, count-codec, operation-codec, envelope-codec, patch-codec}
 use Rattle.spec_patch.specs.Codec.{bytes-codec, literal-codec}
@@ -116,6 +116,14 @@ text-strict t k rest s =
     by-bytes true s = (refl, by-rule (isUtf8 t) s)
     by-bytes false s = absurd s
 
+score-strict : (n : ℕ) (rest : List ℕ) → Succeeds (readScore (n ∷ rest)) → n ≤ highestScore
+unfolding Succeeds
+score-strict n rest s = go (leb n highestScore) refl s
+  where
+    go : (t : Bool) → leb n highestScore ≡ t → Succeeds (if t then read n rest else refused malformed) → n ≤ highestScore
+    go true e s = leb-true n highestScore e
+    go false e s = absurd s
+
 kind-strict : (t : Bool) (r : Result Value) → Succeeds (if t then r else refused malformed) → (t ≡ true) × Succeeds r
 unfolding Succeeds
 kind-strict true r s = (refl, s)
@@ -127,6 +135,7 @@ stored-strict (quad q) r k rest s = tt
 stored-strict (signed z) r k rest s = r
 stored-strict (text t) r k rest s = text-strict t (omega arith) rest (first (readText (encodeText t ++ rest)) _ s)
 stored-strict (unsigned x) r k rest s = r
+stored-strict (score n) r k rest s = score-strict n rest (first (readScore (n ∷ rest)) _ s)
 
 -- an operation takes a byte or more
 pub operation-some : (o : Operation) → 0 < length (encodeOperation o)

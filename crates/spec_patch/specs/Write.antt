@@ -1,4 +1,4 @@
--- The writer: 01, 'Rejections', and 02, 'Job 5': it tests 12 for the capacities, then 10, then 12 for the characters of texts, then 14.
+-- The writer: 01, 'Rejections', and 02, 'Job 5' and 'Job 13': it tests 12 for the capacities, then 10, then 12 for the characters of texts, then 14.
 use Prim.Native.Nat.{ℕ}
 use mathlib.Core.Bool.{Bool, true, _&&_}
 use mathlib.Core.List.{List}
@@ -6,8 +6,8 @@ use lib.Dec.{leb}
 use lib.ListN.{length}
 use Rattle.spec_lists.specs.Lists.{if_then_else_, all}
 use Rattle.spec_patch.specs.TextRule.{fewBytes, allowed, fewCharacters}
-use Rattle.spec_patch.specs.Sizes.{setBytes, setPatches, patchOperations}
-use Rattle.spec_patch.specs.Patch.{Value, quad, signed, text, unsigned, Operation, setBinding, setAvailability, insert, update, remove, move, Patch}
+use Rattle.spec_patch.specs.Sizes.{setBytes, setPatches, patchOperations, highestScore}
+use Rattle.spec_patch.specs.Patch.{Value, quad, signed, text, unsigned, score, Operation, setBinding, setAvailability, insert, update, remove, move, Patch}
 use Rattle.spec_patch.specs.Edition.{Edition, hasKind}
 use Rattle.spec_patch.specs.Encode.{kindOf, encode}
 
@@ -40,6 +40,7 @@ shortEnough (quad q) = true
 shortEnough (signed z) = true
 shortEnough (text t) = fewBytes t
 shortEnough (unsigned x) = true
+shortEnough (score n) = true
 
 -- the patch count, each operation count, each text's length and the set's bytes are within their capacities
 unfoldable pub withinCapacities : Edition → List Patch → Bool
@@ -49,16 +50,17 @@ withinCapacities ed ps =
     && (allValues shortEnough ps
     && leb (length (encode ed ps)) setBytes))
 
--- RFC 3629 allows a text; other values pass
-unfoldable pub allowedText : Value → Bool
-allowedText (quad q) = true
-allowedText (signed z) = true
-allowedText (text t) = allowed true t
-allowedText (unsigned x) = true
+-- RFC 3629 allows a text, and a score is at most 100; other values pass
+unfoldable pub allowedValue : Value → Bool
+allowedValue (quad q) = true
+allowedValue (signed z) = true
+allowedValue (text t) = allowed true t
+allowedValue (unsigned x) = true
+allowedValue (score n) = leb n highestScore
 
--- a value of a kind that the edition has, and an allowed text
+-- a value of a kind that the edition has, and allowed
 unfoldable pub wellFormed : Edition → Value → Bool
-wellFormed ed v = hasKind ed (kindOf v) && allowedText v
+wellFormed ed v = hasKind ed (kindOf v) && allowedValue v
 
 -- a text's characters are within their capacity; other values pass
 unfoldable pub fewEnough : Value → Bool
@@ -66,6 +68,7 @@ fewEnough (quad q) = true
 fewEnough (signed z) = true
 fewEnough (text t) = fewCharacters true t
 fewEnough (unsigned x) = true
+fewEnough (score n) = true
 
 -- what writing gives
 pub data Written : Type 0 where

@@ -10,13 +10,13 @@ use lib.Dec.{leb}
 use lib.ListN.{length}
 use Rattle.spec_lists.specs.Lists.{if_then_else_, all, All}
 use Rattle.spec_lists.specs.ListLaws.{and-left, and-right, all-map, all-of-test, test-of-all}
-use Rattle.spec_patch.specs.Sizes.{setBytes, setPatches, patchOperations, textBytes}
-use Rattle.spec_patch.specs.Patch.{Value, quad, signed, text, unsigned, Operation, setBinding, setAvailability, insert, update, remove, move, Patch}
+use Rattle.spec_patch.specs.Sizes.{setBytes, setPatches, patchOperations, textBytes, highestScore}
+use Rattle.spec_patch.specs.Patch.{Value, quad, signed, text, unsigned, score, Operation, setBinding, setAvailability, insert, update, remove, move, Patch}
 use Rattle.spec_patch.specs.Edition.{Edition, hasKind}
 use Rattle.spec_patch.specs.Encode.{kindOf, encode}
 use Rattle.spec_patch.specs.Fits.{InRangeValue, OperationHolds, InRangeEnvelope, InRangePatch, InRange, Storable, StorableBy, FitsValue, FitsOperation, FitsPatch, Fits}
 use Rattle.spec_patch.specs.Read.{patches, readSet}
-use Rattle.spec_patch.specs.Write.{WriteRefusal, overCapacity, malformed, outputTooShort, valuePasses, allValues, shortEnough, withinCapacities, allowedText, wellFormed, fewEnough, wrote, refused, write}
+use Rattle.spec_patch.specs.Write.{WriteRefusal, overCapacity, malformed, outputTooShort, valuePasses, allValues, shortEnough, withinCapacities, allowedValue, wellFormed, fewEnough, wrote, refused, write}
 use Rattle.spec_patch.specs.SetLaws.{reads-back}
 
 -- ---- a property of an operation's value, and a test of it
@@ -58,24 +58,26 @@ holds-map P Q f (move c k b) h = h
 abbrev Short : Value → Type 0
 Short v = InRangeValue v × (shortEnough v ≡ true)
 
-storable : (v : Value) → Short v → allowedText v ≡ true → fewEnough v ≡ true → Storable v
-unfolding InRangeValue shortEnough allowedText fewEnough StorableBy
+storable : (v : Value) → Short v → allowedValue v ≡ true → fewEnough v ≡ true → Storable v
+unfolding InRangeValue shortEnough allowedValue fewEnough StorableBy
 storable (quad q) h e c = tt
 storable (signed z) h e c = h .0
 storable (text t) h e c = record { short = leb-true (length t) textBytes (h .1); utf8 = e; few = c }
 storable (unsigned x) h e c = h .0
+storable (score n) h e c = leb-true n highestScore e
 
 record Tested (v : Value) : Type 0 where
   short : shortEnough v ≡ true
-  allowed : allowedText v ≡ true
+  allowed : allowedValue v ≡ true
   few : fewEnough v ≡ true
 
 storable-tested : (v : Value) → Storable v → Tested v
-unfolding shortEnough allowedText fewEnough StorableBy
+unfolding shortEnough allowedValue fewEnough StorableBy
 storable-tested (quad q) h = record { short = refl; allowed = refl; few = refl }
 storable-tested (signed z) h = record { short = refl; allowed = refl; few = refl }
 storable-tested (text t) h = record { short = le-leb (length t) textBytes (h .short); allowed = h .utf8; few = h .few }
 storable-tested (unsigned x) h = record { short = refl; allowed = refl; few = refl }
+storable-tested (score n) h = record { short = refl; allowed = le-leb n highestScore h; few = refl }
 
 pub storable-in-range : (v : Value) → Storable v → InRangeValue v
 unfolding InRangeValue StorableBy
@@ -83,6 +85,7 @@ storable-in-range (quad q) h = tt
 storable-in-range (signed z) h = h
 storable-in-range (text t) h = tt
 storable-in-range (unsigned x) h = h
+storable-in-range (score n) h = omega (arith, h)
 
 module _ (ed : Edition) where
   -- in range, short enough and well formed

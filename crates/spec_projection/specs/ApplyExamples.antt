@@ -7,7 +7,7 @@ use mathlib.Core.Option.{Option, none, some, Option·map}
 use lib.Dec.{eqb}
 use Rattle.spec_lists.specs.Lists.{equalLists}
 use Rattle.spec_lists.specs.Order.{lexLess, upsert, lookup}
-use Rattle.spec_patch.specs.Patch.{Value, quad, signed, text, unsigned, Availability, pending, hidden, Operation, setBinding, setAvailability, insert, update, remove, move, Patch}
+use Rattle.spec_patch.specs.Patch.{Value, quad, signed, text, unsigned, score, Availability, pending, hidden, Operation, setBinding, setAvailability, insert, update, remove, move, Patch}
 use Rattle.spec_patch.specs.Encode.{availabilityByte}
 use Rattle.spec_projection.specs.Projection.{Binding, Entry, Projection, empty, bindingKey, availabilityKey}
 use Rattle.spec_projection.specs.FirstMatch.{findFirst, insertBeforeFirst, replaceFirst, removeFirst}
@@ -74,6 +74,7 @@ plain (quad q) = []
 plain (signed z) = []
 plain (text t) = []
 plain (unsigned x) = x ∷ []
+plain (score n) = n ∷ []
 
 number : Option Value → List ℕ
 number none = []

@@ -9,6 +9,7 @@ use lib.Dec.{leb, eqb}
 use lib.ListN.{length}
 use Rattle.spec_lists.specs.Lists.{if_then_else_, equalLists}
 use Rattle.spec_decimal.specs.Decimal.{readDecimal}
+use Rattle.spec_patch.specs.Edition.{Edition, v1, v2}
 use Rattle.spec_session.specs.Session.{Limits, BindingPair}
 use Rattle.spec_session.specs.Lifecycle.{Stimulus, activate, suspend, resume, close, noOp}
 use Rattle.spec_session.specs.Batch.{BatchEnvelope}
@@ -34,6 +35,7 @@ pub data Command : Type 0 where
   senders : (count : ℕ) → Command
   wait : (sender : ℕ) → Command
   turn : Command
+  edition : Edition → Command
   other : Command
 
 -- a line has at most 131,072 bytes without its LF
@@ -77,13 +79,22 @@ readBy read next (f ∷ fs) = given (read f) (λ a. next a fs)
 abbrev pub number : Field ℕ
 number = readBy readDecimal
 
+-- a number up to a bound
+unfoldable pub atMost : ℕ → Option ℕ → Option ℕ
+atMost bound none = none
+atMost bound (some n) = if leb n bound then some n else none
+
 -- a number that is a u32
-unfoldable pub slotOf : Option ℕ → Option ℕ
-slotOf none = none
-slotOf (some n) = if leb n 4294967295 then some n else none
+abbrev pub slotOf : Option ℕ → Option ℕ
+slotOf = atMost 4294967295
 
 abbrev pub slot : Field ℕ
 slot = readBy (λ f. slotOf (readDecimal f))
+
+-- the edition of a number: 1 or 2
+unfoldable pub numberedEdition : Option ℕ → Option Edition
+numberedEdition none = none
+numberedEdition (some n) = if eqb n 1 then some v1 else if eqb n 2 then some v2 else none
 
 -- bytes in lower-case hex
 abbrev pub hex : Field (List ℕ)
@@ -202,6 +213,7 @@ commands =
     ∷ (ascii "senders" ⇒ number (λ n. end (senders n)))
     ∷ (ascii "wait" ⇒ number (λ n. end (wait n)))
     ∷ (ascii "turn" ⇒ end turn)
+    ∷ (ascii "edition" ⇒ readBy (λ f. numberedEdition (readDecimal f)) (λ ed. end (edition ed)))
     ∷ []
 
 -- the fields of a line: a known word and its arguments

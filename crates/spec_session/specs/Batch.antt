@@ -7,7 +7,7 @@ use lib.ListN.{length}
 use Rattle.spec_lists.specs.Lists.{if_then_else_, any, isEmpty}
 use Rattle.spec_patch.specs.Sizes.{largestU64}
 use Rattle.spec_patch.specs.Patch.{Operation, Patch}
-use Rattle.spec_patch.specs.Edition.{v1}
+use Rattle.spec_patch.specs.Edition.{Edition}
 use Rattle.spec_patch.specs.Read.{SetReading, patches, fault, readSet}
 use Rattle.spec_checks.specs.Findings.{findings}
 use Rattle.spec_projection.specs.Projection.{Projection}
@@ -81,13 +81,13 @@ unfoldable pub takesNumber : Cursor → ℕ → Bool
 takesNumber uninitialized n = true
 takesNumber (at m) n = ltb m largestU64 && eqb n (m + 1)
 
--- steps 1 to 8, in order; they pass with the patches that were read
-unfoldable pub batchChecks : Session → BatchEnvelope → ℕ → List ℕ → Check (List Patch)
-batchChecks s e references set = do
+-- steps 1 to 8, in order, of a set in an edition; they pass with the patches that were read
+unfoldable pub batchChecks : Edition → Session → BatchEnvelope → ℕ → List ℕ → Check (List Patch)
+batchChecks ed s e references set = do
   require (eqb (e .session) (s .id)) sessionMismatch
   require (not (isClosed (s .lifecycle))) sessionClosed
   require (leb (e .patches) (s .limits .patches) && leb (e .stimulusBytes) (s .limits .stimulusBytes)) limitExceeded
-  ps ← readable (readSet v1 set)
+  ps ← readable (readSet ed set)
   require (isEmpty (findings ps .found)) checksFailed
   require (eqb (e .patches) (length ps) && eqb references (length (operationsOf ps))) countsDiffer
   require (leb (length (operationsOf ps)) (s .limits .references)) limitExceeded
@@ -128,6 +128,6 @@ unfoldable pub concludeBatch : Session → BatchEnvelope → Check (List Patch) 
 concludeBatch s e (refuse r n) = rejectBatch s r n
 concludeBatch s e (pass ps) = commit s e (candidate s ps)
 
--- one batch: the envelope, the declared count of target references, the bytes of a set
-unfoldable pub batch : Session → BatchEnvelope → ℕ → List ℕ → BatchStep
-batch s e references set = concludeBatch s e (batchChecks s e references set)
+-- one batch: the set's edition, the envelope, the declared count of target references, the bytes of the set
+unfoldable pub batch : Edition → Session → BatchEnvelope → ℕ → List ℕ → BatchStep
+batch ed s e references set = concludeBatch s e (batchChecks ed s e references set)

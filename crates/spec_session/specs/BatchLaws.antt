@@ -10,7 +10,7 @@ use lib.Dec.{leb, eqb}
 use lib.ListN.{length}
 use Rattle.spec_lists.specs.Lists.{if_then_else_, isEmpty}
 use Rattle.spec_patch.specs.Patch.{Operation, Patch}
-use Rattle.spec_patch.specs.Edition.{v1}
+use Rattle.spec_patch.specs.Edition.{Edition}
 use Rattle.spec_patch.specs.Read.{SetReading, patches, fault, readSet}
 use Rattle.spec_checks.specs.Findings.{findings}
 use Rattle.spec_projection.specs.Projection.{Projection}
@@ -49,11 +49,11 @@ passed-reading (fault f) c a e = never-passes e
 -- ---- steps 1 to 8
 
 -- what each of the steps found, where all passed
-pub record ChecksPassed (s : Session) (e : BatchEnvelope) (references : ℕ) (set : List ℕ) (ps : List Patch) : Type 0 where
+pub record ChecksPassed (ed : Edition) (s : Session) (e : BatchEnvelope) (references : ℕ) (set : List ℕ) (ps : List Patch) : Type 0 where
   pub session : eqb (e .session) (s .id) ≡ true
   pub isOpen : not (isClosed (s .lifecycle)) ≡ true
   pub limits : (leb (e .patches) (s .limits .patches) && leb (e .stimulusBytes) (s .limits .stimulusBytes)) ≡ true
-  pub reads : readSet v1 set ≡ patches ps
+  pub reads : readSet ed set ≡ patches ps
   pub clean : isEmpty (findings ps .found) ≡ true
   pub counts : (eqb (e .patches) (length ps) && eqb references (length (operationsOf ps))) ≡ true
   pub fewReferences : leb (length (operationsOf ps)) (s .limits .references) ≡ true
@@ -63,13 +63,13 @@ pub record ChecksPassed (s : Session) (e : BatchEnvelope) (references : ℕ) (se
 pass-is : (a b : List Patch) → pass a ≡ pass b → a ≡ b
 pass-is a b e = cc
 
-pub checks-passed : (s : Session) (e : BatchEnvelope) (references : ℕ) (set : List ℕ) (ps : List Patch) → batchChecks s e references set ≡ pass ps → ChecksPassed s e references set ps
+pub checks-passed : (ed : Edition) (s : Session) (e : BatchEnvelope) (references : ℕ) (set : List ℕ) (ps : List Patch) → batchChecks ed s e references set ≡ pass ps → ChecksPassed ed s e references set ps
 unfolding batchChecks
-checks-passed s e references set ps h =
+checks-passed ed s e references set ps h =
     let step1 = passed (eqb (e .session) (s .id)) sessionMismatch _ ps h in
     let step2 = passed (not (isClosed (s .lifecycle))) sessionClosed _ ps (step1 .1) in
     let step3 = passed (leb (e .patches) (s .limits .patches) && leb (e .stimulusBytes) (s .limits .stimulusBytes)) limitExceeded _ ps (step2 .1) in
-    let step4 = passed-reading (readSet v1 set) _ ps (step3 .1) in
+    let step4 = passed-reading (readSet ed set) _ ps (step3 .1) in
     let qs = step4 .0 in
     let clean = passed (isEmpty (findings qs .found)) checksFailed _ ps (step4 .2) in
     let step5 = passed (eqb (e .patches) (length qs) && eqb references (length (operationsOf qs))) countsDiffer _ ps (clean .1) in
@@ -92,9 +92,9 @@ checks-passed s e references set ps h =
 -- ---- a batch that is not applied
 
 -- a rejection leaves the session as it was, and so does NoChange
-pub batch-unchanged : (s : Session) (e : BatchEnvelope) (references : ℕ) (set : List ℕ) → (batch s e references set .answer .disposition ≡ applied → ⊥) → batch s e references set .next ≡ s
+pub batch-unchanged : (ed : Edition) (s : Session) (e : BatchEnvelope) (references : ℕ) (set : List ℕ) → (batch ed s e references set .answer .disposition ≡ applied → ⊥) → batch ed s e references set .next ≡ s
 unfolding batch concludeBatch commit rejectBatch keepSession applyBatch
-batch-unchanged s e references set h = by-checks (batchChecks s e references set) h
+batch-unchanged ed s e references set h = by-checks (batchChecks ed s e references set) h
   where
     by-count : (t : Bool) (p : Projection) → ((if t then keepSession s else applyBatch s (e .sequence) p) .answer .disposition ≡ applied → ⊥) → (if t then keepSession s else applyBatch s (e .sequence) p) .next ≡ s
     by-count true p h = refl
@@ -111,32 +111,32 @@ batch-unchanged s e references set h = by-checks (batchChecks s e references set
 -- ---- a batch that is applied
 
 -- all its patches' operations ran, the projection is what they left, and the cursor stands at the batch's number
-pub record Applied (s : Session) (e : BatchEnvelope) (references : ℕ) (set : List ℕ) : Type 0 where
+pub record Applied (ed : Edition) (s : Session) (e : BatchEnvelope) (references : ℕ) (set : List ℕ) : Type 0 where
   pub patches : List Patch
-  pub passes : batchChecks s e references set ≡ pass patches
+  pub passes : batchChecks ed s e references set ≡ pass patches
   pub result : Projection
   pub runs : applySteps (s .projection) (replaySteps patches) ≡ done result
   pub nonEmpty : e .patches ≡ 0 → ⊥
-  pub step : batch s e references set ≡ applyBatch s (e .sequence) result
+  pub step : batch ed s e references set ≡ applyBatch s (e .sequence) result
 
-pub batch-applied : (s : Session) (e : BatchEnvelope) (references : ℕ) (set : List ℕ) → batch s e references set .answer .disposition ≡ applied → Applied s e references set
+pub batch-applied : (ed : Edition) (s : Session) (e : BatchEnvelope) (references : ℕ) (set : List ℕ) → batch ed s e references set .answer .disposition ≡ applied → Applied ed s e references set
 unfolding batch concludeBatch candidate commit rejectBatch keepSession
-batch-applied s e references set a = by-checks (batchChecks s e references set) refl a
+batch-applied ed s e references set a = by-checks (batchChecks ed s e references set) refl a
   where
     never : {C : Type 0} {d : Disposition} → d ≡ rejected → d ≡ applied → C
     never p q = absurd (let z : _≡_ {A = ℕ} 0 1 = cc in omega arith)
 
-    by-count : (ps : List Patch) (q : Projection) → batchChecks s e references set ≡ pass ps → applySteps (s .projection) (replaySteps ps) ≡ done q
-        → (t : Bool) → eqb (e .patches) 0 ≡ t → (if t then keepSession s else applyBatch s (e .sequence) q) .answer .disposition ≡ applied → Applied s e references set
+    by-count : (ps : List Patch) (q : Projection) → batchChecks ed s e references set ≡ pass ps → applySteps (s .projection) (replaySteps ps) ≡ done q
+        → (t : Bool) → eqb (e .patches) 0 ≡ t → (if t then keepSession s else applyBatch s (e .sequence) q) .answer .disposition ≡ applied → Applied ed s e references set
     by-count ps q c r true z a = absurd (let w : _≡_ {A = ℕ} 0 1 = cc in omega arith)
     by-count ps q c r false z a = record { patches = ps; passes = c; result = q; runs = r; nonEmpty = eqb-false (e .patches) 0 z; step = rw (c, r, z) }
 
-    by-outcome : (ps : List Patch) (x : Outcome) → batchChecks s e references set ≡ pass ps → applySteps (s .projection) (replaySteps ps) ≡ x
-        → commit s e x .answer .disposition ≡ applied → Applied s e references set
+    by-outcome : (ps : List Patch) (x : Outcome) → batchChecks ed s e references set ≡ pass ps → applySteps (s .projection) (replaySteps ps) ≡ x
+        → commit s e x .answer .disposition ≡ applied → Applied ed s e references set
     by-outcome ps (stopped f) c r a = never refl a
     by-outcome ps (done q) c r a = by-count ps q c r (eqb (e .patches) 0) refl a
 
-    by-checks : (c : Check (List Patch)) → batchChecks s e references set ≡ c → concludeBatch s e c .answer .disposition ≡ applied → Applied s e references set
+    by-checks : (c : Check (List Patch)) → batchChecks ed s e references set ≡ c → concludeBatch s e c .answer .disposition ≡ applied → Applied ed s e references set
     by-checks (refuse r n) c a = never refl a
     by-checks (pass ps) c a = by-outcome ps (applySteps (s .projection) (replaySteps ps)) c refl a
 

@@ -14,7 +14,7 @@ use Rattle.spec_lists.specs.ListLaws.{and-left, and-right}
 use Rattle.spec_lists.specs.Bytes.{Bytes}
 use Rattle.spec_patch.specs.Sizes.{anchors}
 use Rattle.spec_patch.specs.Patch.{Patch}
-use Rattle.spec_patch.specs.Edition.{v1}
+use Rattle.spec_patch.specs.Edition.{Edition}
 use Rattle.spec_patch.specs.Fits.{U64, FitsPatch}
 use Rattle.spec_patch.specs.SetLaws.{was-encoded}
 use Rattle.spec_projection.specs.Projection.{Projection}
@@ -102,18 +102,18 @@ lifecycleStep-rest s u b = step-cases (λ (x : LifecycleStep). x .next ≡ withL
 -- ---- after a batch step
 
 -- with bytes, and a sequence number that is a u64
-pub batch-valid : (s : Session) (e : BatchEnvelope) (references : ℕ) (set : List ℕ) → Bytes set → U64 (e .sequence) → ValidSession s → ValidSession (batch s e references set .next)
+pub batch-valid : (ed : Edition) (s : Session) (e : BatchEnvelope) (references : ℕ) (set : List ℕ) → Bytes set → U64 (e .sequence) → ValidSession s → ValidSession (batch ed s e references set .next)
 unfolding batch concludeBatch candidate commit rejectBatch keepSession applyBatch advanced
-batch-valid s e references set b n v = by-checks (batchChecks s e references set) refl
+batch-valid ed s e references set b n v = by-checks (batchChecks ed s e references set) refl
   where
     by-count : (t : Bool) (q : Projection) → Valid q → ValidSession ((if t then keepSession s else applyBatch s (e .sequence) q) .next)
     by-count true q w = v
     by-count false q w = record { id = v .id; limits = v .limits; inRange = v .inRange; few = v .few; cursor = n; projection = w }
 
-    by-outcome : (x : Outcome) (ps : List Patch) → All (FitsPatch v1) ps → applySteps (s .projection) (replaySteps ps) ≡ x → ValidSession (commit s e x .next)
+    by-outcome : (x : Outcome) (ps : List Patch) → All (FitsPatch ed) ps → applySteps (s .projection) (replaySteps ps) ≡ x → ValidSession (commit s e x .next)
     by-outcome (stopped f) ps h q = v
-    by-outcome (done p) ps h q = by-count (eqb (e .patches) 0) p (applySteps-valid v1 (s .projection) (replaySteps ps) p (replaySteps-fit v1 ps h) (v .projection) q)
+    by-outcome (done p) ps h q = by-count (eqb (e .patches) 0) p (applySteps-valid ed (s .projection) (replaySteps ps) p (replaySteps-fit ed ps h) (v .projection) q)
 
-    by-checks : (c : Check (List Patch)) → batchChecks s e references set ≡ c → ValidSession (concludeBatch s e c .next)
+    by-checks : (c : Check (List Patch)) → batchChecks ed s e references set ≡ c → ValidSession (concludeBatch s e c .next)
     by-checks (refuse r k) h = v
-    by-checks (pass ps) h = by-outcome (applySteps (s .projection) (replaySteps ps)) ps (was-encoded v1 set ps b (checks-passed s e references set ps h .reads) .1 .patches) refl
+    by-checks (pass ps) h = by-outcome (applySteps (s .projection) (replaySteps ps)) ps (was-encoded ed set ps b (checks-passed ed s e references set ps h .reads) .1 .patches) refl

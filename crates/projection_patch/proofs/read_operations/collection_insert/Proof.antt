@@ -6,7 +6,8 @@ use mathlib.Core.List.{List}
 use lib.ListN.{length}
 use Rattle.spec_lists.specs.Bytes.{Bytes}
 use Rattle.spec_lists.specs.BytesLaws.{bytes-of}
-use Rattle.spec_patch.specs.Edition.{v1}
+use Rattle.spec_patch.specs.Edition.{Edition}
+use Rattle.projection_patch.specs.Meaning.{editionOf}
 use Rattle.projection_patch.specs.ReadAnswers.{operationAnswer}
 use Rattle.spec_patch.specs.Reader.{pair}
 use Rattle.spec_patch.specs.Read.{readOptional, readValueBy, toInsert, operationAfter}
@@ -22,6 +23,9 @@ part c = c .before .before .args .part .now
 
 abbrev strict : tie.After-place → Bool
 strict c = c .before .before .args .strict
+
+abbrev edition : tie.After-place → Edition
+edition c = editionOf (c .before .before .args .edition)
 
 all-bytes : (c : tie.After-place) → Bytes (part c)
 all-bytes c = bytes-of (part c) (λ j. c .before .shared-slice-known .given j .fits)
@@ -57,7 +61,7 @@ returns : tie.Need-returns
 unfolding operationAfter
 returns c =
     let call = c .before .before in
-    ap (operationAnswer (length (part call))) (sym (no-place (part call) (call .place .result) (call .place .ensures) (pair readOptional (readValueBy (strict call) v1)) toInsert (c .enum-told .given .1)))
+    ap (operationAnswer (length (part call))) (sym (no-place (part call) (call .place .result) (call .place .ensures) (pair readOptional (readValueBy (strict call) (edition call))) toInsert (c .enum-told .given .1)))
 
 optional-at-requires : tie.Need-optional-at-requires
 optional-at-requires c κs = search needs
@@ -88,7 +92,7 @@ returns-2 c =
     let k = call .before in
     let p = here (k .before .before .before .before) in
     let b = neighbour k in
-    let v = value-got (part (start k)) (body k) (strict (start k)) v1 (call .value-at .result) (call .value-at .ensures) (all-bytes (start k)) (bound .0 .0) (bound .0 .1 .0) (bound .1) in
+    let v = value-got (part (start k)) (body k) (strict (start k)) (edition (start k)) (call .value-at .result) (call .value-at .ensures) (all-bytes (start k)) (bound .0 .0) (bound .0 .1 .0) (bound .1) in
     rw (p .numbers .first, p .numbers .second, b .is, v .is, v .there, v .same, p .node, p .in-it, before-is (k .before .neighbour .given .0 .0) (b .a) (b .same) (c .key-of .result) (c .key-of .ensures))
 
 returns-3 : tie.Need-returns-3
@@ -98,7 +102,7 @@ returns-3 c =
     let k = call .before in
     let p = here (k .before .before .before .before) in
     let bound = c .before .fault .given in
-    let v = no-value (part (start k)) (body k) (strict (start k)) v1 (call .value-at .result) (call .value-at .ensures) (bound .0 .0) (bound .1) in
+    let v = no-value (part (start k)) (body k) (strict (start k)) (edition (start k)) (call .value-at .result) (call .value-at .ensures) (bound .0 .0) (bound .1) in
     rw (p .numbers .first, p .numbers .second, neighbour k .is, v .is, v .same)
 
 returns-4 : tie.Need-returns-4

@@ -36,7 +36,7 @@ enum-told c = search needs
 
 returns : tie.Need-returns
 unfolding operationAfter
-returns c strict =
+returns c strict ed =
     let call = c .before .before in
     ap (operationAnswer (length (part call))) (sym (no-place (part call) (call .place .result) (call .place .ensures) readOptional toMove (c .enum-told .given .1)))
 
@@ -54,7 +54,7 @@ enum-known-fault c = search needs
 
 returns-2 : tie.Need-returns-2
 unfolding operationAfter
-returns-2 c strict =
+returns-2 c strict ed =
     let bound = c .before .before .neighbour .given in
     let call = c .before .before .before .before in
     let k = call .before in
@@ -65,7 +65,7 @@ returns-2 c strict =
 
 returns-3 : tie.Need-returns-3
 unfolding operationAfter
-returns-3 c strict =
+returns-3 c strict ed =
     let call = c .before .before .before in
     let k = call .before in
     let p = here k in

@@ -31,13 +31,13 @@ enum-told c = search needs
 
 returns : tie.Need-returns
 unfolding operationAfter
-returns c strict =
+returns c strict ed =
     let call = c .before .before in
     ap (operationAnswer (length (part call))) (sym (no-place-alone (part call) (call .place .result) (call .place .ensures) toRemove (c .enum-told .given .1)))
 
 returns-2 : tie.Need-returns-2
 unfolding operationAfter
-returns-2 c strict =
+returns-2 c strict ed =
     let p = here c in
     rw (p .numbers .first, p .numbers .second, position (part (c .before .before .before)) 17 (p .numbers .room), p .node, p .in-it)
 

@@ -6,7 +6,8 @@ use mathlib.Core.List.{List}
 use lib.ListN.{length}
 use Rattle.spec_lists.specs.Bytes.{Bytes}
 use Rattle.spec_lists.specs.BytesLaws.{bytes-of}
-use Rattle.spec_patch.specs.Edition.{v1}
+use Rattle.spec_patch.specs.Edition.{Edition}
+use Rattle.projection_patch.specs.Meaning.{editionOf}
 use Rattle.projection_patch.specs.ReadAnswers.{operationAnswer}
 use Rattle.spec_patch.specs.Read.{readValueBy, toUpdate, operationAfter}
 use Rattle.projection_patch.proofs.Answers.{value-got, no-value}
@@ -20,6 +21,9 @@ part c = c .before .before .args .part .now
 
 abbrev strict : tie.After-place → Bool
 strict c = c .before .before .args .strict
+
+abbrev edition : tie.After-place → Edition
+edition c = editionOf (c .before .before .args .edition)
 
 all-bytes : (c : tie.After-place) → Bytes (part c)
 all-bytes c = bytes-of (part c) (λ j. c .before .shared-slice-known .given j .fits)
@@ -43,7 +47,7 @@ returns : tie.Need-returns
 unfolding operationAfter
 returns c =
     let call = c .before .before in
-    ap (operationAnswer (length (part call))) (sym (no-place (part call) (call .place .result) (call .place .ensures) (readValueBy (strict call) v1) toUpdate (c .enum-told .given .1)))
+    ap (operationAnswer (length (part call))) (sym (no-place (part call) (call .place .result) (call .place .ensures) (readValueBy (strict call) (edition call)) toUpdate (c .enum-told .given .1)))
 
 value-at-requires : tie.Need-value-at-requires
 value-at-requires c κs = search needs
@@ -62,7 +66,7 @@ returns-2 c =
     let start = k .before .before .before in
     let p = here k in
     let bound = c .before .value .given in
-    let v = value-got (part start) 17 (strict start) v1 (call .value-at .result) (call .value-at .ensures) (all-bytes start) (bound .0 .0) (bound .0 .1 .0) (bound .1) in
+    let v = value-got (part start) 17 (strict start) (edition start) (call .value-at .result) (call .value-at .ensures) (all-bytes start) (bound .0 .0) (bound .0 .1 .0) (bound .1) in
     rw (p .numbers .first, p .numbers .second, v .is, v .there, v .same, p .node, p .in-it)
 
 returns-3 : tie.Need-returns-3
@@ -72,7 +76,7 @@ returns-3 c =
     let k = call .before in
     let p = here k in
     let bound = c .before .fault .given in
-    let v = no-value (part (k .before .before .before)) 17 (strict (k .before .before .before)) v1 (call .value-at .result) (call .value-at .ensures) (bound .0 .0) (bound .1) in
+    let v = no-value (part (k .before .before .before)) 17 (strict (k .before .before .before)) (edition (k .before .before .before)) (call .value-at .result) (call .value-at .ensures) (bound .0 .0) (bound .1) in
     rw (p .numbers .first, p .numbers .second, v .is, v .same)
 
 pub collection-update-spec : {M : Type 1} → statement M

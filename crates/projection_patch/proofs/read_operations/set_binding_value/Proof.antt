@@ -4,8 +4,9 @@ use mathlib.Core.Bool.{Bool}
 use mathlib.Core.List.{List}
 use Rattle.spec_lists.specs.Bytes.{Bytes}
 use Rattle.spec_lists.specs.BytesLaws.{bytes-of}
-use Rattle.spec_patch.specs.Edition.{v1}
+use Rattle.spec_patch.specs.Edition.{Edition}
 use Rattle.spec_patch.specs.Read.{operationAfter}
+use Rattle.projection_patch.specs.Meaning.{editionOf}
 use Rattle.projection_patch.proofs.At.{NumberAt, u64-at, u64-short, u32-at, u32-short}
 use Rattle.projection_patch.proofs.Answers.{value-got, no-value}
 use Rattle.projection_patch.proofs.Places.{node-is}
@@ -21,6 +22,9 @@ all-bytes c = bytes-of (part c) (λ j. c .shared-slice-known .given j .fits)
 
 abbrev strict : tie.After-shared-slice-known → Bool
 strict c = c .before .args .strict
+
+abbrev edition : tie.After-shared-slice-known → Edition
+edition c = editionOf (c .before .args .edition)
 
 abbrev start : tie.After-known-told2 → tie.After-shared-slice-known
 start c = c .before .before .before .before .before .before .before .before
@@ -86,7 +90,7 @@ returns-3 c =
     let k = made .before in
     let first = k .before .before .before .before in
     let bound = c .before .value .given in
-    let v = value-got (part (start k)) 13 (strict (start k)) v1 (call .value-at .result) (call .value-at .ensures) (all-bytes (start k)) (bound .0 .0) (bound .0 .1 .0) (bound .1) in
+    let v = value-got (part (start k)) 13 (strict (start k)) (edition (start k)) (call .value-at .result) (call .value-at .ensures) (all-bytes (start k)) (bound .0 .0) (bound .0 .1 .0) (bound .1) in
     rw (node first .is, slot k .is, v .is, v .there, v .same, node-is (made .new .result) (first .before .node .given .0 .0) (made .new .ensures))
 
 returns-4 : tie.Need-returns-4
@@ -95,7 +99,7 @@ returns-4 c =
     let call = c .before .before .before in
     let k = call .before .before in
     let bound = c .before .fault .given in
-    let v = no-value (part (start k)) 13 (strict (start k)) v1 (call .value-at .result) (call .value-at .ensures) (bound .0 .0) (bound .1) in
+    let v = no-value (part (start k)) 13 (strict (start k)) (edition (start k)) (call .value-at .result) (call .value-at .ensures) (bound .0 .0) (bound .1) in
     rw (node (k .before .before .before .before) .is, slot k .is, v .is, v .same)
 
 pub set-binding-value-spec : {M : Type 1} → statement M

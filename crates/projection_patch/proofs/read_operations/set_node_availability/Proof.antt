@@ -33,7 +33,7 @@ enum-told c = search needs
 
 returns : tie.Need-returns
 unfolding operationAfter
-returns c strict =
+returns c strict ed =
     let call = c .before .before in
     rw (u64-short (part (call .before)) 1 (call .read-u64-at .result) (call .read-u64-at .ensures) (c .enum-told .given .1))
 
@@ -51,7 +51,7 @@ enum-known-fault c = search needs
 
 returns-2 : tie.Need-returns-2
 unfolding operationAfter
-returns-2 c strict =
+returns-2 c strict ed =
     let call = c .before .before .before in
     let made = call .before in
     let k = made .before in
@@ -62,7 +62,7 @@ returns-2 c strict =
 
 returns-3 : tie.Need-returns-3
 unfolding operationAfter
-returns-3 c strict =
+returns-3 c strict ed =
     let call = c .before .before .before in
     let k = call .before .before in
     let start = k .before .before .before .before in
