@@ -73,8 +73,8 @@ conclusion-applies = whole-and-pieces v2 start 40 _ pieces given .applies premis
 abbrev pub splitMarks : Session → List (Option ℕ)
 splitMarks s = entryMark (s .projection) 9 1 ∷ availabilityMark (s .projection) 5 ∷ []
 
-pub marks-alike : (splitMarks (send start 40 (piece (first ∷ second ∷ [])) .next) ≡ some 1 ∷ some 2 ∷ []) × (splitMarks (sendAll start 40 pieces .last) ≡ some 1 ∷ some 2 ∷ [])
-unfolding opened send sendAll continue isRejected envelopeOf references start piece first second patchOf entryMark availabilityMark
+pub marks-alike : (splitMarks (send v2 start 40 (piece (scored ∷ second ∷ [])) .next) ≡ some 1 ∷ some 2 ∷ []) × (splitMarks (sendAll v2 start 40 pieces .last) ≡ some 1 ∷ some 2 ∷ [])
+unfolding opened send sendAll continue isRejected envelopeOf references start piece scored second patchOf entryMark availabilityMark
 marks-alike = (refl, refl)
 
 -- ---- a list that fails in its second piece
