@@ -1,3 +1,3 @@
-pub mod Padding
+pub mod Filling
 pub mod StoredValues
 pub mod Copies

@@ -42,7 +42,7 @@ quad-number states.S = refl
 
 -- ---- a text over zeros
 
-module _ (row : List ℕ) (start len : ℕ) (inside : start + len ≤ length row) (short : len ≤ textBytes) where
+module _ (row : List ℕ) (mark start len : ℕ) (inside : start + len ≤ length row) (short : len ≤ textBytes) where
   -- the part that is lent is the text
   text-lent : lentPart row start (start + len) ≡ take len (drop start row)
   unfolding lentPart
@@ -57,12 +57,12 @@ module _ (row : List ℕ) (start len : ℕ) (inside : start + len ≤ length row
   text-fits e = omega (arith, ap length (e ∙ text-lent), text-long)
 
   pub as-text : {part copied : List ℕ} → part ≡ lentPart row start (start + len) → copied ≡ overwrite part (zeros textBytes)
-      → _≡_ {A = ValueLookup} (record { found = true; kind = 3; quad = 0; signed = pos 0; unsigned = 0; «text_len» = len; text = copied }) (foundValue (text (take len (drop start row))))
+      → _≡_ {A = ValueLookup} (record { found = true; mark = mark; kind = 3; quad = 0; signed = pos 0; unsigned = 0; «text_len» = len; text = copied }) (foundValue mark (text (take len (drop start row))))
   as-text {copied = copied} is e =
       let t = take len (drop start row) in
       let bytes : copied ≡ t ++ zeros (textBytes - length t) =
       e ∙ ap (λ (l : List ℕ). overwrite l (zeros textBytes)) (is ∙ text-lent) ∙ ap (λ (l : List ℕ). t ++ l) (drop-zeros (length t) textBytes (omega (arith, text-long))) in
-      λ i. record { found = true; kind = 3; quad = 0; signed = pos 0; unsigned = 0; «text_len» = sym text-long i; text = bytes i }
+      λ i. record { found = true; mark = mark; kind = 3; quad = 0; signed = pos 0; unsigned = 0; «text_len» = sym text-long i; text = bytes i }
 
 -- ---- the value behind a position of a row
 

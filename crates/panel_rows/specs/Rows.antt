@@ -1,5 +1,5 @@
--- How a projection's records are stored: one row of bytes each, of one width for each table: the fields of its key, and its value. A value is
--- its canonical bytes, padded with zeros to the longest.
+-- How a projection's records are stored: one row of bytes each, of one width for each table: the fields of its key, its mark, and its value. A
+-- value is its canonical bytes, padded with zeros to the longest.
 use Prim.Native.Nat.{ℕ, _+_, _-_, _*_}
 use mathlib.Core.List.{List, [], _∷_, _++_}
 use lib.Dec.{leb}
@@ -21,33 +21,46 @@ idWidth = 8
 abbrev pub slotWidth : ℕ
 slotWidth = 4
 
+-- the id of the patch that last gave the value
+abbrev pub markWidth : ℕ
+markWidth = 8
+
 -- the longest value: a kind, a length and a text
 abbrev pub valueWidth : ℕ
 valueWidth = 5 + textBytes
 
--- a binding: a node, a slot and a value
+-- a binding: a node, a slot, a mark and a value
 abbrev pub bindingSlotAt : ℕ
 bindingSlotAt = idWidth
 
+abbrev pub bindingMarkAt : ℕ
+bindingMarkAt = bindingSlotAt + slotWidth
+
 abbrev pub bindingValueAt : ℕ
-bindingValueAt = bindingSlotAt + slotWidth
+bindingValueAt = bindingMarkAt + markWidth
 
 abbrev pub bindingWidth : ℕ
 bindingWidth = bindingValueAt + valueWidth
 
--- an availability: a node, and a byte
+-- an availability: a node, a mark and a byte
+abbrev pub availabilityMarkAt : ℕ
+availabilityMarkAt = idWidth
+
 abbrev pub availabilityAt : ℕ
-availabilityAt = idWidth
+availabilityAt = availabilityMarkAt + markWidth
 
 abbrev pub availabilityWidth : ℕ
 availabilityWidth = availabilityAt + 1
 
--- an entry: a collection, a key and a value
+-- an entry: a collection, a key, a mark and a value
 abbrev pub entryKeyAt : ℕ
 entryKeyAt = idWidth
 
+abbrev pub entryMarkAt : ℕ
+entryMarkAt = entryKeyAt + idWidth
+
 abbrev pub entryValueAt : ℕ
-entryValueAt = entryKeyAt + idWidth
+entryValueAt = entryMarkAt + markWidth
 
 abbrev pub entryWidth : ℕ
 entryWidth = entryValueAt + valueWidth
@@ -69,13 +82,13 @@ unfoldable pub padded : Value → List ℕ
 padded v = encodeValue v ++ zeros (valueWidth - length (encodeValue v))
 
 unfoldable pub bindingRow : Binding → List ℕ
-bindingRow b = u64 (b .node) ++ (u32 (b .slot) ++ padded (b .value))
+bindingRow b = u64 (b .node) ++ (u32 (b .slot) ++ (u64 (b .mark) ++ padded (b .value)))
 
 unfoldable pub availabilityRow : NodeAvailability → List ℕ
-availabilityRow a = u64 (a .node) ++ (availabilityByte (a .availability) ∷ [])
+availabilityRow a = u64 (a .node) ++ (u64 (a .mark) ++ (availabilityByte (a .availability) ∷ []))
 
 unfoldable pub entryRow : Entry → List ℕ
-entryRow e = u64 (e .collection) ++ (u64 (e .key) ++ padded (e .value))
+entryRow e = u64 (e .collection) ++ (u64 (e .key) ++ (u64 (e .mark) ++ padded (e .value)))
 
 -- ---- what the fields of any bytes are
 
@@ -95,6 +108,16 @@ collectionIn = fieldAt 0 idWidth
 abbrev pub keyIn : List ℕ → ℕ
 keyIn = fieldAt entryKeyAt idWidth
 
+-- the mark of a binding, of an availability and of an entry
+abbrev pub bindingMarkIn : List ℕ → ℕ
+bindingMarkIn = fieldAt bindingMarkAt markWidth
+
+abbrev pub availabilityMarkIn : List ℕ → ℕ
+availabilityMarkIn = fieldAt availabilityMarkAt markWidth
+
+abbrev pub entryMarkIn : List ℕ → ℕ
+entryMarkIn = fieldAt entryMarkAt markWidth
+
 -- the byte of an availability, or 0
 abbrev pub availabilityIn : List ℕ → ℕ
 availabilityIn row = getD row availabilityAt 0
@@ -108,7 +131,7 @@ availabilityFields = idWidth ∷ []
 
 -- ---- rows that are written
 
--- a key's fields, a value's bytes, and zeros behind them
+-- the fields before the value, its bytes, and zeros behind them
 unfoldable pub filledRow : (width : ℕ) (key value : List ℕ) → List ℕ
 filledRow width key value = key ++ (value ++ zeros (width - (length key + length value)))
 

@@ -9,7 +9,7 @@ use lib.Dec.{leb}
 use lib.ListN.{length, length-append, length-replicate, drop}
 use lib.Seq.{take-at, drop-at, getD-at}
 use Rattle.spec_lists.specs.Bytes.{littleEndian}
-use Rattle.spec_lists.specs.ListLaws.{drop-behind, test-cases}
+use Rattle.spec_lists.specs.ListLaws.{test-cases}
 use Rattle.spec_lists.specs.BytesLaws.{length-littleEndian, numberOf-littleEndian}
 use Rattle.spec_patch.specs.Patch.{Value, quad, signed, text, unsigned, score}
 use Rattle.spec_patch.specs.Edition.{v2, addedKinds, kinds, hasKind}
@@ -18,13 +18,13 @@ use Rattle.spec_patch.specs.Fits.{Storable, StorableBy, FitsValue}
 use Rattle.spec_patch.specs.Reader.{Result, read, Reader}
 use Rattle.spec_patch.specs.Read.{readValueBy}
 use Rattle.spec_patch.specs.Codec.{Codec, pair-codec, injective}
-use Rattle.spec_patch.specs.ReadLaws.{u64-codec, value-codec-by, value-any, binding-fields, update-fields, availability-codec}
+use Rattle.spec_patch.specs.ReadLaws.{u64-codec, u32-codec, value-codec-by, value-any, availability-codec}
 use Rattle.spec_projection.specs.Projection.{Binding, NodeAvailability, Entry, bindingKey, availabilityKey}
 use Rattle.spec_projection.specs.Valid.{FitsBinding, FitsNodeAvailability, FitsEntry}
 use Rattle.bytes_records.specs.Moves.{zeros}
 use Rattle.bytes_records.specs.Keys.{leadingNumbers}
 use Rattle.bytes_records.specs.Table.{Wide}
-use Rattle.panel_rows.specs.Rows.{idWidth, slotWidth, valueWidth, bindingSlotAt, bindingValueAt, bindingWidth, availabilityAt, availabilityWidth, entryKeyAt, entryValueAt, entryWidth, padded, bindingRow, availabilityRow, entryRow, fieldAt, nodeIn, slotIn, availabilityIn, collectionIn, keyIn, bindingFields, availabilityFields, filledRow, writtenRow}
+use Rattle.panel_rows.specs.Rows.{idWidth, slotWidth, markWidth, valueWidth, bindingSlotAt, bindingMarkAt, bindingValueAt, bindingWidth, availabilityMarkAt, availabilityAt, availabilityWidth, entryKeyAt, entryMarkAt, entryValueAt, entryWidth, padded, bindingRow, availabilityRow, entryRow, fieldAt, nodeIn, slotIn, availabilityIn, collectionIn, keyIn, bindingMarkIn, availabilityMarkIn, entryMarkIn, bindingFields, availabilityFields, filledRow, writtenRow}
 
 -- ---- widths
 
@@ -54,13 +54,19 @@ entry-wide e h = simp (length-append, length-littleEndian) (omega (arith, length
 
 -- ---- where a row holds its value
 
+regroup : (a b c d : List ℕ) → (a ++ (b ++ c)) ++ d ≡ a ++ (b ++ (c ++ d))
+regroup a b c d = simp append-assoc
+
+three-behind : (n : ℕ) (a b c d : List ℕ) → length (a ++ (b ++ c)) ≡ n → drop n (a ++ (b ++ (c ++ d))) ≡ d
+three-behind n a b c d long = ap (drop n) (sym (regroup a b c d)) ∙ drop-at (a ++ (b ++ c)) d n long
+
 pub binding-behind : (b : Binding) → drop bindingValueAt (bindingRow b) ≡ padded (b .value)
 unfolding bindingRow
-binding-behind b = drop-behind bindingValueAt (u64 (b .node)) (u32 (b .slot)) (padded (b .value)) (simp (length-append, length-littleEndian))
+binding-behind b = three-behind bindingValueAt (u64 (b .node)) (u32 (b .slot)) (u64 (b .mark)) (padded (b .value)) (simp (length-append, length-littleEndian))
 
 pub entry-behind : (e : Entry) → drop entryValueAt (entryRow e) ≡ padded (e .value)
 unfolding entryRow
-entry-behind e = drop-behind entryValueAt (u64 (e .collection)) (u64 (e .key)) (padded (e .value)) (simp (length-append, length-littleEndian))
+entry-behind e = three-behind entryValueAt (u64 (e .collection)) (u64 (e .key)) (u64 (e .mark)) (padded (e .value)) (simp (length-append, length-littleEndian))
 
 -- ---- a row tells its record
 
@@ -89,38 +95,46 @@ same-read e = cc
 tells : {A : Type 0} {e : A → List ℕ} {Good : A → Type 0} {p : Reader A} → Codec e Good p → (x y : A) → Good x → Good y → (r s : List ℕ) → e x ++ r ≡ e y ++ s → x ≡ y
 tells {p = p} codec x y g h r s q = same-read (sym (codec .back x g r) ∙ ap p q ∙ codec .back y h s)
 
-regroup : (a b c d : List ℕ) → (a ++ (b ++ c)) ++ d ≡ a ++ (b ++ (c ++ d))
-regroup a b c d = simp append-assoc
+-- four fields and zeros
+with-zeros : (a b c d z : List ℕ) → (a ++ (b ++ (c ++ d))) ++ z ≡ a ++ (b ++ (c ++ (d ++ z)))
+with-zeros a b c d z = simp append-assoc
 
 pub binding-tells : (a b : Binding) → FitsBinding a → FitsBinding b → bindingRow a ≡ bindingRow b → a ≡ b
 unfolding bindingRow padded
 binding-tells a b g h e =
-    let fields = tells (binding-fields true v2) (a .node, (a .slot, a .value)) (b .node, (b .slot, b .value))
-    (g .node, (g .slot, storable-fits (a .value) (g .value))) (h .node, (h .slot, storable-fits (b .value) (h .value)))
+    let fields = tells (pair-codec u64-codec (pair-codec u32-codec (pair-codec u64-codec (value-codec-by true v2))))
+    (a .node, (a .slot, (a .mark, a .value))) (b .node, (b .slot, (b .mark, b .value)))
+    (g .node, (g .slot, (g .mark, storable-fits (a .value) (g .value)))) (h .node, (h .slot, (h .mark, storable-fits (b .value) (h .value))))
     (zeros (valueWidth - length (encodeValue (a .value)))) (zeros (valueWidth - length (encodeValue (b .value))))
-    (regroup (u64 (a .node)) (u32 (a .slot)) (encodeValue (a .value)) _ ∙ e ∙ sym (regroup (u64 (b .node)) (u32 (b .slot)) (encodeValue (b .value)) _)) in
-    λ i. record { node = fields i .0; slot = fields i .1 .0; value = fields i .1 .1 }
+    (with-zeros (u64 (a .node)) (u32 (a .slot)) (u64 (a .mark)) (encodeValue (a .value)) _ ∙ e ∙ sym (with-zeros (u64 (b .node)) (u32 (b .slot)) (u64 (b .mark)) (encodeValue (b .value)) _)) in
+    λ i. record { node = fields i .0; slot = fields i .1 .0; mark = fields i .1 .1 .0; value = fields i .1 .1 .1 }
 
 pub availability-tells : (a b : NodeAvailability) → FitsNodeAvailability a → FitsNodeAvailability b → availabilityRow a ≡ availabilityRow b → a ≡ b
 unfolding availabilityRow
 availability-tells a b g h e =
-    let fields = injective (pair-codec u64-codec availability-codec) (a .node, a .availability) (b .node, b .availability) (g .node, tt) (h .node, tt) e in
-    λ i. record { node = fields i .0; availability = fields i .1 }
+    let fields = injective (pair-codec u64-codec (pair-codec u64-codec availability-codec))
+    (a .node, (a .mark, a .availability)) (b .node, (b .mark, b .availability)) (g .node, (g .mark, tt)) (h .node, (h .mark, tt)) e in
+    λ i. record { node = fields i .0; mark = fields i .1 .0; availability = fields i .1 .1 }
 
 pub entry-tells : (a b : Entry) → FitsEntry a → FitsEntry b → entryRow a ≡ entryRow b → a ≡ b
 unfolding entryRow padded
 entry-tells a b g h e =
-    let fields = tells (update-fields true v2) (a .collection, (a .key, a .value)) (b .collection, (b .key, b .value))
-    (g .collection, (g .key, storable-fits (a .value) (g .value))) (h .collection, (h .key, storable-fits (b .value) (h .value)))
+    let fields = tells (pair-codec u64-codec (pair-codec u64-codec (pair-codec u64-codec (value-codec-by true v2))))
+    (a .collection, (a .key, (a .mark, a .value))) (b .collection, (b .key, (b .mark, b .value)))
+    (g .collection, (g .key, (g .mark, storable-fits (a .value) (g .value)))) (h .collection, (h .key, (h .mark, storable-fits (b .value) (h .value))))
     (zeros (valueWidth - length (encodeValue (a .value)))) (zeros (valueWidth - length (encodeValue (b .value))))
-    (regroup (u64 (a .collection)) (u64 (a .key)) (encodeValue (a .value)) _ ∙ e ∙ sym (regroup (u64 (b .collection)) (u64 (b .key)) (encodeValue (b .value)) _)) in
-    λ i. record { collection = fields i .0; key = fields i .1 .0; value = fields i .1 .1 }
+    (with-zeros (u64 (a .collection)) (u64 (a .key)) (u64 (a .mark)) (encodeValue (a .value)) _ ∙ e ∙ sym (with-zeros (u64 (b .collection)) (u64 (b .key)) (u64 (b .mark)) (encodeValue (b .value)) _)) in
+    λ i. record { collection = fields i .0; key = fields i .1 .0; mark = fields i .1 .1 .0; value = fields i .1 .1 .1 }
 
 -- ---- the fields of a row
 
 field-behind : (front rest : List ℕ) (at n x : ℕ) → length front ≡ at → x < 256 ^ n → fieldAt at n (front ++ (littleEndian n x ++ rest)) ≡ x
 field-behind front rest at n x long small =
     rw (drop-at front (littleEndian n x ++ rest) at long, take-at (littleEndian n x) rest n (length-littleEndian n x), numberOf-littleEndian n x small)
+
+-- a mark behind two fields
+mark-behind : (a b rest : List ℕ) (at m : ℕ) → length (a ++ b) ≡ at → m < 256 ^ markWidth → fieldAt at markWidth (a ++ (b ++ (u64 m ++ rest))) ≡ m
+mark-behind a b rest at m long small = ap (fieldAt at markWidth) (sym (append-assoc a b (u64 m ++ rest))) ∙ field-behind (a ++ b) rest at markWidth m long small
 
 module _ (b : Binding) (h : FitsBinding b) where
   pub binding-node : nodeIn (bindingRow b) ≡ b .node
@@ -130,6 +144,10 @@ module _ (b : Binding) (h : FitsBinding b) where
   pub binding-slot : slotIn (bindingRow b) ≡ b .slot
   unfolding bindingRow
   binding-slot = field-behind (u64 (b .node)) _ bindingSlotAt slotWidth (b .slot) (length-littleEndian idWidth (b .node)) (h .slot)
+
+  pub binding-mark : bindingMarkIn (bindingRow b) ≡ b .mark
+  unfolding bindingRow
+  binding-mark = mark-behind (u64 (b .node)) (u32 (b .slot)) (padded (b .value)) bindingMarkAt (b .mark) (simp (length-append, length-littleEndian)) (h .mark)
 
   pub binding-key : leadingNumbers bindingFields (bindingRow b) ≡ bindingKey b
   unfolding bindingKey leadingNumbers
@@ -144,9 +162,15 @@ module _ (a : NodeAvailability) where
   unfolding availabilityKey leadingNumbers
   availability-key h = ap (λ (x : ℕ). x ∷ []) (availability-node h)
 
+  pub availability-mark : FitsNodeAvailability a → availabilityMarkIn (availabilityRow a) ≡ a .mark
+  unfolding availabilityRow
+  availability-mark h = field-behind (u64 (a .node)) _ availabilityMarkAt markWidth (a .mark) (length-littleEndian idWidth (a .node)) (h .mark)
+
   pub availability-byte : availabilityIn (availabilityRow a) ≡ availabilityByte (a .availability)
   unfolding availabilityRow
-  availability-byte = getD-at (u64 (a .node)) (availabilityByte (a .availability)) [] 0 availabilityAt (length-littleEndian idWidth (a .node))
+  availability-byte =
+      ap availabilityIn (sym (append-assoc (u64 (a .node)) (u64 (a .mark)) (availabilityByte (a .availability) ∷ [])))
+      ∙ getD-at (u64 (a .node) ++ u64 (a .mark)) (availabilityByte (a .availability)) [] 0 availabilityAt (simp (length-append, length-littleEndian))
 
 module _ (e : Entry) (h : FitsEntry e) where
   pub entry-collection : collectionIn (entryRow e) ≡ e .collection
@@ -156,6 +180,10 @@ module _ (e : Entry) (h : FitsEntry e) where
   pub entry-key : keyIn (entryRow e) ≡ e .key
   unfolding entryRow
   entry-key = field-behind (u64 (e .collection)) _ entryKeyAt idWidth (e .key) (length-littleEndian idWidth (e .collection)) (h .key)
+
+  pub entry-mark : entryMarkIn (entryRow e) ≡ e .mark
+  unfolding entryRow
+  entry-mark = mark-behind (u64 (e .collection)) (u64 (e .key)) (padded (e .value)) entryMarkAt (e .mark) (simp (length-append, length-littleEndian)) (h .mark)
 
 -- ---- rows that are written
 

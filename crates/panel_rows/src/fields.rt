@@ -2,11 +2,15 @@
 ghost use mathlib.Core.Path.{_≡_};
 ghost use Prim.Native.Nat.{_≤_};
 ghost use lib.ListN.{take, drop};
-ghost use Rattle.panel_rows.specs.Rows.{fieldAt, nodeIn, slotIn, availabilityIn, collectionIn, keyIn};
+ghost use Rattle.panel_rows.specs.Rows.{fieldAt, nodeIn, slotIn, availabilityIn, collectionIn, keyIn, bindingMarkIn, availabilityMarkIn, entryMarkIn};
 use crate::AVAILABILITY;
+use crate::AVAILABILITY_MARK;
+use crate::BINDING_MARK;
 use crate::BINDING_SLOT;
 use crate::ENTRY_KEY;
+use crate::ENTRY_MARK;
 use crate::ID_WIDTH;
+use crate::MARK_WIDTH;
 use crate::SLOT_WIDTH;
 
 // The fields before an offset.
@@ -49,10 +53,22 @@ pub fn binding_slot(row: &[u8]) -> u64
     number_at(row, BINDING_SLOT, SLOT_WIDTH)
 }
 
+pub fn binding_mark(row: &[u8]) -> u64
+    ensures { λ r. ⌜ r ≡ bindingMarkIn (now (row .entry)) ⌝ }
+{
+    number_at(row, BINDING_MARK, MARK_WIDTH)
+}
+
 pub fn availability_node(row: &[u8]) -> u64
     ensures { λ r. ⌜ r ≡ nodeIn (now (row .entry)) ⌝ }
 {
     number_at(row, 0, ID_WIDTH)
+}
+
+pub fn availability_mark(row: &[u8]) -> u64
+    ensures { λ r. ⌜ r ≡ availabilityMarkIn (now (row .entry)) ⌝ }
+{
+    number_at(row, AVAILABILITY_MARK, MARK_WIDTH)
 }
 
 pub fn availability_byte(row: &[u8]) -> u8
@@ -74,4 +90,10 @@ pub fn entry_key(row: &[u8]) -> u64
     ensures { λ r. ⌜ r ≡ keyIn (now (row .entry)) ⌝ }
 {
     number_at(row, ENTRY_KEY, ID_WIDTH)
+}
+
+pub fn entry_mark(row: &[u8]) -> u64
+    ensures { λ r. ⌜ r ≡ entryMarkIn (now (row .entry)) ⌝ }
+{
+    number_at(row, ENTRY_MARK, MARK_WIDTH)
 }

@@ -15,9 +15,11 @@ use projection_patch::patch::ProjectionQuadState;
 use projection_patch::read_values;
 use projection_patch::read_values::ValueRead;
 
-// A value or none. The kind is that of canonical bytes: 1 quad, 2 signed, 3 text, 4 unsigned, 5 score, whose number stands in unsigned.
+// A value with its mark, the id of the patch that last gave it, or none. The kind is that of canonical bytes: 1 quad,
+// 2 signed, 3 text, 4 unsigned, 5 score, whose number stands in unsigned.
 pub struct ValueLookup {
     pub found: bool,
+    pub mark: u64,
     pub kind: u8,
     pub quad: u8,
     pub signed: i64,
@@ -26,9 +28,10 @@ pub struct ValueLookup {
     pub text: [u8; ProjectionPatchValue::TEXT_BYTES],
 }
 
-// A node's availability as its canonical byte, or none.
+// A node's availability as its canonical byte, with its mark, or none.
 pub struct AvailabilityLookup {
     pub found: bool,
+    pub mark: u64,
     pub availability: u8,
 }
 
@@ -37,6 +40,7 @@ pub fn no_value() -> ValueLookup
 {
     ValueLookup {
         found: false,
+        mark: 0,
         kind: 0,
         quad: 0,
         signed: 0,
@@ -46,11 +50,12 @@ pub fn no_value() -> ValueLookup
     }
 }
 
-fn quad_value(number: u8) -> ValueLookup
-    ensures { λ r. ⌜ r ≡ foundQuad number ⌝ }
+fn quad_value(mark: u64, number: u8) -> ValueLookup
+    ensures { λ r. ⌜ r ≡ foundQuad mark number ⌝ }
 {
     ValueLookup {
         found: true,
+        mark,
         kind: 1,
         quad: number,
         signed: 0,
@@ -60,11 +65,12 @@ fn quad_value(number: u8) -> ValueLookup
     }
 }
 
-fn signed_value(z: i64) -> ValueLookup
-    ensures { λ r. ⌜ r ≡ foundValue (model.signed z) ⌝ }
+fn signed_value(mark: u64, z: i64) -> ValueLookup
+    ensures { λ r. ⌜ r ≡ foundValue mark (model.signed z) ⌝ }
 {
     ValueLookup {
         found: true,
+        mark,
         kind: 2,
         quad: 0,
         signed: z,
@@ -74,11 +80,12 @@ fn signed_value(z: i64) -> ValueLookup
     }
 }
 
-fn unsigned_value(x: u64) -> ValueLookup
-    ensures { λ r. ⌜ r ≡ foundValue (model.unsigned x) ⌝ }
+fn unsigned_value(mark: u64, x: u64) -> ValueLookup
+    ensures { λ r. ⌜ r ≡ foundValue mark (model.unsigned x) ⌝ }
 {
     ValueLookup {
         found: true,
+        mark,
         kind: 4,
         quad: 0,
         signed: 0,
@@ -88,11 +95,12 @@ fn unsigned_value(x: u64) -> ValueLookup
     }
 }
 
-fn score_value(score: u8) -> ValueLookup
-    ensures { λ r. ⌜ r ≡ foundValue (model.score score) ⌝ }
+fn score_value(mark: u64, score: u8) -> ValueLookup
+    ensures { λ r. ⌜ r ≡ foundValue mark (model.score score) ⌝ }
 {
     ValueLookup {
         found: true,
+        mark,
         kind: 5,
         quad: 0,
         signed: 0,
@@ -103,8 +111,8 @@ fn score_value(score: u8) -> ValueLookup
 }
 
 // The text of len bytes from start on.
-fn text_value(row: &[u8], start: usize, len: usize) -> ValueLookup
-    ensures { λ r. ⌜ (start + len ≤ length (now (row .entry)) → len ≤ textBytes → r ≡ foundValue (model.text (take len (drop start (now (row .entry)))))) ⌝ }
+fn text_value(row: &[u8], mark: u64, start: usize, len: usize) -> ValueLookup
+    ensures { λ r. ⌜ (start + len ≤ length (now (row .entry)) → len ≤ textBytes → r ≡ foundValue mark (model.text (take len (drop start (now (row .entry)))))) ⌝ }
 {
     let mut text = [0u8; ProjectionPatchValue::TEXT_BYTES];
     if ProjectionPatchValue::TEXT_BYTES < len {
@@ -119,6 +127,7 @@ fn text_value(row: &[u8], start: usize, len: usize) -> ValueLookup
     bytes_records::moves::copy(read_values::text_of(row, start, start + len), &mut text);
     ValueLookup {
         found: true,
+        mark,
         kind: 3,
         quad: 0,
         signed: 0,
@@ -140,24 +149,24 @@ fn quad_number(state: ProjectionQuadState) -> u8
 }
 
 // A value whose text, if it is one, stands in row.
-fn value_lookup(row: &[u8], value: ProjectionPatchValue) -> ValueLookup
-    ensures { λ r. ⌜ (Within (now (row .entry)) (valueText value) → r ≡ foundValue (valueOf (now (row .entry)) value)) ⌝ }
+fn value_lookup(row: &[u8], mark: u64, value: ProjectionPatchValue) -> ValueLookup
+    ensures { λ r. ⌜ (Within (now (row .entry)) (valueText value) → r ≡ foundValue mark (valueOf (now (row .entry)) value)) ⌝ }
 {
     match value {
-        ProjectionPatchValue::Quad(state) => quad_value(quad_number(state)),
-        ProjectionPatchValue::SignedScalar(z) => signed_value(z),
-        ProjectionPatchValue::UnsignedScalar(x) => unsigned_value(x),
-        ProjectionPatchValue::Text { start, len } => text_value(row, start, len),
-        ProjectionPatchValue::Score(score) => score_value(score),
+        ProjectionPatchValue::Quad(state) => quad_value(mark, quad_number(state)),
+        ProjectionPatchValue::SignedScalar(z) => signed_value(mark, z),
+        ProjectionPatchValue::UnsignedScalar(x) => unsigned_value(mark, x),
+        ProjectionPatchValue::Text { start, len } => text_value(row, mark, start, len),
+        ProjectionPatchValue::Score(score) => score_value(mark, score),
     }
 }
 
-// The value that is stored in a row from index at on. The second edition has every kind.
-pub fn stored_value(row: &[u8], at: usize) -> ValueLookup
-    ensures { λ r. ⌜ ((v : model.Value) → Storable v → drop at (now (row .entry)) ≡ padded v → r ≡ foundValue v) ⌝ }
+// The value that is stored in a row from index at on, told with a mark. The second edition has every kind.
+pub fn stored_value(row: &[u8], at: usize, mark: u64) -> ValueLookup
+    ensures { λ r. ⌜ ((v : model.Value) → Storable v → drop at (now (row .entry)) ≡ padded v → r ≡ foundValue mark v) ⌝ }
 {
     match read_values::value_at(row, at, false, ProjectionPatchEdition::V2) {
-        ValueRead::Read(value, _) => value_lookup(row, value),
+        ValueRead::Read(value, _) => value_lookup(row, mark, value),
         ValueRead::Refused(_) => no_value(),
     }
 }

@@ -9,7 +9,7 @@ use Rattle.spec_patch.specs.Encode.{u64, availabilityByte}
 use Rattle.bytes_wire.specs.Write.{overwrite}
 use Rattle.projection_patch.specs.Meaning.{availabilityOf}
 use Rattle.panel_rows.specs.Rows.{availabilityRow}
-use Rattle.panel_rows.proofs.Padding.{two-fields}
+use Rattle.panel_rows.proofs.Filling.{three-fields}
 use Rattle.panel_rows.proofs.availability_row.Statement.{statement}
 use Rattle.panel_rows.proofs.availability_row.Tie as tie
 
@@ -18,6 +18,12 @@ slice-aggregate-write-u64-at c = search needs
 
 write-u64-at-requires : tie.Need-write-u64-at-requires
 write-u64-at-requires c κs = search needs
+
+slice-aggregate-write-u64-at-2 : tie.Need-slice-aggregate-write-u64-at-2
+slice-aggregate-write-u64-at-2 c = search needs
+
+write-u64-at-requires-2 : tie.Need-write-u64-at-requires-2
+write-u64-at-requires-2 c κs = search needs
 
 slice-aggregate-write-u8-at : tie.Need-slice-aggregate-write-u8-at
 slice-aggregate-write-u8-at c = search needs
@@ -51,6 +57,8 @@ availability-row-spec =
     (tie.spec
     slice-aggregate-write-u64-at
     write-u64-at-requires
+    slice-aggregate-write-u64-at-2
+    write-u64-at-requires-2
     slice-aggregate-write-u8-at
     availability-byte-requires
     write-u8-at-requires

@@ -24,10 +24,10 @@ no-value-requires c κs = search needs
 
 returns : tie.Need-returns
 returns c =
-    let row = now (c .before .before .before .before .before .before .args .row) in
+    let a = c .before .before .before .before .before .before .args in
     λ v h e.
-    let there = value-read-back row (c .before .before .before .before .before .before .args .at) (c .before .before .before .before .value-at .result) (c .before .before .before .before .value-at .ensures) v h e _ _ (c .before .before .value .given .1) in
-    c .value-lookup .ensures (there .0) ∙ ap foundValue (there .1)
+    let there = value-read-back (now (a .row)) (a .at) (c .before .before .before .before .value-at .result) (c .before .before .before .before .value-at .ensures) v h e _ _ (c .before .before .value .given .1) in
+    c .value-lookup .ensures (there .0) ∙ ap (foundValue (a .mark)) (there .1)
 
 returns-2 : tie.Need-returns-2
 returns-2 c =

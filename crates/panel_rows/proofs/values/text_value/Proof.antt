@@ -40,13 +40,13 @@ copy-requires : tie.Need-copy-requires
 copy-requires c κs =
     let lent = c .before in
     let a = lent .before .before .before .before .before .args in
-    text-fits (now (a .row)) (a .start) (a .len) (omega arith) (omega arith) (lent .text-of .ensures)
+    text-fits (now (a .row)) (a .mark) (a .start) (a .len) (omega arith) (omega arith) (lent .text-of .ensures)
 
 returns-4 : tie.Need-returns-4
 returns-4 c = λ inside short.
     let lent = c .before .before .before in
     let a = lent .before .before .before .before .before .args in
-    as-text (now (a .row)) (a .start) (a .len) inside short (lent .text-of .ensures) (c .before .copy .ensures)
+    as-text (now (a .row)) (a .mark) (a .start) (a .len) inside short (lent .text-of .ensures) (c .before .copy .ensures)
 
 pub text-value-spec : {M : Type 1} → statement M
 text-value-spec =

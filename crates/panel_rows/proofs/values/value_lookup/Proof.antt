@@ -48,34 +48,34 @@ score-value-requires c κs = search needs
 returns : tie.Need-returns
 returns c =
     let value = c .before .before .before in
-    let row = now (value .before .before .before .args .row) in
-    λ w. c .quad-value .ensures ∙ ap foundQuad (c .before .quad-number .ensures ∙ quad-number (value .value .given .0 .0)) ∙ sym (ap (λ v. foundValue (valueOf row v)) (value .value .given .1))
+    let a = value .before .before .before .args in
+    λ w. c .quad-value .ensures ∙ ap (foundQuad (a .mark)) (c .before .quad-number .ensures ∙ quad-number (value .value .given .0 .0)) ∙ sym (ap (λ v. foundValue (a .mark) (valueOf (now (a .row)) v)) (value .value .given .1))
 
 returns-2 : tie.Need-returns-2
 returns-2 c =
     let value = c .before .before in
-    let row = now (value .before .before .before .args .row) in
-    λ w. c .signed-value .ensures ∙ ap (λ z. foundValue (signed z)) (toZ-ofZ (sfits-of {w = w64} {z = value .value2 .given .0 .0} (c .before .known-told2 .given .0 .1))) ∙ sym (ap (λ v. foundValue (valueOf row v)) (value .value2 .given .1))
+    let a = value .before .before .before .args in
+    λ w. c .signed-value .ensures ∙ ap (λ z. foundValue (a .mark) (signed z)) (toZ-ofZ (sfits-of {w = w64} {z = value .value2 .given .0 .0} (c .before .known-told2 .given .0 .1))) ∙ sym (ap (λ v. foundValue (a .mark) (valueOf (now (a .row)) v)) (value .value2 .given .1))
 
 returns-3 : tie.Need-returns-3
 returns-3 c =
     let value = c .before .before in
-    let row = now (value .before .before .before .args .row) in
-    λ w. c .unsigned-value .ensures ∙ sym (ap (λ v. foundValue (valueOf row v)) (value .value3 .given .1))
+    let a = value .before .before .before .args in
+    λ w. c .unsigned-value .ensures ∙ sym (ap (λ v. foundValue (a .mark) (valueOf (now (a .row)) v)) (value .value3 .given .1))
 
 returns-4 : tie.Need-returns-4
 returns-4 c =
     let value = c .before .before in
-    let row = now (value .before .before .before .args .row) in
+    let a = value .before .before .before .args in
     λ w.
-    let there = subst (λ v. Within row (valueText v)) (value .value4 .given .1) w in
-    c .text-value .ensures (there .inside) (there .short) ∙ sym (ap (λ v. foundValue (valueOf row v)) (value .value4 .given .1))
+    let there = subst (λ v. Within (now (a .row)) (valueText v)) (value .value4 .given .1) w in
+    c .text-value .ensures (there .inside) (there .short) ∙ sym (ap (λ v. foundValue (a .mark) (valueOf (now (a .row)) v)) (value .value4 .given .1))
 
 returns-5 : tie.Need-returns-5
 returns-5 c =
     let value = c .before .before in
-    let row = now (value .before .before .before .args .row) in
-    λ w. c .score-value .ensures ∙ sym (ap (λ v. foundValue (valueOf row v)) (value .value5 .given .1))
+    let a = value .before .before .before .args in
+    λ w. c .score-value .ensures ∙ sym (ap (λ v. foundValue (a .mark) (valueOf (now (a .row)) v)) (value .value5 .given .1))
 
 pub value-lookup-spec : {M : Type 1} → statement M
 value-lookup-spec =
