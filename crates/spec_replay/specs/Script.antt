@@ -1,7 +1,5 @@
 -- The commands of a replay script, one to a line, as bytes: the table `commands`, and the fields of each above it.
 use Prim.Native.Nat.{ℕ}
-use Prim.Native.Char.{code}
-use Prim.Native.String.{String, [] as noText, _∷_ as _before_}
 use mathlib.Core.Bool.{Bool, true}
 use mathlib.Core.List.{List, [], _∷_}
 use mathlib.Core.Option.{Option, none, some}
@@ -14,6 +12,7 @@ use Rattle.spec_patch.specs.Edition.{Edition, v1, v2}
 use Rattle.spec_session.specs.Session.{Limits, BindingPair}
 use Rattle.spec_session.specs.Lifecycle.{Stimulus, activate, suspend, resume, close, noOp}
 use Rattle.spec_session.specs.Batch.{BatchEnvelope}
+pub use Rattle.spec_listing.specs.Ascii.{ascii}
 use Rattle.spec_replay.specs.Lines.{space, split}
 use Rattle.spec_replay.specs.Hex.{readHex}
 
@@ -107,11 +106,6 @@ abbrev pub hex : Field (List ℕ)
 hex = readBy readHex
 
 -- ---- words
-
--- the bytes of a word in ASCII
-abbrev pub ascii : String → List ℕ
-ascii noText = []
-ascii (c before s) = code c ∷ ascii s
 
 -- a row of a table of words
 pub record Row (A : Type 0) : Type 0 where
