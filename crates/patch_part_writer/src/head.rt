@@ -30,12 +30,7 @@ pub fn edition_digit(edition: ProjectionPatchEdition) -> u8
 }
 
 // The heading and the patch count.
-pub fn store_heading(
-    out: &mut [u8],
-    at: usize,
-    patch_count: usize,
-    edition: ProjectionPatchEdition,
-)
+pub fn store_heading(out: &mut [u8], at: usize, patch_count: usize, edition: ProjectionPatchEdition)
     requires { ⌜ (at + 35 ≤ length (now out)) × («patch_count» ≤ setPatches) ⌝ }
     ensures { λ _. ⌜ now (out .exit) ≡ overwrite (now (out .entry)) at (heading (editionOf edition) ++ u32 «patch_count») ⌝ }
 {
