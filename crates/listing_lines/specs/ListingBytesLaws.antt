@@ -23,6 +23,8 @@ use Rattle.spec_projection.specs.ValidLaws.{empty-valid, applySteps-valid, repl
 use Rattle.spec_decimal.specs.Decimal.{digits, decimal, signedDecimal}
 use Rattle.spec_decimal.specs.DecimalLaws.{length-digits, digits-same}
 use Rattle.spec_decimal.specs.ReadLaws.{length-decimal, length-signedDecimal}
+use Rattle.spec_listing.specs.Escapes.{escaped}
+use Rattle.spec_listing.specs.EscapesLaws.{escaped-length}
 use Rattle.spec_listing.specs.Listing.{fields, valueFields, bindingLine, availabilityLine, entryLine, recordCount, projectionLines, refusalLine, outcomeLines, readingLines, listing}
 use Rattle.listing_lines.specs.ListingBytes.{refusalLineBytes, valueFieldBytes, bindingLineBytes, availabilityLineBytes, entryLineBytes, listingBytes}
 
@@ -56,7 +58,7 @@ value-short : (v : Value) → Storable v → length (fields (valueFields v)) ≤
 unfolding valueFields StorableBy
 value-short (quad q) h = omega (arith, length-two (81 ∷ []) (decimal (quadByte q)), length-decimal (quadByte q) .1)
 value-short (signed z) h = omega (arith, length-two (83 ∷ []) (signedDecimal z), length-signedDecimal z h .1)
-value-short (text t) h = omega (arith, length-two (84 ∷ []) t, h .short)
+value-short (text t) h = omega (arith, length-two (84 ∷ []) (escaped t), escaped-length t .1, h .short)
 value-short (unsigned x) h = omega (arith, length-two (85 ∷ []) (decimal x), length-decimal x .1)
 
 length-record : (a b : ℕ) (rest : List (List ℕ)) → length (fields (decimal a ∷ decimal b ∷ rest)) ≡ length (decimal a) + (length (decimal b) + (length (fields rest) + 2))

@@ -1,4 +1,5 @@
 // The lines of a listing: 01, 'Listing'. A record's line is printed from its stored row.
+mod escapes;
 pub mod tables;
 
 ghost use mathlib.Core.Path.{_≡_};
@@ -8,6 +9,7 @@ ghost use lib.ListN.{take};
 ghost use Rattle.spec_projection.specs.Projection.{Binding, NodeAvailability, Entry};
 ghost use Rattle.spec_projection.specs.Valid.{FitsBinding, FitsNodeAvailability, FitsEntry};
 ghost use Rattle.spec_decimal.specs.Decimal.{decimal};
+ghost use Rattle.spec_listing.specs.Escapes.{escaped};
 ghost use Rattle.spec_listing.specs.Listing.{fields, bindingLine, availabilityLine, entryLine};
 ghost use Rattle.bytes_printer.specs.Prints.{field, Prints};
 ghost use Rattle.panel_rows.specs.Rows.{bindingRow, availabilityRow, entryRow};
@@ -55,14 +57,15 @@ fn at_most(n: usize, most: usize) -> usize
     if n < most { n } else { most }
 }
 
-// The kind T, the text of a lookup and the end of the line.
+// The kind T, the escaped text of a lookup and the end of the line.
 fn print_text(out: &mut [u8], at: Printed, value: ValueLookup) -> Printed
-    ensures { λ r. ⌜ Prints (now (out .entry)) at (fields ((84 ∷ []) ∷ take (value .«text_len») (value .text) ∷ [])) (now (out .exit)) r ⌝ }
+    ensures { λ r. ⌜ Prints (now (out .entry)) at (fields ((84 ∷ []) ∷ escaped (take (value .«text_len») (value .text)) ∷ [])) (now (out .exit)) r ⌝ }
 {
     let text = value.text;
     let len = at_most(value.text_len, ProjectionPatchValue::TEXT_BYTES);
     let letter = print_letter(out, at, 84);
-    let bytes = bytes_printer::print_field_bytes(out, letter, &text[0..len]);
+    let tab = bytes_printer::print_byte(out, letter, 9);
+    let bytes = crate::escapes::print_escaped(out, tab, &text[0..len]);
     bytes_printer::print_newline(out, bytes)
 }
 

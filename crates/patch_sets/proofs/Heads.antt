@@ -11,7 +11,7 @@ use lib.Seq.{drop-at, drop-drop}
 use Rattle.spec_lists.specs.Lists.{if_then_else_}
 use Rattle.spec_lists.specs.Bytes.{Bytes, numberOf}
 use Rattle.spec_lists.specs.BytesLaws.{length-littleEndian}
-use Rattle.spec_patch.specs.Edition.{v1}
+use Rattle.spec_patch.specs.Edition.{Edition, letters}
 use Rattle.spec_patch.specs.Encode.{u32, heading}
 use Rattle.spec_patch.specs.Reader.{Fault, Result, read, refused, malformed, onward, literal}
 use Rattle.spec_patch.specs.Read.{optionalAfter, readOptional}
@@ -47,47 +47,47 @@ literal-malformed (x ∷ xs) (b ∷ bs) f q = pick (eqb b x) (literal-malformed 
     pick false rest e = cc
 
 -- the u32 in front of the letters
-abbrev pub letterCount : ℕ
-letterCount = length (v1 .letters)
+abbrev pub letterCount : Edition → ℕ
+letterCount ed = length (letters ed)
 
-module _ (set : List ℕ) (all : Bytes set) where
-  pub not-heading : ((rest : List ℕ) → set ≡ heading v1 ++ rest → ⊥) → literal (heading v1) set ≡ refused malformed
-  not-heading h = pick (literal (heading v1) set) refl
+module _ (ed : Edition) (set : List ℕ) (all : Bytes set) where
+  pub not-heading : ((rest : List ℕ) → set ≡ heading ed ++ rest → ⊥) → literal (heading ed) set ≡ refused malformed
+  not-heading h = pick (literal (heading ed) set) refl
     where
-      pick : (r : Result (Unit {0})) → literal (heading v1) set ≡ r → literal (heading v1) set ≡ refused malformed
-      pick (read u rest) is = absurd (h rest (literal-codec (heading v1) .only all u rest is .1))
-      pick (refused f) is = is ∙ ap refused (literal-malformed (heading v1) set f is)
+      pick : (r : Result (Unit {0})) → literal (heading ed) set ≡ r → literal (heading ed) set ≡ refused malformed
+      pick (read u rest) is = absurd (h rest (literal-codec (heading ed) .only all u rest is .1))
+      pick (refused f) is = is ∙ ap refused (literal-malformed (heading ed) set f is)
 
-  apart : (rest : List ℕ) → set ≡ heading v1 ++ rest → set ≡ u32 letterCount ++ (v1 .letters ++ rest)
+  apart : (rest : List ℕ) → set ≡ heading ed ++ rest → set ≡ u32 (letterCount ed) ++ (letters ed ++ rest)
   unfolding heading
-  apart rest e = e ∙ append-assoc (u32 letterCount) (v1 .letters) rest
+  apart rest e = e ∙ append-assoc (u32 (letterCount ed)) (letters ed) rest
 
-  number-then : (rest : List ℕ) → set ≡ heading v1 ++ rest → firstNumber 4 set ≡ some letterCount
-  unfolding v1
-  number-then rest e = ap (firstNumber 4) (apart rest e) ∙ first-of-littleEndian 4 letterCount (v1 .letters ++ rest) (lit< tt)
+  number-then : (rest : List ℕ) → set ≡ heading ed ++ rest → firstNumber 4 set ≡ some (letterCount ed)
+  unfolding letters
+  number-then rest e = ap (firstNumber 4) (apart rest e) ∙ first-of-littleEndian 4 (letterCount ed) (letters ed ++ rest) (lit< tt)
 
-  letters-then : (rest : List ℕ) → set ≡ heading v1 ++ rest → startsWith (v1 .letters) (drop 4 set) ≡ true
+  letters-then : (rest : List ℕ) → set ≡ heading ed ++ rest → startsWith (letters ed) (drop 4 set) ≡ true
   letters-then rest e =
-      ap (λ (l : List ℕ). startsWith (v1 .letters) (drop 4 l)) (apart rest e)
-      ∙ ap (startsWith (v1 .letters)) (drop-at (u32 letterCount) (v1 .letters ++ rest) 4 (length-littleEndian 4 letterCount))
-      ∙ starts-append (v1 .letters) rest
+      ap (λ (l : List ℕ). startsWith (letters ed) (drop 4 l)) (apart rest e)
+      ∙ ap (startsWith (letters ed)) (drop-at (u32 (letterCount ed)) (letters ed ++ rest) 4 (length-littleEndian 4 (letterCount ed)))
+      ∙ starts-append (letters ed) rest
 
-  pub no-number : none ≡ firstNumber 4 set → literal (heading v1) set ≡ refused malformed
+  pub no-number : none ≡ firstNumber 4 set → literal (heading ed) set ≡ refused malformed
   no-number e = not-heading (λ rest h. let z : _≡_ {A = ℕ} 0 1 = cc (e, number-then rest h) in omega arith)
 
-  pub other-number : (x : ℕ) → some x ≡ firstNumber 4 set → (x ≡ letterCount → ⊥) → literal (heading v1) set ≡ refused malformed
+  pub other-number : (x : ℕ) → some x ≡ firstNumber 4 set → (x ≡ letterCount ed → ⊥) → literal (heading ed) set ≡ refused malformed
   other-number x e d = not-heading (λ rest h. d (cc (e ∙ number-then rest h)))
 
-  pub other-letters : startsWith (v1 .letters) (drop 4 set) ≡ false → literal (heading v1) set ≡ refused malformed
+  pub other-letters : startsWith (letters ed) (drop 4 set) ≡ false → literal (heading ed) set ≡ refused malformed
   other-letters e = not-heading (λ rest h. let z : _≡_ {A = ℕ} 0 1 = cc (e, letters-then rest h) in omega arith)
 
-  pub heading-there : some letterCount ≡ firstNumber 4 set → startsWith (v1 .letters) (drop 4 set) ≡ true → literal (heading v1) set ≡ read tt (drop 31 set)
-  unfolding heading v1
+  pub heading-there : some (letterCount ed) ≡ firstNumber 4 set → startsWith (letters ed) (drop 4 set) ≡ true → literal (heading ed) set ≡ read tt (drop 31 set)
+  unfolding heading letters
   heading-there e s =
-      let number = number-bytes set 0 4 (number-at set 0 4 letterCount (sym e)) all in
-      let letters = starts-true (v1 .letters) (drop 4 set) s in
-      let whole : set ≡ heading v1 ++ drop 31 set =
+      let number = number-bytes set 0 4 (number-at set 0 4 (letterCount ed) (sym e)) all in
+      let there = starts-true (letters ed) (drop 4 set) s in
+      let whole : set ≡ heading ed ++ drop 31 set =
       number
-      ∙ ap (λ (l : List ℕ). u32 letterCount ++ l) (letters ∙ ap (λ (l : List ℕ). v1 .letters ++ l) (drop-drop letterCount 4 set))
-      ∙ sym (append-assoc (u32 letterCount) (v1 .letters) (drop 31 set)) in
-      ap (literal (heading v1)) whole ∙ literal-codec (heading v1) .back tt tt (drop 31 set)
+      ∙ ap (λ (l : List ℕ). u32 (letterCount ed) ++ l) (there ∙ ap (λ (l : List ℕ). letters ed ++ l) (drop-drop (letterCount ed) 4 set))
+      ∙ sym (append-assoc (u32 (letterCount ed)) (letters ed) (drop 31 set)) in
+      ap (literal (heading ed)) whole ∙ literal-codec (heading ed) .back tt tt (drop 31 set)

@@ -7,6 +7,7 @@ use lib.Dec.{lit<}
 use lib.ListN.{length, drop}
 use Rattle.spec_lists.specs.Bytes.{Bytes}
 use Rattle.spec_patch.specs.Sizes.{patchOperations}
+use Rattle.spec_patch.specs.Edition.{Edition}
 use Rattle.spec_patch.specs.Read.{readCount, readEnvelope}
 use Rattle.spec_patch.specs.ReadLaws.{count-codec, envelope-codec}
 use Rattle.projection_patch.specs.Meaning.{envelopeTo}
@@ -60,8 +61,8 @@ module _ (l : List ℕ) (at : ℕ) where
   pub no-head : (r : PatchHeadRead) → r ≡ headAnswer (length l) (readHead (drop at l)) → (f : ProjectionPatchReadFault) → r ≡ head-read.Refused f → NotGot readHead l at f
   no-head = not-got (anywhere headTo) head-codec head-told l at
 
-  pub heading-got : (r : CountRead) → r ≡ countAnswer (length l) (readHeading (drop at l)) → Bytes l → (n end : ℕ) → r ≡ count-read.Read n end → Got readHeading (anywhere (λ n. n)) l at n end
-  heading-got = got (anywhere (λ n. n)) heading-codec count-told l at
+  pub heading-got : (ed : Edition) (r : CountRead) → r ≡ countAnswer (length l) (readHeading ed (drop at l)) → Bytes l → (n end : ℕ) → r ≡ count-read.Read n end → Got (readHeading ed) (anywhere (λ n. n)) l at n end
+  heading-got ed = got (anywhere (λ n. n)) (heading-codec ed) count-told l at
 
-  pub no-heading : (r : CountRead) → r ≡ countAnswer (length l) (readHeading (drop at l)) → (f : ProjectionPatchReadFault) → r ≡ count-read.Refused f → NotGot readHeading l at f
-  no-heading = not-got (anywhere (λ n. n)) heading-codec count-told l at
+  pub no-heading : (ed : Edition) (r : CountRead) → r ≡ countAnswer (length l) (readHeading ed (drop at l)) → (f : ProjectionPatchReadFault) → r ≡ count-read.Refused f → NotGot (readHeading ed) l at f
+  no-heading ed = not-got (anywhere (λ n. n)) (heading-codec ed) count-told l at

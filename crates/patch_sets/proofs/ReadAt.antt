@@ -8,7 +8,7 @@ use lib.ListN.{length, drop, length-drop}
 use Rattle.spec_lists.specs.Bytes.{Bytes}
 use Rattle.spec_lists.specs.BytesLaws.{bytes-drop}
 use Rattle.spec_patch.specs.Sizes.{setPatches, patchOperations}
-use Rattle.spec_patch.specs.Edition.{v1}
+use Rattle.spec_patch.specs.Edition.{Edition}
 use Rattle.spec_patch.specs.Read.{readOperation}
 use Rattle.projection_patch.specs.Meaning.{operationTo}
 use Rattle.projection_patch.specs.ReadAnswers.{anywhere, lentFrom, countAnswer, operationAnswer}
@@ -31,17 +31,17 @@ use Rattle.patch_sets.proofs.PatchAnswers.{heading-got, head-got, no-he
 -- ---- the heading
 
 -- a heading was read: so many patches, from a position on
-pub record HeadingAt (set : List ℕ) (count at : ℕ) : Type 0 where
-  pub got : Got readHeading (anywhere (λ n. n)) set 0 count at
+pub record HeadingAt (ed : Edition) (set : List ℕ) (count at : ℕ) : Type 0 where
+  pub got : Got (readHeading ed) (anywhere (λ n. n)) set 0 count at
   pub few : count ≤ setPatches
   pub within : at ≤ length set
 
-pub heading-at : (set : List ℕ) → Bytes set → {r : CountRead} → r ≡ countAnswer (length set) (readHeading set) → {count at : ℕ} → r ≡ count-read.Read count at → HeadingAt set count at
-heading-at set bytes {r} ensured {count} {at} told =
-    let g = heading-got set 0 r ensured bytes count at told in
+pub heading-at : (ed : Edition) (set : List ℕ) → Bytes set → {r : CountRead} → r ≡ countAnswer (length set) (readHeading ed set) → {count at : ℕ} → r ≡ count-read.Read count at → HeadingAt ed set count at
+heading-at ed set bytes {r} ensured {count} {at} told =
+    let g = heading-got set 0 ed r ensured bytes count at told in
     record {
       got = g;
-      few = rw (← g .same) (heading-codec .only bytes (g .a) (drop at set) (g .is) .0);
+      few = rw (← g .same) (heading-codec ed .only bytes (g .a) (drop at set) (g .is) .0);
       within = omega (arith, g .there);
     }
 
@@ -75,22 +75,23 @@ module _ (set : List ℕ) (at : ℕ) where
     pub no-head-at : {f : ProjectionPatchReadFault} → r ≡ head-read.Refused f → NotGot readHead (drop at set) 0 f
     no-head-at {f} told = no-head (drop at set) 0 r head-answer f told
 
-  -- ---- an operation
+-- ---- an operation
 
+module _ (ed : Edition) (set : List ℕ) (at : ℕ) where
   -- an operation was read from a position on
   pub record OperationAt (x : ProjectionPatchOperation) (taken : ℕ) : Type 0 where
-    pub got : Got (readOperation v1) operationTo (drop at set) 0 x taken
+    pub got : Got (readOperation ed) operationTo (drop at set) 0 x taken
     pub within : at + taken ≤ length set
 
-  module _ {r : OperationRead} (ensured : r ≡ operationAnswer (length (lentFrom set at)) (readOperation v1 (lentFrom set at))) where
+  module _ {r : OperationRead} (ensured : r ≡ operationAnswer (length (lentFrom set at)) (readOperation ed (lentFrom set at))) where
     -- the answer is of the bytes from the position on
-    operation-answer : r ≡ operationAnswer (length (drop at set)) (readOperation v1 (drop at set))
-    operation-answer = ensured ∙ ap (λ (l : List ℕ). operationAnswer (length l) (readOperation v1 l)) (from set at)
+    operation-answer : r ≡ operationAnswer (length (drop at set)) (readOperation ed (drop at set))
+    operation-answer = ensured ∙ ap (λ (l : List ℕ). operationAnswer (length l) (readOperation ed l)) (from set at)
 
     pub operation-at : Bytes set → at ≤ length set → {x : ProjectionPatchOperation} {taken : ℕ} → r ≡ operation-read.Read x taken → OperationAt x taken
     operation-at bytes here {x} {taken} told =
-        let g = operation-got (drop at set) 0 true v1 r operation-answer (bytes-drop at set bytes) x taken told in
+        let g = operation-got (drop at set) 0 true ed r operation-answer (bytes-drop at set bytes) x taken told in
         record { got = g; within = omega (arith, length-drop at set, g .there) }
 
-    pub no-operation-at : {f : ProjectionPatchReadFault} → r ≡ operation-read.Refused f → NotGot (readOperation v1) (drop at set) 0 f
-    no-operation-at {f} told = no-operation (drop at set) 0 true v1 r operation-answer f told
+    pub no-operation-at : {f : ProjectionPatchReadFault} → r ≡ operation-read.Refused f → NotGot (readOperation ed) (drop at set) 0 f
+    no-operation-at {f} told = no-operation (drop at set) 0 true ed r operation-answer f told

@@ -9,7 +9,7 @@ use Rattle.spec_lists.specs.Bytes.{Bytes}
 use Rattle.spec_lists.specs.BytesLaws.{bytes-drop}
 use Rattle.spec_patch.specs.Sizes.{setBytes, patchOperations}
 use Rattle.spec_patch.specs.Patch.{Operation, Patch}
-use Rattle.spec_patch.specs.Edition.{v1}
+use Rattle.spec_patch.specs.Edition.{Edition}
 use Rattle.spec_patch.specs.Reader.{Result, read, refused, onward, followed, many}
 use Rattle.spec_patch.specs.Read.{readOperation, toPatch, readPatch, fault, ended, readSet}
 use Rattle.spec_patch.specs.Codec.{many-codec}
@@ -24,35 +24,35 @@ use Rattle.patch_sets.proofs.ReadAt.{HeadAt}
 
 -- ---- a patch
 
-module _ (set : List ℕ) (at : ℕ) where
+module _ (ed : Edition) (set : List ℕ) (at : ℕ) where
   -- a run of n operations has n
-  pub run-length : (n : ℕ) → Bytes set → (os : List Operation) (rest : List ℕ) → many n (readOperation v1) (drop at set) ≡ read os rest → length os ≡ n
-  run-length n h os rest e = many-codec (operation-codec v1) n .only (bytes-drop at set h) os rest e .0 .1
+  pub run-length : (n : ℕ) → Bytes set → (os : List Operation) (rest : List ℕ) → many n (readOperation ed) (drop at set) ≡ read os rest → length os ≡ n
+  run-length n h os rest e = many-codec (operation-codec ed) n .only (bytes-drop at set h) os rest e .0 .1
 
   -- behind its head, its operations decide
-  pub patch-read : {head : ProjectionPatch} {taken : ℕ} (front : HeadAt set at head taken) (r : Result (List Operation)) → many (head .«operation_count») (readOperation v1) (drop (at + taken) set) ≡ r → readPatch v1 (drop at set) ≡ onward r (λ os rest. read (toPatch (front .got .a .0, os)) rest)
-  patch-read {taken = taken} front r q = patch-by-head v1 (drop at set) ∙ rw (front .got .is, drop-drop taken at set, front .counts, q)
+  pub patch-read : {head : ProjectionPatch} {taken : ℕ} (front : HeadAt set at head taken) (r : Result (List Operation)) → many (head .«operation_count») (readOperation ed) (drop (at + taken) set) ≡ r → readPatch ed (drop at set) ≡ onward r (λ os rest. read (toPatch (front .got .a .0, os)) rest)
+  patch-read {taken = taken} front r q = patch-by-head ed (drop at set) ∙ rw (front .got .is, drop-drop taken at set, front .counts, q)
 
   -- without its head it is refused
-  pub head-refused : {f : ProjectionPatchReadFault} (g : NotGot readHead (drop at set) 0 f) → readPatch v1 (drop at set) ≡ refused (g .fault)
-  head-refused g = patch-by-head v1 (drop at set) ∙ rw (g .is)
+  pub head-refused : {f : ProjectionPatchReadFault} (g : NotGot readHead (drop at set) 0 f) → readPatch ed (drop at set) ≡ refused (g .fault)
+  head-refused g = patch-by-head ed (drop at set) ∙ rw (g .is)
 
   -- a patch has no more operations than it may
-  pub few : Bytes set → (p : Patch) (rest : List ℕ) → readPatch v1 (drop at set) ≡ read p rest → length (p .operations) ≤ patchOperations
-  few h p rest e = patch-codec v1 .only (bytes-drop at set h) p rest e .0 .few
+  pub few : Bytes set → (p : Patch) (rest : List ℕ) → readPatch ed (drop at set) ≡ read p rest → length (p .operations) ≤ patchOperations
+  few h p rest e = patch-codec ed .only (bytes-drop at set h) p rest e .0 .few
 
 -- ---- a set
 
-module _ (set : List ℕ) (short : length set ≤ setBytes) where
-  set-read-by : (r : Result (List Patch)) → followed readHeading (λ n. many n (readPatch v1)) set ≡ r → readSet v1 set ≡ ended r
+module _ (ed : Edition) (set : List ℕ) (short : length set ≤ setBytes) where
+  set-read-by : (r : Result (List Patch)) → followed (readHeading ed) (λ n. many n (readPatch ed)) set ≡ r → readSet ed set ≡ ended r
   unfolding readSet
-  set-read-by r e = rw (le-leb (length set) setBytes short) (ap ended (patches-by-heading set ∙ e))
+  set-read-by r e = rw (le-leb (length set) setBytes short) (ap ended (patches-by-heading ed set ∙ e))
 
   -- behind its heading, its patches decide
-  pub set-by-patches : {count at : ℕ} → Got readHeading (anywhere (λ n. n)) set 0 count at → readSet v1 set ≡ ended (many count (readPatch v1) (drop at set))
-  set-by-patches {count} {at} g = set-read-by (many count (readPatch v1) (drop at set)) (rw (g .is, g .same))
+  pub set-by-patches : {count at : ℕ} → Got (readHeading ed) (anywhere (λ n. n)) set 0 count at → readSet ed set ≡ ended (many count (readPatch ed) (drop at set))
+  set-by-patches {count} {at} g = set-read-by (many count (readPatch ed) (drop at set)) (rw (g .is, g .same))
 
   -- without its heading it is refused
-  pub no-set : {f : ProjectionPatchReadFault} (g : NotGot readHeading set 0 f) → readSet v1 set ≡ fault (g .fault)
+  pub no-set : {f : ProjectionPatchReadFault} (g : NotGot (readHeading ed) set 0 f) → readSet ed set ≡ fault (g .fault)
   unfolding ended
   no-set g = set-read-by (refused (g .fault)) (rw (g .is))

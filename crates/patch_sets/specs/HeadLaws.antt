@@ -5,7 +5,7 @@ use mathlib.Core.List.{List}
 use lib.Dec.{lit<}
 use Rattle.spec_patch.specs.Sizes.{setPatches, patchOperations}
 use Rattle.spec_patch.specs.Patch.{Operation, Envelope, Patch}
-use Rattle.spec_patch.specs.Edition.{Edition, v1}
+use Rattle.spec_patch.specs.Edition.{Edition}
 use Rattle.spec_patch.specs.Encode.{heading}
 use Rattle.spec_patch.specs.Fits.{InRangeEnvelope}
 use Rattle.spec_patch.specs.Reader.{Fault, Result, read, refused, Reader, onward, followed, mapped, many, literal}
@@ -14,10 +14,10 @@ use Rattle.spec_patch.specs.Codec.{Codec, iso-codec, pair-codec, literal-codec}
 use Rattle.spec_patch.specs.ReadLaws.{count-codec, envelope-codec}
 use Rattle.patch_sets.specs.Walk.{readHeading, readHead, encodeHeading, encodeHead}
 
-pub heading-codec : Codec encodeHeading (λ (n : ℕ). n ≤ setPatches) readHeading
+pub heading-codec : (ed : Edition) → Codec (encodeHeading ed) (λ (n : ℕ). n ≤ setPatches) (readHeading ed)
 unfolding encodeHeading readHeading
-heading-codec =
-    iso-codec (pair-codec (literal-codec (heading v1)) (count-codec setPatches (lit< tt)))
+heading-codec ed =
+    iso-codec (pair-codec (literal-codec (heading ed)) (count-codec setPatches (lit< tt)))
     (λ t. t .1) (λ n. (tt, n)) (λ n. n ≤ setPatches)
     (λ n g. (tt, g))
     (λ t g. g .1)
@@ -39,31 +39,31 @@ second-behind : {A : Type 0} (u : Unit {0}) (r : Result A) → second (behind u 
 second-behind u (read a rest) = refl
 second-behind u (refused f) = refl
 
--- the count behind the letters
-pub heading-by-letters : (bs rest : List ℕ) → literal (heading v1) bs ≡ read tt rest → readHeading bs ≡ readCount setPatches rest
-unfolding readHeading
-heading-by-letters bs rest e = rw e (second-behind tt (readCount setPatches rest))
-
-pub heading-refused : (bs : List ℕ) (f : Fault) → literal (heading v1) bs ≡ refused f → readHeading bs ≡ refused f
-unfolding readHeading
-heading-refused bs f e = rw e
-
--- the patches behind the heading
-pub patches-by-heading : (bs : List ℕ) → readPatches v1 bs ≡ followed readHeading (λ n. many n (readPatch v1)) bs
-unfolding readPatches readHeading
-patches-by-heading bs = by-letters (literal (heading v1) bs)
-  where
-    by-count : (u : Unit {0}) (r : Result ℕ) → second (behind u (onward r (λ n. many n (readPatch v1)))) ≡ onward (second (behind u r)) (λ n. many n (readPatch v1))
-    by-count u (read n rest) = second-behind u (many n (readPatch v1) rest)
-    by-count u (refused f) = refl
-
-    by-letters : (r : Result (Unit {0})) → second (onward r (λ u rest. behind u (readCounted setPatches (readPatch v1) rest)))
-        ≡ onward (second (onward r (λ u rest. behind u (readCount setPatches rest)))) (λ n. many n (readPatch v1))
-    by-letters (read u rest) = by-count u (readCount setPatches rest)
-    by-letters (refused f) = refl
-
--- a patch's operations behind its head
 module _ (ed : Edition) where
+  -- the count behind the letters
+  pub heading-by-letters : (bs rest : List ℕ) → literal (heading ed) bs ≡ read tt rest → readHeading ed bs ≡ readCount setPatches rest
+  unfolding readHeading
+  heading-by-letters bs rest e = rw e (second-behind tt (readCount setPatches rest))
+
+  pub heading-refused : (bs : List ℕ) (f : Fault) → literal (heading ed) bs ≡ refused f → readHeading ed bs ≡ refused f
+  unfolding readHeading
+  heading-refused bs f e = rw e
+
+  -- the patches behind the heading
+  pub patches-by-heading : (bs : List ℕ) → readPatches ed bs ≡ followed (readHeading ed) (λ n. many n (readPatch ed)) bs
+  unfolding readPatches readHeading
+  patches-by-heading bs = by-letters (literal (heading ed) bs)
+    where
+      by-count : (u : Unit {0}) (r : Result ℕ) → second (behind u (onward r (λ n. many n (readPatch ed)))) ≡ onward (second (behind u r)) (λ n. many n (readPatch ed))
+      by-count u (read n rest) = second-behind u (many n (readPatch ed) rest)
+      by-count u (refused f) = refl
+
+      by-letters : (r : Result (Unit {0})) → second (onward r (λ u rest. behind u (readCounted setPatches (readPatch ed) rest)))
+          ≡ onward (second (onward r (λ u rest. behind u (readCount setPatches rest)))) (λ n. many n (readPatch ed))
+      by-letters (read u rest) = by-count u (readCount setPatches rest)
+      by-letters (refused f) = refl
+
+  -- a patch's operations behind its head
   abbrev pub behindHead : Envelope × ℕ → Reader Patch
   behindHead h = mapped (λ os. toPatch (h .0, os)) (many (h .1) (readOperation ed))
 

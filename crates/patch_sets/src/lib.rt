@@ -1,10 +1,10 @@
 // Reading of a patch's head and of the heading.
 ghost use mathlib.Core.Path.{_≡_};
 ghost use lib.ListN.{length, drop};
-ghost use Rattle.spec_patch.specs.Edition.{v1};
+ghost use Rattle.spec_patch.specs.Edition.{letters};
 ghost use Rattle.spec_patch.specs.Read.{toEnvelope, readEnvelope};
 ghost use Rattle.bytes_wire.specs.Prefix.{startsWith};
-ghost use Rattle.projection_patch.specs.Meaning.{surfaceTo, envelopeTo};
+ghost use Rattle.projection_patch.specs.Meaning.{surfaceTo, envelopeTo, editionOf};
 ghost use Rattle.patch_sets.specs.Walk.{readHead, readHeading};
 ghost use Rattle.projection_patch.specs.ReadAnswers.{optionalOf, countAnswer};
 ghost use Rattle.patch_sets.specs.SetAnswers.{envelopeAnswer, headAnswer};
@@ -16,6 +16,7 @@ use projection_patch::contract_primitives::StaticDocumentId;
 use projection_patch::contract_primitives::StaticSurfaceId;
 use projection_patch::patch::OptionalSurfaceId;
 use projection_patch::patch::ProjectionPatch;
+use projection_patch::patch::ProjectionPatchEdition;
 use projection_patch::patch::ProjectionPatchEnvelope;
 use projection_patch::patch::ProjectionPatchId;
 use projection_patch::patch::ProjectionPatchSequence;
@@ -130,15 +131,26 @@ pub fn read_patch_head(part: &[u8]) -> PatchHeadRead
     }
 }
 
-fn has_letters(set: &[u8]) -> bool
-    ensures { λ r. ⌜ r ≡ startsWith (v1 .letters) (drop 4 (now (set .entry))) ⌝ }
+fn has_letters(set: &[u8], edition: ProjectionPatchEdition) -> bool
+    ensures { λ r. ⌜ r ≡ startsWith (letters (editionOf edition)) (drop 4 (now (set .entry))) ⌝ }
 {
-    bytes_wire::starts_with(set, 4, b"UI_DNA2_PROJECTION_PATCH_V1")
+    match edition {
+        ProjectionPatchEdition::V1 => bytes_wire::starts_with(
+            set,
+            4,
+            b"UI_DNA2_PROJECTION_PATCH_V1",
+        ),
+        ProjectionPatchEdition::V2 => bytes_wire::starts_with(
+            set,
+            4,
+            b"UI_DNA2_PROJECTION_PATCH_V2",
+        ),
+    }
 }
 
 // Reads the heading of a set: the patch count, and the position of the first patch.
-pub fn read_heading(set: &[u8]) -> CountRead
-    ensures { λ r. ⌜ r ≡ countAnswer (length (now (set .entry))) (readHeading (now (set .entry))) ⌝ }
+pub fn read_heading(set: &[u8], edition: ProjectionPatchEdition) -> CountRead
+    ensures { λ r. ⌜ r ≡ countAnswer (length (now (set .entry))) (readHeading (editionOf edition) (now (set .entry))) ⌝ }
 {
     let ReadU32::Read(letters) = bytes_wire::read_u32_at(set, 0) else {
         return CountRead::Refused(ProjectionPatchReadFault::Malformed);
@@ -146,7 +158,7 @@ pub fn read_heading(set: &[u8]) -> CountRead
     if letters != 27 {
         return CountRead::Refused(ProjectionPatchReadFault::Malformed);
     }
-    if has_letters(set) {
+    if has_letters(set, edition) {
         read_values::count_at(set, 31, ProjectionPatchSet::PATCHES)
     } else {
         CountRead::Refused(ProjectionPatchReadFault::Malformed)

@@ -64,9 +64,9 @@ abbrev pub OpeningCounts : SetOpening → Type 0
 OpeningCounts (opening.At c) = c .«patches_left» ≤ setPatches
 OpeningCounts (opening.Refused f) = Unit {0}
 
-pub opening-counts : (set : List ℕ) → Bytes set → OpeningCounts (openAnswer set)
-opening-counts set all = test-cases (leb (length set) setBytes) (λ t. rw t (go (readHeading set) refl)) (λ t. rw t tt)
+pub opening-counts : (ed : Edition) (set : List ℕ) → Bytes set → OpeningCounts (openAnswer ed set)
+opening-counts ed set all = test-cases (leb (length set) setBytes) (λ t. rw t (go (readHeading ed set) refl)) (λ t. rw t tt)
   where
-    go : (r : Result ℕ) → readHeading set ≡ r → OpeningCounts (answer (anywhere (λ n. n)) (λ count from. opening.At (firstCursor count from)) opening.Refused (length set) r)
-    go (read n rest) e = heading-codec .only all n rest e .0
+    go : (r : Result ℕ) → readHeading ed set ≡ r → OpeningCounts (answer (anywhere (λ n. n)) (λ count from. opening.At (firstCursor count from)) opening.Refused (length set) r)
+    go (read n rest) e = heading-codec ed .only all n rest e .0
     go (refused f) e = tt

@@ -13,7 +13,7 @@ use Rattle.spec_lists.specs.BytesLaws.{bytes-drop}
 use Rattle.spec_lists.specs.ListLaws.{test-cases}
 use Rattle.spec_patch.specs.Sizes.{setBytes}
 use Rattle.spec_patch.specs.Patch.{Operation, Envelope, Patch}
-use Rattle.spec_patch.specs.Edition.{Edition, v1}
+use Rattle.spec_patch.specs.Edition.{Edition}
 use Rattle.spec_patch.specs.Reader.{Fault, Result, read, refused, Reader, onward, many}
 use Rattle.spec_patch.specs.Read.{readOperation, toPatch, readPatch, ended, readSet}
 use Rattle.spec_patch.specs.Codec.{Codec, suffix, many-codec}
@@ -152,32 +152,32 @@ module _ (ed : Edition) (set : List ℕ) (all : Bytes set) (c : SetCursor) (done
 
 -- ---- the opening
 
-abbrev pub OpeningLeft : List ℕ → SetOpening → Type 0
-OpeningLeft set (opening.At c) = leftAt v1 set c 0 ≡ setAnswer (readSet v1 set)
-OpeningLeft set (opening.Refused f) = set-read.Refused f ≡ setAnswer (readSet v1 set)
+abbrev pub OpeningLeft : Edition → List ℕ → SetOpening → Type 0
+OpeningLeft ed set (opening.At c) = leftAt ed set c 0 ≡ setAnswer (readSet ed set)
+OpeningLeft ed set (opening.Refused f) = set-read.Refused f ≡ setAnswer (readSet ed set)
 
-module _ (set : List ℕ) (all : Bytes set) where
-  whole : (n : ℕ) (rest : List ℕ) → Bytes rest → left v1 n 0 0 n rest ≡ setAnswer (ended (many n (readPatch v1) rest))
+module _ (ed : Edition) (set : List ℕ) (all : Bytes set) where
+  whole : (n : ℕ) (rest : List ℕ) → Bytes rest → left ed n 0 0 n rest ≡ setAnswer (ended (many n (readPatch ed) rest))
   unfolding many ended
-  whole n rest h = go (many n (readPatch v1) rest) refl
+  whole n rest h = go (many n (readPatch ed) rest) refl
     where
-      go : (r : Result (List Patch)) → many n (readPatch v1) rest ≡ r → leftAnswer n 0 (onward r (λ ps rest. read ([], ps) rest)) ≡ setAnswer (ended r)
+      go : (r : Result (List Patch)) → many n (readPatch ed) rest ≡ r → leftAnswer n 0 (onward r (λ ps rest. read ([], ps) rest)) ≡ setAnswer (ended r)
       go (read ps []) e =
-          let one : n ≡ length ps = sym (many-codec (patch-codec v1) n .only h ps [] e .0 .1) in
+          let one : n ≡ length ps = sym (many-codec (patch-codec ed) n .only h ps [] e .0 .1) in
           let two : 0 + (0 + operationCount ps) ≡ operationCount ps = omega arith in
           ap₂ set-read.Read one two
       go (read ps (b ∷ rest)) e = refl
       go (refused f) e = refl
 
-  pub opening-left : OpeningLeft set (openAnswer set)
+  pub opening-left : OpeningLeft ed set (openAnswer ed set)
   unfolding readSet ended
-  opening-left = test-cases (leb (length set) setBytes) (λ t. rw t (go (readHeading set) refl (rw t (ap ended (patches-by-heading set))))) (λ t. rw t (rw t))
+  opening-left = test-cases (leb (length set) setBytes) (λ t. rw t (go (readHeading ed set) refl (rw t (ap ended (patches-by-heading ed set))))) (λ t. rw t (rw t))
     where
-      go : (r : Result ℕ) → readHeading set ≡ r → readSet v1 set ≡ ended (onward (readHeading set) (λ n. many n (readPatch v1)))
-          → OpeningLeft set (answer (anywhere (λ n. n)) (λ count from. opening.At (firstCursor count from)) opening.Refused (length set) r)
-      go (refused f) e is = sym (ap setAnswer (is ∙ ap (λ r. ended (onward r (λ n. many n (readPatch v1)))) e))
+      go : (r : Result ℕ) → readHeading ed set ≡ r → readSet ed set ≡ ended (onward (readHeading ed set) (λ n. many n (readPatch ed)))
+          → OpeningLeft ed set (answer (anywhere (λ n. n)) (λ count from. opening.At (firstCursor count from)) opening.Refused (length set) r)
+      go (refused f) e is = sym (ap setAnswer (is ∙ ap (λ r. ended (onward r (λ n. many n (readPatch ed)))) e))
       go (read n rest) e is =
-          let here = suffix heading-codec set 0 all n rest e in
-          ap (left v1 n 0 0 n) here
+          let here = suffix (heading-codec ed) set 0 all n rest e in
+          ap (left ed n 0 0 n) here
           ∙ whole n rest (subst Bytes here (bytes-drop (length set - length rest) set all))
-          ∙ sym (ap setAnswer (is ∙ ap (λ r. ended (onward r (λ n. many n (readPatch v1)))) e))
+          ∙ sym (ap setAnswer (is ∙ ap (λ r. ended (onward r (λ n. many n (readPatch ed)))) e))

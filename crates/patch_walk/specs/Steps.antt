@@ -62,10 +62,10 @@ afterHead c head taken = record {
 -- ---- answers
 
 -- more than 32,768 bytes are 12 before any reading; then the heading decides
-abbrev pub openAnswer : List ℕ → SetOpening
-openAnswer set =
+abbrev pub openAnswer : Edition → List ℕ → SetOpening
+openAnswer ed set =
     if leb (length set) setBytes
-    then answer (anywhere (λ n. n)) (λ count from. opening.At (firstCursor count from)) opening.Refused (length set) (readHeading set)
+    then answer (anywhere (λ n. n)) (λ count from. opening.At (firstCursor count from)) opening.Refused (length set) (readHeading ed set)
     else opening.Refused OverCapacity
 
 abbrev pub operationStep : Bool → Edition → SetCursor → List ℕ → SetStep

@@ -11,7 +11,7 @@ use lib.Seq.{drop-at, drop-drop}
 use Rattle.spec_lists.specs.Bytes.{Bytes}
 use Rattle.spec_patch.specs.Sizes.{setBytes}
 use Rattle.spec_patch.specs.Patch.{Operation, Patch}
-use Rattle.spec_patch.specs.Edition.{Edition, v1}
+use Rattle.spec_patch.specs.Edition.{Edition}
 use Rattle.spec_patch.specs.Encode.{u32, encodeOperation, encodeEnvelope, encodeCounted, encodePatch, heading, encode}
 use Rattle.spec_patch.specs.Reader.{read, Reader}
 use Rattle.spec_patch.specs.Read.{readOperationBy, patches, readSet}
@@ -57,44 +57,44 @@ advance set at h front rest is =
 
 -- ---- the opening
 
-module _ (set : List ℕ) (all : Bytes set) (ps : List Patch) (readable : readSet v1 set ≡ patches ps) where
+module _ (ed : Edition) (set : List ℕ) (all : Bytes set) (ps : List Patch) (readable : readSet ed set ≡ patches ps) where
   abbrev from : ℕ
-  from = length (encodeHeading (length ps))
+  from = length (encodeHeading ed (length ps))
 
-  set-is : set ≡ encodeHeading (length ps) ++ flatMap encodePatch ps
+  set-is : set ≡ encodeHeading ed (length ps) ++ flatMap encodePatch ps
   unfolding encode encodeCounted encodeHeading
-  set-is = was-encoded v1 set ps all readable .0 ∙ sym (append-assoc (heading v1) (u32 (length ps)) (flatMap encodePatch ps))
+  set-is = was-encoded ed set ps all readable .0 ∙ sym (append-assoc (heading ed) (u32 (length ps)) (flatMap encodePatch ps))
 
   short : length set ≤ setBytes
-  short = rw (was-encoded v1 set ps all readable .0) (was-encoded v1 set ps all readable .1 .short)
+  short = rw (was-encoded ed set ps all readable .0) (was-encoded ed set ps all readable .1 .short)
 
   -- a readable set is opened before its first patch
-  pub opens : openAnswer set ≡ opening.At (firstCursor (length ps) from)
+  pub opens : openAnswer ed set ≡ opening.At (firstCursor (length ps) from)
   opens =
       rw (le-leb (length set) setBytes short)
-      (answered readHeading (anywhere (λ n. n)) (λ count from. opening.At (firstCursor count from)) opening.Refused (encodeHeading (length ps)) (flatMap encodePatch ps) (length ps) (heading-codec .back (length ps) (was-encoded v1 set ps all readable .1 .few) (flatMap encodePatch ps)) set set-is)
+      (answered (readHeading ed) (anywhere (λ n. n)) (λ count from. opening.At (firstCursor count from)) opening.Refused (encodeHeading ed (length ps)) (flatMap encodePatch ps) (length ps) (heading-codec ed .back (length ps) (was-encoded ed set ps all readable .1 .few) (flatMap encodePatch ps)) set set-is)
 
-  pub at-start : AtSteps v1 set (firstCursor (length ps) from) [] ps
+  pub at-start : AtSteps ed set (firstCursor (length ps) from) [] ps
   unfolding flatMap
   at-start =
-      let a = advance set 0 (omega arith) (encodeHeading (length ps)) (flatMap encodePatch ps) set-is in
+      let a = advance set 0 (omega arith) (encodeHeading ed (length ps)) (flatMap encodePatch ps) set-is in
       let sum : 0 + from ≡ from = omega arith in
       record {
         inside = omega (arith, a .inside);
         fit = tt;
-        fit-rest = was-encoded v1 set ps all readable .1 .patches;
+        fit-rest = was-encoded ed set ps all readable .1 .patches;
         left = ap (λ (k : ℕ). drop k set) (sym sum) ∙ a .left;
         operations = refl;
         patches = refl;
       }
 
-  module _ {r : SetOpening} (answer-is : r ≡ openAnswer set) where
+  module _ {r : SetOpening} (answer-is : r ≡ openAnswer ed set) where
     -- so an answer is before the first patch, and no refusal
-    pub opened-at : (c : SetCursor) → r ≡ opening.At c → AtSteps v1 set c [] ps
+    pub opened-at : (c : SetCursor) → r ≡ opening.At c → AtSteps ed set c [] ps
     opened-at c q =
         let same : opening.At (firstCursor (length ps) from) ≡ opening.At c = sym opens ∙ sym answer-is ∙ q in
         let cursor : firstCursor (length ps) from ≡ c = cc same in
-        subst (λ d. AtSteps v1 set d [] ps) cursor at-start
+        subst (λ d. AtSteps ed set d [] ps) cursor at-start
 
     pub never-unopened : (f : ProjectionPatchReadFault) → r ≡ opening.Refused f → ⊥
     never-unopened f q = let z : _≡_ {A = ℕ} 0 1 = cc (sym opens ∙ sym answer-is ∙ q) in omega arith

@@ -2,12 +2,13 @@
 ghost use mathlib.Core.Path.{_≡_};
 ghost use Prim.Native.Nat.{_<_};
 ghost use lib.ListN.{length};
-ghost use Rattle.spec_patch.specs.Edition.{v1};
 ghost use Rattle.spec_patch.specs.Read.{readSet};
+ghost use Rattle.projection_patch.specs.Meaning.{editionOf};
 ghost use Rattle.patch_walk.specs.Steps.{openAnswer, operationStep, headStep, stepAnswer, StepWithin};
 ghost use Rattle.patch_walk.specs.SetReads.{setAnswer, endAnswer, leftAt};
 use patch_sets::PatchHeadRead;
 use projection_patch::patch::ProjectionPatch;
+use projection_patch::patch::ProjectionPatchEdition;
 use projection_patch::patch::ProjectionPatchOperation;
 use projection_patch::patch::ProjectionPatchSet;
 use projection_patch::read_operations;
@@ -48,13 +49,13 @@ pub enum SetRead {
 }
 
 // Reads the heading of a set.
-pub fn open_set(set: &[u8]) -> SetOpening
-    ensures { λ r. ⌜ r ≡ openAnswer (now (set .entry)) ⌝ }
+pub fn open_set(set: &[u8], edition: ProjectionPatchEdition) -> SetOpening
+    ensures { λ r. ⌜ r ≡ openAnswer (editionOf edition) (now (set .entry)) ⌝ }
 {
     if ProjectionPatchSet::BYTES < set.len() {
         return SetOpening::Refused(ProjectionPatchReadFault::OverCapacity);
     }
-    match patch_sets::read_heading(set) {
+    match patch_sets::read_heading(set, edition) {
         CountRead::Read(count, at) => SetOpening::At(SetCursor {
             at,
             patch_count: count,
@@ -68,16 +69,21 @@ pub fn open_set(set: &[u8]) -> SetOpening
 }
 
 // The operation at a cursor.
-fn operation_step(set: &[u8], cursor: SetCursor, strict: bool) -> SetStep
+fn operation_step(
+    set: &[u8],
+    cursor: SetCursor,
+    strict: bool,
+    edition: ProjectionPatchEdition,
+) -> SetStep
     requires { ⌜ 0 < cursor .«operations_left» ⌝ }
-    ensures is { λ r. ⌜ r ≡ operationStep strict v1 cursor (now (set .entry)) ⌝ }
+    ensures is { λ r. ⌜ r ≡ operationStep strict (editionOf edition) cursor (now (set .entry)) ⌝ }
     ensures within { λ r. ⌜ StepWithin cursor (length (now (set .entry))) r ⌝ }
 {
     let at = cursor.at;
     if set.len() < at {
         return SetStep::Refused(ProjectionPatchReadFault::Malformed);
     }
-    match read_operations::operation_from(&set[at..], strict) {
+    match read_operations::operation_from(&set[at..], strict, edition) {
         OperationRead::Read(operation, taken) => SetStep::Operation(
             operation,
             SetCursor {
@@ -123,12 +129,17 @@ fn head_step(set: &[u8], cursor: SetCursor) -> SetStep
 }
 
 // What stands at a cursor. Texts are checked where the walk is strict.
-pub fn next_step(set: &[u8], cursor: SetCursor, strict: bool) -> SetStep
-    ensures is { λ r. ⌜ r ≡ stepAnswer strict v1 cursor (now (set .entry)) ⌝ }
+pub fn next_step(
+    set: &[u8],
+    cursor: SetCursor,
+    strict: bool,
+    edition: ProjectionPatchEdition,
+) -> SetStep
+    ensures is { λ r. ⌜ r ≡ stepAnswer strict (editionOf edition) cursor (now (set .entry)) ⌝ }
     ensures within { λ r. ⌜ StepWithin cursor (length (now (set .entry))) r ⌝ }
 {
     if 0 < cursor.operations_left {
-        return operation_step(set, cursor, strict);
+        return operation_step(set, cursor, strict, edition);
     }
     if 0 < cursor.patches_left {
         return head_step(set, cursor);
@@ -150,13 +161,13 @@ fn set_end(bytes: usize, cursor: SetCursor, operations: usize) -> SetRead
 }
 
 // Reads what is left at a cursor, and counts its operations.
-fn read_steps(set: &[u8], first: SetCursor) -> SetRead
-    ensures { λ r. ⌜ r ≡ leftAt v1 (now (set .entry)) first 0 ⌝ }
+fn read_steps(set: &[u8], first: SetCursor, edition: ProjectionPatchEdition) -> SetRead
+    ensures { λ r. ⌜ r ≡ leftAt (editionOf edition) (now (set .entry)) first 0 ⌝ }
 {
     let mut cursor = first;
     let mut operations: usize = 0;
     loop {
-        match next_step(set, cursor, true) {
+        match next_step(set, cursor, true, edition) {
             SetStep::Head(_, next) => {
                 cursor = next;
             }
@@ -175,11 +186,11 @@ fn read_steps(set: &[u8], first: SetCursor) -> SetRead
 }
 
 // Reads a whole set: how many patches and operations it has.
-pub fn read_set(set: &[u8]) -> SetRead
-    ensures { λ r. ⌜ r ≡ setAnswer (readSet v1 (now (set .entry))) ⌝ }
+pub fn read_set(set: &[u8], edition: ProjectionPatchEdition) -> SetRead
+    ensures { λ r. ⌜ r ≡ setAnswer (readSet (editionOf edition) (now (set .entry))) ⌝ }
 {
-    match open_set(set) {
-        SetOpening::At(first) => read_steps(set, first),
+    match open_set(set, edition) {
+        SetOpening::At(first) => read_steps(set, first, edition),
         SetOpening::Refused(fault) => SetRead::Refused(fault),
     }
 }

@@ -1,8 +1,18 @@
--- `patch_sets::has_letters` meets its contract: the byte string is that of the edition.
-use Rattle.spec_patch.specs.Edition.{v1}
+-- `patch_sets::has_letters` meets its contract: each byte string is that of its edition.
+use Prim.Native.Nat.{ℕ}
+use mathlib.Core.Path.{sym, ap, _∙_}
+use mathlib.Core.List.{List}
+use lib.ListN.{drop}
+use Rattle.spec_patch.specs.Edition.{digit, letters}
+use Rattle.bytes_wire.specs.Prefix.{startsWith}
+use Rattle.projection_patch.specs.Meaning.{editionOf}
+use Rattle.projection_patch.specs.declared.patch.ProjectionPatchEdition.{ProjectionPatchEdition}
 use borrow.Author.Needs.{needs}
 use Rattle.patch_sets.proofs.has_letters.Statement.{statement}
 use Rattle.patch_sets.proofs.has_letters.Tie as tie
+
+enum-told : tie.Need-enum-told
+enum-told c = search needs
 
 slice-aggregate-starts-with : tie.Need-slice-aggregate-starts-with
 slice-aggregate-starts-with c = search needs
@@ -10,14 +20,38 @@ slice-aggregate-starts-with c = search needs
 starts-with-requires : tie.Need-starts-with-requires
 starts-with-requires c κs = search needs
 
+enum-told-2 : tie.Need-enum-told-2
+enum-told-2 c = search needs
+
+slice-aggregate-starts-with-2 : tie.Need-slice-aggregate-starts-with-2
+slice-aggregate-starts-with-2 c = search needs
+
+starts-with-requires-2 : tie.Need-starts-with-requires-2
+starts-with-requires-2 c κs = search needs
+
 returns : tie.Need-returns
-unfolding v1
-returns c = c .starts-with .ensures
+unfolding digit letters
+returns c =
+    let told = c .before .before in
+    let set = told .before .before .before .args .set .now in
+    c .starts-with .ensures ∙ sym (ap (λ (e : ProjectionPatchEdition). startsWith (letters (editionOf e)) (drop 4 set)) (told .enum-told .given .1))
+
+returns-2 : tie.Need-returns-2
+unfolding digit letters
+returns-2 c =
+    let told = c .before .before in
+    let set = told .before .before .before .args .set .now in
+    c .starts-with2 .ensures ∙ sym (ap (λ (e : ProjectionPatchEdition). startsWith (letters (editionOf e)) (drop 4 set)) (told .enum-told2 .given .1))
 
 pub has-letters-spec : {M : Type 1} → statement M
 has-letters-spec =
     tie.close
     (tie.spec
+    enum-told
     slice-aggregate-starts-with
     starts-with-requires
-    returns)
+    enum-told-2
+    slice-aggregate-starts-with-2
+    starts-with-requires-2
+    returns
+    returns-2)

@@ -3,7 +3,7 @@ use Prim.Native.Nat.{_+_, _≤_, _<_}
 use native.Mathlib.Omega.{arith}
 use lib.ListN.{length}
 use Rattle.spec_lists.specs.BytesLaws.{bytes-of}
-use Rattle.spec_patch.specs.Edition.{v1}
+use Rattle.projection_patch.specs.Meaning.{editionOf}
 use Rattle.patch_walk.proofs.Reading.{no-operation-past, operation-read-is, operation-refused-is, operation-on}
 use borrow.Author.Needs.{needs}
 use Rattle.patch_walk.proofs.operation_step.Statement.{statement}
@@ -12,7 +12,7 @@ use Rattle.patch_walk.proofs.operation_step.Tie as tie
 returns : tie.Need-returns
 returns c =
     let a = c .before .before .args in
-    (no-operation-past (a .set .now) (a .cursor) (a .strict) v1 (c .if1 .taken), tt)
+    (no-operation-past (a .set .now) (a .cursor) (a .strict) (editionOf (a .edition)) (c .if1 .taken), tt)
 
 sub-operation-from : tie.Need-sub-operation-from
 sub-operation-from c = search needs
@@ -35,13 +35,13 @@ on c =
     let call = c .before .before .before in
     let a = call .before .before .before .before .args in
     let bound = c .before .operation .given in
-    operation-on (a .set .now) (a .cursor) (a .strict) v1 (call .operation-from .ensures) (bytes-of (a .set .now) (λ j. call .before .before .before .shared-slice-known .given j .fits)) (bound .0 .0) (bound .0 .1 .0) (bound .1) (omega arith)
+    operation-on (a .set .now) (a .cursor) (a .strict) (editionOf (a .edition)) (call .operation-from .ensures) (bytes-of (a .set .now) (λ j. call .before .before .before .shared-slice-known .given j .fits)) (bound .0 .0) (bound .0 .1 .0) (bound .1) (omega arith)
 
-add-t16 : tie.Need-add-t16
-add-t16 c = omega (arith, on c .1)
+add-t17 : tie.Need-add-t17
+add-t17 c = omega (arith, on c .1)
 
-sub-t17 : tie.Need-sub-t17
-sub-t17 c = search needs
+sub-t18 : tie.Need-sub-t18
+sub-t18 c = search needs
 
 enum-known-fault : tie.Need-enum-known-fault
 enum-known-fault c = search needs
@@ -52,14 +52,14 @@ returns-2 c =
     let call = k .before .before .before in
     let a = call .before .before .before .before .args in
     let bound = k .before .operation .given in
-    (operation-read-is (a .set .now) (a .cursor) (a .strict) v1 (call .operation-from .ensures) (bound .0 .0) (bound .0 .1 .0) (bound .1), on k)
+    (operation-read-is (a .set .now) (a .cursor) (a .strict) (editionOf (a .edition)) (call .operation-from .ensures) (bound .0 .0) (bound .0 .1 .0) (bound .1), on k)
 
 returns-3 : tie.Need-returns-3
 returns-3 c =
     let call = c .before .before .before in
     let a = call .before .before .before .before .args in
     let bound = c .before .fault .given in
-    (operation-refused-is (a .set .now) (a .cursor) (a .strict) v1 (call .operation-from .ensures) (bound .0 .0) (bound .1), tt)
+    (operation-refused-is (a .set .now) (a .cursor) (a .strict) (editionOf (a .edition)) (call .operation-from .ensures) (bound .0 .0) (bound .1), tt)
 
 pub operation-step-spec : {M : Type 1} → statement M
 operation-step-spec =
@@ -71,8 +71,8 @@ operation-step-spec =
     part-operation-from-end
     operation-from-requires
     enum-known-operation
-    add-t16
-    sub-t17
+    add-t17
+    sub-t18
     enum-known-fault
     returns-2
     returns-3)

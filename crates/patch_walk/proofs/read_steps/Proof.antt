@@ -5,7 +5,8 @@ use mathlib.Core.List.{List}
 use native.Mathlib.Omega.{arith}
 use lib.ListN.{length}
 use Rattle.spec_lists.specs.BytesLaws.{bytes-of}
-use Rattle.spec_patch.specs.Edition.{v1}
+use Rattle.spec_patch.specs.Edition.{Edition}
+use Rattle.projection_patch.specs.Meaning.{editionOf}
 use Rattle.patch_walk.specs.Steps.{StepWithin}
 use Rattle.patch_walk.specs.SetReads.{leftAt}
 use Rattle.patch_walk.specs.SetReadsLaws.{StepLeft, step-left}
@@ -15,10 +16,10 @@ use Rattle.patch_walk.proofs.read_steps.Statement.{statement}
 use Rattle.patch_walk.proofs.read_steps.Tie as tie
 
 abbrev Inv-loop : tie.InvT-loop
-Inv-loop set cursor₀ operations₀ cursor operations = (operations ≤ cursor .at) × (leftAt v1 set cursor operations ≡ leftAt v1 set cursor₀ 0)
+Inv-loop set edition cursor₀ operations₀ cursor operations = (operations ≤ cursor .at) × (leftAt (editionOf edition) set cursor operations ≡ leftAt (editionOf edition) set cursor₀ 0)
 
 abbrev μ-loop : tie.MeasureT-loop
-μ-loop set cursor₀ operations₀ cursor operations = length set - cursor .at
+μ-loop set edition cursor₀ operations₀ cursor operations = length set - cursor .at
 
 -- what the loop has in hand where a step has been made
 abbrev head : tie.After-next-step Inv-loop μ-loop → tie.At-loop Inv-loop μ-loop
@@ -27,10 +28,13 @@ head c = c .before
 abbrev set : tie.After-next-step Inv-loop μ-loop → List ℕ
 set c = head c .before .before .args .set .now
 
-left : (c : tie.After-next-step Inv-loop μ-loop) (r : SetStep) → c .next-step .result ≡ r → StepLeft v1 (set c) (head c .loop .cursor) (head c .loop .operations) r
+abbrev edition : tie.After-next-step Inv-loop μ-loop → Edition
+edition c = editionOf (head c .before .before .args .edition)
+
+left : (c : tie.After-next-step Inv-loop μ-loop) (r : SetStep) → c .next-step .result ≡ r → StepLeft (edition c) (set c) (head c .loop .cursor) (head c .loop .operations) r
 left c r q =
-    subst (StepLeft v1 (set c) (head c .loop .cursor) (head c .loop .operations)) (sym (c .next-step .ensures .0) ∙ q)
-    (step-left v1 (set c) (bytes-of (set c) (λ j. head c .before .shared-slice-known .given j .fits)) (head c .loop .cursor) (head c .loop .operations))
+    subst (StepLeft (edition c) (set c) (head c .loop .cursor) (head c .loop .operations)) (sym (c .next-step .ensures .0) ∙ q)
+    (step-left (edition c) (set c) (bytes-of (set c) (λ j. head c .before .shared-slice-known .given j .fits)) (head c .loop .cursor) (head c .loop .operations))
 
 within : (c : tie.After-next-step Inv-loop μ-loop) (r : SetStep) → c .next-step .result ≡ r → StepWithin (head c .loop .cursor) (length (set c)) r
 within c r q = subst (StepWithin (head c .loop .cursor) (length (set c))) q (c .next-step .ensures .1)
