@@ -103,7 +103,12 @@ fn collection_insert(part: &[u8], strict: bool, edition: ProjectionPatchEdition)
         return OperationRead::Refused(ProjectionPatchReadFault::Malformed);
     };
     match read_values::optional_at(part, 17) {
-        OptionalRead::Read(neighbour, body) => match read_values::value_at(part, body, strict, edition) {
+        OptionalRead::Read(neighbour, body) => match read_values::value_at(
+            part,
+            body,
+            strict,
+            edition,
+        ) {
             ValueRead::Read(value, end) => OperationRead::Read(
                 ProjectionPatchOperation::CollectionInsert {
                     collection,

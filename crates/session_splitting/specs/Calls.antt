@@ -4,7 +4,7 @@ use mathlib.Core.Path.{_≡_}
 use mathlib.Core.Bool.{Bool, true, false}
 use mathlib.Core.List.{List, [], _∷_}
 use lib.ListN.{length}
-use Rattle.spec_patch.specs.Edition.{v1}
+use Rattle.spec_patch.specs.Edition.{Edition}
 use Rattle.spec_patch.specs.Encode.{encode}
 use Rattle.spec_splitting.specs.Splitting.{Piece, references}
 use Rattle.session_gates.specs.declared.gates.OrderedProjectionPatchBatchEnvelope.{OrderedProjectionPatchBatchEnvelope}
@@ -18,9 +18,9 @@ use Rattle.shell_player.specs.Batches.{BatchCall}
 abbrev pub envelopeFor : ShellSession → ℕ → Piece → OrderedProjectionPatchBatchEnvelope
 envelopeFor s n p = record { «session_id» = s .context .«session_id»; «sequence_no» = n; «patch_count» = length (p .patches); «stimulus_bytes» = p .stimulusBytes }
 
--- a call of the session with a piece: that envelope, the true counts and the canonical bytes
-abbrev pub Sent : ShellSession → ℕ → Piece → ProjectionPatchBatch → Type 0
-Sent s n p b = BatchCall s (envelopeFor s n p) (references p) (encode v1 (p .patches)) b
+-- a call of the session with a piece: that envelope, the true counts, the canonical bytes and their edition
+abbrev pub Sent : Edition → ShellSession → ℕ → Piece → ProjectionPatchBatch → Type 0
+Sent ed s n p b = BatchCall s (envelopeFor s n p) (references p) (encode ed (p .patches)) ed b
 
 unfoldable pub refused : ProjectionPatchApplicationDisposition → Bool
 refused Applied = false
@@ -33,11 +33,11 @@ Onward true bs on = bs ≡ []
 Onward false bs on = on
 
 -- piece i, from 0, carries the number n + i; each goes to the session just handed back, until one is refused
-abbrev pub Calls : ShellSession → ℕ → List Piece → List ProjectionPatchBatch → Type 0
-Calls s n [] [] = Unit {0}
-Calls s n [] (b ∷ bs) = ⊥
-Calls s n (p ∷ ps) [] = ⊥
-Calls s n (p ∷ ps) (b ∷ bs) = Sent s n p b × Onward (refused (b .result .disposition)) bs (Calls (b .session) (n + 1) ps bs)
+abbrev pub Calls : Edition → ShellSession → ℕ → List Piece → List ProjectionPatchBatch → Type 0
+Calls ed s n [] [] = Unit {0}
+Calls ed s n [] (b ∷ bs) = ⊥
+Calls ed s n (p ∷ ps) [] = ⊥
+Calls ed s n (p ∷ ps) (b ∷ bs) = Sent ed s n p b × Onward (refused (b .result .disposition)) bs (Calls ed (b .session) (n + 1) ps bs)
 
 -- the session that was handed back last
 unfoldable pub lastOf : ShellSession → List ProjectionPatchBatch → ShellSession

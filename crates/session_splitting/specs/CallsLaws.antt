@@ -4,7 +4,7 @@ use mathlib.Core.Path.{_≡_, refl, sym, ap, ap₂, subst, _∙_}
 use mathlib.Core.Bool.{Bool, true, false}
 use mathlib.Core.List.{List, [], _∷_, map}
 use lib.ListN.{length}
-use Rattle.spec_patch.specs.Edition.{v1}
+use Rattle.spec_patch.specs.Edition.{Edition}
 use Rattle.spec_patch.specs.Encode.{encode}
 use Rattle.spec_session.specs.Session.{Session}
 use Rattle.spec_session.specs.Batch.{BatchAnswer, batch}
@@ -22,10 +22,10 @@ abbrev pub answersOf : List ProjectionPatchBatch → List BatchAnswer
 answersOf bs = map (λ (b : ProjectionPatchBatch). batchAnswerOf (b .result)) bs
 
 -- a call with a piece is the sending of that piece
-pub sent-is : (s : ShellSession) (m : Session) → Holds s m → (n : ℕ) (p : Piece) (b : ProjectionPatchBatch) → Sent s n p b → BatchBecame b (send m n p)
+pub sent-is : (ed : Edition) (s : ShellSession) (m : Session) → Holds s m → (n : ℕ) (p : Piece) (b : ProjectionPatchBatch) → Sent ed s n p b → BatchBecame b (send ed m n p)
 unfolding send envelopeOf
-sent-is s m h n p b sent =
-    subst (λ i. BatchBecame b (batch m (record { session = i; sequence = n; patches = length (p .patches); stimulusBytes = p .stimulusBytes }) (references p) (encode v1 (p .patches)))) (h .id) (sent .became m h)
+sent-is ed s m h n p b sent =
+    subst (λ i. BatchBecame b (batch ed m (record { session = i; sequence = n; patches = length (p .patches); stimulusBytes = p .stimulusBytes }) (references p) (encode ed (p .patches)))) (h .id) (sent .became m h)
 
 refused-told : (d : ProjectionPatchApplicationDisposition) → isRejected (dispositionTold d) ≡ refused d
 unfolding isRejected dispositionTold refused
@@ -37,22 +37,22 @@ pub record Follows (s : ShellSession) (bs : List ProjectionPatchBatch) (r : Run)
   pub answers : answersOf bs ≡ r .answers
   pub last : Holds (lastOf s bs) (r .last)
 
-pub calls-follow : (ps : List Piece) (bs : List ProjectionPatchBatch) (s : ShellSession) (m : Session) (n : ℕ) → Holds s m → Calls s n ps bs → Follows s bs (sendAll m n ps)
+pub calls-follow : (ed : Edition) (ps : List Piece) (bs : List ProjectionPatchBatch) (s : ShellSession) (m : Session) (n : ℕ) → Holds s m → Calls ed s n ps bs → Follows s bs (sendAll ed m n ps)
 unfolding sendAll continue lastOf
-calls-follow [] [] s m n h c = record { answers = refl; last = h }
-calls-follow [] (b ∷ bs) s m n h c = absurd c
-calls-follow (p ∷ ps) [] s m n h c = absurd c
-calls-follow (p ∷ ps) (b ∷ bs) s m n h c = go (refused (b .result .disposition)) refl (c .1) (λ k on. calls-follow ps bs (b .session) (send m n p .next) (n + 1) k on)
+calls-follow ed [] [] s m n h c = record { answers = refl; last = h }
+calls-follow ed [] (b ∷ bs) s m n h c = absurd c
+calls-follow ed (p ∷ ps) [] s m n h c = absurd c
+calls-follow ed (p ∷ ps) (b ∷ bs) s m n h c = go (refused (b .result .disposition)) refl (c .1) (λ k on. calls-follow ed ps bs (b .session) (send ed m n p .next) (n + 1) k on)
   where
-    step : BatchBecame b (send m n p)
-    step = sent-is s m h n p b (c .0)
+    step : BatchBecame b (send ed m n p)
+    step = sent-is ed s m h n p b (c .0)
 
-    told : isRejected (send m n p .answer .disposition) ≡ refused (b .result .disposition)
+    told : isRejected (send ed m n p .answer .disposition) ≡ refused (b .result .disposition)
     told = ap (λ (a : BatchAnswer). isRejected (a .disposition)) (sym (step .answer)) ∙ refused-told (b .result .disposition)
 
-    go : (t : Bool) → refused (b .result .disposition) ≡ t → Onward t bs (Calls (b .session) (n + 1) ps bs)
-        → (Holds (b .session) (send m n p .next) → Calls (b .session) (n + 1) ps bs → Follows (b .session) bs (sendAll (send m n p .next) (n + 1) ps))
-        → Follows s (b ∷ bs) (continue (send m n p) (sendAll (send m n p .next) (n + 1) ps))
+    go : (t : Bool) → refused (b .result .disposition) ≡ t → Onward t bs (Calls ed (b .session) (n + 1) ps bs)
+        → (Holds (b .session) (send ed m n p .next) → Calls ed (b .session) (n + 1) ps bs → Follows (b .session) bs (sendAll ed (send ed m n p .next) (n + 1) ps))
+        → Follows s (b ∷ bs) (continue (send ed m n p) (sendAll ed (send ed m n p .next) (n + 1) ps))
     go true e none ih = rw (told ∙ e, none) (record { answers = ap (λ (a : BatchAnswer). a ∷ []) (step .answer); last = step .next })
     go false e on ih =
         let rest = ih (step .next) on in

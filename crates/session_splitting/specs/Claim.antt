@@ -4,6 +4,7 @@ use mathlib.Core.Path.{_≡_}
 use mathlib.Core.List.{List, [], _∷_, _++_}
 use lib.ListN.{length}
 use Rattle.spec_lists.specs.Lists.{All}
+use Rattle.spec_patch.specs.Edition.{Edition}
 use Rattle.spec_projection.specs.Projection.{Projection}
 use Rattle.spec_projection.specs.Apply.{OperationFault, done, replaySteps, applySteps}
 use Rattle.spec_session.specs.Session.{Session}
@@ -59,6 +60,6 @@ pub record StopsAtRefusal (s : ShellSession) (m : Session) (n : ℕ) (whole : Pi
   pub ended : lastOf s bs ≡ withProgress s (cursorPast (s .state .«replay_cursor») n (length before)) (stateOf reached)
 
 -- the claim for a struct that stores a session, the whole's call and the pieces' calls
-pub record WholeAndPieces (s : ShellSession) (m : Session) (n : ℕ) (whole : Piece) (pieces : List Piece) (w : ProjectionPatchBatch) (bs : List ProjectionPatchBatch) : Type 0 where
+pub record WholeAndPieces (ed : Edition) (s : ShellSession) (m : Session) (n : ℕ) (whole : Piece) (pieces : List Piece) (w : ProjectionPatchBatch) (bs : List ProjectionPatchBatch) : Type 0 where
   pub applies : WasApplied w → AllApplied s n pieces w bs
-  pub fails : (f : FailsAtOperation m n whole) → StopsAtRefusal s m n whole (f .fault) pieces w bs
+  pub fails : (f : FailsAtOperation ed m n whole) → StopsAtRefusal s m n whole (f .fault) pieces w bs

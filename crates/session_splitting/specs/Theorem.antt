@@ -5,6 +5,7 @@ use mathlib.Core.List.{List, [], _∷_, _++_}
 use native.Mathlib.Omega.{arith}
 use lib.ListN.{length, length-map}
 use Rattle.spec_lists.specs.Lists.{All}
+use Rattle.spec_patch.specs.Edition.{Edition}
 use Rattle.spec_projection.specs.Projection.{Projection}
 use Rattle.spec_session.specs.Session.{Cursor, Session}
 use Rattle.spec_session.specs.Lifecycle as step
@@ -113,16 +114,16 @@ past-told c n (suc k) = refl
 
 -- ---- the claim
 
-module _ (s : ShellSession) (m : Session) (holds : Holds s m) (n : ℕ) (whole : Piece) (pieces : List Piece) (given : Given m n whole pieces)
-    (w : ProjectionPatchBatch) (sent : Sent s n whole w) (bs : List ProjectionPatchBatch) (calls : Calls s n pieces bs) where
-  follows : Follows s bs (sendAll m n pieces)
-  follows = calls-follow pieces bs s m n holds calls
+module _ (ed : Edition) (s : ShellSession) (m : Session) (holds : Holds s m) (n : ℕ) (whole : Piece) (pieces : List Piece) (given : Given m n whole pieces)
+    (w : ProjectionPatchBatch) (sent : Sent ed s n whole w) (bs : List ProjectionPatchBatch) (calls : Calls ed s n pieces bs) where
+  follows : Follows s bs (sendAll ed m n pieces)
+  follows = calls-follow ed pieces bs s m n holds calls
 
-  whole-is : BatchBecame w (send m n whole)
-  whole-is = sent-is s m holds n whole w sent
+  whole-is : BatchBecame w (send ed m n whole)
+  whole-is = sent-is ed s m holds n whole w sent
 
   abbrev run : Run
-  run = sendAll m n pieces
+  run = sendAll ed m n pieces
 
   -- the pieces' calls end at the struct of the session that the sending ends at
   last-is : lastOf s bs ≡ sessionTo (run .last)
@@ -134,17 +135,17 @@ module _ (s : ShellSession) (m : Session) (holds : Holds s m) (n : ℕ) (whole :
   applied : WasApplied w → AllApplied s n pieces w bs
   unfolding dispositionTold stateOfSession cursorTo
   applied e =
-      let all = whole-and-pieces m n whole pieces given .applies (sym (ap (λ (a : BatchAnswer). a .disposition) (whole-is .answer)) ∙ ap dispositionTold e) in
+      let all = whole-and-pieces ed m n whole pieces given .applies (sym (ap (λ (a : BatchAnswer). a .disposition) (whole-is .answer)) ∙ ap dispositionTold e) in
       record {
         sent = counted ∙ all .sent;
         apply = all-applied bs (subst (All Applies) (sym (follows .answers)) (all .apply));
-        ended = last-is ∙ ap sessionTo (same-session (all .beside) (all .cursor) (all .projection)) ∙ ap (λ (t : ShellSession). withProgress t (At (n + (length pieces - 1))) (t .«local_projection»)) (sym (one-struct (w .session) (send m n whole .next) (whole-is .next)));
+        ended = last-is ∙ ap sessionTo (same-session (all .beside) (all .cursor) (all .projection)) ∙ ap (λ (t : ShellSession). withProgress t (At (n + (length pieces - 1))) (t .«local_projection»)) (sym (one-struct (w .session) (send ed m n whole .next) (whole-is .next)));
       }
 
-  stopped-at : (f : FailsAtOperation m n whole) → StopsAtRefusal s m n whole (f .fault) pieces w bs
+  stopped-at : (f : FailsAtOperation ed m n whole) → StopsAtRefusal s m n whole (f .fault) pieces w bs
   unfolding stateOfSession
   stopped-at f =
-      let stop = whole-and-pieces m n whole pieces given .fails f in
+      let stop = whole-and-pieces ed m n whole pieces given .fails f in
       let r = ending bs (stop .firsts) (stop .refusal) (follows .answers ∙ stop .answers) in
       record {
         before = stop .before;
@@ -167,5 +168,5 @@ module _ (s : ShellSession) (m : Session) (holds : Holds s m) (n : ℕ) (whole :
             ∙ ap (λ (t : ShellSession). withProgress t (cursorPast (t .state .«replay_cursor») n (length (stop .before))) (stateOf (run .last .projection))) (sym (one-struct s m holds));
       }
 
-  pub session-whole-and-pieces : WholeAndPieces s m n whole pieces w bs
+  pub session-whole-and-pieces : WholeAndPieces ed s m n whole pieces w bs
   session-whole-and-pieces = record { applies = applied; fails = stopped-at }

@@ -1,6 +1,7 @@
 // Steps 1 to 8 of a batch, on what a session tells.
 use active_projection_target_catalog::catalog;
 use active_projection_target_catalog::catalog::ActiveProjectionTargetCatalog;
+use projection_patch::patch::ProjectionPatchEdition;
 use session_gates::batch;
 use session_gates::gates::BatchGate;
 use session_gates::gates::OrderedProjectionPatchBatchEnvelope;
@@ -14,6 +15,7 @@ ghost use lib.Dec.{eqb};
 ghost use Rattle.spec_patch.specs.Sizes.{anchors};
 ghost use Rattle.spec_session.specs.Session.{Session};
 ghost use Rattle.spec_session.specs.Batch.{batchChecks};
+ghost use Rattle.projection_patch.specs.Meaning.{editionOf};
 ghost use Rattle.session_lifecycle.specs.Meaning.{lifecycleOf, limitsOf};
 ghost use Rattle.session_gates.specs.Gates.{gateOf, envelopeMeans, preflightBy, erased, counted, Decides};
 ghost use Rattle.session_steps.specs.Checks.{SeenSession};
@@ -41,8 +43,9 @@ pub fn check_session(
     envelope: OrderedProjectionPatchBatchEnvelope,
     declared: u64,
     set: &[u8],
+    edition: ProjectionPatchEdition,
 ) -> BatchGate
-    ensures checked { λ r. ⌜ ((s : Session) → SeenSession context state s → gateOf r ≡ erased (batchChecks s (envelopeMeans envelope) declared (now (set .entry)))) ⌝ }
+    ensures checked { λ r. ⌜ ((s : Session) → SeenSession context state s → gateOf r ≡ erased (batchChecks (editionOf edition) s (envelopeMeans envelope) declared (now (set .entry)))) ⌝ }
     ensures whatever { λ r. ⌜ counted (gateOf r) ≡ true ⌝ }
     ensures preflight { λ r. ⌜ Decides (preflightBy (context .«session_id» .0) (limitsOf (context .limits)) (lifecycleOf (state .lifecycle)) (envelopeMeans envelope)) (gateOf r) ⌝ }
 {
@@ -66,6 +69,7 @@ pub fn check_session(
         envelope,
         declared,
         set,
+        edition,
     )
 }
 

@@ -2,6 +2,7 @@
 use Prim.Native.Nat.{ℕ}
 use mathlib.Core.Path.{_≡_}
 use mathlib.Core.List.{List}
+use Rattle.spec_patch.specs.Edition.{Edition}
 use Rattle.spec_session.specs.Session.{Session}
 use Rattle.spec_session.specs.Diagnostics.{SessionRefusal}
 use Rattle.spec_session.specs.Batch.{BatchStep, refuse, batch}
@@ -37,9 +38,9 @@ pub record BatchBecame (r : ProjectionPatchBatch) (step : BatchStep) : Type 0 wh
 abbrev pub KeptUnlessApplied : ShellSession → ProjectionPatchBatch → Type 0
 KeptUnlessApplied s r = (r .result .disposition ≡ Applied → ⊥) → r .session ≡ s
 
--- what a call with this envelope, declared count and set hands back: for every session that the struct stores, what the model's batch gives
-pub record BatchCall (s : ShellSession) (e : OrderedProjectionPatchBatchEnvelope) (declared : ℕ) (set : List ℕ) (r : ProjectionPatchBatch) : Type 0 where
-  pub became : (m : Session) → Holds s m → BatchBecame r (batch m (envelopeMeans e) declared set)
+-- what a call with this envelope, declared count, set and edition hands back: for every session that the struct stores, what the model's batch gives
+pub record BatchCall (s : ShellSession) (e : OrderedProjectionPatchBatchEnvelope) (declared : ℕ) (set : List ℕ) (ed : Edition) (r : ProjectionPatchBatch) : Type 0 where
+  pub became : (m : Session) → Holds s m → BatchBecame r (batch ed m (envelopeMeans e) declared set)
 
 -- ---- the relation of a batch call for every struct whatever
 

@@ -8,7 +8,7 @@ use lib.Dec.{eqb}
 use lib.ListN.{length}
 use Rattle.spec_lists.specs.ListLaws.{and-left}
 use Rattle.spec_patch.specs.Patch.{Patch}
-use Rattle.spec_patch.specs.Edition.{v1}
+use Rattle.spec_patch.specs.Edition.{Edition}
 use Rattle.spec_patch.specs.Read.{patches, readSet}
 use Rattle.spec_projection.specs.Projection.{Projection}
 use Rattle.spec_projection.specs.Apply.{Outcome, done, stopped, replaySteps, applySteps}
@@ -122,17 +122,17 @@ module _ (s : ShellSession) (m : Session) (holds : Holds s m) where
             )
         go (stopped g) stored = absurd stored
 
-  module _ (e : BatchEnvelope) (declared : ℕ) (set : List ℕ) where
-    pub batch-rejects : (r : ProjectionPatchApplicationResult) (f : SessionRefusal) (n : ℕ) → refuse f n ≡ erased (batchChecks m e declared set) → batchAnswerOf r ≡ rejectedAt cap f n cursor
-        → BatchBecame (record { session = s; result = r }) (batch m e declared set)
+  module _ (ed : Edition) (e : BatchEnvelope) (declared : ℕ) (set : List ℕ) where
+    pub batch-rejects : (r : ProjectionPatchApplicationResult) (f : SessionRefusal) (n : ℕ) → refuse f n ≡ erased (batchChecks ed m e declared set) → batchAnswerOf r ≡ rejectedAt cap f n cursor
+        → BatchBecame (record { session = s; result = r }) (batch ed m e declared set)
     unfolding batch concludeBatch
-    batch-rejects r f n h a = subst (λ (c : Check (List Patch)). BatchBecame (record { session = s; result = r }) (concludeBatch m e c)) (sym (erased-refused (batchChecks m e declared set) f n h)) (rejects r f n a)
+    batch-rejects r f n h a = subst (λ (c : Check (List Patch)). BatchBecame (record { session = s; result = r }) (concludeBatch m e c)) (sym (erased-refused (batchChecks ed m e declared set) f n h)) (rejects r f n a)
 
-    pub batch-commits : (b : ProjectionPatchBatch) → pass tt ≡ erased (batchChecks m e declared set)
-        → ((ps : List Patch) → readSet v1 set ≡ patches ps → e .patches ≡ length ps → BatchBecame b (commit m e (candidate m ps))) → BatchBecame b (batch m e declared set)
+    pub batch-commits : (b : ProjectionPatchBatch) → pass tt ≡ erased (batchChecks ed m e declared set)
+        → ((ps : List Patch) → readSet ed set ≡ patches ps → e .patches ≡ length ps → BatchBecame b (commit m e (candidate m ps))) → BatchBecame b (batch ed m e declared set)
     unfolding batch concludeBatch
     batch-commits b h f =
-        let p = erased-passed (batchChecks m e declared set) h in
-        let c = checks-passed m e declared set (p .0) (p .1) in
+        let p = erased-passed (batchChecks ed m e declared set) h in
+        let c = checks-passed ed m e declared set (p .0) (p .1) in
         let count = eqb-true (e .patches) (length (p .0)) (and-left (eqb (e .patches) (length (p .0))) _ (c .counts)) in
         subst (λ (k : Check (List Patch)). BatchBecame b (concludeBatch m e k)) (sym (p .1)) (f (p .0) (c .reads) count)

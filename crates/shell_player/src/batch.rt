@@ -3,6 +3,7 @@ use crate::session::ShellSession;
 use local_projection_state::LocalProjectionState;
 use local_projection_state::ProjectionCounts;
 use panel_changes::SetChange;
+use projection_patch::patch::ProjectionPatchEdition;
 use session_gates::gates::BatchGate;
 use session_gates::gates::OrderedProjectionPatchBatchEnvelope;
 use session_lifecycle::state::ShellLocalState;
@@ -12,6 +13,7 @@ use session_steps::checks;
 use session_steps::checks::ActivatedShellSessionContext;
 use session_steps::states;
 ghost use mathlib.Core.Path.{_≡_};
+ghost use Rattle.projection_patch.specs.Meaning.{editionOf};
 ghost use Rattle.shell_player.specs.Batches.{sessionOf, batchOf, BatchCall, AnyBatchCall};
 
 // The session after a batch, and the batch's answer.
@@ -57,8 +59,9 @@ impl ShellSession {
         envelope: OrderedProjectionPatchBatchEnvelope,
         declared_target_reference_count: u64,
         set: &[u8],
+        edition: ProjectionPatchEdition,
     ) -> ProjectionPatchBatch
-        ensures holding { λ r. ⌜ BatchCall self envelope «declared_target_reference_count» (now (set .entry)) r ⌝ }
+        ensures holding { λ r. ⌜ BatchCall self envelope «declared_target_reference_count» (now (set .entry)) (editionOf edition) r ⌝ }
         ensures whatever { λ r. ⌜ AnyBatchCall self envelope r ⌝ }
     {
         let context = self.context;
@@ -66,7 +69,7 @@ impl ShellSession {
         let state = self.state;
         let cursor = state.replay_cursor;
         let declared = declared_target_reference_count;
-        let gate = checks::check_session(context, state, envelope, declared, set);
+        let gate = checks::check_session(context, state, envelope, declared, set, edition);
         if let BatchGate::Refused(refusal, logical) = gate {
             return batch_of(self, answers::rejected(cap, refusal, logical, cursor));
         }
@@ -83,6 +86,7 @@ impl ShellSession {
             &self.local_projection.entries,
             self.local_projection.counts,
             set,
+            edition,
             &mut bindings,
             &mut availability,
             &mut entries,

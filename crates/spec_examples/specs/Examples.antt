@@ -71,7 +71,7 @@ session cap most c = record {
 
 -- the answer to a batch with true counts, for a session id and a sequence number
 sent : Session → ℕ → ℕ → List Patch → BatchAnswer
-sent s i n ps = batch s (record { session = i; sequence = n; patches = length ps; stimulusBytes = 3 }) (length (operationsOf ps)) (encode v1 ps) .answer
+sent s i n ps = batch v1 s (record { session = i; sequence = n; patches = length ps; stimulusBytes = 3 }) (length (operationsOf ps)) (encode v1 ps) .answer
 
 isNoChange : Disposition → Bool
 isNoChange applied = false
@@ -159,7 +159,7 @@ insertAndUpdate = isEmpty (findings (onePatch 1 1 (insert 9 1 none (unsigned 1) 
 
 -- the listing of 181 bytes
 pub theListing : Bool
-theListing = eqb (length listingSet) 181 && sameNumbers (listing listingSet) listingLines
+theListing = eqb (length listingSet) 181 && sameNumbers (listing v1 listingSet) listingLines
 
 abbrev pub examples : List Bool
 examples =

@@ -4,3 +4,4 @@ pub mod SplitInstances
 pub mod TurnInstances
 pub mod TextInstances
 pub mod CutInstances
+pub mod EditionInstances

@@ -26,6 +26,7 @@ use Rattle.spec_session.specs.Session
 use Rattle.spec_session.specs.Diagnostics
 use Rattle.spec_session.specs.Lifecycle
 use Rattle.spec_session.specs.Batch
+use Rattle.spec_listing.specs.Escapes
 use Rattle.spec_listing.specs.Listing
 
 unfoldable pub opened : Unit {0}
@@ -48,7 +49,10 @@ unfolding
     Rattle.spec_decimal.specs.Decimal.positive
     Rattle.spec_decimal.specs.Decimal.negative
     Rattle.spec_decimal.specs.Decimal.readSignedDecimal
-    Rattle.spec_patch.specs.Edition.v1
+    Rattle.spec_patch.specs.Edition.digit
+    Rattle.spec_patch.specs.Edition.letters
+    Rattle.spec_patch.specs.Edition.addedKinds
+    Rattle.spec_patch.specs.Edition.kinds
     Rattle.spec_patch.specs.Edition.hasKind
     Rattle.spec_patch.specs.Encode.encodeOptional
     Rattle.spec_patch.specs.Encode.quadByte
@@ -92,7 +96,7 @@ unfolding
     Rattle.spec_patch.specs.Write.allValues
     Rattle.spec_patch.specs.Write.shortEnough
     Rattle.spec_patch.specs.Write.withinCapacities
-    Rattle.spec_patch.specs.Write.allowedText
+    Rattle.spec_patch.specs.Write.allowedValue
     Rattle.spec_patch.specs.Write.wellFormed
     Rattle.spec_patch.specs.Write.fewEnough
     Rattle.spec_patch.specs.Write.write
@@ -195,6 +199,8 @@ unfolding
     Rattle.spec_session.specs.Batch.commit
     Rattle.spec_session.specs.Batch.concludeBatch
     Rattle.spec_session.specs.Batch.batch
+    Rattle.spec_listing.specs.Escapes.escapedByte
+    Rattle.spec_listing.specs.Escapes.escaped
     Rattle.spec_listing.specs.Listing.fields
     Rattle.spec_listing.specs.Listing.valueFields
     Rattle.spec_listing.specs.Listing.bindingLine

@@ -1,12 +1,13 @@
--- The theorem on split batches speaks of something: a list of two patches that applies whole and in two pieces, and one that fails only at
--- an operation, which stands in the second piece.
+-- The theorem on split batches speaks of something: a list of two patches of the second edition that applies whole and in two pieces, and one
+-- of the first that fails only at an operation, which stands in the second piece.
 use Prim.Native.Nat.{ℕ, _+_}
 use mathlib.Core.Path.{_≡_, refl}
 use mathlib.Core.List.{List, [], _∷_}
 use mathlib.Core.Option.{none}
 use native.Mathlib.Omega.{arith}
 use lib.ListN.{length}
-use Rattle.spec_patch.specs.Patch.{Operation, Patch, unsigned, setAvailability, insert, remove, pending}
+use Rattle.spec_patch.specs.Patch.{Operation, Patch, unsigned, score, setAvailability, insert, remove, pending}
+use Rattle.spec_patch.specs.Edition.{v1, v2}
 use Rattle.spec_patch.specs.Fits.{OperationHolds, InRangeValue, OptionalU64}
 use Rattle.spec_projection.specs.Projection.{empty}
 use Rattle.spec_projection.specs.Apply.{keyRule}
@@ -38,6 +39,10 @@ piece ps = record { patches = ps; stimulusBytes = 50 }
 unfoldable pub first : Patch
 first = patchOf 1 (insert 9 1 none (unsigned 3) ∷ [])
 
+-- the same with a score
+unfoldable pub scored : Patch
+scored = patchOf 1 (insert 9 1 none (score 87) ∷ [])
+
 unfoldable pub second : Patch
 second = patchOf 2 (setAvailability 5 pending ∷ [])
 
@@ -48,20 +53,20 @@ failing = patchOf 2 (remove 9 2 ∷ [])
 -- ---- a list that applies
 
 abbrev pub pieces : List Piece
-pieces = piece (first ∷ []) ∷ piece (second ∷ []) ∷ []
+pieces = piece (scored ∷ []) ∷ piece (second ∷ []) ∷ []
 
-given : Given start 40 (piece (first ∷ second ∷ [])) pieces
-unfolding start piece first second patchOf opened patchesOf OperationHolds InRangeValue OptionalU64
+given : Given start 40 (piece (scored ∷ second ∷ [])) pieces
+unfolding start piece scored second patchOf opened patchesOf OperationHolds InRangeValue OptionalU64
 given = record { inRange = omega arith; cut = refl; nonEmpty = omega arith; figures = omega arith; numbers = omega arith }
 
 -- the whole applies
-pub premise-applies : Applies (send start 40 (piece (first ∷ second ∷ [])) .answer)
-unfolding opened send envelopeOf references start piece first second patchOf
+pub premise-applies : Applies (send v2 start 40 (piece (scored ∷ second ∷ [])) .answer)
+unfolding opened send envelopeOf references start piece scored second patchOf
 premise-applies = refl
 
 -- and so do the two pieces
-pub conclusion-applies : AllApply 40 (send start 40 (piece (first ∷ second ∷ []))) pieces (sendAll start 40 pieces)
-conclusion-applies = whole-and-pieces start 40 _ pieces given .applies premise-applies
+pub conclusion-applies : AllApply 40 (send v2 start 40 (piece (scored ∷ second ∷ []))) pieces (sendAll v2 start 40 pieces)
+conclusion-applies = whole-and-pieces v2 start 40 _ pieces given .applies premise-applies
 
 -- ---- a list that fails in its second piece
 
@@ -73,14 +78,14 @@ unfolding start piece first failing patchOf opened patchesOf OperationHolds InRa
 given-failing = record { inRange = omega arith; cut = refl; nonEmpty = omega arith; figures = omega arith; numbers = omega arith }
 
 -- the whole passes steps 1 to 8 and fails in step 9, by the key rule
-pub premise-fails : FailsAtOperation start 40 (piece (first ∷ failing ∷ []))
+pub premise-fails : FailsAtOperation v1 start 40 (piece (first ∷ failing ∷ []))
 unfolding opened envelopeOf references start piece first failing patchOf
 premise-fails = record { patches = first ∷ failing ∷ []; passes = refl; fault = keyRule; fails = refl }
 
-pub conclusion-fails : StopsAtPiece start 40 (piece (first ∷ failing ∷ [])) (premise-fails .fault) (send start 40 (piece (first ∷ failing ∷ [])) .answer .diagnostics) failingPieces (sendAll start 40 failingPieces)
-conclusion-fails = whole-and-pieces start 40 _ failingPieces given-failing .fails premise-fails
+pub conclusion-fails : StopsAtPiece start 40 (piece (first ∷ failing ∷ [])) (premise-fails .fault) (send v1 start 40 (piece (first ∷ failing ∷ [])) .answer .diagnostics) failingPieces (sendAll v1 start 40 failingPieces)
+conclusion-fails = whole-and-pieces v1 start 40 _ failingPieces given-failing .fails premise-fails
 
 -- the refusal is 8, of two answers
-pub fails-with-8 : (send start 40 (piece (first ∷ failing ∷ [])) .answer .diagnostics .code ≡ 8) × (length (sendAll start 40 failingPieces .answers) ≡ 2)
+pub fails-with-8 : (send v1 start 40 (piece (first ∷ failing ∷ [])) .answer .diagnostics .code ≡ 8) × (length (sendAll v1 start 40 failingPieces .answers) ≡ 2)
 unfolding opened send sendAll continue isRejected envelopeOf references start piece first failing patchOf
 fails-with-8 = (refl, refl)

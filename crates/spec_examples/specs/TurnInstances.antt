@@ -28,24 +28,24 @@ unfoldable pub envelope : ℕ → ℕ → BatchEnvelope
 envelope n count = record { session = 7; sequence = n; patches = count; stimulusBytes = 50 }
 
 -- but for its number the batch passes
-pub one-patch : (c : Cursor) (n : ℕ) → batchChecks (withoutCursor (startAt c)) (envelope n 1) 1 (encode v1 patches) ≡ pass patches
+pub one-patch : (c : Cursor) (n : ℕ) → batchChecks v1 (withoutCursor (startAt c)) (envelope n 1) 1 (encode v1 patches) ≡ pass patches
 unfolding opened startAt envelope withoutCursor start second patchOf
 one-patch c n = refl
 
-pub no-patch : (c : Cursor) (n : ℕ) → batchChecks (withoutCursor (startAt c)) (envelope n 0) 0 (encode v1 []) ≡ pass []
+pub no-patch : (c : Cursor) (n : ℕ) → batchChecks v1 (withoutCursor (startAt c)) (envelope n 0) 0 (encode v1 []) ≡ pass []
 unfolding opened startAt envelope withoutCursor start
 no-patch c n = refl
 
 -- at 4 the turn's number is 5, and the batch passes with it
-pub passes-at-4 : batchChecks (startAt (at 4)) (envelope 5 1) 1 (encode v1 patches) ≡ pass patches
+pub passes-at-4 : batchChecks v1 (startAt (at 4)) (envelope 5 1) 1 (encode v1 patches) ≡ pass patches
 unfolding startAt envelope atEnd numberAfter
-passes-at-4 = turn-number-passes (startAt (at 4)) (envelope 5 1) 1 (encode v1 patches) patches (omega arith) refl refl (one-patch (at 4) 5)
+passes-at-4 = turn-number-passes v1 (startAt (at 4)) (envelope 5 1) 1 (encode v1 patches) patches (omega arith) refl refl (one-patch (at 4) 5)
 
 -- at the end it is the largest again: 7 with a patch, and without one it passes
-pub mismatch-at-end : batchChecks (startAt (at largestU64)) (envelope largestU64 1) 1 (encode v1 patches) ≡ refuse cursorMismatch 1
+pub mismatch-at-end : batchChecks v1 (startAt (at largestU64)) (envelope largestU64 1) 1 (encode v1 patches) ≡ refuse cursorMismatch 1
 unfolding startAt envelope atEnd
-mismatch-at-end = turn-number-at-end (startAt (at largestU64)) (envelope largestU64 1) 1 (encode v1 patches) patches refl (λ e. absurd (omega arith)) (one-patch (at largestU64) largestU64)
+mismatch-at-end = turn-number-at-end v1 (startAt (at largestU64)) (envelope largestU64 1) 1 (encode v1 patches) patches refl (λ e. absurd (omega arith)) (one-patch (at largestU64) largestU64)
 
-pub passes-at-end : batchChecks (startAt (at largestU64)) (envelope largestU64 0) 0 (encode v1 []) ≡ pass []
+pub passes-at-end : batchChecks v1 (startAt (at largestU64)) (envelope largestU64 0) 0 (encode v1 []) ≡ pass []
 unfolding envelope
-passes-at-end = no-patches-pass (startAt (at largestU64)) (envelope largestU64 0) 0 (encode v1 []) [] refl (no-patch (at largestU64) largestU64)
+passes-at-end = no-patches-pass v1 (startAt (at largestU64)) (envelope largestU64 0) 0 (encode v1 []) [] refl (no-patch (at largestU64) largestU64)

@@ -6,7 +6,7 @@ use lib.Dec.{ltb}
 use lib.ListN.{length}
 use Rattle.spec_lists.specs.Lists.{if_then_else_, isEmpty}
 use Rattle.spec_patch.specs.Sizes.{anchors}
-use Rattle.spec_patch.specs.Edition.{v1}
+use Rattle.spec_patch.specs.Edition.{Edition, v1}
 use Rattle.spec_patch.specs.Read.{readSet}
 use Rattle.spec_projection.specs.Lookups.{bindingOf, availabilityOf, entryOf}
 use Rattle.spec_session.specs.Session as sessions
@@ -14,12 +14,13 @@ use Rattle.spec_session.specs.Session.{Limits, BindingPair, Catalogue, Session,
 use Rattle.spec_session.specs.Lifecycle.{LifecycleStep, lifecycleStep}
 use Rattle.spec_session.specs.Batch as batches
 use Rattle.spec_session.specs.Batch.{BatchStep}
+use Rattle.spec_conversion.specs.Conversion as conversions
 use Rattle.spec_turns.specs.Turns as turns
 use Rattle.spec_turns.specs.Turns.{Turns, SetUp, RegisterStep, TurnStep}
 use Rattle.spec_listing.specs.Listing.{projectionLines, listing}
 use Rattle.spec_replay.specs.Lines.{newline, split}
-use Rattle.spec_replay.specs.Script.{Command, nothing, session, node, binding, collection, create, apply, batch, check, list, show, valueBinding, valueNode, valueEntry, senders, wait, turn, other, command}
-use Rattle.spec_replay.specs.Answers.{creationLine, lifecycleLine, batchLine, checkLines, valueLine, availabilityLine, setUpLine, registerLine, turnLine, noSessionLine, otherLine}
+use Rattle.spec_replay.specs.Script.{Command, nothing, session, node, binding, collection, create, apply, batch, check, list, show, valueBinding, valueNode, valueEntry, senders, wait, turn, edition, convert, other, command}
+use Rattle.spec_replay.specs.Answers.{creationLine, lifecycleLine, batchLine, checkLines, valueLine, availabilityLine, setUpLine, registerLine, turnLine, conversionLine, noSessionLine, otherLine}
 
 -- what a creation takes
 pub record Setup : Type 0 where
@@ -31,18 +32,21 @@ pub record State : Type 0 where
   pub setup : Setup
   pub session : Option Session
   pub turns : Option Turns
+  -- the edition of every set from here on
+  pub edition : Edition
 
 -- ---- the set-up
 
 unfoldable pub noAnchors : Catalogue
 noAnchors = record { nodes = []; bindings = []; collections = [] }
 
--- before the first line: id 0, limits 0, no anchors, no session, no senders
+-- before the first line: id 0, limits 0, no anchors, no session, no senders, the first edition
 unfoldable pub start : State
 start = record {
   setup = record { id = 0; limits = record { stimulusBytes = 0; diagnostics = 0; patches = 0; references = 0 }; catalogue = noAnchors };
   session = none;
   turns = none;
+  edition = v1;
 }
 
 -- the first 129 of a kind are kept, so that 13 can be shown
@@ -52,9 +56,9 @@ keptAnchors = anchors + 1
 unfoldable pub keep : {A : Type 0} → List A → A → List A
 keep l a = if ltb (length l) keptAnchors then l ++ (a ∷ []) else l
 
--- a new set-up; session and turns stay
+-- a new set-up; all else stays
 unfoldable pub withSetup : State → ℕ → Limits → Catalogue → State
-withSetup s i l c = record { setup = record { id = i; limits = l; catalogue = c }; session = s .session; turns = s .turns }
+withSetup s i l c = record { setup = record { id = i; limits = l; catalogue = c }; session = s .session; turns = s .turns; edition = s .edition }
 
 -- the same set-up with other anchors
 unfoldable pub withAnchors : State → Catalogue → State
@@ -77,10 +81,13 @@ pub data Step : Type 0 where
   stops : (printed : List ℕ) → Step
 
 unfoldable pub withSession : State → Option Session → State
-withSession s x = record { setup = s .setup; session = x; turns = s .turns }
+withSession s x = record { setup = s .setup; session = x; turns = s .turns; edition = s .edition }
 
 unfoldable pub withTurns : State → Turns → State
-withTurns s t = record { setup = s .setup; session = s .session; turns = some t }
+withTurns s t = record { setup = s .setup; session = s .session; turns = some t; edition = s .edition }
+
+unfoldable pub withEdition : State → Edition → State
+withEdition s ed = record { setup = s .setup; session = s .session; turns = s .turns; edition = ed }
 
 -- a call of the session; without one, N
 unfoldable pub asked : State → (Session → Step) → Step
@@ -121,9 +128,9 @@ replayLine n s (binding b) = onward (withAnchors s (withBinding (s .setup .catal
 replayLine n s (collection i) = onward (withAnchors s (withCollection (s .setup .catalogue) i)) []
 replayLine n s create = created s (sessions.create (s .setup .id) (s .setup .limits) (s .setup .catalogue))
 replayLine n s (apply u bytes) = asked s (λ x. applied s (lifecycleStep x u bytes))
-replayLine n s (batch e references set) = asked s (λ x. batched s (batches.batch x e references set))
-replayLine n s (check set) = onward s (checkLines (readSet v1 set))
-replayLine n s (list set) = onward s (listing set)
+replayLine n s (batch e references set) = asked s (λ x. batched s (batches.batch (s .edition) x e references set))
+replayLine n s (check set) = onward s (checkLines (readSet (s .edition) set))
+replayLine n s (list set) = onward s (listing (s .edition) set)
 replayLine n s show = asked s (λ x. onward s (projectionLines (x .projection)))
 replayLine n s (valueBinding i slot) = asked s (λ x. onward s (valueLine (bindingOf (x .projection) i slot)))
 replayLine n s (valueNode i) = asked s (λ x. onward s (availabilityLine (availabilityOf (x .projection) i)))
@@ -131,6 +138,8 @@ replayLine n s (valueEntry c k) = asked s (λ x. onward s (valueLine (entryOf (x
 replayLine n s (senders k) = settled s (turns.setUp k)
 replayLine n s (wait i) = askedTurns s (λ t. registered s (turns.register t i))
 replayLine n s turn = asked s (λ x. askedTurns s (λ t. turned s (turns.turn t (x .cursor))))
+replayLine n s (edition ed) = onward (withEdition s ed) []
+replayLine n s (convert room set) = onward s (conversionLine (conversions.convert (s .edition) set room))
 replayLine n s other = stops (otherLine n)
 
 -- ---- the whole script

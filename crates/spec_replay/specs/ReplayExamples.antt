@@ -8,7 +8,7 @@ use lib.Dec.{T, eqb}
 use Rattle.spec_lists.specs.Lists.{all, equalLists}
 use Rattle.spec_lists.specs.Bytes.{littleEndian, numberOf}
 use Rattle.spec_decimal.specs.Decimal.{digits, decimal, isNumeral, numberWith, readDecimal}
-use Rattle.spec_patch.specs.Edition.{v1}
+use Rattle.spec_patch.specs.Edition.{v1, digit, letters}
 use Rattle.spec_patch.specs.Encode.{heading}
 use Rattle.spec_patch.specs.Reader.{faultNumber, many, literal}
 use Rattle.spec_patch.specs.Read.{readPatch, readPatches, ended, readSet}
@@ -26,10 +26,10 @@ use Rattle.spec_session.specs.Batch.{require, readable, absentTargets, knownTar
 use Rattle.spec_turns.specs.Turns.{newTurns, setUp, refuseRegister, startWaiting, register, after, firstAsked, firstWaiting, nextSender, numberAfter, spendTurn, turnFor, turn}
 use Rattle.spec_listing.specs.Listing.{fields, recordCount, projectionLines, refusalLine, outcomeLines, readingLines, listing}
 use Rattle.spec_replay.specs.Lines.{prepend, split}
-use Rattle.spec_replay.specs.Hex.{hexDigit, hexByte, consByte, hexPairs, readHex}
-use Rattle.spec_replay.specs.Script.{ascii, end, given, readBy, slotOf, byWord, stimuli, sessionArguments, bindingArguments, applyArguments, batchArguments, valueBindingArguments, valueEntryArguments, values, valueArguments, commands, fieldsCommand, isRemark, command}
+use Rattle.spec_replay.specs.Hex.{hexDigit, hexByte, cons, hexPairs, readHex}
+use Rattle.spec_replay.specs.Script.{ascii, end, given, readBy, atMost, numberedEdition, byWord, stimuli, sessionArguments, bindingArguments, applyArguments, batchArguments, valueBindingArguments, valueEntryArguments, values, valueArguments, commands, fieldsCommand, isRemark, command}
 use Rattle.spec_replay.specs.Answers.{dispositionField, lifecycleField, cursorField, placeField, sessionFields, creationLine, lifecycleLine, batchLine, checkedLine, checkLines, availabilityLine, setUpLine, registerLine, turnLine, noSessionLine, otherLine}
-use Rattle.spec_replay.specs.Replay.{State, noAnchors, start, keep, withSetup, withAnchors, withNode, withBinding, withSession, withTurns, asked, askedTurns, created, applied, batched, settled, registered, turned, replayLine, replayLines, commandsOf, replayFrom, replay}
+use Rattle.spec_replay.specs.Replay.{State, noAnchors, start, keep, withSetup, withAnchors, withNode, withBinding, withSession, withTurns, withEdition, asked, askedTurns, created, applied, batched, settled, registered, turned, replayLine, replayLines, commandsOf, replayFrom, replay}
 
 prints : String → String → Bool
 prints script answers = equalLists eqb (replay (ascii script)) (ascii answers)
@@ -40,6 +40,7 @@ closedAt n = record {
   setup = start .setup;
   session = some (record { id = 7; limits = start .setup .limits; catalogue = noAnchors; lifecycle = closed; cursor = at n; projection = empty });
   turns = none;
+  edition = v1;
 }
 
 printsAt : ℕ → String → String → Bool
@@ -69,6 +70,11 @@ examples =
     ∷ printsAt 3 "senders 2\nwait 1\nturn\nturn\n" "J\t0\nJ\t0\nJ\t1\t4\nJ\tnone\n"
     ∷ printsAt 18446744073709551614 "senders 1\nwait 0\nturn\n" "J\t0\nJ\t0\nJ\t0\t18446744073709551615\n"
     ∷ printsAt 18446744073709551615 "senders 1\nwait 0\nturn\n" "J\t0\nJ\t0\nJ\t0\t18446744073709551615\n"
+    -- the edition in force: the empty set of one, read as the other
+    ∷ prints "edition 2\ncheck 1b00000055495f444e41325f50524f4a454354494f4e5f50415443485f563100000000\ncheck 1b00000055495f444e41325f50524f4a454354494f4e5f50415443485f563200000000\nedition 1\ncheck 1b00000055495f444e41325f50524f4a454354494f4e5f50415443485f563200000000\n"
+    "K\t10\nK\t0\tset\t0\nK\t10\n"
+    ∷ prints "edition 2\nsession 7 100 4 8 8\ncreate\ncheck 1b00000055495f444e41325f50524f4a454354494f4e5f50415443485f563200000000\n" "S\t0\nK\t0\tset\t0\n"
+    ∷ prints "edition 3\n" "?\t1\n"
     -- any other line ends the replay
     ∷ prints "create \nshow\n" "?\t1\n"
     ∷ prints "node 01\n" "?\t1\n"
@@ -86,15 +92,15 @@ examples =
 -- all rows hold
 pub replay-examples : T (all (λ (b : Bool). b) examples)
 unfolding examples prints closedAt printsAt
-    flatMap littleEndian numberOf digits decimal isNumeral numberWith readDecimal v1 heading faultNumber many literal readPatch readPatches ended readSet
+    flatMap littleEndian numberOf digits decimal isNumeral numberWith readDecimal digit letters heading faultNumber many literal readPatch readPatches ended readSet
     afterFindings rawSetFindings setFindings firstFindings findings checkEach sortUnique lookup empty replaySteps applySteps operationsOf availabilityOf
     newSession anchorsFit create diagnosticsOf
     transition dispositionOf stateOf withLifecycle rejectLifecycle enterLifecycle lifecycleStep
     require readable absentTargets knownTargets batchChecks rejectBatch keepSession candidate commit concludeBatch batch
     newTurns setUp refuseRegister startWaiting register after firstAsked firstWaiting nextSender numberAfter spendTurn turnFor turn
     fields recordCount projectionLines refusalLine outcomeLines readingLines listing
-    prepend split hexDigit hexByte consByte hexPairs readHex end given readBy slotOf byWord stimuli sessionArguments bindingArguments applyArguments batchArguments
+    prepend split hexDigit hexByte cons hexPairs readHex end given readBy atMost numberedEdition byWord stimuli sessionArguments bindingArguments applyArguments batchArguments
     valueBindingArguments valueEntryArguments values valueArguments commands fieldsCommand isRemark command
     dispositionField lifecycleField cursorField placeField sessionFields creationLine lifecycleLine batchLine checkedLine checkLines availabilityLine setUpLine registerLine turnLine noSessionLine otherLine
-    noAnchors start keep withSetup withAnchors withNode withBinding withSession withTurns asked askedTurns created applied batched settled registered turned replayLine replayLines commandsOf replayFrom replay
+    noAnchors start keep withSetup withAnchors withNode withBinding withSession withTurns withEdition asked askedTurns created applied batched settled registered turned replayLine replayLines commandsOf replayFrom replay
 replay-examples = tt

@@ -9,7 +9,7 @@ use lib.Dec.{leb, eqb}
 use lib.ListN.{length, length-append}
 use Rattle.spec_lists.specs.ListLaws.{and-left, and-right, isEmpty-true}
 use Rattle.spec_patch.specs.Patch.{Patch}
-use Rattle.spec_patch.specs.Edition.{v1}
+use Rattle.spec_patch.specs.Edition.{Edition}
 use Rattle.spec_patch.specs.Encode.{encode}
 use Rattle.spec_patch.specs.Read.{patches}
 use Rattle.spec_patch.specs.Fits.{Fits, InRange}
@@ -28,15 +28,15 @@ use Rattle.spec_splitting.specs.Splitting.{Piece, envelopeOf, references
 
 -- ---- a patch list that a session with these limits and this catalogue takes
 
-pub record Acceptable (l : Limits) (c : Catalogue) (ps : List Patch) : Type 0 where
-  pub fits : Fits v1 ps
+pub record Acceptable (ed : Edition) (l : Limits) (c : Catalogue) (ps : List Patch) : Type 0 where
+  pub fits : Fits ed ps
   pub clean : Clean ps
   pub few : length ps ≤ l .patches
   pub references : length (operationsOf ps) ≤ l .references
   pub known : absentTargets c (operationsOf ps) ≡ 0
 
 -- counts of two parts add up to those of the whole
-module _ (l : Limits) (c : Catalogue) (a b : List Patch) (h : Acceptable l c (a ++ b)) where
+module _ (ed : Edition) (l : Limits) (c : Catalogue) (a b : List Patch) (h : Acceptable ed l c (a ++ b)) where
   known-parts : absentTargets c (operationsOf a) + absentTargets c (operationsOf b) ≡ 0
   known-parts = sym (absent-append c (operationsOf a) (operationsOf b)) ∙ ap (absentTargets c) (sym (operationsOf-append a b)) ∙ h .known
 
@@ -46,18 +46,18 @@ module _ (l : Limits) (c : Catalogue) (a b : List Patch) (h : Acceptable l c (a 
   reference-parts : length (operationsOf a) + length (operationsOf b) ≤ l .references
   reference-parts = omega (arith, h .references, ap length (operationsOf-append a b), length-append (operationsOf a) (operationsOf b))
 
-  pub acceptable-left : Acceptable l c a
+  pub acceptable-left : Acceptable ed l c a
   acceptable-left = record {
-    fits = fits-left v1 a b (h .fits);
+    fits = fits-left ed a b (h .fits);
     clean = clean-left a b (h .clean);
     few = omega (arith, few-parts);
     references = omega (arith, reference-parts);
     known = omega (arith, known-parts);
   }
 
-  pub acceptable-right : Acceptable l c b
+  pub acceptable-right : Acceptable ed l c b
   acceptable-right = record {
-    fits = fits-right v1 a b (h .fits);
+    fits = fits-right ed a b (h .fits);
     clean = clean-right a b (h .clean);
     few = omega (arith, few-parts);
     references = omega (arith, reference-parts);
@@ -67,22 +67,22 @@ module _ (l : Limits) (c : Catalogue) (a b : List Patch) (h : Acceptable l c (a 
 -- ---- steps 1 to 8
 
 -- what steps 1 to 8 ask of a batch with the session's id and true counts
-pub record Passes (s : Session) (n : ℕ) (p : Piece) : Type 0 where
-  pub acceptable : Acceptable (s .limits) (s .catalogue) (p .patches)
+pub record Passes (ed : Edition) (s : Session) (n : ℕ) (p : Piece) : Type 0 where
+  pub acceptable : Acceptable ed (s .limits) (s .catalogue) (p .patches)
   pub isOpen : isClosed (s .lifecycle) ≡ false
   pub figure : p .stimulusBytes ≤ s .limits .stimulusBytes
   pub number : (eqb (length (p .patches)) 0 || takesNumber (s .cursor) n) ≡ true
 
-pub checks-pass : (s : Session) (n : ℕ) (p : Piece) → Passes s n p → batchChecks s (envelopeOf s n p) (references p) (encode v1 (p .patches)) ≡ pass (p .patches)
+pub checks-pass : (ed : Edition) (s : Session) (n : ℕ) (p : Piece) → Passes ed s n p → batchChecks ed s (envelopeOf s n p) (references p) (encode ed (p .patches)) ≡ pass (p .patches)
 unfolding batchChecks envelopeOf references require readable knownTargets
-checks-pass s n p h =
+checks-pass ed s n p h =
     let ps = p .patches in
     rw (
       eq-eqb (s .id) (s .id) refl,
       h .isOpen,
       le-leb (length ps) (s .limits .patches) (h .acceptable .few),
       le-leb (p .stimulusBytes) (s .limits .stimulusBytes) (h .figure),
-      reads-back v1 ps (h .acceptable .fits),
+      reads-back ed ps (h .acceptable .fits),
       findings-of-clean ps (h .acceptable .clean),
       eq-eqb (length ps) (length ps) refl,
       eq-eqb (length (operationsOf ps)) (length (operationsOf ps)) refl,
@@ -92,13 +92,13 @@ checks-pass s n p h =
     )
 
 -- the other way: a batch that passes steps 1 to 8 had all that, and its patches are those that were read
-pub passes-of-checks : (s : Session) (n : ℕ) (p : Piece) (ps : List Patch) → InRange (p .patches)
-    → batchChecks s (envelopeOf s n p) (references p) (encode v1 (p .patches)) ≡ pass ps → Passes s n p × (ps ≡ p .patches)
+pub passes-of-checks : (ed : Edition) (s : Session) (n : ℕ) (p : Piece) (ps : List Patch) → InRange (p .patches)
+    → batchChecks ed s (envelopeOf s n p) (references p) (encode ed (p .patches)) ≡ pass ps → Passes ed s n p × (ps ≡ p .patches)
 unfolding envelopeOf references
-passes-of-checks s n p ps r h =
-    let c = checks-passed s (envelopeOf s n p) (references p) (encode v1 (p .patches)) ps h in
-    let f : Fits v1 (p .patches) = fits-if-read v1 (p .patches) ps r (c .reads) in
-    let same : ps ≡ p .patches = patches-inj ps (p .patches) (sym (c .reads) ∙ reads-back v1 (p .patches) f) in
+passes-of-checks ed s n p ps r h =
+    let c = checks-passed ed s (envelopeOf s n p) (references p) (encode ed (p .patches)) ps h in
+    let f : Fits ed (p .patches) = fits-if-read ed (p .patches) ps r (c .reads) in
+    let same : ps ≡ p .patches = patches-inj ps (p .patches) (sym (c .reads) ∙ reads-back ed (p .patches) f) in
     let limits = c .limits in (
       record {
         acceptable = record {

@@ -11,6 +11,7 @@ use Rattle.spec_lists.specs.Lists.{All}
 use Rattle.spec_lists.specs.ListLaws.{or-true}
 use Rattle.spec_patch.specs.Sizes.{largestU64}
 use Rattle.spec_patch.specs.Patch.{Patch}
+use Rattle.spec_patch.specs.Edition.{Edition}
 use Rattle.spec_projection.specs.Projection.{Projection}
 use Rattle.spec_projection.specs.Apply.{OperationFault, Outcome, done, stopped, ReplayStep, replaySteps, andThen, applySteps}
 use Rattle.spec_projection.specs.ApplyLaws.{done-injective, stopped-not-done, applySteps-append, replaySteps-append}
@@ -23,18 +24,18 @@ use Rattle.spec_splitting.specs.Passing.{Acceptable, acceptable-left, ac
 
 -- ---- a list of pieces that a session is ready for, from number n on
 
-pub record Ready (s : Session) (n : ℕ) (pieces : List Piece) : Type 0 where
-  pub acceptable : Acceptable (s .limits) (s .catalogue) (patchesOf pieces)
+pub record Ready (ed : Edition) (s : Session) (n : ℕ) (pieces : List Piece) : Type 0 where
+  pub acceptable : Acceptable ed (s .limits) (s .catalogue) (patchesOf pieces)
   pub isOpen : isClosed (s .lifecycle) ≡ false
   pub nonEmpty : All (λ (p : Piece). 0 < length (p .patches)) pieces
   pub figures : All (λ (p : Piece). p .stimulusBytes ≤ s .limits .stimulusBytes) pieces
   pub number : 0 < length pieces → takesNumber (s .cursor) n ≡ true
   pub numbers : n + length pieces ≤ 2 ^ 64
 
-pub ready-passes : (s : Session) (n : ℕ) (p : Piece) (ps : List Piece) → Ready s n (p ∷ ps) → Passes s n p
+pub ready-passes : (ed : Edition) (s : Session) (n : ℕ) (p : Piece) (ps : List Piece) → Ready ed s n (p ∷ ps) → Passes ed s n p
 unfolding patchesOf flatMap
-ready-passes s n p ps r = record {
-  acceptable = acceptable-left (s .limits) (s .catalogue) (p .patches) (patchesOf ps) (r .acceptable);
+ready-passes ed s n p ps r = record {
+  acceptable = acceptable-left ed (s .limits) (s .catalogue) (p .patches) (patchesOf ps) (r .acceptable);
   isOpen = r .isOpen;
   figure = r .figures .0;
   number = or-true (eqb (length (p .patches)) 0) _ (r .number (omega arith));
@@ -45,10 +46,10 @@ takes-next : (n : ℕ) → n + 1 < 2 ^ 64 → takesNumber (at n) (n + 1) ≡ tru
 unfolding takesNumber
 takes-next n h = rw (lt-ltb n largestU64 (omega arith), eq-eqb (n + 1) (n + 1) refl)
 
-pub ready-next : (s : Session) (n : ℕ) (p : Piece) (ps : List Piece) (q : Projection) → Ready s n (p ∷ ps) → Ready (advanced s n q) (n + 1) ps
+pub ready-next : (ed : Edition) (s : Session) (n : ℕ) (p : Piece) (ps : List Piece) (q : Projection) → Ready ed s n (p ∷ ps) → Ready ed (advanced s n q) (n + 1) ps
 unfolding patchesOf flatMap advanced
-ready-next s n p ps q r = record {
-  acceptable = acceptable-right (s .limits) (s .catalogue) (p .patches) (patchesOf ps) (r .acceptable);
+ready-next ed s n p ps q r = record {
+  acceptable = acceptable-right ed (s .limits) (s .catalogue) (p .patches) (patchesOf ps) (r .acceptable);
   isOpen = r .isOpen;
   nonEmpty = r .nonEmpty .1;
   figures = r .figures .1;
@@ -97,28 +98,28 @@ cursor-next c n (suc k) = ap at (omega arith)
 
 -- ---- one piece
 
-pub send-done : (s : Session) (n : ℕ) (p : Piece) (q : Projection) → Passes s n p → 0 < length (p .patches)
-    → applySteps (s .projection) (replaySteps (p .patches)) ≡ done q → send s n p ≡ applyBatch s n q
+pub send-done : (ed : Edition) (s : Session) (n : ℕ) (p : Piece) (q : Projection) → Passes ed s n p → 0 < length (p .patches)
+    → applySteps (s .projection) (replaySteps (p .patches)) ≡ done q → send ed s n p ≡ applyBatch s n q
 unfolding send batch concludeBatch candidate commit envelopeOf
-send-done s n p q h k e =
-    rw (checks-pass s n p h, e, ne-eqb (length (p .patches)) 0 (λ z. omega arith))
+send-done ed s n p q h k e =
+    rw (checks-pass ed s n p h, e, ne-eqb (length (p .patches)) 0 (λ z. omega arith))
 
-pub send-stopped : (s : Session) (n : ℕ) (p : Piece) (f : OperationFault) → Passes s n p
-    → applySteps (s .projection) (replaySteps (p .patches)) ≡ stopped f → send s n p ≡ rejectBatch s (ofOperation f) 1
+pub send-stopped : (ed : Edition) (s : Session) (n : ℕ) (p : Piece) (f : OperationFault) → Passes ed s n p
+    → applySteps (s .projection) (replaySteps (p .patches)) ≡ stopped f → send ed s n p ≡ rejectBatch s (ofOperation f) 1
 unfolding send batch concludeBatch candidate commit
-send-stopped s n p f h e = rw (checks-pass s n p h, e)
+send-stopped ed s n p f h e = rw (checks-pass ed s n p h, e)
 
 -- ---- a list of pieces
 
-pub sendAll-done : (s : Session) (n : ℕ) (p : Piece) (ps : List Piece) (q : Projection) → send s n p ≡ applyBatch s n q
-    → sendAll s n (p ∷ ps) ≡ record { answers = applyBatch s n q .answer ∷ sendAll (advanced s n q) (n + 1) ps .answers; last = sendAll (advanced s n q) (n + 1) ps .last }
+pub sendAll-done : (ed : Edition) (s : Session) (n : ℕ) (p : Piece) (ps : List Piece) (q : Projection) → send ed s n p ≡ applyBatch s n q
+    → sendAll ed s n (p ∷ ps) ≡ record { answers = applyBatch s n q .answer ∷ sendAll ed (advanced s n q) (n + 1) ps .answers; last = sendAll ed (advanced s n q) (n + 1) ps .last }
 unfolding sendAll continue isRejected applyBatch
-sendAll-done s n p ps q e = rw e
+sendAll-done ed s n p ps q e = rw e
 
-pub sendAll-stopped : (s : Session) (n : ℕ) (p : Piece) (ps : List Piece) (f : OperationFault) → send s n p ≡ rejectBatch s (ofOperation f) 1
-    → sendAll s n (p ∷ ps) ≡ record { answers = rejectBatch s (ofOperation f) 1 .answer ∷ []; last = s }
+pub sendAll-stopped : (ed : Edition) (s : Session) (n : ℕ) (p : Piece) (ps : List Piece) (f : OperationFault) → send ed s n p ≡ rejectBatch s (ofOperation f) 1
+    → sendAll ed s n (p ∷ ps) ≡ record { answers = rejectBatch s (ofOperation f) 1 .answer ∷ []; last = s }
 unfolding sendAll continue isRejected rejectBatch
-sendAll-stopped s n p ps f e = rw e
+sendAll-stopped ed s n p ps f e = rw e
 
 pub beside-refl : (s : Session) → AlikeBeside s s
 beside-refl s = record { id = refl; limits = refl; catalogue = refl; lifecycle = refl }
@@ -136,19 +137,19 @@ pub record Ends (s : Session) (n : ℕ) (pieces : List Piece) (q : Projection) (
   pub projection : r .last .projection ≡ q
   pub cursor : r .last .cursor ≡ cursorAfter (s .cursor) n (length pieces)
 
-pub run-applies : (pieces : List Piece) (s : Session) (n : ℕ) (q : Projection) → Ready s n pieces
-    → applySteps (s .projection) (replaySteps (patchesOf pieces)) ≡ done q → Ends s n pieces q (sendAll s n pieces)
+pub run-applies : (ed : Edition) (pieces : List Piece) (s : Session) (n : ℕ) (q : Projection) → Ready ed s n pieces
+    → applySteps (s .projection) (replaySteps (patchesOf pieces)) ≡ done q → Ends s n pieces q (sendAll ed s n pieces)
 unfolding patchesOf flatMap replaySteps applySteps sendAll cursorAfter applyBatch advanced
-run-applies [] s n q r e = record { sent = refl; apply = tt; beside = beside-refl s; projection = done-injective e; cursor = refl }
-run-applies (p ∷ ps) s n q r e = go (applySteps (s .projection) (replaySteps (p .patches))) refl (run-applies ps)
+run-applies ed [] s n q r e = record { sent = refl; apply = tt; beside = beside-refl s; projection = done-injective e; cursor = refl }
+run-applies ed (p ∷ ps) s n q r e = go (applySteps (s .projection) (replaySteps (p .patches))) refl (run-applies ed ps)
   where
     go : (x : Outcome) → applySteps (s .projection) (replaySteps (p .patches)) ≡ x
-        → ((t : Session) (k : ℕ) (z : Projection) → Ready t k ps → applySteps (t .projection) (replaySteps (patchesOf ps)) ≡ done z → Ends t k ps z (sendAll t k ps))
-        → Ends s n (p ∷ ps) q (sendAll s n (p ∷ ps))
+        → ((t : Session) (k : ℕ) (z : Projection) → Ready ed t k ps → applySteps (t .projection) (replaySteps (patchesOf ps)) ≡ done z → Ends t k ps z (sendAll ed t k ps))
+        → Ends s n (p ∷ ps) q (sendAll ed s n (p ∷ ps))
     go (stopped f) g ih = absurd (stopped-not-done (sym (stops (s .projection) (p .patches) (patchesOf ps) f g) ∙ e))
     go (done m) g ih =
-        let rest = ih (advanced s n m) (n + 1) q (ready-next s n p ps m r) (sym (goes-on (s .projection) (p .patches) (patchesOf ps) m g) ∙ e) in
-        rw (sendAll-done s n p ps m (send-done s n p m (ready-passes s n p ps r) (r .nonEmpty .0) g))
+        let rest = ih (advanced s n m) (n + 1) q (ready-next ed s n p ps m r) (sym (goes-on (s .projection) (p .patches) (patchesOf ps) m g) ∙ e) in
+        rw (sendAll-done ed s n p ps m (send-done ed s n p m (ready-passes ed s n p ps r) (r .nonEmpty .0) g))
         (record {
           sent = ap suc (rest .sent);
           apply = (refl, rest .apply);

@@ -1,4 +1,5 @@
--- What the theorem on split batches says: 01, 'Whole and pieces'. A patch list is sent whole, and the same list is sent in pieces.
+-- What the theorem on split batches says: 01, 'Whole and pieces'. A patch list is sent whole, and the same list is sent in pieces, all in
+-- one edition, which each call is told (02, 'Job 13').
 use Prim.Native.Nat.{ℕ, zero, suc, _+_, _-_, _≤_, _<_, _^_}
 use mathlib.Core.Path.{_≡_}
 use mathlib.Core.Bool.{Bool, true, false}
@@ -6,7 +7,7 @@ use mathlib.Core.List.{List, [], _∷_, _++_, flatMap}
 use lib.ListN.{length}
 use Rattle.spec_lists.specs.Lists.{if_then_else_, All}
 use Rattle.spec_patch.specs.Patch.{Patch}
-use Rattle.spec_patch.specs.Edition.{v1}
+use Rattle.spec_patch.specs.Edition.{Edition}
 use Rattle.spec_patch.specs.Encode.{encode}
 use Rattle.spec_patch.specs.Fits.{InRange}
 use Rattle.spec_projection.specs.Projection.{Projection}
@@ -32,8 +33,8 @@ unfoldable pub references : Piece → ℕ
 references p = length (operationsOf (p .patches))
 
 -- a batch call with that envelope, the true counts and the canonical bytes
-unfoldable pub send : Session → ℕ → Piece → BatchStep
-send s n p = batch s (envelopeOf s n p) (references p) (encode v1 (p .patches))
+unfoldable pub send : Edition → Session → ℕ → Piece → BatchStep
+send ed s n p = batch ed s (envelopeOf s n p) (references p) (encode ed (p .patches))
 
 -- what sending a list of pieces gives: the answers in order, and the session that was handed back last
 pub record Run : Type 0 where
@@ -53,9 +54,9 @@ continue b r =
     else record { answers = b .answer ∷ r .answers; last = r .last }
 
 -- piece i, from 0, carries the number n + i; it goes to the session just handed back, until a piece is refused
-unfoldable pub sendAll : Session → ℕ → List Piece → Run
-sendAll s n [] = record { answers = []; last = s }
-sendAll s n (p ∷ ps) = continue (send s n p) (sendAll (send s n p .next) (n + 1) ps)
+unfoldable pub sendAll : Edition → Session → ℕ → List Piece → Run
+sendAll ed s n [] = record { answers = []; last = s }
+sendAll ed s n (p ∷ ps) = continue (send ed s n p) (sendAll ed (send ed s n p .next) (n + 1) ps)
 
 -- the pieces' patches, in order
 unfoldable pub patchesOf : List Piece → List Patch
@@ -97,9 +98,9 @@ pub record AllApply (n : ℕ) (whole : BatchStep) (pieces : List Piece) (r : Run
   pub cursor : r .last .cursor ≡ at (n + (length pieces - 1))
 
 -- to fail only at an operation is to pass steps 1 to 8 and to fail in step 9
-pub record FailsAtOperation (s : Session) (n : ℕ) (whole : Piece) : Type 0 where
+pub record FailsAtOperation (ed : Edition) (s : Session) (n : ℕ) (whole : Piece) : Type 0 where
   pub patches : List Patch
-  pub passes : batchChecks s (envelopeOf s n whole) (references whole) (encode v1 (whole .patches)) ≡ pass patches
+  pub passes : batchChecks ed s (envelopeOf s n whole) (references whole) (encode ed (whole .patches)) ≡ pass patches
   pub fault : OperationFault
   pub fails : applySteps (s .projection) (replaySteps patches) ≡ stopped fault
 
@@ -143,8 +144,8 @@ pub record StopsAtPiece (s : Session) (n : ℕ) (whole : Piece) (fault : Operati
   pub cursor : r .last .cursor ≡ cursorAfter (s .cursor) n (length before)
 
 -- the claim for one starting session, number, whole and list of pieces
-pub record WholeAndPieces (s : Session) (n : ℕ) (whole : Piece) (pieces : List Piece) : Type 0 where
+pub record WholeAndPieces (ed : Edition) (s : Session) (n : ℕ) (whole : Piece) (pieces : List Piece) : Type 0 where
   -- where the whole applies
-  pub applies : Applies (send s n whole .answer) → AllApply n (send s n whole) pieces (sendAll s n pieces)
+  pub applies : Applies (send ed s n whole .answer) → AllApply n (send ed s n whole) pieces (sendAll ed s n pieces)
   -- where the whole fails only at an operation
-  pub fails : (f : FailsAtOperation s n whole) → StopsAtPiece s n whole (f .fault) (send s n whole .answer .diagnostics) pieces (sendAll s n pieces)
+  pub fails : (f : FailsAtOperation ed s n whole) → StopsAtPiece s n whole (f .fault) (send ed s n whole .answer .diagnostics) pieces (sendAll ed s n pieces)

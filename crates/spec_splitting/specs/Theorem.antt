@@ -7,7 +7,7 @@ use borrow.Author.Tests.{ne-eqb}
 use lib.ListN.{length, length-append}
 use Rattle.spec_lists.specs.Lists.{All}
 use Rattle.spec_lists.specs.ListLaws.{or-second}
-use Rattle.spec_patch.specs.Edition.{v1}
+use Rattle.spec_patch.specs.Edition.{Edition}
 use Rattle.spec_patch.specs.Encode.{encode}
 use Rattle.spec_projection.specs.Projection.{Projection}
 use Rattle.spec_projection.specs.Apply.{OperationFault, Outcome, done, stopped, replaySteps, applySteps}
@@ -23,14 +23,14 @@ use Rattle.spec_splitting.specs.Runs.{Ready, ready-passes, ready-next, g
 -- ---- one piece is refused
 
 -- the same claim for the list of pieces itself, with the steps of their patches
-module _ (p : Piece) (ps : List Piece) (s : Session) (n : ℕ) (f : OperationFault) (r : Ready s n (p ∷ ps)) where
+module _ (ed : Edition) (p : Piece) (ps : List Piece) (s : Session) (n : ℕ) (f : OperationFault) (r : Ready ed s n (p ∷ ps)) where
   -- the failing step is one of the first piece
   stops-first : applySteps (s .projection) (replaySteps (p .patches)) ≡ stopped f → (whole : Piece) → whole .patches ≡ patchesOf (p ∷ ps)
-      → StopsAtPiece s n whole f (diagnosticsOf (s .limits .diagnostics) (ofOperation f) 1) (p ∷ ps) (sendAll s n (p ∷ ps))
+      → StopsAtPiece s n whole f (diagnosticsOf (s .limits .diagnostics) (ofOperation f) 1) (p ∷ ps) (sendAll ed s n (p ∷ ps))
   unfolding patchesOf flatMap replaySteps applySteps rejectBatch cursorAfter
   stops-first g whole cut =
       let w = failure (s .projection) (replaySteps (p .patches)) f g in
-      rw (sendAll-stopped s n p ps f (send-stopped s n p f (ready-passes s n p ps r) g))
+      rw (sendAll-stopped ed s n p ps f (send-stopped ed s n p f (ready-passes ed s n p ps r) g))
       (record {
         before = [];
         piece = p;
@@ -62,13 +62,13 @@ module _ (p : Piece) (ps : List Piece) (s : Session) (n : ℕ) (f : OperationFau
   -- it is one of a later piece
   stops-later : (q : Projection) → applySteps (s .projection) (replaySteps (p .patches)) ≡ done q
       → (later : Piece) → later .patches ≡ patchesOf ps
-      → StopsAtPiece (advanced s n q) (n + 1) later f (diagnosticsOf (s .limits .diagnostics) (ofOperation f) 1) ps (sendAll (advanced s n q) (n + 1) ps)
+      → StopsAtPiece (advanced s n q) (n + 1) later f (diagnosticsOf (s .limits .diagnostics) (ofOperation f) 1) ps (sendAll ed (advanced s n q) (n + 1) ps)
       → (whole : Piece) → whole .patches ≡ patchesOf (p ∷ ps)
-      → StopsAtPiece s n whole f (diagnosticsOf (s .limits .diagnostics) (ofOperation f) 1) (p ∷ ps) (sendAll s n (p ∷ ps))
+      → StopsAtPiece s n whole f (diagnosticsOf (s .limits .diagnostics) (ofOperation f) 1) (p ∷ ps) (sendAll ed s n (p ∷ ps))
   unfolding patchesOf flatMap applyBatch advanced cursorAfter
   stops-later q g later cutLater w whole cut =
       let o = w .operation in
-      rw (sendAll-done s n p ps q (send-done s n p q (ready-passes s n p ps r) (r .nonEmpty .0) g))
+      rw (sendAll-done ed s n p ps q (send-done ed s n p q (ready-passes ed s n p ps r) (r .nonEmpty .0) g))
       (record {
         before = p ∷ w .before;
         piece = w .piece;
@@ -101,25 +101,25 @@ module _ (p : Piece) (ps : List Piece) (s : Session) (n : ℕ) (f : OperationFau
 together : List Piece → Piece
 together ps = record { patches = patchesOf ps; stimulusBytes = 0 }
 
-run-stops : (pieces : List Piece) (s : Session) (n : ℕ) (f : OperationFault) → Ready s n pieces
+run-stops : (ed : Edition) (pieces : List Piece) (s : Session) (n : ℕ) (f : OperationFault) → Ready ed s n pieces
     → applySteps (s .projection) (replaySteps (patchesOf pieces)) ≡ stopped f → (whole : Piece) → whole .patches ≡ patchesOf pieces
-    → StopsAtPiece s n whole f (diagnosticsOf (s .limits .diagnostics) (ofOperation f) 1) pieces (sendAll s n pieces)
+    → StopsAtPiece s n whole f (diagnosticsOf (s .limits .diagnostics) (ofOperation f) 1) pieces (sendAll ed s n pieces)
 unfolding patchesOf flatMap replaySteps applySteps together advanced
-run-stops [] s n f r e whole cut = absurd (stopped-not-done (sym e))
-run-stops (p ∷ ps) s n f r e whole cut = go (applySteps (s .projection) (replaySteps (p .patches))) refl
-    (λ q g. run-stops ps (advanced s n q) (n + 1) f (ready-next s n p ps q r) (sym (goes-on (s .projection) (p .patches) (patchesOf ps) q g) ∙ e) (together ps) refl)
+run-stops ed [] s n f r e whole cut = absurd (stopped-not-done (sym e))
+run-stops ed (p ∷ ps) s n f r e whole cut = go (applySteps (s .projection) (replaySteps (p .patches))) refl
+    (λ q g. run-stops ed ps (advanced s n q) (n + 1) f (ready-next ed s n p ps q r) (sym (goes-on (s .projection) (p .patches) (patchesOf ps) q g) ∙ e) (together ps) refl)
   where
     same-fault : (x y : OperationFault) → stopped x ≡ stopped y → x ≡ y
     same-fault x y e = cc
 
     go : (x : Outcome) → applySteps (s .projection) (replaySteps (p .patches)) ≡ x
         → ((q : Projection) → applySteps (s .projection) (replaySteps (p .patches)) ≡ done q
-        → StopsAtPiece (advanced s n q) (n + 1) (together ps) f (diagnosticsOf (s .limits .diagnostics) (ofOperation f) 1) ps (sendAll (advanced s n q) (n + 1) ps))
-        → StopsAtPiece s n whole f (diagnosticsOf (s .limits .diagnostics) (ofOperation f) 1) (p ∷ ps) (sendAll s n (p ∷ ps))
+        → StopsAtPiece (advanced s n q) (n + 1) (together ps) f (diagnosticsOf (s .limits .diagnostics) (ofOperation f) 1) ps (sendAll ed (advanced s n q) (n + 1) ps))
+        → StopsAtPiece s n whole f (diagnosticsOf (s .limits .diagnostics) (ofOperation f) 1) (p ∷ ps) (sendAll ed s n (p ∷ ps))
     go (stopped i) g ih =
         let same : i ≡ f = same-fault i f (sym (stops (s .projection) (p .patches) (patchesOf ps) i g) ∙ e) in
-        stops-first p ps s n f r (g ∙ ap stopped same) whole cut
-    go (done q) g ih = stops-later p ps s n f r q g (together ps) refl (ih q g) whole cut
+        stops-first ed p ps s n f r (g ∙ ap stopped same) whole cut
+    go (done q) g ih = stops-later ed p ps s n f r q g (together ps) refl (ih q g) whole cut
 
 -- ---- the theorem
 
@@ -139,8 +139,8 @@ cursor-last c n zero h = absurd (omega arith)
 cursor-last c n (suc k) h = ap at (omega arith)
 
 -- the session is ready for the pieces, if the whole passes steps 1 to 8
-ready : (s : Session) (n : ℕ) (whole : Piece) (pieces : List Piece) → Given s n whole pieces → Passes s n whole → Ready s n pieces
-ready s n whole pieces g h = record {
+ready : (ed : Edition) (s : Session) (n : ℕ) (whole : Piece) (pieces : List Piece) → Given s n whole pieces → Passes ed s n whole → Ready ed s n pieces
+ready ed s n whole pieces g h = record {
   acceptable = rw (g .cut) (h .acceptable);
   isOpen = h .isOpen;
   nonEmpty = g .nonEmpty;
@@ -150,22 +150,22 @@ ready s n whole pieces g h = record {
 }
 
 -- a piece that applied is a batch that was applied
-send-applied : (s : Session) (n : ℕ) (p : Piece) → Applies (send s n p .answer) → Applied s (envelopeOf s n p) (references p) (encode v1 (p .patches))
+send-applied : (ed : Edition) (s : Session) (n : ℕ) (p : Piece) → Applies (send ed s n p .answer) → Applied ed s (envelopeOf s n p) (references p) (encode ed (p .patches))
 unfolding send
-send-applied s n p a = batch-applied s (envelopeOf s n p) (references p) (encode v1 (p .patches)) a
+send-applied ed s n p a = batch-applied ed s (envelopeOf s n p) (references p) (encode ed (p .patches)) a
 
 pos-of-ne : {k : ℕ} → (k ≡ 0 → ⊥) → 0 < k
 pos-of-ne {k = zero} h = absurd (h refl)
 pos-of-ne {k = suc k} h = omega arith
 
-all-apply : (s : Session) (n : ℕ) (whole : Piece) (pieces : List Piece) → Given s n whole pieces
-    → Applies (send s n whole .answer) → AllApply n (send s n whole) pieces (sendAll s n pieces)
+all-apply : (ed : Edition) (s : Session) (n : ℕ) (whole : Piece) (pieces : List Piece) → Given s n whole pieces
+    → Applies (send ed s n whole .answer) → AllApply n (send ed s n whole) pieces (sendAll ed s n pieces)
 unfolding applyBatch advanced send envelopeOf
-all-apply s n whole pieces g a =
-    let i = send-applied s n whole a in
-    let h = passes-of-checks s n whole (i .patches) (g .inRange) (i .passes) in
+all-apply ed s n whole pieces g a =
+    let i = send-applied ed s n whole a in
+    let h = passes-of-checks ed s n whole (i .patches) (g .inRange) (i .passes) in
     let e : applySteps (s .projection) (replaySteps (patchesOf pieces)) ≡ done (i .result) = ap (λ ps. applySteps (s .projection) (replaySteps ps)) (g .cut ∙ sym (h .1)) ∙ i .runs in
-    let w = run-applies pieces s n (i .result) (ready s n whole pieces g (h .0)) e in
+    let w = run-applies ed pieces s n (i .result) (ready ed s n whole pieces g (h .0)) e in
     rw (i .step)
     (record {
       sent = w .sent;
@@ -175,14 +175,14 @@ all-apply s n whole pieces g a =
       cursor = w .cursor ∙ cursor-last (s .cursor) n (length pieces) (some-pieces pieces (rw (g .cut) (pos-of-ne (i .nonEmpty))));
     })
 
-stop-there : (s : Session) (n : ℕ) (whole : Piece) (pieces : List Piece) → Given s n whole pieces
-    → (f : FailsAtOperation s n whole) → StopsAtPiece s n whole (f .fault) (send s n whole .answer .diagnostics) pieces (sendAll s n pieces)
+stop-there : (ed : Edition) (s : Session) (n : ℕ) (whole : Piece) (pieces : List Piece) → Given s n whole pieces
+    → (f : FailsAtOperation ed s n whole) → StopsAtPiece s n whole (f .fault) (send ed s n whole .answer .diagnostics) pieces (sendAll ed s n pieces)
 unfolding send batch concludeBatch candidate commit rejectBatch
-stop-there s n whole pieces g f =
-    let h = passes-of-checks s n whole (f .patches) (g .inRange) (f .passes) in
+stop-there ed s n whole pieces g f =
+    let h = passes-of-checks ed s n whole (f .patches) (g .inRange) (f .passes) in
     let e : applySteps (s .projection) (replaySteps (patchesOf pieces)) ≡ stopped (f .fault) = ap (λ ps. applySteps (s .projection) (replaySteps ps)) (g .cut ∙ sym (h .1)) ∙ f .fails in
-    let d : send s n whole .answer .diagnostics ≡ diagnosticsOf (s .limits .diagnostics) (ofOperation (f .fault)) 1 = rw (f .passes, f .fails) in
-    rw d (run-stops pieces s n (f .fault) (ready s n whole pieces g (h .0)) e whole (sym (g .cut)))
+    let d : send ed s n whole .answer .diagnostics ≡ diagnosticsOf (s .limits .diagnostics) (ofOperation (f .fault)) 1 = rw (f .passes, f .fails) in
+    rw d (run-stops ed pieces s n (f .fault) (ready ed s n whole pieces g (h .0)) e whole (sym (g .cut)))
 
-pub whole-and-pieces : (s : Session) (n : ℕ) (whole : Piece) (pieces : List Piece) → Given s n whole pieces → WholeAndPieces s n whole pieces
-whole-and-pieces s n whole pieces g = record { applies = all-apply s n whole pieces g; fails = stop-there s n whole pieces g }
+pub whole-and-pieces : (ed : Edition) (s : Session) (n : ℕ) (whole : Piece) (pieces : List Piece) → Given s n whole pieces → WholeAndPieces ed s n whole pieces
+whole-and-pieces ed s n whole pieces g = record { applies = all-apply ed s n whole pieces g; fails = stop-there ed s n whole pieces g }

@@ -10,6 +10,7 @@ use Rattle.spec_lists.specs.Lists.{if_then_else_}
 use Rattle.spec_lists.specs.ListLaws.{and-left, and-right, or-true}
 use Rattle.spec_patch.specs.Sizes.{largestU64}
 use Rattle.spec_patch.specs.Patch.{Patch}
+use Rattle.spec_patch.specs.Edition.{Edition}
 use Rattle.spec_session.specs.Session.{Cursor, uninitialized, at, Session}
 use Rattle.spec_session.specs.Diagnostics.{cursorMismatch}
 use Rattle.spec_session.specs.Batch.{BatchEnvelope, pass, refuse, _>>_, require, readable, knownTargets, takesNumber, batchChecks}
@@ -56,29 +57,29 @@ number-at-end (at m) e =
 -- ---- in a batch that passes all other steps
 
 -- step 8 alone decides
-step-8 : (s : Session) (e : BatchEnvelope) (references : ℕ) (set : List ℕ) (ps : List Patch) → batchChecks (withoutCursor s) e references set ≡ pass ps
-    → batchChecks s e references set ≡ (require (eqb (e .patches) 0 || takesNumber (s .cursor) (e .sequence)) cursorMismatch >> pass ps)
+step-8 : (ed : Edition) (s : Session) (e : BatchEnvelope) (references : ℕ) (set : List ℕ) (ps : List Patch) → batchChecks ed (withoutCursor s) e references set ≡ pass ps
+    → batchChecks ed s e references set ≡ (require (eqb (e .patches) 0 || takesNumber (s .cursor) (e .sequence)) cursorMismatch >> pass ps)
 unfolding batchChecks withoutCursor require readable knownTargets
-step-8 s e references set ps h =
-    let c = checks-passed (withoutCursor s) e references set ps h in
+step-8 ed s e references set ps h =
+    let c = checks-passed ed (withoutCursor s) e references set ps h in
     rw (c .session, c .isOpen, c .limits, c .reads, c .clean, c .counts, c .fewReferences, c .targets)
 
 -- before the cursor's end a batch of the turn's number passes
-pub turn-number-passes : (s : Session) (e : BatchEnvelope) (references : ℕ) (set : List ℕ) (ps : List Patch) → CursorFits (s .cursor) → atEnd (s .cursor) ≡ false
-    → e .sequence ≡ numberAfter (s .cursor) → batchChecks (withoutCursor s) e references set ≡ pass ps → batchChecks s e references set ≡ pass ps
+pub turn-number-passes : (ed : Edition) (s : Session) (e : BatchEnvelope) (references : ℕ) (set : List ℕ) (ps : List Patch) → CursorFits (s .cursor) → atEnd (s .cursor) ≡ false
+    → e .sequence ≡ numberAfter (s .cursor) → batchChecks ed (withoutCursor s) e references set ≡ pass ps → batchChecks ed s e references set ≡ pass ps
 unfolding require
-turn-number-passes s e references set ps holds below number h =
-    step-8 s e references set ps h ∙ ap (λ t. require t cursorMismatch >> pass ps) (or-true (eqb (e .patches) 0) _ (rw number (number-taken (s .cursor) holds below)))
+turn-number-passes ed s e references set ps holds below number h =
+    step-8 ed s e references set ps h ∙ ap (λ t. require t cursorMismatch >> pass ps) (or-true (eqb (e .patches) 0) _ (rw number (number-taken (s .cursor) holds below)))
 
 -- at its end one with patches gives 7, whatever its number
-pub turn-number-at-end : (s : Session) (e : BatchEnvelope) (references : ℕ) (set : List ℕ) (ps : List Patch) → atEnd (s .cursor) ≡ true → (e .patches ≡ 0 → ⊥)
-    → batchChecks (withoutCursor s) e references set ≡ pass ps → batchChecks s e references set ≡ refuse cursorMismatch 1
+pub turn-number-at-end : (ed : Edition) (s : Session) (e : BatchEnvelope) (references : ℕ) (set : List ℕ) (ps : List Patch) → atEnd (s .cursor) ≡ true → (e .patches ≡ 0 → ⊥)
+    → batchChecks ed (withoutCursor s) e references set ≡ pass ps → batchChecks ed s e references set ≡ refuse cursorMismatch 1
 unfolding require
-turn-number-at-end s e references set ps end more h =
-    step-8 s e references set ps h ∙ rw (ne-eqb (e .patches) 0 more, number-at-end (s .cursor) end .1 (e .sequence))
+turn-number-at-end ed s e references set ps end more h =
+    step-8 ed s e references set ps h ∙ rw (ne-eqb (e .patches) 0 more, number-at-end (s .cursor) end .1 (e .sequence))
 
 -- and one without patches passes, whatever the cursor
-pub no-patches-pass : (s : Session) (e : BatchEnvelope) (references : ℕ) (set : List ℕ) (ps : List Patch) → e .patches ≡ 0
-    → batchChecks (withoutCursor s) e references set ≡ pass ps → batchChecks s e references set ≡ pass ps
+pub no-patches-pass : (ed : Edition) (s : Session) (e : BatchEnvelope) (references : ℕ) (set : List ℕ) (ps : List Patch) → e .patches ≡ 0
+    → batchChecks ed (withoutCursor s) e references set ≡ pass ps → batchChecks ed s e references set ≡ pass ps
 unfolding require
-no-patches-pass s e references set ps none h = step-8 s e references set ps h ∙ rw (eq-eqb (e .patches) 0 none)
+no-patches-pass ed s e references set ps none h = step-8 ed s e references set ps h ∙ rw (eq-eqb (e .patches) 0 none)

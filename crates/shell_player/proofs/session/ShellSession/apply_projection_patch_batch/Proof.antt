@@ -11,7 +11,6 @@ use native.Mathlib.Omega.{arith}
 use borrow.Author.Needs.{needs}
 use borrow.Author.Tests.{eq-eqb, eqb-true}
 use Rattle.spec_patch.specs.Patch.{Patch}
-use Rattle.spec_patch.specs.Edition.{v1}
 use Rattle.spec_patch.specs.Read.{patches, readSet}
 use Rattle.spec_session.specs.Session.{at, Session}
 use Rattle.spec_session.specs.Lifecycle.{applied}
@@ -31,6 +30,7 @@ use Rattle.session_gates.specs.declared.gates.OrderedProjectionPatchBatchEnvelo
 use Rattle.session_steps.specs.declared.answers.ProjectionPatchApplicationResult.{ProjectionPatchApplicationResult}
 use Rattle.session_steps.specs.Answers.{batchAnswerOf, answerAt, changeAnswer, Stopped, rejectedRow, unchangedRow, appliedRow}
 use Rattle.session_steps.specs.AnswersLaws.{same-rejection, change-row}
+use Rattle.projection_patch.specs.Meaning.{editionOf}
 use Rattle.shell_player.specs.declared.session.ShellSession.{ShellSession}
 use Rattle.shell_player.specs.declared.batch.ProjectionPatchBatch.{ProjectionPatchBatch}
 use Rattle.shell_player.specs.Holds.{Holds}
@@ -55,7 +55,7 @@ abbrev Tables : tie.After-apply-set → SetChange → (m : Session) (ps : List P
 Tables c r m ps = ChangeBecame (λ n q. StoredTables n (c .apply-set .last .1 .1 .1 .1 .1 .0) (c .apply-set .last .1 .1 .1 .1 .1 .1 .0) (c .apply-set .last .1 .1 .1 .1 .1 .1 .1 .0) q) r (candidate m ps)
 
 -- what came of the operations
-became : (c : tie.After-apply-set) → let a = c .before .before .before .before .before .before .before .before .before .before .before .before .before .before .before .before .before .before .before .before .before .args in (m : Session) (ps : List Patch) → Holds (a .t1) m → readSet v1 (now (a .set)) ≡ patches ps → Tables c (c .apply-set .result) m ps
+became : (c : tie.After-apply-set) → let a = c .before .before .before .before .before .before .before .before .before .before .before .before .before .before .before .before .before .before .before .before .before .args in (m : Session) (ps : List Patch) → Holds (a .t1) m → readSet (editionOf (a .edition)) (now (a .set)) ≡ patches ps → Tables c (c .apply-set .result) m ps
 unfolding candidate
 became c m ps h reads = c .apply-set .ensures .0 (m .projection) ps (h .projection) reads (subst (λ (u : ProjectionCounts). Ready u (zeros bindingBytes) (zeros availabilityBytes) (zeros entryBytes)) (sym (c .before .before .before .before .before .before .before .before .before .before .before .before .none-used .ensures)) zeros-ready)
 
@@ -83,7 +83,7 @@ returns c =
     let checked = c .before .before .before .before .before .check-session .ensures in
     let answer = c .before .rejected .ensures in
     told _ _ (c .batch-of .ensures) (
-      record { became = λ m h. batch-rejects _ m h _ _ _ _ _ _ (gate ∙ checked .0 m (seen _ m h)) answer },
+      record { became = λ m h. batch-rejects _ m h _ _ _ _ _ _ _ (gate ∙ checked .0 m (seen _ m h)) answer },
       record {
         kept = λ n. refl;
         row = rejectedRow _ _ (ap counted gate ∙ checked .1 .0) answer;
@@ -110,7 +110,7 @@ returns-2 c =
     let checked = c .before .before .before .before .before .before .check-session .ensures in
     let answer = c .before .unchanged .ensures in
     told _ _ (c .batch-of2 .ensures) (
-      record { became = λ m h. batch-commits _ m h _ _ _ _ (gate ∙ checked .0 m (seen _ m h)) (λ ps reads count. commits-none _ m h _ ps _ answer (eqb-true _ 0 (sym (c .before .before .before .is-empty .ensures) ∙ c .before .before .if1 .taken)) count) },
+      record { became = λ m h. batch-commits _ m h _ _ _ _ _ (gate ∙ checked .0 m (seen _ m h)) (λ ps reads count. commits-none _ m h _ ps _ answer (eqb-true _ 0 (sym (c .before .before .before .is-empty .ensures) ∙ c .before .before .if1 .taken)) count) },
       record {
         kept = λ n. refl;
         row = unchangedRow answer;
@@ -151,7 +151,7 @@ returns-3 c =
     let change = call .apply-set .result in
     let answer = c .before .before .concluded .ensures in
     told _ _ (c .batch-of3 .ensures) (
-      record { became = λ m h. batch-commits _ m h _ _ _ _ (gate ∙ checked .0 m (seen _ m h)) (λ ps reads count. commits-stopped _ m h _ ps change _ _ (other change (c .before .match2 .keys2)) (became call m ps h reads) answer) },
+      record { became = λ m h. batch-commits _ m h _ _ _ _ _ (gate ∙ checked .0 m (seen _ m h)) (λ ps reads count. commits-stopped _ m h _ ps change _ _ (other change (c .before .match2 .keys2)) (became call m ps h reads) answer) },
       record {
         kept = λ n. refl;
         row = change-row _ _ _ _ change answer;
@@ -171,7 +171,7 @@ unfolding changeAnswer
 answered c = c .before .before .before .before .before .concluded .ensures ∙ ap (changeAnswer _ _ _) (c .before .before .before .change .given .1)
 
 -- the session that was made of the tables
-handed : (c : tie.After-session-of) → let a = c .before .before .before .before .before .before .before .before .before .before .before .before .before .before .before .before .before .before .before .before .before .before .before .before .before .before .before .before .before .before .args in (m : Session) (ps : List Patch) → Holds (a .t1) m → readSet v1 (now (a .set)) ≡ patches ps → (a .envelope .«patch_count» ≡ 0 → ⊥)
+handed : (c : tie.After-session-of) → let a = c .before .before .before .before .before .before .before .before .before .before .before .before .before .before .before .before .before .before .before .before .before .before .before .before .before .before .before .before .before .before .args in (m : Session) (ps : List Patch) → Holds (a .t1) m → readSet (editionOf (a .edition)) (now (a .set)) ≡ patches ps → (a .envelope .«patch_count» ≡ 0 → ⊥)
     → BatchBecame (batchOf (c .session-of .result) (c .before .before .before .before .before .concluded .result)) (commit m (envelopeMeans (a .envelope)) (candidate m ps))
 handed c m ps h reads some =
     let a = c .before .before .before .before .before .before .before .before .before .before .before .before .before .before .before .before .before .before .before .before .before .before .before .before .before .before .before .before .before .before .args in
@@ -193,7 +193,7 @@ returns-4 c =
     let checked = made .before .before .before .before .before .before .before .before .before .before .before .before .before .before .before .before .before .before .before .before .before .before .before .before .before .before .check-session .ensures in
     told _ _ (c .batch-of4 .ensures) (
       record {
-        became = λ m h. batch-commits _ m h _ _ _ _ (gate ∙ checked .0 m (seen _ m h)) (λ ps reads count. handed made m ps h reads (λ none. false≢true (sym (sym (made .before .before .before .before .before .before .before .before .before .before .before .before .before .before .before .before .before .before .before .before .before .before .before .is-empty .ensures) ∙ made .before .before .before .before .before .before .before .before .before .before .before .before .before .before .before .before .before .before .before .before .before .before .if1 .left) ∙ eq-eqb _ 0 none)));
+        became = λ m h. batch-commits _ m h _ _ _ _ _ (gate ∙ checked .0 m (seen _ m h)) (λ ps reads count. handed made m ps h reads (λ none. false≢true (sym (sym (made .before .before .before .before .before .before .before .before .before .before .before .before .before .before .before .before .before .before .before .before .before .before .before .is-empty .ensures) ∙ made .before .before .before .before .before .before .before .before .before .before .before .before .before .before .before .before .before .before .before .before .before .before .if1 .left) ∙ eq-eqb _ 0 none)));
       },
       record {
         kept = kept-applied _ _ _ (answered made);
