@@ -11,7 +11,7 @@ use borrow.Author.Tests.{le-leb, leb-true}
 use Rattle.spec_lists.specs.Lists.{if_then_else_, all, equalLists}
 use Rattle.spec_lists.specs.ListLaws.{test-cases}
 use Rattle.spec_decimal.specs.Decimal.{isDigit}
-use Rattle.spec_replay.specs.Hex.{hexDigit, hexByte, consByte, hexPairs, readHex}
+use Rattle.spec_replay.specs.Hex.{hexDigit, hexByte, cons, hexPairs, readHex}
 use Rattle.bytes_wire.specs.Write.{hasRoom, overwrite}
 use Rattle.bytes_wire.specs.WriteLaws.{has-room, take-overwrite}
 use Rattle.bytes_hex.specs.declared.Decoded.the-variants as Answer
@@ -27,7 +27,7 @@ digit-none b h = test-cases (isDigit b) (λ d. let z : _≡_ {A = ℕ} 0 1 = cc 
 
 -- what pairs spell, by a test and the bytes
 pub hexPairs-is : (text : List ℕ) → hexPairs text ≡ (if isPairs text then some (pairBytes text) else none)
-unfolding hexPairs isPairs pairBytes hexByte consByte
+unfolding hexPairs isPairs pairBytes hexByte cons
 hexPairs-is [] = refl
 hexPairs-is (h ∷ []) = refl
 hexPairs-is (h ∷ l ∷ rest) =
@@ -39,7 +39,7 @@ hexPairs-is (h ∷ l ∷ rest) =
     (λ q. rw (digit-some h p, digit-none l q, p, q) (none-else (eqb (suc (suc (length rest)) % 2) 0) _)))
     (λ p. rw (digit-none h p, p) (none-else (eqb (suc (suc (length rest)) % 2) 0) _))
   where
-    by-test : (t : Bool) (b : ℕ) (bs : List ℕ) → consByte (some b) (if t then some bs else none) ≡ (if t then some (b ∷ bs) else none)
+    by-test : (t : Bool) (b : ℕ) (bs : List ℕ) → cons (some b) (if t then some bs else none) ≡ (if t then some (b ∷ bs) else none)
     by-test true b bs = refl
     by-test false b bs = refl
 

@@ -1,4 +1,5 @@
 // The lines of a listing: 01, 'Listing'. A record's line is printed from its stored row.
+mod escapes;
 pub mod tables;
 
 ghost use mathlib.Core.Path.{_≡_};
@@ -8,6 +9,7 @@ ghost use lib.ListN.{take};
 ghost use Rattle.spec_projection.specs.Projection.{Binding, NodeAvailability, Entry};
 ghost use Rattle.spec_projection.specs.Valid.{FitsBinding, FitsNodeAvailability, FitsEntry};
 ghost use Rattle.spec_decimal.specs.Decimal.{decimal};
+ghost use Rattle.spec_listing.specs.Escapes.{escaped};
 ghost use Rattle.spec_listing.specs.Listing.{fields, bindingLine, availabilityLine, entryLine};
 ghost use Rattle.bytes_printer.specs.Prints.{field, Prints};
 ghost use Rattle.panel_rows.specs.Rows.{bindingRow, availabilityRow, entryRow};
@@ -26,15 +28,22 @@ fn print_letter(out: &mut [u8], at: Printed, letter: u8) -> Printed
     bytes_printer::print_byte(out, tab, letter)
 }
 
+// The letter of a kind, a number, and the end of the line.
+fn print_kind_number(out: &mut [u8], at: Printed, letter: u8, n: u64) -> Printed
+    ensures { λ r. ⌜ Prints (now (out .entry)) at (fields ((letter ∷ []) ∷ decimal n ∷ [])) (now (out .exit)) r ⌝ }
+{
+    let kind = print_letter(out, at, letter);
+    let number = bytes_printer::print_field_u64(out, kind, n);
+    bytes_printer::print_newline(out, number)
+}
+
 // The kind and the value of a lookup, and the end of the line. A kind that is none of the others is printed as a text.
 pub fn print_value(out: &mut [u8], at: Printed, value: ValueLookup) -> Printed
     ensures { λ r. ⌜ Prints (now (out .entry)) at (fields (lookupFields value)) (now (out .exit)) r ⌝ }
 {
     let kind = value.kind;
     if kind == 1 {
-        let letter = print_letter(out, at, 81);
-        let number = bytes_printer::print_field_u64(out, letter, value.quad as u64);
-        return bytes_printer::print_newline(out, number);
+        return print_kind_number(out, at, 81, value.quad as u64);
     }
     if kind == 2 {
         let letter = print_letter(out, at, 83);
@@ -42,9 +51,10 @@ pub fn print_value(out: &mut [u8], at: Printed, value: ValueLookup) -> Printed
         return bytes_printer::print_newline(out, number);
     }
     if kind == 4 {
-        let letter = print_letter(out, at, 85);
-        let number = bytes_printer::print_field_u64(out, letter, value.unsigned);
-        return bytes_printer::print_newline(out, number);
+        return print_kind_number(out, at, 85, value.unsigned);
+    }
+    if kind == 5 {
+        return print_kind_number(out, at, 77, value.unsigned);
     }
     print_text(out, at, value)
 }
@@ -55,14 +65,15 @@ fn at_most(n: usize, most: usize) -> usize
     if n < most { n } else { most }
 }
 
-// The kind T, the text of a lookup and the end of the line.
+// The kind T, the escaped text of a lookup and the end of the line.
 fn print_text(out: &mut [u8], at: Printed, value: ValueLookup) -> Printed
-    ensures { λ r. ⌜ Prints (now (out .entry)) at (fields ((84 ∷ []) ∷ take (value .«text_len») (value .text) ∷ [])) (now (out .exit)) r ⌝ }
+    ensures { λ r. ⌜ Prints (now (out .entry)) at (fields ((84 ∷ []) ∷ escaped (take (value .«text_len») (value .text)) ∷ [])) (now (out .exit)) r ⌝ }
 {
     let text = value.text;
     let len = at_most(value.text_len, ProjectionPatchValue::TEXT_BYTES);
     let letter = print_letter(out, at, 84);
-    let bytes = bytes_printer::print_field_bytes(out, letter, &text[0..len]);
+    let tab = bytes_printer::print_byte(out, letter, 9);
+    let bytes = crate::escapes::print_escaped(out, tab, &text[0..len]);
     bytes_printer::print_newline(out, bytes)
 }
 

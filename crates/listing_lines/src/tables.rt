@@ -19,9 +19,9 @@ use projection_patch::patch::ProjectionPatchValue;
 // The longest listing: the line of the count, and the longest line of each record that a panel can hold. `listing-fits` proves that it holds
 // every listing.
 pub const LISTING_BYTES: usize = 6
-    + LocalProjectionState::BINDINGS * (37 + ProjectionPatchValue::TEXT_BYTES)
+    + LocalProjectionState::BINDINGS * (37 + 2 * ProjectionPatchValue::TEXT_BYTES)
     + LocalProjectionState::AVAILABILITIES * 25
-    + LocalProjectionState::ENTRIES * (47 + ProjectionPatchValue::TEXT_BYTES);
+    + LocalProjectionState::ENTRIES * (47 + 2 * ProjectionPatchValue::TEXT_BYTES);
 
 fn row_width(kind: RowKind) -> usize
     ensures { λ r. ⌜ r ≡ widthOf kind ⌝ }

@@ -26,6 +26,7 @@ use Rattle.spec_session.specs.Session
 use Rattle.spec_session.specs.Diagnostics
 use Rattle.spec_session.specs.Lifecycle
 use Rattle.spec_session.specs.Batch
+use Rattle.spec_listing.specs.Escapes
 use Rattle.spec_listing.specs.Listing
 
 unfoldable pub opened : Unit {0}
@@ -198,6 +199,8 @@ unfolding
     Rattle.spec_session.specs.Batch.commit
     Rattle.spec_session.specs.Batch.concludeBatch
     Rattle.spec_session.specs.Batch.batch
+    Rattle.spec_listing.specs.Escapes.escapedByte
+    Rattle.spec_listing.specs.Escapes.escaped
     Rattle.spec_listing.specs.Listing.fields
     Rattle.spec_listing.specs.Listing.valueFields
     Rattle.spec_listing.specs.Listing.bindingLine

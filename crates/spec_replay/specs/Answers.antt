@@ -13,6 +13,8 @@ use Rattle.spec_session.specs.Session.{Lifecycle, created, active, suspended, c
 use Rattle.spec_session.specs.Diagnostics.{Diagnostics}
 use Rattle.spec_session.specs.Lifecycle.{Disposition, applied, noChange, rejected, LifecycleAnswer}
 use Rattle.spec_session.specs.Batch.{BatchAnswer}
+use Rattle.spec_conversion.specs.Conversion as conversions
+use Rattle.spec_conversion.specs.Conversion.{Converted, converted, conversionNumber}
 use Rattle.spec_turns.specs.Turns as turns
 use Rattle.spec_turns.specs.Turns.{SetUp, setUpNumber, RegisterAnswer, registered, registerRefused, registerNumber, TurnAnswer, nobody, turnOf}
 use Rattle.spec_decimal.specs.Decimal.{decimal}
@@ -103,6 +105,11 @@ registerLine (registerRefused r) = 74 ∷ fields (decimal (registerNumber r) ∷
 unfoldable pub turnLine : TurnAnswer → List ℕ
 turnLine nobody = 74 ∷ fields (ascii "none" ∷ [])
 turnLine (turnOf s n) = 74 ∷ fields (decimal s ∷ decimal n ∷ [])
+
+-- convert: T, 0 and the set in hex, or T and the number
+unfoldable pub conversionLine : Converted → List ℕ
+conversionLine (converted bs) = 84 ∷ fields (decimal 0 ∷ hexField bs ∷ [])
+conversionLine (conversions.refused r) = 84 ∷ fields (decimal (conversionNumber r) ∷ [])
 
 -- N: there is no session, or there are no senders
 unfoldable pub noSessionLine : List ℕ

@@ -1,10 +1,11 @@
 -- Bytes in lower-case hex.
 use Prim.Native.Nat.{ℕ, _+_, _-_, _*_}
 use mathlib.Core.List.{List, [], _∷_}
-use mathlib.Core.Option.{Option, none, some, Option·map}
+use mathlib.Core.Option.{Option, none, some}
 use lib.Dec.{eqb}
 use Rattle.spec_lists.specs.Lists.{if_then_else_, between, equalLists}
 use Rattle.spec_decimal.specs.Decimal.{isDigit}
+unfoldable pub use Rattle.spec_listing.specs.Split.{cons}
 
 -- 0 to 9 are the characters 48 to 57, a to f are 97 to 102
 unfoldable pub hexDigit : ℕ → Option ℕ
@@ -16,15 +17,11 @@ hexByte none low = none
 hexByte (some h) none = none
 hexByte (some h) (some l) = some (16 * h + l)
 
-unfoldable pub consByte : Option ℕ → Option (List ℕ) → Option (List ℕ)
-consByte none rest = none
-consByte (some b) rest = Option·map (λ (bs : List ℕ). b ∷ bs) rest
-
 -- pairs of digits
 unfoldable pub hexPairs : List ℕ → Option (List ℕ)
 hexPairs [] = some []
 hexPairs (h ∷ []) = none
-hexPairs (h ∷ l ∷ rest) = consByte (hexByte (hexDigit h) (hexDigit l)) (hexPairs rest)
+hexPairs (h ∷ l ∷ rest) = cons (hexByte (hexDigit h) (hexDigit l)) (hexPairs rest)
 
 -- the character - alone spells the empty set; the empty field is no hex
 unfoldable pub readHex : List ℕ → Option (List ℕ)

@@ -14,12 +14,13 @@ use Rattle.spec_session.specs.Session.{Limits, BindingPair, Catalogue, Session,
 use Rattle.spec_session.specs.Lifecycle.{LifecycleStep, lifecycleStep}
 use Rattle.spec_session.specs.Batch as batches
 use Rattle.spec_session.specs.Batch.{BatchStep}
+use Rattle.spec_conversion.specs.Conversion as conversions
 use Rattle.spec_turns.specs.Turns as turns
 use Rattle.spec_turns.specs.Turns.{Turns, SetUp, RegisterStep, TurnStep}
 use Rattle.spec_listing.specs.Listing.{projectionLines, listing}
 use Rattle.spec_replay.specs.Lines.{newline, split}
-use Rattle.spec_replay.specs.Script.{Command, nothing, session, node, binding, collection, create, apply, batch, check, list, show, valueBinding, valueNode, valueEntry, senders, wait, turn, edition, other, command}
-use Rattle.spec_replay.specs.Answers.{creationLine, lifecycleLine, batchLine, checkLines, valueLine, availabilityLine, setUpLine, registerLine, turnLine, noSessionLine, otherLine}
+use Rattle.spec_replay.specs.Script.{Command, nothing, session, node, binding, collection, create, apply, batch, check, list, show, valueBinding, valueNode, valueEntry, senders, wait, turn, edition, convert, other, command}
+use Rattle.spec_replay.specs.Answers.{creationLine, lifecycleLine, batchLine, checkLines, valueLine, availabilityLine, setUpLine, registerLine, turnLine, conversionLine, noSessionLine, otherLine}
 
 -- what a creation takes
 pub record Setup : Type 0 where
@@ -138,6 +139,7 @@ replayLine n s (senders k) = settled s (turns.setUp k)
 replayLine n s (wait i) = askedTurns s (λ t. registered s (turns.register t i))
 replayLine n s turn = asked s (λ x. askedTurns s (λ t. turned s (turns.turn t (x .cursor))))
 replayLine n s (edition ed) = onward (withEdition s ed) []
+replayLine n s (convert room set) = onward s (conversionLine (conversions.convert (s .edition) set room))
 replayLine n s other = stops (otherLine n)
 
 -- ---- the whole script

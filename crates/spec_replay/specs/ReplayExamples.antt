@@ -26,7 +26,7 @@ use Rattle.spec_session.specs.Batch.{require, readable, absentTargets, knownTar
 use Rattle.spec_turns.specs.Turns.{newTurns, setUp, refuseRegister, startWaiting, register, after, firstAsked, firstWaiting, nextSender, numberAfter, spendTurn, turnFor, turn}
 use Rattle.spec_listing.specs.Listing.{fields, recordCount, projectionLines, refusalLine, outcomeLines, readingLines, listing}
 use Rattle.spec_replay.specs.Lines.{prepend, split}
-use Rattle.spec_replay.specs.Hex.{hexDigit, hexByte, consByte, hexPairs, readHex}
+use Rattle.spec_replay.specs.Hex.{hexDigit, hexByte, cons, hexPairs, readHex}
 use Rattle.spec_replay.specs.Script.{ascii, end, given, readBy, atMost, numberedEdition, byWord, stimuli, sessionArguments, bindingArguments, applyArguments, batchArguments, valueBindingArguments, valueEntryArguments, values, valueArguments, commands, fieldsCommand, isRemark, command}
 use Rattle.spec_replay.specs.Answers.{dispositionField, lifecycleField, cursorField, placeField, sessionFields, creationLine, lifecycleLine, batchLine, checkedLine, checkLines, availabilityLine, setUpLine, registerLine, turnLine, noSessionLine, otherLine}
 use Rattle.spec_replay.specs.Replay.{State, noAnchors, start, keep, withSetup, withAnchors, withNode, withBinding, withSession, withTurns, withEdition, asked, askedTurns, created, applied, batched, settled, registered, turned, replayLine, replayLines, commandsOf, replayFrom, replay}
@@ -99,7 +99,7 @@ unfolding examples prints closedAt printsAt
     require readable absentTargets knownTargets batchChecks rejectBatch keepSession candidate commit concludeBatch batch
     newTurns setUp refuseRegister startWaiting register after firstAsked firstWaiting nextSender numberAfter spendTurn turnFor turn
     fields recordCount projectionLines refusalLine outcomeLines readingLines listing
-    prepend split hexDigit hexByte consByte hexPairs readHex end given readBy atMost numberedEdition byWord stimuli sessionArguments bindingArguments applyArguments batchArguments
+    prepend split hexDigit hexByte cons hexPairs readHex end given readBy atMost numberedEdition byWord stimuli sessionArguments bindingArguments applyArguments batchArguments
     valueBindingArguments valueEntryArguments values valueArguments commands fieldsCommand isRemark command
     dispositionField lifecycleField cursorField placeField sessionFields creationLine lifecycleLine batchLine checkedLine checkLines availabilityLine setUpLine registerLine turnLine noSessionLine otherLine
     noAnchors start keep withSetup withAnchors withNode withBinding withSession withTurns withEdition asked askedTurns created applied batched settled registered turned replayLine replayLines commandsOf replayFrom replay

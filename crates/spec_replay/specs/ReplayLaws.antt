@@ -1,39 +1,20 @@
 -- A script is replayed line by line: what is printed depends on the line, its number and the state alone.
 use Prim.Native.Nat.{ℕ, _+_}
 use mathlib.Core.Path.{_≡_, refl}
-use mathlib.Core.Bool.{Bool, true, false, not}
+use mathlib.Core.Bool.{true}
 use mathlib.Core.List.{List, [], _∷_, _++_}
-use native.Mathlib.Omega.{arith}
 use lib.Dec.{eqb}
-use borrow.Author.Tests.{eq-eqb}
-use Rattle.spec_lists.specs.Lists.{all}
-use Rattle.spec_lists.specs.ListLaws.{and-left, and-right, test-cases}
+use Rattle.spec_lists.specs.ListLaws.{test-cases}
+use Rattle.spec_listing.specs.Split.{lacks}
+use Rattle.spec_listing.specs.SplitLaws.{split-whole, split-part}
 use Rattle.spec_replay.specs.Lines.{newline, prepend, split}
 use Rattle.spec_replay.specs.Script.{command}
 use Rattle.spec_replay.specs.Answers.{otherLine}
 use Rattle.spec_replay.specs.Replay.{State, replayLine, andThen, replayLines, commandsOf, replayFrom}
 
--- no byte is a separator
-abbrev pub lacks : ℕ → List ℕ → Bool
-lacks separator = all (λ (b : ℕ). not (eqb b separator))
-
-no-separator : (b separator : ℕ) → not (eqb b separator) ≡ true → eqb b separator ≡ false
-no-separator b separator e = test-cases (eqb b separator) (λ t. let z : _≡_ {A = ℕ} 0 1 = cc (rw t at e) in absurd (omega arith)) (λ t. t)
-
 -- ---- splitting
 
 module _ (separator : ℕ) where
-  pub split-whole : (l : List ℕ) → lacks separator l ≡ true → split separator l ≡ l ∷ []
-  unfolding split prepend
-  split-whole [] h = refl
-  split-whole (b ∷ l) h = rw (no-separator b separator (and-left _ (lacks separator l) h), split-whole l (and-right (not (eqb b separator)) _ h))
-
-  pub split-part : (l rest : List ℕ) → lacks separator l ≡ true → split separator (l ++ separator ∷ rest) ≡ l ∷ split separator rest
-  unfolding split prepend
-  split-part [] rest h = rw (eq-eqb separator separator refl)
-  split-part (b ∷ l) rest h =
-      rw (no-separator b separator (and-left _ (lacks separator l) h), split-part l rest (and-right (not (eqb b separator)) _ h))
-
   -- there is always a part
   pub record Parts (l : List ℕ) : Type 0 where
     pub first : List ℕ

@@ -1,7 +1,5 @@
 -- The commands of a replay script, one to a line, as bytes: the table `commands`, and the fields of each above it.
 use Prim.Native.Nat.{ℕ}
-use Prim.Native.Char.{code}
-use Prim.Native.String.{String, [] as noText, _∷_ as _before_}
 use mathlib.Core.Bool.{Bool, true}
 use mathlib.Core.List.{List, [], _∷_}
 use mathlib.Core.Option.{Option, none, some}
@@ -9,10 +7,12 @@ use lib.Dec.{leb, eqb}
 use lib.ListN.{length}
 use Rattle.spec_lists.specs.Lists.{if_then_else_, equalLists}
 use Rattle.spec_decimal.specs.Decimal.{readDecimal}
+use Rattle.spec_patch.specs.Sizes.{setBytes}
 use Rattle.spec_patch.specs.Edition.{Edition, v1, v2}
 use Rattle.spec_session.specs.Session.{Limits, BindingPair}
 use Rattle.spec_session.specs.Lifecycle.{Stimulus, activate, suspend, resume, close, noOp}
 use Rattle.spec_session.specs.Batch.{BatchEnvelope}
+pub use Rattle.spec_listing.specs.Ascii.{ascii}
 use Rattle.spec_replay.specs.Lines.{space, split}
 use Rattle.spec_replay.specs.Hex.{readHex}
 
@@ -36,6 +36,7 @@ pub data Command : Type 0 where
   wait : (sender : ℕ) → Command
   turn : Command
   edition : Edition → Command
+  convert : (room : ℕ) → (set : List ℕ) → Command
   other : Command
 
 -- a line has at most 131,072 bytes without its LF
@@ -91,6 +92,10 @@ slotOf = atMost 4294967295
 abbrev pub slot : Field ℕ
 slot = readBy (λ f. slotOf (readDecimal f))
 
+-- how much is lent: a number up to a bound
+abbrev pub roomUpTo : ℕ → Field ℕ
+roomUpTo bound = readBy (λ f. atMost bound (readDecimal f))
+
 -- the edition of a number: 1 or 2
 unfoldable pub numberedEdition : Option ℕ → Option Edition
 numberedEdition none = none
@@ -101,11 +106,6 @@ abbrev pub hex : Field (List ℕ)
 hex = readBy readHex
 
 -- ---- words
-
--- the bytes of a word in ASCII
-abbrev pub ascii : String → List ℕ
-ascii noText = []
-ascii (c before s) = code c ∷ ascii s
 
 -- a row of a table of words
 pub record Row (A : Type 0) : Type 0 where
@@ -171,6 +171,13 @@ batchArguments = do
   set ← hex
   end (batch (record { session = id; sequence = sequence; patches = patches; stimulusBytes = bytes }) references set)
 
+-- convert ROOM HEX: as many bytes are lent as a set may have, and no more
+unfoldable pub convertArguments : Arguments
+convertArguments = do
+  room ← roomUpTo setBytes
+  set ← hex
+  end (convert room set)
+
 -- value binding N SLOT
 unfoldable pub valueBindingArguments : Arguments
 valueBindingArguments = do
@@ -214,6 +221,7 @@ commands =
     ∷ (ascii "wait" ⇒ number (λ n. end (wait n)))
     ∷ (ascii "turn" ⇒ end turn)
     ∷ (ascii "edition" ⇒ readBy (λ f. numberedEdition (readDecimal f)) (λ ed. end (edition ed)))
+    ∷ (ascii "convert" ⇒ convertArguments)
     ∷ []
 
 -- the fields of a line: a known word and its arguments

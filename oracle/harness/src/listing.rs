@@ -72,12 +72,27 @@ impl Lookups for LocalProjectionStateHandle {
     }
 }
 
+/// A text within a line: document 02, Job 2. The original's look-ups give it as it is.
+fn escaped(text: &str) -> String {
+    let mut shown = String::new();
+    for character in text.chars() {
+        match character {
+            '\\' => shown.push_str("\\\\"),
+            '\t' => shown.push_str("\\t"),
+            '\n' => shown.push_str("\\n"),
+            '\r' => shown.push_str("\\r"),
+            other => shown.push(other),
+        }
+    }
+    shown
+}
+
 /// A value's kind and the value, with the line's end.
 pub fn print_value(value: &BridgeValue, out: &mut Vec<u8>) {
     match value {
         BridgeValue::Quad(quad) => writeln!(out, "Q\t{}", sets::quad_tag(*quad)),
         BridgeValue::Signed(number) => writeln!(out, "S\t{number}"),
-        BridgeValue::Text(text) => writeln!(out, "T\t{text}"),
+        BridgeValue::Text(text) => writeln!(out, "T\t{}", escaped(text)),
         BridgeValue::Unsigned(number) => writeln!(out, "U\t{number}"),
     }
     .unwrap();

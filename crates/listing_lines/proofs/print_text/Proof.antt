@@ -1,13 +1,12 @@
--- `listing_lines::print_text` meets its contract: two fields and the end of the line.
+-- `listing_lines::print_text` meets its contract: the letter, a tab and the escaped text, and the end of the line.
 use mathlib.Core.Path.{_≡_, ap, _∙_}
-use mathlib.Core.List.{List}
 use Prim.Native.Nat.{ℕ, _-_}
 use native.Mathlib.Omega.{arith}
 use lib.ListN.{length, take}
 use Rattle.spec_patch.specs.Sizes.{textBytes}
+use Rattle.spec_listing.specs.Escapes.{escaped}
 use Rattle.spec_listing.specs.Listing.{fields}
-use Rattle.bytes_printer.specs.Prints.{field}
-use Rattle.bytes_printer.specs.PrintsLaws.{_⨾_, same-bytes}
+use Rattle.bytes_printer.specs.PrintsLaws.{_⨾_, same-bytes, ends-within}
 use Rattle.listing_lines.proofs.Rows.{front}
 use borrow.Author.Needs.{needs}
 use Rattle.listing_lines.proofs.print_text.Statement.{statement}
@@ -22,19 +21,22 @@ at-most-requires c κs = search needs
 print-letter-requires : tie.Need-print-letter-requires
 print-letter-requires c κs = search needs
 
-sub-print-field-bytes : tie.Need-sub-print-field-bytes
-sub-print-field-bytes c = search needs
+print-byte-requires : tie.Need-print-byte-requires
+print-byte-requires c κs = search needs
 
-part-print-field-bytes-start : tie.Need-part-print-field-bytes-start
-part-print-field-bytes-start c = search needs
+sub-print-escaped : tie.Need-sub-print-escaped
+sub-print-escaped c = search needs
 
-part-print-field-bytes-end : tie.Need-part-print-field-bytes-end
-part-print-field-bytes-end c =
-    let len = c .before .before .before .before .before .before in
+part-print-escaped-start : tie.Need-part-print-escaped-start
+part-print-escaped-start c = search needs
+
+part-print-escaped-end : tie.Need-part-print-escaped-end
+part-print-escaped-end c =
+    let len = c .before .before .before .before .before .before .before .before .before .before in
     omega (arith, long (len .before .before .before), len .at-most .ensures)
 
-print-field-bytes-requires : tie.Need-print-field-bytes-requires
-print-field-bytes-requires c κs = search needs
+print-escaped-requires : tie.Need-print-escaped-requires
+print-escaped-requires c κs = search needs
 
 print-newline-requires : tie.Need-print-newline-requires
 print-newline-requires c κs = search needs
@@ -47,12 +49,14 @@ unfolding fields
 returns c =
     let end = c .before .before in
     let bytes = end .before .before .before .before in
-    let letter = bytes .before .before .before .before .before .before in
+    let tab = bytes .before .before .before .before .before .before in
+    let letter = tab .before .before .before .before in
     let len = letter .before .before in
     let start = len .before .before .before in
     let text = start .args .value .text in
     let same = ap (λ (n : ℕ). take (n - 0) text) (len .at-most .ensures) ∙ front text (start .args .value .«text_len») textBytes (long start) in
-    letter .print-letter .ensures ⨾ same-bytes (ap field same) (bytes .print-field-bytes .ensures) ⨾ end .print-newline .ensures
+    let escapes = same-bytes (ap escaped same) (bytes .print-escaped .ensures (ends-within (tab .print-byte .ensures))) in
+    letter .print-letter .ensures ⨾ tab .print-byte .ensures ⨾ escapes ⨾ end .print-newline .ensures
 
 pub print-text-spec : {M : Type 1} → statement M
 print-text-spec =
@@ -60,10 +64,11 @@ print-text-spec =
     (tie.spec
     at-most-requires
     print-letter-requires
-    sub-print-field-bytes
-    part-print-field-bytes-start
-    part-print-field-bytes-end
-    print-field-bytes-requires
+    print-byte-requires
+    sub-print-escaped
+    part-print-escaped-start
+    part-print-escaped-end
+    print-escaped-requires
     print-newline-requires
     same-length
     returns)
