@@ -54,7 +54,7 @@ entry-wide e h = simp (length-append, length-littleEndian) (omega (arith, length
 
 -- ---- where a row holds its value
 
-regroup : (a b c d : List ℕ) → (a ++ (b ++ c)) ++ d ≡ a ++ (b ++ (c ++ d))
+pub regroup : (a b c d : List ℕ) → (a ++ (b ++ c)) ++ d ≡ a ++ (b ++ (c ++ d))
 regroup a b c d = simp append-assoc
 
 three-behind : (n : ℕ) (a b c d : List ℕ) → length (a ++ (b ++ c)) ≡ n → drop n (a ++ (b ++ (c ++ d))) ≡ d

@@ -6,9 +6,10 @@ use Rattle.spec_lists.specs.Bytes.{littleEndian}
 use Rattle.spec_lists.specs.BytesLaws.{length-littleEndian}
 use Rattle.spec_patch.specs.Patch.{Availability, available, unavailable, hidden, pending, stale}
 use Rattle.spec_patch.specs.Encode.{u64, availabilityByte}
+use Rattle.bytes_records.specs.MovesLaws.{length-zeros}
 use Rattle.bytes_wire.specs.Write.{overwrite}
 use Rattle.projection_patch.specs.Meaning.{availabilityOf}
-use Rattle.panel_rows.specs.Rows.{availabilityRow}
+use Rattle.panel_rows.specs.Rows.{idWidth, markWidth, availabilityAt, availabilityWidth, availabilityRow}
 use Rattle.panel_rows.proofs.Filling.{three-fields}
 use Rattle.panel_rows.proofs.availability_row.Statement.{statement}
 use Rattle.panel_rows.proofs.availability_row.Tie as tie
@@ -45,11 +46,14 @@ one-byte stale = refl
 returns : tie.Need-returns
 unfolding availabilityRow
 returns c =
-    let a = c .before .before .before .before .before .before .before .args in
+    let third = c .before in
+    let second = third .before .before .before .before in
+    let first = second .before .before .before in
+    let a = first .before .before .args in
     let state = availabilityOf (a .availability) in
-    let byte = ap (littleEndian 1) (c .before .before .availability-byte .ensures) ∙ one-byte state in
-    two-fields 9 8 (u64 (a .node)) (availabilityByte state ∷ []) (length-littleEndian 8 (a .node)) refl
-    (c .before .before .before .before .before .write-u64-at .ensures .1) (c .before .write-u8-at .ensures .1 ∙ ap (overwrite _ 8) byte)
+    let byte = ap (littleEndian 1) (third .before .availability-byte .ensures) ∙ one-byte state in
+    three-fields _ (u64 (a .node)) (u64 (a .mark)) (availabilityByte state ∷ []) idWidth markWidth 1 (length-littleEndian idWidth _) (length-littleEndian markWidth _) refl
+    (first .write-u64-at .ensures .1) (second .write-u64-at2 .ensures .1) (third .write-u8-at .ensures .1 ∙ ap (overwrite _ availabilityAt) byte) (length-zeros availabilityWidth)
 
 pub availability-row-spec : {M : Type 1} → statement M
 availability-row-spec =
