@@ -64,21 +64,22 @@ fn upsert_row(table: &mut [u8], width: usize, count: usize, place: Place, row: &
     }
 }
 
-// Sets a binding's source in a table of planned bindings.
+// Sets a binding's mark and source in a table of planned bindings.
 pub fn set_binding_source(
     table: &mut [u8],
     count: usize,
     node: u64,
     slot: u32,
+    mark: u64,
     source: u64,
 ) -> TableChange
     ensures made { λ r. ⌜ ((p : Projection) → PlannedBindings count (now (table .entry)) (p .bindings) → Valid p
         → Became (λ n q. PlannedBindings n (now (table .exit)) (q .bindings)) r
-        (applyBinding p (record { node = node; slot = slot; value = unsigned source }))) ⌝ }
+        (applyBinding p (record { node = node; slot = slot; mark = mark; value = unsigned source }))) ⌝ }
     ensures kept { λ r. ⌜ Kept r (now (table .entry)) (now (table .exit)) ⌝ }
 {
     let width = panel_plan::BINDING_WIDTH;
-    let row = panel_plan::binding_row(node, slot, source);
+    let row = panel_plan::binding_row(node, slot, mark, source);
     let place = bytes_records::find_pair_place(
         table,
         width,
@@ -90,20 +91,21 @@ pub fn set_binding_source(
     upsert_row(table, width, count, place, &row)
 }
 
-// Sets a node's availability in a table of availabilities.
+// Sets a node's mark and availability in a table of availabilities.
 pub fn set_node_availability(
     table: &mut [u8],
     count: usize,
     node: u64,
+    mark: u64,
     availability: ProjectionNodeAvailability,
 ) -> TableChange
     ensures made { λ r. ⌜ ((p : Projection) → Stored availabilityRow availabilityWidth projectionAvailabilities count (now (table .entry)) (p .availabilities) → Valid p
         → Became (λ n q. Stored availabilityRow availabilityWidth projectionAvailabilities n (now (table .exit)) (q .availabilities)) r
-        (applyAvailability p (record { node = node; availability = availabilityOf availability }))) ⌝ }
+        (applyAvailability p (record { node = node; mark = mark; availability = availabilityOf availability }))) ⌝ }
     ensures kept { λ r. ⌜ Kept r (now (table .entry)) (now (table .exit)) ⌝ }
 {
     let width = panel_rows::AVAILABILITY_WIDTH;
-    let row = panel_rows::availability_row(node, availability);
+    let row = panel_rows::availability_row(node, mark, availability);
     let place = bytes_records::find_place(table, width, count, node);
     upsert_row(table, width, count, place, &row)
 }

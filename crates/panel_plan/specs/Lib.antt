@@ -1,4 +1,3 @@
-pub mod MapLaws
 pub mod Resolved
 pub mod ResolvedLaws
 pub mod Plan

@@ -4,11 +4,11 @@ use mathlib.Core.List.{List, [], _∷_, _++_}
 use lib.ListN.{take}
 use Rattle.spec_patch.specs.Encode.{u64}
 
--- the bytes of a row's ids, and its number
+-- the bytes before a row's value, its ids and its mark, and its number
 unfoldable pub numberedRow : ℕ → ℕ → List ℕ → List ℕ
-numberedRow ids i row = take ids row ++ u64 i
+numberedRow front i row = take front row ++ u64 i
 
 -- each row with its number, from i on
 unfoldable pub numberedRows : ℕ → ℕ → List (List ℕ) → List (List ℕ)
-numberedRows ids i [] = []
-numberedRows ids i (row ∷ rows) = numberedRow ids i row ∷ numberedRows ids (suc i) rows
+numberedRows front i [] = []
+numberedRows front i (row ∷ rows) = numberedRow front i row ∷ numberedRows front (suc i) rows

@@ -35,7 +35,7 @@ resolution p set = record {
   inEntry = valueFrom (map (λ (e : Entry). e .value) (p .entries)) set;
 }
 
--- ---- the plan of a projection: every row is where it was
+-- ---- the plan of a projection: every row is where it was, with its mark
 
 -- each element with its number for a value, from i on
 unfoldable pub numbered : {A : Type 0} → (A → Value → A) → ℕ → List A → List A
@@ -43,10 +43,10 @@ numbered put i [] = []
 numbered put i (x ∷ xs) = put x (old i) ∷ numbered put (suc i) xs
 
 unfoldable pub bindingWith : Binding → Value → Binding
-bindingWith b v = record { node = b .node; slot = b .slot; value = v }
+bindingWith b v = record { node = b .node; slot = b .slot; mark = b .mark; value = v }
 
 unfoldable pub entryWith : Entry → Value → Entry
-entryWith e v = record { collection = e .collection; key = e .key; value = v }
+entryWith e v = record { collection = e .collection; key = e .key; mark = e .mark; value = v }
 
 unfoldable pub planOf : Projection → Projection
 planOf p = record { bindings = numbered bindingWith 0 (p .bindings); availabilities = p .availabilities; entries = numbered entryWith 0 (p .entries) }

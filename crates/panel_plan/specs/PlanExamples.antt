@@ -1,4 +1,5 @@
--- A plan by example, as one table that the checker computes: collection 9 has the keys 1, 2, 3, with the values 11, 12, 13; node 5 has one binding.
+-- A plan by example, as one table that the checker computes: collection 9 has the keys 1, 2, 3, with the values 11, 12, 13 and the marks 21,
+-- 22, 23; node 5 has one binding.
 use Prim.Native.Nat.{ℕ, zero, suc, _+_}
 use mathlib.Core.Path.{_≡_, refl}
 use mathlib.Core.Bool.{Bool, true, false}
@@ -12,16 +13,17 @@ use Rattle.spec_projection.specs.Projection.{Binding, Entry, Projection, bindin
 use Rattle.spec_projection.specs.FirstMatch.{findFirst, insertBeforeFirst, replaceFirst, removeFirst}
 use Rattle.spec_projection.specs.Entries.{isEntry, isLater, contains, containsNeighbour, insertLast, insertBefore, insertEntry, replaceEntry, removeEntry}
 use Rattle.spec_projection.specs.Apply.{Outcome, done, stopped, ReplayStep, stepOf, operationFaultNumber, withBindings, withAvailabilities, withEntries, applyBinding, applyAvailability, applyInsert, applyUpdate, applyRemove, applyMove, applyOperation, applyStep, applySteps}
-use Rattle.panel_plan.specs.Resolved.{resolvedBinding, resolvedEntry, resolved, resolvedOutcome}
+use Rattle.spec_projection.specs.RowMap.{mapRows}
+use Rattle.panel_plan.specs.Resolved.{resolvedBinding, resolvedEntry, resolving, resolvedOutcome}
 use Rattle.panel_plan.specs.Plan.{old, new, valueFrom, resolution, numbered, bindingWith, entryWith, planOf, withSource}
 
 -- ---- what the examples are made of
 
 keyed : ℕ → Entry
-keyed k = record { collection = 9; key = k; value = unsigned (10 + k) }
+keyed k = record { collection = 9; key = k; mark = 20 + k; value = unsigned (10 + k) }
 
 before : Projection
-before = record { bindings = record { node = 5; slot = 0; value = unsigned 70 } ∷ []; availabilities = []; entries = keyed 1 ∷ keyed 2 ∷ keyed 3 ∷ [] }
+before = record { bindings = record { node = 5; slot = 0; mark = 80; value = unsigned 70 } ∷ []; availabilities = []; entries = keyed 1 ∷ keyed 2 ∷ keyed 3 ∷ [] }
 
 -- a full projection: the keys 1 to 128
 numbers : ℕ → ℕ → List ℕ
@@ -62,6 +64,9 @@ keys p = map (λ (e : Entry). e .key) (p .entries)
 values : Projection → List ℕ
 values p = map (λ (e : Entry). number (e .value)) (p .entries)
 
+marks : Projection → List ℕ
+marks p = map (λ (e : Entry). e .mark) (p .entries)
+
 bindings : Projection → List ℕ
 bindings p = map (λ (b : Binding). number (b .value)) (p .bindings)
 
@@ -92,6 +97,9 @@ examples =
     -- a neighbour that the batch inserted, and one that it removed
     ∷ resolves (11 ∷ 12 ∷ 13 ∷ 1061 ∷ 1060 ∷ []) values before (at 60 (insert 9 4 none) ∷ at 61 (insert 9 5 (some 4)) ∷ [])
     ∷ resolves (8 ∷ []) values before (plain (remove 9 2) ∷ at 60 (insert 9 4 (some 2)) ∷ [])
+    -- a plan keeps marks, a move takes its own along, and an update has its patch's
+    ∷ plans (22 ∷ 23 ∷ 21 ∷ []) marks before (plain (move 9 1 none) ∷ [])
+    ∷ resolves (21 ∷ 1 ∷ 23 ∷ []) marks before (at 50 (update 9 2) ∷ [])
     -- bindings have their own rows
     ∷ resolves (70 ∷ 1040 ∷ []) bindings before (at 40 (setBinding 5 1) ∷ [])
     ∷ resolves (1040 ∷ []) bindings before (at 40 (setBinding 5 0) ∷ [])
@@ -108,9 +116,9 @@ failing i (false ∷ rows) = i ∷ failing (suc i) rows
 
 -- no row fails
 pub plan-examples : failing 0 examples ≡ []
-unfolding examples failing keyed before numbers full set at plain number ask keys values bindings plans resolves
+unfolding examples failing keyed before numbers full set at plain number ask keys values marks bindings plans resolves
     lexLess upsert bindingKey availabilityKey findFirst insertBeforeFirst replaceFirst removeFirst
     isEntry isLater contains containsNeighbour insertLast insertBefore insertEntry replaceEntry removeEntry
     operationFaultNumber withBindings withAvailabilities withEntries applyBinding applyAvailability applyInsert applyUpdate applyRemove applyMove applyOperation applyStep applySteps
-    resolvedBinding resolvedEntry resolved old new valueFrom resolution numbered bindingWith entryWith planOf withSource
+    mapRows resolvedBinding resolvedEntry resolving old new valueFrom resolution numbered bindingWith entryWith planOf withSource
 plan-examples = refl

@@ -1,7 +1,7 @@
 -- A plan resolves: the plan of a projection to the projection, and an operation that is planned to the operation that is applied.
 use Prim.Native.Nat.{ℕ, suc, _+_, _≤_, _<_}
 use mathlib.Core.Path.{_≡_, refl, sym, ap, ap₂, _∙_}
-use mathlib.Core.List.{List, [], _∷_, map}
+use mathlib.Core.List.{List, [], _∷_, map, map-id}
 use native.Mathlib.Omega.{arith}
 use borrow.Author.Tests.{lt-ltb, le-ltb}
 use lib.ListN.{length, getD}
@@ -10,7 +10,8 @@ use Rattle.spec_patch.specs.Patch.{Value, N, quad, Operation, setBinding, setAv
 use Rattle.spec_patch.specs.Fits.{OperationHolds}
 use Rattle.spec_projection.specs.Projection.{Binding, Entry, Projection}
 use Rattle.spec_projection.specs.Apply.{applyOperation}
-use Rattle.panel_plan.specs.Resolved.{resolvedBinding, resolvedEntry, resolved, resolvedOperation, resolvedOutcome}
+use Rattle.spec_projection.specs.RowMap.{mapRows}
+use Rattle.panel_plan.specs.Resolved.{resolvedBinding, resolvedEntry, resolving, resolved, resolvedOperation, resolvedOutcome}
 use Rattle.panel_plan.specs.ResolvedLaws.{operation-resolved}
 use Rattle.panel_plan.specs.Plan.{old, new, valueFrom, resolution, numbered, bindingWith, entryWith, planOf, withSource}
 
@@ -50,11 +51,11 @@ module _ {A : Type 0} (value : A → Value) where
 
 -- resolving the plan of a projection gives it back
 pub plan-resolves : (p : Projection) (set : ℕ → Value) → length (p .bindings) ≤ projectionEntries → length (p .entries) ≤ projectionEntries → resolved (resolution p set) (planOf p) ≡ p
-unfolding resolved planOf resolution resolvedBinding resolvedEntry bindingWith entryWith
+unfolding mapRows resolving planOf resolution resolvedBinding resolvedEntry bindingWith entryWith
 plan-resolves p set fewBindings fewEntries =
-    ap₂ (λ bs es. record { bindings = bs; availabilities = p .availabilities; entries = es })
-    (numbered-resolves (λ (b : Binding). b .value) bindingWith (λ b. refl) _ set (resolvedBinding (resolution p set)) (λ b v. refl) 0 (p .bindings) (omega arith) (reads-own (λ (b : Binding). b .value) (quad N) (p .bindings)))
-    (numbered-resolves (λ (e : Entry). e .value) entryWith (λ e. refl) _ set (resolvedEntry (resolution p set)) (λ e v. refl) 0 (p .entries) (omega arith) (reads-own (λ (e : Entry). e .value) (quad N) (p .entries)))
+    let bindings = numbered-resolves (λ (b : Binding). b .value) bindingWith (λ b. refl) _ set (resolvedBinding (resolution p set)) (λ b v. refl) 0 (p .bindings) (omega arith) (reads-own (λ (b : Binding). b .value) (quad N) (p .bindings)) in
+    let entries = numbered-resolves (λ (e : Entry). e .value) entryWith (λ e. refl) _ set (resolvedEntry (resolution p set)) (λ e v. refl) 0 (p .entries) (omega arith) (reads-own (λ (e : Entry). e .value) (quad N) (p .entries)) in
+    λ i. record { bindings = bindings i; availabilities = map-id (p .availabilities) i; entries = entries i }
 
 -- ---- planned operations
 
@@ -71,7 +72,7 @@ module _ (p : Projection) (set : ℕ → Value) (at : ℕ) (P : Value → Type 0
   operation-back (move c k before) h = refl
 
   -- planning it and resolving is applying it, whatever the plan
-  pub planned-operation : (plan : Projection) (o : Operation) → OperationHolds P o
-      → applyOperation (resolved (resolution p set) plan) o ≡ resolvedOutcome (resolution p set) (applyOperation plan (withSource (new at) o))
-  planned-operation plan o h =
-      ap (applyOperation (resolved (resolution p set) plan)) (sym (operation-back o h)) ∙ operation-resolved (resolution p set) plan (withSource (new at) o)
+  pub planned-operation : (plan : Projection) (id : ℕ) (o : Operation) → OperationHolds P o
+      → applyOperation (resolved (resolution p set) plan) id o ≡ resolvedOutcome (resolution p set) (applyOperation plan id (withSource (new at) o))
+  planned-operation plan id o h =
+      ap (applyOperation (resolved (resolution p set) plan) id) (sym (operation-back o h)) ∙ operation-resolved (resolution p set) plan id (withSource (new at) o)

@@ -1,5 +1,5 @@
--- How a plan is stored: one row of numbers for each binding and entry, the source of its value behind its ids. An availability's row is that
--- of its table.
+-- How a plan is stored: one row of numbers for each binding and entry, the source of its value behind its ids and its mark. An availability's
+-- row is that of its table.
 use Prim.Native.Nat.{ℕ, _+_}
 use mathlib.Core.List.{List, _++_}
 use Rattle.spec_patch.specs.Sizes.{projectionBindings, projectionAvailabilities, projectionEntries}
@@ -23,19 +23,19 @@ sourceNumber (score n) = 0
 abbrev pub sourceWidth : ℕ
 sourceWidth = 8
 
--- a node, a slot and a source
+-- a node, a slot, a mark and a source
 abbrev pub plannedBindingWidth : ℕ
 plannedBindingWidth = bindingValueAt + sourceWidth
 
 unfoldable pub plannedBindingRow : Binding → List ℕ
-plannedBindingRow b = u64 (b .node) ++ (u32 (b .slot) ++ u64 (sourceNumber (b .value)))
+plannedBindingRow b = u64 (b .node) ++ (u32 (b .slot) ++ (u64 (b .mark) ++ u64 (sourceNumber (b .value))))
 
--- a collection, a key and a source
+-- a collection, a key, a mark and a source
 abbrev pub plannedEntryWidth : ℕ
 plannedEntryWidth = entryValueAt + sourceWidth
 
 unfoldable pub plannedEntryRow : Entry → List ℕ
-plannedEntryRow e = u64 (e .collection) ++ (u64 (e .key) ++ u64 (sourceNumber (e .value)))
+plannedEntryRow e = u64 (e .collection) ++ (u64 (e .key) ++ (u64 (e .mark) ++ u64 (sourceNumber (e .value))))
 
 -- a table of so many rows stores the bindings of a plan, or its entries
 abbrev pub PlannedBindings : ℕ → List ℕ → List Binding → Type 0

@@ -55,9 +55,9 @@ plan-valid p v = record {
   fewBindings = rw (numbered-length bindingWith 0 (p .bindings)) (v .fewBindings);
   fewAvailabilities = v .fewAvailabilities;
   fewEntries = rw (numbered-length entryWith 0 (p .entries)) (v .fewEntries);
-  fitBindings = numbered-all bindingWith FitsBinding FitsBinding projectionEntries (λ b i h f. record { node = f .node; slot = f .slot; value = omega arith }) 0 (p .bindings) (omega (arith, v .fewBindings)) (v .fitBindings);
+  fitBindings = numbered-all bindingWith FitsBinding FitsBinding projectionEntries (λ b i h f. record { node = f .node; slot = f .slot; mark = f .mark; value = omega arith }) 0 (p .bindings) (omega (arith, v .fewBindings)) (v .fitBindings);
   fitAvailabilities = v .fitAvailabilities;
-  fitEntries = numbered-all entryWith FitsEntry FitsEntry projectionEntries (λ e i h f. record { collection = f .collection; key = f .key; value = omega arith }) 0 (p .entries) (omega (arith, v .fewEntries)) (v .fitEntries);
+  fitEntries = numbered-all entryWith FitsEntry FitsEntry projectionEntries (λ e i h f. record { collection = f .collection; key = f .key; mark = f .mark; value = omega arith }) 0 (p .entries) (omega (arith, v .fewEntries)) (v .fitEntries);
 }
 
 -- ---- planned operations

@@ -41,14 +41,14 @@ module _ (P Q : Value → Type 0) (p q : Projection) where
   unfolding withEntries
   entries-kept es is b h = subst Both (sym is) (b .0, h)
 
-  pub values-kept : (o : Operation) → OperationHolds (λ v. P v × Q v) o → applyOperation p o ≡ done q → Both p → Both q
+  pub values-kept : (id : ℕ) (o : Operation) → OperationHolds (λ v. P v × Q v) o → applyOperation p id o ≡ done q → Both p → Both q
   unfolding OperationHolds applyOperation withBindings withAvailabilities
-  values-kept (setBinding n s v) h is b = subst Both (sym (applied-binding p _ q is .1)) (upsert-all bindingKey (λ x. P (x .value)) _ (p .bindings) (h .1 .1 .0) (b .0), b .1)
-  values-kept (setAvailability n a) h is b = subst Both (sym (applied-availability p _ q is .1)) b
-  values-kept (insert c k before v) h is b = entries-kept _ (applied-insert p before _ q is .result) b (insertEntry-all (λ x. Q (x .value)) before _ (p .entries) (h .1 .1 .1 .1) (b .1))
-  values-kept (update c k v) h is b = entries-kept _ (applied-update p _ q is .1) b (replaceEntry-all (λ x. Q (x .value)) _ (p .entries) (h .1 .1 .1) (b .1))
-  values-kept (remove c k) h is b = entries-kept _ (applied-remove p c k q is .1) b (removeEntry-all (λ x. Q (x .value)) c k (p .entries) (b .1))
-  values-kept (move c k before) h is b =
+  values-kept id (setBinding n s v) h is b = subst Both (sym (applied-binding p _ q is .1)) (upsert-all bindingKey (λ x. P (x .value)) _ (p .bindings) (h .1 .1 .0) (b .0), b .1)
+  values-kept id (setAvailability n a) h is b = subst Both (sym (applied-availability p _ q is .1)) b
+  values-kept id (insert c k before v) h is b = entries-kept _ (applied-insert p before _ q is .result) b (insertEntry-all (λ x. Q (x .value)) before _ (p .entries) (h .1 .1 .1 .1) (b .1))
+  values-kept id (update c k v) h is b = entries-kept _ (applied-update p _ q is .1) b (replaceEntry-all (λ x. Q (x .value)) _ (p .entries) (h .1 .1 .1) (b .1))
+  values-kept id (remove c k) h is b = entries-kept _ (applied-remove p c k q is .1) b (removeEntry-all (λ x. Q (x .value)) c k (p .entries) (b .1))
+  values-kept id (move c k before) h is b =
       let a = applied-move p before (findFirst (isEntry c k) (p .entries)) q is in
       let e = a .entry in
       entries-kept _ (a .result) b
@@ -56,11 +56,11 @@ module _ (P Q : Value → Type 0) (p q : Projection) where
       (removeEntry-all (λ x. Q (x .value)) (e .collection) (e .key) (p .entries) (b .1)))
 
 -- an operation whose value stands at a position of the set, planned with the position
-pub operation-sourced : (ed : Edition) (p : Projection) (set : List ℕ) (plan q : Projection) (at : ℕ) (o : Operation) → OperationHolds (StandsAt ed set at) o → applyOperation plan (withSource (new at) o) ≡ done q
+pub operation-sourced : (ed : Edition) (p : Projection) (set : List ℕ) (plan q : Projection) (at id : ℕ) (o : Operation) → OperationHolds (StandsAt ed set at) o → applyOperation plan id (withSource (new at) o) ≡ done q
     → SourcedPlan ed p set plan → SourcedPlan ed p set q
-operation-sourced ed p set plan q at o h is s =
+operation-sourced ed p set plan q at id o h is s =
     let P = Sourced ed (length (p .bindings)) set in
     let Q = Sourced ed (length (p .entries)) set in
-    let both = values-kept P Q plan q (withSource (new at) o)
+    let both = values-kept P Q plan q id (withSource (new at) o)
     (holds-with (StandsAt ed set at) (λ v. P v × Q v) (new at) o (λ v there. (from-set at v (there .rest) (there .fits) (there .bytes), from-set at v (there .rest) (there .fits) (there .bytes))) h) is (s .bindings, s .entries) in
     record { bindings = both .0; entries = both .1 }

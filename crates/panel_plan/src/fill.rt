@@ -1,4 +1,4 @@
-// The plan that a batch starts from: each row's ids, and its number for a source.
+// The plan that a batch starts from: each row's ids and mark, and its number for a source.
 ghost use mathlib.Core.Path.{_≡_};
 ghost use mathlib.Core.List.{List, [], _++_};
 ghost use Prim.Native.Nat.{ℕ, _+_, _*_, _≤_, _<_};
@@ -13,31 +13,32 @@ ghost use Rattle.panel_plan.specs.Plan.{numbered, bindingWith, entryWith
 ghost use Rattle.panel_plan.specs.PlanRows.{sourceWidth, PlannedBindings, PlannedEntries};
 ghost use Rattle.panel_plan.specs.NumberedRows.{numberedRow, numberedRows};
 
-// Writes the ids of an old row, and behind them its number.
-fn number_row(old: &[u8], ids: usize, number: usize, row: &mut [u8])
-    ensures { λ _. ⌜ (ids ≤ length (now (old .entry)) → length (now (row .entry)) ≡ ids + sourceWidth → now (row .exit) ≡ numberedRow ids number (now (old .entry))) ⌝ }
+// Writes the front of an old row, which is so many bytes, and behind it a number.
+fn number_row(old: &[u8], front: usize, number: usize, row: &mut [u8])
+    ensures { λ _. ⌜ (front ≤ length (now (old .entry)) → length (now (row .entry)) ≡ front + sourceWidth → now (row .exit) ≡ numberedRow front number (now (old .entry))) ⌝ }
 {
-    if old.len() < ids {
+    if old.len() < front {
         return;
     }
-    if row.len() < ids {
+    if row.len() < front {
         return;
     }
-    bytes_records::moves::copy(&old[..ids], row);
-    bytes_wire::write_u64_at(row, ids, number as u64);
+    bytes_records::moves::copy(&old[..front], row);
+    bytes_wire::write_u64_at(row, front, number as u64);
 }
 
-// Numbers the rows of a table, whose ids are so many bytes, in a table without rows; row is memory for one of them.
-fn number_rows(from: &[u8], width: usize, count: usize, ids: usize, row: &mut [u8], to: &mut [u8])
-    requires { ⌜ (0 < width) × (length (now row) ≡ ids + sourceWidth) ⌝ }
-    ensures { λ _. ⌜ ((rows : List (List ℕ)) → ids ≤ width → Holds width count (now (from .entry)) rows → Holds (ids + sourceWidth) 0 (now (to .entry)) []
-        → count * (ids + sourceWidth) ≤ length (now (to .entry)) → Holds (ids + sourceWidth) count (now (to .exit)) (numberedRows ids 0 rows)) ⌝ }
+// Numbers the rows of a table, the ids and the mark in front of a value being so many bytes, in a table without rows; row is memory
+// for one of them.
+fn number_rows(from: &[u8], width: usize, count: usize, front: usize, row: &mut [u8], to: &mut [u8])
+    requires { ⌜ (0 < width) × (length (now row) ≡ front + sourceWidth) ⌝ }
+    ensures { λ _. ⌜ ((rows : List (List ℕ)) → front ≤ width → Holds width count (now (from .entry)) rows → Holds (front + sourceWidth) 0 (now (to .entry)) []
+        → count * (front + sourceWidth) ≤ length (now (to .entry)) → Holds (front + sourceWidth) count (now (to .exit)) (numberedRows front 0 rows)) ⌝ }
 {
-    let size = ids + super::SOURCE_WIDTH;
+    let size = front + super::SOURCE_WIDTH;
     let mut i: usize = 0;
     while i < count {
         let old = bytes_records::record_at(from, width, count, i);
-        number_row(old, ids, i, row);
+        number_row(old, front, i, row);
         bytes_records::insert_record(to, size, i, i, row);
         i += 1;
     }

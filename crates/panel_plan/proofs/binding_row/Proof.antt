@@ -1,10 +1,10 @@
--- `binding_row` meets its contract: three numbers, one behind another.
+-- `binding_row` meets its contract: four numbers, one behind another.
 use borrow.Author.Needs.{needs}
 use Rattle.spec_lists.specs.BytesLaws.{length-littleEndian}
 use Rattle.bytes_records.specs.MovesLaws.{length-zeros}
-use Rattle.panel_rows.specs.Rows.{idWidth, slotWidth}
+use Rattle.panel_rows.specs.Rows.{idWidth, slotWidth, markWidth}
+use Rattle.panel_rows.proofs.Filling.{four-fields}
 use Rattle.panel_plan.specs.PlanRows.{sourceWidth, plannedBindingWidth, plannedBindingRow}
-use Rattle.panel_plan.proofs.Fields.{three-fields}
 use Rattle.panel_plan.proofs.binding_row.Statement.{statement}
 use Rattle.panel_plan.proofs.binding_row.Tie as tie
 
@@ -26,14 +26,22 @@ slice-aggregate-write-u64-at-2 c = search needs
 write-u64-at-requires-2 : tie.Need-write-u64-at-requires-2
 write-u64-at-requires-2 c κs = search needs
 
+slice-aggregate-write-u64-at-3 : tie.Need-slice-aggregate-write-u64-at-3
+slice-aggregate-write-u64-at-3 c = search needs
+
+write-u64-at-requires-3 : tie.Need-write-u64-at-requires-3
+write-u64-at-requires-3 c κs = search needs
+
 returns : tie.Need-returns
 unfolding plannedBindingRow
 returns c =
-    let third = c .before in
+    let fourth = c .before in
+    let third = fourth .before .before .before in
     let second = third .before .before .before in
     let first = second .before .before .before in
-    three-fields _ _ _ _ idWidth slotWidth sourceWidth (length-littleEndian idWidth _) (length-littleEndian slotWidth _) (length-littleEndian sourceWidth _) (length-zeros plannedBindingWidth)
+    four-fields _ _ _ _ idWidth slotWidth markWidth (length-littleEndian idWidth _) (length-littleEndian slotWidth _) (length-littleEndian markWidth _)
     (first .write-u64-at .ensures .1) (second .write-u32-at .ensures .1) (third .write-u64-at2 .ensures .1)
+    _ sourceWidth (length-littleEndian sourceWidth _) (fourth .write-u64-at3 .ensures .1) (length-zeros plannedBindingWidth)
 
 pub binding-row-spec : {M : Type 1} → statement M
 binding-row-spec =
@@ -45,4 +53,6 @@ binding-row-spec =
     write-u32-at-requires
     slice-aggregate-write-u64-at-2
     write-u64-at-requires-2
+    slice-aggregate-write-u64-at-3
+    write-u64-at-requires-3
     returns)

@@ -1,4 +1,4 @@
--- `fill::number_row` meets its contract: the ids, and the number behind them.
+-- `fill::number_row` meets its contract: the front of the row, and the number behind it.
 use mathlib.Core.Path.{sym}
 use native.Mathlib.Omega.{arith}
 use denote.Ref.{now}
@@ -20,7 +20,7 @@ slice-aggregate-copy c = sym (length-take-le _ _ (omega arith))
 copy-requires : tie.Need-copy-requires
 copy-requires c κs =
     let a = c .before .before .before .before .before .before .args in
-    omega (arith, length-take-le (a .ids) (now (a .old)) (omega arith))
+    omega (arith, length-take-le (a .front) (now (a .old)) (omega arith))
 
 write-u64-at-requires : tie.Need-write-u64-at-requires
 write-u64-at-requires c κs = search needs

@@ -13,12 +13,12 @@ use Rattle.panel_plan.proofs.fill.number_rows.Statement.{statement}
 use Rattle.panel_plan.proofs.fill.number_rows.Tie as tie
 
 abbrev Inv-loop : tie.InvT-loop
-Inv-loop from width count ids row₀ to₀ size i₀ row to i =
-    (i ≤ count) × (length row ≡ ids + sourceWidth) × (length to ≡ length to₀) × ((rows : List (List ℕ)) → ids ≤ width → Holds width count from rows → Holds (ids + sourceWidth) 0 to₀ []
-    → count * (ids + sourceWidth) ≤ length to₀ → Numbering ids i to rows)
+Inv-loop from width count front row₀ to₀ size i₀ row to i =
+    (i ≤ count) × (length row ≡ front + sourceWidth) × (length to ≡ length to₀) × ((rows : List (List ℕ)) → front ≤ width → Holds width count from rows → Holds (front + sourceWidth) 0 to₀ []
+    → count * (front + sourceWidth) ≤ length to₀ → Numbering front i to rows)
 
 abbrev μ-loop : tie.MeasureT-loop
-μ-loop from width count ids row₀ to₀ size i₀ row to i = count - i
+μ-loop from width count front row₀ to₀ size i₀ row to i = count - i
 
 add-size : tie.Need-add-size Inv-loop μ-loop
 add-size c = search needs
