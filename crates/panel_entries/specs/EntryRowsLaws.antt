@@ -2,7 +2,7 @@
 use Prim.Native.Nat.{ℕ, _≤_}
 use mathlib.Core.Path.{_≡_, refl, ap, ap₂}
 use mathlib.Core.Bool.{_&&_}
-use mathlib.Core.List.{List, [], _∷_, map}
+use mathlib.Core.List.{List, [], _∷_, _++_, map}
 use native.Mathlib.Omega.{arith}
 use lib.Dec.{ltb, eqb}
 use lib.Seq.{take-at, drop-at}
@@ -19,11 +19,11 @@ use Rattle.panel_entries.specs.EntryRows.{Keyed}
 
 pub stored-keyed : Keyed entryRow
 unfolding entryRow
-stored-keyed = record { behind = λ e. padded (e .value); is = λ e. refl }
+stored-keyed = record { behind = λ e. u64 (e .mark) ++ padded (e .value); is = λ e. refl }
 
 pub planned-keyed : Keyed plannedEntryRow
 unfolding plannedEntryRow
-planned-keyed = record { behind = λ e. u64 (sourceNumber (e .value)); is = λ e. refl }
+planned-keyed = record { behind = λ e. u64 (e .mark) ++ u64 (sourceNumber (e .value)); is = λ e. refl }
 
 module _ {row : Entry → List ℕ} (keyed : Keyed row) where
   -- the numbers that a row begins with

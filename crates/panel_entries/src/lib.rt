@@ -22,22 +22,23 @@ use panel_bindings::LocalProjectionApplicationError;
 use panel_bindings::TableChange;
 use projection_patch::patch::OptionalKey;
 
-// Replaces the source of a key, in its place.
+// Replaces the mark and the source of a key, in its place.
 pub fn update_entry(
     table: &mut [u8],
     count: usize,
     collection: u64,
     key: u64,
+    mark: u64,
     source: u64,
 ) -> TableChange
     ensures made { λ r. ⌜ ((p : Projection) → PlannedEntries count (now (table .entry)) (p .entries) → Valid p
         → Became (λ n q. PlannedEntries n (now (table .exit)) (q .entries)) r
-        (applyUpdate p (record { collection = collection; key = key; value = unsigned source }))) ⌝ }
+        (applyUpdate p (record { collection = collection; key = key; mark = mark; value = unsigned source }))) ⌝ }
     ensures kept { λ r. ⌜ Kept r (now (table .entry)) (now (table .exit)) ⌝ }
 {
     match find::find_entry(table, panel_plan::ENTRY_WIDTH, count, collection, key) {
         Found::At(at) => {
-            let row = panel_plan::entry_row(collection, key, source);
+            let row = panel_plan::entry_row(collection, key, mark, source);
             bytes_records::replace_record(table, panel_plan::ENTRY_WIDTH, count, at, &row);
             TableChange::Applied(count)
         }
@@ -67,11 +68,12 @@ pub fn insert_entry(
     collection: u64,
     key: u64,
     before: OptionalKey,
+    mark: u64,
     source: u64,
 ) -> TableChange
     ensures made { λ r. ⌜ ((p : Projection) → PlannedEntries count (now (table .entry)) (p .entries) → Valid p
         → Became (λ n q. PlannedEntries n (now (table .exit)) (q .entries)) r
-        (applyInsert p (beforeOf before) (record { collection = collection; key = key; value = unsigned source }))) ⌝ }
+        (applyInsert p (beforeOf before) (record { collection = collection; key = key; mark = mark; value = unsigned source }))) ⌝ }
     ensures kept { λ r. ⌜ Kept r (now (table .entry)) (now (table .exit)) ⌝ }
 {
     if let Found::At(_) = find::find_entry(table, panel_plan::ENTRY_WIDTH, count, collection, key) {
@@ -79,7 +81,7 @@ pub fn insert_entry(
     }
     match find::place_before(table, count, collection, before) {
         Found::At(at) => {
-            let row = panel_plan::entry_row(collection, key, source);
+            let row = panel_plan::entry_row(collection, key, mark, source);
             if bytes_records::insert_record(table, panel_plan::ENTRY_WIDTH, count, at, &row) {
                 return TableChange::Applied(count + 1);
             }

@@ -5,7 +5,7 @@ use mathlib.Core.List.{List, []}
 use Rattle.spec_patch.specs.Sizes.{projectionAvailabilities}
 use Rattle.spec_patch.specs.Edition.{Edition}
 use Rattle.spec_patch.specs.Patch.{unsigned}
-use Rattle.spec_patch.specs.Fits.{FitsOperation}
+use Rattle.spec_patch.specs.Fits.{U64, FitsOperation}
 use Rattle.spec_projection.specs.Projection.{Projection}
 use Rattle.spec_projection.specs.Apply.{Outcome, done, stopped, applyOperation}
 use Rattle.spec_projection.specs.Effects.{bindingTarget, nodeTarget, collectionTarget, targetOf}
@@ -63,44 +63,44 @@ module _ {A : Type 0} {Table : ℕ → List ℕ → List A → Type 0} {list : P
 -- ---- the three tables
 
 -- what the contract says of an operation, with the tables before and after
-abbrev pub Planned : ProjectionCounts → (b a e b′ a′ e′ : List ℕ) → ℕ → ProjectionPatchOperation → OperationChange → Type 0
-Planned n b a e b′ a′ e′ source operation r =
-    ((ed : Edition) (p : Projection) → StoredPlan n b a e p → FitsOperation ed (plannedOperation source operation) → OperationBecame (λ m q. StoredPlan m b′ a′ e′ q) r (applyOperation p (plannedOperation source operation)))
+abbrev pub Planned : ProjectionCounts → (b a e b′ a′ e′ : List ℕ) → (id source : ℕ) → ProjectionPatchOperation → OperationChange → Type 0
+Planned n b a e b′ a′ e′ id source operation r =
+    ((ed : Edition) (p : Projection) → StoredPlan n b a e p → FitsOperation ed (plannedOperation source operation) → OperationBecame (λ m q. StoredPlan m b′ a′ e′ q) r (applyOperation p id (plannedOperation source operation)))
     × AfterRefusal ((b′ ≡ b) × (a′ ≡ a) × (e′ ≡ e)) r
 
-module _ (n : ProjectionCounts) (b a e exit : List ℕ) (source : ℕ) (operation o : ProjectionPatchOperation) (told : operation ≡ o) (r : OperationChange) where
+module _ (n : ProjectionCounts) (b a e exit : List ℕ) (id : ℕ) (u : U64 id) (source : ℕ) (operation o : ProjectionPatchOperation) (told : operation ≡ o) (r : OperationChange) where
   abbrev applied : Projection → Outcome
-  applied p = applyOperation p (plannedOperation source o)
+  applied p = applyOperation p id (plannedOperation source o)
 
-  pub binding-planned : (node slot : ℕ) → targetOf (plannedOperation source o) ≡ bindingTarget node slot → BindingsChanged n b exit applied r → Planned n b a e exit a e source operation r
-  binding-planned node slot t c = subst (λ x. Planned n b a e exit a e source x r) (sym told) (
-    (λ ed p s fits. changed-became c p (s .bindings) (s .valid) (λ m q. StoredPlan m exit a e q) (λ k q is h. let kept = binding-keeps p _ q is node slot t in record {
+  pub binding-planned : (node slot : ℕ) → targetOf (plannedOperation source o) ≡ bindingTarget node slot → BindingsChanged n b exit applied r → Planned n b a e exit a e id source operation r
+  binding-planned node slot t c = subst (λ x. Planned n b a e exit a e id source x r) (sym told) (
+    (λ ed p s fits. changed-became c p (s .bindings) (s .valid) (λ m q. StoredPlan m exit a e q) (λ k q is h. let kept = binding-keeps p id _ q is node slot t in record {
       bindings = h;
       availabilities = subst (Stored availabilityRow availabilityWidth projectionAvailabilities (n .availabilities) a) (sym (kept .0)) (s .availabilities);
       entries = subst (PlannedEntries (n .entries) e) (sym (kept .1)) (s .entries);
-      valid = applyOperation-valid ed p _ q fits (s .valid) is;
+      valid = applyOperation-valid ed p id _ q u fits (s .valid) is;
     })),
     changed-kept c ((exit ≡ b) × (a ≡ a) × (e ≡ e)) (λ same. (same, refl, refl)),
   )
 
-  pub availability-planned : (node : ℕ) → targetOf (plannedOperation source o) ≡ nodeTarget node → AvailabilitiesChanged n a exit applied r → Planned n b a e b exit e source operation r
-  availability-planned node t c = subst (λ x. Planned n b a e b exit e source x r) (sym told) (
-    (λ ed p s fits. changed-became c p (s .availabilities) (s .valid) (λ m q. StoredPlan m b exit e q) (λ k q is h. let kept = availability-keeps p _ q is node t in record {
+  pub availability-planned : (node : ℕ) → targetOf (plannedOperation source o) ≡ nodeTarget node → AvailabilitiesChanged n a exit applied r → Planned n b a e b exit e id source operation r
+  availability-planned node t c = subst (λ x. Planned n b a e b exit e id source x r) (sym told) (
+    (λ ed p s fits. changed-became c p (s .availabilities) (s .valid) (λ m q. StoredPlan m b exit e q) (λ k q is h. let kept = availability-keeps p id _ q is node t in record {
       bindings = subst (PlannedBindings (n .bindings) b) (sym (kept .0)) (s .bindings);
       availabilities = h;
       entries = subst (PlannedEntries (n .entries) e) (sym (kept .1)) (s .entries);
-      valid = applyOperation-valid ed p _ q fits (s .valid) is;
+      valid = applyOperation-valid ed p id _ q u fits (s .valid) is;
     })),
     changed-kept c ((b ≡ b) × (exit ≡ a) × (e ≡ e)) (λ same. (refl, same, refl)),
   )
 
-  pub entry-planned : (i : ℕ) → targetOf (plannedOperation source o) ≡ collectionTarget i → EntriesChanged n e exit applied r → Planned n b a e b a exit source operation r
-  entry-planned i t c = subst (λ x. Planned n b a e b a exit source x r) (sym told) (
-    (λ ed p s fits. changed-became c p (s .entries) (s .valid) (λ m q. StoredPlan m b a exit q) (λ k q is h. let kept = collection-keeps p _ q is i t in record {
+  pub entry-planned : (i : ℕ) → targetOf (plannedOperation source o) ≡ collectionTarget i → EntriesChanged n e exit applied r → Planned n b a e b a exit id source operation r
+  entry-planned i t c = subst (λ x. Planned n b a e b a exit id source x r) (sym told) (
+    (λ ed p s fits. changed-became c p (s .entries) (s .valid) (λ m q. StoredPlan m b a exit q) (λ k q is h. let kept = collection-keeps p id _ q is i t in record {
       bindings = subst (PlannedBindings (n .bindings) b) (sym (kept .0)) (s .bindings);
       availabilities = subst (Stored availabilityRow availabilityWidth projectionAvailabilities (n .availabilities) a) (sym (kept .1)) (s .availabilities);
       entries = h;
-      valid = applyOperation-valid ed p _ q fits (s .valid) is;
+      valid = applyOperation-valid ed p id _ q u fits (s .valid) is;
     })),
     changed-kept c ((b ≡ b) × (a ≡ a) × (exit ≡ e)) (λ same. (refl, refl, same)),
   )

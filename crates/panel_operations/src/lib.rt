@@ -71,15 +71,16 @@ fn set_binding(
     table: &mut [u8],
     counts: ProjectionCounts,
     target: BindingTarget,
+    patch: u64,
     source: u64,
 ) -> OperationChange
     ensures { λ r. ⌜ BindingsChanged counts (now (table .entry)) (now (table .exit))
-        (λ p. applyBinding p (record { node = target .node .0; slot = target .slot .0; value = unsigned source })) r ⌝ }
+        (λ p. applyBinding p (record { node = target .node .0; slot = target .slot .0; mark = patch; value = unsigned source })) r ⌝ }
 {
     let node = target.node;
     let slot = target.slot;
     let n = counts.bindings;
-    let change = panel_bindings::set_binding_source(table, n, node.raw(), slot.0, source);
+    let change = panel_bindings::set_binding_source(table, n, node.raw(), slot.0, patch, source);
     bindings_counted(counts, change)
 }
 
@@ -87,13 +88,14 @@ fn set_availability(
     table: &mut [u8],
     counts: ProjectionCounts,
     node: StaticNodeId,
+    patch: u64,
     availability: ProjectionNodeAvailability,
 ) -> OperationChange
     ensures { λ r. ⌜ AvailabilitiesChanged counts (now (table .entry)) (now (table .exit))
-        (λ p. applyAvailability p (record { node = node .0; availability = availabilityOf availability })) r ⌝ }
+        (λ p. applyAvailability p (record { node = node .0; mark = patch; availability = availabilityOf availability })) r ⌝ }
 {
     let n = counts.availabilities;
-    let change = panel_bindings::set_node_availability(table, n, node.raw(), availability);
+    let change = panel_bindings::set_node_availability(table, n, node.raw(), patch, availability);
     availabilities_counted(counts, change)
 }
 
@@ -103,13 +105,22 @@ fn insert(
     collection: StaticNodeId,
     key: CollectionKey,
     before: OptionalKey,
+    patch: u64,
     source: u64,
 ) -> OperationChange
     ensures { λ r. ⌜ EntriesChanged counts (now (table .entry)) (now (table .exit))
-        (λ p. applyInsert p (beforeOf before) (record { collection = collection .0; key = key .0; value = unsigned source })) r ⌝ }
+        (λ p. applyInsert p (beforeOf before) (record { collection = collection .0; key = key .0; mark = patch; value = unsigned source })) r ⌝ }
 {
     let n = counts.entries;
-    let change = panel_entries::insert_entry(table, n, collection.raw(), key.raw(), before, source);
+    let change = panel_entries::insert_entry(
+        table,
+        n,
+        collection.raw(),
+        key.raw(),
+        before,
+        patch,
+        source,
+    );
     entries_counted(counts, change)
 }
 
@@ -118,13 +129,14 @@ fn update(
     counts: ProjectionCounts,
     collection: StaticNodeId,
     key: CollectionKey,
+    patch: u64,
     source: u64,
 ) -> OperationChange
     ensures { λ r. ⌜ EntriesChanged counts (now (table .entry)) (now (table .exit))
-        (λ p. applyUpdate p (record { collection = collection .0; key = key .0; value = unsigned source })) r ⌝ }
+        (λ p. applyUpdate p (record { collection = collection .0; key = key .0; mark = patch; value = unsigned source })) r ⌝ }
 {
     let n = counts.entries;
-    let change = panel_entries::update_entry(table, n, collection.raw(), key.raw(), source);
+    let change = panel_entries::update_entry(table, n, collection.raw(), key.raw(), patch, source);
     entries_counted(counts, change)
 }
 
@@ -156,18 +168,19 @@ fn move_before(
     entries_counted(counts, change)
 }
 
-// Plans an operation, with a source for its value. A refusal leaves every byte, whatever stands in the tables.
+// Plans an operation of the patch of that id, with a source for its value. A refusal leaves every byte, whatever stands in the tables.
 pub fn apply_operation(
     bindings: &mut [u8],
     availability: &mut [u8],
     entries: &mut [u8],
     counts: ProjectionCounts,
+    patch: u64,
     operation: ProjectionPatchOperation,
     source: u64,
 ) -> OperationChange
     ensures made { λ r. ⌜ ((ed : Edition) (p : Projection) → StoredPlan counts (now (bindings .entry)) (now (availability .entry)) (now (entries .entry)) p
         → FitsOperation ed (plannedOperation source operation)
-        → OperationBecame (λ m q. StoredPlan m (now (bindings .exit)) (now (availability .exit)) (now (entries .exit)) q) r (applyOperation p (plannedOperation source operation))) ⌝ }
+        → OperationBecame (λ m q. StoredPlan m (now (bindings .exit)) (now (availability .exit)) (now (entries .exit)) q) r (applyOperation p patch (plannedOperation source operation))) ⌝ }
     ensures kept { λ r. ⌜ AfterRefusal
         ((now (bindings .exit) ≡ now (bindings .entry)) × (now (availability .exit) ≡ now (availability .entry)) × (now (entries .exit) ≡ now (entries .entry))) r ⌝ }
 {
@@ -176,23 +189,24 @@ pub fn apply_operation(
             bindings,
             counts,
             target,
+            patch,
             source,
         ),
         ProjectionPatchOperation::SetNodeAvailability {
             node,
             availability: state,
-        } => set_availability(availability, counts, node, state),
+        } => set_availability(availability, counts, node, patch, state),
         ProjectionPatchOperation::CollectionInsert {
             collection,
             key,
             before,
             value: _,
-        } => insert(entries, counts, collection, key, before, source),
+        } => insert(entries, counts, collection, key, before, patch, source),
         ProjectionPatchOperation::CollectionUpdate {
             collection,
             key,
             value: _,
-        } => update(entries, counts, collection, key, source),
+        } => update(entries, counts, collection, key, patch, source),
         ProjectionPatchOperation::CollectionRemove { collection, key } => remove(
             entries,
             counts,

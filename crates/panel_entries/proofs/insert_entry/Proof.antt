@@ -46,8 +46,8 @@ slice-aggregate-insert-record c = search needs
 insert-record-requires : tie.Need-insert-record-requires
 insert-record-requires c κs = search needs
 
-add-t23 : tie.Need-add-t23
-add-t23 c = omega (arith, insert-room _ _ _ _ _ (search needs) (sym (c .before .before .before .insert-record .ensures .told) ∙ c .if1 .taken))
+add-t24 : tie.Need-add-t24
+add-t24 c = omega (arith, insert-room _ _ _ _ _ (search needs) (sym (c .before .before .before .insert-record .ensures .told) ∙ c .if1 .taken))
 
 same-length-2 : tie.Need-same-length-2
 same-length-2 c = search needs
@@ -115,7 +115,7 @@ insert-entry-spec =
     entry-row-requires
     slice-aggregate-insert-record
     insert-record-requires
-    add-t23
+    add-t24
     same-length-2
     returns-2
     enum-told-3

@@ -1,5 +1,6 @@
 -- `apply_operation` meets its contract: each operation changes one table, and the others stay.
 use mathlib.Core.Path.{refl}
+use native.Mathlib.Omega.{arith}
 use denote.Ref.{now}
 use borrow.Author.Needs.{needs}
 use Rattle.spec_projection.specs.Apply.{applyOperation}
@@ -54,7 +55,7 @@ returns c =
     let call = c .before .before in
     let known = call .before .before .before in
     let a = known .before .before .before .before .before .args in
-    binding-planned (a .counts) (now (a .bindings)) (now (a .availability)) (now (a .entries)) (call .set-binding .last .0) (a .source) _ _ (known .operation .given .1) (call .set-binding .result) _ _ refl (call .set-binding .ensures)
+    binding-planned (a .counts) (now (a .bindings)) (now (a .availability)) (now (a .entries)) (call .set-binding .last .0) (a .patch) (omega arith) (a .source) _ _ (known .operation .given .1) (call .set-binding .result) _ _ refl (call .set-binding .ensures)
 
 same-length-2 : tie.Need-same-length-2
 same-length-2 c = search needs
@@ -65,7 +66,7 @@ returns-2 c =
     let call = c .before .before in
     let known = call .before .before .before in
     let a = known .before .before .before .before .before .args in
-    availability-planned (a .counts) (now (a .bindings)) (now (a .availability)) (now (a .entries)) (call .set-availability .last .0) (a .source) _ _ (known .operation2 .given .1) (call .set-availability .result) _ refl (call .set-availability .ensures)
+    availability-planned (a .counts) (now (a .bindings)) (now (a .availability)) (now (a .entries)) (call .set-availability .last .0) (a .patch) (omega arith) (a .source) _ _ (known .operation2 .given .1) (call .set-availability .result) _ refl (call .set-availability .ensures)
 
 same-length-3 : tie.Need-same-length-3
 same-length-3 c = search needs
@@ -76,7 +77,7 @@ returns-3 c =
     let call = c .before .before in
     let known = call .before .before .before in
     let a = known .before .before .before .before .before .args in
-    entry-planned (a .counts) (now (a .bindings)) (now (a .availability)) (now (a .entries)) (call .insert .last .0) (a .source) _ _ (known .operation3 .given .1) (call .insert .result) _ refl (call .insert .ensures)
+    entry-planned (a .counts) (now (a .bindings)) (now (a .availability)) (now (a .entries)) (call .insert .last .0) (a .patch) (omega arith) (a .source) _ _ (known .operation3 .given .1) (call .insert .result) _ refl (call .insert .ensures)
 
 same-length-4 : tie.Need-same-length-4
 same-length-4 c = search needs
@@ -87,7 +88,7 @@ returns-4 c =
     let call = c .before .before in
     let known = call .before .before .before in
     let a = known .before .before .before .before .before .args in
-    entry-planned (a .counts) (now (a .bindings)) (now (a .availability)) (now (a .entries)) (call .update .last .0) (a .source) _ _ (known .operation4 .given .1) (call .update .result) _ refl (call .update .ensures)
+    entry-planned (a .counts) (now (a .bindings)) (now (a .availability)) (now (a .entries)) (call .update .last .0) (a .patch) (omega arith) (a .source) _ _ (known .operation4 .given .1) (call .update .result) _ refl (call .update .ensures)
 
 same-length-5 : tie.Need-same-length-5
 same-length-5 c = search needs
@@ -98,7 +99,7 @@ returns-5 c =
     let call = c .before .before in
     let known = call .before .before .before in
     let a = known .before .before .before .before .before .args in
-    entry-planned (a .counts) (now (a .bindings)) (now (a .availability)) (now (a .entries)) (call .remove .last .0) (a .source) _ _ (known .operation5 .given .1) (call .remove .result) _ refl (call .remove .ensures)
+    entry-planned (a .counts) (now (a .bindings)) (now (a .availability)) (now (a .entries)) (call .remove .last .0) (a .patch) (omega arith) (a .source) _ _ (known .operation5 .given .1) (call .remove .result) _ refl (call .remove .ensures)
 
 same-length-6 : tie.Need-same-length-6
 same-length-6 c = search needs
@@ -109,7 +110,7 @@ returns-6 c =
     let call = c .before .before in
     let known = call .before .before .before in
     let a = known .before .before .before .before .before .args in
-    entry-planned (a .counts) (now (a .bindings)) (now (a .availability)) (now (a .entries)) (call .move-before .last .0) (a .source) _ _ (known .operation6 .given .1) (call .move-before .result) _ refl (call .move-before .ensures)
+    entry-planned (a .counts) (now (a .bindings)) (now (a .availability)) (now (a .entries)) (call .move-before .last .0) (a .patch) (omega arith) (a .source) _ _ (known .operation6 .given .1) (call .move-before .result) _ refl (call .move-before .ensures)
 
 pub apply-operation-spec : {M : Type 1} → statement M
 apply-operation-spec =
