@@ -13,7 +13,7 @@ use Rattle.panel_rows.specs.Rows.{entryWidth, entryRow}
 
 -- an entry that stands for none
 unfoldable pub noEntry : Entry
-noEntry = record { collection = 0; key = 0; value = unsigned 0 }
+noEntry = record { collection = 0; key = 0; mark = 0; value = unsigned 0 }
 
 pub holds-length : {n : ℕ} {table : List ℕ} (es : List Entry) → Holds entryWidth n table (map entryRow es) → length es ≡ n
 holds-length es t = sym (length-map es entryRow) ∙ t .counted

@@ -28,7 +28,7 @@ abbrev pub Nth : ℕ → ℕ → List Entry → Found → Type 0
 Nth c n es (At i) = NthAt c n es i
 Nth c n es Absent = getElem? (entriesIn c es) n ≡ none
 
--- a key and its value, or every field zero
+-- a key, and its value with the mark, or every field zero
 unfoldable pub entryLookup : Option KeyedValue → EntryLookup
 entryLookup none = record { key = 0; value = noValue }
-entryLookup (some x) = record { key = x .key; value = foundValue (x .value) }
+entryLookup (some x) = record { key = x .key; value = foundValue (x .mark) (x .value) }

@@ -19,7 +19,7 @@ use panel_rows::fields;
 use panel_rows::values;
 use panel_rows::values::ValueLookup;
 
-// An entry's key and value, or every field zero.
+// An entry's key, and its value with its mark, or every field zero.
 pub struct EntryLookup {
     pub key: u64,
     pub value: ValueLookup,
@@ -83,12 +83,12 @@ fn no_entry() -> EntryLookup
     EntryLookup { key: 0, value }
 }
 
-// The key and the value that are stored in a row.
+// The key, the mark and the value that are stored in a row.
 fn stored_entry(row: &[u8]) -> EntryLookup
     ensures { λ r. ⌜ ((e : Entry) → FitsEntry e → now (row .entry) ≡ entryRow e → r ≡ entryLookup (some (keyedValue e))) ⌝ }
 {
     let key = fields::entry_key(row);
-    let value = values::stored_value(row, panel_rows::ENTRY_VALUE);
+    let value = values::stored_value(row, panel_rows::ENTRY_VALUE, fields::entry_mark(row));
     EntryLookup { key, value }
 }
 

@@ -29,7 +29,7 @@ bytesRead set at (refused fault) = []
 unfoldable pub valueBytes : Edition → List ℕ → ℕ → List ℕ
 valueBytes ed set at = bytesRead set at (readValueBy false ed (drop at set))
 
--- the bytes that a source stands for: those behind the ids of a row of the table before the batch, or those of a value of the set
+-- the bytes that a source stands for: those behind the mark of a row of the table before the batch, or those of a value of the set
 unfoldable pub sourceBytes : Edition → (key : ℕ) (from set : List ℕ) → ℕ → List ℕ
 sourceBytes ed key from set n = if ltb n projectionEntries then drop key (rowAt (key + valueWidth) n from) else valueBytes ed set (n - projectionEntries)
 

@@ -20,6 +20,7 @@ use Rattle.spec_patch.specs.Encode.{u64, encodeValue}
 use Rattle.spec_patch.specs.Fits.{U64, Storable, StorableBy, FitsValue}
 use Rattle.spec_patch.specs.Read.{readValueBy, readValue}
 use Rattle.spec_patch.specs.ReadLaws.{value-codec, value-codec-by, value-any}
+use Rattle.spec_projection.specs.MapLaws.{all-image}
 use Rattle.bytes_records.specs.Moves.{zeros}
 use Rattle.bytes_records.specs.MovesLaws.{drop-zeros}
 use Rattle.bytes_records.specs.Table.{Wide, tableBytes}
@@ -133,14 +134,9 @@ number-fits (score n) h = omega arith
 
 -- ---- lists
 
-module _ {A : Type 0} where
-  all-pair : (P Q : A → Type 0) (l : List A) → All P l → All Q l → All (λ a. P a × Q a) l
-  all-pair P Q [] h k = tt
-  all-pair P Q (x ∷ l) h k = ((h .0, k .0), all-pair P Q l (h .1) (k .1))
-
-  all-image : {B : Type 0} (f : A → B) (P : A → Type 0) (Q : B → Type 0) → ((a : A) → P a → Q (f a)) → (l : List A) → All P l → All Q (map f l)
-  all-image f P Q each [] h = tt
-  all-image f P Q each (x ∷ l) h = (each x (h .0), all-image f P Q each l (h .1))
+all-pair : {A : Type 0} (P Q : A → Type 0) (l : List A) → All P l → All Q l → All (λ a. P a × Q a) l
+all-pair P Q [] h k = tt
+all-pair P Q (x ∷ l) h k = ((h .0, k .0), all-pair P Q l (h .1) (k .1))
 
 -- the first rows are those of a list that has them one by one
 rows-to : (f : ℕ → List ℕ) (l : List (List ℕ)) → ((i : ℕ) → i < length l → f i ≡ getD l i []) → (n : ℕ) → n ≤ length l → rowsTo f n ≡ take n l
@@ -148,14 +144,14 @@ unfolding rowsTo
 rows-to f l same zero h = refl
 rows-to f l same (suc n) h = ap₂ (λ (a : List (List ℕ)) (b : List ℕ). a ++ (b ∷ [])) (rows-to f l same n (omega arith)) (same n (omega arith)) ∙ sym (take-suc l n [] (omega arith))
 
--- ---- records that are stored by their ids and a value
+-- ---- records that are stored by their ids, with the mark, and a value
 
 module _ {A : Type 0} (ids : A → List ℕ) (value : A → Value) (planRow row : A → List ℕ) (key : ℕ) (long : (a : A) → length (ids a) ≡ key)
     (plan-is : (a : A) → planRow a ≡ ids a ++ u64 (sourceNumber (value a))) (row-is : (a : A) → row a ≡ ids a ++ padded (value a)) where
   row-behind : (a : A) → drop key (row a) ≡ padded (value a)
   row-behind a = ap (drop key) (row-is a) ∙ drop-at (ids a) (padded (value a)) key (long a)
 
-  -- a source that is a row of the table before the batch stands for what is behind its ids
+  -- a source that is a row of the table before the batch stands for what is behind its mark
   value-of-row : (l : List A) (i : ℕ) → i < length l → padded (getD (map value l) i (quad N)) ≡ drop key (getD (map row l) i [])
   value-of-row [] i h = absurd (omega arith)
   value-of-row (a ∷ l) zero h = sym (row-behind a)
@@ -180,7 +176,7 @@ module _ {A : Type 0} (ids : A → List ℕ) (value : A → Value) (planRow row 
       let r = planned-at P resolve m i (omega arith) (ps .1) in
       record { element = r .element; has = r .has; planned = r .planned; resolved = r .resolved }
 
-  -- the source behind the ids of a plan's row
+  -- the source behind the mark of a plan's row
   source-field : (a : A) → U64 (sourceNumber (value a)) → fieldAt key sourceWidth (ids a ++ u64 (sourceNumber (value a))) ≡ sourceNumber (value a)
   source-field a small =
       let n = sourceNumber (value a) in

@@ -45,8 +45,8 @@ fn value_bytes(set: &[u8], edition: ProjectionPatchEdition, at: usize) -> &[u8]
     }
 }
 
-// Writes one row: the ids of the plan's row, and the bytes of its value, which stand behind the ids of an old row or in the
-// set.
+// Writes one row: the ids and the mark of the plan's row, and the bytes of its value, which stand behind the mark of an old row
+// or in the set.
 fn write_planned(
     key: usize,
     row: &[u8],
@@ -58,14 +58,14 @@ fn write_planned(
     requires { ⌜ key ≤ entryValueAt ⌝ }
     ensures { λ _. ⌜ now (to .exit) ≡ plannedRow (editionOf edition) key (now (row .entry)) (now (from .entry)) (now (set .entry)) (now (to .entry)) ⌝ }
 {
-    let ids = fields::key_part(row, key);
+    let front = fields::key_part(row, key);
     let source = fields::number_at(row, key, SOURCE_WIDTH) as usize;
     if source < LocalProjectionState::ENTRIES {
         let old = row_at(from, key + panel_rows::VALUE_WIDTH, source);
-        written::write_row(to, ids, fields::value_part(old, key));
+        written::write_row(to, front, fields::value_part(old, key));
     } else {
         let at = source - LocalProjectionState::ENTRIES;
-        written::write_row(to, ids, value_bytes(set, edition, at));
+        written::write_row(to, front, value_bytes(set, edition, at));
     }
 }
 
@@ -137,7 +137,7 @@ fn write_table(
     true
 }
 
-// Writes the bindings of a plan: each row's ids, and its value from the table before the batch or from the set. Places that were used and
+// Writes the bindings of a plan: each row's ids and mark, and its value from the table before the batch or from the set. Places that were used and
 // are used no more become zero; behind those nothing is written.
 pub fn write_bindings(
     plan: &[u8],

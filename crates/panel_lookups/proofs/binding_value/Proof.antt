@@ -16,6 +16,9 @@ enum-known-at c = search needs
 record-at-requires : tie.Need-record-at-requires
 record-at-requires c κs = search needs
 
+binding-mark-requires : tie.Need-binding-mark-requires
+binding-mark-requires c κs = search needs
+
 stored-value-requires : tie.Need-stored-value-requires
 stored-value-requires c κs = search needs
 
@@ -27,10 +30,14 @@ no-value-requires c κs = search needs
 
 returns : tie.Need-returns
 returns c =
-    let find = c .before .before .before .before .before in
-    let a = c .before .before .before .before .before .before .before .args in
+    let read = c .before .before in
+    let known = read .before .before in
+    let find = known .before .before in
+    let a = find .before .before .args in
     λ p s v.
-    binding-found p v (a .node) (a .slot) (find .find-pair-place .result) (find .find-pair-place .ensures .0 (map bindingRow (p .bindings)) (s .rows)) _ (c .before .before .before .at .given .1) (now (c .before .record-at .result)) (c .before .record-at .ensures .0 (map bindingRow (p .bindings)) (s .rows)) (c .stored-value .result) (c .stored-value .ensures)
+    let rows = map bindingRow (p .bindings) in
+    binding-found p v (a .node) (a .slot) (find .find-pair-place .result) (find .find-pair-place .ensures .0 rows (s .rows)) _ (known .at .given .1)
+    (now (read .record-at .result)) (read .record-at .ensures .0 rows (s .rows)) _ (c .before .binding-mark .ensures) (c .stored-value .result) (c .stored-value .ensures)
 
 returns-2 : tie.Need-returns-2
 returns-2 c =
@@ -46,6 +53,7 @@ binding-value-spec =
     find-pair-place-requires
     enum-known-at
     record-at-requires
+    binding-mark-requires
     stored-value-requires
     enum-told
     no-value-requires

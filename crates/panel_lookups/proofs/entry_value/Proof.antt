@@ -17,6 +17,9 @@ enum-known-at c = search needs
 record-at-requires : tie.Need-record-at-requires
 record-at-requires c κs = search needs
 
+entry-mark-requires : tie.Need-entry-mark-requires
+entry-mark-requires c κs = search needs
+
 stored-value-requires : tie.Need-stored-value-requires
 stored-value-requires c κs = search needs
 
@@ -28,10 +31,13 @@ no-value-requires c κs = search needs
 
 returns : tie.Need-returns
 returns c =
-    let find = c .before .before .before .before .before in
-    let a = c .before .before .before .before .before .before .before .args in
+    let read = c .before .before in
+    let known = read .before .before in
+    let find = known .before .before in
+    let a = find .before .before .args in
     λ p s v.
-    entry-found p v (a .collection) (a .key) (find .find-entry .result) (find .find-entry .ensures .0 entryRow stored-keyed (p .entries) (v .fitEntries) (v .entries) (s .rows)) _ (c .before .before .before .at .given .1) (now (c .before .record-at .result)) (c .before .record-at .ensures .0 (map entryRow (p .entries)) (s .rows)) (c .stored-value .result) (c .stored-value .ensures)
+    entry-found p v (a .collection) (a .key) (find .find-entry .result) (find .find-entry .ensures .0 entryRow stored-keyed (p .entries) (v .fitEntries) (v .entries) (s .rows)) _ (known .at .given .1)
+    (now (read .record-at .result)) (read .record-at .ensures .0 (map entryRow (p .entries)) (s .rows)) _ (c .before .entry-mark .ensures) (c .stored-value .result) (c .stored-value .ensures)
 
 returns-2 : tie.Need-returns-2
 returns-2 c =
@@ -47,6 +53,7 @@ entry-value-spec =
     find-entry-requires
     enum-known-at
     record-at-requires
+    entry-mark-requires
     stored-value-requires
     enum-told
     no-value-requires

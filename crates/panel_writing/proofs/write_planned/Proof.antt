@@ -1,4 +1,4 @@
--- `write_planned` meets its contract: the bytes of the source, behind the plan's ids.
+-- `write_planned` meets its contract: the bytes of the source, behind the plan's ids and mark.
 use mathlib.Core.Path.{sym, ap, _∙_}
 use native.Mathlib.Omega.{arith}
 use borrow.Author.Needs.{needs}
@@ -43,10 +43,10 @@ returns c =
     let part = write .before in
     let old = part .before .before in
     let number = old .before .before in
-    let ids = number .before in
-    let a = ids .before .before .before .before .before .args in
+    let front = number .before in
+    let a = front .before .before .before .before .before .args in
     let ed = editionOf (a .edition) in
-    planned-written ed (a .key) (now (a .row)) (now (a .from)) (now (a .set)) (now (a .to)) (ids .key-part .ensures) (number .number-at .ensures)
+    planned-written ed (a .key) (now (a .row)) (now (a .from)) (now (a .set)) (now (a .to)) (front .key-part .ensures) (number .number-at .ensures)
     (part .value-part .ensures ∙ ap (drop (a .key)) (old .row-at .ensures) ∙ sym (source-old ed (a .key) (now (a .from)) (now (a .set)) _ (old .before .if1 .taken)))
     (write .write-row .ensures .1)
 
@@ -58,10 +58,10 @@ returns-2 c =
     let write = c .before .before in
     let part = write .before in
     let number = part .before .before .before in
-    let ids = number .before in
-    let a = ids .before .before .before .before .before .args in
+    let front = number .before in
+    let a = front .before .before .before .before .before .args in
     let ed = editionOf (a .edition) in
-    planned-written ed (a .key) (now (a .row)) (now (a .from)) (now (a .set)) (now (a .to)) (ids .key-part .ensures) (number .number-at .ensures)
+    planned-written ed (a .key) (now (a .row)) (now (a .from)) (now (a .set)) (now (a .to)) (front .key-part .ensures) (number .number-at .ensures)
     (part .value-bytes .ensures ∙ sym (source-new ed (a .key) (now (a .from)) (now (a .set)) _ (part .before .before .if1 .left)))
     (write .write-row2 .ensures .1)
 
