@@ -3,7 +3,7 @@
 use Prim.Native.Nat.{ℕ, _+_, _-_, _*_, _≤_}
 use mathlib.Core.Path.{_≡_, refl, sym, ap, _∙_, subst}
 use mathlib.Core.Bool.{Bool, true, false, _&&_}
-use mathlib.Core.List.{List, [], _++_, append-nil, map}
+use mathlib.Core.List.{List, [], _++_, append-nil, map, map-id}
 use native.Mathlib.Nat.{zero-mul}
 use native.Mathlib.Omega.{arith}
 use borrow.Author.Tests.{le-leb, leb-true, eq-eqb, eqb-true}
@@ -25,6 +25,7 @@ use Rattle.patch_walk.specs.declared.SetCursor.{SetCursor}
 use Rattle.patch_walk.specs.declared.SetOpening.the-variants as opening
 use Rattle.spec_projection.specs.Projection.{Projection}
 use Rattle.spec_projection.specs.Apply.{Outcome, done, stopped}
+use Rattle.spec_projection.specs.RowMap.{mapRows}
 use Rattle.spec_projection.specs.Valid.{Valid}
 use Rattle.bytes_records.specs.Moves.{zeros, overwrite}
 use Rattle.bytes_records.specs.MovesLaws.{length-zeros, drop-zeros}
@@ -36,7 +37,7 @@ use Rattle.local_projection_state.specs.declared.ProjectionCounts.{ProjectionCo
 use Rattle.panel_plan.specs.Plan.{planOf, numbered, bindingWith, entryWith}
 use Rattle.panel_plan.specs.PlanValid.{plan-valid}
 use Rattle.panel_plan.specs.PlanRows.{PlannedBindings, PlannedEntries, StoredPlan}
-use Rattle.panel_plan.specs.Resolved.{Resolution, resolved}
+use Rattle.panel_plan.specs.Resolved.{Resolution, resolving, resolved}
 use Rattle.panel_steps.specs.Runs.{RunBecame, PlannedAs}
 use Rattle.panel_steps.specs.declared.PlanRun.{PlanRun}
 use Rattle.panel_steps.specs.declared.PlanRun.the-variants as plan
@@ -132,8 +133,8 @@ plan-starts {n = n} {p = p} s same bs es = record { bindings = bs; availabilitie
 
 -- availabilities are not resolved
 same-availabilities : (r : Resolution) (q : Projection) → resolved r q .availabilities ≡ q .availabilities
-unfolding resolved
-same-availabilities r q = refl
+unfolding mapRows resolving
+same-availabilities r q = map-id (q .availabilities)
 
 pub written-stored : (n : ProjectionCounts) (b a e : List ℕ) (r : Resolution) (q x : Projection) → resolved r q ≡ x → Valid x
     → Stored bindingRow bindingWidth projectionBindings (n .bindings) b (resolved r q .bindings) → Stored availabilityRow availabilityWidth projectionAvailabilities (n .availabilities) a (q .availabilities)

@@ -73,15 +73,14 @@ head-within c size x d is h = subst (StepWithin c size) is h
 
 -- ---- a run
 
--- operations of a patch are left, then patches; applying their steps to what the plan stands for gives what the whole run gives
+-- operations of the cursor's patch are left, then patches; applying their steps to what the plan stands for gives what the whole run gives
 pub record Running (ed : Edition) (p : Projection) (set : List ℕ) (c : SetCursor) (n : ProjectionCounts) (b a e : List ℕ) (whole : Outcome) : Type 0 where
-  pub id : ℕ
   pub os : List Operation
   pub ps : List Patch
   pub here : AtSteps ed set c os ps
   pub model : Projection
   pub planned : PlannedAs ed p set b a e n model
-  pub same : applySteps model (map (stepOf id) os ++ replaySteps ps) ≡ whole
+  pub same : applySteps model (map (stepOf (c .«patch_id»)) os ++ replaySteps ps) ≡ whole
 
 -- what an operation's answer makes of a run: it goes on, or its outcome is the operation's refusal
 abbrev After : Edition → Projection → List ℕ → SetCursor → (b a e : List ℕ) → Outcome → OperationChange → Type 0
@@ -101,7 +100,6 @@ module _ {ed : Edition} {p : Projection} {set : List ℕ} {d : SetCursor} {b a e
 module _ {ed : Edition} {p : Projection} {set : List ℕ} where
   pub run-start : {c : SetCursor} {n : ProjectionCounts} {b a e : List ℕ} (ps : List Patch) → Valid p → StoredPlan n b a e (planOf p) → AtSteps ed set c [] ps → Running ed p set c n b a e (applySteps p (replaySteps ps))
   run-start ps v s h = record {
-    id = 0;
     os = [];
     ps = ps;
     here = h;
@@ -115,19 +113,20 @@ module _ {ed : Edition} {p : Projection} {set : List ℕ} where
     unfolding replaySteps flatMap applySteps
     run-end all =
         subst (RunBecame (PlannedAs ed p set b a e) (Planned n))
-        (ap₂ (λ (os : List Operation) (ps : List Patch). applySteps (run .model) (map (stepOf (run .id)) os ++ replaySteps ps)) (sym (all .0)) (sym (all .1)) ∙ run .same) (run .planned)
+        (ap₂ (λ (os : List Operation) (ps : List Patch). applySteps (run .model) (map (stepOf (c .«patch_id»)) os ++ replaySteps ps)) (sym (all .0)) (sym (all .1)) ∙ run .same) (run .planned)
 
     -- a patch's head: its operations are left now
     pub run-head : {head : ProjectionPatch} {d : SetCursor} → Opened ed set c (run .os) (run .ps) head d → Running ed p set d n b a e whole
     unfolding replaySteps patchSteps flatMap
     run-head o = record {
-      id = o .first .envelope .id;
       os = o .first .operations;
       ps = o .rest;
       here = o .next;
       model = run .model;
       planned = run .planned;
-      same = ap₂ (λ (os : List Operation) (ps : List Patch). applySteps (run .model) (map (stepOf (run .id)) os ++ replaySteps ps)) (sym (o .none)) (sym (o .is)) ∙ run .same;
+      same =
+          ap (λ (id : ℕ). applySteps (run .model) (map (stepOf id) (o .first .operations) ++ replaySteps (o .rest))) (ap (λ (e : SetCursor). e .«patch_id») (o .behind) ∙ ap (λ (x : ProjectionPatch). x .envelope .«patch_id» .0) (o .placed))
+          ∙ ap₂ (λ (os : List Operation) (ps : List Patch). applySteps (run .model) (map (stepOf (c .«patch_id»)) os ++ replaySteps ps)) (sym (o .none)) (sym (o .is)) ∙ run .same;
     }
 
     -- ---- an operation
@@ -157,24 +156,23 @@ module _ {ed : Edition} {p : Projection} {set : List ℕ} where
       R = resolution p (valueIn ed set)
 
       abbrev left : Projection → Outcome
-      left q = applySteps q (map (stepOf (run .id)) (v .rest) ++ replaySteps (run .ps))
+      left q = applySteps q (map (stepOf (c .«patch_id»)) (v .rest) ++ replaySteps (run .ps))
 
       -- the whole, by what planning the operation gives
-      by-step : (y : Outcome) → applyOperation (run .planned .plan) (plannedOperation source x) ≡ y → andThen (resolvedOutcome R y) left ≡ whole
+      by-step : (y : Outcome) → applyOperation (run .planned .plan) (c .«patch_id») (plannedOperation source x) ≡ y → andThen (resolvedOutcome R y) left ≡ whole
       unfolding applySteps applyStep
       by-step y e =
           ap (λ z. andThen z left)
-          (sym (ap (λ q. applyOperation q (v .first)) (sym (run .planned .resolves)) ∙ planned-operation p (valueIn ed set) at (StandsAt ed set at) (value-there at) (run .planned .plan) (v .first) stands
-          ∙ ap (resolvedOutcome R) (ap (applyOperation (run .planned .plan)) (sym planned-here) ∙ e)))
-          ∙ ap (λ (os : List Operation). applySteps (run .model) (map (stepOf (run .id)) os ++ replaySteps (run .ps))) (sym (v .is)) ∙ run .same
+          (sym (ap (λ q. applyOperation q (c .«patch_id») (v .first)) (sym (run .planned .resolves)) ∙ planned-operation p (valueIn ed set) at (StandsAt ed set at) (value-there at) (run .planned .plan) (c .«patch_id») (v .first) stands
+          ∙ ap (resolvedOutcome R) (ap (applyOperation (run .planned .plan) (c .«patch_id»)) (sym planned-here) ∙ e)))
+          ∙ ap (λ (os : List Operation). applySteps (run .model) (map (stepOf (c .«patch_id»)) os ++ replaySteps (run .ps))) (sym (v .is)) ∙ run .same
 
       -- the run after the operation, or the outcome of all: the operation's refusal
-      pub run-turn : (b′ a′ e′ : List ℕ) (r : OperationChange) → OperationBecame (λ m q. StoredPlan m b′ a′ e′ q) r (applyOperation (run .planned .plan) (plannedOperation source x)) → Turned ed p set d b′ a′ e′ whole r
-      run-turn b′ a′ e′ r became = record { after = go r (applyOperation (run .planned .plan) (plannedOperation source x)) refl became }
+      pub run-turn : (b′ a′ e′ : List ℕ) (r : OperationChange) → OperationBecame (λ m q. StoredPlan m b′ a′ e′ q) r (applyOperation (run .planned .plan) (c .«patch_id») (plannedOperation source x)) → Turned ed p set d b′ a′ e′ whole r
+      run-turn b′ a′ e′ r became = record { after = go r (applyOperation (run .planned .plan) (c .«patch_id») (plannedOperation source x)) refl became }
         where
-          go : (r : OperationChange) (y : Outcome) → applyOperation (run .planned .plan) (plannedOperation source x) ≡ y → OperationBecame (λ m q. StoredPlan m b′ a′ e′ q) r y → After ed p set d b′ a′ e′ whole r
+          go : (r : OperationChange) (y : Outcome) → applyOperation (run .planned .plan) (c .«patch_id») (plannedOperation source x) ≡ y → OperationBecame (λ m q. StoredPlan m b′ a′ e′ q) r y → After ed p set d b′ a′ e′ whole r
           go (operation.Applied m) (done q) e h = record {
-            id = run .id;
             os = v .rest;
             ps = run .ps;
             here = v .next;
@@ -182,10 +180,10 @@ module _ {ed : Edition} {p : Projection} {set : List ℕ} where
             planned = record {
               plan = q;
               stored = h;
-              sourced = operation-sourced ed p set (run .planned .plan) q at (v .first) stands (ap (applyOperation (run .planned .plan)) (sym planned-here) ∙ e) (run .planned .sourced);
+              sourced = operation-sourced ed p set (run .planned .plan) q at (c .«patch_id») (v .first) stands (ap (applyOperation (run .planned .plan) (c .«patch_id»)) (sym planned-here) ∙ e) (run .planned .sourced);
               resolves = refl;
             };
-            same = by-step (done q) e;
+            same = ap (λ (f : SetCursor). applySteps (resolved R q) (map (stepOf (f .«patch_id»)) (v .rest) ++ replaySteps (run .ps))) (v .behind) ∙ by-step (done q) e;
           }
           go (operation.Applied m) (stopped f) e h = absurd h
           go (operation.Refused error) (done q) e h = absurd h

@@ -1,4 +1,5 @@
-// The operations of a set, read and planned in order: each value's source is the position of its bytes in the set.
+// The operations of a set, read and planned in order: each value's source is the position of its bytes in the set, and its mark
+// the id of its patch.
 // After crates/prom-ui/src/local_projection_state.rs.
 ghost use mathlib.Core.Path.{_≡_};
 ghost use mathlib.Core.List.{List, []};
@@ -80,6 +81,7 @@ pub fn plan_steps(
                     availability,
                     entries,
                     held,
+                    cursor.patch_id,
                     operation,
                     source,
                 ) {
