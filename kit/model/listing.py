@@ -1,4 +1,7 @@
-"""01, 'Listing': a projection, or a set applied to an empty one, as tab-parted lines of bytes."""
+"""01, 'Listing': a projection, or a set applied to an empty one, as tab-parted lines of bytes.
+
+python3 listing.py [EDITION] < SET; the edition is 1 if it is left out.
+"""
 
 import sys
 
@@ -8,7 +11,7 @@ from patch import operations_of
 from projection import Projection, Stopped, apply_operations
 from sizes import SET_BYTES
 
-KINDS = {1: b"Q", 2: b"S", 3: b"T", 4: b"U"}
+KINDS = {1: b"Q", 2: b"S", 3: b"T", 4: b"U", 5: b"M"}
 
 
 def line(*fields):
@@ -33,10 +36,10 @@ def listing_tables(projection):
     return b"".join(lines)
 
 
-def listing(data):
-    """What the program prints of its input."""
+def listing(data, edition):
+    """What the edition's program prints of its input."""
     try:
-        patches = read_set(data)
+        patches = read_set(data, edition)
         if findings(patches)[1]:
             return line(b"E", 11)
         return listing_tables(apply_operations(Projection(), operations_of(patches)))
@@ -45,4 +48,4 @@ def listing(data):
 
 
 if __name__ == "__main__":
-    sys.stdout.buffer.write(listing(sys.stdin.buffer.read(SET_BYTES + 1)))
+    sys.stdout.buffer.write(listing(sys.stdin.buffer.read(SET_BYTES + 1), int(sys.argv[1]) if sys.argv[1:] else 1))

@@ -1,6 +1,6 @@
 """Patches and operations, as plain tuples.
 
-A value is (kind, content): (1, quad byte), (2, signed number), (3, bytes of a text), (4, unsigned number).
+A value is (kind, content): (1, quad byte), (2, signed number), (3, bytes of a text), (4, unsigned number), (5, score).
 """
 
 from collections import namedtuple

@@ -5,9 +5,10 @@ import sys
 
 from canonical import Fault, read_set
 from checks import findings
+from convert import convert
 from listing import line, listing, listing_tables, value_fields
 from session import Limits, Session, TooManyAnchors
-from sizes import ANCHORS, LAST_U32, LAST_U64
+from sizes import ANCHORS, LAST_U32, LAST_U64, SET_BYTES
 from turns import Turns, WrongSenderCount
 
 LINE_BYTES = 131072
@@ -34,9 +35,9 @@ def set_bytes(field):
     return bytes.fromhex(field.decode("ascii"))
 
 
-def check_lines(data):
+def check_lines(data, edition):
     try:
-        place, found = findings(read_set(data))
+        place, found = findings(read_set(data, edition))
     except Fault as fault:
         return line(b"K", fault.number)
     place = b"set" if place == "set" else place
@@ -48,6 +49,7 @@ class Replay:
 
     def __init__(self):
         self.session = None
+        self.edition = 1
         self._set_up(0, Limits(0, 0, 0, 0))
 
     def _set_up(self, session, limits):
@@ -102,14 +104,14 @@ class Replay:
         data = set_bytes(data)
         if self.session is None:
             return line(b"N")
-        disposition, diagnostics = self.session.batch(*numbers, data)
+        disposition, diagnostics = self.session.batch(*numbers, self.edition, data)
         return line(b"R", disposition.encode("ascii"), *diagnostics, self._cursor())
 
     def do_check(self, data):
-        return check_lines(set_bytes(data))
+        return check_lines(set_bytes(data), self.edition)
 
     def do_list(self, data):
-        return listing(set_bytes(data))
+        return listing(set_bytes(data), self.edition)
 
     def do_show(self):
         return line(b"N") if self.session is None else listing_tables(self.session.projection)
@@ -134,6 +136,19 @@ class Replay:
             return line(b"N")
         value = lookup(self.session.projection)
         return line(b"V", b"-") if value is None else line(b"V", *value_fields(value))
+
+    # ---- editions (02, Job 13)
+
+    def do_edition(self, edition):
+        if edition not in (b"1", b"2"):
+            raise BadLine
+        self.edition = int(edition)
+        return b""
+
+    def do_convert(self, room, data):
+        room = number(room, SET_BYTES)
+        refusal, converted = convert(set_bytes(data), self.edition, room)
+        return line(b"T", refusal) if refusal else line(b"T", 0, converted.hex().encode("ascii"))
 
     # ---- turns among senders (02, Job 14), which belong to no session
 
@@ -162,7 +177,7 @@ class Replay:
     FIELDS = {
         b"session": 5, b"node": 1, b"binding": 2, b"collection": 1, b"create": 0, b"apply": 2, b"batch": 6,
         b"check": 1, b"list": 1, b"show": 0, b"value binding": 2, b"value node": 1, b"value entry": 2,
-        b"senders": 1, b"wait": 1, b"turn": 0,
+        b"senders": 1, b"wait": 1, b"turn": 0, b"edition": 1, b"convert": 2,
     }
 
     def answer(self, text):

@@ -1,4 +1,4 @@
-"""01, 'One batch, from entry to leaf', 'Lifecycle' and 'Diagnostics under the cap'."""
+"""01, 'One batch, from entry to leaf', 'Lifecycle' and 'Diagnostics under the cap'; each batch is told its edition (02, Job 13)."""
 
 from collections import namedtuple
 
@@ -94,7 +94,7 @@ class Session:
             return True
         return self.cursor != LAST_U64 and sequence == self.cursor + 1
 
-    def _checked(self, session, sequence, patch_count, stimulus_bytes, references, data):
+    def _checked(self, session, sequence, patch_count, stimulus_bytes, references, edition, data):
         """Steps 1 to 8; the operations of the batch where all pass."""
         if session != self.id:
             raise Refusal(1)
@@ -103,7 +103,7 @@ class Session:
         if patch_count > self.limits.patches or stimulus_bytes > self.limits.bytes:
             raise Refusal(4)
         try:
-            patches = read_set(data)
+            patches = read_set(data, edition)
         except Fault as fault:
             raise Refusal(fault.number)
         if findings(patches)[1]:
@@ -120,10 +120,10 @@ class Session:
             raise Refusal(7)
         return operations
 
-    def batch(self, session, sequence, patch_count, stimulus_bytes, references, data):
+    def batch(self, session, sequence, patch_count, stimulus_bytes, references, edition, data):
         """Disposition and diagnostics of one batch."""
         try:
-            operations = self._checked(session, sequence, patch_count, stimulus_bytes, references, data)
+            operations = self._checked(session, sequence, patch_count, stimulus_bytes, references, edition, data)
             try:
                 projection = apply_operations(self.projection, operations)
             except Stopped as stopped:

@@ -1,0 +1,10 @@
+"""Which requests of document 02 the kit has cases of. A line of LANDED is switched on when the request's commands run."""
+
+# the module cases_NAME, and what CASES.md calls its subject
+REQUESTS = {
+    "edition": "The second edition, with match scores",
+}
+
+LANDED = [
+    # "edition",
+]

@@ -1,0 +1,60 @@
+"""The wrong panels of each request in landed.py: what the panel does, the file, its text, and what stands there instead."""
+
+WRONG_BY_REQUEST = {
+    "edition": [
+        ("takes a score of 101", "canonical.py", "range(HIGHEST_SCORE + 1)", "range(HIGHEST_SCORE + 2)"),
+        ("takes any score", "canonical.py", "range(HIGHEST_SCORE + 1)", "range(256)"),
+        ("takes scores below 100 only", "canonical.py", "range(HIGHEST_SCORE + 1)", "range(HIGHEST_SCORE)"),
+        ("reads a score of eight bytes", "canonical.py", "self.tag(range(HIGHEST_SCORE + 1))", "self.number(8)"),
+        ("calls a score above 100 a capacity", "canonical.py",
+            "self.tag(range(HIGHEST_SCORE + 1))",
+            "self.number(1))\n        if score[1] > HIGHEST_SCORE:\n            raise Fault(12)\n        return (score"),
+        ("takes scores in V1", "canonical.py", "VALUE_KINDS = {1: (1, 2, 3, 4),", "VALUE_KINDS = {1: (1, 2, 3, 4, 5),"),
+        ("knows no scores in V2", "canonical.py", "2: (1, 2, 3, 4, 5)}", "2: (1, 2, 3, 4)}"),
+        ("takes either heading in V2", "canonical.py",
+            "self.take(len(heading)) != heading",
+            "self.take(len(heading)) not in [HEADINGS[kind] for kind in (1, self.edition)]"),
+        ("takes either heading in V1", "canonical.py",
+            "self.take(len(heading)) != heading",
+            "self.take(len(heading)) not in [HEADINGS[kind] for kind in (2, self.edition)]"),
+        ("takes the heading for the edition", "canonical.py",
+            "        heading = HEADINGS[self.edition]\n",
+            "        self.edition = 2 if self.data[30:31] == b\"2\" else 1\n        heading = HEADINGS[self.edition]\n"),
+        ("prints a score as U", "listing.py", '5: b"M"', '5: b"U"'),
+        ("is bound to the edition of its first batch", "session.py",
+            "            patches = read_set(data, edition)\n",
+            '            self.edition = getattr(self, "edition", edition)\n            patches = read_set(data, self.edition)\n'),
+        (
+            "tells no batch its edition", "replay.py", "self.session.batch(*numbers, self.edition, data)",
+            "self.session.batch(*numbers, 1, data)"
+        ),
+        (
+            "a set-up tells V1", "replay.py", "        self.id = session\n",
+            "        self.id = session\n        self.edition = 1\n"
+        ),
+        ("starts with V2", "replay.py", "        self.edition = 1\n", "        self.edition = 2\n"),
+        ("lists V1 alone", "replay.py", "listing(set_bytes(data), self.edition)", "listing(set_bytes(data), 1)"),
+        (
+            "converts and drops the last patch", "convert.py", "encode_set(patches, 3 - edition)",
+            "encode_set(patches[:-1], 3 - edition)"
+        ),
+        ("converts and keeps the heading", "convert.py", "encode_set(patches, 3 - edition)", "encode_set(patches, edition)"),
+        ("converts to V2 alone", "convert.py", "encode_set(patches, 3 - edition)", "encode_set(patches, 2)"),
+        ("converts scores to V1", "convert.py", "if edition == 2 and has_score(patches)", "if False"),
+        ("looks for scores in the first patch", "convert.py", "operations_of(patches))", "operations_of(patches[:1]))"),
+        ("looks for scores in bindings", "convert.py", "[0] == 5 for", "[0] == 5 and operation.number == 1 for"),
+        ("overlooks a score of 0", "convert.py", '"value", (0, 0))[0] == 5', '"value", (0, 0)) > (5, 0)'),
+        ("asks for room before 18", "convert.py",
+            "    if edition == 2 and has_score(patches):\n",
+            "    if len(data) > room:\n        return 14, None\n    if edition == 2 and has_score(patches):\n"),
+        (
+            "asks for room before it reads", "convert.py", "    try:\n",
+            "    if len(data) > room:\n        return 14, None\n    try:\n"
+        ),
+        ("wants a byte more than the set", "convert.py", "len(converted) <= room", "len(converted) < room"),
+        ("converts sets without findings only", "convert.py",
+            "    if edition == 2 and has_score(patches):\n",
+            "    from checks import findings\n    if findings(patches)[1]:\n        return 11, None\n    if edition == 2 and has_score(patches):\n"),
+        ("takes a room over 32,768", "replay.py", "room = number(room, SET_BYTES)", "room = number(room)"),
+    ],
+}
