@@ -1,7 +1,7 @@
 """The second edition: match scores, headings, sessions that take both editions, and the converter."""
 
 from build import hex_of, patch, patches_of, quad, read_notation, score, signed, text, unsigned
-from canonical import HEADINGS, encode_head, encode_operation, encode_set, u32, u64
+from canonical import HEADINGS, encode_head, encode_set, u32, u64
 from cases_reading import LARGEST
 from cases_script import bad
 from chance import Chance

@@ -2,15 +2,14 @@
 
 from canonical import Fault, read_set
 from checks import findings
-from patch import operations_of
-from projection import Stopped, apply_operations
+from projection import Stopped, apply_patches
 from replay import LINE_BYTES, BadLine, Replay, set_bytes
 
 NO_COMMAND = "a line that is no command"
 # commands that the Rust has no counterpart of
 ADDED = {
     b"senders": "turns among senders", b"wait": "turns among senders", b"turn": "turns among senders",
-    b"edition": "the second edition", b"convert": "the second edition",
+    b"edition": "the second edition", b"convert": "the second edition", b"mark": "marks",
 }
 
 
@@ -90,7 +89,7 @@ def _hides_9(state, text, answer):
     if not (text.startswith(b"batch ") and b"\trejected\t0\t" in answer):
         return False
     try:
-        apply_operations(state.session.projection, operations_of(read_set(set_bytes(text.split(b" ")[-1]), 1)))
+        apply_patches(state.session.projection, read_set(set_bytes(text.split(b" ")[-1]), 1))
     except Stopped as stopped:
         return stopped.number == 9
     return False

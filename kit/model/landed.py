@@ -3,8 +3,10 @@
 # the module cases_NAME, and what CASES.md calls its subject
 REQUESTS = {
     "edition": "The second edition, with match scores",
+    "marks": "Who wrote a row",
 }
 
 LANDED = [
     # "edition",
+    # "marks",
 ]

@@ -7,8 +7,7 @@ import sys
 
 from canonical import Fault, read_set
 from checks import findings
-from patch import operations_of
-from projection import Projection, Stopped, apply_operations
+from projection import Projection, Stopped, apply_patches
 from sizes import SET_BYTES
 
 KINDS = {1: b"Q", 2: b"S", 3: b"T", 4: b"U", 5: b"M"}
@@ -42,7 +41,7 @@ def listing(data, edition):
         patches = read_set(data, edition)
         if findings(patches)[1]:
             return line(b"E", 11)
-        return listing_tables(apply_operations(Projection(), operations_of(patches)))
+        return listing_tables(apply_patches(Projection(), patches))
     except (Fault, Stopped) as refusal:
         return line(b"E", refusal.number)
 

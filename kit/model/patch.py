@@ -40,6 +40,11 @@ def move(collection, key, before=None):
     return Move(6, collection, key, before)
 
 
+def steps_of(patches):
+    """The operations of all patches in order, each with its patch's id."""
+    return [(patch.id, operation) for patch in patches for operation in patch.operations]
+
+
 def operations_of(patches):
     """The operations of all patches in order: 01's target references."""
     return [operation for patch in patches for operation in patch.operations]

@@ -137,6 +137,23 @@ class Replay:
         value = lookup(self.session.projection)
         return line(b"V", b"-") if value is None else line(b"V", *value_fields(value))
 
+    # ---- marks (02, Job 11)
+
+    def do_mark_binding(self, node, slot):
+        return self._mark("binding", number(node), number(slot, LAST_U32))
+
+    def do_mark_node(self, node):
+        return self._mark("node", number(node))
+
+    def do_mark_entry(self, collection, key):
+        return self._mark("entry", number(collection), number(key))
+
+    def _mark(self, *row):
+        if self.session is None:
+            return line(b"N")
+        mark = self.session.projection.mark(*row)
+        return line(b"X", b"-" if mark is None else mark)
+
     # ---- editions (02, Job 13)
 
     def do_edition(self, edition):
@@ -177,6 +194,7 @@ class Replay:
     FIELDS = {
         b"session": 5, b"node": 1, b"binding": 2, b"collection": 1, b"create": 0, b"apply": 2, b"batch": 6,
         b"check": 1, b"list": 1, b"show": 0, b"value binding": 2, b"value node": 1, b"value entry": 2,
+        b"mark binding": 2, b"mark node": 1, b"mark entry": 2,
         b"senders": 1, b"wait": 1, b"turn": 0, b"edition": 1, b"convert": 2,
     }
 
@@ -185,8 +203,8 @@ class Replay:
         if text == b"" or text.startswith(b"#"):
             return b""
         fields = text.split(b" ")
-        if fields[0] == b"value" and len(fields) > 1:
-            fields[0:2] = [b"value " + fields[1]]
+        if fields[0] in (b"value", b"mark") and len(fields) > 1:
+            fields[0:2] = [b" ".join(fields[:2])]
         command = fields.pop(0)
         if self.FIELDS.get(command) != len(fields):
             raise BadLine

@@ -123,8 +123,8 @@ WRONG = [
     ("moves rows and no cursor", "session.py", "        self.cursor = sequence\n", ""),
     (
         "applies the first patch only", "session.py",
-        "        return operations\n",
-        "        return patches[0].operations if patches else []\n",
+        "        return patches\n",
+        "        return patches[:1]\n",
     ),
     (
         "leaves the first operations of a rejected batch", "projection.py",
@@ -258,18 +258,18 @@ WRONG = [
     # the order of operations
     (
         "works off one collection after the other", "projection.py",
-        "    for operation in operations:\n",
-        "    for operation in sorted(operations, key=lambda made: getattr(made, 'collection', 0)):\n",
+        "    for patch_id, operation in steps_of(patches):\n",
+        "    for patch_id, operation in sorted(steps_of(patches), key=lambda step: getattr(step[1], 'collection', 0)):\n",
     ),
     (
         "removes before it inserts", "projection.py",
-        "    for operation in operations:\n",
-        "    for operation in sorted(operations, key=lambda made: made.number != 5):\n",
+        "    for patch_id, operation in steps_of(patches):\n",
+        "    for patch_id, operation in sorted(steps_of(patches), key=lambda step: step[1].number != 5):\n",
     ),
     (
         "keeps the order of one key only", "projection.py",
-        "    for operation in operations:\n",
-        "    for operation in sorted(operations, key=lambda made: getattr(made, 'key', 0)):\n",
+        "    for patch_id, operation in steps_of(patches):\n",
+        "    for patch_id, operation in sorted(steps_of(patches), key=lambda step: getattr(step[1], 'key', 0)):\n",
     ),
     # turns
     ("sets up no senders", "turns.py", "if not 1 <= senders", "if not 0 <= senders"),

@@ -57,4 +57,60 @@ WRONG_BY_REQUEST = {
             "    from checks import findings\n    if findings(patches)[1]:\n        return 11, None\n    if edition == 2 and has_score(patches):\n"),
         ("takes a room over 32,768", "replay.py", "room = number(room, SET_BYTES)", "room = number(room)"),
     ],
+    "marks": [
+        ("a move marks", "projection.py", "elif operation.number in (1, 2, 3, 4):", "else:"),
+        ("an update keeps the mark", "projection.py", "operation.number in (1, 2, 3, 4)", "operation.number in (1, 2, 3)"),
+        (
+            "an availability has no mark", "projection.py", "operation.number in (1, 2, 3, 4)",
+            "operation.number in (1, 3, 4)"
+        ),
+        ("marks with the batch's number", "session.py",
+            "apply_patches(self.projection, patches)",
+            "apply_patches(self.projection, [patch._replace(id=sequence) for patch in patches])"),
+        (
+            "marks with the patch's sequence", "patch.py", "return [(patch.id, operation) for",
+            "return [(patch.sequence, operation) for"
+        ),
+        (
+            "marks with the first patch's id", "patch.py", "return [(patch.id, operation) for",
+            "return [(patches[0].id, operation) for"
+        ),
+        (
+            "marks with the last patch's id", "patch.py", "return [(patch.id, operation) for",
+            "return [(patches[-1].id, operation) for"
+        ),
+        (
+            "keeps the mark after a removal", "projection.py", "        projection.marks.pop(row_of(operation), None)\n",
+            "        pass\n"
+        ),
+        ("a new insert keeps the old mark", "projection.py",
+            "        projection.marks.pop(row_of(operation), None)\n    elif operation.number in",
+            "        pass\n    elif operation.number == 3:\n        projection.marks.setdefault(row_of(operation), patch_id)\n    elif operation.number in"),
+        (
+            "keeps the marks of a rejected batch", "projection.py", "other.marks = dict(self.marks)",
+            "other.marks = self.marks"
+        ),
+        ("a value given again leaves the mark", "projection.py",
+            "    if operation.number == 1:\n        _set(",
+            "    if operation.number == 4 and projection.entry_value(operation.collection, operation.key) == operation.value:\n"
+            "        return\n    if operation.number == 1:\n        _set("),
+        ("keeps one mark for a node's slots", "projection.py",
+            'return ("binding", operation.node, operation.slot)', 'return ("binding", operation.node, 0)'),
+        ("keeps one mark for a collection", "projection.py",
+            '    return ("entry", operation.collection, operation.key)\n', '    return ("entry", operation.collection, 0)\n'),
+        ("takes a key of another collection", "projection.py",
+            '    return ("entry", operation.collection, operation.key)\n', '    return ("entry", 9, operation.key)\n'),
+        ("an insert marks its neighbour", "projection.py",
+            "        projection.marks[row_of(operation)] = patch_id\n",
+            "        projection.marks[row_of(operation)] = patch_id\n"
+            '        if getattr(operation, "before", None) is not None:\n'
+            '            projection.marks["entry", operation.collection, operation.before] = patch_id\n'),
+        (
+            "gives the mark in place of the value", "listing.py", "projection.availability[node]",
+            'projection.mark("node", node)'
+        ),
+        ("a closed session has no marks", "replay.py",
+            "        mark = self.session.projection.mark(*row)\n",
+            '        mark = None if self.session.lifecycle == "closed" else self.session.projection.mark(*row)\n'),
+    ],
 }
