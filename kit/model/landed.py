@@ -4,9 +4,11 @@
 REQUESTS = {
     "edition": "The second edition, with match scores",
     "marks": "Who wrote a row",
+    "lengths": "The length of each collection",
 }
 
 LANDED = [
     # "edition",
     # "marks",
+    # "lengths",
 ]

@@ -1,4 +1,7 @@
-"""01, 'Projection': three stores, the six operations with 8 and 9, and lookups; 02, Job 11: a mark for each row."""
+"""01, 'Projection': three stores, the six operations with 8 and 9, and lookups.
+
+02 adds a mark for each row (Job 11), and the length of each collection that has entries (Job 3).
+"""
 
 from patch import steps_of
 from sizes import AVAILABILITIES, BINDINGS, ENTRIES
@@ -18,6 +21,7 @@ class Projection:
         self.availability = {}
         self.collections = {}
         self.marks = {}
+        self.lengths = {}
 
     def copy(self):
         other = Projection()
@@ -25,6 +29,7 @@ class Projection:
         other.availability = dict(self.availability)
         other.collections = {number: list(entries) for number, entries in self.collections.items()}
         other.marks = dict(self.marks)
+        other.lengths = dict(self.lengths)
         return other
 
     def entries(self, collection):
@@ -44,6 +49,10 @@ class Projection:
 
     def entry_value(self, collection, key):
         return dict(self.entries(collection)).get(key)
+
+    def collection_length(self, collection):
+        """The stored length; a collection without entries has none and reads 0."""
+        return self.lengths.get(collection, 0)
 
     def mark(self, *row):
         """The id of the patch that last gave the row its value; a row is named as row_of does."""
@@ -116,6 +125,14 @@ def _mark(projection, operation, patch_id):
         projection.marks[row_of(operation)] = patch_id
 
 
+def _count(projection, operation):
+    """An insert makes its collection longer, a removal shorter; an emptied collection stores nothing."""
+    length = projection.collection_length(operation.collection) + {3: 1, 5: -1}.get(operation.number, 0)
+    projection.lengths[operation.collection] = length
+    if length == 0:
+        del projection.lengths[operation.collection]
+
+
 def apply_operation(projection, operation, patch_id):
     """One operation of a patch, in place. After a Stopped the projection is to be dropped."""
     if operation.number == 1:
@@ -124,6 +141,7 @@ def apply_operation(projection, operation, patch_id):
         _set(projection.availability, operation.node, operation.byte, AVAILABILITIES)
     else:
         {3: _insert, 4: _update, 5: _remove, 6: _move}[operation.number](projection, operation)
+        _count(projection, operation)
     _mark(projection, operation, patch_id)
 
 

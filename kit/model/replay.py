@@ -154,6 +154,12 @@ class Replay:
         mark = self.session.projection.mark(*row)
         return line(b"X", b"-" if mark is None else mark)
 
+    # ---- lengths (02, Job 3)
+
+    def do_length(self, collection):
+        collection = number(collection)
+        return line(b"N") if self.session is None else line(b"Z", self.session.projection.collection_length(collection))
+
     # ---- editions (02, Job 13)
 
     def do_edition(self, edition):
@@ -194,7 +200,7 @@ class Replay:
     FIELDS = {
         b"session": 5, b"node": 1, b"binding": 2, b"collection": 1, b"create": 0, b"apply": 2, b"batch": 6,
         b"check": 1, b"list": 1, b"show": 0, b"value binding": 2, b"value node": 1, b"value entry": 2,
-        b"mark binding": 2, b"mark node": 1, b"mark entry": 2,
+        b"mark binding": 2, b"mark node": 1, b"mark entry": 2, b"length": 1,
         b"senders": 1, b"wait": 1, b"turn": 0, b"edition": 1, b"convert": 2,
     }
 

@@ -113,4 +113,41 @@ WRONG_BY_REQUEST = {
             "        mark = self.session.projection.mark(*row)\n",
             '        mark = None if self.session.lifecycle == "closed" else self.session.projection.mark(*row)\n'),
     ],
+    "lengths": [
+        ("a removal leaves the length", "projection.py", "{3: 1, 5: -1}.get", "{3: 1}.get"),
+        (
+            "every operation on a collection counts", "projection.py", "{3: 1, 5: -1}.get(operation.number, 0)",
+            "{5: -1}.get(operation.number, 1)"
+        ),
+        ("a move counts", "projection.py", "{3: 1, 5: -1}.get", "{3: 1, 5: -1, 6: 1}.get"),
+        ("an update counts", "projection.py", "{3: 1, 5: -1}.get", "{3: 1, 4: 1, 5: -1}.get"),
+        ("an emptied collection keeps its row among 128", "projection.py",
+            "    if length == 0:\n        del projection.lengths[operation.collection]\n",
+            "    if len(projection.lengths) > ENTRIES:\n        raise Stopped(9)\n"),
+        ("an emptied collection begins anew at 1", "projection.py",
+            "    if length == 0:\n        del projection.lengths[operation.collection]\n",
+            "    if length == 0:\n        projection.lengths[operation.collection] = 1\n"),
+        (
+            "keeps the lengths of a rejected batch", "projection.py", "other.lengths = dict(self.lengths)",
+            "other.lengths = self.lengths"
+        ),
+        (
+            "counts all collections together", "projection.py", "return self.lengths.get(collection, 0)",
+            "return sum(self.lengths.values())"
+        ),
+        ("counts the records", "projection.py", "return self.lengths.get(collection, 0)", "return self.record_count()"),
+        ("a collection never seen has no length", "replay.py",
+            "self.session.projection.collection_length(collection))",
+            'self.session.projection.lengths.get(collection, b"-"))'),
+        (
+            "reads 127 at most", "projection.py", "return self.lengths.get(collection, 0)",
+            "return min(self.lengths.get(collection, 0), 127)"
+        ),
+        ("a closed session has no lengths", "replay.py",
+            "self.session.projection.collection_length(collection))",
+            '0 if self.session.lifecycle == "closed" else self.session.projection.collection_length(collection))'),
+        ("asks the catalogue first", "replay.py",
+            'return line(b"N") if self.session is None else line(b"Z"',
+            'return line(b"N") if self.session is None or collection not in self.session.collections else line(b"Z"'),
+    ],
 }
