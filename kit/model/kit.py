@@ -8,6 +8,7 @@ from io import BytesIO
 
 import build
 from canonical import encode_set
+from landed import LANDED
 from patch import operations_of
 from replay import replay
 
@@ -58,6 +59,13 @@ def answered(script):
     out = BytesIO()
     replay(BytesIO(script), out)
     return out.getvalue()
+
+
+def shown(content):
+    """A text as the answers print it: as it is, and with 02, Job 2, escaped."""
+    if "escapes" not in LANDED:
+        return content
+    return content.replace(b"\\", b"\\\\").replace(b"\t", b"\\t").replace(b"\n", b"\\n").replace(b"\r", b"\\r")
 
 
 # ---- lines of a script

@@ -5,10 +5,12 @@ REQUESTS = {
     "edition": "The second edition, with match scores",
     "marks": "Who wrote a row",
     "lengths": "The length of each collection",
+    "escapes": "Tabs inside a match",
 }
 
 LANDED = [
     # "edition",
     # "marks",
     # "lengths",
+    # "escapes",
 ]

@@ -7,10 +7,12 @@ import sys
 
 from canonical import Fault, read_set
 from checks import findings
+from landed import LANDED
 from projection import Projection, Stopped, apply_patches
 from sizes import SET_BYTES
 
 KINDS = {1: b"Q", 2: b"S", 3: b"T", 4: b"U", 5: b"M"}
+ESCAPES = {ord("\\"): b"\\\\", ord("\t"): b"\\t", ord("\n"): b"\\n", ord("\r"): b"\\r"}
 
 
 def line(*fields):
@@ -18,9 +20,14 @@ def line(*fields):
     return b"\t".join(field if isinstance(field, bytes) else str(field).encode("ascii") for field in fields) + b"\n"
 
 
+def escaped(text):
+    """02, Job 2: a text without tab, newline and carriage return, from which it can be told."""
+    return b"".join(ESCAPES.get(byte, bytes([byte])) for byte in text)
+
+
 def value_fields(value):
     kind, content = value
-    return KINDS[kind], content
+    return KINDS[kind], escaped(content) if kind == 3 and "escapes" in LANDED else content
 
 
 def listing_tables(projection):

@@ -150,4 +150,30 @@ WRONG_BY_REQUEST = {
             'return line(b"N") if self.session is None else line(b"Z"',
             'return line(b"N") if self.session is None or collection not in self.session.collections else line(b"Z"'),
     ],
+    "escapes": [
+        ("prints a backslash once", "listing.py", 'ord("\\\\"): b"\\\\\\\\", ', ""),
+        ("prints a tab as it is", "listing.py", 'ord("\\t"): b"\\\\t", ', ""),
+        ("prints a newline as it is", "listing.py", 'ord("\\n"): b"\\\\n", ', ""),
+        ("prints a carriage return as it is", "listing.py", ', ord("\\r"): b"\\\\r"', ""),
+        ("prints a carriage return as a newline", "listing.py", 'b"\\\\r"', 'b"\\\\n"'),
+        ("escapes twice", "listing.py", "escaped(content) if kind", "escaped(escaped(content)) if kind"),
+        ("escapes no text", "listing.py", "escaped(content) if kind == 3", "escaped(content) if kind == 0"),
+        ("escapes every control character", "listing.py", "ESCAPES.get(byte, bytes([byte]))",
+            'ESCAPES.get(byte, bytes([byte]) if byte > 31 else b"\\\\x%02x" % byte)'),
+        (
+            "escapes DEL", "listing.py", "ESCAPES.get(byte, bytes([byte]))",
+            'ESCAPES.get(byte, b"\\\\d" if byte == 127 else bytes([byte]))'
+        ),
+        ("escapes the first one only", "listing.py",
+            'return b"".join(ESCAPES.get(byte, bytes([byte])) for byte in text)',
+            "at = next((at for at, byte in enumerate(text) if byte in ESCAPES), len(text))\n"
+            '    return text[:at] + ESCAPES.get((text[at:] or b" ")[0], b"") + text[at + 1 :]'),
+        ("escapes no binding", "listing.py", "*value_fields(projection.bindings[node, slot])",
+            "*(KINDS[content] if at == 0 else content for at, content in enumerate(projection.bindings[node, slot]))"),
+        ("escapes no entry", "listing.py", 'key, *value_fields(value)', "key, KINDS[value[0]], value[1]"),
+        ("escapes no look-up", "replay.py", 'else line(b"V", *value_fields(value))',
+            'else line(b"V", value_fields(value)[0], value[1])'),
+        ("stores what it prints", "projection.py", "changed.insert(at, (operation.key, operation.value))",
+            'changed.insert(at, (operation.key, (3, operation.value[1].replace(b"\\t", b"\\\\t")) if operation.value[0] == 3 else operation.value))'),
+    ],
 }
