@@ -6,6 +6,7 @@ REQUESTS = {
     "marks": "Who wrote a row",
     "lengths": "The length of each collection",
     "escapes": "Tabs inside a match",
+    "depends": "What a set depends on",
 }
 
 LANDED = [
@@ -13,4 +14,5 @@ LANDED = [
     # "marks",
     # "lengths",
     # "escapes",
+    # "depends",
 ]

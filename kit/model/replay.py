@@ -6,12 +6,15 @@ import sys
 from canonical import Fault, read_set
 from checks import findings
 from convert import convert
+from depends import Never, depends
 from listing import line, listing, listing_tables, value_fields
 from session import Limits, Session, TooManyAnchors
 from sizes import ANCHORS, LAST_U32, LAST_U64, SET_BYTES
 from turns import Turns, WrongSenderCount
 
 LINE_BYTES = 131072
+# the most places of a depends line
+DEPENDS_ROOM = 16384
 COMMANDS = (b"activate", b"suspend", b"resume", b"close", b"noop")
 DECIMAL = re.compile(rb"0|[1-9][0-9]{0,19}")
 HEX = re.compile(rb"(?:[0-9a-f]{2})+")
@@ -173,6 +176,19 @@ class Replay:
         refusal, converted = convert(set_bytes(data), self.edition, room)
         return line(b"T", refusal) if refusal else line(b"T", 0, converted.hex().encode("ascii"))
 
+    # ---- what a set depends on (02, Job 8)
+
+    def do_depends(self, room, data):
+        room = number(room, DEPENDS_ROOM)
+        try:
+            refusal, lists = depends(set_bytes(data), self.edition, room)
+        except Never as never:
+            return line(b"D", 0, b"never", *never.place)
+        if refusal:
+            return line(b"D", refusal)
+        there, absent = lists
+        return line(b"D", 0, b"needs", len(there), len(absent)) + b"".join(line(b"Q", *pair) for pair in there + absent)
+
     # ---- turns among senders (02, Job 14), which belong to no session
 
     turns = None
@@ -201,7 +217,7 @@ class Replay:
         b"session": 5, b"node": 1, b"binding": 2, b"collection": 1, b"create": 0, b"apply": 2, b"batch": 6,
         b"check": 1, b"list": 1, b"show": 0, b"value binding": 2, b"value node": 1, b"value entry": 2,
         b"mark binding": 2, b"mark node": 1, b"mark entry": 2, b"length": 1,
-        b"senders": 1, b"wait": 1, b"turn": 0, b"edition": 1, b"convert": 2,
+        b"senders": 1, b"wait": 1, b"turn": 0, b"edition": 1, b"convert": 2, b"depends": 2,
     }
 
     def answer(self, text):

@@ -176,4 +176,65 @@ WRONG_BY_REQUEST = {
         ("stores what it prints", "projection.py", "changed.insert(at, (operation.key, operation.value))",
             'changed.insert(at, (operation.key, (3, operation.value[1].replace(b"\\t", b"\\\\t")) if operation.value[0] == 3 else operation.value))'),
     ],
+    "depends": [
+        ("expects no neighbour", "depends.py", 'if getattr(operation, "before", None) is not None', "if False"),
+        ("expects no neighbour of a move", "depends.py", 'if getattr(operation, "before", None) is not None',
+            'if operation.number == 3 and operation.before is not None'),
+        ("expects a neighbour to be absent", "depends.py", "expected.append((operation.before, True))",
+            "expected.append((operation.before, operation.number != 3))"),
+        ("expects nothing of a move", "depends.py", "if operation.number in (1, 2):", "if operation.number in (1, 2, 6):"),
+        (
+            "expects nothing of an insert", "depends.py", "if operation.number in (1, 2):",
+            "if operation.number in (1, 2, 3):"
+        ),
+        ("reports an inserted key as needed", "depends.py",
+            "                now[operation.collection, operation.key] = operation.number == 3\n",
+            "                now[operation.collection, operation.key] = False\n"
+            "                if operation.number == 3:\n                    del now[operation.collection, operation.key]\n"),
+        ("forgets what was removed", "depends.py", "if operation.number in (3, 5):", "if operation.number == 3:"),
+        ("forgets what was inserted", "depends.py", "if operation.number in (3, 5):", "if operation.number == 5:"),
+        (
+            "forgets what was looked for", "depends.py", "                    now[pair] = there\n",
+            "                    pass\n"
+        ),
+        ("forgets everything at a new patch", "depends.py",
+            "        for place, operation in enumerate(patch.operations):\n",
+            "        now = {}\n        for place, operation in enumerate(patch.operations):\n"),
+        ("counts the operations over all patches", "depends.py", "raise Never(index, place)",
+            "raise Never(index, place + sum(len(earlier.operations) for earlier in patches[:index]))"),
+        ("names the operation before", "depends.py", "raise Never(index, place)", "raise Never(index, max(place - 1, 0))"),
+        ("names the patch from 1", "depends.py", "raise Never(index, place)", "raise Never(index + 1, place)"),
+        ("names the last contradiction", "depends.py", "    for index, patch in enumerate(patches):\n",
+            "    for index, patch in reversed(list(enumerate(patches))):\n"),
+        ("reports a pair twice", "depends.py", "if pair not in now:", "if pair not in now or now[pair] == there == True:"),
+        ("orders by key first", "depends.py", "sorted(pair for pair, there in start if there == wanted)",
+            "sorted((pair for pair, there in start if there == wanted), key=lambda pair: (pair[1], pair[0]))"),
+        ("orders as they come", "depends.py", "sorted(pair for", "list(pair for"),
+        ("orders by digits", "depends.py", "sorted(pair for pair, there in start if there == wanted)",
+            "sorted((pair for pair, there in start if there == wanted), key=str)"),
+        ("orders both lists as one", "replay.py", "for pair in there + absent)", "for pair in sorted(there + absent))"),
+        ("gives the absent ones first", "depends.py", "for wanted in (True, False)", "for wanted in (False, True)"),
+        (
+            "takes one key of two collections for one", "depends.py", "[((operation.collection, key), there)",
+            "[((9, key), there)"
+        ),
+        (
+            "gives a list for never", "depends.py", "                    raise Never(index, place)\n",
+            "                    pass\n"
+        ),
+        ("asks for room before never", "depends.py", "    start = at_the_start(patches)\n",
+            "    if room == 0 and patches:\n        return 14, None\n    start = at_the_start(patches)\n"),
+        ("asks for room before 11", "depends.py", "    if findings(patches)[1]:\n",
+            "    if room == 0:\n        return 14, None\n    if findings(patches)[1]:\n"),
+        ("wants a place more", "depends.py", "2 * len(start) > room", "2 * len(start) >= room"),
+        ("counts records for places", "depends.py", "2 * len(start) > room", "len(start) > room"),
+        ("counts room for those that must be there alone", "depends.py", "2 * len(start) > room",
+            "2 * sum(there for _, there in start) > room"),
+        ("tells of sets with findings", "depends.py", "    if findings(patches)[1]:\n", "    if False:\n"),
+        ("calls 129 inserts never applicable", "depends.py", "    start = at_the_start(patches)\n",
+            "    start = at_the_start(patches)\n    if len(start) > 128:\n        raise Never(1, 0)\n"),
+        ("asks the session's panel", "replay.py", "        there, absent = lists\n",
+            "        there, absent = lists\n        if self.session is not None:\n"
+            "            there = [pair for pair in there if self.session.projection.entry_value(*pair) is None]\n"),
+    ],
 }
