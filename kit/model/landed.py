@@ -7,6 +7,7 @@ REQUESTS = {
     "lengths": "The length of each collection",
     "escapes": "Tabs inside a match",
     "depends": "What a set depends on",
+    "pages": "Pages of keys",
 }
 
 LANDED = [
@@ -15,4 +16,5 @@ LANDED = [
     # "lengths",
     # "escapes",
     # "depends",
+    # "pages",
 ]

@@ -8,6 +8,7 @@ from checks import findings
 from convert import convert
 from depends import Never, depends
 from listing import line, listing, listing_tables, value_fields
+from pages import page
 from session import Limits, Session, TooManyAnchors
 from sizes import ANCHORS, LAST_U32, LAST_U64, SET_BYTES
 from turns import Turns, WrongSenderCount
@@ -15,6 +16,8 @@ from turns import Turns, WrongSenderCount
 LINE_BYTES = 131072
 # the most places of a depends line
 DEPENDS_ROOM = 16384
+# the most places, and the most keys, of a page line
+PAGE_ROOM = 128
 COMMANDS = (b"activate", b"suspend", b"resume", b"close", b"noop")
 DECIMAL = re.compile(rb"0|[1-9][0-9]{0,19}")
 HEX = re.compile(rb"(?:[0-9a-f]{2})+")
@@ -163,6 +166,20 @@ class Replay:
         collection = number(collection)
         return line(b"N") if self.session is None else line(b"Z", self.session.projection.collection_length(collection))
 
+    # ---- a page of keys (02, Job 7)
+
+    def do_page(self, collection, room, *keys):
+        collection, room, keys = number(collection), number(room, PAGE_ROOM), [number(key) for key in keys]
+        if len(keys) > PAGE_ROOM:
+            raise BadLine
+        if self.session is None:
+            return line(b"N")
+        refusal, rows = page(self.session.projection, collection, keys, room)
+        if refusal:
+            return line(b"Y", refusal)
+        lines = [line(b"M", b"-") if row is None else line(b"M", row[0], *value_fields(row[1])) for row in rows]
+        return line(b"Y", 0, len(rows)) + b"".join(lines)
+
     # ---- editions (02, Job 13)
 
     def do_edition(self, edition):
@@ -212,13 +229,14 @@ class Replay:
 
     # ---- one line
 
-    # how many fields follow each command
+    # how many fields follow each command; and of those that have any number, how many at least
     FIELDS = {
         b"session": 5, b"node": 1, b"binding": 2, b"collection": 1, b"create": 0, b"apply": 2, b"batch": 6,
         b"check": 1, b"list": 1, b"show": 0, b"value binding": 2, b"value node": 1, b"value entry": 2,
         b"mark binding": 2, b"mark node": 1, b"mark entry": 2, b"length": 1,
         b"senders": 1, b"wait": 1, b"turn": 0, b"edition": 1, b"convert": 2, b"depends": 2,
     }
+    AT_LEAST = {b"page": 2}
 
     def answer(self, text):
         """The answer to a line without its LF."""
@@ -228,7 +246,7 @@ class Replay:
         if fields[0] in (b"value", b"mark") and len(fields) > 1:
             fields[0:2] = [b" ".join(fields[:2])]
         command = fields.pop(0)
-        if self.FIELDS.get(command) != len(fields):
+        if self.FIELDS.get(command) != len(fields) and self.AT_LEAST.get(command, len(fields) + 1) > len(fields):
             raise BadLine
         return getattr(self, "do_" + command.decode("ascii").replace(" ", "_"))(*fields)
 

@@ -237,4 +237,45 @@ WRONG_BY_REQUEST = {
             "        there, absent = lists\n        if self.session is not None:\n"
             "            there = [pair for pair in there if self.session.projection.entry_value(*pair) is None]\n"),
     ],
+    "pages": [
+        ("takes 65 keys", "pages.py", "MOST_KEYS = 64", "MOST_KEYS = 65"),
+        ("takes 63 keys at most", "pages.py", "MOST_KEYS = 64", "MOST_KEYS = 63"),
+        ("takes as many keys as the table has places", "pages.py", "if len(keys) > MOST_KEYS", "if False"),
+        ("asks for room before 16", "pages.py", "    if len(keys) > MOST_KEYS:\n",
+            "    if len(keys) > room:\n        return 14, None\n    if len(keys) > MOST_KEYS:\n"),
+        ("wants a place more", "pages.py", "if len(keys) > room", "if len(keys) >= room"),
+        ("answers as many as there is room for", "pages.py", "        return 14, None\n", "        keys = keys[:room]\n"),
+        ("leaves out the last key", "pages.py", "for key in keys]", "for key in keys[:-1]]"),
+        (
+            "answers a repeated key once", "pages.py", "found.get(key) for key in keys",
+            "found.pop(key, None) for key in keys"
+        ),
+        ("drops repeated keys", "pages.py", "for key in keys]", "for key in dict.fromkeys(keys)]"),
+        ("answers in ascending order", "pages.py", "for key in keys]", "for key in sorted(keys)]"),
+        (
+            "answers in the collection's order", "pages.py", "for key in keys]",
+            "for key in sorted(keys, key=lambda key: found.get(key, (999,))[0])]"
+        ),
+        ("leaves out absent keys", "pages.py", "for key in keys]", "for key in keys if key in found]"),
+        ("counts positions over all collections", "pages.py", "enumerate(projection.entries(collection))}",
+            "enumerate(projection.entries(collection), sum(len(projection.entries(n)) for n in projection.collections if n < collection))}"),
+        (
+            "counts positions from 1", "pages.py", "enumerate(projection.entries(collection))",
+            "enumerate(projection.entries(collection), 1)"
+        ),
+        (
+            "counts positions by key", "pages.py", "enumerate(projection.entries(collection))",
+            "enumerate(sorted(projection.entries(collection)))"
+        ),
+        ("finds keys of other collections", "pages.py", "    found = {",
+            "    every = [entry for number in projection.collections for entry in projection.entries(number)]\n"
+            "    projection = type(projection)()\n    projection.collections = {collection: every}\n    found = {"),
+        (
+            "takes 0 for no key", "pages.py", "found.get(key) for key in keys",
+            "found.get(key) if key else None for key in keys"
+        ),
+        ("a closed session has no pages", "replay.py", "        refusal, rows = page(",
+            '        if self.session.lifecycle == "closed":\n            return line(b"N")\n        refusal, rows = page('),
+        ("refuses a page without keys", "pages.py", "    if len(keys) > room:\n", "    if len(keys) > room or not keys:\n"),
+    ],
 }
