@@ -8,6 +8,7 @@ REQUESTS = {
     "escapes": "Tabs inside a match",
     "depends": "What a set depends on",
     "pages": "Pages of keys",
+    "print": "The panel on paper",
 }
 
 LANDED = [
@@ -17,4 +18,5 @@ LANDED = [
     # "escapes",
     # "depends",
     # "pages",
+    # "print",
 ]

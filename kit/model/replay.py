@@ -9,6 +9,7 @@ from convert import convert
 from depends import Never, depends
 from listing import line, listing, listing_tables, value_fields
 from pages import page
+from panel_print import print_collection
 from session import Limits, Session, TooManyAnchors
 from sizes import ANCHORS, LAST_U32, LAST_U64, SET_BYTES
 from turns import Turns, WrongSenderCount
@@ -16,6 +17,8 @@ from turns import Turns, WrongSenderCount
 LINE_BYTES = 131072
 # the most places of a depends line
 DEPENDS_ROOM = 16384
+# the most bytes of a print line
+PRINT_ROOM = 131072
 # the most places, and the most keys, of a page line
 PAGE_ROOM = 128
 COMMANDS = (b"activate", b"suspend", b"resume", b"close", b"noop")
@@ -180,6 +183,15 @@ class Replay:
         lines = [line(b"M", b"-") if row is None else line(b"M", row[0], *value_fields(row[1])) for row in rows]
         return line(b"Y", 0, len(rows)) + b"".join(lines)
 
+    # ---- the print (02, Job 10)
+
+    def do_print(self, collection, room):
+        collection, room = number(collection), number(room, PRINT_ROOM)
+        if self.session is None:
+            return line(b"N")
+        refusal, out = print_collection(self.session.projection, collection, room)
+        return line(b"O", refusal) if refusal else line(b"O", 0, len(out)) + out
+
     # ---- editions (02, Job 13)
 
     def do_edition(self, edition):
@@ -234,7 +246,7 @@ class Replay:
         b"session": 5, b"node": 1, b"binding": 2, b"collection": 1, b"create": 0, b"apply": 2, b"batch": 6,
         b"check": 1, b"list": 1, b"show": 0, b"value binding": 2, b"value node": 1, b"value entry": 2,
         b"mark binding": 2, b"mark node": 1, b"mark entry": 2, b"length": 1,
-        b"senders": 1, b"wait": 1, b"turn": 0, b"edition": 1, b"convert": 2, b"depends": 2,
+        b"senders": 1, b"wait": 1, b"turn": 0, b"edition": 1, b"convert": 2, b"depends": 2, b"print": 2,
     }
     AT_LEAST = {b"page": 2}
 

@@ -278,4 +278,65 @@ WRONG_BY_REQUEST = {
             '        if self.session.lifecycle == "closed":\n            return line(b"N")\n        refusal, rows = page('),
         ("refuses a page without keys", "pages.py", "    if len(keys) > room:\n", "    if len(keys) > room or not keys:\n"),
     ],
+    "print": [
+        ("breaks after 58 bytes", "panel_print.py",
+            "    pieces = [text[at : at + TEXT_WIDTH] for at in range(0, len(text), TEXT_WIDTH)] or [\"\"]\n",
+            '    pieces = [""]\n    for character in text:\n'
+            "        if len((pieces[-1] + character).encode()) > TEXT_WIDTH:\n"
+            '            pieces.append("")\n        pieces[-1] += character\n'),
+        (
+            "pads to 58 bytes", "panel_print.py", "piece.ljust(TEXT_WIDTH)",
+            'piece + " " * (TEXT_WIDTH - len(piece.encode()))'
+        ),
+        ("breaks after 57 characters", "panel_print.py", "range(0, len(text), TEXT_WIDTH)", "range(0, len(text), 57)"),
+        ("breaks between words", "panel_print.py",
+            "    pieces = [text[at : at + TEXT_WIDTH] for at in range(0, len(text), TEXT_WIDTH)] or [\"\"]\n",
+            "    import textwrap\n    pieces = textwrap.wrap(text, TEXT_WIDTH) or [text[:TEXT_WIDTH]]\n"),
+        (
+            "adds a line after exactly 58", "panel_print.py", "range(0, len(text), TEXT_WIDTH)",
+            "range(0, len(text) + 1, TEXT_WIDTH)"
+        ),
+        ("prints no line for an empty text", "panel_print.py", ' or [""]', ""),
+        ("prints DEL as it is", "panel_print.py", " or ord(character) == 127", ""),
+        ("prints a tab as it is", "panel_print.py", "ord(character) < 32", "ord(character) < 32 and character != \"\\t\""),
+        ("prints NUL as it is", "panel_print.py", "ord(character) < 32", "0 < ord(character) < 32"),
+        ("prints U+001F as it is", "panel_print.py", "ord(character) < 32", "ord(character) < 31"),
+        ("prints a space as a full stop", "panel_print.py", "ord(character) < 32", "ord(character) < 33"),
+        ("prints U+0080 to U+009F as full stops", "panel_print.py", "ord(character) == 127", "127 <= ord(character) < 160"),
+        ("drops control characters", "panel_print.py", '"." if is_control', '"" if is_control'),
+        ("escapes what it prints", "panel_print.py", 'content.decode("utf-8"))',
+            'content.replace(b"\\\\", b"\\\\\\\\").replace(b"\\t", b"\\\\t").decode("utf-8"))'),
+        ("prints a quad as a number", "panel_print.py", '"NFTS"[content]', "str(content)"),
+        ("prints T for F", "panel_print.py", '"NFTS"', '"NTFS"'),
+        ("left-aligns the key", "panel_print.py", "rjust(KEY_WIDTH)", "ljust(KEY_WIDTH)"),
+        ("fills the key with zeros", "panel_print.py", "rjust(KEY_WIDTH)", "zfill(KEY_WIDTH)"),
+        ("has 19 places for the key", "panel_print.py", "KEY_WIDTH = 20", "KEY_WIDTH = 19"),
+        ("repeats the key", "panel_print.py", '        lead = " " * len(lead)\n', ""),
+        ("begins follow-on lines at 20", "panel_print.py", '" " * len(lead)', '" " * KEY_WIDTH'),
+        ("pads no line", "panel_print.py", "piece.ljust(TEXT_WIDTH)", "piece"),
+        (
+            "pads the last line alone", "panel_print.py", "piece.ljust(TEXT_WIDTH)",
+            "(piece.ljust(TEXT_WIDTH) if lead.strip() else piece)"
+        ),
+        (
+            "drops spaces at a line's beginning", "panel_print.py", "piece.ljust(TEXT_WIDTH)",
+            "piece.lstrip().ljust(TEXT_WIDTH)"
+        ),
+        ("leaves out the last newline", "panel_print.py", '"".join(lines)', '"".join(lines)[:-1]'),
+        (
+            "sorts by key", "panel_print.py", "in projection.entries(collection) for",
+            "in sorted(projection.entries(collection)) for"
+        ),
+        ("prints all collections", "panel_print.py", "for key, value in projection.entries(collection) for",
+            "for number in sorted(projection.collections) for key, value in projection.entries(number) for"),
+        ("wants a byte more", "panel_print.py", "len(out) <= room", "len(out) < room"),
+        ("counts characters for room", "panel_print.py", "len(out) <= room", 'len("".join(lines)) <= room'),
+        (
+            "tells characters for bytes", "replay.py", 'line(b"O", 0, len(out)) + out',
+            'line(b"O", 0, len(out.decode())) + out'
+        ),
+        ("prints as much as there is room for", "panel_print.py", "(14, None)", "(0, out[:room])"),
+        ("a closed session prints nothing", "replay.py", "        refusal, out = print_collection(",
+            '        if self.session.lifecycle == "closed":\n            return line(b"O", 0, 0)\n        refusal, out = print_collection('),
+    ],
 }
