@@ -19,7 +19,7 @@ KINDS = "spec_patch Edition.addedKinds and Read.inEdition"
 HEADING = "spec_patch Edition.digit and Encode.heading"
 PRINTED = "spec_listing Listing.valueFields"
 TOLD = "spec_replay Replay.withEdition"
-CONVERT = "spec_patch Convert.convert"
+CONVERT = "spec_conversion Conversion.convert"
 BATCH = "spec_session Batch.batch"
 SECOND = HEADINGS[2]
 assert SECOND == b"UI_DNA2_PROJECTION_PATCH_V2" and len(SECOND) == 27
