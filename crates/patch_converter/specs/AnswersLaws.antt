@@ -6,8 +6,8 @@ use mathlib.Core.List.{List, _∷_, _++_}
 use native.Mathlib.Omega.{arith}
 use borrow.Author.Tests.{lt-leb}
 use lib.Dec.{leb}
-use lib.ListN.{length, take, drop}
-use lib.Seq.{take-at}
+use lib.ListN.{length, take, drop, length-append, length-drop}
+use lib.Seq.{take-at, length-take-le}
 use Rattle.spec_lists.specs.Bytes.{Bytes}
 use Rattle.spec_patch.specs.Patch.{Patch}
 use Rattle.spec_patch.specs.Edition.{Edition, digit}
@@ -79,6 +79,10 @@ module _ (from : Edition) (set : List ℕ) where
             done ∙ ap model.converted (one-letter from to set all-bytes room (encode to ps) done)
 
 -- ---- the answer and the output
+
+-- one letter in place of another
+pub letter-length : (set : List ℕ) (d : ℕ) → 31 ≤ length set → length (take 30 set ++ (d ∷ drop 31 set)) ≡ length set
+letter-length set d h = length-append (take 30 set) (d ∷ drop 31 set) ∙ omega (arith, length-take-le 30 set (omega arith), length-drop 31 set)
 
 module _ (out : List ℕ) where
   -- what both clauses of the contract say

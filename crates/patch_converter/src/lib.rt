@@ -69,7 +69,7 @@ fn store_with_letter(set: &[u8], to: ProjectionPatchEdition, out: &mut [u8])
     requires { ⌜ (31 ≤ length (now set)) × (length (now set) ≤ length (now out)) ⌝ }
     ensures { λ _. ⌜ now (out .exit) ≡ overwrite (now (out .entry)) 0 (take 30 (now (set .entry)) ++ (digit (editionOf to) ∷ drop 31 (now (set .entry)))) ⌝ }
 {
-    bytes_wire::write_bytes_at(out, 0, &set[..DIGIT_AT]);
+    bytes_wire::write_bytes_at(out, 0, &set[0..DIGIT_AT]);
     bytes_wire::write_u8_at(out, DIGIT_AT, edition_digit(to));
     bytes_wire::write_bytes_at(out, DIGIT_AT + 1, &set[DIGIT_AT + 1..]);
 }
