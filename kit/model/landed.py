@@ -9,6 +9,7 @@ REQUESTS = {
     "depends": "What a set depends on",
     "pages": "Pages of keys",
     "print": "The panel on paper",
+    "import": "Term lists",
 }
 
 LANDED = [
@@ -19,4 +20,5 @@ LANDED = [
     # "depends",
     # "pages",
     # "print",
+    # "import",
 ]

@@ -10,8 +10,10 @@ from depends import Never, depends
 from listing import line, listing, listing_tables, value_fields
 from pages import page
 from panel_print import print_collection
+from patch import Patch
 from session import Limits, Session, TooManyAnchors
 from sizes import ANCHORS, LAST_U32, LAST_U64, SET_BYTES
+from terms import import_terms
 from turns import Turns, WrongSenderCount
 
 LINE_BYTES = 131072
@@ -205,6 +207,15 @@ class Replay:
         refusal, converted = convert(set_bytes(data), self.edition, room)
         return line(b"T", refusal) if refusal else line(b"T", 0, converted.hex().encode("ascii"))
 
+    # ---- term lists (02, Job 1)
+
+    def do_import(self, room, collection, *fields):
+        *numbers, data = fields
+        room, collection = number(room, SET_BYTES), number(collection)
+        numbers = [None if at == 3 and field == b"-" else number(field) for at, field in enumerate(numbers)]
+        refusal, made = import_terms(set_bytes(data), self.edition, collection, Patch(*numbers, []), room)
+        return line(b"I", refusal) if refusal else line(b"I", 0, made.hex().encode("ascii"))
+
     # ---- what a set depends on (02, Job 8)
 
     def do_depends(self, room, data):
@@ -246,7 +257,7 @@ class Replay:
         b"session": 5, b"node": 1, b"binding": 2, b"collection": 1, b"create": 0, b"apply": 2, b"batch": 6,
         b"check": 1, b"list": 1, b"show": 0, b"value binding": 2, b"value node": 1, b"value entry": 2,
         b"mark binding": 2, b"mark node": 1, b"mark entry": 2, b"length": 1,
-        b"senders": 1, b"wait": 1, b"turn": 0, b"edition": 1, b"convert": 2, b"depends": 2, b"print": 2,
+        b"senders": 1, b"wait": 1, b"turn": 0, b"edition": 1, b"convert": 2, b"depends": 2, b"print": 2, b"import": 11,
     }
     AT_LEAST = {b"page": 2}
 

@@ -339,4 +339,100 @@ WRONG_BY_REQUEST = {
         ("a closed session prints nothing", "replay.py", "        refusal, out = print_collection(",
             '        if self.session.lifecycle == "closed":\n            return line(b"O", 0, 0)\n        refusal, out = print_collection('),
     ],
+    "import": [
+        ("takes leading zeros", "terms.py", 'rb"0|[1-9][0-9]{0,19}"', 'rb"[0-9]{1,20}"'),
+        ("takes no key of 0", "terms.py", 'rb"0|[1-9][0-9]{0,19}"', 'rb"[1-9][0-9]{0,19}"'),
+        ("takes an empty key for 0", "terms.py", "    fields = line.split(b\"\\t\")\n",
+            "    fields = line.split(b\"\\t\")\n    fields[0] = fields[0] or b\"0\"\n"),
+        ("takes a sign", "terms.py", 'rb"0|[1-9][0-9]{0,19}"', 'rb"0|[+]?[1-9][0-9]{0,19}"'),
+        ("takes blanks around the key", "terms.py", 'rb"0|[1-9][0-9]{0,19}"', 'rb" *(0|[1-9][0-9]{0,19}) *"'),
+        ("takes a carriage return in the key", "terms.py", 'rb"0|[1-9][0-9]{0,19}"', 'rb"(0|[1-9][0-9]{0,19})\\r?"'),
+        ("cuts a key to 64 bits", "terms.py",
+            " or int(fields[0]) > LAST_U64 or not is_utf8(fields[1]):\n        raise BadList(15)\n    return int(fields[0]), fields[1]\n",
+            " or not is_utf8(fields[1]):\n        raise BadList(15)\n    return int(fields[0]) % 2**64, fields[1]\n"),
+        ("takes a second tab into the text", "terms.py", 'line.split(b"\\t")', 'line.split(b"\\t", 1)'),
+        ("drops what is behind a second tab", "terms.py", "len(fields) != 2", "len(fields) < 2"),
+        (
+            "takes a line without a tab for an empty text", "terms.py", 'line.split(b"\\t")',
+            '(line if b"\\t" in line else line + b"\\t").split(b"\\t")'
+        ),
+        (
+            "takes an empty line for none", "terms.py", "    for line in lines_of(data):\n",
+            "    for line in filter(None, lines_of(data)):\n"
+        ),
+        ("takes no empty text", "terms.py", "not is_utf8(fields[1])", "not fields[1] or not is_utf8(fields[1])"),
+        ("takes any text", "terms.py", " or not is_utf8(fields[1])", ""),
+        ("calls a text that is not UTF-8 malformed", "terms.py", "    return int(fields[0]), fields[1]\n",
+            "    return int(fields[0]), fields[1]\n\n\n_term = term\n\n\ndef term(line):\n"
+            '    if b"\\t" in line and not is_utf8(line.split(b"\\t")[1]):\n        raise BadList(10)\n    return _term(line)\n'),
+        (
+            "drops the last line without newline", "terms.py", "return lines if lines[-1] else lines[:-1]",
+            "return lines[:-1]"
+        ),
+        (
+            "takes the last newline for an empty line", "terms.py", "return lines if lines[-1] else lines[:-1]",
+            "return lines if data else []"
+        ),
+        (
+            "ends lines with CRLF", "terms.py", 'lines = data.split(b"\\n")',
+            'lines = data.replace(b"\\r\\n", b"\\n").split(b"\\n")'
+        ),
+        (
+            "ends lines with CR too", "terms.py", 'lines = data.split(b"\\n")',
+            'lines = data.replace(b"\\r", b"\\n").split(b"\\n")'
+        ),
+        (
+            "places each insert first", "terms.py", "for key, text in terms(data)])",
+            "for key, text in reversed(terms(data))])"
+        ),
+        ("orders the lines by key", "terms.py", "for key, text in terms(data)])", "for key, text in sorted(terms(data))])"),
+        (
+            "names a neighbour", "terms.py", "insert(collection, key, (3, text))",
+            "insert(collection, key, (3, text), 0 if key else None)"
+        ),
+        ("gives a refused line 15 before an earlier 12", "terms.py", "    found = []\n",
+            "    found = []\n    for line in lines_of(data):\n        term(line)\n"),
+        ("gives 12 before 15 in a line", "terms.py", "        key, text = term(line)\n",
+            "        if len(line) > TEXT_BYTES + 21:\n            raise BadList(12)\n        key, text = term(line)\n"),
+        ("gives 12 at the 129th line whatever its form", "terms.py", "        key, text = term(line)\n",
+            "        if len(found) == PATCH_OPERATIONS:\n            raise BadList(12)\n        key, text = term(line)\n"),
+        ("takes 129 lines", "terms.py", "len(found) == PATCH_OPERATIONS", "len(found) > PATCH_OPERATIONS"),
+        ("takes 127 lines", "terms.py", "len(found) == PATCH_OPERATIONS", "len(found) == PATCH_OPERATIONS - 1"),
+        ("counts lines after the last", "terms.py",
+        " or len(found) == PATCH_OPERATIONS:\n            raise BadList(12)\n        found.append((key, text))\n    return found\n",
+            ":\n            raise BadList(12)\n        found.append((key, text))\n    if len(found) > PATCH_OPERATIONS:\n        raise BadList(12)\n    return found\n"),
+        ("counts no characters", "terms.py", " or characters(text) > TEXT_CHARACTERS", ""),
+        ("counts no bytes", "terms.py", "len(text) > TEXT_BYTES or ", ""),
+        ("finds a repeated key at its line", "terms.py", "        found.append((key, text))\n",
+            "        if key in dict(found):\n            raise BadList(11)\n        found.append((key, text))\n"),
+        (
+            "takes a repeated key", "terms.py", "    if findings([made])[1]:\n",
+            "    if [found for found in findings([made])[1] if found[0] != 3]:\n"
+        ),
+        (
+            "takes an empty list", "terms.py", "    if findings([made])[1]:\n",
+            "    if made.operations and findings([made])[1]:\n"
+        ),
+        (
+            "checks the lines alone", "terms.py", "    if findings([made])[1]:\n",
+            "    if [found for found in findings([made])[1] if found[0] in (3, 6)]:\n"
+        ),
+        (
+            "gives 14 before 11", "terms.py", "    if findings([made])[1]:\n",
+            "    if len(result) > room:\n        return 14, None\n    if findings([made])[1]:\n"
+        ),
+        ("gives 11 before the set's 12", "terms.py", "    if len(result) > SET_BYTES:\n",
+            "    if findings([made])[1]:\n        return 11, None\n    if len(result) > SET_BYTES:\n"),
+        ("gives 14 before the set's 12", "terms.py", "    if len(result) > SET_BYTES:\n",
+            "    if len(result) > room and room < SET_BYTES:\n        return 14, None\n    if len(result) > SET_BYTES:\n"),
+        ("has no bound of the set", "terms.py", "if len(result) > SET_BYTES", "if False"),
+        ("wants a byte more", "terms.py", "(0, result) if len(result) <= room", "(0, result) if len(result) < room"),
+        ("writes V1 alone", "terms.py", "encode_set([made], edition)", "encode_set([made])"),
+        ("takes a surface of 0 for none", "replay.py", 'None if at == 3 and field == b"-" else number(field)',
+            'None if at == 3 and field in (b"-", b"0") else number(field)'),
+        (
+            "exchanges revision and previous revision", "replay.py", "Patch(*numbers, [])",
+            "Patch(*numbers[:4], numbers[5], numbers[4], *numbers[6:], [])"
+        ),
+    ],
 }
