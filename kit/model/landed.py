@@ -10,6 +10,7 @@ REQUESTS = {
     "pages": "Pages of keys",
     "print": "The panel on paper",
     "import": "Term lists",
+    "group": "Several batches, or none",
 }
 
 LANDED = [
@@ -21,4 +22,5 @@ LANDED = [
     # "pages",
     # "print",
     # "import",
+    # "group",
 ]

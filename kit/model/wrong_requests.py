@@ -435,4 +435,73 @@ WRONG_BY_REQUEST = {
             "Patch(*numbers[:4], numbers[5], numbers[4], *numbers[6:], [])"
         ),
     ],
+    "group": [
+        ("keeps the earlier batches on refusal", "group.py", "after, start = copy(session), 0", "after, start = session, 0"),
+        ("tells the cursor after the earlier batches", "replay.py",
+            "            taken, refused = apply_group(self.session, members, data)\n",
+            "            from copy import copy\n            after, at = copy(self.session), 0\n"
+            "            for member in members:\n"
+            "                answer = after.batch(*member.numbers, member.edition, data[at : at + member.length])\n"
+            "                at += member.length\n"
+            '                if answer[0] == "rejected":\n                    break\n'
+            "            taken, refused = apply_group(self.session, members, data)\n"
+            "            if refused is not None:\n"
+            '                return line(b"U", 0, taken, refused[0]) + line(\n'
+            '                    b"R", refused[1].encode("ascii"), *refused[2], b"-" if after.cursor is None else after.cursor\n'
+            "                )\n"),
+        ("refuses a batch without patches", "group.py", 'if disposition == "rejected":', 'if disposition != "applied":'),
+        (
+            "counts no batch without patches", "group.py", "return len(members), None",
+            "return sum(member.numbers[2] > 0 for member in members), None"
+        ),
+        ("takes nine batches", "group.py", "MOST_BATCHES = 8", "MOST_BATCHES = 9"),
+        ("takes seven batches at most", "group.py", "MOST_BATCHES = 8", "MOST_BATCHES = 7"),
+        ("takes no batches", "group.py", "not 1 <= len(members)", "not 0 <= len(members)"),
+        (
+            "looks at the first eight of nine", "group.py", "    if not 1 <= len(members)",
+            "    members = members[:8]\n    if not 1 <= len(members)"
+        ),
+        (
+            "compares lengths one by one only", "group.py", "for member in members) != len(data)",
+            "for member in members) > len(data)"
+        ),
+        ("adds no lengths", "group.py", " or sum(member.length for member in members) != len(data)", ""),
+        ("adds lengths and wraps", "group.py", "sum(member.length for member in members) != len(data)",
+            "sum(member.length for member in members) % 2**64 != len(data)"),
+        ("a closed session answers before 17", "group.py", "    if not 1 <= len(members)",
+            '    if session.lifecycle == "closed" and members:\n'
+            "        return 0, (0, *session.batch(*members[0].numbers, 1, data))\n    if not 1 <= len(members)"),
+        ("looks at the first batch before the lengths", "group.py", "    if not 1 <= len(members)",
+            "    if members and members[0].numbers[0] != session.id:\n"
+            "        return 0, (0, *session.batch(*members[0].numbers, 1, data))\n    if not 1 <= len(members)"),
+        ("names places from 1", "group.py", "enumerate(members):", "enumerate(members, 1):"),
+        ("names the last refused batch", "group.py",
+            "            return 0, (place, disposition, diagnostics)\n        start = end\n",
+            "            refused = 0, (place, disposition, diagnostics)\n        start = end\n"
+            '    if "refused" in locals():\n        return refused\n'),
+        (
+            "tells how many came before the refused one", "group.py", "return 0, (place, disposition",
+            "return place, (place, disposition"
+        ),
+        (
+            "leaves out the refused batch", "group.py", "            return 0, (place, disposition, diagnostics)\n",
+            "            pass\n"
+        ),
+        ("reads all in the first one's edition", "group.py", "member.edition, data", "members[0].edition, data"),
+        ("gives each batch the whole of the bytes", "group.py", "data[start:end]", "data"),
+        ("gives each batch what is left", "group.py", "data[start:end]", "data[start:]"),
+        ("has one limit of bytes for all", "group.py", "    after, start = copy(session), 0\n",
+            "    after, start = copy(session), 0\n    if sum(member.numbers[3] for member in members) > session.limits.bytes:\n"
+            "        return 0, (0, *after.batch(session.id, 0, 2**64 - 1, 0, 0, 1, data))\n"),
+        ("takes the projection and no cursor", "group.py",
+            "session.projection, session.cursor = after.projection, after.cursor", "session.projection = after.projection"),
+        ("takes the cursor and no row", "group.py",
+            "session.projection, session.cursor = after.projection, after.cursor", "session.cursor = after.cursor"),
+        ("takes the first batch alone", "group.py", "        start = end\n",
+            "        start = end\n        session.projection, session.cursor = after.projection, after.cursor\n        return len(members), None\n"),
+        (
+            "puts 17 under the cap", "replay.py", 'return line(b"U", 17)',
+            'return line(b"U", 17 if self.session.limits.diagnostics else 0)'
+        ),
+    ],
 }
