@@ -9,6 +9,8 @@ REQUESTS = {
     "depends": "What a set depends on",
     "pages": "Pages of keys",
     "print": "The panel on paper",
+    "import": "Term lists",
+    "group": "Several batches, or none",
 }
 
 LANDED = [
@@ -19,4 +21,6 @@ LANDED = [
     # "depends",
     # "pages",
     # "print",
+    # "import",
+    # "group",
 ]
