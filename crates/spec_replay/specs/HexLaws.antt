@@ -1,11 +1,11 @@
 -- What is printed in hex is read back.
 use Prim.Native.Nat.{ℕ, _+_, _-_, _*_, _/_, _%_, _≤_, _<_}
-use mathlib.Core.Path.{_≡_, refl, ap, _∙_}
+use mathlib.Core.Path.{_≡_, refl, ap}
 use mathlib.Core.List.{List, [], _∷_, flatMap}
 use mathlib.Core.Option.{some}
 use native.Mathlib.Omega.{arith}
 use lib.Dec.{ltb, eqb}
-use borrow.Author.Tests.{lt-ltb, le-ltb, ltb-true, ltb-false, le-leb, lt-leb}
+use borrow.Author.Tests.{ltb-true, ltb-false, le-leb, lt-leb}
 use Rattle.spec_lists.specs.ListLaws.{test-cases}
 use Rattle.spec_lists.specs.Bytes.{Bytes}
 use Rattle.spec_replay.specs.Hex.{hexDigit, hexByte, cons, hexPairs, readHex, hexCharacter, bytePair, hexField}
@@ -29,7 +29,7 @@ unfolding flatMap bytePair hexPairs hexByte cons
 pairs-back [] h = refl
 pairs-back (b ∷ bs) h =
     let whole : 16 * (b / 16) + b % 16 ≡ b = omega arith in
-    rw (digit-back (b / 16) (omega (arith, h .0)), digit-back (b % 16) (omega arith), pairs-back bs (h .1), whole)
+    rw (digit-back (b / 16) (omega (arith, h .0)), digit-back (b % 16) (omega arith), pairs-back bs (h .1)) (ap (λ (n : ℕ). some (n ∷ bs)) whole)
 
 -- every list of bytes is read back from its field
 pub hex-back : (bs : List ℕ) → Bytes bs → readHex (hexField bs) ≡ some bs
