@@ -2,6 +2,7 @@
 use crate::quick_patches;
 use crate::quick_patches::PatchCheckRead;
 use crate::quick_patches::PreviousEnvelope;
+use projection_patch::patch::ProjectionPatchEdition;
 use projection_patch::patch::ProjectionPatchSet;
 use projection_patch::read_values::CountRead;
 use projection_patch::read_values::ProjectionPatchReadFault;
@@ -9,9 +10,9 @@ ghost use mathlib.Core.Path.{_≡_};
 ghost use Prim.Native.Nat.{_≤_};
 ghost use lib.ListN.{length, drop};
 ghost use Rattle.spec_patch.specs.Sizes.{setPatches};
-ghost use Rattle.spec_patch.specs.Edition.{v1};
 ghost use Rattle.spec_patch.specs.Reader.{many};
 ghost use Rattle.spec_patch.specs.Read.{readPatch, ended, readSet};
+ghost use Rattle.projection_patch.specs.Meaning.{editionOf};
 ghost use Rattle.check_quick.specs.Quick.{RoomForIds};
 ghost use Rattle.check_quick.specs.QuickAnswers.{inspectionAnswer, endAnswer};
 
@@ -58,6 +59,7 @@ fn at_end(
 // the set can hold.
 fn inspect_patches(
     set: &[u8],
+    edition: ProjectionPatchEdition,
     from: usize,
     count: usize,
     nodes: &[u64],
@@ -67,7 +69,7 @@ fn inspect_patches(
 ) -> SetInspection
     requires { ⌜ (from ≤ length (now set)) × ((count ≤ setPatches) × RoomForIds (length (now set)) (length (now ids))) ⌝ }
     ensures { λ r. ⌜ r ≡ inspectionAnswer (now (nodes .entry)) (now (bindings .entry)) (now (collections .entry))
-        (ended (many count (readPatch v1) (drop from (now (set .entry))))) ⌝ }
+        (ended (many count (readPatch (editionOf edition)) (drop from (now (set .entry))))) ⌝ }
 {
     let mut highest = 0;
     let mut previous = PreviousEnvelope::None;
@@ -78,7 +80,7 @@ fn inspect_patches(
     let mut absent: usize = 0;
     let mut found = false;
     while 0 < left {
-        match quick_patches::check_patch(set, at, nodes, bindings, collections) {
+        match quick_patches::check_patch(set, edition, at, nodes, bindings, collections) {
             PatchCheckRead::Read(patch, end) => {
                 let own = patch.found;
                 let head = patch.head;
@@ -111,20 +113,21 @@ fn inspect_patches(
 // Reads a whole set, with room lent for the ids of its patches.
 fn inspect_with(
     set: &[u8],
+    edition: ProjectionPatchEdition,
     nodes: &[u64],
     bindings: &[u64],
     collections: &[u64],
     ids: &mut [u64],
 ) -> SetInspection
     requires { ⌜ RoomForIds (length (now set)) (length (now ids)) ⌝ }
-    ensures { λ r. ⌜ r ≡ inspectionAnswer (now (nodes .entry)) (now (bindings .entry)) (now (collections .entry)) (readSet v1 (now (set .entry))) ⌝ }
+    ensures { λ r. ⌜ r ≡ inspectionAnswer (now (nodes .entry)) (now (bindings .entry)) (now (collections .entry)) (readSet (editionOf edition) (now (set .entry))) ⌝ }
 {
     if ProjectionPatchSet::BYTES < set.len() {
         return SetInspection::Refused(ProjectionPatchReadFault::OverCapacity);
     }
-    match patch_sets::read_heading(set) {
+    match patch_sets::read_heading(set, edition) {
         CountRead::Read(count, at) => {
-            inspect_patches(set, at, count, nodes, bindings, collections, ids)
+            inspect_patches(set, edition, at, count, nodes, bindings, collections, ids)
         }
         CountRead::Refused(fault) => SetInspection::Refused(fault),
     }
@@ -134,16 +137,17 @@ fn inspect_with(
 // a target that is none of the lent anchors, repeats included. A binding's anchor is two numbers.
 pub fn inspect_set(
     set: &[u8],
+    edition: ProjectionPatchEdition,
     nodes: &[u64],
     bindings: &[u64],
     collections: &[u64],
 ) -> SetInspection
-    ensures { λ r. ⌜ r ≡ inspectionAnswer (now (nodes .entry)) (now (bindings .entry)) (now (collections .entry)) (readSet v1 (now (set .entry))) ⌝ }
+    ensures { λ r. ⌜ r ≡ inspectionAnswer (now (nodes .entry)) (now (bindings .entry)) (now (collections .entry)) (readSet (editionOf edition) (now (set .entry))) ⌝ }
 {
     if set.len() <= SHORT_BYTES {
         let mut few = [0u64; SHORT_PATCHES];
-        return inspect_with(set, nodes, bindings, collections, &mut few);
+        return inspect_with(set, edition, nodes, bindings, collections, &mut few);
     }
     let mut ids = [0u64; ProjectionPatchSet::PATCHES];
-    inspect_with(set, nodes, bindings, collections, &mut ids)
+    inspect_with(set, edition, nodes, bindings, collections, &mut ids)
 }

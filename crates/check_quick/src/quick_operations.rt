@@ -1,6 +1,7 @@
 // The operations of a patch, read and checked one after the other.
 use crate::anchors;
 use check_targets::MutationTarget;
+use projection_patch::patch::ProjectionPatchEdition;
 use projection_patch::read_operations;
 use projection_patch::read_operations::OperationRead;
 use projection_patch::read_values::ProjectionPatchReadFault;
@@ -9,10 +10,10 @@ ghost use mathlib.Core.Bool.{Bool, _||_};
 ghost use mathlib.Core.List.{_++_};
 ghost use Prim.Native.Nat.{_+_, _*_, _≤_};
 ghost use lib.ListN.{length, take, drop};
-ghost use Rattle.spec_patch.specs.Edition.{v1};
 ghost use Rattle.spec_patch.specs.Reader.{many};
 ghost use Rattle.spec_patch.specs.Read.{readOperation};
 ghost use Rattle.spec_patch.specs.Sizes.{patchOperations};
+ghost use Rattle.projection_patch.specs.Meaning.{editionOf};
 ghost use Rattle.spec_checks.specs.Target.{MutationTarget as Target};
 ghost use Rattle.check_targets.specs.Targets.{targetOf, numbersOf, targetSeen, withTarget};
 ghost use Rattle.check_targets.specs.Marks.{markPlaces, Marked};
@@ -64,6 +65,7 @@ fn operation_found(
 // Reads count operations of a set, the first of them at from, with room lent for their targets and marks. The targets stay in front.
 fn check_with(
     set: &[u8],
+    edition: ProjectionPatchEdition,
     from: usize,
     count: usize,
     targets: &mut [u64],
@@ -71,14 +73,14 @@ fn check_with(
 ) -> OperationsFound
     requires { ⌜ (from ≤ length (now set)) × ((3 * count ≤ length (now targets)) × (length (now marks) ≡ markPlaces)) ⌝ }
     ensures { λ r. ⌜ ((known : Target → Bool) → talliedBy known (take (3 * count) (now (targets .exit))) r
-        ≡ operationsAnswer (tallyOf known) (length (now (set .entry))) (many count (readOperation v1) (drop from (now (set .entry))))) ⌝ }
+        ≡ operationsAnswer (tallyOf known) (length (now (set .entry))) (many count (readOperation (editionOf edition)) (drop from (now (set .entry))))) ⌝ }
 {
     let mut at = from;
     let mut left = count;
     let mut used: usize = 0;
     let mut found = false;
     while 0 < left {
-        match read_operations::operation_from(&set[at..], true) {
+        match read_operations::operation_from(&set[at..], true, edition) {
             OperationRead::Read(operation, taken) => {
                 at = at + taken;
                 left = left - 1;
@@ -117,6 +119,7 @@ fn tallied(
 // Reads the one operation of a patch, which repeats no target.
 fn check_one(
     set: &[u8],
+    edition: ProjectionPatchEdition,
     at: usize,
     nodes: &[u64],
     bindings: &[u64],
@@ -124,9 +127,9 @@ fn check_one(
 ) -> OperationsChecked
     requires { ⌜ at ≤ length (now set) ⌝ }
     ensures { λ r. ⌜ r ≡ operationsAnswer (tallyOf (anchored (now (nodes .entry)) (now (bindings .entry)) (now (collections .entry))))
-        (length (now (set .entry))) (many 1 (readOperation v1) (drop at (now (set .entry)))) ⌝ }
+        (length (now (set .entry))) (many 1 (readOperation (editionOf edition)) (drop at (now (set .entry)))) ⌝ }
 {
-    match read_operations::operation_from(&set[at..], true) {
+    match read_operations::operation_from(&set[at..], true, edition) {
         OperationRead::Read(operation, taken) => {
             let target = check_targets::mutation_target(operation);
             let found = check_targets::before_self(operation);
@@ -140,6 +143,7 @@ fn check_one(
 // Reads count operations of a set, the first of them at from. Most patches have few, and little is cleared for them.
 pub fn check_operations(
     set: &[u8],
+    edition: ProjectionPatchEdition,
     from: usize,
     count: usize,
     nodes: &[u64],
@@ -148,19 +152,19 @@ pub fn check_operations(
 ) -> OperationsChecked
     requires { ⌜ (from ≤ length (now set)) × (count ≤ patchOperations) ⌝ }
     ensures { λ r. ⌜ r ≡ operationsAnswer (tallyOf (anchored (now (nodes .entry)) (now (bindings .entry)) (now (collections .entry))))
-        (length (now (set .entry))) (many count (readOperation v1) (drop from (now (set .entry)))) ⌝ }
+        (length (now (set .entry))) (many count (readOperation (editionOf edition)) (drop from (now (set .entry)))) ⌝ }
 {
     if count == 1 {
-        return check_one(set, from, nodes, bindings, collections);
+        return check_one(set, edition, from, nodes, bindings, collections);
     }
     let used = MutationTarget::NUMBERS * count;
     let mut marks = [0u8; MutationTarget::MARKS];
     if count <= MutationTarget::FEW {
         let mut few = [0u64; MutationTarget::FEW_NUMBERS];
-        let run = check_with(set, from, count, &mut few, &mut marks);
+        let run = check_with(set, edition, from, count, &mut few, &mut marks);
         return tallied(run, &few[..used], nodes, bindings, collections);
     }
     let mut targets = [0u64; MutationTarget::PATCH_NUMBERS];
-    let run = check_with(set, from, count, &mut targets, &mut marks);
+    let run = check_with(set, edition, from, count, &mut targets, &mut marks);
     tallied(run, &targets[..used], nodes, bindings, collections)
 }

@@ -6,15 +6,15 @@ use check_findings::found;
 use check_findings::ids;
 use patch_sets::PatchHeadRead;
 use projection_patch::patch::ProjectionPatch;
+use projection_patch::patch::ProjectionPatchEdition;
 use projection_patch::patch::ProjectionPatchEnvelope;
 use projection_patch::read_values::ProjectionPatchReadFault;
 ghost use mathlib.Core.Path.{_≡_};
 ghost use mathlib.Core.Bool.{_||_};
 ghost use Prim.Native.Nat.{_≤_, _<_};
 ghost use lib.ListN.{length, take, drop, set};
-ghost use Rattle.spec_patch.specs.Edition.{v1};
 ghost use Rattle.spec_patch.specs.Read.{readPatch};
-ghost use Rattle.projection_patch.specs.Meaning.{envelopeOf};
+ghost use Rattle.projection_patch.specs.Meaning.{editionOf, envelopeOf};
 ghost use Rattle.check_quick.specs.Anchors.{anchored};
 ghost use Rattle.check_findings.specs.Ids.{idSeen};
 ghost use Rattle.check_quick.specs.Quick.{headFound, previousFound, afterFound, AtMost};
@@ -55,6 +55,7 @@ fn patch_found(head: ProjectionPatch, operations: bool) -> bool
 // Reads and checks the patch at a position.
 pub fn check_patch(
     set: &[u8],
+    edition: ProjectionPatchEdition,
     at: usize,
     nodes: &[u64],
     bindings: &[u64],
@@ -62,11 +63,12 @@ pub fn check_patch(
 ) -> PatchCheckRead
     requires { ⌜ at ≤ length (now set) ⌝ }
     ensures { λ r. ⌜ r ≡ patchAnswer (anchored (now (nodes .entry)) (now (bindings .entry)) (now (collections .entry)))
-        (length (now (set .entry))) (readPatch v1 (drop at (now (set .entry)))) ⌝ }
+        (length (now (set .entry))) (readPatch (editionOf edition) (drop at (now (set .entry)))) ⌝ }
 {
     match patch_sets::read_patch_head(&set[at..]) {
         PatchHeadRead::Read(head, taken) => match quick_operations::check_operations(
             set,
+            edition,
             at + taken,
             head.operation_count,
             nodes,

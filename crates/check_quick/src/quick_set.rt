@@ -1,10 +1,11 @@
 // Whether a set has a finding, where no anchors are asked for.
 use crate::inspection;
 use crate::inspection::SetInspection;
+use projection_patch::patch::ProjectionPatchEdition;
 use projection_patch::read_values::ProjectionPatchReadFault;
 ghost use mathlib.Core.Path.{_≡_};
-ghost use Rattle.spec_patch.specs.Edition.{v1};
 ghost use Rattle.spec_patch.specs.Read.{readSet};
+ghost use Rattle.projection_patch.specs.Meaning.{editionOf};
 ghost use Rattle.check_quick.specs.QuickAnswers.{quickAnswer, quickNumber};
 
 // Clean: the set has no findings.
@@ -34,11 +35,11 @@ impl QuickCheck {
 }
 
 // Reads a whole set and says whether it has a finding; if not, how many patches and operations it has.
-pub fn quick_check(set: &[u8]) -> QuickCheck
-    ensures { λ r. ⌜ r ≡ quickAnswer (readSet v1 (now (set .entry))) ⌝ }
+pub fn quick_check(set: &[u8], edition: ProjectionPatchEdition) -> QuickCheck
+    ensures { λ r. ⌜ r ≡ quickAnswer (readSet (editionOf edition) (now (set .entry))) ⌝ }
 {
     let none = [0u64; 0];
-    match inspection::inspect_set(set, &none, &none, &none) {
+    match inspection::inspect_set(set, edition, &none, &none, &none) {
         SetInspection::Clean {
             patch_count,
             operation_count,

@@ -8,8 +8,8 @@ use native.Mathlib.Omega.{arith}
 use lib.ListN.{length, length-append}
 use Rattle.spec_lists.specs.Lists.{if_then_else_, All, isEmpty}
 use Rattle.spec_lists.specs.Bytes.{Bytes}
-use Rattle.spec_patch.specs.Patch.{Patch, Availability, available, unavailable, hidden, pending, stale, Value, quad, signed, text, unsigned}
-use Rattle.spec_patch.specs.Edition.{v1}
+use Rattle.spec_patch.specs.Patch.{Patch, Availability, available, unavailable, hidden, pending, stale, Value, quad, signed, text, unsigned, score}
+use Rattle.spec_patch.specs.Edition.{Edition}
 use Rattle.spec_patch.specs.Encode.{quadByte, availabilityByte}
 use Rattle.spec_patch.specs.Fits.{Storable, StorableBy}
 use Rattle.spec_patch.specs.Reader.{faultNumber}
@@ -60,6 +60,7 @@ value-short (quad q) h = omega (arith, length-two (81 ∷ []) (decimal (quadByte
 value-short (signed z) h = omega (arith, length-two (83 ∷ []) (signedDecimal z), length-signedDecimal z h .1)
 value-short (text t) h = omega (arith, length-two (84 ∷ []) (escaped t), escaped-length t .1, h .short)
 value-short (unsigned x) h = omega (arith, length-two (85 ∷ []) (decimal x), length-decimal x .1)
+value-short (score n) h = omega (arith, length-two (77 ∷ []) (decimal n), length-decimal n .1)
 
 length-record : (a b : ℕ) (rest : List (List ℕ)) → length (fields (decimal a ∷ decimal b ∷ rest)) ≡ length (decimal a) + (length (decimal b) + (length (fields rest) + 2))
 unfolding fields
@@ -120,18 +121,18 @@ refusal-fits : (n : ℕ) → length (refusalLine n) ≤ listingBytes
 refusal-fits n = omega (arith, refusal-short n)
 
 -- what the program prints of any bytes is within the size
-pub listing-fits : (set : List ℕ) → Bytes set → length (listing set) ≤ listingBytes
+pub listing-fits : (ed : Edition) (set : List ℕ) → Bytes set → length (listing ed set) ≤ listingBytes
 unfolding listing readingLines outcomeLines
-listing-fits set all = by-reading (readSet v1 set) refl
+listing-fits ed set all = by-reading (readSet ed set) refl
   where
-    by-outcome : (ps : List Patch) → readSet v1 set ≡ patches ps → (x : Outcome) → applySteps empty (replaySteps ps) ≡ x → length (outcomeLines x) ≤ listingBytes
-    by-outcome ps reads (done p) e = projection-fits p (applySteps-valid v1 empty (replaySteps ps) p (replaySteps-fit v1 ps (was-encoded v1 set ps all reads .1 .patches)) empty-valid e)
+    by-outcome : (ps : List Patch) → readSet ed set ≡ patches ps → (x : Outcome) → applySteps empty (replaySteps ps) ≡ x → length (outcomeLines x) ≤ listingBytes
+    by-outcome ps reads (done p) e = projection-fits p (applySteps-valid ed empty (replaySteps ps) p (replaySteps-fit ed ps (was-encoded ed set ps all reads .1 .patches)) empty-valid e)
     by-outcome ps reads (stopped f) e = refusal-fits (operationFaultNumber f)
 
-    by-findings : (ps : List Patch) → readSet v1 set ≡ patches ps → (t : Bool) → length (if t then outcomeLines (applySteps empty (replaySteps ps)) else refusalLine 11) ≤ listingBytes
+    by-findings : (ps : List Patch) → readSet ed set ≡ patches ps → (t : Bool) → length (if t then outcomeLines (applySteps empty (replaySteps ps)) else refusalLine 11) ≤ listingBytes
     by-findings ps reads true = by-outcome ps reads (applySteps empty (replaySteps ps)) refl
     by-findings ps reads false = refusal-fits 11
 
-    by-reading : (r : SetReading) → readSet v1 set ≡ r → length (readingLines r) ≤ listingBytes
+    by-reading : (r : SetReading) → readSet ed set ≡ r → length (readingLines r) ≤ listingBytes
     by-reading (fault f) e = refusal-fits (faultNumber f)
     by-reading (patches ps) e = by-findings ps e (isEmpty (findings ps .found))

@@ -9,7 +9,7 @@ use lib.Seq.{take-at}
 use borrow.Author.Tests.{eq-eqb, ne-eqb}
 use Rattle.spec_lists.specs.Lists.{if_then_else_}
 use Rattle.spec_patch.specs.Sizes.{textBytes}
-use Rattle.spec_patch.specs.Patch.{Value, quad, signed, text, unsigned}
+use Rattle.spec_patch.specs.Patch.{Value, quad, signed, text, unsigned, score}
 use Rattle.spec_decimal.specs.Decimal.{decimal, signedDecimal}
 use Rattle.spec_listing.specs.Escapes.{escaped}
 use Rattle.spec_listing.specs.Listing.{valueFields}
@@ -23,6 +23,7 @@ lookupFields l =
     if eqb (l .kind) 1 then (81 ∷ []) ∷ decimal (l .quad) ∷ []
     else if eqb (l .kind) 2 then (83 ∷ []) ∷ signedDecimal (l .signed) ∷ []
     else if eqb (l .kind) 4 then (85 ∷ []) ∷ decimal (l .unsigned) ∷ []
+    else if eqb (l .kind) 5 then (77 ∷ []) ∷ decimal (l .unsigned) ∷ []
     else (84 ∷ []) ∷ escaped (take (l .«text_len») (l .text)) ∷ []
 
 -- a value that was found has the fields of its line
@@ -32,6 +33,7 @@ found-fields (quad q) = refl
 found-fields (signed z) = refl
 found-fields (text t) = ap (λ (b : List ℕ). (84 ∷ []) ∷ escaped b ∷ []) (take-at t (zeros (textBytes - length t)) (length t) refl)
 found-fields (unsigned x) = refl
+found-fields (score n) = refl
 
 -- ---- by the kind
 
@@ -48,6 +50,10 @@ module _ (l : ValueLookup) where
   unfolding lookupFields
   unsigned-fields k = rw (ne-eqb (l .kind) 1 (λ e. omega arith), ne-eqb (l .kind) 2 (λ e. omega arith), eq-eqb (l .kind) 4 k)
 
-  pub text-fields : (l .kind ≡ 1 → ⊥) → (l .kind ≡ 2 → ⊥) → (l .kind ≡ 4 → ⊥) → lookupFields l ≡ (84 ∷ []) ∷ escaped (take (l .«text_len») (l .text)) ∷ []
+  pub score-fields : l .kind ≡ 5 → lookupFields l ≡ (77 ∷ []) ∷ decimal (l .unsigned) ∷ []
   unfolding lookupFields
-  text-fields a b c = rw (ne-eqb (l .kind) 1 a, ne-eqb (l .kind) 2 b, ne-eqb (l .kind) 4 c)
+  score-fields k = rw (ne-eqb (l .kind) 1 (λ e. omega arith), ne-eqb (l .kind) 2 (λ e. omega arith), ne-eqb (l .kind) 4 (λ e. omega arith), eq-eqb (l .kind) 5 k)
+
+  pub text-fields : (l .kind ≡ 1 → ⊥) → (l .kind ≡ 2 → ⊥) → (l .kind ≡ 4 → ⊥) → (l .kind ≡ 5 → ⊥) → lookupFields l ≡ (84 ∷ []) ∷ escaped (take (l .«text_len») (l .text)) ∷ []
+  unfolding lookupFields
+  text-fields a b c d = rw (ne-eqb (l .kind) 1 a, ne-eqb (l .kind) 2 b, ne-eqb (l .kind) 4 c, ne-eqb (l .kind) 5 d)

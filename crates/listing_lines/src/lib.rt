@@ -28,15 +28,22 @@ fn print_letter(out: &mut [u8], at: Printed, letter: u8) -> Printed
     bytes_printer::print_byte(out, tab, letter)
 }
 
+// The letter of a kind, a number, and the end of the line.
+fn print_kind_number(out: &mut [u8], at: Printed, letter: u8, n: u64) -> Printed
+    ensures { λ r. ⌜ Prints (now (out .entry)) at (fields ((letter ∷ []) ∷ decimal n ∷ [])) (now (out .exit)) r ⌝ }
+{
+    let kind = print_letter(out, at, letter);
+    let number = bytes_printer::print_field_u64(out, kind, n);
+    bytes_printer::print_newline(out, number)
+}
+
 // The kind and the value of a lookup, and the end of the line. A kind that is none of the others is printed as a text.
 pub fn print_value(out: &mut [u8], at: Printed, value: ValueLookup) -> Printed
     ensures { λ r. ⌜ Prints (now (out .entry)) at (fields (lookupFields value)) (now (out .exit)) r ⌝ }
 {
     let kind = value.kind;
     if kind == 1 {
-        let letter = print_letter(out, at, 81);
-        let number = bytes_printer::print_field_u64(out, letter, value.quad as u64);
-        return bytes_printer::print_newline(out, number);
+        return print_kind_number(out, at, 81, value.quad as u64);
     }
     if kind == 2 {
         let letter = print_letter(out, at, 83);
@@ -44,9 +51,10 @@ pub fn print_value(out: &mut [u8], at: Printed, value: ValueLookup) -> Printed
         return bytes_printer::print_newline(out, number);
     }
     if kind == 4 {
-        let letter = print_letter(out, at, 85);
-        let number = bytes_printer::print_field_u64(out, letter, value.unsigned);
-        return bytes_printer::print_newline(out, number);
+        return print_kind_number(out, at, 85, value.unsigned);
+    }
+    if kind == 5 {
+        return print_kind_number(out, at, 77, value.unsigned);
     }
     print_text(out, at, value)
 }

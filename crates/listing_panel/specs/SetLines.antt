@@ -5,7 +5,7 @@ use mathlib.Core.Bool.{Bool, true, false}
 use mathlib.Core.List.{List}
 use native.Mathlib.Omega.{arith}
 use Rattle.spec_lists.specs.Lists.{if_then_else_, isEmpty}
-use Rattle.spec_patch.specs.Edition.{v1}
+use Rattle.spec_patch.specs.Edition.{Edition}
 use Rattle.spec_patch.specs.Patch.{Patch}
 use Rattle.spec_patch.specs.Reader.{Fault, malformed, overCapacity, faultNumber}
 use Rattle.spec_patch.specs.Read.{SetReading, patches, fault, readSet}
@@ -29,9 +29,9 @@ outcome-lines (done p) = refl
 outcome-lines (stopped f) = refl
 
 -- the listing is that of applying the set
-pub listing-applies : (set : List ℕ) → listing set ≡ setLines (applySet empty set)
+pub listing-applies : (ed : Edition) (set : List ℕ) → listing ed set ≡ setLines (applySet ed empty set)
 unfolding listing readingLines applySet applyReading setLines
-listing-applies set = by-reading (readSet v1 set)
+listing-applies ed set = by-reading (readSet ed set)
   where
     by-findings : (ps : List Patch) (t : Bool)
         → (if t then outcomeLines (applySteps empty (replaySteps ps)) else refusalLine 11) ≡ setLines (if t then setOutcome (applySteps empty (replaySteps ps)) else refused 11)
@@ -60,9 +60,9 @@ outcome-numbered (done p) = tt
 outcome-numbered (stopped keyRule) = λ e. omega arith
 outcome-numbered (stopped projectionFull) = λ e. omega arith
 
-set-numbered : (set : List ℕ) → Numbered (applySet empty set)
+set-numbered : (ed : Edition) (set : List ℕ) → Numbered (applySet ed empty set)
 unfolding applySet applyReading
-set-numbered set = by-reading (readSet v1 set)
+set-numbered ed set = by-reading (readSet ed set)
   where
     by-findings : (ps : List Patch) (t : Bool) → Numbered (if t then setOutcome (applySteps empty (replaySteps ps)) else refused 11)
     by-findings ps true = outcome-numbered (applySteps empty (replaySteps ps))
@@ -75,24 +75,24 @@ set-numbered set = by-reading (readSet v1 set)
 -- ---- the listing by the answer of the code
 
 -- a state that stores what the listing shows
-pub record Shows (set : List ℕ) (next : LocalProjectionState) : Type 0 where
+pub record Shows (ed : Edition) (set : List ℕ) (next : LocalProjectionState) : Type 0 where
   pub projection : Projection
   pub stores : Stores next projection
-  pub lines : listing set ≡ projectionLines projection
+  pub lines : listing ed set ≡ projectionLines projection
 
-module _ (set : List ℕ) (next : LocalProjectionState) (o : ProjectionOutcome) (became : SetBecame next o (applySet empty set)) where
-  pub set-applied : outcomeNumber o ≡ 0 → Shows set next
+module _ (ed : Edition) (set : List ℕ) (next : LocalProjectionState) (o : ProjectionOutcome) (became : SetBecame next o (applySet ed empty set)) where
+  pub set-applied : outcomeNumber o ≡ 0 → Shows ed set next
   unfolding setLines
-  set-applied zero = go (applySet empty set) (listing-applies set) (set-numbered set) became
+  set-applied zero = go (applySet ed empty set) (listing-applies ed set) (set-numbered ed set) became
     where
-      go : (x : SetOutcome) → listing set ≡ setLines x → Numbered x → SetBecame next o x → Shows set next
+      go : (x : SetOutcome) → listing ed set ≡ setLines x → Numbered x → SetBecame next o x → Shows ed set next
       go (applied q) e n b = record { projection = q; stores = b .1; lines = e }
       go (refused m) e n b = absurd (n (sym b ∙ zero))
 
-  pub set-refused : (outcomeNumber o ≡ 0 → ⊥) → listing set ≡ refusalLine (outcomeNumber o)
+  pub set-refused : (outcomeNumber o ≡ 0 → ⊥) → listing ed set ≡ refusalLine (outcomeNumber o)
   unfolding setLines outcomeNumber
-  set-refused other = go (applySet empty set) (listing-applies set) became
+  set-refused other = go (applySet ed empty set) (listing-applies ed set) became
     where
-      go : (x : SetOutcome) → listing set ≡ setLines x → SetBecame next o x → listing set ≡ refusalLine (outcomeNumber o)
+      go : (x : SetOutcome) → listing ed set ≡ setLines x → SetBecame next o x → listing ed set ≡ refusalLine (outcomeNumber o)
       go (applied q) e b = absurd (other (ap outcomeNumber (b .0)))
       go (refused m) e b = e ∙ ap refusalLine (sym b)

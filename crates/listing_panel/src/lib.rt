@@ -4,6 +4,7 @@ ghost use Prim.Native.Nat.{ℕ};
 ghost use Rattle.spec_projection.specs.Projection.{Projection};
 ghost use Rattle.spec_listing.specs.Listing.{projectionLines, listing};
 ghost use Rattle.bytes_printer.specs.Prints.{Prints};
+ghost use Rattle.projection_patch.specs.Meaning.{editionOf};
 ghost use Rattle.local_projection_state.specs.Stores.{Stores};
 ghost use Rattle.listing_panel.specs.Written.{Holds, Writes, Kept};
 use bytes_printer::Printed;
@@ -12,6 +13,7 @@ use listing_lines::tables::LISTING_BYTES;
 use local_projection_state::LocalProjectionState;
 use patch_part_writer::written::WriteRefusal;
 use patch_part_writer::written::Written;
+use projection_patch::patch::ProjectionPatchEdition;
 
 // Writes the lines that were printed from the start of text up to a position.
 fn write_lines(text: &[u8], end: Printed, out: &mut [u8]) -> Written
@@ -42,11 +44,16 @@ pub fn write_projection(state: LocalProjectionState, out: &mut [u8]) -> Written
 }
 
 // Prints the listing of a set: that of an empty projection after it, or the line of its refusal.
-pub fn print_listing(out: &mut [u8], at: Printed, set: &[u8]) -> Printed
-    ensures { λ r. ⌜ Prints (now (out .entry)) at (listing (now (set .entry))) (now (out .exit)) r ⌝ }
+pub fn print_listing(
+    out: &mut [u8],
+    at: Printed,
+    set: &[u8],
+    edition: ProjectionPatchEdition,
+) -> Printed
+    ensures { λ r. ⌜ Prints (now (out .entry)) at (listing (editionOf edition) (now (set .entry))) (now (out .exit)) r ⌝ }
 {
     let empty = LocalProjectionState::empty();
-    let application = panel_application::apply_projection_patch_set(empty, set);
+    let application = panel_application::apply_projection_patch_set(empty, set, edition);
     let state = application.state;
     let outcome = application.outcome;
     let number = outcome.number();
@@ -57,11 +64,11 @@ pub fn print_listing(out: &mut [u8], at: Printed, set: &[u8]) -> Printed
 }
 
 // Writes the listing of a set.
-pub fn write_listing(set: &[u8], out: &mut [u8]) -> Written
-    ensures { λ r. ⌜ Writes (now (out .entry)) (listing (now (set .entry))) (now (out .exit)) r ⌝ }
+pub fn write_listing(set: &[u8], edition: ProjectionPatchEdition, out: &mut [u8]) -> Written
+    ensures { λ r. ⌜ Writes (now (out .entry)) (listing (editionOf edition) (now (set .entry))) (now (out .exit)) r ⌝ }
 {
     let mut text = [0u8; LISTING_BYTES];
     let start = Printed::Next(0);
-    let end = print_listing(&mut text, start, set);
+    let end = print_listing(&mut text, start, set, edition);
     write_lines(&text, end, out)
 }

@@ -3,7 +3,7 @@ use Prim.Native.Nat.{ℕ}
 use mathlib.Core.Path.{_≡_, refl, sym, subst}
 use mathlib.Core.List.{List, []}
 use Rattle.spec_patch.specs.Sizes.{projectionAvailabilities}
-use Rattle.spec_patch.specs.Edition.{v1}
+use Rattle.spec_patch.specs.Edition.{Edition}
 use Rattle.spec_patch.specs.Patch.{unsigned}
 use Rattle.spec_patch.specs.Fits.{FitsOperation}
 use Rattle.spec_projection.specs.Projection.{Projection}
@@ -65,7 +65,7 @@ module _ {A : Type 0} {Table : ℕ → List ℕ → List A → Type 0} {list : P
 -- what the contract says of an operation, with the tables before and after
 abbrev pub Planned : ProjectionCounts → (b a e b′ a′ e′ : List ℕ) → ℕ → ProjectionPatchOperation → OperationChange → Type 0
 Planned n b a e b′ a′ e′ source operation r =
-    ((p : Projection) → StoredPlan n b a e p → FitsOperation v1 (plannedOperation source operation) → OperationBecame (λ m q. StoredPlan m b′ a′ e′ q) r (applyOperation p (plannedOperation source operation)))
+    ((ed : Edition) (p : Projection) → StoredPlan n b a e p → FitsOperation ed (plannedOperation source operation) → OperationBecame (λ m q. StoredPlan m b′ a′ e′ q) r (applyOperation p (plannedOperation source operation)))
     × AfterRefusal ((b′ ≡ b) × (a′ ≡ a) × (e′ ≡ e)) r
 
 module _ (n : ProjectionCounts) (b a e exit : List ℕ) (source : ℕ) (operation o : ProjectionPatchOperation) (told : operation ≡ o) (r : OperationChange) where
@@ -74,33 +74,33 @@ module _ (n : ProjectionCounts) (b a e exit : List ℕ) (source : ℕ) (operatio
 
   pub binding-planned : (node slot : ℕ) → targetOf (plannedOperation source o) ≡ bindingTarget node slot → BindingsChanged n b exit applied r → Planned n b a e exit a e source operation r
   binding-planned node slot t c = subst (λ x. Planned n b a e exit a e source x r) (sym told) (
-    (λ p s fits. changed-became c p (s .bindings) (s .valid) (λ m q. StoredPlan m exit a e q) (λ k q is h. let kept = binding-keeps p _ q is node slot t in record {
+    (λ ed p s fits. changed-became c p (s .bindings) (s .valid) (λ m q. StoredPlan m exit a e q) (λ k q is h. let kept = binding-keeps p _ q is node slot t in record {
       bindings = h;
       availabilities = subst (Stored availabilityRow availabilityWidth projectionAvailabilities (n .availabilities) a) (sym (kept .0)) (s .availabilities);
       entries = subst (PlannedEntries (n .entries) e) (sym (kept .1)) (s .entries);
-      valid = applyOperation-valid v1 p _ q fits (s .valid) is;
+      valid = applyOperation-valid ed p _ q fits (s .valid) is;
     })),
     changed-kept c ((exit ≡ b) × (a ≡ a) × (e ≡ e)) (λ same. (same, refl, refl)),
   )
 
   pub availability-planned : (node : ℕ) → targetOf (plannedOperation source o) ≡ nodeTarget node → AvailabilitiesChanged n a exit applied r → Planned n b a e b exit e source operation r
   availability-planned node t c = subst (λ x. Planned n b a e b exit e source x r) (sym told) (
-    (λ p s fits. changed-became c p (s .availabilities) (s .valid) (λ m q. StoredPlan m b exit e q) (λ k q is h. let kept = availability-keeps p _ q is node t in record {
+    (λ ed p s fits. changed-became c p (s .availabilities) (s .valid) (λ m q. StoredPlan m b exit e q) (λ k q is h. let kept = availability-keeps p _ q is node t in record {
       bindings = subst (PlannedBindings (n .bindings) b) (sym (kept .0)) (s .bindings);
       availabilities = h;
       entries = subst (PlannedEntries (n .entries) e) (sym (kept .1)) (s .entries);
-      valid = applyOperation-valid v1 p _ q fits (s .valid) is;
+      valid = applyOperation-valid ed p _ q fits (s .valid) is;
     })),
     changed-kept c ((b ≡ b) × (exit ≡ a) × (e ≡ e)) (λ same. (refl, same, refl)),
   )
 
   pub entry-planned : (i : ℕ) → targetOf (plannedOperation source o) ≡ collectionTarget i → EntriesChanged n e exit applied r → Planned n b a e b a exit source operation r
   entry-planned i t c = subst (λ x. Planned n b a e b a exit source x r) (sym told) (
-    (λ p s fits. changed-became c p (s .entries) (s .valid) (λ m q. StoredPlan m b a exit q) (λ k q is h. let kept = collection-keeps p _ q is i t in record {
+    (λ ed p s fits. changed-became c p (s .entries) (s .valid) (λ m q. StoredPlan m b a exit q) (λ k q is h. let kept = collection-keeps p _ q is i t in record {
       bindings = subst (PlannedBindings (n .bindings) b) (sym (kept .0)) (s .bindings);
       availabilities = subst (Stored availabilityRow availabilityWidth projectionAvailabilities (n .availabilities) a) (sym (kept .1)) (s .availabilities);
       entries = h;
-      valid = applyOperation-valid v1 p _ q fits (s .valid) is;
+      valid = applyOperation-valid ed p _ q fits (s .valid) is;
     })),
     changed-kept c ((b ≡ b) × (a ≡ a) × (exit ≡ e)) (λ same. (refl, refl, same)),
   )

@@ -1,7 +1,7 @@
 // One operation on the three lent tables of a plan: its value is not looked at, a source stands for it.
 // After crates/prom-ui/src/local_projection_state.rs.
 ghost use mathlib.Core.Path.{_≡_};
-ghost use Rattle.spec_patch.specs.Edition.{v1};
+ghost use Rattle.spec_patch.specs.Edition.{Edition};
 ghost use Rattle.spec_patch.specs.Fits.{FitsOperation};
 ghost use Rattle.spec_patch.specs.Patch.{unsigned};
 ghost use Rattle.spec_projection.specs.Projection.{Projection};
@@ -165,8 +165,8 @@ pub fn apply_operation(
     operation: ProjectionPatchOperation,
     source: u64,
 ) -> OperationChange
-    ensures made { λ r. ⌜ ((p : Projection) → StoredPlan counts (now (bindings .entry)) (now (availability .entry)) (now (entries .entry)) p
-        → FitsOperation v1 (plannedOperation source operation)
+    ensures made { λ r. ⌜ ((ed : Edition) (p : Projection) → StoredPlan counts (now (bindings .entry)) (now (availability .entry)) (now (entries .entry)) p
+        → FitsOperation ed (plannedOperation source operation)
         → OperationBecame (λ m q. StoredPlan m (now (bindings .exit)) (now (availability .exit)) (now (entries .exit)) q) r (applyOperation p (plannedOperation source operation))) ⌝ }
     ensures kept { λ r. ⌜ AfterRefusal
         ((now (bindings .exit) ≡ now (bindings .entry)) × (now (availability .exit) ≡ now (availability .entry)) × (now (entries .exit) ≡ now (entries .entry))) r ⌝ }

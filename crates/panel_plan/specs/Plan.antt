@@ -6,7 +6,7 @@ use lib.Dec.{ltb}
 use lib.ListN.{getD}
 use Rattle.spec_lists.specs.Lists.{if_then_else_}
 use Rattle.spec_patch.specs.Sizes.{projectionEntries}
-use Rattle.spec_patch.specs.Patch.{Value, N, quad, signed, text, unsigned, Operation, setBinding, setAvailability, insert, update, remove, move}
+use Rattle.spec_patch.specs.Patch.{Value, N, quad, signed, text, unsigned, score, Operation, setBinding, setAvailability, insert, update, remove, move}
 use Rattle.spec_projection.specs.Projection.{Binding, Entry, Projection}
 use Rattle.panel_plan.specs.Resolved.{Resolution}
 
@@ -26,6 +26,7 @@ valueFrom before set (unsigned n) = if ltb n projectionEntries then getD before 
 valueFrom before set (quad q) = quad q
 valueFrom before set (signed z) = signed z
 valueFrom before set (text t) = text t
+valueFrom before set (score n) = score n
 
 -- sources of a batch on p
 unfoldable pub resolution : Projection → (ℕ → Value) → Resolution

@@ -7,7 +7,7 @@ use mathlib.Core.Option.{none, some}
 use lib.Dec.{eqb}
 use Rattle.spec_lists.specs.Lists.{equalLists}
 use Rattle.spec_lists.specs.Order.{lexLess, upsert}
-use Rattle.spec_patch.specs.Patch.{Value, quad, signed, text, unsigned, Operation, setBinding, insert, update, remove, move}
+use Rattle.spec_patch.specs.Patch.{Value, quad, signed, text, unsigned, score, Operation, setBinding, insert, update, remove, move}
 use Rattle.spec_projection.specs.Projection.{Binding, Entry, Projection, bindingKey, availabilityKey}
 use Rattle.spec_projection.specs.FirstMatch.{findFirst, insertBeforeFirst, replaceFirst, removeFirst}
 use Rattle.spec_projection.specs.Entries.{isEntry, isLater, contains, containsNeighbour, insertLast, insertBefore, insertEntry, replaceEntry, removeEntry}
@@ -50,6 +50,7 @@ number (quad q) = 0
 number (signed z) = 0
 number (text t) = 0
 number (unsigned x) = x
+number (score n) = 0
 
 ask : (Projection → List ℕ) → Outcome → List ℕ
 ask f (done p) = f p

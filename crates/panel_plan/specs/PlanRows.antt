@@ -3,7 +3,7 @@
 use Prim.Native.Nat.{ℕ, _+_}
 use mathlib.Core.List.{List, _++_}
 use Rattle.spec_patch.specs.Sizes.{projectionBindings, projectionAvailabilities, projectionEntries}
-use Rattle.spec_patch.specs.Patch.{Value, quad, signed, text, unsigned}
+use Rattle.spec_patch.specs.Patch.{Value, quad, signed, text, unsigned, score}
 use Rattle.spec_patch.specs.Encode.{u32, u64}
 use Rattle.spec_projection.specs.Projection.{Binding, Entry, Projection}
 use Rattle.spec_projection.specs.Valid.{Valid}
@@ -17,6 +17,7 @@ sourceNumber (quad q) = 0
 sourceNumber (signed z) = 0
 sourceNumber (text t) = 0
 sourceNumber (unsigned n) = n
+sourceNumber (score n) = 0
 
 -- the source, in bytes
 abbrev pub sourceWidth : ℕ

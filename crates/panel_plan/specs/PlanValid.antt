@@ -9,7 +9,7 @@ use Rattle.spec_lists.specs.Lists.{All}
 use Rattle.spec_lists.specs.Order.{lexLess, Ascending}
 use Rattle.spec_patch.specs.Sizes.{projectionEntries}
 use Rattle.spec_patch.specs.Patch.{Value, unsigned, Operation, setBinding, setAvailability, insert, update, remove, move}
-use Rattle.spec_patch.specs.Edition.{Edition, v1, hasKind}
+use Rattle.spec_patch.specs.Edition.{Edition, kinds, hasKind}
 use Rattle.spec_patch.specs.Encode.{kindOf}
 use Rattle.spec_patch.specs.Fits.{U64, StorableBy, FitsValue, OperationHolds, FitsOperation}
 use Rattle.spec_projection.specs.Projection.{Entry, Projection, bindingKey}
@@ -72,7 +72,7 @@ holds-with P Q source (update c k v) g h = (h .0, (h .1 .0, g v (h .1 .1)))
 holds-with P Q source (remove c k) g h = h
 holds-with P Q source (move c k before) g h = h
 
--- a source is a number, which the edition of 01 has; the operation may be of any edition
-pub planned-fits : (ed : Edition) (n : ℕ) (o : Operation) → U64 n → FitsOperation ed o → FitsOperation v1 (withSource (unsigned n) o)
-unfolding StorableBy hasKind v1 kindOf
-planned-fits ed n o h f = holds-with (FitsValue ed) (FitsValue v1) (unsigned n) o (λ v _. record { kind = refl; storable = h }) f
+-- a source is a number, which every edition has
+pub planned-fits : (ed : Edition) (n : ℕ) (o : Operation) → U64 n → FitsOperation ed o → FitsOperation ed (withSource (unsigned n) o)
+unfolding StorableBy kinds hasKind kindOf
+planned-fits ed n o h f = holds-with (FitsValue ed) (FitsValue ed) (unsigned n) o (λ v _. record { kind = refl; storable = h }) f

@@ -10,8 +10,8 @@ use lib.ListN.{length, take, drop, length-append, length-drop, take-append-drop}
 use lib.Seq.{take-at, drop-at, length-take-le}
 use Rattle.spec_lists.specs.BytesLaws.{length-littleEndian}
 use Rattle.spec_patch.specs.Sizes.{textBytes}
-use Rattle.spec_patch.specs.Edition.{v1}
-use Rattle.spec_patch.specs.Patch.{Quad, N, F, T, S, Value, quad, signed, text, unsigned}
+use Rattle.spec_patch.specs.Edition.{v2}
+use Rattle.spec_patch.specs.Patch.{Quad, N, F, T, S, Value, quad, signed, text, unsigned, score}
 use Rattle.spec_patch.specs.Encode.{u32, quadByte, kindOf, valueBody, encodeText, encodeValue}
 use Rattle.spec_patch.specs.Fits.{Storable, StorableBy}
 use Rattle.spec_patch.specs.Read.{readValueBy}
@@ -97,10 +97,11 @@ module _ (row : List ℕ) (at : ℕ) where
       let there = text-there t (zeros (valueWidth - length (encodeValue (text t)))) e in
       (record { inside = omega (arith, there .0); short = h .short }, ap text (there .1))
   value-there (unsigned x) h e = (record { inside = omega arith; short = omega arith }, refl)
+  value-there (score n) h e = (record { inside = omega arith; short = omega arith }, refl)
 
-  module _ (r : ValueRead) (answer-is : r ≡ valueAnswer (length row) (readValueBy false v1 (drop at row))) (v : Value) (h : Storable v) (e : drop at row ≡ padded v) where
+  module _ (r : ValueRead) (answer-is : r ≡ valueAnswer (length row) (readValueBy false v2 (drop at row))) (v : Value) (h : Storable v) (e : drop at row ≡ padded v) where
     reads : r ≡ value-read.Read (valueTo (endOf row v) v) (endOf row v)
-    reads = answer-is ∙ ap (λ (l : List ℕ). valueAnswer (length row) (readValueBy false v1 l)) e ∙ ap (valueAnswer (length row)) (read-padded false v h)
+    reads = answer-is ∙ ap (λ (l : List ℕ). valueAnswer (length row) (readValueBy false v2 l)) e ∙ ap (valueAnswer (length row)) (read-padded false v h)
 
     pub value-read-back : (x : ProjectionPatchValue) (end : ℕ) → r ≡ value-read.Read x end → Within row (valueText x) × (valueOf row x ≡ v)
     value-read-back x end f =

@@ -11,8 +11,8 @@ use lib.Seq.{take-at, drop-at, getD-at}
 use Rattle.spec_lists.specs.Bytes.{littleEndian}
 use Rattle.spec_lists.specs.ListLaws.{drop-behind, test-cases}
 use Rattle.spec_lists.specs.BytesLaws.{length-littleEndian, numberOf-littleEndian}
-use Rattle.spec_patch.specs.Patch.{Value, quad, signed, text, unsigned}
-use Rattle.spec_patch.specs.Edition.{v1, hasKind}
+use Rattle.spec_patch.specs.Patch.{Value, quad, signed, text, unsigned, score}
+use Rattle.spec_patch.specs.Edition.{v2, addedKinds, kinds, hasKind}
 use Rattle.spec_patch.specs.Encode.{u32, u64, encodeText, kindOf, valueBody, encodeValue, availabilityByte}
 use Rattle.spec_patch.specs.Fits.{Storable, StorableBy, FitsValue}
 use Rattle.spec_patch.specs.Reader.{Result, read, Reader}
@@ -34,6 +34,7 @@ value-fits (quad q) h = omega arith
 value-fits (signed z) h = simp length-littleEndian (omega arith)
 value-fits (text t) h = simp (length-append, length-littleEndian) (omega (arith, h .short))
 value-fits (unsigned x) h = simp length-littleEndian (omega arith)
+value-fits (score n) h = omega arith
 
 pub length-padded : (v : Value) → Storable v → length (padded v) ≡ valueWidth
 unfolding padded
@@ -63,21 +64,22 @@ entry-behind e = drop-behind entryValueAt (u64 (e .collection)) (u64 (e .key)) (
 
 -- ---- a row tells its record
 
--- the edition of 01 has every kind of value
-every-kind : (v : Value) → hasKind v1 (kindOf v) ≡ true
-unfolding hasKind v1 kindOf
+-- the second edition has every kind of value
+every-kind : (v : Value) → hasKind v2 (kindOf v) ≡ true
+unfolding addedKinds kinds hasKind kindOf
 every-kind (quad q) = refl
 every-kind (signed z) = refl
 every-kind (text t) = refl
 every-kind (unsigned x) = refl
+every-kind (score n) = refl
 
-pub storable-fits : (v : Value) → Storable v → FitsValue v1 v
+pub storable-fits : (v : Value) → Storable v → FitsValue v2 v
 storable-fits v h = record { kind = every-kind v; storable = h }
 
 -- the reader of values reads a stored value, whether it checks texts or not
-pub read-padded : (check : Bool) (v : Value) → Storable v → readValueBy check v1 (padded v) ≡ read v (zeros (valueWidth - length (encodeValue v)))
+pub read-padded : (check : Bool) (v : Value) → Storable v → readValueBy check v2 (padded v) ≡ read v (zeros (valueWidth - length (encodeValue v)))
 unfolding padded
-read-padded check v h = value-codec-by check v1 .back v (value-any check v1 v (storable-fits v h)) _
+read-padded check v h = value-codec-by check v2 .back v (value-any check v2 v (storable-fits v h)) _
 
 -- two values that are read from the same bytes are the same
 same-read : {A : Type 0} {x y : A} {r s : List ℕ} → _≡_ {A = Result A} (read x r) (read y s) → x ≡ y
@@ -93,7 +95,7 @@ regroup a b c d = simp append-assoc
 pub binding-tells : (a b : Binding) → FitsBinding a → FitsBinding b → bindingRow a ≡ bindingRow b → a ≡ b
 unfolding bindingRow padded
 binding-tells a b g h e =
-    let fields = tells (binding-fields true v1) (a .node, (a .slot, a .value)) (b .node, (b .slot, b .value))
+    let fields = tells (binding-fields true v2) (a .node, (a .slot, a .value)) (b .node, (b .slot, b .value))
     (g .node, (g .slot, storable-fits (a .value) (g .value))) (h .node, (h .slot, storable-fits (b .value) (h .value)))
     (zeros (valueWidth - length (encodeValue (a .value)))) (zeros (valueWidth - length (encodeValue (b .value))))
     (regroup (u64 (a .node)) (u32 (a .slot)) (encodeValue (a .value)) _ ∙ e ∙ sym (regroup (u64 (b .node)) (u32 (b .slot)) (encodeValue (b .value)) _)) in
@@ -108,7 +110,7 @@ availability-tells a b g h e =
 pub entry-tells : (a b : Entry) → FitsEntry a → FitsEntry b → entryRow a ≡ entryRow b → a ≡ b
 unfolding entryRow padded
 entry-tells a b g h e =
-    let fields = tells (update-fields true v1) (a .collection, (a .key, a .value)) (b .collection, (b .key, b .value))
+    let fields = tells (update-fields true v2) (a .collection, (a .key, a .value)) (b .collection, (b .key, b .value))
     (g .collection, (g .key, storable-fits (a .value) (g .value))) (h .collection, (h .key, storable-fits (b .value) (h .value)))
     (zeros (valueWidth - length (encodeValue (a .value)))) (zeros (valueWidth - length (encodeValue (b .value))))
     (regroup (u64 (a .collection)) (u64 (a .key)) (encodeValue (a .value)) _ ∙ e ∙ sym (regroup (u64 (b .collection)) (u64 (b .key)) (encodeValue (b .value)) _)) in

@@ -9,12 +9,13 @@ ghost use Rattle.patch_part_writer.specs.Extent.{valueText, Within};
 ghost use Rattle.projection_patch.specs.Meaning.{valueOf};
 ghost use Rattle.panel_rows.specs.Rows.{padded};
 ghost use Rattle.panel_rows.specs.Lookup.{quadNumber, noValue, foundQuad, foundValue};
+use projection_patch::patch::ProjectionPatchEdition;
 use projection_patch::patch::ProjectionPatchValue;
 use projection_patch::patch::ProjectionQuadState;
 use projection_patch::read_values;
 use projection_patch::read_values::ValueRead;
 
-// A value or none. The kind is that of canonical bytes: 1 quad, 2 signed, 3 text, 4 unsigned.
+// A value or none. The kind is that of canonical bytes: 1 quad, 2 signed, 3 text, 4 unsigned, 5 score, whose number stands in unsigned.
 pub struct ValueLookup {
     pub found: bool,
     pub kind: u8,
@@ -87,6 +88,20 @@ fn unsigned_value(x: u64) -> ValueLookup
     }
 }
 
+fn score_value(score: u8) -> ValueLookup
+    ensures { λ r. ⌜ r ≡ foundValue (model.score score) ⌝ }
+{
+    ValueLookup {
+        found: true,
+        kind: 5,
+        quad: 0,
+        signed: 0,
+        unsigned: score as u64,
+        text_len: 0,
+        text: [0u8; ProjectionPatchValue::TEXT_BYTES],
+    }
+}
+
 // The text of len bytes from start on.
 fn text_value(row: &[u8], start: usize, len: usize) -> ValueLookup
     ensures { λ r. ⌜ (start + len ≤ length (now (row .entry)) → len ≤ textBytes → r ≡ foundValue (model.text (take len (drop start (now (row .entry)))))) ⌝ }
@@ -133,14 +148,15 @@ fn value_lookup(row: &[u8], value: ProjectionPatchValue) -> ValueLookup
         ProjectionPatchValue::SignedScalar(z) => signed_value(z),
         ProjectionPatchValue::UnsignedScalar(x) => unsigned_value(x),
         ProjectionPatchValue::Text { start, len } => text_value(row, start, len),
+        ProjectionPatchValue::Score(score) => score_value(score),
     }
 }
 
-// The value that is stored in a row from index at on.
+// The value that is stored in a row from index at on. The second edition has every kind.
 pub fn stored_value(row: &[u8], at: usize) -> ValueLookup
     ensures { λ r. ⌜ ((v : model.Value) → Storable v → drop at (now (row .entry)) ≡ padded v → r ≡ foundValue v) ⌝ }
 {
-    match read_values::value_at(row, at, false) {
+    match read_values::value_at(row, at, false, ProjectionPatchEdition::V2) {
         ValueRead::Read(value, _) => value_lookup(row, value),
         ValueRead::Refused(_) => no_value(),
     }

@@ -8,7 +8,7 @@ use lib.ListN.{length, drop}
 use Rattle.spec_lists.specs.Lists.{All}
 use Rattle.spec_lists.specs.BytesLaws.{length-littleEndian}
 use Rattle.spec_patch.specs.Sizes.{projectionEntries}
-use Rattle.spec_patch.specs.Edition.{v1}
+use Rattle.spec_patch.specs.Edition.{Edition}
 use Rattle.spec_patch.specs.Patch.{unsigned, Operation, setBinding, setAvailability, insert, update, remove, move, Patch}
 use Rattle.spec_patch.specs.Encode.{encodeOptional}
 use Rattle.spec_patch.specs.Fits.{U64, OperationHolds, FitsOperation}
@@ -74,51 +74,51 @@ head-within c size x d is h = subst (StepWithin c size) is h
 -- ---- a run
 
 -- operations of a patch are left, then patches; applying their steps to what the plan stands for gives what the whole run gives
-pub record Running (p : Projection) (set : List ℕ) (c : SetCursor) (n : ProjectionCounts) (b a e : List ℕ) (whole : Outcome) : Type 0 where
+pub record Running (ed : Edition) (p : Projection) (set : List ℕ) (c : SetCursor) (n : ProjectionCounts) (b a e : List ℕ) (whole : Outcome) : Type 0 where
   pub id : ℕ
   pub os : List Operation
   pub ps : List Patch
-  pub here : AtSteps v1 set c os ps
+  pub here : AtSteps ed set c os ps
   pub model : Projection
-  pub planned : PlannedAs v1 p set b a e n model
+  pub planned : PlannedAs ed p set b a e n model
   pub same : applySteps model (map (stepOf id) os ++ replaySteps ps) ≡ whole
 
 -- what an operation's answer makes of a run: it goes on, or its outcome is the operation's refusal
-abbrev After : Projection → List ℕ → SetCursor → (b a e : List ℕ) → Outcome → OperationChange → Type 0
-After p set d b a e whole (operation.Applied m) = Running p set d m b a e whole
-After p set d b a e whole (operation.Refused error) = whole ≡ stopped (faultOf error)
+abbrev After : Edition → Projection → List ℕ → SetCursor → (b a e : List ℕ) → Outcome → OperationChange → Type 0
+After ed p set d b a e whole (operation.Applied m) = Running ed p set d m b a e whole
+After ed p set d b a e whole (operation.Refused error) = whole ≡ stopped (faultOf error)
 
-pub record Turned (p : Projection) (set : List ℕ) (d : SetCursor) (b a e : List ℕ) (whole : Outcome) (r : OperationChange) : Type 0 where
-  after : After p set d b a e whole r
+pub record Turned (ed : Edition) (p : Projection) (set : List ℕ) (d : SetCursor) (b a e : List ℕ) (whole : Outcome) (r : OperationChange) : Type 0 where
+  after : After ed p set d b a e whole r
 
-module _ {p : Projection} {set : List ℕ} {d : SetCursor} {b a e : List ℕ} {whole : Outcome} {r : OperationChange} (t : Turned p set d b a e whole r) where
-  pub turned-on : {m : ProjectionCounts} → r ≡ operation.Applied m → Running p set d m b a e whole
-  turned-on is = subst (After p set d b a e whole) is (t .after)
+module _ {ed : Edition} {p : Projection} {set : List ℕ} {d : SetCursor} {b a e : List ℕ} {whole : Outcome} {r : OperationChange} (t : Turned ed p set d b a e whole r) where
+  pub turned-on : {m : ProjectionCounts} → r ≡ operation.Applied m → Running ed p set d m b a e whole
+  turned-on is = subst (After ed p set d b a e whole) is (t .after)
 
   pub turned-stop : (Next : ProjectionCounts → Projection → Type 0) {error : LocalProjectionApplicationError} → r ≡ operation.Refused error → RunBecame Next (Refused error) whole
-  turned-stop Next {error} is = subst (RunBecame Next (Refused error)) (sym (subst (After p set d b a e whole) is (t .after))) refl
+  turned-stop Next {error} is = subst (RunBecame Next (Refused error)) (sym (subst (After ed p set d b a e whole) is (t .after))) refl
 
-module _ {p : Projection} {set : List ℕ} where
-  pub run-start : {c : SetCursor} {n : ProjectionCounts} {b a e : List ℕ} (ps : List Patch) → Valid p → StoredPlan n b a e (planOf p) → AtSteps v1 set c [] ps → Running p set c n b a e (applySteps p (replaySteps ps))
+module _ {ed : Edition} {p : Projection} {set : List ℕ} where
+  pub run-start : {c : SetCursor} {n : ProjectionCounts} {b a e : List ℕ} (ps : List Patch) → Valid p → StoredPlan n b a e (planOf p) → AtSteps ed set c [] ps → Running ed p set c n b a e (applySteps p (replaySteps ps))
   run-start ps v s h = record {
     id = 0;
     os = [];
     ps = ps;
     here = h;
     model = p;
-    planned = record { plan = planOf p; stored = s; sourced = plan-sourced v1 p set v; resolves = plan-resolves p (valueIn v1 set) (omega (arith, v .fewBindings)) (v .fewEntries) };
+    planned = record { plan = planOf p; stored = s; sourced = plan-sourced ed p set v; resolves = plan-resolves p (valueIn ed set) (omega (arith, v .fewBindings)) (v .fewEntries) };
     same = refl;
   }
 
-  module _ {c : SetCursor} {n : ProjectionCounts} {b a e : List ℕ} {whole : Outcome} (run : Running p set c n b a e whole) where
-    pub run-end : (run .os ≡ []) × (run .ps ≡ []) → RunBecame (PlannedAs v1 p set b a e) (Planned n) whole
+  module _ {c : SetCursor} {n : ProjectionCounts} {b a e : List ℕ} {whole : Outcome} (run : Running ed p set c n b a e whole) where
+    pub run-end : (run .os ≡ []) × (run .ps ≡ []) → RunBecame (PlannedAs ed p set b a e) (Planned n) whole
     unfolding replaySteps flatMap applySteps
     run-end all =
-        subst (RunBecame (PlannedAs v1 p set b a e) (Planned n))
+        subst (RunBecame (PlannedAs ed p set b a e) (Planned n))
         (ap₂ (λ (os : List Operation) (ps : List Patch). applySteps (run .model) (map (stepOf (run .id)) os ++ replaySteps ps)) (sym (all .0)) (sym (all .1)) ∙ run .same) (run .planned)
 
     -- a patch's head: its operations are left now
-    pub run-head : {head : ProjectionPatch} {d : SetCursor} → Opened v1 set c (run .os) (run .ps) head d → Running p set d n b a e whole
+    pub run-head : {head : ProjectionPatch} {d : SetCursor} → Opened ed set c (run .os) (run .ps) head d → Running ed p set d n b a e whole
     unfolding replaySteps patchSteps flatMap
     run-head o = record {
       id = o .first .envelope .id;
@@ -132,16 +132,16 @@ module _ {p : Projection} {set : List ℕ} where
 
     -- ---- an operation
 
-    module _ {x : ProjectionPatchOperation} {d : SetCursor} (v : Visited v1 set c (run .os) (run .ps) x d) {source : ℕ} (is : source ≡ projectionEntries + (c .at + valueOffset (operationOf [] x))) where
+    module _ {x : ProjectionPatchOperation} {d : SetCursor} (v : Visited ed set c (run .os) (run .ps) x d) {source : ℕ} (is : source ≡ projectionEntries + (c .at + valueOffset (operationOf [] x))) where
       abbrev at : ℕ
       at = c .at + valueOffset (v .first)
 
-      fits : FitsOperation v1 (v .first)
-      fits = (subst (All (FitsOperation v1)) (v .is) (run .here .fit)) .0
+      fits : FitsOperation ed (v .first)
+      fits = (subst (All (FitsOperation ed)) (v .is) (run .here .fit)) .0
 
       -- its value stands at the source's position
-      stands : OperationHolds (StandsAt v1 set at) (v .first)
-      stands = value-stands v1 set (c .at) (v .first) (drop (d .at) set) fits (v .taken)
+      stands : OperationHolds (StandsAt ed set at) (v .first)
+      stands = value-stands ed set (c .at) (v .first) (drop (d .at) set) fits (v .taken)
 
       -- what is planned is the operation with that position
       pub planned-here : plannedOperation source x ≡ withSource (new at) (v .first)
@@ -150,11 +150,11 @@ module _ {p : Projection} {set : List ℕ} where
           sym (planned-is (lentFrom set (c .at)) source x)
           ∙ ap₂ (λ (n : ℕ) (o : Operation). withSource (unsigned n) o) (is ∙ ap (λ (k : ℕ). projectionEntries + (c .at + k)) (sym (offset-is (lentFrom set (c .at)) x) ∙ ap valueOffset (v .means))) (v .means)
 
-      pub fits-planned : U64 source → FitsOperation v1 (plannedOperation source x)
-      fits-planned h = subst (FitsOperation v1) (ap (withSource (unsigned source)) (sym (v .means)) ∙ planned-is (lentFrom set (c .at)) source x) (planned-fits v1 source (v .first) h fits)
+      pub fits-planned : U64 source → FitsOperation ed (plannedOperation source x)
+      fits-planned h = subst (FitsOperation ed) (ap (withSource (unsigned source)) (sym (v .means)) ∙ planned-is (lentFrom set (c .at)) source x) (planned-fits ed source (v .first) h fits)
 
       abbrev R : Resolution
-      R = resolution p (valueIn v1 set)
+      R = resolution p (valueIn ed set)
 
       abbrev left : Projection → Outcome
       left q = applySteps q (map (stepOf (run .id)) (v .rest) ++ replaySteps (run .ps))
@@ -164,15 +164,15 @@ module _ {p : Projection} {set : List ℕ} where
       unfolding applySteps applyStep
       by-step y e =
           ap (λ z. andThen z left)
-          (sym (ap (λ q. applyOperation q (v .first)) (sym (run .planned .resolves)) ∙ planned-operation p (valueIn v1 set) at (StandsAt v1 set at) (value-there at) (run .planned .plan) (v .first) stands
+          (sym (ap (λ q. applyOperation q (v .first)) (sym (run .planned .resolves)) ∙ planned-operation p (valueIn ed set) at (StandsAt ed set at) (value-there at) (run .planned .plan) (v .first) stands
           ∙ ap (resolvedOutcome R) (ap (applyOperation (run .planned .plan)) (sym planned-here) ∙ e)))
           ∙ ap (λ (os : List Operation). applySteps (run .model) (map (stepOf (run .id)) os ++ replaySteps (run .ps))) (sym (v .is)) ∙ run .same
 
       -- the run after the operation, or the outcome of all: the operation's refusal
-      pub run-turn : (b′ a′ e′ : List ℕ) (r : OperationChange) → OperationBecame (λ m q. StoredPlan m b′ a′ e′ q) r (applyOperation (run .planned .plan) (plannedOperation source x)) → Turned p set d b′ a′ e′ whole r
+      pub run-turn : (b′ a′ e′ : List ℕ) (r : OperationChange) → OperationBecame (λ m q. StoredPlan m b′ a′ e′ q) r (applyOperation (run .planned .plan) (plannedOperation source x)) → Turned ed p set d b′ a′ e′ whole r
       run-turn b′ a′ e′ r became = record { after = go r (applyOperation (run .planned .plan) (plannedOperation source x)) refl became }
         where
-          go : (r : OperationChange) (y : Outcome) → applyOperation (run .planned .plan) (plannedOperation source x) ≡ y → OperationBecame (λ m q. StoredPlan m b′ a′ e′ q) r y → After p set d b′ a′ e′ whole r
+          go : (r : OperationChange) (y : Outcome) → applyOperation (run .planned .plan) (plannedOperation source x) ≡ y → OperationBecame (λ m q. StoredPlan m b′ a′ e′ q) r y → After ed p set d b′ a′ e′ whole r
           go (operation.Applied m) (done q) e h = record {
             id = run .id;
             os = v .rest;
@@ -182,7 +182,7 @@ module _ {p : Projection} {set : List ℕ} where
             planned = record {
               plan = q;
               stored = h;
-              sourced = operation-sourced v1 p set (run .planned .plan) q at (v .first) stands (ap (applyOperation (run .planned .plan)) (sym planned-here) ∙ e) (run .planned .sourced);
+              sourced = operation-sourced ed p set (run .planned .plan) q at (v .first) stands (ap (applyOperation (run .planned .plan)) (sym planned-here) ∙ e) (run .planned .sourced);
               resolves = refl;
             };
             same = by-step (done q) e;

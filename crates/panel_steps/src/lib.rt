@@ -5,12 +5,11 @@ ghost use mathlib.Core.List.{List, []};
 ghost use Prim.Native.Nat.{_≤_};
 ghost use lib.ListN.{length};
 ghost use Rattle.spec_patch.specs.Sizes.{setBytes};
-ghost use Rattle.spec_patch.specs.Edition.{v1};
 ghost use Rattle.spec_patch.specs.Patch.{Patch};
 ghost use Rattle.spec_projection.specs.Projection.{Projection};
 ghost use Rattle.spec_projection.specs.Apply.{replaySteps, applySteps};
 ghost use Rattle.spec_projection.specs.Valid.{Valid};
-ghost use Rattle.projection_patch.specs.Meaning.{operationOf};
+ghost use Rattle.projection_patch.specs.Meaning.{editionOf, operationOf};
 ghost use Rattle.patch_walk.specs.Steps.{AtSteps};
 ghost use Rattle.panel_plan.specs.Plan.{planOf};
 ghost use Rattle.panel_plan.specs.PlanRows.{StoredPlan};
@@ -23,6 +22,7 @@ use panel_operations::OperationChange;
 use patch_walk::SetCursor;
 use patch_walk::SetStep;
 use projection_patch::patch::OptionalKey;
+use projection_patch::patch::ProjectionPatchEdition;
 use projection_patch::patch::ProjectionPatchOperation;
 use projection_patch::read_values::ProjectionPatchReadFault;
 
@@ -57,17 +57,18 @@ pub fn plan_steps(
     entries: &mut [u8],
     counts: ProjectionCounts,
     set: &[u8],
+    edition: ProjectionPatchEdition,
     from: SetCursor,
 ) -> PlanRun
     requires { ⌜ length (now set) ≤ setBytes ⌝ }
     ensures { λ r. ⌜ ((p : Projection) (ps : List Patch) → Valid p → StoredPlan counts (now (bindings .entry)) (now (availability .entry)) (now (entries .entry)) (planOf p)
-        → AtSteps v1 (now (set .entry)) from [] ps
-        → RunBecame (PlannedAs v1 p (now (set .entry)) (now (bindings .exit)) (now (availability .exit)) (now (entries .exit))) r (applySteps p (replaySteps ps))) ⌝ }
+        → AtSteps (editionOf edition) (now (set .entry)) from [] ps
+        → RunBecame (PlannedAs (editionOf edition) p (now (set .entry)) (now (bindings .exit)) (now (availability .exit)) (now (entries .exit))) r (applySteps p (replaySteps ps))) ⌝ }
 {
     let mut held = counts;
     let mut cursor = from;
     loop {
-        match patch_walk::next_step(set, cursor, false) {
+        match patch_walk::next_step(set, cursor, false, edition) {
             SetStep::Head(_, next) => {
                 cursor = next;
             }

@@ -14,7 +14,7 @@ use Rattle.spec_lists.specs.Lists.{All}
 use Rattle.spec_lists.specs.ListLaws.{and-left, and-right, all-map}
 use Rattle.spec_lists.specs.BytesLaws.{length-littleEndian, numberOf-littleEndian}
 use Rattle.spec_patch.specs.Sizes.{projectionEntries}
-use Rattle.spec_patch.specs.Patch.{Value, N, quad, signed, text, unsigned}
+use Rattle.spec_patch.specs.Patch.{Value, N, quad, signed, text, unsigned, score}
 use Rattle.spec_patch.specs.Edition.{Edition}
 use Rattle.spec_patch.specs.Encode.{u64, encodeValue}
 use Rattle.spec_patch.specs.Fits.{U64, Storable, StorableBy, FitsValue}
@@ -129,6 +129,7 @@ number-fits (quad q) h = omega arith
 number-fits (signed z) h = omega arith
 number-fits (text t) h = omega arith
 number-fits (unsigned n) h = h
+number-fits (score n) h = omega arith
 
 -- ---- lists
 

@@ -7,10 +7,10 @@ ghost use lib.Dec.{eqb};
 ghost use lib.ListN.{length};
 ghost use Rattle.spec_lists.specs.Lists.{if_then_else_, All};
 ghost use Rattle.spec_patch.specs.Sizes.{projectionBindings, projectionEntries};
-ghost use Rattle.spec_patch.specs.Edition.{v1};
 ghost use Rattle.spec_projection.specs.Projection.{Projection};
 ghost use Rattle.spec_projection.specs.Valid.{Valid};
 ghost use Rattle.bytes_records.specs.Table.{tableBytes};
+ghost use Rattle.projection_patch.specs.Meaning.{editionOf};
 ghost use Rattle.panel_rows.specs.Rows.{valueWidth, bindingValueAt, bindingWidth, bindingRow, entryValueAt, entryWidth, entryRow};
 ghost use Rattle.local_projection_state.specs.Stores.{Stored};
 ghost use Rattle.panel_plan.specs.PlanRows.{PlannedBindings, PlannedEntries};
@@ -23,6 +23,7 @@ use local_projection_state::LocalProjectionState;
 use panel_plan::SOURCE_WIDTH;
 use panel_rows::fields;
 use panel_rows::written;
+use projection_patch::patch::ProjectionPatchEdition;
 use projection_patch::read_values;
 use projection_patch::read_values::ValueRead;
 
@@ -35,10 +36,10 @@ fn row_at(table: &[u8], width: usize, i: usize) -> &[u8]
 }
 
 // The bytes of the value that begins at a position of the set, as long as its kind and its length say.
-fn value_bytes(set: &[u8], at: usize) -> &[u8]
-    ensures { λ r. ⌜ now r ≡ valueBytes v1 (now (set .entry)) at ⌝ }
+fn value_bytes(set: &[u8], edition: ProjectionPatchEdition, at: usize) -> &[u8]
+    ensures { λ r. ⌜ now r ≡ valueBytes (editionOf edition) (now (set .entry)) at ⌝ }
 {
-    match read_values::value_at(set, at, false) {
+    match read_values::value_at(set, at, false, edition) {
         ValueRead::Read(_, end) => fields::value_part(fields::key_part(set, end), at),
         ValueRead::Refused(_) => &set[..0],
     }
@@ -46,9 +47,16 @@ fn value_bytes(set: &[u8], at: usize) -> &[u8]
 
 // Writes one row: the ids of the plan's row, and the bytes of its value, which stand behind the ids of an old row or in the
 // set.
-fn write_planned(key: usize, row: &[u8], from: &[u8], set: &[u8], to: &mut [u8])
+fn write_planned(
+    key: usize,
+    row: &[u8],
+    from: &[u8],
+    set: &[u8],
+    edition: ProjectionPatchEdition,
+    to: &mut [u8],
+)
     requires { ⌜ key ≤ entryValueAt ⌝ }
-    ensures { λ _. ⌜ now (to .exit) ≡ plannedRow v1 key (now (row .entry)) (now (from .entry)) (now (set .entry)) (now (to .entry)) ⌝ }
+    ensures { λ _. ⌜ now (to .exit) ≡ plannedRow (editionOf edition) key (now (row .entry)) (now (from .entry)) (now (set .entry)) (now (to .entry)) ⌝ }
 {
     let ids = fields::key_part(row, key);
     let source = fields::number_at(row, key, SOURCE_WIDTH) as usize;
@@ -57,15 +65,23 @@ fn write_planned(key: usize, row: &[u8], from: &[u8], set: &[u8], to: &mut [u8])
         written::write_row(to, ids, fields::value_part(old, key));
     } else {
         let at = source - LocalProjectionState::ENTRIES;
-        written::write_row(to, ids, value_bytes(set, at));
+        written::write_row(to, ids, value_bytes(set, edition, at));
     }
 }
 
 // Writes so many rows from the front of the new table, and zeros behind them.
-fn write_rows(key: usize, plan: &[u8], count: usize, from: &[u8], set: &[u8], to: &mut [u8])
+fn write_rows(
+    key: usize,
+    plan: &[u8],
+    count: usize,
+    from: &[u8],
+    set: &[u8],
+    edition: ProjectionPatchEdition,
+    to: &mut [u8],
+)
     requires { ⌜ (key ≤ entryValueAt) × (count ≤ projectionEntries) × (count * (key + valueWidth) ≤ length (now to)) ⌝ }
     ensures { λ _. ⌜ now (to .exit) ≡ tableBytes (length (now (to .entry)))
-        (rowsTo (newRow v1 key (now (plan .entry)) (now (from .entry)) (now (set .entry)) (now (to .entry))) count) ⌝ }
+        (rowsTo (newRow (editionOf edition) key (now (plan .entry)) (now (from .entry)) (now (set .entry)) (now (to .entry))) count) ⌝ }
 {
     let width = key + panel_rows::VALUE_WIDTH;
     let mut i = 0;
@@ -73,7 +89,7 @@ fn write_rows(key: usize, plan: &[u8], count: usize, from: &[u8], set: &[u8], to
         let row = row_at(plan, key + SOURCE_WIDTH, i);
         let start = i * width;
         let end = start + width;
-        write_planned(key, row, from, set, &mut to[start..end]);
+        write_planned(key, row, from, set, edition, &mut to[start..end]);
         i += 1;
     }
     let used = count * width;
@@ -99,11 +115,12 @@ fn write_table(
     used: usize,
     from: &[u8],
     set: &[u8],
+    edition: ProjectionPatchEdition,
     to: &mut [u8],
 ) -> bool
     requires { ⌜ (key ≤ entryValueAt) × (capacity ≤ projectionEntries) ⌝ }
     ensures { λ r. ⌜ r ≡ canWrite key capacity count used (now (to .entry)) ⌝ }
-    ensures { λ r. ⌜ now (to .exit) ≡ writtenTable v1 key capacity count used (now (plan .entry)) (now (from .entry)) (now (set .entry)) (now (to .entry)) ⌝ }
+    ensures { λ r. ⌜ now (to .exit) ≡ writtenTable (editionOf edition) key capacity count used (now (plan .entry)) (now (from .entry)) (now (set .entry)) (now (to .entry)) ⌝ }
 {
     if capacity < count {
         return false;
@@ -116,7 +133,7 @@ fn write_table(
         return false;
     }
     let size = greater(count, used) * width;
-    write_rows(key, plan, count, from, set, &mut to[0..size]);
+    write_rows(key, plan, count, from, set, edition, &mut to[0..size]);
     true
 }
 
@@ -128,13 +145,14 @@ pub fn write_bindings(
     used: usize,
     from: &[u8],
     set: &[u8],
+    edition: ProjectionPatchEdition,
     to: &mut [u8],
 ) -> bool
     ensures told { λ r. ⌜ r ≡ canWrite bindingValueAt projectionBindings count used (now (to .entry)) ⌝ }
-    ensures made { λ r. ⌜ now (to .exit) ≡ writtenTable v1 bindingValueAt projectionBindings count used (now (plan .entry)) (now (from .entry)) (now (set .entry)) (now (to .entry)) ⌝ }
+    ensures made { λ r. ⌜ now (to .exit) ≡ writtenTable (editionOf edition) bindingValueAt projectionBindings count used (now (plan .entry)) (now (from .entry)) (now (set .entry)) (now (to .entry)) ⌝ }
     ensures stores { λ r. ⌜ (r ≡ true → ClearBehind used bindingWidth (now (to .entry)) → (p q : Projection) (n : ℕ) → Stored bindingRow bindingWidth projectionBindings n (now (from .entry)) (p .bindings) → Valid p
-        → PlannedBindings count (now (plan .entry)) (q .bindings) → Valid q → All (SourcedBinding v1 p (now (set .entry))) (q .bindings)
-        → Stored bindingRow bindingWidth projectionBindings count (now (to .exit)) (resolved (resolution p (valueIn v1 (now (set .entry)))) q .bindings)) ⌝ }
+        → PlannedBindings count (now (plan .entry)) (q .bindings) → Valid q → All (SourcedBinding (editionOf edition) p (now (set .entry))) (q .bindings)
+        → Stored bindingRow bindingWidth projectionBindings count (now (to .exit)) (resolved (resolution p (valueIn (editionOf edition) (now (set .entry)))) q .bindings)) ⌝ }
 {
     write_table(
         panel_rows::BINDING_VALUE,
@@ -144,6 +162,7 @@ pub fn write_bindings(
         used,
         from,
         set,
+        edition,
         to,
     )
 }
@@ -155,13 +174,14 @@ pub fn write_entries(
     used: usize,
     from: &[u8],
     set: &[u8],
+    edition: ProjectionPatchEdition,
     to: &mut [u8],
 ) -> bool
     ensures told { λ r. ⌜ r ≡ canWrite entryValueAt projectionEntries count used (now (to .entry)) ⌝ }
-    ensures made { λ r. ⌜ now (to .exit) ≡ writtenTable v1 entryValueAt projectionEntries count used (now (plan .entry)) (now (from .entry)) (now (set .entry)) (now (to .entry)) ⌝ }
+    ensures made { λ r. ⌜ now (to .exit) ≡ writtenTable (editionOf edition) entryValueAt projectionEntries count used (now (plan .entry)) (now (from .entry)) (now (set .entry)) (now (to .entry)) ⌝ }
     ensures stores { λ r. ⌜ (r ≡ true → ClearBehind used entryWidth (now (to .entry)) → (p q : Projection) (n : ℕ) → Stored entryRow entryWidth projectionEntries n (now (from .entry)) (p .entries) → Valid p
-        → PlannedEntries count (now (plan .entry)) (q .entries) → Valid q → All (SourcedEntry v1 p (now (set .entry))) (q .entries)
-        → Stored entryRow entryWidth projectionEntries count (now (to .exit)) (resolved (resolution p (valueIn v1 (now (set .entry)))) q .entries)) ⌝ }
+        → PlannedEntries count (now (plan .entry)) (q .entries) → Valid q → All (SourcedEntry (editionOf edition) p (now (set .entry))) (q .entries)
+        → Stored entryRow entryWidth projectionEntries count (now (to .exit)) (resolved (resolution p (valueIn (editionOf edition) (now (set .entry)))) q .entries)) ⌝ }
 {
     write_table(
         panel_rows::ENTRY_VALUE,
@@ -171,6 +191,7 @@ pub fn write_entries(
         used,
         from,
         set,
+        edition,
         to,
     )
 }

@@ -9,7 +9,7 @@ use Rattle.projection_patch.specs.declared.patch.OptionalKey.{OptionalKey}
 use Rattle.projection_patch.specs.declared.patch.OptionalKey.the-variants as key
 use Rattle.projection_patch.specs.declared.patch.ProjectionPatch.{ProjectionPatch}
 use Rattle.projection_patch.specs.declared.patch.ProjectionPatchValue.{ProjectionPatchValue}
-use Rattle.projection_patch.specs.declared.patch.ProjectionPatchValue.the-variants.{Quad, SignedScalar, UnsignedScalar, Text}
+use Rattle.projection_patch.specs.declared.patch.ProjectionPatchValue.the-variants.{Quad, SignedScalar, UnsignedScalar, Text, Score}
 use Rattle.projection_patch.specs.declared.patch.ProjectionPatchOperation.{ProjectionPatchOperation}
 use Rattle.projection_patch.specs.declared.patch.ProjectionPatchOperation.the-variants.{SetBindingValue, SetNodeAvailability, CollectionInsert, CollectionUpdate, CollectionRemove, CollectionMove}
 use Rattle.patch_part_writer.specs.declared.extent.TextPlace.{TextPlace}
@@ -33,6 +33,7 @@ valueSize (Quad q) = 2
 valueSize (SignedScalar z) = 9
 valueSize (UnsignedScalar x) = 9
 valueSize (Text start len) = 5 + len
+valueSize (Score n) = 2
 
 abbrev pub operationSize : ProjectionPatchOperation → ℕ
 operationSize (SetBindingValue t v) = 13 + valueSize v
@@ -48,6 +49,7 @@ valueText (Quad q) = record { start = 0; len = 0 }
 valueText (SignedScalar z) = record { start = 0; len = 0 }
 valueText (UnsignedScalar x) = record { start = 0; len = 0 }
 valueText (Text start len) = record { start = start; len = len }
+valueText (Score n) = record { start = 0; len = 0 }
 
 abbrev pub operationText : ProjectionPatchOperation → TextPlace
 operationText (SetBindingValue t v) = valueText v

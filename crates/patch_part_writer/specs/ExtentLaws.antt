@@ -7,7 +7,7 @@ use lib.ListN.{length, take, drop, length-append, length-drop}
 use lib.Seq.{length-take-le}
 use Rattle.spec_lists.specs.BytesLaws.{length-littleEndian}
 use Rattle.spec_patch.specs.Sizes.{textBytes}
-use Rattle.spec_patch.specs.Edition.{v1}
+use Rattle.spec_patch.specs.Edition.{Edition, letters}
 use Rattle.spec_patch.specs.Encode.{u32, encodeOptional, encodeText, kindOf, valueBody, encodeValue, encodeOperation, encodeEnvelope, heading}
 use Rattle.projection_patch.specs.Meaning.{beforeOf, surfaceOf, valueOf, operationOf, envelopeOf}
 use Rattle.projection_patch.specs.declared.patch.OptionalSurfaceId.{OptionalSurfaceId}
@@ -16,7 +16,7 @@ use Rattle.projection_patch.specs.declared.patch.OptionalKey.{OptionalKey}
 use Rattle.projection_patch.specs.declared.patch.OptionalKey.the-variants as key
 use Rattle.projection_patch.specs.declared.patch.ProjectionPatch.{ProjectionPatch}
 use Rattle.projection_patch.specs.declared.patch.ProjectionPatchValue.{ProjectionPatchValue}
-use Rattle.projection_patch.specs.declared.patch.ProjectionPatchValue.the-variants.{Quad, SignedScalar, UnsignedScalar, Text}
+use Rattle.projection_patch.specs.declared.patch.ProjectionPatchValue.the-variants.{Quad, SignedScalar, UnsignedScalar, Text, Score}
 use Rattle.projection_patch.specs.declared.patch.ProjectionPatchOperation.{ProjectionPatchOperation}
 use Rattle.projection_patch.specs.declared.patch.ProjectionPatchOperation.the-variants.{SetBindingValue, SetNodeAvailability, CollectionInsert, CollectionUpdate, CollectionRemove, CollectionMove}
 use Rattle.patch_part_writer.specs.Extent.{beforeSize, surfaceSize, headSize, valueSize, operationSize, valueText, operationText}
@@ -31,9 +31,9 @@ unfolding encodeOptional
 length-surface surface.None = refl
 length-surface (surface.Some s) = simp length-littleEndian
 
-pub length-heading : (count : ℕ) → length (heading v1 ++ u32 count) ≡ 35
-unfolding heading v1
-length-heading count = simp (length-append, length-littleEndian)
+pub length-heading : (ed : Edition) (count : ℕ) → length (heading ed ++ u32 count) ≡ 35
+unfolding heading letters
+length-heading ed count = simp (length-append, length-littleEndian)
 
 pub length-head : (p : ProjectionPatch) → length (encodeEnvelope (envelopeOf (p .envelope)) ++ u32 (p .«operation_count»)) ≡ headSize p
 unfolding encodeEnvelope
@@ -51,6 +51,7 @@ length-value texts (UnsignedScalar x) inside = simp length-littleEndian
 length-value texts (Text start len) inside =
     let t = take len (drop start texts) in
     omega (arith, length-append (u32 (length t)) t, length-littleEndian 4 (length t), length-text texts start len inside)
+length-value texts (Score n) inside = refl
 
 pub length-operation : (texts : List ℕ) (o : ProjectionPatchOperation) → operationText o .start + operationText o .len ≤ length texts → length (encodeOperation (operationOf texts o)) ≡ operationSize o
 unfolding encodeOperation
@@ -75,6 +76,7 @@ value-small (Quad q) short = omega arith
 value-small (SignedScalar z) short = omega arith
 value-small (UnsignedScalar x) short = omega arith
 value-small (Text start len) short = omega arith
+value-small (Score n) short = omega arith
 
 pub operation-small : (o : ProjectionPatchOperation) → operationText o .len ≤ textBytes → operationSize o ≤ 31 + textBytes
 operation-small (SetBindingValue t v) short = omega (arith, value-small v short)

@@ -29,6 +29,7 @@ fn value_text(value: ProjectionPatchValue) -> TextPlace
         ProjectionPatchValue::SignedScalar(_) => NO_TEXT,
         ProjectionPatchValue::UnsignedScalar(_) => NO_TEXT,
         ProjectionPatchValue::Text { start, len } => TextPlace { start, len },
+        ProjectionPatchValue::Score(_) => NO_TEXT,
     }
 }
 
@@ -83,6 +84,7 @@ fn value_size(value: ProjectionPatchValue) -> usize
         ProjectionPatchValue::SignedScalar(_) => 9,
         ProjectionPatchValue::UnsignedScalar(_) => 9,
         ProjectionPatchValue::Text { start: _, len } => 5 + len,
+        ProjectionPatchValue::Score(_) => 2,
     }
 }
 

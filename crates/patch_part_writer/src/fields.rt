@@ -104,5 +104,6 @@ pub fn store_value(out: &mut [u8], at: usize, value: ProjectionPatchValue, texts
         ProjectionPatchValue::SignedScalar(z) => store_signed(out, at, 2, z),
         ProjectionPatchValue::UnsignedScalar(x) => store_tagged(out, at, 4, x),
         ProjectionPatchValue::Text { start, len } => store_text(out, at, texts, start, len),
+        ProjectionPatchValue::Score(score) => store_two(out, at, 5, score),
     }
 }

@@ -4,24 +4,39 @@ ghost use mathlib.Core.List.{_++_};
 ghost use Prim.Native.Nat.{_+_, _≤_};
 ghost use lib.ListN.{length};
 ghost use Rattle.spec_patch.specs.Sizes.{setPatches, patchOperations};
-ghost use Rattle.spec_patch.specs.Edition.{v1};
+ghost use Rattle.spec_patch.specs.Edition.{digit};
 ghost use Rattle.spec_patch.specs.Encode.{u32, u64, encodeOptional, encodeEnvelope, heading};
 ghost use Rattle.bytes_wire.specs.Write.{overwrite};
-ghost use Rattle.projection_patch.specs.Meaning.{surfaceOf, envelopeOf};
+ghost use Rattle.projection_patch.specs.Meaning.{editionOf, surfaceOf, envelopeOf};
 ghost use Rattle.patch_part_writer.specs.Extent.{surfaceSize, headSize};
 use crate::extent::surface_size;
 use crate::fields::store_tagged;
 use projection_patch::patch::OptionalSurfaceId;
 use projection_patch::patch::ProjectionPatch;
+use projection_patch::patch::ProjectionPatchEdition;
 use projection_patch::patch::ProjectionPatchEnvelope;
 
+// Where the edition's digit stands in a set.
+pub const DIGIT_AT: usize = 30;
+
+// The last letter of the heading.
+pub fn edition_digit(edition: ProjectionPatchEdition) -> u8
+    ensures { λ r. ⌜ r ≡ digit (editionOf edition) ⌝ }
+{
+    match edition {
+        ProjectionPatchEdition::V1 => 49,
+        ProjectionPatchEdition::V2 => 50,
+    }
+}
+
 // The heading and the patch count.
-pub fn store_heading(out: &mut [u8], at: usize, patch_count: usize)
+pub fn store_heading(out: &mut [u8], at: usize, patch_count: usize, edition: ProjectionPatchEdition)
     requires { ⌜ (at + 35 ≤ length (now out)) × («patch_count» ≤ setPatches) ⌝ }
-    ensures { λ _. ⌜ now (out .exit) ≡ overwrite (now (out .entry)) at (heading v1 ++ u32 «patch_count») ⌝ }
+    ensures { λ _. ⌜ now (out .exit) ≡ overwrite (now (out .entry)) at (heading (editionOf edition) ++ u32 «patch_count») ⌝ }
 {
     bytes_wire::write_u32_at(out, at, 27);
-    bytes_wire::write_bytes_at(out, at + 4, b"UI_DNA2_PROJECTION_PATCH_V1");
+    bytes_wire::write_bytes_at(out, at + 4, b"UI_DNA2_PROJECTION_PATCH_V");
+    bytes_wire::write_u8_at(out, at + DIGIT_AT, edition_digit(edition));
     bytes_wire::write_u32_at(out, at + 31, patch_count as u32);
 }
 

@@ -11,7 +11,7 @@ use Rattle.projection_patch.specs.declared.patch.ProjectionPatch.{ProjectionPat
 use Rattle.projection_patch.specs.declared.patch.OperationPlace.{OperationPlace}
 use Rattle.projection_patch.specs.declared.patch.ProjectionPatchSet.{ProjectionPatchSet}
 use Rattle.projection_patch.specs.declared.patch.ProjectionPatchValue.{ProjectionPatchValue}
-use Rattle.projection_patch.specs.declared.patch.ProjectionPatchValue.the-variants.{Quad, SignedScalar, UnsignedScalar, Text}
+use Rattle.projection_patch.specs.declared.patch.ProjectionPatchValue.the-variants.{Quad, SignedScalar, UnsignedScalar, Text, Score}
 use Rattle.projection_patch.specs.declared.patch.ProjectionPatchOperation.{ProjectionPatchOperation}
 use Rattle.projection_patch.specs.declared.patch.ProjectionPatchOperation.the-variants.{SetBindingValue, SetNodeAvailability, CollectionInsert, CollectionUpdate, CollectionRemove, CollectionMove}
 use Rattle.patch_writer.specs.Set.{setPlaces}
@@ -22,6 +22,7 @@ shiftValue at (Quad q) = Quad q
 shiftValue at (SignedScalar z) = SignedScalar z
 shiftValue at (UnsignedScalar x) = UnsignedScalar x
 shiftValue at (Text start len) = Text (at + start) len
+shiftValue at (Score n) = Score n
 
 abbrev pub shift : ℕ → ProjectionPatchOperation → ProjectionPatchOperation
 shift at (SetBindingValue t v) = SetBindingValue t (shiftValue at v)

@@ -13,7 +13,7 @@ use Rattle.spec_lists.specs.ListLaws.{map-take, map-drop}
 use Rattle.spec_lists.specs.Bytes.{Bytes}
 use Rattle.spec_patch.specs.Sizes.{setPatches, patchOperations}
 use Rattle.spec_patch.specs.Patch as model
-use Rattle.spec_patch.specs.Edition.{v1}
+use Rattle.spec_patch.specs.Edition.{Edition}
 use Rattle.spec_patch.specs.Encode.{u32, heading, encodeOperation, encodePatch, encodeCounted, encode}
 use Rattle.spec_patch.specs.Fits.{FitsPatch, Fits}
 use Rattle.spec_patch.specs.Read.{patches, readSet}
@@ -26,7 +26,7 @@ use Rattle.projection_patch.specs.declared.patch.OperationPlace.{OperationPlace
 use Rattle.projection_patch.specs.declared.patch.OptionalSurfaceId.{OptionalSurfaceId}
 use Rattle.projection_patch.specs.declared.patch.OptionalSurfaceId.the-variants as surface
 use Rattle.projection_patch.specs.declared.patch.ProjectionPatchValue.{ProjectionPatchValue}
-use Rattle.projection_patch.specs.declared.patch.ProjectionPatchValue.the-variants.{Quad, SignedScalar, UnsignedScalar, Text}
+use Rattle.projection_patch.specs.declared.patch.ProjectionPatchValue.the-variants.{Quad, SignedScalar, UnsignedScalar, Text, Score}
 use Rattle.projection_patch.specs.declared.patch.ProjectionPatchOperation.{ProjectionPatchOperation}
 use Rattle.projection_patch.specs.declared.patch.ProjectionPatchOperation.the-variants.{SetBindingValue, SetNodeAvailability, CollectionInsert, CollectionUpdate, CollectionRemove, CollectionMove}
 use Rattle.patch_part_writer.specs.Extent.{surfaceSize, operationSize, valueText, operationText}
@@ -44,6 +44,7 @@ value-shifted before l (SignedScalar z) = refl
 value-shifted before l (UnsignedScalar x) = refl
 value-shifted before l (Text start len) =
     ap (λ (t : List ℕ). model.text (take len t)) (sym (drop-drop start (length before) (before ++ l)) ∙ ap (drop start) (drop-at before l (length before) refl))
+value-shifted before l (Score n) = refl
 
 shifted : (before l : List ℕ) (o : ProjectionPatchOperation) → operationOf (before ++ l) (shift (length before) o) ≡ operationOf l o
 shifted before l (SetBindingValue t v) = ap (model.setBinding (t .node .0) (t .slot .0)) (value-shifted before l v)
@@ -71,6 +72,7 @@ value-inside at size n (model.quad q) h k = omega arith
 value-inside at size n (model.signed z) h k = omega arith
 value-inside at size n (model.text t) h k = omega arith
 value-inside at size n (model.unsigned x) h k = omega arith
+value-inside at size n (model.score x) h k = omega arith
 
 operation-inside : (at size n : ℕ) (o : model.Operation) → length (textOf o) ≤ size → at + size ≤ n
     → operationText (shift at (operationTo size o)) .start + operationText (shift at (operationTo size o)) .len ≤ n
@@ -115,14 +117,14 @@ unfolding operationTotal flatMap
 total [] = refl
 total (p ∷ ps) = ap (λ (n : ℕ). length (p .operations) + n) (total ps) ∙ sym (length-append (p .operations) (operationsOf ps))
 
-few-heads : (ps : List model.Patch) → All (FitsPatch v1) ps → all fewOperations (map headTo ps) ≡ true
-few-heads [] h = refl
-few-heads (p ∷ ps) h = ap₂ (λ (a b : Bool). a && b) (le-leb (length (p .operations)) patchOperations (h .0 .few)) (few-heads ps (h .1))
+few-heads : (ed : Edition) (ps : List model.Patch) → All (FitsPatch ed) ps → all fewOperations (map headTo ps) ≡ true
+few-heads ed [] h = refl
+few-heads ed (p ∷ ps) h = ap₂ (λ (a b : Bool). a && b) (le-leb (length (p .operations)) patchOperations (h .0 .few)) (few-heads ed ps (h .1))
 
-few-operations : (ps : List model.Patch) → All (FitsPatch v1) ps → length (operationsOf ps) ≤ 128 * length ps
+few-operations : (ed : Edition) (ps : List model.Patch) → All (FitsPatch ed) ps → length (operationsOf ps) ≤ 128 * length ps
 unfolding flatMap
-few-operations [] h = omega arith
-few-operations (p ∷ ps) h = omega (arith, length-append (p .operations) (operationsOf ps), few-operations ps (h .1), h .0 .few)
+few-operations ed [] h = omega arith
+few-operations ed (p ∷ ps) h = omega (arith, length-append (p .operations) (operationsOf ps), few-operations ed ps (h .1), h .0 .few)
 
 -- ---- the list
 
@@ -163,7 +165,7 @@ operation-sizes (p ∷ ps) = omega (arith, at-least-ten (p .operation), operatio
     at-least-ten (CollectionRemove c k) = omega arith
     at-least-ten (CollectionMove c k b) = omega arith
 
-module _ (ps : List model.Patch) (fits : Fits v1 ps) where
+module _ (ed : Edition) (ps : List model.Patch) (fits : Fits ed ps) where
   stand : map (operationAt (textsFor ps)) (placesFor ps) ≡ operationsOf ps
   stand = places-back [] (operationsOf ps)
 
@@ -182,12 +184,12 @@ module _ (ps : List model.Patch) (fits : Fits v1 ps) where
       ∙ size-list (textsFor ps) (map headTo ps) (placesFor ps) (omega (arith, total-places)) (ap (all (insideAt (textsFor ps))) whole ∙ inside)
       ∙ ap (λ (l : List OperationPlace). headSizes (map headTo ps) + operationSizes l) whole
 
-  long : length (encode v1 ps) ≡ 35 + length (flatMap encodePatch ps)
+  long : length (encode ed ps) ≡ 35 + length (flatMap encodePatch ps)
   unfolding encode encodeCounted
   long =
-      ap length (sym (append-assoc (heading v1) (u32 (length ps)) (flatMap encodePatch ps)))
-      ∙ length-append (heading v1 ++ u32 (length ps)) (flatMap encodePatch ps)
-      ∙ ap (λ (n : ℕ). n + length (flatMap encodePatch ps)) (length-heading (length ps))
+      ap length (sym (append-assoc (heading ed) (u32 (length ps)) (flatMap encodePatch ps)))
+      ∙ length-append (heading ed ++ u32 (length ps)) (flatMap encodePatch ps)
+      ∙ ap (λ (n : ℕ). n + length (flatMap encodePatch ps)) (length-heading ed (length ps))
 
   -- no list that fits has more operations than there are places
   pub enough-places : length (operationsOf ps) ≤ setPlaces
@@ -201,7 +203,7 @@ module _ (ps : List model.Patch) (fits : Fits v1 ps) where
         length-map ps headTo,
         operation-sizes (placesFor ps),
         length-places 0 (operationsOf ps),
-        few-operations ps (fits .patches),
+        few-operations ed ps (fits .patches),
       )
 
   arrays : Arrays (setFor ps)
@@ -227,7 +229,7 @@ module _ (ps : List model.Patch) (fits : Fits v1 ps) where
       rw (
         le-leb (length ps) setPatches (fits .few),
         heads-are,
-        few-heads ps (fits .patches),
+        few-heads ed ps (fits .patches),
         le-leb (operationTotal (map headTo ps)) setPlaces (omega (arith, total ps, enough-places)),
       )
 
@@ -240,7 +242,7 @@ module _ (ps : List model.Patch) (fits : Fits v1 ps) where
       ∙ list-back (textsFor ps) ps (placesFor ps ++ sparePlaces ps) (map f (sparePlaces ps)) (map-append f (placesFor ps) (sparePlaces ps) ∙ ap (λ (os : List model.Operation). os ++ map f (sparePlaces ps)) stand)
 
 -- whatever is read is written back byte for byte, from the set for it
-pub read-then-written : (bs : List ℕ) → Bytes bs → (ps : List model.Patch) → readSet v1 bs ≡ patches ps → patchSetBytes (textsFor ps) (setFor ps) ≡ wrote bs
-read-then-written bs all-bytes ps e =
-    let fits = was-encoded v1 bs ps all-bytes e .1 in
-    written-back (textsFor ps) (setFor ps) (arrays ps fits) (counts ps fits) (ap (all (insideAt (textsFor ps))) (used-are ps fits) ∙ inside ps fits) bs all-bytes (e ∙ ap patches (sym (list-is ps fits)))
+pub read-then-written : (ed : Edition) (bs : List ℕ) → Bytes bs → (ps : List model.Patch) → readSet ed bs ≡ patches ps → patchSetBytes ed (textsFor ps) (setFor ps) ≡ wrote bs
+read-then-written ed bs all-bytes ps e =
+    let fits = was-encoded ed bs ps all-bytes e .1 in
+    written-back (textsFor ps) (setFor ps) (arrays ed ps fits) (counts ed ps fits) ed (ap (all (insideAt (textsFor ps))) (used-are ed ps fits) ∙ inside ed ps fits) bs all-bytes (e ∙ ap patches (sym (list-is ed ps fits)))

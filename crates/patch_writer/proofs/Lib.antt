@@ -4,3 +4,4 @@ mod Surveyed
 mod Verdict
 mod Progress
 mod Turns
+mod Judged

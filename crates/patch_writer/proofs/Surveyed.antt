@@ -8,6 +8,7 @@ use borrow.Author.Tests.{le-leb, lt-leb}
 use lib.ListN.{drop}
 use Rattle.spec_lists.specs.Lists.{all}
 use Rattle.spec_patch.specs.Sizes.{patchOperations, textBytes}
+use Rattle.spec_patch.specs.Edition.{Edition}
 use Rattle.projection_patch.specs.declared.patch.ProjectionPatch.{ProjectionPatch}
 use Rattle.projection_patch.specs.declared.patch.OperationPlace.{OperationPlace}
 use Rattle.projection_patch.specs.declared.text_rule.TextJudgement.{TextJudgement}
@@ -17,8 +18,8 @@ use Rattle.patch_writer.specs.declared.survey.HeadSurvey.the-variants as
 use Rattle.patch_writer.specs.declared.survey.OperationSurvey.the-variants as ofOperations
 use Rattle.patch_part_writer.specs.Extent.{headSize, operationSize, operationText}
 use Rattle.patch_part_writer.specs.ExtentLaws.{surface-small, operation-small}
-use Rattle.patch_writer.specs.Set.{operationTotal, headSizes, operationSizes, fewOperations, shortAt, textAllowed, allowedAt, textFew, fewAt}
-use Rattle.patch_writer.specs.Survey.{headSurvey, judgedText, judgedTexts, worse, operationSurvey}
+use Rattle.patch_writer.specs.Set.{operationTotal, headSizes, operationSizes, fewOperations, shortAt, allowedAt, fewAt}
+use Rattle.patch_writer.specs.Survey.{headSurvey, judgedOperation, judgedValues, worse, operationSurvey}
 
 and-false : (a b : Bool) → a ≡ false → (a && b) ≡ false
 and-false true b e = absurd (let z : _≡_ {A = ℕ} 0 1 = cc in omega arith)
@@ -95,46 +96,46 @@ worse-judged true false true false = refl
 worse-judged true false false d = refl
 worse-judged false b c d = refl
 
-judged-first : (texts : List ℕ) (x : OperationPlace) (ps : List OperationPlace)
-    → worse (judgedText texts (operationText (x .operation))) (judgedTexts texts ps) ≡ judgedTexts texts (x ∷ ps)
-unfolding judgedText
-judged-first texts x ps = worse-judged (allowedAt texts x) (fewAt texts x) (all (allowedAt texts) ps) (all (fewAt texts) ps)
+judged-first : (ed : Edition) (texts : List ℕ) (x : OperationPlace) (ps : List OperationPlace)
+    → worse (judgedOperation ed texts (x .operation)) (judgedValues ed texts ps) ≡ judgedValues ed texts (x ∷ ps)
+unfolding judgedOperation
+judged-first ed texts x ps = worse-judged (allowedAt ed texts x) (fewAt texts x) (all (allowedAt ed texts) ps) (all (fewAt texts) ps)
 
-pub record OperationsSeen (texts : List ℕ) (ps : List OperationPlace) (bytes : ℕ) (judgement : TextJudgement) (i : ℕ) : Type 0 where
+pub record OperationsSeen (ed : Edition) (texts : List ℕ) (ps : List OperationPlace) (bytes : ℕ) (judgement : TextJudgement) (i : ℕ) : Type 0 where
   pub sized : bytes + operationSizes (drop i ps) ≡ operationSizes ps
   pub tested : all shortAt (drop i ps) ≡ all shortAt ps
-  pub together : worse judgement (judgedTexts texts (drop i ps)) ≡ judgedTexts texts ps
+  pub together : worse judgement (judgedValues ed texts (drop i ps)) ≡ judgedValues ed texts ps
   pub small : bytes ≤ (31 + textBytes) * i
 
-pub operations-start : (texts : List ℕ) (ps : List OperationPlace) → OperationsSeen texts ps 0 Fits 0
-operations-start texts ps = record { sized = omega arith; tested = refl; together = refl; small = omega arith }
+pub operations-start : (ed : Edition) (texts : List ℕ) (ps : List OperationPlace) → OperationsSeen ed texts ps 0 Fits 0
+operations-start ed texts ps = record { sized = omega arith; tested = refl; together = refl; small = omega arith }
 
-module _ {texts : List ℕ} {ps : List OperationPlace} {bytes : ℕ} {judgement : TextJudgement} {i : ℕ} (seen : OperationsSeen texts ps bytes judgement i) where
+module _ {ed : Edition} {texts : List ℕ} {ps : List OperationPlace} {bytes : ℕ} {judgement : TextJudgement} {i : ℕ} (seen : OperationsSeen ed texts ps bytes judgement i) where
   module _ (x : OperationPlace) (rest : drop i ps ≡ x ∷ drop (i + 1) ps) where
-    pub operations-next : operationText (x .operation) .len ≤ textBytes → OperationsSeen texts ps (bytes + operationSize (x .operation)) (worse judgement (judgedText texts (operationText (x .operation)))) (i + 1)
+    pub operations-next : operationText (x .operation) .len ≤ textBytes → OperationsSeen ed texts ps (bytes + operationSize (x .operation)) (worse judgement (judgedOperation ed texts (x .operation))) (i + 1)
     unfolding operationSizes
     operations-next short = record {
       sized = omega (arith, seen .sized, ap operationSizes rest);
       tested = sym (ap (all shortAt) rest ∙ and-true (shortAt x) (all shortAt (drop (i + 1) ps)) (le-leb (operationText (x .operation) .len) textBytes short)) ∙ seen .tested;
       together =
-          worse-assoc judgement (judgedText texts (operationText (x .operation))) (judgedTexts texts (drop (i + 1) ps))
-          ∙ ap (worse judgement) (judged-first texts x (drop (i + 1) ps))
-          ∙ sym (ap (λ (l : List OperationPlace). worse judgement (judgedTexts texts l)) rest)
+          worse-assoc judgement (judgedOperation ed texts (x .operation)) (judgedValues ed texts (drop (i + 1) ps))
+          ∙ ap (worse judgement) (judged-first ed texts x (drop (i + 1) ps))
+          ∙ sym (ap (λ (l : List OperationPlace). worse judgement (judgedValues ed texts l)) rest)
           ∙ seen .together;
       small = omega (arith, seen .small, operation-small (x .operation) short);
     }
 
-    pub operations-over : textBytes < operationText (x .operation) .len → operationSurvey texts ps ≡ ofOperations.OverCapacity
+    pub operations-over : textBytes < operationText (x .operation) .len → operationSurvey ed texts ps ≡ ofOperations.OverCapacity
     unfolding operationSurvey
     operations-over over =
         let no : all shortAt ps ≡ false =
         sym (seen .tested) ∙ ap (all shortAt) rest ∙ and-false (shortAt x) (all shortAt (drop (i + 1) ps)) (lt-leb (operationText (x .operation) .len) textBytes over) in
         rw no
 
-  pub operations-end : drop i ps ≡ [] → operationSurvey texts ps ≡ ofOperations.Within bytes judgement
+  pub operations-end : drop i ps ≡ [] → operationSurvey ed texts ps ≡ ofOperations.Within bytes judgement
   unfolding operationSurvey operationSizes
   operations-end none =
       let size : operationSizes ps ≡ bytes = omega (arith, seen .sized, ap operationSizes none) in
       let every : all shortAt ps ≡ true = sym (seen .tested) ∙ ap (all shortAt) none in
-      let verdict : judgedTexts texts ps ≡ judgement = sym (seen .together) ∙ ap (λ (l : List OperationPlace). worse judgement (judgedTexts texts l)) none ∙ worse-fits judgement in
+      let verdict : judgedValues ed texts ps ≡ judgement = sym (seen .together) ∙ ap (λ (l : List OperationPlace). worse judgement (judgedValues ed texts l)) none ∙ worse-fits judgement in
       rw (every, size, verdict)

@@ -11,7 +11,7 @@ use lib.Seq.{length-take-le}
 use Rattle.spec_lists.specs.Lists.{if_then_else_, all}
 use Rattle.spec_lists.specs.ListLaws.{and-left, and-right}
 use Rattle.spec_patch.specs.Sizes.{setBytes, setPatches, textBytes}
-use Rattle.spec_patch.specs.Edition.{v1}
+use Rattle.spec_patch.specs.Edition.{Edition}
 use Rattle.spec_patch.specs.Encode.{encode}
 use Rattle.spec_patch.specs.Write as model
 use Rattle.projection_patch.specs.declared.patch.ProjectionPatch.{ProjectionPatch}
@@ -29,7 +29,7 @@ use Rattle.patch_part_writer.specs.Extent.{operationText}
 use Rattle.patch_part_writer.specs.ExtentLaws.{operation-small}
 use Rattle.patch_writer.specs.Set.{setPlaces, heads, listOf, used, operationTotal, headSizes, operationSizes, setSize, fewOperations, shortAt, insideAt, allowedAt, fewAt, countsFit, capacitiesKept, patchSetBytes}
 use Rattle.patch_writer.specs.CallLaws.{Arrays, allowed-inside}
-use Rattle.patch_writer.specs.Survey.{headSurvey, judgedTexts, operationSurvey, byTexts, surveyed, setSurvey}
+use Rattle.patch_writer.specs.Survey.{headSurvey, judgedValues, operationSurvey, byValues, surveyed, setSurvey}
 use Rattle.patch_writer.proofs.Surveyed.{head-small}
 
 -- ---- what an answer says
@@ -55,24 +55,24 @@ heads-within hs operations bytes e = go (all fewOperations hs) refl e
     go true is e = record { few = is; counted = cc; sized = cc }
     go false is e = absurd (let z : _≡_ {A = ℕ} 0 1 = cc in omega arith)
 
-pub operations-refused : (texts : List ℕ) (ps : List OperationPlace) → operationSurvey texts ps ≡ ofOperations.OverCapacity → all shortAt ps ≡ false
+pub operations-refused : (ed : Edition) (texts : List ℕ) (ps : List OperationPlace) → operationSurvey ed texts ps ≡ ofOperations.OverCapacity → all shortAt ps ≡ false
 unfolding operationSurvey
-operations-refused texts ps e = go (all shortAt ps) e
+operations-refused ed texts ps e = go (all shortAt ps) e
   where
-    go : (t : Bool) → (if t then ofOperations.Within (operationSizes ps) (judgedTexts texts ps) else ofOperations.OverCapacity) ≡ ofOperations.OverCapacity → t ≡ false
+    go : (t : Bool) → (if t then ofOperations.Within (operationSizes ps) (judgedValues ed texts ps) else ofOperations.OverCapacity) ≡ ofOperations.OverCapacity → t ≡ false
     go true e = absurd (let z : _≡_ {A = ℕ} 0 1 = cc in omega arith)
     go false e = refl
 
-pub record OperationsWithin (texts : List ℕ) (ps : List OperationPlace) (bytes : ℕ) (judgement : TextJudgement) : Type 0 where
+pub record OperationsWithin (ed : Edition) (texts : List ℕ) (ps : List OperationPlace) (bytes : ℕ) (judgement : TextJudgement) : Type 0 where
   pub short : all shortAt ps ≡ true
   pub sized : bytes ≡ operationSizes ps
-  pub verdict : judgement ≡ judgedTexts texts ps
+  pub verdict : judgement ≡ judgedValues ed texts ps
 
-pub operations-within : (texts : List ℕ) (ps : List OperationPlace) (bytes : ℕ) (judgement : TextJudgement) → operationSurvey texts ps ≡ ofOperations.Within bytes judgement → OperationsWithin texts ps bytes judgement
+pub operations-within : (ed : Edition) (texts : List ℕ) (ps : List OperationPlace) (bytes : ℕ) (judgement : TextJudgement) → operationSurvey ed texts ps ≡ ofOperations.Within bytes judgement → OperationsWithin ed texts ps bytes judgement
 unfolding operationSurvey
-operations-within texts ps bytes judgement e = go (all shortAt ps) refl e
+operations-within ed texts ps bytes judgement e = go (all shortAt ps) refl e
   where
-    go : (t : Bool) → all shortAt ps ≡ t → (if t then ofOperations.Within (operationSizes ps) (judgedTexts texts ps) else ofOperations.OverCapacity) ≡ ofOperations.Within bytes judgement → OperationsWithin texts ps bytes judgement
+    go : (t : Bool) → all shortAt ps ≡ t → (if t then ofOperations.Within (operationSizes ps) (judgedValues ed texts ps) else ofOperations.OverCapacity) ≡ ofOperations.Within bytes judgement → OperationsWithin ed texts ps bytes judgement
     go true is e = record { short = is; sized = cc; verdict = cc }
     go false is e = absurd (let z : _≡_ {A = ℕ} 0 1 = cc in omega arith)
 
@@ -99,39 +99,39 @@ and-no : (a b : Bool) → b ≡ false → (a && b) ≡ false
 and-no true b e = e
 and-no false b e = refl
 
-module _ (texts : List ℕ) (set : ProjectionPatchSet) where
+module _ (ed : Edition) (texts : List ℕ) (set : ProjectionPatchSet) where
   -- any capacity that is passed
-  over : capacitiesKept set ≡ false → setSurvey texts set ≡ ofSet.Refused refusal.OverCapacity
+  over : capacitiesKept set ≡ false → setSurvey ed texts set ≡ ofSet.Refused refusal.OverCapacity
   unfolding setSurvey
   over e = rw e
 
-  no-counts : countsFit set ≡ false → setSurvey texts set ≡ ofSet.Refused refusal.OverCapacity
+  no-counts : countsFit set ≡ false → setSurvey ed texts set ≡ ofSet.Refused refusal.OverCapacity
   unfolding capacitiesKept
   no-counts e = over (ap (λ (t : Bool). t && (all shortAt (used set) && leb (setSize set) setBytes)) e)
 
-  pub many-patches : setPatches < set .«patch_count» → setSurvey texts set ≡ ofSet.Refused refusal.OverCapacity
+  pub many-patches : setPatches < set .«patch_count» → setSurvey ed texts set ≡ ofSet.Refused refusal.OverCapacity
   unfolding countsFit
   many-patches h = no-counts (rw (lt-leb (set .«patch_count») setPatches h))
 
-  pub many-operations : all fewOperations (heads set) ≡ false → setSurvey texts set ≡ ofSet.Refused refusal.OverCapacity
+  pub many-operations : all fewOperations (heads set) ≡ false → setSurvey ed texts set ≡ ofSet.Refused refusal.OverCapacity
   unfolding countsFit
   many-operations e = no-counts (and-no (leb (set .«patch_count») setPatches) _ (ap (λ (t : Bool). t && leb (operationTotal (heads set)) setPlaces) e))
 
-  pub many-places : (operations : ℕ) → operations ≡ operationTotal (heads set) → setPlaces < operations → setSurvey texts set ≡ ofSet.Refused refusal.OverCapacity
+  pub many-places : (operations : ℕ) → operations ≡ operationTotal (heads set) → setPlaces < operations → setSurvey ed texts set ≡ ofSet.Refused refusal.OverCapacity
   unfolding countsFit
   many-places operations e h =
       no-counts (and-no (leb (set .«patch_count») setPatches) _ (and-no (all fewOperations (heads set)) _ (lt-leb (operationTotal (heads set)) setPlaces (omega (arith, e)))))
 
-  pub long-text : (operations : ℕ) → operations ≡ operationTotal (heads set) → all shortAt (take operations (set .operations)) ≡ false → setSurvey texts set ≡ ofSet.Refused refusal.OverCapacity
+  pub long-text : (operations : ℕ) → operations ≡ operationTotal (heads set) → all shortAt (take operations (set .operations)) ≡ false → setSurvey ed texts set ≡ ofSet.Refused refusal.OverCapacity
   unfolding capacitiesKept
   long-text operations e none =
       let no : all shortAt (used set) ≡ false = ap (λ (n : ℕ). all shortAt (take n (set .operations))) (sym e) ∙ none in
       over (and-no (countsFit set) _ (ap (λ (t : Bool). t && leb (setSize set) setBytes) no))
 
   -- the counts fit and the texts are short
-  module _ (operations bytes rest : ℕ) (judgement : TextJudgement) (few : set .«patch_count» ≤ setPatches) (enough : operations ≤ setPlaces) (hw : HeadsWithin (heads set) operations bytes) (ow : OperationsWithin texts (take operations (set .operations)) rest judgement) where
+  module _ (operations bytes rest : ℕ) (judgement : TextJudgement) (few : set .«patch_count» ≤ setPatches) (enough : operations ≤ setPlaces) (hw : HeadsWithin (heads set) operations bytes) (ow : OperationsWithin ed texts (take operations (set .operations)) rest judgement) where
     -- the bytes and the texts decide
-    pub both-passed : surveyed operations (35 + (bytes + rest)) judgement ≡ setSurvey texts set
+    pub both-passed : surveyed operations (35 + (bytes + rest)) judgement ≡ setSurvey ed texts set
     unfolding surveyed setSurvey capacitiesKept countsFit setSize
     both-passed =
         let same : take operations (set .operations) ≡ used set = ap (λ (n : ℕ). take n (set .operations)) (hw .counted) in
@@ -139,7 +139,7 @@ module _ (texts : List ℕ) (set : ProjectionPatchSet) where
         let two : leb (operationTotal (heads set)) setPlaces ≡ true = le-leb (operationTotal (heads set)) setPlaces (omega (arith, hw .counted)) in
         let three : all shortAt (used set) ≡ true = ap (all shortAt) (sym same) ∙ ow .short in
         let size : rest ≡ operationSizes (used set) = ow .sized ∙ ap operationSizes same in
-        let verdict : judgement ≡ judgedTexts texts (used set) = ow .verdict ∙ ap (judgedTexts texts) same in
+        let verdict : judgement ≡ judgedValues ed texts (used set) = ow .verdict ∙ ap (judgedValues ed texts) same in
         rw (one, hw .few, two, three, hw .counted, hw .sized, size, verdict)
 
     -- the bytes are few
@@ -159,15 +159,15 @@ module _ (texts : List ℕ) (set : ProjectionPatchSet) where
 
   -- ---- what the survey says of the writing
 
-  pub survey-refused : (r : WriteRefusal) → setSurvey texts set ≡ ofSet.Refused r → patchSetBytes texts set ≡ model.refused (refusalOf r)
+  pub survey-refused : (r : WriteRefusal) → setSurvey ed texts set ≡ ofSet.Refused r → patchSetBytes ed texts set ≡ model.refused (refusalOf r)
   unfolding setSurvey patchSetBytes
-  survey-refused r e = go (capacitiesKept set) (all (allowedAt texts) (used set)) (all (fewAt texts) (used set)) e
+  survey-refused r e = go (capacitiesKept set) (all (allowedAt ed texts) (used set)) (all (fewAt texts) (used set)) e
     where
       told : (w : WriteRefusal) → ofSet.Refused w ≡ ofSet.Refused r → model.refused (refusalOf w) ≡ model.refused (refusalOf r)
       told w e = let is : w ≡ r = cc in ap (λ (x : WriteRefusal). model.refused (refusalOf x)) is
 
-      go : (k a f : Bool) → (if k then byTexts (operationTotal (heads set)) (setSize set) (judged a f) else ofSet.Refused refusal.OverCapacity) ≡ ofSet.Refused r
-          → (if k then (if a then (if f then model.wrote (encode v1 (listOf texts set)) else model.refused model.overCapacity) else model.refused model.malformed) else model.refused model.overCapacity) ≡ model.refused (refusalOf r)
+      go : (k a f : Bool) → (if k then byValues (operationTotal (heads set)) (setSize set) (judged a f) else ofSet.Refused refusal.OverCapacity) ≡ ofSet.Refused r
+          → (if k then (if a then (if f then model.wrote (encode ed (listOf texts set)) else model.refused model.overCapacity) else model.refused model.malformed) else model.refused model.overCapacity) ≡ model.refused (refusalOf r)
       go true true true e = absurd (let z : _≡_ {A = ℕ} 0 1 = cc in omega arith)
       go true true false e = told refusal.OverCapacity e
       go true false f e = told refusal.Malformed e
@@ -179,19 +179,19 @@ module _ (texts : List ℕ) (set : ProjectionPatchSet) where
     pub inside : all (insideAt texts) (used set) ≡ true
     pub counted : operations ≡ operationTotal (heads set)
     pub sized : bytes ≡ setSize set
-    pub result : patchSetBytes texts set ≡ model.wrote (encode v1 (listOf texts set))
+    pub result : patchSetBytes ed texts set ≡ model.wrote (encode ed (listOf texts set))
 
-  pub survey-within : (operations bytes : ℕ) → setSurvey texts set ≡ ofSet.Within operations bytes → SurveyWithin operations bytes
+  pub survey-within : (operations bytes : ℕ) → setSurvey ed texts set ≡ ofSet.Within operations bytes → SurveyWithin operations bytes
   unfolding setSurvey patchSetBytes capacitiesKept
-  survey-within operations bytes e = go (capacitiesKept set) refl (all (allowedAt texts) (used set)) refl (all (fewAt texts) (used set)) refl e
+  survey-within operations bytes e = go (capacitiesKept set) refl (all (allowedAt ed texts) (used set)) refl (all (fewAt texts) (used set)) refl e
     where
-      go : (k : Bool) → capacitiesKept set ≡ k → (a : Bool) → all (allowedAt texts) (used set) ≡ a → (f : Bool) → all (fewAt texts) (used set) ≡ f
-          → (if k then byTexts (operationTotal (heads set)) (setSize set) (judged a f) else ofSet.Refused refusal.OverCapacity) ≡ ofSet.Within operations bytes
+      go : (k : Bool) → capacitiesKept set ≡ k → (a : Bool) → all (allowedAt ed texts) (used set) ≡ a → (f : Bool) → all (fewAt texts) (used set) ≡ f
+          → (if k then byValues (operationTotal (heads set)) (setSize set) (judged a f) else ofSet.Refused refusal.OverCapacity) ≡ ofSet.Within operations bytes
           → SurveyWithin operations bytes
       go true kept true allowed true few e = record {
         fit = and-left (countsFit set) _ kept;
         short = and-left (all shortAt (used set)) _ (and-right (countsFit set) _ kept);
-        inside = allowed-inside texts (used set) allowed;
+        inside = allowed-inside ed texts (used set) allowed;
         counted = cc;
         sized = cc;
         result = rw (kept, allowed, few);

@@ -14,7 +14,7 @@ use Rattle.spec_lists.specs.ListLaws.{and-left, and-right}
 use Rattle.spec_lists.specs.Bytes.{Bytes}
 use Rattle.spec_patch.specs.Sizes.{setPatches, patchOperations}
 use Rattle.spec_patch.specs.Patch as model
-use Rattle.spec_patch.specs.Edition.{v1}
+use Rattle.spec_patch.specs.Edition.{Edition}
 use Rattle.spec_patch.specs.Encode.{u32, heading, encodeCounted, encodePatch, encode}
 use Rattle.spec_patch.specs.Fits.{InRange, Fits}
 use Rattle.spec_patch.specs.Read.{patches, readSet}
@@ -30,7 +30,7 @@ use Rattle.patch_part_writer.specs.declared.written.Written.the-variants.{Wrote
 use Rattle.patch_part_writer.specs.declared.written.WriteRefusal.the-variants.{OutputTooShort}
 use Rattle.patch_part_writer.specs.Answer.{refusalTo, answerAt, outputAt, withRoom, answerOf, outputOf}
 use Rattle.patch_part_writer.specs.ExtentLaws.{length-heading}
-use Rattle.patch_writer.specs.Set.{setPlaces, heads, listOf, operationTotal, used, headSizes, operationSizes, setSize, fewOperations, countsFit, shortAt, insideAt, capacitiesKept, textAllowed, allowedAt, fewAt, patchSetBytes}
+use Rattle.patch_writer.specs.Set.{setPlaces, heads, listOf, operationTotal, used, headSizes, operationSizes, setSize, fewOperations, countsFit, shortAt, insideAt, capacitiesKept, allowedAt, fewAt, patchSetBytes}
 use Rattle.patch_writer.specs.RangeLaws.{Passed, passed-in-range}
 use Rattle.patch_writer.specs.SetLaws.{length-list, counts-list, values-list, size-list, place-short, place-allowed, place-few}
 
@@ -73,14 +73,13 @@ module _ (out : List ℕ) where
           overwrite-refused out 0 bs (length bs) refl (from-start (length bs) ∙ e)
           ∙ sym (ap (λ (t : Bool). outputOf out (if t then wrote bs else refused outputTooShort)) e)
 
--- an allowed text is within the texts
-pub allowed-inside : (texts : List ℕ) (ps : List OperationPlace) → all (allowedAt texts) ps ≡ true → all (insideAt texts) ps ≡ true
-unfolding textAllowed
-allowed-inside texts [] e = refl
-allowed-inside texts (p ∷ ps) e =
+-- an allowed value's text is within the texts
+pub allowed-inside : (ed : Edition) (texts : List ℕ) (ps : List OperationPlace) → all (allowedAt ed texts) ps ≡ true → all (insideAt texts) ps ≡ true
+allowed-inside ed texts [] e = refl
+allowed-inside ed texts (p ∷ ps) e =
     ap₂ (λ (a b : Bool). a && b)
-    (and-left (insideAt texts p) _ (and-left (allowedAt texts p) (all (allowedAt texts) ps) e))
-    (allowed-inside texts ps (and-right (allowedAt texts p) (all (allowedAt texts) ps) e))
+    (and-left (insideAt texts p) _ (and-left (allowedAt ed texts p) (all (allowedAt ed texts) ps) e))
+    (allowed-inside ed texts ps (and-right (allowedAt ed texts p) (all (allowedAt ed texts) ps) e))
 
 -- ---- a set whose counts fit
 
@@ -104,13 +103,6 @@ module _ (texts : List ℕ) (set : ProjectionPatchSet) (arrays : Arrays set) (fi
   many-patches : length (listOf texts set) ≡ set .«patch_count»
   many-patches = length-list texts (heads set) (set .operations) ∙ many-heads
 
-  -- the heading and the patch count, and the patches behind them
-  pub encode-parts : encode v1 (listOf texts set) ≡ (heading v1 ++ u32 (set .«patch_count»)) ++ flatMap encodePatch (listOf texts set)
-  unfolding encode encodeCounted
-  encode-parts =
-      ap (λ (n : ℕ). heading v1 ++ (u32 n ++ flatMap encodePatch (listOf texts set))) many-patches
-      ∙ sym (append-assoc (heading v1) (u32 (set .«patch_count»)) (flatMap encodePatch (listOf texts set)))
-
   module _ (inside : all (insideAt texts) (used set) ≡ true) where
     pub patches-size : length (flatMap encodePatch (listOf texts set)) ≡ headSizes (heads set) + operationSizes (used set)
     patches-size = size-list texts (heads set) (set .operations) enough-places inside
@@ -119,70 +111,79 @@ module _ (texts : List ℕ) (set : ProjectionPatchSet) (arrays : Arrays set) (fi
     unfolding setSize
     patches-fit = ap (λ (n : ℕ). 35 + n) patches-size
 
-    pub encode-size : length (encode v1 (listOf texts set)) ≡ setSize set
-    unfolding setSize
-    encode-size =
-        ap length encode-parts
-        ∙ length-append (heading v1 ++ u32 (set .«patch_count»)) (flatMap encodePatch (listOf texts set))
-        ∙ ap₂ (λ (a b : ℕ). a + b) (length-heading (set .«patch_count»)) patches-size
+  module _ (ed : Edition) where
+    -- the heading and the patch count, and the patches behind them
+    pub encode-parts : encode ed (listOf texts set) ≡ (heading ed ++ u32 (set .«patch_count»)) ++ flatMap encodePatch (listOf texts set)
+    unfolding encode encodeCounted
+    encode-parts =
+        ap (λ (n : ℕ). heading ed ++ (u32 n ++ flatMap encodePatch (listOf texts set))) many-patches
+        ∙ sym (append-assoc (heading ed) (u32 (set .«patch_count»)) (flatMap encodePatch (listOf texts set)))
 
-    capacities-agree : withinCapacities v1 (listOf texts set) ≡ capacitiesKept set
-    unfolding withinCapacities capacitiesKept
-    capacities-agree =
-        let one : leb (length (listOf texts set)) setPatches ≡ true = le-leb (length (listOf texts set)) setPatches (omega (arith, many-patches, few-patches)) in
-        let two : all (λ (p : model.Patch). leb (length (p .operations)) patchOperations) (listOf texts set) ≡ true = counts-list texts (heads set) (set .operations) enough-places ∙ few-operations in
-        let three : allValues shortEnough (listOf texts set) ≡ all shortAt (used set) = values-list texts shortEnough shortAt (place-short texts) (heads set) (set .operations) enough-places inside in
-        rw (one, two, three, encode-size, fit)
+    module _ (inside : all (insideAt texts) (used set) ≡ true) where
+      pub encode-size : length (encode ed (listOf texts set)) ≡ setSize set
+      unfolding setSize
+      encode-size =
+          ap length encode-parts
+          ∙ length-append (heading ed ++ u32 (set .«patch_count»)) (flatMap encodePatch (listOf texts set))
+          ∙ ap₂ (λ (a b : ℕ). a + b) (length-heading ed (set .«patch_count»)) (patches-size inside)
 
-    allowed-agree : allValues (wellFormed v1) (listOf texts set) ≡ all (allowedAt texts) (used set)
-    allowed-agree = values-list texts (wellFormed v1) (allowedAt texts) (place-allowed texts) (heads set) (set .operations) enough-places inside
+      capacities-agree : withinCapacities ed (listOf texts set) ≡ capacitiesKept set
+      unfolding withinCapacities capacitiesKept
+      capacities-agree =
+          let one : leb (length (listOf texts set)) setPatches ≡ true = le-leb (length (listOf texts set)) setPatches (omega (arith, many-patches, few-patches)) in
+          let two : all (λ (p : model.Patch). leb (length (p .operations)) patchOperations) (listOf texts set) ≡ true = counts-list texts (heads set) (set .operations) enough-places ∙ few-operations in
+          let three : allValues shortEnough (listOf texts set) ≡ all shortAt (used set) = values-list texts shortEnough shortAt (place-short texts) (heads set) (set .operations) enough-places inside in
+          rw (one, two, three, encode-size, fit)
 
-    few-agree : allValues fewEnough (listOf texts set) ≡ all (fewAt texts) (used set)
-    few-agree = values-list texts fewEnough (fewAt texts) (place-few texts) (heads set) (set .operations) enough-places inside
+      allowed-agree : allValues (wellFormed ed) (listOf texts set) ≡ all (allowedAt ed texts) (used set)
+      allowed-agree = values-list texts (wellFormed ed) (allowedAt ed texts) (place-allowed texts ed) (heads set) (set .operations) enough-places inside
 
-    -- the set is written as the list that it stands for
-    pub write-agrees : (room : ℕ) → write v1 (listOf texts set) room ≡ withRoom room (patchSetBytes texts set)
-    unfolding write patchSetBytes
-    write-agrees room = rw (capacities-agree, allowed-agree, few-agree) (go (capacitiesKept set) (all (allowedAt texts) (used set)) (all (fewAt texts) (used set)))
-      where
-        go : (k a f : Bool) → (if k then (if a then (if f then withRoom room (wrote (encode v1 (listOf texts set))) else refused overCapacity) else refused malformed) else refused overCapacity) ≡ withRoom room (if k then (if a then (if f then wrote (encode v1 (listOf texts set)) else refused overCapacity) else refused malformed) else refused overCapacity)
-        go true true true = refl
-        go true true false = refl
-        go true false f = refl
-        go false a f = refl
+      few-agree : allValues fewEnough (listOf texts set) ≡ all (fewAt texts) (used set)
+      few-agree = values-list texts fewEnough (fewAt texts) (place-few texts) (heads set) (set .operations) enough-places inside
 
-    -- a list that was read is written back byte for byte
-    pub written-back : (bs : List ℕ) → Bytes bs → readSet v1 bs ≡ patches (listOf texts set) → patchSetBytes texts set ≡ wrote bs
-    unfolding patchSetBytes
-    written-back bs all-bytes e =
-        let encoded = was-encoded v1 bs (listOf texts set) all-bytes e in
-        let kept : capacitiesKept set ≡ true = sym capacities-agree ∙ capacities-of-fits v1 (listOf texts set) (encoded .1) in
-        let allowed : all (allowedAt texts) (used set) ≡ true = sym allowed-agree ∙ well-formed-of-fits v1 (listOf texts set) (encoded .1) in
-        let few : all (fewAt texts) (used set) ≡ true = sym few-agree ∙ few-of-fits v1 (listOf texts set) (encoded .1) in
-        rw (kept, allowed, few) (ap wrote (sym (encoded .0)))
+      -- the set is written as the list that it stands for
+      pub write-agrees : (room : ℕ) → write ed (listOf texts set) room ≡ withRoom room (patchSetBytes ed texts set)
+      unfolding write patchSetBytes
+      write-agrees room = rw (capacities-agree, allowed-agree, few-agree) (go (capacitiesKept set) (all (allowedAt ed texts) (used set)) (all (fewAt texts) (used set)))
+        where
+          go : (k a f : Bool) → (if k then (if a then (if f then withRoom room (wrote (encode ed (listOf texts set))) else refused overCapacity) else refused malformed) else refused overCapacity) ≡ withRoom room (if k then (if a then (if f then wrote (encode ed (listOf texts set)) else refused overCapacity) else refused malformed) else refused overCapacity)
+          go true true true = refl
+          go true true false = refl
+          go true false f = refl
+          go false a f = refl
 
-    fits-list : InRange (listOf texts set) → capacitiesKept set ≡ true → all (allowedAt texts) (used set) ≡ true → all (fewAt texts) (used set) ≡ true → Fits v1 (listOf texts set)
-    fits-list range kept allowed few = fits-of-tests v1 (listOf texts set) range (capacities-agree ∙ kept) (allowed-agree ∙ allowed) (few-agree ∙ few)
+      -- a list that was read is written back byte for byte
+      pub written-back : (bs : List ℕ) → Bytes bs → readSet ed bs ≡ patches (listOf texts set) → patchSetBytes ed texts set ≡ wrote bs
+      unfolding patchSetBytes
+      written-back bs all-bytes e =
+          let encoded = was-encoded ed bs (listOf texts set) all-bytes e in
+          let kept : capacitiesKept set ≡ true = sym capacities-agree ∙ capacities-of-fits ed (listOf texts set) (encoded .1) in
+          let allowed : all (allowedAt ed texts) (used set) ≡ true = sym allowed-agree ∙ well-formed-of-fits ed (listOf texts set) (encoded .1) in
+          let few : all (fewAt texts) (used set) ≡ true = sym few-agree ∙ few-of-fits ed (listOf texts set) (encoded .1) in
+          rw (kept, allowed, few) (ap wrote (sym (encoded .0)))
+
+      fits-list : InRange (listOf texts set) → capacitiesKept set ≡ true → all (allowedAt ed texts) (used set) ≡ true → all (fewAt texts) (used set) ≡ true → Fits ed (listOf texts set)
+      fits-list range kept allowed few = fits-of-tests ed (listOf texts set) range (capacities-agree ∙ kept) (allowed-agree ∙ allowed) (few-agree ∙ few)
 
 -- ---- any set
 
-module _ (texts : List ℕ) (set : ProjectionPatchSet) where
+module _ (ed : Edition) (texts : List ℕ) (set : ProjectionPatchSet) where
   -- a set that is written
   pub record Success (bs : List ℕ) : Type 0 where
     pub kept : capacitiesKept set ≡ true
-    pub allowed : all (allowedAt texts) (used set) ≡ true
+    pub allowed : all (allowedAt ed texts) (used set) ≡ true
     pub few : all (fewAt texts) (used set) ≡ true
-    pub bytes : bs ≡ encode v1 (listOf texts set)
+    pub bytes : bs ≡ encode ed (listOf texts set)
 
-  pub success : (bs : List ℕ) → patchSetBytes texts set ≡ wrote bs → Success bs
+  pub success : (bs : List ℕ) → patchSetBytes ed texts set ≡ wrote bs → Success bs
   unfolding patchSetBytes
-  success bs e = go (capacitiesKept set) refl (all (allowedAt texts) (used set)) refl (all (fewAt texts) (used set)) refl e
+  success bs e = go (capacitiesKept set) refl (all (allowedAt ed texts) (used set)) refl (all (fewAt texts) (used set)) refl e
     where
       never : {C : Type 0} (n : WriteRefusal) → refused n ≡ wrote bs → C
       never n e = absurd (let z : _≡_ {A = ℕ} 0 1 = cc in omega arith)
 
-      go : (k : Bool) → capacitiesKept set ≡ k → (a : Bool) → all (allowedAt texts) (used set) ≡ a → (f : Bool) → all (fewAt texts) (used set) ≡ f
-          → (if k then (if a then (if f then wrote (encode v1 (listOf texts set)) else refused overCapacity) else refused malformed) else refused overCapacity) ≡ wrote bs → Success bs
+      go : (k : Bool) → capacitiesKept set ≡ k → (a : Bool) → all (allowedAt ed texts) (used set) ≡ a → (f : Bool) → all (fewAt texts) (used set) ≡ f
+          → (if k then (if a then (if f then wrote (encode ed (listOf texts set)) else refused overCapacity) else refused malformed) else refused overCapacity) ≡ wrote bs → Success bs
       go true k true a true f e = record { kept = k; allowed = a; few = f; bytes = cc }
       go true k true a false f e = never overCapacity e
       go true k false a f g e = never malformed e
@@ -193,31 +194,31 @@ module _ (texts : List ℕ) (set : ProjectionPatchSet) where
   counted e = and-left (countsFit set) _ e
 
   -- what the call wrote, the reader reads as the same list
-  pub written-read : Passed set → (out : List ℕ) (r : call.Written) (o : List ℕ) → r ≡ answerAt out 0 (patchSetBytes texts set) → o ≡ outputAt out 0 (patchSetBytes texts set)
-      → (n : ℕ) → r ≡ Wrote n → readSet v1 (take n o) ≡ patches (listOf texts set)
-  written-read passed out r o answer output n e = ap (λ (l : List ℕ). readSet v1 (take n l)) output ∙ by-result (patchSetBytes texts set) refl (sym answer ∙ e)
+  pub written-read : Passed set → (out : List ℕ) (r : call.Written) (o : List ℕ) → r ≡ answerAt out 0 (patchSetBytes ed texts set) → o ≡ outputAt out 0 (patchSetBytes ed texts set)
+      → (n : ℕ) → r ≡ Wrote n → readSet ed (take n o) ≡ patches (listOf texts set)
+  written-read passed out r o answer output n e = ap (λ (l : List ℕ). readSet ed (take n l)) output ∙ by-result (patchSetBytes ed texts set) refl (sym answer ∙ e)
     where
       never : {C : Type 0} (w : WriteRefusal) → Refused (refusalTo w) ≡ Wrote n → C
       never w e = absurd (let z : _≡_ {A = ℕ} 0 1 = cc in omega arith)
 
-      by-room : (bs : List ℕ) → patchSetBytes texts set ≡ wrote bs → (t : Bool) → hasRoom out 0 (length bs) ≡ t → (if t then Wrote (0 + length bs) else Refused OutputTooShort) ≡ Wrote n
-          → readSet v1 (take n (overwrite out 0 bs)) ≡ patches (listOf texts set)
+      by-room : (bs : List ℕ) → patchSetBytes ed texts set ≡ wrote bs → (t : Bool) → hasRoom out 0 (length bs) ≡ t → (if t then Wrote (0 + length bs) else Refused OutputTooShort) ≡ Wrote n
+          → readSet ed (take n (overwrite out 0 bs)) ≡ patches (listOf texts set)
       by-room bs is true room e =
           let s = success bs is in
           let position : n ≡ 0 + length bs = cc in
-          let fits = fits-list texts set (passed-arrays set passed) (counted (s .kept)) (allowed-inside texts (used set) (s .allowed)) (passed-in-range texts set passed) (s .kept) (s .allowed) (s .few) in
-          ap (readSet v1) (ap (λ (k : ℕ). take k (overwrite out 0 bs)) position ∙ take-overwrite out 0 bs (length bs) refl room ∙ s .bytes) ∙ reads-back v1 (listOf texts set) fits
+          let fits = fits-list texts set (passed-arrays set passed) (counted (s .kept)) ed (allowed-inside ed texts (used set) (s .allowed)) (passed-in-range texts set passed) (s .kept) (s .allowed) (s .few) in
+          ap (readSet ed) (ap (λ (k : ℕ). take k (overwrite out 0 bs)) position ∙ take-overwrite out 0 bs (length bs) refl room ∙ s .bytes) ∙ reads-back ed (listOf texts set) fits
       by-room bs is false room e = never outputTooShort e
 
-      by-result : (w : Written) → patchSetBytes texts set ≡ w → answerAt out 0 w ≡ Wrote n → readSet v1 (take n (outputAt out 0 w)) ≡ patches (listOf texts set)
+      by-result : (w : Written) → patchSetBytes ed texts set ≡ w → answerAt out 0 w ≡ Wrote n → readSet ed (take n (outputAt out 0 w)) ≡ patches (listOf texts set)
       by-result (wrote bs) is e = by-room bs is (hasRoom out 0 (length bs)) refl e
       by-result (refused w) is e = never w e
 
   -- what the reader read as the list of a set, the call writes back byte for byte, given room
-  pub read-written : Passed set → countsFit set ≡ true → all (insideAt texts) (used set) ≡ true → (bs : List ℕ) → Bytes bs → readSet v1 bs ≡ patches (listOf texts set)
-      → (out : List ℕ) → length bs ≤ length out → (answerAt out 0 (patchSetBytes texts set) ≡ Wrote (length bs)) × (take (length bs) (outputAt out 0 (patchSetBytes texts set)) ≡ bs)
+  pub read-written : Passed set → countsFit set ≡ true → all (insideAt texts) (used set) ≡ true → (bs : List ℕ) → Bytes bs → readSet ed bs ≡ patches (listOf texts set)
+      → (out : List ℕ) → length bs ≤ length out → (answerAt out 0 (patchSetBytes ed texts set) ≡ Wrote (length bs)) × (take (length bs) (outputAt out 0 (patchSetBytes ed texts set)) ≡ bs)
   read-written passed fit inside bs all-bytes e out enough =
-      let back = written-back texts set (passed-arrays set passed) fit inside bs all-bytes e in
+      let back = written-back texts set (passed-arrays set passed) fit ed inside bs all-bytes e in
       let room = from-start out (length bs) ∙ le-leb (length bs) (length out) enough in
       let position : 0 + length bs ≡ length bs = omega arith in (
         ap (answerAt out 0) back ∙ rw room (ap Wrote position),

@@ -19,7 +19,7 @@ use Rattle.projection_patch.specs.declared.patch.OptionalKey.{OptionalKey}
 use Rattle.projection_patch.specs.declared.patch.OptionalKey.the-variants as key
 use Rattle.projection_patch.specs.declared.patch.ProjectionPatchEnvelope.{ProjectionPatchEnvelope}
 use Rattle.projection_patch.specs.declared.patch.ProjectionPatchValue.{ProjectionPatchValue}
-use Rattle.projection_patch.specs.declared.patch.ProjectionPatchValue.the-variants.{Quad, SignedScalar, UnsignedScalar, Text}
+use Rattle.projection_patch.specs.declared.patch.ProjectionPatchValue.the-variants.{Quad, SignedScalar, UnsignedScalar, Text, Score}
 use Rattle.projection_patch.specs.declared.patch.ProjectionPatchOperation.{ProjectionPatchOperation}
 use Rattle.projection_patch.specs.declared.patch.ProjectionPatchOperation.the-variants.{SetBindingValue, SetNodeAvailability, CollectionInsert, CollectionUpdate, CollectionRemove, CollectionMove}
 use Rattle.projection_patch.specs.declared.patch.ProjectionPatch.{ProjectionPatch}
@@ -54,6 +54,7 @@ value-in-range texts (Quad q) vs h = tt
 value-in-range texts (SignedScalar z) vs h = record { sfits = h .1 .1 .1 .1 .0 .1 }
 value-in-range texts (UnsignedScalar x) vs h = h .1 .1 .1 .1 .0 .1
 value-in-range texts (Text start len) vs h = tt
+value-in-range texts (Score n) vs h = h .1 .1 .1 .1 .0 .1
 
 pub envelope-in-range : (e : ProjectionPatchEnvelope) (vs : List Val) → Is (structs.row envelopeType.the-type) e vs → InRangeEnvelope (envelopeOf e)
 envelope-in-range e vs h =

@@ -1,22 +1,20 @@
 -- The patch list that a set by value stands for, its texts lent beside it, and what writing it gives: 01, 'Rejections', and 02,
--- 'Job 5': 12, then 10, then 12 for the characters of texts, then 14.
+-- 'Job 5' and 'Job 13': 12, then 10, then 12 for the characters of texts, then 14.
 use Prim.Native.Nat.{ℕ, _+_}
-use mathlib.Core.Bool.{Bool, true, _&&_}
+use mathlib.Core.Bool.{Bool, _&&_}
 use mathlib.Core.List.{List, [], _∷_, map}
 use lib.Dec.{leb}
 use lib.ListN.{take, drop}
 use Rattle.spec_lists.specs.Lists.{if_then_else_, all}
-use Rattle.spec_patch.specs.TextRule.{allowed, fewCharacters}
 use Rattle.spec_patch.specs.Sizes.{setBytes, setPatches, patchOperations}
 use Rattle.spec_patch.specs.Patch as model
-use Rattle.spec_patch.specs.Edition.{v1}
+use Rattle.spec_patch.specs.Edition.{Edition}
 use Rattle.spec_patch.specs.Encode.{encode}
-use Rattle.spec_patch.specs.Write.{overCapacity, malformed, Written, wrote, refused}
+use Rattle.spec_patch.specs.Write.{overCapacity, malformed, valuePasses, wellFormed, fewEnough, Written, wrote, refused}
 use Rattle.projection_patch.specs.Meaning.{envelopeOf, operationOf}
 use Rattle.projection_patch.specs.declared.patch.ProjectionPatch.{ProjectionPatch}
 use Rattle.projection_patch.specs.declared.patch.OperationPlace.{OperationPlace}
 use Rattle.projection_patch.specs.declared.patch.ProjectionPatchSet.{ProjectionPatchSet}
-use Rattle.patch_part_writer.specs.declared.extent.TextPlace.{TextPlace}
 use Rattle.patch_part_writer.specs.Extent.{headSize, operationSize, operationText}
 use Rattle.patch_part_writer.specs.Parts.{shortText, insideTexts}
 
@@ -87,25 +85,19 @@ insideAt texts p = insideTexts texts (operationText (p .operation))
 unfoldable pub capacitiesKept : ProjectionPatchSet → Bool
 capacitiesKept set = countsFit set && (all shortAt (used set) && leb (setSize set) setBytes)
 
--- a text stands within the texts, and RFC 3629 allows it
-unfoldable pub textAllowed : List ℕ → TextPlace → Bool
-textAllowed texts t = insideTexts texts t && allowed true (take (t .len) (drop (t .start) texts))
+-- the value's text stands within the texts, and the edition may have the value
+abbrev pub allowedAt : Edition → List ℕ → OperationPlace → Bool
+allowedAt ed texts p = insideAt texts p && valuePasses (wellFormed ed) (operationAt texts p)
 
-abbrev pub allowedAt : List ℕ → OperationPlace → Bool
-allowedAt texts p = textAllowed texts (operationText (p .operation))
-
--- a text's characters are within their capacity
-unfoldable pub textFew : List ℕ → TextPlace → Bool
-textFew texts t = fewCharacters true (take (t .len) (drop (t .start) texts))
-
+-- the characters of the value's text are within their capacity
 abbrev pub fewAt : List ℕ → OperationPlace → Bool
-fewAt texts p = textFew texts (operationText (p .operation))
+fewAt texts p = valuePasses fewEnough (operationAt texts p)
 
--- the bytes of the list, or 12 for any capacity, then 10 for any text, then 12 for the characters of any; 14 is the output's
-unfoldable pub patchSetBytes : List ℕ → ProjectionPatchSet → Written
-patchSetBytes texts set =
+-- the bytes of the list, or 12 for any capacity, then 10 for any value, then 12 for the characters of any text; 14 is the output's
+unfoldable pub patchSetBytes : Edition → List ℕ → ProjectionPatchSet → Written
+patchSetBytes ed texts set =
     if capacitiesKept set then
-    (if all (allowedAt texts) (used set) then
-    (if all (fewAt texts) (used set) then wrote (encode v1 (listOf texts set)) else refused overCapacity)
+    (if all (allowedAt ed texts) (used set) then
+    (if all (fewAt texts) (used set) then wrote (encode ed (listOf texts set)) else refused overCapacity)
     else refused malformed)
     else refused overCapacity

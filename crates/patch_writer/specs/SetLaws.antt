@@ -11,24 +11,22 @@ use lib.Seq.{length-take-le, take-add}
 use Rattle.spec_lists.specs.Lists.{all}
 use Rattle.spec_lists.specs.ListLaws.{and-left, and-right}
 use Rattle.spec_lists.specs.BytesLaws.{length-littleEndian}
-use Rattle.spec_text.specs.SyntaxLaws.{isUtf8-empty}
-use Rattle.spec_patch.specs.TextRule.{fewCharacters}
 use Rattle.spec_patch.specs.Sizes.{patchOperations, textBytes}
 use Rattle.spec_patch.specs.Patch as model
-use Rattle.spec_patch.specs.Edition.{v1, hasKind}
-use Rattle.spec_patch.specs.Encode.{u32, encodeOperation, encodeEnvelope, encodeCounted, encodePatch, kindOf}
-use Rattle.spec_patch.specs.Write.{valuePasses, allValues, shortEnough, allowedText, wellFormed, fewEnough}
+use Rattle.spec_patch.specs.Edition.{Edition}
+use Rattle.spec_patch.specs.Encode.{u32, encodeOperation, encodeEnvelope, encodeCounted, encodePatch}
+use Rattle.spec_patch.specs.Write.{valuePasses, allValues, shortEnough, wellFormed, fewEnough}
 use Rattle.projection_patch.specs.Meaning.{valueOf, operationOf, envelopeOf}
 use Rattle.projection_patch.specs.declared.patch.ProjectionPatch.{ProjectionPatch}
 use Rattle.projection_patch.specs.declared.patch.OperationPlace.{OperationPlace}
 use Rattle.projection_patch.specs.declared.patch.ProjectionPatchValue.{ProjectionPatchValue}
-use Rattle.projection_patch.specs.declared.patch.ProjectionPatchValue.the-variants.{Quad, SignedScalar, UnsignedScalar, Text}
+use Rattle.projection_patch.specs.declared.patch.ProjectionPatchValue.the-variants.{Quad, SignedScalar, UnsignedScalar, Text, Score}
 use Rattle.projection_patch.specs.declared.patch.ProjectionPatchOperation.{ProjectionPatchOperation}
 use Rattle.projection_patch.specs.declared.patch.ProjectionPatchOperation.the-variants.{SetBindingValue, SetNodeAvailability, CollectionInsert, CollectionUpdate, CollectionRemove, CollectionMove}
 use Rattle.patch_part_writer.specs.Extent.{valueText, operationText}
 use Rattle.patch_part_writer.specs.ExtentLaws.{length-text, length-operation, length-head}
 use Rattle.patch_part_writer.specs.Parts.{shortText, insideTexts}
-use Rattle.patch_writer.specs.Set.{operationAt, listFrom, operationTotal, headSizes, operationSizes, fewOperations, shortAt, insideAt, textAllowed, allowedAt, textFew, fewAt}
+use Rattle.patch_writer.specs.Set.{operationAt, listFrom, operationTotal, headSizes, operationSizes, fewOperations, shortAt, insideAt, allowedAt, fewAt}
 
 -- ---- tests of lists
 
@@ -55,29 +53,7 @@ module _ (texts : List ℕ) where
   value-short (SignedScalar z) e = refl
   value-short (UnsignedScalar x) e = refl
   value-short (Text start len) e = ap (λ (n : ℕ). leb n textBytes) (length-text texts start len (leb-true (start + len) (length texts) e))
-
-  value-allowed : (v : ProjectionPatchValue) → insideTexts texts (valueText v) ≡ true → wellFormed v1 (valueOf texts v) ≡ textAllowed texts (valueText v)
-  unfolding wellFormed allowedText textAllowed kindOf hasKind v1
-  value-allowed (Quad q) e = rw e (sym isUtf8-empty)
-  value-allowed (SignedScalar z) e = rw e (sym isUtf8-empty)
-  value-allowed (UnsignedScalar x) e = rw e (sym isUtf8-empty)
-  value-allowed (Text start len) e = rw e
-
-  none-allowed : insideTexts texts (record { start = 0; len = 0 }) ≡ true → true ≡ textAllowed texts (record { start = 0; len = 0 })
-  unfolding textAllowed
-  none-allowed e = rw e (sym isUtf8-empty)
-
-  -- a text that no value has is empty
-  none-few : true ≡ textFew texts (record { start = 0; len = 0 })
-  unfolding textFew
-  none-few = refl
-
-  value-few : (v : ProjectionPatchValue) → insideTexts texts (valueText v) ≡ true → fewEnough (valueOf texts v) ≡ textFew texts (valueText v)
-  unfolding fewEnough textFew
-  value-few (Quad q) e = refl
-  value-few (SignedScalar z) e = refl
-  value-few (UnsignedScalar x) e = refl
-  value-few (Text start len) e = refl
+  value-short (Score n) e = refl
 
   pub place-short : (p : OperationPlace) → insideAt texts p ≡ true → valuePasses shortEnough (operationAt texts p) ≡ shortAt p
   unfolding valuePasses
@@ -91,29 +67,11 @@ module _ (texts : List ℕ) where
       go (CollectionRemove c k) e = refl
       go (CollectionMove c k b) e = refl
 
-  pub place-allowed : (p : OperationPlace) → insideAt texts p ≡ true → valuePasses (wellFormed v1) (operationAt texts p) ≡ allowedAt texts p
-  unfolding valuePasses
-  place-allowed p e = go (p .operation) e
-    where
-      go : (o : ProjectionPatchOperation) → insideTexts texts (operationText o) ≡ true → valuePasses (wellFormed v1) (operationOf texts o) ≡ textAllowed texts (operationText o)
-      go (SetBindingValue t v) e = value-allowed v e
-      go (SetNodeAvailability n a) e = none-allowed e
-      go (CollectionInsert c k b v) e = value-allowed v e
-      go (CollectionUpdate c k v) e = value-allowed v e
-      go (CollectionRemove c k) e = none-allowed e
-      go (CollectionMove c k b) e = none-allowed e
+  pub place-allowed : (ed : Edition) (p : OperationPlace) → insideAt texts p ≡ true → valuePasses (wellFormed ed) (operationAt texts p) ≡ allowedAt ed texts p
+  place-allowed ed p e = rw e
 
   pub place-few : (p : OperationPlace) → insideAt texts p ≡ true → valuePasses fewEnough (operationAt texts p) ≡ fewAt texts p
-  unfolding valuePasses
-  place-few p e = go (p .operation) e
-    where
-      go : (o : ProjectionPatchOperation) → insideTexts texts (operationText o) ≡ true → valuePasses fewEnough (operationOf texts o) ≡ textFew texts (operationText o)
-      go (SetBindingValue t v) e = value-few v e
-      go (SetNodeAvailability n a) e = none-few
-      go (CollectionInsert c k b v) e = value-few v e
-      go (CollectionUpdate c k v) e = value-few v e
-      go (CollectionRemove c k) e = none-few
-      go (CollectionMove c k b) e = none-few
+  place-few p e = refl
 
   -- ---- heads and the operations behind them
 

@@ -4,10 +4,10 @@ ghost use mathlib.Core.Path.{_≡_};
 ghost use mathlib.Core.List.{flatMap};
 ghost use Prim.Native.Nat.{ℕ, _+_};
 ghost use lib.ListN.{length, take};
-ghost use Rattle.spec_patch.specs.Edition.{v1};
 ghost use Rattle.spec_patch.specs.Encode.{encodePatch};
 ghost use Rattle.spec_patch.specs.Read.{patches, readSet};
 ghost use Rattle.bytes_wire.specs.Write.{overwrite};
+ghost use Rattle.projection_patch.specs.Meaning.{editionOf};
 ghost use Rattle.patch_part_writer.specs.declared.written.Written.the-variants.{Wrote};
 ghost use Rattle.patch_part_writer.specs.Answer.{answerAt, outputAt};
 ghost use Rattle.patch_writer.specs.Set.{listOf, patchSetBytes};
@@ -22,6 +22,7 @@ use patch_part_writer::head::store_heading;
 use patch_part_writer::operation::store_operation;
 use patch_part_writer::written::WriteRefusal;
 use patch_part_writer::written::Written;
+use projection_patch::patch::ProjectionPatchEdition;
 use projection_patch::patch::ProjectionPatchSet;
 
 // Each turn writes a head, or the next operation of the patch whose head was written last. Gives the position behind the list.
@@ -62,21 +63,26 @@ fn write_patches(
 }
 
 // Writes a patch list from the start of the output on: 12 for any capacity, then 10 for a text that RFC 3629 forbids or that is not within the
-// texts, then 12 for one with too many characters, then 14. A refusal leaves every byte of the output as it was, and what is behind the list
-// stays.
+// texts and for a score that is too high or not the edition's, then 12 for a text with too many characters, then 14. A refusal leaves every byte
+// of the output as it was, and what is behind the list stays.
 // What was written is read back as the same list.
-pub fn write_patch_set(set: ProjectionPatchSet, texts: &[u8], out: &mut [u8]) -> Written
-    ensures { λ r. ⌜ r ≡ answerAt (now (out .entry)) 0 (patchSetBytes (now (texts .entry)) set) ⌝ }
-    ensures { λ _. ⌜ now (out .exit) ≡ outputAt (now (out .entry)) 0 (patchSetBytes (now (texts .entry)) set) ⌝ }
-    ensures { λ r. ⌜ ((n : ℕ) → r ≡ Wrote n → readSet v1 (take n (now (out .exit))) ≡ patches (listOf (now (texts .entry)) set)) ⌝ }
+pub fn write_patch_set(
+    set: ProjectionPatchSet,
+    texts: &[u8],
+    edition: ProjectionPatchEdition,
+    out: &mut [u8],
+) -> Written
+    ensures { λ r. ⌜ r ≡ answerAt (now (out .entry)) 0 (patchSetBytes (editionOf edition) (now (texts .entry)) set) ⌝ }
+    ensures { λ _. ⌜ now (out .exit) ≡ outputAt (now (out .entry)) 0 (patchSetBytes (editionOf edition) (now (texts .entry)) set) ⌝ }
+    ensures { λ r. ⌜ ((n : ℕ) → r ≡ Wrote n → readSet (editionOf edition) (take n (now (out .exit))) ≡ patches (listOf (now (texts .entry)) set)) ⌝ }
 {
-    match survey_set(set, texts) {
+    match survey_set(set, texts, edition) {
         Survey::Refused(refusal) => Written::Refused(refusal),
         Survey::Within { operations, bytes } => {
             if out.len() < bytes {
                 return Written::Refused(WriteRefusal::OutputTooShort);
             }
-            store_heading(out, 0, set.patch_count);
+            store_heading(out, 0, set.patch_count, edition);
             Written::Wrote(write_patches(set, operations, texts, out, HEADING_BYTES))
         }
     }

@@ -1,22 +1,24 @@
-// The passes over a set before anything is written: 12 for any capacity, then 10 for any text, then 12 for the characters of any. A set is about
-// 200 KB, so the pass over its operations measures and judges the texts in one loop.
+// The passes over a set before anything is written: 12 for any capacity, then 10 for any value, then 12 for the characters of any text. A set is
+// about 200 KB, so the pass over its operations measures them and judges their values in one loop.
 ghost use mathlib.Core.Path.{_≡_};
 ghost use Prim.Native.Nat.{_≤_};
 ghost use lib.ListN.{take};
 ghost use Rattle.spec_patch.specs.Sizes.{setPatches};
+ghost use Rattle.projection_patch.specs.Meaning.{editionOf};
 ghost use Rattle.patch_writer.specs.Set.{setPlaces};
-ghost use Rattle.patch_writer.specs.Survey.{headSurvey, judgedText, worse, operationSurvey, surveyed, setSurvey};
+ghost use Rattle.patch_writer.specs.Survey.{headSurvey, operationSurvey, surveyed, setSurvey};
+use crate::judgement::judge_operation;
+use crate::judgement::worse_of;
 use patch_part_writer::extent::HEADING_BYTES;
-use patch_part_writer::extent::TextPlace;
 use patch_part_writer::extent::head_size;
 use patch_part_writer::extent::operation_size;
 use patch_part_writer::extent::operation_text;
 use patch_part_writer::written::WriteRefusal;
 use projection_patch::patch::ProjectionPatch;
+use projection_patch::patch::ProjectionPatchEdition;
 use projection_patch::patch::ProjectionPatchSet;
 use projection_patch::patch::ProjectionPatchValue;
 use projection_patch::text_rule::TextJudgement;
-use projection_patch::text_rule::judge_text;
 
 // How many operations the heads count, and the bytes of the heads.
 pub enum HeadSurvey {
@@ -24,7 +26,7 @@ pub enum HeadSurvey {
     Within { operations: usize, bytes: usize },
 }
 
-// The bytes of the operations, and the judgement of their texts.
+// The bytes of the operations, and the judgement of their values.
 pub enum OperationSurvey {
     OverCapacity,
     Within {
@@ -37,33 +39,6 @@ pub enum OperationSurvey {
 pub enum Survey {
     Refused(WriteRefusal),
     Within { operations: usize, bytes: usize },
-}
-
-// The judgement of two texts.
-fn worse_of(a: TextJudgement, b: TextJudgement) -> TextJudgement
-    ensures { λ r. ⌜ r ≡ worse a b ⌝ }
-{
-    match a {
-        TextJudgement::Fits => b,
-        TextJudgement::Malformed => TextJudgement::Malformed,
-        TextJudgement::ManyCharacters => match b {
-            TextJudgement::Fits => TextJudgement::ManyCharacters,
-            TextJudgement::Malformed => TextJudgement::Malformed,
-            TextJudgement::ManyCharacters => TextJudgement::ManyCharacters,
-        },
-    }
-}
-
-// The judgement of a text; one that is not within the texts is malformed.
-fn judge_place(text: TextPlace, texts: &[u8]) -> TextJudgement
-    ensures { λ r. ⌜ r ≡ judgedText (now (texts .entry)) text ⌝ }
-{
-    let start = text.start;
-    let len = text.len;
-    if !bytes_wire::has_room(texts.len(), start, len) {
-        return TextJudgement::Malformed;
-    }
-    judge_text(&texts[start..start + len])
 }
 
 fn survey_heads(
@@ -89,9 +64,14 @@ fn survey_heads(
     HeadSurvey::Within { operations, bytes }
 }
 
-fn survey_operations(set: ProjectionPatchSet, operations: usize, texts: &[u8]) -> OperationSurvey
+fn survey_operations(
+    set: ProjectionPatchSet,
+    operations: usize,
+    texts: &[u8],
+    edition: ProjectionPatchEdition,
+) -> OperationSurvey
     requires { ⌜ operations ≤ setPlaces ⌝ }
-    ensures { λ r. ⌜ r ≡ operationSurvey (now (texts .entry)) (take operations (set .operations)) ⌝ }
+    ensures { λ r. ⌜ r ≡ operationSurvey (editionOf edition) (now (texts .entry)) (take operations (set .operations)) ⌝ }
 {
     let mut bytes: usize = 0;
     let mut judgement = TextJudgement::Fits;
@@ -104,13 +84,13 @@ fn survey_operations(set: ProjectionPatchSet, operations: usize, texts: &[u8]) -
             return OperationSurvey::OverCapacity;
         }
         bytes += operation_size(operation);
-        judgement = worse_of(judgement, judge_place(text, texts));
+        judgement = worse_of(judgement, judge_operation(operation, texts, edition));
         i += 1;
     }
     OperationSurvey::Within { bytes, judgement }
 }
 
-// The bytes of the set before the judgement of its texts.
+// The bytes of the set before the judgement of its values.
 fn judge(operations: usize, bytes: usize, judgement: TextJudgement) -> Survey
     ensures { λ r. ⌜ r ≡ surveyed operations bytes judgement ⌝ }
 {
@@ -124,8 +104,8 @@ fn judge(operations: usize, bytes: usize, judgement: TextJudgement) -> Survey
     }
 }
 
-pub fn survey_set(set: ProjectionPatchSet, texts: &[u8]) -> Survey
-    ensures { λ r. ⌜ r ≡ setSurvey (now (texts .entry)) set ⌝ }
+pub fn survey_set(set: ProjectionPatchSet, texts: &[u8], edition: ProjectionPatchEdition) -> Survey
+    ensures { λ r. ⌜ r ≡ setSurvey (editionOf edition) (now (texts .entry)) set ⌝ }
 {
     let patch_count = set.patch_count;
     if ProjectionPatchSet::PATCHES < patch_count {
@@ -138,7 +118,7 @@ pub fn survey_set(set: ProjectionPatchSet, texts: &[u8]) -> Survey
             if ProjectionPatchSet::PLACES < operations {
                 return Survey::Refused(WriteRefusal::OverCapacity);
             }
-            match survey_operations(set, operations, texts) {
+            match survey_operations(set, operations, texts, edition) {
                 OperationSurvey::OverCapacity => Survey::Refused(WriteRefusal::OverCapacity),
                 OperationSurvey::Within {
                     bytes: rest,

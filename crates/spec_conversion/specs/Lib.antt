@@ -1,1 +1,3 @@
 pub mod Conversion
+pub mod ConversionLaws
+pub mod ConversionInstances

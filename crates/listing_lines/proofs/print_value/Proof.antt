@@ -8,42 +8,33 @@ use borrow.Author.Needs.{needs, sfits-of}
 use Rattle.spec_decimal.specs.Decimal.{signedDecimal}
 use Rattle.spec_listing.specs.Listing.{fields}
 use Rattle.bytes_printer.specs.PrintsLaws.{_⨾_, same-bytes}
-use Rattle.listing_lines.specs.LookupFields.{quad-fields, signed-fields, unsigned-fields, text-fields}
+use Rattle.listing_lines.specs.LookupFields.{quad-fields, signed-fields, unsigned-fields, score-fields, text-fields}
 use borrow.Author.Needs.{needs}
 use Rattle.listing_lines.proofs.print_value.Statement.{statement}
 use Rattle.listing_lines.proofs.print_value.Tie as tie
 
-print-letter-requires : tie.Need-print-letter-requires
-print-letter-requires c κs = search needs
+cast-print-kind-number : tie.Need-cast-print-kind-number
+cast-print-kind-number c = search needs
 
-cast-print-field-u64 : tie.Need-cast-print-field-u64
-cast-print-field-u64 c = search needs
-
-print-field-u64-requires : tie.Need-print-field-u64-requires
-print-field-u64-requires c κs = search needs
-
-print-newline-requires : tie.Need-print-newline-requires
-print-newline-requires c κs = search needs
+print-kind-number-requires : tie.Need-print-kind-number-requires
+print-kind-number-requires c κs = search needs
 
 same-length : tie.Need-same-length
 same-length c = search needs
 
 returns : tie.Need-returns
-unfolding fields
 returns c =
-    let end = c .before .before in
-    let number = end .before .before .before .before in
-    let letter = number .before .before .before .before .before in
-    same-bytes (ap fields (sym (quad-fields _ (letter .before .before .if1 .taken)))) (letter .print-letter .ensures ⨾ number .print-field-u64 .ensures ⨾ end .print-newline .ensures)
+    let line = c .before .before in
+    same-bytes (ap fields (sym (quad-fields _ (line .before .before .before .if1 .taken)))) (line .print-kind-number .ensures)
 
-print-letter-requires-2 : tie.Need-print-letter-requires-2
-print-letter-requires-2 c κs = search needs
+print-letter-requires : tie.Need-print-letter-requires
+print-letter-requires c κs = search needs
 
 print-field-i64-requires : tie.Need-print-field-i64-requires
 print-field-i64-requires c κs = search needs
 
-print-newline-requires-2 : tie.Need-print-newline-requires-2
-print-newline-requires-2 c κs = search needs
+print-newline-requires : tie.Need-print-newline-requires
+print-newline-requires c κs = search needs
 
 same-length-2 : tie.Need-same-length-2
 same-length-2 c = search needs
@@ -55,60 +46,61 @@ returns-2 c =
     let number = end .before .before .before .before in
     let letter = number .before .before .before .before .before in
     let same = toZ-ofZ (sfits-of {w = w64} (number .before .struct-told .given .1 .1 .1 .0 .1)) in
-    same-bytes (ap (λ (y : ℤ). fields ((83 ∷ []) ∷ signedDecimal y ∷ [])) same ∙ ap fields (sym (signed-fields _ (letter .before .before .if2 .taken)))) (letter .print-letter2 .ensures ⨾ number .print-field-i64 .ensures ⨾ end .print-newline2 .ensures)
+    same-bytes (ap (λ (y : ℤ). fields ((83 ∷ []) ∷ signedDecimal y ∷ [])) same ∙ ap fields (sym (signed-fields _ (letter .before .before .if2 .taken)))) (letter .print-letter .ensures ⨾ number .print-field-i64 .ensures ⨾ end .print-newline .ensures)
 
-print-letter-requires-3 : tie.Need-print-letter-requires-3
-print-letter-requires-3 c κs = search needs
-
-print-field-u64-requires-2 : tie.Need-print-field-u64-requires-2
-print-field-u64-requires-2 c κs = search needs
-
-print-newline-requires-3 : tie.Need-print-newline-requires-3
-print-newline-requires-3 c κs = search needs
+print-kind-number-requires-2 : tie.Need-print-kind-number-requires-2
+print-kind-number-requires-2 c κs = search needs
 
 same-length-3 : tie.Need-same-length-3
 same-length-3 c = search needs
 
 returns-3 : tie.Need-returns-3
-unfolding fields
 returns-3 c =
-    let end = c .before .before in
-    let number = end .before .before .before .before in
-    let letter = number .before .before .before .before in
-    same-bytes (ap fields (sym (unsigned-fields _ (letter .before .before .if3 .taken)))) (letter .print-letter3 .ensures ⨾ number .print-field-u642 .ensures ⨾ end .print-newline3 .ensures)
+    let line = c .before .before in
+    same-bytes (ap fields (sym (unsigned-fields _ (line .before .before .if3 .taken)))) (line .print-kind-number2 .ensures)
 
-print-text-requires : tie.Need-print-text-requires
-print-text-requires c κs = search needs
+print-kind-number-requires-3 : tie.Need-print-kind-number-requires-3
+print-kind-number-requires-3 c κs = search needs
 
 same-length-4 : tie.Need-same-length-4
 same-length-4 c = search needs
 
 returns-4 : tie.Need-returns-4
 returns-4 c =
+    let line = c .before .before in
+    same-bytes (ap fields (sym (score-fields _ (line .before .before .if4 .taken)))) (line .print-kind-number3 .ensures)
+
+print-text-requires : tie.Need-print-text-requires
+print-text-requires c κs = search needs
+
+same-length-5 : tie.Need-same-length-5
+same-length-5 c = search needs
+
+returns-5 : tie.Need-returns-5
+returns-5 c =
     let text = c .before .before in
     let test = text .before .before in
-    same-bytes (ap fields (sym (text-fields _ (test .before .before .if1 .left) (test .before .if2 .left) (test .if3 .left)))) (text .print-text .ensures)
+    same-bytes (ap fields (sym (text-fields _ (test .before .before .before .if1 .left) (test .before .before .if2 .left) (test .before .if3 .left) (test .if4 .left)))) (text .print-text .ensures)
 
 pub print-value-spec : {M : Type 1} → statement M
 print-value-spec =
     tie.close
     (tie.spec
-    print-letter-requires
-    cast-print-field-u64
-    print-field-u64-requires
-    print-newline-requires
+    cast-print-kind-number
+    print-kind-number-requires
     same-length
     returns
-    print-letter-requires-2
+    print-letter-requires
     print-field-i64-requires
-    print-newline-requires-2
+    print-newline-requires
     same-length-2
     returns-2
-    print-letter-requires-3
-    print-field-u64-requires-2
-    print-newline-requires-3
+    print-kind-number-requires-2
     same-length-3
     returns-3
-    print-text-requires
+    print-kind-number-requires-3
     same-length-4
-    returns-4)
+    returns-4
+    print-text-requires
+    same-length-5
+    returns-5)

@@ -5,6 +5,7 @@ use denote.Ref.{now}
 use Rattle.spec_projection.specs.Projection.{empty}
 use Rattle.spec_listing.specs.Listing.{refusalLine}
 use Rattle.bytes_printer.specs.PrintsLaws.{same-bytes}
+use Rattle.projection_patch.specs.Meaning.{editionOf}
 use Rattle.listing_panel.specs.SetLines.{set-applied, set-refused}
 use Rattle.listing_panel.proofs.print_listing.Statement.{statement}
 use Rattle.listing_panel.proofs.print_listing.Tie as tie
@@ -31,7 +32,7 @@ returns c =
     let apply = number .before .before in
     let application = apply .apply-projection-patch-set .result in
     let args = apply .before .before .before .before .args in
-    let shows = set-applied (now (args .set)) (application .state) (application .outcome) (apply .apply-projection-patch-set .ensures .0 empty (apply .before .empty .ensures)) (sym (number .number .ensures) ∙ print .before .before .if1 .taken) in
+    let shows = set-applied (editionOf (args .edition)) (now (args .set)) (application .state) (application .outcome) (apply .apply-projection-patch-set .ensures .0 empty (apply .before .empty .ensures)) (sym (number .number .ensures) ∙ print .before .before .if1 .taken) in
     same-bytes (sym (shows .lines)) (print .print-projection .ensures (shows .projection) (shows .stores))
 
 print-number-line-requires : tie.Need-print-number-line-requires
@@ -48,7 +49,7 @@ returns-2 c =
     let apply = number .before .before in
     let application = apply .apply-projection-patch-set .result in
     let args = apply .before .before .before .before .args in
-    let lines = set-refused (now (args .set)) (application .state) (application .outcome) (apply .apply-projection-patch-set .ensures .0 empty (apply .before .empty .ensures)) (λ e. print .before .before .if1 .left (number .number .ensures ∙ e)) in
+    let lines = set-refused (editionOf (args .edition)) (now (args .set)) (application .state) (application .outcome) (apply .apply-projection-patch-set .ensures .0 empty (apply .before .empty .ensures)) (λ e. print .before .before .if1 .left (number .number .ensures ∙ e)) in
     same-bytes (ap refusalLine (number .number .ensures) ∙ sym lines) (print .print-number-line .ensures)
 
 pub print-listing-spec : {M : Type 1} → statement M

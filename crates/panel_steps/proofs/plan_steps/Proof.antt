@@ -8,12 +8,12 @@ use borrow.Author.Needs.{needs}
 use denote.Ref.{now}
 use lib.ListN.{length}
 use Rattle.spec_patch.specs.Sizes.{projectionEntries}
-use Rattle.spec_patch.specs.Edition.{v1}
+use Rattle.spec_patch.specs.Edition.{Edition}
 use Rattle.spec_patch.specs.Patch.{Patch}
 use Rattle.spec_projection.specs.Projection.{Projection}
 use Rattle.spec_projection.specs.Apply.{Outcome, replaySteps, applySteps}
 use Rattle.spec_projection.specs.Valid.{Valid}
-use Rattle.projection_patch.specs.Meaning.{operationOf}
+use Rattle.projection_patch.specs.Meaning.{editionOf, operationOf}
 use Rattle.patch_walk.specs.Steps.{AtSteps}
 use Rattle.patch_walk.specs.StepsLaws.{visited, opened, done, never-refused}
 use Rattle.panel_plan.specs.Plan.{planOf}
@@ -23,19 +23,22 @@ use Rattle.panel_steps.proofs.plan_steps.Statement.{statement}
 use Rattle.panel_steps.proofs.plan_steps.Tie as tie
 
 abbrev Inv-loop : tie.InvT-loop
-Inv-loop bindings₀ availability₀ entries₀ set held₀ cursor₀ bindings availability entries held cursor =
+Inv-loop bindings₀ availability₀ entries₀ set edition held₀ cursor₀ bindings availability entries held cursor =
     (length bindings ≡ length bindings₀) × (length availability ≡ length availability₀) × (length entries ≡ length entries₀)
-    × ((p : Projection) (ps : List Patch) → Valid p → StoredPlan held₀ bindings₀ availability₀ entries₀ (planOf p) → AtSteps v1 set cursor₀ [] ps
-    → Running p set cursor held bindings availability entries (applySteps p (replaySteps ps)))
+    × ((p : Projection) (ps : List Patch) → Valid p → StoredPlan held₀ bindings₀ availability₀ entries₀ (planOf p) → AtSteps (editionOf edition) set cursor₀ [] ps
+    → Running (editionOf edition) p set cursor held bindings availability entries (applySteps p (replaySteps ps)))
 
 abbrev μ-loop : tie.MeasureT-loop
-μ-loop bindings₀ availability₀ entries₀ set held₀ cursor₀ bindings availability entries held cursor = length set - cursor .at
+μ-loop bindings₀ availability₀ entries₀ set edition held₀ cursor₀ bindings availability entries held cursor = length set - cursor .at
 
 loop-holds : tie.Need-loop-holds Inv-loop μ-loop
 loop-holds c = (refl, refl, refl, λ p ps v s h. run-start ps v s h)
 
 abbrev start : tie.At-loop Inv-loop μ-loop → tie.Start Inv-loop μ-loop
 start k = k .before .before .before .before .before
+
+abbrev edition : tie.At-loop Inv-loop μ-loop → Edition
+edition k = editionOf (start k .args .edition)
 
 -- where an operation's turn began
 abbrev top : tie.After-apply-operation Inv-loop μ-loop → tie.At-loop Inv-loop μ-loop
@@ -60,7 +63,7 @@ loop-again c =
       l .inv .0,
       l .inv .1,
       l .inv .2,
-      λ p ps v s h. let run = l .inv .3 p ps v s h in run-head run (opened false v1 (now (start (step .before) .args .set)) (l .cursor) (run .here) (step .next-step .ensures .0) _ _ (c .before .next .given .1)),
+      λ p ps v s h. let run = l .inv .3 p ps v s h in run-head run (opened false (edition (step .before)) (now (start (step .before) .args .set)) (l .cursor) (run .here) (step .next-step .ensures .0) _ _ (c .before .next .given .1)),
     )
 
 enum-known-operation : tie.Need-enum-known-operation Inv-loop μ-loop
@@ -86,19 +89,19 @@ apply-operation-requires c κs = search needs
 
 -- the operation's turn, whatever its answer
 turn : (k : tie.After-apply-operation Inv-loop μ-loop) (p : Projection) (whole : Outcome) → let l = top k .loop in let last = k .apply-operation .last in
-    Running p (now (start (top k) .args .set)) (l .cursor) (l .held) (l .bindings) (l .availability) (l .entries) whole
-    → Turned p (now (start (top k) .args .set)) (k .before .before .before .before .before .before .before .operation .given .0 .1 .0) (last .0) (last .1 .0) (last .1 .1 .0) whole (k .apply-operation .result)
+    Running (edition (top k)) p (now (start (top k) .args .set)) (l .cursor) (l .held) (l .bindings) (l .availability) (l .entries) whole
+    → Turned (edition (top k)) p (now (start (top k) .args .set)) (k .before .before .before .before .before .before .before .operation .given .0 .1 .0) (last .0) (last .1 .0) (last .1 .1 .0) whole (k .apply-operation .result)
 turn k p whole run =
     let step = k .before .before .before .before .before .before .before .before .before in
     let known = k .before .before .before .before .before .before .before in
     let l = top k .loop in
     let last = k .apply-operation .last in
-    let seen = visited false v1 (now (start (top k) .args .set)) (l .cursor) (run .here) (step .next-step .ensures .0) _ _ (known .operation .given .1) in
+    let seen = visited false (edition (top k)) (now (start (top k) .args .set)) (l .cursor) (run .here) (step .next-step .ensures .0) _ _ (known .operation .given .1) in
     let is = ap (λ (n : ℕ). projectionEntries + (l .cursor .at + n)) (k .before .before .before .before .before .value-offset .ensures) in
     let within = operation-within (l .cursor) (length (now (start (top k) .args .set))) _ _ (known .operation .given .1) (step .next-step .ensures .1) in
     let small = offset-small (operationOf [] (known .operation .given .0 .0)) in
     run-turn run seen is (last .0) (last .1 .0) (last .1 .1 .0) (k .apply-operation .result)
-    (k .apply-operation .ensures .0 (run .planned .plan) (run .planned .stored) (fits-planned run seen is (omega (arith, within .0, within .1, small, k .before .before .before .before .before .value-offset .ensures))))
+    (k .apply-operation .ensures .0 _ (run .planned .plan) (run .planned .stored) (fits-planned run seen is (omega (arith, within .0, within .1, small, k .before .before .before .before .before .value-offset .ensures))))
 
 enum-known-n : tie.Need-enum-known-n Inv-loop μ-loop
 enum-known-n c = search needs
@@ -147,7 +150,7 @@ returns-2 : tie.Need-returns-2 Inv-loop μ-loop
 returns-2 c =
     let step = c .before .before in
     let l = step .before .loop in
-    λ p ps v s h. let run = l .inv .3 p ps v s h in run-end run (done false v1 (now (start (step .before) .args .set)) (l .cursor) (run .here) (step .next-step .ensures .0) (c .enum-told .given .1))
+    λ p ps v s h. let run = l .inv .3 p ps v s h in run-end run (done false (edition (step .before)) (now (start (step .before) .args .set)) (l .cursor) (run .here) (step .next-step .ensures .0) (c .enum-told .given .1))
 
 enum-known-fault : tie.Need-enum-known-fault Inv-loop μ-loop
 enum-known-fault c = search needs
@@ -165,7 +168,7 @@ returns-3 : tie.Need-returns-3 Inv-loop μ-loop
 returns-3 c =
     let step = c .before .before .before in
     let l = step .before .loop in
-    λ p ps v s h. let run = l .inv .3 p ps v s h in never-refused false v1 (now (start (step .before) .args .set)) (l .cursor) (run .here) (step .next-step .ensures .0) _ (c .before .fault .given .1)
+    λ p ps v s h. let run = l .inv .3 p ps v s h in never-refused false (edition (step .before)) (now (start (step .before) .args .set)) (l .cursor) (run .here) (step .next-step .ensures .0) _ (c .before .fault .given .1)
 
 pub plan-steps-spec : {M : Type 1} → statement M
 plan-steps-spec =

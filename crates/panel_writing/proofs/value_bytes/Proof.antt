@@ -4,8 +4,8 @@ use mathlib.Core.Bool.{false}
 use borrow.Author.Needs.{needs}
 use denote.Ref.{now}
 use lib.ListN.{drop}
-use Rattle.spec_patch.specs.Edition.{v1}
 use Rattle.spec_patch.specs.Read.{readValueBy}
+use Rattle.projection_patch.specs.Meaning.{editionOf}
 use Rattle.panel_writing.specs.Writing.{valueBytes}
 use Rattle.panel_writing.proofs.Bytes.{bytes-of-read, bytes-of-refused}
 use Rattle.panel_writing.proofs.value_bytes.Statement.{statement}
@@ -35,8 +35,9 @@ returns c =
     let told = c .before .before .before in
     let read = told .before .before in
     let a = read .before .before .args in
+    let ed = editionOf (a .edition) in
     c .value-part .ensures ∙ ap (drop (a .at)) (c .before .key-part .ensures)
-    ∙ bytes-of-read (now (a .set)) (a .at) (readValueBy false v1 (drop (a .at) (now (a .set)))) _ _ (sym (told .end .given .1) ∙ read .value-at .ensures)
+    ∙ bytes-of-read (now (a .set)) (a .at) (readValueBy false ed (drop (a .at) (now (a .set)))) _ _ (sym (told .end .given .1) ∙ read .value-at .ensures)
 
 returns-2 : tie.Need-returns-2
 unfolding valueBytes
@@ -44,7 +45,8 @@ returns-2 c =
     let told = c .before in
     let read = told .before .before in
     let a = read .before .before .args in
-    bytes-of-refused (now (a .set)) (a .at) (readValueBy false v1 (drop (a .at) (now (a .set)))) _ (sym (told .enum-told .given .1) ∙ read .value-at .ensures)
+    let ed = editionOf (a .edition) in
+    bytes-of-refused (now (a .set)) (a .at) (readValueBy false ed (drop (a .at) (now (a .set)))) _ (sym (told .enum-told .given .1) ∙ read .value-at .ensures)
 
 pub value-bytes-spec : {M : Type 1} → statement M
 value-bytes-spec =

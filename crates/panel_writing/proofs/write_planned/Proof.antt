@@ -4,7 +4,7 @@ use native.Mathlib.Omega.{arith}
 use borrow.Author.Needs.{needs}
 use denote.Ref.{now}
 use lib.ListN.{drop}
-use Rattle.spec_patch.specs.Edition.{v1}
+use Rattle.projection_patch.specs.Meaning.{editionOf}
 use Rattle.panel_writing.specs.WritingLaws.{source-old, source-new}
 use Rattle.panel_writing.proofs.Bytes.{planned-written}
 use Rattle.panel_writing.proofs.write_planned.Statement.{statement}
@@ -45,8 +45,9 @@ returns c =
     let number = old .before .before in
     let ids = number .before in
     let a = ids .before .before .before .before .before .args in
-    planned-written v1 (a .key) (now (a .row)) (now (a .from)) (now (a .set)) (now (a .to)) (ids .key-part .ensures) (number .number-at .ensures)
-    (part .value-part .ensures ∙ ap (drop (a .key)) (old .row-at .ensures) ∙ sym (source-old v1 (a .key) (now (a .from)) (now (a .set)) _ (old .before .if1 .taken)))
+    let ed = editionOf (a .edition) in
+    planned-written ed (a .key) (now (a .row)) (now (a .from)) (now (a .set)) (now (a .to)) (ids .key-part .ensures) (number .number-at .ensures)
+    (part .value-part .ensures ∙ ap (drop (a .key)) (old .row-at .ensures) ∙ sym (source-old ed (a .key) (now (a .from)) (now (a .set)) _ (old .before .if1 .taken)))
     (write .write-row .ensures .1)
 
 same-length-2 : tie.Need-same-length-2
@@ -59,8 +60,9 @@ returns-2 c =
     let number = part .before .before .before in
     let ids = number .before in
     let a = ids .before .before .before .before .before .args in
-    planned-written v1 (a .key) (now (a .row)) (now (a .from)) (now (a .set)) (now (a .to)) (ids .key-part .ensures) (number .number-at .ensures)
-    (part .value-bytes .ensures ∙ sym (source-new v1 (a .key) (now (a .from)) (now (a .set)) _ (part .before .before .if1 .left)))
+    let ed = editionOf (a .edition) in
+    planned-written ed (a .key) (now (a .row)) (now (a .from)) (now (a .set)) (now (a .to)) (ids .key-part .ensures) (number .number-at .ensures)
+    (part .value-bytes .ensures ∙ sym (source-new ed (a .key) (now (a .from)) (now (a .set)) _ (part .before .before .if1 .left)))
     (write .write-row2 .ensures .1)
 
 pub write-planned-spec : {M : Type 1} → statement M

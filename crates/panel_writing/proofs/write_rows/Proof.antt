@@ -6,7 +6,7 @@ use native.Mathlib.Omega.{arith}
 use borrow.Author.Needs.{needs}
 use denote.Ref.{now}
 use lib.ListN.{length}
-use Rattle.spec_patch.specs.Edition.{v1}
+use Rattle.projection_patch.specs.Meaning.{editionOf}
 use Rattle.bytes_records.proofs.Offsets.{start-le, end-le}
 use Rattle.panel_rows.specs.Rows.{valueWidth}
 use Rattle.panel_writing.specs.Writing.{newRow}
@@ -16,10 +16,10 @@ use Rattle.panel_writing.proofs.write_rows.Statement.{statement}
 use Rattle.panel_writing.proofs.write_rows.Tie as tie
 
 abbrev Inv-loop : tie.InvT-loop
-Inv-loop key plan count from set to₀ width i₀ to i = (i ≤ count) × ((length to ≡ length to₀) × RowsWritten (key + valueWidth) to₀ (planned v1 key plan from set) i to)
+Inv-loop key plan count from set edition to₀ width i₀ to i = (i ≤ count) × ((length to ≡ length to₀) × RowsWritten (key + valueWidth) to₀ (planned (editionOf edition) key plan from set) i to)
 
 abbrev μ-loop : tie.MeasureT-loop
-μ-loop key plan count from set to₀ width i₀ to i = count - i
+μ-loop key plan count from set edition to₀ width i₀ to i = count - i
 
 -- the i-th row stands in the table, and so do all
 room : (c : tie.In-loop Inv-loop μ-loop) → let a = c .before .before .before .before .before .before .args in
@@ -75,9 +75,10 @@ loop-again c =
     let turn = call .before .before .before in
     let h = turn .before in
     let a = h .before .before .before .before .before .args in
-    let next = one-written (a .key + valueWidth) (now (a .to)) (planned v1 (a .key) (now (a .plan)) (now (a .from)) (now (a .set))) (h .loop .i) (h .loop .inv .1 .1)
-    (planned-keeps v1 (a .key) (now (a .plan)) (now (a .from)) (now (a .set)) (h .loop .i)) (room turn)
-    (planned-by v1 (a .key) (now (a .plan)) (now (a .from)) (now (a .set)) (h .loop .i) _ (call .before .before .row-at .ensures) (call .write-planned .ensures)) in
+    let ed = editionOf (a .edition) in
+    let next = one-written (a .key + valueWidth) (now (a .to)) (planned ed (a .key) (now (a .plan)) (now (a .from)) (now (a .set))) (h .loop .i) (h .loop .inv .1 .1)
+    (planned-keeps ed (a .key) (now (a .plan)) (now (a .from)) (now (a .set)) (h .loop .i)) (room turn)
+    (planned-by ed (a .key) (now (a .plan)) (now (a .from)) (now (a .set)) (h .loop .i) _ (call .before .before .row-at .ensures) (call .write-planned .ensures)) in
     (search needs, (same-size (a .key + valueWidth) (now (a .to)) _ (h .loop .i + 1) next (omega (arith, room turn, suc-mul (h .loop .i) (a .key + valueWidth))), next))
 
 mul-used : tie.Need-mul-used Inv-loop μ-loop
@@ -104,8 +105,9 @@ returns c =
     let h = c .before .before .before .before .before in
     let start = h .before .before .before .before .before in
     let a = start .args in
+    let ed = editionOf (a .edition) in
     let last : h .loop .i ≡ a .count = omega arith in
-    rest-cleared (a .key + valueWidth) (now (a .to)) _ (a .count) (subst (λ n. RowsWritten (a .key + valueWidth) (now (a .to)) (planned v1 (a .key) (now (a .plan)) (now (a .from)) (now (a .set))) n (h .loop .to)) last (h .loop .inv .1 .1))
+    rest-cleared (a .key + valueWidth) (now (a .to)) _ (a .count) (subst (λ n. RowsWritten (a .key + valueWidth) (now (a .to)) (planned ed (a .key) (now (a .plan)) (now (a .from)) (now (a .set))) n (h .loop .to)) last (h .loop .inv .1 .1))
     (start .pre .2) (c .before .before .clear .ensures)
 
 pub write-rows-spec : {M : Type 1} → statement M

@@ -9,9 +9,9 @@ use lib.ListN.{length, take, drop, take-append-drop}
 use lib.Seq.{length-take-le}
 use borrow.Author.Needs.{needs}
 use Rattle.spec_patch.specs.Sizes.{projectionEntries}
-use Rattle.spec_patch.specs.Edition.{v1}
 use Rattle.bytes_records.proofs.Parts.{lent}
 use Rattle.bytes_records.specs.Table.{tableBytes}
+use Rattle.projection_patch.specs.Meaning.{editionOf}
 use Rattle.panel_rows.specs.Rows.{valueWidth, entryWidth}
 use Rattle.panel_writing.specs.Writing.{newRow, rowsTo}
 use Rattle.panel_writing.specs.WritingLaws.{can-write, too-many, too-many-used, other-table, table-written, table-left}
@@ -30,14 +30,16 @@ size-is c = ap (λ n. n * (c .before .before .before .before .before .before .be
 returns : tie.Need-returns
 returns c =
     let a = c .before .before .before .before .before .args in
+    let ed = editionOf (a .edition) in
     let not-written = too-many (a .key) (a .capacity) (a .count) (a .used) (now (a .to)) (c .if1 .taken) in
-    (sym not-written, sym (table-left (a .key) (a .capacity) (a .count) (a .used) (now (a .to)) v1 (now (a .plan)) (now (a .from)) (now (a .set)) not-written))
+    (sym not-written, sym (table-left (a .key) (a .capacity) (a .count) (a .used) (now (a .to)) ed (now (a .plan)) (now (a .from)) (now (a .set)) not-written))
 
 returns-2 : tie.Need-returns-2
 returns-2 c =
     let a = c .before .before .before .before .before .before .args in
+    let ed = editionOf (a .edition) in
     let not-written = too-many-used (a .key) (a .capacity) (a .count) (a .used) (now (a .to)) (c .before .if1 .left) (c .if2 .taken) in
-    (sym not-written, sym (table-left (a .key) (a .capacity) (a .count) (a .used) (now (a .to)) v1 (now (a .plan)) (now (a .from)) (now (a .set)) not-written))
+    (sym not-written, sym (table-left (a .key) (a .capacity) (a .count) (a .used) (now (a .to)) ed (now (a .plan)) (now (a .from)) (now (a .set)) not-written))
 
 add-width : tie.Need-add-width
 add-width c = search needs
@@ -51,8 +53,9 @@ mul-if3 c =
 returns-3 : tie.Need-returns-3
 returns-3 c =
     let a = c .before .before .before .before .before .before .before .args in
+    let ed = editionOf (a .edition) in
     let not-written = other-table (a .key) (a .capacity) (a .count) (a .used) (now (a .to)) (c .before .before .if1 .left) (c .before .if2 .left) (c .if3 .taken) in
-    (sym not-written, sym (table-left (a .key) (a .capacity) (a .count) (a .used) (now (a .to)) v1 (now (a .plan)) (now (a .from)) (now (a .set)) not-written))
+    (sym not-written, sym (table-left (a .key) (a .capacity) (a .count) (a .used) (now (a .to)) ed (now (a .plan)) (now (a .from)) (now (a .set)) not-written))
 
 greater-requires : tie.Need-greater-requires
 greater-requires c κs = search needs
@@ -89,14 +92,15 @@ returns-4 : tie.Need-returns-4
 returns-4 c =
     let g = c .before .before .before .before in
     let a = g .before .before .before .before .before .before .before .before .args in
+    let ed = editionOf (a .edition) in
     let to = now (a .to) in
     let n = max (a .count) (a .used) * (a .key + valueWidth) in
     let may = can-write (a .key) (a .capacity) (a .count) (a .used) to (g .before .before .before .if1 .left) (g .before .before .if2 .left) (g .before .if3 .left) in
-    let rows : List ℕ → List (List ℕ) = λ l. rowsTo (newRow v1 (a .key) (now (a .plan)) (now (a .from)) (now (a .set)) l) (a .count) in
+    let rows : List ℕ → List (List ℕ) = λ l. rowsTo (newRow ed (a .key) (now (a .plan)) (now (a .from)) (now (a .set)) l) (a .count) in
     let lent-size = g .greater .result * (a .key + valueWidth) - 0 in
     let long : length (take n to) ≡ lent-size = omega (arith, part-long g, size-is g) in
     let put = lent to [] (take n to) (drop n to) 0 lent-size (sym (take-append-drop n to)) refl long (λ (l : List ℕ). tableBytes (length l) (rows l)) _ (c .before .before .write-rows .ensures) in
-    (sym may, put ∙ ap (λ (k : ℕ). tableBytes k (rows (take n to)) ++ drop n to) (part-long g) ∙ sym (table-written (a .key) (a .capacity) (a .count) (a .used) to v1 (now (a .plan)) (now (a .from)) (now (a .set)) may))
+    (sym may, put ∙ ap (λ (k : ℕ). tableBytes k (rows (take n to)) ++ drop n to) (part-long g) ∙ sym (table-written (a .key) (a .capacity) (a .count) (a .used) to ed (now (a .plan)) (now (a .from)) (now (a .set)) may))
 
 pub write-table-spec : {M : Type 1} → statement M
 write-table-spec =

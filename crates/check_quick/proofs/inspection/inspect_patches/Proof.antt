@@ -9,11 +9,11 @@ use lib.ListN.{length, take, drop, length-set}
 use Rattle.spec_lists.specs.Bytes.{Bytes}
 use Rattle.spec_lists.specs.BytesLaws.{bytes-of}
 use Rattle.spec_patch.specs.Sizes.{patchOperations}
-use Rattle.spec_patch.specs.Edition.{v1}
+use Rattle.spec_patch.specs.Edition.{Edition}
 use Rattle.spec_patch.specs.Reader.{many}
 use Rattle.spec_patch.specs.Read.{readPatch, ended}
 use Rattle.spec_checks.specs.Target.{MutationTarget}
-use Rattle.projection_patch.specs.Meaning.{envelopeOf}
+use Rattle.projection_patch.specs.Meaning.{editionOf, envelopeOf}
 use Rattle.projection_patch.specs.ReadAnswers.{anywhere}
 use Rattle.projection_patch.proofs.Answers.{Got}
 use Rattle.patch_sets.proofs.Runs.{few}
@@ -29,19 +29,22 @@ use Rattle.check_quick.proofs.inspection.inspect_patches.Statement.{sta
 use Rattle.check_quick.proofs.inspection.inspect_patches.Tie as tie
 
 abbrev Inv-loop : tie.InvT-loop
-Inv-loop set from count nodes bindings collections ids₀ highest₀ previous₀ at₀ left₀ done₀ operations₀ absent₀ found₀ ids highest previous at left done operations absent found =
+Inv-loop set edition from count nodes bindings collections ids₀ highest₀ previous₀ at₀ left₀ done₀ operations₀ absent₀ found₀ ids highest previous at left done operations absent found =
     (at ≤ length set) × ((done + left ≡ count) × ((operations + left * patchOperations ≤ count * patchOperations) × ((absent ≤ operations)
     × (((length ids ≡ length ids₀) × (done * leastPatch ≤ at)) × (AtMost highest (take done ids)
-    × (patchesLeft v1 (anchored nodes bindings collections) set at left (passed done operations absent found) (take done ids) (previousOf previous) ≡ inspectionAnswer nodes bindings collections (ended (many count (readPatch v1) (drop from set)))))))))
+    × (patchesLeft (editionOf edition) (anchored nodes bindings collections) set at left (passed done operations absent found) (take done ids) (previousOf previous) ≡ inspectionAnswer nodes bindings collections (ended (many count (readPatch (editionOf edition)) (drop from set)))))))))
 
 abbrev μ-loop : tie.MeasureT-loop
-μ-loop set from count nodes bindings collections ids₀ highest₀ previous₀ at₀ left₀ done₀ operations₀ absent₀ found₀ ids highest previous at left done operations absent found = left
+μ-loop set edition from count nodes bindings collections ids₀ highest₀ previous₀ at₀ left₀ done₀ operations₀ absent₀ found₀ ids highest previous at left done operations absent found = left
 
 abbrev start : tie.At-loop Inv-loop μ-loop → tie.Start Inv-loop μ-loop
 start c = c .before .before .before .before .before .before
 
 abbrev set : tie.At-loop Inv-loop μ-loop → List ℕ
 set c = start c .args .set .now
+
+abbrev edition : tie.At-loop Inv-loop μ-loop → Edition
+edition c = editionOf (start c .args .edition)
 
 abbrev known : tie.At-loop Inv-loop μ-loop → MutationTarget → Bool
 known c = let a = start c .args in anchored (a .nodes .now) (a .bindings .now) (a .collections .now)
@@ -62,8 +65,8 @@ patch c = c .before .patch .given .0 .0
 abbrev end : tie.After-known-told Inv-loop μ-loop → ℕ
 end c = c .before .patch .given .0 .1 .0
 
-one : (c : tie.After-known-told Inv-loop μ-loop) → let h = head c in Got (readPatch v1) (anywhere (checkedTo (known h))) (set h) (h .loop .at) (patch c) (end c)
-one c = let h = head c in patch-got v1 (known h) (set h) (h .loop .at) (c .before .before .before .check-patch .ensures) (all-bytes h) (c .before .patch .given .1)
+one : (c : tie.After-known-told Inv-loop μ-loop) → let h = head c in Got (readPatch (edition h)) (anywhere (checkedTo (known h))) (set h) (h .loop .at) (patch c) (end c)
+one c = let h = head c in patch-got (edition h) (known h) (set h) (h .loop .at) (c .before .before .before .check-patch .ensures) (all-bytes h) (c .before .patch .given .1)
 
 -- a patch has no more operations than it may, and no more absent targets than operations
 small : (c : tie.After-known-told Inv-loop μ-loop) → (patch c .head .«operation_count» ≤ patchOperations) × (patch c .absent ≤ patch c .head .«operation_count»)
@@ -71,8 +74,8 @@ small c =
     let h = head c in
     let l = h .loop in
     let g = one c in (
-      rw (count-is v1 (known h) (set h) (l .at) (l .left) (before h) (previousOf (l .previous)) (omega arith) (patch c) (end c) g) (few (set h) (l .at) (all-bytes h) (g .a) (drop (end c) (set h)) (g .is)),
-      few-absent v1 (known h) (set h) (l .at) (l .left) (before h) (previousOf (l .previous)) (omega arith) (patch c) (end c) g,
+      rw (count-is (edition h) (known h) (set h) (l .at) (l .left) (before h) (previousOf (l .previous)) (omega arith) (patch c) (end c) g) (few (edition h) (set h) (l .at) (all-bytes h) (g .a) (drop (end c) (set h)) (g .is)),
+      few-absent (edition h) (known h) (set h) (l .at) (l .left) (before h) (previousOf (l .previous)) (omega arith) (patch c) (end c) g,
     )
 
 room : (c : tie.After-known-told Inv-loop μ-loop) → let l = head c .loop in Fits w64 (l .operations + patch c .head .«operation_count») × (Fits w64 (l .absent + patch c .absent) × Fits w64 (l .done + 1))
@@ -83,7 +86,7 @@ taken : (c : tie.After-known-told Inv-loop μ-loop) → let h = head c in (h .lo
 taken c =
     let h = head c in
     let g = one c in
-    (least-taken v1 (known h) (set h) (h .loop .at) (all-bytes h) (omega arith) (patch c) (end c) g, omega (arith, g .there))
+    (least-taken (edition h) (known h) (set h) (h .loop .at) (all-bytes h) (omega arith) (patch c) (end c) g, omega (arith, g .there))
 
 below : (c : tie.After-known-told Inv-loop μ-loop) → let l = head c .loop in l .done < length (l .ids)
 below c =
@@ -96,7 +99,7 @@ below c =
 loop-holds : tie.Need-loop-holds Inv-loop μ-loop
 loop-holds c =
     let a = c .before .before .before .before .before .args in
-    (omega arith, (omega arith, (omega arith, (omega arith, ((refl, omega arith), (tt, none-passed v1 (anchored (a .nodes .now) (a .bindings .now) (a .collections .now)) (a .set .now) (a .from) (a .count)))))))
+    (omega arith, (omega arith, (omega arith, (omega arith, ((refl, omega arith), (tt, none-passed (editionOf (a .edition)) (anchored (a .nodes .now) (a .bindings .now) (a .collections .now)) (a .set .now) (a .from) (a .count)))))))
 
 check-patch-requires : tie.Need-check-patch-requires Inv-loop μ-loop
 check-patch-requires c κs = search needs
@@ -144,7 +147,7 @@ loop-again c =
     let id = envelopeOf (patch read .head .envelope) .id in
     let still = at-most-still (l .ids) _ (l .done) id (l .highest) _ fits (found .1) (l .inv .1 .1 .1 .1 .1 .0) (highest .0) (omega (arith, highest .1, own)) in (
       t .1,
-      (omega arith, (omega (arith, s .0), (omega (arith, s .1), ((ap length (found .1) ∙ length-set (l .ids) (l .done) _ ∙ l .inv .1 .1 .1 .1 .0 .0, omega (arith, t .0)), (still, turn v1 (known h) (set h) (l .at) (l .left) (before h) (previousOf (l .previous)) (omega arith) (patch read) (end read) g _ (l .ids) _ fits (found .0) (found .1) ∙ l .inv .1 .1 .1 .1 .1 .1))))),
+      (omega arith, (omega (arith, s .0), (omega (arith, s .1), ((ap length (found .1) ∙ length-set (l .ids) (l .done) _ ∙ l .inv .1 .1 .1 .1 .0 .0, omega (arith, t .0)), (still, turn (edition h) (known h) (set h) (l .at) (l .left) (before h) (previousOf (l .previous)) (omega arith) (patch read) (end read) g _ (l .ids) _ fits (found .0) (found .1) ∙ l .inv .1 .1 .1 .1 .1 .1))))),
     )
 
 enum-known-fault : tie.Need-enum-known-fault Inv-loop μ-loop
@@ -158,8 +161,8 @@ returns c =
     let h = c .before .before .before .before .before in
     let l = h .loop in
     let bound = c .before .fault .given in
-    patch-refused v1 (known h) (set h) (l .at) (l .left) (before h) (previousOf (l .previous)) (omega arith) (take (l .done) (l .ids)) (bound .0 .0)
-    (no-patch v1 (known h) (set h) (l .at) (c .before .before .before .check-patch .ensures) (bound .1))
+    patch-refused (edition h) (known h) (set h) (l .at) (l .left) (before h) (previousOf (l .previous)) (omega arith) (take (l .done) (l .ids)) (bound .0 .0)
+    (no-patch (edition h) (known h) (set h) (l .at) (c .before .before .before .check-patch .ensures) (bound .1))
     ∙ l .inv .1 .1 .1 .1 .1 .1
 
 sub-at-end : tie.Need-sub-at-end Inv-loop μ-loop
@@ -176,7 +179,7 @@ returns-2 c =
     let h = c .before .before in
     let l = h .loop in
     c .at-end .ensures
-    ∙ end-is v1 (known h) (set h) (l .at) (l .left) (before h) (previousOf (l .previous)) (take (l .done) (l .ids)) (l .done) (omega arith) refl
+    ∙ end-is (edition h) (known h) (set h) (l .at) (l .left) (before h) (previousOf (l .previous)) (take (l .done) (l .ids)) (l .done) (omega arith) refl
     ∙ l .inv .1 .1 .1 .1 .1 .1
 
 pub inspect-patches-spec : {M : Type 1} → statement M

@@ -7,7 +7,9 @@ use borrow.Author.Tests.{lt-leb}
 use lib.ListN.{length}
 use Rattle.spec_lists.specs.BytesLaws.{bytes-of}
 use Rattle.spec_patch.specs.Sizes.{setBytes}
+use Rattle.spec_patch.specs.Edition.{Edition}
 use Rattle.spec_patch.specs.Read.{readSet}
+use Rattle.projection_patch.specs.Meaning.{editionOf}
 use Rattle.patch_sets.proofs.PatchAnswers.{no-heading}
 use Rattle.patch_sets.proofs.ReadAt.{HeadingAt, heading-at}
 use Rattle.patch_sets.proofs.Runs.{set-by-patches, no-set}
@@ -22,16 +24,19 @@ start c = c .before .before .before .before .before .before .before
 abbrev set : tie.After-read-heading → List ℕ
 set c = start c .args .set .now
 
+abbrev edition : tie.After-read-heading → Edition
+edition c = editionOf (start c .args .edition)
+
 abbrev count : tie.After-known-told → ℕ
 count c = c .before .count .given .0 .0
 
 abbrev at : tie.After-known-told → ℕ
 at c = c .before .count .given .0 .1 .0
 
-front : (c : tie.After-known-told) → HeadingAt (set (c .before .before .before)) (count c) (at c)
+front : (c : tie.After-known-told) → let k = c .before .before .before in HeadingAt (edition k) (set k) (count c) (at c)
 front c =
     let k = c .before .before .before in
-    heading-at (set k) (bytes-of (set k) (λ j. k .before .before .before .before .before .before .shared-slice-known .given j .fits)) (k .read-heading .ensures) (c .before .count .given .1)
+    heading-at (edition k) (set k) (bytes-of (set k) (λ j. k .before .before .before .before .before .before .shared-slice-known .given j .fits)) (k .read-heading .ensures) (c .before .count .given .1)
 
 returns : tie.Need-returns
 unfolding readSet inspectedBy
@@ -58,15 +63,15 @@ returns-2 c =
     let k = told .before .before .before in
     let a = start k .args in
     c .before .before .inspect-patches .ensures
-    ∙ ap (inspectionAnswer (a .nodes .now) (a .bindings .now) (a .collections .now)) (sym (set-by-patches (set k) (omega arith) (front told .got)))
+    ∙ ap (inspectionAnswer (a .nodes .now) (a .bindings .now) (a .collections .now)) (sym (set-by-patches (edition k) (set k) (omega arith) (front told .got)))
 
 returns-3 : tie.Need-returns-3
 unfolding inspectedBy
 returns-3 c =
     let k = c .before .before .before in
     let bound = c .before .fault .given in
-    let g = no-heading (set k) 0 (k .read-heading .result) (k .read-heading .ensures) (bound .0 .0) (bound .1) in
-    rw (no-set (set k) (omega arith) g, g .same)
+    let g = no-heading (set k) 0 (edition k) (k .read-heading .result) (k .read-heading .ensures) (bound .0 .0) (bound .1) in
+    rw (no-set (edition k) (set k) (omega arith) g, g .same)
 
 pub inspect-with-spec : {M : Type 1} → statement M
 inspect-with-spec =

@@ -5,8 +5,9 @@ use mathlib.Core.Bool.{Bool, false}
 use mathlib.Core.List.{List, []}
 use native.Mathlib.Omega.{arith}
 use Rattle.spec_lists.specs.BytesLaws.{bytes-of}
-use Rattle.spec_patch.specs.Edition.{v1}
+use Rattle.spec_patch.specs.Edition.{Edition}
 use Rattle.spec_checks.specs.Target.{MutationTarget}
+use Rattle.projection_patch.specs.Meaning.{editionOf}
 use Rattle.patch_sets.proofs.ReadAt.{OperationAt, operation-at, no-operation-at}
 use Rattle.check_targets.specs.Targets.{targetOf, numbersOf, targetSeen}
 use Rattle.check_quick.specs.Anchors.{anchored, absentAmong}
@@ -21,16 +22,19 @@ start c = c .before .before .before .before .before .before
 abbrev set : tie.After-operation-from → List ℕ
 set c = start c .args .set .now
 
+abbrev edition : tie.After-operation-from → Edition
+edition c = editionOf (start c .args .edition)
+
 abbrev known : tie.After-operation-from → MutationTarget → Bool
 known c = let a = start c .args in anchored (a .nodes .now) (a .bindings .now) (a .collections .now)
 
 abbrev taken : tie.After-known-told → ℕ
 taken c = c .before .operation .given .0 .1 .0
 
-one : (c : tie.After-known-told) → let k = c .before .before .before in OperationAt (set k) (start k .args .at) (c .before .operation .given .0 .0) (taken c)
+one : (c : tie.After-known-told) → let k = c .before .before .before in OperationAt (edition k) (set k) (start k .args .at) (c .before .operation .given .0 .0) (taken c)
 one c =
     let k = c .before .before .before in
-    operation-at (set k) (start k .args .at) (k .operation-from .ensures) (bytes-of (set k) (λ j. k .before .before .before .before .before .shared-slice-known .given j .fits)) (omega arith) (c .before .operation .given .1)
+    operation-at (edition k) (set k) (start k .args .at) (k .operation-from .ensures) (bytes-of (set k) (λ j. k .before .before .before .before .before .shared-slice-known .given j .fits)) (omega arith) (c .before .operation .given .1)
 
 sub-operation-from : tie.Need-sub-operation-from
 sub-operation-from c = search needs
@@ -56,8 +60,8 @@ before-self-requires c κs = search needs
 one-if-absent-requires : tie.Need-one-if-absent-requires
 one-if-absent-requires c κs = search needs
 
-add-t19 : tie.Need-add-t19
-add-t19 c = omega (arith, one (c .before .before .before) .within)
+add-t20 : tie.Need-add-t20
+add-t20 c = omega (arith, one (c .before .before .before) .within)
 
 enum-known-fault : tie.Need-enum-known-fault
 enum-known-fault c = search needs
@@ -70,14 +74,14 @@ returns c =
     let at = start k .args .at in
     let target = c .before .before .mutation-target .result in
     let self = c .before .before-self in
-    none-left v1 (known k) (set k) (at + taken told) 0 (self .result) (numbersOf (targetOf target)) (one told .within) refl (c .one-if-absent .result) (omega (arith, c .one-if-absent .ensures))
-    ∙ turn v1 (known k) (set k) at 1 false [] (omega arith) _ (taken told) (one told .got) (targetOf target) (self .result) (numbersOf (targetOf target)) (c .before .before .mutation-target .ensures []) (self .ensures []) refl
+    none-left (edition k) (known k) (set k) (at + taken told) 0 (self .result) (numbersOf (targetOf target)) (one told .within) refl (c .one-if-absent .result) (omega (arith, c .one-if-absent .ensures))
+    ∙ turn (edition k) (known k) (set k) at 1 false [] (omega arith) _ (taken told) (one told .got) (targetOf target) (self .result) (numbersOf (targetOf target)) (c .before .before .mutation-target .ensures []) (self .ensures []) refl
 
 returns-2 : tie.Need-returns-2
 returns-2 c =
     let k = c .before .before .before in
     let bound = c .before .fault .given in
-    refusal v1 (known k) (set k) (start k .args .at) 1 false [] (omega arith) (bound .0 .0) (no-operation-at (set k) (start k .args .at) (k .operation-from .ensures) (bound .1))
+    refusal (edition k) (known k) (set k) (start k .args .at) 1 false [] (omega arith) (bound .0 .0) (no-operation-at (edition k) (set k) (start k .args .at) (k .operation-from .ensures) (bound .1))
 
 pub check-one-spec : {M : Type 1} → statement M
 check-one-spec =
@@ -91,7 +95,7 @@ check-one-spec =
     mutation-target-requires
     before-self-requires
     one-if-absent-requires
-    add-t19
+    add-t20
     enum-known-fault
     returns
     returns-2)

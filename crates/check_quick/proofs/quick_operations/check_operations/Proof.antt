@@ -5,8 +5,8 @@ use mathlib.Core.Bool.{Bool, false}
 use mathlib.Core.List.{[]}
 use native.Mathlib.Omega.{arith}
 use lib.Seq.{length-take-le}
-use Rattle.spec_patch.specs.Edition.{v1}
 use Rattle.spec_checks.specs.Target.{MutationTarget}
+use Rattle.projection_patch.specs.Meaning.{editionOf}
 use Rattle.check_quick.specs.Anchors.{anchored}
 use Rattle.check_quick.proofs.QuickRuns.{leftAnswer}
 use borrow.Author.Needs.{needs}
@@ -22,7 +22,7 @@ check-one-requires c κs = search needs
 returns : tie.Need-returns
 returns c =
     let start = c .before .before .before .before .before .before in
-    c .check-one .ensures ∙ sym (ap (λ (n : ℕ). leftAnswer v1 (known start) (start .args .set .now) (start .args .from) n false []) (c .before .if1 .taken))
+    c .check-one .ensures ∙ sym (ap (λ (n : ℕ). leftAnswer (editionOf (start .args .edition)) (known start) (start .args .set .now) (start .args .from) n false []) (c .before .if1 .taken))
 
 mul-used : tie.Need-mul-used
 mul-used c = omega arith

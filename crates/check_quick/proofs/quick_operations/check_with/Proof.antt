@@ -6,8 +6,9 @@ use mathlib.Core.List.{List, []}
 use native.Mathlib.Omega.{arith}
 use lib.ListN.{length, take}
 use Rattle.spec_lists.specs.BytesLaws.{bytes-of}
-use Rattle.spec_patch.specs.Edition.{v1}
+use Rattle.spec_patch.specs.Edition.{Edition}
 use Rattle.spec_checks.specs.Target.{MutationTarget}
+use Rattle.projection_patch.specs.Meaning.{editionOf}
 use Rattle.patch_sets.proofs.ReadAt.{OperationAt, operation-at, no-operation-at}
 use Rattle.check_targets.specs.Targets.{targetOf, targetSeen}
 use Rattle.check_targets.specs.TargetsLaws.{with-target-front, with-target-length}
@@ -22,12 +23,12 @@ use Rattle.check_quick.proofs.quick_operations.check_with.Statement.{st
 use Rattle.check_quick.proofs.quick_operations.check_with.Tie as tie
 
 abbrev Inv-loop : tie.InvT-loop
-Inv-loop set from count targets₀ marks₀ at₀ left₀ used₀ found₀ targets marks at left used found =
+Inv-loop set edition from count targets₀ marks₀ at₀ left₀ used₀ found₀ targets marks at left used found =
     (at ≤ length set) × ((used + 3 * left ≡ 3 * count) × ((length targets ≡ length targets₀) × (Marked marks (take used targets)
-    × ((known : MutationTarget → Bool) → leftAnswer v1 known set at left found (take used targets) ≡ leftAnswer v1 known set from count false []))))
+    × ((known : MutationTarget → Bool) → leftAnswer (editionOf edition) known set at left found (take used targets) ≡ leftAnswer (editionOf edition) known set from count false []))))
 
 abbrev μ-loop : tie.MeasureT-loop
-μ-loop set from count targets₀ marks₀ at₀ left₀ used₀ found₀ targets marks at left used found = left
+μ-loop set edition from count targets₀ marks₀ at₀ left₀ used₀ found₀ targets marks at left used found = left
 
 abbrev start : tie.At-loop Inv-loop μ-loop → tie.Start Inv-loop μ-loop
 start c = c .before .before .before .before
@@ -39,13 +40,16 @@ head c = c .before .before .before
 abbrev set : tie.After-operation-from Inv-loop μ-loop → List ℕ
 set c = start (head c) .args .set .now
 
+abbrev edition : tie.After-operation-from Inv-loop μ-loop → Edition
+edition c = editionOf (start (head c) .args .edition)
+
 abbrev taken : tie.After-known-told Inv-loop μ-loop → ℕ
 taken c = c .before .operation .given .0 .1 .0
 
-one : (c : tie.After-known-told Inv-loop μ-loop) → let k = c .before .before .before in OperationAt (set k) (head k .loop .at) (c .before .operation .given .0 .0) (taken c)
+one : (c : tie.After-known-told Inv-loop μ-loop) → let k = c .before .before .before in OperationAt (edition k) (set k) (head k .loop .at) (c .before .operation .given .0 .0) (taken c)
 one c =
     let k = c .before .before .before in
-    operation-at (set k) (head k .loop .at) (k .operation-from .ensures) (bytes-of (set k) (λ j. head k .before .before .before .shared-slice-known .given j .fits)) (omega arith) (c .before .operation .given .1)
+    operation-at (edition k) (set k) (head k .loop .at) (k .operation-from .ensures) (bytes-of (set k) (λ j. head k .before .before .before .shared-slice-known .given j .fits)) (omega arith) (c .before .operation .given .1)
 
 -- there is room for the targets of the operations left
 room : (c : tie.At-loop Inv-loop μ-loop) → c .loop .used + 3 * c .loop .left ≤ length (c .loop .targets)
@@ -111,7 +115,7 @@ loop-again c =
     let front = ap (take (l .used + 3)) (found .1 .0) ∙ with-target-front (l .used) (targetOf (target .result)) (l .targets) more in
     let told = found .0 ∙ ap (λ (b : Bool). l .found || (targetSeen (targetOf (target .result)) (take (l .used) (l .targets)) || b)) (self .ensures []) in (
       one k .within,
-      (omega arith, (omega (arith, same), (rw front (found .1 .1), λ known. turn v1 known (set r) (l .at) (l .left) (l .found) (take (l .used) (l .targets)) (omega arith) _ (taken k) (one k .got) (targetOf (target .result)) _ _ (target .ensures []) told front ∙ l .inv .1 .1 .1 .1 known))),
+      (omega arith, (omega (arith, same), (rw front (found .1 .1), λ known. turn (edition r) known (set r) (l .at) (l .left) (l .found) (take (l .used) (l .targets)) (omega arith) _ (taken k) (one k .got) (targetOf (target .result)) _ _ (target .ensures []) told front ∙ l .inv .1 .1 .1 .1 known))),
     )
 
 enum-known-fault : tie.Need-enum-known-fault Inv-loop μ-loop
@@ -128,7 +132,7 @@ returns c =
     let r = c .before .before .before in
     let l = head r .loop in
     let bound = c .before .fault .given in
-    λ known. refusal v1 known (set r) (l .at) (l .left) (l .found) (take (l .used) (l .targets)) (omega arith) (bound .0 .0) (no-operation-at (set r) (l .at) (r .operation-from .ensures) (bound .1))
+    λ known. refusal (edition r) known (set r) (l .at) (l .left) (l .found) (take (l .used) (l .targets)) (omega arith) (bound .0 .0) (no-operation-at (edition r) (set r) (l .at) (r .operation-from .ensures) (bound .1))
     ∙ l .inv .1 .1 .1 .1 known
 
 same-length-3 : tie.Need-same-length-3 Inv-loop μ-loop
@@ -142,7 +146,7 @@ returns-2 c =
     let h = c .before in
     let l = h .loop in
     let all : 3 * start h .args .count ≡ l .used = omega arith in
-    λ known. none-left v1 known (start h .args .set .now) (l .at) (l .left) (l .found) (take (l .used) (l .targets)) (omega arith) (omega arith) (absentAmong known (take (3 * start h .args .count) (l .targets)))
+    λ known. none-left (editionOf (start h .args .edition)) known (start h .args .set .now) (l .at) (l .left) (l .found) (take (l .used) (l .targets)) (omega arith) (omega arith) (absentAmong known (take (3 * start h .args .count) (l .targets)))
     (ap (λ (n : ℕ). absentAmong known (take n (l .targets))) all)
     ∙ l .inv .1 .1 .1 .1 known
 

@@ -7,10 +7,10 @@ use native.Mathlib.Omega.{arith}
 use lib.ListN.{drop}
 use Rattle.spec_lists.specs.Bytes.{Bytes}
 use Rattle.spec_lists.specs.BytesLaws.{bytes-of}
-use Rattle.spec_patch.specs.Edition.{v1}
+use Rattle.spec_patch.specs.Edition.{Edition}
 use Rattle.spec_patch.specs.Reader.{read, refused}
 use Rattle.spec_checks.specs.Target.{MutationTarget}
-use Rattle.projection_patch.specs.Meaning.{envelopeOf}
+use Rattle.projection_patch.specs.Meaning.{editionOf, envelopeOf}
 use Rattle.projection_patch.specs.declared.patch.ProjectionPatch.{ProjectionPatch}
 use Rattle.patch_sets.proofs.ReadAt.{HeadAt, head-at, no-head-at}
 use Rattle.patch_sets.proofs.Runs.{run-length, patch-read, head-refused}
@@ -27,6 +27,9 @@ start c = c .before .before .before .before .before .before
 
 abbrev set : tie.After-read-patch-head → List ℕ
 set c = start c .args .set .now
+
+abbrev edition : tie.After-read-patch-head → Edition
+edition c = editionOf (start c .args .edition)
 
 abbrev at : tie.After-read-patch-head → ℕ
 at c = start c .args .at
@@ -87,9 +90,9 @@ returns c =
     let n = head k .«operation_count» in
     let bound = c .before .before .tally .given in
     let end = bound .0 .1 .0 in
-    let os = operations-got v1 (known s) (set s) (at s + taken k) n (call .check-operations .ensures) (all-bytes s) (bound .1) in
-    let long = run-length (set s) (at s + taken k) n (all-bytes s) (os .a) (drop end (set s)) (os .is) in
-    patch-checked v1 (known s) (front k) (os .a) end (patch-read (set s) (at s) (front k) (read (os .a) (drop end (set s))) (os .is)) long (os .there) (c .patch-found .result) (bound .0 .0 .absent)
+    let os = operations-got (edition s) (known s) (set s) (at s + taken k) n (call .check-operations .ensures) (all-bytes s) (bound .1) in
+    let long = run-length (edition s) (set s) (at s + taken k) n (all-bytes s) (os .a) (drop end (set s)) (os .is) in
+    patch-checked (edition s) (known s) (front k) (os .a) end (patch-read (edition s) (set s) (at s) (front k) (read (os .a) (drop end (set s))) (os .is)) long (os .there) (c .patch-found .result) (bound .0 .0 .absent)
     (c .patch-found .ensures ∙ ap (λ (t : Tally). headFound (envelopeOf (head k .envelope)) n || t .found) (sym (os .same)))
     (ap (λ (t : Tally). t .absent) (sym (os .same)))
 
@@ -98,14 +101,14 @@ returns-2 c =
     let call = c .before .before .before in
     let k = call .before in
     let s = k .before .before .before in
-    let g = no-operations v1 (known s) (set s) (at s + taken k) (head k .«operation_count») (call .check-operations .ensures) (c .before .fault .given .1) in
-    rw (patch-read (set s) (at s) (front k) (refused (g .fault)) (g .is), g .same)
+    let g = no-operations (edition s) (known s) (set s) (at s + taken k) (head k .«operation_count») (call .check-operations .ensures) (c .before .fault .given .1) in
+    rw (patch-read (edition s) (set s) (at s) (front k) (refused (g .fault)) (g .is), g .same)
 
 returns-3 : tie.Need-returns-3
 returns-3 c =
     let s = c .before .before .before in
     let g = no-head-at (set s) (at s) (s .read-patch-head .ensures) (c .before .fault2 .given .1) in
-    rw (head-refused (set s) (at s) g, g .same)
+    rw (head-refused (edition s) (set s) (at s) g, g .same)
 
 pub check-patch-spec : {M : Type 1} → statement M
 check-patch-spec =

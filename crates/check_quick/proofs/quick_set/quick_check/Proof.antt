@@ -1,7 +1,7 @@
 -- `check_quick::quick_set::quick_check` meets its contract: the inspection's answer, whatever anchors are lent.
 use mathlib.Core.Path.{_≡_, sym, ap, _∙_}
-use Rattle.spec_patch.specs.Edition.{v1}
 use Rattle.spec_patch.specs.Read.{readSet}
+use Rattle.projection_patch.specs.Meaning.{editionOf}
 use Rattle.check_quick.specs.QuickAnswers.{quickAnswer}
 use Rattle.check_quick.specs.QuickLaws.{quickOf, quick-is}
 use Rattle.check_quick.specs.declared.inspection.SetInspection.{SetInspection}
@@ -9,7 +9,7 @@ use borrow.Author.Needs.{needs}
 use Rattle.check_quick.proofs.quick_set.quick_check.Statement.{statement}
 use Rattle.check_quick.proofs.quick_set.quick_check.Tie as tie
 
-told : (c : tie.After-inspect-set) (i : SetInspection) → c .inspect-set .result ≡ i → quickOf i ≡ quickAnswer (readSet v1 (c .before .before .before .before .before .args .set .now))
+told : (c : tie.After-inspect-set) (i : SetInspection) → c .inspect-set .result ≡ i → let a = c .before .before .before .before .before .args in quickOf i ≡ quickAnswer (readSet (editionOf (a .edition)) (a .set .now))
 told c i e = ap quickOf (sym e ∙ c .inspect-set .ensures) ∙ quick-is _ _
 
 slice-aggregate-inspect-set : tie.Need-slice-aggregate-inspect-set

@@ -39,6 +39,12 @@ enum-known-value-4 c = search needs
 text-value-requires : tie.Need-text-value-requires
 text-value-requires c κs = search needs
 
+enum-known-value-5 : tie.Need-enum-known-value-5
+enum-known-value-5 c = search needs
+
+score-value-requires : tie.Need-score-value-requires
+score-value-requires c κs = search needs
+
 returns : tie.Need-returns
 returns c =
     let value = c .before .before .before in
@@ -65,6 +71,12 @@ returns-4 c =
     let there = subst (λ v. Within row (valueText v)) (value .value4 .given .1) w in
     c .text-value .ensures (there .inside) (there .short) ∙ sym (ap (λ v. foundValue (valueOf row v)) (value .value4 .given .1))
 
+returns-5 : tie.Need-returns-5
+returns-5 c =
+    let value = c .before .before in
+    let row = now (value .before .before .before .args .row) in
+    λ w. c .score-value .ensures ∙ sym (ap (λ v. foundValue (valueOf row v)) (value .value5 .given .1))
+
 pub value-lookup-spec : {M : Type 1} → statement M
 value-lookup-spec =
     tie.close
@@ -78,7 +90,10 @@ value-lookup-spec =
     unsigned-value-requires
     enum-known-value-4
     text-value-requires
+    enum-known-value-5
+    score-value-requires
     returns
     returns-2
     returns-3
-    returns-4)
+    returns-4
+    returns-5)

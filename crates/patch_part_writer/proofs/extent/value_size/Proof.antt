@@ -24,6 +24,9 @@ enum-known-value c = search needs
 add-result : tie.Need-add-result
 add-result c = let short = subst (λ (w : ProjectionPatchValue). valueText w .len ≤ textBytes) (c .before .value .given .1) (c .before .before .before .pre) in omega arith
 
+enum-told-4 : tie.Need-enum-told-4
+enum-told-4 c = search needs
+
 returns : tie.Need-returns
 returns c = search needs
 
@@ -36,6 +39,9 @@ returns-3 c = search needs
 returns-4 : tie.Need-returns-4
 returns-4 c = sym (ap valueSize (c .before .value .given .1))
 
+returns-5 : tie.Need-returns-5
+returns-5 c = search needs
+
 pub value-size-spec : {M : Type 1} → statement M
 value-size-spec =
     tie.close
@@ -45,7 +51,9 @@ value-size-spec =
     enum-told-3
     enum-known-value
     add-result
+    enum-told-4
     returns
     returns-2
     returns-3
-    returns-4)
+    returns-4
+    returns-5)

@@ -17,6 +17,9 @@ enum-told-3 c = search needs
 enum-known-value : tie.Need-enum-known-value
 enum-known-value c = search needs
 
+enum-told-4 : tie.Need-enum-told-4
+enum-told-4 c = search needs
+
 returns : tie.Need-returns
 returns c = sym (ap valueText (c .enum-told .given .1))
 
@@ -29,6 +32,9 @@ returns-3 c = sym (ap valueText (c .enum-told3 .given .1))
 returns-4 : tie.Need-returns-4
 returns-4 c = sym (ap valueText (c .before .value .given .1))
 
+returns-5 : tie.Need-returns-5
+returns-5 c = sym (ap valueText (c .enum-told4 .given .1))
+
 pub value-text-spec : {M : Type 1} → statement M
 value-text-spec =
     tie.close
@@ -37,7 +43,9 @@ value-text-spec =
     enum-told-2
     enum-told-3
     enum-known-value
+    enum-told-4
     returns
     returns-2
     returns-3
-    returns-4)
+    returns-4
+    returns-5)

@@ -1,5 +1,4 @@
 -- `fields::store_value` meets its contract: an arm for each kind.
-use Prim.Native.Nat.{ℕ}
 use Prim.Native.Nat.{ℕ, _+_, _≤_}
 use mathlib.Core.List.{[], _∷_, _++_}
 use mathlib.Core.Path.{sym, ap, subst, _∙_}
@@ -62,6 +61,16 @@ store-text-requires c κs =
     let known = subst (λ (w : ProjectionPatchValue). (args .at + valueSize w ≤ length (now (args .out))) × Within (now (args .texts)) (valueText w)) (c .before .before .value4 .given .1) (start .pre) in
     (known .0, known .1 .inside, known .1 .short)
 
+enum-known-value-5 : tie.Need-enum-known-value-5
+enum-known-value-5 c = search needs
+
+store-two-requires-2 : tie.Need-store-two-requires-2
+store-two-requires-2 c κs =
+    let start = c .before .before .before .before .before .before in
+    let args = start .args in
+    let known = subst (λ (w : ProjectionPatchValue). (args .at + valueSize w ≤ length (now (args .out))) × Within (now (args .texts)) (valueText w)) (c .before .before .value5 .given .1) (start .pre) in
+    known .0
+
 same-length : tie.Need-same-length
 same-length c = search needs
 
@@ -117,6 +126,18 @@ returns-4 c =
     ∙ ap (λ (n : ℕ). overwrite l (args .at) (3 ∷ u32 n ++ bytes)) (sym (length-text texts (given .0 .0) (given .0 .1 .0) (known .inside)))
     ∙ sym (ap (λ (w : ProjectionPatchValue). overwrite l (args .at) (encodeValue (valueOf texts w))) (given .1))
 
+same-length-5 : tie.Need-same-length-5
+same-length-5 c = search needs
+
+returns-5 : tie.Need-returns-5
+unfolding encodeValue kindOf valueBody encodeText
+returns-5 c =
+    let args = c .before .before .before .before .before .before .before .before .before .args in
+    let l = now (args .out) in
+    let texts = now (args .texts) in
+    c .before .before .store-two2 .ensures
+    ∙ sym (ap (λ (w : ProjectionPatchValue). overwrite l (args .at) (encodeValue (valueOf texts w))) (c .before .before .before .before .before .value5 .given .1))
+
 pub store-value-spec : {M : Type 1} → statement M
 store-value-spec =
     tie.close
@@ -130,6 +151,8 @@ store-value-spec =
     store-tagged-requires
     enum-known-value-4
     store-text-requires
+    enum-known-value-5
+    store-two-requires-2
     same-length
     returns
     same-length-2
@@ -137,4 +160,6 @@ store-value-spec =
     same-length-3
     returns-3
     same-length-4
-    returns-4)
+    returns-4
+    same-length-5
+    returns-5)

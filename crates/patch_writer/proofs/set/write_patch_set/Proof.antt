@@ -8,11 +8,12 @@ use borrow.Author.Needs.{needs}
 use Rattle.spec_lists.specs.ListLaws.{unmapped}
 use denote.Ref.{now}
 use lib.ListN.{length, take}
-use Rattle.spec_patch.specs.Edition.{v1}
+use Rattle.spec_patch.specs.Edition.{Edition}
 use Rattle.spec_patch.specs.Read.{patches, readSet}
 use Rattle.spec_patch.specs.Encode.{u32, heading, encodePatch, encode}
 use Rattle.bytes_wire.specs.Write.{overwrite}
 use Rattle.bytes_wire.specs.WriteLaws.{length-overwrite, overwrite-append}
+use Rattle.projection_patch.specs.Meaning.{editionOf}
 use Rattle.projection_patch.specs.declared.patch.ProjectionPatchSet.{ProjectionPatchSet}
 use Rattle.patch_part_writer.specs.declared.written.Written.{Written}
 use Rattle.patch_part_writer.specs.declared.written.Written.the-variants.{Wrote}
@@ -30,15 +31,18 @@ arrays c = record { patches = search (needs, unmapped); operations = search (nee
 
 -- with what both clauses say of an answer and an output, what was written is read back
 also-read : (c : tie.Start) (r : Written) (o : List ℕ)
-    → let out = now (c .args .out) in let w = patchSetBytes (now (c .args .texts)) (c .args .set) in
+    → let out = now (c .args .out) in let w = patchSetBytes (editionOf (c .args .edition)) (now (c .args .texts)) (c .args .set) in
     (r ≡ answerAt out 0 w) × (o ≡ outputAt out 0 w)
-    → (r ≡ answerAt out 0 w) × ((o ≡ outputAt out 0 w) × ((n : ℕ) → r ≡ Wrote n → readSet v1 (take n o) ≡ patches (listOf (now (c .args .texts)) (c .args .set))))
-also-read c r o h = (h .0, (h .1, written-read (now (c .args .texts)) (c .args .set) (record { machine = _; known = c .good .0 }) (now (c .args .out)) r o (h .0) (h .1)))
+    → (r ≡ answerAt out 0 w) × ((o ≡ outputAt out 0 w) × ((n : ℕ) → r ≡ Wrote n → readSet (editionOf (c .args .edition)) (take n o) ≡ patches (listOf (now (c .args .texts)) (c .args .set))))
+also-read c r o h = (h .0, (h .1, written-read (editionOf (c .args .edition)) (now (c .args .texts)) (c .args .set) (record { machine = _; known = c .good .0 }) (now (c .args .out)) r o (h .0) (h .1)))
 
 -- ---- where the survey passes
 
 abbrev begun : tie.After-operations → tie.Start
 begun e = e .before .before .before .before .before
+
+abbrev ed : tie.After-operations → Edition
+ed e = editionOf (begun e .args .edition)
 
 abbrev texts : tie.After-operations → List ℕ
 texts e = now (begun e .args .texts)
@@ -49,8 +53,8 @@ set e = begun e .args .set
 abbrev bytes : tie.After-operations → ℕ
 bytes e = e .operations .given .0 .1 .0
 
-surveyed : (e : tie.After-operations) → SurveyWithin (texts e) (set e) (e .operations .given .0 .0) (bytes e)
-surveyed e = survey-within (texts e) (set e) _ _ (sym (e .before .before .survey-set .ensures) ∙ e .operations .given .1)
+surveyed : (e : tie.After-operations) → SurveyWithin (ed e) (texts e) (set e) (e .operations .given .0 .0) (bytes e)
+surveyed e = survey-within (ed e) (texts e) (set e) _ _ (sym (e .before .before .survey-set .ensures) ∙ e .operations .given .1)
 
 -- the heading and the patches
 abbrev body : tie.After-operations → List ℕ
@@ -59,8 +63,8 @@ body e = flatMap encodePatch (listOf (texts e) (set e))
 sized : (e : tie.After-operations) → 35 + length (body e) ≡ bytes e
 sized e = patches-fit (texts e) (set e) (arrays (begun e)) (surveyed e .fit) (surveyed e .inside) ∙ sym (surveyed e .sized)
 
-encoded-size : (e : tie.After-operations) → length (encode v1 (listOf (texts e) (set e))) ≡ bytes e
-encoded-size e = encode-size (texts e) (set e) (arrays (begun e)) (surveyed e .fit) (surveyed e .inside) ∙ sym (surveyed e .sized)
+encoded-size : (e : tie.After-operations) → length (encode (ed e) (listOf (texts e) (set e))) ≡ bytes e
+encoded-size e = encode-size (texts e) (set e) (arrays (begun e)) (surveyed e .fit) (ed e) (surveyed e .inside) ∙ sym (surveyed e .sized)
 
 survey-set-requires : tie.Need-survey-set-requires
 survey-set-requires c κs = search needs
@@ -85,7 +89,7 @@ store-heading-requires c κs =
 write-patches-requires : tie.Need-write-patches-requires
 write-patches-requires c κs =
     let e = c .before .before .before .before .before .before .before in
-    let long = ap length (c .before .before .before .store-heading .ensures) ∙ length-overwrite (now (begun e .args .out)) 0 (heading v1 ++ u32 (set e .«patch_count»)) in
+    let long = ap length (c .before .before .before .store-heading .ensures) ∙ length-overwrite (now (begun e .args .out)) 0 (heading (ed e) ++ u32 (set e .«patch_count»)) in
     record {
       counted = surveyed e .counted;
       fit = surveyed e .fit;
@@ -98,7 +102,7 @@ returns-2 : tie.Need-returns-2
 returns-2 c =
     let start = c .before .before .before .before .before .before in
     let args = start .args in
-    also-read start _ _ (answers-refusal (now (args .out)) 0 (c .before .refusal .given .0 .0) (survey-refused (now (args .texts)) (args .set) (c .before .refusal .given .0 .0) (sym (c .before .before .before .survey-set .ensures) ∙ c .before .refusal .given .1)))
+    also-read start _ _ (answers-refusal (now (args .out)) 0 (c .before .refusal .given .0 .0) (survey-refused (editionOf (args .edition)) (now (args .texts)) (args .set) (c .before .refusal .given .0 .0) (sym (c .before .before .before .survey-set .ensures) ∙ c .before .refusal .given .1)))
 
 same-length : tie.Need-same-length
 same-length c = search needs
@@ -112,8 +116,8 @@ returns-3 c =
     let all =
     call .write-patches .ensures .1
     ∙ ap (λ (o : List ℕ). overwrite o 35 (body e)) (call .before .before .before .before .store-heading .ensures)
-    ∙ overwrite-append out 0 (heading v1 ++ u32 (set e .«patch_count»)) (body e) 35 (length-heading (set e .«patch_count»)) (omega arith)
-    ∙ ap (overwrite out 0) (sym (encode-parts (texts e) (set e) (arrays (begun e)) (surveyed e .fit))) in
+    ∙ overwrite-append out 0 (heading (ed e) ++ u32 (set e .«patch_count»)) (body e) 35 (length-heading (ed e) (set e .«patch_count»)) (omega arith)
+    ∙ ap (overwrite out 0) (sym (encode-parts (texts e) (set e) (arrays (begun e)) (surveyed e .fit) (ed e))) in
     let answered = answers-wrote out 0 (surveyed e .result) (35 + length (body e)) (encoded-size e ∙ sym (sized e)) (le-leb (0 + (35 + length (body e))) (length out) (omega arith)) (call .write-patches .last .1 .1 .1 .0) all in
     let position : 35 + length (body e) ≡ 0 + (35 + length (body e)) = omega arith in
     also-read (begun e) _ _ (ap Wrote (call .write-patches .ensures .0 ∙ position) ∙ answered .0, answered .1)

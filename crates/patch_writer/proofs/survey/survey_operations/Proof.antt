@@ -8,34 +8,36 @@ use Rattle.spec_lists.specs.ListLaws.{unmapped}
 use denote.Ref.{now}
 use lib.ListN.{length, getD, take}
 use Rattle.spec_patch.specs.Sizes.{textBytes}
+use Rattle.spec_patch.specs.Edition.{Edition}
+use Rattle.projection_patch.specs.Meaning.{editionOf}
 use Rattle.projection_patch.specs.declared.patch.OperationPlace.{OperationPlace}
 use Rattle.projection_patch.specs.declared.text_rule.TextJudgement.{TextJudgement}
 use Rattle.patch_part_writer.specs.declared.extent.TextPlace.{TextPlace}
 use Rattle.patch_part_writer.specs.ExtentLaws.{operation-small}
 use Rattle.patch_part_writer.specs.PartsLaws.{size-kept}
-use Rattle.patch_writer.specs.Survey.{judgedText, worse}
+use Rattle.patch_writer.specs.Survey.{worse}
 use Rattle.patch_writer.proofs.Elements.{noPlace, left-cons, left-none}
 use Rattle.patch_writer.proofs.Surveyed.{OperationsSeen, operations-start, operations-next, operations-over, operations-end}
 use Rattle.patch_writer.proofs.survey.survey_operations.Statement.{statement}
 use Rattle.patch_writer.proofs.survey.survey_operations.Tie as tie
 
 -- the size and the judgement as the calls give them
-turned : (texts : List ℕ) (ps : List OperationPlace) (bytes i : ℕ) {n m : ℕ} {a b : TextJudgement} → n ≡ m → a ≡ b → OperationsSeen texts ps (bytes + m) b i → OperationsSeen texts ps (bytes + n) a i
-turned texts ps bytes i {n} {m} {a} {b} e f seen =
-    subst (λ (k : ℕ). OperationsSeen texts ps (bytes + k) a i) (sym e) (subst (λ (t : TextJudgement). OperationsSeen texts ps (bytes + m) t i) (sym f) seen)
+turned : (ed : Edition) (texts : List ℕ) (ps : List OperationPlace) (bytes i : ℕ) {n m : ℕ} {a b : TextJudgement} → n ≡ m → a ≡ b → OperationsSeen ed texts ps (bytes + m) b i → OperationsSeen ed texts ps (bytes + n) a i
+turned ed texts ps bytes i {n} {m} {a} {b} e f seen =
+    subst (λ (k : ℕ). OperationsSeen ed texts ps (bytes + k) a i) (sym e) (subst (λ (t : TextJudgement). OperationsSeen ed texts ps (bytes + m) t i) (sym f) seen)
 
 abbrev Inv-loop : tie.InvT-loop
-Inv-loop operations texts set bytes₀ judgement₀ i₀ bytes judgement i =
-    (i ≤ operations) × OperationsSeen texts (take operations (set .operations)) bytes judgement i
+Inv-loop operations texts edition set bytes₀ judgement₀ i₀ bytes judgement i =
+    (i ≤ operations) × OperationsSeen (editionOf edition) texts (take operations (set .operations)) bytes judgement i
 
 abbrev μ-loop : tie.MeasureT-loop
-μ-loop operations texts set bytes₀ judgement₀ i₀ bytes judgement i = operations - i
+μ-loop operations texts edition set bytes₀ judgement₀ i₀ bytes judgement i = operations - i
 
 long : (c : tie.Start Inv-loop μ-loop) → length (c .args .t1 .operations) ≡ 3120
 long c = search (needs, unmapped)
 
 loop-holds : tie.Need-loop-holds Inv-loop μ-loop
-loop-holds c = (omega arith, operations-start (now (c .before .args .texts)) (take (c .before .args .operations) (c .before .args .t1 .operations)))
+loop-holds c = (omega arith, operations-start (editionOf (c .before .args .edition)) (now (c .before .args .texts)) (take (c .before .args .operations) (c .before .args .t1 .operations)))
 
 mul-place : tie.Need-mul-place Inv-loop μ-loop
 mul-place c = search needs
@@ -66,8 +68,8 @@ add-bytes c =
     let short = subst (λ (t : TextPlace). t .len ≤ textBytes) (c .before .before .before .operation-text .ensures) (c .before .if1 .left) in
     omega (arith, loop .inv .1 .small, c .operation-size .ensures ∙ size-kept (place .operation) short, operation-small (place .operation) short)
 
-judge-place-requires : tie.Need-judge-place-requires Inv-loop μ-loop
-judge-place-requires c κs = search needs
+judge-operation-requires : tie.Need-judge-operation-requires Inv-loop μ-loop
+judge-operation-requires c κs = search needs
 
 worse-of-requires : tie.Need-worse-of-requires Inv-loop μ-loop
 worse-of-requires c κs = search needs
@@ -88,8 +90,8 @@ loop-again c =
     let parted = left-cons (args .operations) ps (loop .i) noPlace (c .before .before .before .before .before .before .before .loop-test .taken) (omega arith) in
     let short = subst (λ (t : TextPlace). t .len ≤ textBytes) (c .before .before .before .before .before .operation-text .ensures) (c .before .before .before .if1 .left) in
     let next = operations-next (loop .inv .1) place parted short in
-    let verdict = c .worse-of .ensures ∙ ap (worse (loop .judgement)) (c .before .judge-place .ensures ∙ ap (judgedText (now (args .texts))) (c .before .before .before .before .before .operation-text .ensures)) in
-    (omega arith, turned (now (args .texts)) (take (args .operations) ps) (loop .bytes) (loop .i + 1) (c .before .before .operation-size .ensures ∙ size-kept (place .operation) short) verdict next)
+    let verdict = c .worse-of .ensures ∙ ap (worse (loop .judgement)) (c .before .judge-operation .ensures) in
+    (omega arith, turned (editionOf (args .edition)) (now (args .texts)) (take (args .operations) ps) (loop .bytes) (loop .i + 1) (c .before .before .operation-size .ensures ∙ size-kept (place .operation) short) verdict next)
 
 returns-2 : tie.Need-returns-2 Inv-loop μ-loop
 returns-2 c =
@@ -112,7 +114,7 @@ survey-operations-spec =
     returns
     operation-size-requires
     add-bytes
-    judge-place-requires
+    judge-operation-requires
     worse-of-requires
     add-i
     loop-less

@@ -1,4 +1,4 @@
--- `survey::judge_place` meets its contract: the place first, then the bytes there.
+-- `judgement::judge_place` meets its contract: the place first, then the bytes there.
 use Prim.Native.Nat.{ℕ, _+_, _-_}
 use mathlib.Core.Path.{_≡_, sym, ap, _∙_}
 use native.Mathlib.Omega.{arith}
@@ -7,17 +7,16 @@ use borrow.Author.Needs.{needs}
 use denote.Ref.{now}
 use lib.ListN.{length, take, drop}
 use Rattle.projection_patch.specs.TextRule.{judgement}
-use Rattle.patch_writer.specs.Set.{textAllowed, textFew}
 use Rattle.patch_writer.specs.Survey.{judgedText}
 use Rattle.patch_part_writer.proofs.Flags.{fails, holds}
-use Rattle.patch_writer.proofs.survey.judge_place.Statement.{statement}
-use Rattle.patch_writer.proofs.survey.judge_place.Tie as tie
+use Rattle.patch_writer.proofs.judgement.judge_place.Statement.{statement}
+use Rattle.patch_writer.proofs.judgement.judge_place.Tie as tie
 
 has-room-requires : tie.Need-has-room-requires
 has-room-requires c κs = search needs
 
 returns : tie.Need-returns
-unfolding judgedText textAllowed
+unfolding judgedText
 returns c = sym (rw (sym (c .before .has-room .ensures) ∙ fails (c .before .has-room .result) (c .if1 .taken)))
 
 add-judge-text : tie.Need-add-judge-text
@@ -36,7 +35,7 @@ judge-text-requires : tie.Need-judge-text-requires
 judge-text-requires c κs = search needs
 
 returns-2 : tie.Need-returns-2
-unfolding judgedText textAllowed textFew
+unfolding judgedText
 returns-2 c =
     let room = c .before .before .before in
     let args = room .before .before .args in

@@ -1,12 +1,12 @@
--- `listing::main` meets its contract: what was written is a part of the buffer.
+-- `listing_input::list_input` meets its contract: what was written is a part of the buffer.
 use Prim.Native.Nat.{ℕ}
 use native.Mathlib.Omega.{arith}
 use lib.ListN.{length-replicate}
 use borrow.Author.Needs.{needs}
 use Rattle.listing_lines.specs.ListingBytes.{listingBytes}
 use Rattle.listing_panel.specs.WrittenLaws.{wrote-within}
-use Rattle.listing.proofs.main.Statement.{statement}
-use Rattle.listing.proofs.main.Tie as tie
+use Rattle.listing_input.proofs.list_input.Statement.{statement}
+use Rattle.listing_input.proofs.list_input.Tie as tie
 
 slice-aggregate-read-full : tie.Need-slice-aggregate-read-full
 slice-aggregate-read-full c = search needs
@@ -56,8 +56,8 @@ returns c = search needs
 returns-2 : tie.Need-returns-2
 returns-2 c = search needs
 
-pub main-spec : {M : Type 1} → statement M
-main-spec =
+pub list-input-spec : {M : Type 1} → statement M
+list-input-spec =
     tie.close
     (tie.spec
     slice-aggregate-read-full

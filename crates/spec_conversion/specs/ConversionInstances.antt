@@ -1,0 +1,169 @@
+-- Conversions at their ends, 02, 'Job 13': one table of computed tests, and sets that the theorems are about.
+use Prim.Native.Nat.{ℕ, _≤_}
+use mathlib.Core.Path.{_≡_, refl}
+use mathlib.Core.Bool.{Bool, true, false, _&&_}
+use mathlib.Core.List
+use mathlib.Core.List.{List, [], _∷_, _++_}
+use mathlib.Core.Option.{none}
+use native.Mathlib.Omega.{arith}
+use borrow.Author.Tests.{leb-true}
+use lib.Dec.{T, leb, eqb}
+use Rattle.spec_lists.specs.Lists.{all, equalLists}
+use Rattle.spec_lists.specs.ListLaws.{and-left, and-right}
+use Rattle.spec_lists.specs.Bytes
+use Rattle.spec_lists.specs.Bytes.{Bytes}
+use Rattle.spec_patch.specs.Patch.{Value, quad, N, text, score, setBinding, insert, update, Patch}
+use Rattle.spec_patch.specs.Edition
+use Rattle.spec_patch.specs.Edition.{Edition, v1, v2}
+use Rattle.spec_patch.specs.Encode
+use Rattle.spec_patch.specs.Encode.{u32, heading, encode}
+use Rattle.spec_patch.specs.Reader
+use Rattle.spec_patch.specs.Read
+use Rattle.spec_patch.specs.Write
+use Rattle.spec_conversion.specs.Conversion
+use Rattle.spec_conversion.specs.Conversion.{Converted, converted, refused, conversionNumber, convert}
+use Rattle.spec_conversion.specs.ConversionLaws.{Convertible, converts-exactly}
+
+-- every definition that the tests compute through
+unfoldable opened : Unit {0}
+unfolding
+    mathlib.Core.List.flatMap
+    Rattle.spec_lists.specs.Bytes.littleEndian
+    Rattle.spec_lists.specs.Bytes.numberOf
+    Rattle.spec_patch.specs.Edition.digit
+    Rattle.spec_patch.specs.Edition.letters
+    Rattle.spec_patch.specs.Edition.addedKinds
+    Rattle.spec_patch.specs.Edition.kinds
+    Rattle.spec_patch.specs.Edition.hasKind
+    Rattle.spec_patch.specs.Encode.encodeOptional
+    Rattle.spec_patch.specs.Encode.quadByte
+    Rattle.spec_patch.specs.Encode.encodeText
+    Rattle.spec_patch.specs.Encode.kindOf
+    Rattle.spec_patch.specs.Encode.valueBody
+    Rattle.spec_patch.specs.Encode.encodeValue
+    Rattle.spec_patch.specs.Encode.encodeOperation
+    Rattle.spec_patch.specs.Encode.encodeEnvelope
+    Rattle.spec_patch.specs.Encode.encodeCounted
+    Rattle.spec_patch.specs.Encode.encodePatch
+    Rattle.spec_patch.specs.Encode.heading
+    Rattle.spec_patch.specs.Encode.encode
+    Rattle.spec_patch.specs.Reader.many
+    Rattle.spec_patch.specs.Reader.literal
+    Rattle.spec_patch.specs.Read.optionalAfter
+    Rattle.spec_patch.specs.Read.readOptional
+    Rattle.spec_patch.specs.Read.quadAfter
+    Rattle.spec_patch.specs.Read.readQuad
+    Rattle.spec_patch.specs.Read.readTextBy
+    Rattle.spec_patch.specs.Read.valueAfter
+    Rattle.spec_patch.specs.Read.inEdition
+    Rattle.spec_patch.specs.Read.readValueBy
+    Rattle.spec_patch.specs.Read.operationAfter
+    Rattle.spec_patch.specs.Read.readOperationBy
+    Rattle.spec_patch.specs.Read.readEnvelope
+    Rattle.spec_patch.specs.Read.readPatch
+    Rattle.spec_patch.specs.Read.readPatches
+    Rattle.spec_patch.specs.Read.ended
+    Rattle.spec_patch.specs.Read.readSet
+    Rattle.spec_patch.specs.Write.valuePasses
+    Rattle.spec_patch.specs.Write.allValues
+    Rattle.spec_conversion.specs.Conversion.otherEdition
+    Rattle.spec_conversion.specs.Conversion.conversionNumber
+    Rattle.spec_conversion.specs.Conversion.unread
+    Rattle.spec_conversion.specs.Conversion.allKinds
+    Rattle.spec_conversion.specs.Conversion.rewritten
+    Rattle.spec_conversion.specs.Conversion.convertTo
+    Rattle.spec_conversion.specs.Conversion.convert
+opened = tt
+
+-- ---- what the instances are made of
+
+-- one patch with a binding, an insert and an update, the last with this value
+ending : Value → List Patch
+ending v = record {
+  envelope = record { id = 1; stream = 1; document = 1; surface = none; previous = 1; revision = 2; epoch = 1; sequence = 1 };
+  operations = setBinding 3 0 (quad N) ∷ insert 9 1 none (text (0x61 ∷ [])) ∷ update 9 1 v ∷ [];
+} ∷ []
+
+-- 0, or the number of the refusal
+numberOf : Converted → ℕ
+numberOf (converted bs) = 0
+numberOf (refused r) = conversionNumber r
+
+-- the conversion of these bytes gives those
+gives : Edition → List ℕ → ℕ → List ℕ → Bool
+gives from set room bs = same (convert from set room)
+  where
+    same : Converted → Bool
+    same (converted out) = equalLists eqb out bs
+    same (refused r) = false
+
+-- the conversion of these bytes, into so many places, is refused with the number
+refuses : Edition → List ℕ → ℕ → ℕ → Bool
+refuses from set room number = eqb (numberOf (convert from set room)) number
+
+-- ---- the instances
+
+-- sets of the first edition become the second's, and back where no score occurs
+pub bothWays : Bool
+bothWays =
+    gives v1 (encode v1 []) 35 (encode v2 [])
+    && (gives v1 (encode v1 (ending (quad N))) 1000 (encode v2 (ending (quad N)))
+    && (gives v2 (encode v2 []) 35 (encode v1 [])
+    && gives v2 (encode v2 (ending (quad N))) 1000 (encode v1 (ending (quad N)))))
+
+-- a score on the way to the first edition is 18, also without room
+pub scoresMissing : Bool
+scoresMissing =
+    refuses v2 (encode v2 (ending (score 0))) 1000 18 && (refuses v2 (encode v2 (ending (score 100))) 1000 18 && refuses v2 (encode v2 (ending (score 0))) 0 18)
+
+-- before that: a score above 100, a score in the first edition, and the other edition's heading are 10, and a count over its capacity is 12
+pub unreadOnes : Bool
+unreadOnes =
+    refuses v2 (encode v2 (ending (score 101))) 0 10
+    && (refuses v1 (encode v1 (ending (score 1))) 1000 10
+    && (refuses v1 (encode v2 []) 35 10
+    && (refuses v2 (encode v1 []) 35 10
+    && refuses v2 (heading v2 ++ u32 65) 0 12)))
+
+-- one place too few is 14
+pub shortOutputs : Bool
+shortOutputs = refuses v1 (encode v1 []) 34 14 && refuses v2 (encode v2 (ending (quad N))) 0 14
+
+pub conversions-hold : T (all (λ (b : Bool). b) (bothWays ∷ scoresMissing ∷ unreadOnes ∷ shortOutputs ∷ []))
+unfolding bothWays scoresMissing unreadOnes shortOutputs ending numberOf gives refuses opened
+conversions-hold = tt
+
+-- ---- the theorems, met by a set of each edition
+
+pub someSet : Edition → List ℕ
+someSet ed = encode ed (ending (quad N))
+
+bytes-if : (l : List ℕ) → all (λ (b : ℕ). leb b 255) l ≡ true → Bytes l
+bytes-if [] e = tt
+bytes-if (b ∷ l) e =
+    let byte : b ≤ 255 = leb-true b 255 (and-left (leb b 255) _ e) in
+    (omega arith, bytes-if l (and-right (leb b 255) _ e))
+
+first-bytes : Bytes (someSet v1)
+unfolding someSet ending opened
+first-bytes = bytes-if (someSet v1) refl
+
+second-bytes : Bytes (someSet v2)
+unfolding someSet ending opened
+second-bytes = bytes-if (someSet v2) refl
+
+first-is-second : convert v1 (someSet v1) 1000 ≡ converted (someSet v2)
+unfolding someSet ending opened
+first-is-second = refl
+
+second-is-first : convert v2 (someSet v2) 1000 ≡ converted (someSet v1)
+unfolding someSet ending opened
+second-is-first = refl
+
+pub first-convertible : Convertible v1 v2 (someSet v1) 1000
+unfolding opened
+first-convertible = converts-exactly v1 v2 (someSet v1) first-bytes 1000 .0 (someSet v2, first-is-second)
+
+pub second-convertible : Convertible v2 v1 (someSet v2) 1000
+unfolding opened
+second-convertible = converts-exactly v2 v1 (someSet v2) second-bytes 1000 .0 (someSet v1, second-is-first)
