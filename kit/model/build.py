@@ -1,4 +1,5 @@
 """Writes a set from a readable notation: python3 build.py < NOTATION prints its hex; with --raw, its bytes.
+With --v2 the set is of the second edition.
 
     patch id=7 stream=1 document=1 surface=- previous=0 revision=1 epoch=1 sequence=3
     binding NODE SLOT VALUE
@@ -8,7 +9,7 @@
     remove COLLECTION KEY
     move COLLECTION KEY [before KEY]
 
-A VALUE is `Q 2`, `S -4`, `U 7`, or `T` and the text up to the line's end; `X` and hex is a text of these bytes.
+A VALUE is `Q 2`, `S -4`, `U 7`, `M 85` (a score), or `T` and the text up to the line's end; `X` and hex is a text of these bytes.
 Each part of a patch line may be left out: the n-th patch, from 1, has id n, stream, document and epoch 1, no
 surface, previous n-1, revision n, sequence n. Empty lines and lines that start with # say nothing.
 """
@@ -36,6 +37,10 @@ def unsigned(number):
     return (4, number)
 
 
+def score(number):
+    return (5, number)
+
+
 def patch(position, operations, **parts):
     """The patch at a position from 1, with what the notation would fill in."""
     filled = dict(
@@ -51,8 +56,8 @@ def patches_of(*operation_lists, **parts):
     return [patch(position, operations, **parts) for position, operations in enumerate(operation_lists, 1)]
 
 
-def hex_of(patches):
-    return encode_set(patches).hex()
+def hex_of(patches, edition=1):
+    return encode_set(patches, edition).hex()
 
 
 # ---- the notation
@@ -64,7 +69,7 @@ def _value(words):
         return text(content)
     if kind == "X":
         return text(bytes.fromhex(content))
-    return {"Q": quad, "S": signed, "U": unsigned}[kind](int(content))
+    return {"Q": quad, "S": signed, "U": unsigned, "M": score}[kind](int(content))
 
 
 def _neighbour(words):
@@ -113,8 +118,8 @@ def read_notation(notation):
 
 
 if __name__ == "__main__":
-    data = encode_set(read_notation(sys.stdin.read()))
-    if sys.argv[1:] == ["--raw"]:
+    data = encode_set(read_notation(sys.stdin.read()), 2 if "--v2" in sys.argv else 1)
+    if "--raw" in sys.argv:
         sys.stdout.buffer.write(data)
     else:
         print(data.hex())

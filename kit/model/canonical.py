@@ -1,10 +1,12 @@
-"""01, 'Canonical bytes', and 02, 'Job 5': the encoder, and the strict reader with 10 and 12."""
+"""01, 'Canonical bytes', and 02, Jobs 5, 6 and 13: the encoder, and the strict reader with 10 and 12."""
 
 from patch import Availability, Binding, Insert, Move, Patch, Remove, Update
-from sizes import PATCH_OPERATIONS, SET_BYTES, SET_PATCHES, TEXT_BYTES, TEXT_CHARACTERS
+from sizes import HIGHEST_SCORE, PATCH_OPERATIONS, SET_BYTES, SET_PATCHES, TEXT_BYTES, TEXT_CHARACTERS
 from utf8 import characters, is_utf8
 
-HEADING = b"UI_DNA2_PROJECTION_PATCH_V1"
+# what tells the editions apart: the heading, and the kinds of values
+HEADINGS = {1: b"UI_DNA2_PROJECTION_PATCH_V1", 2: b"UI_DNA2_PROJECTION_PATCH_V2"}
+VALUE_KINDS = {1: (1, 2, 3, 4), 2: (1, 2, 3, 4, 5)}
 
 
 # ---- the encoder; it refuses nothing, so that faulty sets can be made with it
@@ -24,8 +26,8 @@ def encode_optional(number):
 
 def encode_value(value):
     kind, content = value
-    if kind == 1:
-        return bytes([1, content])
+    if kind in (1, 5):
+        return bytes([kind, content])
     if kind == 2:
         return b"\2" + content.to_bytes(8, "little", signed=True)
     if kind == 3:
@@ -61,8 +63,9 @@ def encode_patch(patch):
     return encode_head(patch) + u32(len(patch.operations)) + b"".join(map(encode_operation, patch.operations))
 
 
-def encode_set(patches):
-    return u32(len(HEADING)) + HEADING + u32(len(patches)) + b"".join(map(encode_patch, patches))
+def encode_set(patches, edition=1):
+    heading = HEADINGS[edition]
+    return u32(len(heading)) + heading + u32(len(patches)) + b"".join(map(encode_patch, patches))
 
 
 # ---- the reader
@@ -77,8 +80,9 @@ class Fault(Exception):
 
 
 class Reader:
-    def __init__(self, data):
+    def __init__(self, data, edition):
         self.data = data
+        self.edition = edition
         self.at = 0
 
     def take(self, size):
@@ -111,7 +115,7 @@ class Reader:
         return self.number(8) if self.tag((0, 1)) else None
 
     def value(self):
-        kind = self.tag((1, 2, 3, 4))
+        kind = self.tag(VALUE_KINDS[self.edition])
         if kind == 1:
             return (1, self.tag((0, 1, 2, 3)))
         if kind == 2:
@@ -125,7 +129,9 @@ class Reader:
             if characters(text) > TEXT_CHARACTERS:
                 raise Fault(12)
             return (3, text)
-        return (4, self.number(8))
+        if kind == 4:
+            return (4, self.number(8))
+        return (5, self.tag(range(HIGHEST_SCORE + 1)))
 
     def operation(self):
         number = self.tag((1, 2, 3, 4, 5, 6))
@@ -154,17 +160,18 @@ class Reader:
         return Patch(*ids, surface, *numbers, operations)
 
     def patches(self):
-        if self.number(4) != len(HEADING) or self.take(len(HEADING)) != HEADING:
+        heading = HEADINGS[self.edition]
+        if self.number(4) != len(heading) or self.take(len(heading)) != heading:
             raise Fault(10)
         count = self.count(SET_PATCHES)
         return [self.patch() for _ in range(count)]
 
 
-def read_set(data):
-    """The patches of a set, or a Fault."""
+def read_set(data, edition):
+    """The patches of a set that is told to be of this edition, or a Fault."""
     if len(data) > SET_BYTES:
         raise Fault(12)
-    reader = Reader(data)
+    reader = Reader(data, edition)
     patches = reader.patches()
     if reader.at != len(data):
         raise Fault(10)

@@ -5,8 +5,8 @@ from checks import findings, mutation_target
 from kit import answered, batch, random_case, rules_of, set_up
 from patch import insert
 from build import patches_of, quad
-from projection import Projection, Stopped, apply_operations
-from random_sets import COLLECTIONS, NODES, SLOTS, patch_list
+from projection import Projection, Stopped, apply_patches
+from random_sets import COLLECTIONS, NODES, SLOTS, cut, patch_list
 
 rules_of("Whole and pieces")
 
@@ -18,24 +18,13 @@ def answers_to(lines):
     return answered("".join(text + "\n" for text in lines).encode()).splitlines()
 
 
-def cut(chance, patches):
-    """The list in pieces, none of them empty."""
-    pieces, piece = [], []
-    for patch in patches:
-        if piece and chance.once_in(2):
-            pieces.append(piece)
-            piece = []
-        piece.append(patch)
-    return pieces + [piece]
-
-
 def split_run(chance, fill, number, faults, keys):
     """A patch list sent whole and in pieces on two sessions that start alike. Pieces end with the first that is refused."""
     start = Projection()
     begin = ["create"]
     for at, filling in enumerate(fill):
         begin.append(batch(number - len(fill) + at, filling))
-        start = apply_operations(start, [made for patch in filling for made in patch.operations])
+        start = apply_patches(start, filling)
     patches = patch_list(chance, start, 6, 5, keys, faults)
     assert not findings(patches)[1]
     whole = begin + [batch(number, patches), "show"]
@@ -106,9 +95,8 @@ def long_run(seed, batches, keys, faults):
     for at in range(1, batches + 1):
         patches = patch_list(chance, projection, 3, 6, keys, faults)
         lines.append(batch(number, patches))
-        made = [operation for patch in patches for operation in patch.operations]
         try:
-            projection = apply_operations(projection, made)
+            projection = apply_patches(projection, patches)
             number += 1
         except Stopped:
             pass
@@ -157,8 +145,8 @@ def regroup_script(seed, runs, fill_of, keys):
     for run in range(runs):
         fill = fill_of(chance)
         begin = ["create"] + [batch(at, filling) for at, filling in enumerate(fill, 1)]
-        made = [operation for filling in fill for patch in filling for operation in patch.operations]
-        patches = patch_list(chance, apply_operations(Projection(), made), 5, 5, keys, 10**9)
+        filled = apply_patches(Projection(), [patch for filling in fill for patch in filling])
+        patches = patch_list(chance, filled, 5, 5, keys, 10**9)
         other = cut_to_patches(rearranged(chance, [operation for patch in patches for operation in patch.operations]))
         assert not findings(patches)[1] and not findings(other)[1]
         orders = [begin + [batch(len(begin), sent), "show"] for sent in (patches, other)]

@@ -1,13 +1,14 @@
 """Canonical bytes: each field's fault, and which of 10 and 12 comes first."""
 
 from build import patch, patches_of, quad, read_notation, signed, text, unsigned
-from canonical import HEADING, encode_head, encode_operation, encode_set, u32, u64
+from canonical import HEADINGS, encode_head, encode_operation, encode_set, u32, u64
 from kit import PANEL, batch, on_panel, rules_of
 from patch import availability, binding, insert, move, remove, update
 
 rules_of("Canonical bytes")
 
 READ = "spec_patch Read.%s"
+HEADING = HEADINGS[1]
 HEAD = u32(27) + HEADING
 assert HEADING == b"UI_DNA2_PROJECTION_PATCH_V1" and len(HEADING) == 27
 

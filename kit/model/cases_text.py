@@ -3,7 +3,8 @@
 from build import patches_of, text
 from canonical import encode_patch, encode_set, u32, u64
 from cases_reading import refused, with_operations
-from kit import batch, case, on_panel, rules_of, set_up
+from kit import batch, case, on_panel, rules_of, set_up, shown
+from landed import LANDED
 from patch import binding, insert, update
 
 rules_of("Canonical bytes")
@@ -31,11 +32,11 @@ def allowed(name, rule, *texts):
     for number, digits in enumerate(texts, 4):
         content = bytes.fromhex(digits)
         lines += [batch(number, patches_of([update(9, 1, text(content))])), "value entry 9 1"]
-        answers += ["R applied 0 0 0 0 %d" % number, b"V\tT\t" + content]
+        answers += ["R applied 0 0 0 0 %d" % number, b"V\tT\t" + shown(content)]
     last = bytes.fromhex(texts[-1])
     on_panel(
         "text_%s" % name, rule, SYNTAX, lines, answers,
-        panel=["P 4", "B 5 0 Q 2", "A 5 3", b"C\t9\t1\tT\t" + last, "C 9 2 S -4"],
+        panel=["P 4", "B 5 0 Q 2", "A 5 3", b"C\t9\t1\tT\t" + shown(last), "C 9 2 S -4"],
     )
 
 
@@ -209,7 +210,8 @@ allowed(
 )
 allowed("four_byte_characters", "U+10000 and U+10FFFF, the ends of four bytes", "f0908080", "f48fbfbf")
 allowed("byte_order_mark", "a byte order mark is a character as any other and stays", "efbbbf41")
-allowed("tab_and_newline", "a tab or a newline inside a text prints as it is", "0961", "610a62")
+TABS = "can be stored as any other character" if "escapes" in LANDED else "prints as it is"
+allowed("tab_and_newline", "a tab or a newline inside a text " + TABS, "0961", "610a62")
 forbidden("overlong_2", "two bytes for what fits one", "c080", "c1bf")
 forbidden("overlong_3", "three bytes for what fits two", "e08080", "e09fbf")
 forbidden("overlong_4", "four bytes for what fits three", "f0808080", "f08fbfbf")

@@ -2,12 +2,17 @@
 
 from canonical import Fault, read_set
 from checks import findings
-from patch import operations_of
-from projection import Stopped, apply_operations
+from projection import Stopped, apply_patches
 from replay import LINE_BYTES, BadLine, Replay, set_bytes
 
 NO_COMMAND = "a line that is no command"
-TURNS = (b"senders", b"wait", b"turn")
+# commands that the Rust has no counterpart of
+ADDED = {
+    b"senders": "turns among senders", b"wait": "turns among senders", b"turn": "turns among senders",
+    b"edition": "the second edition", b"convert": "the second edition", b"mark": "marks",
+    b"length": "stored lengths", b"depends": "what a set depends on", b"page": "pages of keys", b"print": "the print",
+    b"import": "term lists", b"group": "groups of batches",
+}
 
 
 def _ids(patch):
@@ -27,7 +32,7 @@ def _ids(patch):
 
 def _set_outside(data, with_checks):
     try:
-        patches = read_set(data)
+        patches = read_set(data, 1)
     except Fault:
         return "bytes that do not read"
     if any(number == 0 for patch in patches for number in _ids(patch)):
@@ -69,8 +74,8 @@ def _answer_outside(state, text):
         answer = state.answer(text)
     except BadLine:
         return NO_COMMAND
-    if text.split(b" ")[0] in TURNS:
-        return "turns among senders"
+    if text.split(b" ")[0] in ADDED:
+        return ADDED[text.split(b" ")[0]]
     if answer == b"N\n":
         return "a call without a session"
     if answer == b"S\t13\n":
@@ -86,7 +91,7 @@ def _hides_9(state, text, answer):
     if not (text.startswith(b"batch ") and b"\trejected\t0\t" in answer):
         return False
     try:
-        apply_operations(state.session.projection, operations_of(read_set(set_bytes(text.split(b" ")[-1]))))
+        apply_patches(state.session.projection, read_set(set_bytes(text.split(b" ")[-1]), 1))
     except Stopped as stopped:
         return stopped.number == 9
     return False

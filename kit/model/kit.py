@@ -8,6 +8,7 @@ from io import BytesIO
 
 import build
 from canonical import encode_set
+from landed import LANDED
 from patch import operations_of
 from replay import replay
 
@@ -60,23 +61,30 @@ def answered(script):
     return out.getvalue()
 
 
+def shown(content):
+    """A text as the answers print it: as it is, and with 02, Job 2, escaped."""
+    if "escapes" not in LANDED:
+        return content
+    return content.replace(b"\\", b"\\\\").replace(b"\t", b"\\t").replace(b"\n", b"\\n").replace(b"\r", b"\\r")
+
+
 # ---- lines of a script
 
 
-def batch(sequence, patches, session=7, count=None, stimulus=10, references=None, data=None):
+def batch(sequence, patches, session=7, count=None, stimulus=10, references=None, data=None, edition=1):
     """A batch line; what is left out is true."""
-    data = encode_set(patches) if data is None else data
+    data = encode_set(patches, edition) if data is None else data
     count = len(patches) if count is None else count
     references = len(operations_of(patches)) if references is None else references
     return "batch %d %d %d %d %d %s" % (session, sequence, count, stimulus, references, data.hex() or "-")
 
 
-def check(patches):
-    return "check " + build.hex_of(patches)
+def check(patches, edition=1):
+    return "check " + build.hex_of(patches, edition)
 
 
-def listed(patches):
-    return "list " + build.hex_of(patches)
+def listed(patches, edition=1):
+    return "list " + build.hex_of(patches, edition)
 
 
 def set_up(stimulus=100, diagnostics=10, patches=8, references=64, nodes=(5,), bindings=((5, 0), (5, 1)), collections=(9,)):

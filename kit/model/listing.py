@@ -1,14 +1,18 @@
-"""01, 'Listing': a projection, or a set applied to an empty one, as tab-parted lines of bytes."""
+"""01, 'Listing': a projection, or a set applied to an empty one, as tab-parted lines of bytes.
+
+python3 listing.py [EDITION] < SET; the edition is 1 if it is left out.
+"""
 
 import sys
 
 from canonical import Fault, read_set
 from checks import findings
-from patch import operations_of
-from projection import Projection, Stopped, apply_operations
+from landed import LANDED
+from projection import Projection, Stopped, apply_patches
 from sizes import SET_BYTES
 
-KINDS = {1: b"Q", 2: b"S", 3: b"T", 4: b"U"}
+KINDS = {1: b"Q", 2: b"S", 3: b"T", 4: b"U", 5: b"M"}
+ESCAPES = {ord("\\"): b"\\\\", ord("\t"): b"\\t", ord("\n"): b"\\n", ord("\r"): b"\\r"}
 
 
 def line(*fields):
@@ -16,9 +20,14 @@ def line(*fields):
     return b"\t".join(field if isinstance(field, bytes) else str(field).encode("ascii") for field in fields) + b"\n"
 
 
+def escaped(text):
+    """02, Job 2: a text without tab, newline and carriage return, from which it can be told."""
+    return b"".join(ESCAPES.get(byte, bytes([byte])) for byte in text)
+
+
 def value_fields(value):
     kind, content = value
-    return KINDS[kind], content
+    return KINDS[kind], escaped(content) if kind == 3 and "escapes" in LANDED else content
 
 
 def listing_tables(projection):
@@ -33,16 +42,16 @@ def listing_tables(projection):
     return b"".join(lines)
 
 
-def listing(data):
-    """What the program prints of its input."""
+def listing(data, edition):
+    """What the edition's program prints of its input."""
     try:
-        patches = read_set(data)
+        patches = read_set(data, edition)
         if findings(patches)[1]:
             return line(b"E", 11)
-        return listing_tables(apply_operations(Projection(), operations_of(patches)))
+        return listing_tables(apply_patches(Projection(), patches))
     except (Fault, Stopped) as refusal:
         return line(b"E", refusal.number)
 
 
 if __name__ == "__main__":
-    sys.stdout.buffer.write(listing(sys.stdin.buffer.read(SET_BYTES + 1)))
+    sys.stdout.buffer.write(listing(sys.stdin.buffer.read(SET_BYTES + 1), int(sys.argv[1]) if sys.argv[1:] else 1))

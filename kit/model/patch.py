@@ -1,6 +1,6 @@
 """Patches and operations, as plain tuples.
 
-A value is (kind, content): (1, quad byte), (2, signed number), (3, bytes of a text), (4, unsigned number).
+A value is (kind, content): (1, quad byte), (2, signed number), (3, bytes of a text), (4, unsigned number), (5, score).
 """
 
 from collections import namedtuple
@@ -38,6 +38,11 @@ def remove(collection, key):
 
 def move(collection, key, before=None):
     return Move(6, collection, key, before)
+
+
+def steps_of(patches):
+    """The operations of all patches in order, each with its patch's id."""
+    return [(patch.id, operation) for patch in patches for operation in patch.operations]
 
 
 def operations_of(patches):

@@ -3,7 +3,7 @@
 from build import patch, quad, signed, text, unsigned
 from checks import mutation_target
 from patch import availability, binding, insert, move, remove, update
-from projection import Stopped, apply_operations
+from projection import Stopped, apply_patches
 
 NODES = (5, 6, 2**64 - 1)
 SLOTS = ((5, 0), (5, 1), (6, 0), (6, 2**32 - 1))
@@ -45,7 +45,7 @@ def operation(chance, keys):
 def passes(projection, made):
     """The projection after the operation, or None where it fails."""
     try:
-        return apply_operations(projection, [made])
+        return apply_patches(projection, [patch(1, [made])])
     except Stopped:
         return None
 
@@ -75,3 +75,14 @@ def patch_list(chance, projection, most_patches, most_operations, keys, faults):
         surface = chance.between(1, 3) if chance.once_in(4) else None
         patches.append(patch(first + position, made, surface=surface, stream=3, document=2, epoch=4))
     return patches
+
+
+def cut(chance, patches):
+    """The list in pieces, none of them empty."""
+    pieces, piece = [], []
+    for patch in patches:
+        if piece and chance.once_in(2):
+            pieces.append(piece)
+            piece = []
+        piece.append(patch)
+    return pieces + [piece]

@@ -1,11 +1,11 @@
-"""01, 'One batch, from entry to leaf', 'Lifecycle' and 'Diagnostics under the cap'."""
+"""01, 'One batch, from entry to leaf', 'Lifecycle' and 'Diagnostics under the cap'; each batch is told its edition (02, Job 13)."""
 
 from collections import namedtuple
 
 from canonical import Fault, read_set
 from checks import findings
 from patch import operations_of
-from projection import Projection, Stopped, apply_operations
+from projection import Projection, Stopped, apply_patches
 from sizes import ANCHORS, LAST_U64
 
 Limits = namedtuple("Limits", "bytes diagnostics patches references")
@@ -94,8 +94,8 @@ class Session:
             return True
         return self.cursor != LAST_U64 and sequence == self.cursor + 1
 
-    def _checked(self, session, sequence, patch_count, stimulus_bytes, references, data):
-        """Steps 1 to 8; the operations of the batch where all pass."""
+    def _checked(self, session, sequence, patch_count, stimulus_bytes, references, edition, data):
+        """Steps 1 to 8; the patches of the batch where all pass."""
         if session != self.id:
             raise Refusal(1)
         if self.lifecycle == "closed":
@@ -103,7 +103,7 @@ class Session:
         if patch_count > self.limits.patches or stimulus_bytes > self.limits.bytes:
             raise Refusal(4)
         try:
-            patches = read_set(data)
+            patches = read_set(data, edition)
         except Fault as fault:
             raise Refusal(fault.number)
         if findings(patches)[1]:
@@ -118,14 +118,14 @@ class Session:
             raise Refusal(6, absent)
         if patch_count != 0 and not self._takes(sequence):
             raise Refusal(7)
-        return operations
+        return patches
 
-    def batch(self, session, sequence, patch_count, stimulus_bytes, references, data):
+    def batch(self, session, sequence, patch_count, stimulus_bytes, references, edition, data):
         """Disposition and diagnostics of one batch."""
         try:
-            operations = self._checked(session, sequence, patch_count, stimulus_bytes, references, data)
+            patches = self._checked(session, sequence, patch_count, stimulus_bytes, references, edition, data)
             try:
-                projection = apply_operations(self.projection, operations)
+                projection = apply_patches(self.projection, patches)
             except Stopped as stopped:
                 raise Refusal(stopped.number)
         except Refusal as refusal:

@@ -1,10 +1,11 @@
-"""The capacities of 01, 'Sizes', and of 02, 'Job 5', for texts."""
+"""The capacities of 01, 'Sizes', of 02, 'Job 5', for texts, and the highest score of Job 13."""
 
 SET_BYTES = 32768
 SET_PATCHES = 64
 PATCH_OPERATIONS = 128
 TEXT_BYTES = 240
 TEXT_CHARACTERS = 160
+HIGHEST_SCORE = 100
 BINDINGS = 64
 AVAILABILITIES = 64
 ENTRIES = 128

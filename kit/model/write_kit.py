@@ -9,6 +9,7 @@ from pathlib import Path
 
 import kit
 from domain import outside
+from landed import LANDED, REQUESTS
 
 SUBJECTS = {
     "examples": "The settled examples",
@@ -27,9 +28,9 @@ SUBJECTS = {
     "split": "Whole and pieces",
     "regroup": "Which order of work is free",
     "turns": "Turns among senders",
+    **{request: REQUESTS[request] for request in REQUESTS if request in LANDED},
     "random": "Random runs",
 }
-
 
 COLUMNS = "| Case | Rule | Definition | Answers from | Outside the Rust's domain |\n|---|---|---|---|---|\n"
 

@@ -1,9 +1,15 @@
-"""Wrong panels, each the model with one edit: python3 wrong_panels.py DATA_FOLDER. The kit must tell every one apart."""
+"""Wrong panels, each the model with one edit: python3 wrong_panels.py DATA_FOLDER [REQUEST...]
+
+The kit must tell every one apart. With requests named, as in landed.py, only their panels are tried.
+"""
 
 import subprocess
 import sys
 import tempfile
 from pathlib import Path
+
+from landed import LANDED
+from wrong_requests import WRONG_BY_REQUEST
 
 HERE = Path(__file__).resolve().parent
 
@@ -117,8 +123,8 @@ WRONG = [
     ("moves rows and no cursor", "session.py", "        self.cursor = sequence\n", ""),
     (
         "applies the first patch only", "session.py",
-        "        return operations\n",
-        "        return patches[0].operations if patches else []\n",
+        "        return patches\n",
+        "        return patches[:1]\n",
     ),
     (
         "leaves the first operations of a rejected batch", "projection.py",
@@ -252,18 +258,18 @@ WRONG = [
     # the order of operations
     (
         "works off one collection after the other", "projection.py",
-        "    for operation in operations:\n",
-        "    for operation in sorted(operations, key=lambda made: getattr(made, 'collection', 0)):\n",
+        "    for patch_id, operation in steps_of(patches):\n",
+        "    for patch_id, operation in sorted(steps_of(patches), key=lambda step: getattr(step[1], 'collection', 0)):\n",
     ),
     (
         "removes before it inserts", "projection.py",
-        "    for operation in operations:\n",
-        "    for operation in sorted(operations, key=lambda made: made.number != 5):\n",
+        "    for patch_id, operation in steps_of(patches):\n",
+        "    for patch_id, operation in sorted(steps_of(patches), key=lambda step: step[1].number != 5):\n",
     ),
     (
         "keeps the order of one key only", "projection.py",
-        "    for operation in operations:\n",
-        "    for operation in sorted(operations, key=lambda made: getattr(made, 'key', 0)):\n",
+        "    for patch_id, operation in steps_of(patches):\n",
+        "    for patch_id, operation in sorted(steps_of(patches), key=lambda step: getattr(step[1], 'key', 0)):\n",
     ),
     # turns
     ("sets up no senders", "turns.py", "if not 1 <= senders", "if not 0 <= senders"),
@@ -327,11 +333,11 @@ WRONG = [
     ("refuses 32,768 bytes", "canonical.py", "len(data) > SET_BYTES", "len(data) >= SET_BYTES"),
     ("reads any length", "canonical.py", "if len(data) > SET_BYTES", "if False"),
     ("overlooks bytes at the end", "canonical.py", "if reader.at != len(data)", "if False"),
-    ("overlooks the heading's length", "canonical.py", "self.number(4) != len(HEADING)", "self.number(4) > 99"),
+    ("overlooks the heading's length", "canonical.py", "self.number(4) != len(heading)", "self.number(4) > 99"),
     (
         "has tags in enum order", "canonical.py",
-        "        kind = self.tag((1, 2, 3, 4))\n",
-        "        kind = {1: 1, 2: 2, 3: 4, 4: 3}[self.tag((1, 2, 3, 4))]\n",
+        "        kind = self.tag(VALUE_KINDS[self.edition])\n",
+        "        kind = {1: 1, 2: 2, 3: 4, 4: 3, 5: 5}[self.tag(VALUE_KINDS[self.edition])]\n",
     ),
     ("takes any optional byte", "canonical.py", "self.tag((0, 1)) else", "self.tag(range(256)) else"),
     ("takes any availability byte", "canonical.py", "self.tag((0, 1, 2, 3, 4)))", "self.tag(range(256)))"),
@@ -443,14 +449,18 @@ def caught(data, file, text, instead):
     return run.stdout.strip()
 
 
-def main(data):
+def main(data, *requests):
+    """All wrong panels, or those of the requests that are named."""
+    asked = [] if requests else list(WRONG)
+    for request in requests or LANDED:
+        asked += WRONG_BY_REQUEST[request]
     missed = 0
-    for name, file, text, instead in WRONG:
+    for name, file, text, instead in asked:
         result = caught(data, file, text, instead)
         missed += result == "0"
         told = "NOT CAUGHT" if result == "0" else "fails " + result.replace(" ", ", as ")
         print("%-50s %s" % (name, told), flush=True)
-    print("%d wrong panels, %d not caught" % (len(WRONG), missed))
+    print("%d wrong panels, %d not caught" % (len(asked), missed))
     sys.exit(missed != 0)
 
 

@@ -39,9 +39,13 @@ pub data Converted : Type 0 where
   converted : List ℕ → Converted
   refused : ConversionRefusal → Converted
 
--- every value of a list is of a kind that the edition has
+-- the edition has the value's kind
+abbrev pub kindIn : Edition → Value → Bool
+kindIn ed v = hasKind ed (kindOf v)
+
+-- and that of every value of a list
 unfoldable pub allKinds : Edition → List Patch → Bool
-allKinds ed ps = allValues (λ (v : Value). hasKind ed (kindOf v)) ps
+allKinds ed ps = allValues (kindIn ed) ps
 
 -- the canonical bytes of what was read, into an output of so many places: 18 comes before 14
 unfoldable pub rewritten : Edition → ℕ → SetReading → Converted

@@ -39,7 +39,7 @@ decimal-plain n =
     let lack : (separator : ℕ) → separator < 48 → lacks separator (digits 20 n) ≡ true = λ separator h. digits-lack separator h (digits 20 n) (all-digits 20 n) in
     record { no-tab = lack tab (omega arith); no-newline = lack newline (omega arith); no-return = lack carriageReturn (omega arith) }
 
--- a byte alone, for which the tests compute
+-- a byte above the three, alone
 alone-plain : (b : ℕ) → 13 < b → Plain (b ∷ [])
 alone-plain b h = record {
   no-tab = rw (ne-eqb b tab (λ e. omega arith));
