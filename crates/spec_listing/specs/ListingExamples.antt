@@ -17,6 +17,7 @@ use Rattle.spec_patch.specs.Read.{quadAfter, availabilityAfter}
 use Rattle.spec_patch.specs.Fits.{FitsText, StorableBy}
 use Rattle.spec_projection.specs.Projection.{Projection, empty}
 use Rattle.spec_projection.specs.Entries.{isEntry}
+use Rattle.spec_projection.specs.Marks.{withoutMarks}
 use Rattle.spec_projection.specs.Valid.{Valid}
 use Rattle.spec_decimal.specs.Decimal.{digits, decimal, signedDecimal, isNumeral, numberWith, readDecimal, positive, negative, readSignedDecimal}
 use Rattle.spec_listing.specs.Ascii.{ascii}
@@ -50,11 +51,11 @@ readsNot lines = refused (readListing (ascii lines))
 -- a binding, an availability and two entries, one with a text that looks like a record
 pub panel : Projection
 panel = record {
-  bindings = record { node = 5; slot = 0; value = quad patch.T } ∷ [];
-  availabilities = record { node = 5; availability = pending } ∷ [];
+  bindings = record { node = 5; slot = 0; mark = 1; value = quad patch.T } ∷ [];
+  availabilities = record { node = 5; mark = 1; availability = pending } ∷ [];
   entries =
-      record { collection = 9; key = 1; value = text (ascii "a\tb\nC\t9\t2\tU\t7") }
-      ∷ record { collection = 9; key = 2; value = signed (negsuc 3) } ∷ [];
+      record { collection = 9; key = 1; mark = 2; value = text (ascii "a\tb\nC\t9\t2\tU\t7") }
+      ∷ record { collection = 9; key = 2; mark = 1; value = signed (negsuc 3) } ∷ [];
 }
 
 -- as they are, the texts of both would give the same three lines behind the count
@@ -62,7 +63,7 @@ alike : List ℕ → List ℕ → Projection
 alike a b = record {
   bindings = [];
   availabilities = [];
-  entries = record { collection = 9; key = 1; value = text a } ∷ record { collection = 9; key = 3; value = text b } ∷ [];
+  entries = record { collection = 9; key = 1; mark = 0; value = text a } ∷ record { collection = 9; key = 3; mark = 0; value = text b } ∷ [];
 }
 
 pub examples : List Bool
@@ -117,14 +118,14 @@ panel-valid = record {
   fewBindings = omega arith;
   fewAvailabilities = omega arith;
   fewEntries = omega arith;
-  fitBindings = (record { node = omega arith; slot = omega arith; value = tt }, tt);
-  fitAvailabilities = (record { node = omega arith }, tt);
+  fitBindings = (record { node = omega arith; slot = omega arith; mark = omega arith; value = tt }, tt);
+  fitAvailabilities = (record { node = omega arith; mark = omega arith }, tt);
   fitEntries = (
-    record { collection = omega arith; key = omega arith; value = text-fits },
-    (record { collection = omega arith; key = omega arith; value = omega arith }, tt),
+    record { collection = omega arith; key = omega arith; mark = omega arith; value = text-fits },
+    (record { collection = omega arith; key = omega arith; mark = omega arith; value = omega arith }, tt),
   );
 }
 
 -- Job 2's claim on this panel and any other valid one
-pub panel-differs : (p : Projection) → Valid p → projectionLines panel ≡ projectionLines p → panel ≡ p
+pub panel-differs : (p : Projection) → Valid p → projectionLines panel ≡ projectionLines p → withoutMarks panel ≡ withoutMarks p
 panel-differs p v = listing-injective panel p panel-valid v

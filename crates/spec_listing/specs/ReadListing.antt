@@ -1,4 +1,5 @@
--- A listing read back: 02, Job 2. Its lines stand between the newlines, and the fields of a line between the tabs.
+-- A listing read back: 02, Job 2. Its lines stand between the newlines, and the fields of a line between the tabs. No line shows a mark, so
+-- a record is read without it: 02, Job 11.
 use Prim.Native.Nat.{ℕ}
 use mathlib.Core.List.{List, [], _∷_, _++_, map}
 use mathlib.Core.Option.{Option, none, some, Option·map, bind}
@@ -9,6 +10,7 @@ use Rattle.spec_patch.specs.Patch.{Value, quad, signed, text, unsigned, score}
 use Rattle.spec_patch.specs.Reader.{Reader, Result, read, refused}
 use Rattle.spec_patch.specs.Read.{quadAfter, availabilityAfter}
 use Rattle.spec_projection.specs.Projection.{Binding, NodeAvailability, Entry, Projection, empty}
+use Rattle.spec_projection.specs.Marks.{unmarked}
 use Rattle.spec_projection.specs.Valid.{FitsBinding, FitsNodeAvailability, FitsEntry}
 use Rattle.spec_decimal.specs.Decimal.{decimal, readDecimal, readSignedDecimal}
 use Rattle.spec_listing.specs.Escapes.{tab, newline, unescaped}
@@ -26,6 +28,12 @@ unfoldable pub recordLine : Record → List ℕ
 recordLine (bindingRecord b) = bindingLine b
 recordLine (availabilityRecord a) = availabilityLine a
 recordLine (entryRecord e) = entryLine e
+
+-- the record without its mark
+unfoldable pub unmarkedRecord : Record → Record
+unmarkedRecord (bindingRecord b) = bindingRecord (unmarked .binding b)
+unmarkedRecord (availabilityRecord a) = availabilityRecord (unmarked .availability a)
+unmarkedRecord (entryRecord e) = entryRecord (unmarked .entry e)
 
 -- a record that a valid projection may hold
 unfoldable pub FitsRecord : Record → Type 0
@@ -93,14 +101,14 @@ readBinding = do
   s ← readDecimal
   kind ← alone
   v ← readValueField kind
-  noMore (bindingRecord (record { node = n; slot = s; value = v }))
+  noMore (bindingRecord (record { node = n; slot = s; mark = 0; value = v }))
 
 -- node, availability byte
 unfoldable pub readNodeAvailability : FromFields Record
 readNodeAvailability = do
   n ← readDecimal
   a ← readByteField availabilityAfter
-  noMore (availabilityRecord (record { node = n; availability = a }))
+  noMore (availabilityRecord (record { node = n; mark = 0; availability = a }))
 
 -- collection, key, kind, value
 unfoldable pub readEntry : FromFields Record
@@ -109,7 +117,7 @@ readEntry = do
   k ← readDecimal
   kind ← alone
   v ← readValueField kind
-  noMore (entryRecord (record { collection = c; key = k; value = v }))
+  noMore (entryRecord (record { collection = c; key = k; mark = 0; value = v }))
 
 -- the fields behind B, A or C
 unfoldable pub readBehind : ℕ → FromFields Record

@@ -1,8 +1,8 @@
--- A record that fits is read back from its line.
+-- A record that fits is read back from its line, without its mark.
 use Prim.Native.Nat.{ℕ, suc, _<_}
 use mathlib.Core.Path.{_≡_, refl, sym, ap, _∙_}
 use mathlib.Core.Bool.{true}
-use mathlib.Core.List.{List, [], _∷_, _++_, append-assoc, append-nil, flatMap}
+use mathlib.Core.List.{List, [], _∷_, _++_, append-assoc, append-nil, map, flatMap}
 use mathlib.Core.Option.{Option, some, bind, Option·some-injective}
 use native.Mathlib.Omega.{arith}
 use lib.IntN.{ℤ, pos, negsuc}
@@ -13,6 +13,7 @@ use Rattle.spec_patch.specs.Patch.{Quad, N, F, T, S, Availability, available, u
 use Rattle.spec_patch.specs.Encode.{quadByte, availabilityByte}
 use Rattle.spec_patch.specs.Fits.{U64, U32, Storable, StorableBy}
 use Rattle.spec_patch.specs.Read.{quadAfter, availabilityAfter}
+use Rattle.spec_projection.specs.Marks.{unmarked}
 use Rattle.spec_decimal.specs.Decimal.{decimal, signedDecimal, digits, isDigit, readDecimal}
 use Rattle.spec_decimal.specs.DecimalLaws.{all-digits, isDigit-range}
 use Rattle.spec_decimal.specs.ReadLaws.{readDecimal-decimal, readSignedDecimal-signedDecimal}
@@ -21,7 +22,7 @@ use Rattle.spec_listing.specs.EscapesLaws.{unescaped-escaped, plain-appe
 use Rattle.spec_listing.specs.Split.{split, lacks, cons}
 use Rattle.spec_listing.specs.SplitLaws.{lacks-append, split-whole, split-part}
 use Rattle.spec_listing.specs.Listing.{fields, valueFields, bindingLine, availabilityLine, entryLine}
-use Rattle.spec_listing.specs.ReadListing.{Record, bindingRecord, availabilityRecord, entryRecord, recordLine, FitsRecord, FromFields, readField, noMore, alone, wasRead, readByteField, readValueField, readBinding, readNodeAvailability, readEntry, readBehind, readUnended, readLines, readRecords, readRecord}
+use Rattle.spec_listing.specs.ReadListing.{Record, bindingRecord, availabilityRecord, entryRecord, recordLine, unmarkedRecord, FitsRecord, FromFields, readField, noMore, alone, wasRead, readByteField, readValueField, readBinding, readNodeAvailability, readEntry, readBehind, readUnended, readLines, readRecords, readRecord}
 
 -- ---- fields within a line
 
@@ -155,8 +156,8 @@ value-fields next (text t) h = rw (unescaped-escaped t)
 value-fields next (unsigned x) h = rw (readDecimal-decimal x h)
 value-fields next (score n) h = rw (readDecimal-decimal n (omega (arith, h)))
 
-fields-back : (r : Record) → FitsRecord r → readBehind (tagOf r) (fieldsOf r) ≡ some r
-unfolding readBehind readBinding readNodeAvailability readEntry noMore FitsRecord
+fields-back : (r : Record) → FitsRecord r → readBehind (tagOf r) (fieldsOf r) ≡ some (unmarkedRecord r)
+unfolding readBehind readBinding readNodeAvailability readEntry noMore FitsRecord unmarkedRecord unmarked
 fields-back (bindingRecord b) h =
     read-on readDecimal _ (decimal (b .node)) _ (b .node) (readDecimal-decimal (b .node) (h .node))
     ∙ read-on readDecimal _ (decimal (b .slot)) _ (b .slot) (readDecimal-decimal (b .slot) (slot-u64 (h .slot)))
@@ -172,35 +173,35 @@ fields-back (entryRecord e) h =
     ∙ read-on readDecimal _ (decimal (e .key)) _ (e .key) (readDecimal-decimal (e .key) (h .key))
     ∙ value-fields _ (e .value) (h .value)
 
-textOf-back : (r : Record) → FitsRecord r → readUnended (textOf r) ≡ some r
+textOf-back : (r : Record) → FitsRecord r → readUnended (textOf r) ≡ some (unmarkedRecord r)
 unfolding readUnended alone
 textOf-back r h = ap (readField alone readBehind) (textOf-split r) ∙ read-on alone readBehind (tagOf r ∷ []) (fieldsOf r) (tagOf r) refl ∙ fields-back r h
 
 -- ---- lines
 
-lines-text : (r : Record) → FitsRecord r → (lines : List (List ℕ)) → readLines (textOf r ∷ lines) ≡ cons (some r) (readLines lines)
+lines-text : (r : Record) → FitsRecord r → (lines : List (List ℕ)) → readLines (textOf r ∷ lines) ≡ cons (some (unmarkedRecord r)) (readLines lines)
 unfolding readLines
 lines-text r h lines = ap (λ (o : Option Record). cons o (readLines lines)) (textOf-back r h)
 
 split-line : (r : Record) (rest : List ℕ) → split newline (recordLine r ++ rest) ≡ textOf r ∷ split newline rest
 split-line r rest = ap (split newline) (recordLine-text r rest) ∙ split-part newline (textOf r) rest (textOf-no-newline r)
 
--- Records that fit are read back from their lines, one after the other.
-pub records-back : (rs : List Record) → All FitsRecord rs → readRecords (flatMap recordLine rs) ≡ some rs
+-- Records that fit are read back from their lines, one after the other, without their marks.
+pub records-back : (rs : List Record) → All FitsRecord rs → readRecords (flatMap recordLine rs) ≡ some (map unmarkedRecord rs)
 unfolding readRecords readLines split flatMap cons
 records-back [] h = refl
 records-back (r ∷ rs) h =
     ap readLines (split-line r (flatMap recordLine rs))
     ∙ lines-text r (h .0) (split newline (flatMap recordLine rs))
-    ∙ ap (cons (some r)) (records-back rs (h .1))
+    ∙ ap (cons (some (unmarkedRecord r))) (records-back rs (h .1))
 
--- A record that fits is read back from its line.
-pub record-back : (r : Record) → FitsRecord r → readRecord (recordLine r) ≡ some r
+-- A record that fits is read back from its line, without its mark.
+pub record-back : (r : Record) → FitsRecord r → readRecord (recordLine r) ≡ some (unmarkedRecord r)
 unfolding readRecord bind alone flatMap
 record-back r h =
     ap (λ (l : List ℕ). bind (readRecords l) alone) (sym (append-nil (recordLine r)))
     ∙ ap (λ (o : Option (List Record)). bind o alone) (records-back (r ∷ []) (h, tt))
 
--- two records that fit and have one line are equal
-pub recordLine-injective : (r s : Record) → FitsRecord r → FitsRecord s → recordLine r ≡ recordLine s → r ≡ s
-recordLine-injective r s h g e = Option·some-injective r s (sym (record-back r h) ∙ ap readRecord e ∙ record-back s g)
+-- two records that fit and have one line are equal without their marks
+pub recordLine-injective : (r s : Record) → FitsRecord r → FitsRecord s → recordLine r ≡ recordLine s → unmarkedRecord r ≡ unmarkedRecord s
+recordLine-injective r s h g e = Option·some-injective (unmarkedRecord r) (unmarkedRecord s) (sym (record-back r h) ∙ ap readRecord e ∙ record-back s g)
