@@ -26,14 +26,14 @@ lookupFields l =
     else if eqb (l .kind) 5 then (77 ∷ []) ∷ decimal (l .unsigned) ∷ []
     else (84 ∷ []) ∷ escaped (take (l .«text_len») (l .text)) ∷ []
 
--- a value that was found has the fields of its line
-pub found-fields : (v : Value) → lookupFields (foundValue v) ≡ valueFields v
+-- a value that was found has the fields of its line, whatever its mark
+pub found-fields : (mark : ℕ) (v : Value) → lookupFields (foundValue mark v) ≡ valueFields v
 unfolding lookupFields valueFields
-found-fields (quad q) = refl
-found-fields (signed z) = refl
-found-fields (text t) = ap (λ (b : List ℕ). (84 ∷ []) ∷ escaped b ∷ []) (take-at t (zeros (textBytes - length t)) (length t) refl)
-found-fields (unsigned x) = refl
-found-fields (score n) = refl
+found-fields mark (quad q) = refl
+found-fields mark (signed z) = refl
+found-fields mark (text t) = ap (λ (b : List ℕ). (84 ∷ []) ∷ escaped b ∷ []) (take-at t (zeros (textBytes - length t)) (length t) refl)
+found-fields mark (unsigned x) = refl
+found-fields mark (score n) = refl
 
 -- ---- by the kind
 

@@ -1,4 +1,4 @@
-// The lines of a listing: 01, 'Listing'. A record's line is printed from its stored row.
+// The lines of a listing: 01, 'Listing'. A record's line is printed from its stored row, and shows no mark.
 mod escapes;
 pub mod tables;
 
@@ -109,7 +109,7 @@ fn print_binding(out: &mut [u8], at: Printed, row: &[u8]) -> Printed
 {
     let node = row_fields::binding_node(row);
     let slot = row_fields::binding_slot(row);
-    let value = panel_rows::values::stored_value(row, panel_rows::BINDING_VALUE);
+    let value = panel_rows::values::stored_value(row, panel_rows::BINDING_VALUE, 0);
     print_record(out, at, 66, node, slot, value)
 }
 
@@ -131,7 +131,7 @@ fn print_entry(out: &mut [u8], at: Printed, row: &[u8]) -> Printed
 {
     let collection = row_fields::entry_collection(row);
     let key = row_fields::entry_key(row);
-    let value = panel_rows::values::stored_value(row, panel_rows::ENTRY_VALUE);
+    let value = panel_rows::values::stored_value(row, panel_rows::ENTRY_VALUE, 0);
     print_record(out, at, 67, collection, key, value)
 }
 

@@ -34,7 +34,7 @@ returns c =
     let second = value .before in
     let first = second .before in
     λ x fits is.
-    let shown = ap lookupFields (value .stored-value .ensures (x .value) (fits .value) (ap (drop bindingValueAt) is ∙ binding-behind x)) ∙ found-fields (x .value) in
+    let shown = ap lookupFields (value .stored-value .ensures (x .value) (fits .value) (ap (drop bindingValueAt) is ∙ binding-behind x)) ∙ found-fields 0 (x .value) in
     same-bytes (same-record 66 (first .binding-node .ensures ∙ ap nodeIn is ∙ binding-node x fits) (second .binding-slot .ensures ∙ ap slotIn is ∙ binding-slot x fits) shown) (line .print-record .ensures)
 
 pub print-binding-spec : {M : Type 1} → statement M

@@ -34,7 +34,7 @@ returns c =
     let second = value .before in
     let first = second .before in
     λ x fits is.
-    let shown = ap lookupFields (value .stored-value .ensures (x .value) (fits .value) (ap (drop entryValueAt) is ∙ entry-behind x)) ∙ found-fields (x .value) in
+    let shown = ap lookupFields (value .stored-value .ensures (x .value) (fits .value) (ap (drop entryValueAt) is ∙ entry-behind x)) ∙ found-fields 0 (x .value) in
     same-bytes (same-record 67 (first .entry-collection .ensures ∙ ap collectionIn is ∙ entry-collection x fits) (second .entry-key .ensures ∙ ap keyIn is ∙ entry-key x fits) shown) (line .print-record .ensures)
 
 pub print-entry-spec : {M : Type 1} → statement M
