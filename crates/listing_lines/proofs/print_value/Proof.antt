@@ -45,7 +45,7 @@ returns-2 c =
     let end = c .before .before in
     let number = end .before .before .before .before in
     let letter = number .before .before .before .before .before in
-    let same = toZ-ofZ (sfits-of {w = w64} (number .before .struct-told .given .1 .1 .1 .0 .1)) in
+    let same = toZ-ofZ (sfits-of {w = w64} (number .before .struct-told .given .1 .1 .1 .1 .0 .1)) in
     same-bytes (ap (λ (y : ℤ). fields ((83 ∷ []) ∷ signedDecimal y ∷ [])) same ∙ ap fields (sym (signed-fields _ (letter .before .before .if2 .taken)))) (letter .print-letter .ensures ⨾ number .print-field-i64 .ensures ⨾ end .print-newline .ensures)
 
 print-kind-number-requires-2 : tie.Need-print-kind-number-requires-2
