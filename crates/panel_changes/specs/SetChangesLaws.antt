@@ -3,7 +3,7 @@
 use Prim.Native.Nat.{ℕ, _+_, _-_, _*_, _≤_}
 use mathlib.Core.Path.{_≡_, refl, sym, ap, _∙_, subst}
 use mathlib.Core.Bool.{Bool, true, false, _&&_}
-use mathlib.Core.List.{List, [], _++_, append-nil, map, map-id}
+use mathlib.Core.List.{List, [], _++_, append-nil, map-id}
 use native.Mathlib.Nat.{zero-mul}
 use native.Mathlib.Omega.{arith}
 use borrow.Author.Tests.{le-leb, leb-true, eq-eqb, eqb-true}
@@ -29,23 +29,21 @@ use Rattle.spec_projection.specs.RowMap.{mapRows}
 use Rattle.spec_projection.specs.Valid.{Valid}
 use Rattle.bytes_records.specs.Moves.{zeros, overwrite}
 use Rattle.bytes_records.specs.MovesLaws.{length-zeros, drop-zeros}
-use Rattle.bytes_records.specs.Table.{Holds}
 use Rattle.bytes_records.specs.TableLaws.{holds-none}
-use Rattle.panel_rows.specs.Rows.{valueWidth, bindingBytes, availabilityBytes, entryBytes, bindingWidth, availabilityWidth, entryWidth, bindingRow, availabilityRow, entryRow}
+use Rattle.panel_rows.specs.Rows.{bindingBytes, availabilityBytes, entryBytes, bindingWidth, availabilityWidth, entryWidth, bindingRow, availabilityRow, entryRow}
 use Rattle.local_projection_state.specs.Stores.{Stored, StoredTables}
 use Rattle.local_projection_state.specs.declared.ProjectionCounts.{ProjectionCounts}
 use Rattle.panel_plan.specs.Plan.{planOf, numbered, bindingWith, entryWith}
 use Rattle.panel_plan.specs.PlanValid.{plan-valid}
 use Rattle.panel_plan.specs.PlanRows.{PlannedBindings, PlannedEntries, StoredPlan}
 use Rattle.panel_plan.specs.Resolved.{Resolution, resolving, resolved}
-use Rattle.panel_steps.specs.Runs.{RunBecame, PlannedAs}
+use Rattle.panel_steps.specs.Runs.{RunBecame}
 use Rattle.panel_steps.specs.declared.PlanRun.{PlanRun}
 use Rattle.panel_steps.specs.declared.PlanRun.the-variants as plan
 use Rattle.panel_bindings.specs.declared.LocalProjectionApplicationError.{LocalProjectionApplicationError}
 use Rattle.projection_patch.specs.declared.read_values.ProjectionPatchReadFault.{ProjectionPatchReadFault}
 use Rattle.panel_writing.specs.Writing.{ClearBehind}
 use Rattle.panel_changes.specs.SetChanges.{tablesFit, countsFit, TableLengths, noneUsed, Ready, ChangeBecame}
-use Rattle.panel_changes.specs.declared.SetChange.{SetChange}
 use Rattle.panel_changes.specs.declared.SetChange.the-variants as change
 
 -- ---- lengths and counts

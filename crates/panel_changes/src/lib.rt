@@ -15,7 +15,7 @@ ghost use Rattle.spec_projection.specs.Apply.{replaySteps, applySteps};
 ghost use Rattle.spec_projection.specs.Valid.{Valid};
 ghost use Rattle.projection_patch.specs.Meaning.{editionOf};
 ghost use Rattle.patch_walk.specs.Steps.{AtSteps};
-ghost use Rattle.panel_rows.specs.Rows.{bindingBytes, availabilityBytes, entryBytes};
+ghost use Rattle.panel_rows.specs.Rows.{availabilityBytes};
 ghost use Rattle.local_projection_state.specs.Stores.{StoredTables};
 ghost use Rattle.panel_plan.specs.PlanRows.{PlannedBindings, PlannedEntries};
 ghost use Rattle.panel_steps.specs.Runs.{RunBecame, PlannedAs};

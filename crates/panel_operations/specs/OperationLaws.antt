@@ -1,7 +1,7 @@
 -- What becomes of one table is what becomes of the plan: the two others stay.
 use Prim.Native.Nat.{ℕ}
 use mathlib.Core.Path.{_≡_, refl, sym, subst}
-use mathlib.Core.List.{List, []}
+use mathlib.Core.List.{List}
 use Rattle.spec_patch.specs.Sizes.{projectionAvailabilities}
 use Rattle.spec_patch.specs.Edition.{Edition}
 use Rattle.spec_patch.specs.Patch.{unsigned}

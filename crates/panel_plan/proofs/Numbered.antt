@@ -14,7 +14,7 @@ use Rattle.bytes_records.specs.Moves as moves
 use Rattle.bytes_wire.specs.Write.{overwrite}
 use Rattle.bytes_wire.specs.WriteLaws.{has-room, overwrite-in-place}
 use Rattle.bytes_records.specs.Positions.{insertAt}
-use Rattle.bytes_records.specs.Table.{Wide, Holds, Changed, canInsert}
+use Rattle.bytes_records.specs.Table.{Holds, Changed, canInsert}
 use Rattle.bytes_records.specs.TableLaws.{row-cons, row-width, can-insert}
 use Rattle.panel_plan.specs.PlanRows.{sourceWidth}
 use Rattle.panel_plan.specs.NumberedRows.{numberedRow, numberedRows}

@@ -1,8 +1,7 @@
 -- The plan that a batch starts from has such sources, and planned operations keep that.
-use Prim.Native.Nat.{ℕ, suc, _+_, _-_, _≤_, _<_}
-use mathlib.Core.Path.{_≡_, sym, ap, _∙_, subst}
-use mathlib.Core.List.{List, [], _∷_}
-use mathlib.Core.Option.{Option}
+use Prim.Native.Nat.{ℕ}
+use mathlib.Core.Path.{_≡_, sym, subst}
+use mathlib.Core.List.{List}
 use native.Mathlib.Omega.{arith}
 use lib.ListN.{length}
 use Rattle.spec_lists.specs.Lists.{All}
@@ -13,12 +12,12 @@ use Rattle.spec_patch.specs.Fits.{OperationHolds}
 use Rattle.spec_projection.specs.Projection.{Binding, Entry, Projection, bindingKey}
 use Rattle.spec_projection.specs.FirstMatch.{findFirst}
 use Rattle.spec_projection.specs.FirstMatchLaws.{findFirst-all}
-use Rattle.spec_projection.specs.Entries.{isEntry, insertEntry, removeEntry}
+use Rattle.spec_projection.specs.Entries.{isEntry}
 use Rattle.spec_projection.specs.EntriesLaws.{insertEntry-all, replaceEntry-all, removeEntry-all}
 use Rattle.spec_projection.specs.Apply.{done, withBindings, withAvailabilities, withEntries, applyOperation}
 use Rattle.spec_projection.specs.OperationLaws.{applied-binding, applied-availability, applied-insert, applied-update, applied-remove, applied-move}
 use Rattle.spec_projection.specs.Valid.{FitsBinding, FitsEntry, Valid}
-use Rattle.panel_plan.specs.Plan.{old, new, numbered, bindingWith, entryWith, planOf, withSource}
+use Rattle.panel_plan.specs.Plan.{new, bindingWith, entryWith, planOf, withSource}
 use Rattle.panel_plan.specs.PlanValid.{numbered-all, holds-with}
 use Rattle.panel_plan.specs.SetValues.{StandsAt}
 use Rattle.panel_plan.specs.Sources.{Sourced, from-row, from-set, SourcedPlan}

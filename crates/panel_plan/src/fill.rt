@@ -1,8 +1,8 @@
 // The plan that a batch starts from: each row's ids and mark, and its number for a source.
 ghost use mathlib.Core.Path.{_≡_};
-ghost use mathlib.Core.List.{List, [], _++_};
+ghost use mathlib.Core.List.{List, []};
 ghost use Prim.Native.Nat.{ℕ, _+_, _*_, _≤_, _<_};
-ghost use lib.ListN.{length, take};
+ghost use lib.ListN.{length};
 ghost use Rattle.spec_patch.specs.Sizes.{projectionBindings, projectionEntries};
 ghost use Rattle.spec_patch.specs.Encode.{u64};
 ghost use Rattle.spec_projection.specs.Projection.{Binding, Entry};

@@ -6,7 +6,7 @@ use mathlib.Core.Option.{Option, none, some, orElse}
 use lib.Dec.{eqb}
 use Rattle.spec_lists.specs.Lists.{if_then_else_}
 use Rattle.spec_patch.specs.Patch.{Operation, setBinding, setAvailability, insert, update, remove, move}
-use Rattle.spec_projection.specs.Projection.{Binding, NodeAvailability, Entry, Projection}
+use Rattle.spec_projection.specs.Projection.{Projection}
 use Rattle.spec_projection.specs.Lookups.{bindingMark, availabilityMark, entryMark}
 use Rattle.spec_projection.specs.Apply.{Outcome, ReplayStep, stepOf, stepOperations}
 use Rattle.spec_projection.specs.RowMap.{RowMap, mapRows, mapOutcome}

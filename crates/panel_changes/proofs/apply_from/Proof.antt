@@ -1,6 +1,6 @@
 -- `panel_changes::apply_from` meets its contract: the tables are written when all operations are planned, and not before.
-use Prim.Native.Nat.{ℕ, _*_}
-use mathlib.Core.Path.{_≡_, refl, sym, _∙_}
+use Prim.Native.Nat.{_*_}
+use mathlib.Core.Path.{refl, sym, _∙_}
 use mathlib.Core.Bool.{false≢true}
 use mathlib.Core.List.{[]}
 use Rattle.spec_patch.specs.Sizes.{projectionBindings, projectionEntries}

@@ -1,6 +1,5 @@
 -- `write_planned` meets its contract: the bytes of the source, behind the plan's ids and mark.
 use mathlib.Core.Path.{sym, ap, _∙_}
-use native.Mathlib.Omega.{arith}
 use borrow.Author.Needs.{needs}
 use denote.Ref.{now}
 use lib.ListN.{drop}
