@@ -14,10 +14,10 @@ REQUESTS = {
 }
 
 LANDED = [
-    # "edition",
+    "edition",
     # "marks",
     # "lengths",
-    # "escapes",
+    "escapes",
     # "depends",
     # "pages",
     # "print",

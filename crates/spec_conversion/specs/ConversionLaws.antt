@@ -71,6 +71,10 @@ module _ (ed : Edition) where
   unfolding heading letters
   length-heading = simp (length-append, length-littleEndian)
 
+  -- a set that is read has a heading
+  pub heading-within : (set : List ℕ) (ps : List Patch) → Bytes set → readSet ed set ≡ patches ps → 31 ≤ length set
+  heading-within set ps all-bytes r = omega (arith, ap length (was-encoded ed set ps all-bytes r .0), length-encode ed ps, length-heading)
+
   -- a list that fits has values of the edition's kinds
   fits-kinds : (ps : List Patch) → Fits ed ps → allKinds ed ps ≡ true
   unfolding allKinds wellFormed
@@ -155,12 +159,9 @@ module _ (from to : Edition) where
       rw (c .reads, c .kinds, room-enough)
 
 module _ (from to : Edition) (set : List ℕ) (all-bytes : Bytes set) where
-  -- what is read is as long in any edition, and no shorter than a heading
+  -- what is read is as long in any edition
   pub length-other : (ps : List Patch) → readSet from set ≡ patches ps → length (encode to ps) ≡ length set
   length-other ps r = same-length from to ps ∙ sym (ap length (was-encoded from set ps all-bytes r .0))
-
-  pub heading-within : (ps : List Patch) → readSet from set ≡ patches ps → 31 ≤ length set
-  heading-within ps r = omega (arith, ap length (was-encoded from set ps all-bytes r .0), length-encode from ps, length-heading from)
 
   -- it succeeds exactly where the set is read, no value is of a kind that is missing, and there is room
   pub converts-exactly : (room : ℕ) → ((bs : List ℕ) × (convertTo from to set room ≡ converted bs)) ↔ Convertible from to set room

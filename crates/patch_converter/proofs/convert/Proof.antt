@@ -60,7 +60,7 @@ abbrev after : tie.After-read-set → Edition → List ℕ
 after k ed = take 30 (set k) ++ (digit ed ∷ drop 31 (set k))
 
 long : (k : tie.After-has-every-kind) → 31 ≤ length (set (read k))
-long k = heading-within (from (read k)) (from (read k)) (set (read k)) (all-bytes (read k)) (listed k .list) (listed k .reads)
+long k = heading-within (from (read k)) (set (read k)) (listed k .list) (all-bytes (read k)) (listed k .reads)
 
 read-set-requires : tie.Need-read-set-requires
 read-set-requires c κs = search needs
