@@ -52,11 +52,12 @@ pub fn apply_batch(
     out: &mut [u8],
 ) -> ReplayStep
     ensures { λ r. ⌜ ((m : State) → ReplayHolds state m
-        → Stepped state (now (out .entry)) (now (out .exit)) r (asked m (λ (x : Session). batched m (batch x (envelopeMeans envelope) references (now (set .entry)))))) ⌝ }
+        → Stepped state (now (out .entry)) (now (out .exit)) r (asked m (λ (x : Session). batched m (batch (m .edition) x (envelopeMeans envelope) references (now (set .entry)))))) ⌝ }
 {
     if state.exists {
         let session = state.session;
-        let step = session.apply_projection_patch_batch(envelope, references, set);
+        let edition = state.edition;
+        let step = session.apply_projection_patch_batch(envelope, references, set, edition);
         let result = step.result;
         let start = Printed::Next(0);
         let printed = session::print_batch(out, start, result);
