@@ -2,7 +2,7 @@
 -- a set that is read, has no value of a kind that is missing, and finds room; and it changes one letter.
 use Prim.Native.Nat.{ℕ, _+_, _≤_}
 use mathlib.Core.Path.{_≡_, refl, sym, ap, ap₂, subst, _∙_}
-use mathlib.Core.Bool.{Bool, true, false, _&&_, _||_, false≢true}
+use mathlib.Core.Bool.{Bool, true, false, not, _&&_, _||_, false≢true}
 use mathlib.Core.List.{List, [], _∷_, _++_, append-assoc}
 use mathlib.Core.Logic.{_↔_}
 use native.Mathlib.Omega.{arith}
@@ -14,7 +14,7 @@ use Rattle.spec_lists.specs.Lists.{if_then_else_, all, any}
 use Rattle.spec_lists.specs.ListLaws.{and-left, and-right, drop-behind}
 use Rattle.spec_lists.specs.Bytes.{Bytes}
 use Rattle.spec_lists.specs.BytesLaws.{length-littleEndian}
-use Rattle.spec_patch.specs.Patch.{Value, Operation, setBinding, setAvailability, insert, update, remove, move, Patch}
+use Rattle.spec_patch.specs.Patch.{Value, quad, signed, text, unsigned, score, Operation, setBinding, setAvailability, insert, update, remove, move, Patch}
 use Rattle.spec_patch.specs.Edition.{Edition, v1, v2, digit, letters, addedKinds, kinds, hasKind}
 use Rattle.spec_patch.specs.Encode.{u32, kindOf, encodeCounted, encodePatch, heading, encode}
 use Rattle.spec_patch.specs.Fits.{Fits}
@@ -23,7 +23,7 @@ use Rattle.spec_patch.specs.Read.{SetReading, patches, fault, readSet}
 use Rattle.spec_patch.specs.SetLaws.{reads-back, was-encoded}
 use Rattle.spec_patch.specs.Write.{valuePasses, allValues, allowedValue, wellFormed, withinCapacities}
 use Rattle.spec_patch.specs.WriteLaws.{fits-of-tests, capacities-of-fits, well-formed-of-fits, few-of-fits, fits-in-range}
-use Rattle.spec_conversion.specs.Conversion.{otherEdition, ConversionRefusal, kindMissing, outputTooShort, unread, Converted, converted, refused, kindIn, allKinds, rewritten, convertTo, convert}
+use Rattle.spec_conversion.specs.Conversion.{otherEdition, ConversionRefusal, kindMissing, outputTooShort, unread, Converted, converted, refused, kindIn, allKinds, rewritten, convertTo, convert, isScore, withoutScores}
 
 -- ---- tests of every value
 
@@ -230,3 +230,29 @@ unfolding convert otherEdition
 first-converts set ps all-bytes r room enough =
     let fits = was-encoded v1 set ps all-bytes r .1 in
     converts v1 v2 set room all-bytes (record { list = ps; reads = r; kinds = more-kinds ps (fits-kinds v1 ps fits); enough = enough })
+
+-- the first edition has every kind but scores
+kinds-but-scores : (v : Value) → kindIn v1 v ≡ not (isScore v)
+unfolding isScore kindOf hasKind kinds addedKinds
+kinds-but-scores (quad q) = refl
+kinds-but-scores (signed z) = refl
+kinds-but-scores (text t) = refl
+kinds-but-scores (unsigned x) = refl
+kinds-but-scores (score n) = refl
+
+first-kinds : (ps : List Patch) → allKinds v1 ps ≡ withoutScores ps
+unfolding allKinds withoutScores
+first-kinds ps =
+    let same : kindIn v1 ≡ (λ (v : Value). not (isScore v)) = λ i v. kinds-but-scores v i in
+    ap (λ (test : Value → Bool). allValues test ps) same
+
+-- a set of the second edition that is read is converted where no score occurs, given room
+pub second-converts : (set : List ℕ) (ps : List Patch) → Bytes set → readSet v2 set ≡ patches ps → withoutScores ps ≡ true → (room : ℕ) → length set ≤ room → convert v2 set room ≡ converted (encode v1 ps)
+unfolding convert otherEdition
+second-converts set ps all-bytes r none room enough =
+    converts v2 v1 set room all-bytes (record { list = ps; reads = r; kinds = first-kinds ps ∙ none; enough = enough })
+
+-- and is 18 where one does, whatever the room
+pub scores-refused : (set : List ℕ) (ps : List Patch) → readSet v2 set ≡ patches ps → withoutScores ps ≡ false → (room : ℕ) → convert v2 set room ≡ refused kindMissing
+unfolding convert otherEdition convertTo rewritten
+scores-refused set ps r some room = rw (r, first-kinds ps ∙ some)
