@@ -39,8 +39,21 @@ fn print_checked(set: &[u8], edition: ProjectionPatchEdition, out: &mut [u8]) ->
     script_answers::check::print_check(out, start, answer, &records)
 }
 
-// A conversion into so many bytes, all zero.
 fn print_converted(
+    set: &[u8],
+    edition: ProjectionPatchEdition,
+    lent: &mut [u8],
+    out: &mut [u8],
+) -> Printed
+    ensures { λ r. ⌜ Prints (now (out .entry)) (Next 0) (conversionLine (convert (editionOf edition) (now (set .entry)) (length (now (lent .entry))))) (now (out .exit)) r ⌝ }
+{
+    let answer = patch_converter::convert(set, edition, lent);
+    let start = Printed::Next(0);
+    script_answers::conversion::print_conversion(out, start, answer, lent)
+}
+
+// A conversion into so many bytes, all zero.
+fn convert_into(
     set: &[u8],
     edition: ProjectionPatchEdition,
     room: u16,
@@ -50,9 +63,7 @@ fn print_converted(
 {
     let mut lent = [0u8; SET_BYTES];
     let end = room as usize;
-    let answer = patch_converter::convert(set, edition, &mut lent[0..end]);
-    let start = Printed::Next(0);
-    script_answers::conversion::print_conversion(out, start, answer, &lent[0..end])
+    print_converted(set, edition, &mut lent[0..end], out)
 }
 
 fn apply_batch(state: ReplayState, batch: BatchLine, set: &[u8], out: &mut [u8]) -> ReplayStep
@@ -96,7 +107,7 @@ fn use_set(state: ReplayState, wanted: SetLine, set: &[u8], out: &mut [u8]) -> R
             answered(state, printed)
         }
         SetLine::Convert(room) => {
-            let printed = print_converted(set, edition, room, out);
+            let printed = convert_into(set, edition, room, out);
             answered(state, printed)
         }
     }
