@@ -124,14 +124,11 @@ pub fn create_latest(state: ReplayState, out: &mut [u8]) -> ReplayStep
     let printed = session::print_creation(out, start, answer);
     let session = creation.session;
     let exists = is_created(answer);
-    let turns = state.turns;
+    let mut next = state;
+    next.session = session;
+    next.exists = exists;
     ReplayStep {
-        state: ReplayState {
-            setup,
-            exists,
-            session,
-            turns,
-        },
+        state: next,
         printed,
         stopped: false,
     }
