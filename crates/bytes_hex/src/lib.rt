@@ -1,4 +1,6 @@
-// Lower-case hex, decoded into a lent slice.
+// Lower-case hex: decoded into a lent slice here, and printed.
+pub mod printing;
+
 ghost use mathlib.Core.Path.{_≡_};
 ghost use Prim.Native.Nat.{_*_, _≤_, _<_};
 ghost use lib.ListN.{length};

@@ -5,7 +5,7 @@ use mathlib.Core.List.{List, [], _∷_, flatMap}
 use native.Mathlib.Omega.{arith}
 use lib.ListN.{length, take}
 use Rattle.spec_patch.specs.Patch.{Patch}
-use Rattle.spec_patch.specs.Edition.{v1}
+use Rattle.spec_patch.specs.Edition.{Edition}
 use Rattle.spec_patch.specs.Reader.{Fault, faultNumber}
 use Rattle.spec_patch.specs.Read.{SetReading, patches, fault, readSet}
 use Rattle.spec_patch.specs.SetLaws.{was-encoded}
@@ -75,23 +75,23 @@ module _ (ps : List Patch) (lent : List ℕ) (room : recordLength * length (find
         words = ap₂ (λ (n : ℕ) (l : List ℕ). take (recordLength * n) l) (count ∙ sym (ap length all)) numbers ∙ writeFindings-front found lent ∙ ap findingWords all;
       }
 
-module _ (set : List ℕ) (answer : PatchSetCheck) (records : List ℕ) (h : CheckOf set answer records) where
-  pub refused-lines : (f : ProjectionPatchReadFault) → answer ≡ set-check.Refused f → refusal f ≡ checkLines (readSet v1 set)
-  refused-lines f is = refused-reading (readSet v1 set) (length (h .lent)) f (sym is ∙ h .answered)
+module _ (ed : Edition) (set : List ℕ) (answer : PatchSetCheck) (records : List ℕ) (h : CheckOf ed set answer records) where
+  pub refused-lines : (f : ProjectionPatchReadFault) → answer ≡ set-check.Refused f → refusal f ≡ checkLines (readSet ed set)
+  refused-lines f is = refused-reading (readSet ed set) (length (h .lent)) f (sym is ∙ h .answered)
 
   -- the line of the place and the count, and a line for each record
   module _ {l m n : List ℕ} {at r s : Printed} (p : CheckPlace) (logical written : ℕ) (is : answer ≡ set-check.Checked p logical written)
       (head : (f : Findings) → p ≡ placeTo (f .place) → logical ≡ length (f .found) → Prints l at (checkedLine f) m r)
       (more : (fs : List Finding) → length fs ≡ logical → take (recordLength * logical) records ≡ findingWords fs → Within m r → Prints m r (flatMap findingLine fs) n s) where
-    reading-lines : (reading : SetReading) → readSet v1 set ≡ reading → Prints l at (checkLines reading) n s
+    reading-lines : (reading : SetReading) → readSet ed set ≡ reading → Prints l at (checkLines reading) n s
     unfolding checkLines
     reading-lines (fault f) e = absurd (let z : _≡_ {A = ℕ} 0 1 = cc (is, h .answered, e) in omega arith)
     reading-lines (patches ps) e =
-        let most = findings-most v1 ps (was-encoded v1 set ps (h .bytes) e .1) in
+        let most = findings-most ed ps (was-encoded ed set ps (h .bytes) e .1) in
         let told = findings-told ps (h .lent) (omega (arith, most, h .room)) p logical written records
         (sym is ∙ h .answered ∙ ap (λ (x : SetReading). checkAnswer x (length (h .lent))) e) (h .written ∙ ap (λ (x : SetReading). checkNumbers x (h .lent)) e) in
         let first = head (findings ps) (told .place-is) (told .counted) in
         first ⨾ more (findings ps .found) (sym (told .counted)) (told .words) (ends-within first)
 
-    pub checked-lines : Prints l at (checkLines (readSet v1 set)) n s
-    checked-lines = reading-lines (readSet v1 set) refl
+    pub checked-lines : Prints l at (checkLines (readSet ed set)) n s
+    checked-lines = reading-lines (readSet ed set) refl

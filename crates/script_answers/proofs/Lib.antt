@@ -2,3 +2,4 @@ pub mod Creations
 pub mod Records
 pub mod Checks
 pub mod SetUps
+pub mod Conversions

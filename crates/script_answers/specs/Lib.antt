@@ -3,4 +3,5 @@ pub mod OpenFieldsLaws
 pub mod CreationAnswers
 pub mod LookupLines
 pub mod CheckOf
+pub mod ConversionOf
 pub mod TurnAnswers

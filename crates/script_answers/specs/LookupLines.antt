@@ -5,7 +5,7 @@ use mathlib.Core.Bool.{Bool, true, false}
 use mathlib.Core.List.{List, [], _∷_}
 use mathlib.Core.Option.{Option, none, some}
 use Rattle.spec_lists.specs.Lists.{if_then_else_}
-use Rattle.spec_patch.specs.Patch.{Value, quad, signed, text, unsigned, Availability}
+use Rattle.spec_patch.specs.Patch.{Value, quad, signed, text, unsigned, score, Availability}
 use Rattle.spec_decimal.specs.Decimal.{decimal}
 use Rattle.spec_listing.specs.Listing.{fields}
 use Rattle.spec_replay.specs.Answers.{dash, valueLine, availabilityLine}
@@ -32,6 +32,7 @@ value-looked-up (some (quad q)) = ap (λ (fs : List (List ℕ)). 86 ∷ fields f
 value-looked-up (some (signed z)) = ap (λ (fs : List (List ℕ)). 86 ∷ fields fs) (found-fields (signed z))
 value-looked-up (some (text t)) = ap (λ (fs : List (List ℕ)). 86 ∷ fields fs) (found-fields (text t))
 value-looked-up (some (unsigned x)) = ap (λ (fs : List (List ℕ)). 86 ∷ fields fs) (found-fields (unsigned x))
+value-looked-up (some (score n)) = ap (λ (fs : List (List ℕ)). 86 ∷ fields fs) (found-fields (score n))
 
 pub availability-looked-up : (o : Option Availability) → availabilityLookupLine (availabilityLookup o) ≡ availabilityLine o
 unfolding availabilityLookupLine foundLine availabilityLookup availabilityLine

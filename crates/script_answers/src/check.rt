@@ -3,7 +3,7 @@ ghost use mathlib.Core.Path.{_≡_};
 ghost use mathlib.Core.List.{List, flatMap};
 ghost use Prim.Native.Nat.{ℕ, _*_};
 ghost use lib.ListN.{length, take};
-ghost use Rattle.spec_patch.specs.Edition.{v1};
+ghost use Rattle.spec_patch.specs.Edition.{Edition};
 ghost use Rattle.spec_patch.specs.Read.{readSet};
 ghost use Rattle.spec_checks.specs.Finding.{Finding};
 ghost use Rattle.spec_checks.specs.Findings.{Place, Findings};
@@ -68,7 +68,7 @@ fn print_checked(out: &mut [u8], at: Printed, place: CheckPlace, logical: usize)
 
 // What the check of a set answered and wrote, where it was lent room for every record.
 pub fn print_check(out: &mut [u8], at: Printed, answer: PatchSetCheck, records: &[u64]) -> Printed
-    ensures { λ r. ⌜ ((set : List ℕ) → CheckOf set answer (now (records .entry)) → Prints (now (out .entry)) at (checkLines (readSet v1 set)) (now (out .exit)) r) ⌝ }
+    ensures { λ r. ⌜ ((ed : Edition) (set : List ℕ) → CheckOf ed set answer (now (records .entry)) → Prints (now (out .entry)) at (checkLines (readSet ed set)) (now (out .exit)) r) ⌝ }
 {
     match answer {
         PatchSetCheck::Checked {

@@ -1,5 +1,6 @@
-// The lines that a replay prints of the answers of a session's calls, of the check of a set and of the senders' turns, printed into a lent slice.
+// The lines that a replay prints of the answers of a session's calls, of the check of a set, of its conversion and of the senders' turns, printed into a lent slice.
 pub mod check;
+pub mod conversion;
 pub mod fields;
 pub mod session;
 pub mod turns;

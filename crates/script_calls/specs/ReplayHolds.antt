@@ -8,6 +8,7 @@ use Rattle.spec_session.specs.Session.{Session}
 use Rattle.spec_replay.specs.Replay.{State, Step, onward, stops}
 use Rattle.bytes_printer.specs.declared.Printed.the-variants.{Next}
 use Rattle.bytes_printer.specs.Prints.{Prints}
+use Rattle.projection_patch.specs.Meaning.{editionOf}
 use Rattle.shell_player.specs.Holds.{Holds}
 use Rattle.shell_player.specs.declared.session.ShellSession.{ShellSession}
 use Rattle.session_creation.specs.Creation.{noSession}
@@ -30,6 +31,7 @@ pub record ReplayHolds (s : ReplayState) (m : State) : Type 0 where
   pub setup-is : SetsUp (s .setup) (m .setup)
   pub session-is : SessionHeld (s .exists) (s .session) (m .session)
   pub turns-are : TurnsHeld (s .turns) (m .turns)
+  pub edition-is : editionOf (s .edition) ≡ m .edition
 
 -- what a line does to a state and a slice: the state afterwards, and as much of its answer as fits from the slice's start on; where the
 -- replay stops the state stays
@@ -42,11 +44,11 @@ pub record Stepped (s : ReplayState) (before after : List ℕ) (r : ReplayStep) 
 
 -- the state with another session
 abbrev pub withLatest : ReplayState → ShellSession → ReplayState
-withLatest s x = record { setup = s .setup; exists = s .exists; session = x; turns = s .turns }
+withLatest s x = record { setup = s .setup; exists = s .exists; session = x; turns = s .turns; edition = s .edition }
 
 -- the state with other turns
 abbrev pub withLatestTurns : ReplayState → SenderTurns → ReplayState
-withLatestTurns s t = record { setup = s .setup; exists = s .exists; session = s .session; turns = t }
+withLatestTurns s t = record { setup = s .setup; exists = s .exists; session = s .session; turns = t; edition = s .edition }
 
 unfoldable pub isCreated : CreationAnswer → Bool
 isCreated Created = true

@@ -7,12 +7,16 @@ use mathlib.Core.Option.{Option, none, some}
 use native.Mathlib.Omega.{arith}
 use lib.ListN.{take}
 use Rattle.spec_lists.specs.ListLaws.{map-take}
+use Rattle.spec_patch.specs.Edition.{Edition}
+use Rattle.spec_session.specs.Batch.{BatchEnvelope, batch}
 use Rattle.spec_session.specs.Session.{Session, Limits, Creation, made, refused, create}
 use Rattle.spec_replay.specs.Answers.{noSessionLine, creationLine}
-use Rattle.spec_replay.specs.Replay.{Setup, State, Step, onward, stops, asked, created, withSession, keptAnchors}
+use Rattle.spec_replay.specs.Replay.{Setup, State, Step, onward, stops, asked, created, batched, withSession, keptAnchors}
 use Rattle.bytes_printer.specs.declared.Printed.{Printed}
 use Rattle.bytes_printer.specs.declared.Printed.the-variants.{Next}
 use Rattle.bytes_printer.specs.Prints.{Prints}
+use Rattle.projection_patch.specs.Meaning.{editionOf}
+use Rattle.projection_patch.specs.declared.patch.ProjectionPatchEdition.{ProjectionPatchEdition}
 use Rattle.shell_player.specs.Holds.{Holds}
 use Rattle.session_creation.specs.Creation.{Creates}
 use Rattle.shell_player.specs.declared.session.ShellSession.{ShellSession}
@@ -60,9 +64,9 @@ module _ (s : ReplayState) (m : State) (h : ReplayHolds s m) (before after : Lis
 
 module _ (s : ReplayState) (m : State) (h : ReplayHolds s m) where
   -- the state with a later session of the same replay
-  pub holds-latest : (t : ShellSession) (x : Session) → s .exists ≡ true → Holds t x → ReplayHolds (record { setup = s .setup; exists = s .exists; session = t; turns = s .turns }) (withSession m (some x))
+  pub holds-latest : (t : ShellSession) (x : Session) → s .exists ≡ true → Holds t x → ReplayHolds (record { setup = s .setup; exists = s .exists; session = t; turns = s .turns; edition = s .edition }) (withSession m (some x))
   unfolding withSession
-  holds-latest t x e held = record { setup-is = h .setup-is; session-is = held-as (s .exists) t x e held; turns-are = h .turns-are }
+  holds-latest t x e held = record { setup-is = h .setup-is; session-is = held-as (s .exists) t x e held; turns-are = h .turns-are; edition-is = h .edition-is }
 
 module _ {s : ReplayState} {before after : List ℕ} where
   -- a step that goes on, by its parts
@@ -72,13 +76,18 @@ module _ {s : ReplayState} {before after : List ℕ} where
   pub stops-there : (r : ReplayStep) {printed : List ℕ} → r .stopped ≡ true → r .state ≡ s → Prints before (Next 0) printed after (r .printed) → Stepped s before after r (stops printed)
   stops-there r e same p = record { is = (e, (same, p)) }
 
+-- a batch in the edition that the struct stores is one in the edition of the replay
+pub in-edition : {s : ReplayState} {before after : List ℕ} {r : ReplayStep} (m : State) (own : ProjectionPatchEdition) → editionOf own ≡ m .edition → (x : Session) (e : BatchEnvelope) (references : ℕ) (set : List ℕ)
+    → Stepped s before after r (batched m (batch (editionOf own) x e references set)) → Stepped s before after r (batched m (batch (m .edition) x e references set))
+in-edition {s} {before} {after} {r} m own is x e references set step = subst (λ (ed : Edition). Stepped s before after r (batched m (batch ed x e references set))) is step
+
 -- a creation takes the place of what there was
 pub created-step : (s : ReplayState) (m : State) → ReplayHolds s m → (c : Creation) (r : ShellSessionCreation) → Creates c r → (b : Bool) → b ≡ isCreated (r .answer)
     → (before after : List ℕ) (p : Printed) → Prints before (Next 0) (creationLine c) after p
-    → Stepped s before after (record { state = record { setup = s .setup; exists = b; session = r .session; turns = s .turns }; printed = p; stopped = false }) (created m c)
+    → Stepped s before after (record { state = record { setup = s .setup; exists = b; session = r .session; turns = s .turns; edition = s .edition }; printed = p; stopped = false }) (created m c)
 unfolding created Creates isCreated withSession
-created-step s m h (made x) r k b e before after p printed = goes-on refl (record { setup-is = h .setup-is; session-is = rw (e, k .0) (k .1); turns-are = h .turns-are }) printed
-created-step s m h (refused f) r k b e before after p printed = goes-on refl (record { setup-is = h .setup-is; session-is = rw (e, k .0) (k .1); turns-are = h .turns-are }) printed
+created-step s m h (made x) r k b e before after p printed = goes-on refl (record { setup-is = h .setup-is; session-is = rw (e, k .0) (k .1); turns-are = h .turns-are; edition-is = h .edition-is }) printed
+created-step s m h (refused f) r k b e before after p printed = goes-on refl (record { setup-is = h .setup-is; session-is = rw (e, k .0) (k .1); turns-are = h .turns-are; edition-is = h .edition-is }) printed
 
 -- the anchors that a set-up keeps are those of the definitions
 pub setup-creates : (s : ReplaySetup) (m : Setup) → SetsUp s m → (n k : ℕ) → n ≡ min (s .«node_count») keptAnchors → k ≡ min (s .«collection_count») keptAnchors

@@ -53,7 +53,7 @@ module _ (s : ReplayState) (m : State) (h : ReplayHolds s m) where
   -- the state with the turns after a call
   pub holds-turns : (x : SenderTurns) (t : Turns) → TurnsHeld x (some t) → ReplayHolds (withLatestTurns s x) (withTurns m t)
   unfolding withTurns
-  holds-turns x t held = record { setup-is = h .setup-is; session-is = h .session-is; turns-are = held }
+  holds-turns x t held = record { setup-is = h .setup-is; session-is = h .session-is; turns-are = held; edition-is = h .edition-is }
 
 -- ---- what the calls leave and answer
 
@@ -107,10 +107,10 @@ module _ (s : ReplayState) (m : State) (h : ReplayHolds s m) (r : TurnsSetUp) (x
   unfolding settled setUpTo afterSetUp heldTurns withTurns
   settled-as (model.made t) few is printed =
       let made : x ≡ heldTurns (some t) = chosen ∙ ap (λ (k : TurnsSetUp). afterSetUp (s .turns) (k .answer) (k .turns)) is in
-      goes-on refl (record { setup-is = h .setup-is; session-is = h .session-is; turns-are = record { are = made; few = few } }) printed
+      goes-on refl (record { setup-is = h .setup-is; session-is = h .session-is; turns-are = record { are = made; few = few }; edition-is = h .edition-is }) printed
   settled-as (model.refused model.wrongSenderCount) few is printed =
       let own : x ≡ s .turns = chosen ∙ ap (λ (k : TurnsSetUp). afterSetUp (s .turns) (k .answer) (k .turns)) is in
-      goes-on refl (record { setup-is = h .setup-is; session-is = h .session-is; turns-are = subst (λ (u : SenderTurns). TurnsHeld u (m .turns)) (sym own) (h .turns-are) }) printed
+      goes-on refl (record { setup-is = h .setup-is; session-is = h .session-is; turns-are = subst (λ (u : SenderTurns). TurnsHeld u (m .turns)) (sym own) (h .turns-are); edition-is = h .edition-is }) printed
 
   pub settled-step : (k : ℕ) → r ≡ setUpTo (setUp k) → Prints before (Next 0) (setUpLine (setUp k)) after p
       → Stepped s before after (record { state = withLatestTurns s x; printed = p; stopped = false }) (settled m (setUp k))

@@ -52,11 +52,12 @@ pub fn apply_batch(
     out: &mut [u8],
 ) -> ReplayStep
     ensures { λ r. ⌜ ((m : State) → ReplayHolds state m
-        → Stepped state (now (out .entry)) (now (out .exit)) r (asked m (λ (x : Session). batched m (batch x (envelopeMeans envelope) references (now (set .entry)))))) ⌝ }
+        → Stepped state (now (out .entry)) (now (out .exit)) r (asked m (λ (x : Session). batched m (batch (m .edition) x (envelopeMeans envelope) references (now (set .entry)))))) ⌝ }
 {
     if state.exists {
         let session = state.session;
-        let step = session.apply_projection_patch_batch(envelope, references, set);
+        let edition = state.edition;
+        let step = session.apply_projection_patch_batch(envelope, references, set, edition);
         let result = step.result;
         let start = Printed::Next(0);
         let printed = session::print_batch(out, start, result);
@@ -123,14 +124,11 @@ pub fn create_latest(state: ReplayState, out: &mut [u8]) -> ReplayStep
     let printed = session::print_creation(out, start, answer);
     let session = creation.session;
     let exists = is_created(answer);
-    let turns = state.turns;
+    let mut next = state;
+    next.session = session;
+    next.exists = exists;
     ReplayStep {
-        state: ReplayState {
-            setup,
-            exists,
-            session,
-            turns,
-        },
+        state: next,
         printed,
         stopped: false,
     }

@@ -1,6 +1,7 @@
-// The state of a replay: its set-up, the session of the latest creation if there is one, and the turns of the latest senders.
+// The state of a replay: its set-up, the session of the latest creation if there is one, the turns of the latest senders, and the edition of sets.
 use crate::setup::ReplaySetup;
 use bytes_printer::Printed;
+use projection_patch::patch::ProjectionPatchEdition;
 use script_answers::session;
 use session_turns::SenderTurns;
 use shell_player::session::ShellSession;
@@ -15,6 +16,7 @@ pub struct ReplayState {
     pub exists: bool,
     pub session: ShellSession,
     pub turns: SenderTurns,
+    pub edition: ProjectionPatchEdition,
 }
 
 // The state after a line, where what was printed ends, and whether the replay stops there.

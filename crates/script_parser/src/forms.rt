@@ -122,7 +122,7 @@ fn conversion(room: u64, from: usize) -> ScriptCommand
     ensures { λ r. ⌜ ((line : List ℕ) → commandOf line r ≡ setFrom line from (λ set. upTo setBytes room (λ n. script.convert n set))) ⌝ }
 {
     if room <= 32768 {
-        ScriptCommand::WithSet(SetLine::Convert(room as usize), from)
+        ScriptCommand::WithSet(SetLine::Convert(room as u16), from)
     } else {
         ScriptCommand::Other
     }

@@ -56,7 +56,7 @@ pub enum SetLine {
     Batch(BatchLine),
     Check,
     List,
-    Convert(usize),
+    Convert(u16),
 }
 
 // What a line asks for. WithSet holds where the hex of the set starts in the line; such a line is Other if that is no hex.

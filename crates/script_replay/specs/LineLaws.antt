@@ -37,10 +37,10 @@ silent-step s l r m goes unprinted h = goes-on goes h (subst (λ (p : Printed). 
 
 -- a line for the next creation
 pub set-up-step : (s : ReplayState) (m : State) → ReplayHolds s m → (t : ReplaySetup) (line : SetupLine) → SetsUp t (nextSetup (m .setup) line) → (n : ℕ) (l : List ℕ)
-    → Stepped s l l (record { state = record { setup = t; exists = s .exists; session = s .session; turns = s .turns }; printed = Next 0; stopped = false }) (replayLine n m (setupOf line))
+    → Stepped s l l (record { state = record { setup = t; exists = s .exists; session = s .session; turns = s .turns; edition = s .edition }; printed = Next 0; stopped = false }) (replayLine n m (setupOf line))
 set-up-step s m h t line new n l =
-    subst (Stepped s l l (record { state = record { setup = t; exists = s .exists; session = s .session; turns = s .turns }; printed = Next 0; stopped = false })) (setup-line n m line)
-    (silent-step s l _ _ refl refl (record { setup-is = new; session-is = h .session-is; turns-are = h .turns-are }))
+    subst (Stepped s l l (record { state = record { setup = t; exists = s .exists; session = s .session; turns = s .turns; edition = s .edition }; printed = Next 0; stopped = false })) (setup-line n m line)
+    (silent-step s l _ _ refl refl (record { setup-is = new; session-is = h .session-is; turns-are = h .turns-are; edition-is = h .edition-is }))
 
 -- ---- lines
 

@@ -16,7 +16,7 @@ nextSetup m (Binding n s) = anchored m (withBinding (m .catalogue) (record { nod
 nextSetup m (Collection n) = anchored m (withCollection (m .catalogue) n)
 
 -- it is what the line does, and all that it does
-pub setup-line : (number : ℕ) (m : State) (line : SetupLine) → onward (record { setup = nextSetup (m .setup) line; session = m .session; turns = m .turns }) [] ≡ replayLine number m (setupOf line)
+pub setup-line : (number : ℕ) (m : State) (line : SetupLine) → onward (record { setup = nextSetup (m .setup) line; session = m .session; turns = m .turns; edition = m .edition }) [] ≡ replayLine number m (setupOf line)
 unfolding replayLine withSetup withAnchors
 setup-line number m (Session id limits) = refl
 setup-line number m (Node n) = refl

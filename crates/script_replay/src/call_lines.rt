@@ -1,4 +1,5 @@
-// Lines that call the session or the senders' turns, or make one of these.
+// Lines that call the session or the senders' turns, or make one of these; and the edition.
+use crate::setup_lines;
 use script_calls::calls;
 use script_calls::state::ReplayState;
 use script_calls::state::ReplayStep;
@@ -23,5 +24,6 @@ pub(crate) fn call(state: ReplayState, wanted: CallLine, out: &mut [u8]) -> Repl
         CallLine::Senders(count) => turns::set_up(state, count, out),
         CallLine::Wait(sender) => turns::register(state, sender, out),
         CallLine::Turn => turns::turn(state, out),
+        CallLine::Edition(edition) => setup_lines::in_edition(state, edition),
     }
 }

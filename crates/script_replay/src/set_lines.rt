@@ -1,22 +1,26 @@
-// Lines with a set in hex: a batch, a check and a listing.
+// Lines with a set in hex: a batch, a check, a listing and a conversion.
 use crate::setup_lines;
 use bytes_hex::Decoded;
 use bytes_printer::Printed;
+use projection_patch::patch::ProjectionPatchEdition;
 use script_calls::calls;
 use script_calls::state::ReplayState;
 use script_calls::state::ReplayStep;
+use script_parser::BatchLine;
 use script_parser::SetLine;
 use session_gates::gates::OrderedProjectionPatchBatchEnvelope;
 use session_lifecycle::state::ShellSessionId;
+ghost use mathlib.Core.List.{List};
 ghost use Prim.Native.Nat.{ℕ, _≤_};
 ghost use lib.ListN.{length};
-ghost use Rattle.spec_patch.specs.Edition.{v1};
 ghost use Rattle.spec_patch.specs.Read.{readSet};
 ghost use Rattle.spec_replay.specs.Script.{lineBytes};
-ghost use Rattle.spec_replay.specs.Answers.{checkLines};
-ghost use Rattle.spec_replay.specs.Replay.{State, replayLine};
+ghost use Rattle.spec_conversion.specs.Conversion.{convert};
+ghost use Rattle.spec_replay.specs.Answers.{checkLines, conversionLine};
+ghost use Rattle.spec_replay.specs.Replay.{State, onward, replayLine};
 ghost use Rattle.bytes_printer.specs.declared.Printed.the-variants.{Next};
 ghost use Rattle.bytes_printer.specs.Prints.{Prints};
+ghost use Rattle.projection_patch.specs.Meaning.{editionOf};
 ghost use Rattle.script_parser.specs.Meaning.{setFrom, withSetOf};
 ghost use Rattle.script_calls.specs.ReplayHolds.{ReplayHolds, Stepped};
 
@@ -26,45 +30,85 @@ const RECORD_NUMBERS: usize = check_set::list_set::FindingsListed::NUMBERS;
 // The longest set that a line can spell.
 const SET_BYTES: usize = 65536;
 
-fn print_checked(set: &[u8], out: &mut [u8]) -> Printed
-    ensures { λ r. ⌜ Prints (now (out .entry)) (Next 0) (checkLines (readSet v1 (now (set .entry)))) (now (out .exit)) r ⌝ }
+fn print_checked(set: &[u8], edition: ProjectionPatchEdition, out: &mut [u8]) -> Printed
+    ensures { λ r. ⌜ Prints (now (out .entry)) (Next 0) (checkLines (readSet (editionOf edition) (now (set .entry)))) (now (out .exit)) r ⌝ }
 {
     let mut records = [0u64; RECORD_NUMBERS];
-    let answer = check_set::check_set::check(set, &mut records);
+    let answer = check_set::check_set::check(set, edition, &mut records);
     let start = Printed::Next(0);
     script_answers::check::print_check(out, start, answer, &records)
+}
+
+fn print_converted(
+    set: &[u8],
+    edition: ProjectionPatchEdition,
+    lent: &mut [u8],
+    out: &mut [u8],
+) -> Printed
+    ensures { λ r. ⌜ Prints (now (out .entry)) (Next 0) (conversionLine (convert (editionOf edition) (now (set .entry)) (length (now (lent .entry))))) (now (out .exit)) r ⌝ }
+{
+    let answer = patch_converter::convert(set, edition, lent);
+    let start = Printed::Next(0);
+    script_answers::conversion::print_conversion(out, start, answer, lent)
+}
+
+// A conversion into so many bytes, all zero.
+fn convert_into(
+    set: &[u8],
+    edition: ProjectionPatchEdition,
+    room: u16,
+    out: &mut [u8],
+) -> Printed
+    ensures { λ r. ⌜ Prints (now (out .entry)) (Next 0) (conversionLine (convert (editionOf edition) (now (set .entry)) room)) (now (out .exit)) r ⌝ }
+{
+    let mut lent = [0u8; SET_BYTES];
+    let end = room as usize;
+    print_converted(set, edition, &mut lent[0..end], out)
+}
+
+fn apply_batch(state: ReplayState, batch: BatchLine, set: &[u8], out: &mut [u8]) -> ReplayStep
+    ensures { λ r. ⌜ ((m : State) → ReplayHolds state m → (number : ℕ)
+        → Stepped state (now (out .entry)) (now (out .exit)) r (replayLine number m (withSetOf (SetLine.Batch batch) (now (set .entry))))) ⌝ }
+{
+    let envelope = OrderedProjectionPatchBatchEnvelope {
+        session_id: ShellSessionId(batch.session_id),
+        sequence_no: batch.sequence_no,
+        patch_count: batch.patch_count,
+        stimulus_bytes: batch.stimulus_bytes,
+    };
+    calls::apply_batch(state, envelope, batch.target_references, set, out)
+}
+
+// The state stays where something was printed.
+fn answered(state: ReplayState, printed: Printed) -> ReplayStep
+    ensures { λ r. ⌜ ((m : State) → ReplayHolds state m → (before after lines : List ℕ) → Prints before (Next 0) lines after printed → Stepped state before after r (onward m lines)) ⌝ }
+{
+    ReplayStep {
+        state,
+        printed,
+        stopped: false,
+    }
 }
 
 fn use_set(state: ReplayState, wanted: SetLine, set: &[u8], out: &mut [u8]) -> ReplayStep
     ensures { λ r. ⌜ ((m : State) → ReplayHolds state m → (number : ℕ)
         → Stepped state (now (out .entry)) (now (out .exit)) r (replayLine number m (withSetOf wanted (now (set .entry))))) ⌝ }
 {
+    let edition = state.edition;
     match wanted {
-        SetLine::Batch(batch) => {
-            let envelope = OrderedProjectionPatchBatchEnvelope {
-                session_id: ShellSessionId(batch.session_id),
-                sequence_no: batch.sequence_no,
-                patch_count: batch.patch_count,
-                stimulus_bytes: batch.stimulus_bytes,
-            };
-            calls::apply_batch(state, envelope, batch.target_references, set, out)
-        }
+        SetLine::Batch(batch) => apply_batch(state, batch, set, out),
         SetLine::Check => {
-            let printed = print_checked(set, out);
-            ReplayStep {
-                state,
-                printed,
-                stopped: false,
-            }
+            let printed = print_checked(set, edition, out);
+            answered(state, printed)
         }
         SetLine::List => {
             let start = Printed::Next(0);
-            let printed = listing_panel::print_listing(out, start, set);
-            ReplayStep {
-                state,
-                printed,
-                stopped: false,
-            }
+            let printed = listing_panel::print_listing(out, start, set, edition);
+            answered(state, printed)
+        }
+        SetLine::Convert(room) => {
+            let printed = convert_into(set, edition, room, out);
+            answered(state, printed)
         }
     }
 }

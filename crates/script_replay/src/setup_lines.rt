@@ -1,7 +1,8 @@
-// Lines that print nothing, lines that set up the next creation, and any other line.
+// Lines that print nothing, and any other line: what sets up the next creation, the edition of sets, and a remark.
 use active_projection_target_catalog::catalog::ActiveProjectionTargetCatalog;
 use active_projection_target_catalog::catalog::BindingPair;
 use bytes_printer::Printed;
+use projection_patch::patch::ProjectionPatchEdition;
 use script_answers::session;
 use script_calls::setup::ReplaySetup;
 use script_calls::state::ReplayState;
@@ -15,12 +16,13 @@ ghost use Rattle.spec_replay.specs.Answers.{otherLine};
 ghost use Rattle.spec_replay.specs.Script as script;
 ghost use Rattle.spec_replay.specs.Replay as replay;
 ghost use Rattle.spec_replay.specs.Replay.{Setup, State, stops, replayLine};
+ghost use Rattle.projection_patch.specs.Meaning.{editionOf};
 ghost use Rattle.script_parser.specs.Meaning.{setupOf};
 ghost use Rattle.script_calls.specs.SetsUp.{SetsUp};
 ghost use Rattle.script_calls.specs.ReplayHolds.{ReplayHolds, Stepped};
 ghost use Rattle.script_replay.specs.SetupLines.{nextSetup};
 
-// The state before the first line: no limits, no anchors, no session and no senders. What stands for none is what a creation gives that is
+// The state before the first line: no limits, no anchors, no session and no senders, and sets of the first edition. What stands for none is what a creation gives that is
 // refused, and likewise a set-up of senders.
 pub fn start() -> ReplayState
     ensures { λ r. ⌜ ReplayHolds r replay.start ⌝ }
@@ -49,6 +51,7 @@ pub fn start() -> ReplayState
         exists: false,
         session,
         turns,
+        edition: ProjectionPatchEdition::V1,
     }
 }
 
@@ -86,6 +89,19 @@ pub(crate) fn set_up(state: ReplayState, line: SetupLine) -> ReplayStep
     let setup = next_setup(own, line);
     let mut next = state;
     next.setup = setup;
+    ReplayStep {
+        state: next,
+        printed: Printed::Next(0),
+        stopped: false,
+    }
+}
+
+// The edition of every set from here on.
+pub(crate) fn in_edition(state: ReplayState, edition: ProjectionPatchEdition) -> ReplayStep
+    ensures { λ r. ⌜ ((m : State) → ReplayHolds state m → (number : ℕ) (out : List ℕ) → Stepped state out out r (replayLine number m (script.edition (editionOf edition)))) ⌝ }
+{
+    let mut next = state;
+    next.edition = edition;
     ReplayStep {
         state: next,
         printed: Printed::Next(0),

@@ -38,7 +38,7 @@ returns c =
     let head = records .before .before .before .before in
     let told = head .before .before .before in
     let args = told .before .before .before .before .args in
-    λ set h. checked-lines set (args .answer) (now (args .records)) h _ _ _ (told .answer .given .1) (head .print-checked .ensures) (records .print-findings .ensures)
+    λ ed set h. checked-lines ed set (args .answer) (now (args .records)) h _ _ _ (told .answer .given .1) (head .print-checked .ensures) (records .print-findings .ensures)
 
 same-length-2 : tie.Need-same-length-2
 same-length-2 c = search needs
@@ -49,7 +49,7 @@ returns-2 c =
     let told = call .before .before .before .before in
     let args = told .before .before .before .before .args in
     let number = ap (λ (n : ℕ). 75 ∷ fields (decimal n ∷ [])) (call .before .number .ensures) in
-    λ set h. same-bytes (number ∙ refused-lines set (args .answer) (now (args .records)) h _ (told .answer2 .given .1)) (call .print-number-line .ensures)
+    λ ed set h. same-bytes (number ∙ refused-lines ed set (args .answer) (now (args .records)) h _ (told .answer2 .given .1)) (call .print-number-line .ensures)
 
 pub print-check-spec : {M : Type 1} → statement M
 print-check-spec =

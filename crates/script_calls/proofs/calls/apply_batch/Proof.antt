@@ -3,7 +3,7 @@ use mathlib.Core.Path.{refl, ap}
 use Rattle.spec_replay.specs.Replay.{batched}
 use Rattle.spec_replay.specs.Answers.{batchLine}
 use Rattle.bytes_printer.specs.PrintsLaws.{same-bytes}
-use Rattle.script_calls.specs.ReplayHoldsLaws.{asked-there, asked-nowhere, goes-on, holds-latest}
+use Rattle.script_calls.specs.ReplayHoldsLaws.{asked-there, asked-nowhere, goes-on, holds-latest, in-edition}
 use borrow.Author.Needs.{needs}
 use Rattle.script_calls.proofs.calls.apply_batch.Statement.{statement}
 use Rattle.script_calls.proofs.calls.apply_batch.Tie as tie
@@ -27,7 +27,7 @@ returns c =
     let there = c .before .before .before .before .before .before .before .before .before .if1 .taken in
     λ m h. asked-there (a .state) m h _ _ _ _ there (λ x held.
     let got = c .before .before .before .before .before .before .before .apply-projection-patch-batch .ensures .0 .became x held in
-    goes-on refl (rw (c .with-latest .ensures) (holds-latest (a .state) m h _ _ there (got .next))) (same-bytes (ap batchLine (got .answer)) (c .before .before .before .before .print-batch .ensures)))
+    in-edition m (a .state .edition) (h .edition-is) x _ _ _ (goes-on refl (rw (c .with-latest .ensures) (holds-latest (a .state) m h _ _ there (got .next))) (same-bytes (ap batchLine (got .answer)) (c .before .before .before .before .print-batch .ensures))))
 
 no-session-requires : tie.Need-no-session-requires
 no-session-requires c κs = search needs

@@ -19,11 +19,11 @@ same-length c = search needs
 
 returns : tie.Need-returns
 returns c =
-    let a = c .before .before .before .before .before .before .before .before .before .before .args in
-    let creation = c .before .before .before .before .before .before .before .create-session in
-    let told = c .before .is-created in
+    let a = c .before .before .before .before .before .before .before .before .before .args in
+    let creation = c .before .before .before .before .before .before .create-session in
+    let told = c .is-created in
     λ m h. let creates = creation .ensures (m .setup) (h .setup-is) in
-    created-step (a .state) m h _ (creation .result) creates (told .result) (told .ensures) _ _ _ (c .before .before .before .before .before .print-creation .ensures _ (creation-told _ (creation .result) creates))
+    created-step (a .state) m h _ (creation .result) creates (told .result) (told .ensures) _ _ _ (c .before .before .before .before .print-creation .ensures _ (creation-told _ (creation .result) creates))
 
 pub create-latest-spec : {M : Type 1} → statement M
 create-latest-spec =

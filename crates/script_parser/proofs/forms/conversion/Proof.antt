@@ -6,8 +6,12 @@ use Rattle.spec_replay.specs.Hex.{readHex}
 use Rattle.spec_replay.specs.Script.{convert}
 use Rattle.script_parser.specs.FormsLaws.{fits-bound, exceeds-bound, other-with-set}
 use Rattle.script_parser.specs.Meaning.{setFrom}
+use borrow.Author.Needs.{needs}
 use Rattle.script_parser.proofs.forms.conversion.Statement.{statement}
 use Rattle.script_parser.proofs.forms.conversion.Tie as tie
+
+cast-t5 : tie.Need-cast-t5
+cast-t5 c = search needs
 
 returns : tie.Need-returns
 returns c =
@@ -20,4 +24,4 @@ returns-2 c =
     λ line. other-with-set (readHex (drop (args .from) line)) ∙ (λ i. setFrom line (args .from) (λ set. exceeds-bound 32768 (args .room) (λ n. convert n set) (omega arith) i))
 
 pub conversion-spec : {M : Type 1} → statement M
-conversion-spec = tie.close (tie.spec returns returns-2)
+conversion-spec = tie.close (tie.spec cast-t5 returns returns-2)

@@ -1,5 +1,6 @@
 -- `script_replay::set_lines::print_checked` meets its contract: the table has room for every record.
 use Rattle.spec_lists.specs.BytesLaws.{bytes-of}
+use Rattle.projection_patch.specs.Meaning.{editionOf}
 use borrow.Author.Needs.{needs}
 use Rattle.script_replay.proofs.set_lines.print_checked.Statement.{statement}
 use Rattle.script_replay.proofs.set_lines.print_checked.Tie as tie
@@ -21,8 +22,9 @@ same-length c = search needs
 
 returns : tie.Need-returns
 returns c =
-    let set = c .before .before .before .before .before .before .before .before .before .before .args .set .now in
-    c .before .before .print-check .ensures set (record {
+    let args = c .before .before .before .before .before .before .before .before .before .before .args in
+    let set = args .set .now in
+    c .before .before .print-check .ensures (editionOf (args .edition)) set (record {
       bytes = bytes-of set (λ j. c .before .before .before .before .before .before .before .before .before .shared-slice-known .given j .fits);
       lent = _;
       room = search needs;

@@ -1,5 +1,5 @@
 -- `script_replay::setup_lines::start` meets its contract: nothing is set up, and what stands for no session is in its place.
-use mathlib.Core.Path.{ap}
+use mathlib.Core.Path.{refl, ap}
 use Rattle.spec_replay.specs.Replay as replay
 use Rattle.spec_turns.specs.Turns.{setUp}
 use Rattle.session_turns.specs.Meaning.{setUpTo}
@@ -38,6 +38,7 @@ returns c =
       setup-is = refused .before .before .before .new .ensures;
       session-is = ap (λ (r : ShellSessionCreation). r .session) (refused .create-shell-session .ensures);
       turns-are = record { are = ap (λ (r : TurnsSetUp). r .turns) (unmade .new2 .ensures); few = tt };
+      edition-is = refl;
     }
 
 pub start-spec : {M : Type 1} → statement M

@@ -1,0 +1,41 @@
+-- `script_answers::conversion::print_set` meets its contract: the letter, 0, the set, and the newline.
+use Rattle.spec_listing.specs.Listing.{fields}
+use Rattle.bytes_printer.specs.PrintsLaws.{_⨾_}
+use borrow.Author.Needs.{needs}
+use Rattle.script_answers.proofs.conversion.print_set.Statement.{statement}
+use Rattle.script_answers.proofs.conversion.print_set.Tie as tie
+
+print-byte-requires : tie.Need-print-byte-requires
+print-byte-requires c κs = search needs
+
+print-field-u64-requires : tie.Need-print-field-u64-requires
+print-field-u64-requires c κs = search needs
+
+print-field-hex-requires : tie.Need-print-field-hex-requires
+print-field-hex-requires c κs = search needs
+
+print-newline-requires : tie.Need-print-newline-requires
+print-newline-requires c κs = search needs
+
+same-length : tie.Need-same-length
+same-length c = search needs
+
+returns : tie.Need-returns
+unfolding fields
+returns c =
+    let end = c .before .before in
+    let set = end .before .before .before .before in
+    let zero = set .before .before .before .before in
+    let letter = zero .before .before .before .before in
+    letter .print-byte .ensures ⨾ zero .print-field-u64 .ensures ⨾ set .print-field-hex .ensures ⨾ end .print-newline .ensures
+
+pub print-set-spec : {M : Type 1} → statement M
+print-set-spec =
+    tie.close
+    (tie.spec
+    print-byte-requires
+    print-field-u64-requires
+    print-field-hex-requires
+    print-newline-requires
+    same-length
+    returns)
