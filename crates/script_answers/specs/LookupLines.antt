@@ -24,20 +24,20 @@ valueLookupLine l = foundLine (l .found) (lookupFields l)
 unfoldable pub availabilityLookupLine : AvailabilityLookup → List ℕ
 availabilityLookupLine l = foundLine (l .found) ((65 ∷ []) ∷ decimal (l .availability) ∷ [])
 
--- a lookup that tells a value has the line of that value
-pub value-looked-up : (o : Option Value) → valueLookupLine (valueLookup o) ≡ valueLine o
+-- a lookup that tells a value has the line of that value, whatever its mark
+pub value-looked-up : (mark : Option ℕ) (o : Option Value) → valueLookupLine (valueLookup mark o) ≡ valueLine o
 unfolding valueLookupLine foundLine valueLookup valueLine
-value-looked-up none = refl
-value-looked-up (some (quad q)) = ap (λ (fs : List (List ℕ)). 86 ∷ fields fs) (found-fields (quad q))
-value-looked-up (some (signed z)) = ap (λ (fs : List (List ℕ)). 86 ∷ fields fs) (found-fields (signed z))
-value-looked-up (some (text t)) = ap (λ (fs : List (List ℕ)). 86 ∷ fields fs) (found-fields (text t))
-value-looked-up (some (unsigned x)) = ap (λ (fs : List (List ℕ)). 86 ∷ fields fs) (found-fields (unsigned x))
-value-looked-up (some (score n)) = ap (λ (fs : List (List ℕ)). 86 ∷ fields fs) (found-fields (score n))
+value-looked-up mark none = refl
+value-looked-up mark (some (quad q)) = ap (λ (fs : List (List ℕ)). 86 ∷ fields fs) (found-fields _ (quad q))
+value-looked-up mark (some (signed z)) = ap (λ (fs : List (List ℕ)). 86 ∷ fields fs) (found-fields _ (signed z))
+value-looked-up mark (some (text t)) = ap (λ (fs : List (List ℕ)). 86 ∷ fields fs) (found-fields _ (text t))
+value-looked-up mark (some (unsigned x)) = ap (λ (fs : List (List ℕ)). 86 ∷ fields fs) (found-fields _ (unsigned x))
+value-looked-up mark (some (score n)) = ap (λ (fs : List (List ℕ)). 86 ∷ fields fs) (found-fields _ (score n))
 
-pub availability-looked-up : (o : Option Availability) → availabilityLookupLine (availabilityLookup o) ≡ availabilityLine o
+pub availability-looked-up : (mark : Option ℕ) (o : Option Availability) → availabilityLookupLine (availabilityLookup mark o) ≡ availabilityLine o
 unfolding availabilityLookupLine foundLine availabilityLookup availabilityLine
-availability-looked-up none = refl
-availability-looked-up (some a) = refl
+availability-looked-up mark none = refl
+availability-looked-up mark (some a) = refl
 
 -- ---- by the test
 

@@ -17,7 +17,7 @@ same-length : tie.Need-same-length
 same-length c = search needs
 
 returns : tie.Need-returns
-returns c = λ m h. asked-there (c .before .before .before .before .before .before .before .before .args .state) m h _ _ _ _ (c .before .before .before .before .before .before .if1 .taken) (λ x held. goes-on refl h (same-bytes (ap valueLookupLine (c .before .before .before .before .entry-value .ensures x held) ∙ value-looked-up _) (c .before .before .print-value .ensures)))
+returns c = λ m h. asked-there (c .before .before .before .before .before .before .before .before .args .state) m h _ _ _ _ (c .before .before .before .before .before .before .if1 .taken) (λ x held. goes-on refl h (same-bytes (ap valueLookupLine (c .before .before .before .before .entry-value .ensures x held) ∙ value-looked-up _ _) (c .before .before .print-value .ensures)))
 
 no-session-requires : tie.Need-no-session-requires
 no-session-requires c κs = search needs
