@@ -137,7 +137,7 @@ printed("160_backslashes", "a text of 160 backslashes prints as 320", (b"\\" * 1
 printed("longest_text", "240 bytes of which 133 are escaped print as 373", (LONGEST, LONGEST_OUT))
 case(
     "escape_longest_listing", "64 bindings and 128 entries with such texts are printed whole",
-    "projection_lines ListingBytes.listingBytes",
+    "listing_lines ListingBytes.listingBytes",
     set_up(references=128, bindings=[(5, slot) for slot in range(64)]) + [
         batch(1, patches_of([binding(5, slot, text(LONGEST)) for slot in range(64)])),
         batch(2, patches_of([insert(9, key, text(LONGEST)) for key in range(1, 65)])),

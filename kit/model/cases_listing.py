@@ -2,7 +2,6 @@
 
 from build import patch, patches_of, quad, read_notation, signed, text, unsigned
 from kit import PANEL, STARTED, case, listed, on_panel, rules_of, started
-from landed import LANDED
 from patch import availability, binding, insert, move, remove, update
 
 rules_of("Listing")
@@ -46,11 +45,6 @@ case(
         "B\t1\t3\tT\tzwei Wörter".encode(), b"B\t1\t4\tT\t",
     ],
 )
-if "escapes" not in LANDED:
-    case(
-        "listing_text_as_it_is", "a text's tabs and newlines are printed as they are", "spec_listing Listing.valueFields",
-        [listed(patches_of([binding(1, 0, text("a\tb\nc"))]))], ["P 1", b"B\t1\t0\tT\ta\tb\nc"],
-    )
 case(
     "listing_needs_no_anchors", "no session takes part: any target will do", LISTING,
     [listed(patches_of([availability(77, 1), insert(88, 1, quad(0))]))], ["P 2", "A 77 1", "C 88 1 Q 0"],

@@ -4,7 +4,6 @@ from build import patches_of, text
 from canonical import encode_patch, encode_set, u32, u64
 from cases_reading import refused, with_operations
 from kit import batch, case, on_panel, rules_of, set_up, shown
-from landed import LANDED
 from patch import binding, insert, update
 
 rules_of("Canonical bytes")
@@ -210,8 +209,7 @@ allowed(
 )
 allowed("four_byte_characters", "U+10000 and U+10FFFF, the ends of four bytes", "f0908080", "f48fbfbf")
 allowed("byte_order_mark", "a byte order mark is a character as any other and stays", "efbbbf41")
-TABS = "can be stored as any other character" if "escapes" in LANDED else "prints as it is"
-allowed("tab_and_newline", "a tab or a newline inside a text " + TABS, "0961", "610a62")
+allowed("tab_and_newline", "a tab or a newline inside a text can be stored as any other character", "0961", "610a62")
 forbidden("overlong_2", "two bytes for what fits one", "c080", "c1bf")
 forbidden("overlong_3", "three bytes for what fits two", "e08080", "e09fbf")
 forbidden("overlong_4", "four bytes for what fits three", "f0808080", "f08fbfbf")

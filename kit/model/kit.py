@@ -8,7 +8,6 @@ from io import BytesIO
 
 import build
 from canonical import encode_set
-from landed import LANDED
 from patch import operations_of
 from replay import replay
 
@@ -62,9 +61,7 @@ def answered(script):
 
 
 def shown(content):
-    """A text as the answers print it: as it is, and with 02, Job 2, escaped."""
-    if "escapes" not in LANDED:
-        return content
+    """A text as the answers print it: escaped, by 02, Job 2."""
     return content.replace(b"\\", b"\\\\").replace(b"\t", b"\\t").replace(b"\n", b"\\n").replace(b"\r", b"\\r")
 
 

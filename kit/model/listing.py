@@ -7,7 +7,6 @@ import sys
 
 from canonical import Fault, read_set
 from checks import findings
-from landed import LANDED
 from projection import Projection, Stopped, apply_patches
 from sizes import SET_BYTES
 
@@ -27,7 +26,7 @@ def escaped(text):
 
 def value_fields(value):
     kind, content = value
-    return KINDS[kind], escaped(content) if kind == 3 and "escapes" in LANDED else content
+    return KINDS[kind], escaped(content) if kind == 3 else content
 
 
 def listing_tables(projection):

@@ -235,6 +235,16 @@ C|9|201|T|suction valve: Saugventil
 """.replace("|", "\t").encode()
 
 
+# the panel's set with a match score, of the second edition
+SCORES = read_notation("""
+patch
+availability 5 3
+insert 9 2 M 87
+insert 9 1 before 2 T Ok
+binding 5 0 Q 2
+""")
+
+
 def write(folder, name, lines, answers):
     script = "".join(line + "\n" for line in lines).encode()
     assert answered(script) == answers, answered(script).decode()
@@ -246,6 +256,7 @@ def main(folder):
     write(folder, "pump_manual", SCRIPT, ANSWERS)
     write(folder, "three_senders", SENDERS, SENDERS_ANSWERS)
     (folder / "panel.set").write_bytes(encode_set(PANEL_SET))
+    (folder / "scores.set").write_bytes(encode_set(SCORES, 2))
 
 
 if __name__ == "__main__":
