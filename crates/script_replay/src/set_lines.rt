@@ -53,12 +53,7 @@ fn print_converted(
 }
 
 // A conversion into so many bytes, all zero.
-fn convert_into(
-    set: &[u8],
-    edition: ProjectionPatchEdition,
-    room: u16,
-    out: &mut [u8],
-) -> Printed
+fn convert_into(set: &[u8], edition: ProjectionPatchEdition, room: u16, out: &mut [u8]) -> Printed
     ensures { λ r. ⌜ Prints (now (out .entry)) (Next 0) (conversionLine (convert (editionOf edition) (now (set .entry)) room)) (now (out .exit)) r ⌝ }
 {
     let mut lent = [0u8; SET_BYTES];

@@ -100,8 +100,16 @@ pub(crate) fn set_up(state: ReplayState, line: SetupLine) -> ReplayStep
 pub(crate) fn in_edition(state: ReplayState, edition: ProjectionPatchEdition) -> ReplayStep
     ensures { λ r. ⌜ ((m : State) → ReplayHolds state m → (number : ℕ) (out : List ℕ) → Stepped state out out r (replayLine number m (script.edition (editionOf edition)))) ⌝ }
 {
-    let mut next = state;
-    next.edition = edition;
+    let setup = state.setup;
+    let session = state.session;
+    let turns = state.turns;
+    let next = ReplayState {
+        setup,
+        exists: state.exists,
+        session,
+        turns,
+        edition,
+    };
     ReplayStep {
         state: next,
         printed: Printed::Next(0),

@@ -61,6 +61,12 @@ enum-told-3 c = search needs
 turn-requires : tie.Need-turn-requires
 turn-requires c κs = search needs
 
+enum-known-wanted-7 : tie.Need-enum-known-wanted-7
+enum-known-wanted-7 c = search needs
+
+in-edition-requires : tie.Need-in-edition-requires
+in-edition-requires c κs = search needs
+
 same-length : tie.Need-same-length
 same-length c = search needs
 
@@ -124,6 +130,11 @@ returns-9 : tie.Need-returns-9
 unfolding replayLine
 returns-9 c = λ m h n. line-step n m _ _ (ap callOf (sym (c .before .before .before .before .enum-told3 .given .1))) (c .before .before .turn .ensures m h)
 
+returns-10 : tie.Need-returns-10
+returns-10 c =
+    let told = c .before .before in
+    λ m h n. line-step n m _ _ (ap callOf (sym (told .wanted7 .given .1))) (c .in-edition .ensures m h n (told .before .before .before .args .out .now))
+
 pub call-spec : {M : Type 1} → statement M
 call-spec =
     tie.close
@@ -146,6 +157,8 @@ call-spec =
     register-requires
     enum-told-3
     turn-requires
+    enum-known-wanted-7
+    in-edition-requires
     same-length
     returns
     same-length-2
@@ -163,4 +176,5 @@ call-spec =
     same-length-8
     returns-8
     same-length-9
-    returns-9)
+    returns-9
+    returns-10)

@@ -1,9 +1,14 @@
--- `script_replay::set_lines::use_set` meets its contract: each use in its turn.
-use mathlib.Core.Path.{refl, sym, ap}
+-- `script_replay::set_lines::use_set` meets its contract: each use in its turn, in the edition in force.
+use mathlib.Core.Path.{sym, ap}
+use Rattle.spec_patch.specs.Edition.{Edition}
+use Rattle.spec_patch.specs.Read.{readSet}
+use Rattle.spec_conversion.specs.Conversion.{convert}
+use Rattle.spec_listing.specs.Listing.{listing}
+use Rattle.spec_replay.specs.Answers.{checkLines, conversionLine}
 use Rattle.spec_replay.specs.Replay.{replayLine}
+use Rattle.bytes_printer.specs.PrintsLaws.{same-bytes}
 use Rattle.script_parser.specs.Meaning.{withSetOf}
 use Rattle.script_parser.specs.declared.SetLine.{SetLine}
-use Rattle.script_calls.specs.ReplayHoldsLaws.{goes-on}
 use Rattle.script_replay.specs.LineLaws.{line-step}
 use borrow.Author.Needs.{needs}
 use Rattle.script_replay.proofs.set_lines.use_set.Statement.{statement}
@@ -21,20 +26,36 @@ enum-told c = search needs
 print-checked-requires : tie.Need-print-checked-requires
 print-checked-requires c κs = search needs
 
+answered-requires : tie.Need-answered-requires
+answered-requires c κs = search needs
+
 enum-told-2 : tie.Need-enum-told-2
 enum-told-2 c = search needs
 
 print-listing-requires : tie.Need-print-listing-requires
 print-listing-requires c κs = search needs
 
+answered-requires-2 : tie.Need-answered-requires-2
+answered-requires-2 c κs = search needs
+
+enum-known-wanted-2 : tie.Need-enum-known-wanted-2
+enum-known-wanted-2 c = search needs
+
+convert-into-requires : tie.Need-convert-into-requires
+convert-into-requires c κs = search needs
+
+answered-requires-3 : tie.Need-answered-requires-3
+answered-requires-3 c κs = search needs
+
 same-length : tie.Need-same-length
 same-length c = search needs
 
 returns : tie.Need-returns
-unfolding replayLine
 returns c =
-    let a = c .before .before .before .before .before .before .before .before .before .args in
-    λ m h n. line-step n m _ _ (ap (λ (w : SetLine). withSetOf w (a .set .now)) (sym (c .before .before .before .before .before .wanted .given .1))) (c .before .before .apply-batch .ensures m h)
+    let batch = c .before .before in
+    let told = batch .before .before .before in
+    let set = told .before .before .before .before .args .set .now in
+    λ m h n. line-step n m _ _ (ap (λ (w : SetLine). withSetOf w set) (sym (told .wanted .given .1))) (batch .apply-batch .ensures m h n)
 
 same-length-2 : tie.Need-same-length-2
 same-length-2 c = search needs
@@ -42,8 +63,11 @@ same-length-2 c = search needs
 returns-2 : tie.Need-returns-2
 unfolding replayLine
 returns-2 c =
-    let a = c .before .before .before .before .before .before .before .before .args in
-    λ m h n. line-step n m _ _ (ap (λ (w : SetLine). withSetOf w (a .set .now)) (sym (c .before .before .before .before .enum-told .given .1))) (goes-on refl h (c .before .before .print-checked .ensures))
+    let checked = c .before .before .before in
+    let told = checked .before .before in
+    let set = told .before .before .before .before .args .set .now in
+    λ m h n. line-step n m _ _ (ap (λ (w : SetLine). withSetOf w set) (sym (told .enum-told .given .1)))
+    (c .answered .ensures m h _ _ _ (same-bytes (ap (λ (ed : Edition). checkLines (readSet ed set)) (h .edition-is)) (checked .print-checked .ensures)))
 
 same-length-3 : tie.Need-same-length-3
 same-length-3 c = search needs
@@ -51,8 +75,23 @@ same-length-3 c = search needs
 returns-3 : tie.Need-returns-3
 unfolding replayLine
 returns-3 c =
-    let a = c .before .before .before .before .before .before .before .before .args in
-    λ m h n. line-step n m _ _ (ap (λ (w : SetLine). withSetOf w (a .set .now)) (sym (c .before .before .before .before .enum-told2 .given .1))) (goes-on refl h (c .before .before .print-listing .ensures))
+    let listed = c .before .before .before in
+    let told = listed .before .before in
+    let set = told .before .before .before .before .args .set .now in
+    λ m h n. line-step n m _ _ (ap (λ (w : SetLine). withSetOf w set) (sym (told .enum-told2 .given .1)))
+    (c .answered2 .ensures m h _ _ _ (same-bytes (ap (λ (ed : Edition). listing ed set) (h .edition-is)) (listed .print-listing .ensures)))
+
+same-length-4 : tie.Need-same-length-4
+same-length-4 c = search needs
+
+returns-4 : tie.Need-returns-4
+unfolding replayLine
+returns-4 c =
+    let converted = c .before .before .before in
+    let told = converted .before .before .before in
+    let set = told .before .before .before .before .args .set .now in
+    λ m h n. line-step n m _ _ (ap (λ (w : SetLine). withSetOf w set) (sym (told .wanted2 .given .1)))
+    (c .answered3 .ensures m h _ _ _ (same-bytes (ap (λ (ed : Edition). conversionLine (convert ed set (told .wanted2 .given .0 .0))) (h .edition-is)) (converted .convert-into .ensures)))
 
 pub use-set-spec : {M : Type 1} → statement M
 use-set-spec =
@@ -62,11 +101,18 @@ use-set-spec =
     apply-batch-requires
     enum-told
     print-checked-requires
+    answered-requires
     enum-told-2
     print-listing-requires
+    answered-requires-2
+    enum-known-wanted-2
+    convert-into-requires
+    answered-requires-3
     same-length
     returns
     same-length-2
     returns-2
     same-length-3
-    returns-3)
+    returns-3
+    same-length-4
+    returns-4)
