@@ -5,3 +5,4 @@ pub mod TurnsHeldLaws
 pub mod ReplayHolds
 pub mod ReplayHoldsLaws
 pub mod TurnSteps
+pub mod MarkLaws

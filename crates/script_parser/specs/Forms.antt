@@ -8,7 +8,7 @@ use lib.ListN.{getD}
 use Rattle.spec_lists.specs.Lists.{if_then_else_}
 use Rattle.spec_patch.specs.Sizes.{setBytes}
 use Rattle.spec_session.specs.Lifecycle.{Stimulus, activate, suspend, resume, close, noOp}
-use Rattle.spec_replay.specs.Script.{Command, session, node, binding, collection, create, apply, batch, check, list, show, valueBinding, valueNode, valueEntry, senders, wait, turn, edition, convert, other, Arguments, end, given, atMost, numberedEdition, hex}
+use Rattle.spec_replay.specs.Script.{Command, session, node, binding, collection, create, apply, batch, check, list, show, valueBinding, valueNode, valueEntry, markBinding, markNode, markEntry, senders, wait, turn, edition, convert, other, Arguments, end, given, atMost, numberedEdition, hex}
 use Rattle.script_parser.specs.Fields.{numbers, filled}
 
 pub record Form : Type 0 where
@@ -42,12 +42,15 @@ stimulusForm s = record { count = 1; withSet = false; makes = λ ns set. apply s
 abbrev pub noForm : Form
 noForm = record { count = 0; withSet = false; makes = λ ns set. other }
 
--- where the forms of apply's words, of value's words and of the first words begin, and a place that no form has
+-- where the forms of apply's words, of value's, of mark's and of the first words begin, and a place that no form has
 abbrev pub stimulusBase : ℕ
 stimulusBase = 0
 
 abbrev pub valueBase : ℕ
 valueBase = 6
+
+abbrev pub markBase : ℕ
+markBase = 10
 
 abbrev pub noneFound : ℕ
 noneFound = 15
@@ -57,7 +60,7 @@ firstBase = 16
 
 -- how many first words there are
 abbrev pub firstWords : ℕ
-firstWords = 16
+firstWords = 17
 
 -- a place for none stands behind them
 abbrev pub formCount : ℕ
@@ -77,7 +80,7 @@ abbrev byNumber : List Numbered → ℕ → Form
 byNumber [] k = noForm
 byNumber (r ∷ rows) k = if eqb k (r .number) then r .form else byNumber rows k
 
--- stimuli and values in the order of their tables
+-- stimuli, values and marks in the order of their tables
 abbrev pub secondForms : List Numbered
 secondForms =
     (0 ⇛ stimulusForm activate)
@@ -88,6 +91,9 @@ secondForms =
     ∷ (6 ⇛ record { count = 2; withSet = false; makes = λ ns set. withSlot (at ns 1) (valueBinding (at ns 0)) })
     ∷ (7 ⇛ record { count = 1; withSet = false; makes = λ ns set. valueNode (at ns 0) })
     ∷ (8 ⇛ record { count = 2; withSet = false; makes = λ ns set. valueEntry (at ns 0) (at ns 1) })
+    ∷ (10 ⇛ record { count = 2; withSet = false; makes = λ ns set. withSlot (at ns 1) (markBinding (at ns 0)) })
+    ∷ (11 ⇛ record { count = 1; withSet = false; makes = λ ns set. markNode (at ns 0) })
+    ∷ (12 ⇛ record { count = 2; withSet = false; makes = λ ns set. markEntry (at ns 0) (at ns 1) })
     ∷ []
 
 -- first words in the order of `commands`

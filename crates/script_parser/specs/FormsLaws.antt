@@ -12,10 +12,10 @@ use Rattle.spec_lists.specs.Lists.{if_then_else_, any}
 use Rattle.spec_lists.specs.ListLaws.{and-left, and-right, test-cases}
 use Rattle.spec_decimal.specs.Decimal.{readDecimal}
 use Rattle.spec_replay.specs.Hex.{readHex}
-use Rattle.spec_replay.specs.Script.{Command, edition, other, apply, Arguments, end, given, readBy, number, atMost, slot, numberedEdition, hex, stimuli, sessionArguments, bindingArguments, batchArguments, convertArguments, valueBindingArguments, valueEntryArguments, values, commands}
+use Rattle.spec_replay.specs.Script.{Command, edition, other, apply, Arguments, end, given, readBy, number, atMost, slot, numberedEdition, hex, stimuli, sessionArguments, bindingArguments, batchArguments, convertArguments, boundArguments, keyedArguments, values, marks, commands}
 use Rattle.script_parser.specs.Fields.{mostNumbers}
 use Rattle.script_parser.specs.Words.{rowAt}
-use Rattle.script_parser.specs.Forms.{formArguments, upTo, noForm, stimulusBase, valueBase, firstBase, firstWords, formCount, formAt, shapeOf, shapesFrom}
+use Rattle.script_parser.specs.Forms.{formArguments, upTo, noForm, stimulusBase, valueBase, markBase, firstBase, firstWords, formCount, formAt, shapeOf, shapesFrom}
 
 -- no form takes no fields
 pub none-form : (fs : List (List ℕ)) → other ≡ formArguments noForm fs
@@ -87,31 +87,35 @@ applyWord = 5
 abbrev pub valueWord : ℕ
 valueWord = 10
 
+abbrev pub markWord : ℕ
+markWord = 16
+
 -- the row of a first word is its form, if no second word follows
 abbrev FirstRow : ℕ → Type 0
-FirstRow k = (k ≡ applyWord → ⊥) → (k ≡ valueWord → ⊥) → (fs : List (List ℕ)) → rowAt (λ a. a) commands k fs ≡ formArguments (formAt (firstBase + k)) fs
+FirstRow k = (k ≡ applyWord → ⊥) → (k ≡ valueWord → ⊥) → (k ≡ markWord → ⊥) → (fs : List (List ℕ)) → rowAt (λ a. a) commands k fs ≡ formArguments (formAt (firstBase + k)) fs
 
 pub first-form : (k : ℕ) → k ≤ firstWords → FirstRow k
 unfolding commands formAt atMost numberedEdition sessionArguments bindingArguments batchArguments convertArguments
 first-form k h =
     pick FirstRow 0 (firstWords + 1)
-    ((λ a b fs. refl)
-    also (λ a b fs. refl)
-    also (λ a b fs. number-and-slot _ fs)
-    also (λ a b fs. refl)
-    also (λ a b fs. refl)
-    also (λ a b fs. absurd (a refl))
-    also (λ a b fs. refl)
-    also (λ a b fs. refl)
-    also (λ a b fs. refl)
-    also (λ a b fs. refl)
-    also (λ a b fs. absurd (b refl))
-    also (λ a b fs. refl)
-    also (λ a b fs. refl)
-    also (λ a b fs. refl)
-    also (λ a b fs. tested-last numberedEdition refl _ fs)
-    also (λ a b fs. tested-with-set (atMost 32768) refl _ fs)
-    also (λ a b fs. none-form fs)
+    ((λ a b c fs. refl)
+    also (λ a b c fs. refl)
+    also (λ a b c fs. number-and-slot _ fs)
+    also (λ a b c fs. refl)
+    also (λ a b c fs. refl)
+    also (λ a b c fs. absurd (a refl))
+    also (λ a b c fs. refl)
+    also (λ a b c fs. refl)
+    also (λ a b c fs. refl)
+    also (λ a b c fs. refl)
+    also (λ a b c fs. absurd (b refl))
+    also (λ a b c fs. refl)
+    also (λ a b c fs. refl)
+    also (λ a b c fs. refl)
+    also (λ a b c fs. tested-last numberedEdition refl _ fs)
+    also (λ a b c fs. tested-with-set (atMost 32768) refl _ fs)
+    also (λ a b c fs. absurd (c refl))
+    also (λ a b c fs. none-form fs)
     also tt)
     k (omega arith) (omega arith)
 
@@ -126,12 +130,20 @@ stimulus-form (suc (suc (suc (suc (suc zero))))) h fs = none-form fs
 stimulus-form (suc (suc (suc (suc (suc (suc j)))))) h fs = absurd (omega arith)
 
 pub value-form : (j : ℕ) → j ≤ 3 → (fs : List (List ℕ)) → rowAt (λ a. a) values j fs ≡ formArguments (formAt (valueBase + j)) fs
-unfolding values formAt valueBindingArguments valueEntryArguments
+unfolding values formAt boundArguments keyedArguments
 value-form zero h fs = number-and-slot _ fs
 value-form (suc zero) h fs = refl
 value-form (suc (suc zero)) h fs = refl
 value-form (suc (suc (suc zero))) h fs = none-form fs
 value-form (suc (suc (suc (suc j)))) h fs = absurd (omega arith)
+
+pub mark-form : (j : ℕ) → j ≤ 3 → (fs : List (List ℕ)) → rowAt (λ a. a) marks j fs ≡ formArguments (formAt (markBase + j)) fs
+unfolding marks formAt boundArguments keyedArguments
+mark-form zero h fs = number-and-slot _ fs
+mark-form (suc zero) h fs = refl
+mark-form (suc (suc zero)) h fs = refl
+mark-form (suc (suc (suc zero))) h fs = none-form fs
+mark-form (suc (suc (suc (suc j)))) h fs = absurd (omega arith)
 
 -- ---- rules of the table, computed
 

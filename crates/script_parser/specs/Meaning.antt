@@ -12,7 +12,7 @@ use Rattle.script_parser.specs.declared.BatchLine.{BatchLine}
 use Rattle.script_parser.specs.declared.SetupLine.{SetupLine}
 use Rattle.script_parser.specs.declared.SetupLine.the-variants.{Session, Node, Binding, Collection}
 use Rattle.script_parser.specs.declared.CallLine.{CallLine}
-use Rattle.script_parser.specs.declared.CallLine.the-variants.{Create, Apply, Show, ValueBinding, ValueNode, ValueEntry, Senders, Wait, Turn, Edition}
+use Rattle.script_parser.specs.declared.CallLine.the-variants.{Create, Apply, Show, ValueBinding, ValueNode, ValueEntry, MarkBinding, MarkNode, MarkEntry, Senders, Wait, Turn, Edition}
 use Rattle.script_parser.specs.declared.SetLine.{SetLine}
 use Rattle.script_parser.specs.declared.SetLine.the-variants.{Batch, Check, List as Listed, Convert}
 use Rattle.script_parser.specs.declared.ScriptCommand.{ScriptCommand}
@@ -38,6 +38,9 @@ callOf Show = script.show
 callOf (ValueBinding n s) = script.valueBinding n s
 callOf (ValueNode n) = script.valueNode n
 callOf (ValueEntry c k) = script.valueEntry c k
+callOf (MarkBinding n s) = script.markBinding n s
+callOf (MarkNode n) = script.markNode n
+callOf (MarkEntry c k) = script.markEntry c k
 callOf (Senders n) = script.senders n
 callOf (Wait s) = script.wait s
 callOf Turn = script.turn

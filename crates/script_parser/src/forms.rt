@@ -26,7 +26,7 @@ ghost use Rattle.script_parser.specs.Meaning.{setFrom, commandOf};
 
 // How many numbers each form takes, and 0x10 more where a set stands behind them. The second words stand before the first, each table in its
 // own order with a place for none behind it.
-const SHAPES: [usize; 33] = [
+const SHAPES: [usize; 34] = [
     1,
     1,
     1,
@@ -37,9 +37,9 @@ const SHAPES: [usize; 33] = [
     1,
     2,
     0,
-    0,
-    0,
-    0,
+    2,
+    1,
+    2,
     0,
     0,
     0,
@@ -59,6 +59,7 @@ const SHAPES: [usize; 33] = [
     0,
     1,
     0x11,
+    0,
     0,
 ];
 
@@ -93,6 +94,16 @@ fn value_binding(node: u64, slot: u64) -> ScriptCommand
 {
     if slot < 0x1_0000_0000 {
         ScriptCommand::Call(CallLine::ValueBinding(node, slot as u32))
+    } else {
+        ScriptCommand::Other
+    }
+}
+
+fn mark_binding(node: u64, slot: u64) -> ScriptCommand
+    ensures { λ r. ⌜ ((line : List ℕ) → commandOf line r ≡ withSlot slot (script.markBinding node)) ⌝ }
+{
+    if slot < 0x1_0000_0000 {
+        ScriptCommand::Call(CallLine::MarkBinding(node, slot as u32))
     } else {
         ScriptCommand::Other
     }
@@ -147,6 +158,9 @@ fn second_command(form: usize, values: [u64; NumberFields::MOST]) -> ScriptComma
         6 => value_binding(first, second),
         7 => ScriptCommand::Call(CallLine::ValueNode(first)),
         8 => ScriptCommand::Call(CallLine::ValueEntry(first, second)),
+        10 => mark_binding(first, second),
+        11 => ScriptCommand::Call(CallLine::MarkNode(first)),
+        12 => ScriptCommand::Call(CallLine::MarkEntry(first, second)),
         _ => ScriptCommand::Other,
     }
 }

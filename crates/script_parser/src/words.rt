@@ -16,10 +16,12 @@ pub struct FormAt {
 }
 
 impl FormAt {
-    // Where the forms of apply's words, of value's words and of the first words begin, and what is no form.
+    // Where the forms of apply's words, of value's, of mark's and of the first words begin, and what is no form.
     const STIMULI: usize = 0;
 
     const VALUES: usize = 6;
+
+    const MARKS: usize = 10;
 
     const NONE: usize = 15;
 
@@ -71,7 +73,7 @@ pub(crate) fn find_form(line: &[u8]) -> FormAt
 {
     let end = field_end(line, 0);
     let first = word_index(
-        b"session node binding collection create apply batch check list show value senders wait turn edition convert",
+        b"session node binding collection create apply batch check list show value senders wait turn edition convert mark",
         &line[0..end],
     );
     if first == 5 {
@@ -84,6 +86,9 @@ pub(crate) fn find_form(line: &[u8]) -> FormAt
     }
     if first == 10 {
         return second_form(line, end, b"binding node entry", FormAt::VALUES);
+    }
+    if first == 16 {
+        return second_form(line, end, b"binding node entry", FormAt::MARKS);
     }
     FormAt {
         form: FormAt::FIRST + first,

@@ -1,6 +1,7 @@
 // Lines that call the session or the senders' turns, or make one of these; and the edition.
 use crate::setup_lines;
 use script_calls::calls;
+use script_calls::marks;
 use script_calls::state::ReplayState;
 use script_calls::state::ReplayStep;
 use script_calls::turns;
@@ -21,6 +22,9 @@ pub(crate) fn call(state: ReplayState, wanted: CallLine, out: &mut [u8]) -> Repl
         CallLine::ValueBinding(node, slot) => views::binding_value(state, node, slot, out),
         CallLine::ValueNode(node) => views::node_availability(state, node, out),
         CallLine::ValueEntry(collection, key) => views::entry_value(state, collection, key, out),
+        CallLine::MarkBinding(node, slot) => marks::binding_mark(state, node, slot, out),
+        CallLine::MarkNode(node) => marks::availability_mark(state, node, out),
+        CallLine::MarkEntry(collection, key) => marks::entry_mark(state, collection, key, out),
         CallLine::Senders(count) => turns::set_up(state, count, out),
         CallLine::Wait(sender) => turns::register(state, sender, out),
         CallLine::Turn => turns::turn(state, out),

@@ -112,6 +112,11 @@ unfoldable pub conversionLine : Converted → List ℕ
 conversionLine (converted bs) = 84 ∷ fields (decimal 0 ∷ hexField bs ∷ [])
 conversionLine (conversions.refused r) = 84 ∷ fields (decimal (conversionNumber r) ∷ [])
 
+-- mark: X and the patch's id, or X and -
+unfoldable pub markLine : Option ℕ → List ℕ
+markLine none = 88 ∷ fields (dash ∷ [])
+markLine (some id) = 88 ∷ fields (decimal id ∷ [])
+
 -- N: there is no session, or there are no senders
 unfoldable pub noSessionLine : List ℕ
 noSessionLine = 78 ∷ fields []

@@ -8,7 +8,7 @@ use Rattle.spec_lists.specs.Lists.{if_then_else_, isEmpty}
 use Rattle.spec_patch.specs.Sizes.{anchors}
 use Rattle.spec_patch.specs.Edition.{Edition, v1}
 use Rattle.spec_patch.specs.Read.{readSet}
-use Rattle.spec_projection.specs.Lookups.{bindingOf, availabilityOf, entryOf}
+use Rattle.spec_projection.specs.Lookups.{bindingOf, availabilityOf, entryOf, bindingMark, availabilityMark, entryMark}
 use Rattle.spec_session.specs.Session as sessions
 use Rattle.spec_session.specs.Session.{Limits, BindingPair, Catalogue, Session, Creation, made, refused}
 use Rattle.spec_session.specs.Lifecycle.{LifecycleStep, lifecycleStep}
@@ -19,8 +19,8 @@ use Rattle.spec_turns.specs.Turns as turns
 use Rattle.spec_turns.specs.Turns.{Turns, SetUp, RegisterStep, TurnStep}
 use Rattle.spec_listing.specs.Listing.{projectionLines, listing}
 use Rattle.spec_replay.specs.Lines.{newline, split}
-use Rattle.spec_replay.specs.Script.{Command, nothing, session, node, binding, collection, create, apply, batch, check, list, show, valueBinding, valueNode, valueEntry, senders, wait, turn, edition, convert, other, command}
-use Rattle.spec_replay.specs.Answers.{creationLine, lifecycleLine, batchLine, checkLines, valueLine, availabilityLine, setUpLine, registerLine, turnLine, conversionLine, noSessionLine, otherLine}
+use Rattle.spec_replay.specs.Script.{Command, nothing, session, node, binding, collection, create, apply, batch, check, list, show, valueBinding, valueNode, valueEntry, senders, wait, turn, edition, convert, markBinding, markNode, markEntry, other, command}
+use Rattle.spec_replay.specs.Answers.{creationLine, lifecycleLine, batchLine, checkLines, valueLine, availabilityLine, setUpLine, registerLine, turnLine, conversionLine, markLine, noSessionLine, otherLine}
 
 -- what a creation takes
 pub record Setup : Type 0 where
@@ -140,6 +140,9 @@ replayLine n s (wait i) = askedTurns s (λ t. registered s (turns.register t i))
 replayLine n s turn = asked s (λ x. askedTurns s (λ t. turned s (turns.turn t (x .cursor))))
 replayLine n s (edition ed) = onward (withEdition s ed) []
 replayLine n s (convert room set) = onward s (conversionLine (conversions.convert (s .edition) set room))
+replayLine n s (markBinding i slot) = asked s (λ x. onward s (markLine (bindingMark (x .projection) i slot)))
+replayLine n s (markNode i) = asked s (λ x. onward s (markLine (availabilityMark (x .projection) i)))
+replayLine n s (markEntry c k) = asked s (λ x. onward s (markLine (entryMark (x .projection) c k)))
 replayLine n s other = stops (otherLine n)
 
 -- ---- the whole script

@@ -8,6 +8,7 @@ use lib.Dec.{T, eqb}
 use Rattle.spec_lists.specs.Lists.{all, equalLists}
 use Rattle.spec_lists.specs.Bytes.{littleEndian, numberOf}
 use Rattle.spec_decimal.specs.Decimal.{digits, decimal, isNumeral, numberWith, readDecimal}
+use Rattle.spec_patch.specs.Patch.{pending}
 use Rattle.spec_patch.specs.Edition.{v1, digit, letters}
 use Rattle.spec_patch.specs.Encode.{heading, encodeCounted, encode}
 use Rattle.spec_patch.specs.Reader.{faultNumber, many, literal}
@@ -17,9 +18,10 @@ use Rattle.spec_checks.specs.SetChecks.{afterFindings, rawSetFindings, setFindi
 use Rattle.spec_checks.specs.Findings.{firstFindings, findings}
 use Rattle.spec_checks.specs.Finding.{checkEach}
 use Rattle.spec_lists.specs.Order.{sortUnique, lookup}
-use Rattle.spec_projection.specs.Projection.{empty}
+use Rattle.spec_projection.specs.Projection.{Projection, empty, availabilityKey}
 use Rattle.spec_projection.specs.Apply.{replaySteps, applySteps, operationsOf}
-use Rattle.spec_projection.specs.Lookups.{availabilityOf}
+use Rattle.spec_projection.specs.FirstMatch.{findFirst}
+use Rattle.spec_projection.specs.Lookups.{availabilityOf, bindingMark, availabilityMark, entryMark}
 use Rattle.spec_session.specs.Session.{closed, at, newSession, anchorsFit, create}
 use Rattle.spec_session.specs.Diagnostics.{diagnosticsOf}
 use Rattle.spec_session.specs.Lifecycle.{transition, dispositionOf, stateOf, withLifecycle, rejectLifecycle, enterLifecycle, lifecycleStep}
@@ -29,24 +31,31 @@ use Rattle.spec_turns.specs.Turns.{newTurns, setUp, refuseRegister, startWaitin
 use Rattle.spec_listing.specs.Listing.{fields, recordCount, projectionLines, refusalLine, outcomeLines, readingLines, listing}
 use Rattle.spec_replay.specs.Lines.{prepend, split}
 use Rattle.spec_replay.specs.Hex.{hexDigit, hexByte, cons, hexPairs, readHex, hexCharacter, bytePair, hexField}
-use Rattle.spec_replay.specs.Script.{ascii, end, given, readBy, atMost, numberedEdition, byWord, stimuli, sessionArguments, bindingArguments, applyArguments, batchArguments, convertArguments, valueBindingArguments, valueEntryArguments, values, valueArguments, commands, fieldsCommand, isRemark, command}
-use Rattle.spec_replay.specs.Answers.{dispositionField, lifecycleField, cursorField, placeField, sessionFields, creationLine, lifecycleLine, batchLine, checkedLine, checkLines, availabilityLine, setUpLine, registerLine, turnLine, conversionLine, noSessionLine, otherLine}
+use Rattle.spec_replay.specs.Script.{ascii, end, given, readBy, atMost, numberedEdition, byWord, stimuli, sessionArguments, bindingArguments, applyArguments, batchArguments, convertArguments, boundArguments, keyedArguments, values, marks, markArguments, valueArguments, commands, fieldsCommand, isRemark, command}
+use Rattle.spec_replay.specs.Answers.{dispositionField, lifecycleField, cursorField, placeField, sessionFields, creationLine, lifecycleLine, batchLine, checkedLine, checkLines, availabilityLine, setUpLine, registerLine, turnLine, conversionLine, markLine, noSessionLine, otherLine}
 use Rattle.spec_replay.specs.Replay.{State, noAnchors, start, keep, withSetup, withAnchors, withNode, withBinding, withSession, withTurns, withEdition, asked, askedTurns, created, applied, batched, settled, registered, turned, replayLine, replayLines, commandsOf, replayFrom, replay}
 
 prints : String → String → Bool
 prints script answers = equalLists eqb (replay (ascii script)) (ascii answers)
 
--- the same from a closed session on whose cursor stands at a number
-closedAt : ℕ → State
-closedAt n = record {
+-- the same from a closed session on whose cursor stands at a number and whose panel is this
+closedWith : ℕ → Projection → State
+closedWith n p = record {
   setup = start .setup;
-  session = some (record { id = 7; limits = start .setup .limits; catalogue = noAnchors; lifecycle = closed; cursor = at n; projection = empty });
+  session = some (record { id = 7; limits = start .setup .limits; catalogue = noAnchors; lifecycle = closed; cursor = at n; projection = p });
   turns = none;
   edition = v1;
 }
 
 printsAt : ℕ → String → String → Bool
-printsAt n script answers = equalLists eqb (replayFrom 1 (closedAt n) (ascii script)) (ascii answers)
+printsAt n script answers = equalLists eqb (replayFrom 1 (closedWith n empty) (ascii script)) (ascii answers)
+
+-- node 5 was made Pending by patch 31
+marked : Projection
+marked = record { bindings = []; availabilities = record { node = 5; mark = 31; availability = pending } ∷ []; entries = [] }
+
+printsMarked : String → String → Bool
+printsMarked script answers = equalLists eqb (replayFrom 1 (closedWith 3 marked) (ascii script)) (ascii answers)
 
 -- a script prints nothing of remarks, an answer of each call, and stops at the first other line
 pub examples : List Bool
@@ -82,6 +91,9 @@ examples =
     "T\t0\t1b00000055495f444e41325f50524f4a454354494f4e5f50415443485f563200000000\nT\t0\t1b00000055495f444e41325f50524f4a454354494f4e5f50415443485f563100000000\n"
     ∷ prints "convert 34 1b00000055495f444e41325f50524f4a454354494f4e5f50415443485f563100000000\nconvert 35 1b00000055495f444e41325f50524f4a454354494f4e5f50415443485f563200000000\nconvert 0 -\n" "T\t14\nT\t10\nT\t10\n"
     ∷ prints "convert 32769 -\n" "?\t1\n"
+    -- the patch that wrote a row
+    ∷ printsMarked "mark node 5\nmark node 6\nmark binding 5 0\nmark entry 5 5\n" "X\t31\nX\t-\nX\t-\nX\t-\n"
+    ∷ prints "mark node 5\nmark 5\n" "N\n?\t2\n"
     -- any other line ends the replay
     ∷ prints "create \nshow\n" "?\t1\n"
     ∷ prints "node 01\n" "?\t1\n"
@@ -98,9 +110,9 @@ examples =
 
 -- all rows hold
 pub replay-examples : T (all (λ (b : Bool). b) examples)
-unfolding examples prints closedAt printsAt
+unfolding examples prints closedWith printsAt marked printsMarked
     flatMap littleEndian numberOf digits decimal isNumeral numberWith readDecimal digit letters heading faultNumber many literal readPatch readPatches ended readSet
-    afterFindings rawSetFindings setFindings firstFindings findings checkEach sortUnique lookup empty replaySteps applySteps operationsOf availabilityOf
+    afterFindings rawSetFindings setFindings firstFindings findings checkEach sortUnique lookup empty replaySteps applySteps operationsOf availabilityOf bindingMark availabilityMark entryMark findFirst availabilityKey
     newSession anchorsFit create diagnosticsOf
     transition dispositionOf stateOf withLifecycle rejectLifecycle enterLifecycle lifecycleStep
     require readable absentTargets knownTargets batchChecks rejectBatch keepSession candidate commit concludeBatch batch
@@ -108,7 +120,7 @@ unfolding examples prints closedAt printsAt
     encodeCounted encode allValues otherEdition conversionNumber unread allKinds rewritten convertTo convert
     fields recordCount projectionLines refusalLine outcomeLines readingLines listing
     prepend split hexDigit hexByte cons hexPairs readHex hexCharacter bytePair hexField end given readBy atMost numberedEdition byWord stimuli sessionArguments bindingArguments applyArguments batchArguments convertArguments
-    valueBindingArguments valueEntryArguments values valueArguments commands fieldsCommand isRemark command
-    dispositionField lifecycleField cursorField placeField sessionFields creationLine lifecycleLine batchLine checkedLine checkLines availabilityLine setUpLine registerLine turnLine conversionLine noSessionLine otherLine
+    boundArguments keyedArguments values marks markArguments valueArguments commands fieldsCommand isRemark command
+    dispositionField lifecycleField cursorField placeField sessionFields creationLine lifecycleLine batchLine checkedLine checkLines availabilityLine setUpLine registerLine turnLine conversionLine markLine noSessionLine otherLine
     noAnchors start keep withSetup withAnchors withNode withBinding withSession withTurns withEdition asked askedTurns created applied batched settled registered turned replayLine replayLines commandsOf replayFrom replay
 replay-examples = tt

@@ -37,6 +37,9 @@ pub data Command : Type 0 where
   turn : Command
   edition : Edition → Command
   convert : (room : ℕ) → (set : List ℕ) → Command
+  markBinding : (node slot : ℕ) → Command
+  markNode : (node : ℕ) → Command
+  markEntry : (collection key : ℕ) → Command
   other : Command
 
 -- a line has at most 131,072 bytes without its LF
@@ -178,27 +181,38 @@ convertArguments = do
   set ← hex
   end (convert room set)
 
--- value binding N SLOT
-unfoldable pub valueBindingArguments : Arguments
-valueBindingArguments = do
+-- N SLOT, a binding that is asked for
+unfoldable pub boundArguments : (ℕ → ℕ → Command) → Arguments
+boundArguments asks = do
   n ← number
   s ← slot
-  end (valueBinding n s)
+  end (asks n s)
 
--- value entry COLLECTION KEY
-unfoldable pub valueEntryArguments : Arguments
-valueEntryArguments = do
+-- COLLECTION KEY, an entry that is asked for
+unfoldable pub keyedArguments : (ℕ → ℕ → Command) → Arguments
+keyedArguments asks = do
   c ← number
   k ← number
-  end (valueEntry c k)
+  end (asks c k)
 
 -- value binding .. | value node N | value entry ..
 unfoldable pub values : List (Row Arguments)
 values =
-    (ascii "binding" ⇒ valueBindingArguments)
+    (ascii "binding" ⇒ boundArguments valueBinding)
     ∷ (ascii "node" ⇒ number (λ n. end (valueNode n)))
-    ∷ (ascii "entry" ⇒ valueEntryArguments)
+    ∷ (ascii "entry" ⇒ keyedArguments valueEntry)
     ∷ []
+
+-- mark binding .. | mark node N | mark entry ..
+unfoldable pub marks : List (Row Arguments)
+marks =
+    (ascii "binding" ⇒ boundArguments markBinding)
+    ∷ (ascii "node" ⇒ number (λ n. end (markNode n)))
+    ∷ (ascii "entry" ⇒ keyedArguments markEntry)
+    ∷ []
+
+unfoldable pub markArguments : Arguments
+markArguments = readBy (byWord marks) (λ a. a)
 
 unfoldable pub valueArguments : Arguments
 valueArguments = readBy (byWord values) (λ a. a)
@@ -222,6 +236,7 @@ commands =
     ∷ (ascii "turn" ⇒ end turn)
     ∷ (ascii "edition" ⇒ readBy (λ f. numberedEdition (readDecimal f)) (λ ed. end (edition ed)))
     ∷ (ascii "convert" ⇒ convertArguments)
+    ∷ (ascii "mark" ⇒ markArguments)
     ∷ []
 
 -- the fields of a line: a known word and its arguments

@@ -33,6 +33,9 @@ lifecycle-step-requires-4 c κs = search needs
 value-binding-requires : tie.Need-value-binding-requires
 value-binding-requires c κs = search needs
 
+mark-binding-requires : tie.Need-mark-binding-requires
+mark-binding-requires c κs = search needs
+
 returns : tie.Need-returns
 unfolding formAt stimulusOf commandOf
 returns c = λ line. c .lifecycle-step .ensures line ∙ by-form (c .before .before) 0 (c .before .match .keys1)
@@ -67,7 +70,19 @@ returns-8 c = λ line. by-form (c .before) 8 (c .match .keys8)
 
 returns-9 : tie.Need-returns-9
 unfolding formAt
-returns-9 c =
+returns-9 c = λ line. c .mark-binding .ensures line ∙ by-form (c .before .before) 10 (c .before .match .keys9)
+
+returns-10 : tie.Need-returns-10
+unfolding formAt
+returns-10 c = λ line. by-form (c .before) 11 (c .match .keys10)
+
+returns-11 : tie.Need-returns-11
+unfolding formAt
+returns-11 c = λ line. by-form (c .before) 12 (c .match .keys11)
+
+returns-12 : tie.Need-returns-12
+unfolding formAt
+returns-12 c =
     let form = c .before .args .form in
     let none = c .match .rest in
     λ line. rw (
@@ -80,6 +95,9 @@ returns-9 c =
       ne-eqb form 6 (search none),
       ne-eqb form 7 (search none),
       ne-eqb form 8 (search none),
+      ne-eqb form 10 (search none),
+      ne-eqb form 11 (search none),
+      ne-eqb form 12 (search none),
     )
 
 pub second-command-spec : {M : Type 1} → statement M
@@ -93,6 +111,7 @@ second-command-spec =
     lifecycle-step-requires-3
     lifecycle-step-requires-4
     value-binding-requires
+    mark-binding-requires
     returns
     returns-2
     returns-3
@@ -101,4 +120,7 @@ second-command-spec =
     returns-6
     returns-7
     returns-8
-    returns-9)
+    returns-9
+    returns-10
+    returns-11
+    returns-12)

@@ -1,4 +1,4 @@
--- `script_parser::words::find_form` meets its contract: the forms of the second words of apply and of value, and that of the first word.
+-- `script_parser::words::find_form` meets its contract: the forms of the second words of apply, of value and of mark, and that of the first word.
 use Prim.Native.Nat.{ℕ, _-_, _≤_}
 use mathlib.Core.Path.{_≡_, refl, ap, _∙_}
 use mathlib.Core.List.{List}
@@ -6,19 +6,19 @@ use native.Mathlib.Omega.{arith}
 use borrow.Author.Needs.{needs}
 use lib.ListN.{take, drop}
 use Rattle.spec_replay.specs.Lines.{space, split, prepend}
-use Rattle.spec_replay.specs.Script.{ascii, apply, end, number, stimuli, applyArguments, values, valueArguments, commands, fieldsCommand}
+use Rattle.spec_replay.specs.Script.{ascii, apply, end, number, stimuli, applyArguments, values, valueArguments, marks, markArguments, commands, fieldsCommand}
 use Rattle.script_parser.specs.Fields.{fieldsAfter}
 use Rattle.script_parser.specs.FieldsLaws.{field-within}
 use Rattle.script_parser.specs.Words.{rowAt, indexOf-most}
-use Rattle.script_parser.specs.Forms.{stimulusBase, valueBase, firstWords}
-use Rattle.script_parser.specs.FormsLaws.{first-form, stimulus-form, value-form}
+use Rattle.script_parser.specs.Forms.{stimulusBase, valueBase, markBase, firstWords}
+use Rattle.script_parser.specs.FormsLaws.{first-form, stimulus-form, value-form, mark-form}
 use Rattle.script_parser.proofs.Searching.{first-word, second-numbered, second-asks}
 use Rattle.script_parser.proofs.words.find_form.Statement.{statement}
 use Rattle.script_parser.proofs.words.find_form.Tie as tie
 
 -- the words of the tables
 abbrev firstTable : List ℕ
-firstTable = ascii "session node binding collection create apply batch check list show value senders wait turn edition convert"
+firstTable = ascii "session node binding collection create apply batch check list show value senders wait turn edition convert mark"
 
 abbrev stimulusTable : List ℕ
 stimulusTable = ascii "activate suspend resume close noop"
@@ -95,13 +95,32 @@ returns-2 c =
           ∙ second-asks (λ a. a) values valueBase 3 refl (omega arith) value-form (args .line .now) _ valueTable refl (c .second-form2 .result) (c .second-form2 .ensures);
     }
 
-add-t10 : tie.Need-add-t10
-add-t10 c = search needs
+slice-aggregate-second-form-3 : tie.Need-slice-aggregate-second-form-3
+slice-aggregate-second-form-3 c = search needs
+
+second-form-requires-3 : tie.Need-second-form-requires-3
+second-form-requires-3 c κs = search needs
 
 returns-3 : tie.Need-returns-3
+unfolding marks split prepend markArguments commands
 returns-3 c =
-    let word = c .before .before in
-    record { numbered = omega (arith, few word); asks = by-first word ∙ first-form (word .word-index .result) (few word) (c .before .if1 .left) (c .if2 .left) _ }
+    let test = c .before .before in
+    let word = test .before .before .before in
+    let args = word .before .before .before .before .before .args in
+    record {
+      numbered = second-numbered (λ a. a) marks markBase 3 refl (omega arith) mark-form (args .line .now) _ valueTable refl (c .second-form3 .result) (c .second-form3 .ensures);
+      asks =
+          by-first word ∙ ap (λ (k : ℕ). rowAt (λ a. a) commands k (fieldsAfter (args .line .now) (word .before .before .before .field-end .result))) (test .if3 .taken)
+          ∙ second-asks (λ a. a) marks markBase 3 refl (omega arith) mark-form (args .line .now) _ valueTable refl (c .second-form3 .result) (c .second-form3 .ensures);
+    }
+
+add-t11 : tie.Need-add-t11
+add-t11 c = search needs
+
+returns-4 : tie.Need-returns-4
+returns-4 c =
+    let word = c .before .before .before in
+    record { numbered = omega (arith, few word); asks = by-first word ∙ first-form (word .word-index .result) (few word) (c .before .before .if1 .left) (c .before .if2 .left) (c .if3 .left) _ }
 
 pub find-form-spec : {M : Type 1} → statement M
 find-form-spec =
@@ -119,5 +138,8 @@ find-form-spec =
     slice-aggregate-second-form-2
     second-form-requires-2
     returns-2
-    add-t10
-    returns-3)
+    slice-aggregate-second-form-3
+    second-form-requires-3
+    returns-3
+    add-t11
+    returns-4)
