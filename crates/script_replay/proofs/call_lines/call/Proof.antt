@@ -46,11 +46,29 @@ entry-value-requires c κs = search needs
 enum-known-wanted-5 : tie.Need-enum-known-wanted-5
 enum-known-wanted-5 c = search needs
 
-set-up-requires : tie.Need-set-up-requires
-set-up-requires c κs = search needs
+binding-mark-requires : tie.Need-binding-mark-requires
+binding-mark-requires c κs = search needs
 
 enum-known-wanted-6 : tie.Need-enum-known-wanted-6
 enum-known-wanted-6 c = search needs
+
+availability-mark-requires : tie.Need-availability-mark-requires
+availability-mark-requires c κs = search needs
+
+enum-known-wanted-7 : tie.Need-enum-known-wanted-7
+enum-known-wanted-7 c = search needs
+
+entry-mark-requires : tie.Need-entry-mark-requires
+entry-mark-requires c κs = search needs
+
+enum-known-wanted-8 : tie.Need-enum-known-wanted-8
+enum-known-wanted-8 c = search needs
+
+set-up-requires : tie.Need-set-up-requires
+set-up-requires c κs = search needs
+
+enum-known-wanted-9 : tie.Need-enum-known-wanted-9
+enum-known-wanted-9 c = search needs
 
 register-requires : tie.Need-register-requires
 register-requires c κs = search needs
@@ -61,8 +79,8 @@ enum-told-3 c = search needs
 turn-requires : tie.Need-turn-requires
 turn-requires c κs = search needs
 
-enum-known-wanted-7 : tie.Need-enum-known-wanted-7
-enum-known-wanted-7 c = search needs
+enum-known-wanted-10 : tie.Need-enum-known-wanted-10
+enum-known-wanted-10 c = search needs
 
 in-edition-requires : tie.Need-in-edition-requires
 in-edition-requires c κs = search needs
@@ -114,26 +132,47 @@ same-length-7 c = search needs
 
 returns-7 : tie.Need-returns-7
 unfolding replayLine
-returns-7 c = λ m h n. line-step n m _ _ (ap callOf (sym (c .before .before .before .before .before .wanted5 .given .1))) (c .before .before .set-up .ensures m h)
+returns-7 c = λ m h n. line-step n m _ _ (ap callOf (sym (c .before .before .before .before .before .wanted5 .given .1))) (c .before .before .binding-mark .ensures m h)
 
 same-length-8 : tie.Need-same-length-8
 same-length-8 c = search needs
 
 returns-8 : tie.Need-returns-8
 unfolding replayLine
-returns-8 c = λ m h n. line-step n m _ _ (ap callOf (sym (c .before .before .before .before .before .wanted6 .given .1))) (c .before .before .register .ensures m h)
+returns-8 c = λ m h n. line-step n m _ _ (ap callOf (sym (c .before .before .before .before .before .wanted6 .given .1))) (c .before .before .availability-mark .ensures m h)
 
 same-length-9 : tie.Need-same-length-9
 same-length-9 c = search needs
 
 returns-9 : tie.Need-returns-9
 unfolding replayLine
-returns-9 c = λ m h n. line-step n m _ _ (ap callOf (sym (c .before .before .before .before .enum-told3 .given .1))) (c .before .before .turn .ensures m h)
+returns-9 c = λ m h n. line-step n m _ _ (ap callOf (sym (c .before .before .before .before .before .wanted7 .given .1))) (c .before .before .entry-mark .ensures m h)
+
+same-length-10 : tie.Need-same-length-10
+same-length-10 c = search needs
 
 returns-10 : tie.Need-returns-10
-returns-10 c =
+unfolding replayLine
+returns-10 c = λ m h n. line-step n m _ _ (ap callOf (sym (c .before .before .before .before .before .wanted8 .given .1))) (c .before .before .set-up .ensures m h)
+
+same-length-11 : tie.Need-same-length-11
+same-length-11 c = search needs
+
+returns-11 : tie.Need-returns-11
+unfolding replayLine
+returns-11 c = λ m h n. line-step n m _ _ (ap callOf (sym (c .before .before .before .before .before .wanted9 .given .1))) (c .before .before .register .ensures m h)
+
+same-length-12 : tie.Need-same-length-12
+same-length-12 c = search needs
+
+returns-12 : tie.Need-returns-12
+unfolding replayLine
+returns-12 c = λ m h n. line-step n m _ _ (ap callOf (sym (c .before .before .before .before .enum-told3 .given .1))) (c .before .before .turn .ensures m h)
+
+returns-13 : tie.Need-returns-13
+returns-13 c =
     let told = c .before .before in
-    λ m h n. line-step n m _ _ (ap callOf (sym (told .wanted7 .given .1))) (c .in-edition .ensures m h n (told .before .before .before .args .out .now))
+    λ m h n. line-step n m _ _ (ap callOf (sym (told .wanted10 .given .1))) (c .in-edition .ensures m h n (told .before .before .before .args .out .now))
 
 pub call-spec : {M : Type 1} → statement M
 call-spec =
@@ -152,12 +191,18 @@ call-spec =
     enum-known-wanted-4
     entry-value-requires
     enum-known-wanted-5
-    set-up-requires
+    binding-mark-requires
     enum-known-wanted-6
+    availability-mark-requires
+    enum-known-wanted-7
+    entry-mark-requires
+    enum-known-wanted-8
+    set-up-requires
+    enum-known-wanted-9
     register-requires
     enum-told-3
     turn-requires
-    enum-known-wanted-7
+    enum-known-wanted-10
     in-edition-requires
     same-length
     returns
@@ -177,4 +222,10 @@ call-spec =
     returns-8
     same-length-9
     returns-9
-    returns-10)
+    same-length-10
+    returns-10
+    same-length-11
+    returns-11
+    same-length-12
+    returns-12
+    returns-13)
