@@ -23,7 +23,7 @@ unfolding end
 none-form [] = refl
 none-form (f ∷ fs) = refl
 
--- ---- a number that is tested: the test may come when the line is read
+-- ---- a number that is tested: reading it and testing it when the whole line was read is the same
 
 module _ {A : Type 0} (test : Option ℕ → Option A) (no-number : test none ≡ none) where
   number-first : (next : A → Arguments) (fs : List (List ℕ)) → readBy (λ f. test (readDecimal f)) next fs ≡ number (λ n gs. given (test (some n)) (λ a. next a gs)) fs
