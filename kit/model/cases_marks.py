@@ -11,7 +11,7 @@ from random_sets import COLLECTIONS, NODES, SLOTS, cut, patch_list
 rules_of("Job 11 in document 02", answers="02")
 
 SET = "spec_projection Apply.applyOperation"
-ASKED = "spec_projection Lookups.markOf"
+ASKED = "spec_projection Lookups.bindingMark, availabilityMark, entryMark"
 CLAIM = "spec_splitting Splitting; session_splitting Claim"
 ROWS = ["binding 5 0", "binding 5 1", "node 5", "entry 9 1", "entry 9 2", "entry 9 3"]
 # of the panel to start from, which patch 1 wrote in a batch with the number 3

@@ -15,7 +15,7 @@ REQUESTS = {
 
 LANDED = [
     "edition",
-    # "marks",
+    "marks",
     # "lengths",
     "escapes",
     # "depends",
