@@ -116,7 +116,7 @@ text-printable : (cs : List ℕ) → All Scalar cs → All Printable (map printe
 text-printable [] s = tt
 text-printable (c ∷ cs) s = (character-printable c (s .0), text-printable cs (s .1))
 
-printedValue-printable : (v : Value) → Storable v → All Printable (printedValue v)
+pub printedValue-printable : (v : Value) → Storable v → All Printable (printedValue v)
 unfolding printedValue quadLetter signedDecimal StorableBy
 printedValue-printable (quad N) h = (ascii-printable 78 (omega arith) (omega arith), tt)
 printedValue-printable (quad F) h = (ascii-printable 70 (omega arith) (omega arith), tt)
@@ -175,7 +175,7 @@ collectionLines-printable p c v = all-flatMap StorableValue (All Printable) entr
 
 -- ---- UTF-8
 
-printable-scalar : (l : List ℕ) → All Printable l → All Scalar l
+pub printable-scalar : (l : List ℕ) → All Printable l → All Scalar l
 printable-scalar = all-map Printable Scalar (λ c h. h .scalar)
 
 -- Each line is UTF-8 of 80 characters.
