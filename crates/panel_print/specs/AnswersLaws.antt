@@ -39,26 +39,26 @@ module _ {text : List ℕ} {end : Printed} {print : List ℕ} (h : PrintedWhole 
 -- ---- what was written
 
 -- what the contract says of an output
-abbrev pub Left : (out print after : List ℕ) → PrintAnswer → Type 0
-Left out print after r = (r ≡ printAnswer out print) × (after ≡ overwrite out 0 print)
+abbrev pub PrintLeft : (out print after : List ℕ) → PrintAnswer → Type 0
+PrintLeft out print after r = (r ≡ printAnswer out print) × (after ≡ overwrite out 0 print)
 
 module _ (out part after : List ℕ) (is : after ≡ overwrite out 0 part) where
-  pub left-written : hasRoom out 0 (length part) ≡ true → (print : List ℕ) → part ≡ print → (n : ℕ) → n ≡ length print → Left out print after (Wrote n)
+  pub print-written : hasRoom out 0 (length part) ≡ true → (print : List ℕ) → part ≡ print → (n : ℕ) → n ≡ length print → PrintLeft out print after (Wrote n)
   unfolding printAnswer
-  left-written room print same n long =
+  print-written room print same n long =
       let fits : hasRoom out 0 (length print) ≡ true = ap (λ (l : List ℕ). hasRoom out 0 (length l)) (sym same) ∙ room in
       (ap Wrote long ∙ rw fits, is ∙ ap (overwrite out 0) same)
 
-  pub left-refused : hasRoom out 0 (length part) ≡ false → (print : List ℕ) → part ≡ print → Left out print after (Refused OutputTooShort)
+  pub print-refused : hasRoom out 0 (length part) ≡ false → (print : List ℕ) → part ≡ print → PrintLeft out print after (Refused OutputTooShort)
   unfolding printAnswer
-  left-refused full print same =
+  print-refused full print same =
       let none : hasRoom out 0 (length print) ≡ false = ap (λ (l : List ℕ). hasRoom out 0 (length l)) (sym same) ∙ full in
       (rw none, is ∙ ap (overwrite out 0) same)
 
-  pub kept-behind : (n : ℕ) → length part ≡ n → hasRoom out 0 (length part) ≡ true → drop n after ≡ drop n out
-  kept-behind n long room =
+  pub behind-stays : (n : ℕ) → length part ≡ n → hasRoom out 0 (length part) ≡ true → drop n after ≡ drop n out
+  behind-stays n long room =
       let none-before : 0 + length part ≡ n = omega arith in
       ap (drop n) is ∙ rw (sym none-before) (drop-past-overwrite out 0 part (length part) refl room)
 
-  pub kept-all : hasRoom out 0 (length part) ≡ false → after ≡ out
-  kept-all full = is ∙ overwrite-refused out 0 part (length part) refl full
+  pub all-stays : hasRoom out 0 (length part) ≡ false → after ≡ out
+  all-stays full = is ∙ overwrite-refused out 0 part (length part) refl full

@@ -50,8 +50,8 @@ pub other-shown : (b : ℕ) → 32 ≤ b → (b ≡ deleteCharacter → ⊥) →
 unfolding printedCharacter isControl
 other-shown b h n = rw (le-ltb b 32 h, ne-eqb b deleteCharacter n)
 
-as-it-is : (b : ℕ) → 0x80 ≤ b → printedCharacter b ≡ b
-as-it-is b h = other-shown b (omega arith) (λ e. omega arith)
+high-shown : (b : ℕ) → 0x80 ≤ b → printedCharacter b ≡ b
+high-shown b h = other-shown b (omega arith) (λ e. omega arith)
 
 -- ---- a byte at a column
 
@@ -81,11 +81,11 @@ module _ (column b : ℕ) where
   broken-further h = test-cases (eqb column textWidth) (λ t. rw (h, t)) (λ t. rw t)
 
 -- what a character is shown as, and what follows it
-abbrev Shown : (column : ℕ) (shown rest : List ℕ) → List ℕ
-Shown column shown rest =
+abbrev shownFrom : (column : ℕ) (shown rest : List ℕ) → List ℕ
+shownFrom column shown rest =
     if eqb column textWidth then lineEnd ∷ blankLead ++ (shown ++ flowedBytes 1 rest) else shown ++ flowedBytes (suc column) rest
 
-flows-begin : (column b : ℕ) (rest : List ℕ) → beginsCharacter b ≡ true → flowedBytes column (b ∷ rest) ≡ Shown column (printedCharacter b ∷ []) rest
+flows-begin : (column b : ℕ) (rest : List ℕ) → beginsCharacter b ≡ true → flowedBytes column (b ∷ rest) ≡ shownFrom column (printedCharacter b ∷ []) rest
 unfolding flowedBytes brokenByte columnAfter
 flows-begin column b rest h = test-cases (eqb column textWidth) (λ t. rw (h, t)) (λ t. rw (h, t))
 
@@ -94,16 +94,16 @@ unfolding flowedBytes brokenByte columnAfter
 flows-further column [] rest h = refl
 flows-further column (b ∷ bs) rest h =
     test-cases (eqb column textWidth)
-    (λ t. rw (further-begins b (h .0), t, as-it-is b (h .0 .0), flows-further column bs rest (h .1)))
-    (λ t. rw (further-begins b (h .0), t, as-it-is b (h .0 .0), flows-further column bs rest (h .1)))
+    (λ t. rw (further-begins b (h .0), t, high-shown b (h .0 .0), flows-further column bs rest (h .1)))
+    (λ t. rw (further-begins b (h .0), t, high-shown b (h .0 .0), flows-further column bs rest (h .1)))
 
 -- ---- one character
 
 -- of more than one byte
-flows-bytes : (column b : ℕ) (bs rest : List ℕ) → 0xc0 ≤ b → All Further bs → flowedBytes column ((b ∷ bs) ++ rest) ≡ Shown column (b ∷ bs) rest
+flows-bytes : (column b : ℕ) (bs rest : List ℕ) → 0xc0 ≤ b → All Further bs → flowedBytes column ((b ∷ bs) ++ rest) ≡ shownFrom column (b ∷ bs) rest
 flows-bytes column b bs rest h g =
     flows-begin column b (bs ++ rest) (first-begins b h)
-    ∙ rw (as-it-is b (omega arith), flows-further 1 bs rest g, flows-further (suc column) bs rest g)
+    ∙ rw (high-shown b (omega arith), flows-further 1 bs rest g, flows-further (suc column) bs rest g)
 
 one-octet : (b : ℕ) → b < 0x80 → encodeScalar b ≡ b ∷ []
 unfolding encodeScalar
@@ -114,11 +114,11 @@ shown-ascii : (c : ℕ) → c < 0x80 → printedCharacter c < 0x80
 unfolding printedCharacter
 shown-ascii c h = test-cases (isControl c) (λ t. rw t (omega arith)) (λ t. rw t h)
 
-flows-ascii : (column c : ℕ) (rest : List ℕ) → c < 0x80 → flowedBytes column (encodeScalar c ++ rest) ≡ Shown column (encodeScalar (printedCharacter c)) rest
+flows-ascii : (column c : ℕ) (rest : List ℕ) → c < 0x80 → flowedBytes column (encodeScalar c ++ rest) ≡ shownFrom column (encodeScalar (printedCharacter c)) rest
 flows-ascii column c rest h =
     rw (one-octet c h, one-octet (printedCharacter c) (shown-ascii c h)) (flows-begin column c rest (ascii-begins c h))
 
-flows-long : (column c : ℕ) (rest : List ℕ) → 0x80 ≤ c → c ≤ 0x10ffff → flowedBytes column (encodeScalar c ++ rest) ≡ Shown column (encodeScalar c) rest
+flows-long : (column c : ℕ) (rest : List ℕ) → 0x80 ≤ c → c ≤ 0x10ffff → flowedBytes column (encodeScalar c ++ rest) ≡ shownFrom column (encodeScalar c) rest
 unfolding encodeScalar
 flows-long column c rest h g =
     rw (le-ltb c 0x80 h)
@@ -133,11 +133,11 @@ flows-long column c rest h g =
     six : (bits : ℕ) → bits < 0x40 → Further (0x80 + bits)
     six bits h = (omega arith, omega arith)
 
-flows-character : (column c : ℕ) (rest : List ℕ) → c ≤ 0x10ffff → flowedBytes column (encodeScalar c ++ rest) ≡ Shown column (encodeScalar (printedCharacter c)) rest
+flows-character : (column c : ℕ) (rest : List ℕ) → c ≤ 0x10ffff → flowedBytes column (encodeScalar c ++ rest) ≡ shownFrom column (encodeScalar (printedCharacter c)) rest
 flows-character column c rest h =
     test-cases (ltb c 0x80)
     (λ t. flows-ascii column c rest (ltb-true c 0x80 t))
-    (λ t. let long = ltb-false c 0x80 t in flows-long column c rest long h ∙ ap (λ (x : ℕ). Shown column (encodeScalar x) rest) (sym (as-it-is c long)))
+    (λ t. let long = ltb-false c 0x80 t in flows-long column c rest long h ∙ ap (λ (x : ℕ). shownFrom column (encodeScalar x) rest) (sym (high-shown c long)))
 
 -- ---- byte by byte
 

@@ -28,15 +28,15 @@ equal = equalLists eqb
 equalLines : List (List ℕ) → List (List ℕ) → Bool
 equalLines = equalLists equal
 
-unfoldable pub keyed : ℕ → Value → KeyedValue
-keyed k v = record { key = k; mark = 1; value = v }
+unfoldable pub withKey : ℕ → Value → KeyedValue
+withKey k v = record { key = k; mark = 1; value = v }
 
 blanks : ℕ → List ℕ
 blanks n = replicate n 32
 
 -- the one line of an entry whose value prints so
 oneLine : ℕ → String → Value → String → Bool
-oneLine k lead v printed = equalLines (entryLines (keyed k v)) ((codes lead ++ (codes printed ++ blanks (58 - length (codes printed)))) ∷ [])
+oneLine k lead v printed = equalLines (entryLines (withKey k v)) ((codes lead ++ (codes printed ++ blanks (58 - length (codes printed)))) ∷ [])
 
 -- how many lines n letters take, and of the Greek letter lambda, which has two octets
 unfoldable pub latin : ℕ → List ℕ
@@ -46,10 +46,10 @@ greek : ℕ → List ℕ
 greek n = encode (replicate n 0x3bb)
 
 takes : ℕ → ℕ → Bool
-takes n lines = eqb (length (entryLines (keyed 1 (text (latin n))))) lines
+takes n lines = eqb (length (entryLines (withKey 1 (text (latin n))))) lines
 
 takesGreek : ℕ → ℕ → Bool
-takesGreek n lines = eqb (length (entryLines (keyed 1 (text (greek n))))) lines
+takesGreek n lines = eqb (length (entryLines (withKey 1 (text (greek n))))) lines
 
 unfoldable pub inCollection : ℕ → ℕ → Value → Entry
 inCollection c k v = record { collection = c; key = k; mark = 1; value = v }
@@ -72,23 +72,23 @@ examples =
     ∷ takes 0 1 ∷ takes 1 1 ∷ takes 57 1 ∷ takes 58 1 ∷ takes 59 2 ∷ takes 116 2 ∷ takes 117 3 ∷ takes 160 3
     -- 58 characters of two octets fill one line
     ∷ takesGreek 58 1 ∷ takesGreek 59 2 ∷ takesGreek 80 2
-    ∷ equalLines (entryLines (keyed 1 (text (greek 59))))
+    ∷ equalLines (entryLines (withKey 1 (text (greek 59))))
     ((codes "                   1  " ++ replicate 58 0x3bb) ∷ (blanks 22 ++ (0x3bb ∷ blanks 57)) ∷ [])
     -- 80 to 9f, e-acute, the euro sign and a character of four octets are one character each
     ∷ equal (printedValue (text (0xc2 ∷ 0x80 ∷ 0xc2 ∷ 0x9f ∷ 0xc3 ∷ 0xa9 ∷ 0xe2 ∷ 0x82 ∷ 0xac ∷ 0xf0 ∷ 0x9f ∷ 0x98 ∷ 0x80 ∷ []))) (0x80 ∷ 0x9f ∷ 0xe9 ∷ 0x20ac ∷ 0x1f600 ∷ [])
     -- 57 letters, a space and a letter: the space ends the first line and is not dropped
-    ∷ equal (withoutEndSpaces (textColumns (entryLines (keyed 1 (text (latin 57 ++ (32 ∷ 120 ∷ []))))))) (latin 57 ++ (32 ∷ 120 ∷ []))
+    ∷ equal (withoutEndSpaces (textColumns (entryLines (withKey 1 (text (latin 57 ++ (32 ∷ 120 ∷ []))))))) (latin 57 ++ (32 ∷ 120 ∷ []))
     -- entries of one collection, in list order
     ∷ equal (collectionPrint printedPanel 9)
     (codes "                   2  b" ++ (blanks 57 ++ (codes "\n                   1  " ++ (latin 58 ++ (codes "\n" ++ (blanks 22 ++ (codes "x" ++ (blanks 57 ++ codes "\n"))))))))
     ∷ equal (collectionPrint printedPanel 8) []
     -- the longest print of an entry: 117 characters in all the bytes that a text may have
-    ∷ eqb (length (flatMap lineOctets (entryLines (keyed 1 (text (encode (replicate 6 0x20ac) ++ greek 111)))))) entryPrintBytes
+    ∷ eqb (length (flatMap lineOctets (entryLines (withKey 1 (text (encode (replicate 6 0x20ac) ++ greek 111)))))) entryPrintBytes
     ∷ []
 
 -- all rows hold
 pub print-examples : T′ (all (λ (b : Bool). b) examples)
-unfolding examples equal equalLines keyed blanks oneLine latin greek takes takesGreek inCollection printedPanel
+unfolding examples equal equalLines withKey blanks oneLine latin greek takes takesGreek inCollection printedPanel
     flatMap encodeScalar encode entriesIn entriesOf digits decimal signedDecimal scalarsFrom scalarsOf isControl printedCharacter quadLetter printedValue
     lineCount textPieces columnOf keyLead laidOut printedLines entryLines collectionLines lineOctets collectionPrint textColumns withoutEndSpaces
 print-examples = tt

@@ -17,15 +17,15 @@ use Rattle.spec_panel_print.specs.PrintLaws.{LineOfCharacters, collectio
 use Rattle.spec_panel_print.specs.JoinLaws.{FirstLine, first-line, printed-back}
 use Rattle.spec_panel_print.specs.PrintSizes.{printBytes}
 use Rattle.spec_panel_print.specs.PrintSizesLaws.{print-fits}
-use Rattle.spec_panel_print.specs.PrintExamples.{keyed, latin, inCollection, printedPanel}
+use Rattle.spec_panel_print.specs.PrintExamples.{withKey, latin, inCollection, printedPanel}
 
-text-fits : FitsText (latin 59)
+long-text-fits : FitsText (latin 59)
 unfolding latin
-text-fits = record { short = omega arith; utf8 = refl; few = refl }
+long-text-fits = record { short = omega arith; utf8 = refl; few = refl }
 
-panel-valid : Valid printedPanel
+printed-panel-valid : Valid printedPanel
 unfolding printedPanel inCollection StorableBy isEntry
-panel-valid = record {
+printed-panel-valid = record {
   bindings = tt;
   availabilities = tt;
   entries = (
@@ -41,28 +41,28 @@ panel-valid = record {
     record { collection = omega arith; key = omega arith; mark = omega arith; value = omega arith },
     (
       record { collection = omega arith; key = omega arith; mark = omega arith; value = record { short = omega arith; utf8 = refl; few = refl } },
-      (record { collection = omega arith; key = omega arith; mark = omega arith; value = text-fits }, tt),
+      (record { collection = omega arith; key = omega arith; mark = omega arith; value = long-text-fits }, tt),
     ),
   );
 }
 
 pub panel-characters : All LineOfCharacters (collectionLines printedPanel 9)
-panel-characters = collectionLines-characters printedPanel 9 panel-valid
+panel-characters = collectionLines-characters printedPanel 9 printed-panel-valid
 
 pub panel-utf8 : (isUtf8 (collectionPrint printedPanel 9) ≡ true) × (characters (collectionPrint printedPanel 9) ≡ length (collectionLines printedPanel 9) * 81)
-panel-utf8 = collectionPrint-utf8 printedPanel 9 panel-valid
+panel-utf8 = collectionPrint-utf8 printedPanel 9 printed-panel-valid
 
 pub panel-fits : length (collectionPrint printedPanel 9) ≤ printBytes
-panel-fits = print-fits printedPanel 9 panel-valid
+panel-fits = print-fits printedPanel 9 printed-panel-valid
 
 -- a space where the first line ends, and a letter behind it
 abbrev spacedText : List ℕ
 spacedText = latin 57 ++ (32 ∷ 120 ∷ [])
 
-pub spaced-back : withoutEndSpaces (textColumns (entryLines (keyed 1 (text spacedText)))) ≡ printedValue (text spacedText)
-unfolding keyed latin endsInSpace printedValue printedCharacter isControl scalarsOf scalarsFrom
-spaced-back = printed-back (keyed 1 (text spacedText)) refl
+pub spaced-back : withoutEndSpaces (textColumns (entryLines (withKey 1 (text spacedText)))) ≡ printedValue (text spacedText)
+unfolding withKey latin endsInSpace printedValue printedCharacter isControl scalarsOf scalarsFrom
+spaced-back = printed-back (withKey 1 (text spacedText)) refl
 
-pub spaced-first : FirstLine (keyed 1 (text spacedText))
-unfolding keyed
-spaced-first = first-line (keyed 1 (text spacedText)) (omega arith)
+pub spaced-first : FirstLine (withKey 1 (text spacedText))
+unfolding withKey
+spaced-first = first-line (withKey 1 (text spacedText)) (omega arith)

@@ -6,7 +6,7 @@ use lib.ListN.{take}
 use lib.Seq.{length-take-le}
 use borrow.Author.Needs.{needs}
 use denote.Ref.{now}
-use Rattle.panel_print.specs.AnswersLaws.{some-end, ends-at, ends-in-text, whole-part, left-written, left-refused, kept-behind, kept-all}
+use Rattle.panel_print.specs.AnswersLaws.{some-end, ends-at, ends-in-text, whole-part, print-written, print-refused, behind-stays, all-stays}
 use Rattle.panel_print.proofs.write_print.Statement.{statement}
 use Rattle.panel_print.proofs.write_print.Tie as tie
 
@@ -48,8 +48,8 @@ returns-3 c =
     let whole : n - 0 ≡ n = omega arith in
     let part = take (n - 0) (now (args .text)) in
     let room = sym (write .write-bytes-at .ensures .0) ∙ c .if2 .taken in (
-      (λ print h. left-written (now (args .out)) part _ (write .write-bytes-at .ensures .1) room print (whole-part h n (place .1) (n - 0) whole) n (ends-at h n (place .1))),
-      kept-behind (now (args .out)) part _ (write .write-bytes-at .ensures .1) n (length-take-le (n - 0) (now (args .text)) (omega arith) ∙ whole) room,
+      (λ print h. print-written (now (args .out)) part _ (write .write-bytes-at .ensures .1) room print (whole-part h n (place .1) (n - 0) whole) n (ends-at h n (place .1))),
+      behind-stays (now (args .out)) part _ (write .write-bytes-at .ensures .1) n (length-take-le (n - 0) (now (args .text)) (omega arith) ∙ whole) room,
     )
 
 same-length-2 : tie.Need-same-length-2
@@ -64,8 +64,8 @@ returns-4 c =
     let whole : n - 0 ≡ n = omega arith in
     let part = take (n - 0) (now (args .text)) in
     let full = sym (write .write-bytes-at .ensures .0) ∙ c .if2 .left in (
-      (λ print h. left-refused (now (args .out)) part _ (write .write-bytes-at .ensures .1) full print (whole-part h n (place .1) (n - 0) whole)),
-      kept-all (now (args .out)) part _ (write .write-bytes-at .ensures .1) full,
+      (λ print h. print-refused (now (args .out)) part _ (write .write-bytes-at .ensures .1) full print (whole-part h n (place .1) (n - 0) whole)),
+      all-stays (now (args .out)) part _ (write .write-bytes-at .ensures .1) full,
     )
 
 pub write-print-spec : {M : Type 1} → statement M
