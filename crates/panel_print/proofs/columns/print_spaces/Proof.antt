@@ -1,0 +1,45 @@
+-- `columns::print_spaces` meets its contract: a part of a row of spaces.
+use Prim.Native.Nat.{ℕ, _-_, _≤_}
+use mathlib.Core.Path.{_≡_, ap, _∙_}
+use native.Mathlib.Omega.{arith}
+use lib.ListN.{take, replicate}
+use borrow.Author.Needs.{needs}
+use Rattle.spec_panel_print.specs.Print.{textWidth, blank}
+use Rattle.bytes_printer.specs.PrintsLaws.{same-bytes}
+use Rattle.panel_print.specs.ByteFlowLaws.{some-blanks}
+use Rattle.panel_print.proofs.columns.print_spaces.Statement.{statement}
+use Rattle.panel_print.proofs.columns.print_spaces.Tie as tie
+
+sub-print-bytes : tie.Need-sub-print-bytes
+sub-print-bytes c = search needs
+
+part-print-bytes-start : tie.Need-part-print-bytes-start
+part-print-bytes-start c = search needs
+
+part-print-bytes-end : tie.Need-part-print-bytes-end
+part-print-bytes-end c = search needs
+
+print-bytes-requires : tie.Need-print-bytes-requires
+print-bytes-requires c κs = search needs
+
+same-length : tie.Need-same-length
+same-length c = search needs
+
+returns : tie.Need-returns
+returns c =
+    let printed = c .before .before in
+    same-bytes (part (printed .before .before .before .before .before .args .n) (omega arith)) (printed .print-bytes .ensures)
+  where
+    part : (n : ℕ) → n ≤ textWidth → take (n - 0) (replicate textWidth blank) ≡ replicate n blank
+    part n h = let same : n - 0 ≡ n = omega arith in ap (λ (k : ℕ). take k (replicate textWidth blank)) same ∙ some-blanks n textWidth h
+
+pub print-spaces-spec : {M : Type 1} → statement M
+print-spaces-spec =
+    tie.close
+    (tie.spec
+    sub-print-bytes
+    part-print-bytes-start
+    part-print-bytes-end
+    print-bytes-requires
+    same-length
+    returns)

@@ -1,0 +1,55 @@
+-- `entries::print_entry` meets its contract: the key, then the value in one pass.
+use mathlib.Core.Path.{sym, ap, _∙_}
+use lib.ListN.{drop}
+use borrow.Author.Needs.{needs}
+use Rattle.spec_projection.specs.Lookups.{keyedValue}
+use Rattle.spec_panel_print.specs.Print.{keyLead}
+use Rattle.spec_panel_print.specs.FlowLaws.{entry-flows}
+use Rattle.bytes_printer.specs.PrintsLaws.{_⨾_, same-bytes}
+use Rattle.panel_rows.specs.Rows.{entryValueAt, keyIn}
+use Rattle.panel_rows.specs.RowsLaws.{entry-key, entry-behind}
+use Rattle.panel_print.specs.ByteFlow.{flowedBytes}
+use Rattle.panel_print.specs.LookupBytes.{lookupBytes}
+use Rattle.panel_print.specs.LookupBytesLaws.{found-flows}
+use Rattle.panel_print.specs.EntriesPrint.{entryPrint}
+use Rattle.panel_print.proofs.entries.print_entry.Statement.{statement}
+use Rattle.panel_print.proofs.entries.print_entry.Tie as tie
+
+entry-key-requires : tie.Need-entry-key-requires
+entry-key-requires c κs = search needs
+
+stored-value-requires : tie.Need-stored-value-requires
+stored-value-requires c κs = search needs
+
+print-key-requires : tie.Need-print-key-requires
+print-key-requires c κs = search needs
+
+print-value-requires : tie.Need-print-value-requires
+print-value-requires c κs = search needs
+
+same-length : tie.Need-same-length
+same-length c = search needs
+
+returns : tie.Need-returns
+unfolding entryPrint
+returns c =
+    let printed = c .before .before in
+    let key = printed .before .before .before .before in
+    let value = key .before .before in
+    let number = value .before in
+    λ e fits is.
+    let first = same-bytes (ap keyLead (number .entry-key .ensures ∙ ap keyIn is ∙ entry-key e fits)) (key .print-key .ensures) in
+    let found = value .stored-value .ensures (e .value) (fits .value) (ap (drop entryValueAt) is ∙ entry-behind e) in
+    let second = same-bytes (ap (λ l. flowedBytes 0 (lookupBytes l)) found ∙ found-flows 0 (e .value) (fits .value)) (printed .print-value .ensures) in
+    same-bytes (sym (entry-flows (keyedValue e))) (first ⨾ second)
+
+pub print-entry-spec : {M : Type 1} → statement M
+print-entry-spec =
+    tie.close
+    (tie.spec
+    entry-key-requires
+    stored-value-requires
+    print-key-requires
+    print-value-requires
+    same-length
+    returns)

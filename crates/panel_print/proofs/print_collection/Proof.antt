@@ -1,0 +1,50 @@
+-- `print_collection` meets its contract: every print fits the text.
+use Prim.Native.Nat.{ℕ}
+use native.Mathlib.Omega.{arith}
+use lib.ListN.{length-replicate}
+use borrow.Author.Needs.{needs}
+use Rattle.spec_panel_print.specs.Print.{collectionPrint}
+use Rattle.spec_panel_print.specs.PrintSizes.{printBytes}
+use Rattle.spec_panel_print.specs.PrintSizesLaws.{print-fits}
+use Rattle.bytes_printer.specs.PrintsLaws.{same-bytes}
+use Rattle.panel_print.specs.EntriesPrintLaws.{rows-print}
+use Rattle.panel_print.specs.AnswersLaws.{printed-whole}
+use Rattle.panel_print.proofs.print_collection.Statement.{statement}
+use Rattle.panel_print.proofs.print_collection.Tie as tie
+
+slice-aggregate-print-rows : tie.Need-slice-aggregate-print-rows
+slice-aggregate-print-rows c = search needs
+
+print-rows-requires : tie.Need-print-rows-requires
+print-rows-requires c κs = search needs
+
+slice-aggregate-write-print : tie.Need-slice-aggregate-write-print
+slice-aggregate-write-print c = search needs
+
+write-print-requires : tie.Need-write-print-requires
+write-print-requires c κs = search needs
+
+same-length : tie.Need-same-length
+same-length c = search needs
+
+returns : tie.Need-returns
+returns c =
+    let write = c .before .before in
+    let print = write .before .before .before .before in
+    let collection = print .before .before .before .before .args .collection in (
+      (λ p s v.
+          let made = same-bytes (rows-print p collection) (print .print-rows .ensures (p .entries) (v .fitEntries) (s .rows) (omega arith)) in
+          write .write-print .ensures .0 (collectionPrint p collection) (printed-whole made (omega (arith, print-fits p collection v, length-replicate {A = ℕ} printBytes 0)))),
+      write .write-print .ensures .1,
+    )
+
+pub print-collection-spec : {M : Type 1} → statement M
+print-collection-spec =
+    tie.close
+    (tie.spec
+    slice-aggregate-print-rows
+    print-rows-requires
+    slice-aggregate-write-print
+    write-print-requires
+    same-length
+    returns)
