@@ -9,14 +9,18 @@ REQUESTS = {
     "depends": "What a set depends on",
     "pages": "Pages of keys",
     "print": "The panel on paper",
+    "import": "Term lists",
+    "group": "Several batches, or none",
 }
 
 LANDED = [
-    # "edition",
+    "edition",
     # "marks",
     # "lengths",
-    # "escapes",
+    "escapes",
     # "depends",
     # "pages",
     # "print",
+    # "import",
+    # "group",
 ]

@@ -7,16 +7,21 @@ from canonical import Fault, read_set
 from checks import findings
 from convert import convert
 from depends import Never, depends
+from group import Member, NoGroup, apply_group
 from listing import line, listing, listing_tables, value_fields
 from pages import page
 from panel_print import print_collection
+from patch import Patch
 from session import Limits, Session, TooManyAnchors
 from sizes import ANCHORS, LAST_U32, LAST_U64, SET_BYTES
+from terms import import_terms
 from turns import Turns, WrongSenderCount
 
 LINE_BYTES = 131072
 # the most places of a depends line
 DEPENDS_ROOM = 16384
+# the most batches of a group line
+GROUP_MEMBERS = 16
 # the most bytes of a print line
 PRINT_ROOM = 131072
 # the most places, and the most keys, of a page line
@@ -51,6 +56,14 @@ def check_lines(data, edition):
         return line(b"K", fault.number)
     place = b"set" if place == "set" else place
     return line(b"K", 0, place, len(found)) + b"".join(line(b"F", *finding) for finding in found)
+
+
+def group_member(field):
+    """ID,SEQUENCE,PATCHES,BYTES,REFERENCES,EDITION,LENGTH."""
+    fields = field.split(b",")
+    if len(fields) != 7 or fields[5] not in (b"1", b"2"):
+        raise BadLine
+    return Member([number(part) for part in fields[:5]], int(fields[5]), number(fields[6]))
 
 
 class Replay:
@@ -192,6 +205,25 @@ class Replay:
         refusal, out = print_collection(self.session.projection, collection, room)
         return line(b"O", refusal) if refusal else line(b"O", 0, len(out)) + out
 
+    # ---- several batches together (02, Job 12)
+
+    def do_group(self, *fields):
+        *members, data = fields
+        members, data = [group_member(member) for member in members], set_bytes(data)
+        if len(members) > GROUP_MEMBERS:
+            raise BadLine
+        if self.session is None:
+            return line(b"N")
+        try:
+            taken, refused = apply_group(self.session, members, data)
+        except NoGroup:
+            return line(b"U", 17)
+        if refused is None:
+            return line(b"U", 0, taken, self._cursor())
+        place, disposition, diagnostics = refused
+        answer = line(b"R", disposition.encode("ascii"), *diagnostics, self._cursor())
+        return line(b"U", 0, taken, place) + answer
+
     # ---- editions (02, Job 13)
 
     def do_edition(self, edition):
@@ -204,6 +236,15 @@ class Replay:
         room = number(room, SET_BYTES)
         refusal, converted = convert(set_bytes(data), self.edition, room)
         return line(b"T", refusal) if refusal else line(b"T", 0, converted.hex().encode("ascii"))
+
+    # ---- term lists (02, Job 1)
+
+    def do_import(self, room, collection, *fields):
+        *numbers, data = fields
+        room, collection = number(room, SET_BYTES), number(collection)
+        numbers = [None if at == 3 and field == b"-" else number(field) for at, field in enumerate(numbers)]
+        refusal, made = import_terms(set_bytes(data), self.edition, collection, Patch(*numbers, []), room)
+        return line(b"I", refusal) if refusal else line(b"I", 0, made.hex().encode("ascii"))
 
     # ---- what a set depends on (02, Job 8)
 
@@ -246,9 +287,9 @@ class Replay:
         b"session": 5, b"node": 1, b"binding": 2, b"collection": 1, b"create": 0, b"apply": 2, b"batch": 6,
         b"check": 1, b"list": 1, b"show": 0, b"value binding": 2, b"value node": 1, b"value entry": 2,
         b"mark binding": 2, b"mark node": 1, b"mark entry": 2, b"length": 1,
-        b"senders": 1, b"wait": 1, b"turn": 0, b"edition": 1, b"convert": 2, b"depends": 2, b"print": 2,
+        b"senders": 1, b"wait": 1, b"turn": 0, b"edition": 1, b"convert": 2, b"depends": 2, b"print": 2, b"import": 11,
     }
-    AT_LEAST = {b"page": 2}
+    AT_LEAST = {b"page": 2, b"group": 1}
 
     def answer(self, text):
         """The answer to a line without its LF."""

@@ -10,6 +10,7 @@ use projection_patch::contract_primitives::StaticNodeId;
 use projection_patch::patch::OperationPlace;
 use projection_patch::patch::OptionalSurfaceId;
 use projection_patch::patch::ProjectionPatch;
+use projection_patch::patch::ProjectionPatchEdition;
 use projection_patch::patch::ProjectionPatchEnvelope;
 use projection_patch::patch::ProjectionPatchId;
 use projection_patch::patch::ProjectionPatchOperation;
@@ -74,7 +75,7 @@ pub(crate) fn write_often(text: &[u8], times: u64) -> u64 {
     let mut last = 0;
     let mut left = times;
     while 0 < left {
-        last = bytes(write_patch_set(set, text, &mut out));
+        last = bytes(write_patch_set(set, text, ProjectionPatchEdition::V1, &mut out));
         left -= 1;
     }
     last

@@ -3,10 +3,15 @@ use crate::sums;
 use local_projection_state::LocalProjectionState;
 use local_projection_state::ProjectionCounts;
 use panel_changes::SetChange;
+use projection_patch::patch::ProjectionPatchEdition;
 
 fn filled(fill: &[u8]) -> LocalProjectionState {
     let empty = LocalProjectionState::empty();
-    let application = panel_application::apply_projection_patch_set(empty, fill);
+    let application = panel_application::apply_projection_patch_set(
+        empty,
+        fill,
+        ProjectionPatchEdition::V1,
+    );
     application.state
 }
 
@@ -31,6 +36,7 @@ pub(crate) fn replay_often(fill: &[u8], set: &[u8], times: u64) -> u64 {
             &state.entries,
             state.counts,
             set,
+            ProjectionPatchEdition::V1,
             &mut bindings,
             &mut availability,
             &mut entries,

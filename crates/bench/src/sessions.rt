@@ -4,6 +4,7 @@ ghost use lib.ListN.{length};
 use crate::sums;
 use active_projection_target_catalog::catalog::BindingPair;
 use patch_walk::SetRead;
+use projection_patch::patch::ProjectionPatchEdition;
 use projection_patch::patch::ProjectionPatchSet;
 use session_from_pairs::pairs::BindingAnchors;
 use session_gates::gates::OrderedProjectionPatchBatchEnvelope;
@@ -20,7 +21,7 @@ struct SetCounts {
 }
 
 fn counted(set: &[u8]) -> SetCounts {
-    match patch_walk::read_set(set) {
+    match patch_walk::read_set(set, ProjectionPatchEdition::V1) {
         SetRead::Read {
             patch_count,
             operation_count,
@@ -97,7 +98,12 @@ fn created() -> ShellSession {
 // A session whose first batch, with the number 1, was this set.
 pub(crate) fn filled(fill: &[u8]) -> ShellSession {
     let counts = counted(fill);
-    let step = created().apply_projection_patch_batch(envelope(1, counts), counts.operations, fill);
+    let step = created().apply_projection_patch_batch(
+        envelope(1, counts),
+        counts.operations,
+        fill,
+        ProjectionPatchEdition::V1,
+    );
     step.session
 }
 
@@ -124,12 +130,18 @@ pub(crate) fn apply_often(session: ShellSession, forth: &[u8], back: &[u8], time
             envelope(number, away),
             away.operations,
             forth,
+            ProjectionPatchEdition::V1,
         );
         panel = one.session;
         let first = one.result;
         applied = raised(applied, first);
         number = sums::after(number);
-        let two = panel.apply_projection_patch_batch(envelope(number, home), home.operations, back);
+        let two = panel.apply_projection_patch_batch(
+            envelope(number, home),
+            home.operations,
+            back,
+            ProjectionPatchEdition::V1,
+        );
         panel = two.session;
         let second = two.result;
         applied = raised(applied, second);

@@ -4,6 +4,7 @@ use check_quick::quick_set::QuickCheck;
 use check_set::check_set as set_check;
 use check_set::check_set::PatchSetCheck;
 use patch_walk::SetRead;
+use projection_patch::patch::ProjectionPatchEdition;
 
 // The surface of the first patch, which no rule looks at; a new one for each use keeps the uses apart.
 const SURFACE: usize = 60;
@@ -13,7 +14,7 @@ const LENT: usize = 48;
 
 // The number of operations, or the refusal's number.
 fn read(set: &[u8]) -> u64 {
-    match patch_walk::read_set(set) {
+    match patch_walk::read_set(set, ProjectionPatchEdition::V1) {
         SetRead::Read {
             patch_count: _,
             operation_count,
@@ -24,7 +25,7 @@ fn read(set: &[u8]) -> u64 {
 
 // The number of operations where there is no finding, or the refusal's number.
 fn quick_check(set: &[u8]) -> u64 {
-    match quick_set::quick_check(set) {
+    match quick_set::quick_check(set, ProjectionPatchEdition::V1) {
         QuickCheck::Clean {
             patch_count: _,
             operation_count,
@@ -36,7 +37,7 @@ fn quick_check(set: &[u8]) -> u64 {
 
 // The number of findings, or the refusal's number.
 fn check(set: &[u8], findings: &mut [u64]) -> u64 {
-    match set_check::check(set, findings) {
+    match set_check::check(set, ProjectionPatchEdition::V1, findings) {
         PatchSetCheck::Checked {
             place: _,
             logical,

@@ -6,7 +6,7 @@ use mathlib.Core.List.{List, [], _∷_, _++_, flatMap, reverse, reverse-append}
 use native.Mathlib.Omega.{arith}
 use lib.ListN.{length, take, length-append}
 use Rattle.spec_patch.specs.Patch.{Operation, Patch}
-use Rattle.spec_patch.specs.Edition.{v1}
+use Rattle.spec_patch.specs.Edition.{Edition}
 use Rattle.spec_checks.specs.Finding.{Finding, report, checkEach}
 use Rattle.spec_checks.specs.Target.{MutationTarget, mutationTarget}
 use Rattle.spec_checks.specs.PatchChecks.{beforeSelf, operationFindings}
@@ -25,34 +25,34 @@ use Rattle.check_findings.specs.InsertFindings.{insertedAll}
 use Rattle.check_findings.specs.InsertFindingsLaws.{insertedAll-append, Inserted}
 use Rattle.check_set.specs.ListedLaws.{listed-operation}
 
--- the bytes, the patch's id, its operations and the patches behind it, and the table before
-module _ (set : List ℕ) (id : ℕ) (os : List Operation) (ps : List Patch) (first : ℕ) (before : List ℕ) where
+-- the edition and the bytes, the patch's id, its operations and the patches behind it, and the table before
+module _ (ed : Edition) (set : List ℕ) (id : ℕ) (os : List Operation) (ps : List Patch) (first : ℕ) (before : List ℕ) where
   abbrev own : List Operation → Operation → List Finding
   own = operationFindings id
 
   pub record Run (c : SetCursor) (used index kept : ℕ) (targets records : List ℕ) : Type 0 where
     pub done : List Operation
     pub rest : List Operation
-    pub here : AtSteps v1 set c rest ps
+    pub here : AtSteps ed set c rest ps
     pub same : insertedAll (checkEach own [] os) first before ≡ insertedAll (checkEach own (reverse done) rest) kept records
     pub seen : take used targets ≡ flatMap targetNumbers done
     pub counted : index ≡ length done
 
-  pub run-start : (c : SetCursor) (targets : List ℕ) → AtSteps v1 set c os ps → Run c 0 0 first targets before
+  pub run-start : (c : SetCursor) (targets : List ℕ) → AtSteps ed set c os ps → Run c 0 0 first targets before
   unfolding flatMap
   run-start c targets here = record { done = []; rest = os; here = here; same = refl; seen = refl; counted = refl }
 
   module _ {c : SetCursor} {used index kept : ℕ} {targets records : List ℕ} (run : Run c used index kept targets records) where
     -- one operation more
-    module _ {r : SetStep} (answer-is : r ≡ stepAnswer false v1 c set) (x : ProjectionPatchOperation) (d : SetCursor) (told : r ≡ set-step.Operation x d)
+    module _ {r : SetStep} (answer-is : r ≡ stepAnswer false ed c set) (x : ProjectionPatchOperation) (d : SetCursor) (told : r ≡ set-step.Operation x d)
         (kept′ : ℕ) (targets′ records′ : List ℕ) (target : MutationTarget) (self seen : Bool) (room : used + 3 ≤ length targets)
         (target-now : target ≡ mutationTarget (operationOf [] x))
         (self-now : self ≡ beforeSelf (operationOf [] x))
         (seen-now : seen ≡ targetSeen target (take used targets))
         (targets-now : targets′ ≡ withTarget used target targets)
         (now : Inserted (report self (row 2 id index) ++ report seen (row 3 id index)) kept records kept′ records′) where
-      v : Visited v1 set c (run .rest) ps x d
-      v = visited false v1 set c (run .here) answer-is x d told
+      v : Visited ed set c (run .rest) ps x d
+      v = visited false ed set c (run .here) answer-is x d told
 
       abbrev o : Operation
       o = v .first
@@ -102,11 +102,11 @@ module _ (set : List ℕ) (id : ℕ) (os : List Operation) (ps : List Patch) (fi
       }
 
     -- where none is left
-    pub run-end : c .«operations_left» ≤ 0 → Inserted (checkEach own [] os) first before kept records × AtSteps v1 set c [] ps
+    pub run-end : c .«operations_left» ≤ 0 → Inserted (checkEach own [] os) first before kept records × AtSteps ed set c [] ps
     unfolding checkEach insertedAll
     run-end none = go (run .rest) (run .here) (run .same)
       where
-        go : (l : List Operation) → AtSteps v1 set c l ps → insertedAll (checkEach own [] os) first before ≡ insertedAll (checkEach own (reverse (run .done)) l) kept records
-            → Inserted (checkEach own [] os) first before kept records × AtSteps v1 set c [] ps
+        go : (l : List Operation) → AtSteps ed set c l ps → insertedAll (checkEach own [] os) first before ≡ insertedAll (checkEach own (reverse (run .done)) l) kept records
+            → Inserted (checkEach own [] os) first before kept records × AtSteps ed set c [] ps
         go [] here same = ((sym (ap (λ t. t .0) same), sym (ap (λ t. t .1) same)), here)
         go (o ∷ l) here same = absurd (omega (arith, here .operations))

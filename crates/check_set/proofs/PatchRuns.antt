@@ -10,7 +10,7 @@ use Rattle.spec_lists.specs.Lists.{All}
 use Rattle.spec_lists.specs.Order.{sortUnique}
 use Rattle.spec_patch.specs.Sizes.{setPatches, patchOperations}
 use Rattle.spec_patch.specs.Patch.{Envelope, Patch}
-use Rattle.spec_patch.specs.Edition.{v1}
+use Rattle.spec_patch.specs.Edition.{Edition}
 use Rattle.spec_patch.specs.Fits.{FitsPatch}
 use Rattle.spec_checks.specs.Finding.{Finding, findingKey, checkEach}
 use Rattle.spec_checks.specs.PatchChecks.{rawPatchFindings, patchFindings}
@@ -38,8 +38,8 @@ use Rattle.check_set.specs.Listed.{tableLength, ListedAs, afterListed, l
 use Rattle.check_set.specs.ListedLaws.{after-listed, table-is, none-found, patch-is, first-next}
 use Rattle.check_set.specs.declared.list_operations.Listed.{Listed}
 
--- the bytes and all the patches
-module _ (bytes : List ℕ) (ps : List Patch) where
+-- the edition, the bytes and all the patches
+module _ (ed : Edition) (bytes : List ℕ) (ps : List Patch) where
   abbrev whole : Findings
   whole = record { place = inSet; found = setFindings ps }
 
@@ -47,7 +47,7 @@ module _ (bytes : List ℕ) (ps : List Patch) where
   pub record Run (c : SetCursor) (done kept : ℕ) (ids : List ℕ) (previous : Option Envelope) (records : List ℕ) : Type 0 where
     pub before : List Patch
     pub rest : List Patch
-    pub here : AtSteps v1 bytes c [] rest
+    pub here : AtSteps ed bytes c [] rest
     pub place : findings ps ≡ firstFindings done rest whole
     pub raw : List Finding
     pub holds : Kept raw kept records
@@ -55,7 +55,7 @@ module _ (bytes : List ℕ) (ps : List Patch) where
     pub known : take done ids ≡ map idOf before
     pub last : previous ≡ lastOf (reverse before)
 
-  pub run-start : (c : SetCursor) (ids records : List ℕ) → AtSteps v1 bytes c [] ps → Run c 0 0 ids none records
+  pub run-start : (c : SetCursor) (ids records : List ℕ) → AtSteps ed bytes c [] ps → Run c 0 0 ids none records
   unfolding findings rawSetFindings
   run-start c ids records here =
       record { before = []; rest = ps; here = here; place = refl; raw = []; holds = kept-none records; all = refl; known = refl; last = refl }
@@ -66,27 +66,27 @@ module _ (bytes : List ℕ) (ps : List Patch) where
     unfolding firstFindings checkEach setFindings
     run-end none′ = go (run .rest) (run .here) (run .place) (run .all)
       where
-        go : (l : List Patch) → AtSteps v1 bytes c [] l → findings ps ≡ firstFindings done l whole → rawSetFindings ps ≡ run .raw ++ checkEach afterFindings (reverse (run .before)) l → FindingsListedAs (findings ps) (listedTo inSet kept) records
+        go : (l : List Patch) → AtSteps ed bytes c [] l → findings ps ≡ firstFindings done l whole → rawSetFindings ps ≡ run .raw ++ checkEach afterFindings (reverse (run .before)) l → FindingsListedAs (findings ps) (listedTo inSet kept) records
         go [] here place all =
             let same : record { place = inSet; found = sortUnique findingKey (run .raw) } ≡ findings ps = ap (λ l. record { place = inSet; found = sortUnique findingKey l }) (sym (all ∙ append-nil (run .raw))) ∙ sym place in
             subst (λ f. FindingsListedAs f (listedTo inSet kept) records) same (table-is inSet (run .raw) kept records (run .holds))
         go (p ∷ l) here place all = absurd (omega (arith, here .patches))
 
     -- one patch more
-    module _ (few : length ps ≤ setPatches) (room : tableLength ≤ length records) {r : SetStep} (answer-is : r ≡ stepAnswer false v1 c bytes) (h : ProjectionPatch) (d : SetCursor) (told : r ≡ set-step.Head h d)
+    module _ (few : length ps ≤ setPatches) (room : tableLength ≤ length records) {r : SetStep} (answer-is : r ≡ stepAnswer false ed c bytes) (h : ProjectionPatch) (d : SetCursor) (told : r ≡ set-step.Head h d)
         (listed : Listed) (mid : List ℕ)
-        (ensured : (p : Patch) (qs : List Patch) → h ≡ headTo (headOf p) → d .«patch_id» ≡ p .envelope .id → AtSteps v1 bytes d (p .operations) qs → ListedAs bytes (rawPatchFindings p) 0 records listed mid qs) where
-      o : Opened v1 bytes c [] (run .rest) h d
-      o = opened false v1 bytes c (run .here) answer-is h d told
+        (ensured : (p : Patch) (qs : List Patch) → h ≡ headTo (headOf p) → d .«patch_id» ≡ p .envelope .id → AtSteps ed bytes d (p .operations) qs → ListedAs ed bytes (rawPatchFindings p) 0 records listed mid qs) where
+      o : Opened ed bytes c [] (run .rest) h d
+      o = opened false ed bytes c (run .here) answer-is h d told
 
       abbrev p : Patch
       p = o .first
 
-      now : ListedAs bytes (rawPatchFindings p) 0 records listed mid (o .rest)
+      now : ListedAs ed bytes (rawPatchFindings p) 0 records listed mid (o .rest)
       now = ensured p (o .rest) (o .placed) (ap (λ (e : SetCursor). e .«patch_id») (o .behind) ∙ ap (λ (x : ProjectionPatch). x .envelope .«patch_id» .0) (o .placed)) (o .next)
 
       small : length (p .operations) ≤ patchOperations
-      small = subst (λ (l : List Patch). All (FitsPatch v1) l) (o .is) (run .here .fit-rest) .0 .few
+      small = subst (λ (l : List Patch). All (FitsPatch ed) l) (o .is) (run .here .fit-rest) .0 .few
 
       -- with findings it ends the listing
       pub run-found : 0 < listed .count → FindingsListedAs (findings ps) (listedTo (inPatch done) (listed .count)) mid

@@ -7,7 +7,7 @@ use lib.Dec.{eqb}
 use lib.ListN.{length, take}
 use Rattle.spec_patch.specs.Sizes.{setPatches}
 use Rattle.spec_patch.specs.Patch.{Envelope, Patch}
-use Rattle.spec_patch.specs.Edition.{v1}
+use Rattle.spec_patch.specs.Edition.{Edition}
 use Rattle.spec_checks.specs.Finding.{Finding, finding, report, emptyOperations, duplicatePatchId}
 use Rattle.spec_checks.specs.PatchChecks.{envelopeFindings}
 use Rattle.spec_checks.specs.SetChecks.{pairFindings}
@@ -25,8 +25,8 @@ abbrev pub tableLength : ℕ
 tableLength = recordLength * 5 * (setPatches - 1)
 
 -- these findings were put into a table that had so many records, and the walk stands before these patches
-abbrev pub ListedAs : List ℕ → List Finding → ℕ → List ℕ → Listed → List ℕ → List Patch → Type 0
-ListedAs set fs kept before r after ps = Inserted fs kept before (r .count) after × AtSteps v1 set (r .next) [] ps
+abbrev pub ListedAs : Edition → List ℕ → List Finding → ℕ → List ℕ → Listed → List ℕ → List Patch → Type 0
+ListedAs ed set fs kept before r after ps = Inserted fs kept before (r .count) after × AtSteps ed set (r .next) [] ps
 
 -- kinds 6, 10, 13 and 14
 unfoldable pub headFindings : Envelope → ℕ → List Finding

@@ -5,15 +5,16 @@ use crate::write_findings;
 use check_quick::quick_set;
 use check_quick::quick_set::QuickCheck;
 use patch_walk::SetOpening;
+use projection_patch::patch::ProjectionPatchEdition;
 use projection_patch::read_values::ProjectionPatchReadFault;
 ghost use mathlib.Core.Path.{_≡_};
 ghost use mathlib.Core.List.{List};
 ghost use lib.ListN.{length};
 ghost use Rattle.spec_patch.specs.Patch.{Patch};
-ghost use Rattle.spec_patch.specs.Edition.{v1};
 ghost use Rattle.spec_patch.specs.Read.{patches, readSet};
 ghost use Rattle.spec_checks.specs.Findings.{findings};
 ghost use Rattle.spec_checks.specs.Answer.{writeFindings, checked};
+ghost use Rattle.projection_patch.specs.Meaning.{editionOf};
 ghost use Rattle.check_set.specs.CheckAnswers.{writtenAnswer, writtenNumbers, checkedTo, checkAnswer, checkNumbers};
 
 // Where the findings are: in the patch of an index from 0, or in the set.
@@ -51,13 +52,13 @@ fn write_answer(
 }
 
 // Lists the findings of a readable set and writes those that fit.
-fn find(set: &[u8], out: &mut [u64]) -> PatchSetCheck
-    ensures answered { λ r. ⌜ ((ps : List Patch) → readSet v1 (now (set .entry)) ≡ patches ps → r ≡ checkedTo (checked ps (length (now (out .entry))))) ⌝ }
-    ensures written { λ _. ⌜ ((ps : List Patch) → readSet v1 (now (set .entry)) ≡ patches ps → now (out .exit) ≡ writeFindings (findings ps .found) (now (out .entry))) ⌝ }
+fn find(set: &[u8], edition: ProjectionPatchEdition, out: &mut [u64]) -> PatchSetCheck
+    ensures answered { λ r. ⌜ ((ps : List Patch) → readSet (editionOf edition) (now (set .entry)) ≡ patches ps → r ≡ checkedTo (checked ps (length (now (out .entry))))) ⌝ }
+    ensures written { λ _. ⌜ ((ps : List Patch) → readSet (editionOf edition) (now (set .entry)) ≡ patches ps → now (out .exit) ≡ writeFindings (findings ps .found) (now (out .entry))) ⌝ }
 {
     let mut records = [0u64; FindingsListed::NUMBERS];
-    match patch_walk::open_set(set) {
-        SetOpening::At(start) => match list_set::list_patches(set, start, &mut records) {
+    match patch_walk::open_set(set, edition) {
+        SetOpening::At(start) => match list_set::list_patches(set, edition, start, &mut records) {
             FindingsListed::Patch(index, logical) => {
                 write_answer(CheckPlace::Patch(index), logical, &records, out)
             }
@@ -68,11 +69,11 @@ fn find(set: &[u8], out: &mut [u64]) -> PatchSetCheck
 }
 
 // Checks a set and writes the records of its findings, three numbers each, from the start of findings.
-pub fn check(set: &[u8], findings: &mut [u64]) -> PatchSetCheck
-    ensures answered { λ r. ⌜ r ≡ checkAnswer (readSet v1 (now (set .entry))) (length (now (findings .entry))) ⌝ }
-    ensures written { λ _. ⌜ now (findings .exit) ≡ checkNumbers (readSet v1 (now (set .entry))) (now (findings .entry)) ⌝ }
+pub fn check(set: &[u8], edition: ProjectionPatchEdition, findings: &mut [u64]) -> PatchSetCheck
+    ensures answered { λ r. ⌜ r ≡ checkAnswer (readSet (editionOf edition) (now (set .entry))) (length (now (findings .entry))) ⌝ }
+    ensures written { λ _. ⌜ now (findings .exit) ≡ checkNumbers (readSet (editionOf edition) (now (set .entry))) (now (findings .entry)) ⌝ }
 {
-    match quick_set::quick_check(set) {
+    match quick_set::quick_check(set, edition) {
         QuickCheck::Clean {
             patch_count: _,
             operation_count: _,
@@ -81,7 +82,7 @@ pub fn check(set: &[u8], findings: &mut [u64]) -> PatchSetCheck
             logical: 0,
             written: 0,
         },
-        QuickCheck::Found => find(set, findings),
+        QuickCheck::Found => find(set, edition, findings),
         QuickCheck::Refused(fault) => PatchSetCheck::Refused(fault),
     }
 }

@@ -4,14 +4,15 @@ use check_findings::insert_findings;
 use check_targets::MutationTarget;
 use patch_walk::SetCursor;
 use patch_walk::SetStep;
+use projection_patch::patch::ProjectionPatchEdition;
 ghost use mathlib.Core.Path.{_≡_};
 ghost use mathlib.Core.List.{List, [], _++_};
 ghost use Prim.Native.Nat.{_*_, _≤_};
 ghost use lib.ListN.{length};
 ghost use Rattle.spec_patch.specs.Patch.{Operation, Patch};
-ghost use Rattle.spec_patch.specs.Edition.{v1};
 ghost use Rattle.spec_checks.specs.Finding.{report, checkEach};
 ghost use Rattle.spec_checks.specs.PatchChecks.{operationFindings};
+ghost use Rattle.projection_patch.specs.Meaning.{editionOf};
 ghost use Rattle.patch_walk.specs.Steps.{AtSteps};
 ghost use Rattle.check_targets.specs.Marks.{markPlaces};
 ghost use Rattle.check_findings.specs.EnvelopeChecks.{row};
@@ -46,6 +47,7 @@ fn insert_operation(
 // their targets and marks.
 pub fn list_operations(
     set: &[u8],
+    edition: ProjectionPatchEdition,
     start: SetCursor,
     targets: &mut [u64],
     marks: &mut [u8],
@@ -53,8 +55,8 @@ pub fn list_operations(
     first: usize,
 ) -> Listed
     requires { ⌜ (3 * start .«operations_left» ≤ length (now targets)) × (length (now marks) ≡ markPlaces) ⌝ }
-    ensures listed { λ r. ⌜ ((os : List Operation) (ps : List Patch) → AtSteps v1 (now (set .entry)) start os ps
-        → ListedAs (now (set .entry)) (checkEach (operationFindings (start .«patch_id»)) [] os) first (now (records .entry)) r (now (records .exit)) ps) ⌝ }
+    ensures listed { λ r. ⌜ ((os : List Operation) (ps : List Patch) → AtSteps (editionOf edition) (now (set .entry)) start os ps
+        → ListedAs (editionOf edition) (now (set .entry)) (checkEach (operationFindings (start .«patch_id»)) [] os) first (now (records .entry)) r (now (records .exit)) ps) ⌝ }
     ensures patches { λ r. ⌜ r .next .«patches_left» ≡ start .«patches_left» ⌝ }
 {
     let mut cursor = start;
@@ -62,7 +64,8 @@ pub fn list_operations(
     let mut index: u64 = 0;
     let mut kept = first;
     while 0 < cursor.operations_left {
-        let SetStep::Operation(operation, next) = patch_walk::next_step(set, cursor, false) else {
+        let SetStep::Operation(operation, next) = patch_walk::next_step(set, cursor, false, edition)
+        else {
             return Listed {
                 count: kept,
                 next: cursor,

@@ -6,14 +6,14 @@ use check_findings::insert_findings;
 use check_targets::MutationTarget;
 use patch_walk::SetCursor;
 use projection_patch::patch::ProjectionPatch;
+use projection_patch::patch::ProjectionPatchEdition;
 ghost use mathlib.Core.Path.{_≡_};
 ghost use mathlib.Core.List.{List};
 ghost use Prim.Native.Nat.{_≤_};
 ghost use Rattle.spec_patch.specs.Sizes.{patchOperations};
 ghost use Rattle.spec_patch.specs.Patch.{Patch};
-ghost use Rattle.spec_patch.specs.Edition.{v1};
 ghost use Rattle.spec_checks.specs.PatchChecks.{rawPatchFindings};
-ghost use Rattle.projection_patch.specs.Meaning.{envelopeOf};
+ghost use Rattle.projection_patch.specs.Meaning.{editionOf, envelopeOf};
 ghost use Rattle.patch_sets.specs.Walk.{headOf};
 ghost use Rattle.patch_sets.specs.SetAnswers.{headTo};
 ghost use Rattle.patch_walk.specs.Steps.{AtSteps};
@@ -37,21 +37,38 @@ fn list_head(head: ProjectionPatch, records: &mut [u64]) -> usize
 // little is cleared for them.
 pub fn list_patch(
     set: &[u8],
+    edition: ProjectionPatchEdition,
     head: ProjectionPatch,
     start: SetCursor,
     records: &mut [u64],
 ) -> Listed
     requires { ⌜ start .«operations_left» ≤ patchOperations ⌝ }
-    ensures listed { λ r. ⌜ ((p : Patch) (ps : List Patch) → head ≡ headTo (headOf p) → start .«patch_id» ≡ p .envelope .id → AtSteps v1 (now (set .entry)) start (p .operations) ps
-        → ListedAs (now (set .entry)) (rawPatchFindings p) 0 (now (records .entry)) r (now (records .exit)) ps) ⌝ }
+    ensures listed { λ r. ⌜ ((p : Patch) (ps : List Patch) → head ≡ headTo (headOf p) → start .«patch_id» ≡ p .envelope .id → AtSteps (editionOf edition) (now (set .entry)) start (p .operations) ps
+        → ListedAs (editionOf edition) (now (set .entry)) (rawPatchFindings p) 0 (now (records .entry)) r (now (records .exit)) ps) ⌝ }
     ensures patches { λ r. ⌜ r .next .«patches_left» ≡ start .«patches_left» ⌝ }
 {
     let first = list_head(head, records);
     let mut marks = [0u8; MutationTarget::MARKS];
     if start.operations_left <= MutationTarget::FEW {
         let mut few = [0u64; MutationTarget::FEW_NUMBERS];
-        return list_operations::list_operations(set, start, &mut few, &mut marks, records, first);
+        return list_operations::list_operations(
+            set,
+            edition,
+            start,
+            &mut few,
+            &mut marks,
+            records,
+            first,
+        );
     }
     let mut targets = [0u64; MutationTarget::PATCH_NUMBERS];
-    list_operations::list_operations(set, start, &mut targets, &mut marks, records, first)
+    list_operations::list_operations(
+        set,
+        edition,
+        start,
+        &mut targets,
+        &mut marks,
+        records,
+        first,
+    )
 }

@@ -6,6 +6,7 @@ use check_findings::insert_findings;
 use check_quick::quick_patches::PreviousEnvelope;
 use patch_walk::SetCursor;
 use patch_walk::SetStep;
+use projection_patch::patch::ProjectionPatchEdition;
 use projection_patch::patch::ProjectionPatchEnvelope;
 use projection_patch::patch::ProjectionPatchSet;
 ghost use mathlib.Core.Path.{_≡_};
@@ -14,9 +15,8 @@ ghost use Prim.Native.Nat.{_≤_, _<_};
 ghost use lib.ListN.{length, take, set};
 ghost use Rattle.spec_patch.specs.Sizes.{setPatches};
 ghost use Rattle.spec_patch.specs.Patch.{Patch};
-ghost use Rattle.spec_patch.specs.Edition.{v1};
 ghost use Rattle.spec_checks.specs.Findings.{findings};
-ghost use Rattle.projection_patch.specs.Meaning.{envelopeOf};
+ghost use Rattle.projection_patch.specs.Meaning.{editionOf, envelopeOf};
 ghost use Rattle.patch_walk.specs.Steps.{AtSteps};
 ghost use Rattle.check_findings.specs.InsertFindings.{insertedAll};
 ghost use Rattle.check_quick.specs.QuickAnswers.{previousOf};
@@ -78,9 +78,14 @@ fn insert_after(
 }
 
 // Walks over the patches that are left, up to the first that has findings.
-pub fn list_patches(set: &[u8], start: SetCursor, records: &mut [u64]) -> FindingsListed
+pub fn list_patches(
+    set: &[u8],
+    edition: ProjectionPatchEdition,
+    start: SetCursor,
+    records: &mut [u64],
+) -> FindingsListed
     requires { ⌜ (start .«patches_left» ≤ setPatches) × (tableLength ≤ length (now records)) ⌝ }
-    ensures { λ r. ⌜ ((ps : List Patch) → AtSteps v1 (now (set .entry)) start [] ps → FindingsListedAs (findings ps) r (now (records .exit))) ⌝ }
+    ensures { λ r. ⌜ ((ps : List Patch) → AtSteps (editionOf edition) (now (set .entry)) start [] ps → FindingsListedAs (findings ps) r (now (records .exit))) ⌝ }
 {
     let mut ids = [0u64; ProjectionPatchSet::PATCHES];
     let mut previous = PreviousEnvelope::None;
@@ -88,10 +93,10 @@ pub fn list_patches(set: &[u8], start: SetCursor, records: &mut [u64]) -> Findin
     let mut done: usize = 0;
     let mut kept: usize = 0;
     while 0 < cursor.patches_left {
-        let SetStep::Head(head, inside) = patch_walk::next_step(set, cursor, false) else {
+        let SetStep::Head(head, inside) = patch_walk::next_step(set, cursor, false, edition) else {
             return FindingsListed::Set(kept);
         };
-        let patch = list_patch::list_patch(set, head, inside, records);
+        let patch = list_patch::list_patch(set, edition, head, inside, records);
         if 0 < patch.count {
             return FindingsListed::Patch(done, patch.count);
         }

@@ -3,7 +3,7 @@ use Prim.Native.Nat.{ℕ}
 use mathlib.Core.Path.{_≡_}
 use mathlib.Core.List.{List}
 use Rattle.spec_lists.specs.Lists.{if_then_else_, isEmpty}
-use Rattle.spec_patch.specs.Edition.{v1}
+use Rattle.spec_patch.specs.Edition.{Edition}
 use Rattle.spec_patch.specs.Reader.{faultNumber}
 use Rattle.spec_patch.specs.Read.{SetReading, patches, fault, readSet}
 use Rattle.spec_checks.specs.Findings.{findings}
@@ -30,8 +30,8 @@ unfoldable pub applyReading : Projection → SetReading → SetOutcome
 applyReading p (fault f) = refused (faultNumber f)
 applyReading p (patches ps) = if isEmpty (findings ps .found) then setOutcome (applySteps p (replaySteps ps)) else refused 11
 
-unfoldable pub applySet : Projection → List ℕ → SetOutcome
-applySet p set = applyReading p (readSet v1 set)
+unfoldable pub applySet : Edition → Projection → List ℕ → SetOutcome
+applySet ed p set = applyReading p (readSet ed set)
 
 -- ---- the answers of the code
 

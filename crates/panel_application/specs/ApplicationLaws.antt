@@ -8,7 +8,7 @@ use lib.Dec.{eqb}
 use lib.ListN.{length}
 use Rattle.spec_lists.specs.Lists.{if_then_else_, any, isEmpty}
 use Rattle.spec_patch.specs.Patch.{Patch}
-use Rattle.spec_patch.specs.Edition.{v1}
+use Rattle.spec_patch.specs.Edition.{Edition}
 use Rattle.spec_patch.specs.Reader.{faultNumber}
 use Rattle.spec_patch.specs.Read.{SetReading, patches, fault, readSet}
 use Rattle.spec_checks.specs.Findings.{findings}
@@ -87,17 +87,17 @@ module _ (p : Projection) where
       go true e = absurd (let z : _≡_ {A = ℕ} 0 1 = cc in omega arith)
       go false e = absurd (let z : _≡_ {A = ℕ} 0 1 = cc in omega arith)
 
-  module _ (set : List ℕ) (c : QuickCheck) (answer-is : c ≡ quickAnswer (readSet v1 set)) (next : LocalProjectionState) where
-    pub clean-became : (n m : ℕ) → c ≡ quick.Clean n m → (o : ProjectionOutcome) → ((ps : List Patch) → readSet v1 set ≡ patches ps → StepsBecame next o (applySteps p (replaySteps ps))) → SetBecame next o (applySet p set)
+  module _ (ed : Edition) (set : List ℕ) (c : QuickCheck) (answer-is : c ≡ quickAnswer (readSet ed set)) (next : LocalProjectionState) where
+    pub clean-became : (n m : ℕ) → c ≡ quick.Clean n m → (o : ProjectionOutcome) → ((ps : List Patch) → readSet ed set ≡ patches ps → StepsBecame next o (applySteps p (replaySteps ps))) → SetBecame next o (applySet ed p set)
     unfolding applySet
     clean-became n m e o told =
-        let k = clean-reading (readSet v1 set) n m (sym e ∙ answer-is) in
+        let k = clean-reading (readSet ed set) n m (sym e ∙ answer-is) in
         subst (SetBecame next o) (sym (k .outcome)) (steps-set next o (applySteps p (replaySteps (k .ps))) (told (k .ps) (k .readable)))
 
-    pub found-became : c ≡ quick.Found → SetBecame next Findings (applySet p set)
+    pub found-became : c ≡ quick.Found → SetBecame next Findings (applySet ed p set)
     unfolding applySet outcomeNumber
-    found-became e = subst (SetBecame next Findings) (sym (found-reading (readSet v1 set) (sym e ∙ answer-is))) refl
+    found-became e = subst (SetBecame next Findings) (sym (found-reading (readSet ed set) (sym e ∙ answer-is))) refl
 
-    pub refused-became : (f : ProjectionPatchReadFault) → c ≡ quick.Refused f → SetBecame next (Unreadable f) (applySet p set)
+    pub refused-became : (f : ProjectionPatchReadFault) → c ≡ quick.Refused f → SetBecame next (Unreadable f) (applySet ed p set)
     unfolding applySet outcomeNumber
-    refused-became f e = subst (SetBecame next (Unreadable f)) (sym (refused-reading (readSet v1 set) f (sym e ∙ answer-is))) refl
+    refused-became f e = subst (SetBecame next (Unreadable f)) (sym (refused-reading (readSet ed set) f (sym e ∙ answer-is))) refl

@@ -2,10 +2,10 @@
 ghost use mathlib.Core.Path.{_≡_};
 ghost use mathlib.Core.List.{List};
 ghost use Rattle.spec_patch.specs.Patch.{Patch};
-ghost use Rattle.spec_patch.specs.Edition.{v1};
 ghost use Rattle.spec_patch.specs.Read.{patches, readSet};
 ghost use Rattle.spec_projection.specs.Projection.{Projection};
 ghost use Rattle.spec_projection.specs.Apply.{replaySteps, applySteps};
+ghost use Rattle.projection_patch.specs.Meaning.{editionOf};
 ghost use Rattle.local_projection_state.specs.Stores.{Stores};
 ghost use Rattle.panel_application.specs.Application.{applySet, outcomeNumber, StepsBecame, SetBecame, KeptUnlessApplied};
 use check_quick::quick_set;
@@ -13,6 +13,7 @@ use check_quick::quick_set::QuickCheck;
 use local_projection_state::LocalProjectionState;
 use panel_bindings::LocalProjectionApplicationError;
 use panel_changes::SetChange;
+use projection_patch::patch::ProjectionPatchEdition;
 use projection_patch::read_values::ProjectionPatchReadFault;
 
 // Why a set is not applied, or that it is.
@@ -44,8 +45,12 @@ pub struct ProjectionApplication {
 }
 
 // Applies all operations of a readable set, from the state's tables to new ones. The first that fails hands the state back as it came.
-fn apply_readable(state: LocalProjectionState, set: &[u8]) -> ProjectionApplication
-    ensures steps { λ r. ⌜ ((ps : List Patch) (p : Projection) → readSet v1 (now (set .entry)) ≡ patches ps → Stores state p
+fn apply_readable(
+    state: LocalProjectionState,
+    set: &[u8],
+    edition: ProjectionPatchEdition,
+) -> ProjectionApplication
+    ensures steps { λ r. ⌜ ((ps : List Patch) (p : Projection) → readSet (editionOf edition) (now (set .entry)) ≡ patches ps → Stores state p
         → StepsBecame (r .state) (r .outcome) (applySteps p (replaySteps ps))) ⌝ }
     ensures kept { λ r. ⌜ KeptUnlessApplied state (r .state) (r .outcome) ⌝ }
 {
@@ -59,6 +64,7 @@ fn apply_readable(state: LocalProjectionState, set: &[u8]) -> ProjectionApplicat
         &state.entries,
         state.counts,
         set,
+        edition,
         &mut bindings,
         &mut availability,
         &mut entries,
@@ -89,15 +95,19 @@ fn apply_readable(state: LocalProjectionState, set: &[u8]) -> ProjectionApplicat
 }
 
 // Applies a set: 12 or 10 where it does not read, 11 where it has findings, 8 or 9 at the first operation that fails.
-pub fn apply_projection_patch_set(state: LocalProjectionState, set: &[u8]) -> ProjectionApplication
-    ensures applied { λ r. ⌜ ((p : Projection) → Stores state p → SetBecame (r .state) (r .outcome) (applySet p (now (set .entry)))) ⌝ }
+pub fn apply_projection_patch_set(
+    state: LocalProjectionState,
+    set: &[u8],
+    edition: ProjectionPatchEdition,
+) -> ProjectionApplication
+    ensures applied { λ r. ⌜ ((p : Projection) → Stores state p → SetBecame (r .state) (r .outcome) (applySet (editionOf edition) p (now (set .entry)))) ⌝ }
     ensures kept { λ r. ⌜ KeptUnlessApplied state (r .state) (r .outcome) ⌝ }
 {
-    match quick_set::quick_check(set) {
+    match quick_set::quick_check(set, edition) {
         QuickCheck::Clean {
             patch_count: _,
             operation_count: _,
-        } => apply_readable(state, set),
+        } => apply_readable(state, set, edition),
         QuickCheck::Found => ProjectionApplication {
             state,
             outcome: ProjectionOutcome::Findings,

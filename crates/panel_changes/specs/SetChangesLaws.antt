@@ -14,7 +14,7 @@ use Rattle.spec_patch.specs.Sizes.{setBytes, projectionBindings, projectionAvai
 use Rattle.spec_lists.specs.Lists.{if_then_else_}
 use Rattle.spec_lists.specs.Bytes.{Bytes}
 use Rattle.spec_patch.specs.Patch.{Patch}
-use Rattle.spec_patch.specs.Edition.{v1}
+use Rattle.spec_patch.specs.Edition.{Edition}
 use Rattle.spec_patch.specs.Read.{patches, readSet}
 use Rattle.projection_patch.specs.ReadAnswers.{answer, anywhere}
 use Rattle.projection_patch.specs.declared.read_values.ProjectionPatchReadFault.the-variants.{OverCapacity}
@@ -158,22 +158,22 @@ fit-arguments x y z w e t =
     (and-left x (y && (z && w)) h, (and-left y (z && w) rest, (and-left z w last, and-right z w last)))
 
 -- a set that is opened is not too long
-pub opened-short : (set : List ℕ) (c : SetCursor) → openAnswer set ≡ opening.At c → length set ≤ setBytes
-opened-short set c e = go (leb (length set) setBytes) refl e
+pub opened-short : (ed : Edition) (set : List ℕ) (c : SetCursor) → openAnswer ed set ≡ opening.At c → length set ≤ setBytes
+opened-short ed set c e = go (leb (length set) setBytes) refl e
   where
-    go : (t : Bool) → leb (length set) setBytes ≡ t → (if t then answer (anywhere (λ n. n)) (λ count from. opening.At (firstCursor count from)) opening.Refused (length set) (readHeading set) else opening.Refused OverCapacity) ≡ opening.At c → length set ≤ setBytes
+    go : (t : Bool) → leb (length set) setBytes ≡ t → (if t then answer (anywhere (λ n. n)) (λ count from. opening.At (firstCursor count from)) opening.Refused (length set) (readHeading ed set) else opening.Refused OverCapacity) ≡ opening.At c → length set ≤ setBytes
     go true is e = leb-true (length set) setBytes is
     go false is e = absurd (let z : _≡_ {A = ℕ} 0 1 = cc e in omega arith)
 
 -- a readable set is opened before its first patch
-module _ (set : List ℕ) (all : Bytes set) (ps : List Patch) (readable : readSet v1 set ≡ patches ps) where
-  pub opened-at : (c : SetCursor) → openAnswer set ≡ opening.At c → AtSteps v1 set c [] ps
+module _ (ed : Edition) (set : List ℕ) (all : Bytes set) (ps : List Patch) (readable : readSet ed set ≡ patches ps) where
+  pub opened-at : (c : SetCursor) → openAnswer ed set ≡ opening.At c → AtSteps ed set c [] ps
   opened-at c e =
-      let same : firstCursor (length ps) (length (encodeHeading (length ps))) ≡ c = cc (sym (opens set all ps readable) ∙ e) in
-      subst (λ d. AtSteps v1 set d [] ps) same (at-start set all ps readable)
+      let same : firstCursor (length ps) (length (encodeHeading ed (length ps))) ≡ c = cc (sym (opens ed set all ps readable) ∙ e) in
+      subst (λ d. AtSteps ed set d [] ps) same (at-start ed set all ps readable)
 
-  pub never-unopened : (f : ProjectionPatchReadFault) → openAnswer set ≡ opening.Refused f → ⊥
-  never-unopened f e = let z : _≡_ {A = ℕ} 0 1 = cc (sym (opens set all ps readable) ∙ e) in omega arith
+  pub never-unopened : (f : ProjectionPatchReadFault) → openAnswer ed set ≡ opening.Refused f → ⊥
+  never-unopened f e = let z : _≡_ {A = ℕ} 0 1 = cc (sym (opens ed set all ps readable) ∙ e) in omega arith
 
 -- ---- what came of a run
 

@@ -9,11 +9,11 @@ ghost use Rattle.spec_lists.specs.Lists.{All};
 ghost use Rattle.spec_patch.specs.Sizes.{setBytes};
 ghost use Rattle.spec_patch.specs.Fits.{FitsPatch};
 ghost use Rattle.spec_patch.specs.Patch.{Patch};
-ghost use Rattle.spec_patch.specs.Edition.{v1};
 ghost use Rattle.spec_patch.specs.Read.{patches, readSet};
 ghost use Rattle.spec_projection.specs.Projection.{Projection};
 ghost use Rattle.spec_projection.specs.Apply.{replaySteps, applySteps};
 ghost use Rattle.spec_projection.specs.Valid.{Valid};
+ghost use Rattle.projection_patch.specs.Meaning.{editionOf};
 ghost use Rattle.patch_walk.specs.Steps.{AtSteps};
 ghost use Rattle.panel_rows.specs.Rows.{bindingBytes, availabilityBytes, entryBytes};
 ghost use Rattle.local_projection_state.specs.Stores.{StoredTables};
@@ -27,6 +27,7 @@ use panel_plan::fill;
 use panel_steps::PlanRun;
 use patch_walk::SetCursor;
 use patch_walk::SetOpening;
+use projection_patch::patch::ProjectionPatchEdition;
 use projection_patch::read_values::ProjectionPatchReadFault;
 
 // How many rows each new table has, or why the set is not applied: BadTables is a table of another length, or a count over its
@@ -96,6 +97,7 @@ fn write_tables(
     from_bindings: &[u8],
     from_entries: &[u8],
     set: &[u8],
+    edition: ProjectionPatchEdition,
     to_bindings: &mut [u8],
     to_availability: &mut [u8],
     to_entries: &mut [u8],
@@ -105,7 +107,7 @@ fn write_tables(
     ensures told { λ r. ⌜ r ≡ countsFit counts ⌝ }
     ensures kept { λ r. ⌜ (r ≡ false → (now («to_bindings» .exit) ≡ now («to_bindings» .entry)) × ((now («to_availability» .exit) ≡ now («to_availability» .entry)) × (now («to_entries» .exit) ≡ now («to_entries» .entry)))) ⌝ }
     ensures stored { λ r. ⌜ (r ≡ true → Ready used (now («to_bindings» .entry)) (now («to_availability» .entry)) (now («to_entries» .entry)) → (p x : Projection) (n : ProjectionCounts) (a : List ℕ) → StoredTables n (now («from_bindings» .entry)) a (now («from_entries» .entry)) p
-        → PlannedAs v1 p (now (set .entry)) (now («plan_bindings» .entry)) (now («plan_availability» .entry)) (now («plan_entries» .entry)) counts x → Valid x
+        → PlannedAs (editionOf edition) p (now (set .entry)) (now («plan_bindings» .entry)) (now («plan_availability» .entry)) (now («plan_entries» .entry)) counts x → Valid x
         → StoredTables counts (now («to_bindings» .exit)) (now («to_availability» .exit)) (now («to_entries» .exit)) x) ⌝ }
 {
     if counts_fit(counts) {
@@ -115,6 +117,7 @@ fn write_tables(
             used.bindings,
             from_bindings,
             set,
+            edition,
             to_bindings,
         );
         panel_writing::write_availabilities(plan_availability, to_availability);
@@ -124,6 +127,7 @@ fn write_tables(
             used.entries,
             from_entries,
             set,
+            edition,
             to_entries,
         );
         return true;
@@ -138,6 +142,7 @@ fn plan_set(
     from_entries: &[u8],
     counts: ProjectionCounts,
     set: &[u8],
+    edition: ProjectionPatchEdition,
     cursor: SetCursor,
     bindings: &mut [u8],
     availability: &mut [u8],
@@ -145,13 +150,21 @@ fn plan_set(
 ) -> PlanRun
     requires { ⌜ (length (now set) ≤ setBytes) × (length (now «from_availability») ≡ length (now availability)) ⌝ }
     ensures { λ r. ⌜ ((p : Projection) (ps : List Patch) → StoredTables counts (now («from_bindings» .entry)) (now («from_availability» .entry)) (now («from_entries» .entry)) p
-        → PlannedBindings 0 (now (bindings .entry)) [] → PlannedEntries 0 (now (entries .entry)) [] → AtSteps v1 (now (set .entry)) cursor [] ps
-        → RunBecame (PlannedAs v1 p (now (set .entry)) (now (bindings .exit)) (now (availability .exit)) (now (entries .exit))) r (applySteps p (replaySteps ps))) ⌝ }
+        → PlannedBindings 0 (now (bindings .entry)) [] → PlannedEntries 0 (now (entries .entry)) [] → AtSteps (editionOf edition) (now (set .entry)) cursor [] ps
+        → RunBecame (PlannedAs (editionOf edition) p (now (set .entry)) (now (bindings .exit)) (now (availability .exit)) (now (entries .exit))) r (applySteps p (replaySteps ps))) ⌝ }
 {
     fill::plan_bindings(from_bindings, counts.bindings, bindings);
     bytes_records::moves::copy(from_availability, availability);
     fill::plan_entries(from_entries, counts.entries, entries);
-    panel_steps::plan_steps(bindings, availability, entries, counts, set, cursor)
+    panel_steps::plan_steps(
+        bindings,
+        availability,
+        entries,
+        counts,
+        set,
+        edition,
+        cursor,
+    )
 }
 
 // Plans the operations from a cursor on, and writes the tables when all of them have run.
@@ -161,6 +174,7 @@ fn apply_from(
     from_entries: &[u8],
     counts: ProjectionCounts,
     set: &[u8],
+    edition: ProjectionPatchEdition,
     cursor: SetCursor,
     to_bindings: &mut [u8],
     to_availability: &mut [u8],
@@ -169,7 +183,7 @@ fn apply_from(
 ) -> SetChange
     requires { ⌜ (length (now set) ≤ setBytes) × ((length (now «from_availability») ≡ availabilityBytes) × (TableLengths (now «to_bindings») (now «to_availability») (now «to_entries») × (countsFit used ≡ true))) ⌝ }
     ensures changed { λ r. ⌜ ((p : Projection) (ps : List Patch) → StoredTables counts (now («from_bindings» .entry)) (now («from_availability» .entry)) (now («from_entries» .entry)) p
-        → All (FitsPatch v1) ps → AtSteps v1 (now (set .entry)) cursor [] ps → Ready used (now («to_bindings» .entry)) (now («to_availability» .entry)) (now («to_entries» .entry))
+        → All (FitsPatch (editionOf edition)) ps → AtSteps (editionOf edition) (now (set .entry)) cursor [] ps → Ready used (now («to_bindings» .entry)) (now («to_availability» .entry)) (now («to_entries» .entry))
         → ChangeBecame (λ n q. StoredTables n (now («to_bindings» .exit)) (now («to_availability» .exit)) (now («to_entries» .exit)) q) r (applySteps p (replaySteps ps))) ⌝ }
     ensures kept { λ r. ⌜ KeptUnlessApplied r (now («to_bindings» .entry)) (now («to_availability» .entry)) (now («to_entries» .entry)) (now («to_bindings» .exit)) (now («to_availability» .exit)) (now («to_entries» .exit)) ⌝ }
 {
@@ -182,6 +196,7 @@ fn apply_from(
         from_entries,
         counts,
         set,
+        edition,
         cursor,
         &mut bindings,
         &mut availability,
@@ -196,6 +211,7 @@ fn apply_from(
                 from_bindings,
                 from_entries,
                 set,
+                edition,
                 to_bindings,
                 to_availability,
                 to_entries,
@@ -230,13 +246,14 @@ pub fn apply_set<'a>(
     from_entries: &'a [u8],
     counts: ProjectionCounts,
     set: &[u8],
+    edition: ProjectionPatchEdition,
     to_bindings: &mut [u8],
     to_availability: &mut [u8],
     to_entries: &mut [u8],
     used: ProjectionCounts,
 ) -> SetChange
     ensures changed { λ r. ⌜ ((p : Projection) (ps : List Patch) → StoredTables counts (now («from_bindings» .entry)) (now («from_availability» .entry)) (now («from_entries» .entry)) p
-        → readSet v1 (now (set .entry)) ≡ patches ps → Ready used (now («to_bindings» .entry)) (now («to_availability» .entry)) (now («to_entries» .entry))
+        → readSet (editionOf edition) (now (set .entry)) ≡ patches ps → Ready used (now («to_bindings» .entry)) (now («to_availability» .entry)) (now («to_entries» .entry))
         → ChangeBecame (λ n q. StoredTables n (now («to_bindings» .exit)) (now («to_availability» .exit)) (now («to_entries» .exit)) q) r (applySteps p (replaySteps ps))) ⌝ }
     ensures kept { λ r. ⌜ KeptUnlessApplied r (now («to_bindings» .entry)) (now («to_availability» .entry)) (now («to_entries» .entry)) (now («to_bindings» .exit)) (now («to_availability» .exit)) (now («to_entries» .exit)) ⌝ }
 {
@@ -250,13 +267,14 @@ pub fn apply_set<'a>(
         counts,
         used,
     ) {
-        match patch_walk::open_set(set) {
+        match patch_walk::open_set(set, edition) {
             SetOpening::At(cursor) => apply_from(
                 from_bindings,
                 from_availability,
                 from_entries,
                 counts,
                 set,
+                edition,
                 cursor,
                 to_bindings,
                 to_availability,

@@ -1,11 +1,11 @@
 -- Numbers in a row of fields, read one after the other into an array of zeros.
-use Prim.Native.Nat.{ℕ, zero, suc, _+_, _-_, _≤_, _<_}
+use Prim.Native.Nat.{ℕ, suc, _+_, _-_, _≤_, _<_}
 use mathlib.Core.Path.{_≡_, refl, sym, ap, _∙_}
 use mathlib.Core.List.{List, [], _∷_, _++_, append-assoc, append-nil}
 use native.Mathlib.Omega.{arith}
 use lib.ListN.{length, set, replicate, length-append}
 use lib.Seq.{set-at}
-use Rattle.spec_replay.specs.Script.{Command, other, Arguments, number}
+use Rattle.spec_replay.specs.Script.{other, Arguments, number}
 use Rattle.script_parser.specs.Fields.{fieldsAfter, numbers, mostNumbers, filled, numberThen, NumberAfter}
 use Rattle.script_parser.specs.declared.fields.NumberField.{NumberField}
 use Rattle.script_parser.specs.declared.fields.NumberField.the-variants.{Number, Other}

@@ -1,22 +1,22 @@
 -- A field sought among words, and the form that the words of a line ask for.
 use Prim.Native.Nat.{ℕ, suc, _+_, _-_, _≤_, _<_}
-use mathlib.Core.Path.{_≡_, refl, sym, ap, ap₂, subst, _∙_}
-use mathlib.Core.Bool.{Bool, true, false}
-use mathlib.Core.List.{List, [], _∷_}
+use mathlib.Core.Path.{_≡_, sym, ap, ap₂, _∙_}
+use mathlib.Core.Bool.{true, false}
+use mathlib.Core.List.{List, _∷_}
 use native.Mathlib.Omega.{arith}
 use borrow.Author.Tests.{ltb-true, ltb-false}
 use lib.Dec.{eqb, ltb}
 use lib.ListN.{length, take, drop}
 use Rattle.spec_lists.specs.Lists.{equalLists}
 use Rattle.spec_lists.specs.ListLaws.{test-cases}
-use Rattle.spec_replay.specs.Lines.{space, split, prepend}
-use Rattle.spec_replay.specs.Script.{other, Arguments, readBy, given, Row, byWord, commands, fieldsCommand}
+use Rattle.spec_replay.specs.Lines.{space, split}
+use Rattle.spec_replay.specs.Script.{Arguments, readBy, Row, byWord, commands, fieldsCommand}
 use Rattle.script_parser.specs.Fields.{firstField, fieldsAfter}
 use Rattle.script_parser.specs.FieldsLaws.{fieldsAfter-drop, none-after, some-after, one-after, split-first, field-part}
 use Rattle.script_parser.specs.Words.{indexOf, wordsOf, rowAt, indexOf-most, by-index}
-use Rattle.script_parser.specs.Forms.{formArguments, noneFound, formCount, formAt}
+use Rattle.script_parser.specs.Forms.{formArguments, formCount, formAt}
 use Rattle.script_parser.specs.FormsLaws.{none-form}
-use Rattle.script_parser.specs.FormPlaces.{SecondWord, FormOf}
+use Rattle.script_parser.specs.FormPlaces.{SecondWord}
 use Rattle.script_parser.specs.declared.words.FormAt.{FormAt}
 
 -- ---- among the words from an index on

@@ -1,13 +1,14 @@
 -- The forms of commands, by number: so many numbers, a set behind them or none, and the command that they make.
-use Prim.Native.Nat.{ℕ, _+_}
+use Prim.Native.Nat.{ℕ, zero, suc, _+_}
 use mathlib.Core.Bool.{Bool, true, false}
 use mathlib.Core.List.{List, [], _∷_}
 use mathlib.Core.Option.{some}
-use lib.Dec.{eqb}
+use lib.Dec.{ltb, eqb}
 use lib.ListN.{getD}
 use Rattle.spec_lists.specs.Lists.{if_then_else_}
+use Rattle.spec_patch.specs.Sizes.{setBytes}
 use Rattle.spec_session.specs.Lifecycle.{Stimulus, activate, suspend, resume, close, noOp}
-use Rattle.spec_replay.specs.Script.{Command, session, node, binding, collection, create, apply, batch, check, list, show, valueBinding, valueNode, valueEntry, senders, wait, turn, other, Arguments, end, given, slotOf, hex}
+use Rattle.spec_replay.specs.Script.{Command, session, node, binding, collection, create, apply, batch, check, list, show, valueBinding, valueNode, valueEntry, senders, wait, turn, edition, convert, other, Arguments, end, given, atMost, numberedEdition, hex}
 use Rattle.script_parser.specs.Fields.{numbers, filled}
 
 pub record Form : Type 0 where
@@ -26,9 +27,13 @@ formArguments f = numbers (f .count) (λ ns. lastArguments f (filled (f .count) 
 abbrev pub at : List ℕ → ℕ → ℕ
 at ns i = getD ns i 0
 
+-- a number up to a bound, or any other line
+abbrev pub upTo : (bound n : ℕ) → (ℕ → Command) → Command
+upTo bound n next = given (atMost bound (some n)) next
+
 -- a number that is a slot, or any other line
 abbrev pub withSlot : ℕ → (ℕ → Command) → Command
-withSlot n next = given (slotOf (some n)) next
+withSlot = upTo 4294967295
 
 abbrev stimulusForm : Stimulus → Form
 stimulusForm s = record { count = 1; withSet = false; makes = λ ns set. apply s (at ns 0) }
@@ -37,18 +42,26 @@ stimulusForm s = record { count = 1; withSet = false; makes = λ ns set. apply s
 abbrev pub noForm : Form
 noForm = record { count = 0; withSet = false; makes = λ ns set. other }
 
--- where the forms of the second words begin, behind the first words and the place of none; and how many numbers there are
+-- where the forms of apply's words, of value's words and of the first words begin, and a place that no form has
 abbrev pub stimulusBase : ℕ
-stimulusBase = 15
+stimulusBase = 0
 
 abbrev pub valueBase : ℕ
-valueBase = 21
+valueBase = 6
 
 abbrev pub noneFound : ℕ
-noneFound = 24
+noneFound = 15
 
+abbrev pub firstBase : ℕ
+firstBase = 16
+
+-- how many first words there are
+abbrev pub firstWords : ℕ
+firstWords = 16
+
+-- a place for none stands behind them
 abbrev pub formCount : ℕ
-formCount = 25
+formCount = firstBase + firstWords + 1
 
 -- ---- the table
 
@@ -64,30 +77,46 @@ abbrev byNumber : List Numbered → ℕ → Form
 byNumber [] k = noForm
 byNumber (r ∷ rows) k = if eqb k (r .number) then r .form else byNumber rows k
 
--- first words in the order of `commands`, stimuli and values in that of their tables
-abbrev pub forms : List Numbered
-forms =
-    (0 ⇛ record { count = 5; withSet = false; makes = λ ns set. session (at ns 0) (record { stimulusBytes = at ns 1; diagnostics = at ns 2; patches = at ns 3; references = at ns 4 }) })
-    ∷ (1 ⇛ record { count = 1; withSet = false; makes = λ ns set. node (at ns 0) })
-    ∷ (2 ⇛ record { count = 2; withSet = false; makes = λ ns set. withSlot (at ns 1) (λ s. binding (record { node = at ns 0; slot = s })) })
-    ∷ (3 ⇛ record { count = 1; withSet = false; makes = λ ns set. collection (at ns 0) })
-    ∷ (4 ⇛ record { count = 0; withSet = false; makes = λ ns set. create })
-    ∷ (6 ⇛ record { count = 5; withSet = true; makes = λ ns. batch (record { session = at ns 0; sequence = at ns 1; patches = at ns 2; stimulusBytes = at ns 3 }) (at ns 4) })
-    ∷ (7 ⇛ record { count = 0; withSet = true; makes = λ ns. check })
-    ∷ (8 ⇛ record { count = 0; withSet = true; makes = λ ns. list })
-    ∷ (9 ⇛ record { count = 0; withSet = false; makes = λ ns set. show })
-    ∷ (11 ⇛ record { count = 1; withSet = false; makes = λ ns set. senders (at ns 0) })
-    ∷ (12 ⇛ record { count = 1; withSet = false; makes = λ ns set. wait (at ns 0) })
-    ∷ (13 ⇛ record { count = 0; withSet = false; makes = λ ns set. turn })
-    ∷ (15 ⇛ stimulusForm activate)
-    ∷ (16 ⇛ stimulusForm suspend)
-    ∷ (17 ⇛ stimulusForm resume)
-    ∷ (18 ⇛ stimulusForm close)
-    ∷ (19 ⇛ stimulusForm noOp)
-    ∷ (21 ⇛ record { count = 2; withSet = false; makes = λ ns set. withSlot (at ns 1) (valueBinding (at ns 0)) })
-    ∷ (22 ⇛ record { count = 1; withSet = false; makes = λ ns set. valueNode (at ns 0) })
-    ∷ (23 ⇛ record { count = 2; withSet = false; makes = λ ns set. valueEntry (at ns 0) (at ns 1) })
+-- stimuli and values in the order of their tables
+abbrev pub secondForms : List Numbered
+secondForms =
+    (0 ⇛ stimulusForm activate)
+    ∷ (1 ⇛ stimulusForm suspend)
+    ∷ (2 ⇛ stimulusForm resume)
+    ∷ (3 ⇛ stimulusForm close)
+    ∷ (4 ⇛ stimulusForm noOp)
+    ∷ (6 ⇛ record { count = 2; withSet = false; makes = λ ns set. withSlot (at ns 1) (valueBinding (at ns 0)) })
+    ∷ (7 ⇛ record { count = 1; withSet = false; makes = λ ns set. valueNode (at ns 0) })
+    ∷ (8 ⇛ record { count = 2; withSet = false; makes = λ ns set. valueEntry (at ns 0) (at ns 1) })
+    ∷ []
+
+-- first words in the order of `commands`
+abbrev pub firstForms : List Numbered
+firstForms =
+    (16 ⇛ record { count = 5; withSet = false; makes = λ ns set. session (at ns 0) (record { stimulusBytes = at ns 1; diagnostics = at ns 2; patches = at ns 3; references = at ns 4 }) })
+    ∷ (17 ⇛ record { count = 1; withSet = false; makes = λ ns set. node (at ns 0) })
+    ∷ (18 ⇛ record { count = 2; withSet = false; makes = λ ns set. withSlot (at ns 1) (λ s. binding (record { node = at ns 0; slot = s })) })
+    ∷ (19 ⇛ record { count = 1; withSet = false; makes = λ ns set. collection (at ns 0) })
+    ∷ (20 ⇛ record { count = 0; withSet = false; makes = λ ns set. create })
+    ∷ (22 ⇛ record { count = 5; withSet = true; makes = λ ns. batch (record { session = at ns 0; sequence = at ns 1; patches = at ns 2; stimulusBytes = at ns 3 }) (at ns 4) })
+    ∷ (23 ⇛ record { count = 0; withSet = true; makes = λ ns. check })
+    ∷ (24 ⇛ record { count = 0; withSet = true; makes = λ ns. list })
+    ∷ (25 ⇛ record { count = 0; withSet = false; makes = λ ns set. show })
+    ∷ (27 ⇛ record { count = 1; withSet = false; makes = λ ns set. senders (at ns 0) })
+    ∷ (28 ⇛ record { count = 1; withSet = false; makes = λ ns set. wait (at ns 0) })
+    ∷ (29 ⇛ record { count = 0; withSet = false; makes = λ ns set. turn })
+    ∷ (30 ⇛ record { count = 1; withSet = false; makes = λ ns set. given (numberedEdition (some (at ns 0))) edition })
+    ∷ (31 ⇛ record { count = 1; withSet = true; makes = λ ns set. upTo setBytes (at ns 0) (λ room. convert room set) })
     ∷ []
 
 unfoldable pub formAt : ℕ → Form
-formAt k = byNumber forms k
+formAt k = byNumber (if ltb k firstBase then secondForms else firstForms) k
+
+-- how many numbers a form takes, and 16 more where it has a set
+abbrev pub shapeOf : Form → ℕ
+shapeOf f = f .count + (if f .withSet then 16 else 0)
+
+-- the shapes of so many forms from a number on
+abbrev pub shapesFrom : ℕ → ℕ → List ℕ
+shapesFrom k zero = []
+shapesFrom k (suc n) = shapeOf (formAt k) ∷ shapesFrom (suc k) n

@@ -1,19 +1,21 @@
 -- The forms are the arguments of spec_replay's tables.
-use Prim.Native.Nat.{ℕ, zero, suc, _+_, _≤_, _<_}
-use mathlib.Core.Path.{_≡_, refl, sym, ap, _∙_}
+use Prim.Native.Nat.{ℕ, zero, suc, _+_, _%_, _≤_, _<_}
+use mathlib.Core.Path.{_≡_, refl, sym, ap, subst, _∙_}
 use mathlib.Core.Bool.{Bool, true, false, not, _&&_}
 use mathlib.Core.List.{List, [], _∷_}
 use mathlib.Core.Option.{Option, none, some}
 use native.Mathlib.Omega.{arith}
-use lib.Dec.{eqb, leb, ltb}
+use lib.Dec.{eqb, leb}
 use lib.ListN.{getD}
-use borrow.Author.Tests.{eqb-true, eqb-false, leb-true, le-leb, lt-leb}
+use borrow.Author.Tests.{eqb-true, eqb-false, leb-true, le-leb, lt-leb, ne-eqb}
+use Rattle.spec_lists.specs.Lists.{if_then_else_, any}
 use Rattle.spec_lists.specs.ListLaws.{and-left, and-right, test-cases}
 use Rattle.spec_decimal.specs.Decimal.{readDecimal}
-use Rattle.spec_replay.specs.Script.{Command, other, apply, Arguments, end, given, readBy, number, slotOf, slot, Row, stimuli, sessionArguments, bindingArguments, applyArguments, batchArguments, valueBindingArguments, valueEntryArguments, values, valueArguments, commands}
+use Rattle.spec_replay.specs.Hex.{readHex}
+use Rattle.spec_replay.specs.Script.{Command, edition, other, apply, Arguments, end, given, readBy, number, atMost, slot, numberedEdition, hex, stimuli, sessionArguments, bindingArguments, batchArguments, convertArguments, valueBindingArguments, valueEntryArguments, values, commands}
 use Rattle.script_parser.specs.Fields.{mostNumbers}
 use Rattle.script_parser.specs.Words.{rowAt}
-use Rattle.script_parser.specs.Forms.{formArguments, withSlot, noForm, stimulusBase, valueBase, formCount, formAt}
+use Rattle.script_parser.specs.Forms.{formArguments, upTo, noForm, stimulusBase, valueBase, firstBase, firstWords, formCount, formAt, shapeOf, shapesFrom}
 
 -- no form takes no fields
 pub none-form : (fs : List (List ℕ)) → other ≡ formArguments noForm fs
@@ -21,46 +23,97 @@ unfolding end
 none-form [] = refl
 none-form (f ∷ fs) = refl
 
--- ---- slots
+-- ---- a number that is tested: the test may come when the line is read
 
--- a slot in the last field is a number that is tested
-slot-last : (next : ℕ → Command) (fs : List (List ℕ)) → slot (λ s. end (next s)) fs ≡ number (λ n. end (given (slotOf (some n)) next)) fs
-unfolding readBy given slotOf end
-slot-last next [] = refl
-slot-last next (f ∷ fs) = by-number (readDecimal f) fs
-  where
-    tested : (o : Option ℕ) (gs : List (List ℕ)) → given o (λ s. end (next s) gs) ≡ end (given o next) gs
-    tested none [] = refl
-    tested none (g ∷ gs) = refl
-    tested (some s) gs = refl
+module _ {A : Type 0} (test : Option ℕ → Option A) (no-number : test none ≡ none) where
+  number-first : (next : A → Arguments) (fs : List (List ℕ)) → readBy (λ f. test (readDecimal f)) next fs ≡ number (λ n gs. given (test (some n)) (λ a. next a gs)) fs
+  unfolding readBy given
+  number-first next [] = refl
+  number-first next (f ∷ fs) = by-number (readDecimal f)
+    where
+      by-number : (x : Option ℕ) → given (test x) (λ a. next a fs) ≡ given x (λ n. given (test (some n)) (λ a. next a fs))
+      by-number none = rw no-number
+      by-number (some n) = refl
 
-    by-number : (x : Option ℕ) (gs : List (List ℕ)) → given (slotOf x) (λ s. end (next s) gs) ≡ given x (λ n. end (given (slotOf (some n)) next) gs)
-    by-number none gs = refl
-    by-number (some n) gs = tested (slotOf (some n)) gs
+  -- the last field
+  tested-last : (next : A → Command) (fs : List (List ℕ)) → readBy (λ f. test (readDecimal f)) (λ a. end (next a)) fs ≡ number (λ n. end (given (test (some n)) next)) fs
+  unfolding given
+  tested-last next fs = number-first (λ a. end (next a)) fs ∙ (λ i. number (λ n gs. at-end (test (some n)) gs i) fs)
+    where
+      at-end : (o : Option A) (gs : List (List ℕ)) → given o (λ a. end (next a) gs) ≡ end (given o next) gs
+      at-end none gs = none-form gs
+      at-end (some a) gs = refl
 
-number-and-slot : (next : ℕ → ℕ → Command) (fs : List (List ℕ)) → number (λ n. slot (λ s. end (next n s))) fs ≡ number (λ n. number (λ s. end (given (slotOf (some s)) (next n)))) fs
-number-and-slot next fs = λ i. number (λ n gs. slot-last (next n) gs i) fs
+  -- a set behind it
+  tested-with-set : (next : A → List ℕ → Command) (fs : List (List ℕ))
+      → readBy (λ f. test (readDecimal f)) (λ a. hex (λ set. end (next a set))) fs ≡ number (λ n. hex (λ set. end (given (test (some n)) (λ a. next a set)))) fs
+  unfolding given readBy
+  tested-with-set next fs = number-first (λ a. hex (λ set. end (next a set))) fs ∙ (λ i. number (λ n gs. at-set (test (some n)) gs i) fs)
+    where
+      no-set : (x : Option (List ℕ)) (gs : List (List ℕ)) → other ≡ given x (λ set. end other gs)
+      no-set none gs = refl
+      no-set (some set) gs = none-form gs
+
+      at-set : (o : Option A) (gs : List (List ℕ)) → given o (λ a. hex (λ set. end (next a set)) gs) ≡ hex (λ set. end (given o (λ a. next a set))) gs
+      at-set none [] = refl
+      at-set none (g ∷ gs) = no-set (readHex g) gs
+      at-set (some a) gs = refl
+
+number-and-slot : (next : ℕ → ℕ → Command) (fs : List (List ℕ)) → number (λ n. slot (λ s. end (next n s))) fs ≡ number (λ n. number (λ s. end (upTo 4294967295 s (next n)))) fs
+unfolding atMost
+number-and-slot next fs = λ i. number (λ n gs. tested-last (atMost 4294967295) refl (next n) gs i) fs
 
 -- ---- the tables
 
-pub first-form : (k : ℕ) → k ≤ 14 → (k ≡ 5 → ⊥) → (k ≡ 10 → ⊥) → (fs : List (List ℕ)) → rowAt (λ a. a) commands k fs ≡ formArguments (formAt k) fs
-unfolding commands formAt sessionArguments bindingArguments batchArguments
-first-form zero h a b fs = refl
-first-form (suc zero) h a b fs = refl
-first-form (suc (suc zero)) h a b fs = number-and-slot _ fs
-first-form (suc (suc (suc zero))) h a b fs = refl
-first-form (suc (suc (suc (suc zero)))) h a b fs = refl
-first-form (suc (suc (suc (suc (suc zero))))) h a b fs = absurd (a refl)
-first-form (suc (suc (suc (suc (suc (suc zero)))))) h a b fs = refl
-first-form (suc (suc (suc (suc (suc (suc (suc zero))))))) h a b fs = refl
-first-form (suc (suc (suc (suc (suc (suc (suc (suc zero)))))))) h a b fs = refl
-first-form (suc (suc (suc (suc (suc (suc (suc (suc (suc zero))))))))) h a b fs = refl
-first-form (suc (suc (suc (suc (suc (suc (suc (suc (suc (suc zero)))))))))) h a b fs = absurd (b refl)
-first-form (suc (suc (suc (suc (suc (suc (suc (suc (suc (suc (suc zero))))))))))) h a b fs = refl
-first-form (suc (suc (suc (suc (suc (suc (suc (suc (suc (suc (suc (suc zero)))))))))))) h a b fs = refl
-first-form (suc (suc (suc (suc (suc (suc (suc (suc (suc (suc (suc (suc (suc zero))))))))))))) h a b fs = refl
-first-form (suc (suc (suc (suc (suc (suc (suc (suc (suc (suc (suc (suc (suc (suc zero)))))))))))))) h a b fs = none-form fs
-first-form (suc (suc (suc (suc (suc (suc (suc (suc (suc (suc (suc (suc (suc (suc (suc k))))))))))))))) h a b fs = absurd (omega arith)
+-- a property of each number from one on
+abbrev Each : (ℕ → Type 0) → ℕ → ℕ → Type 0
+Each P from zero = Unit {0}
+Each P from (suc n) = P from × Each P (suc from) n
+
+infixr 20 _also_
+abbrev _also_ : {A B : Type 0} → A → B → A × B
+a also b = (a, b)
+
+pick : (P : ℕ → Type 0) (from n : ℕ) → Each P from n → (k : ℕ) → from ≤ k → k < from + n → P k
+pick P from zero all k h m = absurd (omega arith)
+pick P from (suc n) all k h m =
+    test-cases (eqb k from) (λ t. subst P (sym (eqb-true k from t)) (all .0))
+    (λ t. let other-one : k ≡ from → ⊥ = eqb-false k from t in pick P (suc from) n (all .1) k (omega arith) (omega arith))
+
+-- the first words of the second tables
+abbrev pub applyWord : ℕ
+applyWord = 5
+
+abbrev pub valueWord : ℕ
+valueWord = 10
+
+-- the row of a first word is its form, if no second word follows
+abbrev FirstRow : ℕ → Type 0
+FirstRow k = (k ≡ applyWord → ⊥) → (k ≡ valueWord → ⊥) → (fs : List (List ℕ)) → rowAt (λ a. a) commands k fs ≡ formArguments (formAt (firstBase + k)) fs
+
+pub first-form : (k : ℕ) → k ≤ firstWords → FirstRow k
+unfolding commands formAt atMost numberedEdition sessionArguments bindingArguments batchArguments convertArguments
+first-form k h =
+    pick FirstRow 0 (firstWords + 1)
+    ((λ a b fs. refl)
+    also (λ a b fs. refl)
+    also (λ a b fs. number-and-slot _ fs)
+    also (λ a b fs. refl)
+    also (λ a b fs. refl)
+    also (λ a b fs. absurd (a refl))
+    also (λ a b fs. refl)
+    also (λ a b fs. refl)
+    also (λ a b fs. refl)
+    also (λ a b fs. refl)
+    also (λ a b fs. absurd (b refl))
+    also (λ a b fs. refl)
+    also (λ a b fs. refl)
+    also (λ a b fs. refl)
+    also (λ a b fs. tested-last numberedEdition refl _ fs)
+    also (λ a b fs. tested-with-set (atMost 32768) refl _ fs)
+    also (λ a b fs. none-form fs)
+    also tt)
+    k (omega arith) (omega arith)
 
 pub stimulus-form : (j : ℕ) → j ≤ 5 → (fs : List (List ℕ)) → rowAt (λ s. number (λ n. end (apply s n))) stimuli j fs ≡ formArguments (formAt (stimulusBase + j)) fs
 unfolding stimuli formAt
@@ -103,28 +156,61 @@ alike-true true b e = sym e
 alike-true false true e = e
 alike-true false false e = refl
 
--- batch, check and list have a set
-pub set-forms : (k : ℕ) → k < formCount → (leb 6 k && ltb k 9) ≡ formAt k .withSet
+shape-at : (from n i : ℕ) → i < n → getD (shapesFrom from n) i 0 ≡ shapeOf (formAt (i + from))
+shape-at from zero i h = absurd (omega arith)
+shape-at from (suc n) zero h = let same : from ≡ 0 + from = omega arith in ap (λ (k : ℕ). shapeOf (formAt k)) same
+shape-at from (suc n) (suc i) h =
+    let same : i + suc from ≡ suc i + from = omega arith in
+    shape-at (suc from) n i (omega arith) ∙ ap (λ (k : ℕ). shapeOf (formAt k)) same
+
+module _ (k : ℕ) (h : k < formCount) where
+  own-shape : getD (shapesFrom 0 formCount) k 0 ≡ shapeOf (formAt k)
+  own-shape = let same : k + 0 ≡ k = omega arith in shape-at 0 formCount k h ∙ ap (λ (n : ℕ). shapeOf (formAt n)) same
+
+  few-numbers : formAt k .count ≤ mostNumbers
+  unfolding formAt
+  few-numbers = leb-true _ _ (rule (λ i. leb (formAt i .count) mostNumbers) formCount k refl h)
+
+  -- a shape tells how many numbers the form takes, and whether it has a set
+  pub counted-forms : (getD (shapesFrom 0 formCount) k 0 % 16 ≡ formAt k .count) × (getD (shapesFrom 0 formCount) k 0 % 16 ≤ mostNumbers)
+  counted-forms = rw own-shape (by-set (formAt k .withSet) few-numbers)
+    where
+      by-set : {n : ℕ} (b : Bool) → n ≤ mostNumbers → ((n + (if b then 16 else 0)) % 16 ≡ n) × ((n + (if b then 16 else 0)) % 16 ≤ mostNumbers)
+      by-set true few = (omega arith, omega arith)
+      by-set false few = (omega arith, omega arith)
+
+  pub set-forms : leb 16 (getD (shapesFrom 0 formCount) k 0) ≡ formAt k .withSet
+  set-forms = rw own-shape (by-set (formAt k .withSet) few-numbers)
+    where
+      by-set : {n : ℕ} (b : Bool) → n ≤ mostNumbers → leb 16 (n + (if b then 16 else 0)) ≡ b
+      by-set {n} true few = le-leb 16 (n + 16) (omega arith)
+      by-set {n} false few = lt-leb 16 (n + 0) (omega arith)
+
+-- the forms with a set
+abbrev pub setForms : List ℕ
+setForms = 22 ∷ 23 ∷ 24 ∷ 31 ∷ []
+
+pub sets-listed : (k : ℕ) → k < formCount → any (eqb k) setForms ≡ formAt k .withSet
 unfolding formAt
-set-forms k h = alike-true _ _ (rule (λ i. alike (leb 6 i && ltb i 9) (formAt i .withSet)) formCount k refl h)
+sets-listed k h = alike-true _ _ (rule (λ i. alike (any (eqb i) setForms) (formAt i .withSet)) formCount k refl h)
 
--- how many numbers each form has, as a list
-abbrev pub numberCounts : List ℕ
-numberCounts = 5 ∷ 1 ∷ 2 ∷ 1 ∷ 0 ∷ 0 ∷ 5 ∷ 0 ∷ 0 ∷ 0 ∷ 0 ∷ 1 ∷ 1 ∷ 0 ∷ 0 ∷ 1 ∷ 1 ∷ 1 ∷ 1 ∷ 1 ∷ 0 ∷ 2 ∷ 1 ∷ 2 ∷ 0 ∷ []
+-- ---- tests of a number
 
-pub counted-forms : (k : ℕ) → k < formCount → (getD numberCounts k 0 ≡ formAt k .count) × (getD numberCounts k 0 ≤ mostNumbers)
-unfolding formAt
-counted-forms k h = (
-  eqb-true _ _ (rule (λ i. eqb (getD numberCounts i 0) (formAt i .count)) formCount k refl h),
-  leb-true _ _ (rule (λ i. leb (getD numberCounts i 0) mostNumbers) formCount k refl h),
-)
+module _ (bound n : ℕ) (next : ℕ → Command) where
+  pub fits-bound : n ≤ bound → next n ≡ upTo bound n next
+  unfolding atMost given
+  fits-bound h = rw (le-leb n bound h)
 
--- ---- slots
+  pub exceeds-bound : bound < n → other ≡ upTo bound n next
+  unfolding atMost given
+  exceeds-bound h = rw (lt-leb n bound h)
 
-pub slot-fits : (n : ℕ) (next : ℕ → Command) → n ≤ 4294967295 → next n ≡ withSlot n next
-unfolding slotOf given
-slot-fits n next h = rw (le-leb n 4294967295 h)
+-- no set makes a command of any other line
+pub other-with-set : (x : Option (List ℕ)) → other ≡ given x (λ set. other)
+unfolding given
+other-with-set none = refl
+other-with-set (some set) = refl
 
-pub slot-exceeds : (n : ℕ) (next : ℕ → Command) → 4294967295 < n → other ≡ withSlot n next
-unfolding slotOf given
-slot-exceeds n next h = rw (lt-leb n 4294967295 h)
+pub no-edition : (n : ℕ) → (n ≡ 1 → ⊥) → (n ≡ 2 → ⊥) → other ≡ given (numberedEdition (some n)) edition
+unfolding given numberedEdition
+no-edition n h k = rw (ne-eqb n 1 h, ne-eqb n 2 k)

@@ -6,14 +6,15 @@ use Rattle.spec_session.specs.Batch.{BatchEnvelope}
 use Rattle.spec_replay.specs.Script as script
 use Rattle.spec_replay.specs.Hex.{readHex}
 use Rattle.spec_replay.specs.Script.{Command, given}
+use Rattle.projection_patch.specs.Meaning.{editionOf}
 use Rattle.session_lifecycle.specs.Meaning.{limitsOf, stimulusOf}
 use Rattle.script_parser.specs.declared.BatchLine.{BatchLine}
 use Rattle.script_parser.specs.declared.SetupLine.{SetupLine}
 use Rattle.script_parser.specs.declared.SetupLine.the-variants.{Session, Node, Binding, Collection}
 use Rattle.script_parser.specs.declared.CallLine.{CallLine}
-use Rattle.script_parser.specs.declared.CallLine.the-variants.{Create, Apply, Show, ValueBinding, ValueNode, ValueEntry, Senders, Wait, Turn}
+use Rattle.script_parser.specs.declared.CallLine.the-variants.{Create, Apply, Show, ValueBinding, ValueNode, ValueEntry, Senders, Wait, Turn, Edition}
 use Rattle.script_parser.specs.declared.SetLine.{SetLine}
-use Rattle.script_parser.specs.declared.SetLine.the-variants.{Batch, Check, List as Listed}
+use Rattle.script_parser.specs.declared.SetLine.the-variants.{Batch, Check, List as Listed, Convert}
 use Rattle.script_parser.specs.declared.ScriptCommand.{ScriptCommand}
 use Rattle.script_parser.specs.declared.ScriptCommand.the-variants.{Nothing, Setup, Call, WithSet, Other}
 
@@ -40,11 +41,13 @@ callOf (ValueEntry c k) = script.valueEntry c k
 callOf (Senders n) = script.senders n
 callOf (Wait s) = script.wait s
 callOf Turn = script.turn
+callOf (Edition ed) = script.edition (editionOf ed)
 
 abbrev pub withSetOf : SetLine → List ℕ → Command
 withSetOf (Batch b) = script.batch (envelopeOf b) (b .«target_references»)
 withSetOf Check = script.check
 withSetOf Listed = script.list
+withSetOf (Convert room) = script.convert room
 
 abbrev pub commandOf : List ℕ → ScriptCommand → Command
 commandOf line Nothing = script.nothing

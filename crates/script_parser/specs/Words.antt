@@ -1,13 +1,13 @@
 -- Tables of words: a field is sought among them, and its number tells the meaning.
 use Prim.Native.Nat.{ℕ, suc, _≤_}
-use mathlib.Core.Path.{_≡_, refl, _∙_}
+use mathlib.Core.Path.{_≡_, refl}
 use mathlib.Core.List.{List, [], _∷_, map}
 use native.Mathlib.Omega.{arith}
 use lib.Dec.{eqb}
 use lib.ListN.{length, getD}
 use Rattle.spec_lists.specs.Lists.{if_then_else_, equalLists}
 use Rattle.spec_lists.specs.ListLaws.{test-cases}
-use Rattle.spec_replay.specs.Script.{Command, other, Arguments, given, Row, byWord}
+use Rattle.spec_replay.specs.Script.{other, Arguments, given, Row, byWord}
 
 -- how many words stand before the field; all of them where it is none
 unfoldable pub indexOf : List ℕ → List (List ℕ) → ℕ

@@ -5,6 +5,8 @@ use crate::ScriptCommand;
 use crate::SetLine;
 use crate::SetupLine;
 use crate::fields::NumberFields;
+use crate::words::FormAt;
+use projection_patch::patch::ProjectionPatchEdition;
 use session_lifecycle::lifecycle::ShellLifecycleCommand;
 use session_lifecycle::lifecycle::ShellLifecycleStimulus;
 use session_lifecycle::lifecycle::ShellTransitionInput;
@@ -12,39 +14,51 @@ use session_lifecycle::state::ShellLifecycleLimits;
 ghost use mathlib.Core.Path.{_≡_};
 ghost use mathlib.Core.Bool.{true, false};
 ghost use mathlib.Core.List.{List, []};
+ghost use mathlib.Core.Option.{some};
 ghost use Prim.Native.Nat.{ℕ, _<_, _≤_};
+ghost use Rattle.spec_patch.specs.Sizes.{setBytes};
 ghost use Rattle.spec_replay.specs.Script as script;
+ghost use Rattle.spec_replay.specs.Script.{given, numberedEdition};
 ghost use Rattle.session_lifecycle.specs.Meaning.{stimulusOf};
 ghost use Rattle.script_parser.specs.Fields.{mostNumbers};
-ghost use Rattle.script_parser.specs.Forms.{withSlot, formCount, formAt};
-ghost use Rattle.script_parser.specs.Meaning.{withSetOf, commandOf};
+ghost use Rattle.script_parser.specs.Forms.{upTo, withSlot, firstBase, formCount, formAt};
+ghost use Rattle.script_parser.specs.Meaning.{setFrom, commandOf};
 
-// In the order of the tables of words, with a place for none behind each.
-const NUMBERS: [usize; 25] = [
+// How many numbers each form takes, and 0x10 more where a set stands behind them. The second words stand before the first, each table in its
+// own order with a place for none behind it.
+const SHAPES: [usize; 33] = [
+    1,
+    1,
+    1,
+    1,
+    1,
+    0,
+    2,
+    1,
+    2,
+    0,
+    0,
+    0,
+    0,
+    0,
+    0,
+    0,
     5,
     1,
     2,
     1,
     0,
     0,
-    5,
-    0,
-    0,
-    0,
-    0,
-    1,
-    1,
+    0x15,
+    0x10,
+    0x10,
     0,
     0,
     1,
     1,
-    1,
-    1,
-    1,
     0,
-    2,
     1,
-    2,
+    0x11,
     0,
 ];
 
@@ -52,19 +66,16 @@ pub(crate) fn number_count(form: usize) -> usize
     requires { ⌜ form < formCount ⌝ }
     ensures { λ r. ⌜ (r ≡ formAt form .count) × (r ≤ mostNumbers) ⌝ }
 {
-    let numbers = NUMBERS;
-    numbers[form]
+    let shapes = SHAPES;
+    shapes[form] % 0x10
 }
 
-// batch, check and list
 pub(crate) fn has_set(form: usize) -> bool
     requires { ⌜ form < formCount ⌝ }
-    ensures { λ r. ⌜ (r ≡ formAt form .withSet) × (r ≡ true → (6 ≤ form) × (form < 9)) ⌝ }
+    ensures { λ r. ⌜ r ≡ formAt form .withSet ⌝ }
 {
-    if form < 6 {
-        return false;
-    }
-    form < 9
+    let shapes = SHAPES;
+    0x10 <= shapes[form]
 }
 
 fn binding(node: u64, slot: u64) -> ScriptCommand
@@ -96,15 +107,59 @@ fn lifecycle_step(command: ShellLifecycleCommand, bytes: u64) -> ScriptCommand
     }))
 }
 
-// The command of a form without a set.
-pub(crate) fn command_of(form: usize, values: [u64; NumberFields::MOST]) -> ScriptCommand
-    requires { ⌜ formAt form .withSet ≡ false ⌝ }
+fn edition(number: u64) -> ScriptCommand
+    ensures { λ r. ⌜ ((line : List ℕ) → commandOf line r ≡ given (numberedEdition (some number)) script.edition) ⌝ }
+{
+    match number {
+        1 => ScriptCommand::Call(CallLine::Edition(ProjectionPatchEdition::V1)),
+        2 => ScriptCommand::Call(CallLine::Edition(ProjectionPatchEdition::V2)),
+        _ => ScriptCommand::Other,
+    }
+}
+
+// No more room is lent than a set may have bytes.
+fn conversion(room: u64, from: usize) -> ScriptCommand
+    ensures { λ r. ⌜ ((line : List ℕ) → commandOf line r ≡ setFrom line from (λ set. upTo setBytes room (λ n. script.convert n set))) ⌝ }
+{
+    if room <= 32768 {
+        ScriptCommand::WithSet(SetLine::Convert(room as usize), from)
+    } else {
+        ScriptCommand::Other
+    }
+}
+
+// The command of a form of a second word.
+fn second_command(form: usize, values: [u64; NumberFields::MOST]) -> ScriptCommand
+    requires { ⌜ form < firstBase ⌝ }
     ensures { λ r. ⌜ ((line : List ℕ) → commandOf line r ≡ formAt form .makes values []) ⌝ }
 {
     let first = values[0];
     let second = values[1];
     match form {
-        0 => ScriptCommand::Setup(SetupLine::Session(
+        0 => lifecycle_step(ShellLifecycleCommand::Activate, first),
+        1 => lifecycle_step(ShellLifecycleCommand::Suspend, first),
+        2 => lifecycle_step(ShellLifecycleCommand::Resume, first),
+        3 => lifecycle_step(ShellLifecycleCommand::Close, first),
+        4 => ScriptCommand::Call(CallLine::Apply(ShellTransitionInput {
+            stimulus: ShellLifecycleStimulus::ExplicitNoOp,
+            stimulus_bytes: first,
+        })),
+        6 => value_binding(first, second),
+        7 => ScriptCommand::Call(CallLine::ValueNode(first)),
+        8 => ScriptCommand::Call(CallLine::ValueEntry(first, second)),
+        _ => ScriptCommand::Other,
+    }
+}
+
+// The command of a form of a first word, which has no set.
+fn first_command(form: usize, values: [u64; NumberFields::MOST]) -> ScriptCommand
+    requires { ⌜ (firstBase ≤ form) × (formAt form .withSet ≡ false) ⌝ }
+    ensures { λ r. ⌜ ((line : List ℕ) → commandOf line r ≡ formAt form .makes values []) ⌝ }
+{
+    let first = values[0];
+    let second = values[1];
+    match form {
+        16 => ScriptCommand::Setup(SetupLine::Session(
             first,
             ShellLifecycleLimits {
                 max_transition_stimulus_bytes: second,
@@ -113,43 +168,55 @@ pub(crate) fn command_of(form: usize, values: [u64; NumberFields::MOST]) -> Scri
                 max_target_references_per_transition: values[4],
             },
         )),
-        1 => ScriptCommand::Setup(SetupLine::Node(first)),
-        2 => binding(first, second),
-        3 => ScriptCommand::Setup(SetupLine::Collection(first)),
-        4 => ScriptCommand::Call(CallLine::Create),
-        9 => ScriptCommand::Call(CallLine::Show),
-        11 => ScriptCommand::Call(CallLine::Senders(first)),
-        12 => ScriptCommand::Call(CallLine::Wait(first)),
-        13 => ScriptCommand::Call(CallLine::Turn),
-        15 => lifecycle_step(ShellLifecycleCommand::Activate, first),
-        16 => lifecycle_step(ShellLifecycleCommand::Suspend, first),
-        17 => lifecycle_step(ShellLifecycleCommand::Resume, first),
-        18 => lifecycle_step(ShellLifecycleCommand::Close, first),
-        19 => ScriptCommand::Call(CallLine::Apply(ShellTransitionInput {
-            stimulus: ShellLifecycleStimulus::ExplicitNoOp,
-            stimulus_bytes: first,
-        })),
-        21 => value_binding(first, second),
-        22 => ScriptCommand::Call(CallLine::ValueNode(first)),
-        23 => ScriptCommand::Call(CallLine::ValueEntry(first, second)),
+        17 => ScriptCommand::Setup(SetupLine::Node(first)),
+        18 => binding(first, second),
+        19 => ScriptCommand::Setup(SetupLine::Collection(first)),
+        20 => ScriptCommand::Call(CallLine::Create),
+        25 => ScriptCommand::Call(CallLine::Show),
+        27 => ScriptCommand::Call(CallLine::Senders(first)),
+        28 => ScriptCommand::Call(CallLine::Wait(first)),
+        29 => ScriptCommand::Call(CallLine::Turn),
+        30 => edition(first),
         _ => ScriptCommand::Other,
     }
 }
 
-// What a form asks for with its set.
-pub(crate) fn set_line(form: usize, values: [u64; NumberFields::MOST]) -> SetLine
-    requires { ⌜ (6 ≤ form) × (form < 9) ⌝ }
-    ensures { λ r. ⌜ withSetOf r ≡ formAt form .makes values ⌝ }
+// The command of a form without a set.
+pub(crate) fn command_of(form: usize, values: [u64; NumberFields::MOST]) -> ScriptCommand
+    requires { ⌜ formAt form .withSet ≡ false ⌝ }
+    ensures { λ r. ⌜ ((line : List ℕ) → commandOf line r ≡ formAt form .makes values []) ⌝ }
 {
+    if form < FormAt::FIRST {
+        second_command(form, values)
+    } else {
+        first_command(form, values)
+    }
+}
+
+// The command of a form with a set, whose hex starts at an index of the line.
+pub(crate) fn set_command(
+    form: usize,
+    values: [u64; NumberFields::MOST],
+    from: usize,
+) -> ScriptCommand
+    requires { ⌜ (form < formCount) × (formAt form .withSet ≡ true) ⌝ }
+    ensures { λ r. ⌜ ((line : List ℕ) → commandOf line r ≡ setFrom line from (formAt form .makes values)) ⌝ }
+{
+    let first = values[0];
     match form {
-        6 => SetLine::Batch(BatchLine {
-            session_id: values[0],
-            sequence_no: values[1],
-            patch_count: values[2],
-            stimulus_bytes: values[3],
-            target_references: values[4],
-        }),
-        7 => SetLine::Check,
-        _ => SetLine::List,
+        22 => ScriptCommand::WithSet(
+            SetLine::Batch(BatchLine {
+                session_id: first,
+                sequence_no: values[1],
+                patch_count: values[2],
+                stimulus_bytes: values[3],
+                target_references: values[4],
+            }),
+            from,
+        ),
+        23 => ScriptCommand::WithSet(SetLine::Check, from),
+        24 => ScriptCommand::WithSet(SetLine::List, from),
+        31 => conversion(first, from),
+        _ => ScriptCommand::Other,
     }
 }

@@ -6,6 +6,7 @@ mod words;
 use bytes_hex::Decoded;
 use fields::HexField;
 use fields::NumberFields;
+use projection_patch::patch::ProjectionPatchEdition;
 use session_lifecycle::lifecycle::ShellTransitionInput;
 use session_lifecycle::state::ShellLifecycleLimits;
 ghost use mathlib.Core.Path.{_≡_};
@@ -36,7 +37,7 @@ pub enum SetupLine {
     Collection(u64),
 }
 
-// A line that calls the session or the senders' turns, or makes one of these.
+// A line that calls the session or the senders' turns, or makes one of these; or the edition of the sets from here on.
 pub enum CallLine {
     Create,
     Apply(ShellTransitionInput),
@@ -47,13 +48,15 @@ pub enum CallLine {
     Senders(u64),
     Wait(u64),
     Turn,
+    Edition(ProjectionPatchEdition),
 }
 
-// What a line asks for with its set.
+// What a line asks for with its set; a conversion into so many bytes.
 pub enum SetLine {
     Batch(BatchLine),
     Check,
     List,
+    Convert(usize),
 }
 
 // What a line asks for. WithSet holds where the hex of the set starts in the line; such a line is Other if that is no hex.
@@ -82,7 +85,7 @@ fn last_fields(
 {
     if forms::has_set(form) {
         return match fields::last_hex(line, end) {
-            HexField::From(from) => ScriptCommand::WithSet(forms::set_line(form, values), from),
+            HexField::From(from) => forms::set_command(form, values, from),
             HexField::Other => ScriptCommand::Other,
         };
     }

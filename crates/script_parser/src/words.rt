@@ -5,7 +5,6 @@ ghost use mathlib.Core.Path.{_≡_};
 ghost use Prim.Native.Nat.{_+_, _≤_};
 ghost use lib.ListN.{length};
 ghost use Rattle.spec_replay.specs.Lines.{space, split};
-ghost use Rattle.spec_replay.specs.Script.{fieldsCommand};
 ghost use Rattle.script_parser.specs.Words.{indexOf};
 ghost use Rattle.script_parser.specs.Forms.{formCount};
 ghost use Rattle.script_parser.specs.FormPlaces.{SecondWord, FormOf};
@@ -17,12 +16,14 @@ pub struct FormAt {
 }
 
 impl FormAt {
-    // Where the forms of apply's words and of value's words begin, and what is no form.
-    const STIMULI: usize = 15;
+    // Where the forms of apply's words, of value's words and of the first words begin, and what is no form.
+    const STIMULI: usize = 0;
 
-    const VALUES: usize = 21;
+    const VALUES: usize = 6;
 
-    const NONE: usize = 24;
+    const NONE: usize = 15;
+
+    pub(crate) const FIRST: usize = 16;
 }
 
 // The number of the field among words that are parted by spaces: that of all of them where it is none.
@@ -70,7 +71,7 @@ pub(crate) fn find_form(line: &[u8]) -> FormAt
 {
     let end = field_end(line, 0);
     let first = word_index(
-        b"session node binding collection create apply batch check list show value senders wait turn",
+        b"session node binding collection create apply batch check list show value senders wait turn edition convert",
         &line[0..end],
     );
     if first == 5 {
@@ -85,7 +86,7 @@ pub(crate) fn find_form(line: &[u8]) -> FormAt
         return second_form(line, end, b"binding node entry", FormAt::VALUES);
     }
     FormAt {
-        form: first,
+        form: FormAt::FIRST + first,
         end: end,
     }
 }

@@ -7,7 +7,7 @@ use lib.Dec.{leb, eqb}
 use lib.ListN.{length, length-append}
 use Rattle.spec_lists.specs.Lists.{if_then_else_, isEmpty}
 use Rattle.spec_patch.specs.Patch.{Patch}
-use Rattle.spec_patch.specs.Edition.{v1}
+use Rattle.spec_patch.specs.Edition.{Edition}
 use Rattle.spec_patch.specs.Reader.{Fault}
 use Rattle.spec_patch.specs.Read.{SetReading, patches, fault, readSet}
 use Rattle.spec_checks.specs.Findings.{findings}
@@ -104,33 +104,33 @@ module _ (s : Session) (nodes bindings collections : List ℕ) (lent : Lent (s .
         go true = counts-are
         go false = refl
 
-  checks-are : (set : List ℕ) → erased (batchChecks s e declared set) ≡ (preflightBy (s .id) (s .limits) (s .lifecycle) e >> answer (readSet v1 set))
+  checks-are : (ed : Edition) (set : List ℕ) → erased (batchChecks ed s e declared set) ≡ (preflightBy (s .id) (s .limits) (s .lifecycle) e >> answer (readSet ed set))
   unfolding batchChecks preflightBy inspectionBy inspectedBy
-  checks-are set =
-      let rest = answer (readSet v1 set) in
-      let reading = erased-reading (readSet v1 set) _ answer patches-are (λ k. ap (λ m. refuse (ofReading m) 1) (sym (fault-back k))) in
+  checks-are ed set =
+      let rest = answer (readSet ed set) in
+      let reading = erased-reading (readSet ed set) _ answer patches-are (λ k. ap (λ m. refuse (ofReading m) 1) (sym (fault-back k))) in
       erased-then own _
       ∙ ap (λ c. own >> c) (erased-then open′ _ ∙ ap (λ c. open′ >> c) (erased-then within _ ∙ ap (λ c. within >> c) reading) ∙ sym (then-assoc open′ within rest))
       ∙ sym (then-assoc own (open′ >> within) rest)
 
 -- ---- by what the code sees of a session
 
-module _ (id : ℕ) (limits : ShellLifecycleLimits) (state : ShellLocalState) (nodes bindings collections : List ℕ) (e : BatchEnvelope) (declared : ℕ) (set : List ℕ) where
+module _ (ed : Edition) (id : ℕ) (limits : ShellLifecycleLimits) (state : ShellLocalState) (nodes bindings collections : List ℕ) (e : BatchEnvelope) (declared : ℕ) (set : List ℕ) where
   abbrev behind : Check (Unit {0})
-  behind = inspectionBy (limitsOf limits) (cursorOf (state .«replay_cursor»)) e declared (inspectionAnswer nodes bindings collections (readSet v1 set))
+  behind = inspectionBy (limitsOf limits) (cursorOf (state .«replay_cursor»)) e declared (inspectionAnswer nodes bindings collections (readSet ed set))
 
   abbrev stepsSeen : Check (Unit {0})
   stepsSeen = preflightBy id (limitsOf limits) (lifecycleOf (state .lifecycle)) e >> behind
 
-  steps-are : (s : Session) → Seen s id limits state nodes bindings collections → stepsSeen ≡ erased (batchChecks s e declared set)
+  steps-are : (s : Session) → Seen s id limits state nodes bindings collections → stepsSeen ≡ erased (batchChecks ed s e declared set)
   steps-are s seen =
-      let i = inspectionAnswer nodes bindings collections (readSet v1 set) in
+      let i = inspectionAnswer nodes bindings collections (readSet ed set) in
       (λ j. preflightBy (seen .id-is j) (seen .limits-are j) (seen .lifecycle-is j) e >> inspectionBy (seen .limits-are j) (seen .cursor-is j) e declared i)
-      ∙ sym (checks-are s nodes bindings collections (seen .anchors-are) e declared set)
+      ∙ sym (checks-are s nodes bindings collections (seen .anchors-are) e declared ed set)
 
   -- an answer by these steps is that of the batch, its count fits, and the preflight's refusal decides
   abbrev ByBatch : Check (Unit {0}) → Type 0
-  ByBatch answer = ((s : Session) → Seen s id limits state nodes bindings collections → answer ≡ erased (batchChecks s e declared set))
+  ByBatch answer = ((s : Session) → Seen s id limits state nodes bindings collections → answer ≡ erased (batchChecks ed s e declared set))
       × ((gates.counted answer ≡ true) × Decides (preflightBy id (limitsOf limits) (lifecycleOf (state .lifecycle)) e) answer)
 
   by-steps : (answer : Check (Unit {0})) → answer ≡ stepsSeen → ByBatch answer
@@ -139,7 +139,7 @@ module _ (id : ℕ) (limits : ShellLifecycleLimits) (state : ShellLocalState) (n
   pub preflight-refused : (r : SessionRefusal) (n : ℕ) → refuse r n ≡ preflightBy id (limitsOf limits) (lifecycleOf (state .lifecycle)) e → ByBatch (refuse r n)
   preflight-refused r n h = by-steps (refuse r n) (ap (λ c. c >> behind) h)
 
-  pub preflight-passed : (answer : Check (Unit {0})) → pass tt ≡ preflightBy id (limitsOf limits) (lifecycleOf (state .lifecycle)) e → (i : SetInspection) → i ≡ inspectionAnswer nodes bindings collections (readSet v1 set)
+  pub preflight-passed : (answer : Check (Unit {0})) → pass tt ≡ preflightBy id (limitsOf limits) (lifecycleOf (state .lifecycle)) e → (i : SetInspection) → i ≡ inspectionAnswer nodes bindings collections (readSet ed set)
       → answer ≡ inspectionBy (limitsOf limits) (cursorOf (state .«replay_cursor»)) e declared i → ByBatch answer
   preflight-passed answer h i told is = by-steps answer (is ∙ ap (inspectionBy (limitsOf limits) (cursorOf (state .«replay_cursor»)) e declared) told ∙ ap (λ c. c >> behind) h)
 

@@ -5,6 +5,7 @@ use crate::gates::BatchGate;
 use crate::gates::OrderedProjectionPatchBatchEnvelope;
 use check_quick::inspection;
 use check_quick::inspection::SetInspection;
+use projection_patch::patch::ProjectionPatchEdition;
 use projection_patch::read_values::ProjectionPatchReadFault;
 use session_lifecycle::diagnostics::ShellRefusal;
 use session_lifecycle::state::ProjectionReplayCursor;
@@ -15,6 +16,7 @@ ghost use mathlib.Core.Bool.{true};
 ghost use Rattle.spec_session.specs.Session.{Session};
 ghost use Rattle.spec_session.specs.Diagnostics.{ofReading};
 ghost use Rattle.spec_session.specs.Batch.{batchChecks};
+ghost use Rattle.projection_patch.specs.Meaning.{editionOf};
 ghost use Rattle.projection_patch.specs.ReadAnswers.{faultOf};
 ghost use Rattle.session_lifecycle.specs.Meaning.{refusalOf, lifecycleOf, cursorOf, limitsOf};
 ghost use Rattle.session_gates.specs.Gates.{gateOf, envelopeMeans, preflightBy, targetsBy, inspectionBy, erased, counted, Decides};
@@ -85,9 +87,10 @@ pub fn check_batch(
     envelope: OrderedProjectionPatchBatchEnvelope,
     declared: u64,
     set: &[u8],
+    edition: ProjectionPatchEdition,
 ) -> BatchGate
     ensures checked { λ r. ⌜ ((s : Session) → Seen s id limits state (now (nodes .entry)) (now (bindings .entry)) (now (collections .entry))
-        → gateOf r ≡ erased (batchChecks s (envelopeMeans envelope) declared (now (set .entry)))) ⌝ }
+        → gateOf r ≡ erased (batchChecks (editionOf edition) s (envelopeMeans envelope) declared (now (set .entry)))) ⌝ }
     ensures whatever { λ r. ⌜ counted (gateOf r) ≡ true ⌝ }
     ensures preflight { λ r. ⌜ Decides (preflightBy id (limitsOf limits) (lifecycleOf (state .lifecycle)) (envelopeMeans envelope)) (gateOf r) ⌝ }
 {
@@ -96,7 +99,7 @@ pub fn check_batch(
     match gates::evaluate_preflight(id, limits, lifecycle, envelope) {
         BatchGate::Refused(refusal, logical) => BatchGate::Refused(refusal, logical),
         BatchGate::Passed => {
-            let inspected = inspection::inspect_set(set, nodes, bindings, collections);
+            let inspected = inspection::inspect_set(set, edition, nodes, bindings, collections);
             check_inspection(limits, cursor, envelope, declared, inspected)
         }
     }

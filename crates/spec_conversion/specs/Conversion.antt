@@ -1,11 +1,11 @@
 -- Converting a set into another edition: 02, 'Job 13'. The patch list stays, and only the edition changes that it is written in.
 use Prim.Native.Nat.{ℕ}
-use mathlib.Core.Bool.{Bool}
+use mathlib.Core.Bool.{Bool, true, false, not}
 use mathlib.Core.List.{List}
 use lib.Dec.{leb}
 use lib.ListN.{length}
 use Rattle.spec_lists.specs.Lists.{if_then_else_}
-use Rattle.spec_patch.specs.Patch.{Value, Patch}
+use Rattle.spec_patch.specs.Patch.{Value, quad, signed, text, unsigned, score, Patch}
 use Rattle.spec_patch.specs.Edition.{Edition, v1, v2, hasKind}
 use Rattle.spec_patch.specs.Encode.{kindOf, encode}
 use Rattle.spec_patch.specs.Reader as reader
@@ -39,9 +39,13 @@ pub data Converted : Type 0 where
   converted : List ℕ → Converted
   refused : ConversionRefusal → Converted
 
--- every value of a list is of a kind that the edition has
+-- the edition has the value's kind
+abbrev pub kindIn : Edition → Value → Bool
+kindIn ed v = hasKind ed (kindOf v)
+
+-- and that of every value of a list
 unfoldable pub allKinds : Edition → List Patch → Bool
-allKinds ed ps = allValues (λ (v : Value). hasKind ed (kindOf v)) ps
+allKinds ed ps = allValues (kindIn ed) ps
 
 -- the canonical bytes of what was read, into an output of so many places: 18 comes before 14
 unfoldable pub rewritten : Edition → ℕ → SetReading → Converted
@@ -58,3 +62,15 @@ convertTo from to set room = rewritten to room (readSet from set)
 -- a set of an edition into the other
 unfoldable pub convert : Edition → List ℕ → ℕ → Converted
 convert from set room = convertTo from (otherEdition from) set room
+
+-- ---- what is asked of a set on the way to the first edition: that no value is a score
+
+unfoldable pub isScore : Value → Bool
+isScore (quad q) = false
+isScore (signed z) = false
+isScore (text t) = false
+isScore (unsigned x) = false
+isScore (score n) = true
+
+unfoldable pub withoutScores : List Patch → Bool
+withoutScores ps = allValues (λ (v : Value). not (isScore v)) ps

@@ -1,7 +1,7 @@
 -- Conversions at their ends, 02, 'Job 13': one table of computed tests, and sets that the theorems are about.
 use Prim.Native.Nat.{ℕ, _≤_}
 use mathlib.Core.Path.{_≡_, refl}
-use mathlib.Core.Bool.{Bool, true, false, _&&_}
+use mathlib.Core.Bool.{Bool, true, false, not, _&&_}
 use mathlib.Core.List
 use mathlib.Core.List.{List, [], _∷_, _++_}
 use mathlib.Core.Option.{none}
@@ -21,7 +21,7 @@ use Rattle.spec_patch.specs.Reader
 use Rattle.spec_patch.specs.Read
 use Rattle.spec_patch.specs.Write
 use Rattle.spec_conversion.specs.Conversion
-use Rattle.spec_conversion.specs.Conversion.{Converted, converted, refused, conversionNumber, convert}
+use Rattle.spec_conversion.specs.Conversion.{Converted, converted, refused, conversionNumber, convert, withoutScores}
 use Rattle.spec_conversion.specs.ConversionLaws.{Convertible, converts-exactly}
 
 -- every definition that the tests compute through
@@ -73,6 +73,8 @@ unfolding
     Rattle.spec_conversion.specs.Conversion.rewritten
     Rattle.spec_conversion.specs.Conversion.convertTo
     Rattle.spec_conversion.specs.Conversion.convert
+    Rattle.spec_conversion.specs.Conversion.isScore
+    Rattle.spec_conversion.specs.Conversion.withoutScores
 opened = tt
 
 -- ---- what the instances are made of
@@ -129,8 +131,12 @@ unreadOnes =
 pub shortOutputs : Bool
 shortOutputs = refuses v1 (encode v1 []) 34 14 && refuses v2 (encode v2 (ending (quad N))) 0 14
 
-pub conversions-hold : T (all (λ (b : Bool). b) (bothWays ∷ scoresMissing ∷ unreadOnes ∷ shortOutputs ∷ []))
-unfolding bothWays scoresMissing unreadOnes shortOutputs ending numberOf gives refuses opened
+-- the lists of both are told apart
+pub scoresSeen : Bool
+scoresSeen = withoutScores (ending (quad N)) && not (withoutScores (ending (score 0)))
+
+pub conversions-hold : T (all (λ (b : Bool). b) (bothWays ∷ scoresMissing ∷ unreadOnes ∷ shortOutputs ∷ scoresSeen ∷ []))
+unfolding bothWays scoresMissing unreadOnes shortOutputs scoresSeen ending numberOf gives refuses opened
 conversions-hold = tt
 
 -- ---- the theorems, met by a set of each edition

@@ -2,7 +2,7 @@
 -- a set that is read, has no value of a kind that is missing, and finds room; and it changes one letter.
 use Prim.Native.Nat.{ℕ, _+_, _≤_}
 use mathlib.Core.Path.{_≡_, refl, sym, ap, ap₂, subst, _∙_}
-use mathlib.Core.Bool.{Bool, true, false, _&&_, _||_, false≢true}
+use mathlib.Core.Bool.{Bool, true, false, not, _&&_, _||_, false≢true}
 use mathlib.Core.List.{List, [], _∷_, _++_, append-assoc}
 use mathlib.Core.Logic.{_↔_}
 use native.Mathlib.Omega.{arith}
@@ -14,7 +14,7 @@ use Rattle.spec_lists.specs.Lists.{if_then_else_, all, any}
 use Rattle.spec_lists.specs.ListLaws.{and-left, and-right, drop-behind}
 use Rattle.spec_lists.specs.Bytes.{Bytes}
 use Rattle.spec_lists.specs.BytesLaws.{length-littleEndian}
-use Rattle.spec_patch.specs.Patch.{Value, Operation, setBinding, setAvailability, insert, update, remove, move, Patch}
+use Rattle.spec_patch.specs.Patch.{Value, quad, signed, text, unsigned, score, Operation, setBinding, setAvailability, insert, update, remove, move, Patch}
 use Rattle.spec_patch.specs.Edition.{Edition, v1, v2, digit, letters, addedKinds, kinds, hasKind}
 use Rattle.spec_patch.specs.Encode.{u32, kindOf, encodeCounted, encodePatch, heading, encode}
 use Rattle.spec_patch.specs.Fits.{Fits}
@@ -23,7 +23,7 @@ use Rattle.spec_patch.specs.Read.{SetReading, patches, fault, readSet}
 use Rattle.spec_patch.specs.SetLaws.{reads-back, was-encoded}
 use Rattle.spec_patch.specs.Write.{valuePasses, allValues, allowedValue, wellFormed, withinCapacities}
 use Rattle.spec_patch.specs.WriteLaws.{fits-of-tests, capacities-of-fits, well-formed-of-fits, few-of-fits, fits-in-range}
-use Rattle.spec_conversion.specs.Conversion.{otherEdition, ConversionRefusal, kindMissing, outputTooShort, unread, Converted, converted, refused, allKinds, rewritten, convertTo, convert}
+use Rattle.spec_conversion.specs.Conversion.{otherEdition, ConversionRefusal, kindMissing, outputTooShort, unread, Converted, converted, refused, kindIn, allKinds, rewritten, convertTo, convert, isScore, withoutScores}
 
 -- ---- tests of every value
 
@@ -71,10 +71,14 @@ module _ (ed : Edition) where
   unfolding heading letters
   length-heading = simp (length-append, length-littleEndian)
 
+  -- a set that is read has a heading
+  pub heading-within : (set : List ℕ) (ps : List Patch) → Bytes set → readSet ed set ≡ patches ps → 31 ≤ length set
+  heading-within set ps all-bytes r = omega (arith, ap length (was-encoded ed set ps all-bytes r .0), length-encode ed ps, length-heading)
+
   -- a list that fits has values of the edition's kinds
   fits-kinds : (ps : List Patch) → Fits ed ps → allKinds ed ps ≡ true
   unfolding allKinds wellFormed
-  fits-kinds ps h = let formed = well-formed-of-fits ed ps h in values-both (wellFormed ed) (wellFormed ed) (λ (v : Value). hasKind ed (kindOf v)) (λ v a b. and-left (hasKind ed (kindOf v)) (allowedValue v) a) ps formed formed
+  fits-kinds ps h = let formed = well-formed-of-fits ed ps h in values-both (wellFormed ed) (wellFormed ed) (kindIn ed) (λ v a b. and-left (hasKind ed (kindOf v)) (allowedValue v) a) ps formed formed
 
 module _ (from to : Edition) where
   same-length : (ps : List Patch) → length (encode to ps) ≡ length (encode from ps)
@@ -94,7 +98,7 @@ module _ (from to : Edition) where
   fits-other : (ps : List Patch) → Fits from ps → allKinds to ps ≡ true → Fits to ps
   unfolding allKinds wellFormed withinCapacities
   fits-other ps h k =
-      let formed = values-both (wellFormed from) (λ (v : Value). hasKind to (kindOf v)) (wellFormed to) (λ v a b. rw b (and-right (hasKind from (kindOf v)) (allowedValue v) a)) ps (well-formed-of-fits from ps h) k in
+      let formed = values-both (wellFormed from) (kindIn to) (wellFormed to) (λ v a b. rw b (and-right (hasKind from (kindOf v)) (allowedValue v) a)) ps (well-formed-of-fits from ps h) k in
       let within : withinCapacities to ps ≡ true = rw (same-length ps) (capacities-of-fits from ps h) in
       fits-of-tests to ps (fits-in-range from ps h) within formed (few-of-fits from ps h)
 
@@ -155,6 +159,10 @@ module _ (from to : Edition) where
       rw (c .reads, c .kinds, room-enough)
 
 module _ (from to : Edition) (set : List ℕ) (all-bytes : Bytes set) where
+  -- what is read is as long in any edition
+  pub length-other : (ps : List Patch) → readSet from set ≡ patches ps → length (encode to ps) ≡ length set
+  length-other ps r = same-length from to ps ∙ sym (ap length (was-encoded from set ps all-bytes r .0))
+
   -- it succeeds exactly where the set is read, no value is of a kind that is missing, and there is room
   pub converts-exactly : (room : ℕ) → ((bs : List ℕ) × (convertTo from to set room ≡ converted bs)) ↔ Convertible from to set room
   converts-exactly room = (there, λ c. (encode to (c .list), converts from to set room all-bytes c))
@@ -214,7 +222,7 @@ among-more (x ∷ l) m k e = go (eqb k x) e (among-more l m k)
 -- the second edition has the kinds of the first
 more-kinds : (ps : List Patch) → allKinds v1 ps ≡ true → allKinds v2 ps ≡ true
 unfolding allKinds hasKind kinds addedKinds
-more-kinds ps h = values-both (λ (v : Value). hasKind v1 (kindOf v)) (λ (v : Value). hasKind v1 (kindOf v)) (λ (v : Value). hasKind v2 (kindOf v)) (λ v a b. among-more (kinds v1) (addedKinds v2) (kindOf v) a) ps h h
+more-kinds ps h = values-both (kindIn v1) (kindIn v1) (kindIn v2) (λ v a b. among-more (kinds v1) (addedKinds v2) (kindOf v) a) ps h h
 
 -- every set of the first edition that is read is converted, given room
 pub first-converts : (set : List ℕ) (ps : List Patch) → Bytes set → readSet v1 set ≡ patches ps → (room : ℕ) → length set ≤ room → convert v1 set room ≡ converted (encode v2 ps)
@@ -222,3 +230,29 @@ unfolding convert otherEdition
 first-converts set ps all-bytes r room enough =
     let fits = was-encoded v1 set ps all-bytes r .1 in
     converts v1 v2 set room all-bytes (record { list = ps; reads = r; kinds = more-kinds ps (fits-kinds v1 ps fits); enough = enough })
+
+-- the first edition has every kind but scores
+kinds-but-scores : (v : Value) → kindIn v1 v ≡ not (isScore v)
+unfolding isScore kindOf hasKind kinds addedKinds
+kinds-but-scores (quad q) = refl
+kinds-but-scores (signed z) = refl
+kinds-but-scores (text t) = refl
+kinds-but-scores (unsigned x) = refl
+kinds-but-scores (score n) = refl
+
+first-kinds : (ps : List Patch) → allKinds v1 ps ≡ withoutScores ps
+unfolding allKinds withoutScores
+first-kinds ps =
+    let same : kindIn v1 ≡ (λ (v : Value). not (isScore v)) = λ i v. kinds-but-scores v i in
+    ap (λ (test : Value → Bool). allValues test ps) same
+
+-- a set of the second edition that is read is converted where no score occurs, given room
+pub second-converts : (set : List ℕ) (ps : List Patch) → Bytes set → readSet v2 set ≡ patches ps → withoutScores ps ≡ true → (room : ℕ) → length set ≤ room → convert v2 set room ≡ converted (encode v1 ps)
+unfolding convert otherEdition
+second-converts set ps all-bytes r none room enough =
+    converts v2 v1 set room all-bytes (record { list = ps; reads = r; kinds = first-kinds ps ∙ none; enough = enough })
+
+-- and is 18 where one does, whatever the room
+pub scores-refused : (set : List ℕ) (ps : List Patch) → readSet v2 set ≡ patches ps → withoutScores ps ≡ false → (room : ℕ) → convert v2 set room ≡ refused kindMissing
+unfolding convert otherEdition convertTo rewritten
+scores-refused set ps r some room = rw (r, first-kinds ps ∙ some)

@@ -19,6 +19,7 @@ use Rattle.spec_turns.specs.Turns as turns
 use Rattle.spec_turns.specs.Turns.{SetUp, setUpNumber, RegisterAnswer, registered, registerRefused, registerNumber, TurnAnswer, nobody, turnOf}
 use Rattle.spec_decimal.specs.Decimal.{decimal}
 use Rattle.spec_listing.specs.Listing.{fields, valueFields}
+use Rattle.spec_replay.specs.Hex.{hexField}
 use Rattle.spec_replay.specs.Script.{ascii}
 
 -- ---- fields

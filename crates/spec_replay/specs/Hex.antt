@@ -1,8 +1,8 @@
 -- Bytes in lower-case hex.
-use Prim.Native.Nat.{ℕ, _+_, _-_, _*_}
-use mathlib.Core.List.{List, [], _∷_}
+use Prim.Native.Nat.{ℕ, _+_, _-_, _*_, _/_, _%_}
+use mathlib.Core.List.{List, [], _∷_, flatMap}
 use mathlib.Core.Option.{Option, none, some}
-use lib.Dec.{eqb}
+use lib.Dec.{ltb, eqb}
 use Rattle.spec_lists.specs.Lists.{if_then_else_, between, equalLists}
 use Rattle.spec_decimal.specs.Decimal.{isDigit}
 unfoldable pub use Rattle.spec_listing.specs.Split.{cons}
@@ -27,3 +27,18 @@ hexPairs (h ∷ l ∷ rest) = cons (hexByte (hexDigit h) (hexDigit l)) (hexPairs
 unfoldable pub readHex : List ℕ → Option (List ℕ)
 readHex [] = none
 readHex (b ∷ bs) = if equalLists eqb (b ∷ bs) (45 ∷ []) then some [] else hexPairs (b ∷ bs)
+
+-- ---- printed
+
+-- the character of a digit from 0 to 15
+unfoldable pub hexCharacter : ℕ → ℕ
+hexCharacter d = if ltb d 10 then 48 + d else 87 + d
+
+-- two characters, the higher digit first
+unfoldable pub bytePair : ℕ → List ℕ
+bytePair b = hexCharacter (b / 16) ∷ hexCharacter (b % 16) ∷ []
+
+-- the pairs of all bytes, or the character - for no bytes
+unfoldable pub hexField : List ℕ → List ℕ
+hexField [] = 45 ∷ []
+hexField (b ∷ bs) = flatMap bytePair (b ∷ bs)

@@ -1,5 +1,6 @@
 pub mod Lines
 pub mod Hex
+pub mod HexLaws
 pub mod Script
 pub mod Answers
 pub mod Replay

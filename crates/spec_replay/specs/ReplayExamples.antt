@@ -9,9 +9,10 @@ use Rattle.spec_lists.specs.Lists.{all, equalLists}
 use Rattle.spec_lists.specs.Bytes.{littleEndian, numberOf}
 use Rattle.spec_decimal.specs.Decimal.{digits, decimal, isNumeral, numberWith, readDecimal}
 use Rattle.spec_patch.specs.Edition.{v1, digit, letters}
-use Rattle.spec_patch.specs.Encode.{heading}
+use Rattle.spec_patch.specs.Encode.{heading, encodeCounted, encode}
 use Rattle.spec_patch.specs.Reader.{faultNumber, many, literal}
 use Rattle.spec_patch.specs.Read.{readPatch, readPatches, ended, readSet}
+use Rattle.spec_patch.specs.Write.{allValues}
 use Rattle.spec_checks.specs.SetChecks.{afterFindings, rawSetFindings, setFindings}
 use Rattle.spec_checks.specs.Findings.{firstFindings, findings}
 use Rattle.spec_checks.specs.Finding.{checkEach}
@@ -23,12 +24,13 @@ use Rattle.spec_session.specs.Session.{closed, at, newSession, anchorsFit, crea
 use Rattle.spec_session.specs.Diagnostics.{diagnosticsOf}
 use Rattle.spec_session.specs.Lifecycle.{transition, dispositionOf, stateOf, withLifecycle, rejectLifecycle, enterLifecycle, lifecycleStep}
 use Rattle.spec_session.specs.Batch.{require, readable, absentTargets, knownTargets, batchChecks, rejectBatch, keepSession, candidate, commit, concludeBatch, batch}
+use Rattle.spec_conversion.specs.Conversion.{otherEdition, conversionNumber, unread, allKinds, rewritten, convertTo, convert}
 use Rattle.spec_turns.specs.Turns.{newTurns, setUp, refuseRegister, startWaiting, register, after, firstAsked, firstWaiting, nextSender, numberAfter, spendTurn, turnFor, turn}
 use Rattle.spec_listing.specs.Listing.{fields, recordCount, projectionLines, refusalLine, outcomeLines, readingLines, listing}
 use Rattle.spec_replay.specs.Lines.{prepend, split}
-use Rattle.spec_replay.specs.Hex.{hexDigit, hexByte, cons, hexPairs, readHex}
-use Rattle.spec_replay.specs.Script.{ascii, end, given, readBy, atMost, numberedEdition, byWord, stimuli, sessionArguments, bindingArguments, applyArguments, batchArguments, valueBindingArguments, valueEntryArguments, values, valueArguments, commands, fieldsCommand, isRemark, command}
-use Rattle.spec_replay.specs.Answers.{dispositionField, lifecycleField, cursorField, placeField, sessionFields, creationLine, lifecycleLine, batchLine, checkedLine, checkLines, availabilityLine, setUpLine, registerLine, turnLine, noSessionLine, otherLine}
+use Rattle.spec_replay.specs.Hex.{hexDigit, hexByte, cons, hexPairs, readHex, hexCharacter, bytePair, hexField}
+use Rattle.spec_replay.specs.Script.{ascii, end, given, readBy, atMost, numberedEdition, byWord, stimuli, sessionArguments, bindingArguments, applyArguments, batchArguments, convertArguments, valueBindingArguments, valueEntryArguments, values, valueArguments, commands, fieldsCommand, isRemark, command}
+use Rattle.spec_replay.specs.Answers.{dispositionField, lifecycleField, cursorField, placeField, sessionFields, creationLine, lifecycleLine, batchLine, checkedLine, checkLines, availabilityLine, setUpLine, registerLine, turnLine, conversionLine, noSessionLine, otherLine}
 use Rattle.spec_replay.specs.Replay.{State, noAnchors, start, keep, withSetup, withAnchors, withNode, withBinding, withSession, withTurns, withEdition, asked, askedTurns, created, applied, batched, settled, registered, turned, replayLine, replayLines, commandsOf, replayFrom, replay}
 
 prints : String → String → Bool
@@ -75,6 +77,11 @@ examples =
     "K\t10\nK\t0\tset\t0\nK\t10\n"
     ∷ prints "edition 2\nsession 7 100 4 8 8\ncreate\ncheck 1b00000055495f444e41325f50524f4a454354494f4e5f50415443485f563200000000\n" "S\t0\nK\t0\tset\t0\n"
     ∷ prints "edition 3\n" "?\t1\n"
+    -- conversion from the edition in force to the other; the empty set has 35 bytes
+    ∷ prints "convert 35 1b00000055495f444e41325f50524f4a454354494f4e5f50415443485f563100000000\nedition 2\nconvert 32768 1b00000055495f444e41325f50524f4a454354494f4e5f50415443485f563200000000\n"
+    "T\t0\t1b00000055495f444e41325f50524f4a454354494f4e5f50415443485f563200000000\nT\t0\t1b00000055495f444e41325f50524f4a454354494f4e5f50415443485f563100000000\n"
+    ∷ prints "convert 34 1b00000055495f444e41325f50524f4a454354494f4e5f50415443485f563100000000\nconvert 35 1b00000055495f444e41325f50524f4a454354494f4e5f50415443485f563200000000\nconvert 0 -\n" "T\t14\nT\t10\nT\t10\n"
+    ∷ prints "convert 32769 -\n" "?\t1\n"
     -- any other line ends the replay
     ∷ prints "create \nshow\n" "?\t1\n"
     ∷ prints "node 01\n" "?\t1\n"
@@ -98,9 +105,10 @@ unfolding examples prints closedAt printsAt
     transition dispositionOf stateOf withLifecycle rejectLifecycle enterLifecycle lifecycleStep
     require readable absentTargets knownTargets batchChecks rejectBatch keepSession candidate commit concludeBatch batch
     newTurns setUp refuseRegister startWaiting register after firstAsked firstWaiting nextSender numberAfter spendTurn turnFor turn
+    encodeCounted encode allValues otherEdition conversionNumber unread allKinds rewritten convertTo convert
     fields recordCount projectionLines refusalLine outcomeLines readingLines listing
-    prepend split hexDigit hexByte cons hexPairs readHex end given readBy atMost numberedEdition byWord stimuli sessionArguments bindingArguments applyArguments batchArguments
+    prepend split hexDigit hexByte cons hexPairs readHex hexCharacter bytePair hexField end given readBy atMost numberedEdition byWord stimuli sessionArguments bindingArguments applyArguments batchArguments convertArguments
     valueBindingArguments valueEntryArguments values valueArguments commands fieldsCommand isRemark command
-    dispositionField lifecycleField cursorField placeField sessionFields creationLine lifecycleLine batchLine checkedLine checkLines availabilityLine setUpLine registerLine turnLine noSessionLine otherLine
+    dispositionField lifecycleField cursorField placeField sessionFields creationLine lifecycleLine batchLine checkedLine checkLines availabilityLine setUpLine registerLine turnLine conversionLine noSessionLine otherLine
     noAnchors start keep withSetup withAnchors withNode withBinding withSession withTurns withEdition asked askedTurns created applied batched settled registered turned replayLine replayLines commandsOf replayFrom replay
 replay-examples = tt

@@ -1,4 +1,4 @@
-// The list that a set stands for, whose texts stay in the set.
+// The list that a set of an edition stands for, whose texts stay in the set.
 use patch_sets::PatchHeadRead;
 use projection_patch::contract_primitives::Epoch;
 use projection_patch::contract_primitives::Revision;
@@ -8,6 +8,7 @@ use projection_patch::patch::OperationPlace;
 use projection_patch::patch::OptionalSurfaceId;
 use projection_patch::patch::ProjectionNodeAvailability;
 use projection_patch::patch::ProjectionPatch;
+use projection_patch::patch::ProjectionPatchEdition;
 use projection_patch::patch::ProjectionPatchEnvelope;
 use projection_patch::patch::ProjectionPatchId;
 use projection_patch::patch::ProjectionPatchOperation;
@@ -64,6 +65,7 @@ fn moved_value(value: ProjectionPatchValue, by: usize) -> ProjectionPatchValue {
         ProjectionPatchValue::Quad(_) => value,
         ProjectionPatchValue::SignedScalar(_) => value,
         ProjectionPatchValue::UnsignedScalar(_) => value,
+        ProjectionPatchValue::Score(_) => value,
     }
 }
 
@@ -100,7 +102,12 @@ fn moved(operation: ProjectionPatchOperation, by: usize) -> ProjectionPatchOpera
 }
 
 // Reads so many operations behind those that were read.
-fn with_operations(before: ListRead, set: &[u8], count: usize) -> ListRead {
+fn with_operations(
+    before: ListRead,
+    set: &[u8],
+    count: usize,
+    edition: ProjectionPatchEdition,
+) -> ListRead {
     let mut list = before.list;
     let mut operations = list.operations;
     let mut used = before.used;
@@ -113,7 +120,7 @@ fn with_operations(before: ListRead, set: &[u8], count: usize) -> ListRead {
         if ProjectionPatchSet::PLACES <= used {
             return before;
         }
-        match read_operations::read_operation(&set[at..]) {
+        match read_operations::read_operation(&set[at..], edition) {
             OperationRead::Read(operation, taken) => {
                 operations[used] = OperationPlace {
                     operation: moved(operation, at),
@@ -137,7 +144,12 @@ fn with_operations(before: ListRead, set: &[u8], count: usize) -> ListRead {
 }
 
 // Reads the patch behind those that were read.
-fn with_patch(before: ListRead, set: &[u8], index: usize) -> ListRead {
+fn with_patch(
+    before: ListRead,
+    set: &[u8],
+    index: usize,
+    edition: ProjectionPatchEdition,
+) -> ListRead {
     let mut next = before;
     next.is_read = false;
     let at = before.at;
@@ -155,18 +167,23 @@ fn with_patch(before: ListRead, set: &[u8], index: usize) -> ListRead {
             list.patches = patches;
             next.list = list;
             next.at = num::wrapping_add_usize(at, taken);
-            with_operations(next, set, head.operation_count)
+            with_operations(next, set, head.operation_count, edition)
         }
         PatchHeadRead::Refused(_) => next,
     }
 }
 
 // Reads so many patches behind the heading.
-fn with_patches(heading: ListRead, set: &[u8], count: usize) -> ListRead {
+fn with_patches(
+    heading: ListRead,
+    set: &[u8],
+    count: usize,
+    edition: ProjectionPatchEdition,
+) -> ListRead {
     let mut read = heading;
     let mut index = 0;
     while index < count {
-        read = with_patch(read, set, index);
+        read = with_patch(read, set, index, edition);
         if !read.is_read {
             return read;
         }
@@ -175,7 +192,7 @@ fn with_patches(heading: ListRead, set: &[u8], count: usize) -> ListRead {
     read
 }
 
-pub(crate) fn list_of(set: &[u8]) -> ListRead {
+pub(crate) fn list_of(set: &[u8], edition: ProjectionPatchEdition) -> ListRead {
     let mut read = ListRead {
         list: ProjectionPatchSet {
             patch_count: 0,
@@ -186,14 +203,14 @@ pub(crate) fn list_of(set: &[u8]) -> ListRead {
         at: 0,
         is_read: false,
     };
-    match patch_sets::read_heading(set) {
+    match patch_sets::read_heading(set, edition) {
         CountRead::Read(count, at) => {
             let mut list = read.list;
             list.patch_count = count;
             read.list = list;
             read.at = at;
             read.is_read = true;
-            with_patches(read, set, count)
+            with_patches(read, set, count, edition)
         }
         CountRead::Refused(_) => read,
     }

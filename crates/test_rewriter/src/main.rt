@@ -1,5 +1,6 @@
-// Reads sets from standard input, one to a line in lower-case hex, makes of each the list that it stands for, and writes that list. What is
-// printed is the lines as they came where the writer gives the bytes of each set; a question mark stands for a set that is not readable.
+// Reads sets from standard input, one to a line in lower-case hex, makes of each the list that it stands for, and writes that list in the edition
+// that it was read in. What is printed is the lines as they came where the writer gives the bytes of each set; a question mark stands for a set
+// that is not readable in either edition.
 ghost use Prim.Native.Nat.{_≤_, _-_};
 ghost use lib.ListN.{length};
 
@@ -10,6 +11,7 @@ use libc::STDIN_FILENO;
 use libc::STDOUT_FILENO;
 use patch_part_writer::written::Written;
 use patch_writer::set::write_patch_set;
+use projection_patch::patch::ProjectionPatchEdition;
 use projection_patch::patch::ProjectionPatchSet;
 
 // Lines are read at once, as many as there are in so many bytes.
@@ -43,18 +45,28 @@ fn print_line(bytes: &[u8]) {
     io::write_all(STDOUT_FILENO, &line[0..end]);
 }
 
-// Writes the list of a set, and prints what was written.
-fn rewrite(set: &[u8]) {
-    let read = lists::list_of(set);
+// Writes the list of a set that is read in the edition, and prints what was written; false where there is none.
+fn rewrite_in(set: &[u8], edition: ProjectionPatchEdition) -> bool {
+    let read = lists::list_of(set, edition);
     let mut out = [0u8; ProjectionPatchSet::BYTES];
     if read.is_read {
         let list = read.list;
-        if let Written::Wrote(n) = write_patch_set(list, set, &mut out) {
+        if let Written::Wrote(n) = write_patch_set(list, set, edition, &mut out) {
             if n <= ProjectionPatchSet::BYTES {
                 print_line(&out[0..n]);
-                return;
+                return true;
             }
         }
+    }
+    false
+}
+
+fn rewrite(set: &[u8]) {
+    if rewrite_in(set, ProjectionPatchEdition::V1) {
+        return;
+    }
+    if rewrite_in(set, ProjectionPatchEdition::V2) {
+        return;
     }
     io::write_all(STDOUT_FILENO, b"?\n");
 }

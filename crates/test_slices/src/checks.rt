@@ -6,6 +6,7 @@ use check_set::check_set as set_check;
 use check_set::check_set::CheckPlace;
 use check_set::check_set::PatchSetCheck;
 use libc::STDOUT_FILENO;
+use projection_patch::patch::ProjectionPatchEdition;
 
 // The longest slice that is lent.
 const NUMBERS: usize = check_set::list_set::FindingsListed::NUMBERS;
@@ -72,8 +73,8 @@ fn show_numbers(numbers: &[u64]) {
 }
 
 fn check_into(set: &[u8], lent: &mut [u64]) {
-    show_answer(set_check::check(set, lent));
-    show_quick(quick_set::quick_check(set));
+    show_answer(set_check::check(set, ProjectionPatchEdition::V1, lent));
+    show_quick(quick_set::quick_check(set, ProjectionPatchEdition::V1));
     show_numbers(lent);
 }
 

@@ -5,6 +5,7 @@ use libc::STDOUT_FILENO;
 use patch_part_writer::written::WriteRefusal;
 use patch_part_writer::written::Written;
 use patch_writer::set::write_patch_set;
+use projection_patch::patch::ProjectionPatchEdition;
 use projection_patch::patch::ProjectionPatchSet;
 
 // The places of the output.
@@ -93,7 +94,7 @@ fn write_front(set: ProjectionPatchSet, lent: &[u8], out: &mut [u8], places: usi
     if out.len() < places {
         return Written::Refused(WriteRefusal::OutputTooShort);
     }
-    write_patch_set(set, lent, &mut out[0..places])
+    write_patch_set(set, lent, ProjectionPatchEdition::V1, &mut out[0..places])
 }
 
 pub(crate) fn write(row: &[u8], lent: &[u8], places: usize) {

@@ -1,5 +1,5 @@
 -- `listing_input::list_input` meets its contract: what was written is a part of the buffer.
-use Prim.Native.Nat.{ℕ}
+use Prim.Native.Nat.{ℕ, _≤_}
 use native.Mathlib.Omega.{arith}
 use lib.ListN.{length-replicate}
 use borrow.Author.Needs.{needs}
@@ -38,23 +38,27 @@ sub-write-all c = search needs
 part-write-all-start : tie.Need-part-write-all-start
 part-write-all-start c = search needs
 
-part-write-all-end : tie.Need-part-write-all-end
-part-write-all-end c =
+-- what was written is within the buffer
+within : (c : tie.After-lines3) → c .before .before .len .given .0 .0 ≤ listingBytes
+within c =
     let write = c .before .before .before .before .before in
     let place = c .before .before .len .given in
     omega (arith, wrote-within (write .write-listing .ensures) (place .0 .0) (place .1), length-replicate {A = ℕ} listingBytes 0)
 
+part-write-all-end : tie.Need-part-write-all-end
+part-write-all-end c = omega (arith, within c)
+
 write-all-requires : tie.Need-write-all-requires
 write-all-requires c κs = search needs
+
+returns : tie.Need-returns
+returns c = within (c .before .before)
 
 enum-told : tie.Need-enum-told
 enum-told c = search needs
 
-returns : tie.Need-returns
-returns c = search needs
-
 returns-2 : tie.Need-returns-2
-returns-2 c = search needs
+returns-2 c = omega arith
 
 pub list-input-spec : {M : Type 1} → statement M
 list-input-spec =
@@ -72,6 +76,6 @@ list-input-spec =
     part-write-all-start
     part-write-all-end
     write-all-requires
-    enum-told
     returns
+    enum-told
     returns-2)

@@ -45,22 +45,26 @@ ready c = subst (λ (u : ProjectionCounts). Ready u (zeros bindingBytes) (zeros 
 returns : tie.Need-returns
 returns c =
     let call = c .before .before .before .before .before .before in
-    ((λ ps p readable s. set-applied (call .apply-set .last .1 .1 .1 .1 .1 .0) (call .apply-set .last .1 .1 .1 .1 .1 .1 .0) (call .apply-set .last .1 .1 .1 .1 .1 .1 .1 .0) (applySteps p (replaySteps ps)) (call .apply-set .ensures .0 p ps s readable (ready call)) _ (c .before .counts .given .1)), tt)
+    let tables = call .apply-set .last .1 .1 .1 .1 .1 .1 in
+    ((λ ps p readable s. set-applied (tables .0) (tables .1 .0) (tables .1 .1 .0) (applySteps p (replaySteps ps)) (call .apply-set .ensures .0 p ps s readable (ready call)) _ (c .before .counts .given .1)), tt)
 
 returns-2 : tie.Need-returns-2
 returns-2 c =
     let call = c .before .before .before .before .before .before in
-    ((λ ps p readable s. set-refused (call .apply-set .last .1 .1 .1 .1 .1 .0) (call .apply-set .last .1 .1 .1 .1 .1 .1 .0) (call .apply-set .last .1 .1 .1 .1 .1 .1 .1 .0) (applySteps p (replaySteps ps)) (call .apply-set .ensures .0 p ps s readable (ready call)) _ _ (c .before .error .given .1)), refl)
+    let tables = call .apply-set .last .1 .1 .1 .1 .1 .1 in
+    ((λ ps p readable s. set-refused (tables .0) (tables .1 .0) (tables .1 .1 .0) (applySteps p (replaySteps ps)) (call .apply-set .ensures .0 p ps s readable (ready call)) _ _ (c .before .error .given .1)), refl)
 
 returns-3 : tie.Need-returns-3
 returns-3 c =
     let call = c .before .before .before .before .before .before in
-    ((λ ps p readable s. absurd (set-reads (call .apply-set .last .1 .1 .1 .1 .1 .0) (call .apply-set .last .1 .1 .1 .1 .1 .1 .0) (call .apply-set .last .1 .1 .1 .1 .1 .1 .1 .0) (applySteps p (replaySteps ps)) (call .apply-set .ensures .0 p ps s readable (ready call)) _ (c .before .fault .given .1))), refl)
+    let tables = call .apply-set .last .1 .1 .1 .1 .1 .1 in
+    ((λ ps p readable s. absurd (set-reads (tables .0) (tables .1 .0) (tables .1 .1 .0) (applySteps p (replaySteps ps)) (call .apply-set .ensures .0 p ps s readable (ready call)) _ (c .before .fault .given .1))), refl)
 
 returns-4 : tie.Need-returns-4
 returns-4 c =
     let call = c .before .before .before .before .before in
-    ((λ ps p readable s. absurd (set-fits (call .apply-set .last .1 .1 .1 .1 .1 .0) (call .apply-set .last .1 .1 .1 .1 .1 .1 .0) (call .apply-set .last .1 .1 .1 .1 .1 .1 .1 .0) (applySteps p (replaySteps ps)) (call .apply-set .ensures .0 p ps s readable (ready call)) (c .enum-told .given .1))), refl)
+    let tables = call .apply-set .last .1 .1 .1 .1 .1 .1 in
+    ((λ ps p readable s. absurd (set-fits (tables .0) (tables .1 .0) (tables .1 .1 .0) (applySteps p (replaySteps ps)) (call .apply-set .ensures .0 p ps s readable (ready call)) (c .enum-told .given .1))), refl)
 
 pub apply-readable-spec : {M : Type 1} → statement M
 apply-readable-spec =

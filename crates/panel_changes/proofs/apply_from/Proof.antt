@@ -4,9 +4,9 @@ use mathlib.Core.Path.{_≡_, refl, sym, _∙_}
 use mathlib.Core.Bool.{false≢true}
 use mathlib.Core.List.{[]}
 use Rattle.spec_patch.specs.Sizes.{projectionBindings, projectionEntries}
-use Rattle.spec_patch.specs.Edition.{v1}
 use Rattle.spec_projection.specs.Apply.{replaySteps, applySteps}
 use Rattle.spec_projection.specs.ValidLaws.{applySteps-valid, replaySteps-fit}
+use Rattle.projection_patch.specs.Meaning.{editionOf}
 use Rattle.bytes_records.specs.Moves.{zeros}
 use Rattle.panel_plan.specs.PlanRows.{plannedBindingRow, plannedBindingWidth, plannedEntryRow, plannedEntryWidth, PlannedBindings, PlannedEntries}
 use Rattle.panel_changes.specs.SetChangesLaws.{none-stored, planned-counts, run-planned, run-refused, run-reads, run-left}
@@ -67,12 +67,13 @@ returns : tie.Need-returns
 returns c =
     let start = c .before .before .before .before .before .before .before .before .before .before .before .before .before .before .before .before .before .before .before .before .before .before .before .before .before .before .before .before .before .before .before in
     let a = start .args in
+    let ed = editionOf (a .edition) in
     let planned = c .before .before .before .before .before .before .before .before .before .before .before .before .before .before .before .before .before .before .before .before .plan-set in
     let written = c .before .before .before .before .before .before .before .write-tables in
     let n = c .before .before .before .before .before .before .before .before .before .before .before .before .before .before .before .n .given in (
       λ p ps st fit at ready.
           run-planned _ _ (applySteps p (replaySteps ps)) (planned .ensures p ps st no-bindings no-entries at) (n .0 .0) (n .1)
-          (λ q is pl. written .ensures .1 .1 (c .if1 .taken) ready p q (a .counts) (a .from-availability .now) st pl (applySteps-valid v1 p (replaySteps ps) q (replaySteps-fit v1 ps fit) (st .valid) is)),
+          (λ q is pl. written .ensures .1 .1 (c .if1 .taken) ready p q (a .counts) (a .from-availability .now) st pl (applySteps-valid ed p (replaySteps ps) q (replaySteps-fit ed ps fit) (st .valid) is)),
       tt,
     )
 

@@ -3,8 +3,8 @@ use mathlib.Core.Path.{_≡_, refl, sym, _∙_}
 use mathlib.Core.Bool.{true, _&&_, false≢true}
 use lib.ListN.{length}
 use Rattle.spec_lists.specs.BytesLaws.{bytes-of}
-use Rattle.spec_patch.specs.Edition.{v1}
 use Rattle.spec_patch.specs.SetLaws.{was-encoded}
+use Rattle.projection_patch.specs.Meaning.{editionOf}
 use Rattle.panel_changes.specs.SetChanges.{tablesFit, countsFit}
 use Rattle.panel_changes.specs.SetChangesLaws.{fit-lengths, lengths-fit, stored-lengths, stored-counts, fit-arguments, opened-short, opened-at, never-unopened}
 use borrow.Author.Needs.{needs}
@@ -25,7 +25,7 @@ apply-from-requires c κs =
     let a = c .before .before .before .before .before .before .before .before .before .before .before .before .before .before .before .before .args in
     let fit = fit-arguments (tablesFit (length (a .from-bindings .now)) (length (a .from-availability .now)) (length (a .from-entries .now))) (tablesFit (length (a .to-bindings .now)) (length (a .to-availability .now)) (length (a .to-entries .now))) (countsFit (a .counts)) (countsFit (a .used)) (c .before .before .before .before .before .before .before .before .arguments-fit .ensures) (c .before .before .before .before .before .before .before .if1 .taken) in
     let bound = c .before .before .before .before .cursor .given in
-    (opened-short (a .set .now) (bound .0 .0) (sym (c .before .before .before .before .before .before .open-set .ensures) ∙ bound .1), (fit-lengths (a .from-bindings .now) (a .from-availability .now) (a .from-entries .now) (fit .0) .availability, (fit-lengths (a .to-bindings .now) (a .to-availability .now) (a .to-entries .now) (fit .1 .0), fit .1 .1 .1)))
+    (opened-short (editionOf (a .edition)) (a .set .now) (bound .0 .0) (sym (c .before .before .before .before .before .before .open-set .ensures) ∙ bound .1), (fit-lengths (a .from-bindings .now) (a .from-availability .now) (a .from-entries .now) (fit .0) .availability, (fit-lengths (a .to-bindings .now) (a .to-availability .now) (a .to-entries .now) (fit .1 .0), fit .1 .1 .1)))
 
 enum-known-fault : tie.Need-enum-known-fault
 enum-known-fault c = search needs
@@ -42,11 +42,12 @@ same-length-3 c = search needs
 returns : tie.Need-returns
 returns c =
     let a = c .before .before .before .before .before .before .before .before .before .before .before .before .before .before .before .before .before .before .before .before .before .before .before .args in
+    let ed = editionOf (a .edition) in
     let set = a .set .now in
     let all = bytes-of set (λ j. c .before .before .before .before .before .before .before .before .before .before .before .before .before .before .before .before .before .before .before .shared-slice-known4 .given j .fits) in
     let bound = c .before .before .before .before .before .before .before .before .before .before .before .cursor .given in
     let call = c .before .before .before .before .before .before .apply-from in
-    (λ p ps st readable ready. call .ensures .0 p ps st (was-encoded v1 set ps all readable .1 .patches) (opened-at set all ps readable (bound .0 .0) (sym (c .before .before .before .before .before .before .before .before .before .before .before .before .before .open-set .ensures) ∙ bound .1)) ready, call .ensures .1)
+    (λ p ps st readable ready. call .ensures .0 p ps st (was-encoded ed set ps all readable .1 .patches) (opened-at ed set all ps readable (bound .0 .0) (sym (c .before .before .before .before .before .before .before .before .before .before .before .before .before .open-set .ensures) ∙ bound .1)) ready, call .ensures .1)
 
 returns-2 : tie.Need-returns-2
 returns-2 c =
@@ -54,7 +55,7 @@ returns-2 c =
     let set = a .set .now in
     let all = bytes-of set (λ j. c .before .before .before .before .before .before .before .before .before .shared-slice-known4 .given j .fits) in
     let bound = c .before .fault .given in
-    (λ p ps st readable ready. never-unopened set all ps readable (bound .0 .0) (sym (c .before .before .before .open-set .ensures) ∙ bound .1), (refl, (refl, refl)))
+    (λ p ps st readable ready. never-unopened (editionOf (a .edition)) set all ps readable (bound .0 .0) (sym (c .before .before .before .open-set .ensures) ∙ bound .1), (refl, (refl, refl)))
 
 returns-3 : tie.Need-returns-3
 returns-3 c =

@@ -8,7 +8,7 @@ use borrow.Author.Tests.{eq-eqb}
 use lib.ListN.{length}
 use Rattle.spec_lists.specs.Lists.{if_then_else_}
 use Rattle.spec_patch.specs.Sizes.{projectionBindings, projectionAvailabilities, projectionEntries}
-use Rattle.spec_patch.specs.Edition.{v1}
+use Rattle.projection_patch.specs.Meaning.{editionOf}
 use Rattle.panel_rows.specs.Rows.{availabilityRow, availabilityWidth, bindingValueAt, entryValueAt}
 use Rattle.local_projection_state.specs.Stores.{Stored}
 use Rattle.panel_plan.specs.Plan.{resolution}
@@ -51,6 +51,7 @@ returns c =
     let entries = c .before .before .write-entries in
     let start = c .before .before .before .before .before .before .before .before .before .before .before .before .before .before .before .before .before .before .before .before .before .before .before in
     let a = start .args in
+    let ed = editionOf (a .edition) in
     let told : true ≡ countsFit (a .counts) = sym (c .before .before .before .before .before .before .before .before .before .before .before .before .if1 .taken) ∙ c .before .before .before .before .before .before .before .before .before .before .before .before .before .counts-fit .ensures in
     let few = fit-few (a .counts) (sym told) in
     let before = fit-few (a .used) (start .pre .1 .1) in (
@@ -58,7 +59,7 @@ returns c =
       (
         λ no. absurd (false≢true (sym no)),
         λ _ ready p x n s st pl v.
-            written-stored (a .counts) _ _ _ (resolution p (valueIn v1 (a .set .now))) (pl .plan) x (pl .resolves) v
+            written-stored (a .counts) _ _ _ (resolution p (valueIn ed (a .set .now))) (pl .plan) x (pl .resolves) v
             (bindings .ensures .1 .1 (bindings .ensures .0 ∙ can-write bindingValueAt projectionBindings (a .counts .bindings) (a .used .bindings) (a .to-bindings .now) (few .0) (before .0) (start .pre .0 .bindings)) (ready .bindings) p (pl .plan) (n .bindings) (st .bindings) (st .valid) (pl .stored .bindings) (pl .stored .valid) (pl .sourced .bindings))
             (subst (λ l. Stored availabilityRow availabilityWidth projectionAvailabilities (a .counts .availabilities) l (pl .plan .availabilities)) (sym (availability .ensures .1 ∙ picked (availability .result) _ _ (availability .ensures .0 ∙ eq-eqb (length (a .plan-availability .now)) (length (a .to-availability .now)) (start .pre .1 .0 ∙ sym (start .pre .0 .availability))))) (pl .stored .availabilities))
             (entries .ensures .1 .1 (entries .ensures .0 ∙ can-write entryValueAt projectionEntries (a .counts .entries) (a .used .entries) (a .to-entries .now) (few .1) (before .1) (start .pre .0 .entries)) (ready .entries) p (pl .plan) (n .entries) (st .entries) (st .valid) (pl .stored .entries) (pl .stored .valid) (pl .sourced .entries)),

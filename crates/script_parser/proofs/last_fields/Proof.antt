@@ -4,11 +4,10 @@ use mathlib.Core.Bool.{Bool, true, false}
 use mathlib.Core.List.{List, []}
 use Prim.Native.Nat.{ℕ}
 use Rattle.spec_lists.specs.Lists.{if_then_else_}
-use Rattle.spec_replay.specs.Script.{Command, Arguments, end, hex}
+use Rattle.spec_replay.specs.Script.{end, hex}
 use Rattle.script_parser.specs.Fields.{fieldsAfter, hexThen}
 use Rattle.script_parser.specs.FieldsLaws.{ended, not-ended}
 use Rattle.script_parser.specs.Forms.{Form, lastArguments, formAt}
-use Rattle.script_parser.specs.Meaning.{setFrom}
 use Rattle.script_parser.specs.declared.fields.HexField.{HexField}
 use borrow.Author.Needs.{needs}
 use Rattle.script_parser.proofs.last_fields.Statement.{statement}
@@ -29,10 +28,10 @@ last-hex-requires c κs = search needs
 enum-known-from : tie.Need-enum-known-from
 enum-known-from c = search needs
 
-set-line-requires : tie.Need-set-line-requires
-set-line-requires c κs =
+set-command-requires : tie.Need-set-command-requires
+set-command-requires c κs =
     let test = c .before .before .before .before in
-    test .before .has-set .ensures .1 (test .if1 .taken)
+    (test .before .before .before .pre, sym (test .before .has-set .ensures) ∙ test .if1 .taken)
 
 enum-told : tie.Need-enum-told
 enum-told c = search needs
@@ -42,8 +41,8 @@ returns c =
     let called = c .before .before .before .before in
     let test = called .before in
     let args = test .before .before .before .args in
-    ap (setFrom (args .line .now) (c .before .before .from .given .0 .0)) (c .set-line .ensures)
-    ∙ sym (with-set (formAt (args .form)) (args .values) (fieldsAfter (args .line .now) (args .end)) (sym (test .before .has-set .ensures .0) ∙ test .if1 .taken)
+    c .set-command .ensures (args .line .now)
+    ∙ sym (with-set (formAt (args .form)) (args .values) (fieldsAfter (args .line .now) (args .end)) (sym (test .before .has-set .ensures) ∙ test .if1 .taken)
     ∙ called .last-hex .ensures _ ∙ ap (λ (h : HexField). hexThen (args .line .now) h (formAt (args .form) .makes (args .values))) (c .before .before .from .given .1))
 
 returns-2 : tie.Need-returns-2
@@ -51,26 +50,26 @@ returns-2 c =
     let called = c .before .before in
     let test = called .before in
     let args = test .before .before .before .args in
-    sym (with-set (formAt (args .form)) (args .values) (fieldsAfter (args .line .now) (args .end)) (sym (test .before .has-set .ensures .0) ∙ test .if1 .taken)
+    sym (with-set (formAt (args .form)) (args .values) (fieldsAfter (args .line .now) (args .end)) (sym (test .before .has-set .ensures) ∙ test .if1 .taken)
     ∙ called .last-hex .ensures _ ∙ ap (λ (h : HexField). hexThen (args .line .now) h (formAt (args .form) .makes (args .values))) (c .enum-told .given .1))
 
 returns-3 : tie.Need-returns-3
 returns-3 c =
     let test = c .before in
     let args = test .before .before .before .args in
-    sym (without-set (formAt (args .form)) (args .values) (fieldsAfter (args .line .now) (args .end)) (sym (test .before .has-set .ensures .0) ∙ test .if1 .left) ∙ not-ended (args .line .now) (args .end) _ (c .if2 .taken))
+    sym (without-set (formAt (args .form)) (args .values) (fieldsAfter (args .line .now) (args .end)) (sym (test .before .has-set .ensures) ∙ test .if1 .left) ∙ not-ended (args .line .now) (args .end) _ (c .if2 .taken))
 
 command-of-requires : tie.Need-command-of-requires
 command-of-requires c κs =
     let test = c .before in
-    sym (test .before .has-set .ensures .0) ∙ test .if1 .left
+    sym (test .before .has-set .ensures) ∙ test .if1 .left
 
 returns-4 : tie.Need-returns-4
 returns-4 c =
     let test = c .before .before in
     let args = test .before .before .before .args in
     c .command-of .ensures (args .line .now)
-    ∙ sym (without-set (formAt (args .form)) (args .values) (fieldsAfter (args .line .now) (args .end)) (sym (test .before .has-set .ensures .0) ∙ test .if1 .left) ∙ ended (args .line .now) (args .end) _ (c .before .if2 .left))
+    ∙ sym (without-set (formAt (args .form)) (args .values) (fieldsAfter (args .line .now) (args .end)) (sym (test .before .has-set .ensures) ∙ test .if1 .left) ∙ ended (args .line .now) (args .end) _ (c .before .if2 .left))
 
 pub last-fields-spec : {M : Type 1} → statement M
 last-fields-spec =
@@ -79,7 +78,7 @@ last-fields-spec =
     has-set-requires
     last-hex-requires
     enum-known-from
-    set-line-requires
+    set-command-requires
     enum-told
     returns
     returns-2

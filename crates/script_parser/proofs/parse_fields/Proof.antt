@@ -1,7 +1,6 @@
 -- `script_parser::parse_fields` meets its contract: the form that the words ask for, its numbers, and what stands behind them.
 use mathlib.Core.Path.{_≡_, sym, ap, _∙_}
 use mathlib.Core.Bool.{Bool}
-use mathlib.Core.List.{List}
 use Prim.Native.Nat.{ℕ}
 use Rattle.spec_lists.specs.Lists.{if_then_else_}
 use Rattle.spec_replay.specs.Lines.{space, split}

@@ -5,9 +5,10 @@ use mathlib.Core.List.{List}
 use Rattle.spec_lists.specs.Bytes.{Bytes}
 use Rattle.spec_lists.specs.BytesLaws.{bytes-of}
 use Rattle.spec_patch.specs.Patch.{Patch}
-use Rattle.spec_patch.specs.Edition.{v1}
+use Rattle.spec_patch.specs.Edition.{Edition}
 use Rattle.spec_patch.specs.Read.{patches, readSet}
 use Rattle.spec_checks.specs.Findings.{inPatch, inSet, findings}
+use Rattle.projection_patch.specs.Meaning.{editionOf}
 use Rattle.patch_walk.specs.StepsLaws.{opened-at, never-unopened}
 use Rattle.patch_walk.specs.CountLaws.{OpeningCounts, opening-counts}
 use Rattle.check_set.specs.Listed.{FindingsListedAs}
@@ -18,6 +19,9 @@ use Rattle.check_set.proofs.check_set.find.Tie as tie
 
 abbrev set : tie.After-open-set → List ℕ
 set c = c .before .before .before .args .set .now
+
+abbrev edition : tie.After-open-set → Edition
+edition c = editionOf (c .before .before .before .args .edition)
 
 all-bytes : (c : tie.After-open-set) → Bytes (set c)
 all-bytes c = bytes-of (set c) (λ j. c .before .before .shared-slice-known .given j .fits)
@@ -35,7 +39,7 @@ list-patches-requires : tie.Need-list-patches-requires
 list-patches-requires c κs =
     let k = c .before in
     let call = k .before .before .before in
-    (subst OpeningCounts (sym (call .open-set .ensures) ∙ k .before .start .given .1) (opening-counts (set call) (all-bytes call)), search needs)
+    (subst OpeningCounts (sym (call .open-set .ensures) ∙ k .before .start .given .1) (opening-counts (edition call) (set call) (all-bytes call)), search needs)
 
 enum-known-index : tie.Need-enum-known-index
 enum-known-index c = search needs
@@ -61,11 +65,11 @@ enum-known-fault c = search needs
 same-length : tie.Need-same-length
 same-length c = search needs
 
-listed-findings : (c : tie.After-list-patches) (ps : List Patch) → readSet v1 (set (c .before .before .before .before .before)) ≡ patches ps → FindingsListedAs (findings ps) (c .list-patches .result) (c .list-patches .last .1 .1 .0)
+listed-findings : (c : tie.After-list-patches) (ps : List Patch) → let k = c .before .before .before .before .before in readSet (edition k) (set k) ≡ patches ps → FindingsListedAs (findings ps) (c .list-patches .result) (c .list-patches .last .1 .1 .1 .0)
 listed-findings c ps e =
     let k = c .before .before in
     let call = k .before .before .before in
-    c .list-patches .ensures ps (opened-at (set call) (all-bytes call) ps e (call .open-set .ensures) _ (k .before .start .given .1))
+    c .list-patches .ensures ps (opened-at (edition call) (set call) (all-bytes call) ps e (call .open-set .ensures) _ (k .before .start .given .1))
 
 returns : tie.Need-returns
 returns c =
@@ -91,8 +95,8 @@ returns-2 c =
     )
 
 -- a readable set is not refused
-never : (c : tie.After-known-told4) (ps : List Patch) → readSet v1 (set (c .before .before .before)) ≡ patches ps → ⊥
-never c ps e = let k = c .before .before .before in never-unopened (set k) (all-bytes k) ps e (k .open-set .ensures) _ (c .before .fault .given .1)
+never : (c : tie.After-known-told4) (ps : List Patch) → let k = c .before .before .before in readSet (edition k) (set k) ≡ patches ps → ⊥
+never c ps e = let k = c .before .before .before in never-unopened (edition k) (set k) (all-bytes k) ps e (k .open-set .ensures) _ (c .before .fault .given .1)
 
 returns-3 : tie.Need-returns-3
 returns-3 c = (λ ps e. absurd (never c ps e), λ ps e. absurd (never c ps e))

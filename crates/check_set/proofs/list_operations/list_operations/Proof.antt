@@ -7,7 +7,8 @@ use native.Mathlib.Omega.{arith}
 use lib.ListN.{length, take}
 use Rattle.spec_lists.specs.BytesLaws.{bytes-of}
 use Rattle.spec_patch.specs.Patch.{Operation, Patch}
-use Rattle.spec_patch.specs.Edition.{v1}
+use Rattle.spec_patch.specs.Edition.{Edition}
+use Rattle.projection_patch.specs.Meaning.{editionOf}
 use Rattle.patch_walk.specs.Steps.{AtSteps}
 use Rattle.patch_walk.specs.CountLaws.{StepCounts, step-counts}
 use Rattle.patch_walk.specs.declared.SetStep.{SetStep}
@@ -22,13 +23,13 @@ use Rattle.check_set.proofs.list_operations.list_operations.Statement.{
 use Rattle.check_set.proofs.list_operations.list_operations.Tie as tie
 
 abbrev Inv-loop : tie.InvT-loop
-Inv-loop set start targets₀ marks₀ records₀ first cursor₀ used₀ index₀ kept₀ targets marks records cursor used index kept =
+Inv-loop set edition start targets₀ marks₀ records₀ first cursor₀ used₀ index₀ kept₀ targets marks records cursor used index kept =
     (used + 3 * cursor .«operations_left» ≤ length targets) × ((index ≤ used) × ((length targets ≡ length targets₀) × ((length records ≡ length records₀)
     × ((cursor .«patches_left» ≡ start .«patches_left») × (Marked marks (take used targets)
-    × ((os : List Operation) (ps : List Patch) → AtSteps v1 set start os ps → Run set (start .«patch_id») os ps first records₀ cursor used index kept targets records))))))
+    × ((os : List Operation) (ps : List Patch) → AtSteps (editionOf edition) set start os ps → Run (editionOf edition) set (start .«patch_id») os ps first records₀ cursor used index kept targets records))))))
 
 abbrev μ-loop : tie.MeasureT-loop
-μ-loop set start targets₀ marks₀ records₀ first cursor₀ used₀ index₀ kept₀ targets marks records cursor used index kept = cursor .«operations_left»
+μ-loop set edition start targets₀ marks₀ records₀ first cursor₀ used₀ index₀ kept₀ targets marks records cursor used index kept = cursor .«operations_left»
 
 abbrev begin : tie.At-loop Inv-loop μ-loop → tie.Start Inv-loop μ-loop
 begin c = c .before .before .before .before .before
@@ -40,10 +41,13 @@ head c = c .before .before .before
 abbrev set : tie.After-next-step Inv-loop μ-loop → List ℕ
 set c = begin (head c) .args .set .now
 
+abbrev edition : tie.After-next-step Inv-loop μ-loop → Edition
+edition c = editionOf (begin (head c) .args .edition)
+
 counts : (c : tie.After-next-step Inv-loop μ-loop) (r : SetStep) → c .next-step .result ≡ r → StepCounts (head c .loop .cursor) r
 counts c r q =
     subst (StepCounts (head c .loop .cursor)) (sym (c .next-step .ensures .0) ∙ q)
-    (step-counts false v1 (set c) (bytes-of (set c) (λ j. head c .before .before .before .before .shared-slice-known .given j .fits)) (head c .loop .cursor))
+    (step-counts false (edition c) (set c) (bytes-of (set c) (λ j. head c .before .before .before .before .shared-slice-known .given j .fits)) (head c .loop .cursor))
 
 -- an operation is left
 some-left : (c : tie.After-next-step Inv-loop μ-loop) → 0 < head c .loop .cursor .«operations_left»
@@ -67,7 +71,7 @@ marks-long c = c .loop .inv .1 .1 .1 .1 .1 .0 .long ∙ sym (begin c .pre .1)
 loop-holds : tie.Need-loop-holds Inv-loop μ-loop
 loop-holds c =
     let start = c .before .before .before .before in
-    (omega arith, (omega arith, (refl, (refl, (refl, (marked-none (start .args .marks .now) (start .pre .1), λ os ps here. run-start _ _ os ps _ _ _ _ here))))))
+    (omega arith, (omega arith, (refl, (refl, (refl, (marked-none (start .args .marks .now) (start .pre .1), λ os ps here. run-start _ _ _ os ps _ _ _ _ here))))))
 
 next-step-requires : tie.Need-next-step-requires Inv-loop μ-loop
 next-step-requires c κs = search needs
@@ -88,7 +92,7 @@ returns : tie.Need-returns Inv-loop μ-loop
 returns c =
     let k = c .before in
     let l = head k .loop in
-    (λ os ps here. absurd (operation-matches false v1 (set k) (l .cursor) (k .next-step .ensures .0) _ ps (l .inv .1 .1 .1 .1 .1 .1 os ps here .here) (some-left k) (c .match .keys2)), l .inv .1 .1 .1 .1 .0)
+    (λ os ps here. absurd (operation-matches false (edition k) (set k) (l .cursor) (k .next-step .ensures .0) _ ps (l .inv .1 .1 .1 .1 .1 .1 os ps here .here) (some-left k) (c .match .keys2)), l .inv .1 .1 .1 .1 .0)
 
 mutation-target-requires : tie.Need-mutation-target-requires Inv-loop μ-loop
 mutation-target-requires c κs = search needs
@@ -137,7 +141,7 @@ loop-again c =
               n .1 ∙ l .inv .1 .1 .1 .1 .0,
               (
                 rw front (seen .1 .1),
-                λ os ps here. run-turn _ _ os ps _ _ (l .inv .1 .1 .1 .1 .1 .1 os ps here) (r .next-step .ensures .0) _ _ q _ _ _ _ _ _ room (told .mutation-target .ensures []) (own .before-self .ensures []) (seen .0) (seen .1 .0) (call .insert-operation .ensures),
+                λ os ps here. run-turn _ _ _ os ps _ _ (l .inv .1 .1 .1 .1 .1 .1 os ps here) (r .next-step .ensures .0) _ _ q _ _ _ _ _ _ room (told .mutation-target .ensures []) (own .before-self .ensures []) (seen .0) (seen .1 .0) (call .insert-operation .ensures),
               ),
             ),
           ),
@@ -155,7 +159,7 @@ same-length-6 : tie.Need-same-length-6 Inv-loop μ-loop
 same-length-6 c = search needs
 
 returns-2 : tie.Need-returns-2 Inv-loop μ-loop
-returns-2 c = let l = c .before .before .loop in (λ os ps here. run-end _ _ os ps _ _ (l .inv .1 .1 .1 .1 .1 .1 os ps here) (c .if1 .left), l .inv .1 .1 .1 .1 .0)
+returns-2 c = let l = c .before .before .loop in (λ os ps here. run-end _ _ _ os ps _ _ (l .inv .1 .1 .1 .1 .1 .1 os ps here) (c .if1 .left), l .inv .1 .1 .1 .1 .0)
 
 pub list-operations-spec : {M : Type 1} → statement M
 list-operations-spec =

@@ -8,7 +8,8 @@ use lib.ListN.{length, length-set}
 use Rattle.spec_lists.specs.BytesLaws.{bytes-of}
 use Rattle.spec_patch.specs.Sizes.{setPatches}
 use Rattle.spec_patch.specs.Patch.{Patch}
-use Rattle.spec_patch.specs.Edition.{v1}
+use Rattle.spec_patch.specs.Edition.{Edition}
+use Rattle.projection_patch.specs.Meaning.{editionOf}
 use Rattle.patch_walk.specs.Steps.{AtSteps}
 use Rattle.patch_walk.specs.CountLaws.{StepCounts, step-counts}
 use Rattle.patch_walk.specs.declared.SetStep.{SetStep}
@@ -21,12 +22,12 @@ use Rattle.check_set.proofs.list_set.list_patches.Statement.{statement}
 use Rattle.check_set.proofs.list_set.list_patches.Tie as tie
 
 abbrev Inv-loop : tie.InvT-loop
-Inv-loop set records₀ ids₀ previous₀ cursor₀ done₀ kept₀ records ids previous cursor done kept =
+Inv-loop set edition records₀ ids₀ previous₀ cursor₀ done₀ kept₀ records ids previous cursor done kept =
     (done + cursor .«patches_left» ≤ setPatches) × ((length records ≡ length records₀) × ((length ids ≡ setPatches)
-    × ((ps : List Patch) → AtSteps v1 set cursor₀ [] ps → Run set ps cursor done kept ids (previousOf previous) records)))
+    × ((ps : List Patch) → AtSteps (editionOf edition) set cursor₀ [] ps → Run (editionOf edition) set ps cursor done kept ids (previousOf previous) records)))
 
 abbrev μ-loop : tie.MeasureT-loop
-μ-loop set records₀ ids₀ previous₀ cursor₀ done₀ kept₀ records ids previous cursor done kept = cursor .«patches_left»
+μ-loop set edition records₀ ids₀ previous₀ cursor₀ done₀ kept₀ records ids previous cursor done kept = cursor .«patches_left»
 
 -- what the loop has in hand where a step has been made
 abbrev head : tie.After-next-step Inv-loop μ-loop → tie.At-loop Inv-loop μ-loop
@@ -38,10 +39,13 @@ start c = head c .before .before .before
 abbrev set : tie.After-next-step Inv-loop μ-loop → List ℕ
 set c = start c .args .set .now
 
+abbrev edition : tie.After-next-step Inv-loop μ-loop → Edition
+edition c = editionOf (start c .args .edition)
+
 counts : (c : tie.After-next-step Inv-loop μ-loop) (r : SetStep) → c .next-step .result ≡ r → StepCounts (head c .loop .cursor) r
 counts c r q =
     subst (StepCounts (head c .loop .cursor)) (sym (c .next-step .ensures .0) ∙ q)
-    (step-counts false v1 (set c) (bytes-of (set c) (λ j. head c .before .before .shared-slice-known .given j .fits)) (head c .loop .cursor))
+    (step-counts false (edition c) (set c) (bytes-of (set c) (λ j. head c .before .before .shared-slice-known .given j .fits)) (head c .loop .cursor))
 
 -- a patch is left
 some-left : (c : tie.After-next-step Inv-loop μ-loop) → 0 < head c .loop .cursor .«patches_left»
@@ -63,7 +67,7 @@ room : (c : tie.After-next-step Inv-loop μ-loop) → tableLength ≤ length (he
 room c = omega (arith, head c .loop .inv .1 .0, start c .pre)
 
 loop-holds : tie.Need-loop-holds Inv-loop μ-loop
-loop-holds c = (omega (arith, c .before .before .pre), (refl, (search needs, λ ps here. run-start _ ps _ _ _ here)))
+loop-holds c = (omega (arith, c .before .before .pre), (refl, (search needs, λ ps here. run-start _ _ ps _ _ _ here)))
 
 next-step-requires : tie.Need-next-step-requires Inv-loop μ-loop
 next-step-requires c κs = search needs
@@ -78,7 +82,7 @@ returns : tie.Need-returns Inv-loop μ-loop
 returns c =
     let k = c .before in
     let l = head k .loop in
-    λ ps here. absurd (head-matches false v1 (set k) (l .cursor) (k .next-step .ensures .0) _ (l .inv .1 .1 .1 ps here .here) (some-left k) (c .match .keys2))
+    λ ps here. absurd (head-matches false (edition k) (set k) (l .cursor) (k .next-step .ensures .0) _ (l .inv .1 .1 .1 ps here .here) (some-left k) (c .match .keys2))
 
 list-patch-requires : tie.Need-list-patch-requires Inv-loop μ-loop
 list-patch-requires c κs = let k = c .before in omega (arith, counts (step k) _ (k .before .head .given .1) .1)
@@ -92,7 +96,7 @@ returns-2 : tie.Need-returns-2 Inv-loop μ-loop
 returns-2 c =
     let l = c .before .before .before .before in
     let k = step (known l) in
-    λ ps here. run-found _ ps (head k .loop .inv .1 .1 .1 ps here) (omega (arith, here .patches, start k .pre)) (room k) (k .next-step .ensures .0) _ _ (known l .before .head .given .1) _ _ (l .list-patch .ensures .0) (c .if2 .taken)
+    λ ps here. run-found _ _ ps (head k .loop .inv .1 .1 .1 ps here) (omega (arith, here .patches, start k .pre)) (room k) (k .next-step .ensures .0) _ _ (known l .before .head .given .1) _ _ (l .list-patch .ensures .0) (c .if2 .taken)
 
 slice-aggregate-insert-after : tie.Need-slice-aggregate-insert-after Inv-loop μ-loop
 slice-aggregate-insert-after c = sym (head (step (known (call (c .before .before .before)))) .loop .inv .1 .1 .0)
@@ -130,7 +134,7 @@ loop-again c =
         search (needs, l .inv .1 .0, test .before .before .slice-known2 .given, test .before .before .before .records .given, c .before .before .slice-known3 .given, c .before .before .before .records2 .given),
         (
           ap length (after-is .1 .1) ∙ length-set (l .ids) (l .done) _ ∙ l .inv .1 .1 .0,
-          λ ps here. run-turn _ ps (l .inv .1 .1 .1 ps here) (omega (arith, here .patches, start k .pre)) (room k) (k .next-step .ensures .0) _ _ q _ _ (listed .list-patch .ensures .0) (omega (arith, test .if2 .left)) _ _ _ space (after-is .0, after-is .1 .0) (after-is .1 .1),
+          λ ps here. run-turn _ _ ps (l .inv .1 .1 .1 ps here) (omega (arith, here .patches, start k .pre)) (room k) (k .next-step .ensures .0) _ _ q _ _ (listed .list-patch .ensures .0) (omega (arith, test .if2 .left)) _ _ _ space (after-is .0, after-is .1 .0) (after-is .1 .1),
         ),
       ),
     )
@@ -139,7 +143,7 @@ same-length-3 : tie.Need-same-length-3 Inv-loop μ-loop
 same-length-3 c = search needs
 
 returns-3 : tie.Need-returns-3 Inv-loop μ-loop
-returns-3 c = λ ps here. run-end _ ps (c .before .before .loop .inv .1 .1 .1 ps here) (c .if1 .left)
+returns-3 c = λ ps here. run-end _ _ ps (c .before .before .loop .inv .1 .1 .1 ps here) (c .if1 .left)
 
 pub list-patches-spec : {M : Type 1} → statement M
 list-patches-spec =

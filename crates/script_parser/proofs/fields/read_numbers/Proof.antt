@@ -1,8 +1,5 @@
 -- `script_parser::fields::read_numbers` meets its contract. The invariant: the first i numbers are read. The measure is the numbers left.
 use Prim.Native.Nat.{_-_}
-use mathlib.Core.Path.{_≡_, ap, _∙_}
-use native.Mathlib.Omega.{arith}
-use lib.ListN.{length}
 use borrow.Author.Needs.{needs}
 use Rattle.script_parser.proofs.Numbers.{Reading, reading-start, reading-turn, reading-off, reading-end}
 use Rattle.script_parser.proofs.fields.read_numbers.Statement.{statement}

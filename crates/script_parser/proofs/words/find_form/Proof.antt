@@ -1,31 +1,41 @@
 -- `script_parser::words::find_form` meets its contract: the forms of the second words of apply and of value, and that of the first word.
 use Prim.Native.Nat.{ℕ, _-_, _≤_}
-use mathlib.Core.Path.{_≡_, refl, sym, ap, _∙_}
-use mathlib.Core.List.{List, _∷_, []}
+use mathlib.Core.Path.{_≡_, refl, ap, _∙_}
+use mathlib.Core.List.{List}
 use native.Mathlib.Omega.{arith}
 use borrow.Author.Needs.{needs}
-use lib.ListN.{length, take, drop}
+use lib.ListN.{take, drop}
 use Rattle.spec_replay.specs.Lines.{space, split, prepend}
 use Rattle.spec_replay.specs.Script.{ascii, apply, end, number, stimuli, applyArguments, values, valueArguments, commands, fieldsCommand}
 use Rattle.script_parser.specs.Fields.{fieldsAfter}
 use Rattle.script_parser.specs.FieldsLaws.{field-within}
-use Rattle.script_parser.specs.Words.{indexOf, wordsOf, rowAt, indexOf-most}
-use Rattle.script_parser.specs.Forms.{stimulusBase, valueBase}
+use Rattle.script_parser.specs.Words.{rowAt, indexOf-most}
+use Rattle.script_parser.specs.Forms.{stimulusBase, valueBase, firstWords}
 use Rattle.script_parser.specs.FormsLaws.{first-form, stimulus-form, value-form}
 use Rattle.script_parser.proofs.Searching.{first-word, second-numbered, second-asks}
 use Rattle.script_parser.proofs.words.find_form.Statement.{statement}
 use Rattle.script_parser.proofs.words.find_form.Tie as tie
 
-few : (c : tie.After-word-index) → c .word-index .result ≤ 14
+-- the words of the tables
+abbrev firstTable : List ℕ
+firstTable = ascii "session node binding collection create apply batch check list show value senders wait turn edition convert"
+
+abbrev stimulusTable : List ℕ
+stimulusTable = ascii "activate suspend resume close noop"
+
+abbrev valueTable : List ℕ
+valueTable = ascii "binding node entry"
+
+few : (c : tie.After-word-index) → c .word-index .result ≤ firstWords
 unfolding split prepend
-few c = rw (c .word-index .ensures .0) (indexOf-most (take (c .before .before .before .field-end .result - 0) (drop 0 (c .before .before .before .before .before .args .line .now))) (split space (ascii "session node binding collection create apply batch check list show value senders wait turn")))
+few c = rw (c .word-index .ensures .0) (indexOf-most (take (c .before .before .before .field-end .result - 0) (drop 0 (c .before .before .before .before .before .args .line .now))) (split space firstTable))
 
 by-first : (c : tie.After-word-index) → fieldsCommand (split space (c .before .before .before .before .before .args .line .now))
     ≡ rowAt (λ a. a) commands (c .word-index .result) (fieldsAfter (c .before .before .before .before .before .args .line .now) (c .before .before .before .field-end .result))
 unfolding split prepend commands
 by-first c =
     let ended = c .before .before .before in
-    first-word (ended .before .before .args .line .now) (ended .field-end .result) (c .word-index .result) (ascii "session node binding collection create apply batch check list show value senders wait turn") (ended .field-end .ensures) refl (c .word-index .ensures .0)
+    first-word (ended .before .before .args .line .now) (ended .field-end .result) (c .word-index .result) firstTable (ended .field-end .ensures) refl (c .word-index .ensures .0)
 
 field-end-requires : tie.Need-field-end-requires
 field-end-requires c κs = search needs
@@ -60,10 +70,10 @@ returns c =
     let word = test .before in
     let args = word .before .before .before .before .before .args in
     record {
-      numbered = second-numbered (λ s. number (λ n. end (apply s n))) stimuli stimulusBase 5 refl (omega arith) stimulus-form (args .line .now) _ (ascii "activate suspend resume close noop") refl (c .second-form .result) (c .second-form .ensures);
+      numbered = second-numbered (λ s. number (λ n. end (apply s n))) stimuli stimulusBase 5 refl (omega arith) stimulus-form (args .line .now) _ stimulusTable refl (c .second-form .result) (c .second-form .ensures);
       asks =
           by-first word ∙ ap (λ (k : ℕ). rowAt (λ a. a) commands k (fieldsAfter (args .line .now) (word .before .before .before .field-end .result))) (test .if1 .taken)
-          ∙ second-asks (λ s. number (λ n. end (apply s n))) stimuli stimulusBase 5 refl (omega arith) stimulus-form (args .line .now) _ (ascii "activate suspend resume close noop") refl (c .second-form .result) (c .second-form .ensures);
+          ∙ second-asks (λ s. number (λ n. end (apply s n))) stimuli stimulusBase 5 refl (omega arith) stimulus-form (args .line .now) _ stimulusTable refl (c .second-form .result) (c .second-form .ensures);
     }
 
 slice-aggregate-second-form-2 : tie.Need-slice-aggregate-second-form-2
@@ -79,11 +89,14 @@ returns-2 c =
     let word = test .before .before in
     let args = word .before .before .before .before .before .args in
     record {
-      numbered = second-numbered (λ a. a) values valueBase 3 refl (omega arith) value-form (args .line .now) _ (ascii "binding node entry") refl (c .second-form2 .result) (c .second-form2 .ensures);
+      numbered = second-numbered (λ a. a) values valueBase 3 refl (omega arith) value-form (args .line .now) _ valueTable refl (c .second-form2 .result) (c .second-form2 .ensures);
       asks =
           by-first word ∙ ap (λ (k : ℕ). rowAt (λ a. a) commands k (fieldsAfter (args .line .now) (word .before .before .before .field-end .result))) (test .if2 .taken)
-          ∙ second-asks (λ a. a) values valueBase 3 refl (omega arith) value-form (args .line .now) _ (ascii "binding node entry") refl (c .second-form2 .result) (c .second-form2 .ensures);
+          ∙ second-asks (λ a. a) values valueBase 3 refl (omega arith) value-form (args .line .now) _ valueTable refl (c .second-form2 .result) (c .second-form2 .ensures);
     }
+
+add-t10 : tie.Need-add-t10
+add-t10 c = search needs
 
 returns-3 : tie.Need-returns-3
 returns-3 c =
@@ -106,4 +119,5 @@ find-form-spec =
     slice-aggregate-second-form-2
     second-form-requires-2
     returns-2
+    add-t10
     returns-3)

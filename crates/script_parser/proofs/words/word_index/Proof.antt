@@ -1,6 +1,6 @@
 -- `script_parser::words::word_index` meets its contract. The invariant: behind the first i words the field is sought in the rest. The measure is what is left of the words.
 use Prim.Native.Nat.{_+_, _-_, _≤_}
-use mathlib.Core.Path.{_≡_, refl, sym, _∙_}
+use mathlib.Core.Path.{_≡_, sym, _∙_}
 use native.Mathlib.Omega.{arith}
 use lib.ListN.{length, drop}
 use borrow.Author.Needs.{needs}

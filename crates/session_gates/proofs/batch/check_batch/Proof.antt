@@ -23,12 +23,12 @@ check-inspection-requires c κs = search needs
 
 returns : tie.Need-returns
 unfolding gateOf
-returns c = preflight-refused _ _ _ _ _ _ _ _ _ _ _ (ap gateOf (sym (c .before .refusal .given .1)) ∙ c .before .before .before .evaluate-preflight .ensures)
+returns c = preflight-refused _ _ _ _ _ _ _ _ _ _ _ _ (ap gateOf (sym (c .before .refusal .given .1)) ∙ c .before .before .before .evaluate-preflight .ensures)
 
 returns-2 : tie.Need-returns-2
 unfolding gateOf
 returns-2 c =
-    preflight-passed _ _ _ _ _ _ _ _ _ _ (ap gateOf (sym (c .before .before .enum-told .given .1)) ∙ c .before .before .before .before .evaluate-preflight .ensures) _ (c .before .inspect-set .ensures) (c .check-inspection .ensures)
+    preflight-passed _ _ _ _ _ _ _ _ _ _ _ (ap gateOf (sym (c .before .before .enum-told .given .1)) ∙ c .before .before .before .before .evaluate-preflight .ensures) _ (c .before .inspect-set .ensures) (c .check-inspection .ensures)
 
 pub check-batch-spec : {M : Type 1} → statement M
 check-batch-spec =

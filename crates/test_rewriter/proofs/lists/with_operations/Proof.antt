@@ -5,10 +5,10 @@ use Rattle.test_rewriter.proofs.lists.with_operations.Statement.{statem
 use Rattle.test_rewriter.proofs.lists.with_operations.Tie as tie
 
 abbrev Inv-loop : tie.InvT-loop
-Inv-loop before set count list operations₀ used₀ at₀ left₀ operations used at left = left ≤ count
+Inv-loop before set count edition list operations₀ used₀ at₀ left₀ operations used at left = left ≤ count
 
 abbrev μ-loop : tie.MeasureT-loop
-μ-loop before set count list operations₀ used₀ at₀ left₀ operations used at left = left
+μ-loop before set count edition list operations₀ used₀ at₀ left₀ operations used at left = left
 
 loop-holds : tie.Need-loop-holds Inv-loop μ-loop
 loop-holds c = search needs

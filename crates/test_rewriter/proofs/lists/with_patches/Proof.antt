@@ -5,10 +5,10 @@ use Rattle.test_rewriter.proofs.lists.with_patches.Statement.{statement
 use Rattle.test_rewriter.proofs.lists.with_patches.Tie as tie
 
 abbrev Inv-loop : tie.InvT-loop
-Inv-loop set count read₀ index₀ read index = index ≤ count
+Inv-loop set count edition read₀ index₀ read index = index ≤ count
 
 abbrev μ-loop : tie.MeasureT-loop
-μ-loop set count read₀ index₀ read index = count - index
+μ-loop set count edition read₀ index₀ read index = count - index
 
 loop-holds : tie.Need-loop-holds Inv-loop μ-loop
 loop-holds c = search needs

@@ -30,6 +30,7 @@ use Rattle.session_gates.specs.declared.gates.OrderedProjectionPatchBatchEnvelo
 use Rattle.session_steps.specs.declared.answers.ProjectionPatchApplicationResult.{ProjectionPatchApplicationResult}
 use Rattle.session_steps.specs.Answers.{batchAnswerOf, answerAt, changeAnswer, Stopped, rejectedRow, unchangedRow, appliedRow}
 use Rattle.session_steps.specs.AnswersLaws.{same-rejection, change-row}
+use Rattle.spec_patch.specs.Edition.{Edition}
 use Rattle.projection_patch.specs.Meaning.{editionOf}
 use Rattle.shell_player.specs.declared.session.ShellSession.{ShellSession}
 use Rattle.shell_player.specs.declared.batch.ProjectionPatchBatch.{ProjectionPatchBatch}
@@ -52,7 +53,7 @@ other BadTables k = tt
 
 -- the tables that the call wrote
 abbrev Tables : tie.After-apply-set → SetChange → (m : Session) (ps : List Patch) → Type 0
-Tables c r m ps = ChangeBecame (λ n q. StoredTables n (c .apply-set .last .1 .1 .1 .1 .1 .0) (c .apply-set .last .1 .1 .1 .1 .1 .1 .0) (c .apply-set .last .1 .1 .1 .1 .1 .1 .1 .0) q) r (candidate m ps)
+Tables c r m ps = ChangeBecame (λ n q. StoredTables n (c .apply-set .last .1 .1 .1 .1 .1 .1 .0) (c .apply-set .last .1 .1 .1 .1 .1 .1 .1 .0) (c .apply-set .last .1 .1 .1 .1 .1 .1 .1 .1 .0) q) r (candidate m ps)
 
 -- what came of the operations
 became : (c : tie.After-apply-set) → let a = c .before .before .before .before .before .before .before .before .before .before .before .before .before .before .before .before .before .before .before .before .before .args in (m : Session) (ps : List Patch) → Holds (a .t1) m → readSet (editionOf (a .edition)) (now (a .set)) ≡ patches ps → Tables c (c .apply-set .result) m ps
@@ -60,9 +61,9 @@ unfolding candidate
 became c m ps h reads = c .apply-set .ensures .0 (m .projection) ps (h .projection) reads (subst (λ (u : ProjectionCounts). Ready u (zeros bindingBytes) (zeros availabilityBytes) (zeros entryBytes)) (sym (c .before .before .before .before .before .before .before .before .before .before .before .before .none-used .ensures)) zeros-ready)
 
 -- what is told of a session and an answer is told of the batch that is made of them
-told : {s : ShellSession} {e : OrderedProjectionPatchBatchEnvelope} {declared : ℕ} {set : List ℕ} (session : ShellSession) (result : ProjectionPatchApplicationResult) {r : ProjectionPatchBatch} → r ≡ batchOf session result
-    → BatchCall s e declared set (batchOf session result) × AnyBatchCall s e (batchOf session result) → BatchCall s e declared set r × AnyBatchCall s e r
-told {s = s} {e = e} {declared = declared} {set = set} session result is h = subst (λ x. BatchCall s e declared set x × AnyBatchCall s e x) (sym is) h
+told : {s : ShellSession} {e : OrderedProjectionPatchBatchEnvelope} {declared : ℕ} {set : List ℕ} {ed : Edition} (session : ShellSession) (result : ProjectionPatchApplicationResult) {r : ProjectionPatchBatch} → r ≡ batchOf session result
+    → BatchCall s e declared set ed (batchOf session result) × AnyBatchCall s e (batchOf session result) → BatchCall s e declared set ed r × AnyBatchCall s e r
+told {s = s} {e = e} {declared = declared} {set = set} {ed = ed} session result is h = subst (λ x. BatchCall s e declared set ed x × AnyBatchCall s e x) (sym is) h
 
 check-session-requires : tie.Need-check-session-requires
 check-session-requires c κs = search needs

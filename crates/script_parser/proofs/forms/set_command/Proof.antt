@@ -1,0 +1,73 @@
+-- `script_parser::forms::set_command` meets its contract: each form with a set.
+use Prim.Native.Nat.{ℕ}
+use mathlib.Core.Path.{_≡_, sym, ap, _∙_}
+use mathlib.Core.Bool.{false≢true}
+use mathlib.Core.List.{List}
+use borrow.Author.Tests.{ne-eqb}
+use Rattle.script_parser.specs.Forms.{formAt}
+use Rattle.script_parser.specs.FormsLaws.{sets-listed}
+use Rattle.script_parser.specs.Meaning.{setFrom}
+use borrow.Author.Needs.{needs}
+use Rattle.script_parser.proofs.forms.set_command.Statement.{statement}
+use Rattle.script_parser.proofs.forms.set_command.Tie as tie
+
+by-form : (c : tie.Start) (line : List ℕ) (k : ℕ) → c .args .form ≡ k → setFrom line (c .args .from) (formAt k .makes (c .args .t2)) ≡ setFrom line (c .args .from) (formAt (c .args .form) .makes (c .args .t2))
+by-form c line k e = ap (λ (n : ℕ). setFrom line (c .args .from) (formAt n .makes (c .args .t2))) (sym e)
+
+array-read-first : tie.Need-array-read-first
+array-read-first c = search needs
+
+array-read-t12 : tie.Need-array-read-t12
+array-read-t12 c = search needs
+
+array-read-t15 : tie.Need-array-read-t15
+array-read-t15 c = search needs
+
+array-read-t18 : tie.Need-array-read-t18
+array-read-t18 c = search needs
+
+array-read-t21 : tie.Need-array-read-t21
+array-read-t21 c = search needs
+
+conversion-requires : tie.Need-conversion-requires
+conversion-requires c κs = search needs
+
+returns : tie.Need-returns
+unfolding formAt
+returns c = λ line. by-form (c .before) line 22 (c .match .keys1)
+
+returns-2 : tie.Need-returns-2
+unfolding formAt
+returns-2 c = λ line. by-form (c .before) line 23 (c .match .keys2)
+
+returns-3 : tie.Need-returns-3
+unfolding formAt
+returns-3 c = λ line. by-form (c .before) line 24 (c .match .keys3)
+
+returns-4 : tie.Need-returns-4
+unfolding formAt
+returns-4 c = λ line. c .conversion .ensures line ∙ by-form (c .before .before) line 31 (c .before .match .keys4)
+
+returns-5 : tie.Need-returns-5
+unfolding formAt
+returns-5 c =
+    let form = c .before .args .form in
+    let none = c .match .rest in
+    let listed = rw (ne-eqb form 22 (search none), ne-eqb form 23 (search none), ne-eqb form 24 (search none), ne-eqb form 31 (search none)) at (sets-listed form (c .before .pre .0)) in
+    absurd (false≢true (listed ∙ c .before .pre .1))
+
+pub set-command-spec : {M : Type 1} → statement M
+set-command-spec =
+    tie.close
+    (tie.spec
+    array-read-first
+    array-read-t12
+    array-read-t15
+    array-read-t18
+    array-read-t21
+    conversion-requires
+    returns
+    returns-2
+    returns-3
+    returns-4
+    returns-5)
