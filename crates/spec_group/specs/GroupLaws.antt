@@ -4,12 +4,15 @@ use mathlib.Core.Path.{_≡_, refl, sym, ap, _∙_}
 use mathlib.Core.Bool.{Bool, true, false}
 use mathlib.Core.List.{List, [], _∷_, _++_}
 use native.Mathlib.Omega.{arith}
+use borrow.Author.Tests.{leb-true, eqb-true}
+use lib.Dec.{leb}
 use lib.ListN.{length, drop, length-append}
 use Rattle.spec_lists.specs.Lists.{if_then_else_, All}
+use Rattle.spec_lists.specs.ListLaws.{and-left, and-right}
 use Rattle.spec_session.specs.Session.{Session}
 use Rattle.spec_session.specs.Batch.{BatchAnswer, BatchStep}
 use Rattle.spec_splitting.specs.Splitting.{Run, isRejected, continue}
-use Rattle.spec_group.specs.Group.{GroupBatch, isGroup, sendFirst, GroupRun, ended, broke, runGroup, notAGroup, concludeGroup, group}
+use Rattle.spec_group.specs.Group.{groupBatches, GroupBatch, totalBytes, isGroup, sendFirst, GroupRun, ended, broke, runGroup, notAGroup, concludeGroup, group}
 use Rattle.spec_group.specs.Singly.{singly, WasTaken, EndsRefused, AllOrNone}
 
 true-not-false : {C : Type 0} {b : Bool} → b ≡ true → b ≡ false → C
@@ -82,3 +85,12 @@ all-or-none s bs sets g = record {
 pub not-a-group : (s : Session) (bs : List GroupBatch) (sets : List ℕ) → isGroup bs sets ≡ false → group s bs sets ≡ record { next = s; answer = notAGroup }
 unfolding group
 not-a-group s bs sets g = rw g
+
+-- a group has one to eight batches, and their lengths add up
+pub is-group : (bs : List GroupBatch) (sets : List ℕ) → isGroup bs sets ≡ true → (1 ≤ length bs) × ((length bs ≤ 8) × (totalBytes bs ≡ length sets))
+unfolding isGroup
+is-group bs sets e =
+    let few = and-right (leb 1 (length bs)) _ e in (
+      leb-true 1 (length bs) (and-left (leb 1 (length bs)) _ e),
+      (leb-true (length bs) groupBatches (and-left (leb (length bs) groupBatches) _ few), eqb-true (totalBytes bs) (length sets) (and-right (leb (length bs) groupBatches) _ few)),
+    )
