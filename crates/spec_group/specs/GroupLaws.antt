@@ -9,10 +9,10 @@ use lib.Dec.{leb}
 use lib.ListN.{length, drop, length-append}
 use Rattle.spec_lists.specs.Lists.{if_then_else_, All}
 use Rattle.spec_lists.specs.ListLaws.{and-left, and-right}
-use Rattle.spec_session.specs.Session.{Session}
+use Rattle.spec_session.specs.Session.{Cursor, Session}
 use Rattle.spec_session.specs.Batch.{BatchAnswer, BatchStep}
 use Rattle.spec_splitting.specs.Splitting.{Run, isRejected, continue}
-use Rattle.spec_group.specs.Group.{groupBatches, GroupBatch, totalBytes, isGroup, sendFirst, GroupRun, ended, broke, runGroup, notAGroup, concludeGroup, group}
+use Rattle.spec_group.specs.Group.{groupBatches, GroupBatch, totalBytes, isGroup, sendFirst, GroupRun, ended, broke, runGroup, notAGroup, withCursor, concludeGroup, group}
 use Rattle.spec_group.specs.Singly.{singly, WasTaken, EndsRefused, AllOrNone}
 
 true-not-false : {C : Type 0} {b : Bool} → b ≡ true → b ≡ false → C
@@ -94,3 +94,8 @@ is-group bs sets e =
       leb-true 1 (length bs) (and-left (leb 1 (length bs)) _ e),
       (leb-true (length bs) groupBatches (and-left (leb (length bs) groupBatches) _ few), eqb-true (totalBytes bs) (length sets) (and-right (leb (length bs) groupBatches) _ few)),
     )
+
+-- the refused batch's answer has the cursor from before the group, and is otherwise as it was
+pub cursor-from-before : (c : Cursor) (a : BatchAnswer) → (withCursor c a .cursor ≡ c) × (withCursor c a .diagnostics ≡ a .diagnostics)
+unfolding withCursor
+cursor-from-before c a = (refl, refl)
