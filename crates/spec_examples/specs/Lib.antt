@@ -5,3 +5,4 @@ pub mod TurnInstances
 pub mod TextInstances
 pub mod CutInstances
 pub mod EditionInstances
+pub mod GroupInstances

@@ -56,7 +56,7 @@ failing = patchOf 2 (remove 9 2 ∷ [])
 abbrev pub pieces : List Piece
 pieces = piece (scored ∷ []) ∷ piece (second ∷ []) ∷ []
 
-given : Given start 40 (piece (scored ∷ second ∷ [])) pieces
+pub given : Given start 40 (piece (scored ∷ second ∷ [])) pieces
 unfolding start piece scored second patchOf opened patchesOf OperationHolds InRangeValue OptionalU64
 given = record { inRange = omega arith; cut = refl; nonEmpty = omega arith; figures = omega arith; numbers = omega arith }
 
@@ -82,7 +82,7 @@ marks-alike = (refl, refl)
 abbrev pub failingPieces : List Piece
 failingPieces = piece (first ∷ []) ∷ piece (failing ∷ []) ∷ []
 
-given-failing : Given start 40 (piece (first ∷ failing ∷ [])) failingPieces
+pub given-failing : Given start 40 (piece (first ∷ failing ∷ [])) failingPieces
 unfolding start piece first failing patchOf opened patchesOf OperationHolds InRangeValue OptionalU64
 given-failing = record { inRange = omega arith; cut = refl; nonEmpty = omega arith; figures = omega arith; numbers = omega arith }
 

@@ -1,0 +1,4 @@
+pub mod Group
+pub mod Singly
+pub mod GroupLaws
+pub mod PiecesLaws
