@@ -1,0 +1,5 @@
+pub mod Places
+pub mod PlacesLaws
+pub mod Answers
+pub mod AnswersLaws
+pub mod LinesLaws
