@@ -1,0 +1,47 @@
+use borrow.Author.Needs.{needs}
+use Rattle.set_dependencies.proofs.settling.settle_first.Statement.{statement}
+use Rattle.set_dependencies.proofs.settling.settle_first.Tie as tie
+use Rattle.set_dependencies.proofs.settling.settle_first.Reads as reads
+use Rattle.set_dependencies.proofs.settling.settle_first.Lts as lts
+use Rattle.bytes_records.proofs.insert_record.Reads as insert-record-reads
+use Rattle.set_dependencies.proofs.settled_rows.settled_row.Reads as settled-row-reads
+
+-- src/settling.rt:61:9
+returns : tie.Need-returns
+returns c = ?
+
+-- src/settling.rt:63:15
+settled-row-requires : tie.Need-settled-row-requires
+settled-row-requires c κs = search needs
+
+-- src/settling.rt:69:73
+slice-aggregate-insert-record : tie.Need-slice-aggregate-insert-record
+slice-aggregate-insert-record c = search needs
+
+-- src/settling.rt:69:5
+insert-record-requires : tie.Need-insert-record-requires
+insert-record-requires c κs = search needs
+
+-- src/settling.rt:70:23
+add-t13 : tie.Need-add-t13
+add-t13 c = search needs
+
+-- src/settling.rt:56:1
+same-length : tie.Need-same-length
+same-length c = search needs
+
+-- src/settling.rt:56:1
+returns-2 : tie.Need-returns-2
+returns-2 c = ?
+
+pub settle-first-spec : {M : Type 1} → statement M
+settle-first-spec =
+    tie.close
+    (tie.spec
+    returns
+    settled-row-requires
+    slice-aggregate-insert-record
+    insert-record-requires
+    add-t13
+    same-length
+    returns-2)

@@ -1,0 +1,7 @@
+pub mod SettledRows
+pub mod Settling
+pub mod SetSettling
+pub mod DependsAnswers
+pub mod HalvingLaws
+pub mod PlaceLaws
+pub mod SettledRowsLaws
