@@ -5,3 +5,4 @@ pub mod DependsAnswers
 pub mod HalvingLaws
 pub mod PlaceLaws
 pub mod SettledRowsLaws
+pub mod SettlingLaws

@@ -9,20 +9,43 @@ ghost use mathlib.Core.Path.{_≡_};
 ghost use mathlib.Core.List.{List, [], _∷_};
 ghost use Prim.Native.Nat.{_+_, _≤_, _<_};
 ghost use lib.ListN.{length};
-ghost use Rattle.spec_dependencies.specs.Expectations.{kept, neighbour, expectations};
+ghost use Rattle.spec_dependencies.specs.Expectations.{neighbour, expectations};
 ghost use Rattle.spec_dependencies.specs.Settled.{Settled, settledKey, judge, judgeAll};
 ghost use Rattle.bytes_records.specs.Search.{placeOf};
 ghost use Rattle.bytes_records.specs.declared.Place.the-variants.{Taken, Before};
 ghost use Rattle.projection_patch.specs.Meaning.{beforeOf, operationOf};
 ghost use Rattle.set_dependencies.specs.SettledRows.{rowCapacity, SettledTable};
-ghost use Rattle.set_dependencies.specs.Settling.{expectationOf, SettlesTo};
+ghost use Rattle.set_dependencies.specs.Settling.{expectedOf, leftOf, expectationOf, SettlesTo};
 
-// A key that an operation looks for: whether it must be there, and whether it is there afterwards.
-pub struct KeyExpectation {
-    pub collection: u64,
-    pub key: u64,
-    pub expected: bool,
-    pub left: bool,
+// What an operation does with a key that it looks for: an added one must be absent, the others must be there; a taken one is gone afterwards.
+pub enum KeyUse {
+    Added,
+    Kept,
+    Taken,
+}
+
+impl KeyUse {
+    // Whether the key must be there.
+    fn expected(self) -> bool
+        ensures { λ r. ⌜ r ≡ expectedOf self ⌝ }
+    {
+        match self {
+            KeyUse::Added => false,
+            KeyUse::Kept => true,
+            KeyUse::Taken => true,
+        }
+    }
+
+    // Whether the key is there afterwards.
+    fn left(self) -> bool
+        ensures { λ r. ⌜ r ≡ leftOf self ⌝ }
+    {
+        match self {
+            KeyUse::Added => true,
+            KeyUse::Kept => true,
+            KeyUse::Taken => false,
+        }
+    }
 }
 
 // How many rows the table has now, or that the key is not as expected. A table that is full answers so too; one of as many rows as a set
@@ -33,80 +56,90 @@ pub enum Settling {
 }
 
 // A key that is settled already, in the row at position `at`: it keeps what it must be at the start.
-fn settle_again(table: &mut [u8], count: usize, at: usize, e: KeyExpectation) -> Settling
-    ensures { λ r. ⌜ ((t : List Settled) → SettledTable count (now (table .entry)) t → placeOf settledKey (e .collection ∷ e .key ∷ []) t ≡ Taken at
-        → SettlesTo (judge (expectationOf e) t) r (now (table .exit))) ⌝ }
+fn settle_again(
+    table: &mut [u8],
+    count: usize,
+    at: usize,
+    collection: u64,
+    key: u64,
+    key_use: KeyUse,
+) -> Settling
+    ensures { λ r. ⌜ ((t : List Settled) → SettledTable count (now (table .entry)) t → placeOf settledKey (collection ∷ key ∷ []) t ≡ Taken at
+        → SettlesTo (judge (expectationOf collection key «key_use») t) r (now (table .exit))) ⌝ }
 {
     let row = bytes_records::record_at(table, settled_rows::WIDTH, count, at);
     let old = settled_rows::settled_key(row);
-    if old.present != e.expected {
+    if old.present != key_use.expected() {
         return Settling::Contradiction;
     }
     let new = settled_rows::settled_row(SettledKey {
-        collection: e.collection,
-        key: e.key,
+        collection,
+        key,
         at_start: old.at_start,
-        present: e.left,
+        present: key_use.left(),
     });
     bytes_records::replace_record(table, settled_rows::WIDTH, count, at, &new);
     Settling::Settled(count)
 }
 
 // A key that is not settled yet, before the row at position `at`: it must be at the start as expected.
-fn settle_first(table: &mut [u8], count: usize, at: usize, e: KeyExpectation) -> Settling
-    ensures { λ r. ⌜ ((t : List Settled) → SettledTable count (now (table .entry)) t → placeOf settledKey (e .collection ∷ e .key ∷ []) t ≡ Before at
-        → count < rowCapacity → SettlesTo (judge (expectationOf e) t) r (now (table .exit))) ⌝ }
+fn settle_first(
+    table: &mut [u8],
+    count: usize,
+    at: usize,
+    collection: u64,
+    key: u64,
+    key_use: KeyUse,
+) -> Settling
+    ensures { λ r. ⌜ ((t : List Settled) → SettledTable count (now (table .entry)) t → placeOf settledKey (collection ∷ key ∷ []) t ≡ Before at
+        → count < rowCapacity → SettlesTo (judge (expectationOf collection key «key_use») t) r (now (table .exit))) ⌝ }
 {
     if settled_rows::ROWS <= count {
         return Settling::Contradiction;
     }
     let row = settled_rows::settled_row(SettledKey {
-        collection: e.collection,
-        key: e.key,
-        at_start: e.expected,
-        present: e.left,
+        collection,
+        key,
+        at_start: key_use.expected(),
+        present: key_use.left(),
     });
     bytes_records::insert_record(table, settled_rows::WIDTH, count, at, &row);
     Settling::Settled(count + 1)
 }
 
-// Judges one expectation.
-fn settle(table: &mut [u8], count: usize, e: KeyExpectation) -> Settling
+// Judges one key that an operation looks for.
+fn settle(table: &mut [u8], count: usize, collection: u64, key: u64, key_use: KeyUse) -> Settling
     ensures { λ r. ⌜ ((t : List Settled) → SettledTable count (now (table .entry)) t → count < rowCapacity
-        → SettlesTo (judge (expectationOf e) t) r (now (table .exit))) ⌝ }
+        → SettlesTo (judge (expectationOf collection key «key_use») t) r (now (table .exit))) ⌝ }
 {
-    match find_settled::find_by_halving(table, settled_rows::WIDTH, count, e.collection, e.key) {
-        Place::Taken(at) => settle_again(table, count, at, e),
-        Place::Before(at) => settle_first(table, count, at, e),
+    match find_settled::find_by_halving(table, settled_rows::WIDTH, count, collection, key) {
+        Place::Taken(at) => settle_again(table, count, at, collection, key, key_use),
+        Place::Before(at) => settle_first(table, count, at, collection, key, key_use),
     }
 }
 
-// A key that must be there, and stays.
-fn kept(collection: u64, key: u64) -> KeyExpectation
-    ensures { λ r. ⌜ expectationOf r ≡ kept collection key ⌝ }
-{
-    KeyExpectation {
-        collection,
-        key,
-        expected: true,
-        left: true,
-    }
-}
-
-// Judges one expectation, and then that a named neighbour is there.
+// Judges the key of an operation, and then that a named neighbour is there.
 fn settle_beside(
     table: &mut [u8],
     count: usize,
-    e: KeyExpectation,
+    collection: u64,
+    key: u64,
+    key_use: KeyUse,
     before: OptionalKey,
 ) -> Settling
-    ensures { λ r. ⌜ ((t : List Settled) → SettledTable count (now (table .entry)) t → count + (1 + length (neighbour (e .collection) (beforeOf before))) ≤ rowCapacity
-        → SettlesTo (judgeAll (expectationOf e ∷ neighbour (e .collection) (beforeOf before)) t) r (now (table .exit))) ⌝ }
+    ensures { λ r. ⌜ ((t : List Settled) → SettledTable count (now (table .entry)) t → count + length (expectationOf collection key «key_use» ∷ neighbour collection (beforeOf before)) ≤ rowCapacity
+        → SettlesTo (judgeAll (expectationOf collection key «key_use» ∷ neighbour collection (beforeOf before)) t) r (now (table .exit))) ⌝ }
 {
-    match settle(table, count, e) {
+    match settle(table, count, collection, key, key_use) {
         Settling::Settled(more) => match before {
             OptionalKey::None => Settling::Settled(more),
-            OptionalKey::Some(key) => settle(table, more, kept(e.collection, key.raw())),
+            OptionalKey::Some(beside) => settle(
+                table,
+                more,
+                collection,
+                beside.raw(),
+                KeyUse::Kept,
+            ),
         },
         Settling::Contradiction => Settling::Contradiction,
     }
@@ -129,31 +162,43 @@ pub fn settle_operation(
             key,
             before,
             ..
-        } => {
-            let added = KeyExpectation {
-                collection: collection.raw(),
-                key: key.raw(),
-                expected: false,
-                left: true,
-            };
-            settle_beside(table, count, added, before)
-        }
+        } => settle_beside(
+            table,
+            count,
+            collection.raw(),
+            key.raw(),
+            KeyUse::Added,
+            before,
+        ),
         ProjectionPatchOperation::CollectionUpdate {
             collection, key, ..
-        } => settle(table, count, kept(collection.raw(), key.raw())),
-        ProjectionPatchOperation::CollectionRemove { collection, key } => {
-            let taken = KeyExpectation {
-                collection: collection.raw(),
-                key: key.raw(),
-                expected: true,
-                left: false,
-            };
-            settle(table, count, taken)
-        }
+        } => settle_beside(
+            table,
+            count,
+            collection.raw(),
+            key.raw(),
+            KeyUse::Kept,
+            OptionalKey::None,
+        ),
+        ProjectionPatchOperation::CollectionRemove { collection, key } => settle_beside(
+            table,
+            count,
+            collection.raw(),
+            key.raw(),
+            KeyUse::Taken,
+            OptionalKey::None,
+        ),
         ProjectionPatchOperation::CollectionMove {
             collection,
             key,
             before,
-        } => settle_beside(table, count, kept(collection.raw(), key.raw()), before),
+        } => settle_beside(
+            table,
+            count,
+            collection.raw(),
+            key.raw(),
+            KeyUse::Kept,
+            before,
+        ),
     }
 }

@@ -1,7 +1,7 @@
 -- How many keys there can be: the table has at most one row for each expectation, and an operation has at most two.
 use Prim.Native.Nat.{ℕ, suc, _+_, _*_, _≤_}
 use mathlib.Core.Path.{_≡_, refl, ap, subst}
-use mathlib.Core.Bool.{true, false}
+use mathlib.Core.Bool.{true, false, Bool·beq}
 use mathlib.Core.List.{List, [], _∷_, flatMap}
 use mathlib.Core.Option.{Option, none, some, Option·none-ne-some, Option·some-injective}
 use native.Mathlib.Omega.{arith}
@@ -15,7 +15,7 @@ use Rattle.spec_patch.specs.Encode.{encodeOptional, encodeValue, encodeOperatio
 use Rattle.spec_projection.specs.Apply.{operationsOf}
 use Rattle.spec_patch.specs.Patch.{Patch, Operation, setBinding, setAvailability, insert, update, remove, move}
 use Rattle.spec_dependencies.specs.Expectations.{Expectation, neighbour, expectations}
-use Rattle.spec_dependencies.specs.Settled.{Settled, settledKey, agree, judgeBy, judge, judgeAll}
+use Rattle.spec_dependencies.specs.Settled.{Settled, settledKey, judgeBy, judge, judgeAll}
 use Rattle.spec_dependencies.specs.Dependencies.{keysAtStart}
 use Rattle.spec_dependencies.specs.SettledLaws.{further-some}
 
@@ -29,7 +29,7 @@ row-added a (x ∷ t) = upsert-cases settledKey (λ r. length r ≤ suc (suc (le
 judgeBy-length : (e : Expectation) (t u : List Settled) (o : Option Settled) → judgeBy e t o ≡ some u → length u ≤ suc (length t)
 unfolding judgeBy
 judgeBy-length e t u none j = subst (λ r. length r ≤ suc (length t)) (Option·some-injective _ u j) (row-added _ t)
-judgeBy-length e t u (some s) j = test-cases (agree (s .now) (e .expected))
+judgeBy-length e t u (some s) j = test-cases (Bool·beq (s .now) (e .expected))
     (λ a. subst (λ r. length r ≤ suc (length t)) (Option·some-injective _ u (rw a at j)) (row-added _ t))
     (λ a. absurd (Option·none-ne-some u (rw a at j)))
 
@@ -67,7 +67,7 @@ all-expectations-length (o ∷ os) = simp length-append (omega (arith, expectati
 
 -- each row is in one of them
 pub keys-length : (t : List Settled) → length (keysAtStart true t) + length (keysAtStart false t) ≡ length t
-unfolding keysAtStart agree
+unfolding keysAtStart
 keys-length [] = refl
 keys-length (s ∷ t) = test-cases (s .atStart) (λ e. rw e (omega (arith, keys-length t))) (λ e. rw e (omega (arith, keys-length t)))
 

@@ -1,12 +1,12 @@
 -- What a set depends on: one walk over its operations, and the answer. 02, Job 8.
 use Prim.Native.Nat.{ℕ, _+_}
-use mathlib.Core.Bool.{Bool, true, false}
+use mathlib.Core.Bool.{Bool, true, false, Bool·beq}
 use mathlib.Core.List.{List, [], _∷_}
 use mathlib.Core.Option.{Option, none, some}
 use Rattle.spec_lists.specs.Lists.{if_then_else_}
 use Rattle.spec_patch.specs.Patch.{Operation, Patch}
 use Rattle.spec_dependencies.specs.Expectations.{expectations}
-use Rattle.spec_dependencies.specs.Settled.{Settled, agree, judgeAll}
+use Rattle.spec_dependencies.specs.Settled.{Settled, judgeAll}
 
 -- ---- the walk
 
@@ -52,7 +52,7 @@ keyWords k = k .collection ∷ k .key ∷ []
 -- the keys of a table that must be so at the start, in its order
 unfoldable pub keysAtStart : Bool → List Settled → List CollectionKey
 keysAtStart b [] = []
-keysAtStart b (s ∷ t) = if agree (s .atStart) b then collectionKey s ∷ keysAtStart b t else keysAtStart b t
+keysAtStart b (s ∷ t) = if Bool·beq (s .atStart) b then collectionKey s ∷ keysAtStart b t else keysAtStart b t
 
 -- never applicable, with the first operation that contradicts; or the keys that must be there at the start, and those that must be absent
 pub data Dependencies : Type 0 where

@@ -1,7 +1,7 @@
 -- The table of settled keys is right: expectations are met one after the other exactly if none contradicts and the start is as the table says.
 use Prim.Native.Nat.{ℕ}
 use mathlib.Core.Path.{_≡_, refl, sym, ap, _∙_, subst}
-use mathlib.Core.Bool.{Bool, true, false, false≢true, _&&_}
+use mathlib.Core.Bool.{Bool, true, false, false≢true, _&&_, Bool·beq}
 use mathlib.Core.List.{List, [], _∷_, _++_, head-eq-of-cons-eq, tail-eq-of-cons-eq}
 use mathlib.Core.Option.{Option, none, some, Option·some-injective, Option·none-ne-some}
 use borrow.Author.Tests.{eqb-true, eq-eqb}
@@ -11,22 +11,22 @@ use Rattle.spec_lists.specs.Order.{upsert, lookup, Ascending}
 use Rattle.spec_lists.specs.OrderLaws.{upsert-ascending}
 use Rattle.spec_lists.specs.LookupLaws.{lookup-upsert, lookup-upsert-other}
 use Rattle.spec_dependencies.specs.Expectations.{Expectation}
-use Rattle.spec_dependencies.specs.Settled.{Settled, settledKey, agree, settledBy, judgeBy, judge, further, judgeAll}
+use Rattle.spec_dependencies.specs.Settled.{Settled, settledKey, settledBy, judgeBy, judge, further, judgeAll}
 use Rattle.spec_dependencies.specs.Presence.{Presence, isOf, presenceAfter, Accepts}
 
 -- ---- tests
 
-pub agree-true : (a b : Bool) → agree a b ≡ true → a ≡ b
-unfolding agree
-agree-true true b h = sym h
-agree-true false true h = h
-agree-true false false h = refl
+pub beq-true : (a b : Bool) → Bool·beq a b ≡ true → a ≡ b
+beq-true true true h = refl
+beq-true true false h = sym h
+beq-true false true h = h
+beq-true false false h = refl
 
-pub agree-same : (a b : Bool) → a ≡ b → agree a b ≡ true
-unfolding agree
-agree-same true b h = sym h
-agree-same false true h = h
-agree-same false false h = refl
+pub beq-same : (a b : Bool) → a ≡ b → Bool·beq a b ≡ true
+beq-same true true h = refl
+beq-same true false h = sym h
+beq-same false true h = h
+beq-same false false h = refl
 
 -- ---- an expectation's key
 
@@ -143,12 +143,12 @@ module _ (h : Presence) where
         keeps = λ s g. absurd (Option·none-ne-some s (sym f ∙ g));
         met = λ m. current-found t (e .collection) (e .key) none f ∙ m;
       }
-      go (some s) f j = test-cases (agree (s .now) (e .expected))
+      go (some s) f j = test-cases (Bool·beq (s .now) (e .expected))
           (λ a. record {
             start = s .atStart;
             table = sym (Option·some-injective _ u (rw a at j));
             keeps = λ r g. ap (λ (x : Settled). x .atStart) (Option·some-injective r s (sym g ∙ f));
-            met = λ m. current-found t (e .collection) (e .key) (some s) f ∙ agree-true (s .now) (e .expected) a;
+            met = λ m. current-found t (e .collection) (e .key) (some s) f ∙ beq-true (s .now) (e .expected) a;
           })
           (λ a. absurd (Option·none-ne-some u (rw a at j)))
 
@@ -161,7 +161,7 @@ module _ (h : Presence) where
       go : (o : Option Settled) → settledAt (e .collection) (e .key) t ≡ o → (b : Bool) × (judgeBy e t o ≡ some (upsert settledKey (settledBy b e) t)) × (h (e .collection) (e .key) ≡ b)
       go none f = (e .expected, refl, sym (current-found t (e .collection) (e .key) none f) ∙ m)
       go (some s) f =
-          let a = agree-same (s .now) (e .expected) (sym (current-found t (e .collection) (e .key) (some s) f) ∙ m) in
+          let a = beq-same (s .now) (e .expected) (sym (current-found t (e .collection) (e .key) (some s) f) ∙ m) in
           (s .atStart, rw a, starts (e .collection) (e .key) s f)
 
   -- ---- all expectations
@@ -194,7 +194,7 @@ module _ (h : Presence) where
 judgeBy-ascending : (e : Expectation) (t u : List Settled) (o : Option Settled) → Ascending settledKey t → judgeBy e t o ≡ some u → Ascending settledKey u
 unfolding judgeBy
 judgeBy-ascending e t u none h j = subst (Ascending settledKey) (Option·some-injective _ u j) (upsert-ascending settledKey _ t h)
-judgeBy-ascending e t u (some s) h j = test-cases (agree (s .now) (e .expected))
+judgeBy-ascending e t u (some s) h j = test-cases (Bool·beq (s .now) (e .expected))
     (λ a. subst (Ascending settledKey) (Option·some-injective _ u (rw a at j)) (upsert-ascending settledKey _ t h))
     (λ a. absurd (Option·none-ne-some u (rw a at j)))
 

@@ -1,7 +1,7 @@
 -- The two lists of a table's keys: strictly ascending, no key in both, and a start is as the table says exactly if it has all of the first and none of the second.
 use Prim.Native.Nat.{ℕ}
 use mathlib.Core.Path.{_≡_, sym, _∙_}
-use mathlib.Core.Bool.{Bool, true, false, false≢true}
+use mathlib.Core.Bool.{Bool, true, false, false≢true, Bool·beq}
 use mathlib.Core.List.{List, [], _∷_, List·Memᴰ, List·Memᴰ·head, List·Memᴰ·tail}
 use mathlib.Core.Option.{some, Option·some-injective, Option·none-ne-some}
 use lib.Dec.{eqb}
@@ -10,10 +10,10 @@ use Rattle.spec_lists.specs.ListLaws.{if-cases, test-cases, all-member, equalLi
 use Rattle.spec_lists.specs.Order.{lexLess, lookup, Ascending}
 use Rattle.spec_lists.specs.OrderLaws.{lexLess-irreflexive}
 use Rattle.spec_lists.specs.LookupLaws.{lookup-here, lookup-past}
-use Rattle.spec_dependencies.specs.Settled.{Settled, settledKey, agree}
+use Rattle.spec_dependencies.specs.Settled.{Settled, settledKey}
 use Rattle.spec_dependencies.specs.Dependencies.{CollectionKey, collectionKey, keyWords, keysAtStart}
 use Rattle.spec_dependencies.specs.Presence.{Presence}
-use Rattle.spec_dependencies.specs.SettledLaws.{agree-true, settledAt, StartsAs, toldStart, told-starts}
+use Rattle.spec_dependencies.specs.SettledLaws.{beq-true, settledAt, StartsAs, toldStart, told-starts}
 
 -- ---- strictly ascending
 
@@ -21,12 +21,12 @@ keys-above : (x : Settled) (b : Bool) (t : List Settled) → All (λ y. lexLess 
     → All (λ y. lexLess (keyWords (collectionKey x)) (keyWords y) ≡ true) (keysAtStart b t)
 unfolding keysAtStart settledKey keyWords
 keys-above x b [] h = tt
-keys-above x b (s ∷ t) h = if-cases (All (λ y. lexLess (keyWords (collectionKey x)) (keyWords y) ≡ true)) (agree (s .atStart) b) _ _ (λ a. (h .0, keys-above x b t (h .1))) (λ a. keys-above x b t (h .1))
+keys-above x b (s ∷ t) h = if-cases (All (λ y. lexLess (keyWords (collectionKey x)) (keyWords y) ≡ true)) (Bool·beq (s .atStart) b) _ _ (λ a. (h .0, keys-above x b t (h .1))) (λ a. keys-above x b t (h .1))
 
 pub keys-ascending : (b : Bool) (t : List Settled) → Ascending settledKey t → Ascending keyWords (keysAtStart b t)
 unfolding keysAtStart
 keys-ascending b [] h = tt
-keys-ascending b (s ∷ t) h = if-cases (Ascending keyWords) (agree (s .atStart) b) _ _ (λ a. (keys-above s b t (h .0), keys-ascending b t (h .1))) (λ a. keys-ascending b t (h .1))
+keys-ascending b (s ∷ t) h = if-cases (Ascending keyWords) (Bool·beq (s .atStart) b) _ _ (λ a. (keys-above s b t (h .0), keys-ascending b t (h .1))) (λ a. keys-ascending b t (h .1))
 
 -- ---- what is found is an element of that key
 
@@ -69,10 +69,10 @@ module _ (h : Presence) where
   rows-keys : (b : Bool) (t : List Settled) → All RowHolds t → EachKey b (keysAtStart b t)
   unfolding keysAtStart
   rows-keys b [] rows = tt
-  rows-keys b (s ∷ t) rows = if-cases (EachKey b) (agree (s .atStart) b) _ _ (λ a. (rows .0 ∙ agree-true (s .atStart) b a, rows-keys b t (rows .1))) (λ a. rows-keys b t (rows .1))
+  rows-keys b (s ∷ t) rows = if-cases (EachKey b) (Bool·beq (s .atStart) b) _ _ (λ a. (rows .0 ∙ beq-true (s .atStart) b a, rows-keys b t (rows .1))) (λ a. rows-keys b t (rows .1))
 
   keys-rows : (t : List Settled) → EachKey true (keysAtStart true t) → EachKey false (keysAtStart false t) → All RowHolds t
-  unfolding keysAtStart agree
+  unfolding keysAtStart
   keys-rows [] held lacked = tt
   keys-rows (s ∷ t) held lacked = test-cases (s .atStart)
       (λ e. let first = rw e at held in let second = rw e at lacked in (first .0 ∙ sym e, keys-rows t (first .1) second))
