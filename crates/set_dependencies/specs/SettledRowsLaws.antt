@@ -1,11 +1,11 @@
 -- Laws of settled rows: their width, that they ascend as their keys do, and what stands at a position.
-use Prim.Native.Nat.{ℕ, zero, suc, _<_}
-use mathlib.Core.Path.{_≡_, refl, ap, _∙_}
-use mathlib.Core.Bool.{Bool, true, false}
+use Prim.Native.Nat.{ℕ, zero, suc, _*_, _<_}
+use mathlib.Core.Path.{_≡_, refl, sym, ap, _∙_}
+use mathlib.Core.Bool.{Bool, true, false, not}
 use mathlib.Core.List.{List, [], _∷_, map}
 use native.Mathlib.Omega.{arith}
 use lib.Dec.{eqb}
-use lib.ListN.{length, getD, length-append}
+use lib.ListN.{length, getD, length-append, length-replicate}
 use Rattle.spec_lists.specs.Lists.{All}
 use Rattle.spec_lists.specs.ListLaws.{all-map, all-member, getD-member}
 use Rattle.spec_lists.specs.BytesLaws.{length-littleEndian}
@@ -15,8 +15,10 @@ use Rattle.bytes_records.specs.Keys.{leadingNumbers}
 use Rattle.bytes_records.specs.KeysLaws.{leading-number}
 use Rattle.bytes_records.specs.Search.{placeOf}
 use Rattle.bytes_records.specs.SearchLaws.{place-map}
+use Rattle.bytes_records.specs.Moves.{zeros}
 use Rattle.bytes_records.specs.Table.{Wide}
-use Rattle.set_dependencies.specs.SettledRows.{rowFields, flag, settledRow, rowWidth, FitsSettled}
+use Rattle.bytes_records.specs.TableLaws.{holds-none}
+use Rattle.set_dependencies.specs.SettledRows.{rowFields, flag, settledRow, rowWidth, rowCapacity, FitsSettled, SettledTable}
 
 pub row-wide : (s : Settled) → Wide rowWidth (settledRow s)
 unfolding settledRow
@@ -67,3 +69,16 @@ fits-at t i fit h = all-member FitsSettled t fit (getD-member t i noKey h)
 pub flag-told : (b : Bool) → eqb (flag b) 1 ≡ b
 flag-told true = refl
 flag-told false = refl
+
+pub not-true : (a : Bool) → not a ≡ true → a ≡ false
+not-true true h = sym h
+not-true false h = refl
+
+pub not-false : (a : Bool) → not a ≡ false → a ≡ true
+not-false true h = refl
+not-false false h = sym h
+
+-- ---- no rows
+
+pub none-settled : SettledTable 0 (zeros (rowCapacity * rowWidth)) []
+none-settled = record { size = length-replicate {A = ℕ} (rowCapacity * rowWidth) 0; rows = holds-none rowWidth (rowCapacity * rowWidth); fit = tt; ascending = tt }

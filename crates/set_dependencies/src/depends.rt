@@ -73,13 +73,12 @@ fn depends_clean(set: &[u8], out: &mut [u64]) -> DependenciesAnswer
                 patch,
                 operation,
             },
-            SetSettling::Unreadable(fault) => DependenciesAnswer::Refused(
-                DependenciesRefusal::Unreadable(fault),
-            ),
+            SetSettling::Unreadable(fault) =>
+                DependenciesAnswer::Refused(DependenciesRefusal::Unreadable(fault)),
         },
-        SetOpening::Refused(fault) => DependenciesAnswer::Refused(
-            DependenciesRefusal::Unreadable(fault),
-        ),
+        SetOpening::Refused(fault) => DependenciesAnswer::Refused(DependenciesRefusal::Unreadable(
+            fault,
+        )),
     }
 }
 
@@ -95,8 +94,8 @@ pub fn depends(set: &[u8], out: &mut [u64]) -> DependenciesAnswer
             operation_count: _,
         } => depends_clean(set, out),
         QuickCheck::Found => DependenciesAnswer::Refused(DependenciesRefusal::Findings),
-        QuickCheck::Refused(fault) => DependenciesAnswer::Refused(
-            DependenciesRefusal::Unreadable(fault),
-        ),
+        QuickCheck::Refused(fault) => DependenciesAnswer::Refused(DependenciesRefusal::Unreadable(
+            fault,
+        )),
     }
 }

@@ -171,7 +171,9 @@ pub fn settle_operation(
             before,
         ),
         ProjectionPatchOperation::CollectionUpdate {
-            collection, key, ..
+            collection,
+            key,
+            ..
         } => settle_beside(
             table,
             count,

@@ -74,7 +74,7 @@ keys-length (s ∷ t) = test-cases (s .atStart) (λ e. rw e (omega (arith, keys-
 -- ---- by the bytes of a set
 
 -- a key that is expected takes 13 bytes at least: a move before a neighbour expects two, in 26
-expectations-bytes : (o : Operation) → 13 * length (expectations o) ≤ length (encodeOperation o)
+pub expectations-bytes : (o : Operation) → 13 * length (expectations o) ≤ length (encodeOperation o)
 unfolding expectations neighbour encodeOperation encodeOptional encodeValue
 expectations-bytes (setBinding n s v) = omega arith
 expectations-bytes (setAvailability n a) = omega arith

@@ -1,46 +1,53 @@
+-- `depends` meets its contract: the quick check refuses, or the set is walked.
+use mathlib.Core.Path.{sym, _∙_}
 use borrow.Author.Needs.{needs}
+use Rattle.spec_patch.specs.Edition.{v1}
+use Rattle.spec_patch.specs.Read.{readSet}
+use Rattle.spec_dependencies.specs.Answer.{dependenciesOf}
+use Rattle.set_dependencies.specs.DependsLaws.{clean-depends, found-depends, refused-depends}
 use Rattle.set_dependencies.proofs.depends.depends.Statement.{statement}
 use Rattle.set_dependencies.proofs.depends.depends.Tie as tie
-use Rattle.set_dependencies.proofs.depends.depends.Reads as reads
-use Rattle.set_dependencies.proofs.depends.depends.Lts as lts
-use Rattle.check_quick.proofs.quick_set.quick_check.Reads as quick-check-reads
-use Rattle.set_dependencies.proofs.depends.depends_clean.Reads as depends-clean-reads
 
--- src/depends.rt:92:11
 quick-check-requires : tie.Need-quick-check-requires
 quick-check-requires c κs = search needs
 
--- src/depends.rt:96:33
 enum-told : tie.Need-enum-told
 enum-told c = search needs
 
--- src/depends.rt:96:14
 depends-clean-requires : tie.Need-depends-clean-requires
 depends-clean-requires c κs = search needs
 
--- src/depends.rt:97:58
 enum-told-2 : tie.Need-enum-told-2
 enum-told-2 c = search needs
 
--- src/depends.rt:98:29
 enum-known-fault : tie.Need-enum-known-fault
 enum-known-fault c = search needs
 
--- src/depends.rt:88:1
 same-length : tie.Need-same-length
 same-length c = search needs
 
--- src/depends.rt:88:1
 returns : tie.Need-returns
-returns c = ?
+unfolding dependenciesOf
+returns c =
+    let call = c .before .before in
+    let told = call .before .before in
+    let q = told .before .before in
+    let a = q .before .before .before .args in
+    clean-depends (a .out .now) (readSet v1 (a .set .now)) _ _ (sym (q .quick-check .ensures) ∙ told .enum-told .given .1) _ _ (call .depends-clean .ensures .0) (call .depends-clean .ensures .1)
 
--- src/depends.rt:88:1
 returns-2 : tie.Need-returns-2
-returns-2 c = ?
+unfolding dependenciesOf
+returns-2 c =
+    let q = c .before .before in
+    let a = q .before .before .before .args in
+    found-depends (a .out .now) (readSet v1 (a .set .now)) (sym (q .quick-check .ensures) ∙ c .enum-told2 .given .1)
 
--- src/depends.rt:88:1
 returns-3 : tie.Need-returns-3
-returns-3 c = ?
+unfolding dependenciesOf
+returns-3 c =
+    let q = c .before .before .before in
+    let a = q .before .before .before .args in
+    refused-depends (a .out .now) (readSet v1 (a .set .now)) _ (sym (q .quick-check .ensures) ∙ c .before .fault .given .1)
 
 pub depends-spec : {M : Type 1} → statement M
 depends-spec =
