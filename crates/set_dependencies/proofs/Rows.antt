@@ -1,10 +1,10 @@
 -- The bytes of a settled row: written field by field, and read back.
 use Prim.Native.Nat.{ℕ, _+_, _-_}
-use mathlib.Core.Path.{_≡_, refl, sym, ap, _∙_}
+use mathlib.Core.Path.{_≡_, sym, ap, _∙_}
 use mathlib.Core.List.{List, [], _∷_, _++_, append-assoc}
 use native.Mathlib.Omega.{arith}
 use lib.Dec.{eqb}
-use lib.ListN.{length, take, drop, getD, set, length-append, length-replicate}
+use lib.ListN.{length, take, drop, getD, set, length-append}
 use lib.Seq.{set-at, take-at, drop-at, getD-at}
 use Rattle.spec_lists.specs.Bytes.{numberOf}
 use Rattle.spec_lists.specs.BytesLaws.{length-littleEndian, numberOf-littleEndian}

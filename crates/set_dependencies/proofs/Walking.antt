@@ -1,7 +1,7 @@
 -- A walk over a set, one step at a time: what is left, from what is settled now, gives what the whole walk gives.
 use Prim.Native.Nat.{ℕ, _+_, _*_, _≤_}
 use mathlib.Core.Path.{_≡_, refl, sym, ap, ap₂, _∙_, subst}
-use mathlib.Core.List.{List, [], _∷_}
+use mathlib.Core.List.{List, []}
 use mathlib.Core.Option.{Option, none, some}
 use native.Mathlib.Omega.{arith}
 use lib.ListN.{length}
@@ -11,7 +11,7 @@ use Rattle.spec_patch.specs.Patch.{Operation, Patch}
 use Rattle.spec_patch.specs.Encode.{encodeOperation}
 use Rattle.spec_dependencies.specs.Expectations.{expectations}
 use Rattle.spec_dependencies.specs.Settled.{Settled, judgeAll}
-use Rattle.spec_dependencies.specs.Dependencies.{Walk, settles, contradicts, walkOn, walkStep, walkOperations, walkPatches}
+use Rattle.spec_dependencies.specs.Dependencies.{Walk, contradicts, walkOn, walkStep, walkOperations, walkPatches}
 use Rattle.spec_dependencies.specs.CountLaws.{judgeAll-length, expectations-bytes}
 use Rattle.projection_patch.specs.Meaning.{operationOf}
 use Rattle.projection_patch.specs.ReadAnswers.{lentFrom}
@@ -22,8 +22,8 @@ use Rattle.patch_walk.specs.Steps.{AtSteps}
 use Rattle.patch_walk.specs.StepsLaws.{Visited, Opened}
 use Rattle.patch_walk.specs.declared.SetCursor.{SetCursor}
 use Rattle.set_dependencies.specs.SettledRows.{SettledTable}
-use Rattle.set_dependencies.specs.Settling.{SettlesTo}
-use Rattle.set_dependencies.specs.SettlingLaws.{Judges, table-length}
+use Rattle.set_dependencies.specs.Settling.{SettlesTo, Judges}
+use Rattle.set_dependencies.specs.SettlingLaws.{table-length}
 use Rattle.set_dependencies.specs.SetSettling.{SetSettlesTo}
 use Rattle.set_dependencies.specs.declared.settling.Settling.{Settling}
 use Rattle.set_dependencies.specs.declared.settling.Settling.the-variants as settling

@@ -1,13 +1,12 @@
 -- A search by halving in an ascending list: what is left between two positions shrinks to the place of the key.
 use Prim.Native.Nat.{ℕ, zero, suc, _+_, _≤_, _<_}
-use mathlib.Core.Path.{_≡_, refl, ap, _∙_}
-use mathlib.Core.Bool.{Bool, true, false}
+use mathlib.Core.Path.{_≡_, refl}
+use mathlib.Core.Bool.{true, false}
 use mathlib.Core.List.{List, [], _∷_}
 use native.Mathlib.Omega.{arith}
 use borrow.Author.Tests.{eqb-true, eqb-false}
 use lib.Dec.{eqb}
 use lib.ListN.{length, getD}
-use Rattle.spec_lists.specs.Lists.{if_then_else_}
 use Rattle.spec_lists.specs.ListLaws.{test-cases, all-member, getD-member}
 use Rattle.spec_lists.specs.Order.{lexLess, Ascending}
 use Rattle.spec_lists.specs.OrderLaws.{lexLess-total, lexLess-trans, lexLess-irreflexive, lexLess-self}

@@ -1,12 +1,11 @@
 -- The place of a key tells what is looked up of it.
-use Prim.Native.Nat.{ℕ, zero, suc, _≤_, _<_}
-use mathlib.Core.Path.{_≡_, refl, sym, ap, _∙_}
-use mathlib.Core.Bool.{Bool, true, false}
+use Prim.Native.Nat.{ℕ, _≤_, _<_}
+use mathlib.Core.Path.{_≡_, refl, ap, _∙_}
+use mathlib.Core.Bool.{true}
 use mathlib.Core.List.{List, [], _∷_}
-use mathlib.Core.Option.{Option, none, some}
+use mathlib.Core.Option.{none, some}
 use native.Mathlib.Omega.{arith}
 use lib.ListN.{length, getD}
-use Rattle.spec_lists.specs.Lists.{if_then_else_}
 use Rattle.spec_lists.specs.ListLaws.{test-cases, all-map}
 use Rattle.spec_lists.specs.Order.{lexLess, lookup, Ascending}
 use Rattle.spec_lists.specs.OrderLaws.{lexLess-total, lexLess-irreflexive, lexLess-trans}

@@ -1,5 +1,5 @@
 -- An expectation judged in a table: the row of its key is replaced, inserted, or contradicts.
-use Prim.Native.Nat.{ℕ, _+_, _*_, _≤_, _<_}
+use Prim.Native.Nat.{ℕ, _+_, _≤_, _<_}
 use mathlib.Core.Path.{_≡_, refl, sym, ap, _∙_, subst}
 use mathlib.Core.Bool.{Bool, true, false, Bool·beq}
 use mathlib.Core.List.{List, [], _∷_, map}
@@ -82,10 +82,6 @@ module _ (e : Expectation) (fits : U64 (e .collection) × U64 (e .key)) {count :
       rw (here .1) (stored (e .expected) (Before at) is exit same (count + 1) (subst (λ x. Holds rowWidth (count + 1) exit (insertAt at x (map settledRow t))) r h))
 
 -- ---- one expectation after another
-
--- what the contract of a function over expectations says
-abbrev pub Judges : ℕ → List ℕ → List ℕ → Settling → List Expectation → Type 0
-Judges count table exit r es = (t : List Settled) → SettledTable count table t → count + length es ≤ rowCapacity → SettlesTo (judgeAll es t) r exit
 
 -- a table has at most one row more
 pub judged-count : (e : Expectation) {count more : ℕ} {table : List ℕ} (t : List Settled) → SettledTable count table t → (exit : List ℕ) → SettlesTo (judge e t) (settling.Settled more) exit → more ≤ count + 1

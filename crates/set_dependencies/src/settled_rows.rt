@@ -1,7 +1,6 @@
 // Rows of settled keys: the collection and the key, then whether it must be there at the start, and whether it is there now.
 use projection_patch::patch::ProjectionPatchSet;
 ghost use mathlib.Core.Path.{_≡_};
-ghost use mathlib.Core.List.{List};
 ghost use Rattle.spec_dependencies.specs.Settled.{Settled};
 ghost use Rattle.set_dependencies.specs.SettledRows.{flag, settledRow, settledOf, FitsSettled};
 

@@ -3,19 +3,20 @@ use crate::find_settled;
 use crate::settled_rows;
 use crate::settled_rows::SettledKey;
 use bytes_records::Place;
+use projection_patch::contract_primitives::CollectionKey;
+use projection_patch::contract_primitives::StaticNodeId;
 use projection_patch::patch::OptionalKey;
 use projection_patch::patch::ProjectionPatchOperation;
 ghost use mathlib.Core.Path.{_≡_};
 ghost use mathlib.Core.List.{List, [], _∷_};
-ghost use Prim.Native.Nat.{_+_, _≤_, _<_};
-ghost use lib.ListN.{length};
+ghost use Prim.Native.Nat.{_<_};
 ghost use Rattle.spec_dependencies.specs.Expectations.{neighbour, expectations};
-ghost use Rattle.spec_dependencies.specs.Settled.{Settled, settledKey, judge, judgeAll};
+ghost use Rattle.spec_dependencies.specs.Settled.{Settled, settledKey, judge};
 ghost use Rattle.bytes_records.specs.Search.{placeOf};
 ghost use Rattle.bytes_records.specs.declared.Place.the-variants.{Taken, Before};
 ghost use Rattle.projection_patch.specs.Meaning.{beforeOf, operationOf};
 ghost use Rattle.set_dependencies.specs.SettledRows.{rowCapacity, SettledTable};
-ghost use Rattle.set_dependencies.specs.Settling.{expectedOf, leftOf, expectationOf, SettlesTo};
+ghost use Rattle.set_dependencies.specs.Settling.{expectedOf, leftOf, expectationOf, SettlesTo, Judges};
 
 // What an operation does with a key that it looks for: an added one must be absent, the others must be there; a taken one is gone afterwards.
 pub enum KeyUse {
@@ -122,24 +123,18 @@ fn settle(table: &mut [u8], count: usize, collection: u64, key: u64, key_use: Ke
 fn settle_beside(
     table: &mut [u8],
     count: usize,
-    collection: u64,
-    key: u64,
+    collection: StaticNodeId,
+    key: CollectionKey,
     key_use: KeyUse,
     before: OptionalKey,
 ) -> Settling
-    ensures { λ r. ⌜ ((t : List Settled) → SettledTable count (now (table .entry)) t → count + length (expectationOf collection key «key_use» ∷ neighbour collection (beforeOf before)) ≤ rowCapacity
-        → SettlesTo (judgeAll (expectationOf collection key «key_use» ∷ neighbour collection (beforeOf before)) t) r (now (table .exit))) ⌝ }
+    ensures { λ r. ⌜ Judges count (now (table .entry)) (now (table .exit)) r (expectationOf (collection .0) (key .0) «key_use» ∷ neighbour (collection .0) (beforeOf before)) ⌝ }
 {
-    match settle(table, count, collection, key, key_use) {
+    let node = collection.raw();
+    match settle(table, count, node, key.raw(), key_use) {
         Settling::Settled(more) => match before {
             OptionalKey::None => Settling::Settled(more),
-            OptionalKey::Some(beside) => settle(
-                table,
-                more,
-                collection,
-                beside.raw(),
-                KeyUse::Kept,
-            ),
+            OptionalKey::Some(beside) => settle(table, more, node, beside.raw(), KeyUse::Kept),
         },
         Settling::Contradiction => Settling::Contradiction,
     }
@@ -151,9 +146,9 @@ pub fn settle_operation(
     count: usize,
     operation: ProjectionPatchOperation,
 ) -> Settling
-    ensures { λ r. ⌜ ((t : List Settled) → SettledTable count (now (table .entry)) t → count + length (expectations (operationOf [] operation)) ≤ rowCapacity
-        → SettlesTo (judgeAll (expectations (operationOf [] operation)) t) r (now (table .exit))) ⌝ }
+    ensures { λ r. ⌜ Judges count (now (table .entry)) (now (table .exit)) r (expectations (operationOf [] operation)) ⌝ }
 {
+    let alone = OptionalKey::None;
     match operation {
         ProjectionPatchOperation::SetBindingValue { .. } => Settling::Settled(count),
         ProjectionPatchOperation::SetNodeAvailability { .. } => Settling::Settled(count),
@@ -162,45 +157,19 @@ pub fn settle_operation(
             key,
             before,
             ..
-        } => settle_beside(
-            table,
-            count,
-            collection.raw(),
-            key.raw(),
-            KeyUse::Added,
-            before,
-        ),
+        } => settle_beside(table, count, collection, key, KeyUse::Added, before),
         ProjectionPatchOperation::CollectionUpdate {
             collection,
             key,
             ..
-        } => settle_beside(
-            table,
-            count,
-            collection.raw(),
-            key.raw(),
-            KeyUse::Kept,
-            OptionalKey::None,
-        ),
-        ProjectionPatchOperation::CollectionRemove { collection, key } => settle_beside(
-            table,
-            count,
-            collection.raw(),
-            key.raw(),
-            KeyUse::Taken,
-            OptionalKey::None,
-        ),
+        } => settle_beside(table, count, collection, key, KeyUse::Kept, alone),
+        ProjectionPatchOperation::CollectionRemove { collection, key } => {
+            settle_beside(table, count, collection, key, KeyUse::Taken, alone)
+        }
         ProjectionPatchOperation::CollectionMove {
             collection,
             key,
             before,
-        } => settle_beside(
-            table,
-            count,
-            collection.raw(),
-            key.raw(),
-            KeyUse::Kept,
-            before,
-        ),
+        } => settle_beside(table, count, collection, key, KeyUse::Kept, before),
     }
 }

@@ -4,7 +4,6 @@ use crate::settling::Settling;
 use patch_walk::SetCursor;
 use patch_walk::SetStep;
 use projection_patch::read_values::ProjectionPatchReadFault;
-ghost use mathlib.Core.Path.{_≡_};
 ghost use mathlib.Core.List.{List, []};
 ghost use Prim.Native.Nat.{_≤_};
 ghost use lib.ListN.{length};

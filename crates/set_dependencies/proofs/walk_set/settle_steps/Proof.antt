@@ -1,5 +1,5 @@
 -- `settle_steps` meets its contract: what is left, from what is settled now, gives what the whole walk gives; the measure is the bytes left.
-use Prim.Native.Nat.{ℕ, _+_, _-_, _≤_}
+use Prim.Native.Nat.{ℕ, _-_, _≤_}
 use mathlib.Core.Path.{_≡_, refl, subst}
 use mathlib.Core.Bool.{false}
 use mathlib.Core.List.{List, []}
