@@ -27,15 +27,15 @@ module _ (a b lent : List ℕ) (from : ℕ) (front : length a ≡ from) (room : 
   same-size = ap length first ∙ written-length a lent (omega arith)
 
   -- the part that is lent to the second
-  pub part-is : midOf from (length one - from) one ≡ rest
-  part-is = ap (take (length one - from)) behind ∙ take-all (length one - from) rest (omega (arith, length-drop from lent, same-size))
+  pub second-part : midOf from (length one - from) one ≡ rest
+  second-part = ap (take (length one - from)) behind ∙ take-all (length one - from) rest (omega (arith, length-drop from lent, same-size))
 
-  pub both-written : {two : List ℕ} → two ≡ wordsWritten b (midOf from (length one - from) one) → putMid from (length one - from) one two ≡ wordsWritten (a ++ b) lent
+  pub second-written : {two : List ℕ} → two ≡ wordsWritten b (midOf from (length one - from) one) → putMid from (length one - from) one two ≡ wordsWritten (a ++ b) lent
   unfolding wordsWritten
-  both-written {two} second =
+  second-written {two} second =
       let gone : length rest ≤ length one - from = omega (arith, length-drop from lent, same-size) in
       let none = drop-of-length-le rest gone in
       let sum : from + length b ≡ length (a ++ b) = omega (arith, length-append a b) in
-      let last : two ≡ b ++ drop (length (a ++ b)) lent = second ∙ ap (wordsWritten b) part-is ∙ ap (λ (l : List ℕ). b ++ l) (drop-drop (length b) from lent ∙ ap (λ (n : ℕ). drop n lent) sum) in
+      let last : two ≡ b ++ drop (length (a ++ b)) lent = second ∙ ap (wordsWritten b) second-part ∙ ap (λ (l : List ℕ). b ++ l) (drop-drop (length b) from lent ∙ ap (λ (n : ℕ). drop n lent) sum) in
       ap₂ (λ (x y : List ℕ). x ++ (two ++ y)) (ap (take from) split ∙ take-at a rest from front) (ap (drop (length one - from)) behind ∙ none)
       ∙ ap (λ (l : List ℕ). a ++ l) (append-nil two ∙ last) ∙ sym (append-assoc a b (drop (length (a ++ b)) lent))

@@ -117,8 +117,8 @@ module _ (ed : Edition) (set : List ℕ) (whole : Walk) where
         pub walk-on : {r : Settling} {more : ℕ} → Judges count table exit r (expectations (operationOf [] x)) → r ≡ settling.Settled more → Walking d more opened patch (index + 1) exit
         walk-on {r} judges is = subst (After exit) is (after r judges)
 
-        pub walk-stops : {r : Settling} → Judges count table exit r (expectations (operationOf [] x)) → r ≡ settling.Contradiction → SetSettlesTo whole (set-settling.Contradiction patch index) exit
-        walk-stops {r} judges is = subst (λ y. SetSettlesTo y (set-settling.Contradiction patch index) exit) (sym (subst (After exit) is (after r judges))) (refl, refl)
+        pub walk-contradicts : {r : Settling} → Judges count table exit r (expectations (operationOf [] x)) → r ≡ settling.Contradiction → SetSettlesTo whole (set-settling.Contradiction patch index) exit
+        walk-contradicts {r} judges is = subst (λ y. SetSettlesTo y (set-settling.Contradiction patch index) exit) (sym (subst (After exit) is (after r judges))) (refl, refl)
 
 pub walk-start : (ed : Edition) (set : List ℕ) {c : SetCursor} {table : List ℕ} (ps : List Patch) → AtSteps ed set c [] ps → SettledTable 0 table [] → Walking ed set (walkPatches 0 ps []) c 0 0 0 0 table
 unfolding walkOperations

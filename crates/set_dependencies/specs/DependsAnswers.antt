@@ -6,17 +6,17 @@ use Rattle.set_dependencies.specs.declared.depends.DependenciesRefusal.t
 use Rattle.set_dependencies.specs.declared.depends.DependenciesAnswer.{DependenciesAnswer}
 use Rattle.set_dependencies.specs.declared.depends.DependenciesAnswer.the-variants as answer
 
-abbrev pub refusalOf : DependenciesRefusal → DependencyRefusal
-refusalOf (refusal.Unreadable f) = unreadable (faultOf f)
-refusalOf refusal.Findings = hasFindings
-refusalOf refusal.OutputTooShort = outputTooShort
+abbrev pub dependsRefusalOf : DependenciesRefusal → DependencyRefusal
+dependsRefusalOf (refusal.Unreadable f) = unreadable (faultOf f)
+dependsRefusalOf refusal.Findings = hasFindings
+dependsRefusalOf refusal.OutputTooShort = outputTooShort
 
-abbrev pub refusalTo : DependencyRefusal → DependenciesRefusal
-refusalTo (unreadable f) = refusal.Unreadable (faultTo f)
-refusalTo hasFindings = refusal.Findings
-refusalTo outputTooShort = refusal.OutputTooShort
+abbrev pub dependsRefusalTo : DependencyRefusal → DependenciesRefusal
+dependsRefusalTo (unreadable f) = refusal.Unreadable (faultTo f)
+dependsRefusalTo hasFindings = refusal.Findings
+dependsRefusalTo outputTooShort = refusal.OutputTooShort
 
 abbrev pub answerTo : DependencyAnswer → DependenciesAnswer
-answerTo (refused r) = answer.Refused (refusalTo r)
+answerTo (refused r) = answer.Refused (dependsRefusalTo r)
 answerTo (answerNever i j) = answer.Never i j
 answerTo (answerNeeds held lacked) = answer.Needs held lacked

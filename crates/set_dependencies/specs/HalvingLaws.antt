@@ -25,14 +25,14 @@ module _ (a b : List ℕ) where
   unfolding orderOf
   told above below same = test-cases (lexLess b a) (λ s. above s (rw s)) (λ s. test-cases (lexLess a b) (λ t. below t (rw (s, t))) (λ t. same (lexLess-total a b t s) (rw (s, t))))
 
-  pub order-below : orderOf a b ≡ Below → lexLess a b ≡ true
-  order-below e = told (λ s f. let z : _≡_ {A = ℕ} 0 1 = cc in absurd (omega arith)) (λ s f. s) (λ s f. let z : _≡_ {A = ℕ} 0 1 = cc in absurd (omega arith))
+  pub told-below : orderOf a b ≡ Below → lexLess a b ≡ true
+  told-below e = told (λ s f. let z : _≡_ {A = ℕ} 0 1 = cc in absurd (omega arith)) (λ s f. s) (λ s f. let z : _≡_ {A = ℕ} 0 1 = cc in absurd (omega arith))
 
-  pub order-same : orderOf a b ≡ Same → a ≡ b
-  order-same e = told (λ s f. let z : _≡_ {A = ℕ} 0 1 = cc in absurd (omega arith)) (λ s f. let z : _≡_ {A = ℕ} 0 1 = cc in absurd (omega arith)) (λ s f. s)
+  pub told-same : orderOf a b ≡ Same → a ≡ b
+  told-same e = told (λ s f. let z : _≡_ {A = ℕ} 0 1 = cc in absurd (omega arith)) (λ s f. let z : _≡_ {A = ℕ} 0 1 = cc in absurd (omega arith)) (λ s f. s)
 
-  pub order-above : orderOf a b ≡ Above → lexLess b a ≡ true
-  order-above e = told (λ s f. s) (λ s f. let z : _≡_ {A = ℕ} 0 1 = cc in absurd (omega arith)) (λ s f. let z : _≡_ {A = ℕ} 0 1 = cc in absurd (omega arith))
+  pub told-above : orderOf a b ≡ Above → lexLess b a ≡ true
+  told-above e = told (λ s f. s) (λ s f. let z : _≡_ {A = ℕ} 0 1 = cc in absurd (omega arith)) (λ s f. let z : _≡_ {A = ℕ} 0 1 = cc in absurd (omega arith))
 
 -- ---- positions
 
@@ -45,22 +45,22 @@ module _ {A : Type 0} (key : A → List ℕ) (d : A) where
 
   module _ (k : List ℕ) where
     -- the elements before position low are below the key, and those from position high on above it
-    pub record Left (low high : ℕ) (l : List A) : Type 0 where
+    pub record Between (low high : ℕ) (l : List A) : Type 0 where
       pub below : (i : ℕ) → i < low → lexLess (key (getD l i d)) k ≡ true
       pub above : (i : ℕ) → high ≤ i → i < length l → lexLess k (key (getD l i d)) ≡ true
 
-    pub left-all : (l : List A) (n : ℕ) → length l ≡ n → Left 0 n l
-    left-all l n e = record { below = λ i h. absurd (omega arith); above = λ i h b. absurd (omega arith) }
+    pub between-all : (l : List A) (n : ℕ) → length l ≡ n → Between 0 n l
+    between-all l n e = record { below = λ i h. absurd (omega arith); above = λ i h b. absurd (omega arith) }
 
-    pub left-none : (n : ℕ) (l : List A) → n ≤ length l → Left n n l → placeOf key k l ≡ Before n
+    pub between-none : (n : ℕ) (l : List A) → n ≤ length l → Between n n l → placeOf key k l ≡ Before n
     unfolding placeOf nextPlace
-    left-none zero [] h s = refl
-    left-none (suc n) [] h s = absurd (omega arith)
-    left-none zero (x ∷ l) h s = rw (s .above 0 (omega arith) (omega arith))
-    left-none (suc n) (x ∷ l) h s =
+    between-none zero [] h s = refl
+    between-none (suc n) [] h s = absurd (omega arith)
+    between-none zero (x ∷ l) h s = rw (s .above 0 (omega arith) (omega arith))
+    between-none (suc n) (x ∷ l) h s =
         let first = s .below 0 (omega arith) in
-        let rest : Left n n l = record { below = λ i b. s .below (suc i) (omega arith); above = λ i b c. s .above (suc i) (omega arith) (omega arith) } in
-        rw (lexLess-not (key x) k first, first, left-none n l (omega arith) rest)
+        let rest : Between n n l = record { below = λ i b. s .below (suc i) (omega arith); above = λ i b c. s .above (suc i) (omega arith) (omega arith) } in
+        rw (lexLess-not (key x) k first, first, between-none n l (omega arith) rest)
 
     taken : (n : ℕ) (l : List A) → n < length l → ((i : ℕ) → i < n → lexLess (key (getD l i d)) k ≡ true) → key (getD l n d) ≡ k → placeOf key k l ≡ Taken n
     unfolding placeOf nextPlace
@@ -70,25 +70,25 @@ module _ {A : Type 0} (key : A → List ℕ) (d : A) where
         let first = below 0 (omega arith) in
         rw (lexLess-not (key x) k first, first, taken n l (omega arith) (λ i b. below (suc i) (omega arith)) e)
 
-    module _ (l : List A) (ascending : Ascending key l) (low high middle : ℕ) (s : Left low high l) (within : middle < length l) where
+    module _ (l : List A) (ascending : Ascending key l) (low high middle : ℕ) (s : Between low high l) (within : middle < length l) where
       -- the element in the middle is below the key, above it, or of it
-      pub left-above : orderOf (key (getD l middle d)) k ≡ Below → Left (middle + 1) high l
-      left-above e = record { below = go; above = s .above }
+      pub between-above : orderOf (key (getD l middle d)) k ≡ Below → Between (middle + 1) high l
+      between-above e = record { below = go; above = s .above }
         where
           go : (i : ℕ) → i < middle + 1 → lexLess (key (getD l i d)) k ≡ true
           go i h = test-cases (eqb i middle)
-              (λ f. rw (eqb-true i middle f) (order-below _ k e))
-              (λ f. lexLess-trans (key (getD l i d)) (key (getD l middle d)) k (ascending-at l ascending i middle (omega (arith, eqb-false i middle f)) within) (order-below _ k e))
+              (λ f. rw (eqb-true i middle f) (told-below _ k e))
+              (λ f. lexLess-trans (key (getD l i d)) (key (getD l middle d)) k (ascending-at l ascending i middle (omega (arith, eqb-false i middle f)) within) (told-below _ k e))
 
-      pub left-below : orderOf (key (getD l middle d)) k ≡ Above → Left low middle l
-      left-below e = record { below = s .below; above = go }
+      pub between-below : orderOf (key (getD l middle d)) k ≡ Above → Between low middle l
+      between-below e = record { below = s .below; above = go }
         where
           go : (i : ℕ) → middle ≤ i → i < length l → lexLess k (key (getD l i d)) ≡ true
           go i h b = test-cases (eqb i middle)
-              (λ f. rw (eqb-true i middle f) (order-above _ k e))
-              (λ f. lexLess-trans k (key (getD l middle d)) (key (getD l i d)) (order-above _ k e) (ascending-at l ascending middle i (omega (arith, eqb-false i middle f)) b))
+              (λ f. rw (eqb-true i middle f) (told-above _ k e))
+              (λ f. lexLess-trans k (key (getD l middle d)) (key (getD l i d)) (told-above _ k e) (ascending-at l ascending middle i (omega (arith, eqb-false i middle f)) b))
 
-      pub left-taken : orderOf (key (getD l middle d)) k ≡ Same → placeOf key k l ≡ Taken middle
-      left-taken e =
-          let same = order-same (key (getD l middle d)) k e in
+      pub between-taken : orderOf (key (getD l middle d)) k ≡ Same → placeOf key k l ≡ Taken middle
+      between-taken e =
+          let same = told-same (key (getD l middle d)) k e in
           taken middle l within (λ i h. rw same at (ascending-at l ascending i middle h within)) same

@@ -61,8 +61,8 @@ row-of [] i h = absurd (omega arith)
 row-of (s ∷ t) zero h = refl
 row-of (s ∷ t) (suc i) h = row-of t i (omega arith)
 
-pub fits-at : (t : List Settled) (i : ℕ) → All FitsSettled t → i < length t → FitsSettled (getD t i noKey)
-fits-at t i fit h = all-member FitsSettled t fit (getD-member t i noKey h)
+pub row-fits : (t : List Settled) (i : ℕ) → All FitsSettled t → i < length t → FitsSettled (getD t i noKey)
+row-fits t i fit h = all-member FitsSettled t fit (getD-member t i noKey h)
 
 -- ---- flags
 

@@ -27,10 +27,10 @@ module _ (out : List ℕ) (at c k : ℕ) (room : at + 2 ≤ length out) where
   front-long : length front ≡ at + 2
   front-long = length-append (take at out) (c ∷ k ∷ []) ∙ omega (arith, length-take-le at out (omega arith))
 
-  pub both-written : (words : List ℕ)
+  pair-written : (words : List ℕ)
       → take (at + 2) (set (set out at c) (at + 1) k) ++ wordsWritten words (drop (at + 2) (set (set out at c) (at + 1) k)) ≡ take at out ++ wordsWritten (c ∷ k ∷ words) (drop at out)
   unfolding wordsWritten
-  both-written words =
+  pair-written words =
       let sum : at + 2 + length words ≡ at + length (c ∷ k ∷ words) = omega arith in
       let behind : drop (length words) (drop (at + 2) out) ≡ drop (length (c ∷ k ∷ words)) (drop at out) =
       drop-drop (length words) (at + 2) out ∙ ap (λ (n : ℕ). drop n out) sum ∙ sym (drop-drop (length (c ∷ k ∷ words)) at out) in
@@ -65,7 +65,7 @@ module _ (b : Bool) (s : Settled) (t : List Settled) (n : ℕ) (out : List ℕ) 
           counted = omega (arith, counted-own);
           words =
               ap (λ (m : ℕ). take m next ++ wordsWritten (allWords (keysAtStart b t)) (drop m next)) more
-              ∙ both-written out (pairLength * n) (s .collection) (s .key) room (allWords (keysAtStart b t)) ∙ words-own;
+              ∙ pair-written out (pairLength * n) (s .collection) (s .key) room (allWords (keysAtStart b t)) ∙ words-own;
         }
 
 -- no rows are left

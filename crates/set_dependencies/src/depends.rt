@@ -16,7 +16,7 @@ ghost use Rattle.spec_dependencies.specs.Settled.{Settled};
 ghost use Rattle.spec_dependencies.specs.Dependencies.{settles, dependenciesBy, dependencies};
 ghost use Rattle.spec_dependencies.specs.Answer.{refusalNumber, answerBy, dependenciesOf};
 ghost use Rattle.set_dependencies.specs.SettledRows.{SettledTable};
-ghost use Rattle.set_dependencies.specs.DependsAnswers.{refusalOf, answerTo};
+ghost use Rattle.set_dependencies.specs.DependsAnswers.{dependsRefusalOf, answerTo};
 
 // Why the call is refused.
 pub enum DependenciesRefusal {
@@ -28,7 +28,7 @@ pub enum DependenciesRefusal {
 impl DependenciesRefusal {
     // The number of a refusal.
     pub fn number(self) -> u64
-        ensures { λ r. ⌜ r ≡ refusalNumber (refusalOf self) ⌝ }
+        ensures { λ r. ⌜ r ≡ refusalNumber (dependsRefusalOf self) ⌝ }
     {
         match self {
             DependenciesRefusal::Unreadable(fault) => fault.number(),

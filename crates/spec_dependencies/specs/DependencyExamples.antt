@@ -18,8 +18,8 @@ use Rattle.spec_dependencies.specs.Settled.{settledKey, settledBy, judge
 use Rattle.spec_dependencies.specs.Dependencies.{walkOperations, walkPatches, CollectionKey, keyWords, keysAtStart, Dependencies, neverApplicable, needs, dependenciesBy, dependencies}
 use Rattle.spec_dependencies.specs.Answer.{allWords, unreadable, hasFindings, outputTooShort, refusalNumber, refused, answerNever, answerNeeds, answered, wordsWritten, answerBy, answerReading}
 
-abbrev pub keyIn : ℕ → ℕ → CollectionKey
-keyIn c k = record { collection = c; key = k }
+abbrev pub keyAt : ℕ → ℕ → CollectionKey
+keyAt c k = record { collection = c; key = k }
 
 abbrev pub insertKey : ℕ → ℕ → Option ℕ → Operation
 insertKey c k before = insert c k before (unsigned 1)
@@ -46,12 +46,12 @@ twoPatches a b = with 1 1 a ∷ with 2 2 b ∷ []
 -- each operation alone
 abbrev pub single : List DependencyExample
 single =
-    (onePatch (insertKey 9 1 none ∷ []) ⊳ needs [] (keyIn 9 1 ∷ []))
-    ∷ (onePatch (insertKey 9 1 (some 2) ∷ []) ⊳ needs (keyIn 9 2 ∷ []) (keyIn 9 1 ∷ []))
-    ∷ (onePatch (updateKey 9 1 ∷ []) ⊳ needs (keyIn 9 1 ∷ []) [])
-    ∷ (onePatch (remove 9 1 ∷ []) ⊳ needs (keyIn 9 1 ∷ []) [])
-    ∷ (onePatch (move 9 1 none ∷ []) ⊳ needs (keyIn 9 1 ∷ []) [])
-    ∷ (onePatch (move 9 3 (some 1) ∷ []) ⊳ needs (keyIn 9 1 ∷ keyIn 9 3 ∷ []) [])
+    (onePatch (insertKey 9 1 none ∷ []) ⊳ needs [] (keyAt 9 1 ∷ []))
+    ∷ (onePatch (insertKey 9 1 (some 2) ∷ []) ⊳ needs (keyAt 9 2 ∷ []) (keyAt 9 1 ∷ []))
+    ∷ (onePatch (updateKey 9 1 ∷ []) ⊳ needs (keyAt 9 1 ∷ []) [])
+    ∷ (onePatch (remove 9 1 ∷ []) ⊳ needs (keyAt 9 1 ∷ []) [])
+    ∷ (onePatch (move 9 1 none ∷ []) ⊳ needs (keyAt 9 1 ∷ []) [])
+    ∷ (onePatch (move 9 3 (some 1) ∷ []) ⊳ needs (keyAt 9 1 ∷ keyAt 9 3 ∷ []) [])
     -- bindings and availabilities expect nothing, and neither does an empty set
     ∷ (onePatch (setBinding 5 0 (unsigned 1) ∷ setAvailability 5 pending ∷ []) ⊳ needs [] [])
     ∷ ([] ⊳ needs [] [])
@@ -61,9 +61,9 @@ single =
 abbrev pub sameKey : List DependencyExample
 sameKey =
     -- judged by what an earlier operation has done
-    (onePatch (insertKey 9 1 none ∷ updateKey 9 1 ∷ remove 9 1 ∷ []) ⊳ needs [] (keyIn 9 1 ∷ []))
-    ∷ (twoPatches (remove 9 1 ∷ []) (insertKey 9 1 none ∷ []) ⊳ needs (keyIn 9 1 ∷ []) [])
-    ∷ (onePatch (updateKey 9 1 ∷ move 9 1 none ∷ remove 9 1 ∷ insertKey 9 1 none ∷ []) ⊳ needs (keyIn 9 1 ∷ []) [])
+    (onePatch (insertKey 9 1 none ∷ updateKey 9 1 ∷ remove 9 1 ∷ []) ⊳ needs [] (keyAt 9 1 ∷ []))
+    ∷ (twoPatches (remove 9 1 ∷ []) (insertKey 9 1 none ∷ []) ⊳ needs (keyAt 9 1 ∷ []) [])
+    ∷ (onePatch (updateKey 9 1 ∷ move 9 1 none ∷ remove 9 1 ∷ insertKey 9 1 none ∷ []) ⊳ needs (keyAt 9 1 ∷ []) [])
     -- removed, then updated; updated, then inserted; inserted twice; removed twice
     ∷ (onePatch (remove 9 1 ∷ updateKey 9 1 ∷ []) ⊳ neverApplicable 0 1)
     ∷ (onePatch (updateKey 9 1 ∷ insertKey 9 1 none ∷ []) ⊳ neverApplicable 0 1)
@@ -75,19 +75,19 @@ sameKey =
 abbrev pub neighbours : List DependencyExample
 neighbours =
     -- inserted before, moved before, removed before
-    (onePatch (insertKey 9 1 none ∷ insertKey 9 2 (some 1) ∷ []) ⊳ needs [] (keyIn 9 1 ∷ keyIn 9 2 ∷ []))
-    ∷ (onePatch (move 9 1 none ∷ insertKey 9 2 (some 1) ∷ []) ⊳ needs (keyIn 9 1 ∷ []) (keyIn 9 2 ∷ []))
+    (onePatch (insertKey 9 1 none ∷ insertKey 9 2 (some 1) ∷ []) ⊳ needs [] (keyAt 9 1 ∷ keyAt 9 2 ∷ []))
+    ∷ (onePatch (move 9 1 none ∷ insertKey 9 2 (some 1) ∷ []) ⊳ needs (keyAt 9 1 ∷ []) (keyAt 9 2 ∷ []))
     ∷ (onePatch (remove 9 1 ∷ insertKey 9 2 (some 1) ∷ []) ⊳ neverApplicable 0 1)
     -- what was looked for as a neighbour is known from then on
     ∷ (onePatch (move 9 3 (some 1) ∷ insertKey 9 1 none ∷ []) ⊳ neverApplicable 0 1)
-    ∷ (onePatch (insertKey 9 2 (some 1) ∷ remove 9 1 ∷ []) ⊳ needs (keyIn 9 1 ∷ []) (keyIn 9 2 ∷ []))
+    ∷ (onePatch (insertKey 9 2 (some 1) ∷ remove 9 1 ∷ []) ⊳ needs (keyAt 9 1 ∷ []) (keyAt 9 2 ∷ []))
     ∷ []
 
 -- order is collection, then key, whatever the order of the operations; a key of another collection is another key
 abbrev pub collections : List DependencyExample
 collections =
-    (onePatch (updateKey 9 1 ∷ insertKey 8 1 none ∷ updateKey 8 5 ∷ insertKey 9 7 (some 3) ∷ remove 8 2 ∷ []) ⊳ needs (keyIn 8 2 ∷ keyIn 8 5 ∷ keyIn 9 1 ∷ keyIn 9 3 ∷ []) (keyIn 8 1 ∷ keyIn 9 7 ∷ []))
-    ∷ (onePatch (remove 9 1 ∷ updateKey 8 1 ∷ insertKey 7 1 none ∷ []) ⊳ needs (keyIn 8 1 ∷ keyIn 9 1 ∷ []) (keyIn 7 1 ∷ []))
+    (onePatch (updateKey 9 1 ∷ insertKey 8 1 none ∷ updateKey 8 5 ∷ insertKey 9 7 (some 3) ∷ remove 8 2 ∷ []) ⊳ needs (keyAt 8 2 ∷ keyAt 8 5 ∷ keyAt 9 1 ∷ keyAt 9 3 ∷ []) (keyAt 8 1 ∷ keyAt 9 7 ∷ []))
+    ∷ (onePatch (remove 9 1 ∷ updateKey 8 1 ∷ insertKey 7 1 none ∷ []) ⊳ needs (keyAt 8 1 ∷ keyAt 9 1 ∷ []) (keyAt 7 1 ∷ []))
     ∷ []
 
 abbrev pub examples : List DependencyExample

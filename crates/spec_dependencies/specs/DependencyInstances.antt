@@ -29,8 +29,8 @@ use Rattle.spec_dependencies.specs.Theorem.{depends-exactly}
 use Rattle.spec_dependencies.specs.DependencyExamples.{insertKey, onePatch}
 
 -- key 1 before key 2, in collection 9
-abbrev pub set : List Patch
-set = onePatch (insertKey 9 1 (some 2) ∷ [])
+abbrev pub oneBeforeTwo : List Patch
+oneBeforeTwo = onePatch (insertKey 9 1 (some 2) ∷ [])
 
 -- collection 9 with the key 2
 unfoldable pub holdingTwo : Projection
@@ -50,38 +50,38 @@ holding-valid = record {
   fitEntries = (record { collection = omega arith; key = omega arith; value = omega arith }, tt);
 }
 
-clean : findings set .found ≡ []
+clean : findings oneBeforeTwo .found ≡ []
 unfolding lexLess upsert sortUnique kindNumber findingKey report checkEach mutationTarget sameTarget isSelf beforeSelf operationFindings envelopeFindings rawPatchFindings patchFindings isLastSequence isSameSequence isNextSequence sequenceFindings pairFindings duplicateIdFindings previousFindings afterFindings rawSetFindings setFindings firstFindings findings
 clean = refl
 
 -- it does not stop with 9
-holding-room : ¬ (applySteps holdingTwo (replaySteps set) ≡ stopped projectionFull)
+holding-room : ¬ (applySteps holdingTwo (replaySteps oneBeforeTwo) ≡ stopped projectionFull)
 unfolding holdingTwo insertBeforeFirst isEntry contains containsNeighbour insertBefore insertEntry withEntries applyInsert applyOperation flatMap patchSteps replaySteps applyStep applySteps
 holding-room e = stopped-not-done (sym e)
 
 -- what the set depends on is there
-holding-meets : Meets holdingTwo (dependencies set)
+holding-meets : Meets holdingTwo (dependencies oneBeforeTwo)
 unfolding holdingTwo presence contains isEntry lexLess upsert lookup neighbour expectations settledKey settledBy judgeBy judge judgeAll walkOperations walkPatches keysAtStart dependenciesBy dependencies
 holding-meets = ((refl, tt), (refl, tt))
 
 -- so it applies
-pub applies-there : AppliesTo holdingTwo set
-applies-there = depends-exactly holdingTwo set holding-valid clean holding-room .1 holding-meets
+pub applies-there : AppliesTo holdingTwo oneBeforeTwo
+applies-there = depends-exactly holdingTwo oneBeforeTwo holding-valid clean holding-room .1 holding-meets
 
 keyRule-not-full : stopped keyRule ≡ stopped projectionFull → ⊥
 keyRule-not-full e = let z : _≡_ {A = ℕ} 0 1 = cc in omega arith
 
-empty-room : ¬ (applySteps empty (replaySteps set) ≡ stopped projectionFull)
+empty-room : ¬ (applySteps empty (replaySteps oneBeforeTwo) ≡ stopped projectionFull)
 unfolding empty insertBeforeFirst isEntry contains containsNeighbour insertBefore insertEntry withEntries applyInsert applyOperation flatMap patchSteps replaySteps applyStep applySteps
 empty-room e = keyRule-not-full e
 
-empty-lacks : Meets empty (dependencies set) → ⊥
+empty-lacks : Meets empty (dependencies oneBeforeTwo) → ⊥
 unfolding empty presence contains isEntry lexLess upsert lookup neighbour expectations settledKey settledBy judgeBy judge judgeAll walkOperations walkPatches keysAtStart dependenciesBy dependencies
 empty-lacks m = false≢true (m .0 .0)
 
 -- to an empty projection it does not apply: the neighbour is not there
-pub applies-not-empty : ¬ AppliesTo empty set
-applies-not-empty a = empty-lacks (depends-exactly empty set empty-valid clean empty-room .0 a)
+pub applies-not-empty : ¬ AppliesTo empty oneBeforeTwo
+applies-not-empty a = empty-lacks (depends-exactly empty oneBeforeTwo empty-valid clean empty-room .0 a)
 
 -- ---- why 9 is left out
 

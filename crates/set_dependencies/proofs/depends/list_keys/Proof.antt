@@ -19,7 +19,7 @@ use Rattle.set_dependencies.specs.SettlingLaws.{table-length}
 use Rattle.set_dependencies.specs.DependsAnswers.{answerTo}
 use Rattle.set_dependencies.specs.DependsLaws.{heldWords, lackedWords, words-length, short-answer, listed-answer}
 use Rattle.set_dependencies.specs.declared.depends.DependenciesAnswer.the-variants as answer
-use Rattle.set_dependencies.proofs.Lists.{part-is, both-written}
+use Rattle.set_dependencies.proofs.Lists.{second-part, second-written}
 use Rattle.set_dependencies.proofs.depends.list_keys.Statement.{statement}
 use Rattle.set_dependencies.proofs.depends.list_keys.Tie as tie
 
@@ -71,11 +71,11 @@ both c t s =
     let held = k .write-keys .ensures .0 t s (omega (arith, room, keys-length t)) in
     let front : length (heldWords t (lent k)) ≡ pairLength * k .write-keys .result = omega (arith, allWords-length (keysAtStart true t), held .0) in
     let space : pairLength * k .write-keys .result + length (lackedWords t (lent k)) ≤ length (lent k) = omega (arith, front, words-length t (lent k), room) in
-    let part = part-is (heldWords t (lent k)) (lackedWords t (lent k)) (lent k) _ front space (held .1) in
+    let part = second-part (heldWords t (lent k)) (lackedWords t (lent k)) (lent k) _ front space (held .1) in
     let lacked = c .write-keys2 .ensures .0 t s (omega (arith, ap length part, length-drop (pairLength * k .write-keys .result) (lent k), space, allWords-length (keysAtStart false t))) in
     let whole = listed-answer t (lent k) room in (
       (λ i. answer.Needs (held .0 i) (lacked .0 i)) ∙ sym (ap (λ (a : Answered). answerTo (a .answer)) whole),
-      both-written (heldWords t (lent k)) (lackedWords t (lent k)) (lent k) _ front space (held .1) (lacked .1) ∙ sym (ap (λ (a : Answered). a .output) whole),
+      second-written (heldWords t (lent k)) (lackedWords t (lent k)) (lent k) _ front space (held .1) (lacked .1) ∙ sym (ap (λ (a : Answered). a .output) whole),
     )
 
 returns-2 : tie.Need-returns-2

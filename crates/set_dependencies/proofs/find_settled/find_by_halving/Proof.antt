@@ -13,13 +13,13 @@ use Rattle.bytes_records.specs.Search.{PlaceWithin}
 use Rattle.bytes_records.proofs.Offsets.{end-le, fits, fits-not}
 use Rattle.bytes_records.proofs.Changes.{row-is}
 use Rattle.set_dependencies.specs.SettledRows.{rowFields}
-use Rattle.set_dependencies.specs.HalvingLaws.{Left, left-all, left-none, left-above, left-below, left-taken}
+use Rattle.set_dependencies.specs.HalvingLaws.{Between, between-all, between-none, between-above, between-below, between-taken}
 use Rattle.set_dependencies.proofs.find_settled.find_by_halving.Statement.{statement}
 use Rattle.set_dependencies.proofs.find_settled.find_by_halving.Tie as tie
 
 abbrev Inv-loop : tie.InvT-loop
 Inv-loop table width count id second low₀ high₀ low high =
-    (low ≤ high) × (high ≤ count) × ((m : List (List ℕ)) → Holds width count table m → Ascending (leadingNumbers rowFields) m → Left (leadingNumbers rowFields) [] (id ∷ second ∷ []) low high m)
+    (low ≤ high) × (high ≤ count) × ((m : List (List ℕ)) → Holds width count table m → Ascending (leadingNumbers rowFields) m → Between (leadingNumbers rowFields) [] (id ∷ second ∷ []) low high m)
 
 abbrev μ-loop : tie.MeasureT-loop
 μ-loop table width count id second low₀ high₀ low high = high - low
@@ -32,7 +32,7 @@ unfolding PlaceWithin
 returns c = ((λ m t a. absurd (omega (arith, fitting t, fits-not _ _ _ (search needs) (c .if1 .taken)))), search needs)
 
 loop-holds : tie.Need-loop-holds Inv-loop μ-loop
-loop-holds c = (search needs, search needs, λ m t a. left-all (leadingNumbers rowFields) [] _ m _ (t .counted))
+loop-holds c = (search needs, search needs, λ m t a. between-all (leadingNumbers rowFields) [] _ m _ (t .counted))
 
 sub-middle : tie.Need-sub-middle Inv-loop μ-loop
 sub-middle c = search needs
@@ -90,7 +90,7 @@ loop-again c =
     let at-loop = compared .before .before .before in (
       search needs,
       search needs,
-      λ m t a. left-above (leadingNumbers rowFields) [] _ m a _ _ (middle at-loop) (at-loop .loop .inv .2 m t a) (omega (arith, t .counted)) (compared-row compared m t ∙ c .enum-told .given .1),
+      λ m t a. between-above (leadingNumbers rowFields) [] _ m a _ _ (middle at-loop) (at-loop .loop .inv .2 m t a) (omega (arith, t .counted)) (compared-row compared m t ∙ c .enum-told .given .1),
     )
 
 enum-told-2 : tie.Need-enum-told-2 Inv-loop μ-loop
@@ -101,7 +101,7 @@ unfolding PlaceWithin
 returns-2 c =
     let compared = c .before .before in
     let at-loop = compared .before .before .before in
-    ((λ m t a. sym (left-taken (leadingNumbers rowFields) [] _ m a _ _ (middle at-loop) (at-loop .loop .inv .2 m t a) (omega (arith, t .counted)) (compared-row compared m t ∙ c .enum-told2 .given .1))), search needs)
+    ((λ m t a. sym (between-taken (leadingNumbers rowFields) [] _ m a _ _ (middle at-loop) (at-loop .loop .inv .2 m t a) (omega (arith, t .counted)) (compared-row compared m t ∙ c .enum-told2 .given .1))), search needs)
 
 enum-told-3 : tie.Need-enum-told-3 Inv-loop μ-loop
 enum-told-3 c = search needs
@@ -115,7 +115,7 @@ loop-again-2 c =
     let at-loop = compared .before .before .before in (
       search needs,
       search needs,
-      λ m t a. left-below (leadingNumbers rowFields) [] _ m a _ _ (middle at-loop) (at-loop .loop .inv .2 m t a) (omega (arith, t .counted)) (compared-row compared m t ∙ c .enum-told3 .given .1),
+      λ m t a. between-below (leadingNumbers rowFields) [] _ m a _ _ (middle at-loop) (at-loop .loop .inv .2 m t a) (omega (arith, t .counted)) (compared-row compared m t ∙ c .enum-told3 .given .1),
     )
 
 returns-3 : tie.Need-returns-3 Inv-loop μ-loop
@@ -123,7 +123,7 @@ unfolding PlaceWithin
 returns-3 c =
     let l = c .before .loop in
     let met : l .high ≡ l .low = omega arith in
-    ((λ m t a. sym (left-none (leadingNumbers rowFields) [] _ (l .low) m (omega (arith, t .counted)) (rw met at (l .inv .2 m t a)))), search needs)
+    ((λ m t a. sym (between-none (leadingNumbers rowFields) [] _ (l .low) m (omega (arith, t .counted)) (rw met at (l .inv .2 m t a)))), search needs)
 
 pub find-by-halving-spec : {M : Type 1} → statement M
 find-by-halving-spec =

@@ -11,7 +11,7 @@ use Rattle.spec_dependencies.specs.Settled.{Settled, settledKey, settledBy}
 use Rattle.bytes_records.specs.Search.{placeOf}
 use Rattle.bytes_records.specs.declared.Place.the-variants.{Taken}
 use Rattle.set_dependencies.specs.SettledRows.{settledRow, settledOf, SettledTable}
-use Rattle.set_dependencies.specs.SettledRowsLaws.{noKey, row-of, fits-at, not-true, not-false}
+use Rattle.set_dependencies.specs.SettledRowsLaws.{noKey, row-of, row-fits, not-true, not-false}
 use Rattle.set_dependencies.specs.Settling.{expectedOf, expectationOf}
 use Rattle.set_dependencies.specs.SettlingLaws.{old-within, contradicts-old, settles-again}
 use Rattle.set_dependencies.proofs.settling.settle_again.Statement.{statement}
@@ -44,7 +44,7 @@ module _ (k : tie.After-settled-key) where
     old-is : settledOf (k .settled-key .result) ≡ getD t (start k .args .at) noKey
     old-is =
         let within = old-within e fits t s (start k .args .at) is in
-        k .settled-key .ensures (getD t (start k .args .at) noKey) (fits-at t (start k .args .at) (s .fit) within) (k .before .record-at .ensures .0 (map settledRow t) (s .rows) ∙ row-of t (start k .args .at) within)
+        k .settled-key .ensures (getD t (start k .args .at) noKey) (row-fits t (start k .args .at) (s .fit) within) (k .before .record-at .ensures .0 (map settledRow t) (s .rows) ∙ row-of t (start k .args .at) within)
 
     tested : (b : Bool) → b ≡ expectedOf (start k .args .key-use) → Bool·beq (k .settled-key .result .present) b ≡ Bool·beq (getD t (start k .args .at) noKey .now) (e .expected)
     tested b is = λ i. Bool·beq (old-is i .now) (is i)

@@ -15,7 +15,7 @@ use Rattle.patch_walk.specs.Steps.{StepWithin, AtSteps}
 use Rattle.patch_walk.specs.StepsLaws.{visited, opened, done, never-refused}
 use Rattle.patch_walk.specs.declared.SetStep.{SetStep}
 use Rattle.set_dependencies.specs.SettledRows.{SettledTable}
-use Rattle.set_dependencies.proofs.Walking.{Walking, walk-start, walk-end, walk-head, walk-on, walk-stops}
+use Rattle.set_dependencies.proofs.Walking.{Walking, walk-start, walk-end, walk-head, walk-on, walk-contradicts}
 use Rattle.set_dependencies.proofs.walk_set.settle_steps.Statement.{statement}
 use Rattle.set_dependencies.proofs.walk_set.settle_steps.Tie as tie
 
@@ -117,7 +117,7 @@ returns c =
     let l = head s .loop in
     λ ps short here stored.
     let w = l .inv .3 ps short here stored in
-    walk-stops v1 (set s) _ w (visited false v1 (set s) (l .cursor) (w .here) (s .next-step .ensures .0) _ _ (read k .operation .given .1)) short _ (k .settle-operation .ensures) (c .enum-told .given .1)
+    walk-contradicts v1 (set s) _ w (visited false v1 (set s) (l .cursor) (w .here) (s .next-step .ensures .0) _ _ (read k .operation .given .1)) short _ (k .settle-operation .ensures) (c .enum-told .given .1)
 
 enum-told-2 : tie.Need-enum-told-2 Inv-loop μ-loop
 enum-told-2 c = search needs

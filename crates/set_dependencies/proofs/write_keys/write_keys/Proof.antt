@@ -11,7 +11,7 @@ use Rattle.spec_dependencies.specs.Settled.{Settled}
 use Rattle.spec_dependencies.specs.Dependencies.{keysAtStart}
 use Rattle.spec_dependencies.specs.Answer.{pairLength, allWords, wordsWritten}
 use Rattle.set_dependencies.specs.SettledRows.{settledRow, settledOf, SettledTable}
-use Rattle.set_dependencies.specs.SettledRowsLaws.{noKey, row-of, fits-at}
+use Rattle.set_dependencies.specs.SettledRowsLaws.{noKey, row-of, row-fits}
 use Rattle.set_dependencies.specs.SettlingLaws.{table-length}
 use Rattle.set_dependencies.specs.WrittenKeys.{KeysLeft}
 use Rattle.set_dependencies.specs.WrittenKeysLaws.{left-start, left-none}
@@ -59,7 +59,7 @@ first k t s =
     let within : i < length t = omega (arith, table-length t s, turn k .loop-test .taken) in
     let next : suc i ≡ i + 1 = omega arith in
     drop-cons t i noKey within
-    ∙ ap₂ (λ (x : Settled) (n : ℕ). x ∷ drop n t) (sym (k .settled-key .ensures (getD t i noKey) (fits-at t i (s .fit) within) (k .before .record-at .ensures .0 (map settledRow t) (s .rows) ∙ row-of t i within))) next
+    ∙ ap₂ (λ (x : Settled) (n : ℕ). x ∷ drop n t) (sym (k .settled-key .ensures (getD t i noKey) (row-fits t i (s .fit) within) (k .before .record-at .ensures .0 (map settledRow t) (s .rows) ∙ row-of t i within))) next
 
 loop-again : tie.Need-loop-again Inv-loop μ-loop
 loop-again c =

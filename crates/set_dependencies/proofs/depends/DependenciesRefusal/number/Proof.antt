@@ -3,13 +3,13 @@ use Prim.Native.Nat.{ℕ}
 use mathlib.Core.Path.{sym, ap, _∙_}
 use borrow.Author.Needs.{needs}
 use Rattle.spec_dependencies.specs.Answer.{refusalNumber}
-use Rattle.set_dependencies.specs.DependsAnswers.{refusalOf}
+use Rattle.set_dependencies.specs.DependsAnswers.{dependsRefusalOf}
 use Rattle.set_dependencies.specs.declared.depends.DependenciesRefusal.{DependenciesRefusal}
 use Rattle.set_dependencies.proofs.depends.DependenciesRefusal.number.Statement.{statement}
 use Rattle.set_dependencies.proofs.depends.DependenciesRefusal.number.Tie as tie
 
 abbrev numbered : DependenciesRefusal → ℕ
-numbered r = refusalNumber (refusalOf r)
+numbered r = refusalNumber (dependsRefusalOf r)
 
 enum-known-self : tie.Need-enum-known-self
 enum-known-self c = search needs
