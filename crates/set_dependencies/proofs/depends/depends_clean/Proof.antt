@@ -1,0 +1,149 @@
+-- `depends_clean` meets its contract: a readable set is opened, walked, and its table listed.
+use Prim.Native.Nat.{ℕ, _≤_}
+use mathlib.Core.Path.{_≡_, sym, ap, _∙_, subst}
+use mathlib.Core.List.{List, []}
+use borrow.Author.Needs.{needs}
+use lib.ListN.{length}
+use Rattle.spec_lists.specs.Bytes.{Bytes}
+use Rattle.spec_lists.specs.BytesLaws.{bytes-of}
+use Rattle.spec_patch.specs.Sizes.{setBytes}
+use Rattle.spec_patch.specs.Patch.{Patch}
+use Rattle.spec_patch.specs.Edition.{v1}
+use Rattle.spec_patch.specs.Read.{patches, readSet}
+use Rattle.spec_patch.specs.SetLaws.{was-encoded}
+use Rattle.spec_dependencies.specs.Dependencies.{Walk, settles, contradicts, walkPatches, dependenciesBy, dependencies}
+use Rattle.spec_dependencies.specs.Settled.{Settled}
+use Rattle.spec_dependencies.specs.Answer.{answerBy}
+use Rattle.patch_walk.specs.StepsLaws.{opened-at, never-unopened}
+use Rattle.set_dependencies.specs.SettledRows.{SettledTable}
+use Rattle.set_dependencies.specs.SettledRowsLaws.{none-settled}
+use Rattle.set_dependencies.specs.SetSettling.{SetSettlesTo}
+use Rattle.set_dependencies.specs.DependsAnswers.{answerTo}
+use Rattle.set_dependencies.specs.DependsLaws.{settled-walk, contradicted-walk, readable-walk}
+use Rattle.set_dependencies.specs.declared.walk_set.SetSettling.{SetSettling}
+use Rattle.set_dependencies.proofs.depends.depends_clean.Statement.{statement}
+use Rattle.set_dependencies.proofs.depends.depends_clean.Tie as tie
+
+abbrev start : tie.After-open-set → tie.Start
+start c = c .before .before .before
+
+abbrev set : tie.After-open-set → List ℕ
+set c = start c .args .set .now
+
+abbrev lent : tie.After-open-set → List ℕ
+lent c = start c .args .out .now
+
+all-bytes : (c : tie.After-open-set) → Bytes (set c)
+all-bytes c = bytes-of (set c) (λ j. c .before .before .shared-slice-known .given j .fits)
+
+short : (c : tie.After-open-set) (ps : List Patch) → readSet v1 (set c) ≡ patches ps → length (set c) ≤ setBytes
+short c ps e = let was = was-encoded v1 (set c) ps (all-bytes c) e in subst (λ (l : List ℕ). length l ≤ setBytes) (sym (was .0)) (was .1 .short)
+
+open-set-requires : tie.Need-open-set-requires
+open-set-requires c κs = search needs
+
+enum-known-start : tie.Need-enum-known-start
+enum-known-start c = search needs
+
+slice-aggregate-settle-steps : tie.Need-slice-aggregate-settle-steps
+slice-aggregate-settle-steps c = search needs
+
+settle-steps-requires : tie.Need-settle-steps-requires
+settle-steps-requires c κs = search needs
+
+enum-known-count : tie.Need-enum-known-count
+enum-known-count c = search needs
+
+slice-aggregate-list-keys : tie.Need-slice-aggregate-list-keys
+slice-aggregate-list-keys c = search needs
+
+list-keys-requires : tie.Need-list-keys-requires
+list-keys-requires c κs = search needs
+
+enum-known-patch : tie.Need-enum-known-patch
+enum-known-patch c = search needs
+
+enum-known-fault : tie.Need-enum-known-fault
+enum-known-fault c = search needs
+
+enum-known-fault-2 : tie.Need-enum-known-fault-2
+enum-known-fault-2 c = search needs
+
+-- where the set was opened
+abbrev opening : tie.After-settle-steps → tie.After-open-set
+opening k = k .before .before .before .before .before
+
+-- what the walk over a readable set gave
+walked : (k : tie.After-settle-steps) (r : SetSettling) → k .settle-steps .result ≡ r → (ps : List Patch) → readSet v1 (set (opening k)) ≡ patches ps
+    → SetSettlesTo (walkPatches 0 ps []) r (k .settle-steps .last .1 .1 .0)
+walked k r is ps e =
+    let o = opening k in
+    subst (λ x. SetSettlesTo (walkPatches 0 ps []) x (k .settle-steps .last .1 .1 .0)) is
+    (k .settle-steps .ensures ps (short o ps e) (opened-at (set o) (all-bytes o) ps e (o .open-set .ensures) _ (k .before .before .before .start .given .1)) none-settled)
+
+same-length : tie.Need-same-length
+same-length c = search needs
+
+-- where all operations settle
+settled : (c : tie.After-count) (ps : List Patch) → let k = c .before .before .before in readSet v1 (set (opening k)) ≡ patches ps
+    → (t : List Settled) × (walkPatches 0 ps [] ≡ settles t) × SettledTable (c .count .given .0 .0) (k .settle-steps .last .1 .1 .0) t
+settled c ps e = let k = c .before .before .before in settled-walk (k .settle-steps .last .1 .1 .0) (walkPatches 0 ps []) _ (walked k _ (c .count .given .1) ps e)
+
+returns : tie.Need-returns
+unfolding dependencies
+returns c =
+    let call = c .before .before in
+    let count = call .before .before .before .before in
+    let o = opening (count .before .before .before) in (
+      λ ps e. call .list-keys .ensures .0 (settled count ps e .0) (settled count ps e .2) ∙ ap (λ (w : Walk). answerTo (answerBy (dependenciesBy w) (lent o) .answer)) (sym (settled count ps e .1)),
+      λ ps e. call .list-keys .ensures .1 (settled count ps e .0) (settled count ps e .2) ∙ ap (λ (w : Walk). answerBy (dependenciesBy w) (lent o) .output) (sym (settled count ps e .1)),
+    )
+
+-- where one contradicts
+contradicted : (c : tie.After-patch) (ps : List Patch) → let k = c .before .before .before in readSet v1 (set (opening k)) ≡ patches ps
+    → walkPatches 0 ps [] ≡ contradicts (c .patch .given .0 .0) (c .patch .given .0 .1 .0)
+contradicted c ps e = let k = c .before .before .before in contradicted-walk (k .settle-steps .last .1 .1 .0) (walkPatches 0 ps []) _ _ (walked k _ (c .patch .given .1) ps e)
+
+returns-2 : tie.Need-returns-2
+unfolding dependencies dependenciesBy answerBy
+returns-2 c =
+    let o = opening (c .before .before .before .before) in (
+      λ ps e. sym (ap (λ (w : Walk). answerTo (answerBy (dependenciesBy w) (lent o) .answer)) (contradicted (c .before) ps e)),
+      λ ps e. sym (ap (λ (w : Walk). answerBy (dependenciesBy w) (lent o) .output) (contradicted (c .before) ps e)),
+    )
+
+-- a readable set is read to its end
+read : (c : tie.After-known-told4) (ps : List Patch) → readSet v1 (set (opening (c .before .before .before .before))) ≡ patches ps → ⊥
+read c ps e =
+    let k = c .before .before .before .before in
+    readable-walk (k .settle-steps .last .1 .1 .0) (walkPatches 0 ps []) (c .before .fault .given .0 .0) (walked k _ (c .before .fault .given .1) ps e)
+
+returns-3 : tie.Need-returns-3
+returns-3 c = (λ ps e. absurd (read c ps e), λ ps e. absurd (read c ps e))
+
+-- and opened
+opened : (c : tie.After-known-told5) (ps : List Patch) → readSet v1 (set (c .before .before .before)) ≡ patches ps → ⊥
+opened c ps e = let o = c .before .before .before in never-unopened (set o) (all-bytes o) ps e (o .open-set .ensures) _ (c .before .fault2 .given .1)
+
+returns-4 : tie.Need-returns-4
+returns-4 c = (λ ps e. absurd (opened c ps e), λ ps e. absurd (opened c ps e))
+
+pub depends-clean-spec : {M : Type 1} → statement M
+depends-clean-spec =
+    tie.close
+    (tie.spec
+    open-set-requires
+    enum-known-start
+    slice-aggregate-settle-steps
+    settle-steps-requires
+    enum-known-count
+    slice-aggregate-list-keys
+    list-keys-requires
+    enum-known-patch
+    enum-known-fault
+    enum-known-fault-2
+    same-length
+    returns
+    returns-2
+    returns-3
+    returns-4)

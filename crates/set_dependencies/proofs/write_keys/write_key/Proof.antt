@@ -1,0 +1,59 @@
+-- `write_key` meets its contract: a row of the other list is passed over, and one of this list has room.
+use native.Mathlib.Omega.{arith}
+use lib.ListN.{length-set}
+use borrow.Author.Needs.{needs}
+use Rattle.set_dependencies.specs.SettledRowsLaws.{not-true, not-false}
+use Rattle.set_dependencies.specs.WrittenKeysLaws.{left-other, left-room, left-own}
+use Rattle.set_dependencies.proofs.write_keys.write_key.Statement.{statement}
+use Rattle.set_dependencies.proofs.write_keys.write_key.Tie as tie
+
+returns : tie.Need-returns
+returns c = (λ t total whole few h. left-other _ _ t _ _ total whole h (not-true _ (c .if1 .taken)), search needs)
+
+returns-2 : tie.Need-returns-2
+returns-2 c =
+    (λ t total whole few h. absurd (omega (arith, left-room _ _ t _ _ total whole h (not-false _ (c .before .if1 .left)) few, c .if2 .taken)), search needs)
+
+mul-at : tie.Need-mul-at
+mul-at c = search needs
+
+mul-out : tie.Need-mul-out
+mul-out c = search needs
+
+slice-write-out : tie.Need-slice-write-out
+slice-write-out c = search needs
+
+add-out : tie.Need-add-out
+add-out c = search needs
+
+mul-out-2 : tie.Need-mul-out-2
+mul-out-2 c = search needs
+
+slice-write-out-2 : tie.Need-slice-write-out-2
+slice-write-out-2 c = simp length-set (omega arith)
+
+add-result : tie.Need-add-result
+add-result c = search needs
+
+same-length : tie.Need-same-length
+same-length c = search needs
+
+returns-3 : tie.Need-returns-3
+returns-3 c =
+    (λ t total whole few h. left-own _ _ t _ _ total whole h (not-false _ (c .before .if1 .left)) (omega arith), (omega arith, omega arith))
+
+pub write-key-spec : {M : Type 1} → statement M
+write-key-spec =
+    tie.close
+    (tie.spec
+    returns
+    returns-2
+    mul-at
+    mul-out
+    slice-write-out
+    add-out
+    mul-out-2
+    slice-write-out-2
+    add-result
+    same-length
+    returns-3)

@@ -1,0 +1,11 @@
+pub mod SettledRows
+pub mod Settling
+pub mod SetSettling
+pub mod WrittenKeys
+pub mod DependsAnswers
+pub mod HalvingLaws
+pub mod PlaceLaws
+pub mod SettledRowsLaws
+pub mod SettlingLaws
+pub mod WrittenKeysLaws
+pub mod DependsLaws

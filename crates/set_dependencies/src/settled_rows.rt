@@ -1,0 +1,70 @@
+// Rows of settled keys: the collection and the key, then whether it must be there at the start, and whether it is there now.
+use projection_patch::patch::ProjectionPatchSet;
+ghost use mathlib.Core.Path.{_≡_};
+ghost use Rattle.spec_dependencies.specs.Settled.{Settled};
+ghost use Rattle.set_dependencies.specs.SettledRows.{flag, settledRow, settledOf, FitsSettled};
+
+// Where the key stands in a row, and the two bytes behind it.
+pub const KEY: usize = 8;
+
+pub const AT_START: usize = 16;
+
+pub const PRESENT: usize = 17;
+
+pub const WIDTH: usize = 18;
+
+// The fewest bytes of a set for a key that it looks for: a move before a neighbour looks for two, in 26.
+const KEY_BYTES: usize = 13;
+
+// So many keys a set can look for.
+pub const ROWS: usize = ProjectionPatchSet::BYTES / KEY_BYTES;
+
+pub const TABLE_BYTES: usize = ROWS * WIDTH;
+
+pub struct SettledKey {
+    pub collection: u64,
+    pub key: u64,
+    pub at_start: bool,
+    pub present: bool,
+}
+
+fn flag_byte(set: bool) -> u8
+    ensures { λ r. ⌜ r ≡ flag set ⌝ }
+{
+    if set {
+        return 1;
+    }
+    0
+}
+
+// The row of a settled key.
+pub fn settled_row(settled: SettledKey) -> [u8; WIDTH]
+    ensures { λ r. ⌜ r ≡ settledRow (settledOf settled) ⌝ }
+{
+    let mut row = [0u8; WIDTH];
+    bytes_wire::write_u64_at(&mut row, 0, settled.collection);
+    bytes_wire::write_u64_at(&mut row, KEY, settled.key);
+    row[AT_START] = flag_byte(settled.at_start);
+    row[PRESENT] = flag_byte(settled.present);
+    row
+}
+
+// The settled key of a row.
+pub fn settled_key(row: &[u8]) -> SettledKey
+    ensures { λ r. ⌜ ((s : Settled) → FitsSettled s → now (row .entry) ≡ settledRow s → settledOf r ≡ s) ⌝ }
+{
+    if row.len() < WIDTH {
+        return SettledKey {
+            collection: 0,
+            key: 0,
+            at_start: false,
+            present: false,
+        };
+    }
+    SettledKey {
+        collection: bytes_records::keys::number_of(&row[..KEY]),
+        key: bytes_records::keys::number_of(&row[KEY..AT_START]),
+        at_start: row[AT_START] == 1,
+        present: row[PRESENT] == 1,
+    }
+}

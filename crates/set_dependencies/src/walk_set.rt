@@ -1,0 +1,66 @@
+// One walk over a set that settles the keys of its operations.
+use crate::settling;
+use crate::settling::Settling;
+use patch_walk::SetCursor;
+use patch_walk::SetStep;
+use projection_patch::read_values::ProjectionPatchReadFault;
+ghost use mathlib.Core.List.{List, []};
+ghost use Prim.Native.Nat.{_≤_};
+ghost use lib.ListN.{length};
+ghost use Rattle.spec_patch.specs.Sizes.{setBytes};
+ghost use Rattle.spec_patch.specs.Edition.{v1};
+ghost use Rattle.spec_patch.specs.Patch.{Patch};
+ghost use Rattle.spec_dependencies.specs.Dependencies.{walkPatches};
+ghost use Rattle.patch_walk.specs.Steps.{AtSteps};
+ghost use Rattle.set_dependencies.specs.SettledRows.{SettledTable};
+ghost use Rattle.set_dependencies.specs.SetSettling.{SetSettlesTo};
+
+// How many rows the table has at the end; or the first operation that contradicts those before it, by its patch and its index there.
+pub enum SetSettling {
+    Settled(usize),
+    Contradiction { patch: usize, operation: usize },
+    Unreadable(ProjectionPatchReadFault),
+}
+
+// Settles the keys of the operations from a cursor on, in a table without rows.
+pub fn settle_steps(set: &[u8], from: SetCursor, table: &mut [u8]) -> SetSettling
+    ensures { λ r. ⌜ ((ps : List Patch) → length (now (set .entry)) ≤ setBytes → AtSteps v1 (now (set .entry)) from [] ps → SettledTable 0 (now (table .entry)) []
+        → SetSettlesTo (walkPatches 0 ps []) r (now (table .exit))) ⌝ }
+{
+    let mut cursor = from;
+    let mut count: usize = 0;
+    let mut opened: usize = 0;
+    let mut patch: usize = 0;
+    let mut index: usize = 0;
+    loop {
+        match patch_walk::next_step(set, cursor, false) {
+            SetStep::Head(_, next) => {
+                patch = opened;
+                opened = opened + 1;
+                index = 0;
+                cursor = next;
+            }
+            SetStep::Operation(operation, next) => {
+                match settling::settle_operation(table, count, operation) {
+                    Settling::Settled(more) => {
+                        count = more;
+                        index = index + 1;
+                        cursor = next;
+                    }
+                    Settling::Contradiction => {
+                        return SetSettling::Contradiction {
+                            patch,
+                            operation: index,
+                        };
+                    }
+                }
+            }
+            SetStep::End => {
+                return SetSettling::Settled(count);
+            }
+            SetStep::Refused(fault) => {
+                return SetSettling::Unreadable(fault);
+            }
+        }
+    }
+}

@@ -1,0 +1,68 @@
+-- What a set depends on: one walk over its operations, and the answer. 02, Job 8.
+use Prim.Native.Nat.{ℕ, _+_}
+use mathlib.Core.Bool.{Bool, true, false, Bool·beq}
+use mathlib.Core.List.{List, [], _∷_}
+use mathlib.Core.Option.{Option, none, some}
+use Rattle.spec_lists.specs.Lists.{if_then_else_}
+use Rattle.spec_patch.specs.Patch.{Operation, Patch}
+use Rattle.spec_dependencies.specs.Expectations.{expectations}
+use Rattle.spec_dependencies.specs.Settled.{Settled, judgeAll}
+
+-- ---- the walk
+
+-- what all operations settle, or the patch and the operation in it, from 0, that contradicts those before
+pub data Walk : Type 0 where
+  settles : List Settled → Walk
+  contradicts : (patch operation : ℕ) → Walk
+
+-- goes on with what is settled
+abbrev pub walkOn : Walk → (List Settled → Walk) → Walk
+walkOn (settles t) f = f t
+walkOn (contradicts i j) f = contradicts i j
+
+-- an operation of that place, by what its expectations come to
+abbrev pub walkStep : ℕ → ℕ → Option (List Settled) → Walk
+walkStep i j none = contradicts i j
+walkStep i j (some t) = settles t
+
+-- the operations of patch i, from index j on
+unfoldable pub walkOperations : ℕ → ℕ → List Operation → List Settled → Walk
+walkOperations i j [] t = settles t
+walkOperations i j (o ∷ os) t = walkOn (walkStep i j (judgeAll (expectations o) t)) (λ u. walkOperations i (j + 1) os u)
+
+-- the patches from index i on; each counts its operations from 0
+unfoldable pub walkPatches : ℕ → List Patch → List Settled → Walk
+walkPatches i [] t = settles t
+walkPatches i (p ∷ ps) t = walkOn (walkOperations i 0 (p .operations) t) (λ u. walkPatches (i + 1) ps u)
+
+-- ---- the answer
+
+-- a key of a collection
+pub record CollectionKey : Type 0 where
+  pub collection : ℕ
+  pub key : ℕ
+
+abbrev pub collectionKey : Settled → CollectionKey
+collectionKey s = record { collection = s .collection; key = s .key }
+
+-- order is collection, then key, and so is a record's layout
+unfoldable pub keyWords : CollectionKey → List ℕ
+keyWords k = k .collection ∷ k .key ∷ []
+
+-- the keys of a table that must be so at the start, in its order
+unfoldable pub keysAtStart : Bool → List Settled → List CollectionKey
+keysAtStart b [] = []
+keysAtStart b (s ∷ t) = if Bool·beq (s .atStart) b then collectionKey s ∷ keysAtStart b t else keysAtStart b t
+
+-- never applicable, with the first operation that contradicts; or the keys that must be there at the start, and those that must be absent
+pub data Dependencies : Type 0 where
+  neverApplicable : (patch operation : ℕ) → Dependencies
+  needs : (held lacked : List CollectionKey) → Dependencies
+
+unfoldable pub dependenciesBy : Walk → Dependencies
+dependenciesBy (settles t) = needs (keysAtStart true t) (keysAtStart false t)
+dependenciesBy (contradicts i j) = neverApplicable i j
+
+-- of a patch list, with nothing settled at first
+unfoldable pub dependencies : List Patch → Dependencies
+dependencies ps = dependenciesBy (walkPatches 0 ps [])
