@@ -34,7 +34,7 @@ oneBeforeTwo = onePatch (insertKey 9 1 (some 2) ∷ [])
 
 -- collection 9 with the key 2
 unfoldable pub holdingTwo : Projection
-holdingTwo = record { bindings = []; availabilities = []; entries = record { collection = 9; key = 2; value = unsigned 0 } ∷ [] }
+holdingTwo = record { bindings = []; availabilities = []; entries = record { collection = 9; key = 2; mark = 1; value = unsigned 0 } ∷ [] }
 
 holding-valid : Valid holdingTwo
 unfolding holdingTwo StorableBy
@@ -47,7 +47,7 @@ holding-valid = record {
   fewEntries = omega arith;
   fitBindings = tt;
   fitAvailabilities = tt;
-  fitEntries = (record { collection = omega arith; key = omega arith; value = omega arith }, tt);
+  fitEntries = (record { collection = omega arith; key = omega arith; mark = omega arith; value = omega arith }, tt);
 }
 
 clean : findings oneBeforeTwo .found ≡ []
@@ -88,7 +88,7 @@ applies-not-empty a = empty-lacks (depends-exactly empty oneBeforeTwo empty-vali
 -- the entries of collection 8 with the keys 1 to n
 unfoldable pub entriesTo : ℕ → List Entry
 entriesTo zero = []
-entriesTo (suc n) = record { collection = 8; key = suc n; value = unsigned 0 } ∷ entriesTo n
+entriesTo (suc n) = record { collection = 8; key = suc n; mark = 1; value = unsigned 0 } ∷ entriesTo n
 
 unfoldable pub fullPanel : Projection
 fullPanel = record { bindings = []; availabilities = []; entries = entriesTo 128 }

@@ -129,11 +129,11 @@ unfolding presenceAfterAll presence
 keeps-entries p q e g = record { accepts = tt; keys = λ i c k. contains c k (e i); entries = rw e g }
 
 -- an insert that names no neighbour, or another key
-insert-leaves : (p : Projection) (c k : ℕ) (before : Option ℕ) (v : Value) (q : Projection) → ((n : ℕ) → before ≡ some n → k ≢ n) → Grouped (p .entries)
-    → applyInsert p before (record { collection = c; key = k; value = v }) ≡ done q → LeavesKeys p (added c k ∷ neighbour c before) q
+insert-leaves : (p : Projection) (c k : ℕ) (before : Option ℕ) (m : ℕ) (v : Value) (q : Projection) → ((n : ℕ) → before ≡ some n → k ≢ n) → Grouped (p .entries)
+    → applyInsert p before (record { collection = c; key = k; mark = m; value = v }) ≡ done q → LeavesKeys p (added c k ∷ neighbour c before) q
 unfolding presence withEntries presenceAfterAll presenceAfter isOf isEntry
-insert-leaves p c k before v q other g h =
-    let e : Entry = record { collection = c; key = k; value = v } in
+insert-leaves p c k before m v q other g h =
+    let e : Entry = record { collection = c; key = k; mark = m; value = v } in
     let a = applied-insert p before e q h in
     let there = neighbour-accepts (added c k) before p other .0 (a .neighbour) in
     record {
@@ -142,14 +142,14 @@ insert-leaves p c k before v q other g h =
       entries = rw (a .result) (insertEntry-grouped before e (p .entries) (a .absent) (a .neighbour) g);
     }
   where
-    point : (d j : ℕ) → contains d j (insertEntry before (record { collection = c; key = k; value = v }) (p .entries)) ≡ presenceAfter (added c k) (presence p) d j
-    point d j = contains-insert before (record { collection = c; key = k; value = v }) (p .entries) d j ∙ test-cases (eqb c d && eqb k j) (λ f. rw f) (λ f. rw f)
+    point : (d j : ℕ) → contains d j (insertEntry before (record { collection = c; key = k; mark = m; value = v }) (p .entries)) ≡ presenceAfter (added c k) (presence p) d j
+    point d j = contains-insert before (record { collection = c; key = k; mark = m; value = v }) (p .entries) d j ∙ test-cases (eqb c d && eqb k j) (λ f. rw f) (λ f. rw f)
 
-update-leaves : (p : Projection) (c k : ℕ) (v : Value) (q : Projection) → Grouped (p .entries)
-    → applyUpdate p (record { collection = c; key = k; value = v }) ≡ done q → LeavesKeys p (kept c k ∷ []) q
+update-leaves : (p : Projection) (c k m : ℕ) (v : Value) (q : Projection) → Grouped (p .entries)
+    → applyUpdate p (record { collection = c; key = k; mark = m; value = v }) ≡ done q → LeavesKeys p (kept c k ∷ []) q
 unfolding presence withEntries presenceAfterAll
-update-leaves p c k v q g h =
-    let e : Entry = record { collection = c; key = k; value = v } in
+update-leaves p c k m v q g h =
+    let e : Entry = record { collection = c; key = k; mark = m; value = v } in
     let a = applied-update p e q h in
     record {
       accepts = (a .0, tt);
@@ -205,14 +205,14 @@ move-leaves p c k before q other g h = go (applied-move p before (findFirst (isE
         }
 
 -- no operation that names itself as neighbour
-pub operation-leaves : (p : Projection) (o : Operation) (q : Projection) → ¬ BeforeSelf o → Grouped (p .entries) → applyOperation p o ≡ done q → LeavesKeys p (expectations o) q
+pub operation-leaves : (p : Projection) (id : ℕ) (o : Operation) (q : Projection) → ¬ BeforeSelf o → Grouped (p .entries) → applyOperation p id o ≡ done q → LeavesKeys p (expectations o) q
 unfolding applyOperation expectations withBindings withAvailabilities
-operation-leaves p (setBinding n s v) q b g h = keeps-entries p q (ap (λ (r : Projection). r .entries) (applied-binding p _ q h .1)) g
-operation-leaves p (setAvailability n a) q b g h = keeps-entries p q (ap (λ (r : Projection). r .entries) (applied-availability p _ q h .1)) g
-operation-leaves p (insert c k before v) q b g h = insert-leaves p c k before v q (λ n e f. b (inserted c k v (ap (λ x. insert c k x v) (e ∙ ap some (sym f))))) g h
-operation-leaves p (update c k v) q b g h = update-leaves p c k v q g h
-operation-leaves p (remove c k) q b g h = remove-leaves p c k q g h
-operation-leaves p (move c k before) q b g h = move-leaves p c k before q (λ n e f. b (moved c k (ap (λ x. move c k x) (e ∙ ap some (sym f))))) g h
+operation-leaves p id (setBinding n s v) q b g h = keeps-entries p q (ap (λ (r : Projection). r .entries) (applied-binding p _ q h .1)) g
+operation-leaves p id (setAvailability n a) q b g h = keeps-entries p q (ap (λ (r : Projection). r .entries) (applied-availability p _ q h .1)) g
+operation-leaves p id (insert c k before v) q b g h = insert-leaves p c k before id v q (λ n e f. b (inserted c k v (ap (λ x. insert c k x v) (e ∙ ap some (sym f))))) g h
+operation-leaves p id (update c k v) q b g h = update-leaves p c k id v q g h
+operation-leaves p id (remove c k) q b g h = remove-leaves p c k q g h
+operation-leaves p id (move c k before) q b g h = move-leaves p c k before q (λ n e f. b (moved c k (ap (λ x. move c k x) (e ∙ ap some (sym f))))) g h
 
 -- ---- an operation whose expectations are met fails by no key rule
 
@@ -237,16 +237,16 @@ insert-accepted : (p : Projection) (before : Option ℕ) (e : Entry) → contain
 unfolding applyInsert
 insert-accepted p before e absent there h = let es = insertEntry before e (p .entries) in room-not-key (leb (length es) projectionEntries) (withEntries p es) (rw (absent, there) at h)
 
-pub operation-accepted : (p : Projection) (o : Operation) → ¬ BeforeSelf o → Accepts (expectations o) (presence p) → applyOperation p o ≡ stopped keyRule → ⊥
+pub operation-accepted : (p : Projection) (id : ℕ) (o : Operation) → ¬ BeforeSelf o → Accepts (expectations o) (presence p) → applyOperation p id o ≡ stopped keyRule → ⊥
 unfolding applyOperation expectations applyUpdate applyRemove applyMove presence
-operation-accepted p (setBinding n s v) b a h = binding-accepted p _ h
-operation-accepted p (setAvailability n x) b a h = availability-accepted p _ h
-operation-accepted p (insert c k before v) b a h =
+operation-accepted p id (setBinding n s v) b a h = binding-accepted p _ h
+operation-accepted p id (setAvailability n x) b a h = availability-accepted p _ h
+operation-accepted p id (insert c k before v) b a h =
     let there = neighbour-accepts (added c k) before p (λ n e f. b (inserted c k v (ap (λ x. insert c k x v) (e ∙ ap some (sym f))))) .1 (a .1) in
     insert-accepted p before _ (a .0) there h
-operation-accepted p (update c k v) b a h = done-not-stopped (rw (a .0) at h)
-operation-accepted p (remove c k) b a h = done-not-stopped (rw (a .0) at h)
-operation-accepted p (move c k before) b a h =
+operation-accepted p id (update c k v) b a h = done-not-stopped (rw (a .0) at h)
+operation-accepted p id (remove c k) b a h = done-not-stopped (rw (a .0) at h)
+operation-accepted p id (move c k before) b a h =
     let other : (n : ℕ) → before ≡ some n → k ≢ n = λ n e f. b (moved c k (ap (λ x. move c k x) (e ∙ ap some (sym f)))) in
     let found = contains-finds c k (p .entries) (a .0) in
     let is = findFirst-passes (isEntry c k) (p .entries) (found .0) (found .1) in

@@ -44,7 +44,7 @@ unfolding applySteps applyStep flatMap
 run-accepts p [] q apart g h = tt
 run-accepts p (s ∷ ss) q apart g h =
     let (r, first, others) = andThen-done (applyStep p s) (λ r. applySteps r ss) q h in
-    let l = operation-leaves p (s .operation) r (apart .0) g first in
+    let l = operation-leaves p (s .patch) (s .operation) r (apart .0) g first in
     accepts-append (expectations (s .operation)) (stepsExpect ss) (presence p) .1
     (l .accepts, subst (Accepts (stepsExpect ss)) (l .keys) (run-accepts r ss q (apart .1) (l .entries) others))
 
@@ -58,9 +58,9 @@ run-not-key p (s ∷ ss) apart g a h =
         → Accepts (expectations (s .operation)) (presence p) × Accepts (stepsExpect ss) (presenceAfterAll (expectations (s .operation)) (presence p))
         → ((q : Projection) → Grouped (q .entries) → Accepts (stepsExpect ss) (presence q) → applySteps q ss ≡ stopped keyRule → ⊥) → ⊥
     go (done q) e h a later =
-        let l = operation-leaves p (s .operation) q (apart .0) g e in
+        let l = operation-leaves p (s .patch) (s .operation) q (apart .0) g e in
         later q (l .entries) (subst (Accepts (stepsExpect ss)) (sym (l .keys)) (a .1)) h
-    go (stopped fault) e h a later = operation-accepted p (s .operation) (apart .0) (a .0) (e ∙ h)
+    go (stopped fault) e h a later = operation-accepted p (s .patch) (s .operation) (apart .0) (a .0) (e ∙ h)
 
 -- ---- the steps of patches
 
