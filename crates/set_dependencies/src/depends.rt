@@ -6,15 +6,16 @@ use crate::write_keys;
 use check_quick::quick_set;
 use check_quick::quick_set::QuickCheck;
 use patch_walk::SetOpening;
+use projection_patch::patch::ProjectionPatchEdition;
 use projection_patch::read_values::ProjectionPatchReadFault;
 ghost use mathlib.Core.Path.{_≡_};
 ghost use mathlib.Core.List.{List};
-ghost use Rattle.spec_patch.specs.Edition.{v1};
 ghost use Rattle.spec_patch.specs.Patch.{Patch};
 ghost use Rattle.spec_patch.specs.Read.{patches, readSet};
 ghost use Rattle.spec_dependencies.specs.Settled.{Settled};
 ghost use Rattle.spec_dependencies.specs.Dependencies.{settles, dependenciesBy, dependencies};
 ghost use Rattle.spec_dependencies.specs.Answer.{refusalNumber, answerBy, dependenciesOf};
+ghost use Rattle.projection_patch.specs.Meaning.{editionOf};
 ghost use Rattle.set_dependencies.specs.SettledRows.{SettledTable};
 ghost use Rattle.set_dependencies.specs.DependsAnswers.{dependsRefusalOf, answerTo};
 
@@ -61,13 +62,13 @@ fn list_keys(table: &[u8], count: usize, out: &mut [u64]) -> DependenciesAnswer
 }
 
 // The answer of a set that reads and has no findings.
-fn depends_clean(set: &[u8], out: &mut [u64]) -> DependenciesAnswer
-    ensures answered { λ r. ⌜ ((ps : List Patch) → readSet v1 (now (set .entry)) ≡ patches ps → r ≡ answerTo (answerBy (dependencies ps) (now (out .entry)) .answer)) ⌝ }
-    ensures written { λ _. ⌜ ((ps : List Patch) → readSet v1 (now (set .entry)) ≡ patches ps → now (out .exit) ≡ answerBy (dependencies ps) (now (out .entry)) .output) ⌝ }
+fn depends_clean(set: &[u8], edition: ProjectionPatchEdition, out: &mut [u64]) -> DependenciesAnswer
+    ensures answered { λ r. ⌜ ((ps : List Patch) → readSet (editionOf edition) (now (set .entry)) ≡ patches ps → r ≡ answerTo (answerBy (dependencies ps) (now (out .entry)) .answer)) ⌝ }
+    ensures written { λ _. ⌜ ((ps : List Patch) → readSet (editionOf edition) (now (set .entry)) ≡ patches ps → now (out .exit) ≡ answerBy (dependencies ps) (now (out .entry)) .output) ⌝ }
 {
     let mut table = [0u8; settled_rows::TABLE_BYTES];
-    match patch_walk::open_set(set) {
-        SetOpening::At(start) => match walk_set::settle_steps(set, start, &mut table) {
+    match patch_walk::open_set(set, edition) {
+        SetOpening::At(start) => match walk_set::settle_steps(set, edition, start, &mut table) {
             SetSettling::Settled(count) => list_keys(&table, count, out),
             SetSettling::Contradiction { patch, operation } => DependenciesAnswer::Never {
                 patch,
@@ -84,15 +85,15 @@ fn depends_clean(set: &[u8], out: &mut [u64]) -> DependenciesAnswer
 
 // What a set depends on: both counts, and into out two numbers for each key, collection and key, first of those that must be there at the
 // start, then of those that must be absent. Nothing is written on a refusal or for never.
-pub fn depends(set: &[u8], out: &mut [u64]) -> DependenciesAnswer
-    ensures answered { λ r. ⌜ r ≡ answerTo (dependenciesOf v1 (now (set .entry)) (now (out .entry)) .answer) ⌝ }
-    ensures written { λ _. ⌜ now (out .exit) ≡ dependenciesOf v1 (now (set .entry)) (now (out .entry)) .output ⌝ }
+pub fn depends(set: &[u8], edition: ProjectionPatchEdition, out: &mut [u64]) -> DependenciesAnswer
+    ensures answered { λ r. ⌜ r ≡ answerTo (dependenciesOf (editionOf edition) (now (set .entry)) (now (out .entry)) .answer) ⌝ }
+    ensures written { λ _. ⌜ now (out .exit) ≡ dependenciesOf (editionOf edition) (now (set .entry)) (now (out .entry)) .output ⌝ }
 {
-    match quick_set::quick_check(set) {
+    match quick_set::quick_check(set, edition) {
         QuickCheck::Clean {
             patch_count: _,
             operation_count: _,
-        } => depends_clean(set, out),
+        } => depends_clean(set, edition, out),
         QuickCheck::Found => DependenciesAnswer::Refused(DependenciesRefusal::Findings),
         QuickCheck::Refused(fault) => DependenciesAnswer::Refused(DependenciesRefusal::Unreadable(
             fault,

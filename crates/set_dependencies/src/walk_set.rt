@@ -3,14 +3,15 @@ use crate::settling;
 use crate::settling::Settling;
 use patch_walk::SetCursor;
 use patch_walk::SetStep;
+use projection_patch::patch::ProjectionPatchEdition;
 use projection_patch::read_values::ProjectionPatchReadFault;
 ghost use mathlib.Core.List.{List, []};
 ghost use Prim.Native.Nat.{_≤_};
 ghost use lib.ListN.{length};
 ghost use Rattle.spec_patch.specs.Sizes.{setBytes};
-ghost use Rattle.spec_patch.specs.Edition.{v1};
 ghost use Rattle.spec_patch.specs.Patch.{Patch};
 ghost use Rattle.spec_dependencies.specs.Dependencies.{walkPatches};
+ghost use Rattle.projection_patch.specs.Meaning.{editionOf};
 ghost use Rattle.patch_walk.specs.Steps.{AtSteps};
 ghost use Rattle.set_dependencies.specs.SettledRows.{SettledTable};
 ghost use Rattle.set_dependencies.specs.SetSettling.{SetSettlesTo};
@@ -23,8 +24,13 @@ pub enum SetSettling {
 }
 
 // Settles the keys of the operations from a cursor on, in a table without rows.
-pub fn settle_steps(set: &[u8], from: SetCursor, table: &mut [u8]) -> SetSettling
-    ensures { λ r. ⌜ ((ps : List Patch) → length (now (set .entry)) ≤ setBytes → AtSteps v1 (now (set .entry)) from [] ps → SettledTable 0 (now (table .entry)) []
+pub fn settle_steps(
+    set: &[u8],
+    edition: ProjectionPatchEdition,
+    from: SetCursor,
+    table: &mut [u8],
+) -> SetSettling
+    ensures { λ r. ⌜ ((ps : List Patch) → length (now (set .entry)) ≤ setBytes → AtSteps (editionOf edition) (now (set .entry)) from [] ps → SettledTable 0 (now (table .entry)) []
         → SetSettlesTo (walkPatches 0 ps []) r (now (table .exit))) ⌝ }
 {
     let mut cursor = from;
@@ -33,7 +39,7 @@ pub fn settle_steps(set: &[u8], from: SetCursor, table: &mut [u8]) -> SetSettlin
     let mut patch: usize = 0;
     let mut index: usize = 0;
     loop {
-        match patch_walk::next_step(set, cursor, false) {
+        match patch_walk::next_step(set, cursor, false, edition) {
             SetStep::Head(_, next) => {
                 patch = opened;
                 opened = opened + 1;

@@ -8,12 +8,13 @@ use Rattle.spec_lists.specs.Bytes.{Bytes}
 use Rattle.spec_lists.specs.BytesLaws.{bytes-of}
 use Rattle.spec_patch.specs.Sizes.{setBytes}
 use Rattle.spec_patch.specs.Patch.{Patch}
-use Rattle.spec_patch.specs.Edition.{v1}
+use Rattle.spec_patch.specs.Edition.{Edition}
 use Rattle.spec_patch.specs.Read.{patches, readSet}
 use Rattle.spec_patch.specs.SetLaws.{was-encoded}
 use Rattle.spec_dependencies.specs.Dependencies.{Walk, settles, contradicts, walkPatches, dependenciesBy, dependencies}
 use Rattle.spec_dependencies.specs.Settled.{Settled}
 use Rattle.spec_dependencies.specs.Answer.{answerBy}
+use Rattle.projection_patch.specs.Meaning.{editionOf}
 use Rattle.patch_walk.specs.StepsLaws.{opened-at, never-unopened}
 use Rattle.set_dependencies.specs.SettledRows.{SettledTable}
 use Rattle.set_dependencies.specs.SettledRowsLaws.{none-settled}
@@ -33,11 +34,14 @@ set c = start c .args .set .now
 abbrev lent : tie.After-open-set → List ℕ
 lent c = start c .args .out .now
 
+abbrev edition : tie.After-open-set → Edition
+edition c = editionOf (start c .args .edition)
+
 all-bytes : (c : tie.After-open-set) → Bytes (set c)
 all-bytes c = bytes-of (set c) (λ j. c .before .before .shared-slice-known .given j .fits)
 
-short : (c : tie.After-open-set) (ps : List Patch) → readSet v1 (set c) ≡ patches ps → length (set c) ≤ setBytes
-short c ps e = let was = was-encoded v1 (set c) ps (all-bytes c) e in subst (λ (l : List ℕ). length l ≤ setBytes) (sym (was .0)) (was .1 .short)
+short : (c : tie.After-open-set) (ps : List Patch) → readSet (edition c) (set c) ≡ patches ps → length (set c) ≤ setBytes
+short c ps e = let was = was-encoded (edition c) (set c) ps (all-bytes c) e in subst (λ (l : List ℕ). length l ≤ setBytes) (sym (was .0)) (was .1 .short)
 
 open-set-requires : tie.Need-open-set-requires
 open-set-requires c κs = search needs
@@ -74,20 +78,20 @@ abbrev opening : tie.After-settle-steps → tie.After-open-set
 opening k = k .before .before .before .before .before
 
 -- what the walk over a readable set gave
-walked : (k : tie.After-settle-steps) (r : SetSettling) → k .settle-steps .result ≡ r → (ps : List Patch) → readSet v1 (set (opening k)) ≡ patches ps
-    → SetSettlesTo (walkPatches 0 ps []) r (k .settle-steps .last .1 .1 .0)
+walked : (k : tie.After-settle-steps) (r : SetSettling) → k .settle-steps .result ≡ r → (ps : List Patch) → readSet (edition (opening k)) (set (opening k)) ≡ patches ps
+    → SetSettlesTo (walkPatches 0 ps []) r (k .settle-steps .last .1 .1 .1 .0)
 walked k r is ps e =
     let o = opening k in
-    subst (λ x. SetSettlesTo (walkPatches 0 ps []) x (k .settle-steps .last .1 .1 .0)) is
-    (k .settle-steps .ensures ps (short o ps e) (opened-at (set o) (all-bytes o) ps e (o .open-set .ensures) _ (k .before .before .before .start .given .1)) none-settled)
+    subst (λ x. SetSettlesTo (walkPatches 0 ps []) x (k .settle-steps .last .1 .1 .1 .0)) is
+    (k .settle-steps .ensures ps (short o ps e) (opened-at (edition o) (set o) (all-bytes o) ps e (o .open-set .ensures) _ (k .before .before .before .start .given .1)) none-settled)
 
 same-length : tie.Need-same-length
 same-length c = search needs
 
 -- where all operations settle
-settled : (c : tie.After-count) (ps : List Patch) → let k = c .before .before .before in readSet v1 (set (opening k)) ≡ patches ps
-    → (t : List Settled) × (walkPatches 0 ps [] ≡ settles t) × SettledTable (c .count .given .0 .0) (k .settle-steps .last .1 .1 .0) t
-settled c ps e = let k = c .before .before .before in settled-walk (k .settle-steps .last .1 .1 .0) (walkPatches 0 ps []) _ (walked k _ (c .count .given .1) ps e)
+settled : (c : tie.After-count) (ps : List Patch) → let k = c .before .before .before in readSet (edition (opening k)) (set (opening k)) ≡ patches ps
+    → (t : List Settled) × (walkPatches 0 ps [] ≡ settles t) × SettledTable (c .count .given .0 .0) (k .settle-steps .last .1 .1 .1 .0) t
+settled c ps e = let k = c .before .before .before in settled-walk (k .settle-steps .last .1 .1 .1 .0) (walkPatches 0 ps []) _ (walked k _ (c .count .given .1) ps e)
 
 returns : tie.Need-returns
 unfolding dependencies
@@ -100,9 +104,9 @@ returns c =
     )
 
 -- where one contradicts
-contradicted : (c : tie.After-patch) (ps : List Patch) → let k = c .before .before .before in readSet v1 (set (opening k)) ≡ patches ps
+contradicted : (c : tie.After-patch) (ps : List Patch) → let k = c .before .before .before in readSet (edition (opening k)) (set (opening k)) ≡ patches ps
     → walkPatches 0 ps [] ≡ contradicts (c .patch .given .0 .0) (c .patch .given .0 .1 .0)
-contradicted c ps e = let k = c .before .before .before in contradicted-walk (k .settle-steps .last .1 .1 .0) (walkPatches 0 ps []) _ _ (walked k _ (c .patch .given .1) ps e)
+contradicted c ps e = let k = c .before .before .before in contradicted-walk (k .settle-steps .last .1 .1 .1 .0) (walkPatches 0 ps []) _ _ (walked k _ (c .patch .given .1) ps e)
 
 returns-2 : tie.Need-returns-2
 unfolding dependencies dependenciesBy answerBy
@@ -113,17 +117,17 @@ returns-2 c =
     )
 
 -- a readable set is read to its end
-read : (c : tie.After-known-told4) (ps : List Patch) → readSet v1 (set (opening (c .before .before .before .before))) ≡ patches ps → ⊥
+read : (c : tie.After-known-told4) (ps : List Patch) → readSet (edition (opening (c .before .before .before .before))) (set (opening (c .before .before .before .before))) ≡ patches ps → ⊥
 read c ps e =
     let k = c .before .before .before .before in
-    readable-walk (k .settle-steps .last .1 .1 .0) (walkPatches 0 ps []) (c .before .fault .given .0 .0) (walked k _ (c .before .fault .given .1) ps e)
+    readable-walk (k .settle-steps .last .1 .1 .1 .0) (walkPatches 0 ps []) (c .before .fault .given .0 .0) (walked k _ (c .before .fault .given .1) ps e)
 
 returns-3 : tie.Need-returns-3
 returns-3 c = (λ ps e. absurd (read c ps e), λ ps e. absurd (read c ps e))
 
 -- and opened
-opened : (c : tie.After-known-told5) (ps : List Patch) → readSet v1 (set (c .before .before .before)) ≡ patches ps → ⊥
-opened c ps e = let o = c .before .before .before in never-unopened (set o) (all-bytes o) ps e (o .open-set .ensures) _ (c .before .fault2 .given .1)
+opened : (c : tie.After-known-told5) (ps : List Patch) → readSet (edition (c .before .before .before)) (set (c .before .before .before)) ≡ patches ps → ⊥
+opened c ps e = let o = c .before .before .before in never-unopened (edition o) (set o) (all-bytes o) ps e (o .open-set .ensures) _ (c .before .fault2 .given .1)
 
 returns-4 : tie.Need-returns-4
 returns-4 c = (λ ps e. absurd (opened c ps e), λ ps e. absurd (opened c ps e))

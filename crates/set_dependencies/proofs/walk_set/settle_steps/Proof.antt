@@ -8,9 +8,10 @@ use borrow.Author.Needs.{needs}
 use denote.Ref.{now}
 use lib.ListN.{length}
 use Rattle.spec_patch.specs.Sizes.{setBytes}
-use Rattle.spec_patch.specs.Edition.{v1}
+use Rattle.spec_patch.specs.Edition.{Edition}
 use Rattle.spec_patch.specs.Patch.{Patch}
 use Rattle.spec_dependencies.specs.Dependencies.{walkPatches}
+use Rattle.projection_patch.specs.Meaning.{editionOf}
 use Rattle.patch_walk.specs.Steps.{StepWithin, AtSteps}
 use Rattle.patch_walk.specs.StepsLaws.{visited, opened, done, never-refused}
 use Rattle.patch_walk.specs.declared.SetStep.{SetStep}
@@ -20,21 +21,24 @@ use Rattle.set_dependencies.proofs.walk_set.settle_steps.Statement.{sta
 use Rattle.set_dependencies.proofs.walk_set.settle_steps.Tie as tie
 
 abbrev Inv-loop : tie.InvT-loop
-Inv-loop set table₀ cursor₀ count₀ opened₀ patch₀ index₀ table cursor count opened patch index =
+Inv-loop set edition table₀ cursor₀ count₀ opened₀ patch₀ index₀ table cursor count opened patch index =
     (length table ≡ length table₀) × (opened ≤ cursor .at) × (index ≤ cursor .at)
-    × ((ps : List Patch) → length set ≤ setBytes → AtSteps v1 set cursor₀ [] ps → SettledTable 0 table₀ [] → Walking v1 set (walkPatches 0 ps []) cursor count opened patch index table)
+    × ((ps : List Patch) → length set ≤ setBytes → AtSteps (editionOf edition) set cursor₀ [] ps → SettledTable 0 table₀ [] → Walking (editionOf edition) set (walkPatches 0 ps []) cursor count opened patch index table)
 
 abbrev μ-loop : tie.MeasureT-loop
-μ-loop set table₀ cursor₀ count₀ opened₀ patch₀ index₀ table cursor count opened patch index = length set - cursor .at
+μ-loop set edition table₀ cursor₀ count₀ opened₀ patch₀ index₀ table cursor count opened patch index = length set - cursor .at
 
 loop-holds : tie.Need-loop-holds Inv-loop μ-loop
-loop-holds c = (refl, omega arith, omega arith, λ ps short here stored. walk-start v1 _ ps here stored)
+loop-holds c = (refl, omega arith, omega arith, λ ps short here stored. walk-start _ _ ps here stored)
 
 abbrev head : tie.After-next-step Inv-loop μ-loop → tie.At-loop Inv-loop μ-loop
 head k = k .before
 
 abbrev set : tie.After-next-step Inv-loop μ-loop → List ℕ
 set k = now (head k .before .before .before .args .set)
+
+abbrev told : tie.After-next-step Inv-loop μ-loop → Edition
+told k = editionOf (head k .before .before .before .args .edition)
 
 within : (k : tie.After-next-step Inv-loop μ-loop) (r : SetStep) → k .next-step .result ≡ r → StepWithin (head k .loop .cursor) (length (set k)) r
 within k r q = subst (StepWithin (head k .loop .cursor) (length (set k))) q (k .next-step .ensures .1)
@@ -60,7 +64,7 @@ loop-again c =
       l .inv .0,
       omega (arith, on .0),
       omega arith,
-      λ ps short here stored. let w = l .inv .3 ps short here stored in walk-head v1 (set k) _ w (opened false v1 (set k) (l .cursor) (w .here) (k .next-step .ensures .0) _ _ q),
+      λ ps short here stored. let w = l .inv .3 ps short here stored in walk-head (told k) (set k) _ w (opened false (told k) (set k) (l .cursor) (w .here) (k .next-step .ensures .0) _ _ q),
     )
 
 enum-known-operation : tie.Need-enum-known-operation Inv-loop μ-loop
@@ -101,7 +105,7 @@ loop-again-2 c =
       omega (arith, on .0),
       λ ps short here stored.
           let w = l .inv .3 ps short here stored in
-          walk-on v1 (set s) _ w (visited false v1 (set s) (l .cursor) (w .here) (s .next-step .ensures .0) _ _ q) short _ (k .settle-operation .ensures) (c .before .more .given .1),
+          walk-on (told s) (set s) _ w (visited false (told s) (set s) (l .cursor) (w .here) (s .next-step .ensures .0) _ _ q) short _ (k .settle-operation .ensures) (c .before .more .given .1),
     )
 
 enum-told : tie.Need-enum-told Inv-loop μ-loop
@@ -117,7 +121,7 @@ returns c =
     let l = head s .loop in
     λ ps short here stored.
     let w = l .inv .3 ps short here stored in
-    walk-contradicts v1 (set s) _ w (visited false v1 (set s) (l .cursor) (w .here) (s .next-step .ensures .0) _ _ (read k .operation .given .1)) short _ (k .settle-operation .ensures) (c .enum-told .given .1)
+    walk-contradicts (told s) (set s) _ w (visited false (told s) (set s) (l .cursor) (w .here) (s .next-step .ensures .0) _ _ (read k .operation .given .1)) short _ (k .settle-operation .ensures) (c .enum-told .given .1)
 
 enum-told-2 : tie.Need-enum-told-2 Inv-loop μ-loop
 enum-told-2 c = search needs
@@ -131,7 +135,7 @@ returns-2 c =
     let l = head k .loop in
     λ ps short here stored.
     let w = l .inv .3 ps short here stored in
-    walk-end v1 (set k) _ w (done false v1 (set k) (l .cursor) (w .here) (k .next-step .ensures .0) (c .enum-told2 .given .1))
+    walk-end (told k) (set k) _ w (done false (told k) (set k) (l .cursor) (w .here) (k .next-step .ensures .0) (c .enum-told2 .given .1))
 
 enum-known-fault : tie.Need-enum-known-fault Inv-loop μ-loop
 enum-known-fault c = search needs
@@ -145,7 +149,7 @@ returns-3 c =
     let l = head k .loop in
     λ ps short here stored.
     let w = l .inv .3 ps short here stored in
-    absurd (never-refused false v1 (set k) (l .cursor) (w .here) (k .next-step .ensures .0) _ (c .before .fault .given .1))
+    absurd (never-refused false (told k) (set k) (l .cursor) (w .here) (k .next-step .ensures .0) _ (c .before .fault .given .1))
 
 pub settle-steps-spec : {M : Type 1} → statement M
 settle-steps-spec =
