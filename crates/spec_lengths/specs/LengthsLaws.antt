@@ -31,7 +31,7 @@ abbrev pub nonZero : ℕ → Option ℕ
 nonZero zero = none
 nonZero (suc n) = some (suc n)
 
-or-zero : (n : ℕ) → orZero (nonZero n) ≡ n
+pub or-zero : (n : ℕ) → orZero (nonZero n) ≡ n
 or-zero zero = refl
 or-zero (suc n) = refl
 
