@@ -1,0 +1,93 @@
+"""The sentences of docs/RULES.md, read as data: what each number, stage, finding and sign means."""
+
+import re
+from collections import namedtuple
+from pathlib import Path
+
+RULES = Path(__file__).resolve().parent.parent / "docs" / "RULES.md"
+
+Rule = namedtuple("Rule", "number stage meaning advice cases")
+Finding = namedtuple("Finding", "kind meaning secondary advice")
+
+
+def tables(text):
+    """Each table under its heading: (heading, names of the columns, rows)."""
+    heading, found, current = "", [], None
+    for line in text.split("\n"):
+        if line.startswith("#"):
+            heading = line.lstrip("# ")
+        if not line.startswith("|"):
+            current = None
+            continue
+        cells = [cell.strip() for cell in line.strip().strip("|").split("|")]
+        if current is None:
+            current = (heading, cells, [])
+            found.append(current)
+        elif not re.fullmatch(r"[\s|:-]+", line):
+            current[2].append(dict(zip(current[1], cells)))
+    return found
+
+
+class Rules:
+    def __init__(self, path=RULES):
+        self.numbers, self.stages, self.findings, self.signs, self.names = {}, {}, {}, {}, {}
+        for heading, columns, rows in tables(path.read_text(encoding="utf-8")):
+            for row in rows:
+                self._take(heading, columns, row)
+
+    def _take(self, heading, columns, row):
+        if columns[0] == "Number" and row["Number"].isdigit():
+            number = int(row["Number"])
+            self.numbers[number] = Rule(number, row["Stage"], row["Meaning"], row["What to do"], row["Case"])
+        elif columns[0] == "Stage" and row["Stage"].isdigit():
+            self.stages[int(row["Stage"])] = row["What is looked at"]
+        elif columns[0] == "Kind":
+            kind = int(row["Kind"])
+            self.findings[kind] = Finding(kind, row["Meaning"], row["Secondary"], row["What to do"])
+        elif columns[0] == "Sign":
+            self.signs[row["Sign"]] = row["Meaning"]
+        elif "Number" in columns and "Case" in columns:
+            # the rules that explain names
+            sentence = row.get("Sentence") or row.get("Meaning") or ""
+            self.names[row[columns[0]].strip("`")] = sentence
+
+    def sign(self, beginning):
+        """The meaning of the first sign that begins so."""
+        return next((meaning for sign, meaning in self.signs.items() if sign.startswith(beginning)), "")
+
+    def of_answer(self, lines):
+        """The sentences that an answer calls for: (number or none, sentence, advice)."""
+        letter, *fields = lines[0].split("\t")
+        if letter in ("R", "L") and fields:
+            return self._of_call(fields)
+        if letter == "K" and fields[:1] == ["0"]:
+            return [(None, self.sign("`K` and 0"), "")] + [self._of_finding(line) for line in lines[1:]]
+        if letter == "J" and len(fields) == 2:
+            return [(None, self.sign("`J`, a sender"), "")]
+        if letter == "J" and fields == ["none"]:
+            return [(None, self.sign("`J` and `none`"), "")]
+        if letter in ("N", "?"):
+            return [(None, self.sign("`%s`" % letter), "")]
+        if letter in "SKETIDYOUJ" and fields and fields[0].isdigit() and int(fields[0]) in self.numbers:
+            return [self._of_number(int(fields[0]))]
+        return []
+
+    def _of_call(self, fields):
+        disposition, number = fields[0], fields[1] if len(fields) > 1 else ""
+        if disposition != "rejected":
+            return [(None, self.sign("`%s`" % disposition), "")]
+        if number == "0":
+            return [(None, self.sign("`rejected` with number 0"), "")]
+        return [self._of_number(int(number))] if number.isdigit() else []
+
+    def _of_number(self, number):
+        rule = self.numbers.get(number)
+        return (number, rule.meaning, rule.advice) if rule else (number, "", "")
+
+    def _of_finding(self, line):
+        kind = line.split("\t")[1]
+        finding = self.findings.get(int(kind)) if kind.isdigit() else None
+        return ("finding %s" % kind, finding.meaning, finding.advice) if finding else ("finding %s" % kind, "", "")
+
+    def stage(self, number):
+        return self.stages.get(number, "")
