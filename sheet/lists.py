@@ -7,6 +7,9 @@ Shown = namedtuple("Shown", "key value marks old")
 
 ADDED, MOVED, CHANGED, REMOVED = "added", "moved", "changed", "removed"
 SIGNS = {ADDED: "+", MOVED: "↕", CHANGED: "~", REMOVED: "−"}
+# the same marks where another panel's list is held against ours
+AGAINST_OURS = {ADDED: "only here", MOVED: "other place", CHANGED: "other value", REMOVED: "missing here"}
+OWN_WORDS = {mark: mark for mark in SIGNS}
 
 
 def record(line):
@@ -52,3 +55,9 @@ def _kept(keys, place, movers):
         behind = max((best[other] for other in range(at) if place[keys[other]] < place[key]), key=lambda run: run[0], default=(0, ()))
         best.append((behind[0] + weight, behind[1] + (key,)))
     return set(max(best, key=lambda run: run[0], default=(0, ()))[1])
+
+
+def against(ours, theirs):
+    """Another panel's records with marks, what ours has and it lacks at the end."""
+    left, right = compare(ours or [], theirs or [])
+    return right + [entry for entry in left if REMOVED in entry.marks]

@@ -6,9 +6,14 @@ import sys
 from pathlib import Path
 
 from .answers import split_answers
+from .page import page
 from .parser import parse
 from .programs import ProgramFault, knows_explain
+from .report import difference_words, verdict_words
+from .rules import Rules
 from .script import script_of
+from .shrink import shrink
+from .text import text
 from .trial import Trial, unread_sets
 from .unscript import commented, unscript
 from .words import SheetErrors
@@ -81,7 +86,23 @@ def print_sheet(chosen, program):
 
 
 def show_sheet(chosen, program):
-    raise ProgramFault("not yet")
+    path, program = Path(chosen.sheet), proved(program)
+    items = parse(path.read_bytes())
+    panel = shlex.split(chosen.panel) if chosen.panel else None
+    trial = Trial(items, program, panel, knows_explain(program))
+    shrunk = shrink(trial, program, panel) if chosen.shrink else None
+    telling = (trial, path.stem, Rules(), chosen.panel, shrunk)
+    if chosen.text:
+        sys.stdout.buffer.write(text(*telling).encode("utf-8"))
+    else:
+        out = Path(chosen.out) if chosen.out else path.with_suffix(".html")
+        out.write_text(page(*telling), encoding="utf-8")
+        print_summary(out, trial, chosen.panel)
+    return UNMET if trial.unmet() or trial.panel_differs() else MET
 
 
-assert shlex and Trial and knows_explain and UNMET
+def print_summary(out, trial, panel):
+    lines = [verdict_words(trial)[1] + "".join(" line %d" % row.line for row, _ in trial.unmet())]
+    lines += difference_words(trial, panel) if panel else []
+    for line in lines:
+        print("%s: %s" % (out, line))

@@ -13,36 +13,42 @@ def state(byte):
     return "%s (%d)" % (AVAILABILITIES[byte], byte) if byte < len(AVAILABILITIES) else "the byte %d" % byte
 
 
+def availability(field):
+    """An availability as listings print it, with its name."""
+    return state(int(field)) if field.isdigit() else field
+
+
 def value_words(value):
-    """What the value is, and its content apart, which may be long."""
+    """What the value is; the content of a text apart, which may be long."""
     kind, content = value
     if kind == "T":
         try:
-            return "the text", content.decode("utf-8")
+            return "", content.decode("utf-8")
         except UnicodeDecodeError:
-            return "the bytes", content.hex()
+            return "the text of the bytes %s" % content.hex(), None
     if kind == "Q":
-        return "the quad", QUADS[content] if content < len(QUADS) else "of byte %d" % content
-    return {"S": "the signed number", "U": "the number", "M": "the match score"}[kind], str(content)
+        return "the quad %s" % (QUADS[content] if content < len(QUADS) else "of byte %d" % content), None
+    return "%s %d" % ({"S": "the signed number", "U": "the number", "M": "the match score"}[kind], content), None
 
 
 def operation_words(operation):
-    """(what is done, the content if the operation has a value)."""
+    """(what is done, the text if the operation has one)."""
     name, first, second, before, value = operation
     place = "to the end" if before is None else "before %d" % before
     if name == "binding":
         kind, content = value_words(value)
-        return "set binding %d, slot %d, to %s" % (first, second, kind), content
+        return ("set binding %d, slot %d, to %s" % (first, second, kind)).rstrip(), content
     if name == "availability":
         return "set node %d to %s" % (first, state(second)), None
     if name == "remove":
-        return "remove %d from list %d" % (second, first), None
+        return "remove %d from collection %d" % (second, first), None
     if name == "move":
-        return "move %d of list %d %s" % (second, first, place), None
+        return "move %d of collection %d %s" % (second, first, place), None
     kind, content = value_words(value)
     if name == "insert":
-        return "insert %d into list %d %s: %s" % (second, first, "at the end" if before is None else place, kind), content
-    return "update %d of list %d to %s" % (second, first, kind), content
+        place = "at the end" if before is None else place
+        return ("insert %d into collection %d %s: %s" % (second, first, place, kind)).rstrip(), content
+    return ("update %d of collection %d to %s" % (second, first, kind)).rstrip(), content
 
 
 def patch_words(patch):
@@ -70,18 +76,18 @@ def declared_words(command):
 
 
 SUBJECTS = {
-    "binding": "binding {node}, slot {slot}", "node": "node {node}", "entry": "{key} of list {collection}",
+    "binding": "binding {node}, slot {slot}", "node": "node {node}", "entry": "{key} of collection {collection}",
 }
 PLAIN = {
-    "session": "set up session {id}: at most {bytes} bytes, {diagnostics} diagnostics, {patches} patches, {references} references a call",
-    "node": "anchor: node {node}",
-    "binding": "anchor: binding {node}, slot {slot}",
-    "collection": "anchor: list {collection}",
+    "session": "session {id}: at most {bytes} bytes, {diagnostics} diagnostics, {patches} patches, {references} references a call",
+    "node": "node {node} is an anchor",
+    "binding": "binding {node}, slot {slot}, is an anchor",
+    "collection": "collection {collection} is an anchor",
     "create": "create the session",
     "show": "show the panel",
-    "edition": "sets are of edition {edition} from here on",
-    "length": "how long is list {collection}?",
-    "print": "print list {collection} into {room} bytes",
+    "edition": "edition {edition} is in force from here on",
+    "length": "how long is collection {collection}?",
+    "print": "print collection {collection} into {room} bytes",
     "senders": "turns among {senders} senders",
     "wait": "sender {sender} waits",
     "turn": "whose turn is it?",
@@ -118,10 +124,10 @@ def _set_command(command):
     if name == "depends":
         return "what does a set depend on? (room for %d)" % fields["room"]
     if name == "import":
-        return "import a term list into list %d as patch %d, into %s" % (
+        return "import a term list into collection %d as patch %d, into %s" % (
             fields["collection"], fields["id"], counted(fields["room"], "byte"))
     if name == "page":
-        return "look up %s of list %d: %s" % (
+        return "look up %s of collection %d: %s" % (
             counted(len(command.keys), "key"), fields["collection"], ", ".join(map(str, command.keys)))
     return "a group of %s, all or none" % counted(len(command.members), "batch", "batches")
 
@@ -172,6 +178,4 @@ def _cursor(cursor):
 
 
 def _value_words(fields):
-    if fields[0] == "A" and fields[1].isdigit():
-        return state(int(fields[1]))
-    return ""
+    return availability(fields[1]) if fields[0] == "A" else ""

@@ -195,6 +195,9 @@ class Trial:
     def unmet(self):
         return [(row, expected) for row, expected, met in self.expectations() if not met]
 
+    def panel_differs(self):
+        return bool(self.first or self.panel_fault or self.extra)
+
     def differing(self):
         return [row for row in self.rows if row.differs()]
 

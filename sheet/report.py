@@ -1,0 +1,119 @@
+"""What page and text both say of a trial."""
+
+from .commands import SILENT
+from .parser import decoded
+from .telling import command_words, counted
+
+
+def is_set_up(row):
+    """Whether nothing is answered to the row's command."""
+    return row.item.name in SILENT
+
+
+def notes_of(notes):
+    """The comments as paragraphs; an empty comment or line parts them."""
+    paragraphs, lines = [], []
+    for note in list(notes) + [None]:
+        text = decoded(note.data)[1:].strip() if note is not None else ""
+        if text:
+            lines.append(text)
+        elif lines:
+            paragraphs.append(" ".join(lines))
+            lines = []
+    return paragraphs
+
+
+def verdict_words(trial):
+    """Whether all went as expected, and in words."""
+    commands = counted(len(trial.rows), "command")
+    expects, unmet = len(trial.expectations()), len(trial.unmet())
+    if not expects:
+        return True, "%s, nothing expected" % commands
+    if not unmet:
+        return True, "%s, %s, all met" % (commands, counted(expects, "expectation"))
+    return False, "%s, %d of %s not met:" % (commands, unmet, counted(expects, "expectation"))
+
+
+# ---- refusals
+
+
+def operation_states(carried, breaks):
+    """What became of each operation of a refused batch: (kind, words) by patch and operation."""
+    if breaks is None or breaks.operation is None:
+        return {}
+    broken, states = (breaks.patch, breaks.operation), {}
+    for place, patch in enumerate(carried.patches):
+        for at in range(len(patch.operations)):
+            if (place, at) == broken:
+                states[place, at] = ("broke", "✗ broke off here")
+            elif (place, at) < broken:
+                states[place, at] = ("dropped", "· not kept")
+            else:
+                states[place, at] = ("unreached", "· not reached")
+    return states
+
+
+def break_words(row, rules):
+    """Where a refused batch broke off."""
+    breaks = row.breaks
+    if breaks is None:
+        return []
+    out = []
+    if breaks.operation is not None:
+        patch = row.item.carried.patches[breaks.patch]
+        out.append("Broke off at operation %d of patch %d: the batch up to it is refused with %s, without it it is not."
+                   % (breaks.operation + 1, patch.id, breaks.number))
+    for line in breaks.findings:
+        _, kind, domain, secondary = (line.split("\t") + ["", "", ""])[:4]
+        finding = rules.findings.get(int(kind)) if kind.isdigit() else None
+        words = "Finding %s at patch %s: %s" % (kind, domain, finding.meaning if finding else "")
+        out.append(words + (" (%s: %s)" % (finding.secondary, secondary) if finding and finding.secondary != "0" else ""))
+    return out
+
+
+def figures(row):
+    """The session's limits beside what a batch declared, where a limit was passed."""
+    if row.breaks is None or row.breaks.number != "4" or not row.limits:
+        return []
+    limits = row.limits
+    return ["The session's limits: %s, %s, %s." % (
+        counted(limits["patches"], "patch", "patches"), counted(limits["bytes"], "byte"), counted(limits["references"], "reference"))]
+
+
+def reason_words(row, rules):
+    """What explain says, with the sentence of the rule that it names."""
+    if not row.reason or len(row.reason) < 3 or row.reason[1] == "0":
+        return []
+    name, numbers = row.reason[2], row.reason[3:]
+    words = "Rule `%s`" % name
+    if rules.names.get(name):
+        words += ": " + rules.names[name]
+    return [words + (" (%s)" % ", ".join(numbers) if numbers else "")]
+
+
+def unread_words(row):
+    if row.unread is None:
+        return []
+    return ["The proved reader refuses the composed set with %s." % row.unread]
+
+
+# ---- two panels
+
+
+def difference_words(trial, panel):
+    """The first difference in words, and what is wrong with the other program's end."""
+    out = []
+    if trial.first is None:
+        out.append("%s gives the same answers" % panel)
+    else:
+        step = trial.first[0]
+        item = trial.items[step.at]
+        what = "the list after" if step.purpose == "show" else "the answer to"
+        out.append("%s differs first in line %d: %s ‘%s’" % (panel, item.line, what, command_words(item)))
+        if len(trial.differing()) > 1:
+            out.append("%d rows differ." % len(trial.differing()))
+    if trial.panel_fault:
+        out.append(trial.panel_fault + ".")
+    if trial.extra:
+        out.append("%s behind the last answer." % counted(len(trial.extra), "further answer"))
+    return out
