@@ -3,7 +3,7 @@
 from collections import namedtuple
 
 from .canonical import operation_count
-from .commands import BATCH
+from .commands import BATCH, CHANGING, SILENT
 from .parser import Carried, Command
 from .programs import ask
 from .script import command_line, item_line
@@ -79,13 +79,16 @@ def beginning(command, size):
 
 
 def prefix_of(items, command):
-    """The script up to the command."""
+    """What makes the session up to the command: the set-up lines up to its create, and its calls since."""
     lines = []
     for item in items:
         if item is command:
             break
-        lines.append(item_line(item))
-    return b"".join(lines)
+        if item.name == "create":
+            lines = [(name, line) for name, line in lines if name in SILENT]
+        if item.name in SILENT + CHANGING:
+            lines.append((item.name, item_line(item)))
+    return b"".join(line for _, line in lines)
 
 
 def batch_number(program, prefix, command):

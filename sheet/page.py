@@ -18,6 +18,8 @@ from .trial import compared, records_of
 STYLE = Path(__file__).with_name("page.css")
 # unmarked records in a row that are folded, and the length of a list from which this is done
 FOLD, LONG = 4, 12
+# how much of two texts is the same when their words are set off one by one
+ALIKE = 0.6
 
 
 def shown(text):
@@ -82,9 +84,12 @@ def value_html(entry, side):
 
 
 def words_apart(content, other, tag):
-    mine, theirs = re.split(r"(\s+)", content), re.split(r"(\s+)", other)
-    out = []
-    for kind, start, end, _, _ in SequenceMatcher(None, mine, theirs, False).get_opcodes():
+    """The content with what the other has not; of texts that share little nothing is set off."""
+    matcher = SequenceMatcher(None, re.split(r"(\s+)", content), re.split(r"(\s+)", other), False)
+    mine, out = matcher.a, []
+    if matcher.ratio() < ALIKE:
+        return shown(content)
+    for kind, start, end, _, _ in matcher.get_opcodes():
         words = shown("".join(mine[start:end]))
         out.append(words if kind == "equal" or not words else "<%s>%s</%s>" % (tag, words, tag))
     return "".join(out)

@@ -1,8 +1,9 @@
 """What page and text both say of a trial."""
 
+from .canonical import operation_count
 from .commands import SILENT
 from .parser import decoded
-from .telling import command_words, counted
+from .telling import command_words, counted, counts
 
 
 def is_set_up(row):
@@ -61,7 +62,7 @@ def break_words(row, rules):
     out = []
     if breaks.operation is not None:
         patch = row.item.carried.patches[breaks.patch]
-        out.append("Broke off at operation %d of patch %d: the batch up to it is refused with %s, without it it is not."
+        out.append("Broke off at operation %d of patch %d: the batch up to it is refused with %s, with one operation less it is not."
                    % (breaks.operation + 1, patch.id, breaks.number))
     for line in breaks.findings:
         _, kind, domain, secondary = (line.split("\t") + ["", "", ""])[:4]
@@ -72,12 +73,17 @@ def break_words(row, rules):
 
 
 def figures(row):
-    """The session's limits beside what a batch declared, where a limit was passed."""
-    if row.breaks is None or row.breaks.number != "4" or not row.limits:
-        return []
+    """What the sheet itself has to set beside a refusal: the session's id and limits, the set's counts."""
+    number, item = row.breaks.number if row.breaks is not None else None, row.item
     limits = row.limits
-    return ["The session's limits: %s, %s, %s." % (
-        counted(limits["patches"], "patch", "patches"), counted(limits["bytes"], "byte"), counted(limits["references"], "reference"))]
+    if number == "1" and limits:
+        return ["The session in use has the id %d." % limits["id"]]
+    if number == "4" and limits:
+        return ["The session's limits: %s." % counts(limits)]
+    if number == "5" and item.carried.data is None:
+        patches = item.carried.patches
+        return ["The set has %s and %s." % (counted(len(patches), "patch", "patches"), counted(operation_count(patches), "operation"))]
+    return []
 
 
 def reason_words(row, rules):

@@ -6,7 +6,7 @@ Behind each call on the session a show is put, so that the panel after it is the
 from dataclasses import dataclass, field
 
 from .breaking import Break, find_break
-from .commands import CHANGING, SILENT
+from .commands import CHANGING, LINE_BYTES, SILENT
 from .lists import compare
 from .parser import Command, Plain
 from .programs import ask, try_run
@@ -62,13 +62,14 @@ class Step:
 
 
 def is_silent(item):
+    """Whether nothing is answered to the item's line."""
     if isinstance(item, Plain):
-        return item.data == b"" or item.data.startswith(b"#")
+        return item.data == b"" or item.data.startswith(b"#") and len(item.data) <= LINE_BYTES
     return item.name in SILENT
 
 
 def is_note(item):
-    return isinstance(item, Plain) and not item.raw
+    return isinstance(item, Plain) and not item.raw and is_silent(item)
 
 
 def steps_of(items):
