@@ -3,6 +3,7 @@
 import contextlib
 import io
 import re
+import shlex
 import sys
 import tempfile
 import unittest
@@ -16,14 +17,15 @@ from sheet.parser import parse
 from sheet.rules import Rules
 from sheet.script import script_of
 from sheet.shrink import shrink
-from sheet.tests.places import EXAMPLES, KIT, MODEL, ROOT, documented_sheet
+from sheet.tests.places import EXAMPLES, KIT, MODEL, ROOT, answering, documented_sheet
 from sheet.text import text
 from sheet.trial import Trial, first_difference, script_of_steps, steps_of, told_answers
 from sheet.programs import ask, knows_explain
 from sheet.unscript import unscript
 
-LIFT_PANEL = [sys.executable, "-B", str(EXAMPLES / "lift_panel.py")]
-EXPLAINING = [sys.executable, "-B", str(ROOT / "sheet" / "tests" / "explaining_panel.py")]
+LIFT_PROGRAM = [sys.executable, "-B", str(EXAMPLES / "lift_panel.py")]
+LIFT_PANEL = answering(EXAMPLES / "lift_panel.py")
+EXPLAINING = answering(ROOT / "sheet" / "tests" / "explaining_panel.py")
 CASES = (
     "step7_repeats_count", "step9_break_at_the_fifth_operation", "read_patch_count_65_is_12", "text_241_bytes_is_12",
     "kind_12_replaces_05", "cap_1_of_4_absent_targets", "script_stops_at_the_first_bad_line", "convert_score_18",
@@ -213,7 +215,7 @@ class CommandLine(unittest.TestCase):
         self.assertIn("✗ NOT as expected: rejected 8", told)
 
     def test_panels_that_differ(self):
-        status, told, _ = self.run_main("sheet", str(EXAMPLES / "lift_manual.sheet"), "--text", "--panel", " ".join(LIFT_PANEL))
+        status, told, _ = self.run_main("sheet", str(EXAMPLES / "lift_manual.sheet"), "--text", "--panel", shlex.join(LIFT_PROGRAM))
         self.assertEqual(status, 1)
         self.assertIn("differs first in line", told)
 
