@@ -3,6 +3,7 @@
 from .canonical import operation_count
 from .commands import SILENT
 from .parser import decoded
+from .reasons import labelled_figures
 from .telling import command_words, counted, counts
 
 
@@ -62,8 +63,8 @@ def break_words(row, rules):
     out = []
     if breaks.operation is not None:
         patch = row.item.carried.patches[breaks.patch]
-        out.append("Broke off at operation %d of patch %d: the batch up to it is refused with %s, with one operation less it is not."
-                   % (breaks.operation + 1, patch.id, breaks.number))
+        words = "Broke off at operation %d of patch %d" % (breaks.operation + 1, patch.id)
+        out.append(words + ("." if row.reason else ": the batch up to it is refused with %s, with one operation less it is not." % breaks.number))
     for line in breaks.findings:
         _, kind, domain, secondary = (line.split("\t") + ["", "", ""])[:4]
         finding = rules.findings.get(int(kind)) if kind.isdigit() else None
@@ -88,13 +89,12 @@ def figures(row):
 
 def reason_words(row, rules):
     """What explain says, with the sentence of the rule that it names."""
-    if not row.reason or len(row.reason) < 3 or row.reason[1] == "0":
+    if row.reason is None:
         return []
-    name, numbers = row.reason[2], row.reason[3:]
-    words = "Rule `%s`" % name
-    if rules.names.get(name):
-        words += ": " + rules.names[name]
-    return [words + (" (%s)" % ", ".join(numbers) if numbers else "")]
+    words, told = "Rule `%s`" % row.reason.name, labelled_figures(row.reason)
+    if rules.names.get(row.reason.name):
+        words += ": " + rules.names[row.reason.name]
+    return [words + (" (%s)" % ", ".join(told) if told else "")]
 
 
 def unread_words(row):

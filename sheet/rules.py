@@ -6,6 +6,9 @@ from pathlib import Path
 
 RULES = Path(__file__).resolve().parent.parent / "docs" / "RULES.md"
 
+# what the column with a rule's sentence may be called
+SENTENCES = ("Sentence", "Meaning", "What it says")
+
 Rule = namedtuple("Rule", "number stage meaning advice cases")
 Finding = namedtuple("Finding", "kind meaning secondary advice")
 
@@ -48,7 +51,7 @@ class Rules:
             self.signs[row["Sign"]] = row["Meaning"]
         elif "Number" in columns and "Case" in columns:
             # the rules that explain names
-            sentence = row.get("Sentence") or row.get("Meaning") or ""
+            sentence = next((row[column] for column in SENTENCES if row.get(column)), "")
             self.names[row[columns[0]].strip("`")] = sentence
 
     def sign(self, beginning):

@@ -175,7 +175,7 @@ def unscript(script, answers=None):
     for data, ended in lines_of(script):
         lines = state.line(data, ended)
         out += lines
-        if answers is not None and not _silent(data, lines[0]):
+        if answers is not None and not (ended and _silent(data, lines[0])):
             out += expected(next(groups, []))
     return "".join(line + "\n" for line in out).encode("utf-8", "surrogateescape")
 

@@ -9,8 +9,9 @@ sys.path.insert(0, str(Path(__file__).resolve().parent.parent.parent / "kit" / "
 from replay import Replay, line, replay  # noqa: E402
 
 
-def explain(self, *fields):
-    return line(b"W", 8, b"key-absent", 0, 4)
+def explain(self, session, sequence, *fields):
+    """The second operation is the reason, but for the first batch, which has none."""
+    return line(b"W", 0) if sequence == b"1" else line(b"W", 8, b"key-absent", 0, 1)
 
 
 Replay.do_explain = explain

@@ -14,6 +14,7 @@ from sheet.answers import split_answers
 from sheet.main import main
 from sheet.page import page
 from sheet.parser import parse
+from sheet.reasons import Reason, labelled_figures, place_in, read_reason
 from sheet.rules import Rules
 from sheet.script import script_of
 from sheet.shrink import shrink
@@ -86,10 +87,22 @@ class Refusals(unittest.TestCase):
     def test_explain_where_the_program_has_it(self):
         self.assertFalse(knows_explain(MODEL))
         self.assertTrue(knows_explain(EXPLAINING))
-        trial = Trial(parse(SMALL + b"batch\n  patch\n    remove 9 7\n"), EXPLAINING, explain=True)
-        self.assertEqual(trial.rows[-1].reason, ["W", "8", "key-absent", "0", "4"])
-        self.assertIn("Rule key-absent", text(trial, "x", Rules()))
+        trial = Trial(parse(SMALL + b"batch\n  patch\n    update 9 1 U 2\n    remove 9 7\n    remove 9 8\n"), EXPLAINING, explain=True)
+        row = trial.rows[-1]
+        self.assertEqual(row.reason, Reason("8", "key-absent", ["0", "1"]))
+        self.assertEqual((row.breaks.patch, row.breaks.operation), (0, 1))
+        self.assertIn("Rule key-absent (patch 0, operation 1)", text(trial, "x", Rules()))
         self.assertIn("Rule <code>key-absent</code>", page(trial, "x", Rules()))
+        self.assertIsNone(trial.rows[4].reason)
+
+    def test_reasons(self):
+        for line, reason in (("W\t0", None), ("W\t4\treferences\t17\t16", Reason("4", "references", ["17", "16"])),
+                             ("W\t2\tclosed", Reason("2", "closed", [])), ("?\t4", None), ("N", None)):
+            self.assertEqual(read_reason(line), reason)
+        self.assertEqual(labelled_figures(Reason("4", "references", ["17", "16"])), ["there 17", "at most 16"])
+        self.assertEqual(labelled_figures(Reason("4", "references", ["17"])), ["17"])
+        self.assertEqual(labelled_figures(Reason("10", "of-tomorrow", ["1", "2"])), ["1", "2"])
+        self.assertIsNone(place_in(Reason("8", "key-absent", ["0", "9"]), []))
 
 
 class Tags(HTMLParser):
