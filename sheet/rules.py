@@ -69,6 +69,10 @@ class Rules:
             return [(None, self.sign("`J`, a sender"), "")]
         if letter == "J" and fields == ["none"]:
             return [(None, self.sign("`J` and `none`"), "")]
+        if letter == "U" and len(lines) == 2:
+            return self.of_answer(lines[1:])
+        if letter == "W" and fields[:1] != ["0"] and fields[0].isdigit():
+            return [self._of_number(int(fields[0]))]
         if letter in ("N", "?"):
             return [(None, self.sign("`%s`" % letter), "")]
         if letter in "SKETIDYOUJ" and fields and fields[0].isdigit() and int(fields[0]) in self.numbers:
