@@ -185,6 +185,7 @@ def raw_answer(lines):
 def expectation(row, expected, met):
     head, *further = expected.told()
     sign, word = ("✓", "as expected") if met else ("✗", "not as expected")
+    further += [] if met else expected.came(row.own)
     items = "".join("<li><bdi>%s</bdi></li>" % shown(line) for line in further)
     return '<div class=expected><span class="sign %s">%s %s:</span> <bdi>%s</bdi>%s</div>' % (
         "good" if met else "bad", sign, word, shown(head), "<ul>%s</ul>" % items if items else "")

@@ -41,8 +41,15 @@ def case_names():
     return (KIT / "index").read_text().split()
 
 
-def documented_sheet():
-    """The example of everything in docs/SHEET.md."""
-    lines = (ROOT / "docs" / "SHEET.md").read_text(encoding="utf-8").split("\n")
-    start, end = lines.index("## An example of everything"), lines.index("## The form")
-    return "".join(line[4:] + "\n" for line in lines[start + 2 : end - 1]).encode("utf-8")
+def documented_sheets():
+    """The two examples in docs/SHEET.md: of everything, and of groups and term lists."""
+    text = (ROOT / "docs" / "SHEET.md").read_text(encoding="utf-8")
+    text = text[text.index("## An example of everything") : text.index("## The form")]
+    first, second = text.split("The commands that carry more than one set, or none:")
+    return [indented(part).encode("utf-8") for part in (first, second)]
+
+
+def indented(text):
+    """The lines of an indented block, without their indentation."""
+    lines = [line for line in text.strip("\n").split("\n") if line == "" or line.startswith("    ")]
+    return "\n".join(line[4:] for line in lines).strip("\n") + "\n"

@@ -12,7 +12,7 @@ from sheet.parser import parse
 from sheet.programs import run
 from sheet.rules import Rules
 from sheet.script import script_of
-from sheet.tests.places import EXAMPLES, KIT, case_names, documented_sheet
+from sheet.tests.places import EXAMPLES, KIT, case_names, documented_sheets
 from sheet.text import text
 from sheet.trial import Trial
 from sheet.unscript import unscript
@@ -34,7 +34,7 @@ class Proved(unittest.TestCase):
     def test_the_examples(self):
         script = script_of(parse((EXAMPLES / "pump_manual.sheet").read_bytes()))
         self.assertEqual(run(PROVED, script), (EXAMPLES / "pump_manual.answers").read_bytes())
-        for sheet in [documented_sheet()] + [path.read_bytes() for path in EXAMPLES.glob("*.sheet")]:
+        for sheet in documented_sheets()[:1] + [path.read_bytes() for path in EXAMPLES.glob("*.sheet")]:
             self.assertEqual(Trial(parse(sheet), PROVED).unmet(), [])
 
 

@@ -106,6 +106,17 @@ class Expectations(unittest.TestCase):
         self.assertEqual(self.met("  expect unchanged\n", [], ["A\t6\t3"], ["A\t6\t4"]), [False])
         self.assertEqual(self.met("  expect unchanged\n", [], None, None), [False])
 
+    def test_what_came_instead(self):
+        def came(text, lines, after):
+            expected, = parse(("show\n" + text).encode("utf-8"))[0].expects
+            return expected.came(Outcome(lines, [], after))
+
+        self.assertEqual(came("  expect list 9: 1 2\n", [], entries(2, 1)), ["came: list 9: 2, 1"])
+        self.assertEqual(came("  expect list 9\n    1 T y\n", [], entries(1)), ["came: list 9: 1", "came: 1 T x"])
+        self.assertEqual(came("  expect panel\n    A 6 3\n", [], ["A\t6\t4"]), ["in line 1 expected: A 6 3", "came: A 6 4"])
+        self.assertEqual(came("  expect panel\n    A 6 3\n", [], []), ["in line 1 expected: A 6 3", "came: nothing more"])
+        self.assertEqual(came("  expect applied\n", ["R\trejected"], []), [])
+
     def test_nothing_was_answered(self):
         self.assertFalse(Expectation(1, "answer", "applied").met(Outcome(None)))
 
@@ -124,7 +135,9 @@ class TheRules(unittest.TestCase):
         (number, sentence, advice), = self.rules.of_answer(["R\trejected\t7\t6\t1\t1\t5"])
         self.assertEqual((number, sentence, advice), (7, self.rules.numbers[7].meaning, self.rules.numbers[7].advice))
         self.assertIn("hidden", self.rules.of_answer(["R\trejected\t0\t0\t1\t0\t5"])[0][1])
-        for answer in ("R\tapplied\t0\t0\t0\t0\t1", "L\tno-change\t0\t0\t0\t0\tactive\t-\t1", "N", "?\t4", "J\tnone", "J\t0\t1", "J\t19", "E\t8", "T\t18", "S\t13", "K\t10"):
+        answers = ("R\tapplied\t0\t0\t0\t0\t1", "L\tno-change\t0\t0\t0\t0\tactive\t-\t1", "N", "?\t4", "J\tnone", "J\t0\t1", "J\t19",
+                   "E\t8", "T\t18", "S\t13", "K\t10")
+        for answer in answers:
             self.assertTrue(self.rules.of_answer([answer])[0][1], answer)
         self.assertEqual(len(self.rules.of_answer(["K\t0\tset\t2", "F\t4\t1\t1", "F\t5\t1\t1"])), 3)
         self.assertEqual(self.rules.of_answer(["S\t0"]), [])

@@ -18,7 +18,7 @@ from sheet.reasons import Reason, labelled_figures, place_in, read_reason
 from sheet.rules import Rules
 from sheet.script import script_of
 from sheet.shrink import shrink
-from sheet.tests.places import EXAMPLES, KIT, MODEL, ROOT, answering, documented_sheet
+from sheet.tests.places import EXAMPLES, KIT, MODEL, ROOT, answering, documented_sheets
 from sheet.text import text
 from sheet.trial import Trial, first_difference, script_of_steps, steps_of, told_answers
 from sheet.programs import ask, knows_explain
@@ -41,9 +41,16 @@ def commands(script):
 
 class Examples(unittest.TestCase):
     def test_the_documented_sheet(self):
-        trial = Trial(parse(documented_sheet()), MODEL)
+        everything, _ = documented_sheets()
+        trial = Trial(parse(everything), MODEL)
         self.assertEqual([row.line for row, _ in trial.unmet()], [])
         self.assertEqual(len(trial.expectations()), 13)
+
+    def test_the_documented_group_and_term_list(self):
+        group, terms = parse(documented_sheets()[1])
+        self.assertEqual([(batch.fields["sequence"], batch.carried.edition) for batch in group.members], [(3, 1), (4, 2)])
+        self.assertEqual([patch.id for batch in group.members for patch in batch.carried.patches], [4, 5])
+        self.assertEqual((terms.fields["id"], terms.terms), (6, b"5\tsuction valve\nno key and no tab\n"))
 
     def test_the_pump_manual_is_the_script_of_the_same_name(self):
         script = script_of(parse((EXAMPLES / "pump_manual.sheet").read_bytes()))
