@@ -3,9 +3,10 @@
 from collections import namedtuple
 
 from .canonical import operation_count
-from .commands import BATCH
+from .commands import BATCH, CHANGING, SILENT
 from .parser import Carried, Command
 from .programs import ask
+from .reasons import place_in
 from .script import command_line, item_line
 
 # patch and operation are places from 0; findings are the lines of check
@@ -15,26 +16,31 @@ AT_AN_OPERATION = ("6", "8", "9")
 IN_READING = ("10", "12")
 
 
-def find_break(program, items, command, answer, unread):
+def find_break(program, items, row):
     """What the program tells of a refused batch, or nothing where there is no more to ask."""
+    command, carried, answer = row.item, row.item.carried, row.own.lines
     fields = answer[0].split("\t") if answer else []
     if fields[:2] != ["R", "rejected"]:
         return None
-    number, carried = fields[2], command.carried
+    number = fields[2]
     if number == "11":
         return Break(number, None, None, check(program, carried)[1:])
     if carried.data is not None or not carried.patches:
         return Break(number, None, None, [])
+    place = place_in(row.reason, carried.patches) if row.reason else None
+    return Break(number, *(place or asked_place(program, items, command, number, row.unread)), [])
+
+
+def asked_place(program, items, command, number, unread):
+    """Patch and operation at which the batch gets its number, by asking for its beginnings."""
+    carried, count = command.carried, None
+    size = operation_count(carried.patches)
     if number in AT_AN_OPERATION:
         prefix = prefix_of(items, command)
-        count = first_refused(operation_count(carried.patches),
-                              lambda size: batch_number(program, prefix, beginning(command, size)) == number)
+        count = first_refused(size, lambda kept: batch_number(program, prefix, beginning(command, kept)) == number)
     elif number in IN_READING and unread == number:
-        count = first_refused(operation_count(carried.patches),
-                              lambda size: check(program, cut(carried, size))[0] == "K\t" + number)
-    else:
-        return Break(number, None, None, [])
-    return Break(number, *place_of(carried.patches, count), [])
+        count = first_refused(size, lambda kept: check(program, cut(carried, kept))[0] == "K\t" + number)
+    return place_of(carried.patches, count)
 
 
 def first_refused(size, refused):
@@ -79,13 +85,16 @@ def beginning(command, size):
 
 
 def prefix_of(items, command):
-    """The script up to the command."""
+    """What makes the session up to the command: the set-up lines up to its create, and its calls since."""
     lines = []
     for item in items:
         if item is command:
             break
-        lines.append(item_line(item))
-    return b"".join(lines)
+        if item.name == "create":
+            lines = [(name, line) for name, line in lines if name in SILENT]
+        if item.name in SILENT + CHANGING:
+            lines.append((item.name, item_line(item)))
+    return b"".join(line for _, line in lines)
 
 
 def batch_number(program, prefix, command):

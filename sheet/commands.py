@@ -6,6 +6,8 @@ from .canonical import LAST_U32, LAST_U64
 SET_ROOM = 32768
 NEEDS_ROOM = 16384
 PRINT_ROOM = 131072
+# a longer line is no command, whatever stands in it
+LINE_BYTES = 131072
 
 BATCH = ("id", "sequence", "patches", "bytes", "references")
 IMPORT = ("room", "collection", "id", "stream", "document", "surface", "previous", "revision", "epoch", "sequence")

@@ -81,6 +81,30 @@ class Expectation:
         return ["list %d:" % self.collection] + told
 
 
+    def came(self, outcome):
+        """What came in place of what was expected, where it does not stand beside it."""
+        if self.kind == "list" and outcome.after is not None:
+            entries = entries_of(outcome.after, self.collection)
+            keys = ", ".join(str(key) for key, _ in entries) or "none"
+            wrong = [
+                "%d %s" % entry for (key, value), entry in zip(self.lines, entries)
+                if key == entry[0] and value is not None and value != entry[1]
+            ]
+            return ["came: list %d: %s" % (self.collection, keys)] + ["came: " + entry for entry in wrong]
+        lines = outcome.after if self.kind == "panel" else outcome.lines[1:] if self.kind == "answer" and outcome.lines else None
+        return _first_apart(self.lines, lines) if lines is not None and self.lines else []
+
+
+def _first_apart(wanted, lines):
+    """The first line that is another one."""
+    for at in range(max(len(wanted), len(lines))):
+        want = wanted[at] if at < len(wanted) else "nothing more"
+        have = lines[at].replace("\t", " ") if at < len(lines) else "nothing more"
+        if want != have:
+            return ["in line %d expected: %s" % (at + 1, want), "came: " + have]
+    return []
+
+
 def entries_of(records, collection):
     """Key and printed value of each entry of a collection, from the lines of a panel."""
     fields = [record.split("\t", 3) for record in records]

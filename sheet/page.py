@@ -18,6 +18,8 @@ from .trial import compared, records_of
 STYLE = Path(__file__).with_name("page.css")
 # unmarked records in a row that are folded, and the length of a list from which this is done
 FOLD, LONG = 4, 12
+# how much of two texts is the same when their words are set off one by one
+ALIKE = 0.6
 
 
 def shown(text):
@@ -82,9 +84,12 @@ def value_html(entry, side):
 
 
 def words_apart(content, other, tag):
-    mine, theirs = re.split(r"(\s+)", content), re.split(r"(\s+)", other)
-    out = []
-    for kind, start, end, _, _ in SequenceMatcher(None, mine, theirs, False).get_opcodes():
+    """The content with what the other has not; of texts that share little nothing is set off."""
+    matcher = SequenceMatcher(None, re.split(r"(\s+)", content), re.split(r"(\s+)", other), False)
+    mine, out = matcher.a, []
+    if matcher.ratio() < ALIKE:
+        return shown(content)
+    for kind, start, end, _, _ in matcher.get_opcodes():
         words = shown("".join(mine[start:end]))
         out.append(words if kind == "equal" or not words else "<%s>%s</%s>" % (tag, words, tag))
     return "".join(out)
@@ -180,22 +185,23 @@ def raw_answer(lines):
 def expectation(row, expected, met):
     head, *further = expected.told()
     sign, word = ("✓", "as expected") if met else ("✗", "not as expected")
+    further += [] if met else expected.came(row.own)
     items = "".join("<li><bdi>%s</bdi></li>" % shown(line) for line in further)
     return '<div class=expected><span class="sign %s">%s %s:</span> <bdi>%s</bdi>%s</div>' % (
         "good" if met else "bad", sign, word, shown(head), "<ul>%s</ul>" % items if items else "")
 
 
-def other_cell(row):
+def other_cell(row, panel):
     """What the other panel did."""
     if not row.differs():
         told = "the same" if row.own.lines is not None else ""
-        return '<td data-label="The other panel"><span class=faint>%s</span></td>' % told
+        return '<td data-label="%s"><p class=faint>%s</p></td>' % (shown(panel), told)
     out = "<p class=bad><b>✗ differs</b></p>"
     out += raw_answer(row.other.lines) if row.other.lines else "<p class=faint>no answer</p>"
     if row.other.after != row.own.after and row.other.after is not None:
         out += "<p class=faint>its list, against ours:</p>"
         out += record_list(against(row.own.after, row.other.after), names=AGAINST_OURS)
-    return '<td class=differs data-label="The other panel">%s</td>' % out
+    return '<td class=differs data-label="%s">%s</td>' % (shown(panel), out)
 
 
 # ---- rows
@@ -219,16 +225,17 @@ def command_html(row):
     return "".join(out)
 
 
-def row_html(row, rules, columns):
+def row_html(row, rules, panel):
+    columns = 6 if panel else 5
     out = notes_html(row.notes, columns)
-    line = '<td class=line><a href="#line-%d">%d</a></td>' % (row.line, row.line)
+    line = '<th scope=row class=line><a href="#line-%d">%d</a></th>' % (row.line, row.line)
     if is_set_up(row):
         rest = "<td colspan=%d>%s</td>" % (columns - 1, command_html(row))
         return out + '<tr class=set-up id="line-%d">%s%s</tr>' % (row.line, line, rest)
     cells = [line, "<td>%s</td>" % command_html(row), panel_cells(row),
              '<td data-label="Answer and rule">%s</td>' % answer_html(row, rules)]
-    if row.other is not None:
-        cells.append(other_cell(row))
+    if panel:
+        cells.append(other_cell(row, panel))
     return out + '<tr id="line-%d">%s</tr>' % (row.line, "".join(cells))
 
 
@@ -297,7 +304,7 @@ def columns_html(panel):
 def page(trial, name, rules, panel=None, shrunk=None):
     """The whole page as text."""
     columns = 6 if panel else 5
-    body = "".join(row_html(row, rules, columns) for row in trial.rows) + notes_html(trial.last_notes, columns)
+    body = "".join(row_html(row, rules, panel) for row in trial.rows) + notes_html(trial.last_notes, columns)
     head = (
         "<!DOCTYPE html>\n<html lang=en><head><meta charset=utf-8>"
         '<meta name=viewport content="width=device-width, initial-scale=1">'

@@ -136,10 +136,9 @@ class _Parser:
             self.command = self.holder = Plain(number, _raw_bytes(words), name == "raw", True)
             self.items.append(self.command)
             return
-        try:
-            text.encode("utf-8")
-        except UnicodeEncodeError as fault:
-            raise SheetError(number, fault.start + 1, "expected UTF-8 (bytes of another kind are written as X and hex)") from None
+        self.unknown = True
+        _utf8(words)
+        self.unknown = False
         self._command(number, name, words)
 
     def _command(self, number, name, words):
@@ -243,6 +242,8 @@ class _Parser:
     # ---- indented lines
 
     def _under(self, indent, words):
+        if not words.peek().startswith("#"):
+            _utf8(words)
         if self.expectation is not None and indent > self.expectation[0]:
             self.expectation[1].add(words)
             return
@@ -280,7 +281,6 @@ class _Parser:
             self._no_hex(carried, words)
             if not carried.patches:
                 raise words.fault("patch before the first operation")
-            _utf8(words)
             carried.patches[-1].operations.append(read_operation(words))
         elif word == "hex":
             if carried.patches or carried.data is not None:
@@ -316,7 +316,6 @@ class _Parser:
     def _term(self, words):
         """term KEY TEXT: a line of a term list; line TEXT: any other line of it."""
         word = words.word("term, line, hex or expect")
-        _utf8(words)
         if word == "term":
             key = words.number("a key")
             self.command.terms += b"%d\t%s\n" % (key, words.escaped_rest().encode("utf-8"))

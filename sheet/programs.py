@@ -20,7 +20,9 @@ def run(program, script):
 
 
 def try_run(program, script):
-    """What the program printed, and what was wrong with its end, if anything was."""
+    """What the program printed, and what was wrong with its end, if anything was. Tests give a function for a program."""
+    if callable(program):
+        return program(script), None
     name = " ".join(map(str, program))
     try:
         done = subprocess.run(program, input=script, stdout=subprocess.PIPE, timeout=SECONDS)

@@ -1,8 +1,10 @@
 """What page and text both say of a trial."""
 
+from .canonical import operation_count
 from .commands import SILENT
 from .parser import decoded
-from .telling import command_words, counted
+from .reasons import labelled_figures
+from .telling import command_words, counted, counts
 
 
 def is_set_up(row):
@@ -61,8 +63,8 @@ def break_words(row, rules):
     out = []
     if breaks.operation is not None:
         patch = row.item.carried.patches[breaks.patch]
-        out.append("Broke off at operation %d of patch %d: the batch up to it is refused with %s, without it it is not."
-                   % (breaks.operation + 1, patch.id, breaks.number))
+        words = "Broke off at operation %d of patch %d" % (breaks.operation + 1, patch.id)
+        out.append(words + ("." if row.reason else ": the batch up to it is refused with %s, with one operation less it is not." % breaks.number))
     for line in breaks.findings:
         _, kind, domain, secondary = (line.split("\t") + ["", "", ""])[:4]
         finding = rules.findings.get(int(kind)) if kind.isdigit() else None
@@ -72,23 +74,27 @@ def break_words(row, rules):
 
 
 def figures(row):
-    """The session's limits beside what a batch declared, where a limit was passed."""
-    if row.breaks is None or row.breaks.number != "4" or not row.limits:
-        return []
+    """What the sheet itself has to set beside a refusal: the session's id and limits, the set's counts."""
+    number, item = row.breaks.number if row.breaks is not None else None, row.item
     limits = row.limits
-    return ["The session's limits: %s, %s, %s." % (
-        counted(limits["patches"], "patch", "patches"), counted(limits["bytes"], "byte"), counted(limits["references"], "reference"))]
+    if number == "1" and limits:
+        return ["The session in use has the id %d." % limits["id"]]
+    if number == "4" and limits:
+        return ["The session's limits: %s." % counts(limits)]
+    if number == "5" and item.carried.data is None:
+        patches = item.carried.patches
+        return ["The set has %s and %s." % (counted(len(patches), "patch", "patches"), counted(operation_count(patches), "operation"))]
+    return []
 
 
 def reason_words(row, rules):
     """What explain says, with the sentence of the rule that it names."""
-    if not row.reason or len(row.reason) < 3 or row.reason[1] == "0":
+    if row.reason is None:
         return []
-    name, numbers = row.reason[2], row.reason[3:]
-    words = "Rule `%s`" % name
-    if rules.names.get(name):
-        words += ": " + rules.names[name]
-    return [words + (" (%s)" % ", ".join(numbers) if numbers else "")]
+    words, told = "Rule `%s`" % row.reason.name, labelled_figures(row.reason)
+    if rules.names.get(row.reason.name):
+        words += ": " + rules.names[row.reason.name]
+    return [words + (" (%s)" % ", ".join(told) if told else "")]
 
 
 def unread_words(row):

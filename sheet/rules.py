@@ -6,6 +6,9 @@ from pathlib import Path
 
 RULES = Path(__file__).resolve().parent.parent / "docs" / "RULES.md"
 
+# what the column with a rule's sentence may be called
+SENTENCES = ("Sentence", "Meaning", "What it says")
+
 Rule = namedtuple("Rule", "number stage meaning advice cases")
 Finding = namedtuple("Finding", "kind meaning secondary advice")
 
@@ -48,7 +51,7 @@ class Rules:
             self.signs[row["Sign"]] = row["Meaning"]
         elif "Number" in columns and "Case" in columns:
             # the rules that explain names
-            sentence = row.get("Sentence") or row.get("Meaning") or ""
+            sentence = next((row[column] for column in SENTENCES if row.get(column)), "")
             self.names[row[columns[0]].strip("`")] = sentence
 
     def sign(self, beginning):
@@ -66,6 +69,10 @@ class Rules:
             return [(None, self.sign("`J`, a sender"), "")]
         if letter == "J" and fields == ["none"]:
             return [(None, self.sign("`J` and `none`"), "")]
+        if letter == "U" and len(lines) == 2:
+            return self.of_answer(lines[1:])
+        if letter == "W" and fields[:1] != ["0"] and fields[0].isdigit():
+            return [self._of_number(int(fields[0]))]
         if letter in ("N", "?"):
             return [(None, self.sign("`%s`" % letter), "")]
         if letter in "SKETIDYOUJ" and fields and fields[0].isdigit() and int(fields[0]) in self.numbers:

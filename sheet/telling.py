@@ -67,12 +67,16 @@ def set_words(carried):
     return words + " of edition 2" if carried.edition == 2 else words
 
 
-def declared_words(command):
-    fields = command.fields
-    return "declared: %s, %s, %s" % (
+def counts(fields):
+    """Patches, bytes and references, as a batch declares or a session limits them."""
+    return "%s, %s, %s" % (
         counted(fields["patches"], "patch", "patches"), counted(fields["bytes"], "byte"),
         counted(fields["references"], "reference"),
     )
+
+
+def declared_words(command):
+    return "declared: " + counts(command.fields)
 
 
 SUBJECTS = {

@@ -100,7 +100,8 @@ def answer_lines(row, rules):
     for number, sentence, advice in rules.of_answer(own.lines):
         label = "%s: " % number if number is not None else ""
         told.append(label + sentence.replace("`", "") + (" What to do: " + advice.replace("`", "") if advice else ""))
-    told += [line.replace("`", "") for line in break_words(row, rules) + reason_words(row, rules) + unread_words(row) + figures(row)]
+    more = break_words(row, rules) + reason_words(row, rules) + unread_words(row) + figures(row)
+    told += [line.replace("`", "") for line in more]
     return out + labelled("rule", told)
 
 
@@ -108,7 +109,9 @@ def expectation_lines(row):
     out = []
     for expected, met in row.expects:
         head, *further = expected.told()
-        out += labelled("expected", [("✓ as expected: " if met else "✗ NOT as expected: ") + head] + ["    " + line for line in further])
+        further += [] if met else expected.came(row.own)
+        sign = "✓ as expected: " if met else "✗ NOT as expected: "
+        out += labelled("expected", [sign + head] + ["    " + line for line in further])
     return out
 
 

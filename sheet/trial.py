@@ -6,11 +6,12 @@ Behind each call on the session a show is put, so that the panel after it is the
 from dataclasses import dataclass, field
 
 from .breaking import Break, find_break
-from .commands import CHANGING, SILENT
+from .commands import CHANGING, LINE_BYTES, SILENT
 from .lists import compare
 from .parser import Command, Plain
 from .programs import ask, try_run
 from .answers import split_answers
+from .reasons import Reason, read_reason
 from .script import item_line
 
 
@@ -33,9 +34,9 @@ class Row:
     own: Outcome
     # what broke a refused batch off
     breaks: Break = None
-    # what explain says, fields of its line
-    reason: list = None
-    # what check says of the sets that were composed: (number) where one does not read
+    # what explain says
+    reason: Reason = None
+    # the number with which the proved reader refuses the composed set
     unread: str = None
     expects: list = field(default_factory=list)
     other: Outcome = None
@@ -62,13 +63,15 @@ class Step:
 
 
 def is_silent(item):
+    """Whether nothing is answered to the item's line."""
     if isinstance(item, Plain):
-        return item.data == b"" or item.data.startswith(b"#")
+        comment = item.data.startswith(b"#") and len(item.data) <= LINE_BYTES
+        return item.ended and (item.data == b"" or comment)
     return item.name in SILENT
 
 
 def is_note(item):
-    return isinstance(item, Plain) and not item.raw
+    return isinstance(item, Plain) and not item.raw and is_silent(item)
 
 
 def steps_of(items):
@@ -171,7 +174,7 @@ class Trial:
             row.reason = reasons.get(id(row.item))
             row.unread = unread.get(id(row.item))
             if isinstance(row.item, Command) and row.item.name == "batch":
-                row.breaks = find_break(program, self.items, row.item, row.own.lines, row.unread)
+                row.breaks = find_break(program, self.items, row)
 
     def _reasons(self, program):
         """The answer of an explain line in front of each batch."""
@@ -183,8 +186,8 @@ class Trial:
             steps.append(step)
         told, _ = told_answers(steps, ask(program, script_of_steps(steps)))
         return {
-            id(self.items[step.at]): answer[0].split("\t") for step, answer in zip(steps, told)
-            if step.purpose == "explain" and answer and answer[0].startswith("W\t")
+            id(self.items[step.at]): read_reason(answer[0]) for step, answer in zip(steps, told)
+            if step.purpose == "explain" and answer
         }
 
     # ---- counts

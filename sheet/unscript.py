@@ -3,7 +3,9 @@
 import re
 
 from .canonical import LAST_U64, NotASet, read_layout
-from .commands import BATCH, EDITIONS, FIELDS, LIFECYCLE, SILENT, SUBJECTS, WITH_SET, WITH_SUBJECT, last_of
+from .commands import (
+    BATCH, EDITIONS, FIELDS, LIFECYCLE, LINE_BYTES, SILENT, SUBJECTS, WITH_SET, WITH_SUBJECT, last_of,
+)
 from .notation import write_patches
 from .parser import decoded
 from .words import DECIMAL, HEX, escaped
@@ -54,7 +56,7 @@ class Unscripting:
     @staticmethod
     def _stays(data):
         """Empty lines and comments; a carriage return at the end would be taken for a part of the line's end."""
-        return data == b"" or data.startswith(b"#") and not data.endswith(b"\r")
+        return data == b"" or _is_comment(data) and not data.endswith(b"\r")
 
     def _command(self, text):
         name, *words = text.split(" ")
@@ -173,14 +175,18 @@ def unscript(script, answers=None):
     for data, ended in lines_of(script):
         lines = state.line(data, ended)
         out += lines
-        if answers is not None and not _silent(data, lines[0]):
+        if answers is not None and not (ended and _silent(data, lines[0])):
             out += expected(next(groups, []))
     return "".join(line + "\n" for line in out).encode("utf-8", "surrogateescape")
 
 
 def _silent(data, line):
     """Whether nothing is answered to the script's line, which is this one in the sheet."""
-    return data == b"" or data.startswith(b"#") or line.split(" ")[0] in SILENT
+    return data == b"" or _is_comment(data) or line.split(" ")[0] in SILENT
+
+
+def _is_comment(data):
+    return data.startswith(b"#") and len(data) <= LINE_BYTES
 
 
 def expected(answer):
