@@ -13,9 +13,10 @@ OWN_WORDS = {mark: mark for mark in SIGNS}
 
 
 def record(line):
-    """The row that a line is of, and its value as printed."""
+    """The row that a line is of, and its value as printed; fields that another panel left out are empty."""
     fields = line.split("\t")
     size = 2 if fields[0] == "A" else 3
+    fields += [""] * (size - len(fields))
     return tuple(fields[:size]), " ".join(fields[size:])
 
 
@@ -52,9 +53,14 @@ def _kept(keys, place, movers):
     best = []
     for at, key in enumerate(keys):
         weight = 1 if key in movers else len(keys) + 1
-        behind = max((best[other] for other in range(at) if place[keys[other]] < place[key]), key=lambda run: run[0], default=(0, ()))
-        best.append((behind[0] + weight, behind[1] + (key,)))
-    return set(max(best, key=lambda run: run[0], default=(0, ()))[1])
+        before = [best[other] for other in range(at) if place[keys[other]] < place[key]]
+        heaviest = max(before, key=_weight, default=(0, ()))
+        best.append((heaviest[0] + weight, heaviest[1] + (key,)))
+    return set(max(best, key=_weight, default=(0, ()))[1])
+
+
+def _weight(run):
+    return run[0]
 
 
 def against(ours, theirs):

@@ -102,7 +102,7 @@ def record_list(entries, side="ins", names=OWN_WORDS):
     """
     if not entries:
         return "<p class=faint>empty</p>"
-    out, group = [], None
+    out = []
     for name in dict.fromkeys(group_name(entry.key) for entry in entries):
         group = [entry for entry in entries if group_name(entry.key) == name]
         out.append("<h3>%s</h3>" % shown(name))

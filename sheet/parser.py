@@ -10,7 +10,7 @@ from .expectations import read_expectation
 from .notation import OPERATIONS, Numbers, fill_patch, is_operation, read_operation, read_parts, read_patch
 from .words import HEX, SheetError, SheetErrors, Words
 
-NO_PATCH = Patch(0, 0, 0, None, 0, 0, 0, 0, [])
+NO_PATCH = Patch(0, 0, 0, None, 0, 0, 0, 0, None)
 SET_LINES = "patch, an operation (%s), hex, edition, expect or #" % ", ".join(OPERATIONS)
 
 
@@ -86,7 +86,7 @@ class _Parser:
         self.holder = None
         self.expectation = None
         self.blanks = []
-        # whether the line above that has no indentation could not be read
+        # whether the last line without indentation was no command that could be read
         self.unknown = False
 
     def take(self, number, text):
@@ -136,19 +136,17 @@ class _Parser:
             self.command = self.holder = Plain(number, _raw_bytes(words), name == "raw", True)
             self.items.append(self.command)
             return
+        # until its name is known
         self.unknown = True
         _utf8(words)
-        self.unknown = False
         self._command(number, name, words)
 
     def _command(self, number, name, words):
         if name in WITH_SUBJECT:
             if words.peek() not in SUBJECTS:
-                self.unknown = True
                 raise words.fault("one of " + ", ".join(SUBJECTS))
             name += " " + words.word("a subject")
         if name not in FIELDS:
-            self.unknown = True
             raise words.fault("a command (%s), raw, cut, or # for a comment" % ", ".join(_names()), 0)
         command = Command(number, name, {})
         # what stands under a faulty line is read for its own faults
@@ -264,7 +262,7 @@ class _Parser:
             self._member(words)
         elif self.command.terms is not None:
             self._term(words)
-        elif getattr(self.holder, "carried", None) is None:
+        elif self.holder.carried is None:
             raise words.fault("expect or # (%s carries no set)" % self.command.name)
         else:
             self._set_line(word, words)
@@ -275,7 +273,7 @@ class _Parser:
             self._no_hex(carried, words)
             words.word("patch")
             # operations below a faulty line have a patch all the same
-            carried.patches.append(NO_PATCH)
+            carried.patches.append(NO_PATCH._replace(operations=[]))
             carried.patches[-1] = read_patch(words, self.numbers)
         elif is_operation(word):
             self._no_hex(carried, words)

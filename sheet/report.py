@@ -44,14 +44,16 @@ def operation_states(carried, breaks):
     if breaks is None or breaks.operation is None:
         return {}
     broken, states = (breaks.patch, breaks.operation), {}
+    # number 6 counts all targets, so that its batch has been gone through
+    first, later = ("✗ the first with number 6", "· not kept") if breaks.number == "6" else ("✗ broke off here", "· not reached")
     for place, patch in enumerate(carried.patches):
         for at in range(len(patch.operations)):
             if (place, at) == broken:
-                states[place, at] = ("broke", "✗ broke off here")
+                states[place, at] = ("broke", first)
             elif (place, at) < broken:
                 states[place, at] = ("dropped", "· not kept")
             else:
-                states[place, at] = ("unreached", "· not reached")
+                states[place, at] = ("unreached", later)
     return states
 
 

@@ -6,7 +6,8 @@ from pathlib import Path
 
 RULES = Path(__file__).resolve().parent.parent / "docs" / "RULES.md"
 
-# what the column with a rule's sentence may be called
+# what the columns with the name and the sentence of a rule are called
+NAMES = ("Rule", "Name", "Word")
 SENTENCES = ("Sentence", "Meaning", "What it says")
 
 Rule = namedtuple("Rule", "number stage meaning advice cases")
@@ -14,45 +15,52 @@ Finding = namedtuple("Finding", "kind meaning secondary advice")
 
 
 def tables(text):
-    """Each table under its heading: (heading, names of the columns, rows)."""
-    heading, found, current = "", [], None
+    """Each table: the names of its columns, and its rows by these names."""
+    found, current = [], None
     for line in text.split("\n"):
-        if line.startswith("#"):
-            heading = line.lstrip("# ")
         if not line.startswith("|"):
             current = None
             continue
         cells = [cell.strip() for cell in line.strip().strip("|").split("|")]
         if current is None:
-            current = (heading, cells, [])
+            current = (cells, [])
             found.append(current)
         elif not re.fullmatch(r"[\s|:-]+", line):
-            current[2].append(dict(zip(current[1], cells)))
+            current[1].append(dict(zip(current[0], cells)))
     return found
 
 
 class Rules:
     def __init__(self, path=RULES):
         self.numbers, self.stages, self.findings, self.signs, self.names = {}, {}, {}, {}, {}
-        for heading, columns, rows in tables(path.read_text(encoding="utf-8")):
+        for columns, rows in tables(path.read_text(encoding="utf-8")):
             for row in rows:
-                self._take(heading, columns, row)
+                self._take(columns, row)
 
-    def _take(self, heading, columns, row):
-        if columns[0] == "Number" and row["Number"].isdigit():
-            number = int(row["Number"])
-            self.numbers[number] = Rule(number, row["Stage"], row["Meaning"], row["What to do"], row["Case"])
-        elif columns[0] == "Stage" and row["Stage"].isdigit():
-            self.stages[int(row["Stage"])] = row["What is looked at"]
-        elif columns[0] == "Kind":
+    def _take(self, columns, row):
+        """A row of one of the five tables, which are known by their columns."""
+        if {"Number", "Stage", "Meaning", "What to do"} <= set(columns):
+            if row["Number"].isdigit():
+                number = int(row["Number"])
+                self.numbers[number] = Rule(number, row["Stage"], row["Meaning"], row["What to do"], row.get("Case", ""))
+        elif {"Stage", "What is looked at"} <= set(columns):
+            if row["Stage"].isdigit():
+                self.stages[int(row["Stage"])] = row["What is looked at"]
+        elif {"Kind", "Secondary", "Meaning"} <= set(columns):
             kind = int(row["Kind"])
-            self.findings[kind] = Finding(kind, row["Meaning"], row["Secondary"], row["What to do"])
-        elif columns[0] == "Sign":
+            self.findings[kind] = Finding(kind, row["Meaning"], row["Secondary"], row.get("What to do", ""))
+        elif {"Sign", "Meaning"} <= set(columns):
             self.signs[row["Sign"]] = row["Meaning"]
-        elif "Number" in columns and "Case" in columns:
-            # the rules that explain names
-            sentence = next((row[column] for column in SENTENCES if row.get(column)), "")
-            self.names[row[columns[0]].strip("`")] = sentence
+        else:
+            self._take_name(columns, row)
+
+    def _take_name(self, columns, row):
+        """A rule that explain names, from the table that has the numbers of those names."""
+        name = next((row[column] for column in NAMES if row.get(column)), None)
+        sentence = next((row[column] for column in SENTENCES if row.get(column)), None)
+        if "Number" in columns and name and sentence:
+            for word in name.split(","):
+                self.names[word.strip(" `")] = sentence
 
     def sign(self, beginning):
         """The meaning of the first sign that begins so."""
@@ -85,7 +93,11 @@ class Rules:
             return [(None, self.sign("`%s`" % disposition), "")]
         if number == "0":
             return [(None, self.sign("`rejected` with number 0"), "")]
-        return [self._of_number(int(number))] if number.isdigit() else []
+        if not number.isdigit():
+            return []
+        stage = fields[2] if len(fields) > 2 else ""
+        looked = self.stages.get(int(stage)) if stage.isdigit() else None
+        return [self._of_number(int(number))] + ([("stage " + stage, looked + ".", "")] if looked else [])
 
     def _of_number(self, number):
         rule = self.numbers.get(number)
@@ -95,6 +107,3 @@ class Rules:
         kind = line.split("\t")[1]
         finding = self.findings.get(int(kind)) if kind.isdigit() else None
         return ("finding %s" % kind, finding.meaning, finding.advice) if finding else ("finding %s" % kind, "", "")
-
-    def stage(self, number):
-        return self.stages.get(number, "")

@@ -134,8 +134,9 @@ def difference_lines(trial, panel, shrunk):
         out += ["", "the proved replay:"] + ["    " + line.replace("\t", " ") for line in own or ["no answer"]]
         out += ["%s:" % panel] + ["    " + line.replace("\t", " ") for line in other or ["no answer"]]
     if shrunk:
-        out += ["", "the smallest sheet that still shows it (%s, %s):" % (
-            counted(shrunk.commands, "command"), counted(shrunk.operations, "operation")), ""] + ["    " + line for line in shrunk.sheet.rstrip("\n").split("\n")]
+        size = "%s, %s" % (counted(shrunk.commands, "command"), counted(shrunk.operations, "operation"))
+        out += ["", "the smallest sheet that still shows it (%s):" % size, ""]
+        out += ["    " + line for line in shrunk.sheet.rstrip("\n").split("\n")]
     return [pictured(line) for line in out] + [""]
 
 

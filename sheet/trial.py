@@ -5,12 +5,12 @@ Behind each call on the session a show is put, so that the panel after it is the
 
 from dataclasses import dataclass, field
 
+from .answers import split_answers
 from .breaking import Break, find_break
 from .commands import CHANGING, LINE_BYTES, SILENT
 from .lists import compare
 from .parser import Command, Plain
 from .programs import ask, try_run
-from .answers import split_answers
 from .reasons import Reason, read_reason
 from .script import item_line
 
@@ -223,7 +223,6 @@ def compared(row):
                 if operation.name == "move"
             ]
     return compare(row.own.before or [], row.own.after or [], movers)
-
 
 
 def unread_sets(program, items):

@@ -1,6 +1,8 @@
 """Lists compared, answers taken apart, expectations held against them, and the rules read from RULES.md."""
 
+import tempfile
 import unittest
+from pathlib import Path
 
 from sheet.answers import split_answers
 from sheet.expectations import Expectation, begins_alike
@@ -131,9 +133,18 @@ class TheRules(unittest.TestCase):
         for kind in range(1, 15):
             self.assertTrue(self.rules.findings[kind].meaning, kind)
 
+    def test_names_of_explain_are_read_from_a_table_that_has_them(self):
+        for table in ("| Rule | Number | Sentence | Case |\n|---|---|---|---|\n| `key-absent` | 8 | The key is not there. | `x` |\n",
+                      "| Number | Name | Figures | Meaning |\n|---|---|---|---|\n| 8 | `key-absent` | patch | The key is not there. |\n"):
+            with tempfile.TemporaryDirectory() as folder:
+                path = Path(folder) / "RULES.md"
+                path.write_text("# Numbers\n\n" + table, encoding="utf-8")
+                self.assertEqual(Rules(path).names, {"key-absent": "The key is not there."})
+
     def test_sentences_of_answers(self):
-        (number, sentence, advice), = self.rules.of_answer(["R\trejected\t7\t6\t1\t1\t5"])
-        self.assertEqual((number, sentence, advice), (7, self.rules.numbers[7].meaning, self.rules.numbers[7].advice))
+        rule, stage = self.rules.of_answer(["R\trejected\t7\t6\t1\t1\t5"])
+        self.assertEqual(rule, (7, self.rules.numbers[7].meaning, self.rules.numbers[7].advice))
+        self.assertEqual(stage, ("stage 6", "the cursor.", ""))
         self.assertIn("hidden", self.rules.of_answer(["R\trejected\t0\t0\t1\t0\t5"])[0][1])
         answers = ("R\tapplied\t0\t0\t0\t0\t1", "L\tno-change\t0\t0\t0\t0\tactive\t-\t1", "N", "?\t4", "J\tnone", "J\t0\t1", "J\t19",
                    "E\t8", "T\t18", "S\t13", "K\t10")

@@ -199,6 +199,11 @@ class TwoPanels(unittest.TestCase):
         answers = [told_answers(steps, ask(program, script_of_steps(steps)))[0] for program in (MODEL, LIFT_PANEL)]
         return first_difference(steps, *answers) is not None
 
+    def test_a_panel_that_prints_other_lines(self):
+        trial = Trial(parse(SMALL), MODEL, lambda script: b"S\t0\nP\nB\nA\nC\t9\nR\nP\tx\n\xff\n\n")
+        self.assertTrue(trial.panel_differs())
+        self.assertTrue(page(trial, "x", Rules(), "other") and text(trial, "x", Rules(), "other"))
+
     def test_a_panel_that_ends_early(self):
         trial = Trial(parse(SMALL), MODEL, [sys.executable, "-c", "print('S\\t0'); raise SystemExit(3)"])
         self.assertIn("status 3", trial.panel_fault)
