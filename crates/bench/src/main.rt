@@ -1,9 +1,11 @@
 // Uses one set, session, projection, text or list many times. The input is a letter for the use, a space, how often in decimal, a line end and the data. What is
 // printed depends on the uses.
 //   r q k   reading, the quick check and the check of a set; the data is the set
+//   i       bringing in a term list; the data is the list
 //   t w     the UTF-8 check of a text, and the writing of a list that repeats it; the data is the text
 //   b v a e batches, and look-ups of bindings, availabilities and entries; o operations in place on a projection; the data is a set that fills the panel,
 //           a set that is applied to it and one that takes it back, each after its length as a u32
+mod imports;
 mod lists;
 mod lookups;
 mod projections;
@@ -73,6 +75,7 @@ fn with_data(way: u8, times: u64, rest: &[u8]) -> u64 {
 fn use_often(way: u8, data: &mut [u8], times: u64) -> u64 {
     match way {
         b'r' | b'q' | b'k' => sets::use_often(way, data, times),
+        b'i' => imports::import_often(data, times),
         b't' => texts::check_often(data, times),
         b'w' => lists::write_often(data, times),
         _ => with_data(way, times, data),
