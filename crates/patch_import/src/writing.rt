@@ -26,7 +26,7 @@ fn write_lines(list: &[u8], collection: u64, out: &mut [u8], from: usize)
     let mut at = 0;
     let mut next = from;
     while at < list.len() {
-        match patch_terms::read_line(list, at) {
+        match patch_terms::reread_line(list, at) {
             LineRead::Term {
                 key,
                 start,

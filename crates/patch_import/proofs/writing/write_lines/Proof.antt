@@ -17,7 +17,7 @@ use Rattle.patch_writer.proofs.Progress.{Progress, Next, progress-start, progre
 use Rattle.patch_terms.specs.LinesLaws.{termOf, TermAt, term-at}
 use Rattle.patch_import.specs.Survey.{insertionOf, insertBytes, heldOf}
 use Rattle.patch_import.specs.SurveyLaws.{inserts-term, text-short, size-told, goes-on}
-use Rattle.patch_import.specs.WritingLaws.{Left, Later, left-start, left-other, left-over, left-end, later, later-bytes, no-bytes}
+use Rattle.patch_import.specs.WritingLaws.{Left, Later, left-start, left-holds, left-other, left-over, left-end, later, later-bytes, no-bytes}
 use Rattle.patch_import.proofs.writing.write_lines.Statement.{statement}
 use Rattle.patch_import.proofs.writing.write_lines.Tie as tie
 
@@ -32,17 +32,17 @@ abbrev start : tie.At-loop Inv-loop μ-loop → tie.Start Inv-loop μ-loop
 start k = k .before .before .before
 
 -- where a line has been read
-abbrev head : tie.After-read-line Inv-loop μ-loop → tie.At-loop Inv-loop μ-loop
+abbrev head : tie.After-reread-line Inv-loop μ-loop → tie.At-loop Inv-loop μ-loop
 head r = r .before .before
 
-abbrev list : tie.After-read-line Inv-loop μ-loop → List ℕ
+abbrev list : tie.After-reread-line Inv-loop μ-loop → List ℕ
 list r = start (head r) .args .list .now
 
-abbrev collection : tie.After-read-line Inv-loop μ-loop → ℕ
+abbrev collection : tie.After-reread-line Inv-loop μ-loop → ℕ
 collection r = start (head r) .args .collection
 
 -- the line that was read
-abbrev read : tie.After-known-told Inv-loop μ-loop → tie.After-read-line Inv-loop μ-loop
+abbrev read : tie.After-known-told Inv-loop μ-loop → tie.After-reread-line Inv-loop μ-loop
 read k = k .before .before .before
 
 abbrev key : tie.After-known-told Inv-loop μ-loop → ℕ
@@ -57,13 +57,13 @@ len k = k .before .key .given .0 .1 .1 .0
 abbrev behind : tie.After-known-told Inv-loop μ-loop → ℕ
 behind k = k .before .key .given .0 .1 .1 .1 .0
 
-within : (r : tie.After-read-line Inv-loop μ-loop) → head r .loop .at < length (list r)
+within : (r : tie.After-reread-line Inv-loop μ-loop) → head r .loop .at < length (list r)
 within r = omega (arith, r .before .loop-test .taken)
 
 one : (k : tie.After-known-told Inv-loop μ-loop) → let r = read k in TermAt (list r) (head r .loop .at) (key k) (from k) (len k) (behind k)
 one k =
     let r = read k in
-    term-at (list r) (head r .loop .at) (key k) (from k) (len k) (behind k) (omega (arith, within r)) (sym (r .read-line .ensures) ∙ k .before .key .given .1)
+    term-at (list r) (head r .loop .at) (key k) (from k) (len k) (behind k) (omega (arith, within r)) (sym (r .reread-line .ensures) ∙ k .before .key .given .1)
 
 -- what is left behind it
 abbrev left : (k : tie.After-known-told Inv-loop μ-loop) → let r = read k in Left (list r) (head r .loop .at) (head r .loop .inv .0)
@@ -96,8 +96,8 @@ loop-holds c =
     let b = c .before .before in
     (heldOf (b .args .list .now), left-start (b .args .collection) (b .args .list .now) (b .args .from) (length (b .args .out .now)) (b .pre), progress-start (b .args .out .now) (b .args .from) _ _ refl (b .pre .enough))
 
-read-line-requires : tie.Need-read-line-requires Inv-loop μ-loop
-read-line-requires c κs = search needs
+reread-line-requires : tie.Need-reread-line-requires Inv-loop μ-loop
+reread-line-requires c κs = (omega (arith, c .loop-test .taken), left-holds (c .before .loop .inv .1) (omega (arith, c .loop-test .taken)))
 
 enum-known-key : tie.Need-enum-known-key Inv-loop μ-loop
 enum-known-key c = search needs
@@ -146,7 +146,7 @@ same-length : tie.Need-same-length Inv-loop μ-loop
 same-length c = head (c .before .before) .loop .inv .2 .long
 
 returns : tie.Need-returns Inv-loop μ-loop
-returns c = let r = c .before .before in left-other (head r .loop .inv .1) (within r) (sym (r .read-line .ensures) ∙ c .enum-told .given .1)
+returns c = let r = c .before .before in left-other (head r .loop .inv .1) (within r) (sym (r .reread-line .ensures) ∙ c .enum-told .given .1)
 
 enum-told-2 : tie.Need-enum-told-2 Inv-loop μ-loop
 enum-told-2 c = search needs
@@ -155,7 +155,7 @@ same-length-2 : tie.Need-same-length-2 Inv-loop μ-loop
 same-length-2 c = head (c .before .before) .loop .inv .2 .long
 
 returns-2 : tie.Need-returns-2 Inv-loop μ-loop
-returns-2 c = let r = c .before .before in left-over (head r .loop .inv .1) (within r) (sym (r .read-line .ensures) ∙ c .enum-told2 .given .1)
+returns-2 c = let r = c .before .before in left-over (head r .loop .inv .1) (within r) (sym (r .reread-line .ensures) ∙ c .enum-told2 .given .1)
 
 same-length-3 : tie.Need-same-length-3 Inv-loop μ-loop
 same-length-3 c = c .before .loop .inv .2 .long
@@ -172,7 +172,7 @@ write-lines-spec =
     Inv-loop
     μ-loop
     loop-holds
-    read-line-requires
+    reread-line-requires
     enum-known-key
     insertion-requires
     store-operation-requires
