@@ -3,8 +3,8 @@ use std::hint::black_box;
 
 use crate::bench::{least, proved, show};
 use crate::bench_sets::{ASCII, GREEK, JAPANESE};
-use crate::terms::{import, Numbers};
 use crate::processor;
+use crate::terms::{import, Numbers};
 
 const LINES: u64 = 128;
 const TERMS: [&str; 4] =
@@ -47,6 +47,11 @@ pub fn importing(program: &str) {
             (processor::own() - start) / CALLS as f64 * 1e9
         });
         show(&format!("import {LINES} {name}, {} bytes", list.len()), ours, theirs);
-        println!("{:40} {:12.0} MB/s {:10.0} MB/s", "", list.len() as f64 / ours * 1e3, list.len() as f64 / theirs * 1e3);
+        println!(
+            "{:40} {:12.0} MB/s {:10.0} MB/s",
+            "",
+            list.len() as f64 / ours * 1e3,
+            list.len() as f64 / theirs * 1e3
+        );
     }
 }

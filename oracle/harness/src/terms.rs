@@ -97,7 +97,8 @@ mod tests {
 
     #[test]
     fn brings_in_the_example() {
-        let (list, set) = (include_bytes!("../../../examples/terms.txt"), include_bytes!("../../../examples/terms.set"));
+        let (list, set) =
+            (include_bytes!("../../../examples/terms.txt"), include_bytes!("../../../examples/terms.set"));
         let mut out = [7; 700];
         assert_eq!(import(list, 9, &NUMBERS, &mut out), Ok(set.len()));
         assert_eq!((&out[..set.len()], &out[set.len()..]), (&set[..], &[7; 35][..]));
@@ -108,9 +109,19 @@ mod tests {
     fn refuses_as_the_request_says() {
         let long = "x".repeat(161);
         for (list, number) in [
-            ("", 11), ("\n", 15), ("1\ta\n\n", 15), ("01\ta", 15), ("+1\ta", 15), ("\ta", 15), ("1\ta\tb", 15), ("1", 15),
-            ("18446744073709551616\ta", 15), ("1\ta\n1\tb", 11), (&format!("1\t{long}\nbad"), 12),
-            (&format!("bad\n1\t{long}"), 15), ("1\ta\n1\tb\nbad", 15),
+            ("", 11),
+            ("\n", 15),
+            ("1\ta\n\n", 15),
+            ("01\ta", 15),
+            ("+1\ta", 15),
+            ("\ta", 15),
+            ("1\ta\tb", 15),
+            ("1", 15),
+            ("18446744073709551616\ta", 15),
+            ("1\ta\n1\tb", 11),
+            (&format!("1\t{long}\nbad"), 12),
+            (&format!("bad\n1\t{long}"), 15),
+            ("1\ta\n1\tb\nbad", 15),
         ] {
             assert_eq!(import(list.as_bytes(), 9, &NUMBERS, &mut [0; 200]), Err(number), "{list:?}");
         }
