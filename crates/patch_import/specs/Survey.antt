@@ -1,9 +1,10 @@
 -- What the pass over the lines tells: how many there are, the bytes of their operations, and whether a key occurs twice.
-use Prim.Native.Nat.{ℕ, _+_, _≤_}
+use Prim.Native.Nat.{ℕ, _+_, _*_, _≤_}
 use mathlib.Core.Path.{_≡_}
 use mathlib.Core.Bool.{Bool, false, _||_}
 use mathlib.Core.List.{List, [], _∷_, map, flatMap}
 use lib.ListN.{length}
+use Rattle.spec_patch.specs.Sizes.{patchOperations, textBytes}
 use Rattle.spec_patch.specs.Patch.{Envelope, Patch}
 use Rattle.spec_patch.specs.Encode.{encodeOperation}
 use Rattle.spec_import.specs.Import.{Term, lines, Terms, terms, faulty, readTerms, insertOf, patchOf}
@@ -23,11 +24,15 @@ insertionOf collection k start len = CollectionInsert (nodeTo collection) (keyTo
 
 -- three numbers for the target of each operation of a patch
 abbrev pub patchNumbers : ℕ
-patchNumbers = 384
+patchNumbers = 3 * patchOperations
 
--- what the operations of a list take at most: 23 bytes and the text, each
+-- what the insert of a text of so many bytes takes
+abbrev pub termBytes : ℕ → ℕ
+termBytes n = 23 + n
+
+-- what the operations of a list take at most
 abbrev pub mostBytes : ℕ
-mostBytes = 33664
+mostBytes = termBytes textBytes * patchOperations
 
 -- the bytes of the operations
 unfoldable pub insertBytes : ℕ → List Term → List ℕ

@@ -32,7 +32,7 @@ use Rattle.patch_import.specs.declared.answer.ImportRefusal.{ImportRefus
 use Rattle.patch_import.specs.declared.answer.ImportRefusal.the-variants.{OtherForm, OverCapacity}
 use Rattle.patch_import.specs.declared.survey.LineSurvey.the-variants.{Within, Refused}
 use Rattle.patch_import.specs.Answers.{importRefusalOf, importRefusalTo}
-use Rattle.patch_import.specs.Survey.{insertionOf, insertBytes, surveyFrom, surveyOf, heldIn}
+use Rattle.patch_import.specs.Survey.{insertionOf, termBytes, insertBytes, surveyFrom, surveyOf, heldIn}
 
 same-within : {a b c d : ℕ} {p q : Bool} → a ≡ b → c ≡ d → p ≡ q → Within a c p ≡ Within b d q
 same-within e f g = λ i. Within (e i) (f i) (g i)
@@ -72,10 +72,10 @@ module _ (collection : ℕ) (list : List ℕ) (at k start len next : ℕ) (t : T
   text-short =
       omega (arith, leb-true (length (term .words)) textBytes (and-left (fewBytes (term .words)) _ (t .kept)), length-text list start len (t .inside))
 
-  pub size-told : (size : ℕ) → size ≡ sizeWithin (insertionOf collection k start len) → size ≡ 23 + len
+  pub size-told : (size : ℕ) → size ≡ sizeWithin (insertionOf collection k start len) → size ≡ termBytes len
   size-told size e = e ∙ size-kept (insertionOf collection k start len) text-short ∙ omega arith
 
-  pub term-size : length (encodeOperation (insertOf collection term)) ≡ 23 + len
+  pub term-size : length (encodeOperation (insertOf collection term)) ≡ termBytes len
   term-size = ap (λ (o : Operation). length (encodeOperation o)) (sym (inserts-term collection list k start len)) ∙ length-operation list (insertionOf collection k start len) (t .inside) ∙ omega arith
 
   pub target-is : mutationTarget (operationOf list (insertionOf collection k start len)) ≡ mutationTarget (insertOf collection term)
@@ -86,7 +86,7 @@ module _ (collection : ℕ) (list : List ℕ) (at k start len next : ℕ) (t : T
   goes-on = omega (arith, t .ends)
 
   module _ (n bytes : ℕ) (repeated : Bool) (targets : List ℕ) (more : at < length list) (small : n < patchOperations) where
-    pub survey-turn : (size : ℕ) → size ≡ 23 + len → (found : Bool) → found ≡ (repeated || targetSeen (mutationTarget (insertOf collection term)) targets) → (ts : List ℕ) → ts ≡ targets ++ numbersOf (mutationTarget (insertOf collection term))
+    pub survey-turn : (size : ℕ) → size ≡ termBytes len → (found : Bool) → found ≡ (repeated || targetSeen (mutationTarget (insertOf collection term)) targets) → (ts : List ℕ) → ts ≡ targets ++ numbersOf (mutationTarget (insertOf collection term))
         → surveyFrom collection (n + 1) (bytes + size) found ts (readTerms (n + 1) (lines (drop next list))) ≡ surveyFrom collection n bytes repeated targets (readTerms n (lines (drop at list)))
     survey-turn size sized found told ts are =
         let suc-is : n + 1 ≡ suc n = omega arith in
@@ -153,11 +153,11 @@ module _ (collection : ℕ) (x : Terms) where
 
 -- ---- few bytes
 
-pub bytes-few : (collection : ℕ) (ts : List Term) → All Kept ts → length (insertBytes collection ts) ≤ 263 * length ts
+pub bytes-few : (collection : ℕ) (ts : List Term) → All Kept ts → length (insertBytes collection ts) ≤ termBytes textBytes * length ts
 unfolding insertBytes flatMap keepsText insertOf encodeOperation encodeOptional encodeValue kindOf valueBody encodeText
 bytes-few collection [] k = omega arith
 bytes-few collection (t ∷ ts) k =
     let o = insertOf collection t in
-    let own : length (encodeOperation o) ≡ 23 + length (t .words) = simp (length-append, length-littleEndian) (omega arith) in
+    let own : length (encodeOperation o) ≡ termBytes (length (t .words)) = simp (length-append, length-littleEndian) (omega arith) in
     let short = leb-true (length (t .words)) textBytes (and-left (fewBytes (t .words)) _ (k .0)) in
     omega (arith, own, short, bytes-few collection ts (k .1), length-append (encodeOperation o) (insertBytes collection ts))

@@ -20,7 +20,7 @@ use Rattle.patch_terms.specs.declared.TermRead.{TermRead}
 use Rattle.patch_terms.specs.declared.TermRead.the-variants as term-read
 use Rattle.patch_terms.specs.declared.LineRead.the-variants as line-read
 use Rattle.patch_terms.specs.LinesLaws.{termOf, TermAt, reads-term, reads-full, reads-other, reads-over, reads-end}
-use Rattle.patch_import.specs.Survey.{insertBytes, heldOf, Writable}
+use Rattle.patch_import.specs.Survey.{termBytes, insertBytes, heldOf, Writable}
 use Rattle.patch_import.specs.SurveyLaws.{term-size}
 
 -- the lines from a position on, behind some others, hold these terms
@@ -93,7 +93,7 @@ module _ {list : List ℕ} {at : ℕ} {rest : List Term} (left : Left list at re
         go (terms us) r e = record { after = us; parted = sym (terms-inj (term ∷ us) rest e); onward = record { done = suc (left .done); reads = r } }
         go (faulty f) r e = absurd (let z : _≡_ {A = ℕ} 0 1 = cc in omega arith)
 
-    pub later-bytes : (collection : ℕ) → Next (insertBytes collection rest) (encodeOperation (insertOf collection term)) (insertBytes collection (later .after)) (23 + len)
+    pub later-bytes : (collection : ℕ) → Next (insertBytes collection rest) (encodeOperation (insertOf collection term)) (insertBytes collection (later .after)) (termBytes len)
     unfolding insertBytes flatMap
     later-bytes collection = record {
       parted = ap (insertBytes collection) (later .parted);

@@ -6,6 +6,7 @@ use mathlib.Core.List.{List, _++_}
 use native.Mathlib.Omega.{arith}
 use borrow.Author.Needs.{needs}
 use lib.ListN.{length, take, drop}
+use Rattle.spec_patch.specs.Sizes.{patchOperations, textBytes}
 use Rattle.spec_checks.specs.Target.{MutationTarget, mutationTarget}
 use Rattle.spec_import.specs.Import.{lines, readTerms}
 use Rattle.projection_patch.specs.declared.patch.ProjectionPatchOperation.{ProjectionPatchOperation}
@@ -16,14 +17,14 @@ use Rattle.check_targets.specs.TargetsLaws.{with-target-front, with-target-leng
 use Rattle.check_targets.specs.Marks.{Marked}
 use Rattle.check_targets.specs.MarksLaws.{marked-none}
 use Rattle.patch_terms.specs.LinesLaws.{TermAt, term-at}
-use Rattle.patch_import.specs.Survey.{surveyFrom, surveyOf}
+use Rattle.patch_import.specs.Survey.{termBytes, surveyFrom, surveyOf}
 use Rattle.patch_import.specs.SurveyLaws.{text-short, size-told, target-is, goes-on, survey-turn, survey-full, survey-other, survey-over, survey-end}
 use Rattle.patch_import.proofs.survey.survey_with.Statement.{statement}
 use Rattle.patch_import.proofs.survey.survey_with.Tie as tie
 
 abbrev Inv-loop : tie.InvT-loop
 Inv-loop list collection targets₀ marks₀ at₀ count₀ bytes₀ repeated₀ targets marks at count bytes repeated =
-    (count ≤ 128) × ((bytes ≤ 263 * count) × ((length targets ≡ length targets₀) × (Marked marks (take (3 * count) targets)
+    (count ≤ patchOperations) × ((bytes ≤ termBytes textBytes * count) × ((length targets ≡ length targets₀) × (Marked marks (take (3 * count) targets)
     × (surveyFrom collection count bytes repeated (take (3 * count) targets) (readTerms count (lines (drop at list))) ≡ surveyOf collection (readTerms 0 (lines list))))))
 
 abbrev μ-loop : tie.MeasureT-loop
@@ -70,7 +71,7 @@ one k =
     term-at (list r) (head r .loop .at) (key k) (from k) (len k) (next k) (omega (arith, within r)) (sym (r .read-line .ensures) ∙ k .before .key .given .1)
 
 -- there is room for one target more
-room : (e : tie.Else1 Inv-loop μ-loop) → let l = head (read (e .before)) .loop in (l .count < 128) × (3 * l .count + 3 ≤ length (l .targets))
+room : (e : tie.Else1 Inv-loop μ-loop) → let l = head (read (e .before)) .loop in (l .count < patchOperations) × (3 * l .count + 3 ≤ length (l .targets))
 room e = let h = head (read (e .before)) in (omega (arith, e .if1 .left, h .loop .inv .0), omega (arith, e .if1 .left, h .loop .inv .0, h .loop .inv .1 .1 .0, start h .pre .0))
 
 -- ---- where its operation has been measured
@@ -81,13 +82,13 @@ made c = c .before .before .before .before .before .before .before .before .befo
 abbrev passed : tie.After-operation-size Inv-loop μ-loop → tie.Else1 Inv-loop μ-loop
 passed c = made c .before
 
-size : (c : tie.After-operation-size Inv-loop μ-loop) → c .operation-size .result ≡ 23 + len (passed c .before)
+size : (c : tie.After-operation-size Inv-loop μ-loop) → c .operation-size .result ≡ termBytes (len (passed c .before))
 size c =
     let k = passed c .before in
     let r = read k in
     size-told (collection r) (list r) (head r .loop .at) (key k) (from k) (len k) (next k) (one k) _ (c .operation-size .ensures ∙ ap sizeWithin (made c .insertion .ensures))
 
-short : (k : tie.After-known-told Inv-loop μ-loop) → len k ≤ 240
+short : (k : tie.After-known-told Inv-loop μ-loop) → len k ≤ textBytes
 short k = let r = read k in text-short (collection r) (list r) (head r .loop .at) (key k) (from k) (len k) (next k) (one k)
 
 loop-holds : tie.Need-loop-holds Inv-loop μ-loop

@@ -15,7 +15,7 @@ use Rattle.patch_part_writer.specs.Extent.{operationSize, operationText, Within
 use Rattle.patch_part_writer.specs.Parts.{sizeWithin}
 use Rattle.patch_writer.proofs.Progress.{Progress, Next, progress-start, progress-end, progress-fits, progress-next, next-sized}
 use Rattle.patch_terms.specs.LinesLaws.{termOf, TermAt, term-at}
-use Rattle.patch_import.specs.Survey.{insertionOf, insertBytes, heldOf}
+use Rattle.patch_import.specs.Survey.{insertionOf, termBytes, insertBytes, heldOf}
 use Rattle.patch_import.specs.SurveyLaws.{inserts-term, text-short, size-told, goes-on}
 use Rattle.patch_import.specs.WritingLaws.{Left, Later, left-start, left-holds, left-other, left-over, left-end, later, later-bytes, no-bytes}
 use Rattle.patch_import.proofs.writing.write_lines.Statement.{statement}
@@ -73,11 +73,11 @@ rest : (k : tie.After-known-told Inv-loop μ-loop) → let r = read k in Later (
 rest k = later (left k) (within (read k)) (key k) (from k) (len k) (behind k) (one k)
 
 part : (k : tie.After-known-told Inv-loop μ-loop) → let r = read k in
-    Next (insertBytes (collection r) (head r .loop .inv .0)) (encodeOperation (insertOf (collection r) (termOf (list r) (key k) (from k) (len k)))) (insertBytes (collection r) (rest k .after)) (23 + len k)
+    Next (insertBytes (collection r) (head r .loop .inv .0)) (encodeOperation (insertOf (collection r) (termOf (list r) (key k) (from k) (len k)))) (insertBytes (collection r) (rest k .after)) (termBytes (len k))
 unfolding rest
 part k = later-bytes (left k) (within (read k)) (key k) (from k) (len k) (behind k) (one k) (collection (read k))
 
-fits : (k : tie.After-known-told Inv-loop μ-loop) → let l = head (read k) .loop in l .next + (23 + len k) ≤ length (l .out)
+fits : (k : tie.After-known-told Inv-loop μ-loop) → let l = head (read k) .loop in l .next + (termBytes (len k)) ≤ length (l .out)
 fits k = progress-fits (head (read k) .loop .inv .2) (part k)
 
 -- ---- where its operation has been stored
@@ -85,7 +85,7 @@ fits k = progress-fits (head (read k) .loop .inv .2) (part k)
 abbrev made : tie.After-operation-size Inv-loop μ-loop → tie.After-insertion Inv-loop μ-loop
 made c = c .before .before .before .before .before
 
-size : (c : tie.After-operation-size Inv-loop μ-loop) → c .operation-size .result ≡ 23 + len (made c .before)
+size : (c : tie.After-operation-size Inv-loop μ-loop) → c .operation-size .result ≡ termBytes (len (made c .before))
 size c =
     let k = made c .before in
     let r = read k in
