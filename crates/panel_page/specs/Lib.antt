@@ -1,0 +1,6 @@
+pub mod PageTable
+pub mod PageTableLaws
+pub mod Index
+pub mod IndexLaws
+pub mod Answering
+pub mod AnsweringLaws
