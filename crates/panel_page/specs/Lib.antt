@@ -4,3 +4,5 @@ pub mod Index
 pub mod IndexLaws
 pub mod Answering
 pub mod AnsweringLaws
+pub mod Shown
+pub mod ShownLaws

@@ -1,12 +1,11 @@
 -- Laws of the answer table: the width of a row, its fields, and the rows of a page one after the other.
 use Prim.Native.Nat.{ℕ, zero, suc, _+_, _-_, _*_, _^_, _≤_, _<_}
 use mathlib.Core.Path.{_≡_, refl, sym, ap, _∙_}
-use mathlib.Core.List.{List, [], _∷_, _++_, map, flatten, append-assoc, append-nil}
+use mathlib.Core.List.{List, [], _∷_, _++_, map, flatten, append-nil}
 use mathlib.Core.Option.{Option, none, some}
-use native.Mathlib.Nat.{suc-mul}
 use native.Mathlib.Omega.{arith}
 use lib.Dec.{eqb}
-use lib.ListN.{length, take, drop, getD, length-append, length-drop, length-map, replicate-append-replicate}
+use lib.ListN.{length, take, drop, getD, length-append, length-drop, length-map}
 use lib.Seq.{take-at, drop-at, take-append-le, drop-append-le}
 use Rattle.spec_lists.specs.Lists.{All}
 use Rattle.spec_lists.specs.Bytes.{littleEndian, numberOf}
@@ -76,25 +75,10 @@ module _ (x : PageEntry) (h : FitsAnswer (some x)) where
 
 -- ---- the rows of a page
 
-module _ (c : ℕ) where
-  pub nothing-found : (k : ℕ) → answersIn c [] k ≡ zeros pageWidth
-  unfolding answersIn answerRow findFrom entriesIn
-  nothing-found k = refl
-
-  zero-rows : (keys : List ℕ) → flatten (map (answersIn c []) keys) ≡ zeros (length keys * pageWidth)
-  unfolding flatten
-  zero-rows [] = refl
-  zero-rows (k ∷ keys) =
-      let size : pageWidth + length keys * pageWidth ≡ length (k ∷ keys) * pageWidth = omega (arith, suc-mul (length keys) pageWidth) in
-      rw (nothing-found k, zero-rows keys) (replicate-append-replicate pageWidth (length keys * pageWidth) 0 ∙ ap zeros size)
-
-  zero-wide : (keys : List ℕ) → All (Wide pageWidth) (map (answersIn c []) keys)
-  zero-wide [] = tt
-  zero-wide (k ∷ keys) = (ap length (nothing-found k) ∙ length-zeros pageWidth, zero-wide keys)
-
-  -- zeros are the rows of keys of which none was found
-  pub holds-nothing : (keys : List ℕ) (l : List ℕ) → l ≡ zeros (length keys * pageWidth) → Holds pageWidth (length keys) l (map (answersIn c []) keys)
-  holds-nothing keys l e = holds pageWidth (length keys) l (map (answersIn c []) keys) 0 (zero-wide keys) (length-map keys (answersIn c [])) (e ∙ sym (append-nil _ ∙ zero-rows keys))
+-- before the first entry no key is found
+pub nothing-found : (c k : ℕ) → answersIn c [] k ≡ zeros pageWidth
+unfolding answersIn answerRow findFrom entriesIn
+nothing-found c k = refl
 
 -- rows that fill a table are all its bytes
 pub holds-all : {w n : ℕ} {l : List ℕ} {m : List (List ℕ)} → Holds w n l m → length l ≡ n * w → l ≡ flatten m

@@ -3,11 +3,11 @@ ghost use mathlib.Core.Path.{_≡_};
 ghost use mathlib.Core.List.{List, [], _∷_, _++_, map};
 ghost use mathlib.Core.Option.{none};
 ghost use Prim.Native.Nat.{ℕ, _+_, _*_, _≤_, _<_};
-ghost use lib.ListN.{length};
+ghost use lib.ListN.{length, getD};
 ghost use Rattle.spec_lists.specs.Lists.{All};
 ghost use Rattle.spec_patch.specs.Sizes.{largestU64};
 ghost use Rattle.spec_projection.specs.Projection.{Entry};
-ghost use Rattle.spec_projection.specs.Lookups.{entriesIn, keyedValue};
+ghost use Rattle.spec_projection.specs.Lookups.{entriesIn};
 ghost use Rattle.spec_projection.specs.Valid.{FitsEntry, Grouped};
 ghost use Rattle.spec_page.specs.Page.{findFrom};
 ghost use Rattle.bytes_records.specs.Table.{Holds};
@@ -15,6 +15,7 @@ ghost use Rattle.panel_rows.specs.Rows.{entryWidth, entryRow, filledRow};
 ghost use Rattle.panel_page.specs.PageTable.{pageWidth};
 ghost use Rattle.panel_page.specs.Index.{Indexed};
 ghost use Rattle.panel_page.specs.Answering.{answering, mixed, answerOf, answersIn};
+ghost use Rattle.panel_page.specs.Shown.{Shows};
 use crate::index;
 use crate::rows;
 use crate::rows::PageLookup;
@@ -23,9 +24,9 @@ use panel_rows::written;
 
 // Writes a row into the place of key i if it is equal to this key.
 fn answer_place(keys: &[u64], i: usize, key: u64, head: &[u8], rest: &[u8], answers: &mut [u8])
-    requires { ⌜ (i < length (now keys)) × ((length (now head) + length (now rest) ≤ pageWidth) × (length (now answers) ≡ length (now keys) * pageWidth)) ⌝ }
-    ensures { λ _. ⌜ ((f : ℕ → List ℕ) → Holds pageWidth (length (now (keys .entry))) (now (answers .entry)) (mixed f (answering key (filledRow pageWidth (now (head .entry)) (now (rest .entry))) f) (now (keys .entry)) (i + 1))
-        → Holds pageWidth (length (now (keys .entry))) (now (answers .exit)) (mixed f (answering key (filledRow pageWidth (now (head .entry)) (now (rest .entry))) f) (now (keys .entry)) i)) ⌝ }
+    requires { ⌜ (i < length (now keys)) × (((getD (now head) 0 0 ≡ 1) × (length (now head) + length (now rest) ≤ pageWidth)) × (length (now answers) ≡ length (now keys) * pageWidth)) ⌝ }
+    ensures { λ _. ⌜ ((f : ℕ → List ℕ) → Shows (length (now (keys .entry))) (now (answers .entry)) (mixed f (answering key (filledRow pageWidth (now (head .entry)) (now (rest .entry))) f) (now (keys .entry)) (i + 1))
+        → Shows (length (now (keys .entry))) (now (answers .exit)) (mixed f (answering key (filledRow pageWidth (now (head .entry)) (now (rest .entry))) f) (now (keys .entry)) i)) ⌝ }
 {
     if keys[i] != key {
         return;
@@ -45,9 +46,9 @@ fn answer_key(
     rest: &[u8],
     answers: &mut [u8],
 )
-    requires { ⌜ Indexed (length (now keys)) (now keys) (now heads) (now earlier) × ((length (now head) + length (now rest) ≤ pageWidth) × (length (now answers) ≡ length (now keys) * pageWidth)) ⌝ }
-    ensures { λ _. ⌜ ((f : ℕ → List ℕ) → Holds pageWidth (length (now (keys .entry))) (now (answers .entry)) (map f (now (keys .entry)))
-        → Holds pageWidth (length (now (keys .entry))) (now (answers .exit)) (map (answering key (filledRow pageWidth (now (head .entry)) (now (rest .entry))) f) (now (keys .entry)))) ⌝ }
+    requires { ⌜ Indexed (length (now keys)) (now keys) (now heads) (now earlier) × (((getD (now head) 0 0 ≡ 1) × (length (now head) + length (now rest) ≤ pageWidth)) × (length (now answers) ≡ length (now keys) * pageWidth)) ⌝ }
+    ensures { λ _. ⌜ ((f : ℕ → List ℕ) → Shows (length (now (keys .entry))) (now (answers .entry)) (map f (now (keys .entry)))
+        → Shows (length (now (keys .entry))) (now (answers .exit)) (map (answering key (filledRow pageWidth (now (head .entry)) (now (rest .entry))) f) (now (keys .entry)))) ⌝ }
 {
     let mut next = heads[index::key_place(key)];
     while 0 < next {
@@ -68,8 +69,8 @@ fn answer_entry(
 )
     requires { ⌜ Indexed (length (now keys)) (now keys) (now heads) (now earlier) × ((length (now row) ≤ entryWidth) × (length (now answers) ≡ length (now keys) * pageWidth)) ⌝ }
     ensures { λ _. ⌜ ((e : Entry) → FitsEntry e → now (row .entry) ≡ entryRow e → (f : ℕ → List ℕ)
-        → Holds pageWidth (length (now (keys .entry))) (now (answers .entry)) (map f (now (keys .entry)))
-        → Holds pageWidth (length (now (keys .entry))) (now (answers .exit)) (map (answering (e .key) (answerOf position e) f) (now (keys .entry)))) ⌝ }
+        → Shows (length (now (keys .entry))) (now (answers .entry)) (map f (now (keys .entry)))
+        → Shows (length (now (keys .entry))) (now (answers .exit)) (map (answering (e .key) (answerOf position e) f) (now (keys .entry)))) ⌝ }
 {
     let key = fields::entry_key(row);
     let head = rows::answer_head(position);
@@ -90,8 +91,8 @@ fn answer_row(
     requires { ⌜ Indexed (length (now keys)) (now keys) (now heads) (now earlier) × ((length (now row) ≤ entryWidth) × ((length (now answers) ≡ length (now keys) * pageWidth) × (position < largestU64))) ⌝ }
     ensures filled { λ r. ⌜ ((l : List Entry) (e : Entry) → FitsEntry e → now (row .entry) ≡ entryRow e → position ≡ length (entriesIn collection l)
         → (e .collection ≡ collection → findFrom 0 (e .key) (entriesIn collection l) ≡ none)
-        → Holds pageWidth (length (now (keys .entry))) (now (answers .entry)) (map (answersIn collection l) (now (keys .entry)))
-        → Holds pageWidth (length (now (keys .entry))) (now (answers .exit)) (map (answersIn collection (l ++ e ∷ [])) (now (keys .entry)))
+        → Shows (length (now (keys .entry))) (now (answers .entry)) (map (answersIn collection l) (now (keys .entry)))
+        → Shows (length (now (keys .entry))) (now (answers .exit)) (map (answersIn collection (l ++ e ∷ [])) (now (keys .entry)))
         × (r ≡ length (entriesIn collection (l ++ e ∷ [])))) ⌝ }
     ensures next { λ r. ⌜ r ≤ position + 1 ⌝ }
 {
@@ -114,8 +115,8 @@ pub(crate) fn answer_rows(
 )
     requires { ⌜ Indexed (length (now keys)) (now keys) (now heads) (now earlier) × (length (now answers) ≡ length (now keys) * pageWidth) ⌝ }
     ensures { λ _. ⌜ ((es : List Entry) → All FitsEntry es → Grouped es → Holds entryWidth count (now (table .entry)) (map entryRow es)
-        → Holds pageWidth (length (now (keys .entry))) (now (answers .entry)) (map (answersIn collection []) (now (keys .entry)))
-        → Holds pageWidth (length (now (keys .entry))) (now (answers .exit)) (map (answersIn collection es) (now (keys .entry)))) ⌝ }
+        → Shows (length (now (keys .entry))) (now (answers .entry)) (map (answersIn collection []) (now (keys .entry)))
+        → Shows (length (now (keys .entry))) (now (answers .exit)) (map (answersIn collection es) (now (keys .entry)))) ⌝ }
 {
     let width = panel_rows::ENTRY_WIDTH;
     let mut position: u64 = 0;

@@ -1,6 +1,7 @@
 // Looks up a page of keys together: 02, Job 7. The keys are indexed once, and then each row of the table is read once.
 mod entries;
 mod index;
+mod places;
 pub mod rows;
 
 ghost use mathlib.Core.Path.{_≡_};
@@ -38,7 +39,7 @@ pub enum PageAnswer {
     Refused(PageRefusal),
 }
 
-// Makes answers the rows of the keys: all zero first, and then those that are found.
+// Makes answers the rows of the keys: those that are found, and zeros for the others.
 fn fill_page(table: &[u8], count: usize, collection: u64, keys: &[u64], answers: &mut [u8])
     requires { ⌜ (length (now keys) ≤ pageKeys) × (length (now answers) ≡ length (now keys) * pageWidth) ⌝ }
     ensures { λ _. ⌜ ((p : Projection) → Stored entryRow entryWidth projectionEntries count (now (table .entry)) (p .entries) → Valid p
@@ -47,8 +48,9 @@ fn fill_page(table: &[u8], count: usize, collection: u64, keys: &[u64], answers:
     let mut heads = [0usize; index::KEY_PLACES];
     let mut earlier = [0usize; PageLookup::KEYS];
     index::index_keys(keys, &mut heads, &mut earlier);
-    bytes_records::moves::clear(answers);
+    places::empty_places(answers, keys.len());
     entries::answer_rows(table, count, collection, keys, &heads, &earlier, answers);
+    places::clear_empty_places(answers, keys.len());
 }
 
 // Looks the keys of a collection up in a table of entries, and writes one row for each into the answers, in their order. Places behind the

@@ -3,8 +3,7 @@
 ghost use mathlib.Core.Path.{_≡_};
 ghost use mathlib.Core.List.{_∷_};
 ghost use mathlib.Core.Option.{Option, none};
-ghost use Prim.Native.Nat.{_+_, _*_, _≤_, _<_};
-ghost use lib.ListN.{length};
+ghost use Prim.Native.Nat.{_+_};
 ghost use Rattle.spec_patch.specs.Encode.{u64 as eightBytes};
 ghost use Rattle.spec_page.specs.Page.{PageEntry};
 ghost use Rattle.panel_page.specs.PageTable.{answerRow, FitsAnswer, pageLookup};

@@ -6,7 +6,7 @@ use mathlib.Core.Option.{Option, none, some, Option·map}
 use lib.ListN.{replicate}
 use Rattle.spec_lists.specs.Lists.{All}
 use Rattle.spec_patch.specs.Patch.{unsigned, text}
-use Rattle.spec_projection.specs.Projection.{Entry, Projection}
+use Rattle.spec_projection.specs.Projection.{Projection}
 use Rattle.spec_projection.specs.Lookups.{entriesIn, entriesOf}
 use Rattle.spec_page.specs.Page.{PageEntry, findFrom, pageEntry, pageRows, pageNumber, pageRefusal, tableLeft, page}
 

@@ -1,17 +1,16 @@
 -- What 02 says of a page of keys, of the definitions: each row is the single look-up's value and mark of its key, with its position; each key
 -- has its row; a refusal, and no keys, leave every place.
-use Prim.Native.Nat.{ℕ, zero, suc, _+_, _-_, _≤_, _<_}
+use Prim.Native.Nat.{ℕ, zero, suc, _-_, _≤_, _<_}
 use mathlib.Core.Path.{_≡_, refl, sym, ap, _∙_}
-use mathlib.Core.Bool.{true, false}
+use mathlib.Core.Bool.{true}
 use mathlib.Core.List.{List, [], _∷_, _++_, map}
-use mathlib.Core.Option.{Option, none, some, Option·map, Option·some-injective, Option·some-ne-none, Option·none-ne-some}
+use mathlib.Core.Option.{Option, none, some, Option·map, Option·some-injective, Option·none-ne-some}
 use native.Mathlib.Omega.{arith}
 use borrow.Author.Tests.{eqb-true, lt-ltb, le-ltb}
 use lib.Dec.{eqb}
 use lib.ListN.{length, drop, getElem?, length-map}
 use lib.Seq.{drop-at}
 use Rattle.spec_lists.specs.ListLaws.{test-cases}
-use Rattle.spec_patch.specs.Patch.{Value}
 use Rattle.spec_projection.specs.Projection.{Entry, Projection}
 use Rattle.spec_projection.specs.FirstMatch.{findFirst}
 use Rattle.spec_projection.specs.Entries.{isEntry}

@@ -1,24 +1,24 @@
 -- `entries::answer_key` meets its contract. The invariant: the rows from key `next` on are written. The measure falls with each link of the chain.
-use Prim.Native.Nat.{ℕ, _+_, _-_, _≤_, _<_}
+use Prim.Native.Nat.{ℕ, _+_, _-_}
 use mathlib.Core.Path.{_≡_, refl, sym, ap, _∙_, subst}
 use mathlib.Core.List.{List, map}
 use native.Mathlib.Omega.{arith}
 use borrow.Author.Needs.{needs}
 use denote.Ref.{now}
-use lib.ListN.{length, getD}
-use Rattle.bytes_records.specs.Table.{Holds}
+use lib.ListN.{length}
 use Rattle.panel_rows.specs.Rows.{filledRow}
 use Rattle.panel_page.specs.PageTable.{pageWidth}
-use Rattle.panel_page.specs.Index.{placeOf, lastBelow, OnChain}
+use Rattle.panel_page.specs.Index.{placeOf, OnChain}
 use Rattle.panel_page.specs.IndexLaws.{last-le, on-chain, chain-start, chain-next}
 use Rattle.panel_page.specs.Answering.{answering, mixed}
 use Rattle.panel_page.specs.AnsweringLaws.{mixed-start, mixed-end, chain-passed}
+use Rattle.panel_page.specs.Shown.{Shows}
 use Rattle.panel_page.proofs.entries.answer_key.Statement.{statement}
 use Rattle.panel_page.proofs.entries.answer_key.Tie as tie
 
 abbrev Inv-loop : tie.InvT-loop
 Inv-loop keys key heads earlier head rest answers₀ next₀ answers next =
-    OnChain keys key next × ((length answers ≡ length answers₀) × ((f : ℕ → List ℕ) → Holds pageWidth (length keys) answers₀ (map f keys) → Holds pageWidth (length keys) answers (mixed f (answering key (filledRow pageWidth head rest) f) keys next)))
+    OnChain keys key next × ((length answers ≡ length answers₀) × ((f : ℕ → List ℕ) → Shows (length keys) answers₀ (map f keys) → Shows (length keys) answers (mixed f (answering key (filledRow pageWidth head rest) f) keys next)))
 
 abbrev μ-loop : tie.MeasureT-loop
 μ-loop keys key heads earlier head rest answers₀ next₀ answers next = next
@@ -42,7 +42,7 @@ loop-holds c =
       subst (OnChain keys (a .key)) (sym is) (on-chain keys (a .key) (length keys) (omega arith)),
       (
         refl,
-        λ f t. subst (Holds pageWidth (length keys) (a .answers .now))
+        λ f t. subst (Shows (length keys) (a .answers .now))
             (sym (mixed-start f (answering (a .key) row f) keys) ∙ chain-passed keys (a .key) row f (length keys) (omega arith) ∙ ap (mixed f (answering (a .key) row f) keys) (sym is)) t,
       ),
     )
@@ -80,8 +80,8 @@ loop-again c =
       subst (OnChain keys (a .key)) (sym is) (on-chain keys (a .key) (next - 1) (omega arith)),
       (
         search needs,
-        λ f t. subst (Holds pageWidth (length keys) _) (chain-passed keys (a .key) row f (next - 1) (omega arith) ∙ ap (mixed f (answering (a .key) row f) keys) (sym is))
-            (at-place .answer-place .ensures f (subst (Holds pageWidth (length keys) (at-loop .answers)) (ap (mixed f (answering (a .key) row f) keys) one) (at-loop .inv .1 .1 f t))),
+        λ f t. subst (Shows (length keys) _) (chain-passed keys (a .key) row f (next - 1) (omega arith) ∙ ap (mixed f (answering (a .key) row f) keys) (sym is))
+            (at-place .answer-place .ensures f (subst (Shows (length keys) (at-loop .answers)) (ap (mixed f (answering (a .key) row f) keys) one) (at-loop .inv .1 .1 f t))),
       ),
     )
 
@@ -95,7 +95,7 @@ returns c =
     let keys = now (a .keys) in
     let row = filledRow pageWidth (now (a .head)) (now (a .rest)) in
     let all : at-loop .next ≡ 0 = omega arith in
-    λ f t. subst (Holds pageWidth (length keys) (at-loop .answers)) (ap (mixed f (answering (a .key) row f) keys) all ∙ mixed-end f (answering (a .key) row f) keys) (at-loop .inv .1 .1 f t)
+    λ f t. subst (Shows (length keys) (at-loop .answers)) (ap (mixed f (answering (a .key) row f) keys) all ∙ mixed-end f (answering (a .key) row f) keys) (at-loop .inv .1 .1 f t)
 
 pub answer-key-spec : {M : Type 1} → statement M
 answer-key-spec =

@@ -6,15 +6,14 @@ use native.Mathlib.Omega.{arith}
 use denote.Ref.{now}
 use lib.ListN.{length, length-append}
 use Rattle.spec_projection.specs.Projection.{Entry}
-use Rattle.spec_projection.specs.Lookups.{KeyedValue, keyedValue, entriesIn}
+use Rattle.spec_projection.specs.Lookups.{keyedValue, entriesIn}
 use Rattle.spec_projection.specs.Valid.{FitsEntry}
-use Rattle.bytes_records.specs.Table.{Holds}
 use Rattle.panel_rows.specs.Rows.{collectionIn, entryRow}
 use Rattle.panel_rows.specs.RowsLaws.{entry-collection}
-use Rattle.panel_page.specs.PageTable.{pageWidth}
 use Rattle.panel_page.specs.Answering.{answering, answerOf, answersIn}
 use Rattle.panel_page.specs.AnsweringLaws.{entries-own, entries-other, answers-own, answers-other}
 use borrow.Author.Needs.{needs}
+use Rattle.panel_page.specs.Shown.{Shows}
 use Rattle.panel_page.proofs.entries.answer_row.Statement.{statement}
 use Rattle.panel_page.proofs.entries.answer_row.Tie as tie
 
@@ -31,7 +30,7 @@ returns c =
     let keys = now (a .keys) in (
       (λ l e fits is at absent t.
           let other : e .collection ≡ a .collection → ⊥ = λ same. c .if1 .taken (own (c .before) e fits is ∙ same) in (
-            subst (Holds pageWidth (length keys) (now (a .answers))) (ap (λ (f : ℕ → List ℕ). map f keys) (sym (answers-other (a .collection) l e other))) t,
+            subst (Shows (length keys) (now (a .answers))) (ap (λ (f : ℕ → List ℕ). map f keys) (sym (answers-other (a .collection) l e other))) t,
             at ∙ ap length (sym (entries-other (a .collection) l e other)),
           )),
       search needs,
@@ -56,7 +55,7 @@ returns-2 c =
           let same = sym (own (test .before) e fits is) ∙ test .if1 .left in
           let more = answers-own (a .collection) l e same (absent same) in
           let long : length (entriesIn (a .collection) (l ++ e ∷ [])) ≡ a .position + 1 = ap length (entries-own (a .collection) l e same) ∙ length-append (entriesIn (a .collection) l) (keyedValue e ∷ []) ∙ omega arith in (
-            subst (Holds pageWidth (length keys) _) (ap (λ (f : ℕ → List ℕ). map f keys) (ap (λ (n : ℕ). answering (e .key) (answerOf n e) (answersIn (a .collection) l)) at ∙ sym more))
+            subst (Shows (length keys) _) (ap (λ (f : ℕ → List ℕ). map f keys) (ap (λ (n : ℕ). answering (e .key) (answerOf n e) (answersIn (a .collection) l)) at ∙ sym more))
                 (at-entry .answer-entry .ensures e fits is (answersIn (a .collection) l) t),
             sym long,
           )),

@@ -16,17 +16,17 @@ use Rattle.bytes_records.specs.Table.{Holds}
 use Rattle.panel_rows.specs.Rows.{entryWidth, entryRow}
 use Rattle.panel_lookups.specs.NthLaws.{fits-at, row-at-entry}
 use Rattle.panel_lookups.proofs.Counted.{noEntry, holds-length}
-use Rattle.panel_page.specs.PageTable.{pageWidth}
 use Rattle.panel_page.specs.Answering.{answersIn}
 use Rattle.panel_page.specs.AnsweringLaws.{absent-before}
+use Rattle.panel_page.specs.Shown.{Shows}
 use Rattle.panel_page.proofs.entries.answer_rows.Statement.{statement}
 use Rattle.panel_page.proofs.entries.answer_rows.Tie as tie
 
 abbrev Inv-loop : tie.InvT-loop
 Inv-loop table count collection keys heads earlier answers₀ width position₀ i₀ answers position i =
     (i ≤ count) × ((position ≤ i) × ((length answers ≡ length answers₀) × ((es : List Entry) → All FitsEntry es → Grouped es → Holds entryWidth count table (map entryRow es)
-    → Holds pageWidth (length keys) answers₀ (map (answersIn collection []) keys)
-    → Holds pageWidth (length keys) answers (map (answersIn collection (take i es)) keys) × (position ≡ length (entriesIn collection (take i es))))))
+    → Shows (length keys) answers₀ (map (answersIn collection []) keys)
+    → Shows (length keys) answers (map (answersIn collection (take i es)) keys) × (position ≡ length (entriesIn collection (take i es))))))
 
 abbrev μ-loop : tie.MeasureT-loop
 μ-loop table count collection keys heads earlier answers₀ width position₀ i₀ answers position i = count - i
@@ -67,7 +67,7 @@ loop-again c =
               let step = at-row .answer-row .ensures .0 (take i es) e (fits-at es i noEntry inside fit) (read .record-at .ensures .0 (map entryRow es) t ∙ row-at-entry es i noEntry inside)
               (before .1) (λ own. absent-before (a .collection) es i noEntry g inside own 0) (before .0) in
               let more : take i es ++ e ∷ [] ≡ take (i + 1) es = sym (ap (λ (n : ℕ). take n es) (add-one i) ∙ take-suc es i noEntry inside) in (
-                subst (Holds pageWidth (length keys) _) (ap (λ (l : List Entry). map (answersIn (a .collection) l) keys) more) (step .0),
+                subst (Shows (length keys) _) (ap (λ (l : List Entry). map (answersIn (a .collection) l) keys) more) (step .0),
                 step .1 ∙ ap (λ (l : List Entry). length (entriesIn (a .collection) l)) more,
               ),
         ),
@@ -84,7 +84,7 @@ returns c =
     let keys = now (a .keys) in
     λ es fit g t h.
     let all : take (at-loop .i) es ≡ es = take-all (at-loop .i) es (omega (arith, holds-length es t)) in
-    subst (λ (l : List Entry). Holds pageWidth (length keys) (at-loop .answers) (map (answersIn (a .collection) l) keys)) all (at-loop .inv .1 .1 .1 es fit g t h .0)
+    subst (λ (l : List Entry). Shows (length keys) (at-loop .answers) (map (answersIn (a .collection) l) keys)) all (at-loop .inv .1 .1 .1 es fit g t h .0)
 
 pub answer-rows-spec : {M : Type 1} → statement M
 answer-rows-spec =
