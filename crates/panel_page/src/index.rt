@@ -8,12 +8,14 @@ ghost use Rattle.bytes_records.specs.Moves.{zeros};
 ghost use Rattle.panel_page.specs.Index.{keyPlaces, placeOf, Indexed};
 
 // A prime, so that keys in steps of a round number have places of their own.
-pub(crate) const KEY_PLACES: usize = 251;
+const PLACES: u64 = 251;
+
+pub(crate) const KEY_PLACES: usize = PLACES as usize;
 
 pub(crate) fn key_place(key: u64) -> usize
     ensures { λ r. ⌜ r ≡ placeOf key ⌝ }
 {
-    (key % 251) as usize
+    (key % PLACES) as usize
 }
 
 // For each place the last key that has it, and for each key the one before it in its place.
