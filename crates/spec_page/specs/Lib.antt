@@ -1,3 +1,4 @@
 pub mod Page
 pub mod PageExamples
 pub mod PageLaws
+pub mod PagePremises

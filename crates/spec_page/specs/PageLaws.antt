@@ -1,19 +1,22 @@
 -- What 02 says of a page of keys, of the definitions: each row is the single look-up's value and mark of its key, with its position; each key
 -- has its row; a refusal, and no keys, leave every place.
-use Prim.Native.Nat.{ℕ, zero, suc, _-_, _≤_, _<_}
-use mathlib.Core.Path.{_≡_, refl, sym, ap, _∙_}
-use mathlib.Core.Bool.{true}
+use Prim.Native.Nat.{ℕ, zero, suc, _+_, _-_, _≤_, _<_}
+use mathlib.Core.Path.{_≡_, refl, sym, ap, ap₂, _∙_}
+use mathlib.Core.Bool.{Bool, true, false, _&&_}
 use mathlib.Core.List.{List, [], _∷_, _++_, map}
 use mathlib.Core.Option.{Option, none, some, Option·map, Option·some-injective, Option·none-ne-some}
+use native.Mathlib.Nat.{zero-add}
 use native.Mathlib.Omega.{arith}
-use borrow.Author.Tests.{eqb-true, lt-ltb, le-ltb}
+use borrow.Author.Tests.{eqb-true, eqb-false, eq-eqb, ne-eqb, lt-ltb, le-ltb}
 use lib.Dec.{eqb}
 use lib.ListN.{length, drop, getElem?, length-map}
 use lib.Seq.{drop-at}
+use Rattle.spec_lists.specs.Lists.{All}
 use Rattle.spec_lists.specs.ListLaws.{test-cases}
 use Rattle.spec_projection.specs.Projection.{Entry, Projection}
 use Rattle.spec_projection.specs.FirstMatch.{findFirst}
 use Rattle.spec_projection.specs.Entries.{isEntry}
+use Rattle.spec_projection.specs.Valid.{Behind, Grouped}
 use Rattle.spec_projection.specs.Lookups.{KeyedValue, keyedValue, entriesIn, entriesOf, entryOf, entryMark, entryAt}
 use Rattle.spec_page.specs.Page.{PageEntry, positioned, findFrom, pageEntry, pageRows, pageKeys, PageRefusal, tooManyKeys, tooFewPlaces, pageRefusal, tableLeft, page}
 
@@ -67,6 +70,46 @@ unfolding pageEntry entryAt
 page-position p c k x h =
     let same : x .position - 0 ≡ x .position = omega arith in
     ap (getElem? (entriesOf p c)) (sym same) ∙ stands k 0 (entriesOf p c) x h .1
+
+-- an entry of a later place in x's collection has another key
+other-key : (c : ℕ) (x : Entry) (es : List Entry) (i : ℕ) (e : KeyedValue) → x .collection ≡ c → All (Behind x) es → getElem? (entriesIn c es) i ≡ some e → eqb (x .key) (e .key) ≡ false
+unfolding entriesIn isEntry
+other-key c x [] zero e own b h = absurd (Option·none-ne-some e h)
+other-key c x [] (suc i) e own b h = absurd (Option·none-ne-some e h)
+other-key c x (y ∷ es) i e own b h =
+    test-cases (eqb (y .collection) c) (λ t. among t i (rw t at h) (λ j k. other-key c x es j e own (b .1) k)) (λ t. other-key c x es i e own (b .1) (rw t at h))
+  where
+    among : eqb (y .collection) c ≡ true → (i : ℕ) → getElem? (keyedValue y ∷ entriesIn c es) i ≡ some e → ((j : ℕ) → getElem? (entriesIn c es) j ≡ some e → eqb (x .key) (e .key) ≡ false) → eqb (x .key) (e .key) ≡ false
+    among t zero h ih =
+        let same = eqb-true (y .collection) c t ∙ sym own in
+        let key : y .key ≡ e .key = ap (λ (z : KeyedValue). z .key) (Option·some-injective (keyedValue y) e h) in
+        let other : eqb (y .key) (x .key) ≡ false = ap (λ (z : Bool). z && eqb (y .key) (x .key)) (sym (eq-eqb (y .collection) (x .collection) same)) ∙ b .0 .other in
+        ne-eqb (x .key) (e .key) (λ k. eqb-false (y .key) (x .key) other (key ∙ sym k))
+    among t (suc i) h ih = ih i h
+
+finds : (c : ℕ) (es : List Entry) (n i : ℕ) (e : KeyedValue) → Grouped es → getElem? (entriesIn c es) i ≡ some e → findFrom n (e .key) (entriesIn c es) ≡ some (positioned (n + i) e)
+unfolding entriesIn findFrom
+finds c [] n zero e g h = absurd (Option·none-ne-some e h)
+finds c [] n (suc i) e g h = absurd (Option·none-ne-some e h)
+finds c (x ∷ es) n i e g h =
+    test-cases (eqb (x .collection) c) (λ t. rw t (among t i (rw t at h) (λ j k. finds c es (suc n) j e (g .1) k))) (λ t. rw t (finds c es n i e (g .1) (rw t at h)))
+  where
+    among : eqb (x .collection) c ≡ true → (i : ℕ) → getElem? (keyedValue x ∷ entriesIn c es) i ≡ some e
+        → ((j : ℕ) → getElem? (entriesIn c es) j ≡ some e → findFrom (suc n) (e .key) (entriesIn c es) ≡ some (positioned (suc n + j) e))
+        → findFrom n (e .key) (keyedValue x ∷ entriesIn c es) ≡ some (positioned (n + i) e)
+    among t zero h ih =
+        let is = Option·some-injective (keyedValue x) e h in
+        let own : eqb (x .key) (e .key) ≡ true = eq-eqb (x .key) (e .key) (ap (λ (z : KeyedValue). z .key) is) in
+        let here : n ≡ n + 0 = omega arith in
+        rw own (ap₂ (λ (m : ℕ) (z : KeyedValue). some (positioned m z)) here is)
+    among t (suc i) h ih =
+        let on : suc n + i ≡ n + suc i = omega arith in
+        rw (other-key c x es i e (eqb-true (x .collection) c t) (g .0) h) (ih i h ∙ ap (λ (m : ℕ). some (positioned m e)) on)
+
+-- where no key stands twice in a collection, each of its entries is found by its key, at its own position
+pub page-finds : (p : Projection) → Grouped (p .entries) → (c i : ℕ) (e : KeyedValue) → entryAt p c i ≡ some e → pageEntry p c (e .key) ≡ some (positioned i e)
+unfolding pageEntry entryAt entriesOf
+page-finds p g c i e h = finds c (p .entries) 0 i e g h ∙ ap (λ (m : ℕ). some (positioned m e)) (zero-add i)
 
 -- ---- each key has its row
 
