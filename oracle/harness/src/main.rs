@@ -39,10 +39,11 @@ oracle sets COUNT SEED
 oracle rewrite COUNT SEED PROGRAM...
 oracle bench-read PROGRAM | bench-check PROGRAM | bench-sizes PROGRAM
 oracle bench-original build|check TIMES PATCHES OPERATIONS | bench-original build|check TIMES found OPERATIONS
+oracle bench-original page TIMES
 oracle bench-set texts | bench-set PATCHES OPERATIONS | bench-set found OPERATIONS
 oracle bench-session PROGRAM COLLECTIONS
 oracle bench-operation PROGRAM COLLECTIONS
-oracle bench-lookup PROGRAM | bench-text PROGRAM | bench-write PROGRAM
+oracle bench-lookup PROGRAM | bench-page PROGRAM | bench-text PROGRAM | bench-write PROGRAM
 oracle bench-import PROGRAM | bench-import-plain TIMES terms|texts | bench-terms terms|texts
 oracle bench-panel full | bench-panel ENTRIES COLLECTIONS OPERATIONS";
 
@@ -69,9 +70,11 @@ fn main() {
         ["bench-original", way @ ("build" | "check"), times, patches, operations] => {
             bench::checking_often(*way == "check", number(times), &benchmark_list(patches, number(operations)))
         }
+        ["bench-original", "page", times] => bench_sessions::pages_often(number(times)),
         ["bench-session", program, collections] => bench_sessions::batches(program, number(collections)),
         ["bench-operation", program, collections] => bench_sessions::operation(program, number(collections)),
         ["bench-lookup", program] => bench_sessions::lookups(program),
+        ["bench-page", program] => bench_sessions::pages(program),
         ["bench-text", program] => bench_sessions::texts(program),
         ["bench-write", program] => bench_sessions::writing(program),
         ["bench-import", program] => bench_terms::importing(program),
