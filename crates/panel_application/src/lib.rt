@@ -57,6 +57,7 @@ fn apply_readable(
     let mut bindings = [0u8; LocalProjectionState::BINDING_BYTES];
     let mut availability = [0u8; LocalProjectionState::AVAILABILITY_BYTES];
     let mut entries = [0u8; LocalProjectionState::ENTRY_BYTES];
+    let mut lengths = [0u8; LocalProjectionState::LENGTH_BYTES];
     let used = panel_changes::none_used();
     match panel_changes::apply_set(
         &state.bindings,
@@ -68,6 +69,7 @@ fn apply_readable(
         &mut bindings,
         &mut availability,
         &mut entries,
+        &mut lengths,
         used,
     ) {
         SetChange::Applied(counts) => ProjectionApplication {
@@ -76,6 +78,7 @@ fn apply_readable(
                 bindings,
                 availability,
                 entries,
+                lengths,
             },
             outcome: ProjectionOutcome::Applied,
         },

@@ -3,7 +3,7 @@ use mathlib.Core.Path.{refl, sym, subst}
 use borrow.Author.Needs.{needs}
 use Rattle.spec_projection.specs.Apply.{replaySteps, applySteps}
 use Rattle.bytes_records.specs.Moves.{zeros}
-use Rattle.panel_rows.specs.Rows.{bindingBytes, availabilityBytes, entryBytes}
+use Rattle.panel_rows.specs.Rows.{bindingBytes, availabilityBytes, entryBytes, lengthBytes}
 use Rattle.local_projection_state.specs.declared.ProjectionCounts.{ProjectionCounts}
 use Rattle.panel_changes.specs.SetChanges.{Ready}
 use Rattle.panel_changes.specs.SetChangesLaws.{zeros-ready}
@@ -23,6 +23,9 @@ slice-aggregate-apply-set-2 c = search needs
 slice-aggregate-apply-set-3 : tie.Need-slice-aggregate-apply-set-3
 slice-aggregate-apply-set-3 c = search needs
 
+slice-aggregate-apply-set-4 : tie.Need-slice-aggregate-apply-set-4
+slice-aggregate-apply-set-4 c = search needs
+
 apply-set-requires : tie.Need-apply-set-requires
 apply-set-requires c κs = search needs
 
@@ -39,32 +42,32 @@ enum-told : tie.Need-enum-told
 enum-told c = search needs
 
 -- nothing is used of the new tables
-ready : (c : tie.After-apply-set) → Ready (c .before .before .before .before .before .before .before .before .before .before .before .before .none-used .result) (zeros bindingBytes) (zeros availabilityBytes) (zeros entryBytes)
-ready c = subst (λ (u : ProjectionCounts). Ready u (zeros bindingBytes) (zeros availabilityBytes) (zeros entryBytes)) (sym (c .before .before .before .before .before .before .before .before .before .before .before .before .none-used .ensures)) zeros-ready
+ready : (c : tie.After-apply-set) → Ready (c .before .before .before .before .before .before .before .before .before .before .before .before .before .none-used .result) (zeros bindingBytes) (zeros availabilityBytes) (zeros entryBytes) (zeros lengthBytes)
+ready c = subst (λ (u : ProjectionCounts). Ready u (zeros bindingBytes) (zeros availabilityBytes) (zeros entryBytes) (zeros lengthBytes)) (sym (c .before .before .before .before .before .before .before .before .before .before .before .before .before .none-used .ensures)) zeros-ready
 
 returns : tie.Need-returns
 returns c =
-    let call = c .before .before .before .before .before .before in
+    let call = c .before .before .before .before .before .before .before in
     let tables = call .apply-set .last .1 .1 .1 .1 .1 .1 in
-    ((λ ps p readable s. set-applied (tables .0) (tables .1 .0) (tables .1 .1 .0) (applySteps p (replaySteps ps)) (call .apply-set .ensures .0 p ps s readable (ready call)) _ (c .before .counts .given .1)), tt)
+    ((λ ps p readable s. set-applied (tables .0) (tables .1 .0) (tables .1 .1 .0) (tables .1 .1 .1 .0) (applySteps p (replaySteps ps)) (call .apply-set .ensures .0 p ps (s .tables) readable (ready call)) _ (c .before .counts .given .1)), tt)
 
 returns-2 : tie.Need-returns-2
 returns-2 c =
-    let call = c .before .before .before .before .before .before in
+    let call = c .before .before .before .before .before .before .before in
     let tables = call .apply-set .last .1 .1 .1 .1 .1 .1 in
-    ((λ ps p readable s. set-refused (tables .0) (tables .1 .0) (tables .1 .1 .0) (applySteps p (replaySteps ps)) (call .apply-set .ensures .0 p ps s readable (ready call)) _ _ (c .before .error .given .1)), refl)
+    ((λ ps p readable s. set-refused (tables .0) (tables .1 .0) (tables .1 .1 .0) (tables .1 .1 .1 .0) (applySteps p (replaySteps ps)) (call .apply-set .ensures .0 p ps (s .tables) readable (ready call)) _ _ (c .before .error .given .1)), refl)
 
 returns-3 : tie.Need-returns-3
 returns-3 c =
-    let call = c .before .before .before .before .before .before in
+    let call = c .before .before .before .before .before .before .before in
     let tables = call .apply-set .last .1 .1 .1 .1 .1 .1 in
-    ((λ ps p readable s. absurd (set-reads (tables .0) (tables .1 .0) (tables .1 .1 .0) (applySteps p (replaySteps ps)) (call .apply-set .ensures .0 p ps s readable (ready call)) _ (c .before .fault .given .1))), refl)
+    ((λ ps p readable s. absurd (set-reads (tables .0) (tables .1 .0) (tables .1 .1 .0) (tables .1 .1 .1 .0) (applySteps p (replaySteps ps)) (call .apply-set .ensures .0 p ps (s .tables) readable (ready call)) _ (c .before .fault .given .1))), refl)
 
 returns-4 : tie.Need-returns-4
 returns-4 c =
-    let call = c .before .before .before .before .before in
+    let call = c .before .before .before .before .before .before in
     let tables = call .apply-set .last .1 .1 .1 .1 .1 .1 in
-    ((λ ps p readable s. absurd (set-fits (tables .0) (tables .1 .0) (tables .1 .1 .0) (applySteps p (replaySteps ps)) (call .apply-set .ensures .0 p ps s readable (ready call)) (c .enum-told .given .1))), refl)
+    ((λ ps p readable s. absurd (set-fits (tables .0) (tables .1 .0) (tables .1 .1 .0) (tables .1 .1 .1 .0) (applySteps p (replaySteps ps)) (call .apply-set .ensures .0 p ps (s .tables) readable (ready call)) (c .enum-told .given .1))), refl)
 
 pub apply-readable-spec : {M : Type 1} → statement M
 apply-readable-spec =
@@ -74,6 +77,7 @@ apply-readable-spec =
     slice-aggregate-apply-set
     slice-aggregate-apply-set-2
     slice-aggregate-apply-set-3
+    slice-aggregate-apply-set-4
     apply-set-requires
     enum-known-counts
     enum-known-error
