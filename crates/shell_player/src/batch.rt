@@ -97,19 +97,11 @@ impl ShellSession {
             used,
         );
         let result = answers::concluded(cap, change, cursor, envelope.sequence_no);
-        let SetChange::Applied(held) = change else {
+        let SetChange::Applied(n) = change else {
             return batch_of(self, result);
         };
         let moved = states::advanced(state, envelope.sequence_no);
-        let session = session_of(
-            context,
-            moved,
-            held,
-            bindings,
-            availability,
-            entries,
-            lengths,
-        );
+        let session = session_of(context, moved, n, bindings, availability, entries, lengths);
         batch_of(session, result)
     }
 }

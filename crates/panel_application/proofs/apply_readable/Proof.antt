@@ -4,9 +4,12 @@ use borrow.Author.Needs.{needs}
 use Rattle.spec_projection.specs.Apply.{replaySteps, applySteps}
 use Rattle.bytes_records.specs.Moves.{zeros}
 use Rattle.panel_rows.specs.Rows.{bindingBytes, availabilityBytes, entryBytes, lengthBytes}
+use Rattle.local_projection_state.specs.declared.LocalProjectionState.{LocalProjectionState}
 use Rattle.local_projection_state.specs.declared.ProjectionCounts.{ProjectionCounts}
 use Rattle.panel_changes.specs.SetChanges.{Ready}
 use Rattle.panel_changes.specs.SetChangesLaws.{zeros-ready}
+use Rattle.panel_application.specs.Application.{StepsBecame}
+use Rattle.panel_application.specs.declared.ProjectionOutcome.the-variants.{Applied}
 use Rattle.panel_application.proofs.Steps.{set-applied, set-refused, set-reads, set-fits}
 use Rattle.panel_application.proofs.apply_readable.Statement.{statement}
 use Rattle.panel_application.proofs.apply_readable.Tie as tie
@@ -32,6 +35,9 @@ apply-set-requires c κs = search needs
 enum-known-counts : tie.Need-enum-known-counts
 enum-known-counts c = search needs
 
+state-of-requires : tie.Need-state-of-requires
+state-of-requires c κs = search needs
+
 enum-known-error : tie.Need-enum-known-error
 enum-known-error c = search needs
 
@@ -47,9 +53,13 @@ ready c = subst (λ (u : ProjectionCounts). Ready u (zeros bindingBytes) (zeros 
 
 returns : tie.Need-returns
 returns c =
-    let call = c .before .before .before .before .before .before .before in
-    let tables = call .apply-set .last .1 .1 .1 .1 .1 .1 in
-    ((λ ps p readable s. set-applied (tables .0) (tables .1 .0) (tables .1 .1 .0) (tables .1 .1 .1 .0) (applySteps p (replaySteps ps)) (call .apply-set .ensures .0 p ps (s .tables) readable (ready call)) _ (c .before .counts .given .1)), tt)
+    let call = c .before .before .before .before .before .before .before .before in
+    let tables = call .apply-set .last .1 .1 .1 .1 .1 .1 in (
+      (λ ps p readable s.
+          subst (λ (next : LocalProjectionState). StepsBecame next Applied (applySteps p (replaySteps ps))) (sym (c .state-of .ensures))
+          (set-applied (tables .0) (tables .1 .0) (tables .1 .1 .0) (tables .1 .1 .1 .0) (applySteps p (replaySteps ps)) (call .apply-set .ensures .0 p ps (s .tables) readable (ready call)) _ (c .before .before .counts .given .1))),
+      tt,
+    )
 
 returns-2 : tie.Need-returns-2
 returns-2 c =
@@ -80,6 +90,7 @@ apply-readable-spec =
     slice-aggregate-apply-set-4
     apply-set-requires
     enum-known-counts
+    state-of-requires
     enum-known-error
     enum-known-fault
     enum-told
