@@ -29,7 +29,7 @@ returns : tie.Need-returns
 returns c =
     let write = c .before .before in
     let print = write .before .before .before .before in (
-      (λ p s. write .write-lines .ensures .0 (projectionLines p) (printed-holds (print .print-projection .ensures p s) (omega (arith, projection-fits p (s .valid), length-replicate {A = ℕ} listingBytes 0)))),
+      (λ p s. write .write-lines .ensures .0 (projectionLines p) (printed-holds (print .print-projection .ensures p s) (omega (arith, projection-fits p (s .tables .valid), length-replicate {A = ℕ} listingBytes 0)))),
       write .write-lines .ensures .1,
     )
 

@@ -55,7 +55,8 @@ returns c =
     let first = second .before .before .before .before .before in
     let head = first .before .before .before .before .before in
     let count = head .before .before in
-    λ p s.
+    λ p stored.
+    let s = stored .tables in
     let b = holds-length FitsBinding bindingRow (p .bindings) (s .bindings .rows) in
     let a = holds-length FitsNodeAvailability availabilityRow (p .availabilities) (s .availabilities .rows) in
     let e = holds-length FitsEntry entryRow (p .entries) (s .entries .rows) in
