@@ -113,7 +113,7 @@ fn stepped(answer: LentTransition) -> GeysertrayLifecycle
 
 // One lifecycle step: 0 Activate, 1 Suspend, 2 Resume, 3 Close, 4 the explicit no-op.
 #[no_mangle]
-pub extern "C" fn geysertray_lifecycle(
+pub extern "C" fn geysertray_lifecycle_step(
     head: &mut [u64; head::NUMBERS],
     command: u64,
     stimulus_bytes: u64,

@@ -1,12 +1,12 @@
--- `geysertray_lifecycle` meets its contract: the command is tested first.
+-- `geysertray_lifecycle_step` meets its contract: the command is tested first.
 use mathlib.Core.Path.{refl}
 use native.Mathlib.Omega.{arith}
 use Rattle.c_exports.specs.Calls.{same-stimulus}
 use borrow.Author.Needs.{needs}
-use Rattle.c_exports.proofs.calls.geysertray_lifecycle.Statement.{statement}
-use Rattle.c_exports.proofs.calls.geysertray_lifecycle.Tie as tie
-use Rattle.c_exports.proofs.calls.geysertray_lifecycle.Reads as reads
-use Rattle.c_exports.proofs.calls.geysertray_lifecycle.Lts as lts
+use Rattle.c_exports.proofs.calls.geysertray_lifecycle_step.Statement.{statement}
+use Rattle.c_exports.proofs.calls.geysertray_lifecycle_step.Tie as tie
+use Rattle.c_exports.proofs.calls.geysertray_lifecycle_step.Reads as reads
+use Rattle.c_exports.proofs.calls.geysertray_lifecycle_step.Lts as lts
 use Rattle.c_exports.proofs.answers.no_step.Reads as no-step-reads
 use Rattle.c_exports.proofs.answers.stimulus_of.Reads as stimulus-of-reads
 use Rattle.c_exports.proofs.calls.stepped.Reads as stepped-reads
@@ -35,8 +35,8 @@ returns-2 c =
       unknown = λ k. absurd (omega (arith, c .before .before .before .before .if1 .left));
     }
 
-pub geysertray-lifecycle-spec : {M : Type 1} → statement M
-geysertray-lifecycle-spec =
+pub geysertray-lifecycle-step-spec : {M : Type 1} → statement M
+geysertray-lifecycle-step-spec =
     tie.close
     (tie.spec
     no-step-requires
