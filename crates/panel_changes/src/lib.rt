@@ -41,7 +41,7 @@ pub enum SetChange {
 }
 
 // Whether so many bytes are the lengths of the three tables.
-fn tables_fit(bindings: usize, availability: usize, entries: usize) -> bool
+pub fn tables_fit(bindings: usize, availability: usize, entries: usize) -> bool
     ensures { λ r. ⌜ r ≡ tablesFit bindings availability entries ⌝ }
 {
     if bindings != LocalProjectionState::BINDING_BYTES {
@@ -54,7 +54,7 @@ fn tables_fit(bindings: usize, availability: usize, entries: usize) -> bool
 }
 
 // Whether each table has a place for so many rows.
-fn counts_fit(counts: ProjectionCounts) -> bool
+pub fn counts_fit(counts: ProjectionCounts) -> bool
     ensures { λ r. ⌜ r ≡ countsFit counts ⌝ }
 {
     if LocalProjectionState::BINDINGS < counts.bindings {

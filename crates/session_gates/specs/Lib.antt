@@ -4,3 +4,4 @@ pub mod LentLaws
 pub mod GatesLaws
 pub mod Seen
 pub mod CountedLaws
+pub mod ErasedLaws

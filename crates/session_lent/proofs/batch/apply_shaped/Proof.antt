@@ -1,0 +1,142 @@
+-- `apply_shaped` meets its contract: steps 1 to 8 on what the head tells, then step 9.
+use mathlib.Core.Path.{_≡_, refl, sym, ap, _∙_}
+use mathlib.Core.Bool.{false≢true}
+use borrow.Author.Tests.{eq-eqb, eqb-true}
+use Rattle.spec_session.specs.Batch.{candidate}
+use Rattle.spec_session.specs.BatchLaws.{never-passes}
+use Rattle.session_gates.specs.Gates.{gateOf, counted}
+use Rattle.session_steps.specs.Answers.{rejectedRow, unchangedRow}
+use Rattle.session_steps.specs.AnswersLaws.{same-rejection, change-row}
+use Rattle.session_lent.specs.BatchesLaws.{held-tables, kept-change, row-told, preflight-told, seen, commits-none, commits, batch-rejects, batch-commits}
+use borrow.Author.Needs.{needs}
+use Rattle.session_lent.proofs.batch.apply_shaped.Statement.{statement}
+use Rattle.session_lent.proofs.batch.apply_shaped.Tie as tie
+use Rattle.session_lent.proofs.batch.apply_shaped.Reads as reads
+use Rattle.session_lent.proofs.batch.apply_shaped.Lts as lts
+use Rattle.session_gates.proofs.batch.check_batch.Reads as check-batch-reads
+use Rattle.session_lent.proofs.batch.commit.Reads as commit-reads
+use Rattle.session_lent.proofs.head.limits_in.Reads as limits-in-reads
+use Rattle.session_lent.proofs.head.state_in.Reads as state-in-reads
+use Rattle.session_steps.proofs.answers.concluded.Reads as concluded-reads
+use Rattle.session_steps.proofs.answers.rejected.Reads as rejected-reads
+use Rattle.session_steps.proofs.answers.unchanged.Reads as unchanged-reads
+use Rattle.session_steps.proofs.checks.is_empty.Reads as is-empty-reads
+
+limits-in-requires : tie.Need-limits-in-requires
+limits-in-requires c κs = search needs
+
+state-in-requires : tie.Need-state-in-requires
+state-in-requires c κs = search needs
+
+check-batch-requires : tie.Need-check-batch-requires
+check-batch-requires c κs = search needs
+
+enum-known-gate : tie.Need-enum-known-gate
+enum-known-gate c = search needs
+
+rejected-requires : tie.Need-rejected-requires
+rejected-requires c κs = search needs
+
+returns : tie.Need-returns
+unfolding gateOf counted
+returns c =
+    let a = c .before .before .before .before .before .before .before .before .before .before .before .before .before .before .before .before .before .before .before .before .before .args in
+    let limits = c .before .before .before .before .before .before .before .limits-in in
+    let state = c .before .before .before .before .before .before .state-in in
+    let checked = c .before .before .before .before .check-batch .ensures in
+    let gate = ap gateOf (sym (c .before .before .gate .given .1)) in
+    let answer = c .rejected .ensures in
+    record {
+      became = λ m l h room. batch-rejects (a .head .now) (a .nodes .now) (a .pairs .now) (a .collections .now) (a .bindings .now) (a .availability .now) (a .entries .now) (limits .result) (state .result) (limits .ensures) (state .ensures) m l h _ _ _ _ _ _ _ _ _ _ _ _ (gate ∙ checked .0 m (seen (a .head .now) (a .nodes .now) (a .pairs .now) (a .collections .now) (a .bindings .now) (a .availability .now) (a .entries .now) (limits .result) (state .result) (limits .ensures) (state .ensures) m l h)) answer;
+      kept = λ n. (refl, (refl, (refl, (refl, refl))));
+      row = row-told (a .head .now) (a .nodes .now) (a .pairs .now) (a .collections .now) (a .bindings .now) (a .availability .now) (a .entries .now) (limits .result) (state .result) (limits .ensures) (state .ensures) _ _ (rejectedRow _ _ (ap counted gate ∙ checked .1 .0) answer);
+      preflight = preflight-told (a .head .now) (a .nodes .now) (a .pairs .now) (a .collections .now) (a .bindings .now) (a .availability .now) (a .entries .now) (limits .result) (state .result) (limits .ensures) (state .ensures) _ _ (λ f n h. answer ∙ same-rejection _ _ (gate ∙ checked .1 .1 f n h));
+    }
+
+enum-told : tie.Need-enum-told
+enum-told c = search needs
+
+is-empty-requires : tie.Need-is-empty-requires
+is-empty-requires c κs = search needs
+
+unchanged-requires : tie.Need-unchanged-requires
+unchanged-requires c κs = search needs
+
+returns-2 : tie.Need-returns-2
+unfolding gateOf
+returns-2 c =
+    let a = c .before .before .before .before .before .before .before .before .before .before .before .before .before .before .before .before .before .before .before .before .before .before .args in
+    let limits = c .before .before .before .before .before .before .before .before .limits-in in
+    let state = c .before .before .before .before .before .before .before .state-in in
+    let checked = c .before .before .before .before .before .check-batch .ensures in
+    let gate = ap gateOf (sym (c .before .before .before .enum-told .given .1)) in
+    let answer = c .unchanged .ensures in
+    let none = eqb-true _ 0 (sym (c .before .before .is-empty .ensures) ∙ c .before .if1 .taken) in
+    record {
+      became = λ m l h room. batch-commits (a .head .now) (a .nodes .now) (a .pairs .now) (a .collections .now) (a .bindings .now) (a .availability .now) (a .entries .now) (limits .result) (state .result) (limits .ensures) (state .ensures) m l h _ _ _ _ _ _ _ _ _ _ (gate ∙ checked .0 m (seen (a .head .now) (a .nodes .now) (a .pairs .now) (a .collections .now) (a .bindings .now) (a .availability .now) (a .entries .now) (limits .result) (state .result) (limits .ensures) (state .ensures) m l h)) (λ ps reads count. commits-none (a .head .now) (a .nodes .now) (a .pairs .now) (a .collections .now) (a .bindings .now) (a .availability .now) (a .entries .now) (limits .result) (state .result) (limits .ensures) (state .ensures) m l h _ _ _ _ _ _ _ ps answer none count);
+      kept = λ n. (refl, (refl, (refl, (refl, refl))));
+      row = row-told (a .head .now) (a .nodes .now) (a .pairs .now) (a .collections .now) (a .bindings .now) (a .availability .now) (a .entries .now) (limits .result) (state .result) (limits .ensures) (state .ensures) _ _ (unchangedRow answer);
+      preflight = preflight-told (a .head .now) (a .nodes .now) (a .pairs .now) (a .collections .now) (a .bindings .now) (a .availability .now) (a .entries .now) (limits .result) (state .result) (limits .ensures) (state .ensures) _ _ (λ f n h. never-passes (sym (gate ∙ checked .1 .1 f n h)));
+    }
+
+commit-requires : tie.Need-commit-requires
+commit-requires c κs = c .before .before .before .before .before .before .before .before .before .before .before .before .before .before .before .before .before .before .before .before .before .before .before .before .before .before .pre
+
+concluded-requires : tie.Need-concluded-requires
+concluded-requires c κs = search needs
+
+same-length : tie.Need-same-length
+same-length c = search needs
+
+same-length-2 : tie.Need-same-length-2
+same-length-2 c = search needs
+
+same-length-3 : tie.Need-same-length-3
+same-length-3 c = search needs
+
+same-length-4 : tie.Need-same-length-4
+same-length-4 c = search needs
+
+same-length-5 : tie.Need-same-length-5
+same-length-5 c = search needs
+
+returns-3 : tie.Need-returns-3
+unfolding gateOf candidate
+returns-3 c =
+    let a = c .before .before .before .before .before .before .before .before .before .before .before .before .before .before .before .before .before .before .before .before .before .before .before .before .before .before .before .before .before .before .before .before .before .before .before .before .before .before .args in
+    let limits = c .before .before .before .before .before .before .before .before .before .before .before .before .before .before .before .before .before .before .before .before .before .before .before .before .limits-in in
+    let state = c .before .before .before .before .before .before .before .before .before .before .before .before .before .before .before .before .before .before .before .before .before .before .before .state-in in
+    let checked = c .before .before .before .before .before .before .before .before .before .before .before .before .before .before .before .before .before .before .before .before .before .check-batch .ensures in
+    let gate = ap gateOf (sym (c .before .before .before .before .before .before .before .before .before .before .before .before .before .before .before .before .before .before .before .enum-told .given .1)) in
+    let call = c .before .before .before .before .before .before .before .before .before .before .before .commit in
+    let answer = c .concluded .ensures in
+    let some : (a .envelope .«patch_count» ≡ 0 → ⊥) = λ none. false≢true (sym (sym (c .before .before .before .before .before .before .before .before .before .before .before .before .before .before .before .before .before .before .is-empty .ensures) ∙ c .before .before .before .before .before .before .before .before .before .before .before .before .before .before .before .before .before .if1 .left) ∙ eq-eqb _ 0 none) in
+    record {
+      became = λ m l h room. batch-commits (a .head .now) (a .nodes .now) (a .pairs .now) (a .collections .now) (a .bindings .now) (a .availability .now) (a .entries .now) (limits .result) (state .result) (limits .ensures) (state .ensures) m l h _ _ _ _ _ _ _ _ _ _ (gate ∙ checked .0 m (seen (a .head .now) (a .nodes .now) (a .pairs .now) (a .collections .now) (a .bindings .now) (a .availability .now) (a .entries .now) (limits .result) (state .result) (limits .ensures) (state .ensures) m l h)) (λ ps reads count. commits (a .head .now) (a .nodes .now) (a .pairs .now) (a .collections .now) (a .bindings .now) (a .availability .now) (a .entries .now) (limits .result) (state .result) (limits .ensures) (state .ensures) m l h _ _ _ _ _ _ _ ps (call .result) some (call .ensures .0 (m .projection) ps (held-tables m h) reads room) answer);
+      kept = kept-change (call .result) _ _ _ _ _ _ _ _ _ _ _ _ _ (c .concluded .result) (call .ensures .1) answer;
+      row = row-told (a .head .now) (a .nodes .now) (a .pairs .now) (a .collections .now) (a .bindings .now) (a .availability .now) (a .entries .now) (limits .result) (state .result) (limits .ensures) (state .ensures) _ _ (change-row _ _ _ _ (call .result) answer);
+      preflight = preflight-told (a .head .now) (a .nodes .now) (a .pairs .now) (a .collections .now) (a .bindings .now) (a .availability .now) (a .entries .now) (limits .result) (state .result) (limits .ensures) (state .ensures) _ _ (λ f n h. never-passes (sym (gate ∙ checked .1 .1 f n h)));
+    }
+
+pub apply-shaped-spec : {M : Type 1} → statement M
+apply-shaped-spec =
+    tie.close
+    (tie.spec
+    limits-in-requires
+    state-in-requires
+    check-batch-requires
+    enum-known-gate
+    rejected-requires
+    returns
+    enum-told
+    is-empty-requires
+    unchanged-requires
+    returns-2
+    commit-requires
+    concluded-requires
+    same-length
+    same-length-2
+    same-length-3
+    same-length-4
+    same-length-5
+    returns-3)

@@ -1,0 +1,140 @@
+-- `commit` meets its contract: the head is written where the tables were.
+use Prim.Native.Nat.{ℕ}
+use mathlib.Core.Path.{_≡_, sym, subst}
+use mathlib.Core.List.{List, [], _∷_}
+use mathlib.Core.Logic.{inl, inr}
+use denote.Enum.Declared.{tagOf}
+use types.Run.{OneOf}
+use native.Mathlib.Omega.{arith}
+use Rattle.spec_projection.specs.Projection.{Projection}
+use Rattle.spec_projection.specs.Apply.{replaySteps, applySteps}
+use Rattle.session_lent.specs.Head.{movedHead}
+use Rattle.local_projection_state.specs.Stores.{StoredTables}
+use Rattle.local_projection_state.specs.declared.ProjectionCounts.{ProjectionCounts}
+use Rattle.panel_changes.proofs.SetChange as set-change
+use Rattle.panel_changes.specs.SetChanges.{Ready, StoredAfter}
+use Rattle.panel_changes.specs.declared.SetChange.{SetChange}
+use Rattle.panel_changes.specs.declared.SetChange.the-variants.{Applied, Refused, Unreadable, BadTables}
+use Rattle.session_steps.specs.Answers.{Stopped}
+use Rattle.session_lent.specs.BatchesLaws.{stopped-became, stopped-kept, applied-became}
+use borrow.Author.Needs.{needs}
+use Rattle.session_lent.proofs.batch.commit.Statement.{statement}
+use Rattle.session_lent.proofs.batch.commit.Tie as tie
+use Rattle.session_lent.proofs.batch.commit.Reads as reads
+use Rattle.session_lent.proofs.batch.commit.Lts as lts
+use Rattle.panel_changes.proofs.apply_set.Reads as apply-set-reads
+use Rattle.session_lent.proofs.head.counts_in.Reads as counts-in-reads
+use Rattle.session_lent.proofs.head.store_moved.Reads as store-moved-reads
+
+-- a change of another variant than Applied
+other : (r : SetChange) → OneOf (1 ∷ 2 ∷ 3 ∷ []) (tagOf set-change.the-type r) → Stopped r
+other (Applied n) (inl e) = absurd (omega arith)
+other (Applied n) (inr (inl e)) = absurd (omega arith)
+other (Applied n) (inr (inr e)) = absurd (omega arith)
+other (Refused e) k = tt
+other (Unreadable f) k = tt
+other BadTables k = tt
+
+stored : {b a e : List ℕ} {p : Projection} {k : ProjectionCounts} (n : ProjectionCounts) → n ≡ k → StoredTables k b a e p → StoredTables n b a e p
+stored {b = b} {a = a} {e = e} {p = p} n is = subst (λ (x : ProjectionCounts). StoredTables x b a e p) (sym is)
+
+ready : {b a e l : List ℕ} {k : ProjectionCounts} (n : ProjectionCounts) → n ≡ k → Ready k b a e l → Ready n b a e l
+ready {b = b} {a = a} {e = e} {l = l} n is = subst (λ (x : ProjectionCounts). Ready x b a e l) (sym is)
+
+counts-in-requires : tie.Need-counts-in-requires
+counts-in-requires c κs = search needs
+
+counts-in-requires-2 : tie.Need-counts-in-requires-2
+counts-in-requires-2 c κs = search needs
+
+apply-set-requires : tie.Need-apply-set-requires
+apply-set-requires c κs = search needs
+
+enum-known-change : tie.Need-enum-known-change
+enum-known-change c = search needs
+
+same-length : tie.Need-same-length
+same-length c = search needs
+
+same-length-2 : tie.Need-same-length-2
+same-length-2 c = search needs
+
+same-length-3 : tie.Need-same-length-3
+same-length-3 c = search needs
+
+same-length-4 : tie.Need-same-length-4
+same-length-4 c = search needs
+
+same-length-5 : tie.Need-same-length-5
+same-length-5 c = search needs
+
+returns : tie.Need-returns
+returns c =
+    let a = c .before .before .before .before .before .before .before .before .before .before .before .before .before .before .before .before .before .before .before .before .before .before .before .before .before .before .before .args in
+    let call = c .before .before .before .before .before .before .before .before .before .apply-set in
+    let b = call .last .1 .1 .1 .1 .1 .1 .0 in
+    let v = call .last .1 .1 .1 .1 .1 .1 .1 .0 in
+    let e = call .last .1 .1 .1 .1 .1 .1 .1 .1 .0 in
+    let l = call .last .1 .1 .1 .1 .1 .1 .1 .1 .1 .0 in
+    let stop = other (call .result) (c .match .keys2) in (
+      λ p ps st reads room.
+          stopped-became (λ n q. StoredAfter n b v e l q) (λ n q. (a .to-head .now ≡ movedHead (a .head .now) (a .sequence-no) n) × StoredAfter n b v e l q) (call .result) (applySteps p (replaySteps ps)) stop
+          (call .ensures .0 p ps (stored _ (c .before .before .before .before .before .before .before .before .before .before .before .before .before .before .before .before .counts-in .ensures) st) reads (ready _ (c .before .before .before .before .before .before .before .before .before .before .before .before .before .before .counts-in2 .ensures) (room .tables))),
+      stopped-kept (call .result) (a .to-head .now) (a .to-bindings .now) (a .to-availability .now) (a .to-entries .now) (a .to-lengths .now) b v e l stop (call .ensures .1),
+    )
+
+store-moved-requires : tie.Need-store-moved-requires
+store-moved-requires c κs = c .before .before .before .before .before .before .before .before .before .before .before .before .before .before .before .before .before .before .before .before .before .before .before .before .before .before .before .before .before .before .pre
+
+same-length-6 : tie.Need-same-length-6
+same-length-6 c = search needs
+
+same-length-7 : tie.Need-same-length-7
+same-length-7 c = search needs
+
+same-length-8 : tie.Need-same-length-8
+same-length-8 c = search needs
+
+same-length-9 : tie.Need-same-length-9
+same-length-9 c = search needs
+
+same-length-10 : tie.Need-same-length-10
+same-length-10 c = search needs
+
+returns-2 : tie.Need-returns-2
+returns-2 c =
+    let a = c .before .before .before .before .before .before .before .before .before .before .before .before .before .before .before .before .before .before .before .before .before .before .before .before .before .before .before .before .before .before .before .before .before .args in
+    let call = c .before .before .before .before .before .before .before .before .before .before .before .before .before .before .before .apply-set in
+    let b = call .last .1 .1 .1 .1 .1 .1 .0 in
+    let v = call .last .1 .1 .1 .1 .1 .1 .1 .0 in
+    let e = call .last .1 .1 .1 .1 .1 .1 .1 .1 .0 in
+    let l = call .last .1 .1 .1 .1 .1 .1 .1 .1 .1 .0 in
+    let h = c .before .before .store-moved .last .1 .1 .1 .0 in
+    let bound = c .before .before .before .before .before .change .given in (
+      λ p ps st reads room.
+          applied-became (λ n q. StoredAfter n b v e l q) (λ n. h ≡ movedHead (a .head .now) (a .sequence-no) n) (call .result) (bound .0 .0) (applySteps p (replaySteps ps)) (bound .1) (c .before .before .store-moved .ensures)
+          (call .ensures .0 p ps (stored _ (c .before .before .before .before .before .before .before .before .before .before .before .before .before .before .before .before .before .before .before .before .before .before .counts-in .ensures) st) reads (ready _ (c .before .before .before .before .before .before .before .before .before .before .before .before .before .before .before .before .before .before .before .before .counts-in2 .ensures) (room .tables))),
+      tt,
+    )
+
+pub commit-spec : {M : Type 1} → statement M
+commit-spec =
+    tie.close
+    (tie.spec
+    counts-in-requires
+    counts-in-requires-2
+    apply-set-requires
+    enum-known-change
+    same-length
+    same-length-2
+    same-length-3
+    same-length-4
+    same-length-5
+    returns
+    store-moved-requires
+    same-length-6
+    same-length-7
+    same-length-8
+    same-length-9
+    same-length-10
+    returns-2)

@@ -1,0 +1,66 @@
+-- `store_new` meets its contract: every number is written.
+use native.Mathlib.Omega.{arith}
+use lib.ListN.{length-set}
+use Rattle.session_lent.specs.HeadLaws.{all-written}
+use borrow.Author.Needs.{needs}
+use Rattle.session_lent.proofs.head.store_new.Statement.{statement}
+use Rattle.session_lent.proofs.head.store_new.Tie as tie
+use Rattle.session_lent.proofs.head.store_new.Reads as reads
+use Rattle.session_lent.proofs.head.store_new.Lts as lts
+
+slice-write-head : tie.Need-slice-write-head
+slice-write-head c = search needs
+
+slice-write-head-2 : tie.Need-slice-write-head-2
+slice-write-head-2 c = search needs
+
+slice-write-head-3 : tie.Need-slice-write-head-3
+slice-write-head-3 c = search needs
+
+slice-write-head-4 : tie.Need-slice-write-head-4
+slice-write-head-4 c = search needs
+
+slice-write-head-5 : tie.Need-slice-write-head-5
+slice-write-head-5 c = simp length-set (omega arith)
+
+slice-write-head-6 : tie.Need-slice-write-head-6
+slice-write-head-6 c = simp length-set (omega arith)
+
+slice-write-head-7 : tie.Need-slice-write-head-7
+slice-write-head-7 c = simp length-set (omega arith)
+
+slice-write-head-8 : tie.Need-slice-write-head-8
+slice-write-head-8 c = simp length-set (omega arith)
+
+slice-write-head-9 : tie.Need-slice-write-head-9
+slice-write-head-9 c = simp length-set (omega arith)
+
+slice-write-head-10 : tie.Need-slice-write-head-10
+slice-write-head-10 c = simp length-set (omega arith)
+
+slice-write-head-11 : tie.Need-slice-write-head-11
+slice-write-head-11 c = simp length-set (omega arith)
+
+same-length : tie.Need-same-length
+same-length c = search needs
+
+returns : tie.Need-returns
+returns c = all-written (c .args .head .now) _ _ _ _ _ _ _ _ _ _ _ (c .pre)
+
+pub store-new-spec : {M : Type 1} → statement M
+store-new-spec =
+    tie.close
+    (tie.spec
+    slice-write-head
+    slice-write-head-2
+    slice-write-head-3
+    slice-write-head-4
+    slice-write-head-5
+    slice-write-head-6
+    slice-write-head-7
+    slice-write-head-8
+    slice-write-head-9
+    slice-write-head-10
+    slice-write-head-11
+    same-length
+    returns)

@@ -1,0 +1,46 @@
+-- `half_shaped` meets its contract: the head, then the tables, then the counts.
+use mathlib.Core.Path.{refl, sym, ap, _∙_}
+use borrow.Author.Tests.{eq-eqb, ne-eqb}
+use Rattle.panel_changes.specs.SetChanges.{countsFit}
+use Rattle.session_lent.specs.Head.{headNumbers}
+use Rattle.session_lent.specs.LentSession.{halfShaped}
+use borrow.Author.Needs.{needs}
+use Rattle.session_lent.proofs.shape.half_shaped.Statement.{statement}
+use Rattle.session_lent.proofs.shape.half_shaped.Tie as tie
+use Rattle.session_lent.proofs.shape.half_shaped.Reads as reads
+use Rattle.session_lent.proofs.shape.half_shaped.Lts as lts
+use Rattle.panel_changes.proofs.counts_fit.Reads as counts-fit-reads
+use Rattle.panel_changes.proofs.tables_fit.Reads as tables-fit-reads
+use Rattle.session_lent.proofs.head.counts_in.Reads as counts-in-reads
+
+returns : tie.Need-returns
+unfolding halfShaped
+returns c = rw (ne-eqb _ headNumbers (c .if1 .taken)) refl
+
+tables-fit-requires : tie.Need-tables-fit-requires
+tables-fit-requires c κs = search needs
+
+counts-in-requires : tie.Need-counts-in-requires
+counts-in-requires c κs = search needs
+
+counts-fit-requires : tie.Need-counts-fit-requires
+counts-fit-requires c κs = search needs
+
+returns-2 : tie.Need-returns-2
+unfolding halfShaped
+returns-2 c = c .counts-fit .ensures ∙ ap countsFit (c .before .counts-in .ensures) ∙ sym (rw (eq-eqb _ headNumbers (c .before .before .before .before .if1 .left), sym (c .before .before .before .tables-fit .ensures) ∙ c .before .before .if2 .taken) refl)
+
+returns-3 : tie.Need-returns-3
+unfolding halfShaped
+returns-3 c = sym (rw (eq-eqb _ headNumbers (c .before .before .if1 .left), sym (c .before .tables-fit .ensures) ∙ c .if2 .left) refl)
+
+pub half-shaped-spec : {M : Type 1} → statement M
+half-shaped-spec =
+    tie.close
+    (tie.spec
+    returns
+    tables-fit-requires
+    counts-in-requires
+    counts-fit-requires
+    returns-2
+    returns-3)

@@ -1,0 +1,38 @@
+-- What it is that lent slices hold a session of the model: every number of the head and every byte of the tables. The anchors stay with the caller,
+-- who lends them at each call as they were at creation.
+use Prim.Native.Nat.{ℕ, _*_, _%_}
+use mathlib.Core.Path.{_≡_}
+use mathlib.Core.Bool.{Bool, _&&_}
+use mathlib.Core.List.{List}
+use lib.Dec.{leb, eqb}
+use lib.ListN.{length}
+use Rattle.spec_patch.specs.Sizes.{anchors}
+use Rattle.spec_session.specs.Session.{Session}
+use Rattle.spec_session.specs.ValidSession.{FewAnchors}
+use Rattle.spec_lengths.specs.Lengths.{collectionLengths}
+use Rattle.session_gates.specs.Lent.{Lent}
+use Rattle.local_projection_state.specs.Stores.{StoredTables, StoredLengths, countsOf}
+use Rattle.panel_changes.specs.SetChanges.{tablesFit, countsFit, Ready}
+use Rattle.session_lent.specs.Head.{headNumbers, countsAt, headOf}
+
+pub record LentSession (head nodes pairs collections bindings availability entries lengths : List ℕ) (m : Session) : Type 0 where
+  pub head-is : head ≡ headOf m
+  pub anchors-are : Lent (m .catalogue) nodes pairs collections
+  pub few : FewAnchors (m .catalogue)
+  pub projection : StoredTables (countsOf (m .projection)) bindings availability entries (m .projection)
+  pub collections-told : StoredLengths lengths (collectionLengths (m .projection))
+
+-- ---- slices that can hold a session
+
+-- so many numbers are anchors: at most 128 of each kind, and two numbers for each binding
+unfoldable pub anchorsShaped : (nodes pairs collections : ℕ) → Bool
+anchorsShaped nodes pairs collections = leb nodes anchors && (leb pairs (2 * anchors) && (eqb (pairs % 2) 0 && leb collections anchors))
+
+-- a head, and tables of these lengths: no count is over its capacity
+unfoldable pub halfShaped : List ℕ → (bindings availability entries : ℕ) → Bool
+halfShaped head bindings availability entries = eqb (length head) headNumbers && (tablesFit bindings availability entries && countsFit (countsAt head))
+
+-- the half that a batch writes to: as creation or an earlier call left it, so that nothing stands behind the rows that its head counts
+pub record LentRoom (head bindings availability entries lengths : List ℕ) : Type 0 where
+  pub head-long : length head ≡ headNumbers
+  pub tables : Ready (countsAt head) bindings availability entries lengths
