@@ -1,0 +1,16 @@
+pub mod ReadingRule
+pub mod Locate
+pub mod LocateLaws
+pub mod SteadyLaws
+pub mod SteadySetLaws
+pub mod FirstByte
+pub mod FirstByteLaws
+pub mod OperationRule
+pub mod OperationRuleLaws
+pub mod Walk
+pub mod WalkLaws
+pub mod Reason
+pub mod Explain
+pub mod Claim
+pub mod ExplainLaws
+pub mod CapLaws
