@@ -1,7 +1,7 @@
 -- What each reason says of the session and of the batch's arguments, as a statement; `told` of ExplainLaws proves it of every reason that is given.
 use Prim.Native.Nat.{ℕ, _≤_, _<_}
 use mathlib.Core.Path.{_≡_}
-use mathlib.Core.Bool.{true, false}
+use mathlib.Core.Bool.{false}
 use mathlib.Core.List.{List, _∷_}
 use mathlib.Core.Option.{some}
 use lib.ListN.{length}
@@ -11,24 +11,16 @@ use Rattle.spec_patch.specs.Read.{patches, readSet}
 use Rattle.spec_checks.specs.Finding.{Finding}
 use Rattle.spec_checks.specs.Findings.{findings}
 use Rattle.spec_projection.specs.Projection.{Projection}
-use Rattle.spec_projection.specs.Effects.{targetOf}
 use Rattle.spec_projection.specs.Apply.{done, stopped, applyOperation, applySteps, operationsOf}
-use Rattle.spec_session.specs.Session.{Catalogue, Session, closed}
-use Rattle.spec_session.specs.Batch.{BatchEnvelope, inCatalogue, absentTargets, takesNumber}
+use Rattle.spec_session.specs.Session.{Session, closed}
+use Rattle.spec_session.specs.Batch.{BatchEnvelope, absentTargets, takesNumber}
 use Rattle.spec_explain.specs.ReadingRule.{Unread}
 use Rattle.spec_explain.specs.Locate.{locate}
 use Rattle.spec_explain.specs.FirstByte.{FirstByte}
 use Rattle.spec_explain.specs.OperationRule.{OperationRule, operationFault, Breaks}
-use Rattle.spec_explain.specs.Walk.{At, patchId, stepsBefore, operationsBefore}
+use Rattle.spec_explain.specs.Walk.{At, patchId, stepsBefore, FirstLacking}
 use Rattle.spec_explain.specs.Reason.{patchLimit, byteLimit, bothLimits, Reason, foreignSession, sessionClosed, declaredLimits, unreadable, hasFindings, countsDiffer, referencesOver, unknownTarget, cursorMismatch, operationFails}
-use Rattle.spec_explain.specs.Explain.{numberAfter}
-
--- the first operation whose target the catalogue lacks
-pub record FirstUnknown (c : Catalogue) (ps : List Patch) (i j : ℕ) : Type 0 where
-  pub operation : Operation
-  pub there : At ps i j operation
-  pub known : absentTargets c (operationsBefore there) ≡ 0
-  pub absent : inCatalogue c (targetOf operation) ≡ false
+use Rattle.spec_explain.specs.Explain.{targetKnown, numberAfter}
 
 -- the first operation that fails: those before it apply, and it does not, by this rule
 pub record FirstFailing (p : Projection) (ps : List Patch) (i j : ℕ) (rule : OperationRule) : Type 0 where
@@ -61,7 +53,7 @@ module _ (ed : Edition) (s : Session) (e : BatchEnvelope) (references : ℕ) (se
     -- step 6
     manyReferences : (ps : List Patch) → readSet ed set ≡ patches ps → s .limits .references < length (operationsOf ps) → Says (referencesOver (length (operationsOf ps)) (s .limits .references))
     -- step 7: so many, and the first of them
-    unknown : (ps : List Patch) → readSet ed set ≡ patches ps → (i j : ℕ) → FirstUnknown (s .catalogue) ps i j → Says (unknownTarget (absentTargets (s .catalogue) (operationsOf ps)) i j)
+    unknown : (ps : List Patch) → readSet ed set ≡ patches ps → (i j : ℕ) → FirstLacking (targetKnown (s .catalogue)) ps i j → Says (unknownTarget (absentTargets (s .catalogue) (operationsOf ps)) i j)
     -- step 8: there are patches, and the cursor does not take the number
     notTaken : (e .patches ≡ 0 → ⊥) → takesNumber (s .cursor) (e .sequence) ≡ false → Says (cursorMismatch (numberAfter (s .cursor)))
     -- step 9

@@ -21,7 +21,7 @@ use Rattle.spec_session.specs.Batch.{BatchEnvelope, inCatalogue, absentTargets,
 use Rattle.spec_explain.specs.ReadingRule.{Unread}
 use Rattle.spec_explain.specs.Locate.{locate}
 use Rattle.spec_explain.specs.OperationRule.{ruleOf}
-use Rattle.spec_explain.specs.Walk.{Halt, Walk, through, halted, walkPatches}
+use Rattle.spec_explain.specs.Walk.{Halt, Walk, through, halted, walkPatches, tested}
 use Rattle.spec_explain.specs.Reason.{Limit, patchLimit, byteLimit, bothLimits, Reason, foreignSession, sessionClosed, declaredLimits, unreadable, hasFindings, countsDiffer, referencesOver, unknownTarget, cursorMismatch, operationFails, reasonNumber}
 
 -- ---- steps, of which the first that is refused gives the reason
@@ -71,9 +71,9 @@ unfoldable pub noFindings : Place → List Finding → Explained (Unit {0})
 noFindings place [] = fine tt
 noFindings place (f ∷ fs) = because (hasFindings place (length (f ∷ fs)) f)
 
--- step 7: an operation whose target is known lets the walk go on
-unfoldable pub targetStep : Catalogue → Unit {0} → ℕ → Operation → Option (Unit {0})
-targetStep c u id o = if inCatalogue c (targetOf o) then some tt else none
+-- step 7: the operation's target is in the catalogue
+unfoldable pub targetKnown : Catalogue → Operation → Bool
+targetKnown c o = inCatalogue c (targetOf o)
 
 unfoldable pub knownTargets : ℕ → Walk (Unit {0}) → Explained (Unit {0})
 knownTargets absent (through u) = fine tt
@@ -107,7 +107,7 @@ explainSteps ed s e references set = do
   noFindings (findings ps .place) (findings ps .found)
   require (eqb (e .patches) (length ps) && eqb references (length (operationsOf ps))) (countsDiffer (e .patches) (length ps) references (length (operationsOf ps)))
   require (leb (length (operationsOf ps)) (s .limits .references)) (referencesOver (length (operationsOf ps)) (s .limits .references))
-  knownTargets (absentTargets (s .catalogue) (operationsOf ps)) (walkPatches (targetStep (s .catalogue)) 0 tt ps)
+  knownTargets (absentTargets (s .catalogue) (operationsOf ps)) (walkPatches (tested (targetKnown (s .catalogue))) 0 tt ps)
   require (eqb (e .patches) 0 || takesNumber (s .cursor) (e .sequence)) (cursorMismatch (numberAfter (s .cursor)))
   applies (walkPatches applyStep 0 (s .projection) ps)
 

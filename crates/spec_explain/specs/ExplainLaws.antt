@@ -9,8 +9,8 @@ use native.Mathlib.Omega.{arith}
 use borrow.Author.Tests.{leb-true, leb-false, eqb-true, eqb-false, ne-eqb, eq-eqb}
 use lib.Dec.{leb, ltb, eqb}
 use lib.ListN.{length}
-use Rattle.spec_lists.specs.Lists.{if_then_else_, isEmpty}
-use Rattle.spec_lists.specs.ListLaws.{test-cases, or-left, or-right}
+use Rattle.spec_lists.specs.Lists.{if_then_else_, all, isEmpty}
+use Rattle.spec_lists.specs.ListLaws.{test-cases, and-left, and-right, or-left, or-right}
 use Rattle.spec_patch.specs.Patch.{Operation, Patch}
 use Rattle.spec_patch.specs.Edition.{Edition}
 use Rattle.spec_patch.specs.Reader.{Fault}
@@ -19,9 +19,9 @@ use Rattle.spec_checks.specs.Finding.{Finding}
 use Rattle.spec_checks.specs.Findings.{Place, findings}
 use Rattle.spec_projection.specs.Projection.{Projection}
 use Rattle.spec_projection.specs.Effects.{targetOf}
-use Rattle.spec_projection.specs.Apply.{OperationFault, Outcome, done, stopped, ReplayStep, stepOperations, applyOperation, applySteps, andThen, replaySteps, operationsOf}
+use Rattle.spec_projection.specs.Apply.{OperationFault, Outcome, done, stopped, ReplayStep, applyOperation, applySteps, andThen, replaySteps, operationsOf}
 use Rattle.spec_projection.specs.Apply as applying
-use Rattle.spec_projection.specs.ApplyLaws.{replaySteps-operations, Failure, fails-there}
+use Rattle.spec_projection.specs.ApplyLaws.{fails-there}
 use Rattle.spec_session.specs.Session.{Lifecycle, created, active, suspended, closed, Catalogue, Limits, Session}
 use Rattle.spec_session.specs.Diagnostics as session
 use Rattle.spec_session.specs.Diagnostics.{SessionRefusal, sessionNumber, ofReading, ofOperation, diagnosticsOf, noDiagnostics}
@@ -35,48 +35,28 @@ use Rattle.spec_explain.specs.LocateLaws.{Agrees, reads, stops, locate-a
 use Rattle.spec_explain.specs.FirstByteLaws.{first-byte}
 use Rattle.spec_explain.specs.OperationRule.{OperationRule, operationFault, ruleOf}
 use Rattle.spec_explain.specs.OperationRuleLaws.{rule-told}
-use Rattle.spec_explain.specs.Walk.{Halt, Walk, through, halted, walkPatches, onward, At, patchId, stepsBefore, operationsBefore, runs, First}
-use Rattle.spec_explain.specs.WalkLaws.{walk-through, walk-first, steps-parted, operations-parted, operations-before}
+use Rattle.spec_explain.specs.Walk.{Halt, Walk, through, halted, walkPatches, onward, tested, patchId, stepsBefore, operationsBefore, runs, FirstLacking}
+use Rattle.spec_explain.specs.WalkLaws.{walk-through, walk-first, steps-parted, operations-parted, test-through, test-first}
 use Rattle.spec_explain.specs.Reason.{Limit, Reason, foreignSession, sessionClosed, declaredLimits, unreadable, hasFindings, countsDiffer, referencesOver, unknownTarget, cursorMismatch, operationFails, refusalOf, reasonNumber, logicalOf}
-use Rattle.spec_explain.specs.Explain.{Explained, fine, because, _>>=_, _>>_, require, whichLimit, overDeclared, patchesOf, readable, noFindings, targetStep, knownTargets, numberAfter, kept, applyStep, applies, explainSteps, reasonOf, explainBatch, Explanation, noReason, withheld, given, underCap, explanationNumber, explain}
-use Rattle.spec_explain.specs.Claim.{FirstUnknown, FirstFailing, Says}
+use Rattle.spec_explain.specs.Explain.{Explained, fine, because, _>>=_, _>>_, require, whichLimit, overDeclared, patchesOf, readable, noFindings, targetKnown, knownTargets, numberAfter, kept, applyStep, applies, explainSteps, reasonOf, explainBatch, Explanation, noReason, withheld, given, underCap, explanationNumber, explain}
+use Rattle.spec_explain.specs.Claim.{FirstFailing, Says}
 
 -- ---- targets
 
 module _ (c : Catalogue) where
-  target-absent : (id : ℕ) (o : Operation) → targetStep c tt id o ≡ none → inCatalogue c (targetOf o) ≡ false
-  unfolding targetStep
-  target-absent id o e = test-cases (inCatalogue c (targetOf o)) (λ t. absurd (let z : _≡_ {A = ℕ} 0 1 = cc (rw t at e) in omega arith)) (λ t. t)
-
-  -- steps that go through have no absent target
-  all-known : (ss : List ReplayStep) → runs (targetStep c) tt ss ≡ some tt → absentTargets c (stepOperations ss) ≡ 0
-  unfolding runs targetStep absentTargets
-  all-known [] e = refl
-  all-known (r ∷ ss) e = test-cases (inCatalogue c (targetOf (r .operation)))
-      (λ t. rw t (omega (arith, all-known ss (rw t at e))))
-      (λ t. absurd (let z : _≡_ {A = ℕ} 0 1 = cc (rw t at e) in omega arith))
+  -- no target is absent where all are known
+  none-absent : (os : List Operation) → all (targetKnown c) os ≡ true → absentTargets c os ≡ 0
+  unfolding absentTargets targetKnown
+  none-absent [] e = refl
+  none-absent (o ∷ os) e = rw (and-left (inCatalogue c (targetOf o)) _ e) (omega (arith, none-absent os (and-right (inCatalogue c (targetOf o)) _ e)))
 
   -- a list with an absent target counts it
-  counts-absent : (a : List Operation) (o : Operation) (b : List Operation) → inCatalogue c (targetOf o) ≡ false → absentTargets c (a ++ (o ∷ b)) ≡ 0 → ⊥
-  unfolding absentTargets
-  counts-absent a o b e z = let counted = absent-append c a (o ∷ b) in let one : absentTargets c (o ∷ b) ≡ 1 + absentTargets c b = rw e in omega (arith, counted, one)
-
-  -- the first that is unknown, and how many there are
-  known-through : (ps : List Patch) (u : Unit {0}) → walkPatches (targetStep c) 0 tt ps ≡ through u → absentTargets c (operationsOf ps) ≡ 0
-  known-through ps u e = ap (absentTargets c) (sym (replaySteps-operations ps)) ∙ all-known (replaySteps ps) (walk-through (targetStep c) 0 tt ps u e)
-
-  first-unknown : (ps : List Patch) (h : Halt (Unit {0})) → walkPatches (targetStep c) 0 tt ps ≡ halted h → FirstUnknown c ps (h .patch) (h .operation)
-  first-unknown ps h e =
-      let f = walk-first (targetStep c) tt ps h e in
-      record {
-        operation = h .refused;
-        there = f .there;
-        known = ap (absentTargets c) (sym (operations-before (f .there))) ∙ all-known (stepsBefore (f .there)) (f .ran);
-        absent = target-absent (patchId (f .there)) (h .refused) (f .ends);
-      }
-
-  some-absent : (ps : List Patch) (i j : ℕ) → FirstUnknown c ps i j → absentTargets c (operationsOf ps) ≡ 0 → ⊥
-  some-absent ps i j f z = counts-absent (operationsBefore (f .there)) (f .operation) _ (f .absent) (ap (absentTargets c) (sym (operations-parted (f .there))) ∙ z)
+  some-absent : (ps : List Patch) (i j : ℕ) → FirstLacking (targetKnown c) ps i j → absentTargets c (operationsOf ps) ≡ 0 → ⊥
+  unfolding absentTargets targetKnown
+  some-absent ps i j f z =
+      let behind = f .there .behind ++ operationsOf (f .there .later) in
+      let one : absentTargets c (f .operation ∷ behind) ≡ 1 + absentTargets c behind = rw (f .lacks) in
+      omega (arith, absent-append c (operationsBefore (f .there)) (f .operation ∷ behind), one, ap (absentTargets c) (sym (operations-parted (f .there))) ∙ z)
 
 -- ---- operations
 
@@ -100,10 +80,10 @@ runs-applied p (r ∷ ss) = go (applyOperation p (r .patch) (r .operation)) (λ 
     go (done q) later = later q
     go (stopped f) later = refl
 
-all-applied : (p : Projection) (ps : List Patch) (q : Projection) → walkPatches applyStep 0 p ps ≡ through q → applySteps p (replaySteps ps) ≡ done q
+pub all-applied : (p : Projection) (ps : List Patch) (q : Projection) → walkPatches applyStep 0 p ps ≡ through q → applySteps p (replaySteps ps) ≡ done q
 all-applied p ps q e = kept-some _ q (sym (runs-applied p (replaySteps ps)) ∙ walk-through applyStep 0 p ps q e)
 
-first-failing : (p : Projection) (ps : List Patch) (h : Halt Projection) → walkPatches applyStep 0 p ps ≡ halted h → FirstFailing p ps (h .patch) (h .operation) (ruleOf (h .left) (h .refused))
+pub first-failing : (p : Projection) (ps : List Patch) (h : Halt Projection) → walkPatches applyStep 0 p ps ≡ halted h → FirstFailing p ps (h .patch) (h .operation) (ruleOf (h .left) (h .refused))
 unfolding applyStep
 first-failing p ps h e =
     let f = walk-first applyStep p ps h e in
@@ -119,7 +99,7 @@ first-failing p ps h e =
     }
 
 -- the run of all operations fails there, with the number of the rule
-stopped-there : (p : Projection) (ps : List Patch) (i j : ℕ) (rule : OperationRule) → FirstFailing p ps i j rule → applySteps p (replaySteps ps) ≡ stopped (operationFault rule)
+pub stopped-there : (p : Projection) (ps : List Patch) (i j : ℕ) (rule : OperationRule) → FirstFailing p ps i j rule → applySteps p (replaySteps ps) ≡ stopped (operationFault rule)
 unfolding applying.applyStep
 stopped-there p ps i j rule f =
     fails-there p (replaySteps ps) (operationFault rule) (record {
@@ -162,13 +142,13 @@ module _ (ed : Edition) (s : Session) (e : BatchEnvelope) (references : ℕ) (se
   findings-step ps r (f ∷ fs) is c d on = explains (hasFindings (findings ps .place) (length (f ∷ fs)) f) (Says.found ps r f fs is) (λ z. omega arith)
 
   -- step 7
-  targets-step : (ps : List Patch) → readSet ed set ≡ patches ps → (w : Walk (Unit {0})) → walkPatches (targetStep (s .catalogue)) 0 tt ps ≡ w → (c : Explained (Unit {0})) (d : Check (List Patch))
+  targets-step : (ps : List Patch) → readSet ed set ≡ patches ps → (w : Walk (Unit {0})) → walkPatches (tested (targetKnown (s .catalogue))) 0 tt ps ≡ w → (c : Explained (Unit {0})) (d : Check (List Patch))
       → Explains c (concludeBatch s e d)
       → Explains (knownTargets (absentTargets (s .catalogue) (operationsOf ps)) w >> c) (concludeBatch s e (batching._>>_ (batching.knownTargets (absentTargets (s .catalogue) (operationsOf ps))) d))
   unfolding knownTargets batching.knownTargets concludeBatch
-  targets-step ps r (through u) is c d on = rw (known-through (s .catalogue) ps u is) on
+  targets-step ps r (through u) is c d on = rw (none-absent (s .catalogue) (operationsOf ps) (test-through (targetKnown (s .catalogue)) ps u is)) on
   targets-step ps r (halted h) is c d on =
-      let f = first-unknown (s .catalogue) ps h is in
+      let f = test-first (targetKnown (s .catalogue)) ps h is in
       let present = some-absent (s .catalogue) ps (h .patch) (h .operation) f in
       rw (ne-eqb (absentTargets (s .catalogue) (operationsOf ps)) 0 present)
       (explains (unknownTarget (absentTargets (s .catalogue) (operationsOf ps)) (h .patch) (h .operation)) (Says.unknown ps r (h .patch) (h .operation) f) present)
@@ -222,7 +202,7 @@ module _ (ed : Edition) (s : Session) (e : BatchEnvelope) (references : ℕ) (se
       findings-step ps r (findings ps .found) refl _ _
       (step (eqb (e .patches) (length ps) && eqb references (length (operationsOf ps))) (countsDiffer (e .patches) (length ps) references (length (operationsOf ps))) session.countsDiffer _ _ refl refl (counts-say ps r) (λ _.
       step (leb (length (operationsOf ps)) (s .limits .references)) (referencesOver (length (operationsOf ps)) (s .limits .references)) session.limitExceeded _ _ refl refl (λ t. Says.manyReferences ps r (leb-false _ _ t)) (λ _.
-      targets-step ps r (walkPatches (targetStep (s .catalogue)) 0 tt ps) refl _ _
+      targets-step ps r (walkPatches (tested (targetKnown (s .catalogue))) 0 tt ps) refl _ _
       (step (eqb (e .patches) 0 || takesNumber (s .cursor) (e .sequence)) (cursorMismatch (numberAfter (s .cursor))) session.cursorMismatch _ _ refl refl cursor-says (λ _.
       apply-step ps r (walkPatches applyStep 0 (s .projection) ps) refl)))))))))
 

@@ -14,3 +14,5 @@ pub mod Explain
 pub mod Claim
 pub mod ExplainLaws
 pub mod CapLaws
+pub mod CallReasons
+pub mod CallReasonsLaws

@@ -1,9 +1,11 @@
 -- The first operation of a patch list at which a walk over them ends: one walk for the targets and for applying.
 use Prim.Native.Nat.{ℕ, suc}
 use mathlib.Core.Path.{_≡_}
+use mathlib.Core.Bool.{Bool, true, false}
 use mathlib.Core.List.{List, [], _∷_, _++_, map}
 use mathlib.Core.Option.{Option, none, some}
 use lib.ListN.{length}
+use Rattle.spec_lists.specs.Lists.{if_then_else_, all}
 use Rattle.spec_patch.specs.Patch.{Operation, Patch}
 use Rattle.spec_projection.specs.Apply.{ReplayStep, stepOf, replaySteps, operationsOf}
 
@@ -47,6 +49,10 @@ module _ {S : Type 0} (step : S → ℕ → Operation → Option S) where
   walkPatches i s [] = through s
   walkPatches i s (p ∷ ps) = walkOn (walkOperations i (p .envelope .id) 0 s (p .operations)) (λ t. walkPatches (suc i) t ps)
 
+-- an operation that passes a test lets the walk go on; nothing is left by it
+unfoldable pub tested : (Operation → Bool) → Unit {0} → ℕ → Operation → Option (Unit {0})
+tested test u id o = if test o then some tt else none
+
 -- ---- what is claimed of it
 
 -- the operation stands at place j of patch i
@@ -84,3 +90,10 @@ module _ {S : Type 0} (step : S → ℕ → Operation → Option S) where
     pub there : At ps (h .patch) (h .operation) (h .refused)
     pub ran : runs s (stepsBefore there) ≡ some (h .left)
     pub ends : step (h .left) (patchId there) (h .refused) ≡ none
+
+-- the first operation that does not pass a test
+pub record FirstLacking (test : Operation → Bool) (ps : List Patch) (i j : ℕ) : Type 0 where
+  pub operation : Operation
+  pub there : At ps i j operation
+  pub passed : all test (operationsBefore there) ≡ true
+  pub lacks : test operation ≡ false

@@ -1,14 +1,17 @@
 -- A walk that goes through has run every step; one that ends names the first operation that is refused.
 use Prim.Native.Nat.{ℕ, zero, suc, _+_}
 use mathlib.Core.Path.{_≡_, refl, sym, ap, _∙_}
+use mathlib.Core.Bool.{Bool, true, false}
 use mathlib.Core.List.{List, [], _∷_, _++_, append-assoc, map, map-append, flatMap}
 use mathlib.Core.Option.{Option, none, some}
 use native.Mathlib.Omega.{arith}
+use Rattle.spec_lists.specs.Lists.{all}
+use Rattle.spec_lists.specs.ListLaws.{test-cases}
 use lib.ListN.{length}
 use Rattle.spec_patch.specs.Patch.{Operation, Patch}
 use Rattle.spec_projection.specs.Apply.{ReplayStep, stepOf, stepOperations, patchSteps, replaySteps, operationsOf}
 use Rattle.spec_projection.specs.ApplyLaws.{replaySteps-append, operationsOf-append, replaySteps-operations}
-use Rattle.spec_explain.specs.Walk.{Halt, Walk, through, halted, walkOn, walkStep, walkOperations, walkPatches, onward, At, patchId, stepsBefore, operationsBefore, runs, First}
+use Rattle.spec_explain.specs.Walk.{Halt, Walk, through, halted, walkOn, walkStep, walkOperations, walkPatches, onward, At, patchId, stepsBefore, operationsBefore, runs, First, tested, FirstLacking}
 
 module _ {S : Type 0} (step : S → ℕ → Operation → Option S) where
   through-is : {s t : S} → through s ≡ through t → s ≡ t
@@ -211,3 +214,27 @@ module _ {ps : List Patch} {i j : ℕ} {o : Operation} (a : At ps i j o) where
       same : (os : List Operation) → stepOperations (map (stepOf (patchId a)) os) ≡ os
       same [] = refl
       same (x ∷ os) = ap (λ (l : List Operation). x ∷ l) (same os)
+
+-- ---- a test of every operation
+
+module _ (test : Operation → Bool) where
+  all-pass : (ss : List ReplayStep) → runs (tested test) tt ss ≡ some tt → all test (stepOperations ss) ≡ true
+  unfolding runs tested
+  all-pass [] e = refl
+  all-pass (r ∷ ss) e = test-cases (test (r .operation))
+      (λ t. rw t (all-pass ss (rw t at e)))
+      (λ t. absurd (let z : _≡_ {A = ℕ} 0 1 = cc (rw t at e) in omega arith))
+
+  pub test-through : (ps : List Patch) (u : Unit {0}) → walkPatches (tested test) 0 tt ps ≡ through u → all test (operationsOf ps) ≡ true
+  test-through ps u e = ap (all test) (sym (replaySteps-operations ps)) ∙ all-pass (replaySteps ps) (walk-through (tested test) 0 tt ps u e)
+
+  pub test-first : (ps : List Patch) (h : Halt (Unit {0})) → walkPatches (tested test) 0 tt ps ≡ halted h → FirstLacking test ps (h .patch) (h .operation)
+  unfolding tested
+  test-first ps h e =
+      let f = walk-first (tested test) tt ps h e in
+      record {
+        operation = h .refused;
+        there = f .there;
+        passed = ap (all test) (sym (operations-before (f .there))) ∙ all-pass (stepsBefore (f .there)) (f .ran);
+        lacks = test-cases (test (h .refused)) (λ t. absurd (let z : _≡_ {A = ℕ} 0 1 = cc (rw t at (f .ends)) in omega arith)) (λ t. t);
+      }
