@@ -28,6 +28,10 @@ some-is e = cc
 lacking : {i j : Inside} {m n : ℕ} → i ≡ j → m ≡ n → _≡_ {A = Unread} (record { rule = tooFewBytes; inside = i; position = m }) (record { rule = tooFewBytes; inside = j; position = n })
 lacking p q = cc
 
+-- a position told in two ways
+alike : (s : Stop) {m n : ℕ} {u : Unread} → m ≡ n → some (record { rule = s .rule; inside = s .inside; position = m }) ≡ some u → record { rule = s .rule; inside = s .inside; position = n } ≡ u
+alike s p q = ap (λ (k : ℕ). record { rule = s .rule; inside = s .inside; position = k }) (sym p) ∙ some-is q
+
 none-not : {C : Type 0} {u : Unread} → none ≡ some u → C
 none-not e = absurd (let z : _≡_ {A = ℕ} 0 1 = cc in omega arith)
 
@@ -75,10 +79,8 @@ module _ (ed : Edition) where
     where
       the-same : (s : Stop) → atEnd (locatePatches ed (f ++ g)) ≡ some (further s (length g)) → NoOther u (fromStart f (some s))
       the-same s q =
-          let is : fromStart (f ++ g) (some (further s (length g))) ≡ some u = ap (fromStart (f ++ g)) (sym q) ∙ e in
           let place : length (f ++ g) - (s .left + length g) ≡ length f - s .left = omega (arith, length-append f g) in
-          let same : record { rule = s .rule; inside = s .inside; position = length f - s .left } ≡ u = ap (λ (n : ℕ). record { rule = s .rule; inside = s .inside; position = n }) (sym place) ∙ some-is is in
-          rw same sameFault
+          rw (alike s place (ap (fromStart (f ++ g)) (sym q) ∙ e)) sameFault
 
       decide : (s : Stop) → Decided (locatePatches ed) f s → NoOther u (fromStart f (some s))
       decide s (short r) = tooFew _ r

@@ -16,3 +16,7 @@ pub mod ExplainLaws
 pub mod CapLaws
 pub mod CallReasons
 pub mod CallReasonsLaws
+pub mod Opened
+pub mod ReadingExamples
+pub mod ExplainExamples
+pub mod CallExamples
