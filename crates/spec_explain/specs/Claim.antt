@@ -1,8 +1,9 @@
 -- What each reason says of the session and of the batch's arguments, as a statement; `told` of ExplainLaws proves it of every reason that is given.
 use Prim.Native.Nat.{ℕ, _≤_, _<_}
 use mathlib.Core.Path.{_≡_}
-use mathlib.Core.Bool.{false}
+use mathlib.Core.Bool.{true, false}
 use mathlib.Core.List.{List, _∷_}
+use mathlib.Core.Logic.{_↔_}
 use mathlib.Core.Option.{some}
 use lib.ListN.{length}
 use Rattle.spec_patch.specs.Patch.{Operation, Patch}
@@ -54,8 +55,9 @@ module _ (ed : Edition) (s : Session) (e : BatchEnvelope) (references : ℕ) (se
     manyReferences : (ps : List Patch) → readSet ed set ≡ patches ps → s .limits .references < length (operationsOf ps) → Says (referencesOver (length (operationsOf ps)) (s .limits .references))
     -- step 7: so many, and the first of them
     unknown : (ps : List Patch) → readSet ed set ≡ patches ps → (i j : ℕ) → FirstLacking (targetKnown (s .catalogue)) ps i j → Says (unknownTarget (absentTargets (s .catalogue) (operationsOf ps)) i j)
-    -- step 8: there are patches, and the cursor does not take the number
-    notTaken : (e .patches ≡ 0 → ⊥) → takesNumber (s .cursor) (e .sequence) ≡ false → Says (cursorMismatch (numberAfter (s .cursor)))
+    -- step 8: there are patches, the cursor does not take the number, and what it takes is just the number told
+    notTaken : (e .patches ≡ 0 → ⊥) → takesNumber (s .cursor) (e .sequence) ≡ false → ((n : ℕ) → (takesNumber (s .cursor) n ≡ true) ↔ (numberAfter (s .cursor) ≡ some n))
+        → Says (cursorMismatch (numberAfter (s .cursor)))
     -- step 9
     fails : (ps : List Patch) → readSet ed set ≡ patches ps → (i j : ℕ) (rule : OperationRule) → FirstFailing (s .projection) ps i j rule → Says (operationFails i j rule)
 

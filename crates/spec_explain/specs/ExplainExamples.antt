@@ -1,8 +1,11 @@
 -- The reason behind a refusal, an example for each rule that is not one of reading, as tables that the checker computes.
 use Prim.Native.Nat.{ℕ, zero, suc}
 use mathlib.Core.Path.{_≡_, refl}
+use mathlib.Core.Bool.{Bool, true, not, _&&_}
 use mathlib.Core.List.{List, [], _∷_, _++_, map}
 use mathlib.Core.Option.{Option, none, some}
+use lib.Dec.{eqb}
+use Rattle.spec_lists.specs.Lists.{any, equalLists}
 use Rattle.spec_patch.specs.Patch.{unsigned, Operation, setBinding, setAvailability, insert, update, remove, move, pending, Patch}
 use Rattle.spec_patch.specs.Edition.{v1}
 use Rattle.spec_patch.specs.Encode.{encode}
@@ -11,9 +14,9 @@ use Rattle.spec_projection.specs.Projection.{Entry, Projection, empty}
 use Rattle.spec_session.specs.Session.{Lifecycle, created, closed, Cursor, uninitialized, at, Session}
 use Rattle.spec_session.specs.Batch.{BatchEnvelope}
 use Rattle.spec_listing.specs.Ascii.{ascii}
-use Rattle.spec_explain.specs.ReadingRule.{bytesLeft, outside}
-use Rattle.spec_explain.specs.OperationRule.{keyPresent, keyAbsent, neighbourAbsent, bindingsFull, availabilitiesFull, entriesFull}
-use Rattle.spec_explain.specs.Reason.{patchLimit, byteLimit, bothLimits, Reason, foreignSession, sessionClosed, declaredLimits, unreadable, hasFindings, countsDiffer, referencesOver, unknownTarget, cursorMismatch, operationFails, reasonNumber, reasonWord}
+use Rattle.spec_explain.specs.ReadingRule.{ReadingRule, setTooLong, wrongHeading, tooFewBytes, operationTag, valueKind, optionalTag, availabilityTag, quadTag, scoreRange, notUtf8, patchCount, operationCount, textLength, characterCount, bytesLeft, readingWord, outside}
+use Rattle.spec_explain.specs.OperationRule.{OperationRule, keyPresent, keyAbsent, neighbourAbsent, bindingsFull, availabilitiesFull, entriesFull, operationWord}
+use Rattle.spec_explain.specs.Reason.{patchLimit, byteLimit, bothLimits, Reason, foreignSession, sessionClosed, declaredLimits, unreadable, hasFindings, countsDiffer, referencesOver, unknownTarget, cursorMismatch, operationFails, reasonNumber, limitWord, reasonWord}
 use Rattle.spec_explain.specs.Explain.{explainBatch, withheld, given, underCap}
 use Rattle.spec_explain.specs.Opened.{opened}
 
@@ -161,3 +164,28 @@ examples-named = refl
 pub cap-decides : (underCap 0 (some (foreignSession 6 5)) ≡ withheld) × (underCap 1 (some (foreignSession 6 5)) ≡ given (foreignSession 6 5))
 unfolding underCap
 cap-decides = (refl, refl)
+
+-- ---- no two rules of a batch share a word
+
+abbrev rulesOfReading : List ReadingRule
+rulesOfReading =
+    setTooLong ∷ wrongHeading ∷ tooFewBytes ∷ operationTag ∷ valueKind ∷ optionalTag ∷ availabilityTag ∷ quadTag ∷ scoreRange ∷ notUtf8 ∷ patchCount ∷ operationCount ∷ textLength ∷ characterCount
+    ∷ bytesLeft ∷ []
+
+abbrev rulesOfOperations : List OperationRule
+rulesOfOperations = keyPresent ∷ keyAbsent ∷ neighbourAbsent ∷ bindingsFull ∷ availabilitiesFull ∷ entriesFull ∷ []
+
+-- the words of all reasons
+abbrev pub words : List (List ℕ)
+words =
+    map readingWord rulesOfReading
+    ++ (map operationWord rulesOfOperations
+    ++ (map limitWord (patchLimit ∷ byteLimit ∷ bothLimits ∷ [])
+    ++ map reasonWord (foreignSession 0 0 ∷ sessionClosed ∷ hasFindings places.inSet 0 (record { kind = 0; domain = 0; secondary = 0 }) ∷ countsDiffer 0 0 0 0 ∷ referencesOver 0 0 ∷ unknownTarget 0 0 0 ∷ cursorMismatch none ∷ [])))
+
+abbrev pub distinct : List (List ℕ) → Bool
+distinct [] = true
+distinct (w ∷ ws) = not (any (equalLists eqb w) ws) && distinct ws
+
+pub words-distinct : distinct words ≡ true
+words-distinct = refl

@@ -11,6 +11,7 @@ use lib.Dec.{leb, ltb, eqb}
 use lib.ListN.{length}
 use Rattle.spec_lists.specs.Lists.{if_then_else_, all, isEmpty}
 use Rattle.spec_lists.specs.ListLaws.{test-cases, and-left, and-right, or-left, or-right}
+use Rattle.spec_patch.specs.Sizes.{largestU64}
 use Rattle.spec_patch.specs.Patch.{Operation, Patch}
 use Rattle.spec_patch.specs.Edition.{Edition}
 use Rattle.spec_patch.specs.Reader.{Fault}
@@ -22,7 +23,7 @@ use Rattle.spec_projection.specs.Effects.{targetOf}
 use Rattle.spec_projection.specs.Apply.{OperationFault, Outcome, done, stopped, ReplayStep, applyOperation, applySteps, andThen, replaySteps, operationsOf}
 use Rattle.spec_projection.specs.Apply as applying
 use Rattle.spec_projection.specs.ApplyLaws.{fails-there}
-use Rattle.spec_session.specs.Session.{Lifecycle, created, active, suspended, closed, Catalogue, Limits, Session}
+use Rattle.spec_session.specs.Session.{Lifecycle, created, active, suspended, closed, Cursor, uninitialized, at, Catalogue, Session}
 use Rattle.spec_session.specs.Diagnostics as session
 use Rattle.spec_session.specs.Diagnostics.{SessionRefusal, sessionNumber, ofReading, ofOperation, diagnosticsOf, noDiagnostics}
 use Rattle.spec_session.specs.Lifecycle.{Disposition, applied, noChange, rejected, isClosed}
@@ -112,6 +113,16 @@ stopped-there p ps i j rule f =
       fails = f .fails;
     })
 
+-- ---- the cursor
+
+-- a cursor that refuses some number takes just the one after its own
+number-taken : (c : Cursor) (k : ℕ) → takesNumber c k ≡ false → (n : ℕ) → (takesNumber c n ≡ true) ↔ (numberAfter c ≡ some n)
+unfolding takesNumber numberAfter
+number-taken uninitialized k t n = absurd (let z : _≡_ {A = ℕ} 0 1 = cc in omega arith)
+number-taken (at m) k t n = test-cases (ltb m largestU64)
+    (λ b. rw b (λ h. ap some (sym (eqb-true n (m + 1) h)), λ h. let same : m + 1 ≡ n = cc in eq-eqb n (m + 1) (sym same)))
+    (λ b. rw b (λ h. absurd (let z : _≡_ {A = ℕ} 0 1 = cc in omega arith), λ h. absurd (let z : _≡_ {A = ℕ} 0 1 = cc in omega arith)))
+
 -- ---- steps 1 to 9
 
 module _ (ed : Edition) (s : Session) (e : BatchEnvelope) (references : ℕ) (set : List ℕ) where
@@ -188,7 +199,7 @@ module _ (ed : Edition) (s : Session) (e : BatchEnvelope) (references : ℕ) (se
   counts-say ps r t = Says.differ ps r (λ a b. let z : true ≡ false = rw (eq-eqb _ _ a, eq-eqb _ _ b) at t in let w : _≡_ {A = ℕ} 0 1 = cc in omega arith)
 
   cursor-says : (eqb (e .patches) 0 || takesNumber (s .cursor) (e .sequence)) ≡ false → Says ed s e references set (cursorMismatch (numberAfter (s .cursor)))
-  cursor-says t = Says.notTaken (eqb-false (e .patches) 0 (or-left _ _ t)) (or-right (eqb (e .patches) 0) _ t)
+  cursor-says t = let refused = or-right (eqb (e .patches) 0) _ t in Says.notTaken (eqb-false (e .patches) 0 (or-left _ _ t)) refused (number-taken (s .cursor) (e .sequence) refused)
 
   -- ---- all of them
 

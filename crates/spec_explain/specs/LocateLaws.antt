@@ -8,7 +8,7 @@ use mathlib.Core.Option.{Option, none, some}
 use native.Mathlib.Omega.{arith}
 use lib.Dec.{leb, eqb}
 use lib.ListN.{length, take, drop}
-use Rattle.spec_lists.specs.Lists.{if_then_else_}
+use Rattle.spec_lists.specs.Lists.{if_then_else_, any}
 use Rattle.spec_patch.specs.Sizes.{setBytes, setPatches, patchOperations, highestScore}
 use Rattle.spec_patch.specs.TextRule.{fewBytes, allowed, fewCharacters}
 use Rattle.spec_patch.specs.Patch.{Value, quad, signed, text, unsigned, score, Operation, Patch, N, F, T, S, available, unavailable, hidden, pending, stale}
@@ -230,29 +230,33 @@ tells-score = record { tells = λ bs. tells-behind short-byte _ _ bs (λ n rest.
     go bs n rest false = refl
 
 -- the rows of an edition are the kinds that it has
-tells-kinds : (ed : Edition) → TellsAfter valueKind (1 ⇒ locateQuad ∷ 2 ⇒ field readU64 ∷ 3 ⇒ locateText ∷ 4 ⇒ field readU64 ∷ scoreRow ed) (inEdition ed (valueAfterWith readText))
-unfolding inEdition hasKind kinds addedKinds scoreRow byRow
-tells-kinds v1 = record { after = λ bs t rest. go bs t rest (eqb t 1) (eqb t 2) (eqb t 3) (eqb t 4) (eqb t 5) }
+record TellsKinds (rows : List Row) (known : List ℕ) (f : ℕ → Reader Value) : Type 0 where
+  after : (bs : List ℕ) (t : ℕ) (rest : List ℕ) → fate (byRow valueKind rows bs t rest) ≡ fateOf (if any (eqb t) known then f t rest else refused malformed)
+
+tells-no-kind : (f : ℕ → Reader Value) → TellsKinds [] [] f
+unfolding byRow
+tells-no-kind f = record { after = λ bs t rest. refl }
+
+tells-kind : (k : ℕ) {l : Locator} {p : Reader Value} {rows : List Row} {known : List ℕ} {f : ℕ → Reader Value} → Tells l p → TellsKinds rows known f → TellsKinds (k ⇒ l ∷ rows) (k ∷ known) (orTag k p f)
+unfolding byRow
+tells-kind k {l} {p} {rows} {known} {f} one others = record { after = λ bs t rest. go bs t rest (eqb t k) (others .after bs t rest) }
   where
-    go : (bs : List ℕ) (t : ℕ) (rest : List ℕ) (a b c d e : Bool)
-        → fate (if a then locateQuad rest else (if b then field readU64 rest else (if c then locateText rest else (if d then field readU64 rest else stopAt valueKind bs))))
-        ≡ fateOf (if a || (b || (c || (d || false))) then (if a then mapped quad readQuad rest else (if b then mapped signed readI64 rest else (if c then mapped text readText rest else (if d then mapped unsigned readU64 rest else (if e then mapped score readScore rest else refused malformed))))) else refused malformed)
-    go bs t rest true b c d e = tells-mapped quad tells-quad .tells rest
-    go bs t rest false true c d e = tells-mapped signed (tells-mapped _ tells-u64) .tells rest
-    go bs t rest false false true d e = tells-mapped text tells-text .tells rest
-    go bs t rest false false false true e = tells-mapped unsigned tells-u64 .tells rest
-    go bs t rest false false false false e = refl
-tells-kinds v2 = record { after = λ bs t rest. go bs t rest (eqb t 1) (eqb t 2) (eqb t 3) (eqb t 4) (eqb t 5) }
+    go : (bs : List ℕ) (t : ℕ) (rest : List ℕ) (b : Bool) → fate (byRow valueKind rows bs t rest) ≡ fateOf (if any (eqb t) known then f t rest else refused malformed)
+        → fate (if b then l rest else byRow valueKind rows bs t rest) ≡ fateOf (if b || any (eqb t) known then (if b then p rest else f t rest) else refused malformed)
+    go bs t rest true later = one .tells rest
+    go bs t rest false later = later
+
+tells-kinds : (ed : Edition) → TellsKinds (1 ⇒ locateQuad ∷ 2 ⇒ field readU64 ∷ 3 ⇒ locateText ∷ 4 ⇒ field readU64 ∷ scoreRow ed) (kinds ed) (valueAfterWith readText)
+unfolding kinds addedKinds scoreRow
+tells-kinds ed =
+    tells-kind 1 (tells-mapped quad tells-quad)
+    (tells-kind 2 (tells-mapped signed (tells-mapped _ tells-u64))
+    (tells-kind 3 (tells-mapped text tells-text)
+    (tells-kind 4 (tells-mapped unsigned tells-u64) (with-scores ed))))
   where
-    go : (bs : List ℕ) (t : ℕ) (rest : List ℕ) (a b c d e : Bool)
-        → fate (if a then locateQuad rest else (if b then field readU64 rest else (if c then locateText rest else (if d then field readU64 rest else (if e then locateScore rest else stopAt valueKind bs)))))
-        ≡ fateOf (if a || (b || (c || (d || (e || false)))) then (if a then mapped quad readQuad rest else (if b then mapped signed readI64 rest else (if c then mapped text readText rest else (if d then mapped unsigned readU64 rest else (if e then mapped score readScore rest else refused malformed))))) else refused malformed)
-    go bs t rest true b c d e = tells-mapped quad tells-quad .tells rest
-    go bs t rest false true c d e = tells-mapped signed (tells-mapped _ tells-u64) .tells rest
-    go bs t rest false false true d e = tells-mapped text tells-text .tells rest
-    go bs t rest false false false true e = tells-mapped unsigned tells-u64 .tells rest
-    go bs t rest false false false false true = tells-mapped score tells-score .tells rest
-    go bs t rest false false false false false = refl
+    with-scores : (ed : Edition) → TellsKinds (scoreRow ed) (addedKinds ed) (orTag 5 (mapped score readScore) noTag)
+    with-scores v1 = tells-no-kind _
+    with-scores v2 = tells-kind 5 (tells-mapped score tells-score) (tells-no-kind _)
 
 tells-letters : (xs : List ℕ) → Tells (locateLetters xs) (literal xs)
 unfolding locateLetters literal
@@ -271,8 +275,8 @@ tells-envelope =
 
 module _ (ed : Edition) where
   tells-value : Tells (locateValue ed) (readValue ed)
-  unfolding locateValue readValueBy valueAfter
-  tells-value = tells-tagged (tells-kinds ed)
+  unfolding locateValue readValueBy valueAfter inEdition hasKind
+  tells-value = tells-tagged (record { after = tells-kinds ed .after })
 
   tells-operation : Tells (locateOperation ed) (readOperation ed)
   unfolding locateOperation readOperationBy operationAfter
@@ -288,8 +292,8 @@ module _ (ed : Edition) where
   tells-patch : (i : ℕ) → Tells (locatePatch ed i) (readPatch ed)
   unfolding locatePatch readPatch
   tells-patch i =
-      tells-within (inPatch i)
-      (tells-mapped toPatch (tells-pair tells-envelope (tells-counted (λ j. tells-within (inOperation i j) tells-operation) operationCount patchOperations refl)))
+      tells-within _
+      (tells-mapped toPatch (tells-pair tells-envelope (tells-counted (λ j. tells-within _ tells-operation) operationCount patchOperations refl)))
 
   tells-patches : Tells (locatePatches ed) (readPatches ed)
   unfolding locatePatches readPatches

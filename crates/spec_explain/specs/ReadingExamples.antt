@@ -93,7 +93,9 @@ insideOperations =
     ∷ stops v1 (valued v1 (letters 241)) textLength (inOperation 0 0) 110
     ∷ stops v1 (valued v1 (3 ∷ u32 1 ++ (0xff ∷ []))) notUtf8 (inOperation 0 0) 114
     ∷ stops v1 (valued v1 (letters 161)) characterCount (inOperation 0 0) 114
-    -- the second operation of the second patch
+    -- the second operation of the first patch, the first and the second of the second
+    ∷ stops v1 (heading v1 ++ (u32 1 ++ (encodeEnvelope env ++ (u32 2 ++ (5 ∷ u64 9 ++ (u64 1 ++ (7 ∷ []))))))) operationTag (inOperation 0 1) 113
+    ∷ stops v1 (heading v1 ++ (u32 2 ++ (encodeEnvelope env ++ (u32 0 ++ (encodeEnvelope env ++ (u32 1 ++ (7 ∷ []))))))) operationTag (inOperation 1 0) 157
     ∷ stops v1 (heading v1 ++ (u32 2 ++ (encodeEnvelope env ++ (u32 0 ++ (encodeEnvelope env ++ (u32 2 ++ (5 ∷ u64 9 ++ (u64 1 ++ (7 ∷ []))))))))) operationTag (inOperation 1 1) 174
     ∷ []
 
@@ -119,6 +121,6 @@ pub examples-named : map (λ (x : ReadingExample). named (x .stops)) readingExam
     ∷ (10, ascii "too-few-bytes") ∷ (10, ascii "operation-tag") ∷ (10, ascii "too-few-bytes") ∷ (10, ascii "availability") ∷ (10, ascii "optional") ∷ (10, ascii "too-few-bytes")
     ∷ (10, ascii "value-kind") ∷ (10, ascii "value-kind") ∷ (10, ascii "quad") ∷ (10, ascii "score")
     ∷ (10, ascii "too-few-bytes") ∷ (10, ascii "too-few-bytes") ∷ (12, ascii "text-length") ∷ (10, ascii "text-not-utf8") ∷ (12, ascii "text-characters")
-    ∷ (10, ascii "operation-tag") ∷ []
+    ∷ (10, ascii "operation-tag") ∷ (10, ascii "operation-tag") ∷ (10, ascii "operation-tag") ∷ []
 unfolding faultNumber
 examples-named = refl

@@ -293,7 +293,7 @@ module _ (ed : Edition) where
 
   steady-patch : (i : ℕ) → Steady (locatePatch ed i)
   unfolding locatePatch
-  steady-patch i = steady-within (inPatch i) (steady-then steady-envelope (steady-counted (λ j. steady-within (inOperation i j) steady-operation) operationCount patchOperations))
+  steady-patch i = steady-within _ (steady-then steady-envelope (steady-counted (λ j. steady-within _ steady-operation) operationCount patchOperations))
 
   pub steady-patches : Steady (locatePatches ed)
   unfolding locatePatches
