@@ -25,10 +25,10 @@ use Rattle.spec_explain.specs.SteadyLaws.{further, brokenOff, Decided, s
 ends-there : {A : Type 0} (a : A) → Follows (λ bs rest. past rest)
 ends-there a = goesOn ends steady-ends (λ bs rest. refl)
 
-steady-u64 : Steady (field readU64)
+pub steady-u64 : Steady (field readU64)
 steady-u64 = steady-field (wide-number 8) (malformed, refl) (λ bs a rest. past rest) (λ a. ends-there a)
 
-steady-u32 : Steady (field readU32)
+pub steady-u32 : Steady (field readU32)
 steady-u32 = steady-field (wide-number 4) (malformed, refl) (λ bs a rest. past rest) (λ a. ends-there a)
 
 -- ---- a test of what was read
@@ -70,7 +70,7 @@ module _ {l : ℕ → Locator} (each : (i : ℕ) → Steady (l i)) where
 
 -- ---- the fields of a set
 
-steady-optional : Steady locateOptional
+pub steady-optional : Steady locateOptional
 unfolding locateOptional
 steady-optional = steady-tagged optionalTag _ (steady-ends, (steady-u64, tt))
 
@@ -78,7 +78,7 @@ steady-quad : Steady locateQuad
 unfolding locateQuad
 steady-quad = steady-tagged quadTag _ (steady-ends, (steady-ends, (steady-ends, (steady-ends, tt))))
 
-steady-availability : Steady locateAvailability
+pub steady-availability : Steady locateAvailability
 unfolding locateAvailability
 steady-availability = steady-tagged availabilityTag _ (steady-ends, (steady-ends, (steady-ends, (steady-ends, (steady-ends, tt)))))
 
@@ -88,14 +88,14 @@ steady-score =
     steady-field wide-byte (malformed, refl) (λ bs n rest. if leb n highestScore then past rest else stopAt scoreRange bs)
     (λ n. follows-test scoreRange steady-ends (leb n highestScore))
 
-steady-letters : (xs : List ℕ) → Steady (locateLetters xs)
+pub steady-letters : (xs : List ℕ) → Steady (locateLetters xs)
 unfolding locateLetters
 steady-letters [] = steady-ends
 steady-letters (x ∷ xs) =
     steady-field wide-byte (malformed, refl) (λ bs b rest. if eqb b x then locateLetters xs rest else stopAt wrongHeading bs)
     (λ b. follows-test wrongHeading (steady-letters xs) (eqb b x))
 
-steady-envelope : Steady locateEnvelope
+pub steady-envelope : Steady locateEnvelope
 unfolding locateEnvelope
 steady-envelope = steady-then steady-u64 (steady-then steady-u64 (steady-then steady-u64 (steady-then steady-optional (steady-then steady-u64 (steady-then steady-u64 (steady-then steady-u64 steady-u64))))))
 
@@ -271,11 +271,11 @@ steady-score-row v1 = tt
 steady-score-row v2 = (steady-score, tt)
 
 module _ (ed : Edition) where
-  steady-value : Steady (locateValue ed)
+  pub steady-value : Steady (locateValue ed)
   unfolding locateValue
   steady-value = steady-tagged valueKind _ (steady-quad, (steady-u64, (steady-text, (steady-u64, steady-score-row ed))))
 
-  steady-operation : Steady (locateOperation ed)
+  pub steady-operation : Steady (locateOperation ed)
   unfolding locateOperation
   steady-operation = steady-tagged operationTag _ (
     steady-then steady-u64 (steady-then steady-u32 steady-value),
@@ -291,7 +291,7 @@ module _ (ed : Edition) where
     ),
   )
 
-  steady-patch : (i : ℕ) → Steady (locatePatch ed i)
+  pub steady-patch : (i : ℕ) → Steady (locatePatch ed i)
   unfolding locatePatch
   steady-patch i = steady-within _ (steady-then steady-envelope (steady-counted (λ j. steady-within _ steady-operation) operationCount patchOperations))
 
