@@ -18,6 +18,7 @@ use Rattle.spec_session.specs.Batch.{BatchEnvelope, absentTargets, takesNumber}
 use Rattle.spec_explain.specs.ReadingRule.{Unread}
 use Rattle.spec_explain.specs.Locate.{locate}
 use Rattle.spec_explain.specs.FirstByte.{FirstByte}
+use Rattle.spec_explain.specs.Placed.{PlacedAt}
 use Rattle.spec_explain.specs.OperationRule.{OperationRule, operationFault, Breaks}
 use Rattle.spec_explain.specs.Walk.{At, patchId, stepsBefore, FirstLacking}
 use Rattle.spec_explain.specs.Reason.{patchLimit, byteLimit, bothLimits, Reason, foreignSession, sessionClosed, declaredLimits, unreadable, hasFindings, countsDiffer, referencesOver, unknownTarget, cursorMismatch, operationFails}
@@ -45,8 +46,8 @@ module _ (ed : Edition) (s : Session) (e : BatchEnvelope) (references : ℕ) (se
         → Says (declaredLimits byteLimit (e .patches) (s .limits .patches) (e .stimulusBytes) (s .limits .stimulusBytes))
     manyOfBoth : s .limits .patches < e .patches → s .limits .stimulusBytes < e .stimulusBytes
         → Says (declaredLimits bothLimits (e .patches) (s .limits .patches) (e .stimulusBytes) (s .limits .stimulusBytes))
-    -- step 4: the set is not read, and the byte is the first; or the checks found these
-    notRead : (u : Unread) → locate ed set ≡ some u → FirstByte ed set u → Says (unreadable u)
+    -- step 4: the set is not read, the byte is the first, and so are patch and operation; or the checks found these
+    notRead : (u : Unread) → locate ed set ≡ some u → FirstByte ed set u → PlacedAt ed set (u .inside) → Says (unreadable u)
     found : (ps : List Patch) → readSet ed set ≡ patches ps → (f : Finding) (fs : List Finding) → findings ps .found ≡ f ∷ fs → Says (hasFindings (findings ps .place) (length (f ∷ fs)) f)
     -- step 5: not both counts are the actual ones
     differ : (ps : List Patch) → readSet ed set ≡ patches ps → (e .patches ≡ length ps → references ≡ length (operationsOf ps) → ⊥)

@@ -34,6 +34,7 @@ use Rattle.spec_explain.specs.ReadingRule.{faultOf, Unread}
 use Rattle.spec_explain.specs.Locate.{locate}
 use Rattle.spec_explain.specs.LocateLaws.{Agrees, reads, stops, locate-agrees}
 use Rattle.spec_explain.specs.FirstByteLaws.{first-byte}
+use Rattle.spec_explain.specs.PlacedLaws.{named-place}
 use Rattle.spec_explain.specs.OperationRule.{OperationRule, operationFault, ruleOf}
 use Rattle.spec_explain.specs.OperationRuleLaws.{rule-told}
 use Rattle.spec_explain.specs.Walk.{Halt, Walk, through, halted, walkPatches, onward, tested, patchId, stepsBefore, operationsBefore, runs, FirstLacking}
@@ -143,7 +144,7 @@ module _ (ed : Edition) (s : Session) (e : BatchEnvelope) (references : ℕ) (se
       → ((ps : List Patch) → readSet ed set ≡ patches ps → Explains (c ps) (concludeBatch s e (d ps))) → Explains (readable o (patchesOf x) >>= c) (concludeBatch s e (batching._>>=_ (batching.readable x) d))
   unfolding readable patchesOf batching.readable concludeBatch
   reading-step none (patches ps) l r (reads qs) c d on = on ps r
-  reading-step (some u) (fault f) l r (stops v g is) c d on = rw (← is) (explains (unreadable u) (Says.notRead u l (first-byte ed set u l)) (λ z. omega arith))
+  reading-step (some u) (fault f) l r (stops v g is) c d on = rw (← is) (explains (unreadable u) (Says.notRead u l (first-byte ed set u l) (named-place ed set u l)) (λ z. omega arith))
 
   -- the checks find nothing, or the first of what they find
   findings-step : (ps : List Patch) → readSet ed set ≡ patches ps → (fs : List Finding) → findings ps .found ≡ fs → (c : Explained (Unit {0})) (d : Check (List Patch))

@@ -5,6 +5,8 @@ pub mod SteadyLaws
 pub mod SteadySetLaws
 pub mod FirstByte
 pub mod FirstByteLaws
+pub mod Placed
+pub mod PlacedLaws
 pub mod OperationRule
 pub mod OperationRuleLaws
 pub mod Walk

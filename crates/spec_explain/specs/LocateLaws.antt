@@ -21,21 +21,21 @@ use Rattle.spec_explain.specs.Locate.{Stop, Located, past, stop, Locator
 
 -- ---- what becomes of bytes: some are left, or there is a fault
 
-data Fate : Type 0 where
+pub data Fate : Type 0 where
   went : List ℕ → Fate
   failed : Fault → Fate
 
-abbrev fate : Located → Fate
+abbrev pub fate : Located → Fate
 fate (past rest) = went rest
 fate (stop s) = failed (faultOf (s .rule))
 
-abbrev fateOf : {A : Type 0} → Result A → Fate
+abbrev pub fateOf : {A : Type 0} → Result A → Fate
 fateOf (read a rest) = went rest
 fateOf (refused f) = failed f
 
 -- the locator goes where the reader goes, and stops where it refuses
-record Tells {A : Type 0} (l : Locator) (p : Reader A) : Type 0 where
-  tells : (bs : List ℕ) → fate (l bs) ≡ fateOf (p bs)
+pub record Tells {A : Type 0} (l : Locator) (p : Reader A) : Type 0 where
+  pub tells : (bs : List ℕ) → fate (l bs) ≡ fateOf (p bs)
 
 went-is : {a b : List ℕ} → went a ≡ went b → a ≡ b
 went-is e = cc
@@ -148,7 +148,7 @@ tells-end a = record { tells = λ bs. refl }
 -- ---- so many times
 
 module _ {A : Type 0} {l : ℕ → Locator} {p : Reader A} (each : (i : ℕ) → Tells (l i) p) where
-  tells-many : (n i : ℕ) → Tells (repeated l i n) (many n p)
+  pub tells-many : (n i : ℕ) → Tells (repeated l i n) (many n p)
   unfolding repeated many
   tells-many zero i = record { tells = λ bs. refl }
   tells-many (suc n) i = tells-then (each i) (λ a. tells-mapped (λ more. a ∷ more) (tells-many n (suc i)))
@@ -167,7 +167,7 @@ module _ {A : Type 0} {l : ℕ → Locator} {p : Reader A} (each : (i : ℕ) →
       go bs (refused g) is = ap failed (short-number 4 .short bs g is)
 
 -- the place of a stop does not matter
-tells-within : {A : Type 0} (here : Inside) {l : Locator} {p : Reader A} → Tells l p → Tells (within here l) p
+pub tells-within : {A : Type 0} (here : Inside) {l : Locator} {p : Reader A} → Tells l p → Tells (within here l) p
 tells-within here {l} one = record { tells = λ bs. same (l bs) ∙ one .tells bs }
   where
     same : (x : Located) → fate (placedStop here x) ≡ fate x
@@ -258,7 +258,7 @@ tells-kinds ed =
     with-scores v1 = tells-no-kind _
     with-scores v2 = tells-kind 5 (tells-mapped score tells-score) (tells-no-kind _)
 
-tells-letters : (xs : List ℕ) → Tells (locateLetters xs) (literal xs)
+pub tells-letters : (xs : List ℕ) → Tells (locateLetters xs) (literal xs)
 unfolding locateLetters literal
 tells-letters [] = record { tells = λ bs. refl }
 tells-letters (x ∷ xs) = record { tells = λ bs. tells-behind short-byte _ _ bs (λ b rest. go bs rest (tells-letters xs) (eqb b x)) }
@@ -267,7 +267,7 @@ tells-letters (x ∷ xs) = record { tells = λ bs. tells-behind short-byte _ _ b
     go bs rest more true = more .tells rest
     go bs rest more false = refl
 
-tells-envelope : Tells locateEnvelope readEnvelope
+pub tells-envelope : Tells locateEnvelope readEnvelope
 unfolding locateEnvelope readEnvelope
 tells-envelope =
     tells-mapped toEnvelope
@@ -278,7 +278,7 @@ module _ (ed : Edition) where
   unfolding locateValue readValueBy valueAfter inEdition hasKind
   tells-value = tells-tagged (record { after = tells-kinds ed .after })
 
-  tells-operation : Tells (locateOperation ed) (readOperation ed)
+  pub tells-operation : Tells (locateOperation ed) (readOperation ed)
   unfolding locateOperation readOperationBy operationAfter
   tells-operation =
       tells-tagged
@@ -289,7 +289,7 @@ module _ (ed : Edition) where
       (tells-row 5 (tells-mapped toRemove (tells-pair tells-u64 tells-u64))
       (tells-row 6 (tells-mapped toMove (tells-pair tells-u64 (tells-pair tells-u64 tells-optional))) (tells-none operationTag refl)))))))
 
-  tells-patch : (i : ℕ) → Tells (locatePatch ed i) (readPatch ed)
+  pub tells-patch : (i : ℕ) → Tells (locatePatch ed i) (readPatch ed)
   unfolding locatePatch readPatch
   tells-patch i =
       tells-within _
