@@ -1,19 +1,18 @@
 -- The fields as the code goes through them are those of spec_explain.
-use Prim.Native.Nat.{ℕ, suc, _+_, _-_, _≤_, _<_}
+use Prim.Native.Nat.{ℕ, suc, _+_, _≤_, _<_}
 use mathlib.Core.Path.{_≡_, refl, sym, ap, _∙_}
 use mathlib.Core.Bool.{Bool, true, false}
 use mathlib.Core.List.{List, [], _∷_}
 use native.Mathlib.Omega.{arith}
-use borrow.Author.Tests.{le-leb, lt-leb, eqb-true, eqb-false, leb-true, leb-false}
+use borrow.Author.Tests.{le-leb, lt-leb, eqb-true, eqb-false}
 use lib.Dec.{leb, eqb}
 use lib.ListN.{length, getD, drop, drop-of-length-le}
 use lib.Seq.{drop-cons}
 use Rattle.spec_lists.specs.Lists.{if_then_else_}
-use Rattle.spec_lists.specs.ListLaws.{test-cases}
 use Rattle.spec_patch.specs.Edition.{Edition}
 use Rattle.spec_patch.specs.Read.{readU32, readU64}
-use Rattle.spec_explain.specs.ReadingRule.{ReadingRule, quadTag, availabilityTag, scoreRange}
-use Rattle.spec_explain.specs.Locate.{Located, past, stop, Locator, stopAt, goOn, _⨟_, field, Row, byRow, locateOptional, locateQuad, locateAvailability, locateScore, locateValue, locateEnvelope}
+use Rattle.spec_explain.specs.ReadingRule.{quadTag, availabilityTag, scoreRange}
+use Rattle.spec_explain.specs.Locate.{Located, past, stop, Locator, stopAt, goOn, _⨟_, field, byRow, locateOptional, locateQuad, locateAvailability, locateScore, locateValue, locateEnvelope}
 use Rattle.spec_explain.specs.SteadyLaws.{Steady}
 use Rattle.spec_explain.specs.SteadySetLaws.{steady-u64, steady-u32, steady-optional, steady-availability, steady-value}
 use Rattle.patch_locate.specs.Fields.{atMost, fieldOf, fieldsOf}

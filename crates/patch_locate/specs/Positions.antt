@@ -1,23 +1,22 @@
 -- Positions in a part: where a field begins and ends, what stops there, and what follows what was passed.
 use Prim.Native.Nat.{ℕ, _+_, _-_, _≤_, _<_}
 use mathlib.Core.Path.{_≡_, refl, sym, ap, ap₂, _∙_}
-use mathlib.Core.Bool.{Bool, true, false}
+use mathlib.Core.Bool.{Bool, false}
 use mathlib.Core.List.{List, [], _∷_, _++_}
 use native.Mathlib.Omega.{arith}
 use native.Mathlib.Numerals.{add-one}
 use borrow.Author.Tests.{le-leb, lt-leb, leb-true, leb-false}
 use lib.Dec.{leb}
-use lib.ListN.{length, getD, take, drop, length-append, length-drop, drop-of-length-le}
+use lib.ListN.{length, getD, drop, length-append, length-drop, drop-of-length-le}
 use lib.Seq.{drop-cons, drop-drop, drop-at}
 use Rattle.spec_lists.specs.Lists.{if_then_else_}
 use Rattle.spec_lists.specs.ListLaws.{test-cases}
-use Rattle.spec_lists.specs.Bytes.{numberOf}
-use Rattle.spec_patch.specs.Reader.{Result, read, refused, malformed, byte, number}
+use Rattle.spec_patch.specs.Reader.{byte, number}
 use Rattle.spec_explain.specs.ReadingRule as model
 use Rattle.spec_explain.specs.Locate as locating
-use Rattle.spec_explain.specs.Locate.{Stop, Locator, stopAt, goOn, _⨟_, behind, fieldThen, field, placedStop}
+use Rattle.spec_explain.specs.Locate.{Stop, Locator, stopAt, goOn, _⨟_, fieldThen, field}
 use Rattle.spec_explain.specs.SteadyLaws.{Steady}
-use Rattle.patch_locate.specs.Answers.{ruleTo, ruleOf, insideTo, insideOf, locatedAnswer}
+use Rattle.patch_locate.specs.Answers.{ruleTo, ruleOf, locatedAnswer}
 use Rattle.patch_locate.specs.Fields.{atMost}
 use Rattle.patch_locate.specs.declared.rules.ReadingRule.{ReadingRule}
 use Rattle.patch_locate.specs.declared.rules.ReadingRule.the-variants as rules

@@ -1,23 +1,22 @@
 -- Loops over the fields of a set: what is left answers as the whole does; places and the end.
-use Prim.Native.Nat.{ℕ, zero, suc, _+_, _-_, _≤_, _<_}
-use mathlib.Core.Path.{_≡_, refl, sym, ap, ap₂, _∙_}
+use Prim.Native.Nat.{ℕ, suc, _+_, _-_, _≤_, _<_}
+use mathlib.Core.Path.{_≡_, refl, sym, ap, _∙_}
 use mathlib.Core.Bool.{Bool, true, false}
-use mathlib.Core.List.{List, [], _∷_, _++_}
-use mathlib.Core.Option.{Option, none, some}
+use mathlib.Core.List.{List, [], _∷_}
 use native.Mathlib.Omega.{arith}
 use borrow.Author.Tests.{le-leb, lt-leb, lt-ltb, le-ltb, eq-eqb, ne-eqb}
-use lib.Dec.{leb, ltb, eqb}
+use lib.Dec.{eqb}
 use lib.ListN.{length, getD, drop, length-append, drop-of-length-le}
 use lib.Seq.{drop-cons}
 use Rattle.spec_lists.specs.Lists.{if_then_else_}
 use Rattle.spec_patch.specs.Sizes.{setBytes}
 use Rattle.spec_patch.specs.Edition.{Edition}
-use Rattle.spec_patch.specs.Reader.{Fault, Result, read, refused, byte}
+use Rattle.spec_patch.specs.Reader.{Fault, read, refused, byte}
 use Rattle.spec_patch.specs.Read.{readU32}
 use Rattle.spec_explain.specs.ReadingRule as model
 use Rattle.spec_explain.specs.ReadingRule.{wrongHeading}
 use Rattle.spec_explain.specs.Locate as locating
-use Rattle.spec_explain.specs.Locate.{Locator, stopAt, goOn, _⨟_, fieldThen, repeated, counted, placedStop, within, locatePatch, locateLetters, locatePatches, atEnd, stopOf, fromStart, locate}
+use Rattle.spec_explain.specs.Locate.{Locator, stopAt, _⨟_, fieldThen, repeated, counted, placedStop, locatePatch, locateLetters, locatePatches, atEnd, stopOf, fromStart, locate}
 use Rattle.spec_explain.specs.SteadyLaws.{Steady, steady-within}
 use Rattle.spec_explain.specs.SteadySetLaws.{steady-operation, steady-patches}
 use Rattle.patch_locate.specs.Answers.{ruleTo, ruleOf, insideTo, insideOf, locatedAnswer, withinTo, endTo, setAnswer}

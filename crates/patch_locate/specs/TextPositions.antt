@@ -1,17 +1,16 @@
 -- Where a text stops reading: at its length, or at its first byte.
 use Prim.Native.Nat.{ℕ, _+_, _-_, _≤_, _<_}
-use mathlib.Core.Path.{_≡_, refl, sym, ap, _∙_}
-use mathlib.Core.Bool.{Bool, true, false}
+use mathlib.Core.Path.{_≡_, ap}
+use mathlib.Core.Bool.{true, false}
 use mathlib.Core.List.{List}
 use native.Mathlib.Omega.{arith}
 use borrow.Author.Tests.{le-leb, lt-leb}
 use lib.Dec.{leb}
 use lib.ListN.{length, take, drop, length-drop}
 use lib.Seq.{length-take-le}
-use Rattle.spec_lists.specs.Lists.{if_then_else_}
 use Rattle.spec_patch.specs.Sizes.{textBytes}
-use Rattle.spec_patch.specs.TextRule.{fewBytes, allowed, fewCharacters}
-use Rattle.spec_patch.specs.Reader.{Result, read, refused}
+use Rattle.spec_patch.specs.TextRule.{allowed, fewCharacters}
+use Rattle.spec_patch.specs.Reader.{read, refused}
 use Rattle.spec_patch.specs.Read.{readU32}
 use Rattle.spec_explain.specs.Locate.{locateText}
 use Rattle.patch_locate.specs.Answers.{locatedAnswer}

@@ -1,9 +1,9 @@
 -- Whether a target is known, and the answers of the search.
 use Prim.Native.Nat.{ℕ, _+_}
-use mathlib.Core.Path.{_≡_, refl, sym, ap, _∙_}
+use mathlib.Core.Path.{_≡_, refl}
 use mathlib.Core.Bool.{Bool, true, false}
 use mathlib.Core.List.{List, [], _∷_, flatMap}
-use mathlib.Core.Option.{Option, none, some}
+use mathlib.Core.Option.{none, some}
 use native.Mathlib.Omega.{arith}
 use lib.Dec.{eqb}
 use Rattle.spec_lists.specs.Lists.{if_then_else_}
@@ -15,7 +15,7 @@ use Rattle.spec_session.specs.Batch.{inCatalogue, absentTargets}
 use Rattle.spec_explain.specs.Walk.{tested}
 use Rattle.spec_explain.specs.Explain.{targetKnown}
 use Rattle.check_targets.specs.Targets.{targetNumbers}
-use Rattle.check_quick.specs.Anchors.{anchored, absentOne, absentAmong, absentOf}
+use Rattle.check_quick.specs.Anchors.{anchored, absentOne, absentAmong}
 use Rattle.session_gates.specs.Lent.{Lent}
 use Rattle.session_gates.specs.LentLaws.{absent-is}
 

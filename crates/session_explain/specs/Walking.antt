@@ -1,12 +1,12 @@
 -- A walk over a set, one step at a time: what is left, from what stands now, gives what the whole walk gives. One law for every step function.
 use Prim.Native.Nat.{ℕ, suc, _+_}
-use mathlib.Core.Path.{_≡_, refl, sym, ap, ap₂, _∙_}
-use mathlib.Core.List.{List, [], _∷_}
+use mathlib.Core.Path.{_≡_, sym, ap, ap₂, _∙_}
+use mathlib.Core.List.{List, []}
 use mathlib.Core.Option.{Option, none, some}
 use native.Mathlib.Omega.{arith}
 use Rattle.spec_patch.specs.Edition.{Edition}
 use Rattle.spec_patch.specs.Patch.{Operation, Patch}
-use Rattle.spec_explain.specs.Walk.{Halt, Walk, through, halted, walkOn, walkStep, walkOperations, walkPatches}
+use Rattle.spec_explain.specs.Walk.{Walk, through, halted, walkOn, walkStep, walkOperations, walkPatches}
 use Rattle.projection_patch.specs.declared.patch.ProjectionPatch.{ProjectionPatch}
 use Rattle.projection_patch.specs.declared.patch.ProjectionPatchOperation.{ProjectionPatchOperation}
 use Rattle.patch_walk.specs.Steps.{AtSteps}

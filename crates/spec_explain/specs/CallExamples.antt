@@ -4,7 +4,7 @@ use mathlib.Core.Path.{_≡_, refl}
 use mathlib.Core.List.{List, [], _∷_, _++_, map, flatMap}
 use mathlib.Core.Option.{Option, none, some}
 use lib.ListN.{replicate}
-use Rattle.spec_patch.specs.Patch.{unsigned, score, insert, remove, Envelope, Patch}
+use Rattle.spec_patch.specs.Patch.{unsigned, score, insert, remove, Patch}
 use Rattle.spec_patch.specs.Edition.{Edition, v1, v2}
 use Rattle.spec_patch.specs.Encode.{encode}
 use Rattle.spec_patch.specs.Write.{valuePasses}
@@ -17,9 +17,9 @@ use Rattle.spec_listing.specs.Split.{prepend, split}
 use Rattle.spec_import.specs.Import.{importNumber, lines, termWith, termOfFields, readTerm, keepsText, also, lineThen, readTerms, insertOf, patchOf}
 use Rattle.spec_explain.specs.ReadingRule.{wrongHeading, bytesLeft, outside}
 use Rattle.spec_explain.specs.OperationRule.{keyAbsent}
-use Rattle.spec_explain.specs.Reason.{Reason, unreadable, hasFindings, operationFails}
+use Rattle.spec_explain.specs.Reason.{unreadable, hasFindings, operationFails}
 use Rattle.spec_explain.specs.CallReasons as CallReasons
-use Rattle.spec_explain.specs.CallReasons.{explainCheck, explainListing, ConversionReason, notRead, kindMissing, noRoom, conversionRefusal, conversionWord, explainConversion, LineRule, lineFields, lineKey, lineText, lineBytes, lineCharacters, lineCount, BadLine, ImportReason, badLine, setOver, patchFindings, noImportRoom, importRefusal, importWord, explainImport}
+use Rattle.spec_explain.specs.CallReasons.{explainCheck, explainListing, ConversionReason, notRead, kindMissing, noRoom, conversionRefusal, conversionWord, explainConversion, LineRule, lineFields, lineKey, lineText, lineBytes, lineCharacters, lineCount, ImportReason, badLine, setOver, patchFindings, noImportRoom, importRefusal, importWord, explainImport}
 use Rattle.spec_explain.specs.ExplainExamples.{numbered}
 use Rattle.spec_explain.specs.Opened.{opened}
 

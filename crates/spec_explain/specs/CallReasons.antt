@@ -2,7 +2,7 @@
 -- Their numbers come under no cap.
 use Prim.Native.Nat.{ℕ, suc}
 use mathlib.Core.Path.{_≡_}
-use mathlib.Core.Bool.{Bool, true, false}
+use mathlib.Core.Bool.{true}
 use mathlib.Core.List.{List, [], _∷_, _++_}
 use mathlib.Core.Option.{Option, none, some}
 use lib.Dec.{leb, ltb}
@@ -30,7 +30,7 @@ use Rattle.spec_explain.specs.ReadingRule.{faultOf, readingWord, Unread}
 use Rattle.spec_explain.specs.Locate.{locate}
 use Rattle.spec_explain.specs.Walk.{Walk, through, halted, walkPatches, tested}
 use Rattle.spec_explain.specs.Reason.{Reason}
-use Rattle.spec_explain.specs.Explain.{Explained, fine, _>>=_, _>>_, patchesOf, readable, noFindings, applyStep, applies, reasonOf}
+use Rattle.spec_explain.specs.Explain.{fine, _>>=_, _>>_, patchesOf, readable, noFindings, applyStep, applies, reasonOf}
 
 -- ---- the check: only what is not read is refused
 

@@ -1,5 +1,5 @@
 -- The reasons of the check, the listing, the conversion and a term list: there is one exactly where the call refuses, and it has the refusal's number.
-use Prim.Native.Nat.{ℕ, zero, suc, _+_, _<_}
+use Prim.Native.Nat.{ℕ, suc, _+_, _<_}
 use mathlib.Core.Path.{_≡_, refl, sym, ap, _∙_}
 use mathlib.Core.Bool.{Bool, true, false, _&&_}
 use mathlib.Core.List.{List, [], _∷_, _++_, flatMap}
@@ -24,12 +24,12 @@ use Rattle.spec_projection.specs.Projection.{Projection, empty}
 use Rattle.spec_projection.specs.Apply.{applySteps, replaySteps, operationsOf}
 use Rattle.spec_session.specs.DiagnosticsLaws.{reading-number, operation-number}
 use Rattle.spec_listing.specs.Listing.{projectionLines, refusalLine, outcomeLines, readingLines, listing}
-use Rattle.spec_conversion.specs.Conversion.{otherEdition, unread, outputTooShort, Converted, converted, refused, kindIn, allKinds, rewritten, convertTo, convert}
+use Rattle.spec_conversion.specs.Conversion.{otherEdition, outputTooShort, Converted, converted, refused, kindIn, allKinds, rewritten, convertTo, convert}
 use Rattle.spec_decimal.specs.Decimal.{readDecimal}
 use Rattle.spec_listing.specs.Escapes.{tab}
 use Rattle.spec_listing.specs.Split.{split}
 use Rattle.spec_import.specs.Import as imports
-use Rattle.spec_import.specs.Import.{Term, ImportRefusal, lines, termWith, termOfFields, readTerm, keepsText, Terms, terms, faulty, also, lineThen, readTerms, patchOf, Imported, imported, importPatch, importTerms}
+use Rattle.spec_import.specs.Import.{Term, lines, termWith, termOfFields, readTerm, keepsText, Terms, terms, faulty, also, lineThen, readTerms, patchOf, Imported, imported, importPatch, importTerms}
 use Rattle.spec_explain.specs.ReadingRule.{faultOf, Unread}
 use Rattle.spec_explain.specs.Locate.{locate}
 use Rattle.spec_explain.specs.LocateLaws.{Agrees, reads, stops, locate-agrees}
@@ -37,7 +37,7 @@ use Rattle.spec_explain.specs.OperationRule.{operationFault, ruleOf}
 use Rattle.spec_explain.specs.Walk.{Walk, through, halted, walkPatches, tested, operationsBefore, FirstLacking}
 use Rattle.spec_explain.specs.WalkLaws.{operations-parted, test-through, test-first}
 use Rattle.spec_explain.specs.Reason.{Reason, unreadable, hasFindings, operationFails, reasonNumber}
-use Rattle.spec_explain.specs.Explain.{Explained, fine, because, _>>=_, _>>_, patchesOf, readable, noFindings, applyStep, applies, reasonOf}
+use Rattle.spec_explain.specs.Explain.{fine, _>>=_, _>>_, patchesOf, readable, noFindings, applyStep, applies, reasonOf}
 use Rattle.spec_explain.specs.ExplainLaws.{all-applied, first-failing, stopped-there}
 use Rattle.spec_explain.specs.CallReasons as reasons
 use Rattle.spec_explain.specs.CallReasons.{explainCheck, explainListing, ConversionReason, conversionRefusal, explainRewriting, explainConverting, explainConversion, LineRule, lineFields, lineKey, lineText, lineBytes, lineCharacters, lineCount, lineRefusal, termRule, fieldsRule, lineRule, BadLine, orLater, firstLine, ImportReason, badLine, setOver, patchFindings, noImportRoom, importRefusal, explainFound, explainPatch, termsOf, explainImport, FirstBadLine}

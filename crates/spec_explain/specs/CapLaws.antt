@@ -1,5 +1,5 @@
 -- The reason's number is the batch's before the cap, and under the cap the call tells what the batch's answer tells.
-use Prim.Native.Nat.{ℕ, suc, min, _<_}
+use Prim.Native.Nat.{ℕ, suc, min}
 use mathlib.Core.Path.{_≡_, refl, sym, ap, _∙_}
 use mathlib.Core.Bool.{Bool, true, false}
 use mathlib.Core.List.{List}
@@ -14,7 +14,7 @@ use Rattle.spec_session.specs.Diagnostics.{SessionRefusal, sessionNumber, Diagn
 use Rattle.spec_session.specs.Lifecycle.{rejected}
 use Rattle.spec_session.specs.Batch.{BatchEnvelope, BatchStep, rejectBatch, batch}
 use Rattle.spec_explain.specs.Reason.{Reason, refusalOf, reasonNumber, logicalOf}
-use Rattle.spec_explain.specs.Explain.{overDeclared, explainSteps, explainBatch, Explanation, noReason, withheld, given, underCap, explanationNumber, explain}
+use Rattle.spec_explain.specs.Explain.{overDeclared, explainSteps, explainBatch, withheld, given, underCap, explanationNumber, explain}
 use Rattle.spec_explain.specs.Claim.{withCap}
 use Rattle.spec_explain.specs.ExplainLaws.{rejected-by, logical-some, no-diagnostics, reason-exactly}
 

@@ -11,7 +11,7 @@ use Rattle.spec_patch.specs.Patch.{Operation, Patch}
 use Rattle.spec_patch.specs.Edition.{Edition}
 use Rattle.spec_patch.specs.Read.{SetReading, patches, fault, readSet}
 use Rattle.spec_checks.specs.Finding.{Finding}
-use Rattle.spec_checks.specs.Findings.{Place, Findings, findings}
+use Rattle.spec_checks.specs.Findings.{Place, findings}
 use Rattle.spec_projection.specs.Projection.{Projection}
 use Rattle.spec_projection.specs.Effects.{targetOf}
 use Rattle.spec_projection.specs.Apply.{Outcome, done, stopped, applyOperation, operationsOf}
@@ -21,7 +21,7 @@ use Rattle.spec_session.specs.Batch.{BatchEnvelope, inCatalogue, absentTargets,
 use Rattle.spec_explain.specs.ReadingRule.{Unread}
 use Rattle.spec_explain.specs.Locate.{locate}
 use Rattle.spec_explain.specs.OperationRule.{ruleOf}
-use Rattle.spec_explain.specs.Walk.{Halt, Walk, through, halted, walkPatches, tested}
+use Rattle.spec_explain.specs.Walk.{Walk, through, halted, walkPatches, tested}
 use Rattle.spec_explain.specs.Reason.{Limit, patchLimit, byteLimit, bothLimits, Reason, foreignSession, sessionClosed, declaredLimits, unreadable, hasFindings, countsDiffer, referencesOver, unknownTarget, cursorMismatch, operationFails, reasonNumber}
 
 -- ---- steps, of which the first that is refused gives the reason

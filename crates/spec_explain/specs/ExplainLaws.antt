@@ -1,5 +1,5 @@
 -- A reason is given exactly where the batch is rejected, and it is the batch's refusal; what it says holds.
-use Prim.Native.Nat.{ℕ, zero, suc, _+_, min, _≤_, _<_}
+use Prim.Native.Nat.{ℕ, _+_}
 use mathlib.Core.Path.{_≡_, refl, sym, ap, subst, _∙_}
 use mathlib.Core.Bool.{Bool, true, false, not, _&&_, _||_}
 use mathlib.Core.List.{List, [], _∷_, _++_}
@@ -14,10 +14,9 @@ use Rattle.spec_lists.specs.ListLaws.{test-cases, and-left, and-right, or-left,
 use Rattle.spec_patch.specs.Sizes.{largestU64}
 use Rattle.spec_patch.specs.Patch.{Operation, Patch}
 use Rattle.spec_patch.specs.Edition.{Edition}
-use Rattle.spec_patch.specs.Reader.{Fault}
 use Rattle.spec_patch.specs.Read.{SetReading, patches, fault, readSet}
 use Rattle.spec_checks.specs.Finding.{Finding}
-use Rattle.spec_checks.specs.Findings.{Place, findings}
+use Rattle.spec_checks.specs.Findings.{findings}
 use Rattle.spec_projection.specs.Projection.{Projection}
 use Rattle.spec_projection.specs.Effects.{targetOf}
 use Rattle.spec_projection.specs.Apply.{OperationFault, Outcome, done, stopped, ReplayStep, applyOperation, applySteps, andThen, replaySteps, operationsOf}
@@ -25,12 +24,12 @@ use Rattle.spec_projection.specs.Apply as applying
 use Rattle.spec_projection.specs.ApplyLaws.{fails-there}
 use Rattle.spec_session.specs.Session.{Lifecycle, created, active, suspended, closed, Cursor, uninitialized, at, Catalogue, Session}
 use Rattle.spec_session.specs.Diagnostics as session
-use Rattle.spec_session.specs.Diagnostics.{SessionRefusal, sessionNumber, ofReading, ofOperation, diagnosticsOf, noDiagnostics}
-use Rattle.spec_session.specs.Lifecycle.{Disposition, applied, noChange, rejected, isClosed}
+use Rattle.spec_session.specs.Diagnostics.{SessionRefusal, noDiagnostics}
+use Rattle.spec_session.specs.Lifecycle.{applied, rejected, isClosed}
 use Rattle.spec_session.specs.Batch as batching
-use Rattle.spec_session.specs.Batch.{BatchEnvelope, BatchStep, Check, pass, refuse, inCatalogue, absentTargets, takesNumber, batchChecks, rejectBatch, keepSession, applyBatch, candidate, commit, concludeBatch, batch}
+use Rattle.spec_session.specs.Batch.{BatchEnvelope, BatchStep, Check, pass, inCatalogue, absentTargets, takesNumber, batchChecks, rejectBatch, keepSession, applyBatch, candidate, commit, concludeBatch, batch}
 use Rattle.spec_session.specs.BatchLaws.{absent-append}
-use Rattle.spec_explain.specs.ReadingRule.{faultOf, Unread}
+use Rattle.spec_explain.specs.ReadingRule.{Unread}
 use Rattle.spec_explain.specs.Locate.{locate}
 use Rattle.spec_explain.specs.LocateLaws.{Agrees, reads, stops, locate-agrees}
 use Rattle.spec_explain.specs.FirstByteLaws.{first-byte}
@@ -39,8 +38,8 @@ use Rattle.spec_explain.specs.OperationRule.{OperationRule, operationFau
 use Rattle.spec_explain.specs.OperationRuleLaws.{rule-told}
 use Rattle.spec_explain.specs.Walk.{Halt, Walk, through, halted, walkPatches, onward, tested, patchId, stepsBefore, operationsBefore, runs, FirstLacking}
 use Rattle.spec_explain.specs.WalkLaws.{walk-through, walk-first, steps-parted, operations-parted, test-through, test-first}
-use Rattle.spec_explain.specs.Reason.{Limit, Reason, foreignSession, sessionClosed, declaredLimits, unreadable, hasFindings, countsDiffer, referencesOver, unknownTarget, cursorMismatch, operationFails, refusalOf, reasonNumber, logicalOf}
-use Rattle.spec_explain.specs.Explain.{Explained, fine, because, _>>=_, _>>_, require, whichLimit, overDeclared, patchesOf, readable, noFindings, targetKnown, knownTargets, numberAfter, kept, applyStep, applies, explainSteps, reasonOf, explainBatch, Explanation, noReason, withheld, given, underCap, explanationNumber, explain}
+use Rattle.spec_explain.specs.Reason.{Reason, foreignSession, sessionClosed, unreadable, hasFindings, countsDiffer, referencesOver, unknownTarget, cursorMismatch, operationFails, refusalOf, logicalOf}
+use Rattle.spec_explain.specs.Explain.{Explained, fine, because, _>>=_, _>>_, require, whichLimit, overDeclared, patchesOf, readable, noFindings, targetKnown, knownTargets, numberAfter, kept, applyStep, applies, explainSteps, reasonOf, explainBatch}
 use Rattle.spec_explain.specs.Claim.{FirstFailing, Says}
 
 -- ---- targets

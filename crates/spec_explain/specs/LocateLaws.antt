@@ -11,13 +11,13 @@ use lib.ListN.{length, take, drop}
 use Rattle.spec_lists.specs.Lists.{if_then_else_, any}
 use Rattle.spec_patch.specs.Sizes.{setBytes, setPatches, patchOperations, highestScore}
 use Rattle.spec_patch.specs.TextRule.{fewBytes, allowed, fewCharacters}
-use Rattle.spec_patch.specs.Patch.{Value, quad, signed, text, unsigned, score, Operation, Patch, N, F, T, S, available, unavailable, hidden, pending, stale}
+use Rattle.spec_patch.specs.Patch.{Value, quad, signed, text, unsigned, score, Patch, N, F, T, S, available, unavailable, hidden, pending, stale}
 use Rattle.spec_patch.specs.Edition.{Edition, v1, v2, addedKinds, kinds, hasKind}
 use Rattle.spec_patch.specs.Encode.{heading}
 use Rattle.spec_patch.specs.Reader.{Fault, malformed, overCapacity, Result, read, refused, Reader, onward, followed, mapped, pair, orTag, noTag, many, nothing, byte, bytes, number, literal}
-use Rattle.spec_patch.specs.Read.{readU32, readU64, readI64, readScore, readCounted, optionalAfter, readOptional, quadAfter, readQuad, availabilityAfter, readAvailability, readTextBy, readText, valueAfterWith, valueAfter, inEdition, readValueBy, readValue, operationAfterWith, operationAfter, readOperationBy, readOperation, toSetBinding, toSetAvailability, toInsert, toUpdate, toRemove, toMove, readEnvelope, toEnvelope, readPatch, toPatch, readPatches, SetReading, patches, fault, ended, readSet}
-use Rattle.spec_explain.specs.ReadingRule.{ReadingRule, setTooLong, wrongHeading, tooFewBytes, operationTag, valueKind, optionalTag, availabilityTag, quadTag, scoreRange, notUtf8, patchCount, operationCount, textLength, characterCount, bytesLeft, faultOf, Inside, outside, inPatch, inOperation, Unread}
-use Rattle.spec_explain.specs.Locate.{Stop, Located, past, stop, Locator, stopAt, goOn, _⨟_, behind, fieldThen, field, Row, _⇒_, byRow, tagged, repeated, counted, placed, placedStop, within, ends, locateOptional, locateQuad, locateAvailability, locateText, locateScore, scoreRow, locateValue, locateOperation, locateEnvelope, locatePatch, locateLetters, locatePatches, atEnd, stopOf, fromStart, locate}
+use Rattle.spec_patch.specs.Read.{readU32, readU64, readScore, readCounted, optionalAfter, readOptional, quadAfter, readQuad, availabilityAfter, readAvailability, readTextBy, readText, valueAfterWith, valueAfter, inEdition, readValueBy, readValue, operationAfter, readOperationBy, readOperation, toSetBinding, toSetAvailability, toInsert, toUpdate, toRemove, toMove, readEnvelope, toEnvelope, readPatch, toPatch, readPatches, SetReading, patches, fault, ended, readSet}
+use Rattle.spec_explain.specs.ReadingRule.{ReadingRule, setTooLong, wrongHeading, operationTag, valueKind, optionalTag, availabilityTag, quadTag, scoreRange, notUtf8, patchCount, operationCount, textLength, characterCount, faultOf, Inside, outside, Unread}
+use Rattle.spec_explain.specs.Locate.{Located, past, stop, Locator, stopAt, goOn, _⨟_, behind, fieldThen, field, Row, _⇒_, byRow, tagged, repeated, counted, placedStop, within, ends, locateOptional, locateQuad, locateAvailability, locateText, locateScore, scoreRow, locateValue, locateOperation, locateEnvelope, locatePatch, locateLetters, locatePatches, atEnd, stopOf, fromStart, locate}
 
 -- ---- what becomes of bytes: some are left, or there is a fault
 

@@ -11,7 +11,7 @@ use Rattle.spec_listing.specs.Ascii.{ascii}
 use Rattle.spec_patch.specs.Sizes.{projectionBindings, projectionAvailabilities, projectionEntries}
 use Rattle.spec_patch.specs.Patch.{Availability, Value, Operation, setBinding, setAvailability, insert, update, remove, move}
 use Rattle.spec_projection.specs.Projection.{Projection, bindingKey, availabilityKey}
-use Rattle.spec_projection.specs.Entries.{contains, containsNeighbour, insertEntry, removeEntry}
+use Rattle.spec_projection.specs.Entries.{contains, containsNeighbour, removeEntry}
 use Rattle.spec_projection.specs.Apply.{OperationFault, keyRule, projectionFull}
 
 pub data OperationRule : Type 0 where

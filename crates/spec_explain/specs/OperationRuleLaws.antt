@@ -1,13 +1,11 @@
 -- An operation that fails breaks the rule that is told of it, and its number is that of the rule.
-use Prim.Native.Nat.{ℕ, suc, _<_}
-use mathlib.Core.Path.{_≡_, refl, sym, ap, _∙_}
-use mathlib.Core.Bool.{Bool, true, false, not}
+use Prim.Native.Nat.{ℕ}
+use mathlib.Core.Path.{_≡_, refl, sym}
 use mathlib.Core.Option.{Option, none, some}
 use native.Mathlib.Omega.{arith}
-use borrow.Author.Tests.{leb-true, leb-false}
+use borrow.Author.Tests.{leb-false}
 use lib.Dec.{leb}
 use lib.ListN.{length}
-use Rattle.spec_lists.specs.Lists.{if_then_else_, any}
 use Rattle.spec_lists.specs.ListLaws.{test-cases}
 use Rattle.spec_lists.specs.Order.{upsert}
 use Rattle.spec_patch.specs.Sizes.{projectionBindings, projectionAvailabilities, projectionEntries}
@@ -17,9 +15,9 @@ use Rattle.spec_projection.specs.FirstMatch.{findFirst}
 use Rattle.spec_projection.specs.FirstMatchLaws.{findFirst-passes, findFirst-any, findFirst-none}
 use Rattle.spec_projection.specs.Entries.{isEntry, contains, containsNeighbour, insertEntry, removeEntry}
 use Rattle.spec_projection.specs.EntriesLaws.{entry-collection, entry-key, insertEntry-length}
-use Rattle.spec_projection.specs.Apply.{OperationFault, keyRule, projectionFull, Outcome, done, stopped, withBindings, withAvailabilities, withEntries, applyBinding, applyAvailability, applyInsert, applyUpdate, applyRemove, applyMove, applyOperation}
+use Rattle.spec_projection.specs.Apply.{OperationFault, done, stopped, applyBinding, applyAvailability, applyInsert, applyUpdate, applyRemove, applyMove, applyOperation}
 use Rattle.spec_projection.specs.ApplyLaws.{stopped-not-done}
-use Rattle.spec_explain.specs.OperationRule.{OperationRule, keyPresent, keyAbsent, neighbourAbsent, bindingsFull, availabilitiesFull, entriesFull, operationFault, ruleOf, Breaks, addsBinding, addsAvailability, insertsPresent, insertsBeforeAbsent, insertsIntoFull, updatesAbsent, removesAbsent, movesAbsent, movesBeforeAbsent}
+use Rattle.spec_explain.specs.OperationRule.{operationFault, ruleOf, Breaks, addsBinding, addsAvailability, insertsPresent, insertsBeforeAbsent, insertsIntoFull, updatesAbsent, removesAbsent, movesAbsent, movesBeforeAbsent}
 
 -- the rule that is told is broken, and has the number of the fault
 pub record Told (p : Projection) (o : Operation) (f : OperationFault) : Type 0 where

@@ -3,10 +3,9 @@ use Prim.Native.Nat.{ℕ, _<_}
 use mathlib.Core.Path.{_≡_}
 use mathlib.Core.List.{List}
 use Rattle.spec_patch.specs.Sizes.{setPatches, patchOperations}
-use Rattle.spec_patch.specs.Patch.{Operation, Envelope, Patch}
 use Rattle.spec_patch.specs.Edition.{Edition}
 use Rattle.spec_patch.specs.Encode.{heading}
-use Rattle.spec_patch.specs.Reader.{Fault, Result, read, refused, Reader, pair, many, literal}
+use Rattle.spec_patch.specs.Reader.{Fault, read, refused, Reader, pair, many, literal}
 use Rattle.spec_patch.specs.Read.{readCount, readEnvelope, readOperation, readPatch}
 use Rattle.spec_explain.specs.ReadingRule.{Inside, outside, inPatch, inOperation}
 

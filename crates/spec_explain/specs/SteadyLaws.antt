@@ -1,19 +1,19 @@
 -- A field is passed, or stopped at, by the bytes up to its end: what follows them changes nothing, and without them reading breaks off at the
 -- field. One law for each way of putting locators together.
-use Prim.Native.Nat.{ℕ, zero, suc, _+_, _≤_, _<_}
+use Prim.Native.Nat.{ℕ, _+_}
 use mathlib.Core.Path.{_≡_, refl, sym, ap, _∙_}
 use mathlib.Core.Bool.{Bool, true, false}
 use mathlib.Core.List.{List, [], _∷_, _++_, append-assoc}
 use native.Mathlib.Omega.{arith}
 use borrow.Author.Tests.{le-leb, lt-leb, leb-true, leb-false}
-use lib.Dec.{leb, eqb}
+use lib.Dec.{leb}
 use lib.ListN.{length, take, drop, take-append-drop, length-append}
 use lib.Seq.{take-at, drop-at, length-take-le}
 use Rattle.spec_lists.specs.Lists.{if_then_else_}
 use Rattle.spec_lists.specs.Bytes.{numberOf}
 use Rattle.spec_patch.specs.Reader.{Fault, malformed, Result, read, refused, Reader, byte, bytes, number}
 use Rattle.spec_explain.specs.ReadingRule.{ReadingRule, tooFewBytes, Inside, outside}
-use Rattle.spec_explain.specs.Locate.{Stop, Located, past, stop, Locator, stopAt, goOn, _⨟_, behind, fieldThen, field, placed, placedStop, within, ends}
+use Rattle.spec_explain.specs.Locate.{Stop, Located, past, stop, Locator, stopAt, goOn, _⨟_, behind, fieldThen, field, placedStop, within, ends}
 
 -- the same stop, with so many bytes more behind the field
 abbrev pub further : Stop → ℕ → Stop

@@ -1,24 +1,24 @@
 -- The locators of a set's fields are steady: what stops reading stands at its field, whatever follows.
-use Prim.Native.Nat.{ℕ, zero, suc, _+_, _≤_, _<_}
+use Prim.Native.Nat.{ℕ, zero, suc}
 use mathlib.Core.Path.{_≡_, refl, sym, ap, _∙_}
 use mathlib.Core.Bool.{Bool, true, false}
 use mathlib.Core.List.{List, [], _∷_, _++_, append-assoc}
 use native.Mathlib.Omega.{arith}
-use borrow.Author.Tests.{le-leb, lt-leb, leb-true, leb-false}
+use borrow.Author.Tests.{leb-true}
 use lib.Dec.{leb, eqb}
-use lib.ListN.{length, take, drop, take-append-drop, length-append}
+use lib.ListN.{length, length-append}
 use Rattle.spec_lists.specs.Lists.{if_then_else_, All}
 use Rattle.spec_lists.specs.ListLaws.{test-cases}
 use Rattle.spec_patch.specs.Sizes.{setPatches, patchOperations, highestScore}
 use Rattle.spec_patch.specs.TextRule.{fewBytes, allowed, fewCharacters}
 use Rattle.spec_patch.specs.Edition.{Edition, v1, v2}
 use Rattle.spec_patch.specs.Encode.{heading}
-use Rattle.spec_patch.specs.Reader.{Fault, malformed, Result, read, refused, byte, bytes}
+use Rattle.spec_patch.specs.Reader.{Fault, malformed, Result, read, refused, bytes}
 use Rattle.spec_patch.specs.Read.{readU32, readU64}
 use Rattle.spec_patch.specs.Codec.{bytes-long}
-use Rattle.spec_explain.specs.ReadingRule.{ReadingRule, tooFewBytes, operationTag, valueKind, optionalTag, availabilityTag, quadTag, scoreRange, wrongHeading, notUtf8, patchCount, operationCount, textLength, characterCount, Inside, outside, inPatch, inOperation}
-use Rattle.spec_explain.specs.Locate.{Stop, Located, past, stop, Locator, stopAt, goOn, _⨟_, behind, fieldThen, field, Row, _⇒_, byRow, tagged, repeated, counted, within, ends, locateOptional, locateQuad, locateAvailability, locateText, locateScore, scoreRow, locateValue, locateOperation, locateEnvelope, locatePatch, locateLetters, locatePatches}
-use Rattle.spec_explain.specs.SteadyLaws.{further, brokenOff, Decided, short, fixed, Passed, Stopped, Steady, stop-is, past-is, not-both, steady-ends, steady-then, steady-within, Wide, wide-byte, wide-bytes, wide-number, Follows, refuses, goesOn, steady-field}
+use Rattle.spec_explain.specs.ReadingRule.{ReadingRule, tooFewBytes, operationTag, valueKind, optionalTag, availabilityTag, quadTag, scoreRange, wrongHeading, notUtf8, patchCount, operationCount, textLength, characterCount, outside}
+use Rattle.spec_explain.specs.Locate.{Stop, Located, past, stop, Locator, stopAt, behind, field, Row, byRow, tagged, repeated, counted, ends, locateOptional, locateQuad, locateAvailability, locateText, locateScore, scoreRow, locateValue, locateOperation, locateEnvelope, locatePatch, locateLetters, locatePatches}
+use Rattle.spec_explain.specs.SteadyLaws.{short, fixed, Passed, Stopped, Steady, stop-is, past-is, not-both, steady-ends, steady-then, steady-within, wide-byte, wide-bytes, wide-number, Follows, refuses, goesOn, steady-field}
 
 -- ---- numbers
 

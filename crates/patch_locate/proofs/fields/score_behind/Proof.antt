@@ -7,7 +7,7 @@ use native.Mathlib.Omega.{arith}
 use lib.ListN.{length, drop}
 use Rattle.spec_patch.specs.Edition.{Edition, v1, v2, addedKinds, kinds, hasKind}
 use Rattle.spec_explain.specs.ReadingRule.{valueKind}
-use Rattle.spec_explain.specs.Locate.{Located, stopAt, byRow, locateScore, scoreRow}
+use Rattle.spec_explain.specs.Locate.{stopAt, byRow, locateScore, scoreRow}
 use Rattle.projection_patch.specs.Meaning.{editionOf}
 use Rattle.patch_locate.specs.Answers.{locatedAnswer}
 use Rattle.patch_locate.specs.FieldsLaws.{score-is}

@@ -1,5 +1,4 @@
 -- `patch_locate::fields::text_at` meets its contract: the length, then the text.
-use Prim.Native.Nat.{_+_}
 use mathlib.Core.Path.{_∙_}
 use native.Mathlib.Omega.{arith}
 use Rattle.projection_patch.proofs.At.{NumberAt, u32-at, u32-short}

@@ -4,7 +4,7 @@ use mathlib.Core.Path.{_≡_, refl, sym, ap, _∙_}
 use mathlib.Core.List.{List, [], _∷_}
 use lib.ListN.{length}
 use Rattle.spec_lists.specs.Bytes.{littleEndian}
-use Rattle.spec_patch.specs.Edition.{Edition, v1, v2, digit, letters}
+use Rattle.spec_patch.specs.Edition.{v1, v2, digit, letters}
 use Rattle.spec_patch.specs.Encode.{heading}
 use Rattle.spec_explain.specs.Locate.{locateLetters}
 use Rattle.projection_patch.specs.Meaning.{editionOf}

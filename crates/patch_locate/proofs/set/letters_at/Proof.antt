@@ -1,5 +1,5 @@
 -- `patch_locate::set::letters_at` meets its contract: what is left of the letters answers from the same position on as the whole does.
-use Prim.Native.Nat.{ℕ, _+_, _-_, _≤_}
+use Prim.Native.Nat.{_-_, _≤_}
 use mathlib.Core.Path.{_≡_, refl, sym, ap, _∙_}
 use native.Mathlib.Omega.{arith}
 use lib.ListN.{length, drop}

@@ -1,10 +1,7 @@
 -- `patch_locate::set::patch_fields` meets its contract: the envelope, then what stands behind it.
 use mathlib.Core.Path.{_≡_, ap, _∙_}
-use mathlib.Core.List.{List}
-use Prim.Native.Nat.{ℕ}
 use lib.ListN.{length, drop}
 use Rattle.spec_patch.specs.Sizes.{patchOperations}
-use Rattle.spec_patch.specs.Edition.{Edition}
 use Rattle.spec_explain.specs.ReadingRule.{operationCount}
 use Rattle.spec_explain.specs.Locate.{counted, locateEnvelope}
 use Rattle.spec_explain.specs.SteadySetLaws.{steady-envelope}

@@ -1,5 +1,4 @@
 -- `patch_locate::set::patches_counted` meets its contract: the count, and so many patches.
-use Prim.Native.Nat.{_+_}
 use mathlib.Core.Path.{_∙_}
 use native.Mathlib.Omega.{arith}
 use Rattle.spec_patch.specs.Sizes.{setPatches}

@@ -1,6 +1,6 @@
 -- `session_explain::targets::target_known` meets its contract: none is counted as absent.
 use Prim.Native.Nat.{ℕ}
-use mathlib.Core.Path.{sym, ap, _∙_}
+use mathlib.Core.Path.{ap, _∙_}
 use lib.Dec.{eqb}
 use Rattle.spec_checks.specs.Target.{MutationTarget}
 use Rattle.check_quick.specs.Anchors.{anchored, absentOne}
