@@ -18,7 +18,7 @@ LANDED = [
     "marks",
     # "lengths",
     "escapes",
-    # "depends",
+    "depends",
     # "pages",
     # "print",
     # "import",

@@ -3,3 +3,5 @@ pub mod Records
 pub mod Checks
 pub mod SetUps
 pub mod Conversions
+pub mod Keys
+pub mod DependencyLines

@@ -14,7 +14,7 @@ use Rattle.script_parser.specs.declared.SetupLine.the-variants.{Session,
 use Rattle.script_parser.specs.declared.CallLine.{CallLine}
 use Rattle.script_parser.specs.declared.CallLine.the-variants.{Create, Apply, Show, ValueBinding, ValueNode, ValueEntry, MarkBinding, MarkNode, MarkEntry, Senders, Wait, Turn, Edition}
 use Rattle.script_parser.specs.declared.SetLine.{SetLine}
-use Rattle.script_parser.specs.declared.SetLine.the-variants.{Batch, Check, List as Listed, Convert}
+use Rattle.script_parser.specs.declared.SetLine.the-variants.{Batch, Check, List as Listed, Convert, Depends}
 use Rattle.script_parser.specs.declared.ScriptCommand.{ScriptCommand}
 use Rattle.script_parser.specs.declared.ScriptCommand.the-variants.{Nothing, Setup, Call, WithSet, Other}
 
@@ -51,6 +51,7 @@ withSetOf (Batch b) = script.batch (envelopeOf b) (b .«target_references»)
 withSetOf Check = script.check
 withSetOf Listed = script.list
 withSetOf (Convert room) = script.convert room
+withSetOf (Depends room) = script.depends room
 
 abbrev pub commandOf : List ℕ → ScriptCommand → Command
 commandOf line Nothing = script.nothing

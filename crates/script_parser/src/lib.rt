@@ -54,12 +54,13 @@ pub enum CallLine {
     Edition(ProjectionPatchEdition),
 }
 
-// What a line asks for with its set; a conversion into so many bytes.
+// What a line asks for with its set; a conversion into so many bytes, and what the set depends on into so many places.
 pub enum SetLine {
     Batch(BatchLine),
     Check,
     List,
     Convert(u16),
+    Depends(u16),
 }
 
 // What a line asks for. WithSet holds where the hex of the set starts in the line; such a line is Other if that is no hex.

@@ -2,9 +2,10 @@
 use Prim.Native.Nat.{ℕ}
 use Prim.Native.String.{String}
 use mathlib.Core.Bool.{Bool}
-use mathlib.Core.List.{List, [], _∷_, flatMap}
+use mathlib.Core.List.{List, [], _∷_, _++_, flatMap}
 use mathlib.Core.Option.{none, some}
 use lib.Dec.{T, eqb}
+use lib.ListN.{replicate, drop, getD}
 use Rattle.spec_lists.specs.Lists.{all, equalLists}
 use Rattle.spec_lists.specs.Bytes.{littleEndian, numberOf}
 use Rattle.spec_decimal.specs.Decimal.{digits, decimal, isNumeral, numberWith, readDecimal}
@@ -27,12 +28,14 @@ use Rattle.spec_session.specs.Diagnostics.{diagnosticsOf}
 use Rattle.spec_session.specs.Lifecycle.{transition, dispositionOf, stateOf, withLifecycle, rejectLifecycle, enterLifecycle, lifecycleStep}
 use Rattle.spec_session.specs.Batch.{require, readable, absentTargets, knownTargets, batchChecks, rejectBatch, keepSession, candidate, commit, concludeBatch, batch}
 use Rattle.spec_conversion.specs.Conversion.{otherEdition, conversionNumber, unread, allKinds, rewritten, convertTo, convert}
+use Rattle.spec_dependencies.specs.Dependencies.{walkPatches, keysAtStart, dependenciesBy, dependencies}
+use Rattle.spec_dependencies.specs.Answer.{allWords, hasFindings, refused, answerNever, answerNeeds, refusalNumber, wordsWritten, answerBy, answerReading, dependenciesOf}
 use Rattle.spec_turns.specs.Turns.{newTurns, setUp, refuseRegister, startWaiting, register, after, firstAsked, firstWaiting, nextSender, numberAfter, spendTurn, turnFor, turn}
 use Rattle.spec_listing.specs.Listing.{fields, recordCount, projectionLines, refusalLine, outcomeLines, readingLines, listing}
 use Rattle.spec_replay.specs.Lines.{prepend, split}
 use Rattle.spec_replay.specs.Hex.{hexDigit, hexByte, cons, hexPairs, readHex, hexCharacter, bytePair, hexField}
-use Rattle.spec_replay.specs.Script.{ascii, end, given, readBy, atMost, numberedEdition, byWord, stimuli, sessionArguments, bindingArguments, applyArguments, batchArguments, convertArguments, boundArguments, keyedArguments, values, marks, markArguments, valueArguments, commands, fieldsCommand, isRemark, command}
-use Rattle.spec_replay.specs.Answers.{dispositionField, lifecycleField, cursorField, placeField, sessionFields, creationLine, lifecycleLine, batchLine, checkedLine, checkLines, availabilityLine, setUpLine, registerLine, turnLine, conversionLine, markLine, noSessionLine, otherLine}
+use Rattle.spec_replay.specs.Script.{ascii, end, given, readBy, atMost, numberedEdition, byWord, stimuli, sessionArguments, bindingArguments, applyArguments, batchArguments, convertArguments, dependsArguments, boundArguments, keyedArguments, values, marks, markArguments, valueArguments, commands, fieldsCommand, isRemark, command}
+use Rattle.spec_replay.specs.Answers.{dispositionField, lifecycleField, cursorField, placeField, sessionFields, creationLine, lifecycleLine, batchLine, checkedLine, checkLines, availabilityLine, setUpLine, registerLine, turnLine, conversionLine, markLine, keyLine, firstKeys, verdictLines, dependencyLines, noSessionLine, otherLine}
 use Rattle.spec_replay.specs.Replay.{State, noAnchors, start, keep, withSetup, withAnchors, withNode, withBinding, withSession, withTurns, withEdition, asked, askedTurns, created, applied, batched, settled, registered, turned, replayLine, replayLines, commandsOf, replayFrom, replay}
 
 prints : String → String → Bool
@@ -56,6 +59,10 @@ marked = record { bindings = []; availabilities = record { node = 5; mark = 31; 
 
 printsMarked : String → String → Bool
 printsMarked script answers = equalLists eqb (replayFrom 1 (closedWith 3 marked) (ascii script)) (ascii answers)
+
+-- lines that a call prints
+shows : List ℕ → String → Bool
+shows lines answers = equalLists eqb lines (ascii answers)
 
 -- a script prints nothing of remarks, an answer of each call, and stops at the first other line
 pub examples : List Bool
@@ -94,6 +101,13 @@ examples =
     -- the patch that wrote a row
     ∷ printsMarked "mark node 5\nmark node 6\nmark binding 5 0\nmark entry 5 5\n" "X\t31\nX\t-\nX\t-\nX\t-\n"
     ∷ prints "mark node 5\nmark 5\n" "N\n?\t2\n"
+    -- what a set depends on: the empty set on nothing, in no place too
+    ∷ prints "depends 0 1b00000055495f444e41325f50524f4a454354494f4e5f50415443485f563100000000\ndepends 16384 -\nedition 2\ndepends 0 1b00000055495f444e41325f50524f4a454354494f4e5f50415443485f563100000000\n" "D\t0\tneeds\t0\t0\nD\t10\nD\t10\n"
+    ∷ prints "depends 16385 -\n" "?\t1\n"
+    -- the records that were written, first those that must be there; the rest of the list is not printed
+    ∷ shows (verdictLines (answerNeeds 1 2) (9 ∷ 2 ∷ 8 ∷ 7 ∷ 9 ∷ 1 ∷ 0 ∷ [])) "D\t0\tneeds\t1\t2\nQ\t9\t2\nQ\t8\t7\nQ\t9\t1\n"
+    ∷ shows (verdictLines (answerNever 1 0) (9 ∷ 2 ∷ [])) "D\t0\tnever\t1\t0\n"
+    ∷ shows (verdictLines (refused hasFindings) (9 ∷ 2 ∷ [])) "D\t11\n"
     -- any other line ends the replay
     ∷ prints "create \nshow\n" "?\t1\n"
     ∷ prints "node 01\n" "?\t1\n"
@@ -110,7 +124,7 @@ examples =
 
 -- all rows hold
 pub replay-examples : T (all (λ (b : Bool). b) examples)
-unfolding examples prints closedWith printsAt marked printsMarked
+unfolding examples prints closedWith printsAt marked printsMarked shows
     flatMap littleEndian numberOf digits decimal isNumeral numberWith readDecimal digit letters heading faultNumber many literal readPatch readPatches ended readSet
     afterFindings rawSetFindings setFindings firstFindings findings checkEach sortUnique lookup empty replaySteps applySteps operationsOf availabilityOf bindingMark availabilityMark entryMark findFirst availabilityKey
     newSession anchorsFit create diagnosticsOf
@@ -118,9 +132,10 @@ unfolding examples prints closedWith printsAt marked printsMarked
     require readable absentTargets knownTargets batchChecks rejectBatch keepSession candidate commit concludeBatch batch
     newTurns setUp refuseRegister startWaiting register after firstAsked firstWaiting nextSender numberAfter spendTurn turnFor turn
     encodeCounted encode allValues otherEdition conversionNumber unread allKinds rewritten convertTo convert
+    walkPatches keysAtStart dependenciesBy dependencies allWords refusalNumber wordsWritten answerBy answerReading dependenciesOf
     fields recordCount projectionLines refusalLine outcomeLines readingLines listing
-    prepend split hexDigit hexByte cons hexPairs readHex hexCharacter bytePair hexField end given readBy atMost numberedEdition byWord stimuli sessionArguments bindingArguments applyArguments batchArguments convertArguments
+    prepend split hexDigit hexByte cons hexPairs readHex hexCharacter bytePair hexField end given readBy atMost numberedEdition byWord stimuli sessionArguments bindingArguments applyArguments batchArguments convertArguments dependsArguments
     boundArguments keyedArguments values marks markArguments valueArguments commands fieldsCommand isRemark command
-    dispositionField lifecycleField cursorField placeField sessionFields creationLine lifecycleLine batchLine checkedLine checkLines availabilityLine setUpLine registerLine turnLine conversionLine markLine noSessionLine otherLine
+    dispositionField lifecycleField cursorField placeField sessionFields creationLine lifecycleLine batchLine checkedLine checkLines availabilityLine setUpLine registerLine turnLine conversionLine markLine keyLine firstKeys verdictLines dependencyLines noSessionLine otherLine
     noAnchors start keep withSetup withAnchors withNode withBinding withSession withTurns withEdition asked askedTurns created applied batched settled registered turned replayLine replayLines commandsOf replayFrom replay
 replay-examples = tt

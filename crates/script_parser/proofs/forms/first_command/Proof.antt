@@ -97,6 +97,7 @@ returns-11 c =
       ne-eqb form 29 (search none),
       ne-eqb form 30 (search none),
       ne-eqb form 31 (no-set c 31 refl),
+      ne-eqb form 33 (no-set c 33 refl),
     )
 
 pub first-command-spec : {M : Type 1} → statement M
