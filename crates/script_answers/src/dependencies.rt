@@ -42,13 +42,7 @@ fn print_keys(out: &mut [u8], from: Printed, words: &[u64], count: usize) -> Pri
 }
 
 // D, 0, a word and two numbers.
-fn print_verdict(
-    out: &mut [u8],
-    at: Printed,
-    word: &[u8],
-    first: usize,
-    second: usize,
-) -> Printed
+fn print_verdict(out: &mut [u8], at: Printed, word: &[u8], first: usize, second: usize) -> Printed
     ensures { λ r. ⌜ Prints (now (out .entry)) at (68 ∷ fields (decimal 0 ∷ now (word .entry) ∷ decimal first ∷ decimal second ∷ [])) (now (out .exit)) r ⌝ }
 {
     let letter = bytes_printer::print_byte(out, at, 68);
@@ -66,13 +60,7 @@ fn print_never(out: &mut [u8], at: Printed, patch: usize, operation: usize) -> P
 }
 
 // Both counts, and the records that were written.
-fn print_needs(
-    out: &mut [u8],
-    at: Printed,
-    held: usize,
-    lacked: usize,
-    written: &[u64],
-) -> Printed
+fn print_needs(out: &mut [u8], at: Printed, held: usize, lacked: usize, written: &[u64]) -> Printed
     ensures { λ r. ⌜ (pairLength * (held + lacked) ≤ length (now (written .entry))
         → Prints (now (out .entry)) at (verdictLines (answerNeeds held lacked) (now (written .entry))) (now (out .exit)) r) ⌝ }
 {
