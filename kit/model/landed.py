@@ -20,7 +20,7 @@ LANDED = [
     "escapes",
     "depends",
     # "pages",
-    # "print",
+    "print",
     # "import",
     # "group",
 ]

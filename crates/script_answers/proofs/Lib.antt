@@ -5,3 +5,4 @@ pub mod SetUps
 pub mod Conversions
 pub mod Keys
 pub mod DependencyLines
+pub mod Prints

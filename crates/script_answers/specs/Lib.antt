@@ -5,4 +5,5 @@ pub mod LookupLines
 pub mod CheckOf
 pub mod ConversionOf
 pub mod DependenciesTold
+pub mod PrintTold
 pub mod TurnAnswers

@@ -18,7 +18,7 @@ ghost use mathlib.Core.Option.{some};
 ghost use Prim.Native.Nat.{ℕ, _<_, _≤_};
 ghost use Rattle.spec_patch.specs.Sizes.{setBytes};
 ghost use Rattle.spec_replay.specs.Script as script;
-ghost use Rattle.spec_replay.specs.Script.{placesLent, given, numberedEdition};
+ghost use Rattle.spec_replay.specs.Script.{placesLent, bytesLent, given, numberedEdition};
 ghost use Rattle.session_lifecycle.specs.Meaning.{stimulusOf};
 ghost use Rattle.script_parser.specs.Fields.{mostNumbers};
 ghost use Rattle.script_parser.specs.Forms.{upTo, withSlot, firstBase, formCount, formAt};
@@ -26,7 +26,7 @@ ghost use Rattle.script_parser.specs.Meaning.{setFrom, commandOf};
 
 // How many numbers each form takes, and 0x10 more where a set stands behind them. The second words stand before the first, each table in its
 // own order with a place for none behind it.
-const SHAPES: [usize; 35] = [
+const SHAPES: [usize; 36] = [
     1,
     1,
     1,
@@ -61,6 +61,7 @@ const SHAPES: [usize; 35] = [
     0x11,
     0,
     0x11,
+    2,
     0,
 ];
 
@@ -151,6 +152,17 @@ fn dependencies(room: u64, from: usize) -> ScriptCommand
     }
 }
 
+// No more bytes are lent than a line may ask for.
+fn paper(collection: u64, room: u64) -> ScriptCommand
+    ensures { λ r. ⌜ ((line : List ℕ) → commandOf line r ≡ upTo bytesLent room (script.print collection)) ⌝ }
+{
+    if room <= 131072 {
+        ScriptCommand::Call(CallLine::Print(collection, room))
+    } else {
+        ScriptCommand::Other
+    }
+}
+
 // The command of a form of a second word.
 fn second_command(form: usize, values: [u64; NumberFields::MOST]) -> ScriptCommand
     requires { ⌜ form < firstBase ⌝ }
@@ -203,6 +215,7 @@ fn first_command(form: usize, values: [u64; NumberFields::MOST]) -> ScriptComman
         28 => ScriptCommand::Call(CallLine::Wait(first)),
         29 => ScriptCommand::Call(CallLine::Turn),
         30 => edition(first),
+        34 => paper(first, second),
         _ => ScriptCommand::Other,
     }
 }

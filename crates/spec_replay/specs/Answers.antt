@@ -2,7 +2,9 @@
 use Prim.Native.Nat.{ℕ, zero, suc, _+_}
 use mathlib.Core.List.{List, [], _∷_, _++_, flatMap}
 use mathlib.Core.Option.{Option, none, some}
+use lib.Dec.{leb}
 use lib.ListN.{length, getD, drop}
+use Rattle.spec_lists.specs.Lists.{if_then_else_}
 use Rattle.spec_patch.specs.Patch.{Value, Availability}
 use Rattle.spec_patch.specs.Encode.{availabilityByte}
 use Rattle.spec_patch.specs.Reader.{faultNumber}
@@ -137,6 +139,10 @@ verdictLines (answerNeeds held lacked) words = (68 ∷ fields (decimal 0 ∷ asc
 
 unfoldable pub dependencyLines : Answered → List ℕ
 dependencyLines a = verdictLines (a .answer) (a .output)
+
+-- print: O, 0 and the number of bytes, and behind the newline these bytes as they are; or O and 14, where the room is too short for them
+unfoldable pub printLines : (room : ℕ) → (print : List ℕ) → List ℕ
+printLines room print = if leb (length print) room then (79 ∷ fields (decimal 0 ∷ decimal (length print) ∷ [])) ++ print else 79 ∷ fields (decimal 14 ∷ [])
 
 -- N: there is no session, or there are no senders
 unfoldable pub noSessionLine : List ℕ

@@ -16,12 +16,13 @@ use Rattle.spec_session.specs.Batch as batches
 use Rattle.spec_session.specs.Batch.{BatchStep}
 use Rattle.spec_conversion.specs.Conversion as conversions
 use Rattle.spec_dependencies.specs.Answer.{dependenciesOf}
+use Rattle.spec_panel_print.specs.Print.{collectionPrint}
 use Rattle.spec_turns.specs.Turns as turns
 use Rattle.spec_turns.specs.Turns.{Turns, SetUp, RegisterStep, TurnStep}
 use Rattle.spec_listing.specs.Listing.{projectionLines, listing}
 use Rattle.spec_replay.specs.Lines.{newline, split}
-use Rattle.spec_replay.specs.Script.{Command, nothing, session, node, binding, collection, create, apply, batch, check, list, show, valueBinding, valueNode, valueEntry, senders, wait, turn, edition, convert, markBinding, markNode, markEntry, depends, other, command}
-use Rattle.spec_replay.specs.Answers.{creationLine, lifecycleLine, batchLine, checkLines, valueLine, availabilityLine, setUpLine, registerLine, turnLine, conversionLine, markLine, dependencyLines, noSessionLine, otherLine}
+use Rattle.spec_replay.specs.Script.{Command, nothing, session, node, binding, collection, create, apply, batch, check, list, show, valueBinding, valueNode, valueEntry, senders, wait, turn, edition, convert, markBinding, markNode, markEntry, depends, print, other, command}
+use Rattle.spec_replay.specs.Answers.{creationLine, lifecycleLine, batchLine, checkLines, valueLine, availabilityLine, setUpLine, registerLine, turnLine, conversionLine, markLine, dependencyLines, printLines, noSessionLine, otherLine}
 
 -- what a creation takes
 pub record Setup : Type 0 where
@@ -145,6 +146,7 @@ replayLine n s (markBinding i slot) = asked s (λ x. onward s (markLine (binding
 replayLine n s (markNode i) = asked s (λ x. onward s (markLine (availabilityMark (x .projection) i)))
 replayLine n s (markEntry c k) = asked s (λ x. onward s (markLine (entryMark (x .projection) c k)))
 replayLine n s (depends room set) = onward s (dependencyLines (dependenciesOf (s .edition) set (replicate room 0)))
+replayLine n s (print c room) = asked s (λ x. onward s (printLines room (collectionPrint (x .projection) c)))
 replayLine n s other = stops (otherLine n)
 
 -- ---- the whole script

@@ -41,6 +41,7 @@ pub data Command : Type 0 where
   markNode : (node : ℕ) → Command
   markEntry : (collection key : ℕ) → Command
   depends : (room : ℕ) → (set : List ℕ) → Command
+  print : (collection room : ℕ) → Command
   other : Command
 
 -- a line has at most 131,072 bytes without its LF
@@ -193,6 +194,17 @@ dependsArguments = do
   set ← hex
   end (depends room set)
 
+-- so many bytes can be lent to a print
+abbrev pub bytesLent : ℕ
+bytesLent = 131072
+
+-- print COLLECTION ROOM
+unfoldable pub printArguments : Arguments
+printArguments = do
+  c ← number
+  room ← roomUpTo bytesLent
+  end (print c room)
+
 -- N SLOT, a binding that is asked for
 unfoldable pub boundArguments : (ℕ → ℕ → Command) → Arguments
 boundArguments asks = do
@@ -250,6 +262,7 @@ commands =
     ∷ (ascii "convert" ⇒ convertArguments)
     ∷ (ascii "mark" ⇒ markArguments)
     ∷ (ascii "depends" ⇒ dependsArguments)
+    ∷ (ascii "print" ⇒ printArguments)
     ∷ []
 
 -- the fields of a line: a known word and its arguments

@@ -1,0 +1,2 @@
+// What a session shows of its collections: a collection printed for paper.
+pub mod print;
