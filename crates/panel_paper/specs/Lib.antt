@@ -1,0 +1,2 @@
+pub mod SetPrints
+pub mod SetPrintsLaws
