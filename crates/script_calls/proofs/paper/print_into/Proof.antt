@@ -44,7 +44,7 @@ returns c =
     let args = room .before .before .args in
     λ m h.
     let size = lent-length printBytes (room .lent-bytes .result) (room .lent-bytes .ensures .1) ∙ room .lent-bytes .ensures .0 in
-    same-bytes (longest-suffices (args .room) _ (collectionPrint (m .projection) (args .collection)) size (print-fits (m .projection) (args .collection) (h .projection .valid))) (printed .print-lent .ensures m h)
+    same-bytes (longest-suffices (args .room) _ (collectionPrint (m .projection) (args .collection)) size (print-fits (m .projection) (args .collection) (h .projection .tables .valid))) (printed .print-lent .ensures m h)
 
 pub print-into-spec : {M : Type 1} → statement M
 print-into-spec =
