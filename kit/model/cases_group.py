@@ -12,9 +12,9 @@ from random_sets import COLLECTIONS, NODES, SLOTS, cut, patch_list
 
 rules_of("Job 12 in document 02", answers="02")
 
-GROUP = "spec_session Group.group"
-ADDED = "spec_session Group.addsUp"
-CLAIM = "spec_splitting Group; session_splitting GroupClaim"
+GROUP = "spec_group Group.group"
+ADDED = "spec_group Group.isGroup"
+CLAIM = "spec_group Singly.GroupAsWhole"
 LAST = 2**64 - 1
 Q = quad(0)
 

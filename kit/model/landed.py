@@ -22,5 +22,5 @@ LANDED = [
     # "pages",
     "print",
     # "import",
-    # "group",
+    "group",
 ]

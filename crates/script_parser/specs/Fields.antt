@@ -14,23 +14,23 @@ use Rattle.script_parser.specs.declared.fields.NumberFields.{NumberField
 use Rattle.script_parser.specs.declared.fields.HexField.{HexField}
 use Rattle.script_parser.specs.declared.fields.HexField.the-variants as HexAnswer
 
--- the bytes before the first space
-unfoldable pub firstField : List ℕ → List ℕ
-firstField [] = []
-firstField (b ∷ bs) = if eqb b space then [] else b ∷ firstField bs
+-- the bytes before the first separator
+unfoldable pub firstField : ℕ → List ℕ → List ℕ
+firstField separator [] = []
+firstField separator (b ∷ bs) = if eqb b separator then [] else b ∷ firstField separator bs
 
 -- the fields behind the one that ends at index e
-unfoldable pub fieldsAfter : List ℕ → ℕ → List (List ℕ)
-fieldsAfter line e = if ltb e (length line) then split space (drop (e + 1) line) else []
+unfoldable pub fieldsAfter : ℕ → List ℕ → ℕ → List (List ℕ)
+fieldsAfter separator line e = if ltb e (length line) then split separator (drop (e + 1) line) else []
 
 -- ---- what an answer says of the fields behind a place: how reading goes on, whatever follows
 
-abbrev pub numberThen : List ℕ → NumberField → (ℕ → Arguments) → Command
-numberThen line (NumberAnswer.Number n e) next = next n (fieldsAfter line e)
-numberThen line NumberAnswer.Other next = other
+abbrev pub numberThen : ℕ → List ℕ → NumberField → (ℕ → Arguments) → Command
+numberThen separator line (NumberAnswer.Number n e) next = next n (fieldsAfter separator line e)
+numberThen separator line NumberAnswer.Other next = other
 
-abbrev pub NumberAfter : List ℕ → ℕ → NumberField → Type 0
-NumberAfter line at r = (next : ℕ → Arguments) → number next (fieldsAfter line at) ≡ numberThen line r next
+abbrev pub NumberAfter : ℕ → List ℕ → ℕ → NumberField → Type 0
+NumberAfter separator line at r = (next : ℕ → Arguments) → number next (fieldsAfter separator line at) ≡ numberThen separator line r next
 
 -- so many numbers, one behind the other
 abbrev pub numbers : ℕ → (List ℕ → Arguments) → Arguments
@@ -39,17 +39,17 @@ numbers (suc k) next = number (λ n. numbers k (λ ns. next (n ∷ ns)))
 
 -- no command has more
 abbrev pub mostNumbers : ℕ
-mostNumbers = 5
+mostNumbers = 7
 
 -- zeros in the unused places
 abbrev pub filled : ℕ → List ℕ → List ℕ
 filled count ns = ns ++ replicate (mostNumbers - count) 0
 
-abbrev pub numbersThen : List ℕ → NumberFields → (List ℕ → Arguments) → Command
-numbersThen line r next = if r .read then next (r .values) (fieldsAfter line (r .end)) else other
+abbrev pub numbersThen : ℕ → List ℕ → NumberFields → (List ℕ → Arguments) → Command
+numbersThen separator line r next = if r .read then next (r .values) (fieldsAfter separator line (r .end)) else other
 
-abbrev pub NumbersAfter : List ℕ → ℕ → ℕ → NumberFields → Type 0
-NumbersAfter line at count r = (next : List ℕ → Arguments) → numbers count (λ ns. next (filled count ns)) (fieldsAfter line at) ≡ numbersThen line r next
+abbrev pub NumbersAfter : ℕ → List ℕ → ℕ → ℕ → NumberFields → Type 0
+NumbersAfter separator line at count r = (next : List ℕ → Arguments) → numbers count (λ ns. next (filled count ns)) (fieldsAfter separator line at) ≡ numbersThen separator line r next
 
 -- ---- the same of the last fields of a line
 
@@ -59,4 +59,4 @@ hexThen line (HexAnswer.From i) next = given (readHex (drop i line)) next
 hexThen line HexAnswer.Other next = other
 
 abbrev pub HexLast : List ℕ → ℕ → HexField → Type 0
-HexLast line at r = (next : List ℕ → Command) → hex (λ set. end (next set)) (fieldsAfter line at) ≡ hexThen line r next
+HexLast line at r = (next : List ℕ → Command) → hex (λ set. end (next set)) (fieldsAfter space line at) ≡ hexThen line r next

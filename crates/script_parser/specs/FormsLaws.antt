@@ -7,16 +7,17 @@ use mathlib.Core.Option.{Option, none, some}
 use native.Mathlib.Omega.{arith}
 use lib.Dec.{eqb, leb}
 use lib.ListN.{getD}
-use borrow.Author.Tests.{eqb-true, eqb-false, leb-true, le-leb, lt-leb, ne-eqb}
+use borrow.Author.Tests.{eqb-true, eqb-false, leb-true, le-leb, lt-leb, eq-eqb, ne-eqb}
 use Rattle.spec_lists.specs.Lists.{if_then_else_, any}
 use Rattle.spec_patch.specs.Sizes.{setBytes}
+use Rattle.spec_patch.specs.Edition.{Edition}
 use Rattle.spec_lists.specs.ListLaws.{and-left, and-right, test-cases}
 use Rattle.spec_decimal.specs.Decimal.{readDecimal}
 use Rattle.spec_replay.specs.Hex.{readHex}
-use Rattle.spec_replay.specs.Script.{Command, edition, other, apply, Arguments, end, given, readBy, number, atMost, slot, numberedEdition, hex, stimuli, sessionArguments, bindingArguments, batchArguments, convertArguments, dependsArguments, placesLent, printArguments, bytesLent, roomUpTo, boundArguments, keyedArguments, values, marks, commands}
+use Rattle.spec_replay.specs.Script.{Command, other, apply, Arguments, end, given, readBy, number, atMost, slot, numberedEdition, hex, stimuli, sessionArguments, bindingArguments, batchArguments, convertArguments, dependsArguments, placesLent, printArguments, bytesLent, roomUpTo, groupArguments, boundArguments, keyedArguments, values, marks, commands}
 use Rattle.script_parser.specs.Fields.{mostNumbers}
 use Rattle.script_parser.specs.Words.{rowAt}
-use Rattle.script_parser.specs.Forms.{formArguments, upTo, noForm, stimulusBase, valueBase, markBase, firstBase, firstWords, formCount, formAt, shapeOf, shapesFrom}
+use Rattle.script_parser.specs.Forms.{formArguments, upTo, noForm, stimulusBase, valueBase, markBase, firstBase, firstWords, formCount, formAt, groupForm, askedBy, shapeOf, shapesFrom}
 
 -- no form takes no fields
 pub none-form : (fs : List (List ℕ)) → other ≡ formArguments noForm fs
@@ -45,20 +46,20 @@ module _ {A : Type 0} (test : Option ℕ → Option A) (no-number : test none �
       at-end none gs = none-form gs
       at-end (some a) gs = refl
 
-  -- a set behind it
-  tested-with-set : (next : A → List ℕ → Command) (fs : List (List ℕ))
-      → readBy (λ f. test (readDecimal f)) (λ a. hex (λ set. end (next a set))) fs ≡ number (λ n. hex (λ set. end (given (test (some n)) (λ a. next a set)))) fs
+  -- a last field of another kind behind it
+  pub tested-then : {B : Type 0} (read : List ℕ → Option B) (next : A → B → Command) (fs : List (List ℕ))
+      → readBy (λ f. test (readDecimal f)) (λ a. readBy read (λ b. end (next a b))) fs ≡ number (λ n. readBy read (λ b. end (given (test (some n)) (λ a. next a b)))) fs
   unfolding given readBy
-  tested-with-set next fs = number-first (λ a. hex (λ set. end (next a set))) fs ∙ (λ i. number (λ n gs. at-set (test (some n)) gs i) fs)
+  tested-then {B} read next fs = number-first (λ a. readBy read (λ b. end (next a b))) fs ∙ (λ i. number (λ n gs. at-last (test (some n)) gs i) fs)
     where
-      no-set : (x : Option (List ℕ)) (gs : List (List ℕ)) → other ≡ given x (λ set. end other gs)
-      no-set none gs = refl
-      no-set (some set) gs = none-form gs
+      no-last : (x : Option B) (gs : List (List ℕ)) → other ≡ given x (λ b. end other gs)
+      no-last none gs = refl
+      no-last (some b) gs = none-form gs
 
-      at-set : (o : Option A) (gs : List (List ℕ)) → given o (λ a. hex (λ set. end (next a set)) gs) ≡ hex (λ set. end (given o (λ a. next a set))) gs
-      at-set none [] = refl
-      at-set none (g ∷ gs) = no-set (readHex g) gs
-      at-set (some a) gs = refl
+      at-last : (o : Option A) (gs : List (List ℕ)) → given o (λ a. readBy read (λ b. end (next a b)) gs) ≡ readBy read (λ b. end (given o (λ a. next a b))) gs
+      at-last none [] = refl
+      at-last none (g ∷ gs) = no-last (read g) gs
+      at-last (some a) gs = refl
 
 -- a number, and one up to a bound behind it
 number-and-bounded : (bound : ℕ) (next : ℕ → ℕ → Command) (fs : List (List ℕ)) → number (λ n. roomUpTo bound (λ s. end (next n s))) fs ≡ number (λ n. number (λ s. end (upTo bound s (next n)))) fs
@@ -97,10 +98,10 @@ markWord = 16
 
 -- the row of a first word is its form, if no second word follows
 abbrev FirstRow : ℕ → Type 0
-FirstRow k = (k ≡ applyWord → ⊥) → (k ≡ valueWord → ⊥) → (k ≡ markWord → ⊥) → (fs : List (List ℕ)) → rowAt (λ a. a) commands k fs ≡ formArguments (formAt (firstBase + k)) fs
+FirstRow k = (k ≡ applyWord → ⊥) → (k ≡ valueWord → ⊥) → (k ≡ markWord → ⊥) → (fs : List (List ℕ)) → rowAt (λ a. a) commands k fs ≡ askedBy (firstBase + k) fs
 
 pub first-form : (k : ℕ) → k ≤ firstWords → FirstRow k
-unfolding commands formAt atMost numberedEdition sessionArguments bindingArguments batchArguments convertArguments dependsArguments printArguments
+unfolding commands askedBy formAt atMost numberedEdition sessionArguments bindingArguments batchArguments convertArguments dependsArguments printArguments
 first-form k h =
     pick FirstRow 0 (firstWords + 1)
     ((λ a b c fs. refl)
@@ -118,16 +119,17 @@ first-form k h =
     also (λ a b c fs. refl)
     also (λ a b c fs. refl)
     also (λ a b c fs. tested-last numberedEdition refl _ fs)
-    also (λ a b c fs. tested-with-set (atMost setBytes) refl _ fs)
+    also (λ a b c fs. tested-then (atMost setBytes) refl readHex _ fs)
     also (λ a b c fs. absurd (c refl))
-    also (λ a b c fs. tested-with-set (atMost placesLent) refl _ fs)
+    also (λ a b c fs. tested-then (atMost placesLent) refl readHex _ fs)
     also (λ a b c fs. number-and-bounded bytesLent _ fs)
+    also (λ a b c fs. refl)
     also (λ a b c fs. none-form fs)
     also tt)
     k (omega arith) (omega arith)
 
-pub stimulus-form : (j : ℕ) → j ≤ 5 → (fs : List (List ℕ)) → rowAt (λ s. number (λ n. end (apply s n))) stimuli j fs ≡ formArguments (formAt (stimulusBase + j)) fs
-unfolding stimuli formAt
+pub stimulus-form : (j : ℕ) → j ≤ 5 → (fs : List (List ℕ)) → rowAt (λ s. number (λ n. end (apply s n))) stimuli j fs ≡ askedBy (stimulusBase + j) fs
+unfolding stimuli askedBy formAt
 stimulus-form zero h fs = refl
 stimulus-form (suc zero) h fs = refl
 stimulus-form (suc (suc zero)) h fs = refl
@@ -136,16 +138,16 @@ stimulus-form (suc (suc (suc (suc zero)))) h fs = refl
 stimulus-form (suc (suc (suc (suc (suc zero))))) h fs = none-form fs
 stimulus-form (suc (suc (suc (suc (suc (suc j)))))) h fs = absurd (omega arith)
 
-pub value-form : (j : ℕ) → j ≤ 3 → (fs : List (List ℕ)) → rowAt (λ a. a) values j fs ≡ formArguments (formAt (valueBase + j)) fs
-unfolding values formAt boundArguments keyedArguments
+pub value-form : (j : ℕ) → j ≤ 3 → (fs : List (List ℕ)) → rowAt (λ a. a) values j fs ≡ askedBy (valueBase + j) fs
+unfolding values askedBy formAt boundArguments keyedArguments
 value-form zero h fs = number-and-slot _ fs
 value-form (suc zero) h fs = refl
 value-form (suc (suc zero)) h fs = refl
 value-form (suc (suc (suc zero))) h fs = none-form fs
 value-form (suc (suc (suc (suc j)))) h fs = absurd (omega arith)
 
-pub mark-form : (j : ℕ) → j ≤ 3 → (fs : List (List ℕ)) → rowAt (λ a. a) marks j fs ≡ formArguments (formAt (markBase + j)) fs
-unfolding marks formAt boundArguments keyedArguments
+pub mark-form : (j : ℕ) → j ≤ 3 → (fs : List (List ℕ)) → rowAt (λ a. a) marks j fs ≡ askedBy (markBase + j) fs
+unfolding marks askedBy formAt boundArguments keyedArguments
 mark-form zero h fs = number-and-slot _ fs
 mark-form (suc zero) h fs = refl
 mark-form (suc (suc zero)) h fs = refl
@@ -230,6 +232,17 @@ unfolding given
 other-with-set none = refl
 other-with-set (some set) = refl
 
-pub no-edition : (n : ℕ) → (n ≡ 1 → ⊥) → (n ≡ 2 → ⊥) → other ≡ given (numberedEdition (some n)) edition
+pub no-edition : (n : ℕ) (next : Edition → Command) → (n ≡ 1 → ⊥) → (n ≡ 2 → ⊥) → other ≡ given (numberedEdition (some n)) next
 unfolding given numberedEdition
-no-edition n h k = rw (ne-eqb n 1 h, ne-eqb n 2 k)
+no-edition n next h k = rw (ne-eqb n 1 h, ne-eqb n 2 k)
+
+-- ---- by the form
+
+module _ (k : ℕ) (fs : List (List ℕ)) where
+  pub group-asked : k ≡ groupForm → askedBy k fs ≡ groupArguments fs
+  unfolding askedBy
+  group-asked e = rw (eq-eqb k groupForm e)
+
+  pub counted-asked : (k ≡ groupForm → ⊥) → askedBy k fs ≡ formArguments (formAt k) fs
+  unfolding askedBy
+  counted-asked e = rw (ne-eqb k groupForm e)

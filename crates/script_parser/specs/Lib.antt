@@ -5,3 +5,5 @@ pub mod Forms
 pub mod FormsLaws
 pub mod FormPlaces
 pub mod Meaning
+pub mod Members
+pub mod MembersLaws

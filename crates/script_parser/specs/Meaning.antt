@@ -1,14 +1,18 @@
 -- What a parsed line stands for in spec_replay. Hex is read from its place in the line; what is no hex makes any other line.
 use Prim.Native.Nat.{ℕ}
-use mathlib.Core.List.{List}
-use lib.ListN.{drop}
+use mathlib.Core.List.{List, map}
+use lib.ListN.{take, drop}
 use Rattle.spec_session.specs.Batch.{BatchEnvelope}
+use Rattle.spec_group.specs.Group.{GroupBatch}
 use Rattle.spec_replay.specs.Script as script
+use Rattle.spec_replay.specs.Lines.{space}
 use Rattle.spec_replay.specs.Hex.{readHex}
 use Rattle.spec_replay.specs.Script.{Command, given}
 use Rattle.projection_patch.specs.Meaning.{editionOf}
+use Rattle.script_parser.specs.Fields.{fieldsAfter}
 use Rattle.session_lifecycle.specs.Meaning.{limitsOf, stimulusOf}
 use Rattle.script_parser.specs.declared.BatchLine.{BatchLine}
+use Rattle.script_parser.specs.declared.GroupMember.{GroupMember}
 use Rattle.script_parser.specs.declared.SetupLine.{SetupLine}
 use Rattle.script_parser.specs.declared.SetupLine.the-variants.{Session, Node, Binding, Collection}
 use Rattle.script_parser.specs.declared.CallLine.{CallLine}
@@ -16,10 +20,17 @@ use Rattle.script_parser.specs.declared.CallLine.the-variants.{Create, A
 use Rattle.script_parser.specs.declared.SetLine.{SetLine}
 use Rattle.script_parser.specs.declared.SetLine.the-variants.{Batch, Check, List as Listed, Convert, Depends}
 use Rattle.script_parser.specs.declared.ScriptCommand.{ScriptCommand}
-use Rattle.script_parser.specs.declared.ScriptCommand.the-variants.{Nothing, Setup, Call, WithSet, Other}
+use Rattle.script_parser.specs.declared.ScriptCommand.the-variants.{Nothing, Setup, Call, WithSet, Group, Other}
 
 abbrev pub envelopeOf : BatchLine → BatchEnvelope
 envelopeOf b = record { session = b .«session_id»; sequence = b .«sequence_no»; patches = b .«patch_count»; stimulusBytes = b .«stimulus_bytes» }
+
+abbrev pub memberOf : GroupMember → GroupBatch
+memberOf m = record { edition = editionOf (m .edition); envelope = envelopeOf (m .batch); references = m .batch .«target_references»; bytes = m .bytes }
+
+-- the batches in the first places
+abbrev pub firstMembers : ℕ → List GroupMember → List GroupBatch
+firstMembers count members = map memberOf (take count members)
 
 -- the bytes that hex spells from an index of the line on
 abbrev pub setFrom : List ℕ → ℕ → (List ℕ → Command) → Command
@@ -59,4 +70,5 @@ commandOf line Nothing = script.nothing
 commandOf line (Setup s) = setupOf s
 commandOf line (Call c) = callOf c
 commandOf line (WithSet s i) = setFrom line i (withSetOf s)
+commandOf line (Group e) = script.groupArguments (fieldsAfter space line e)
 commandOf line Other = script.other

@@ -26,17 +26,22 @@ pub struct NumberFields {
 }
 
 impl NumberFields {
-    // No command has more numbers.
-    pub const MOST: usize = 5;
+    // No command, and no batch of a group, has more numbers.
+    pub const MOST: usize = 7;
 }
 
-// Where the field that starts at index from ends: at the next space, or at the end of the line.
-pub(crate) fn field_end(line: &[u8], from: usize) -> usize
-    ensures { λ r. ⌜ r ≡ from + length (firstField (drop from (now (line .entry)))) ⌝ }
+// What parts the fields of a line, and the numbers of a batch.
+pub(crate) const SPACE: u8 = 32;
+
+pub(crate) const COMMA: u8 = 44;
+
+// Where the field that starts at index from ends: at the next separator, or at the end of the line.
+pub(crate) fn field_end(line: &[u8], from: usize, separator: u8) -> usize
+    ensures { λ r. ⌜ r ≡ from + length (firstField separator (drop from (now (line .entry)))) ⌝ }
 {
     let mut i = from;
     while i < line.len() {
-        if line[i] == 32 {
+        if line[i] == separator {
             return i;
         }
         i += 1;
@@ -56,12 +61,12 @@ pub(crate) fn is_word(field: &[u8], word: &[u8]) -> bool
 }
 
 // The number behind the field that ends at index end.
-pub(crate) fn number_after(line: &[u8], end: usize) -> NumberField
-    ensures { λ r. ⌜ NumberAfter (now (line .entry)) end r ⌝ }
+pub(crate) fn number_after(line: &[u8], end: usize, separator: u8) -> NumberField
+    ensures { λ r. ⌜ NumberAfter separator (now (line .entry)) end r ⌝ }
 {
     if end < line.len() {
         let from = end + 1;
-        let to = field_end(line, from);
+        let to = field_end(line, from, separator);
         match bytes_decimal::read_u64(&line[from..to]) {
             bytes_decimal::ReadU64::Read(n) => NumberField::Number(n, to),
             bytes_decimal::ReadU64::Malformed => NumberField::Other,
@@ -77,7 +82,7 @@ pub(crate) fn last_hex(line: &[u8], end: usize) -> HexField
 {
     if end < line.len() {
         let from = end + 1;
-        if field_end(line, from) < line.len() {
+        if field_end(line, from, SPACE) < line.len() {
             HexField::Other
         } else {
             HexField::From(from)
@@ -88,15 +93,15 @@ pub(crate) fn last_hex(line: &[u8], end: usize) -> HexField
 }
 
 // So many numbers behind the field that ends at index end.
-pub(crate) fn read_numbers(line: &[u8], end: usize, count: usize) -> NumberFields
+pub(crate) fn read_numbers(line: &[u8], end: usize, count: usize, separator: u8) -> NumberFields
     requires { ⌜ count ≤ mostNumbers ⌝ }
-    ensures { λ r. ⌜ NumbersAfter (now (line .entry)) end count r ⌝ }
+    ensures { λ r. ⌜ NumbersAfter separator (now (line .entry)) end count r ⌝ }
 {
     let mut values = [0u64; NumberFields::MOST];
     let mut at = end;
     let mut i: usize = 0;
     while i < count {
-        let NumberField::Number(n, to) = number_after(line, at) else {
+        let NumberField::Number(n, to) = number_after(line, at, separator) else {
             return NumberFields {
                 read: false,
                 values: values,

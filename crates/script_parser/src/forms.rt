@@ -24,9 +24,9 @@ ghost use Rattle.script_parser.specs.Fields.{mostNumbers};
 ghost use Rattle.script_parser.specs.Forms.{upTo, withSlot, firstBase, formCount, formAt};
 ghost use Rattle.script_parser.specs.Meaning.{setFrom, commandOf};
 
-// How many numbers each form takes, and 0x10 more where a set stands behind them. The second words stand before the first, each table in its
+// How many numbers each form takes, and 0x10 more where a set stands behind them; 0 for a form of any number of fields. The second words stand before the first, each table in its
 // own order with a place for none behind it.
-const SHAPES: [usize; 36] = [
+const SHAPES: [usize; 37] = [
     1,
     1,
     1,
@@ -62,6 +62,7 @@ const SHAPES: [usize; 36] = [
     0,
     0x11,
     2,
+    0,
     0,
 ];
 

@@ -1,6 +1,7 @@
 // A line of a replay script, read as a command.
 mod fields;
 mod forms;
+pub mod members;
 mod words;
 
 use bytes_hex::Decoded;
@@ -9,6 +10,7 @@ use fields::NumberFields;
 use projection_patch::patch::ProjectionPatchEdition;
 use session_lifecycle::lifecycle::ShellTransitionInput;
 use session_lifecycle::state::ShellLifecycleLimits;
+use words::FormAt;
 ghost use mathlib.Core.Path.{_≡_};
 ghost use Prim.Native.Nat.{_<_};
 ghost use lib.ListN.{length, drop};
@@ -17,7 +19,7 @@ ghost use Rattle.spec_replay.specs.Hex.{readHex};
 ghost use Rattle.spec_replay.specs.Script.{fieldsCommand, command};
 ghost use Rattle.bytes_hex.specs.Decoding.{decoding, decodedInto};
 ghost use Rattle.script_parser.specs.Fields.{fieldsAfter};
-ghost use Rattle.script_parser.specs.Forms.{lastArguments, formCount, formAt};
+ghost use Rattle.script_parser.specs.Forms.{lastArguments, formArguments, formCount, formAt};
 ghost use Rattle.script_parser.specs.Meaning.{commandOf};
 
 // The batch's envelope, and the declared count of target references.
@@ -27,6 +29,13 @@ pub struct BatchLine {
     pub patch_count: u64,
     pub stimulus_bytes: u64,
     pub target_references: u64,
+}
+
+// A batch of a group, and how many bytes its set has.
+pub struct GroupMember {
+    pub batch: BatchLine,
+    pub edition: ProjectionPatchEdition,
+    pub bytes: u64,
 }
 
 // A line for the next creation.
@@ -64,12 +73,14 @@ pub enum SetLine {
     Depends(u16),
 }
 
-// What a line asks for. WithSet holds where the hex of the set starts in the line; such a line is Other if that is no hex.
+// What a line asks for. WithSet holds where the hex of the set starts in the line; such a line is Other if that is no hex. Group holds where the
+// word ends, and read_group reads the fields behind it.
 pub enum ScriptCommand {
     Nothing,
     Setup(SetupLine),
     Call(CallLine),
     WithSet(SetLine, usize),
+    Group(usize),
     Other,
 }
 
@@ -86,7 +97,7 @@ fn last_fields(
     end: usize,
 ) -> ScriptCommand
     requires { ⌜ form < formCount ⌝ }
-    ensures { λ r. ⌜ commandOf (now (line .entry)) r ≡ lastArguments (formAt form) values (fieldsAfter (now (line .entry)) end) ⌝ }
+    ensures { λ r. ⌜ commandOf (now (line .entry)) r ≡ lastArguments (formAt form) values (fieldsAfter space (now (line .entry)) end) ⌝ }
 {
     if forms::has_set(form) {
         return match fields::last_hex(line, end) {
@@ -100,19 +111,29 @@ fn last_fields(
     forms::command_of(form, values)
 }
 
-// A line that is neither too long nor a remark.
-fn parse_fields(line: &[u8]) -> ScriptCommand
-    ensures { λ r. ⌜ commandOf (now (line .entry)) r ≡ fieldsCommand (split space (now (line .entry))) ⌝ }
+// The command of a form with so many fields, whose words end at index end.
+fn counted_fields(line: &[u8], form: usize, end: usize) -> ScriptCommand
+    requires { ⌜ form < formCount ⌝ }
+    ensures { λ r. ⌜ commandOf (now (line .entry)) r ≡ formArguments (formAt form) (fieldsAfter space (now (line .entry)) end) ⌝ }
 {
-    let found = words::find_form(line);
-    let form = found.form;
     let count = forms::number_count(form);
-    let numbers = fields::read_numbers(line, found.end, count);
+    let numbers = fields::read_numbers(line, end, count, fields::SPACE);
     if numbers.read {
         let values = numbers.values;
         return last_fields(line, form, values, numbers.end);
     }
     ScriptCommand::Other
+}
+
+// A line that is neither too long nor a remark.
+fn parse_fields(line: &[u8]) -> ScriptCommand
+    ensures { λ r. ⌜ commandOf (now (line .entry)) r ≡ fieldsCommand (split space (now (line .entry))) ⌝ }
+{
+    let found = words::find_form(line);
+    if found.form == FormAt::GROUP {
+        return ScriptCommand::Group(found.end);
+    }
+    counted_fields(line, found.form, found.end)
 }
 
 // Reads a line without its LF.

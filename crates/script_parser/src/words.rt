@@ -1,4 +1,5 @@
 // The words of a script: tables of words in lines of their own, and the number of the form that the first words of a line ask for.
+use crate::fields::SPACE;
 use crate::fields::field_end;
 use crate::fields::is_word;
 ghost use mathlib.Core.Path.{_≡_};
@@ -26,6 +27,9 @@ impl FormAt {
     const NONE: usize = 15;
 
     pub(crate) const FIRST: usize = 16;
+
+    // The form of a line with any number of fields.
+    pub(crate) const GROUP: usize = 35;
 }
 
 // The number of the field among words that are parted by spaces: that of all of them where it is none.
@@ -35,7 +39,7 @@ fn word_index(words: &[u8], field: &[u8]) -> usize
     let mut at: usize = 0;
     let mut i: usize = 0;
     loop {
-        let end = field_end(words, at);
+        let end = field_end(words, at, SPACE);
         if is_word(field, &words[at..end]) {
             return i;
         }
@@ -59,7 +63,7 @@ fn second_form(line: &[u8], end: usize, words: &[u8], base: usize) -> FormAt
         };
     }
     let from = end + 1;
-    let to = field_end(line, from);
+    let to = field_end(line, from, SPACE);
     let index = word_index(words, &line[from..to]);
     FormAt {
         form: base + index,
@@ -71,9 +75,9 @@ fn second_form(line: &[u8], end: usize, words: &[u8], base: usize) -> FormAt
 pub(crate) fn find_form(line: &[u8]) -> FormAt
     ensures { λ r. ⌜ FormOf (now (line .entry)) r ⌝ }
 {
-    let end = field_end(line, 0);
+    let end = field_end(line, 0, SPACE);
     let first = word_index(
-        b"session node binding collection create apply batch check list show value senders wait turn edition convert mark depends print",
+        b"session node binding collection create apply batch check list show value senders wait turn edition convert mark depends print group",
         &line[0..end],
     );
     if first == 5 {

@@ -1,4 +1,5 @@
 pub mod SetupLines
 pub mod LineLaws
+pub mod GroupLaws
 pub mod AnswerBytes
 pub mod AnswerBytesLaws

@@ -1,6 +1,7 @@
 // One line of a replay script: the command that it asks for is run, and its answer printed.
 mod call_lines;
 mod dependency_lines;
+mod group_lines;
 mod set_lines;
 mod setup_lines;
 
@@ -32,6 +33,7 @@ pub fn run_line(state: ReplayState, number: u64, line: &[u8], out: &mut [u8]) ->
         ScriptCommand::WithSet(wanted, from) => {
             set_lines::run_with_set(state, wanted, from, number, line, out)
         }
+        ScriptCommand::Group(end) => group_lines::run_group(state, end, number, line, out),
         ScriptCommand::Other => setup_lines::other(state, number, out),
     }
 }

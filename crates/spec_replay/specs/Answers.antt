@@ -22,6 +22,7 @@ use Rattle.spec_turns.specs.Turns.{SetUp, setUpNumber, RegisterAnswer, register
 use Rattle.spec_dependencies.specs.Dependencies.{CollectionKey}
 use Rattle.spec_dependencies.specs.Answer as dependencies
 use Rattle.spec_dependencies.specs.Answer.{DependencyAnswer, answerNever, answerNeeds, refusalNumber, Answered}
+use Rattle.spec_group.specs.Group.{GroupAnswer, notAGroup, taken, refusedAt, groupNumber}
 use Rattle.spec_decimal.specs.Decimal.{decimal}
 use Rattle.spec_listing.specs.Listing.{fields, valueFields}
 use Rattle.spec_replay.specs.Hex.{hexField}
@@ -143,6 +144,12 @@ dependencyLines a = verdictLines (a .answer) (a .output)
 -- print: O, 0 and the number of bytes, and behind the newline these bytes as they are; or O and 14, where the room is too short for them
 unfoldable pub printLines : (room : ℕ) → (print : List ℕ) → List ℕ
 printLines room print = if leb (length print) room then (79 ∷ fields (decimal 0 ∷ decimal (length print) ∷ [])) ++ print else 79 ∷ fields (decimal 14 ∷ [])
+
+-- group: U and 17; U, 0, how many were taken, the cursor; or U, 0, 0, the place of the first refused batch, and its answer as a line of its own
+unfoldable pub groupLines : GroupAnswer → List ℕ
+groupLines notAGroup = 85 ∷ fields (decimal groupNumber ∷ [])
+groupLines (taken n c) = 85 ∷ fields (decimal 0 ∷ decimal n ∷ cursorField c ∷ [])
+groupLines (refusedAt i a) = (85 ∷ fields (decimal 0 ∷ decimal 0 ∷ decimal i ∷ [])) ++ batchLine a
 
 -- N: there is no session, or there are no senders
 unfoldable pub noSessionLine : List ℕ

@@ -17,12 +17,14 @@ use Rattle.spec_session.specs.Batch.{BatchStep}
 use Rattle.spec_conversion.specs.Conversion as conversions
 use Rattle.spec_dependencies.specs.Answer.{dependenciesOf}
 use Rattle.spec_panel_print.specs.Print.{collectionPrint}
+use Rattle.spec_group.specs.Group as groups
+use Rattle.spec_group.specs.Group.{GroupStep}
 use Rattle.spec_turns.specs.Turns as turns
 use Rattle.spec_turns.specs.Turns.{Turns, SetUp, RegisterStep, TurnStep}
 use Rattle.spec_listing.specs.Listing.{projectionLines, listing}
 use Rattle.spec_replay.specs.Lines.{newline, split}
-use Rattle.spec_replay.specs.Script.{Command, nothing, session, node, binding, collection, create, apply, batch, check, list, show, valueBinding, valueNode, valueEntry, senders, wait, turn, edition, convert, markBinding, markNode, markEntry, depends, print, other, command}
-use Rattle.spec_replay.specs.Answers.{creationLine, lifecycleLine, batchLine, checkLines, valueLine, availabilityLine, setUpLine, registerLine, turnLine, conversionLine, markLine, dependencyLines, printLines, noSessionLine, otherLine}
+use Rattle.spec_replay.specs.Script.{Command, nothing, session, node, binding, collection, create, apply, batch, check, list, show, valueBinding, valueNode, valueEntry, senders, wait, turn, edition, convert, markBinding, markNode, markEntry, depends, print, group, other, command}
+use Rattle.spec_replay.specs.Answers.{creationLine, lifecycleLine, batchLine, checkLines, valueLine, availabilityLine, setUpLine, registerLine, turnLine, conversionLine, markLine, dependencyLines, printLines, groupLines, noSessionLine, otherLine}
 
 -- what a creation takes
 pub record Setup : Type 0 where
@@ -110,6 +112,9 @@ applied s r = onward (withSession s (some (r .next))) (lifecycleLine (r .answer)
 unfoldable pub batched : State → BatchStep → Step
 batched s r = onward (withSession s (some (r .next))) (batchLine (r .answer))
 
+unfoldable pub grouped : State → GroupStep → Step
+grouped s r = onward (withSession s (some (r .next))) (groupLines (r .answer))
+
 -- a new circle takes the place of the one before; 21 leaves that one as it was
 unfoldable pub settled : State → SetUp → Step
 settled s (turns.made t) = onward (withTurns s t) (setUpLine (turns.made t))
@@ -147,6 +152,7 @@ replayLine n s (markNode i) = asked s (λ x. onward s (markLine (availabilityMar
 replayLine n s (markEntry c k) = asked s (λ x. onward s (markLine (entryMark (x .projection) c k)))
 replayLine n s (depends room set) = onward s (dependencyLines (dependenciesOf (s .edition) set (replicate room 0)))
 replayLine n s (print c room) = asked s (λ x. onward s (printLines room (collectionPrint (x .projection) c)))
+replayLine n s (group bs sets) = asked s (λ x. grouped s (groups.group x bs sets))
 replayLine n s other = stops (otherLine n)
 
 -- ---- the whole script

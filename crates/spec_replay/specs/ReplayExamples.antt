@@ -5,7 +5,7 @@ use mathlib.Core.Bool.{Bool}
 use mathlib.Core.List.{List, [], _∷_, _++_, flatMap}
 use mathlib.Core.Option.{none, some}
 use lib.Dec.{T, eqb}
-use lib.ListN.{replicate, drop, getD}
+use lib.ListN.{replicate, take, drop, getD}
 use Rattle.spec_lists.specs.Lists.{all, equalLists}
 use Rattle.spec_lists.specs.Bytes.{littleEndian, numberOf}
 use Rattle.spec_decimal.specs.Decimal.{digits, decimal, isNumeral, numberWith, readDecimal}
@@ -33,13 +33,15 @@ use Rattle.spec_conversion.specs.Conversion.{otherEdition, conversionNumber, un
 use Rattle.spec_dependencies.specs.Dependencies.{walkPatches, keysAtStart, dependenciesBy, dependencies}
 use Rattle.spec_dependencies.specs.Answer.{allWords, hasFindings, refused, answerNever, answerNeeds, refusalNumber, wordsWritten, answerBy, answerReading, dependenciesOf}
 use Rattle.spec_panel_print.specs.Print.{quadLetter, printedValue, lineCount, textPieces, columnOf, keyLead, laidOut, printedLines, entryLines, collectionLines, lineOctets, collectionPrint}
+use Rattle.spec_splitting.specs.Splitting.{isRejected}
+use Rattle.spec_group.specs.Group.{totalBytes, isGroup, sendFirst, runGroup, withCursor, concludeGroup, group}
 use Rattle.spec_turns.specs.Turns.{newTurns, setUp, refuseRegister, startWaiting, register, after, firstAsked, firstWaiting, nextSender, numberAfter, spendTurn, turnFor, turn}
 use Rattle.spec_listing.specs.Listing.{fields, recordCount, projectionLines, refusalLine, outcomeLines, readingLines, listing}
 use Rattle.spec_replay.specs.Lines.{prepend, split}
 use Rattle.spec_replay.specs.Hex.{hexDigit, hexByte, cons, hexPairs, readHex, hexCharacter, bytePair, hexField}
-use Rattle.spec_replay.specs.Script.{ascii, end, given, readBy, atMost, numberedEdition, byWord, stimuli, sessionArguments, bindingArguments, applyArguments, batchArguments, convertArguments, dependsArguments, printArguments, boundArguments, keyedArguments, values, marks, markArguments, valueArguments, commands, fieldsCommand, isRemark, command}
-use Rattle.spec_replay.specs.Answers.{dispositionField, lifecycleField, cursorField, placeField, sessionFields, creationLine, lifecycleLine, batchLine, checkedLine, checkLines, availabilityLine, setUpLine, registerLine, turnLine, conversionLine, markLine, keyLine, firstKeys, verdictLines, dependencyLines, printLines, noSessionLine, otherLine}
-use Rattle.spec_replay.specs.Replay.{State, noAnchors, start, keep, withSetup, withAnchors, withNode, withBinding, withSession, withTurns, withEdition, asked, askedTurns, created, applied, batched, settled, registered, turned, replayLine, replayLines, commandsOf, replayFrom, replay}
+use Rattle.spec_replay.specs.Script.{ascii, end, given, readBy, atMost, numberedEdition, byWord, stimuli, sessionArguments, bindingArguments, applyArguments, batchArguments, convertArguments, dependsArguments, printArguments, beforeLast, memberParts, memberField, groupLast, groupArguments, boundArguments, keyedArguments, values, marks, markArguments, valueArguments, commands, fieldsCommand, isRemark, command}
+use Rattle.spec_replay.specs.Answers.{dispositionField, lifecycleField, cursorField, placeField, sessionFields, creationLine, lifecycleLine, batchLine, checkedLine, checkLines, availabilityLine, setUpLine, registerLine, turnLine, conversionLine, markLine, keyLine, firstKeys, verdictLines, dependencyLines, printLines, groupLines, noSessionLine, otherLine}
+use Rattle.spec_replay.specs.Replay.{State, noAnchors, start, keep, withSetup, withAnchors, withNode, withBinding, withSession, withTurns, withEdition, asked, askedTurns, created, applied, batched, grouped, settled, registered, turned, replayLine, replayLines, commandsOf, replayFrom, replay}
 
 prints : String → String → Bool
 prints script answers = equalLists eqb (replay (ascii script)) (ascii answers)
@@ -114,6 +116,15 @@ examples =
     -- a collection on paper: its bytes behind their number, or 14; a collection without entries has none
     ∷ printsMarked "print 9 81\nprint 9 80\nprint 8 0\n" "O\t0\t81\n                  20  T                                                         \nO\t14\nO\t0\t0\n"
     ∷ prints "print 9 131072\nprint 9 131073\n" "N\n?\t2\n"
+    -- several batches or none: two empty sets of 35 bytes, each in its edition; the second of another session; lengths that do not add up; no batches
+    ∷ prints "group -\nsession 7 100 4 8 8\ncreate\ngroup 7,1,0,0,0,1,35 7,9,0,0,0,2,35 1b00000055495f444e41325f50524f4a454354494f4e5f50415443485f5631000000001b00000055495f444e41325f50524f4a454354494f4e5f50415443485f563200000000\ngroup 7,1,0,0,0,1,35 8,1,0,0,0,1,35 1b00000055495f444e41325f50524f4a454354494f4e5f50415443485f5631000000001b00000055495f444e41325f50524f4a454354494f4e5f50415443485f563100000000\ngroup 7,1,0,0,0,1,36 1b00000055495f444e41325f50524f4a454354494f4e5f50415443485f563100000000\ngroup -\n"
+    "N\nS\t0\nU\t0\t2\t-\nU\t0\t0\t1\nR\trejected\t1\t1\t1\t1\t-\nU\t17\nU\t17\n"
+    -- a batch has seven numbers with a comma between, the sixth an edition; at most 16 batches stand in a line, and hex behind them
+    ∷ prints "group 7,1,0,0,0,1 -\n" "?\t1\n"
+    ∷ prints "group 7,1,0,0,0,1,0,0 -\n" "?\t1\n"
+    ∷ prints "group 7,1,0,0,0,3,0 -\n" "?\t1\n"
+    ∷ prints "group 7,1,0,0,0,1,0\n" "?\t1\n"
+    ∷ prints "group 0,0,0,0,0,1,0 0,0,0,0,0,1,0 0,0,0,0,0,1,0 0,0,0,0,0,1,0 0,0,0,0,0,1,0 0,0,0,0,0,1,0 0,0,0,0,0,1,0 0,0,0,0,0,1,0 0,0,0,0,0,1,0 0,0,0,0,0,1,0 0,0,0,0,0,1,0 0,0,0,0,0,1,0 0,0,0,0,0,1,0 0,0,0,0,0,1,0 0,0,0,0,0,1,0 0,0,0,0,0,1,0 -\ngroup 0,0,0,0,0,1,0 0,0,0,0,0,1,0 0,0,0,0,0,1,0 0,0,0,0,0,1,0 0,0,0,0,0,1,0 0,0,0,0,0,1,0 0,0,0,0,0,1,0 0,0,0,0,0,1,0 0,0,0,0,0,1,0 0,0,0,0,0,1,0 0,0,0,0,0,1,0 0,0,0,0,0,1,0 0,0,0,0,0,1,0 0,0,0,0,0,1,0 0,0,0,0,0,1,0 0,0,0,0,0,1,0 0,0,0,0,0,1,0 -\n" "N\n?\t2\n"
     -- any other line ends the replay
     ∷ prints "create \nshow\n" "?\t1\n"
     ∷ prints "node 01\n" "?\t1\n"
@@ -140,9 +151,10 @@ unfolding examples prints closedWith printsAt marked printsMarked shows
     encodeCounted encode allValues otherEdition conversionNumber unread allKinds rewritten convertTo convert
     walkPatches keysAtStart dependenciesBy dependencies allWords refusalNumber wordsWritten answerBy answerReading dependenciesOf
     octets encodeScalar isEntry entriesIn entriesOf quadLetter printedValue lineCount textPieces columnOf keyLead laidOut printedLines entryLines collectionLines lineOctets collectionPrint
+    isRejected totalBytes isGroup sendFirst runGroup withCursor concludeGroup group
     fields recordCount projectionLines refusalLine outcomeLines readingLines listing
-    prepend split hexDigit hexByte cons hexPairs readHex hexCharacter bytePair hexField end given readBy atMost numberedEdition byWord stimuli sessionArguments bindingArguments applyArguments batchArguments convertArguments dependsArguments printArguments
+    prepend split hexDigit hexByte cons hexPairs readHex hexCharacter bytePair hexField end given readBy atMost numberedEdition byWord stimuli sessionArguments bindingArguments applyArguments batchArguments convertArguments dependsArguments printArguments beforeLast memberParts memberField groupLast groupArguments
     boundArguments keyedArguments values marks markArguments valueArguments commands fieldsCommand isRemark command
-    dispositionField lifecycleField cursorField placeField sessionFields creationLine lifecycleLine batchLine checkedLine checkLines availabilityLine setUpLine registerLine turnLine conversionLine markLine keyLine firstKeys verdictLines dependencyLines printLines noSessionLine otherLine
-    noAnchors start keep withSetup withAnchors withNode withBinding withSession withTurns withEdition asked askedTurns created applied batched settled registered turned replayLine replayLines commandsOf replayFrom replay
+    dispositionField lifecycleField cursorField placeField sessionFields creationLine lifecycleLine batchLine checkedLine checkLines availabilityLine setUpLine registerLine turnLine conversionLine markLine keyLine firstKeys verdictLines dependencyLines printLines groupLines noSessionLine otherLine
+    noAnchors start keep withSetup withAnchors withNode withBinding withSession withTurns withEdition asked askedTurns created applied batched grouped settled registered turned replayLine replayLines commandsOf replayFrom replay
 replay-examples = tt

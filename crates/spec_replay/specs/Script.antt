@@ -1,5 +1,5 @@
 -- The commands of a replay script, one to a line, as bytes: the table `commands`, and the fields of each above it.
-use Prim.Native.Nat.{ℕ}
+use Prim.Native.Nat.{ℕ, zero, suc}
 use mathlib.Core.Bool.{Bool, true}
 use mathlib.Core.List.{List, [], _∷_}
 use mathlib.Core.Option.{Option, none, some}
@@ -12,6 +12,7 @@ use Rattle.spec_patch.specs.Edition.{Edition, v1, v2}
 use Rattle.spec_session.specs.Session.{Limits, BindingPair}
 use Rattle.spec_session.specs.Lifecycle.{Stimulus, activate, suspend, resume, close, noOp}
 use Rattle.spec_session.specs.Batch.{BatchEnvelope}
+use Rattle.spec_group.specs.Group.{GroupBatch}
 pub use Rattle.spec_listing.specs.Ascii.{ascii}
 use Rattle.spec_replay.specs.Lines.{space, split}
 use Rattle.spec_replay.specs.Hex.{readHex}
@@ -42,6 +43,7 @@ pub data Command : Type 0 where
   markEntry : (collection key : ℕ) → Command
   depends : (room : ℕ) → (set : List ℕ) → Command
   print : (collection room : ℕ) → Command
+  group : List GroupBatch → (sets : List ℕ) → Command
   other : Command
 
 -- a line has at most 131,072 bytes without its LF
@@ -105,6 +107,9 @@ roomUpTo bound = readBy (λ f. atMost bound (readDecimal f))
 unfoldable pub numberedEdition : Option ℕ → Option Edition
 numberedEdition none = none
 numberedEdition (some n) = if eqb n 1 then some v1 else if eqb n 2 then some v2 else none
+
+abbrev pub editionField : Field Edition
+editionField = readBy (λ f. numberedEdition (readDecimal f))
 
 -- bytes in lower-case hex
 abbrev pub hex : Field (List ℕ)
@@ -205,6 +210,50 @@ printArguments = do
   room ← roomUpTo bytesLent
   end (print c room)
 
+-- ---- fields in any number
+
+-- the bytes of one field, and what follows with its value
+abbrev pub Single : Type 0 → Type 0
+Single A = (A → Command) → List ℕ → Command
+
+-- so many fields at most before the last one, which is left to what follows
+unfoldable pub beforeLast : {A : Type 0} → ℕ → Single A → (List A → List ℕ → Command) → Arguments
+beforeLast n one next [] = other
+beforeLast n one next (f ∷ []) = next [] f
+beforeLast zero one next (f ∷ g ∷ fs) = other
+beforeLast (suc n) one next (f ∷ g ∷ fs) = one (λ a. beforeLast n one (λ xs. next (a ∷ xs)) (g ∷ fs)) f
+
+-- the character , between the numbers of a batch
+abbrev pub comma : ℕ
+comma = 44
+
+-- ID,SEQUENCE,PATCHES,BYTES,REFERENCES,EDITION,LENGTH
+unfoldable pub memberParts : (GroupBatch → Command) → Arguments
+memberParts next = do
+  id ← number
+  sequence ← number
+  patches ← number
+  bytes ← number
+  references ← number
+  ed ← editionField
+  len ← number
+  end (next (record { edition = ed; envelope = record { session = id; sequence = sequence; patches = patches; stimulusBytes = bytes }; references = references; bytes = len }))
+
+unfoldable pub memberField : Single GroupBatch
+memberField next f = memberParts next (split comma f)
+
+-- so many batches can stand in a line
+abbrev pub lineMembers : ℕ
+lineMembers = 16
+
+-- the batches and the sets in hex
+unfoldable pub groupLast : List GroupBatch → List ℕ → Command
+groupLast bs f = given (readHex f) (group bs)
+
+-- group [BATCH ...] HEX
+unfoldable pub groupArguments : Arguments
+groupArguments = beforeLast lineMembers memberField groupLast
+
 -- N SLOT, a binding that is asked for
 unfoldable pub boundArguments : (ℕ → ℕ → Command) → Arguments
 boundArguments asks = do
@@ -258,11 +307,12 @@ commands =
     ∷ (ascii "senders" ⇒ number (λ n. end (senders n)))
     ∷ (ascii "wait" ⇒ number (λ n. end (wait n)))
     ∷ (ascii "turn" ⇒ end turn)
-    ∷ (ascii "edition" ⇒ readBy (λ f. numberedEdition (readDecimal f)) (λ ed. end (edition ed)))
+    ∷ (ascii "edition" ⇒ editionField (λ ed. end (edition ed)))
     ∷ (ascii "convert" ⇒ convertArguments)
     ∷ (ascii "mark" ⇒ markArguments)
     ∷ (ascii "depends" ⇒ dependsArguments)
     ∷ (ascii "print" ⇒ printArguments)
+    ∷ (ascii "group" ⇒ groupArguments)
     ∷ []
 
 -- the fields of a line: a known word and its arguments

@@ -4,6 +4,7 @@ use mathlib.Core.Bool.{Bool, true, false}
 use mathlib.Core.List.{List, []}
 use Prim.Native.Nat.{ℕ}
 use Rattle.spec_lists.specs.Lists.{if_then_else_}
+use Rattle.spec_replay.specs.Lines.{space}
 use Rattle.spec_replay.specs.Script.{end, hex}
 use Rattle.script_parser.specs.Fields.{fieldsAfter, hexThen}
 use Rattle.script_parser.specs.FieldsLaws.{ended, not-ended}
@@ -42,7 +43,7 @@ returns c =
     let test = called .before in
     let args = test .before .before .before .args in
     c .set-command .ensures (args .line .now)
-    ∙ sym (with-set (formAt (args .form)) (args .values) (fieldsAfter (args .line .now) (args .end)) (sym (test .before .has-set .ensures) ∙ test .if1 .taken)
+    ∙ sym (with-set (formAt (args .form)) (args .values) (fieldsAfter space (args .line .now) (args .end)) (sym (test .before .has-set .ensures) ∙ test .if1 .taken)
     ∙ called .last-hex .ensures _ ∙ ap (λ (h : HexField). hexThen (args .line .now) h (formAt (args .form) .makes (args .values))) (c .before .before .from .given .1))
 
 returns-2 : tie.Need-returns-2
@@ -50,14 +51,14 @@ returns-2 c =
     let called = c .before .before in
     let test = called .before in
     let args = test .before .before .before .args in
-    sym (with-set (formAt (args .form)) (args .values) (fieldsAfter (args .line .now) (args .end)) (sym (test .before .has-set .ensures) ∙ test .if1 .taken)
+    sym (with-set (formAt (args .form)) (args .values) (fieldsAfter space (args .line .now) (args .end)) (sym (test .before .has-set .ensures) ∙ test .if1 .taken)
     ∙ called .last-hex .ensures _ ∙ ap (λ (h : HexField). hexThen (args .line .now) h (formAt (args .form) .makes (args .values))) (c .enum-told .given .1))
 
 returns-3 : tie.Need-returns-3
 returns-3 c =
     let test = c .before in
     let args = test .before .before .before .args in
-    sym (without-set (formAt (args .form)) (args .values) (fieldsAfter (args .line .now) (args .end)) (sym (test .before .has-set .ensures) ∙ test .if1 .left) ∙ not-ended (args .line .now) (args .end) _ (c .if2 .taken))
+    sym (without-set (formAt (args .form)) (args .values) (fieldsAfter space (args .line .now) (args .end)) (sym (test .before .has-set .ensures) ∙ test .if1 .left) ∙ not-ended space (args .line .now) (args .end) _ (c .if2 .taken))
 
 command-of-requires : tie.Need-command-of-requires
 command-of-requires c κs =
@@ -69,7 +70,7 @@ returns-4 c =
     let test = c .before .before in
     let args = test .before .before .before .args in
     c .command-of .ensures (args .line .now)
-    ∙ sym (without-set (formAt (args .form)) (args .values) (fieldsAfter (args .line .now) (args .end)) (sym (test .before .has-set .ensures) ∙ test .if1 .left) ∙ ended (args .line .now) (args .end) _ (c .before .if2 .left))
+    ∙ sym (without-set (formAt (args .form)) (args .values) (fieldsAfter space (args .line .now) (args .end)) (sym (test .before .has-set .ensures) ∙ test .if1 .left) ∙ ended space (args .line .now) (args .end) _ (c .before .if2 .left))
 
 pub last-fields-spec : {M : Type 1} → statement M
 last-fields-spec =

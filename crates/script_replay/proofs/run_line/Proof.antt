@@ -45,6 +45,12 @@ enum-known-wanted-3 c = search needs
 run-with-set-requires : tie.Need-run-with-set-requires
 run-with-set-requires c κs = search needs
 
+enum-known-end : tie.Need-enum-known-end
+enum-known-end c = search needs
+
+run-group-requires : tie.Need-run-group-requires
+run-group-requires c κs = search needs
+
 enum-told-2 : tie.Need-enum-told-2
 enum-told-2 c = search needs
 
@@ -85,8 +91,17 @@ same-length-4 : tie.Need-same-length-4
 same-length-4 c = search needs
 
 returns-6 : tie.Need-returns-6
-unfolding replayLine
 returns-6 c =
+    let a = c .before .before .before .before .before .before .before .before .before .before .before .args in
+    let p = c .before .before .before .before .before .before .before .parse-line in
+    λ m h. line-step (a .number) m _ _ (parsed-as (a .line .now) (p .result) _ (p .ensures) (c .before .before .before .before .before .end .given .1)) (c .before .before .run-group .ensures m h (c .before .before .before .before .before .before .before .before .if1 .left))
+
+same-length-5 : tie.Need-same-length-5
+same-length-5 c = search needs
+
+returns-7 : tie.Need-returns-7
+unfolding replayLine
+returns-7 c =
     let a = c .before .before .before .before .before .before .before .before .before .before .args in
     let p = c .before .before .before .before .before .before .parse-line in
     λ m h. line-step (a .number) m _ _ (parsed-as (a .line .now) (p .result) _ (p .ensures) (c .before .before .before .before .enum-told2 .given .1)) (c .before .before .other2 .ensures)
@@ -107,6 +122,8 @@ run-line-spec =
     call-requires
     enum-known-wanted-3
     run-with-set-requires
+    enum-known-end
+    run-group-requires
     enum-told-2
     other-requires-2
     returns-2
@@ -116,4 +133,6 @@ run-line-spec =
     same-length-3
     returns-5
     same-length-4
-    returns-6)
+    returns-6
+    same-length-5
+    returns-7)

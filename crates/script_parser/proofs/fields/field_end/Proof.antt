@@ -5,15 +5,15 @@ use native.Mathlib.Omega.{arith}
 use borrow.Author.Needs.{needs}
 use lib.ListN.{length, drop}
 use Rattle.script_parser.specs.Fields.{firstField}
-use Rattle.script_parser.specs.FieldsLaws.{at-space, past-byte, at-end}
+use Rattle.script_parser.specs.FieldsLaws.{at-separator, past-byte, at-end}
 use Rattle.script_parser.proofs.fields.field_end.Statement.{statement}
 use Rattle.script_parser.proofs.fields.field_end.Tie as tie
 
 abbrev Inv-loop : tie.InvT-loop
-Inv-loop line from i₀ i = i + length (firstField (drop i line)) ≡ from + length (firstField (drop from line))
+Inv-loop line from separator i₀ i = i + length (firstField separator (drop i line)) ≡ from + length (firstField separator (drop from line))
 
 abbrev μ-loop : tie.MeasureT-loop
-μ-loop line from i₀ i = length line - i
+μ-loop line from separator i₀ i = length line - i
 
 loop-holds : tie.Need-loop-holds Inv-loop μ-loop
 loop-holds c = refl
@@ -24,7 +24,7 @@ shared-slice-read-if1 c = search needs
 returns : tie.Need-returns Inv-loop μ-loop
 returns c =
     let at-loop = c .before .before .before in
-    omega (arith, at-space (at-loop .before .args .line .now) (at-loop .loop .i) (omega arith) (c .if1 .taken))
+    omega (arith, at-separator (at-loop .before .args .separator) (at-loop .before .args .line .now) (at-loop .loop .i) (omega arith) (c .if1 .taken))
 
 add-i : tie.Need-add-i Inv-loop μ-loop
 add-i c = search needs
@@ -35,12 +35,12 @@ loop-less c = search needs
 loop-again : tie.Need-loop-again Inv-loop μ-loop
 loop-again c =
     let at-loop = c .before .before .before in
-    omega (arith, past-byte (at-loop .before .args .line .now) (at-loop .loop .i) (omega arith) (c .if1 .left))
+    omega (arith, past-byte (at-loop .before .args .separator) (at-loop .before .args .line .now) (at-loop .loop .i) (omega arith) (c .if1 .left))
 
 returns-2 : tie.Need-returns-2 Inv-loop μ-loop
 returns-2 c =
     let at-loop = c .before in
-    omega (arith, at-end (at-loop .before .args .line .now) (at-loop .loop .i) (omega arith))
+    omega (arith, at-end (at-loop .before .args .separator) (at-loop .before .args .line .now) (at-loop .loop .i) (omega arith))
 
 pub field-end-spec : {M : Type 1} → statement M
 field-end-spec =

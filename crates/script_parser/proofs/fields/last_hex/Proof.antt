@@ -1,5 +1,6 @@
 -- `script_parser::fields::last_hex` meets its contract: a field that is not the last, the last field, and no field.
 use borrow.Author.Needs.{needs}
+use Rattle.spec_replay.specs.Lines.{space}
 use Rattle.spec_replay.specs.Hex.{readHex}
 use Rattle.spec_replay.specs.Script.{end}
 use Rattle.script_parser.specs.FieldsLaws.{missing, hex-not-last, hex-last}
@@ -27,7 +28,7 @@ returns-2 c next =
 returns-3 : tie.Need-returns-3
 returns-3 c next =
     let args = c .before .before .args in
-    missing readHex (args .line .now) (args .end) (λ set. end (next set)) (c .if1 .left)
+    missing space readHex (args .line .now) (args .end) (λ set. end (next set)) (c .if1 .left)
 
 pub last-hex-spec : {M : Type 1} → statement M
 last-hex-spec = tie.close (tie.spec add-from field-end-requires returns returns-2 returns-3)

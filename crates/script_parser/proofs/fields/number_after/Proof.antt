@@ -26,7 +26,7 @@ part-read-u64-end : tie.Need-part-read-u64-end
 part-read-u64-end c =
     let args = c .before .before .before .args in
     let rest = drop (args .end + 1) (args .line .now) in
-    omega (arith, length-firstField rest, length-drop (args .end + 1) (args .line .now))
+    omega (arith, length-firstField (args .separator) rest, length-drop (args .end + 1) (args .line .now))
 
 read-u64-requires : tie.Need-read-u64-requires
 read-u64-requires c κs = search needs
@@ -42,19 +42,19 @@ returns c next =
     let called = c .before .before .before in
     let found = called .before .before in
     let args = found .before .before .before .args in
-    read-here readDecimal (args .line .now) (args .end) next (found .field-end .result) _ (found .field-end .ensures) (found .before .if1 .taken) (sym (called .read-u64 .ensures) ∙ ap numberU64 (c .before .n .given .1))
+    read-here (args .separator) readDecimal (args .line .now) (args .end) next (found .field-end .result) _ (found .field-end .ensures) (found .before .if1 .taken) (sym (called .read-u64 .ensures) ∙ ap numberU64 (c .before .n .given .1))
 
 returns-2 : tie.Need-returns-2
 returns-2 c next =
     let called = c .before .before in
     let found = called .before .before in
     let args = found .before .before .before .args in
-    not-read readDecimal (args .line .now) (args .end) next (found .field-end .result) (found .field-end .ensures) (found .before .if1 .taken) (sym (called .read-u64 .ensures) ∙ ap numberU64 (c .enum-told .given .1))
+    not-read (args .separator) readDecimal (args .line .now) (args .end) next (found .field-end .result) (found .field-end .ensures) (found .before .if1 .taken) (sym (called .read-u64 .ensures) ∙ ap numberU64 (c .enum-told .given .1))
 
 returns-3 : tie.Need-returns-3
 returns-3 c next =
     let args = c .before .before .args in
-    missing readDecimal (args .line .now) (args .end) next (c .if1 .left)
+    missing (args .separator) readDecimal (args .line .now) (args .end) next (c .if1 .left)
 
 pub number-after-spec : {M : Type 1} → statement M
 number-after-spec =

@@ -6,13 +6,13 @@ use Rattle.script_parser.proofs.fields.read_numbers.Statement.{statemen
 use Rattle.script_parser.proofs.fields.read_numbers.Tie as tie
 
 abbrev Inv-loop : tie.InvT-loop
-Inv-loop line end count values₀ at₀ i₀ values at i = Reading line end count i values at
+Inv-loop line end count separator values₀ at₀ i₀ values at i = Reading separator line end count i values at
 
 abbrev μ-loop : tie.MeasureT-loop
-μ-loop line end count values₀ at₀ i₀ values at i = count - i
+μ-loop line end count separator values₀ at₀ i₀ values at i = count - i
 
 loop-holds : tie.Need-loop-holds Inv-loop μ-loop
-loop-holds c = reading-start (c .before .args .line .now) (c .before .args .end) (c .before .args .count)
+loop-holds c = reading-start (c .before .args .separator) (c .before .args .line .now) (c .before .args .end) (c .before .args .count)
 
 number-after-requires : tie.Need-number-after-requires Inv-loop μ-loop
 number-after-requires c κs = search needs

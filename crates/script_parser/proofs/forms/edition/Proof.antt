@@ -16,7 +16,7 @@ unfolding given numberedEdition
 returns-2 c = λ line. ap (λ (n : ℕ). given (numberedEdition (some n)) edition) (sym (c .match .keys2))
 
 returns-3 : tie.Need-returns-3
-returns-3 c = λ line. no-edition _ (c .match .rest .0 .1) (c .match .rest .1)
+returns-3 c = λ line. no-edition _ edition (c .match .rest .0 .1) (c .match .rest .1)
 
 pub edition-spec : {M : Type 1} → statement M
 edition-spec = tie.close (tie.spec returns returns-2 returns-3)

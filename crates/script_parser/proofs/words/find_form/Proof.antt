@@ -18,7 +18,7 @@ use Rattle.script_parser.proofs.words.find_form.Tie as tie
 
 -- the words of the tables
 abbrev firstTable : List ℕ
-firstTable = ascii "session node binding collection create apply batch check list show value senders wait turn edition convert mark depends print"
+firstTable = ascii "session node binding collection create apply batch check list show value senders wait turn edition convert mark depends print group"
 
 abbrev stimulusTable : List ℕ
 stimulusTable = ascii "activate suspend resume close noop"
@@ -31,7 +31,7 @@ unfolding split prepend
 few c = rw (c .word-index .ensures .0) (indexOf-most (take (c .before .before .before .field-end .result - 0) (drop 0 (c .before .before .before .before .before .args .line .now))) (split space firstTable))
 
 by-first : (c : tie.After-word-index) → fieldsCommand (split space (c .before .before .before .before .before .args .line .now))
-    ≡ rowAt (λ a. a) commands (c .word-index .result) (fieldsAfter (c .before .before .before .before .before .args .line .now) (c .before .before .before .field-end .result))
+    ≡ rowAt (λ a. a) commands (c .word-index .result) (fieldsAfter space (c .before .before .before .before .before .args .line .now) (c .before .before .before .field-end .result))
 unfolding split prepend commands
 by-first c =
     let ended = c .before .before .before in
@@ -52,7 +52,7 @@ part-word-index-start c = search needs
 part-word-index-end : tie.Need-part-word-index-end
 part-word-index-end c =
     let ended = c .before in
-    omega (arith, field-within (ended .before .before .args .line .now) 0 (omega arith), ended .field-end .ensures)
+    omega (arith, field-within space (ended .before .before .args .line .now) 0 (omega arith), ended .field-end .ensures)
 
 word-index-requires : tie.Need-word-index-requires
 word-index-requires c κs = search needs
@@ -72,7 +72,7 @@ returns c =
     record {
       numbered = second-numbered (λ s. number (λ n. end (apply s n))) stimuli stimulusBase 5 refl (omega arith) stimulus-form (args .line .now) _ stimulusTable refl (c .second-form .result) (c .second-form .ensures);
       asks =
-          by-first word ∙ ap (λ (k : ℕ). rowAt (λ a. a) commands k (fieldsAfter (args .line .now) (word .before .before .before .field-end .result))) (test .if1 .taken)
+          by-first word ∙ ap (λ (k : ℕ). rowAt (λ a. a) commands k (fieldsAfter space (args .line .now) (word .before .before .before .field-end .result))) (test .if1 .taken)
           ∙ second-asks (λ s. number (λ n. end (apply s n))) stimuli stimulusBase 5 refl (omega arith) stimulus-form (args .line .now) _ stimulusTable refl (c .second-form .result) (c .second-form .ensures);
     }
 
@@ -91,7 +91,7 @@ returns-2 c =
     record {
       numbered = second-numbered (λ a. a) values valueBase 3 refl (omega arith) value-form (args .line .now) _ valueTable refl (c .second-form2 .result) (c .second-form2 .ensures);
       asks =
-          by-first word ∙ ap (λ (k : ℕ). rowAt (λ a. a) commands k (fieldsAfter (args .line .now) (word .before .before .before .field-end .result))) (test .if2 .taken)
+          by-first word ∙ ap (λ (k : ℕ). rowAt (λ a. a) commands k (fieldsAfter space (args .line .now) (word .before .before .before .field-end .result))) (test .if2 .taken)
           ∙ second-asks (λ a. a) values valueBase 3 refl (omega arith) value-form (args .line .now) _ valueTable refl (c .second-form2 .result) (c .second-form2 .ensures);
     }
 
@@ -110,7 +110,7 @@ returns-3 c =
     record {
       numbered = second-numbered (λ a. a) marks markBase 3 refl (omega arith) mark-form (args .line .now) _ valueTable refl (c .second-form3 .result) (c .second-form3 .ensures);
       asks =
-          by-first word ∙ ap (λ (k : ℕ). rowAt (λ a. a) commands k (fieldsAfter (args .line .now) (word .before .before .before .field-end .result))) (test .if3 .taken)
+          by-first word ∙ ap (λ (k : ℕ). rowAt (λ a. a) commands k (fieldsAfter space (args .line .now) (word .before .before .before .field-end .result))) (test .if3 .taken)
           ∙ second-asks (λ a. a) marks markBase 3 refl (omega arith) mark-form (args .line .now) _ valueTable refl (c .second-form3 .result) (c .second-form3 .ensures);
     }
 

@@ -28,7 +28,7 @@ part-word-index-start c = search needs
 part-word-index-end : tie.Need-part-word-index-end
 part-word-index-end c =
     let args = c .before .before .before .before .args in
-    omega (arith, field-within (args .line .now) (args .end + 1) (omega arith), c .field-end .ensures)
+    omega (arith, field-within space (args .line .now) (args .end + 1) (omega arith), c .field-end .ensures)
 
 word-index-requires : tie.Need-word-index-requires
 word-index-requires c κs = search needs
@@ -42,7 +42,7 @@ returns-2 c =
     let args = ended .before .before .before .before .args in
     record {
       missing = λ h. absurd (omega (arith, ended .before .if1 .left));
-      found = λ h. ap (λ (n : ℕ). args .base + n) (c .word-index .ensures .0 ∙ ap (λ (f : List ℕ). indexOf f (split space (args .words .now))) (field-part (args .line .now) (args .end + 1) (ended .field-end .result) (ended .field-end .ensures)));
+      found = λ h. ap (λ (n : ℕ). args .base + n) (c .word-index .ensures .0 ∙ ap (λ (f : List ℕ). indexOf f (split space (args .words .now))) (field-part space (args .line .now) (args .end + 1) (ended .field-end .result) (ended .field-end .ensures)));
       ended = λ h. ended .field-end .ensures;
     }
 

@@ -18,7 +18,7 @@ abbrev μ-loop : tie.MeasureT-loop
 μ-loop words field at₀ i₀ at i = length words - at
 
 ends : (c : tie.After-field-end Inv-loop μ-loop) → (c .before .loop .at ≤ c .field-end .result) × (c .field-end .result ≤ length (c .before .before .before .before .args .words .now))
-ends c = (omega (arith, c .field-end .ensures), omega (arith, c .field-end .ensures, field-within (c .before .before .before .before .args .words .now) (c .before .loop .at) (c .before .loop .inv .0)))
+ends c = (omega (arith, c .field-end .ensures), omega (arith, c .field-end .ensures, field-within space (c .before .before .before .before .args .words .now) (c .before .loop .at) (c .before .loop .inv .0)))
 
 loop-holds : tie.Need-loop-holds Inv-loop μ-loop
 loop-holds c = (omega arith, (omega arith, omega arith))

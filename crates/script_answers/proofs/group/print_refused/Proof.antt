@@ -1,0 +1,52 @@
+-- `script_answers::group::print_refused` meets its contract: a line of its own, and that of the refused batch.
+use borrow.Author.Needs.{needs}
+use Rattle.spec_listing.specs.Listing.{fields}
+use Rattle.spec_replay.specs.Answers.{groupLines}
+use Rattle.bytes_printer.specs.PrintsLaws.{_⨾_}
+use Rattle.script_answers.proofs.group.print_refused.Statement.{statement}
+use Rattle.script_answers.proofs.group.print_refused.Tie as tie
+
+print-byte-requires : tie.Need-print-byte-requires
+print-byte-requires c κs = search needs
+
+print-field-u64-requires : tie.Need-print-field-u64-requires
+print-field-u64-requires c κs = search needs
+
+print-field-u64-requires-2 : tie.Need-print-field-u64-requires-2
+print-field-u64-requires-2 c κs = search needs
+
+print-field-u64-requires-3 : tie.Need-print-field-u64-requires-3
+print-field-u64-requires-3 c κs = search needs
+
+print-newline-requires : tie.Need-print-newline-requires
+print-newline-requires c κs = search needs
+
+print-batch-requires : tie.Need-print-batch-requires
+print-batch-requires c κs = search needs
+
+same-length : tie.Need-same-length
+same-length c = search needs
+
+returns : tie.Need-returns
+unfolding groupLines fields
+returns c =
+    let batch = c .before .before in
+    let end = batch .before .before .before .before in
+    let place = end .before .before .before .before in
+    let none = place .before .before .before .before in
+    let zero = none .before .before .before .before in
+    let letter = zero .before .before .before .before in
+    (letter .print-byte .ensures ⨾ zero .print-field-u64 .ensures ⨾ none .print-field-u642 .ensures ⨾ place .print-field-u643 .ensures ⨾ end .print-newline .ensures) ⨾ batch .print-batch .ensures
+
+pub print-refused-spec : {M : Type 1} → statement M
+print-refused-spec =
+    tie.close
+    (tie.spec
+    print-byte-requires
+    print-field-u64-requires
+    print-field-u64-requires-2
+    print-field-u64-requires-3
+    print-newline-requires
+    print-batch-requires
+    same-length
+    returns)

@@ -1,0 +1,68 @@
+-- `script_parser::members::member_of` meets its contract: the first edition, the second, or any other line.
+use Prim.Native.Nat.{ℕ}
+use mathlib.Core.Path.{_≡_, sym, ap}
+use mathlib.Core.List.{List}
+use mathlib.Core.Option.{some}
+use Rattle.spec_patch.specs.Edition.{Edition}
+use Rattle.spec_group.specs.Group.{GroupBatch}
+use Rattle.spec_replay.specs.Script.{Command, given, numberedEdition}
+use Rattle.script_parser.specs.Forms.{at}
+use Rattle.script_parser.specs.FormsLaws.{no-edition}
+use Rattle.script_parser.specs.Members.{memberMade}
+use borrow.Author.Needs.{needs}
+use Rattle.script_parser.proofs.members.member_of.Statement.{statement}
+use Rattle.script_parser.proofs.members.member_of.Tie as tie
+
+-- the batch in an edition
+abbrev inEdition : List ℕ → Edition → GroupBatch
+inEdition ns ed = record { edition = ed; envelope = record { session = at ns 0; sequence = at ns 1; patches = at ns 2; stimulusBytes = at ns 3 }; references = at ns 4; bytes = at ns 6 }
+
+by-number : (ns : List ℕ) (next : GroupBatch → Command) (n : ℕ) → at ns 5 ≡ n → given (numberedEdition (some n)) (λ ed. next (inEdition ns ed)) ≡ memberMade ns next
+by-number ns next n e = ap (λ (k : ℕ). given (numberedEdition (some k)) (λ ed. next (inEdition ns ed))) (sym e)
+
+array-read-bytes : tie.Need-array-read-bytes
+array-read-bytes c = search needs
+
+array-read-t10 : tie.Need-array-read-t10
+array-read-t10 c = search needs
+
+array-read-t13 : tie.Need-array-read-t13
+array-read-t13 c = search needs
+
+array-read-t16 : tie.Need-array-read-t16
+array-read-t16 c = search needs
+
+array-read-match : tie.Need-array-read-match
+array-read-match c = search needs
+
+array-read-bytes-2 : tie.Need-array-read-bytes-2
+array-read-bytes-2 c = search needs
+
+array-read-match-2 : tie.Need-array-read-match-2
+array-read-match-2 c = search needs
+
+returns : tie.Need-returns
+unfolding given numberedEdition
+returns c = λ next. by-number (c .before .args .t1) next 1 (c .match .keys1)
+
+returns-2 : tie.Need-returns-2
+unfolding given numberedEdition
+returns-2 c = λ next. by-number (c .before .args .t1) next 2 (c .match .keys2)
+
+returns-3 : tie.Need-returns-3
+returns-3 c = λ next. no-edition (at (c .before .args .t1) 5) (λ ed. next (inEdition (c .before .args .t1) ed)) (c .match .rest .0 .1) (c .match .rest .1)
+
+pub member-of-spec : {M : Type 1} → statement M
+member-of-spec =
+    tie.close
+    (tie.spec
+    array-read-bytes
+    array-read-t10
+    array-read-t13
+    array-read-t16
+    array-read-match
+    array-read-bytes-2
+    array-read-match-2
+    returns
+    returns-2
+    returns-3)
