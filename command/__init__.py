@@ -1,0 +1,1 @@
+"""The commands on files, over the proved programs."""
