@@ -3,9 +3,10 @@
 import sys
 from pathlib import Path
 
-from build import read_notation
+from build import patch, read_notation
 from canonical import encode_set
 from kit import PANEL_SET, answered, batch
+from terms import import_terms
 
 SCRIPT = []
 
@@ -244,6 +245,25 @@ insert 9 1 before 2 T Ok
 binding 5 0 Q 2
 """)
 
+# ---- a term list (02, Job 1)
+
+WORDS = [
+    (101, "Saugventil = suction valve"),
+    (102, "Druckventil = discharge valve"),
+    (103, "Förderhöhe = delivery head"),
+    (104, "Laufrad = impeller"),
+    (105, "Wellendichtung = shaft seal"),
+    (106, "Trockenlauf = dry running"),
+    (201, "Aufzug = lift"),
+    (202, "Fahrkorb = lift car"),
+    (203, "Gegengewicht = counterweight"),
+    (204, "Fangvorrichtung = safety gear"),
+    (205, "Türverriegelung = door lock"),
+    (206, "Schachtgrube = lift pit"),
+]
+TERMS = "".join("%d\t%s\n" % words for words in WORDS).encode()
+LISTED = ("P\t12\n" + "".join("C\t9\t%d\tT\t%s\n" % words for words in WORDS)).encode()
+
 
 def write(folder, name, lines, answers):
     script = "".join(line + "\n" for line in lines).encode()
@@ -257,6 +277,10 @@ def main(folder):
     write(folder, "three_senders", SENDERS, SENDERS_ANSWERS)
     (folder / "panel.set").write_bytes(encode_set(PANEL_SET))
     (folder / "scores.set").write_bytes(encode_set(SCORES, 2))
+    number, terms = import_terms(TERMS, 1, 9, patch(1, []), 32768)
+    assert number == 0 and answered(("list %s\n" % terms.hex()).encode()) == LISTED
+    (folder / "terms.txt").write_bytes(TERMS)
+    (folder / "terms.set").write_bytes(terms)
 
 
 if __name__ == "__main__":

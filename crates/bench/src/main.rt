@@ -1,11 +1,15 @@
 // Uses one set, session, projection, text or list many times. The input is a letter for the use, a space, how often in decimal, a line end and the data. What is
 // printed depends on the uses.
 //   r q k   reading, the quick check and the check of a set; the data is the set
+//   i       bringing in a term list; the data is the list
 //   t w     the UTF-8 check of a text, and the writing of a list that repeats it; the data is the text
-//   b v a e batches, and look-ups of bindings, availabilities and entries; o operations in place on a projection; the data is a set that fills the panel,
-//           a set that is applied to it and one that takes it back, each after its length as a u32
+//   b v a e batches, and look-ups of bindings, availabilities and entries; o operations in place on a projection; p pages of 64 keys, x the same with each
+//           row taken apart, s as many single look-ups; the data is a set that fills the panel, a set that is applied to it and one that takes it back,
+//           each after its length as a u32
+mod imports;
 mod lists;
 mod lookups;
+mod pages;
 mod projections;
 mod sessions;
 mod sets;
@@ -40,7 +44,10 @@ fn use_panel(way: u8, times: u64, fill: &[u8], forth: &[u8], back: &[u8]) -> u64
     if way == b'b' {
         return sessions::apply_often(session, forth, back, times);
     }
-    lookups::look_up_often(way, session, times)
+    match way {
+        b'p' | b'x' | b's' => pages::use_pages(way, session, times),
+        _ => lookups::look_up_often(way, session, times),
+    }
 }
 
 // Cuts the third set.
@@ -73,6 +80,7 @@ fn with_data(way: u8, times: u64, rest: &[u8]) -> u64 {
 fn use_often(way: u8, data: &mut [u8], times: u64) -> u64 {
     match way {
         b'r' | b'q' | b'k' => sets::use_often(way, data, times),
+        b'i' => imports::import_often(data, times),
         b't' => texts::check_often(data, times),
         b'w' => lists::write_often(data, times),
         _ => with_data(way, times, data),

@@ -1,5 +1,6 @@
 -- What reading a line answers, by the term that it holds.
 use Prim.Native.Nat.{ℕ, _+_, _-_}
+use mathlib.Core.Path.{_≡_}
 use mathlib.Core.Bool.{true}
 use mathlib.Core.List.{List}
 use mathlib.Core.Option.{Option, none, some}
@@ -38,3 +39,9 @@ lineTo at end term-read.OverCapacity = line-read.OverCapacity
 -- the line at a position where these bytes begin
 abbrev pub lineAnswer : ℕ → List ℕ → LineRead
 lineAnswer at bs = lineTo at (at + length (firstLine bs)) (termAnswer (firstLine bs))
+
+-- the first line of these bytes holds a term within its limits
+pub record HoldsTerm (bs : List ℕ) : Type 0 where
+  pub key : ℕ
+  pub start : ℕ
+  pub is : termAnswer (firstLine bs) ≡ term-read.Term key start

@@ -3,11 +3,14 @@ use Prim.Native.Nat.{ℕ, suc, _-_, _≤_, _<_}
 use mathlib.Core.Path.{_≡_, refl, sym, ap, _∙_}
 use mathlib.Core.Bool.{Bool, true, false, _&&_}
 use mathlib.Core.List.{List, _∷_}
+use mathlib.Core.Logic.{_≢_}
 use mathlib.Core.Option.{Option, none, some}
 use native.Mathlib.Omega.{arith}
-use borrow.Author.Tests.{le-leb, lt-leb}
+use borrow.Author.Tests.{eqb-true, eqb-false, le-leb, lt-leb}
+use lib.Dec.{eqb}
 use lib.ListN.{length, take, drop, length-drop}
 use Rattle.spec_lists.specs.Lists.{if_then_else_}
+use Rattle.spec_lists.specs.ListLaws.{test-cases}
 use Rattle.spec_decimal.specs.Decimal.{readDecimal}
 use Rattle.spec_listing.specs.Escapes.{tab}
 use Rattle.spec_listing.specs.Split.{split}
@@ -20,7 +23,7 @@ use Rattle.spec_import.specs.Import.{Term, termWith, termOfFields, readTerm, ke
 use Rattle.spec_import.specs.FormLaws.{some-part}
 use Rattle.patch_terms.specs.declared.TermRead.the-variants.{Term as Read, OtherForm, OverCapacity}
 use Rattle.patch_terms.specs.Places.{placeOf}
-use Rattle.patch_terms.specs.PlacesLaws.{place-lacks, place-found, place-none}
+use Rattle.patch_terms.specs.PlacesLaws.{place-within, place-lacks, place-found, place-none}
 use Rattle.patch_terms.specs.Answers.{judgedTerm, termTo, termAnswer}
 
 -- ---- the text
@@ -124,3 +127,50 @@ starts-within n (some t) k start e = go (keepsText t) e
     go : (b : Bool) → (if b then Read (t .key) (n - length (t .words)) else OverCapacity) ≡ Read k start → start ≤ n
     go true e = let same : n - length (t .words) ≡ start = cc in omega arith
     go false e = absurd (let z : _≡_ {A = ℕ} 0 1 = cc in omega arith)
+
+-- ---- a line that is known to hold a term
+
+module _ (line : List ℕ) (k start : ℕ) (is : termAnswer line ≡ Read k start) where
+  other-never : {C : Type 0} → OtherForm ≡ termAnswer line → C
+  other-never e = absurd (let same : OtherForm ≡ Read k start = e ∙ is in let z : _≡_ {A = ℕ} 0 1 = cc in omega arith)
+
+  -- it has a tab
+  pub known-tab : placeOf tab line < length line
+  known-tab =
+      test-cases (eqb (placeOf tab line) (length line))
+      (λ e. other-never (line-whole line (eqb-true (placeOf tab line) (length line) e)))
+      (λ e. let apart = eqb-false (placeOf tab line) (length line) e in let within = place-within tab line in less apart within)
+    where
+      less : {m n : ℕ} → m ≢ n → m ≤ n → m < n
+      less apart within = omega arith
+
+  known-only : let behind = drop (suc (placeOf tab line)) line in placeOf tab behind ≡ length behind
+  known-only =
+      let behind = drop (suc (placeOf tab line)) line in
+      test-cases (eqb (placeOf tab behind) (length behind))
+      (λ e. eqb-true (placeOf tab behind) (length behind) e)
+      (λ e. other-never (line-more line known-tab (less (eqb-false (placeOf tab behind) (length behind) e) (place-within tab behind))))
+    where
+      less : {m n : ℕ} → m ≢ n → m ≤ n → m < n
+      less apart within = omega arith
+
+  -- its key stands before the tab, and its text behind it
+  pub known-key : (readDecimal (take (placeOf tab line) line) ≡ some k) × (start ≡ suc (placeOf tab line))
+  known-key = by-key (readDecimal (take (placeOf tab line) line)) refl
+    where
+      behind : List ℕ
+      behind = drop (suc (placeOf tab line)) line
+
+      by-text : (n : ℕ) → readDecimal (take (placeOf tab line) line) ≡ some n → (a b : Bool) → allowed true behind ≡ a → keepsText (record { key = n; words = behind }) ≡ b → judgedTerm n (suc (placeOf tab line)) behind ≡ Read k start
+          → (readDecimal (take (placeOf tab line) line) ≡ some k) × (start ≡ suc (placeOf tab line))
+      by-text n h true true a b e =
+          let same : Read n (suc (placeOf tab line)) ≡ Read k start = rw (a, b) at e in
+          let keys : n ≡ k = cc in
+          let starts : suc (placeOf tab line) ≡ start = cc in
+          (h ∙ ap some keys, sym starts)
+      by-text n h true false a b e = absurd (let z : _≡_ {A = ℕ} 0 1 = cc (rw (a, b) at e) in omega arith)
+      by-text n h false b a c e = absurd (let z : _≡_ {A = ℕ} 0 1 = cc (rw a at e) in omega arith)
+
+      by-key : (o : Option ℕ) → readDecimal (take (placeOf tab line) line) ≡ o → (readDecimal (take (placeOf tab line) line) ≡ some k) × (start ≡ suc (placeOf tab line))
+      by-key none h = other-never (line-unspelled line known-tab known-only h)
+      by-key (some n) h = by-text n h (allowed true behind) (keepsText (record { key = n; words = behind })) refl refl (line-judged line known-tab known-only n h (suc (placeOf tab line)) refl ∙ is)

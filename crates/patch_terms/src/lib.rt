@@ -3,7 +3,7 @@ ghost use mathlib.Core.Path.{_≡_};
 ghost use Prim.Native.Nat.{_≤_};
 ghost use lib.ListN.{length, drop};
 ghost use Rattle.patch_terms.specs.Places.{placeOf};
-ghost use Rattle.patch_terms.specs.Answers.{judgedTerm, termAnswer, lineAnswer};
+ghost use Rattle.patch_terms.specs.Answers.{judgedTerm, termAnswer, lineAnswer, HoldsTerm};
 use bytes_decimal::ReadU64;
 use projection_patch::patch::ProjectionPatchValue;
 use projection_patch::text_rule::TextJudgement;
@@ -95,5 +95,23 @@ pub fn read_line(list: &[u8], at: usize) -> LineRead
         },
         TermRead::OtherForm => LineRead::OtherForm,
         TermRead::OverCapacity => LineRead::OverCapacity,
+    }
+}
+
+// Reads a line again that is known to hold a term: its text is not judged, nor are further tabs sought.
+pub fn reread_line(list: &[u8], at: usize) -> LineRead
+    requires { ⌜ (at ≤ length (now list)) × HoldsTerm (drop at (now list)) ⌝ }
+    ensures { λ r. ⌜ r ≡ lineAnswer at (drop at (now (list .entry))) ⌝ }
+{
+    let end = at + place_of(&list[at..], NEWLINE);
+    let tab = at + place_of(&list[at..end], TAB);
+    match bytes_decimal::read_u64(&list[at..tab]) {
+        ReadU64::Read(key) => LineRead::Term {
+            key,
+            start: tab + 1,
+            len: end - (tab + 1),
+            next: end + 1,
+        },
+        ReadU64::Malformed => LineRead::OtherForm,
     }
 }

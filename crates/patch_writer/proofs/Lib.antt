@@ -2,6 +2,6 @@
 mod Elements
 mod Surveyed
 mod Verdict
-mod Progress
+pub mod Progress
 mod Turns
 mod Judged

@@ -26,7 +26,7 @@ use Rattle.spec_checks.specs.SetChecks
 use Rattle.spec_checks.specs.Findings
 use Rattle.spec_import.specs.Import
 use Rattle.spec_import.specs.Import.{Term, importNumber, lines, Terms, terms, faulty, readTerms, Imported, imported, refused, importTerms, printTerms}
-use Rattle.spec_import.specs.LineLaws.{Printable}
+use Rattle.spec_import.specs.LineLaws.{Printable, Kept}
 use Rattle.spec_import.specs.ImportLaws.{Importable, imports-exactly}
 
 -- every definition that the tests compute through
@@ -218,7 +218,16 @@ unfolding someTerms opened
 someTerms-printable =
     (record { formed = record { key = omega arith; utf8 = refl; no-tab = refl }; no-newline = refl }, (record { formed = record { key = omega arith; utf8 = refl; no-tab = refl }; no-newline = refl }, tt))
 
+pub someTerms-kept : All Kept someTerms
+unfolding someTerms opened
+someTerms-kept = (refl, (refl, tt))
+
 -- which gives the list with its last newline
 pub someTerms-printed : printTerms someTerms ≡ twoLines ++ (newline ∷ [])
 unfolding someTerms twoLines opened
 someTerms-printed = refl
+
+pub someTerms-imported : (ed : Edition) → (bs : List ℕ) × (importTerms ed 9 (withId 1) (printTerms someTerms) 1000 ≡ imported bs)
+unfolding someTerms withId opened
+someTerms-imported v1 = (_, refl)
+someTerms-imported v2 = (_, refl)

@@ -1,7 +1,7 @@
 -- Bringing in succeeds exactly where the lines have the form and fit, the checks find nothing and there is room. What comes out is the canonical
 -- bytes of the lines' patch, and reading it gives the lines' keys and texts in their order.
 use Prim.Native.Nat.{ℕ, _≤_}
-use mathlib.Core.Path.{_≡_, refl, ap, _∙_}
+use mathlib.Core.Path.{_≡_, refl, sym, ap, ap₂, _∙_}
 use mathlib.Core.Bool.{true}
 use mathlib.Core.List.{List, [], _∷_, map}
 use mathlib.Core.Logic.{_↔_}
@@ -33,6 +33,16 @@ formed-all (l ∷ ls) (t ∷ ts) e =
     let here : readTerm l ≡ some t = cc in
     let rest : map readTerm ls ≡ map some ts = cc in
     (form-exactly l t .0 here .0, formed-all ls ts rest)
+
+-- lines hold no other terms
+some-inj : (a b : List Term) → map some a ≡ map some b → a ≡ b
+some-inj [] [] e = refl
+some-inj [] (u ∷ b) e = absurd (let z : _≡_ {A = ℕ} 0 1 = cc in omega arith)
+some-inj (t ∷ a) [] e = absurd (let z : _≡_ {A = ℕ} 0 1 = cc in omega arith)
+some-inj (t ∷ a) (u ∷ b) e =
+    let here : t ≡ u = cc in
+    let rest : map some a ≡ map some b = cc in
+    ap₂ (λ (x : Term) (l : List Term). x ∷ l) here (some-inj a b rest)
 
 module _ (ed : Edition) (collection : ℕ) (e : Envelope) where
   -- the set of one patch that terms become
@@ -143,6 +153,16 @@ module _ (ed : Edition) (collection : ℕ) (e : Envelope) where
         let w = was-importable list room bs h in
         let i = w .importable in
         (i .held, i .formed, ap (readSet ed) (w .bytes) ∙ reads-back ed (setOf (i .held)) (set-fits list room i))
+
+    -- and what is brought in of a printed list is read as the terms that were printed
+    pub printed-back : (ts : List Term) → All Printable ts → All Kept ts → length ts ≤ patchOperations → (room : ℕ) (bs : List ℕ) → importTerms ed collection e (printTerms ts) room ≡ imported bs
+        → (bs ≡ encode ed (setOf ts)) × (readSet ed bs ≡ patches (setOf ts))
+    printed-back ts p k few room bs h =
+        let w = was-importable (printTerms ts) room bs h in
+        let i = w .importable in
+        let read = lines-read 0 (lines (printTerms ts)) ts (omega arith) (printed-reads ts p k few) in
+        let same : i .held ≡ ts = some-inj (i .held) ts (sym (i .formed) ∙ read .formed) in
+        (w .bytes ∙ ap (λ (us : List Term). encode ed (setOf us)) same, ap (readSet ed) (w .bytes) ∙ reads-back ed (setOf (i .held)) (set-fits (printTerms ts) room i) ∙ ap (λ (us : List Term). patches (setOf us)) same)
 
   -- ---- printed lists
 

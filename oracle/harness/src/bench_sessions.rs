@@ -3,7 +3,7 @@ use std::hint::black_box;
 
 use prom_ui::shell_bridge::glue::{self, RawPatch};
 use prom_ui::shell_bridge::{initial_local_projection_state, prepare_patch_submission};
-use prom_ui::shell_bridge::{LocalProjectionStateHandle, PreparedPatchSubmission};
+use prom_ui::shell_bridge::{BridgeValue, LocalProjectionStateHandle, PreparedPatchSubmission};
 use prom_ui_runtime::shell_player::*;
 
 use crate::bench::{admitted, built, least, original, proved, show};
@@ -150,6 +150,52 @@ pub fn lookups(program: &str) {
         s.collection_entries(1).into_iter().find(|(k, _)| *k == key)
     };
     show("an entry", proved(program, 'e', &data), original_lookup(entry));
+}
+
+/// The keys of the benchmark program's pages: 64 of 1 to 120, no two of them equal.
+fn page_keys() -> Vec<u64> {
+    (0..64).map(|i| i * 17 % 120 + 1).collect()
+}
+
+/// Position and value of each key, by one call for all entries and a search for each key.
+fn original_page(session: &ShellSession, keys: &[u64]) -> Vec<Option<(usize, BridgeValue)>> {
+    let entries = session.collection_entries(1);
+    let find = |key: &u64| {
+        let at = entries.iter().position(|(k, _)| k == key)?;
+        Some((at, entries[at].1.clone()))
+    };
+    keys.iter().map(find).collect()
+}
+
+/// The same by one call for all entries for each key.
+fn original_singly(session: &ShellSession, keys: &[u64]) -> Vec<Option<(u64, BridgeValue)>> {
+    keys.iter().map(|key| session.collection_entries(1).into_iter().find(|(k, _)| k == key)).collect()
+}
+
+fn one_collection() -> PanelSets {
+    PanelSets { forth: Vec::new(), back: Vec::new(), ..Layout { entries: 120, collections: 1 }.panel(1) }
+}
+
+/// 64 keys among 120 entries of one collection, together and singly, on the proved side also with each row taken apart.
+pub fn pages(program: &str) {
+    let panel = one_collection();
+    let data = bench_panels::data(&panel);
+    let session = filled(&panel);
+    let keys = page_keys();
+    let theirs = original(|| (), |_| original_page(black_box(&session), black_box(&keys)));
+    show("a page", proved(program, 'p', &data), theirs);
+    show("a page, its rows taken apart", proved(program, 'x', &data), theirs);
+    let singly = original(|| (), |_| original_singly(black_box(&session), black_box(&keys)));
+    show("64 single look-ups", proved(program, 's', &data), singly);
+}
+
+/// So many pages of the original, whose instructions are counted.
+pub fn pages_often(times: u64) {
+    let session = filled(&one_collection());
+    let keys = page_keys();
+    for _ in 0..times {
+        black_box(original_page(black_box(&session), black_box(&keys)));
+    }
 }
 
 /// A text of 160 bytes, whose first is changed at each use.

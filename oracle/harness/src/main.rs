@@ -4,6 +4,7 @@ mod bench;
 mod bench_panels;
 mod bench_sessions;
 mod bench_sets;
+mod bench_terms;
 mod codes;
 mod compare;
 mod decode;
@@ -20,6 +21,7 @@ mod set_calls;
 mod sets;
 mod shrink;
 mod tally;
+mod terms;
 mod vectors;
 
 use std::io::Write;
@@ -37,10 +39,12 @@ oracle sets COUNT SEED
 oracle rewrite COUNT SEED PROGRAM...
 oracle bench-read PROGRAM | bench-check PROGRAM | bench-sizes PROGRAM
 oracle bench-original build|check TIMES PATCHES OPERATIONS | bench-original build|check TIMES found OPERATIONS
+oracle bench-original page TIMES
 oracle bench-set texts | bench-set PATCHES OPERATIONS | bench-set found OPERATIONS
 oracle bench-session PROGRAM COLLECTIONS
 oracle bench-operation PROGRAM COLLECTIONS
-oracle bench-lookup PROGRAM | bench-text PROGRAM | bench-write PROGRAM
+oracle bench-lookup PROGRAM | bench-page PROGRAM | bench-text PROGRAM | bench-write PROGRAM
+oracle bench-import PROGRAM | bench-import-plain TIMES terms|texts | bench-terms terms|texts
 oracle bench-panel full | bench-panel ENTRIES COLLECTIONS OPERATIONS";
 
 fn main() {
@@ -66,11 +70,18 @@ fn main() {
         ["bench-original", way @ ("build" | "check"), times, patches, operations] => {
             bench::checking_often(*way == "check", number(times), &benchmark_list(patches, number(operations)))
         }
+        ["bench-original", "page", times] => bench_sessions::pages_often(number(times)),
         ["bench-session", program, collections] => bench_sessions::batches(program, number(collections)),
         ["bench-operation", program, collections] => bench_sessions::operation(program, number(collections)),
         ["bench-lookup", program] => bench_sessions::lookups(program),
+        ["bench-page", program] => bench_sessions::pages(program),
         ["bench-text", program] => bench_sessions::texts(program),
         ["bench-write", program] => bench_sessions::writing(program),
+        ["bench-import", program] => bench_terms::importing(program),
+        ["bench-import-plain", times, name @ ("terms" | "texts")] => {
+            println!("{}", bench_terms::import_often(number(times), &bench_terms::named(name)))
+        }
+        ["bench-terms", name @ ("terms" | "texts")] => put(&bench_terms::named(name)),
         ["bench-panel", "full"] => put(&bench_panels::data(&bench_panels::full())),
         ["bench-panel", entries, collections, operations] => {
             let layout = Layout { entries: number(entries), collections: number(collections) };

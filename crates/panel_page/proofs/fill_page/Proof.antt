@@ -1,0 +1,69 @@
+-- `fill_page` meets its contract: the places stand for the rows of keys of which none was found, then for those of all entries, and are these at the end.
+use mathlib.Core.Path.{_∙_, subst}
+use denote.Ref.{now}
+use lib.ListN.{length}
+use Rattle.bytes_records.specs.Table.{Holds}
+use Rattle.panel_page.specs.PageTable.{pageWidth}
+use Rattle.panel_page.specs.PageTableLaws.{holds-all, page-bytes}
+use Rattle.panel_page.specs.ShownLaws.{placesOf, places-held, shows-nothing}
+use borrow.Author.Needs.{needs}
+use Rattle.panel_page.proofs.fill_page.Statement.{statement}
+use Rattle.panel_page.proofs.fill_page.Tie as tie
+
+slice-aggregate-index-keys : tie.Need-slice-aggregate-index-keys
+slice-aggregate-index-keys c = search needs
+
+slice-aggregate-index-keys-2 : tie.Need-slice-aggregate-index-keys-2
+slice-aggregate-index-keys-2 c = search needs
+
+index-keys-requires : tie.Need-index-keys-requires
+index-keys-requires c κs = search needs
+
+empty-places-requires : tie.Need-empty-places-requires
+empty-places-requires c κs = search needs
+
+slice-aggregate-answer-rows : tie.Need-slice-aggregate-answer-rows
+slice-aggregate-answer-rows c = search needs
+
+slice-aggregate-answer-rows-2 : tie.Need-slice-aggregate-answer-rows-2
+slice-aggregate-answer-rows-2 c = search needs
+
+answer-rows-requires : tie.Need-answer-rows-requires
+answer-rows-requires c κs = search needs
+
+clear-empty-places-requires : tie.Need-clear-empty-places-requires
+clear-empty-places-requires c κs = search needs
+
+same-length : tie.Need-same-length
+same-length c = search needs
+
+returns : tie.Need-returns
+returns c =
+    let at-clear = c .before .before in
+    let at-rows = at-clear .before .before .before .before in
+    let at-empty = at-rows .before .before .before .before .before .before in
+    let start = at-empty .before .before .before .before .before .before .before .before .before .before in
+    let a = start .args in
+    let keys = now (a .keys) in
+    let places = placesOf pageWidth (length keys) (now (a .answers)) in
+    let held = places-held pageWidth (length keys) (now (a .answers)) (start .pre .1) in
+    λ p s v.
+    let nothing = shows-nothing (a .collection) keys (at-empty .empty-places .last .0) places (held .wide) (held .counted) (at-empty .empty-places .ensures places held) in
+    let all = at-rows .answer-rows .ensures (p .entries) (v .fitEntries) (v .entries) (s .rows) nothing in
+    let cleared = subst (Holds pageWidth (length keys) _) (all .stand) (at-clear .clear-empty-places .ensures (all .places) (all .held)) in
+    holds-all cleared (search needs) ∙ page-bytes p (a .collection) keys
+
+pub fill-page-spec : {M : Type 1} → statement M
+fill-page-spec =
+    tie.close
+    (tie.spec
+    slice-aggregate-index-keys
+    slice-aggregate-index-keys-2
+    index-keys-requires
+    empty-places-requires
+    slice-aggregate-answer-rows
+    slice-aggregate-answer-rows-2
+    answer-rows-requires
+    clear-empty-places-requires
+    same-length
+    returns)

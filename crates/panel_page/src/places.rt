@@ -1,0 +1,58 @@
+// The places of an answer table. While a page is filled, a place whose first byte is 0 stands for a row of zeros, whatever else it holds: so only
+// the places of keys that were not found are cleared, at the end.
+ghost use mathlib.Core.Path.{_≡_};
+ghost use mathlib.Core.List.{List, map};
+ghost use Prim.Native.Nat.{ℕ, _*_};
+ghost use lib.ListN.{length};
+ghost use Rattle.bytes_records.specs.Table.{Holds};
+ghost use Rattle.panel_page.specs.PageTable.{pageWidth};
+ghost use Rattle.panel_page.specs.Shown.{emptied, shown};
+use crate::rows::PageLookup;
+
+fn empty_place(place: &mut [u8])
+    ensures { λ _. ⌜ now (place .exit) ≡ emptied (now (place .entry)) ⌝ }
+{
+    if place.len() == 0 {
+        return;
+    }
+    place[0] = 0;
+}
+
+// Lets every place stand for a row of zeros.
+pub(crate) fn empty_places(answers: &mut [u8], count: usize)
+    requires { ⌜ length (now answers) ≡ count * pageWidth ⌝ }
+    ensures { λ _. ⌜ ((m : List (List ℕ)) → Holds pageWidth count (now (answers .entry)) m → Holds pageWidth count (now (answers .exit)) (map emptied m)) ⌝ }
+{
+    let mut i: usize = 0;
+    while i < count {
+        let from = i * PageLookup::WIDTH;
+        let end = from + PageLookup::WIDTH;
+        empty_place(&mut answers[from..end]);
+        i += 1;
+    }
+}
+
+fn clear_empty(place: &mut [u8])
+    ensures { λ _. ⌜ now (place .exit) ≡ shown (now (place .entry)) ⌝ }
+{
+    if place.len() == 0 {
+        return;
+    }
+    if place[0] == 0 {
+        bytes_records::moves::clear(place);
+    }
+}
+
+// Makes every place the row that it stands for.
+pub(crate) fn clear_empty_places(answers: &mut [u8], count: usize)
+    requires { ⌜ length (now answers) ≡ count * pageWidth ⌝ }
+    ensures { λ _. ⌜ ((m : List (List ℕ)) → Holds pageWidth count (now (answers .entry)) m → Holds pageWidth count (now (answers .exit)) (map shown m)) ⌝ }
+{
+    let mut i: usize = 0;
+    while i < count {
+        let from = i * PageLookup::WIDTH;
+        let end = from + PageLookup::WIDTH;
+        clear_empty(&mut answers[from..end]);
+        i += 1;
+    }
+}

@@ -1,0 +1,4 @@
+pub mod Page
+pub mod PageExamples
+pub mod PageLaws
+pub mod PagePremises
