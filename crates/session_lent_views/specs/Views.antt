@@ -1,6 +1,6 @@
 -- What the calls that read a lent session answer, for any slices whatever and for those that hold a session. A call is lent the slices that it
 -- reads, and no others.
-use Prim.Native.Nat.{ℕ}
+use Prim.Native.Nat.{ℕ, _/_}
 use mathlib.Core.Path.{_≡_}
 use mathlib.Core.Bool.{Bool, true, false}
 use mathlib.Core.List.{List}
@@ -10,6 +10,7 @@ use Rattle.spec_lists.specs.Lists.{if_then_else_}
 use Rattle.spec_session.specs.Session.{Session}
 use Rattle.spec_listing.specs.Listing.{projectionLines}
 use Rattle.spec_panel_print.specs.Print.{collectionPrint}
+use Rattle.spec_page.specs.Page.{pageRefusal, tableLeft}
 use Rattle.bytes_wire.specs.Write.{overwrite}
 use Rattle.panel_rows.specs.Lookup.{noValue}
 use Rattle.panel_rows.specs.declared.values.ValueLookup.{ValueLookup}
@@ -17,6 +18,8 @@ use Rattle.panel_lookups.specs.Nth.{entryLookup}
 use Rattle.panel_lookups.specs.declared.positions.EntryLookup.{EntryLookup}
 use Rattle.panel_print.specs.Answers.{printAnswer, OthersKept}
 use Rattle.panel_print.specs.declared.PrintAnswer.{PrintAnswer}
+use Rattle.panel_page.specs.PageTable as page
+use Rattle.panel_page.specs.PageTable.{pageWidth, pageBytes, pageAnswer}
 use Rattle.patch_part_writer.specs.declared.written.Written.{Written}
 use Rattle.listing_panel.specs.Written.{Writes, Kept}
 use Rattle.session_lent.specs.LentSession.{LentSession, halfShaped, entriesShaped}
@@ -26,6 +29,8 @@ use Rattle.session_lent_views.specs.declared.lookups.LentValue.{LentValu
 use Rattle.session_lent_views.specs.declared.lookups.LentEntry.{LentEntry}
 use Rattle.session_lent_views.specs.declared.listing.LentListing.{LentListing}
 use Rattle.session_lent_views.specs.declared.listing.LentListing.the-variants as listing
+use Rattle.session_lent_views.specs.declared.page.LentPage.{LentPage}
+use Rattle.session_lent_views.specs.declared.page.LentPage.the-variants as paged
 use Rattle.session_lent_views.specs.declared.print.LentPrint.{LentPrint}
 use Rattle.session_lent_views.specs.declared.print.LentPrint.the-variants as print
 
@@ -94,3 +99,9 @@ abbrev pub PrintCall : (head entries : List ℕ) (collection : ℕ) (out : List 
 PrintCall head entries collection out r out′ =
     ViewWritten (entriesShaped head (length entries)) print.NoSession print.Answered (HoldsEntries head entries) (OthersKept out out′)
     (λ m w. (w ≡ printAnswer out (collectionPrint (m .projection) collection)) × (out′ ≡ overwrite out 0 (collectionPrint (m .projection) collection))) out r out′
+
+-- a page of keys: a row for each, or 16 or 14
+abbrev pub PageCall : (head entries : List ℕ) (collection : ℕ) (keys out : List ℕ) → LentPage → List ℕ → Type 0
+PageCall head entries collection keys out r out′ =
+    ViewWritten (entriesShaped head (length entries)) paged.NoSession paged.Answered (HoldsEntries head entries) (λ w. (w ≡ pageAnswer (length keys) (pageRefusal (length keys) (length out / pageWidth))) × page.OthersKept out out′ w)
+    (λ m w. (w ≡ pageAnswer (length keys) (pageRefusal (length keys) (length out / pageWidth))) × (out′ ≡ tableLeft (pageRefusal (length keys) (length out / pageWidth)) (pageBytes (m .projection) collection keys) out)) out r out′
