@@ -10,7 +10,7 @@ from random_sets import COLLECTIONS, NODES, SLOTS, cut, patch_list
 
 rules_of("Job 3 in document 02", answers="02")
 
-LENGTH = "spec_projection Lookups.collectionLength"
+LENGTH = "spec_lengths Lengths.lengthOf"
 CLAIM = "spec_splitting Splitting; session_splitting Claim"
 ASKED = "spec_replay Replay.asked"
 

@@ -12,8 +12,8 @@ rules_of("Job 10 in document 02", answers="02")
 PRINT = "spec_panel_print Print.collectionPrint"
 LINES = "spec_panel_print Print.entryLines"
 VALUE = "spec_panel_print Print.printedValue"
-BACK = "spec_panel_print JoinLaws.value-back"
-ROOM = "spec_panel_print Print.printAnswer"
+BACK = "spec_panel_print JoinLaws.printed-back"
+ROOM = "spec_replay Answers.printLines"
 LAST = 2**64 - 1
 # the two columns before a text, and the 58 characters of it
 BLANK = " " * 22

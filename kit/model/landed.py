@@ -18,9 +18,9 @@ LANDED = [
     "marks",
     # "lengths",
     "escapes",
-    # "depends",
+    "depends",
     # "pages",
-    # "print",
+    "print",
     # "import",
     # "group",
 ]

@@ -22,6 +22,7 @@ pub(crate) fn replay_often(fill: &[u8], set: &[u8], times: u64) -> u64 {
     let mut bindings = [0u8; LocalProjectionState::BINDING_BYTES];
     let mut availability = [0u8; LocalProjectionState::AVAILABILITY_BYTES];
     let mut entries = [0u8; LocalProjectionState::ENTRY_BYTES];
+    let mut lengths = [0u8; LocalProjectionState::LENGTH_BYTES];
     let used = ProjectionCounts {
         bindings: LocalProjectionState::BINDINGS,
         availabilities: LocalProjectionState::AVAILABILITIES,
@@ -40,6 +41,7 @@ pub(crate) fn replay_often(fill: &[u8], set: &[u8], times: u64) -> u64 {
             &mut bindings,
             &mut availability,
             &mut entries,
+            &mut lengths,
             used,
         );
         if let SetChange::Applied(counts) = change {

@@ -1,4 +1,5 @@
--- What a state stores: its tables are the rows of a projection's lists, its counts their lengths, and every unused place is zero.
+-- What a state stores: its tables are the rows of a projection's lists and of its collections' lengths, its counts the lists' lengths, and every
+-- unused place is zero.
 use Prim.Native.Nat.{ℕ, _*_}
 use mathlib.Core.Path.{_≡_}
 use mathlib.Core.List.{List, map}
@@ -6,8 +7,9 @@ use lib.ListN.{length}
 use Rattle.spec_patch.specs.Sizes.{projectionBindings, projectionAvailabilities, projectionEntries}
 use Rattle.spec_projection.specs.Projection.{Projection}
 use Rattle.spec_projection.specs.Valid.{Valid}
+use Rattle.spec_lengths.specs.Lengths.{CollectionLength, collectionLengths}
 use Rattle.bytes_records.specs.Table.{tableBytes, Holds}
-use Rattle.panel_rows.specs.Rows.{bindingWidth, availabilityWidth, entryWidth, bindingBytes, availabilityBytes, entryBytes, bindingRow, availabilityRow, entryRow}
+use Rattle.panel_rows.specs.Rows.{bindingWidth, availabilityWidth, entryWidth, lengthWidth, bindingBytes, availabilityBytes, entryBytes, lengthBytes, bindingRow, availabilityRow, entryRow, lengthRow}
 use Rattle.local_projection_state.specs.declared.LocalProjectionState.{LocalProjectionState}
 use Rattle.local_projection_state.specs.declared.ProjectionCounts.{ProjectionCounts}
 
@@ -23,9 +25,14 @@ pub record StoredTables (counts : ProjectionCounts) (bindingTable availabilityTa
   pub entries : Stored entryRow entryWidth projectionEntries (counts .entries) entryTable (p .entries)
   pub valid : Valid p
 
+-- a table stores the lengths of collections that are so many
+abbrev pub StoredLengths : List ℕ → List CollectionLength → Type 0
+StoredLengths table l = Stored lengthRow lengthWidth projectionEntries (length l) table l
+
 -- the state stores the projection, byte for byte
-abbrev pub Stores : LocalProjectionState → Projection → Type 0
-Stores s p = StoredTables (s .counts) (s .bindings) (s .availability) (s .entries) p
+pub record Stores (s : LocalProjectionState) (p : Projection) : Type 0 where
+  pub tables : StoredTables (s .counts) (s .bindings) (s .availability) (s .entries) p
+  pub lengths : StoredLengths (s .lengths) (collectionLengths p)
 
 -- the counts of a projection
 abbrev pub countsOf : Projection → ProjectionCounts
@@ -38,4 +45,5 @@ stateOf p = record {
   bindings = tableBytes bindingBytes (map bindingRow (p .bindings));
   availability = tableBytes availabilityBytes (map availabilityRow (p .availabilities));
   entries = tableBytes entryBytes (map entryRow (p .entries));
+  lengths = tableBytes lengthBytes (map lengthRow (collectionLengths p));
 }

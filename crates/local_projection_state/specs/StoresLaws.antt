@@ -7,15 +7,18 @@ use native.Mathlib.Omega.{arith}
 use lib.ListN.{length, length-append, length-replicate, length-map}
 use Rattle.spec_lists.specs.Lists.{All}
 use Rattle.spec_patch.specs.Sizes.{projectionBindings, projectionAvailabilities, projectionEntries}
-use Rattle.spec_projection.specs.Projection.{Projection, empty}
+use Rattle.spec_lists.specs.Order.{sortUnique}
+use Rattle.spec_projection.specs.Projection.{Entry, Projection, empty}
 use Rattle.spec_projection.specs.Valid.{FitsBinding, FitsNodeAvailability, FitsEntry, Valid}
 use Rattle.spec_projection.specs.ValidLaws.{empty-valid}
+use Rattle.spec_lengths.specs.Lengths.{collectionsIn, lengthsIn, collectionLengths, FitsLength}
+use Rattle.spec_lengths.specs.LengthsLaws.{few-lengths, lengths-fit}
 use Rattle.bytes_records.specs.Moves.{zeros}
 use Rattle.bytes_records.specs.Table.{Wide, tableBytes, Holds}
 use Rattle.bytes_records.specs.TableLaws.{length-flatten, holds, holds-none, holds-unique, holds-bytes}
-use Rattle.panel_rows.specs.Rows.{bindingWidth, availabilityWidth, entryWidth, bindingBytes, availabilityBytes, entryBytes, bindingRow, availabilityRow, entryRow}
-use Rattle.panel_rows.specs.RowsLaws.{binding-wide, availability-wide, entry-wide, binding-tells, availability-tells, entry-tells}
-use Rattle.local_projection_state.specs.Stores.{Stored, StoredTables, Stores, stateOf}
+use Rattle.panel_rows.specs.Rows.{bindingWidth, availabilityWidth, entryWidth, lengthWidth, bindingBytes, availabilityBytes, entryBytes, lengthBytes, bindingRow, availabilityRow, entryRow, lengthRow}
+use Rattle.panel_rows.specs.RowsLaws.{binding-wide, availability-wide, entry-wide, length-wide, binding-tells, availability-tells, entry-tells, length-tells}
+use Rattle.local_projection_state.specs.Stores.{Stored, StoredTables, StoredLengths, Stores, stateOf}
 use Rattle.local_projection_state.specs.declared.LocalProjectionState.{LocalProjectionState}
 
 -- ---- one table
@@ -67,7 +70,9 @@ projection-equal p q b a e = λ i. record { bindings = b i; availabilities = a i
 
 -- a state stores at most one projection
 pub one-projection : (s : LocalProjectionState) (p q : Projection) → Stores s p → Stores s q → p ≡ q
-one-projection s p q g h =
+one-projection s p q g′ h′ =
+    let g = g′ .tables in
+    let h = h′ .tables in
     projection-equal p q
     (one-list bindingRow FitsBinding bindingWidth binding-wide binding-tells _ _ _ (p .bindings) (q .bindings) (g .valid .fitBindings) (h .valid .fitBindings) (g .bindings) (h .bindings))
     (one-list availabilityRow FitsNodeAvailability availabilityWidth availability-wide availability-tells _ _ _ (p .availabilities) (q .availabilities) (g .valid .fitAvailabilities) (h .valid .fitAvailabilities) (g .availabilities) (h .availabilities))
@@ -75,7 +80,10 @@ one-projection s p q g h =
 
 -- two states that store a projection are one
 pub one-state : (p : Projection) (s t : LocalProjectionState) → Stores s p → Stores t p → s ≡ t
-one-state p s t g h =
+one-state p s t g′ h′ =
+    let g = g′ .tables in
+    let h = h′ .tables in
+    let lengths = one-table lengthRow lengthWidth projectionEntries (g′ .lengths) (h′ .lengths) in
     let bindings = one-table bindingRow bindingWidth projectionBindings (g .bindings) (h .bindings) in
     let availabilities = one-table availabilityRow availabilityWidth projectionAvailabilities (g .availabilities) (h .availabilities) in
     let entries = one-table entryRow entryWidth projectionEntries (g .entries) (h .entries) in
@@ -88,16 +96,24 @@ one-state p s t g h =
       bindings = bindings i;
       availability = availabilities i;
       entries = entries i;
+      lengths = lengths i;
     }
+
+-- the lengths of the collections of entries that a projection may have
+pub lengths-stored : (es : List Entry) → All FitsEntry es → length es ≤ projectionEntries → StoredLengths (tableBytes lengthBytes (map lengthRow (lengthsIn es))) (lengthsIn es)
+lengths-stored es fit few = stored lengthRow FitsLength lengthWidth length-wide length-tells projectionEntries (lengthsIn es) (lengths-fit es fit few) (omega (arith, few-lengths es))
 
 -- and there is one
 pub some-state : (p : Projection) → Valid p → Stores (stateOf p) p
-unfolding stateOf
+unfolding stateOf collectionLengths
 some-state p v = record {
-  bindings = stored bindingRow FitsBinding bindingWidth binding-wide binding-tells projectionBindings (p .bindings) (v .fitBindings) (v .fewBindings);
-  availabilities = stored availabilityRow FitsNodeAvailability availabilityWidth availability-wide availability-tells projectionAvailabilities (p .availabilities) (v .fitAvailabilities) (v .fewAvailabilities);
-  entries = stored entryRow FitsEntry entryWidth entry-wide entry-tells projectionEntries (p .entries) (v .fitEntries) (v .fewEntries);
-  valid = v;
+  tables = record {
+    bindings = stored bindingRow FitsBinding bindingWidth binding-wide binding-tells projectionBindings (p .bindings) (v .fitBindings) (v .fewBindings);
+    availabilities = stored availabilityRow FitsNodeAvailability availabilityWidth availability-wide availability-tells projectionAvailabilities (p .availabilities) (v .fitAvailabilities) (v .fewAvailabilities);
+    entries = stored entryRow FitsEntry entryWidth entry-wide entry-tells projectionEntries (p .entries) (v .fitEntries) (v .fewEntries);
+    valid = v;
+  };
+  lengths = lengths-stored (p .entries) (v .fitEntries) (v .fewEntries);
 }
 
 -- ---- the empty projection
@@ -105,12 +121,16 @@ some-state p v = record {
 none-stored : {A : Type 0} (row : A → List ℕ) (width capacity : ℕ) → Stored row width capacity 0 (zeros (capacity * width)) []
 none-stored row width capacity = record { size = length-replicate (capacity * width) 0; rows = holds-none width (capacity * width) }
 
-pub empty-stored : StoredTables (record { bindings = 0; availabilities = 0; entries = 0 })
+empty-tables : StoredTables (record { bindings = 0; availabilities = 0; entries = 0 })
     (zeros bindingBytes) (zeros availabilityBytes) (zeros entryBytes) empty
 unfolding empty
-empty-stored = record {
+empty-tables = record {
   bindings = none-stored bindingRow bindingWidth projectionBindings;
   availabilities = none-stored availabilityRow availabilityWidth projectionAvailabilities;
   entries = none-stored entryRow entryWidth projectionEntries;
   valid = empty-valid;
 }
+
+pub empty-stored : Stores (record { counts = record { bindings = 0; availabilities = 0; entries = 0 }; bindings = zeros bindingBytes; availability = zeros availabilityBytes; entries = zeros entryBytes; lengths = zeros lengthBytes }) empty
+unfolding empty collectionLengths lengthsIn collectionsIn sortUnique
+empty-stored = record { tables = empty-tables; lengths = none-stored lengthRow lengthWidth projectionEntries }

@@ -1,4 +1,4 @@
-// What a session stores of a panel: three tables of fixed-width rows. After crates/prom-ui/src/local_projection_state.rs.
+// What a session stores of a panel: three tables of fixed-width rows, and one of each collection's length. After crates/prom-ui/src/local_projection_state.rs.
 ghost use Rattle.spec_projection.specs.Projection.{empty};
 ghost use Rattle.local_projection_state.specs.Stores.{Stores};
 
@@ -9,12 +9,14 @@ pub struct ProjectionCounts {
     pub entries: usize,
 }
 
-// Each table has its rows in stored order, and zeros in every unused place.
+// Each table has its rows in stored order, and zeros in every unused place. The lengths have no count: none of them is 0, so that the first
+// row that is all zeros ends them.
 pub struct LocalProjectionState {
     pub counts: ProjectionCounts,
     pub bindings: [u8; LocalProjectionState::BINDING_BYTES],
     pub availability: [u8; LocalProjectionState::AVAILABILITY_BYTES],
     pub entries: [u8; LocalProjectionState::ENTRY_BYTES],
+    pub lengths: [u8; LocalProjectionState::LENGTH_BYTES],
 }
 
 impl LocalProjectionState {
@@ -25,13 +27,16 @@ impl LocalProjectionState {
 
     pub const ENTRIES: usize = 128;
 
-    // The three tables, in bytes.
+    // The tables, in bytes.
     pub const BINDING_BYTES: usize = LocalProjectionState::BINDINGS * panel_rows::BINDING_WIDTH;
 
     pub const AVAILABILITY_BYTES: usize = LocalProjectionState::AVAILABILITIES
         * panel_rows::AVAILABILITY_WIDTH;
 
     pub const ENTRY_BYTES: usize = LocalProjectionState::ENTRIES * panel_rows::ENTRY_WIDTH;
+
+    // A length for each collection that has an entry.
+    pub const LENGTH_BYTES: usize = LocalProjectionState::ENTRIES * panel_rows::LENGTH_WIDTH;
 
     // A panel without records.
     pub fn empty() -> LocalProjectionState
@@ -46,6 +51,7 @@ impl LocalProjectionState {
             bindings: [0u8; LocalProjectionState::BINDING_BYTES],
             availability: [0u8; LocalProjectionState::AVAILABILITY_BYTES],
             entries: [0u8; LocalProjectionState::ENTRY_BYTES],
+            lengths: [0u8; LocalProjectionState::LENGTH_BYTES],
         }
     }
 }

@@ -11,6 +11,7 @@ ghost use Rattle.panel_application.specs.Application.{applySet, outcomeN
 use check_quick::quick_set;
 use check_quick::quick_set::QuickCheck;
 use local_projection_state::LocalProjectionState;
+use local_projection_state::ProjectionCounts;
 use panel_bindings::LocalProjectionApplicationError;
 use panel_changes::SetChange;
 use projection_patch::patch::ProjectionPatchEdition;
@@ -44,6 +45,25 @@ pub struct ProjectionApplication {
     pub outcome: ProjectionOutcome,
 }
 
+// The state of these tables.
+fn state_of(
+    counts: ProjectionCounts,
+    bindings: [u8; LocalProjectionState::BINDING_BYTES],
+    availability: [u8; LocalProjectionState::AVAILABILITY_BYTES],
+    entries: [u8; LocalProjectionState::ENTRY_BYTES],
+    lengths: [u8; LocalProjectionState::LENGTH_BYTES],
+) -> LocalProjectionState
+    ensures { λ r. ⌜ r ≡ record { counts = counts; bindings = bindings; availability = availability; entries = entries; lengths = lengths } ⌝ }
+{
+    LocalProjectionState {
+        counts,
+        bindings,
+        availability,
+        entries,
+        lengths,
+    }
+}
+
 // Applies all operations of a readable set, from the state's tables to new ones. The first that fails hands the state back as it came.
 fn apply_readable(
     state: LocalProjectionState,
@@ -57,6 +77,7 @@ fn apply_readable(
     let mut bindings = [0u8; LocalProjectionState::BINDING_BYTES];
     let mut availability = [0u8; LocalProjectionState::AVAILABILITY_BYTES];
     let mut entries = [0u8; LocalProjectionState::ENTRY_BYTES];
+    let mut lengths = [0u8; LocalProjectionState::LENGTH_BYTES];
     let used = panel_changes::none_used();
     match panel_changes::apply_set(
         &state.bindings,
@@ -68,15 +89,11 @@ fn apply_readable(
         &mut bindings,
         &mut availability,
         &mut entries,
+        &mut lengths,
         used,
     ) {
         SetChange::Applied(counts) => ProjectionApplication {
-            state: LocalProjectionState {
-                counts,
-                bindings,
-                availability,
-                entries,
-            },
+            state: state_of(counts, bindings, availability, entries, lengths),
             outcome: ProjectionOutcome::Applied,
         },
         SetChange::Refused(error) => ProjectionApplication {

@@ -1,4 +1,4 @@
--- What a set makes of three tables, and what the code answers.
+-- What a set makes of the tables, and what the code answers.
 use Prim.Native.Nat.{ℕ}
 use mathlib.Core.Path.{_≡_}
 use mathlib.Core.Bool.{Bool, true, _&&_}
@@ -8,7 +8,9 @@ use lib.ListN.{length}
 use Rattle.spec_patch.specs.Sizes.{projectionBindings, projectionAvailabilities, projectionEntries}
 use Rattle.spec_projection.specs.Projection.{Projection}
 use Rattle.spec_projection.specs.Apply.{Outcome, done, stopped}
-use Rattle.panel_rows.specs.Rows.{bindingWidth, bindingBytes, availabilityBytes, entryWidth, entryBytes}
+use Rattle.spec_lengths.specs.Lengths.{collectionLengths}
+use Rattle.panel_rows.specs.Rows.{bindingWidth, bindingBytes, availabilityBytes, entryWidth, entryBytes, lengthBytes}
+use Rattle.local_projection_state.specs.Stores.{StoredTables, StoredLengths}
 use Rattle.local_projection_state.specs.declared.ProjectionCounts.{ProjectionCounts}
 use Rattle.panel_bindings.specs.Change.{faultOf}
 use Rattle.panel_writing.specs.Writing.{ClearBehind}
@@ -32,12 +34,17 @@ pub record TableLengths (b a e : List ℕ) : Type 0 where
 abbrev pub noneUsed : ProjectionCounts
 noneUsed = record { bindings = 0; availabilities = 0; entries = 0 }
 
--- the tables that are written: as long as they should be, and zero behind the rows that were used
-pub record Ready (used : ProjectionCounts) (b a e : List ℕ) : Type 0 where
+-- the tables that are written: as long as they should be, and zero behind the rows that were used; that of the lengths may hold anything
+pub record Ready (used : ProjectionCounts) (b a e l : List ℕ) : Type 0 where
   pub lengths : TableLengths b a e
+  pub collections : length l ≡ lengthBytes
   pub few : countsFit used ≡ true
   pub bindings : ClearBehind (used .bindings) bindingWidth b
   pub entries : ClearBehind (used .entries) entryWidth e
+
+-- the tables that were written store the projection, and its collections' lengths
+abbrev pub StoredAfter : ProjectionCounts → (b a e l : List ℕ) → Projection → Type 0
+StoredAfter n b a e l q = StoredTables n b a e q × StoredLengths l (collectionLengths q)
 
 -- the answer is the outcome's: with these counts the tables store the next projection, or the refusal is the fault's
 abbrev pub ChangeBecame : (ProjectionCounts → Projection → Type 0) → SetChange → Outcome → Type 0
@@ -49,11 +56,11 @@ ChangeBecame Next (Unreadable f) x = ⊥
 ChangeBecame Next BadTables x = ⊥
 
 -- a set that is not applied leaves the tables that it was to be written to
-abbrev pub Same : (b a e b′ a′ e′ : List ℕ) → Type 0
-Same b a e b′ a′ e′ = (b′ ≡ b) × ((a′ ≡ a) × (e′ ≡ e))
+abbrev pub Same : (b a e l b′ a′ e′ l′ : List ℕ) → Type 0
+Same b a e l b′ a′ e′ l′ = (b′ ≡ b) × ((a′ ≡ a) × ((e′ ≡ e) × (l′ ≡ l)))
 
-abbrev pub KeptUnlessApplied : SetChange → (b a e b′ a′ e′ : List ℕ) → Type 0
-KeptUnlessApplied (Applied n) b a e b′ a′ e′ = Unit {0}
-KeptUnlessApplied (Refused f) b a e b′ a′ e′ = Same b a e b′ a′ e′
-KeptUnlessApplied (Unreadable f) b a e b′ a′ e′ = Same b a e b′ a′ e′
-KeptUnlessApplied BadTables b a e b′ a′ e′ = Same b a e b′ a′ e′
+abbrev pub KeptUnlessApplied : SetChange → (b a e l b′ a′ e′ l′ : List ℕ) → Type 0
+KeptUnlessApplied (Applied n) b a e l b′ a′ e′ l′ = Unit {0}
+KeptUnlessApplied (Refused f) b a e l b′ a′ e′ l′ = Same b a e l b′ a′ e′ l′
+KeptUnlessApplied (Unreadable f) b a e l b′ a′ e′ l′ = Same b a e l b′ a′ e′ l′
+KeptUnlessApplied BadTables b a e l b′ a′ e′ l′ = Same b a e l b′ a′ e′ l′

@@ -27,23 +27,26 @@ use Rattle.spec_projection.specs.Projection.{Projection}
 use Rattle.spec_projection.specs.Apply.{Outcome, done, stopped}
 use Rattle.spec_projection.specs.RowMap.{mapRows}
 use Rattle.spec_projection.specs.Valid.{Valid}
+use Rattle.spec_lengths.specs.Lengths.{collectionLengths}
+use Rattle.spec_lengths.specs.LengthsAfter.{lengths-mapped}
 use Rattle.bytes_records.specs.Moves.{zeros, overwrite}
 use Rattle.bytes_records.specs.MovesLaws.{length-zeros, drop-zeros}
 use Rattle.bytes_records.specs.TableLaws.{holds-none}
-use Rattle.panel_rows.specs.Rows.{bindingBytes, availabilityBytes, entryBytes, bindingWidth, availabilityWidth, entryWidth, bindingRow, availabilityRow, entryRow}
-use Rattle.local_projection_state.specs.Stores.{Stored, StoredTables}
+use Rattle.panel_rows.specs.Rows.{bindingBytes, availabilityBytes, entryBytes, lengthBytes, bindingWidth, availabilityWidth, entryWidth, bindingRow, availabilityRow, entryRow}
+use Rattle.local_projection_state.specs.Stores.{Stored, StoredTables, StoredLengths}
 use Rattle.local_projection_state.specs.declared.ProjectionCounts.{ProjectionCounts}
 use Rattle.panel_plan.specs.Plan.{planOf, numbered, bindingWith, entryWith}
 use Rattle.panel_plan.specs.PlanValid.{plan-valid}
 use Rattle.panel_plan.specs.PlanRows.{PlannedBindings, PlannedEntries, StoredPlan}
 use Rattle.panel_plan.specs.Resolved.{Resolution, resolving, resolved}
+use Rattle.panel_plan.specs.ResolvedLaws.{resolving-keeps}
 use Rattle.panel_steps.specs.Runs.{RunBecame}
 use Rattle.panel_steps.specs.declared.PlanRun.{PlanRun}
 use Rattle.panel_steps.specs.declared.PlanRun.the-variants as plan
 use Rattle.panel_bindings.specs.declared.LocalProjectionApplicationError.{LocalProjectionApplicationError}
 use Rattle.projection_patch.specs.declared.read_values.ProjectionPatchReadFault.{ProjectionPatchReadFault}
 use Rattle.panel_writing.specs.Writing.{ClearBehind}
-use Rattle.panel_changes.specs.SetChanges.{tablesFit, countsFit, TableLengths, noneUsed, Ready, ChangeBecame}
+use Rattle.panel_changes.specs.SetChanges.{tablesFit, countsFit, TableLengths, noneUsed, Ready, StoredAfter, ChangeBecame}
 use Rattle.panel_changes.specs.declared.SetChange.the-variants as change
 
 -- ---- lengths and counts
@@ -74,10 +77,11 @@ clear-zeros width n =
     let none : 0 * width ≡ 0 = zero-mul width in
     ap (λ (k : ℕ). drop k (zeros n)) none ∙ drop-zeros 0 n (omega arith) ∙ ap zeros (ap (λ (k : ℕ). k - 0) (sym (length-zeros n)) ∙ ap (λ (k : ℕ). length (zeros n) - k) (sym none))
 
-pub zeros-ready : Ready noneUsed (zeros bindingBytes) (zeros availabilityBytes) (zeros entryBytes)
+pub zeros-ready : Ready noneUsed (zeros bindingBytes) (zeros availabilityBytes) (zeros entryBytes) (zeros lengthBytes)
 unfolding countsFit
 zeros-ready = record {
   lengths = record { bindings = length-zeros bindingBytes; availability = length-zeros availabilityBytes; entries = length-zeros entryBytes };
+  collections = length-zeros lengthBytes;
   few = refl;
   bindings = clear-zeros bindingWidth bindingBytes;
   entries = clear-zeros entryWidth entryBytes;
@@ -134,18 +138,21 @@ same-availabilities : (r : Resolution) (q : Projection) → resolved r q .availa
 unfolding mapRows resolving
 same-availabilities r q = map-id (q .availabilities)
 
-pub written-stored : (n : ProjectionCounts) (b a e : List ℕ) (r : Resolution) (q x : Projection) → resolved r q ≡ x → Valid x
+-- nor are collections
+same-collections : (r : Resolution) (q : Projection) → collectionLengths (resolved r q) ≡ collectionLengths q
+same-collections r q = lengths-mapped (resolving r) (resolving-keeps r) q
+
+pub written-stored : (n : ProjectionCounts) (b a e l : List ℕ) (r : Resolution) (q x : Projection) → resolved r q ≡ x → Valid x
     → Stored bindingRow bindingWidth projectionBindings (n .bindings) b (resolved r q .bindings) → Stored availabilityRow availabilityWidth projectionAvailabilities (n .availabilities) a (q .availabilities)
-    → Stored entryRow entryWidth projectionEntries (n .entries) e (resolved r q .entries) → StoredTables n b a e x
-written-stored n b a e r q x is v bs xs es =
-    subst (StoredTables n b a e) is (
-    record {
+    → Stored entryRow entryWidth projectionEntries (n .entries) e (resolved r q .entries) → StoredLengths l (collectionLengths q) → StoredAfter n b a e l x
+written-stored n b a e l r q x is v bs xs es ls =
+    let tables : StoredTables n b a e (resolved r q) = record {
       bindings = bs;
-      availabilities = subst (λ l. Stored availabilityRow availabilityWidth projectionAvailabilities (n .availabilities) a l) (sym (same-availabilities r q)) xs;
+      availabilities = subst (λ m. Stored availabilityRow availabilityWidth projectionAvailabilities (n .availabilities) a m) (sym (same-availabilities r q)) xs;
       entries = es;
       valid = subst Valid (sym is) v;
-    }
-    )
+    } in
+    subst (StoredAfter n b a e l) is (tables, subst (StoredLengths l) (sym (same-collections r q)) ls)
 
 -- ---- the arguments, and the opening of a set
 

@@ -15,14 +15,15 @@ ghost use Rattle.spec_projection.specs.Apply.{replaySteps, applySteps};
 ghost use Rattle.spec_projection.specs.Valid.{Valid};
 ghost use Rattle.projection_patch.specs.Meaning.{editionOf};
 ghost use Rattle.patch_walk.specs.Steps.{AtSteps};
-ghost use Rattle.panel_rows.specs.Rows.{availabilityBytes};
+ghost use Rattle.panel_rows.specs.Rows.{availabilityBytes, lengthBytes};
 ghost use Rattle.local_projection_state.specs.Stores.{StoredTables};
 ghost use Rattle.panel_plan.specs.PlanRows.{PlannedBindings, PlannedEntries};
 ghost use Rattle.panel_steps.specs.Runs.{RunBecame, PlannedAs};
-ghost use Rattle.panel_changes.specs.SetChanges.{tablesFit, countsFit, TableLengths, noneUsed, Ready, ChangeBecame, KeptUnlessApplied};
+ghost use Rattle.panel_changes.specs.SetChanges.{tablesFit, countsFit, TableLengths, noneUsed, Ready, StoredAfter, ChangeBecame, KeptUnlessApplied};
 use local_projection_state::LocalProjectionState;
 use local_projection_state::ProjectionCounts;
 use panel_bindings::LocalProjectionApplicationError;
+use panel_lengths::write;
 use panel_plan::fill;
 use panel_steps::PlanRun;
 use patch_walk::SetCursor;
@@ -101,14 +102,15 @@ fn write_tables(
     to_bindings: &mut [u8],
     to_availability: &mut [u8],
     to_entries: &mut [u8],
+    to_lengths: &mut [u8],
     used: ProjectionCounts,
 ) -> bool
-    requires { ⌜ TableLengths (now «to_bindings») (now «to_availability») (now «to_entries») × ((length (now «plan_availability») ≡ availabilityBytes) × (countsFit used ≡ true)) ⌝ }
+    requires { ⌜ TableLengths (now «to_bindings») (now «to_availability») (now «to_entries») × ((length (now «to_lengths») ≡ lengthBytes) × ((length (now «plan_availability») ≡ availabilityBytes) × (countsFit used ≡ true))) ⌝ }
     ensures told { λ r. ⌜ r ≡ countsFit counts ⌝ }
-    ensures kept { λ r. ⌜ (r ≡ false → (now («to_bindings» .exit) ≡ now («to_bindings» .entry)) × ((now («to_availability» .exit) ≡ now («to_availability» .entry)) × (now («to_entries» .exit) ≡ now («to_entries» .entry)))) ⌝ }
-    ensures stored { λ r. ⌜ (r ≡ true → Ready used (now («to_bindings» .entry)) (now («to_availability» .entry)) (now («to_entries» .entry)) → (p x : Projection) (n : ProjectionCounts) (a : List ℕ) → StoredTables n (now («from_bindings» .entry)) a (now («from_entries» .entry)) p
+    ensures kept { λ r. ⌜ (r ≡ false → (now («to_bindings» .exit) ≡ now («to_bindings» .entry)) × ((now («to_availability» .exit) ≡ now («to_availability» .entry)) × ((now («to_entries» .exit) ≡ now («to_entries» .entry)) × (now («to_lengths» .exit) ≡ now («to_lengths» .entry))))) ⌝ }
+    ensures stored { λ r. ⌜ (r ≡ true → Ready used (now («to_bindings» .entry)) (now («to_availability» .entry)) (now («to_entries» .entry)) (now («to_lengths» .entry)) → (p x : Projection) (n : ProjectionCounts) (a : List ℕ) → StoredTables n (now («from_bindings» .entry)) a (now («from_entries» .entry)) p
         → PlannedAs (editionOf edition) p (now (set .entry)) (now («plan_bindings» .entry)) (now («plan_availability» .entry)) (now («plan_entries» .entry)) counts x → Valid x
-        → StoredTables counts (now («to_bindings» .exit)) (now («to_availability» .exit)) (now («to_entries» .exit)) x) ⌝ }
+        → StoredAfter counts (now («to_bindings» .exit)) (now («to_availability» .exit)) (now («to_entries» .exit)) (now («to_lengths» .exit)) x) ⌝ }
 {
     if counts_fit(counts) {
         panel_writing::write_bindings(
@@ -130,6 +132,7 @@ fn write_tables(
             edition,
             to_entries,
         );
+        write::write_lengths(plan_entries, counts.entries, to_lengths);
         return true;
     }
     false
@@ -179,13 +182,14 @@ fn apply_from(
     to_bindings: &mut [u8],
     to_availability: &mut [u8],
     to_entries: &mut [u8],
+    to_lengths: &mut [u8],
     used: ProjectionCounts,
 ) -> SetChange
-    requires { ⌜ (length (now set) ≤ setBytes) × ((length (now «from_availability») ≡ availabilityBytes) × (TableLengths (now «to_bindings») (now «to_availability») (now «to_entries») × (countsFit used ≡ true))) ⌝ }
+    requires { ⌜ (length (now set) ≤ setBytes) × ((length (now «from_availability») ≡ availabilityBytes) × (TableLengths (now «to_bindings») (now «to_availability») (now «to_entries») × ((length (now «to_lengths») ≡ lengthBytes) × (countsFit used ≡ true)))) ⌝ }
     ensures changed { λ r. ⌜ ((p : Projection) (ps : List Patch) → StoredTables counts (now («from_bindings» .entry)) (now («from_availability» .entry)) (now («from_entries» .entry)) p
-        → All (FitsPatch (editionOf edition)) ps → AtSteps (editionOf edition) (now (set .entry)) cursor [] ps → Ready used (now («to_bindings» .entry)) (now («to_availability» .entry)) (now («to_entries» .entry))
-        → ChangeBecame (λ n q. StoredTables n (now («to_bindings» .exit)) (now («to_availability» .exit)) (now («to_entries» .exit)) q) r (applySteps p (replaySteps ps))) ⌝ }
-    ensures kept { λ r. ⌜ KeptUnlessApplied r (now («to_bindings» .entry)) (now («to_availability» .entry)) (now («to_entries» .entry)) (now («to_bindings» .exit)) (now («to_availability» .exit)) (now («to_entries» .exit)) ⌝ }
+        → All (FitsPatch (editionOf edition)) ps → AtSteps (editionOf edition) (now (set .entry)) cursor [] ps → Ready used (now («to_bindings» .entry)) (now («to_availability» .entry)) (now («to_entries» .entry)) (now («to_lengths» .entry))
+        → ChangeBecame (λ n q. StoredAfter n (now («to_bindings» .exit)) (now («to_availability» .exit)) (now («to_entries» .exit)) (now («to_lengths» .exit)) q) r (applySteps p (replaySteps ps))) ⌝ }
+    ensures kept { λ r. ⌜ KeptUnlessApplied r (now («to_bindings» .entry)) (now («to_availability» .entry)) (now («to_entries» .entry)) (now («to_lengths» .entry)) (now («to_bindings» .exit)) (now («to_availability» .exit)) (now («to_entries» .exit)) (now («to_lengths» .exit)) ⌝ }
 {
     let mut bindings = [0u8; panel_plan::BINDING_BYTES];
     let mut availability = [0u8; LocalProjectionState::AVAILABILITY_BYTES];
@@ -215,6 +219,7 @@ fn apply_from(
                 to_bindings,
                 to_availability,
                 to_entries,
+                to_lengths,
                 used,
             ) {
                 SetChange::Applied(n)
@@ -239,7 +244,8 @@ pub fn none_used() -> ProjectionCounts
 }
 
 // Applies the operations of a set that is known to be readable: what the first tables store is read, and what the set makes of it is
-// written to the others, whole or not at all. Of those so many rows were used, and what stands behind them is zero.
+// written to the others, with the lengths of its collections, whole or not at all. Of those so many rows were used, and what stands behind
+// them is zero; the table of lengths may hold anything.
 pub fn apply_set<'a>(
     from_bindings: &'a [u8],
     from_availability: &'a [u8],
@@ -250,13 +256,17 @@ pub fn apply_set<'a>(
     to_bindings: &mut [u8],
     to_availability: &mut [u8],
     to_entries: &mut [u8],
+    to_lengths: &mut [u8],
     used: ProjectionCounts,
 ) -> SetChange
     ensures changed { λ r. ⌜ ((p : Projection) (ps : List Patch) → StoredTables counts (now («from_bindings» .entry)) (now («from_availability» .entry)) (now («from_entries» .entry)) p
-        → readSet (editionOf edition) (now (set .entry)) ≡ patches ps → Ready used (now («to_bindings» .entry)) (now («to_availability» .entry)) (now («to_entries» .entry))
-        → ChangeBecame (λ n q. StoredTables n (now («to_bindings» .exit)) (now («to_availability» .exit)) (now («to_entries» .exit)) q) r (applySteps p (replaySteps ps))) ⌝ }
-    ensures kept { λ r. ⌜ KeptUnlessApplied r (now («to_bindings» .entry)) (now («to_availability» .entry)) (now («to_entries» .entry)) (now («to_bindings» .exit)) (now («to_availability» .exit)) (now («to_entries» .exit)) ⌝ }
+        → readSet (editionOf edition) (now (set .entry)) ≡ patches ps → Ready used (now («to_bindings» .entry)) (now («to_availability» .entry)) (now («to_entries» .entry)) (now («to_lengths» .entry))
+        → ChangeBecame (λ n q. StoredAfter n (now («to_bindings» .exit)) (now («to_availability» .exit)) (now («to_entries» .exit)) (now («to_lengths» .exit)) q) r (applySteps p (replaySteps ps))) ⌝ }
+    ensures kept { λ r. ⌜ KeptUnlessApplied r (now («to_bindings» .entry)) (now («to_availability» .entry)) (now («to_entries» .entry)) (now («to_lengths» .entry)) (now («to_bindings» .exit)) (now («to_availability» .exit)) (now («to_entries» .exit)) (now («to_lengths» .exit)) ⌝ }
 {
+    if to_lengths.len() != LocalProjectionState::LENGTH_BYTES {
+        return SetChange::BadTables;
+    }
     if arguments_fit(
         from_bindings.len(),
         from_availability.len(),
@@ -279,6 +289,7 @@ pub fn apply_set<'a>(
                 to_bindings,
                 to_availability,
                 to_entries,
+                to_lengths,
                 used,
             ),
             SetOpening::Refused(fault) => SetChange::Unreadable(fault),

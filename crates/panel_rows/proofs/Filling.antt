@@ -20,6 +20,10 @@ module _ (l : List ℕ) where
       let start : n ≡ 0 + n = omega arith in
       f ∙ ap (λ (x : List ℕ). overwrite x n b) e ∙ ap (λ (m : ℕ). overwrite (overwrite l 0 front) m b) start ∙ overwrite-append l 0 front b n long (omega arith)
 
+  pub two-fields : (a b : List ℕ) (i j : ℕ) {one two : List ℕ} → length a ≡ i → length b ≡ j → one ≡ overwrite l 0 a → two ≡ overwrite one i b → length l ≡ i + j → two ≡ a ++ b
+  two-fields a b i j wide-a wide-b first second size =
+      next-field a b i wide-a (omega arith) first second ∙ filled (a ++ b) (i + j) (length-append a b ∙ omega arith) size
+
   module _ (a b c : List ℕ) (i j k : ℕ) {one two three : List ℕ} (wide-a : length a ≡ i) (wide-b : length b ≡ j) (wide-c : length c ≡ k) (first : one ≡ overwrite l 0 a) (second : two ≡ overwrite one i b) (third : three ≡ overwrite two (i + j) c) where
     front : i + j + k ≤ length l → three ≡ overwrite l 0 ((a ++ b) ++ c)
     front room = next-field (a ++ b) c (i + j) (length-append a b ∙ omega arith) (omega arith) (next-field a b i wide-a (omega arith) first second) third

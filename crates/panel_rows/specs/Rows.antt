@@ -1,5 +1,5 @@
 -- How a projection's records are stored: one row of bytes each, of one width for each table: the fields of its key, its mark, and its value. A
--- value is its canonical bytes, padded with zeros to the longest.
+-- value is its canonical bytes, padded with zeros to the longest. Beside them each collection's length has a row.
 use Prim.Native.Nat.{ℕ, _+_, _-_, _*_}
 use mathlib.Core.List.{List, [], _∷_, _++_}
 use lib.Dec.{leb}
@@ -10,6 +10,7 @@ use Rattle.spec_patch.specs.Sizes.{textBytes, projectionBindings, projectionAva
 use Rattle.spec_patch.specs.Patch.{Value}
 use Rattle.spec_patch.specs.Encode.{u32, u64, encodeValue, availabilityByte}
 use Rattle.spec_projection.specs.Projection.{Binding, NodeAvailability, Entry}
+use Rattle.spec_lengths.specs.Lengths.{CollectionLength}
 use Rattle.bytes_records.specs.Moves.{zeros}
 
 -- ---- widths and offsets
@@ -65,7 +66,18 @@ entryValueAt = entryMarkAt + markWidth
 abbrev pub entryWidth : ℕ
 entryWidth = entryValueAt + valueWidth
 
--- the tables of a panel, in bytes
+-- a number of entries
+abbrev pub countWidth : ℕ
+countWidth = 8
+
+-- a length: a collection and its number of entries
+abbrev pub lengthAt : ℕ
+lengthAt = idWidth
+
+abbrev pub lengthWidth : ℕ
+lengthWidth = lengthAt + countWidth
+
+-- the tables of a panel, in bytes; no more collections have a length than there are entries
 abbrev pub bindingBytes : ℕ
 bindingBytes = projectionBindings * bindingWidth
 
@@ -74,6 +86,9 @@ availabilityBytes = projectionAvailabilities * availabilityWidth
 
 abbrev pub entryBytes : ℕ
 entryBytes = projectionEntries * entryWidth
+
+abbrev pub lengthBytes : ℕ
+lengthBytes = projectionEntries * lengthWidth
 
 -- ---- rows
 
@@ -89,6 +104,9 @@ availabilityRow a = u64 (a .node) ++ (u64 (a .mark) ++ (availabilityByte (a .ava
 
 unfoldable pub entryRow : Entry → List ℕ
 entryRow e = u64 (e .collection) ++ (u64 (e .key) ++ (u64 (e .mark) ++ padded (e .value)))
+
+unfoldable pub lengthRow : CollectionLength → List ℕ
+lengthRow x = u64 (x .collection) ++ u64 (x .length)
 
 -- ---- what the fields of any bytes are
 

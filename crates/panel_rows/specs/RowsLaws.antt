@@ -21,10 +21,11 @@ use Rattle.spec_patch.specs.Codec.{Codec, pair-codec, injective}
 use Rattle.spec_patch.specs.ReadLaws.{u64-codec, u32-codec, value-codec-by, value-any, availability-codec}
 use Rattle.spec_projection.specs.Projection.{Binding, NodeAvailability, Entry, bindingKey, availabilityKey}
 use Rattle.spec_projection.specs.Valid.{FitsBinding, FitsNodeAvailability, FitsEntry}
+use Rattle.spec_lengths.specs.Lengths.{CollectionLength, FitsLength}
 use Rattle.bytes_records.specs.Moves.{zeros}
 use Rattle.bytes_records.specs.Keys.{leadingNumbers}
 use Rattle.bytes_records.specs.Table.{Wide}
-use Rattle.panel_rows.specs.Rows.{idWidth, slotWidth, markWidth, valueWidth, bindingSlotAt, bindingMarkAt, bindingValueAt, bindingWidth, availabilityMarkAt, availabilityAt, availabilityWidth, entryKeyAt, entryMarkAt, entryValueAt, entryWidth, padded, bindingRow, availabilityRow, entryRow, fieldAt, nodeIn, slotIn, availabilityIn, collectionIn, keyIn, bindingMarkIn, availabilityMarkIn, entryMarkIn, bindingFields, availabilityFields, filledRow, writtenRow}
+use Rattle.panel_rows.specs.Rows.{idWidth, slotWidth, markWidth, valueWidth, bindingSlotAt, bindingMarkAt, bindingValueAt, bindingWidth, availabilityMarkAt, availabilityAt, availabilityWidth, entryKeyAt, entryMarkAt, entryValueAt, entryWidth, lengthWidth, padded, bindingRow, availabilityRow, entryRow, lengthRow, fieldAt, nodeIn, slotIn, availabilityIn, collectionIn, keyIn, bindingMarkIn, availabilityMarkIn, entryMarkIn, bindingFields, availabilityFields, filledRow, writtenRow}
 
 -- ---- widths
 
@@ -51,6 +52,10 @@ availability-wide a h = simp (length-append, length-littleEndian)
 pub entry-wide : (e : Entry) → FitsEntry e → Wide entryWidth (entryRow e)
 unfolding entryRow
 entry-wide e h = simp (length-append, length-littleEndian) (omega (arith, length-padded (e .value) (h .value)))
+
+pub length-wide : (x : CollectionLength) → FitsLength x → Wide lengthWidth (lengthRow x)
+unfolding lengthRow
+length-wide x h = simp (length-append, length-littleEndian)
 
 -- ---- where a row holds its value
 
@@ -126,9 +131,15 @@ entry-tells a b g h e =
     (with-zeros (u64 (a .collection)) (u64 (a .key)) (u64 (a .mark)) (encodeValue (a .value)) _ ∙ e ∙ sym (with-zeros (u64 (b .collection)) (u64 (b .key)) (u64 (b .mark)) (encodeValue (b .value)) _)) in
     λ i. record { collection = fields i .0; key = fields i .1 .0; mark = fields i .1 .1 .0; value = fields i .1 .1 .1 }
 
+pub length-tells : (x y : CollectionLength) → FitsLength x → FitsLength y → lengthRow x ≡ lengthRow y → x ≡ y
+unfolding lengthRow
+length-tells x y g h e =
+    let fields = injective (pair-codec u64-codec u64-codec) (x .collection, x .length) (y .collection, y .length) (g .collection, g .length) (h .collection, h .length) e in
+    λ i. record { collection = fields i .0; length = fields i .1 }
+
 -- ---- the fields of a row
 
-field-behind : (front rest : List ℕ) (at n x : ℕ) → length front ≡ at → x < 256 ^ n → fieldAt at n (front ++ (littleEndian n x ++ rest)) ≡ x
+pub field-behind : (front rest : List ℕ) (at n x : ℕ) → length front ≡ at → x < 256 ^ n → fieldAt at n (front ++ (littleEndian n x ++ rest)) ≡ x
 field-behind front rest at n x long small =
     rw (drop-at front (littleEndian n x ++ rest) at long, take-at (littleEndian n x) rest n (length-littleEndian n x), numberOf-littleEndian n x small)
 

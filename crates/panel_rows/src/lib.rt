@@ -5,7 +5,8 @@ pub mod written;
 
 ghost use mathlib.Core.Path.{_≡_};
 ghost use Rattle.projection_patch.specs.Meaning.{availabilityOf};
-ghost use Rattle.panel_rows.specs.Rows.{availabilityRow};
+ghost use Rattle.spec_lengths.specs.Lengths.{lengthRecord};
+ghost use Rattle.panel_rows.specs.Rows.{availabilityRow, lengthRow};
 use patch_part_writer::fields as operation_fields;
 use projection_patch::patch::ProjectionNodeAvailability;
 use projection_patch::patch::ProjectionPatchValue;
@@ -46,6 +47,14 @@ pub const ENTRY_VALUE: usize = ENTRY_MARK + MARK_WIDTH;
 
 pub const ENTRY_WIDTH: usize = ENTRY_VALUE + VALUE_WIDTH;
 
+// A number of entries.
+pub const COUNT_WIDTH: usize = 8;
+
+// A length: a collection and its number of entries.
+pub const LENGTH: usize = ID_WIDTH;
+
+pub const LENGTH_WIDTH: usize = LENGTH + COUNT_WIDTH;
+
 pub fn availability_row(
     node: u64,
     mark: u64,
@@ -61,5 +70,14 @@ pub fn availability_row(
         AVAILABILITY,
         operation_fields::availability_byte(availability),
     );
+    row
+}
+
+pub fn length_row(collection: u64, length: u64) -> [u8; LENGTH_WIDTH]
+    ensures { λ r. ⌜ r ≡ lengthRow (lengthRecord collection length) ⌝ }
+{
+    let mut row = [0u8; LENGTH_WIDTH];
+    bytes_wire::write_u64_at(&mut row, 0, collection);
+    bytes_wire::write_u64_at(&mut row, LENGTH, length);
     row
 }

@@ -4,14 +4,14 @@ ghost use lib.ListN.{length};
 use bytes_printer::Printed;
 use libc::STDIN_FILENO;
 use libc::STDOUT_FILENO;
-use listing_lines::tables::LISTING_BYTES;
 use script_calls::state::ReplayState;
 use script_parser::ScriptCommand;
+use script_replay::ANSWER_BYTES;
 
 // Room for a line of the greatest length, and as much again to read into.
 const INPUT_BYTES: usize = 262144;
 
-// Answers are written when there is not room for one more; the longest is a listing.
+// Answers are written when there is not room for one more.
 const OUTPUT_BYTES: usize = 262144;
 
 // Line numbers go so far, and so many reads are made; no script uses them up.
@@ -46,7 +46,7 @@ fn write_if_full(out: &[u8], used: usize) -> usize
     requires { ⌜ used ≤ length (now out) ⌝ }
     ensures { λ r. ⌜ r ≤ length (now (out .entry)) ⌝ }
 {
-    if LISTING_BYTES <= out.len() - used {
+    if ANSWER_BYTES <= out.len() - used {
         return used;
     }
     io::write_all(STDOUT_FILENO, &out[0..used]);

@@ -4,4 +4,6 @@ pub mod CreationAnswers
 pub mod LookupLines
 pub mod CheckOf
 pub mod ConversionOf
+pub mod DependenciesTold
+pub mod PrintTold
 pub mod TurnAnswers

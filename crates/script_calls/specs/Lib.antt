@@ -6,3 +6,4 @@ pub mod ReplayHolds
 pub mod ReplayHoldsLaws
 pub mod TurnSteps
 pub mod MarkLaws
+pub mod PaperLaws

@@ -8,7 +8,7 @@ use lib.ListN.{getD}
 use Rattle.spec_lists.specs.Lists.{if_then_else_}
 use Rattle.spec_patch.specs.Sizes.{setBytes}
 use Rattle.spec_session.specs.Lifecycle.{Stimulus, activate, suspend, resume, close, noOp}
-use Rattle.spec_replay.specs.Script.{Command, session, node, binding, collection, create, apply, batch, check, list, show, valueBinding, valueNode, valueEntry, markBinding, markNode, markEntry, senders, wait, turn, edition, convert, other, Arguments, end, given, atMost, numberedEdition, hex}
+use Rattle.spec_replay.specs.Script.{Command, session, node, binding, collection, create, apply, batch, check, list, show, valueBinding, valueNode, valueEntry, markBinding, markNode, markEntry, senders, wait, turn, edition, convert, depends, print, other, placesLent, bytesLent, Arguments, end, given, atMost, numberedEdition, hex}
 use Rattle.script_parser.specs.Fields.{numbers, filled}
 
 pub record Form : Type 0 where
@@ -60,7 +60,7 @@ firstBase = 16
 
 -- how many first words there are
 abbrev pub firstWords : ℕ
-firstWords = 17
+firstWords = 19
 
 -- a place for none stands behind them
 abbrev pub formCount : ℕ
@@ -113,6 +113,8 @@ firstForms =
     ∷ (29 ⇛ record { count = 0; withSet = false; makes = λ ns set. turn })
     ∷ (30 ⇛ record { count = 1; withSet = false; makes = λ ns set. given (numberedEdition (some (at ns 0))) edition })
     ∷ (31 ⇛ record { count = 1; withSet = true; makes = λ ns set. upTo setBytes (at ns 0) (λ room. convert room set) })
+    ∷ (33 ⇛ record { count = 1; withSet = true; makes = λ ns set. upTo placesLent (at ns 0) (λ room. depends room set) })
+    ∷ (34 ⇛ record { count = 2; withSet = false; makes = λ ns set. upTo bytesLent (at ns 1) (print (at ns 0)) })
     ∷ []
 
 unfoldable pub formAt : ℕ → Form

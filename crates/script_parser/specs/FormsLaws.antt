@@ -9,10 +9,11 @@ use lib.Dec.{eqb, leb}
 use lib.ListN.{getD}
 use borrow.Author.Tests.{eqb-true, eqb-false, leb-true, le-leb, lt-leb, ne-eqb}
 use Rattle.spec_lists.specs.Lists.{if_then_else_, any}
+use Rattle.spec_patch.specs.Sizes.{setBytes}
 use Rattle.spec_lists.specs.ListLaws.{and-left, and-right, test-cases}
 use Rattle.spec_decimal.specs.Decimal.{readDecimal}
 use Rattle.spec_replay.specs.Hex.{readHex}
-use Rattle.spec_replay.specs.Script.{Command, edition, other, apply, Arguments, end, given, readBy, number, atMost, slot, numberedEdition, hex, stimuli, sessionArguments, bindingArguments, batchArguments, convertArguments, boundArguments, keyedArguments, values, marks, commands}
+use Rattle.spec_replay.specs.Script.{Command, edition, other, apply, Arguments, end, given, readBy, number, atMost, slot, numberedEdition, hex, stimuli, sessionArguments, bindingArguments, batchArguments, convertArguments, dependsArguments, placesLent, printArguments, bytesLent, roomUpTo, boundArguments, keyedArguments, values, marks, commands}
 use Rattle.script_parser.specs.Fields.{mostNumbers}
 use Rattle.script_parser.specs.Words.{rowAt}
 use Rattle.script_parser.specs.Forms.{formArguments, upTo, noForm, stimulusBase, valueBase, markBase, firstBase, firstWords, formCount, formAt, shapeOf, shapesFrom}
@@ -59,9 +60,13 @@ module _ {A : Type 0} (test : Option ℕ → Option A) (no-number : test none �
       at-set none (g ∷ gs) = no-set (readHex g) gs
       at-set (some a) gs = refl
 
-number-and-slot : (next : ℕ → ℕ → Command) (fs : List (List ℕ)) → number (λ n. slot (λ s. end (next n s))) fs ≡ number (λ n. number (λ s. end (upTo 4294967295 s (next n)))) fs
+-- a number, and one up to a bound behind it
+number-and-bounded : (bound : ℕ) (next : ℕ → ℕ → Command) (fs : List (List ℕ)) → number (λ n. roomUpTo bound (λ s. end (next n s))) fs ≡ number (λ n. number (λ s. end (upTo bound s (next n)))) fs
 unfolding atMost
-number-and-slot next fs = λ i. number (λ n gs. tested-last (atMost 4294967295) refl (next n) gs i) fs
+number-and-bounded bound next fs = λ i. number (λ n gs. tested-last (atMost bound) refl (next n) gs i) fs
+
+number-and-slot : (next : ℕ → ℕ → Command) (fs : List (List ℕ)) → number (λ n. slot (λ s. end (next n s))) fs ≡ number (λ n. number (λ s. end (upTo 4294967295 s (next n)))) fs
+number-and-slot = number-and-bounded 4294967295
 
 -- ---- the tables
 
@@ -95,7 +100,7 @@ abbrev FirstRow : ℕ → Type 0
 FirstRow k = (k ≡ applyWord → ⊥) → (k ≡ valueWord → ⊥) → (k ≡ markWord → ⊥) → (fs : List (List ℕ)) → rowAt (λ a. a) commands k fs ≡ formArguments (formAt (firstBase + k)) fs
 
 pub first-form : (k : ℕ) → k ≤ firstWords → FirstRow k
-unfolding commands formAt atMost numberedEdition sessionArguments bindingArguments batchArguments convertArguments
+unfolding commands formAt atMost numberedEdition sessionArguments bindingArguments batchArguments convertArguments dependsArguments printArguments
 first-form k h =
     pick FirstRow 0 (firstWords + 1)
     ((λ a b c fs. refl)
@@ -113,8 +118,10 @@ first-form k h =
     also (λ a b c fs. refl)
     also (λ a b c fs. refl)
     also (λ a b c fs. tested-last numberedEdition refl _ fs)
-    also (λ a b c fs. tested-with-set (atMost 32768) refl _ fs)
+    also (λ a b c fs. tested-with-set (atMost setBytes) refl _ fs)
     also (λ a b c fs. absurd (c refl))
+    also (λ a b c fs. tested-with-set (atMost placesLent) refl _ fs)
+    also (λ a b c fs. number-and-bounded bytesLent _ fs)
     also (λ a b c fs. none-form fs)
     also tt)
     k (omega arith) (omega arith)
@@ -200,7 +207,7 @@ module _ (k : ℕ) (h : k < formCount) where
 
 -- the forms with a set
 abbrev pub setForms : List ℕ
-setForms = 22 ∷ 23 ∷ 24 ∷ 31 ∷ []
+setForms = 22 ∷ 23 ∷ 24 ∷ 31 ∷ 33 ∷ []
 
 pub sets-listed : (k : ℕ) → k < formCount → any (eqb k) setForms ≡ formAt k .withSet
 unfolding formAt

@@ -12,9 +12,9 @@ use Rattle.script_parser.specs.declared.BatchLine.{BatchLine}
 use Rattle.script_parser.specs.declared.SetupLine.{SetupLine}
 use Rattle.script_parser.specs.declared.SetupLine.the-variants.{Session, Node, Binding, Collection}
 use Rattle.script_parser.specs.declared.CallLine.{CallLine}
-use Rattle.script_parser.specs.declared.CallLine.the-variants.{Create, Apply, Show, ValueBinding, ValueNode, ValueEntry, MarkBinding, MarkNode, MarkEntry, Senders, Wait, Turn, Edition}
+use Rattle.script_parser.specs.declared.CallLine.the-variants.{Create, Apply, Show, ValueBinding, ValueNode, ValueEntry, MarkBinding, MarkNode, MarkEntry, Senders, Wait, Turn, Edition, Print}
 use Rattle.script_parser.specs.declared.SetLine.{SetLine}
-use Rattle.script_parser.specs.declared.SetLine.the-variants.{Batch, Check, List as Listed, Convert}
+use Rattle.script_parser.specs.declared.SetLine.the-variants.{Batch, Check, List as Listed, Convert, Depends}
 use Rattle.script_parser.specs.declared.ScriptCommand.{ScriptCommand}
 use Rattle.script_parser.specs.declared.ScriptCommand.the-variants.{Nothing, Setup, Call, WithSet, Other}
 
@@ -45,12 +45,14 @@ callOf (Senders n) = script.senders n
 callOf (Wait s) = script.wait s
 callOf Turn = script.turn
 callOf (Edition ed) = script.edition (editionOf ed)
+callOf (Print c room) = script.print c room
 
 abbrev pub withSetOf : SetLine → List ℕ → Command
 withSetOf (Batch b) = script.batch (envelopeOf b) (b .«target_references»)
 withSetOf Check = script.check
 withSetOf Listed = script.list
 withSetOf (Convert room) = script.convert room
+withSetOf (Depends room) = script.depends room
 
 abbrev pub commandOf : List ℕ → ScriptCommand → Command
 commandOf line Nothing = script.nothing

@@ -18,7 +18,7 @@ ghost use mathlib.Core.Option.{some};
 ghost use Prim.Native.Nat.{ℕ, _<_, _≤_};
 ghost use Rattle.spec_patch.specs.Sizes.{setBytes};
 ghost use Rattle.spec_replay.specs.Script as script;
-ghost use Rattle.spec_replay.specs.Script.{given, numberedEdition};
+ghost use Rattle.spec_replay.specs.Script.{placesLent, bytesLent, given, numberedEdition};
 ghost use Rattle.session_lifecycle.specs.Meaning.{stimulusOf};
 ghost use Rattle.script_parser.specs.Fields.{mostNumbers};
 ghost use Rattle.script_parser.specs.Forms.{upTo, withSlot, firstBase, formCount, formAt};
@@ -26,7 +26,7 @@ ghost use Rattle.script_parser.specs.Meaning.{setFrom, commandOf};
 
 // How many numbers each form takes, and 0x10 more where a set stands behind them. The second words stand before the first, each table in its
 // own order with a place for none behind it.
-const SHAPES: [usize; 34] = [
+const SHAPES: [usize; 36] = [
     1,
     1,
     1,
@@ -60,6 +60,8 @@ const SHAPES: [usize; 34] = [
     1,
     0x11,
     0,
+    0x11,
+    2,
     0,
 ];
 
@@ -139,6 +141,28 @@ fn conversion(room: u64, from: usize) -> ScriptCommand
     }
 }
 
+// No more places are lent than a line may ask for.
+fn dependencies(room: u64, from: usize) -> ScriptCommand
+    ensures { λ r. ⌜ ((line : List ℕ) → commandOf line r ≡ setFrom line from (λ set. upTo placesLent room (λ n. script.depends n set))) ⌝ }
+{
+    if room <= 16384 {
+        ScriptCommand::WithSet(SetLine::Depends(room as u16), from)
+    } else {
+        ScriptCommand::Other
+    }
+}
+
+// No more bytes are lent than a line may ask for.
+fn paper(collection: u64, room: u64) -> ScriptCommand
+    ensures { λ r. ⌜ ((line : List ℕ) → commandOf line r ≡ upTo bytesLent room (script.print collection)) ⌝ }
+{
+    if room <= 131072 {
+        ScriptCommand::Call(CallLine::Print(collection, room))
+    } else {
+        ScriptCommand::Other
+    }
+}
+
 // The command of a form of a second word.
 fn second_command(form: usize, values: [u64; NumberFields::MOST]) -> ScriptCommand
     requires { ⌜ form < firstBase ⌝ }
@@ -191,6 +215,7 @@ fn first_command(form: usize, values: [u64; NumberFields::MOST]) -> ScriptComman
         28 => ScriptCommand::Call(CallLine::Wait(first)),
         29 => ScriptCommand::Call(CallLine::Turn),
         30 => edition(first),
+        34 => paper(first, second),
         _ => ScriptCommand::Other,
     }
 }
@@ -231,6 +256,7 @@ pub(crate) fn set_command(
         23 => ScriptCommand::WithSet(SetLine::Check, from),
         24 => ScriptCommand::WithSet(SetLine::List, from),
         31 => conversion(first, from),
+        33 => dependencies(first, from),
         _ => ScriptCommand::Other,
     }
 }

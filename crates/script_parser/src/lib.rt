@@ -37,7 +37,7 @@ pub enum SetupLine {
     Collection(u64),
 }
 
-// A line that calls the session or the senders' turns, or makes one of these; or the edition of the sets from here on.
+// A line that calls the session or the senders' turns, or makes one of these; or the edition of the sets from here on. A print has so many bytes.
 pub enum CallLine {
     Create,
     Apply(ShellTransitionInput),
@@ -52,14 +52,16 @@ pub enum CallLine {
     Wait(u64),
     Turn,
     Edition(ProjectionPatchEdition),
+    Print(u64, u64),
 }
 
-// What a line asks for with its set; a conversion into so many bytes.
+// What a line asks for with its set; a conversion into so many bytes, and what the set depends on into so many places.
 pub enum SetLine {
     Batch(BatchLine),
     Check,
     List,
     Convert(u16),
+    Depends(u16),
 }
 
 // What a line asks for. WithSet holds where the hex of the set starts in the line; such a line is Other if that is no hex.

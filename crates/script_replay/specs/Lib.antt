@@ -1,2 +1,4 @@
 pub mod SetupLines
 pub mod LineLaws
+pub mod AnswerBytes
+pub mod AnswerBytesLaws

@@ -2,6 +2,7 @@
 use crate::setup_lines;
 use script_calls::calls;
 use script_calls::marks;
+use script_calls::paper;
 use script_calls::state::ReplayState;
 use script_calls::state::ReplayStep;
 use script_calls::turns;
@@ -29,5 +30,8 @@ pub(crate) fn call(state: ReplayState, wanted: CallLine, out: &mut [u8]) -> Repl
         CallLine::Wait(sender) => turns::register(state, sender, out),
         CallLine::Turn => turns::turn(state, out),
         CallLine::Edition(edition) => setup_lines::in_edition(state, edition),
+        CallLine::Print(collection, room) => {
+            paper::print_collection(state, collection, room, out)
+        }
     }
 }

@@ -1,15 +1,21 @@
 // One line of a replay script: the command that it asks for is run, and its answer printed.
 mod call_lines;
+mod dependency_lines;
 mod set_lines;
 mod setup_lines;
 
 use script_calls::state::ReplayState;
 use script_calls::state::ReplayStep;
 use script_parser::ScriptCommand;
+use set_dependencies::settled_rows;
 ghost use Rattle.spec_replay.specs.Script.{command};
 ghost use Rattle.spec_replay.specs.Replay.{State, replayLine};
 ghost use Rattle.script_calls.specs.ReplayHolds.{ReplayHolds, Stepped};
 pub use setup_lines::start;
+
+// Room for the longest answer: the keys that a set depends on, of which a set of 32,768 bytes has at most 2,520. `dependencies-fit` proves that
+// it holds these; a listing has at most 102,150 bytes.
+pub const ANSWER_BYTES: usize = 52 + settled_rows::ROWS * 44;
 
 // Runs the line of a number, from 1, without its LF. As much of its answer as fits stands from the start of out; the state is that after the
 // line whether it fits or not, and stays as it is where the replay stops.

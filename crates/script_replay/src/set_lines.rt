@@ -1,4 +1,5 @@
-// Lines with a set in hex: a batch, a check, a listing and a conversion.
+// Lines with a set in hex: a batch, a check, a listing, a conversion, and what it depends on.
+use crate::dependency_lines;
 use crate::setup_lines;
 use bytes_hex::Decoded;
 use bytes_printer::Printed;
@@ -103,6 +104,10 @@ fn use_set(state: ReplayState, wanted: SetLine, set: &[u8], out: &mut [u8]) -> R
         }
         SetLine::Convert(room) => {
             let printed = convert_into(set, edition, room, out);
+            answered(state, printed)
+        }
+        SetLine::Depends(room) => {
+            let printed = dependency_lines::depends_into(set, edition, room, out);
             answered(state, printed)
         }
     }

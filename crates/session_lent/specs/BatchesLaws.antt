@@ -23,7 +23,7 @@ use Rattle.session_lifecycle.specs.declared.state.ShellLocalState.{ShellLocalSt
 use Rattle.session_lifecycle.specs.declared.state.ShellLifecycleLimits.{ShellLifecycleLimits}
 use Rattle.local_projection_state.specs.Stores.{StoredTables, countsOf}
 use Rattle.local_projection_state.specs.declared.ProjectionCounts.{ProjectionCounts}
-use Rattle.panel_changes.specs.SetChanges.{tablesFit, countsFit, ChangeBecame, KeptUnlessApplied}
+use Rattle.panel_changes.specs.SetChanges.{tablesFit, countsFit, StoredAfter, ChangeBecame, KeptUnlessApplied}
 use Rattle.panel_changes.specs.SetChangesLaws.{lengths-fit, stored-lengths, stored-counts}
 use Rattle.panel_changes.specs.declared.SetChange.{SetChange}
 use Rattle.panel_changes.specs.declared.SetChange.the-variants as change
@@ -43,25 +43,25 @@ use Rattle.session_lent.specs.Batches.{SameHalf, KeptUnlessChanged, Next
 
 -- ---- slices that hold a session have the shape of one
 
-pub held-half : (head nodes pairs collections b a e : List ℕ) (m : Session) → LentSession head nodes pairs collections b a e m → halfShaped head (length b) (length a) (length e) ≡ true
+pub held-half : (head nodes pairs collections b a e l : List ℕ) (m : Session) → LentSession head nodes pairs collections b a e l m → halfShaped head (length b) (length a) (length e) ≡ true
 unfolding halfShaped
-held-half head nodes pairs collections b a e m h =
+held-half head nodes pairs collections b a e l m h =
     let counts : countsFit (countsAt head) ≡ true = ap countsFit (counts-told head m (h .head-is)) ∙ stored-counts (h .projection) in
     rw (eq-eqb (length head) headNumbers (long head m (h .head-is)), lengths-fit b a e (stored-lengths (h .projection)), counts)
 
-pub held-anchors : (head nodes pairs collections b a e : List ℕ) (m : Session) → LentSession head nodes pairs collections b a e m → anchorsShaped (length nodes) (length pairs) (length collections) ≡ true
-held-anchors head nodes pairs collections b a e m h = anchors-agree (m .catalogue) nodes pairs collections (h .anchors-are) ∙ few-fit (m .catalogue) nodes pairs collections (h .anchors-are) (h .few)
+pub held-anchors : (head nodes pairs collections b a e l : List ℕ) (m : Session) → LentSession head nodes pairs collections b a e l m → anchorsShaped (length nodes) (length pairs) (length collections) ≡ true
+held-anchors head nodes pairs collections b a e l m h = anchors-agree (m .catalogue) nodes pairs collections (h .anchors-are) ∙ few-fit (m .catalogue) nodes pairs collections (h .anchors-are) (h .few)
 
-pub room-half : (head b a e : List ℕ) → LentRoom head b a e → halfShaped head (length b) (length a) (length e) ≡ true
+pub room-half : (head b a e l : List ℕ) → LentRoom head b a e l → halfShaped head (length b) (length a) (length e) ≡ true
 unfolding halfShaped
-room-half head b a e r = rw (eq-eqb (length head) headNumbers (r .head-long), lengths-fit b a e (r .tables .lengths), r .tables .few)
+room-half head b a e l r = rw (eq-eqb (length head) headNumbers (r .head-long), lengths-fit b a e (r .tables .lengths), r .tables .few)
 
 pub half-head : (head : List ℕ) (b a e : ℕ) → halfShaped head b a e ≡ true → length head ≡ headNumbers
 unfolding halfShaped
 half-head head b a e h = eqb-true (length head) headNumbers (and-left (eqb (length head) headNumbers) (tablesFit b a e && countsFit (countsAt head)) h)
 
 -- the tables, with the counts that the head tells
-pub held-tables : {head nodes pairs collections b a e : List ℕ} (m : Session) → LentSession head nodes pairs collections b a e m → StoredTables (countsAt head) b a e (m .projection)
+pub held-tables : {head nodes pairs collections b a e l : List ℕ} (m : Session) → LentSession head nodes pairs collections b a e l m → StoredTables (countsAt head) b a e (m .projection)
 held-tables {head = head} {b = b} {a = a} {e = e} m h = subst (λ (k : ProjectionCounts). StoredTables k b a e (m .projection)) (sym (counts-told head m (h .head-is))) (h .projection)
 
 -- ---- the counts of tables that store a projection are its counts
@@ -75,15 +75,15 @@ counts-stored n b a e p s =
 
 -- ---- the next session, by the disposition
 
-module _ (m next : Session) (head nodes pairs collections b a e : List ℕ) where
-  next-kept : (d : ProjectionPatchApplicationDisposition) → (dispositionTold d ≡ applied → ⊥) → next ≡ m → NextIn d m next head nodes pairs collections b a e
+module _ (m next : Session) (head nodes pairs collections b a e l : List ℕ) where
+  next-kept : (d : ProjectionPatchApplicationDisposition) → (dispositionTold d ≡ applied → ⊥) → next ≡ m → NextIn d m next head nodes pairs collections b a e l
   unfolding dispositionTold
   next-kept Applied not same = absurd (not refl)
   next-kept NoChange not same = same
   next-kept Rejected not same = same
 
-  next-applied : (d : ProjectionPatchApplicationDisposition) → d ≡ Applied → LentSession head nodes pairs collections b a e next → NextIn d m next head nodes pairs collections b a e
-  next-applied d is held = subst (λ k. NextIn k m next head nodes pairs collections b a e) (sym is) held
+  next-applied : (d : ProjectionPatchApplicationDisposition) → d ≡ Applied → LentSession head nodes pairs collections b a e l next → NextIn d m next head nodes pairs collections b a e l
+  next-applied d is held = subst (λ k. NextIn k m next head nodes pairs collections b a e l) (sym is) held
 
 rejected-not : (a : BatchAnswer) (cap : ℕ) (f : SessionRefusal) (n : ℕ) (c : Cursor) → a ≡ rejectedAt cap f n c → a .disposition ≡ applied → ⊥
 rejected-not a cap f n c is k = let z : rejected ≡ applied = sym (ap (λ (x : BatchAnswer). x .disposition) is) ∙ k in absurd (let y : _≡_ {A = ℕ} 0 1 = cc in omega arith)
@@ -93,13 +93,13 @@ unchanged-not a c is k = let z : noChange ≡ applied = sym (ap (λ (x : BatchAn
 
 -- ---- a set that is not applied leaves the other half
 
-pub kept-change : (u : SetChange) (h b a e h′ b′ a′ e′ : List ℕ) (cap n : ℕ) (c : Cursor) (r : ProjectionPatchApplicationResult) → KeptUnlessChanged u h b a e h′ b′ a′ e′ → batchAnswerOf r ≡ changeAnswer cap c n u
-    → (r .disposition ≡ Applied → ⊥) → SameHalf h b a e h′ b′ a′ e′
+pub kept-change : (u : SetChange) (h b a e l h′ b′ a′ e′ l′ : List ℕ) (cap n : ℕ) (c : Cursor) (r : ProjectionPatchApplicationResult) → KeptUnlessChanged u h b a e l h′ b′ a′ e′ l′ → batchAnswerOf r ≡ changeAnswer cap c n u
+    → (r .disposition ≡ Applied → ⊥) → SameHalf h b a e l h′ b′ a′ e′ l′
 unfolding changeAnswer
-kept-change (change.Applied k) h b a e h′ b′ a′ e′ cap n c r kept is not = absurd (not (applied-told (r .disposition) (ap (λ (x : BatchAnswer). x .disposition) is)))
-kept-change (change.Refused f) h b a e h′ b′ a′ e′ cap n c r kept is not = kept
-kept-change (change.Unreadable f) h b a e h′ b′ a′ e′ cap n c r kept is not = kept
-kept-change change.BadTables h b a e h′ b′ a′ e′ cap n c r kept is not = kept
+kept-change (change.Applied k) h b a e l h′ b′ a′ e′ l′ cap n c r kept is not = absurd (not (applied-told (r .disposition) (ap (λ (x : BatchAnswer). x .disposition) is)))
+kept-change (change.Refused f) h b a e l h′ b′ a′ e′ l′ cap n c r kept is not = kept
+kept-change (change.Unreadable f) h b a e l h′ b′ a′ e′ l′ cap n c r kept is not = kept
+kept-change change.BadTables h b a e l h′ b′ a′ e′ l′ cap n c r kept is not = kept
 
 -- ---- what came of a set, told with the head
 
@@ -110,11 +110,11 @@ stopped-became P Q (change.Refused f) (stopped g) stop k = k
 stopped-became P Q (change.Unreadable f) x stop k = k
 stopped-became P Q change.BadTables x stop k = k
 
-pub stopped-kept : (u : SetChange) (to b a e b′ a′ e′ : List ℕ) → Stopped u → KeptUnlessApplied u b a e b′ a′ e′ → KeptUnlessChanged u to b a e to b′ a′ e′
-stopped-kept (change.Applied n) to b a e b′ a′ e′ stop k = absurd stop
-stopped-kept (change.Refused f) to b a e b′ a′ e′ stop k = (refl, k)
-stopped-kept (change.Unreadable f) to b a e b′ a′ e′ stop k = (refl, k)
-stopped-kept change.BadTables to b a e b′ a′ e′ stop k = (refl, k)
+pub stopped-kept : (u : SetChange) (to b a e l b′ a′ e′ l′ : List ℕ) → Stopped u → KeptUnlessApplied u b a e l b′ a′ e′ l′ → KeptUnlessChanged u to b a e l to b′ a′ e′ l′
+stopped-kept (change.Applied n) to b a e l b′ a′ e′ l′ stop k = absurd stop
+stopped-kept (change.Refused f) to b a e l b′ a′ e′ l′ stop k = (refl, k)
+stopped-kept (change.Unreadable f) to b a e l b′ a′ e′ l′ stop k = (refl, k)
+stopped-kept change.BadTables to b a e l b′ a′ e′ l′ stop k = (refl, k)
 
 -- a set that was applied, and the head that was written then
 pub applied-became : (P : ProjectionCounts → Projection → Type 0) (H : ProjectionCounts → Type 0) (u : SetChange) (n : ProjectionCounts) (x : Outcome) → u ≡ change.Applied n → H n → ChangeBecame P u x → ChangeBecame (λ k q. H k × P k q) (change.Applied n) x
@@ -134,7 +134,7 @@ module _ (head nodes pairs collections b a e : List ℕ) (limits : ShellLifecycl
   cursor = cursorOf (state .«replay_cursor»)
 
   cap-is : cap ≡ limitsAt head .diagnostics
-  cap-is = ap (λ (l : Limits). l .diagnostics) limits-are
+  cap-is = ap (λ (k : Limits). k .diagnostics) limits-are
 
   cursor-is : cursor ≡ stateAt head .cursor
   cursor-is = ap (λ (t : LocalState). t .cursor) state-is
@@ -147,10 +147,10 @@ module _ (head nodes pairs collections b a e : List ℕ) (limits : ShellLifecycl
       → ((f : SessionRefusal) (n : ℕ) → preflightBy (state .«session_id» .0) (limitsOf limits) (lifecycleOf (state .lifecycle)) v ≡ refuse f n → x ≡ rejectedAt cap f n cursor)
       → (f : SessionRefusal) (n : ℕ) → preflightBy (stateAt head .id) (limitsAt head) (stateAt head .lifecycle) v ≡ refuse f n → x ≡ rejectedAt (limitsAt head .diagnostics) f n (stateAt head .cursor)
   preflight-told v x tells f n is =
-      let same = ap₂ (λ (l : Limits) (t : LocalState). preflightBy (t .id) l (t .lifecycle) v) limits-are state-is in
+      let same = ap₂ (λ (k : Limits) (t : LocalState). preflightBy (t .id) k (t .lifecycle) v) limits-are state-is in
       tells f n (same ∙ is) ∙ ap₂ (λ k c. rejectedAt k f n c) cap-is cursor-is
 
-  module _ (m : Session) (holds : LentSession head nodes pairs collections b a e m) where
+  module _ (m : Session) (l : List ℕ) (holds : LentSession head nodes pairs collections b a e l m) where
     limits-of : limitsOf limits ≡ m .limits
     limits-of = limits-are ∙ limits-told head m (holds .head-is)
 
@@ -168,15 +168,15 @@ module _ (head nodes pairs collections b a e : List ℕ) (limits : ShellLifecycl
       anchors-are = holds .anchors-are;
     }
 
-    module _ (h′ b′ a′ e′ : List ℕ) (r : ProjectionPatchApplicationResult) where
+    module _ (h′ b′ a′ e′ l′ : List ℕ) (r : ProjectionPatchApplicationResult) where
       abbrev Step : BatchStep → Type 0
-      Step = LentStep r m h′ nodes pairs collections b′ a′ e′
+      Step = LentStep r m h′ nodes pairs collections b′ a′ e′ l′
 
       rejects : (f : SessionRefusal) (n : ℕ) → batchAnswerOf r ≡ rejectedAt cap f n cursor → Step (rejectBatch m f n)
       unfolding rejectBatch
       rejects f n h = record {
         answer = h ∙ ap₂ (λ (k : Limits) (c : Cursor). rejectedAt (k .diagnostics) f n c) limits-of (seen .cursor-is);
-        next = next-kept m m h′ nodes pairs collections b′ a′ e′ (r .disposition) (rejected-not (batchAnswerOf r) cap f n cursor h) refl;
+        next = next-kept m m h′ nodes pairs collections b′ a′ e′ l′ (r .disposition) (rejected-not (batchAnswerOf r) cap f n cursor h) refl;
       }
 
       module _ (v : BatchEnvelope) (ps : List Patch) where
@@ -189,28 +189,29 @@ module _ (head nodes pairs collections b a e : List ℕ) (limits : ShellLifecycl
             go [] c = rw (eq-eqb (v .patches) 0 none) (
                 record {
                   answer = h ∙ ap (λ (k : Cursor). answerAt noChange k) (seen .cursor-is);
-                  next = next-kept m m h′ nodes pairs collections b′ a′ e′ (r .disposition) (unchanged-not (batchAnswerOf r) cursor h) refl;
+                  next = next-kept m m h′ nodes pairs collections b′ a′ e′ l′ (r .disposition) (unchanged-not (batchAnswerOf r) cursor h) refl;
                 }
                 )
             go (q ∷ qs) c = absurd (omega arith)
 
         -- what came of the operations
-        pub commits : (u : SetChange) → (v .patches ≡ 0 → ⊥) → ChangeBecame (λ n q. (h′ ≡ movedHead head (v .sequence) n) × StoredTables n b′ a′ e′ q) u (candidate m ps) → batchAnswerOf r ≡ changeAnswer cap cursor (v .sequence) u → Step (commit m v (candidate m ps))
+        pub commits : (u : SetChange) → (v .patches ≡ 0 → ⊥) → ChangeBecame (λ n q. (h′ ≡ movedHead head (v .sequence) n) × StoredAfter n b′ a′ e′ l′ q) u (candidate m ps) → batchAnswerOf r ≡ changeAnswer cap cursor (v .sequence) u → Step (commit m v (candidate m ps))
         unfolding commit applyBatch advanced changeAnswer
         commits u some became h = go u (candidate m ps) became h
           where
-            go : (w : SetChange) (x : Outcome) → ChangeBecame (λ n q. (h′ ≡ movedHead head (v .sequence) n) × StoredTables n b′ a′ e′ q) w x → batchAnswerOf r ≡ changeAnswer cap cursor (v .sequence) w → Step (commit m v x)
+            go : (w : SetChange) (x : Outcome) → ChangeBecame (λ n q. (h′ ≡ movedHead head (v .sequence) n) × StoredAfter n b′ a′ e′ l′ q) w x → batchAnswerOf r ≡ changeAnswer cap cursor (v .sequence) w → Step (commit m v x)
             go (change.Applied n) (done q) stored h =
-                let counted = counts-stored n b′ a′ e′ q (stored .1) in
+                let counted = counts-stored n b′ a′ e′ q (stored .1 .0) in
                 rw (ne-eqb (v .patches) 0 some) (
                 record {
                   answer = h;
-                  next = next-applied m (advanced m (v .sequence) q) h′ nodes pairs collections b′ a′ e′ (r .disposition) (applied-told (r .disposition) (ap (λ (k : BatchAnswer). k .disposition) h)) (
+                  next = next-applied m (advanced m (v .sequence) q) h′ nodes pairs collections b′ a′ e′ l′ (r .disposition) (applied-told (r .disposition) (ap (λ (k : BatchAnswer). k .disposition) h)) (
                       record {
                         head-is = stored .0 ∙ moved-told head m (holds .head-is) (v .sequence) n q counted;
                         anchors-are = holds .anchors-are;
                         few = holds .few;
-                        projection = subst (λ (k : ProjectionCounts). StoredTables k b′ a′ e′ q) counted (stored .1);
+                        projection = subst (λ (k : ProjectionCounts). StoredTables k b′ a′ e′ q) counted (stored .1 .0);
+                        collections-told = stored .1 .1;
                       }
                       );
                 }

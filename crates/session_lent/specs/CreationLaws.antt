@@ -16,11 +16,12 @@ use Rattle.spec_session.specs.ValidSession.{FewAnchors}
 use Rattle.active_projection_target_catalog.specs.Catalog.{pairTo, pairNumbers}
 use Rattle.active_projection_target_catalog.specs.declared.catalog.BindingPair.{BindingPair}
 use Rattle.bytes_records.specs.Moves.{zeros}
-use Rattle.panel_rows.specs.Rows.{bindingBytes, availabilityBytes, entryBytes}
+use Rattle.panel_rows.specs.Rows.{bindingBytes, availabilityBytes, entryBytes, lengthBytes}
 use Rattle.local_projection_state.specs.StoresLaws.{empty-stored}
-use Rattle.local_projection_state.specs.Stores.{StoredTables}
+use Rattle.local_projection_state.specs.Stores.{StoredTables, StoredLengths}
 use Rattle.panel_changes.specs.SetChanges.{TableLengths, tablesFit, noneUsed}
 use Rattle.panel_changes.specs.SetChangesLaws.{fit-lengths}
+use Rattle.spec_lengths.specs.Lengths.{collectionLengths}
 use Rattle.session_gates.specs.Lent.{Lent}
 use Rattle.session_lent.specs.Head.{headNumbers, newHead}
 use Rattle.session_lent.specs.HeadLaws.{new-told}
@@ -74,47 +75,60 @@ module _ (c : Catalogue) (nodes pairs collections : List ℕ) (lent : Lent c nod
   unfolding anchorsFit
   few-fit h = rw (le-leb (length (c .nodes)) anchors (h .nodes), le-leb (length (c .bindings)) anchors (h .bindings), le-leb (length (c .collections)) anchors (h .collections))
 
-  module _ (id : ℕ) (l : Limits) (head b a e : List ℕ) (lengths : TableLengths b a e) where
+  module _ (id : ℕ) (limits : Limits) (head b a e l : List ℕ) (lengths : TableLengths b a e) (collections-long : length l ≡ lengthBytes) where
     cleared : StoredTables noneUsed (zeros (length b)) (zeros (length a)) (zeros (length e)) empty
     cleared =
         subst (λ (x : ℕ). StoredTables noneUsed (zeros x) (zeros (length a)) (zeros (length e)) empty) (sym (lengths .bindings))
         (subst (λ (x : ℕ). StoredTables noneUsed (zeros bindingBytes) (zeros x) (zeros (length e)) empty) (sym (lengths .availability))
-        (subst (λ (x : ℕ). StoredTables noneUsed (zeros bindingBytes) (zeros availabilityBytes) (zeros x) empty) (sym (lengths .entries)) empty-stored))
+        (subst (λ (x : ℕ). StoredTables noneUsed (zeros bindingBytes) (zeros availabilityBytes) (zeros x) empty) (sym (lengths .entries)) (empty-stored .tables)))
+
+    no-collections : StoredLengths (zeros (length l)) (collectionLengths empty)
+    no-collections = subst (λ (x : ℕ). StoredLengths (zeros x) (collectionLengths empty)) (sym collections-long) (empty-stored .lengths)
 
     created-in : (t : Bool) → anchorsShaped (length nodes) (length pairs) (length collections) ≡ t
-        → CreatedIn (create id l c) (creationAnswer true t) (afterCreation (creationAnswer true t) (newHead id l) head) nodes pairs collections
-        (afterCreation (creationAnswer true t) (zeros (length b)) b) (afterCreation (creationAnswer true t) (zeros (length a)) a) (afterCreation (creationAnswer true t) (zeros (length e)) e)
+        → CreatedIn (create id limits c) (creationAnswer true t) (afterCreation (creationAnswer true t) (newHead id limits) head) nodes pairs collections
+        (afterCreation (creationAnswer true t) (zeros (length b)) b) (afterCreation (creationAnswer true t) (zeros (length a)) a) (afterCreation (creationAnswer true t) (zeros (length e)) e) (afterCreation (creationAnswer true t) (zeros (length l)) l)
     unfolding create newSession empty
     created-in true is =
         let fits : anchorsFit c ≡ true = sym anchors-agree ∙ is in
-        rw fits (refl, record { head-is = new-told id l c; anchors-are = lent; few = fit-few fits; projection = cleared })
+        rw fits (refl, record { head-is = new-told id limits c; anchors-are = lent; few = fit-few fits; projection = cleared; collections-told = no-collections })
     created-in false is = let over : anchorsFit c ≡ false = sym anchors-agree ∙ is in rw over refl
 
 -- a head that a session can be made in has eleven numbers
-pub room-head : (head pairs b a e : ℕ) → roomShaped head pairs b a e ≡ true → head ≡ headNumbers
+pub room-head : (head pairs b a e l : ℕ) → roomShaped head pairs b a e l ≡ true → head ≡ headNumbers
 unfolding roomShaped
-room-head head pairs b a e h = eqb-true head headNumbers (and-left (eqb head headNumbers) (eqb (pairs % 2) 0 && tablesFit b a e) h)
+room-head head pairs b a e l h = eqb-true head headNumbers (and-left (eqb head headNumbers) (eqb (pairs % 2) 0 && (eqb l lengthBytes && tablesFit b a e)) h)
 
 -- slices that a session can be made in hold the session that was made, or 13 was told
-module _ (id : ℕ) (l : Limits) (nodes pairs collections head b a e : List ℕ) where
-  room-lengths : roomShaped (length head) (length pairs) (length b) (length a) (length e) ≡ true → TableLengths b a e
+module _ (id : ℕ) (limits : Limits) (nodes pairs collections head b a e l : List ℕ) (room : roomShaped (length head) (length pairs) (length b) (length a) (length e) (length l) ≡ true) where
+  tables-behind : (eqb (length l) lengthBytes && tablesFit (length b) (length a) (length e)) ≡ true
   unfolding roomShaped
-  room-lengths h =
+  tables-behind =
       let one = eqb (length head) headNumbers in
       let two = eqb (length pairs % 2) 0 in
-      let three = tablesFit (length b) (length a) (length e) in
-      fit-lengths b a e (and-right two three (and-right one (two && three) h))
+      let three = eqb (length l) lengthBytes && tablesFit (length b) (length a) (length e) in
+      and-right two three (and-right one (two && three) room)
 
-  pub creation-became : (r : LentCreation) (head′ b′ a′ e′ : List ℕ) → CreationCall id l nodes pairs collections head b a e r head′ b′ a′ e′ → (c : Catalogue) → Lent c nodes pairs collections
-      → roomShaped (length head) (length pairs) (length b) (length a) (length e) ≡ true → CreatedIn (create id l c) r head′ nodes pairs collections b′ a′ e′
-  creation-became r head′ b′ a′ e′ call c lent room =
+  room-lengths : TableLengths b a e
+  room-lengths = fit-lengths b a e (and-right (eqb (length l) lengthBytes) (tablesFit (length b) (length a) (length e)) tables-behind)
+
+  room-collections : length l ≡ lengthBytes
+  room-collections = eqb-true (length l) lengthBytes (and-left (eqb (length l) lengthBytes) (tablesFit (length b) (length a) (length e)) tables-behind)
+
+  pub creation-became : (r : LentCreation) (head′ b′ a′ e′ l′ : List ℕ) → CreationCall id limits nodes pairs collections head b a e l r head′ b′ a′ e′ l′ → (c : Catalogue) → Lent c nodes pairs collections
+      → CreatedIn (create id limits c) r head′ nodes pairs collections b′ a′ e′ l′
+  creation-became r head′ b′ a′ e′ l′ call c lent =
       let t = anchorsShaped (length nodes) (length pairs) (length collections) in
       let told : r ≡ creationAnswer true t = call .told ∙ ap (λ k. creationAnswer k t) room in
       let left : (new old : List ℕ) → afterCreation (creationAnswer true t) new old ≡ afterCreation r new old = λ new old. ap (λ k. afterCreation k new old) (sym told) in
-      let made-so = created-in c nodes pairs collections lent id l head b a e (room-lengths room) t refl in
+      let made-so = created-in c nodes pairs collections lent id limits head b a e l room-lengths room-collections t refl in
       let answer = creationAnswer true t in
-      let one = subst (λ (x : List ℕ). CreatedIn (create id l c) answer x nodes pairs collections (afterCreation answer (zeros (length b)) b) (afterCreation answer (zeros (length a)) a) (afterCreation answer (zeros (length e)) e)) (left (newHead id l) head ∙ sym (call .head-left)) made-so in
-      let two = subst (λ (x : List ℕ). CreatedIn (create id l c) answer head′ nodes pairs collections x (afterCreation answer (zeros (length a)) a) (afterCreation answer (zeros (length e)) e)) (left (zeros (length b)) b ∙ sym (call .bindings-left)) one in
-      let three = subst (λ (x : List ℕ). CreatedIn (create id l c) answer head′ nodes pairs collections b′ x (afterCreation answer (zeros (length e)) e)) (left (zeros (length a)) a ∙ sym (call .availability-left)) two in
-      let four = subst (λ (x : List ℕ). CreatedIn (create id l c) answer head′ nodes pairs collections b′ a′ x) (left (zeros (length e)) e ∙ sym (call .entries-left)) three in
-      subst (λ k. CreatedIn (create id l c) k head′ nodes pairs collections b′ a′ e′) (sym told) four
+      let A = afterCreation answer (zeros (length a)) a in
+      let E = afterCreation answer (zeros (length e)) e in
+      let L = afterCreation answer (zeros (length l)) l in
+      let one = subst (λ (x : List ℕ). CreatedIn (create id limits c) answer x nodes pairs collections (afterCreation answer (zeros (length b)) b) A E L) (left (newHead id limits) head ∙ sym (call .head-left)) made-so in
+      let two = subst (λ (x : List ℕ). CreatedIn (create id limits c) answer head′ nodes pairs collections x A E L) (left (zeros (length b)) b ∙ sym (call .bindings-left)) one in
+      let three = subst (λ (x : List ℕ). CreatedIn (create id limits c) answer head′ nodes pairs collections b′ x E L) (left (zeros (length a)) a ∙ sym (call .availability-left)) two in
+      let four = subst (λ (x : List ℕ). CreatedIn (create id limits c) answer head′ nodes pairs collections b′ a′ x L) (left (zeros (length e)) e ∙ sym (call .entries-left)) three in
+      let five = subst (λ (x : List ℕ). CreatedIn (create id limits c) answer head′ nodes pairs collections b′ a′ e′ x) (left (zeros (length l)) l ∙ sym (call .lengths-left)) four in
+      subst (λ k. CreatedIn (create id limits c) k head′ nodes pairs collections b′ a′ e′ l′) (sym told) five

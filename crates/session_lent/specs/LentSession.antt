@@ -9,17 +9,19 @@ use lib.ListN.{length}
 use Rattle.spec_patch.specs.Sizes.{anchors, projectionBindings, projectionAvailabilities, projectionEntries}
 use Rattle.spec_session.specs.Session.{Session}
 use Rattle.spec_session.specs.ValidSession.{FewAnchors}
+use Rattle.spec_lengths.specs.Lengths.{collectionLengths}
 use Rattle.session_gates.specs.Lent.{Lent}
 use Rattle.panel_rows.specs.Rows.{bindingBytes, availabilityBytes, entryBytes}
-use Rattle.local_projection_state.specs.Stores.{StoredTables, countsOf}
+use Rattle.local_projection_state.specs.Stores.{StoredTables, StoredLengths, countsOf}
 use Rattle.panel_changes.specs.SetChanges.{tablesFit, countsFit, Ready}
 use Rattle.session_lent.specs.Head.{headNumbers, countsAt, headOf}
 
-pub record LentSession (head nodes pairs collections bindings availability entries : List ℕ) (m : Session) : Type 0 where
+pub record LentSession (head nodes pairs collections bindings availability entries lengths : List ℕ) (m : Session) : Type 0 where
   pub head-is : head ≡ headOf m
   pub anchors-are : Lent (m .catalogue) nodes pairs collections
   pub few : FewAnchors (m .catalogue)
   pub projection : StoredTables (countsOf (m .projection)) bindings availability entries (m .projection)
+  pub collections-told : StoredLengths lengths (collectionLengths (m .projection))
 
 -- ---- slices that can hold a session
 
@@ -45,6 +47,6 @@ abbrev pub entriesShaped : List ℕ → ℕ → Bool
 entriesShaped head table = tableShaped head (countsAt head .entries) table entryBytes projectionEntries
 
 -- the half that a batch writes to: as creation or an earlier call left it, so that nothing stands behind the rows that its head counts
-pub record LentRoom (head bindings availability entries : List ℕ) : Type 0 where
+pub record LentRoom (head bindings availability entries lengths : List ℕ) : Type 0 where
   pub head-long : length head ≡ headNumbers
-  pub tables : Ready (countsAt head) bindings availability entries
+  pub tables : Ready (countsAt head) bindings availability entries lengths

@@ -20,7 +20,7 @@ ghost use Rattle.spec_projection.specs.Projection.{Projection};
 ghost use Rattle.spec_projection.specs.Apply.{replaySteps, applySteps};
 ghost use Rattle.projection_patch.specs.Meaning.{editionOf};
 ghost use Rattle.local_projection_state.specs.Stores.{StoredTables};
-ghost use Rattle.panel_changes.specs.SetChanges.{ChangeBecame};
+ghost use Rattle.panel_changes.specs.SetChanges.{StoredAfter, ChangeBecame};
 ghost use Rattle.session_gates.specs.Gates.{envelopeMeans};
 ghost use Rattle.session_lent.specs.Head.{headNumbers, countsAt, movedHead};
 ghost use Rattle.session_lent.specs.LentSession.{halfShaped, LentRoom};
@@ -45,12 +45,13 @@ fn commit<'a>(
     to_bindings: &mut [u8],
     to_availability: &mut [u8],
     to_entries: &mut [u8],
+    to_lengths: &mut [u8],
 ) -> SetChange
     requires { ⌜ (length (now head) ≡ headNumbers) × (length (now «to_head») ≡ headNumbers) ⌝ }
     ensures changed { λ r. ⌜ ((p : Projection) (ps : List Patch) → StoredTables (countsAt (now (head .entry))) (now (bindings .entry)) (now (availability .entry)) (now (entries .entry)) p
-        → readSet (editionOf edition) (now (set .entry)) ≡ patches ps → LentRoom (now («to_head» .entry)) (now («to_bindings» .entry)) (now («to_availability» .entry)) (now («to_entries» .entry))
-        → ChangeBecame (λ n q. (now («to_head» .exit) ≡ movedHead (now (head .entry)) «sequence_no» n) × StoredTables n (now («to_bindings» .exit)) (now («to_availability» .exit)) (now («to_entries» .exit)) q) r (applySteps p (replaySteps ps))) ⌝ }
-    ensures kept { λ r. ⌜ KeptUnlessChanged r (now («to_head» .entry)) (now («to_bindings» .entry)) (now («to_availability» .entry)) (now («to_entries» .entry)) (now («to_head» .exit)) (now («to_bindings» .exit)) (now («to_availability» .exit)) (now («to_entries» .exit)) ⌝ }
+        → readSet (editionOf edition) (now (set .entry)) ≡ patches ps → LentRoom (now («to_head» .entry)) (now («to_bindings» .entry)) (now («to_availability» .entry)) (now («to_entries» .entry)) (now («to_lengths» .entry))
+        → ChangeBecame (λ n q. (now («to_head» .exit) ≡ movedHead (now (head .entry)) «sequence_no» n) × StoredAfter n (now («to_bindings» .exit)) (now («to_availability» .exit)) (now («to_entries» .exit)) (now («to_lengths» .exit)) q) r (applySteps p (replaySteps ps))) ⌝ }
+    ensures kept { λ r. ⌜ KeptUnlessChanged r (now («to_head» .entry)) (now («to_bindings» .entry)) (now («to_availability» .entry)) (now («to_entries» .entry)) (now («to_lengths» .entry)) (now («to_head» .exit)) (now («to_bindings» .exit)) (now («to_availability» .exit)) (now («to_entries» .exit)) (now («to_lengths» .exit)) ⌝ }
 {
     let counts = head::counts_in(head);
     let used = head::counts_in(to_head);
@@ -64,6 +65,7 @@ fn commit<'a>(
         to_bindings,
         to_availability,
         to_entries,
+        to_lengths,
         used,
     );
     let SetChange::Applied(next) = change else {
@@ -90,10 +92,11 @@ fn apply_shaped<'a>(
     to_bindings: &mut [u8],
     to_availability: &mut [u8],
     to_entries: &mut [u8],
+    to_lengths: &mut [u8],
 ) -> ProjectionPatchApplicationResult
     requires { ⌜ (length (now head) ≡ headNumbers) × (length (now «to_head») ≡ headNumbers) ⌝ }
     ensures { λ r. ⌜ ShapedCall (editionOf edition) (envelopeMeans envelope) declared (now (set .entry)) (now (head .entry)) (now (nodes .entry)) (now (pairs .entry)) (now (collections .entry)) (now (bindings .entry)) (now (availability .entry)) (now (entries .entry))
-        (now («to_head» .entry)) (now («to_bindings» .entry)) (now («to_availability» .entry)) (now («to_entries» .entry)) r (now («to_head» .exit)) (now («to_bindings» .exit)) (now («to_availability» .exit)) (now («to_entries» .exit)) ⌝ }
+        (now («to_head» .entry)) (now («to_bindings» .entry)) (now («to_availability» .entry)) (now («to_entries» .entry)) (now («to_lengths» .entry)) r (now («to_head» .exit)) (now («to_bindings» .exit)) (now («to_availability» .exit)) (now («to_entries» .exit)) (now («to_lengths» .exit)) ⌝ }
 {
     let limits = head::limits_in(head);
     let state = head::state_in(head);
@@ -131,6 +134,7 @@ fn apply_shaped<'a>(
         to_bindings,
         to_availability,
         to_entries,
+        to_lengths,
     );
     answers::concluded(cap, change, cursor, number)
 }
@@ -153,38 +157,44 @@ pub fn apply_projection_patch_batch<'a>(
     to_bindings: &mut [u8],
     to_availability: &mut [u8],
     to_entries: &mut [u8],
+    to_lengths: &mut [u8],
 ) -> LentBatch
     ensures { λ r. ⌜ BatchCall (editionOf edition) (envelopeMeans envelope) «declared_target_reference_count» (now (set .entry)) (now (head .entry)) (now (nodes .entry)) (now (pairs .entry)) (now (collections .entry)) (now (bindings .entry)) (now (availability .entry)) (now (entries .entry))
-        (now («to_head» .entry)) (now («to_bindings» .entry)) (now («to_availability» .entry)) (now («to_entries» .entry)) r (now («to_head» .exit)) (now («to_bindings» .exit)) (now («to_availability» .exit)) (now («to_entries» .exit)) ⌝ }
+        (now («to_head» .entry)) (now («to_bindings» .entry)) (now («to_availability» .entry)) (now («to_entries» .entry)) (now («to_lengths» .entry)) r (now («to_head» .exit)) (now («to_bindings» .exit)) (now («to_availability» .exit)) (now («to_entries» .exit)) (now («to_lengths» .exit)) ⌝ }
 {
-    if shape::anchors_shaped(nodes.len(), pairs.len(), collections.len()) {
-        if shape::half_shaped(head, bindings.len(), availability.len(), entries.len()) {
-            if shape::half_shaped(
-                to_head,
-                to_bindings.len(),
-                to_availability.len(),
-                to_entries.len(),
-            ) {
-                let result = apply_shaped(
-                    head,
-                    nodes,
-                    pairs,
-                    collections,
-                    bindings,
-                    availability,
-                    entries,
-                    envelope,
-                    declared_target_reference_count,
-                    set,
-                    edition,
-                    to_head,
-                    to_bindings,
-                    to_availability,
-                    to_entries,
-                );
-                return LentBatch::Answered(result);
-            }
-        }
+    if shape::memory_shaped(
+        nodes.len(),
+        pairs.len(),
+        collections.len(),
+        head,
+        bindings.len(),
+        availability.len(),
+        entries.len(),
+        to_head,
+        to_bindings.len(),
+        to_availability.len(),
+        to_entries.len(),
+        to_lengths.len(),
+    ) {
+        let result = apply_shaped(
+            head,
+            nodes,
+            pairs,
+            collections,
+            bindings,
+            availability,
+            entries,
+            envelope,
+            declared_target_reference_count,
+            set,
+            edition,
+            to_head,
+            to_bindings,
+            to_availability,
+            to_entries,
+            to_lengths,
+        );
+        return LentBatch::Answered(result);
     }
     LentBatch::NoSession
 }

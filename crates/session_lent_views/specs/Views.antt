@@ -40,7 +40,8 @@ pub record HoldsTables (head bindings availability entries : List ℕ) (m : Sess
   pub nodes : List ℕ
   pub pairs : List ℕ
   pub collections : List ℕ
-  pub held : LentSession head nodes pairs collections bindings availability entries m
+  pub lengths : List ℕ
+  pub held : LentSession head nodes pairs collections bindings availability entries lengths m
 
 pub record HoldsBindings (head bindings : List ℕ) (m : Session) : Type 0 where
   pub availability : List ℕ

@@ -40,7 +40,7 @@ entries-stored {e = e} {m = m} n is h = subst (λ (k : ℕ). Stored entryRow ent
 
 -- and they have its shape
 pub tables-shaped : (head b a e : List ℕ) (m : Session) → HoldsTables head b a e m → halfShaped head (length b) (length a) (length e) ≡ true
-tables-shaped head b a e m h = held-half head (h .nodes) (h .pairs) (h .collections) b a e m (h .held)
+tables-shaped head b a e m h = held-half head (h .nodes) (h .pairs) (h .collections) b a e (h .lengths) m (h .held)
 
 all-three : {x y z : Bool} → x ≡ true → y ≡ true → z ≡ true → (x && (y && z)) ≡ true
 all-three x y z = rw (x, y, z) refl

@@ -20,8 +20,8 @@ use Rattle.shell_player.specs.declared.batch.ProjectionPatchBatch.{Proje
 use Rattle.shell_player.specs.Holds.{Holds}
 
 -- the session of these parts
-abbrev pub sessionOf : ActivatedShellSessionContext → ShellLocalState → ProjectionCounts → List ℕ → List ℕ → List ℕ → ShellSession
-sessionOf c t n b a e = record { context = c; state = t; «local_projection» = record { counts = n; bindings = b; availability = a; entries = e } }
+abbrev pub sessionOf : ActivatedShellSessionContext → ShellLocalState → ProjectionCounts → List ℕ → List ℕ → List ℕ → List ℕ → ShellSession
+sessionOf c t n b a e l = record { context = c; state = t; «local_projection» = record { counts = n; bindings = b; availability = a; entries = e; lengths = l } }
 
 -- a batch's session and answer
 abbrev pub batchOf : ShellSession → ProjectionPatchApplicationResult → ProjectionPatchBatch

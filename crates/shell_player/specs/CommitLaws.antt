@@ -21,9 +21,8 @@ use Rattle.session_lifecycle.specs.Meaning.{cursorOf, stateTold}
 use Rattle.session_lifecycle.specs.declared.state.ShellLocalState.{ShellLocalState}
 use Rattle.active_projection_target_catalog.specs.Catalog.{catalogueOf}
 use Rattle.active_projection_target_catalog.specs.CatalogLaws.{catalogue-back}
-use Rattle.local_projection_state.specs.Stores.{StoredTables}
 use Rattle.local_projection_state.specs.declared.ProjectionCounts.{ProjectionCounts}
-use Rattle.panel_changes.specs.SetChanges.{ChangeBecame}
+use Rattle.panel_changes.specs.SetChanges.{StoredAfter, ChangeBecame}
 use Rattle.panel_changes.specs.declared.SetChange.{SetChange}
 use Rattle.panel_changes.specs.declared.SetChange.the-variants as change
 use Rattle.session_gates.specs.Gates.{erased}
@@ -101,12 +100,12 @@ module _ (s : ShellSession) (m : Session) (holds : Holds s m) where
         go change.BadTables x stop b h = absurd b
 
     -- a set that was applied stores what the tables hold
-    pub commits-applied : (n : ProjectionCounts) (b a y : List ℕ) (t : ShellLocalState) (r : ProjectionPatchApplicationResult) → (e .patches ≡ 0 → ⊥) → ChangeBecame (λ k q. StoredTables k b a y q) (change.Applied n) (candidate m ps)
-        → stateTold t ≡ movedTo (stateTold (s .state)) (e .sequence) → batchAnswerOf r ≡ answerAt applied (at (e .sequence)) → BatchBecame (record { session = sessionOf (s .context) t n b a y; result = r }) (commit m e (candidate m ps))
+    pub commits-applied : (n : ProjectionCounts) (b a y l : List ℕ) (t : ShellLocalState) (r : ProjectionPatchApplicationResult) → (e .patches ≡ 0 → ⊥) → ChangeBecame (λ k q. StoredAfter k b a y l q) (change.Applied n) (candidate m ps)
+        → stateTold t ≡ movedTo (stateTold (s .state)) (e .sequence) → batchAnswerOf r ≡ answerAt applied (at (e .sequence)) → BatchBecame (record { session = sessionOf (s .context) t n b a y l; result = r }) (commit m e (candidate m ps))
     unfolding commit applyBatch advanced stateOf
-    commits-applied n b a y t r some became moved h = go (candidate m ps) became
+    commits-applied n b a y l t r some became moved h = go (candidate m ps) became
       where
-        go : (x : Outcome) → ChangeBecame (λ k q. StoredTables k b a y q) (change.Applied n) x → BatchBecame (record { session = sessionOf (s .context) t n b a y; result = r }) (commit m e x)
+        go : (x : Outcome) → ChangeBecame (λ k q. StoredAfter k b a y l q) (change.Applied n) x → BatchBecame (record { session = sessionOf (s .context) t n b a y l; result = r }) (commit m e x)
         go (done q) stored = rw (ne-eqb (e .patches) 0 some) (
             record {
               answer = h;
@@ -116,7 +115,7 @@ module _ (s : ShellSession) (m : Session) (holds : Holds s m) where
                 catalogue = holds .catalogue;
                 few = holds .few;
                 state = moved ∙ ap (λ (k : LocalState). movedTo k (e .sequence)) (holds .state);
-                projection = stored;
+                projection = record { tables = stored .0; lengths = stored .1 };
               };
             }
             )

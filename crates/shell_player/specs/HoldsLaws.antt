@@ -65,5 +65,5 @@ pub one-struct : (s : ShellSession) (m : Session) → Holds s m → s ≡ sessio
 one-struct s m h = λ i. record {
   context = record { «session_id» = record { 0 = h .id i }; limits = ap limitsTo (h .limits) i; catalog = h .catalogue i };
   state = (state-back (s .state) ∙ ap stateTo (h .state)) i;
-  «local_projection» = one-state (m .projection) (s .«local_projection») (stateOf (m .projection)) (h .projection) (some-state (m .projection) (h .projection .valid)) i;
+  «local_projection» = one-state (m .projection) (s .«local_projection») (stateOf (m .projection)) (h .projection) (some-state (m .projection) (h .projection .tables .valid)) i;
 }

@@ -30,8 +30,9 @@ fn session_of(
     bindings: [u8; LocalProjectionState::BINDING_BYTES],
     availability: [u8; LocalProjectionState::AVAILABILITY_BYTES],
     entries: [u8; LocalProjectionState::ENTRY_BYTES],
+    lengths: [u8; LocalProjectionState::LENGTH_BYTES],
 ) -> ShellSession
-    ensures { λ r. ⌜ r ≡ sessionOf context state counts bindings availability entries ⌝ }
+    ensures { λ r. ⌜ r ≡ sessionOf context state counts bindings availability entries lengths ⌝ }
 {
     ShellSession {
         context,
@@ -41,6 +42,7 @@ fn session_of(
             bindings,
             availability,
             entries,
+            lengths,
         },
     }
 }
@@ -79,6 +81,7 @@ impl ShellSession {
         let mut bindings = [0u8; LocalProjectionState::BINDING_BYTES];
         let mut availability = [0u8; LocalProjectionState::AVAILABILITY_BYTES];
         let mut entries = [0u8; LocalProjectionState::ENTRY_BYTES];
+        let mut lengths = [0u8; LocalProjectionState::LENGTH_BYTES];
         let used = panel_changes::none_used();
         let change = panel_changes::apply_set(
             &self.local_projection.bindings,
@@ -90,14 +93,15 @@ impl ShellSession {
             &mut bindings,
             &mut availability,
             &mut entries,
+            &mut lengths,
             used,
         );
         let result = answers::concluded(cap, change, cursor, envelope.sequence_no);
-        let SetChange::Applied(held) = change else {
+        let SetChange::Applied(n) = change else {
             return batch_of(self, result);
         };
         let moved = states::advanced(state, envelope.sequence_no);
-        let session = session_of(context, moved, held, bindings, availability, entries);
+        let session = session_of(context, moved, n, bindings, availability, entries, lengths);
         batch_of(session, result)
     }
 }

@@ -1,5 +1,6 @@
 // Lookups in the projection of a session. Without a record every field of the answer is zero.
 use crate::session::ShellSession;
+use panel_lengths::lookup;
 use panel_lookups::positions;
 use panel_lookups::positions::EntryLookup;
 use panel_rows::values::AvailabilityLookup;
@@ -46,6 +47,14 @@ impl ShellSession {
         let table = self.local_projection.entries;
         let counts = self.local_projection.counts;
         positions::entry_count(&table, counts.entries, collection)
+    }
+
+    // How many entries a collection has, as it is stored, without a look at the entries.
+    pub fn collection_length(self, collection: u64) -> u64
+        ensures { λ r. ⌜ ((m : Session) → Holds self m → r ≡ entryCount (m .projection) collection) ⌝ }
+    {
+        let table = self.local_projection.lengths;
+        lookup::collection_length(&table, collection)
     }
 
     // The entry at a position of its collection, from 0, and its mark.

@@ -1,5 +1,5 @@
 -- What the call answers and writes: two numbers for each record, the rest as it was, and nothing on a refusal or for a set that never applies.
-use Prim.Native.Nat.{ℕ, _+_, _*_}
+use Prim.Native.Nat.{ℕ, _+_, _*_, _≤_}
 use mathlib.Core.Path.{_≡_, refl, sym, ap, _∙_, subst}
 use mathlib.Core.Bool.{false≢true}
 use mathlib.Core.List.{List, [], _∷_, _++_, flatMap}
@@ -57,3 +57,17 @@ module _ (ed : Edition) (set lent : List ℕ) where
   -- the lent list keeps its length
   pub output-length : length (dependenciesOf ed set lent .output) ≡ length lent
   output-length = kept-length _ (call-answers ed set lent)
+
+  counted-fit : (a : Answered) → Called ed set lent a → (held lacked : ℕ) → a .answer ≡ answerNeeds held lacked → pairLength * (held + lacked) ≤ length lent
+  counted-fit _ (notRead f e) h l is = absurd (let z : _≡_ {A = ℕ} 0 1 = cc in omega arith)
+  counted-fit _ (withFindings ps e n) h l is = absurd (let z : _≡_ {A = ℕ} 0 1 = cc in omega arith)
+  counted-fit _ (given ps e n a (neverGiven i j d)) h l is = absurd (let z : _≡_ {A = ℕ} 0 1 = cc in omega arith)
+  counted-fit _ (given ps e n a (tooShort held lacked d s)) h l is = absurd (let z : _≡_ {A = ℕ} 0 1 = cc in omega arith)
+  counted-fit _ (given ps e n a (listed held lacked d room)) h l is =
+      let first : length held ≡ h = cc in
+      let second : length lacked ≡ l = cc in
+      omega arith
+
+  -- each record that the answer counts has its places in the list
+  pub records-fit : (held lacked : ℕ) → dependenciesOf ed set lent .answer ≡ answerNeeds held lacked → pairLength * (held + lacked) ≤ length (dependenciesOf ed set lent .output)
+  records-fit held lacked is = omega (arith, output-length, counted-fit _ (call-answers ed set lent) held lacked is)

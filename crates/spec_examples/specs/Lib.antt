@@ -6,3 +6,4 @@ pub mod TextInstances
 pub mod CutInstances
 pub mod EditionInstances
 pub mod GroupInstances
+pub mod LengthInstances

@@ -1,8 +1,10 @@
 -- What each call of a replay prints, as bytes: a letter, then fields with a tab before each, and the newline.
-use Prim.Native.Nat.{ℕ}
+use Prim.Native.Nat.{ℕ, zero, suc, _+_}
 use mathlib.Core.List.{List, [], _∷_, _++_, flatMap}
 use mathlib.Core.Option.{Option, none, some}
-use lib.ListN.{length}
+use lib.Dec.{leb}
+use lib.ListN.{length, getD, drop}
+use Rattle.spec_lists.specs.Lists.{if_then_else_}
 use Rattle.spec_patch.specs.Patch.{Value, Availability}
 use Rattle.spec_patch.specs.Encode.{availabilityByte}
 use Rattle.spec_patch.specs.Reader.{faultNumber}
@@ -17,6 +19,9 @@ use Rattle.spec_conversion.specs.Conversion as conversions
 use Rattle.spec_conversion.specs.Conversion.{Converted, converted, conversionNumber}
 use Rattle.spec_turns.specs.Turns as turns
 use Rattle.spec_turns.specs.Turns.{SetUp, setUpNumber, RegisterAnswer, registered, registerRefused, registerNumber, TurnAnswer, nobody, turnOf}
+use Rattle.spec_dependencies.specs.Dependencies.{CollectionKey}
+use Rattle.spec_dependencies.specs.Answer as dependencies
+use Rattle.spec_dependencies.specs.Answer.{DependencyAnswer, answerNever, answerNeeds, refusalNumber, Answered}
 use Rattle.spec_decimal.specs.Decimal.{decimal}
 use Rattle.spec_listing.specs.Listing.{fields, valueFields}
 use Rattle.spec_replay.specs.Hex.{hexField}
@@ -116,6 +121,28 @@ conversionLine (conversions.refused r) = 84 ∷ fields (decimal (conversionNumbe
 unfoldable pub markLine : Option ℕ → List ℕ
 markLine none = 88 ∷ fields (dash ∷ [])
 markLine (some id) = 88 ∷ fields (decimal id ∷ [])
+
+-- Q, collection, key
+unfoldable pub keyLine : CollectionKey → List ℕ
+keyLine k = 81 ∷ fields (decimal (k .collection) ∷ decimal (k .key) ∷ [])
+
+-- so many records from the start of a list of numbers, two to a record
+unfoldable pub firstKeys : ℕ → List ℕ → List CollectionKey
+firstKeys zero words = []
+firstKeys (suc n) words = record { collection = getD words 0 0; key = getD words 1 0 } ∷ firstKeys n (drop 2 words)
+
+-- depends: D and the number; D, 0, never, patch, operation; or D, 0, needs, how many must be there and how many absent, and a line for each record written
+unfoldable pub verdictLines : DependencyAnswer → (written : List ℕ) → List ℕ
+verdictLines (dependencies.refused r) words = 68 ∷ fields (decimal (refusalNumber r) ∷ [])
+verdictLines (answerNever i j) words = 68 ∷ fields (decimal 0 ∷ ascii "never" ∷ decimal i ∷ decimal j ∷ [])
+verdictLines (answerNeeds held lacked) words = (68 ∷ fields (decimal 0 ∷ ascii "needs" ∷ decimal held ∷ decimal lacked ∷ [])) ++ flatMap keyLine (firstKeys (held + lacked) words)
+
+unfoldable pub dependencyLines : Answered → List ℕ
+dependencyLines a = verdictLines (a .answer) (a .output)
+
+-- print: O, 0 and the number of bytes, and behind the newline these bytes as they are; or O and 14, where the room is too short for them
+unfoldable pub printLines : (room : ℕ) → (print : List ℕ) → List ℕ
+printLines room print = if leb (length print) room then (79 ∷ fields (decimal 0 ∷ decimal (length print) ∷ [])) ++ print else 79 ∷ fields (decimal 14 ∷ [])
 
 -- N: there is no session, or there are no senders
 unfoldable pub noSessionLine : List ℕ

@@ -3,7 +3,7 @@ use Prim.Native.Nat.{ℕ, _+_}
 use mathlib.Core.List.{List, [], _∷_, _++_}
 use mathlib.Core.Option.{Option, none, some}
 use lib.Dec.{ltb}
-use lib.ListN.{length}
+use lib.ListN.{length, replicate}
 use Rattle.spec_lists.specs.Lists.{if_then_else_, isEmpty}
 use Rattle.spec_patch.specs.Sizes.{anchors}
 use Rattle.spec_patch.specs.Edition.{Edition, v1}
@@ -15,12 +15,14 @@ use Rattle.spec_session.specs.Lifecycle.{LifecycleStep, lifecycleStep}
 use Rattle.spec_session.specs.Batch as batches
 use Rattle.spec_session.specs.Batch.{BatchStep}
 use Rattle.spec_conversion.specs.Conversion as conversions
+use Rattle.spec_dependencies.specs.Answer.{dependenciesOf}
+use Rattle.spec_panel_print.specs.Print.{collectionPrint}
 use Rattle.spec_turns.specs.Turns as turns
 use Rattle.spec_turns.specs.Turns.{Turns, SetUp, RegisterStep, TurnStep}
 use Rattle.spec_listing.specs.Listing.{projectionLines, listing}
 use Rattle.spec_replay.specs.Lines.{newline, split}
-use Rattle.spec_replay.specs.Script.{Command, nothing, session, node, binding, collection, create, apply, batch, check, list, show, valueBinding, valueNode, valueEntry, senders, wait, turn, edition, convert, markBinding, markNode, markEntry, other, command}
-use Rattle.spec_replay.specs.Answers.{creationLine, lifecycleLine, batchLine, checkLines, valueLine, availabilityLine, setUpLine, registerLine, turnLine, conversionLine, markLine, noSessionLine, otherLine}
+use Rattle.spec_replay.specs.Script.{Command, nothing, session, node, binding, collection, create, apply, batch, check, list, show, valueBinding, valueNode, valueEntry, senders, wait, turn, edition, convert, markBinding, markNode, markEntry, depends, print, other, command}
+use Rattle.spec_replay.specs.Answers.{creationLine, lifecycleLine, batchLine, checkLines, valueLine, availabilityLine, setUpLine, registerLine, turnLine, conversionLine, markLine, dependencyLines, printLines, noSessionLine, otherLine}
 
 -- what a creation takes
 pub record Setup : Type 0 where
@@ -143,6 +145,8 @@ replayLine n s (convert room set) = onward s (conversionLine (conversions.conver
 replayLine n s (markBinding i slot) = asked s (λ x. onward s (markLine (bindingMark (x .projection) i slot)))
 replayLine n s (markNode i) = asked s (λ x. onward s (markLine (availabilityMark (x .projection) i)))
 replayLine n s (markEntry c k) = asked s (λ x. onward s (markLine (entryMark (x .projection) c k)))
+replayLine n s (depends room set) = onward s (dependencyLines (dependenciesOf (s .edition) set (replicate room 0)))
+replayLine n s (print c room) = asked s (λ x. onward s (printLines room (collectionPrint (x .projection) c)))
 replayLine n s other = stops (otherLine n)
 
 -- ---- the whole script

@@ -2,13 +2,15 @@
 use Prim.Native.Nat.{ℕ}
 use Prim.Native.String.{String}
 use mathlib.Core.Bool.{Bool}
-use mathlib.Core.List.{List, [], _∷_, flatMap}
+use mathlib.Core.List.{List, [], _∷_, _++_, flatMap}
 use mathlib.Core.Option.{none, some}
 use lib.Dec.{T, eqb}
+use lib.ListN.{replicate, drop, getD}
 use Rattle.spec_lists.specs.Lists.{all, equalLists}
 use Rattle.spec_lists.specs.Bytes.{littleEndian, numberOf}
 use Rattle.spec_decimal.specs.Decimal.{digits, decimal, isNumeral, numberWith, readDecimal}
-use Rattle.spec_patch.specs.Patch.{pending}
+use Rattle.spec_text.specs.Scalars.{encodeScalar, encode as octets}
+use Rattle.spec_patch.specs.Patch.{pending, quad, T as true-quad}
 use Rattle.spec_patch.specs.Edition.{v1, digit, letters}
 use Rattle.spec_patch.specs.Encode.{heading, encodeCounted, encode}
 use Rattle.spec_patch.specs.Reader.{faultNumber, many, literal}
@@ -20,19 +22,23 @@ use Rattle.spec_checks.specs.Finding.{checkEach}
 use Rattle.spec_lists.specs.Order.{sortUnique, lookup}
 use Rattle.spec_projection.specs.Projection.{Projection, empty, availabilityKey}
 use Rattle.spec_projection.specs.Apply.{replaySteps, applySteps, operationsOf}
+use Rattle.spec_projection.specs.Entries.{isEntry}
 use Rattle.spec_projection.specs.FirstMatch.{findFirst}
-use Rattle.spec_projection.specs.Lookups.{availabilityOf, bindingMark, availabilityMark, entryMark}
+use Rattle.spec_projection.specs.Lookups.{availabilityOf, entriesIn, entriesOf, bindingMark, availabilityMark, entryMark}
 use Rattle.spec_session.specs.Session.{closed, at, newSession, anchorsFit, create}
 use Rattle.spec_session.specs.Diagnostics.{diagnosticsOf}
 use Rattle.spec_session.specs.Lifecycle.{transition, dispositionOf, stateOf, withLifecycle, rejectLifecycle, enterLifecycle, lifecycleStep}
 use Rattle.spec_session.specs.Batch.{require, readable, absentTargets, knownTargets, batchChecks, rejectBatch, keepSession, candidate, commit, concludeBatch, batch}
 use Rattle.spec_conversion.specs.Conversion.{otherEdition, conversionNumber, unread, allKinds, rewritten, convertTo, convert}
+use Rattle.spec_dependencies.specs.Dependencies.{walkPatches, keysAtStart, dependenciesBy, dependencies}
+use Rattle.spec_dependencies.specs.Answer.{allWords, hasFindings, refused, answerNever, answerNeeds, refusalNumber, wordsWritten, answerBy, answerReading, dependenciesOf}
+use Rattle.spec_panel_print.specs.Print.{quadLetter, printedValue, lineCount, textPieces, columnOf, keyLead, laidOut, printedLines, entryLines, collectionLines, lineOctets, collectionPrint}
 use Rattle.spec_turns.specs.Turns.{newTurns, setUp, refuseRegister, startWaiting, register, after, firstAsked, firstWaiting, nextSender, numberAfter, spendTurn, turnFor, turn}
 use Rattle.spec_listing.specs.Listing.{fields, recordCount, projectionLines, refusalLine, outcomeLines, readingLines, listing}
 use Rattle.spec_replay.specs.Lines.{prepend, split}
 use Rattle.spec_replay.specs.Hex.{hexDigit, hexByte, cons, hexPairs, readHex, hexCharacter, bytePair, hexField}
-use Rattle.spec_replay.specs.Script.{ascii, end, given, readBy, atMost, numberedEdition, byWord, stimuli, sessionArguments, bindingArguments, applyArguments, batchArguments, convertArguments, boundArguments, keyedArguments, values, marks, markArguments, valueArguments, commands, fieldsCommand, isRemark, command}
-use Rattle.spec_replay.specs.Answers.{dispositionField, lifecycleField, cursorField, placeField, sessionFields, creationLine, lifecycleLine, batchLine, checkedLine, checkLines, availabilityLine, setUpLine, registerLine, turnLine, conversionLine, markLine, noSessionLine, otherLine}
+use Rattle.spec_replay.specs.Script.{ascii, end, given, readBy, atMost, numberedEdition, byWord, stimuli, sessionArguments, bindingArguments, applyArguments, batchArguments, convertArguments, dependsArguments, printArguments, boundArguments, keyedArguments, values, marks, markArguments, valueArguments, commands, fieldsCommand, isRemark, command}
+use Rattle.spec_replay.specs.Answers.{dispositionField, lifecycleField, cursorField, placeField, sessionFields, creationLine, lifecycleLine, batchLine, checkedLine, checkLines, availabilityLine, setUpLine, registerLine, turnLine, conversionLine, markLine, keyLine, firstKeys, verdictLines, dependencyLines, printLines, noSessionLine, otherLine}
 use Rattle.spec_replay.specs.Replay.{State, noAnchors, start, keep, withSetup, withAnchors, withNode, withBinding, withSession, withTurns, withEdition, asked, askedTurns, created, applied, batched, settled, registered, turned, replayLine, replayLines, commandsOf, replayFrom, replay}
 
 prints : String → String → Bool
@@ -50,12 +56,16 @@ closedWith n p = record {
 printsAt : ℕ → String → String → Bool
 printsAt n script answers = equalLists eqb (replayFrom 1 (closedWith n empty) (ascii script)) (ascii answers)
 
--- node 5 was made Pending by patch 31
+-- node 5 was made Pending by patch 31, and key 20 of collection 9 was given the quad T
 marked : Projection
-marked = record { bindings = []; availabilities = record { node = 5; mark = 31; availability = pending } ∷ []; entries = [] }
+marked = record { bindings = []; availabilities = record { node = 5; mark = 31; availability = pending } ∷ []; entries = record { collection = 9; key = 20; mark = 31; value = quad true-quad } ∷ [] }
 
 printsMarked : String → String → Bool
 printsMarked script answers = equalLists eqb (replayFrom 1 (closedWith 3 marked) (ascii script)) (ascii answers)
+
+-- lines that a call prints
+shows : List ℕ → String → Bool
+shows lines answers = equalLists eqb lines (ascii answers)
 
 -- a script prints nothing of remarks, an answer of each call, and stops at the first other line
 pub examples : List Bool
@@ -94,6 +104,16 @@ examples =
     -- the patch that wrote a row
     ∷ printsMarked "mark node 5\nmark node 6\nmark binding 5 0\nmark entry 5 5\n" "X\t31\nX\t-\nX\t-\nX\t-\n"
     ∷ prints "mark node 5\nmark 5\n" "N\n?\t2\n"
+    -- what a set depends on: the empty set on nothing, in no place too
+    ∷ prints "depends 0 1b00000055495f444e41325f50524f4a454354494f4e5f50415443485f563100000000\ndepends 16384 -\nedition 2\ndepends 0 1b00000055495f444e41325f50524f4a454354494f4e5f50415443485f563100000000\n" "D\t0\tneeds\t0\t0\nD\t10\nD\t10\n"
+    ∷ prints "depends 16385 -\n" "?\t1\n"
+    -- the records that were written, first those that must be there; the rest of the list is not printed
+    ∷ shows (verdictLines (answerNeeds 1 2) (9 ∷ 2 ∷ 8 ∷ 7 ∷ 9 ∷ 1 ∷ 0 ∷ [])) "D\t0\tneeds\t1\t2\nQ\t9\t2\nQ\t8\t7\nQ\t9\t1\n"
+    ∷ shows (verdictLines (answerNever 1 0) (9 ∷ 2 ∷ [])) "D\t0\tnever\t1\t0\n"
+    ∷ shows (verdictLines (refused hasFindings) (9 ∷ 2 ∷ [])) "D\t11\n"
+    -- a collection on paper: its bytes behind their number, or 14; a collection without entries has none
+    ∷ printsMarked "print 9 81\nprint 9 80\nprint 8 0\n" "O\t0\t81\n                  20  T                                                         \nO\t14\nO\t0\t0\n"
+    ∷ prints "print 9 131072\nprint 9 131073\n" "N\n?\t2\n"
     -- any other line ends the replay
     ∷ prints "create \nshow\n" "?\t1\n"
     ∷ prints "node 01\n" "?\t1\n"
@@ -110,7 +130,7 @@ examples =
 
 -- all rows hold
 pub replay-examples : T (all (λ (b : Bool). b) examples)
-unfolding examples prints closedWith printsAt marked printsMarked
+unfolding examples prints closedWith printsAt marked printsMarked shows
     flatMap littleEndian numberOf digits decimal isNumeral numberWith readDecimal digit letters heading faultNumber many literal readPatch readPatches ended readSet
     afterFindings rawSetFindings setFindings firstFindings findings checkEach sortUnique lookup empty replaySteps applySteps operationsOf availabilityOf bindingMark availabilityMark entryMark findFirst availabilityKey
     newSession anchorsFit create diagnosticsOf
@@ -118,9 +138,11 @@ unfolding examples prints closedWith printsAt marked printsMarked
     require readable absentTargets knownTargets batchChecks rejectBatch keepSession candidate commit concludeBatch batch
     newTurns setUp refuseRegister startWaiting register after firstAsked firstWaiting nextSender numberAfter spendTurn turnFor turn
     encodeCounted encode allValues otherEdition conversionNumber unread allKinds rewritten convertTo convert
+    walkPatches keysAtStart dependenciesBy dependencies allWords refusalNumber wordsWritten answerBy answerReading dependenciesOf
+    octets encodeScalar isEntry entriesIn entriesOf quadLetter printedValue lineCount textPieces columnOf keyLead laidOut printedLines entryLines collectionLines lineOctets collectionPrint
     fields recordCount projectionLines refusalLine outcomeLines readingLines listing
-    prepend split hexDigit hexByte cons hexPairs readHex hexCharacter bytePair hexField end given readBy atMost numberedEdition byWord stimuli sessionArguments bindingArguments applyArguments batchArguments convertArguments
+    prepend split hexDigit hexByte cons hexPairs readHex hexCharacter bytePair hexField end given readBy atMost numberedEdition byWord stimuli sessionArguments bindingArguments applyArguments batchArguments convertArguments dependsArguments printArguments
     boundArguments keyedArguments values marks markArguments valueArguments commands fieldsCommand isRemark command
-    dispositionField lifecycleField cursorField placeField sessionFields creationLine lifecycleLine batchLine checkedLine checkLines availabilityLine setUpLine registerLine turnLine conversionLine markLine noSessionLine otherLine
+    dispositionField lifecycleField cursorField placeField sessionFields creationLine lifecycleLine batchLine checkedLine checkLines availabilityLine setUpLine registerLine turnLine conversionLine markLine keyLine firstKeys verdictLines dependencyLines printLines noSessionLine otherLine
     noAnchors start keep withSetup withAnchors withNode withBinding withSession withTurns withEdition asked askedTurns created applied batched settled registered turned replayLine replayLines commandsOf replayFrom replay
 replay-examples = tt

@@ -40,6 +40,8 @@ pub data Command : Type 0 where
   markBinding : (node slot : ℕ) → Command
   markNode : (node : ℕ) → Command
   markEntry : (collection key : ℕ) → Command
+  depends : (room : ℕ) → (set : List ℕ) → Command
+  print : (collection room : ℕ) → Command
   other : Command
 
 -- a line has at most 131,072 bytes without its LF
@@ -181,6 +183,28 @@ convertArguments = do
   set ← hex
   end (convert room set)
 
+-- so many numbers can be lent to the call that tells what a set depends on
+abbrev pub placesLent : ℕ
+placesLent = 16384
+
+-- depends ROOM HEX
+unfoldable pub dependsArguments : Arguments
+dependsArguments = do
+  room ← roomUpTo placesLent
+  set ← hex
+  end (depends room set)
+
+-- so many bytes can be lent to a print
+abbrev pub bytesLent : ℕ
+bytesLent = 131072
+
+-- print COLLECTION ROOM
+unfoldable pub printArguments : Arguments
+printArguments = do
+  c ← number
+  room ← roomUpTo bytesLent
+  end (print c room)
+
 -- N SLOT, a binding that is asked for
 unfoldable pub boundArguments : (ℕ → ℕ → Command) → Arguments
 boundArguments asks = do
@@ -237,6 +261,8 @@ commands =
     ∷ (ascii "edition" ⇒ readBy (λ f. numberedEdition (readDecimal f)) (λ ed. end (edition ed)))
     ∷ (ascii "convert" ⇒ convertArguments)
     ∷ (ascii "mark" ⇒ markArguments)
+    ∷ (ascii "depends" ⇒ dependsArguments)
+    ∷ (ascii "print" ⇒ printArguments)
     ∷ []
 
 -- the fields of a line: a known word and its arguments

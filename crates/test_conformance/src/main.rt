@@ -4,9 +4,9 @@ ghost use Prim.Native.Nat.{_-_, _≤_};
 ghost use lib.ListN.{length};
 use bytes_printer::Printed;
 use libc::STDOUT_FILENO;
-use listing_lines::tables::LISTING_BYTES;
 use script_calls::state::ReplayState;
 use script_calls::state::ReplayStep;
+use script_replay::ANSWER_BYTES;
 
 // Every script, and every file of answers, is shorter.
 const SCRIPT_BYTES: usize = 1048576;
@@ -184,7 +184,7 @@ fn run_cases(index: &[u8], script: &mut [u8], answers: &mut [u8], out: &mut [u8]
 
 fn run_index(name: &[u8], script: &mut [u8], answers: &mut [u8]) {
     let mut index = io::large_buffer();
-    let mut out = [0u8; LISTING_BYTES];
+    let mut out = [0u8; ANSWER_BYTES];
     let names = read_file(name, b"", &mut index);
     let len = names.count;
     run_cases(&index[0..len], script, answers, &mut out);

@@ -19,7 +19,7 @@ same-length : tie.Need-same-length
 same-length c = search needs
 
 returns : tie.Need-returns
-returns c = let call = c .before .before .write-tables in ((λ p s. call .ensures .0 p (s .bindings) (s .availabilities) (s .entries) (s .valid)), call .ensures .1)
+returns c = let call = c .before .before .write-tables in ((λ p s. let t = s .tables in call .ensures .0 p (t .bindings) (t .availabilities) (t .entries) (t .valid)), call .ensures .1)
 
 pub write-projection-spec : {M : Type 1} → statement M
 write-projection-spec =

@@ -3,10 +3,13 @@ use mathlib.Core.Path.{refl, sym, subst}
 use borrow.Author.Needs.{needs}
 use Rattle.spec_projection.specs.Apply.{replaySteps, applySteps}
 use Rattle.bytes_records.specs.Moves.{zeros}
-use Rattle.panel_rows.specs.Rows.{bindingBytes, availabilityBytes, entryBytes}
+use Rattle.panel_rows.specs.Rows.{bindingBytes, availabilityBytes, entryBytes, lengthBytes}
+use Rattle.local_projection_state.specs.declared.LocalProjectionState.{LocalProjectionState}
 use Rattle.local_projection_state.specs.declared.ProjectionCounts.{ProjectionCounts}
 use Rattle.panel_changes.specs.SetChanges.{Ready}
 use Rattle.panel_changes.specs.SetChangesLaws.{zeros-ready}
+use Rattle.panel_application.specs.Application.{StepsBecame}
+use Rattle.panel_application.specs.declared.ProjectionOutcome.the-variants.{Applied}
 use Rattle.panel_application.proofs.Steps.{set-applied, set-refused, set-reads, set-fits}
 use Rattle.panel_application.proofs.apply_readable.Statement.{statement}
 use Rattle.panel_application.proofs.apply_readable.Tie as tie
@@ -23,11 +26,17 @@ slice-aggregate-apply-set-2 c = search needs
 slice-aggregate-apply-set-3 : tie.Need-slice-aggregate-apply-set-3
 slice-aggregate-apply-set-3 c = search needs
 
+slice-aggregate-apply-set-4 : tie.Need-slice-aggregate-apply-set-4
+slice-aggregate-apply-set-4 c = search needs
+
 apply-set-requires : tie.Need-apply-set-requires
 apply-set-requires c κs = search needs
 
 enum-known-counts : tie.Need-enum-known-counts
 enum-known-counts c = search needs
+
+state-of-requires : tie.Need-state-of-requires
+state-of-requires c κs = search needs
 
 enum-known-error : tie.Need-enum-known-error
 enum-known-error c = search needs
@@ -39,32 +48,36 @@ enum-told : tie.Need-enum-told
 enum-told c = search needs
 
 -- nothing is used of the new tables
-ready : (c : tie.After-apply-set) → Ready (c .before .before .before .before .before .before .before .before .before .before .before .before .none-used .result) (zeros bindingBytes) (zeros availabilityBytes) (zeros entryBytes)
-ready c = subst (λ (u : ProjectionCounts). Ready u (zeros bindingBytes) (zeros availabilityBytes) (zeros entryBytes)) (sym (c .before .before .before .before .before .before .before .before .before .before .before .before .none-used .ensures)) zeros-ready
+ready : (c : tie.After-apply-set) → Ready (c .before .before .before .before .before .before .before .before .before .before .before .before .before .none-used .result) (zeros bindingBytes) (zeros availabilityBytes) (zeros entryBytes) (zeros lengthBytes)
+ready c = subst (λ (u : ProjectionCounts). Ready u (zeros bindingBytes) (zeros availabilityBytes) (zeros entryBytes) (zeros lengthBytes)) (sym (c .before .before .before .before .before .before .before .before .before .before .before .before .before .none-used .ensures)) zeros-ready
 
 returns : tie.Need-returns
 returns c =
-    let call = c .before .before .before .before .before .before in
-    let tables = call .apply-set .last .1 .1 .1 .1 .1 .1 in
-    ((λ ps p readable s. set-applied (tables .0) (tables .1 .0) (tables .1 .1 .0) (applySteps p (replaySteps ps)) (call .apply-set .ensures .0 p ps s readable (ready call)) _ (c .before .counts .given .1)), tt)
+    let call = c .before .before .before .before .before .before .before .before in
+    let tables = call .apply-set .last .1 .1 .1 .1 .1 .1 in (
+      (λ ps p readable s.
+          subst (λ (next : LocalProjectionState). StepsBecame next Applied (applySteps p (replaySteps ps))) (sym (c .state-of .ensures))
+          (set-applied (tables .0) (tables .1 .0) (tables .1 .1 .0) (tables .1 .1 .1 .0) (applySteps p (replaySteps ps)) (call .apply-set .ensures .0 p ps (s .tables) readable (ready call)) _ (c .before .before .counts .given .1))),
+      tt,
+    )
 
 returns-2 : tie.Need-returns-2
 returns-2 c =
-    let call = c .before .before .before .before .before .before in
+    let call = c .before .before .before .before .before .before .before in
     let tables = call .apply-set .last .1 .1 .1 .1 .1 .1 in
-    ((λ ps p readable s. set-refused (tables .0) (tables .1 .0) (tables .1 .1 .0) (applySteps p (replaySteps ps)) (call .apply-set .ensures .0 p ps s readable (ready call)) _ _ (c .before .error .given .1)), refl)
+    ((λ ps p readable s. set-refused (tables .0) (tables .1 .0) (tables .1 .1 .0) (tables .1 .1 .1 .0) (applySteps p (replaySteps ps)) (call .apply-set .ensures .0 p ps (s .tables) readable (ready call)) _ _ (c .before .error .given .1)), refl)
 
 returns-3 : tie.Need-returns-3
 returns-3 c =
-    let call = c .before .before .before .before .before .before in
+    let call = c .before .before .before .before .before .before .before in
     let tables = call .apply-set .last .1 .1 .1 .1 .1 .1 in
-    ((λ ps p readable s. absurd (set-reads (tables .0) (tables .1 .0) (tables .1 .1 .0) (applySteps p (replaySteps ps)) (call .apply-set .ensures .0 p ps s readable (ready call)) _ (c .before .fault .given .1))), refl)
+    ((λ ps p readable s. absurd (set-reads (tables .0) (tables .1 .0) (tables .1 .1 .0) (tables .1 .1 .1 .0) (applySteps p (replaySteps ps)) (call .apply-set .ensures .0 p ps (s .tables) readable (ready call)) _ (c .before .fault .given .1))), refl)
 
 returns-4 : tie.Need-returns-4
 returns-4 c =
-    let call = c .before .before .before .before .before in
+    let call = c .before .before .before .before .before .before in
     let tables = call .apply-set .last .1 .1 .1 .1 .1 .1 in
-    ((λ ps p readable s. absurd (set-fits (tables .0) (tables .1 .0) (tables .1 .1 .0) (applySteps p (replaySteps ps)) (call .apply-set .ensures .0 p ps s readable (ready call)) (c .enum-told .given .1))), refl)
+    ((λ ps p readable s. absurd (set-fits (tables .0) (tables .1 .0) (tables .1 .1 .0) (tables .1 .1 .1 .0) (applySteps p (replaySteps ps)) (call .apply-set .ensures .0 p ps (s .tables) readable (ready call)) (c .enum-told .given .1))), refl)
 
 pub apply-readable-spec : {M : Type 1} → statement M
 apply-readable-spec =
@@ -74,8 +87,10 @@ apply-readable-spec =
     slice-aggregate-apply-set
     slice-aggregate-apply-set-2
     slice-aggregate-apply-set-3
+    slice-aggregate-apply-set-4
     apply-set-requires
     enum-known-counts
+    state-of-requires
     enum-known-error
     enum-known-fault
     enum-told

@@ -13,6 +13,7 @@ use Rattle.local_projection_state.specs.Stores.{Stored}
 use Rattle.panel_plan.specs.Plan.{resolution}
 use Rattle.panel_plan.specs.SetValues.{valueIn}
 use Rattle.panel_writing.specs.WritingLaws.{can-write}
+use Rattle.panel_lengths.specs.WrittenLaws.{can-write as can-write-lengths}
 use Rattle.panel_changes.specs.SetChanges.{countsFit}
 use Rattle.panel_changes.specs.SetChangesLaws.{fit-few, written-stored}
 use borrow.Author.Needs.{needs}
@@ -31,6 +32,9 @@ write-availabilities-requires c κs = search needs
 write-entries-requires : tie.Need-write-entries-requires
 write-entries-requires c κs = search needs
 
+write-lengths-requires : tie.Need-write-lengths-requires
+write-lengths-requires c κs = search needs
+
 same-length : tie.Need-same-length
 same-length c = search needs
 
@@ -40,35 +44,40 @@ same-length-2 c = search needs
 same-length-3 : tie.Need-same-length-3
 same-length-3 c = search needs
 
+same-length-4 : tie.Need-same-length-4
+same-length-4 c = search needs
+
 picked : (r : Bool) (x y : List ℕ) → r ≡ true → (if r then x else y) ≡ x
 picked r x y e = rw e
 
 returns : tie.Need-returns
 returns c =
-    let bindings = c .before .before .before .before .before .before .before .before .before .before .write-bindings in
-    let availability = c .before .before .before .before .before .before .write-availabilities in
-    let entries = c .before .before .write-entries in
-    let start = c .before .before .before .before .before .before .before .before .before .before .before .before .before .before .before .before .before .before .before .before .before .before .before in
+    let lengths = c .before .before .write-lengths in
+    let entries = c .before .before .before .before .before .before .write-entries in
+    let availability = c .before .before .before .before .before .before .before .before .before .before .write-availabilities in
+    let bindings = c .before .before .before .before .before .before .before .before .before .before .before .before .before .before .write-bindings in
+    let start = c .before .before .before .before .before .before .before .before .before .before .before .before .before .before .before .before .before .before .before .before .before .before .before .before .before .before .before .before in
     let a = start .args in
     let ed = editionOf (a .edition) in
-    let told : true ≡ countsFit (a .counts) = sym (c .before .before .before .before .before .before .before .before .before .before .before .before .if1 .taken) ∙ c .before .before .before .before .before .before .before .before .before .before .before .before .before .counts-fit .ensures in
+    let told : true ≡ countsFit (a .counts) = sym (c .before .before .before .before .before .before .before .before .before .before .before .before .before .before .before .before .if1 .taken) ∙ c .before .before .before .before .before .before .before .before .before .before .before .before .before .before .before .before .before .counts-fit .ensures in
     let few = fit-few (a .counts) (sym told) in
-    let before = fit-few (a .used) (start .pre .1 .1) in (
+    let before = fit-few (a .used) (start .pre .1 .1 .1) in (
       told,
       (
         λ no. absurd (false≢true (sym no)),
         λ _ ready p x n s st pl v.
-            written-stored (a .counts) _ _ _ (resolution p (valueIn ed (a .set .now))) (pl .plan) x (pl .resolves) v
+            written-stored (a .counts) _ _ _ _ (resolution p (valueIn ed (a .set .now))) (pl .plan) x (pl .resolves) v
             (bindings .ensures .1 .1 (bindings .ensures .0 ∙ can-write bindingValueAt projectionBindings (a .counts .bindings) (a .used .bindings) (a .to-bindings .now) (few .0) (before .0) (start .pre .0 .bindings)) (ready .bindings) p (pl .plan) (n .bindings) (st .bindings) (st .valid) (pl .stored .bindings) (pl .stored .valid) (pl .sourced .bindings))
-            (subst (λ l. Stored availabilityRow availabilityWidth projectionAvailabilities (a .counts .availabilities) l (pl .plan .availabilities)) (sym (availability .ensures .1 ∙ picked (availability .result) _ _ (availability .ensures .0 ∙ eq-eqb (length (a .plan-availability .now)) (length (a .to-availability .now)) (start .pre .1 .0 ∙ sym (start .pre .0 .availability))))) (pl .stored .availabilities))
-            (entries .ensures .1 .1 (entries .ensures .0 ∙ can-write entryValueAt projectionEntries (a .counts .entries) (a .used .entries) (a .to-entries .now) (few .1) (before .1) (start .pre .0 .entries)) (ready .entries) p (pl .plan) (n .entries) (st .entries) (st .valid) (pl .stored .entries) (pl .stored .valid) (pl .sourced .entries)),
+            (subst (λ l. Stored availabilityRow availabilityWidth projectionAvailabilities (a .counts .availabilities) l (pl .plan .availabilities)) (sym (availability .ensures .1 ∙ picked (availability .result) _ _ (availability .ensures .0 ∙ eq-eqb (length (a .plan-availability .now)) (length (a .to-availability .now)) (start .pre .1 .1 .0 ∙ sym (start .pre .0 .availability))))) (pl .stored .availabilities))
+            (entries .ensures .1 .1 (entries .ensures .0 ∙ can-write entryValueAt projectionEntries (a .counts .entries) (a .used .entries) (a .to-entries .now) (few .1) (before .1) (start .pre .0 .entries)) (ready .entries) p (pl .plan) (n .entries) (st .entries) (st .valid) (pl .stored .entries) (pl .stored .valid) (pl .sourced .entries))
+            (lengths .ensures .1 .1 (lengths .ensures .0 ∙ can-write-lengths (a .counts .entries) (a .to-lengths .now) (few .1) (start .pre .1 .0)) (pl .plan) (pl .stored .entries) (pl .stored .valid)),
       ),
     )
 
 returns-2 : tie.Need-returns-2
 returns-2 c =
     let told = sym (c .if1 .left) ∙ c .before .counts-fit .ensures in
-    (told, (λ no. (refl, (refl, refl)), λ yes. absurd (false≢true yes)))
+    (told, (λ no. (refl, (refl, (refl, refl))), λ yes. absurd (false≢true yes)))
 
 pub write-tables-spec : {M : Type 1} → statement M
 write-tables-spec =
@@ -78,8 +87,10 @@ write-tables-spec =
     write-bindings-requires
     write-availabilities-requires
     write-entries-requires
+    write-lengths-requires
     same-length
     same-length-2
     same-length-3
+    same-length-4
     returns
     returns-2)

@@ -2,16 +2,16 @@
 use mathlib.Core.Path.{_≡_}
 use lib.ListN.{length}
 use borrow.Author.Needs.{needs}
-use Rattle.panel_rows.specs.Rows.{bindingBytes, availabilityBytes, entryBytes}
+use Rattle.panel_rows.specs.Rows.{bindingBytes, availabilityBytes, entryBytes, lengthBytes}
 use Rattle.bench.proofs.projections.replay_often.Statement.{statement}
 use Rattle.bench.proofs.projections.replay_often.Tie as tie
 
 abbrev Inv-loop : tie.InvT-loop
-Inv-loop fill set times state used bindings₀ availability₀ entries₀ sum₀ left₀ bindings availability entries sum left =
-    (length bindings ≡ bindingBytes) × (length availability ≡ availabilityBytes) × (length entries ≡ entryBytes)
+Inv-loop fill set times state used bindings₀ availability₀ entries₀ lengths₀ sum₀ left₀ bindings availability entries lengths sum left =
+    (length bindings ≡ bindingBytes) × (length availability ≡ availabilityBytes) × (length entries ≡ entryBytes) × (length lengths ≡ lengthBytes)
 
 abbrev μ-loop : tie.MeasureT-loop
-μ-loop fill set times state used bindings₀ availability₀ entries₀ sum₀ left₀ bindings availability entries sum left =
+μ-loop fill set times state used bindings₀ availability₀ entries₀ lengths₀ sum₀ left₀ bindings availability entries lengths sum left =
     left
 
 filled-requires : tie.Need-filled-requires Inv-loop μ-loop
@@ -28,6 +28,9 @@ slice-aggregate-apply-set-2 c = search needs
 
 slice-aggregate-apply-set-3 : tie.Need-slice-aggregate-apply-set-3 Inv-loop μ-loop
 slice-aggregate-apply-set-3 c = search needs
+
+slice-aggregate-apply-set-4 : tie.Need-slice-aggregate-apply-set-4 Inv-loop μ-loop
+slice-aggregate-apply-set-4 c = search needs
 
 apply-set-requires : tie.Need-apply-set-requires Inv-loop μ-loop
 apply-set-requires c κs = search needs
@@ -61,6 +64,7 @@ replay-often-spec =
     slice-aggregate-apply-set
     slice-aggregate-apply-set-2
     slice-aggregate-apply-set-3
+    slice-aggregate-apply-set-4
     apply-set-requires
     enum-known-change
     mix-requires

@@ -19,7 +19,7 @@ same-length : tie.Need-same-length
 same-length c = search needs
 
 returns : tie.Need-returns
-returns c = λ p s. c .before .before .print-tables .ensures p (s .bindings) (s .availabilities) (s .entries) (s .valid)
+returns c = λ p s. let t = s .tables in c .before .before .print-tables .ensures p (t .bindings) (t .availabilities) (t .entries) (t .valid)
 
 pub print-projection-spec : {M : Type 1} → statement M
 print-projection-spec =

@@ -36,6 +36,9 @@ binding-requires c κs = search needs
 edition-requires : tie.Need-edition-requires
 edition-requires c κs = search needs
 
+paper-requires : tie.Need-paper-requires
+paper-requires c κs = search needs
+
 returns : tie.Need-returns
 unfolding formAt
 returns c = λ line. by-form (c .before) 16 (c .match .keys1)
@@ -78,7 +81,11 @@ returns-10 c = λ line. c .edition .ensures line ∙ by-form (c .before .before)
 
 returns-11 : tie.Need-returns-11
 unfolding formAt
-returns-11 c =
+returns-11 c = λ line. c .paper .ensures line ∙ by-form (c .before .before) 34 (c .before .match .keys11)
+
+returns-12 : tie.Need-returns-12
+unfolding formAt
+returns-12 c =
     let form = c .before .args .form in
     let none = c .match .rest in
     λ line. rw (
@@ -97,6 +104,8 @@ returns-11 c =
       ne-eqb form 29 (search none),
       ne-eqb form 30 (search none),
       ne-eqb form 31 (no-set c 31 refl),
+      ne-eqb form 33 (no-set c 33 refl),
+      ne-eqb form 34 (search none),
     )
 
 pub first-command-spec : {M : Type 1} → statement M
@@ -110,6 +119,7 @@ first-command-spec =
     array-read-t20
     binding-requires
     edition-requires
+    paper-requires
     returns
     returns-2
     returns-3
@@ -120,4 +130,5 @@ first-command-spec =
     returns-8
     returns-9
     returns-10
-    returns-11)
+    returns-11
+    returns-12)

@@ -32,6 +32,9 @@ array-read-t21 c = search needs
 conversion-requires : tie.Need-conversion-requires
 conversion-requires c κs = search needs
 
+dependencies-requires : tie.Need-dependencies-requires
+dependencies-requires c κs = search needs
+
 returns : tie.Need-returns
 unfolding formAt
 returns c = λ line. by-form (c .before) line 22 (c .match .keys1)
@@ -50,10 +53,14 @@ returns-4 c = λ line. c .conversion .ensures line ∙ by-form (c .before .befor
 
 returns-5 : tie.Need-returns-5
 unfolding formAt
-returns-5 c =
+returns-5 c = λ line. c .dependencies .ensures line ∙ by-form (c .before .before) line 33 (c .before .match .keys5)
+
+returns-6 : tie.Need-returns-6
+unfolding formAt
+returns-6 c =
     let form = c .before .args .form in
     let none = c .match .rest in
-    let listed = rw (ne-eqb form 22 (search none), ne-eqb form 23 (search none), ne-eqb form 24 (search none), ne-eqb form 31 (search none)) at (sets-listed form (c .before .pre .0)) in
+    let listed = rw (ne-eqb form 22 (search none), ne-eqb form 23 (search none), ne-eqb form 24 (search none), ne-eqb form 31 (search none), ne-eqb form 33 (search none)) at (sets-listed form (c .before .pre .0)) in
     absurd (false≢true (listed ∙ c .before .pre .1))
 
 pub set-command-spec : {M : Type 1} → statement M
@@ -66,8 +73,10 @@ set-command-spec =
     array-read-t18
     array-read-t21
     conversion-requires
+    dependencies-requires
     returns
     returns-2
     returns-3
     returns-4
-    returns-5)
+    returns-5
+    returns-6)

@@ -85,6 +85,12 @@ enum-known-wanted-10 c = search needs
 in-edition-requires : tie.Need-in-edition-requires
 in-edition-requires c κs = search needs
 
+enum-known-wanted-11 : tie.Need-enum-known-wanted-11
+enum-known-wanted-11 c = search needs
+
+print-collection-requires : tie.Need-print-collection-requires
+print-collection-requires c κs = search needs
+
 same-length : tie.Need-same-length
 same-length c = search needs
 
@@ -174,6 +180,16 @@ returns-13 c =
     let told = c .before .before in
     λ m h n. line-step n m _ _ (ap callOf (sym (told .wanted10 .given .1))) (c .in-edition .ensures m h n (told .before .before .before .args .out .now))
 
+same-length-13 : tie.Need-same-length-13
+same-length-13 c = search needs
+
+returns-14 : tie.Need-returns-14
+unfolding replayLine
+returns-14 c =
+    let called = c .before .before in
+    let told = called .before .before .before in
+    λ m h n. line-step n m _ _ (ap callOf (sym (told .wanted11 .given .1))) (called .print-collection .ensures m h)
+
 pub call-spec : {M : Type 1} → statement M
 call-spec =
     tie.close
@@ -204,6 +220,8 @@ call-spec =
     turn-requires
     enum-known-wanted-10
     in-edition-requires
+    enum-known-wanted-11
+    print-collection-requires
     same-length
     returns
     same-length-2
@@ -228,4 +246,6 @@ call-spec =
     returns-11
     same-length-12
     returns-12
-    returns-13)
+    returns-13
+    same-length-13
+    returns-14)

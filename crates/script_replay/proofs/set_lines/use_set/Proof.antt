@@ -3,8 +3,10 @@ use mathlib.Core.Path.{sym, ap}
 use Rattle.spec_patch.specs.Edition.{Edition}
 use Rattle.spec_patch.specs.Read.{readSet}
 use Rattle.spec_conversion.specs.Conversion.{convert}
+use lib.ListN.{replicate}
+use Rattle.spec_dependencies.specs.Answer.{dependenciesOf}
 use Rattle.spec_listing.specs.Listing.{listing}
-use Rattle.spec_replay.specs.Answers.{checkLines, conversionLine}
+use Rattle.spec_replay.specs.Answers.{checkLines, conversionLine, dependencyLines}
 use Rattle.spec_replay.specs.Replay.{replayLine}
 use Rattle.bytes_printer.specs.PrintsLaws.{same-bytes}
 use Rattle.script_parser.specs.Meaning.{withSetOf}
@@ -46,6 +48,15 @@ convert-into-requires c κs = search needs
 
 answered-requires-3 : tie.Need-answered-requires-3
 answered-requires-3 c κs = search needs
+
+enum-known-wanted-3 : tie.Need-enum-known-wanted-3
+enum-known-wanted-3 c = search needs
+
+depends-into-requires : tie.Need-depends-into-requires
+depends-into-requires c κs = search needs
+
+answered-requires-4 : tie.Need-answered-requires-4
+answered-requires-4 c κs = search needs
 
 same-length : tie.Need-same-length
 same-length c = search needs
@@ -93,6 +104,18 @@ returns-4 c =
     λ m h n. line-step n m _ _ (ap (λ (w : SetLine). withSetOf w set) (sym (told .wanted2 .given .1)))
     (c .answered3 .ensures m h _ _ _ (same-bytes (ap (λ (ed : Edition). conversionLine (convert ed set (told .wanted2 .given .0 .0))) (h .edition-is)) (converted .convert-into .ensures)))
 
+same-length-5 : tie.Need-same-length-5
+same-length-5 c = search needs
+
+returns-5 : tie.Need-returns-5
+unfolding replayLine
+returns-5 c =
+    let depended = c .before .before .before in
+    let told = depended .before .before .before in
+    let set = told .before .before .before .before .args .set .now in
+    λ m h n. line-step n m _ _ (ap (λ (w : SetLine). withSetOf w set) (sym (told .wanted3 .given .1)))
+    (c .answered4 .ensures m h _ _ _ (same-bytes (ap (λ (ed : Edition). dependencyLines (dependenciesOf ed set (replicate (told .wanted3 .given .0 .0) 0))) (h .edition-is)) (depended .depends-into .ensures)))
+
 pub use-set-spec : {M : Type 1} → statement M
 use-set-spec =
     tie.close
@@ -108,6 +131,9 @@ use-set-spec =
     enum-known-wanted-2
     convert-into-requires
     answered-requires-3
+    enum-known-wanted-3
+    depends-into-requires
+    answered-requires-4
     same-length
     returns
     same-length-2
@@ -115,4 +141,6 @@ use-set-spec =
     same-length-3
     returns-3
     same-length-4
-    returns-4)
+    returns-4
+    same-length-5
+    returns-5)

@@ -39,15 +39,16 @@ rejected-requires c κs = search needs
 
 returns : tie.Need-returns
 unfolding gateOf counted
-returns c = let a = c .before .before .before .before .before .before .before .before .before .before .before .before .before .before .before .before .before .before .before .before .args in
+returns c =
+    let a = c .before .before .before .before .before .before .before .before .before .before .before .before .before .before .before .before .before .before .before .before .before .args in
     let limits = c .before .before .before .before .before .before .before .limits-in in
     let state = c .before .before .before .before .before .before .state-in in
     let checked = c .before .before .before .before .check-batch .ensures in
     let gate = ap gateOf (sym (c .before .before .gate .given .1)) in
     let answer = c .rejected .ensures in
     record {
-      became = λ m h room. batch-rejects (a .head .now) (a .nodes .now) (a .pairs .now) (a .collections .now) (a .bindings .now) (a .availability .now) (a .entries .now) (limits .result) (state .result) (limits .ensures) (state .ensures) m h _ _ _ _ _ _ _ _ _ _ _ (gate ∙ checked .0 m (seen (a .head .now) (a .nodes .now) (a .pairs .now) (a .collections .now) (a .bindings .now) (a .availability .now) (a .entries .now) (limits .result) (state .result) (limits .ensures) (state .ensures) m h)) answer;
-      kept = λ n. (refl, (refl, (refl, refl)));
+      became = λ m l h room. batch-rejects (a .head .now) (a .nodes .now) (a .pairs .now) (a .collections .now) (a .bindings .now) (a .availability .now) (a .entries .now) (limits .result) (state .result) (limits .ensures) (state .ensures) m l h _ _ _ _ _ _ _ _ _ _ _ _ (gate ∙ checked .0 m (seen (a .head .now) (a .nodes .now) (a .pairs .now) (a .collections .now) (a .bindings .now) (a .availability .now) (a .entries .now) (limits .result) (state .result) (limits .ensures) (state .ensures) m l h)) answer;
+      kept = λ n. (refl, (refl, (refl, (refl, refl))));
       row = row-told (a .head .now) (a .nodes .now) (a .pairs .now) (a .collections .now) (a .bindings .now) (a .availability .now) (a .entries .now) (limits .result) (state .result) (limits .ensures) (state .ensures) _ _ (rejectedRow _ _ (ap counted gate ∙ checked .1 .0) answer);
       preflight = preflight-told (a .head .now) (a .nodes .now) (a .pairs .now) (a .collections .now) (a .bindings .now) (a .availability .now) (a .entries .now) (limits .result) (state .result) (limits .ensures) (state .ensures) _ _ (λ f n h. answer ∙ same-rejection _ _ (gate ∙ checked .1 .1 f n h));
     }
@@ -63,7 +64,8 @@ unchanged-requires c κs = search needs
 
 returns-2 : tie.Need-returns-2
 unfolding gateOf
-returns-2 c = let a = c .before .before .before .before .before .before .before .before .before .before .before .before .before .before .before .before .before .before .before .before .before .args in
+returns-2 c =
+    let a = c .before .before .before .before .before .before .before .before .before .before .before .before .before .before .before .before .before .before .before .before .before .before .args in
     let limits = c .before .before .before .before .before .before .before .before .limits-in in
     let state = c .before .before .before .before .before .before .before .state-in in
     let checked = c .before .before .before .before .before .check-batch .ensures in
@@ -71,14 +73,14 @@ returns-2 c = let a = c .before .before .before .before .before .before .before 
     let answer = c .unchanged .ensures in
     let none = eqb-true _ 0 (sym (c .before .before .is-empty .ensures) ∙ c .before .if1 .taken) in
     record {
-      became = λ m h room. batch-commits (a .head .now) (a .nodes .now) (a .pairs .now) (a .collections .now) (a .bindings .now) (a .availability .now) (a .entries .now) (limits .result) (state .result) (limits .ensures) (state .ensures) m h _ _ _ _ _ _ _ _ _ (gate ∙ checked .0 m (seen (a .head .now) (a .nodes .now) (a .pairs .now) (a .collections .now) (a .bindings .now) (a .availability .now) (a .entries .now) (limits .result) (state .result) (limits .ensures) (state .ensures) m h)) (λ ps reads count. commits-none (a .head .now) (a .nodes .now) (a .pairs .now) (a .collections .now) (a .bindings .now) (a .availability .now) (a .entries .now) (limits .result) (state .result) (limits .ensures) (state .ensures) m h _ _ _ _ _ _ ps answer none count);
-      kept = λ n. (refl, (refl, (refl, refl)));
+      became = λ m l h room. batch-commits (a .head .now) (a .nodes .now) (a .pairs .now) (a .collections .now) (a .bindings .now) (a .availability .now) (a .entries .now) (limits .result) (state .result) (limits .ensures) (state .ensures) m l h _ _ _ _ _ _ _ _ _ _ (gate ∙ checked .0 m (seen (a .head .now) (a .nodes .now) (a .pairs .now) (a .collections .now) (a .bindings .now) (a .availability .now) (a .entries .now) (limits .result) (state .result) (limits .ensures) (state .ensures) m l h)) (λ ps reads count. commits-none (a .head .now) (a .nodes .now) (a .pairs .now) (a .collections .now) (a .bindings .now) (a .availability .now) (a .entries .now) (limits .result) (state .result) (limits .ensures) (state .ensures) m l h _ _ _ _ _ _ _ ps answer none count);
+      kept = λ n. (refl, (refl, (refl, (refl, refl))));
       row = row-told (a .head .now) (a .nodes .now) (a .pairs .now) (a .collections .now) (a .bindings .now) (a .availability .now) (a .entries .now) (limits .result) (state .result) (limits .ensures) (state .ensures) _ _ (unchangedRow answer);
       preflight = preflight-told (a .head .now) (a .nodes .now) (a .pairs .now) (a .collections .now) (a .bindings .now) (a .availability .now) (a .entries .now) (limits .result) (state .result) (limits .ensures) (state .ensures) _ _ (λ f n h. never-passes (sym (gate ∙ checked .1 .1 f n h)));
     }
 
 commit-requires : tie.Need-commit-requires
-commit-requires c κs = search needs
+commit-requires c κs = c .before .before .before .before .before .before .before .before .before .before .before .before .before .before .before .before .before .before .before .before .before .before .before .before .before .before .pre
 
 concluded-requires : tie.Need-concluded-requires
 concluded-requires c κs = search needs
@@ -95,19 +97,23 @@ same-length-3 c = search needs
 same-length-4 : tie.Need-same-length-4
 same-length-4 c = search needs
 
+same-length-5 : tie.Need-same-length-5
+same-length-5 c = search needs
+
 returns-3 : tie.Need-returns-3
 unfolding gateOf candidate
-returns-3 c = let a = c .before .before .before .before .before .before .before .before .before .before .before .before .before .before .before .before .before .before .before .before .before .before .before .before .before .before .before .before .before .before .before .before .before .before .args in
-    let limits = c .before .before .before .before .before .before .before .before .before .before .before .before .before .before .before .before .before .before .before .before .before .limits-in in
-    let state = c .before .before .before .before .before .before .before .before .before .before .before .before .before .before .before .before .before .before .before .before .state-in in
-    let checked = c .before .before .before .before .before .before .before .before .before .before .before .before .before .before .before .before .before .before .check-batch .ensures in
-    let gate = ap gateOf (sym (c .before .before .before .before .before .before .before .before .before .before .before .before .before .before .before .before .enum-told .given .1)) in
-    let call = c .before .before .before .before .before .before .before .before .before .commit in
+returns-3 c =
+    let a = c .before .before .before .before .before .before .before .before .before .before .before .before .before .before .before .before .before .before .before .before .before .before .before .before .before .before .before .before .before .before .before .before .before .before .before .before .before .before .args in
+    let limits = c .before .before .before .before .before .before .before .before .before .before .before .before .before .before .before .before .before .before .before .before .before .before .before .before .limits-in in
+    let state = c .before .before .before .before .before .before .before .before .before .before .before .before .before .before .before .before .before .before .before .before .before .before .before .state-in in
+    let checked = c .before .before .before .before .before .before .before .before .before .before .before .before .before .before .before .before .before .before .before .before .before .check-batch .ensures in
+    let gate = ap gateOf (sym (c .before .before .before .before .before .before .before .before .before .before .before .before .before .before .before .before .before .before .before .enum-told .given .1)) in
+    let call = c .before .before .before .before .before .before .before .before .before .before .before .commit in
     let answer = c .concluded .ensures in
-    let some : (a .envelope .«patch_count» ≡ 0 → ⊥) = λ none. false≢true (sym (sym (c .before .before .before .before .before .before .before .before .before .before .before .before .before .before .before .is-empty .ensures) ∙ c .before .before .before .before .before .before .before .before .before .before .before .before .before .before .if1 .left) ∙ eq-eqb _ 0 none) in
+    let some : (a .envelope .«patch_count» ≡ 0 → ⊥) = λ none. false≢true (sym (sym (c .before .before .before .before .before .before .before .before .before .before .before .before .before .before .before .before .before .before .is-empty .ensures) ∙ c .before .before .before .before .before .before .before .before .before .before .before .before .before .before .before .before .before .if1 .left) ∙ eq-eqb _ 0 none) in
     record {
-      became = λ m h room. batch-commits (a .head .now) (a .nodes .now) (a .pairs .now) (a .collections .now) (a .bindings .now) (a .availability .now) (a .entries .now) (limits .result) (state .result) (limits .ensures) (state .ensures) m h _ _ _ _ _ _ _ _ _ (gate ∙ checked .0 m (seen (a .head .now) (a .nodes .now) (a .pairs .now) (a .collections .now) (a .bindings .now) (a .availability .now) (a .entries .now) (limits .result) (state .result) (limits .ensures) (state .ensures) m h)) (λ ps reads count. commits (a .head .now) (a .nodes .now) (a .pairs .now) (a .collections .now) (a .bindings .now) (a .availability .now) (a .entries .now) (limits .result) (state .result) (limits .ensures) (state .ensures) m h _ _ _ _ _ _ ps (call .result) some (call .ensures .0 (m .projection) ps (held-tables m h) reads room) answer);
-      kept = kept-change (call .result) _ _ _ _ _ _ _ _ _ _ _ (c .concluded .result) (call .ensures .1) answer;
+      became = λ m l h room. batch-commits (a .head .now) (a .nodes .now) (a .pairs .now) (a .collections .now) (a .bindings .now) (a .availability .now) (a .entries .now) (limits .result) (state .result) (limits .ensures) (state .ensures) m l h _ _ _ _ _ _ _ _ _ _ (gate ∙ checked .0 m (seen (a .head .now) (a .nodes .now) (a .pairs .now) (a .collections .now) (a .bindings .now) (a .availability .now) (a .entries .now) (limits .result) (state .result) (limits .ensures) (state .ensures) m l h)) (λ ps reads count. commits (a .head .now) (a .nodes .now) (a .pairs .now) (a .collections .now) (a .bindings .now) (a .availability .now) (a .entries .now) (limits .result) (state .result) (limits .ensures) (state .ensures) m l h _ _ _ _ _ _ _ ps (call .result) some (call .ensures .0 (m .projection) ps (held-tables m h) reads room) answer);
+      kept = kept-change (call .result) _ _ _ _ _ _ _ _ _ _ _ _ _ (c .concluded .result) (call .ensures .1) answer;
       row = row-told (a .head .now) (a .nodes .now) (a .pairs .now) (a .collections .now) (a .bindings .now) (a .availability .now) (a .entries .now) (limits .result) (state .result) (limits .ensures) (state .ensures) _ _ (change-row _ _ _ _ (call .result) answer);
       preflight = preflight-told (a .head .now) (a .nodes .now) (a .pairs .now) (a .collections .now) (a .bindings .now) (a .availability .now) (a .entries .now) (limits .result) (state .result) (limits .ensures) (state .ensures) _ _ (λ f n h. never-passes (sym (gate ∙ checked .1 .1 f n h)));
     }
@@ -132,4 +138,5 @@ apply-shaped-spec =
     same-length-2
     same-length-3
     same-length-4
+    same-length-5
     returns-3)

@@ -12,7 +12,7 @@ use Rattle.session_lent.specs.Head.{movedHead}
 use Rattle.local_projection_state.specs.Stores.{StoredTables}
 use Rattle.local_projection_state.specs.declared.ProjectionCounts.{ProjectionCounts}
 use Rattle.panel_changes.proofs.SetChange as set-change
-use Rattle.panel_changes.specs.SetChanges.{Ready}
+use Rattle.panel_changes.specs.SetChanges.{Ready, StoredAfter}
 use Rattle.panel_changes.specs.declared.SetChange.{SetChange}
 use Rattle.panel_changes.specs.declared.SetChange.the-variants.{Applied, Refused, Unreadable, BadTables}
 use Rattle.session_steps.specs.Answers.{Stopped}
@@ -38,8 +38,8 @@ other BadTables k = tt
 stored : {b a e : List ℕ} {p : Projection} {k : ProjectionCounts} (n : ProjectionCounts) → n ≡ k → StoredTables k b a e p → StoredTables n b a e p
 stored {b = b} {a = a} {e = e} {p = p} n is = subst (λ (x : ProjectionCounts). StoredTables x b a e p) (sym is)
 
-ready : {b a e : List ℕ} {k : ProjectionCounts} (n : ProjectionCounts) → n ≡ k → Ready k b a e → Ready n b a e
-ready {b = b} {a = a} {e = e} n is = subst (λ (x : ProjectionCounts). Ready x b a e) (sym is)
+ready : {b a e l : List ℕ} {k : ProjectionCounts} (n : ProjectionCounts) → n ≡ k → Ready k b a e l → Ready n b a e l
+ready {b = b} {a = a} {e = e} {l = l} n is = subst (λ (x : ProjectionCounts). Ready x b a e l) (sym is)
 
 counts-in-requires : tie.Need-counts-in-requires
 counts-in-requires c κs = search needs
@@ -65,25 +65,26 @@ same-length-3 c = search needs
 same-length-4 : tie.Need-same-length-4
 same-length-4 c = search needs
 
+same-length-5 : tie.Need-same-length-5
+same-length-5 c = search needs
+
 returns : tie.Need-returns
 returns c =
-    let a = c .before .before .before .before .before .before .before .before .before .before .before .before .before .before .before .before .before .before .before .before .before .before .before .args in
-    let call = c .before .before .before .before .before .before .before .apply-set in
+    let a = c .before .before .before .before .before .before .before .before .before .before .before .before .before .before .before .before .before .before .before .before .before .before .before .before .before .before .before .args in
+    let call = c .before .before .before .before .before .before .before .before .before .apply-set in
     let b = call .last .1 .1 .1 .1 .1 .1 .0 in
     let v = call .last .1 .1 .1 .1 .1 .1 .1 .0 in
     let e = call .last .1 .1 .1 .1 .1 .1 .1 .1 .0 in
+    let l = call .last .1 .1 .1 .1 .1 .1 .1 .1 .1 .0 in
     let stop = other (call .result) (c .match .keys2) in (
       λ p ps st reads room.
-          stopped-became (λ n q. StoredTables n b v e q) (λ n q. (a .to-head .now ≡ movedHead (a .head .now) (a .sequence-no) n) × StoredTables n b v e q) (call .result) (applySteps p (replaySteps ps)) stop
-          (call .ensures .0 p ps (stored _ (c .before .before .before .before .before .before .before .before .before .before .before .before .before .counts-in .ensures) st) reads (ready _ (c .before .before .before .before .before .before .before .before .before .before .before .counts-in2 .ensures) (room .tables))),
-      stopped-kept (call .result) (a .to-head .now) (a .to-bindings .now) (a .to-availability .now) (a .to-entries .now) b v e stop (call .ensures .1),
+          stopped-became (λ n q. StoredAfter n b v e l q) (λ n q. (a .to-head .now ≡ movedHead (a .head .now) (a .sequence-no) n) × StoredAfter n b v e l q) (call .result) (applySteps p (replaySteps ps)) stop
+          (call .ensures .0 p ps (stored _ (c .before .before .before .before .before .before .before .before .before .before .before .before .before .before .before .before .counts-in .ensures) st) reads (ready _ (c .before .before .before .before .before .before .before .before .before .before .before .before .before .before .counts-in2 .ensures) (room .tables))),
+      stopped-kept (call .result) (a .to-head .now) (a .to-bindings .now) (a .to-availability .now) (a .to-entries .now) (a .to-lengths .now) b v e l stop (call .ensures .1),
     )
 
 store-moved-requires : tie.Need-store-moved-requires
-store-moved-requires c κs = search needs
-
-same-length-5 : tie.Need-same-length-5
-same-length-5 c = search needs
+store-moved-requires c κs = c .before .before .before .before .before .before .before .before .before .before .before .before .before .before .before .before .before .before .before .before .before .before .before .before .before .before .before .before .before .before .pre
 
 same-length-6 : tie.Need-same-length-6
 same-length-6 c = search needs
@@ -94,18 +95,25 @@ same-length-7 c = search needs
 same-length-8 : tie.Need-same-length-8
 same-length-8 c = search needs
 
+same-length-9 : tie.Need-same-length-9
+same-length-9 c = search needs
+
+same-length-10 : tie.Need-same-length-10
+same-length-10 c = search needs
+
 returns-2 : tie.Need-returns-2
 returns-2 c =
-    let a = c .before .before .before .before .before .before .before .before .before .before .before .before .before .before .before .before .before .before .before .before .before .before .before .before .before .before .before .before .before .args in
-    let call = c .before .before .before .before .before .before .before .before .before .before .before .before .before .apply-set in
+    let a = c .before .before .before .before .before .before .before .before .before .before .before .before .before .before .before .before .before .before .before .before .before .before .before .before .before .before .before .before .before .before .before .before .before .args in
+    let call = c .before .before .before .before .before .before .before .before .before .before .before .before .before .before .before .apply-set in
     let b = call .last .1 .1 .1 .1 .1 .1 .0 in
     let v = call .last .1 .1 .1 .1 .1 .1 .1 .0 in
     let e = call .last .1 .1 .1 .1 .1 .1 .1 .1 .0 in
+    let l = call .last .1 .1 .1 .1 .1 .1 .1 .1 .1 .0 in
     let h = c .before .before .store-moved .last .1 .1 .1 .0 in
     let bound = c .before .before .before .before .before .change .given in (
       λ p ps st reads room.
-          applied-became (λ n q. StoredTables n b v e q) (λ n. h ≡ movedHead (a .head .now) (a .sequence-no) n) (call .result) (bound .0 .0) (applySteps p (replaySteps ps)) (bound .1) (c .before .before .store-moved .ensures)
-          (call .ensures .0 p ps (stored _ (c .before .before .before .before .before .before .before .before .before .before .before .before .before .before .before .before .before .before .before .counts-in .ensures) st) reads (ready _ (c .before .before .before .before .before .before .before .before .before .before .before .before .before .before .before .before .before .counts-in2 .ensures) (room .tables))),
+          applied-became (λ n q. StoredAfter n b v e l q) (λ n. h ≡ movedHead (a .head .now) (a .sequence-no) n) (call .result) (bound .0 .0) (applySteps p (replaySteps ps)) (bound .1) (c .before .before .store-moved .ensures)
+          (call .ensures .0 p ps (stored _ (c .before .before .before .before .before .before .before .before .before .before .before .before .before .before .before .before .before .before .before .before .before .before .counts-in .ensures) st) reads (ready _ (c .before .before .before .before .before .before .before .before .before .before .before .before .before .before .before .before .before .before .before .before .counts-in2 .ensures) (room .tables))),
       tt,
     )
 
@@ -121,10 +129,12 @@ commit-spec =
     same-length-2
     same-length-3
     same-length-4
+    same-length-5
     returns
     store-moved-requires
-    same-length-5
     same-length-6
     same-length-7
     same-length-8
+    same-length-9
+    same-length-10
     returns-2)

@@ -21,7 +21,7 @@ anchors-shaped-requires : tie.Need-anchors-shaped-requires
 anchors-shaped-requires c κs = search needs
 
 store-new-requires : tie.Need-store-new-requires
-store-new-requires c κs = room-head _ _ _ _ _ (sym (c .before .before .before .before .room-shaped .ensures) ∙ c .before .before .before .if1 .taken)
+store-new-requires c κs = room-head _ _ _ _ _ _ (sym (c .before .before .before .before .room-shaped .ensures) ∙ c .before .before .before .if1 .taken)
 
 clear-requires : tie.Need-clear-requires
 clear-requires c κs = search needs
@@ -31,6 +31,9 @@ clear-requires-2 c κs = search needs
 
 clear-requires-3 : tie.Need-clear-requires-3
 clear-requires-3 c κs = search needs
+
+clear-requires-4 : tie.Need-clear-requires-4
+clear-requires-4 c κs = search needs
 
 same-length : tie.Need-same-length
 same-length c = search needs
@@ -44,29 +47,33 @@ same-length-3 c = search needs
 same-length-4 : tie.Need-same-length-4
 same-length-4 c = search needs
 
+same-length-5 : tie.Need-same-length-5
+same-length-5 c = search needs
+
 returns : tie.Need-returns
 returns c =
-    let room = sym (c .before .before .before .before .before .before .before .before .before .before .before .before .before .before .before .before .before .before .before .room-shaped .ensures) ∙ c .before .before .before .before .before .before .before .before .before .before .before .before .before .before .before .before .before .before .if1 .taken in
-    let fits = sym (c .before .before .before .before .before .before .before .before .before .before .before .before .before .before .before .before .before .anchors-shaped .ensures) ∙ c .before .before .before .before .before .before .before .before .before .before .before .before .before .before .before .before .if2 .taken in
+    let room = sym (c .before .before .before .before .before .before .before .before .before .before .before .before .before .before .before .before .before .before .before .before .before .before .before .room-shaped .ensures) ∙ c .before .before .before .before .before .before .before .before .before .before .before .before .before .before .before .before .before .before .before .before .before .before .if1 .taken in
+    let fits = sym (c .before .before .before .before .before .before .before .before .before .before .before .before .before .before .before .before .before .before .before .before .before .anchors-shaped .ensures) ∙ c .before .before .before .before .before .before .before .before .before .before .before .before .before .before .before .before .before .before .before .before .if2 .taken in
     record {
       told = sym (ap₂ creationAnswer room fits);
-      head-left = c .before .before .before .before .before .before .before .before .before .before .before .before .before .before .store-new .ensures;
-      bindings-left = c .before .before .before .before .before .before .before .before .before .before .clear .ensures;
-      availability-left = c .before .before .before .before .before .before .clear2 .ensures;
-      entries-left = c .before .before .clear3 .ensures;
+      head-left = c .before .before .before .before .before .before .before .before .before .before .before .before .before .before .before .before .before .before .store-new .ensures;
+      bindings-left = c .before .before .before .before .before .before .before .before .before .before .before .before .before .before .clear .ensures;
+      availability-left = c .before .before .before .before .before .before .before .before .before .before .clear2 .ensures;
+      entries-left = c .before .before .before .before .before .before .clear3 .ensures;
+      lengths-left = c .before .before .clear4 .ensures;
     }
 
 returns-2 : tie.Need-returns-2
 returns-2 c =
     let room = sym (c .before .before .before .room-shaped .ensures) ∙ c .before .before .if1 .taken in
     let over = sym (c .before .anchors-shaped .ensures) ∙ c .if2 .left in
-    record { told = sym (ap₂ creationAnswer room over); head-left = refl; bindings-left = refl; availability-left = refl; entries-left = refl }
+    record { told = sym (ap₂ creationAnswer room over); head-left = refl; bindings-left = refl; availability-left = refl; entries-left = refl; lengths-left = refl }
 
 returns-3 : tie.Need-returns-3
 returns-3 c =
-    let a = c .before .before .before .before .before .before .before .before .before .args in
+    let a = c .before .before .before .before .before .before .before .before .before .before .args in
     let none = sym (c .before .room-shaped .ensures) ∙ c .if1 .left in
-    record { told = sym (ap (λ k. creationAnswer k (anchorsShaped (length (a .nodes .now)) (length (a .pairs .now)) (length (a .collections .now)))) none); head-left = refl; bindings-left = refl; availability-left = refl; entries-left = refl }
+    record { told = sym (ap (λ k. creationAnswer k (anchorsShaped (length (a .nodes .now)) (length (a .pairs .now)) (length (a .collections .now)))) none); head-left = refl; bindings-left = refl; availability-left = refl; entries-left = refl; lengths-left = refl }
 
 pub create-session-spec : {M : Type 1} → statement M
 create-session-spec =
@@ -78,10 +85,12 @@ create-session-spec =
     clear-requires
     clear-requires-2
     clear-requires-3
+    clear-requires-4
     same-length
     same-length-2
     same-length-3
     same-length-4
+    same-length-5
     returns
     returns-2
     returns-3)

@@ -21,7 +21,7 @@ same-length c = search needs
 returns : tie.Need-returns
 returns c =
     let page = c .before .before .collection-page in
-    (page .ensures .0, ((λ m h. page .ensures .1 .0 (m .projection) (h .projection .entries) (h .projection .valid)), page .ensures .1 .1))
+    (page .ensures .0, ((λ m h. page .ensures .1 .0 (m .projection) (h .projection .tables .entries) (h .projection .tables .valid)), page .ensures .1 .1))
 
 pub collection-page-spec : {M : Type 1} → statement M
 collection-page-spec =

@@ -17,11 +17,10 @@ use Rattle.spec_session.specs.Lifecycle.{applied}
 use Rattle.spec_session.specs.Batch.{candidate, commit}
 use Rattle.spec_session.specs.BatchLaws.{never-passes}
 use Rattle.bytes_records.specs.Moves.{zeros}
-use Rattle.panel_rows.specs.Rows.{bindingBytes, availabilityBytes, entryBytes}
-use Rattle.local_projection_state.specs.Stores.{StoredTables}
+use Rattle.panel_rows.specs.Rows.{bindingBytes, availabilityBytes, entryBytes, lengthBytes}
 use Rattle.local_projection_state.specs.declared.ProjectionCounts.{ProjectionCounts}
 use Rattle.panel_changes.proofs.SetChange as set-change
-use Rattle.panel_changes.specs.SetChanges.{Ready, ChangeBecame}
+use Rattle.panel_changes.specs.SetChanges.{Ready, StoredAfter, ChangeBecame}
 use Rattle.panel_changes.specs.SetChangesLaws.{zeros-ready}
 use Rattle.panel_changes.specs.declared.SetChange.{SetChange}
 use Rattle.panel_changes.specs.declared.SetChange.the-variants.{Applied, Refused, Unreadable, BadTables}
@@ -53,12 +52,12 @@ other BadTables k = tt
 
 -- the tables that the call wrote
 abbrev Tables : tie.After-apply-set → SetChange → (m : Session) (ps : List Patch) → Type 0
-Tables c r m ps = ChangeBecame (λ n q. StoredTables n (c .apply-set .last .1 .1 .1 .1 .1 .1 .0) (c .apply-set .last .1 .1 .1 .1 .1 .1 .1 .0) (c .apply-set .last .1 .1 .1 .1 .1 .1 .1 .1 .0) q) r (candidate m ps)
+Tables c r m ps = ChangeBecame (λ n q. StoredAfter n (c .apply-set .last .1 .1 .1 .1 .1 .1 .0) (c .apply-set .last .1 .1 .1 .1 .1 .1 .1 .0) (c .apply-set .last .1 .1 .1 .1 .1 .1 .1 .1 .0) (c .apply-set .last .1 .1 .1 .1 .1 .1 .1 .1 .1 .0) q) r (candidate m ps)
 
 -- what came of the operations
-became : (c : tie.After-apply-set) → let a = c .before .before .before .before .before .before .before .before .before .before .before .before .before .before .before .before .before .before .before .before .before .args in (m : Session) (ps : List Patch) → Holds (a .t1) m → readSet (editionOf (a .edition)) (now (a .set)) ≡ patches ps → Tables c (c .apply-set .result) m ps
+became : (c : tie.After-apply-set) → let a = c .before .before .before .before .before .before .before .before .before .before .before .before .before .before .before .before .before .before .before .before .before .before .args in (m : Session) (ps : List Patch) → Holds (a .t1) m → readSet (editionOf (a .edition)) (now (a .set)) ≡ patches ps → Tables c (c .apply-set .result) m ps
 unfolding candidate
-became c m ps h reads = c .apply-set .ensures .0 (m .projection) ps (h .projection) reads (subst (λ (u : ProjectionCounts). Ready u (zeros bindingBytes) (zeros availabilityBytes) (zeros entryBytes)) (sym (c .before .before .before .before .before .before .before .before .before .before .before .before .none-used .ensures)) zeros-ready)
+became c m ps h reads = c .apply-set .ensures .0 (m .projection) ps (h .projection .tables) reads (subst (λ (u : ProjectionCounts). Ready u (zeros bindingBytes) (zeros availabilityBytes) (zeros entryBytes) (zeros lengthBytes)) (sym (c .before .before .before .before .before .before .before .before .before .before .before .before .before .none-used .ensures)) zeros-ready)
 
 -- what is told of a session and an answer is told of the batch that is made of them
 told : {s : ShellSession} {e : OrderedProjectionPatchBatchEnvelope} {declared : ℕ} {set : List ℕ} {ed : Edition} (session : ShellSession) (result : ProjectionPatchApplicationResult) {r : ProjectionPatchBatch} → r ≡ batchOf session result
@@ -131,6 +130,9 @@ slice-aggregate-apply-set-2 c = search needs
 slice-aggregate-apply-set-3 : tie.Need-slice-aggregate-apply-set-3
 slice-aggregate-apply-set-3 c = search needs
 
+slice-aggregate-apply-set-4 : tie.Need-slice-aggregate-apply-set-4
+slice-aggregate-apply-set-4 c = search needs
+
 apply-set-requires : tie.Need-apply-set-requires
 apply-set-requires c κs = search needs
 
@@ -146,9 +148,9 @@ batch-of-requires-3 c κs = search needs
 returns-3 : tie.Need-returns-3
 unfolding gateOf
 returns-3 c =
-    let gate = ap gateOf (sym (c .before .before .before .before .before .before .before .before .before .before .before .before .before .before .before .before .before .before .before .before .before .enum-told .given .1)) in
-    let checked = c .before .before .before .before .before .before .before .before .before .before .before .before .before .before .before .before .before .before .before .before .before .before .before .check-session .ensures in
-    let call = c .before .before .before .before .before .before in
+    let gate = ap gateOf (sym (c .before .before .before .before .before .before .before .before .before .before .before .before .before .before .before .before .before .before .before .before .before .before .before .enum-told .given .1)) in
+    let checked = c .before .before .before .before .before .before .before .before .before .before .before .before .before .before .before .before .before .before .before .before .before .before .before .before .before .check-session .ensures in
+    let call = c .before .before .before .before .before .before .before in
     let change = call .apply-set .result in
     let answer = c .before .before .concluded .ensures in
     told _ _ (c .batch-of3 .ensures) (
@@ -167,21 +169,21 @@ session-of-requires : tie.Need-session-of-requires
 session-of-requires c κs = search needs
 
 -- the answer where the set was applied
-answered : (c : tie.After-session-of) → batchAnswerOf (c .before .before .before .before .before .concluded .result) ≡ answerAt applied (at (c .before .before .before .before .before .before .before .before .before .before .before .before .before .before .before .before .before .before .before .before .before .before .before .before .before .before .before .before .before .before .args .envelope .«sequence_no»))
+answered : (c : tie.After-session-of) → batchAnswerOf (c .before .before .before .before .before .concluded .result) ≡ answerAt applied (at (c .before .before .before .before .before .before .before .before .before .before .before .before .before .before .before .before .before .before .before .before .before .before .before .before .before .before .before .before .before .before .before .before .args .envelope .«sequence_no»))
 unfolding changeAnswer
 answered c = c .before .before .before .before .before .concluded .ensures ∙ ap (changeAnswer _ _ _) (c .before .before .before .change .given .1)
 
 -- the session that was made of the tables
-handed : (c : tie.After-session-of) → let a = c .before .before .before .before .before .before .before .before .before .before .before .before .before .before .before .before .before .before .before .before .before .before .before .before .before .before .before .before .before .before .args in (m : Session) (ps : List Patch) → Holds (a .t1) m → readSet (editionOf (a .edition)) (now (a .set)) ≡ patches ps → (a .envelope .«patch_count» ≡ 0 → ⊥)
+handed : (c : tie.After-session-of) → let a = c .before .before .before .before .before .before .before .before .before .before .before .before .before .before .before .before .before .before .before .before .before .before .before .before .before .before .before .before .before .before .before .before .args in (m : Session) (ps : List Patch) → Holds (a .t1) m → readSet (editionOf (a .edition)) (now (a .set)) ≡ patches ps → (a .envelope .«patch_count» ≡ 0 → ⊥)
     → BatchBecame (batchOf (c .session-of .result) (c .before .before .before .before .before .concluded .result)) (commit m (envelopeMeans (a .envelope)) (candidate m ps))
 handed c m ps h reads some =
-    let a = c .before .before .before .before .before .before .before .before .before .before .before .before .before .before .before .before .before .before .before .before .before .before .before .before .before .before .before .before .before .before .args in
-    let call = c .before .before .before .before .before .before .before .before .before in
+    let a = c .before .before .before .before .before .before .before .before .before .before .before .before .before .before .before .before .before .before .before .before .before .before .before .before .before .before .before .before .before .before .before .before .args in
+    let call = c .before .before .before .before .before .before .before .before .before .before in
     let result = c .before .before .before .before .before .concluded .result in
     let ended = c .before .before .before .change .given in
     let stored : Tables call (Applied (ended .0 .0)) m ps = subst (λ r. Tables call r m ps) (ended .1) (became call m ps h reads) in
     subst (λ (s : ShellSession). BatchBecame (batchOf s result) (commit m (envelopeMeans (a .envelope)) (candidate m ps))) (sym (c .session-of .ensures))
-    (commits-applied (a .t1) m h (envelopeMeans (a .envelope)) ps (ended .0 .0) _ _ _ (c .before .advanced .result) result some stored (c .before .advanced .ensures) (answered c))
+    (commits-applied (a .t1) m h (envelopeMeans (a .envelope)) ps (ended .0 .0) _ _ _ _ (c .before .advanced .result) result some stored (c .before .advanced .ensures) (answered c))
 
 batch-of-requires-4 : tie.Need-batch-of-requires-4
 batch-of-requires-4 c κs = search needs
@@ -190,11 +192,11 @@ returns-4 : tie.Need-returns-4
 unfolding gateOf
 returns-4 c =
     let made = c .before in
-    let gate = ap gateOf (sym (made .before .before .before .before .before .before .before .before .before .before .before .before .before .before .before .before .before .before .before .before .before .before .before .before .enum-told .given .1)) in
-    let checked = made .before .before .before .before .before .before .before .before .before .before .before .before .before .before .before .before .before .before .before .before .before .before .before .before .before .before .check-session .ensures in
+    let gate = ap gateOf (sym (made .before .before .before .before .before .before .before .before .before .before .before .before .before .before .before .before .before .before .before .before .before .before .before .before .before .before .enum-told .given .1)) in
+    let checked = made .before .before .before .before .before .before .before .before .before .before .before .before .before .before .before .before .before .before .before .before .before .before .before .before .before .before .before .before .check-session .ensures in
     told _ _ (c .batch-of4 .ensures) (
       record {
-        became = λ m h. batch-commits _ m h _ _ _ _ _ (gate ∙ checked .0 m (seen _ m h)) (λ ps reads count. handed made m ps h reads (λ none. false≢true (sym (sym (made .before .before .before .before .before .before .before .before .before .before .before .before .before .before .before .before .before .before .before .before .before .before .before .is-empty .ensures) ∙ made .before .before .before .before .before .before .before .before .before .before .before .before .before .before .before .before .before .before .before .before .before .before .if1 .left) ∙ eq-eqb _ 0 none)));
+        became = λ m h. batch-commits _ m h _ _ _ _ _ (gate ∙ checked .0 m (seen _ m h)) (λ ps reads count. handed made m ps h reads (λ none. false≢true (sym (sym (made .before .before .before .before .before .before .before .before .before .before .before .before .before .before .before .before .before .before .before .before .before .before .before .before .before .is-empty .ensures) ∙ made .before .before .before .before .before .before .before .before .before .before .before .before .before .before .before .before .before .before .before .before .before .before .before .before .if1 .left) ∙ eq-eqb _ 0 none)));
       },
       record {
         kept = kept-applied _ _ _ (answered made);
@@ -221,6 +223,7 @@ apply-projection-patch-batch-spec =
     slice-aggregate-apply-set
     slice-aggregate-apply-set-2
     slice-aggregate-apply-set-3
+    slice-aggregate-apply-set-4
     apply-set-requires
     concluded-requires
     enum-known-change

@@ -10,7 +10,7 @@ binding-value-requires : tie.Need-binding-value-requires
 binding-value-requires c κs = search needs
 
 returns : tie.Need-returns
-returns c = λ m h. c .binding-value .ensures (m .projection) (h .projection .bindings) (h .projection .valid)
+returns c = λ m h. c .binding-value .ensures (m .projection) (h .projection .tables .bindings) (h .projection .tables .valid)
 
 pub binding-value-spec : {M : Type 1} → statement M
 binding-value-spec = tie.close (tie.spec slice-aggregate-binding-value binding-value-requires returns)

@@ -10,7 +10,7 @@ entry-at-requires : tie.Need-entry-at-requires
 entry-at-requires c κs = search needs
 
 returns : tie.Need-returns
-returns c = λ m h. c .entry-at .ensures (m .projection) (h .projection .entries) (h .projection .valid)
+returns c = λ m h. c .entry-at .ensures (m .projection) (h .projection .tables .entries) (h .projection .tables .valid)
 
 pub entry-at-spec : {M : Type 1} → statement M
 entry-at-spec = tie.close (tie.spec slice-aggregate-entry-at entry-at-requires returns)

@@ -10,7 +10,7 @@ entry-count-requires : tie.Need-entry-count-requires
 entry-count-requires c κs = search needs
 
 returns : tie.Need-returns
-returns c = λ m h. c .entry-count .ensures (m .projection) (h .projection .entries) (h .projection .valid)
+returns c = λ m h. c .entry-count .ensures (m .projection) (h .projection .tables .entries) (h .projection .tables .valid)
 
 pub entry-count-spec : {M : Type 1} → statement M
 entry-count-spec = tie.close (tie.spec slice-aggregate-entry-count entry-count-requires returns)

@@ -10,7 +10,7 @@ entry-value-requires : tie.Need-entry-value-requires
 entry-value-requires c κs = search needs
 
 returns : tie.Need-returns
-returns c = λ m h. c .entry-value .ensures (m .projection) (h .projection .entries) (h .projection .valid)
+returns c = λ m h. c .entry-value .ensures (m .projection) (h .projection .tables .entries) (h .projection .tables .valid)
 
 pub entry-value-spec : {M : Type 1} → statement M
 entry-value-spec = tie.close (tie.spec slice-aggregate-entry-value entry-value-requires returns)

@@ -10,7 +10,7 @@ node-availability-requires : tie.Need-node-availability-requires
 node-availability-requires c κs = search needs
 
 returns : tie.Need-returns
-returns c = λ m h. c .node-availability .ensures (m .projection) (h .projection .availabilities) (h .projection .valid)
+returns c = λ m h. c .node-availability .ensures (m .projection) (h .projection .tables .availabilities) (h .projection .tables .valid)
 
 pub node-availability-spec : {M : Type 1} → statement M
 node-availability-spec = tie.close (tie.spec slice-aggregate-node-availability node-availability-requires returns)

@@ -1,0 +1,58 @@
+-- What the exported calls promise: an answer of the call below, told as numbers, and the memory as that call leaves it.
+use Prim.Native.Nat.{ℕ, _<_, _≤_}
+use mathlib.Core.Path.{_≡_, subst}
+use mathlib.Core.List.{List}
+use lib.Dec.{eqb}
+use Rattle.spec_lists.specs.Lists.{if_then_else_}
+use Rattle.spec_patch.specs.Edition.{Edition, v1, v2}
+use Rattle.spec_session.specs.Session.{Limits}
+use Rattle.spec_session.specs.Lifecycle.{Stimulus}
+use Rattle.spec_session.specs.Batch.{BatchEnvelope}
+use Rattle.session_lent.specs.Steps.{TransitionCall, CreationCall}
+use Rattle.session_lent.specs.Batches.{SameHalf, BatchCall}
+use Rattle.session_lent.specs.declared.batch.LentBatch.{LentBatch}
+use Rattle.session_lent.specs.declared.creation.LentCreation.{LentCreation}
+use Rattle.session_lent.specs.declared.lifecycle.LentTransition.{LentTransition}
+use Rattle.c_exports.specs.declared.calls.GeysertrayAnswer.{GeysertrayAnswer}
+use Rattle.c_exports.specs.declared.calls.GeysertrayLifecycle.{GeysertrayLifecycle}
+use Rattle.c_exports.specs.Exports.{batchTold, stepTold, creationTold, noSession, noStep, commandAt}
+
+-- the edition of a number
+unfoldable pub editionAt : ℕ → Edition
+editionAt n = if eqb n 1 then v1 else v2
+
+pub record ExportedCreation (id : ℕ) (limits : Limits) (nodes pairs collections head b a e l : List ℕ) (r : ℕ) (head′ b′ a′ e′ l′ : List ℕ) : Type 0 where
+  pub answer : LentCreation
+  pub call : CreationCall id limits nodes pairs collections head b a e l answer head′ b′ a′ e′ l′
+  pub told : r ≡ creationTold answer
+
+-- a step that was called
+pub record SteppedAs (command n : ℕ) (h : List ℕ) (r : GeysertrayLifecycle) (h′ : List ℕ) : Type 0 where
+  pub answer : LentTransition
+  pub call : TransitionCall h (commandAt command) n answer h′
+  pub told : r ≡ stepTold answer
+
+pub record ExportedStep (command n : ℕ) (h : List ℕ) (r : GeysertrayLifecycle) (h′ : List ℕ) : Type 0 where
+  pub known : command ≤ 4 → SteppedAs command n h r h′
+  pub unknown : 4 < command → (r ≡ noStep 4) × (h′ ≡ h)
+
+module _ (edition : ℕ) (v : BatchEnvelope) (declared : ℕ) (set head nodes pairs collections b a e toH toB toA toE toL : List ℕ) where
+  -- a batch that was called
+  pub record BatchedAs (r : GeysertrayAnswer) (h′ b′ a′ e′ l′ : List ℕ) : Type 0 where
+    pub answer : LentBatch
+    pub call : BatchCall (editionAt edition) v declared set head nodes pairs collections b a e toH toB toA toE toL answer h′ b′ a′ e′ l′
+    pub told : r ≡ batchTold answer
+
+  pub record ExportedBatch (r : GeysertrayAnswer) (h′ b′ a′ e′ l′ : List ℕ) : Type 0 where
+    pub known : 1 ≤ edition → edition ≤ 2 → BatchedAs r h′ b′ a′ e′ l′
+    pub low : edition < 1 → (r ≡ noSession 4) × SameHalf toH toB toA toE toL h′ b′ a′ e′ l′
+    pub high : 2 < edition → (r ≡ noSession 4) × SameHalf toH toB toA toE toL h′ b′ a′ e′ l′
+
+-- ---- a call told otherwise
+
+module _ {v : BatchEnvelope} {declared : ℕ} {set head nodes pairs collections b a e toH toB toA toE toL : List ℕ} {r : LentBatch} {h′ b′ a′ e′ l′ : List ℕ} where
+  pub same-edition : {x y : Edition} → x ≡ y → BatchCall x v declared set head nodes pairs collections b a e toH toB toA toE toL r h′ b′ a′ e′ l′ → BatchCall y v declared set head nodes pairs collections b a e toH toB toA toE toL r h′ b′ a′ e′ l′
+  same-edition is = subst (λ ed. BatchCall ed v declared set head nodes pairs collections b a e toH toB toA toE toL r h′ b′ a′ e′ l′) is
+
+pub same-stimulus : {h : List ℕ} {u w : Stimulus} {n : ℕ} {r : LentTransition} {h′ : List ℕ} → u ≡ w → TransitionCall h u n r h′ → TransitionCall h w n r h′
+same-stimulus {h = h} {n = n} {r = r} {h′ = h′} is = subst (λ u. TransitionCall h u n r h′) is

@@ -1,0 +1,5 @@
+pub mod Runs
+pub mod RunsLaws
+pub mod LengthRows
+pub mod LengthRowsLaws
+pub mod WrittenLaws

@@ -1,0 +1,6 @@
+pub mod Answers
+pub mod Fields
+pub mod FieldsLaws
+pub mod Positions
+pub mod TextPositions
+pub mod SetPositions

@@ -1,0 +1,42 @@
+-- `script_answers::dependencies::print_key` meets its contract: the letter, two fields and the end of the line.
+use borrow.Author.Needs.{needs}
+use Rattle.spec_listing.specs.Listing.{fields}
+use Rattle.spec_replay.specs.Answers.{keyLine}
+use Rattle.bytes_printer.specs.PrintsLaws.{_⨾_}
+use Rattle.script_answers.proofs.dependencies.print_key.Statement.{statement}
+use Rattle.script_answers.proofs.dependencies.print_key.Tie as tie
+
+print-byte-requires : tie.Need-print-byte-requires
+print-byte-requires c κs = search needs
+
+print-field-u64-requires : tie.Need-print-field-u64-requires
+print-field-u64-requires c κs = search needs
+
+print-field-u64-requires-2 : tie.Need-print-field-u64-requires-2
+print-field-u64-requires-2 c κs = search needs
+
+print-newline-requires : tie.Need-print-newline-requires
+print-newline-requires c κs = search needs
+
+same-length : tie.Need-same-length
+same-length c = search needs
+
+returns : tie.Need-returns
+unfolding keyLine fields
+returns c =
+    let end = c .before .before in
+    let second = end .before .before .before .before in
+    let first = second .before .before .before .before in
+    let letter = first .before .before .before .before in
+    letter .print-byte .ensures ⨾ first .print-field-u64 .ensures ⨾ second .print-field-u642 .ensures ⨾ end .print-newline .ensures
+
+pub print-key-spec : {M : Type 1} → statement M
+print-key-spec =
+    tie.close
+    (tie.spec
+    print-byte-requires
+    print-field-u64-requires
+    print-field-u64-requires-2
+    print-newline-requires
+    same-length
+    returns)

@@ -1,0 +1,59 @@
+-- `script_calls::paper::print_into` meets its contract: every print fits the longest, so that as much as the room says is lent in effect.
+use Prim.Native.Nat.{ℕ, _-_, _≤_, min}
+use mathlib.Core.Path.{_≡_, ap, _∙_}
+use native.Mathlib.Omega.{arith}
+use borrow.Author.Needs.{needs}
+use denote.Ref.{now}
+use lib.ListN.{length, take, drop, replicate, length-replicate}
+use lib.Seq.{length-take-le}
+use Rattle.spec_panel_print.specs.Print.{collectionPrint}
+use Rattle.spec_panel_print.specs.PrintSizes.{printBytes}
+use Rattle.spec_panel_print.specs.PrintSizesLaws.{print-fits}
+use Rattle.bytes_printer.specs.PrintsLaws.{same-bytes}
+use Rattle.script_calls.specs.PaperLaws.{longest-suffices}
+use Rattle.script_calls.proofs.paper.print_into.Statement.{statement}
+use Rattle.script_calls.proofs.paper.print_into.Tie as tie
+
+lent-length : (n room : ℕ) → room ≤ n → length (take (room - 0) (drop 0 (replicate {A = ℕ} n 0))) ≡ room
+lent-length n room h =
+    let same : room - 0 ≡ room = omega arith in
+    length-take-le (room - 0) (replicate n 0) (omega (arith, length-replicate {A = ℕ} n 0)) ∙ same
+
+lent-bytes-requires : tie.Need-lent-bytes-requires
+lent-bytes-requires c κs = search needs
+
+sub-print-lent : tie.Need-sub-print-lent
+sub-print-lent c = search needs
+
+part-lent-start : tie.Need-part-lent-start
+part-lent-start c = search needs
+
+part-lent-end : tie.Need-part-lent-end
+part-lent-end c = omega (arith, c .lent-bytes .ensures .1)
+
+print-lent-requires : tie.Need-print-lent-requires
+print-lent-requires c κs = search needs
+
+same-length : tie.Need-same-length
+same-length c = search needs
+
+returns : tie.Need-returns
+returns c =
+    let printed = c .before .before .before in
+    let room = printed .before .before .before in
+    let args = room .before .before .args in
+    λ m h.
+    let size = lent-length printBytes (room .lent-bytes .result) (room .lent-bytes .ensures .1) ∙ room .lent-bytes .ensures .0 in
+    same-bytes (longest-suffices (args .room) _ (collectionPrint (m .projection) (args .collection)) size (print-fits (m .projection) (args .collection) (h .projection .valid))) (printed .print-lent .ensures m h)
+
+pub print-into-spec : {M : Type 1} → statement M
+print-into-spec =
+    tie.close
+    (tie.spec
+    lent-bytes-requires
+    sub-print-lent
+    part-lent-start
+    part-lent-end
+    print-lent-requires
+    same-length
+    returns)

@@ -1,0 +1,28 @@
+-- `session_explain::targets::target_known` meets its contract: none is counted as absent.
+use Prim.Native.Nat.{ℕ}
+use mathlib.Core.Path.{ap, _∙_}
+use lib.Dec.{eqb}
+use Rattle.spec_checks.specs.Target.{MutationTarget}
+use Rattle.check_quick.specs.Anchors.{anchored, absentOne}
+use Rattle.projection_patch.specs.Meaning.{operationOf}
+use Rattle.session_explain.specs.UnknownLaws.{known-is}
+use borrow.Author.Needs.{needs}
+use Rattle.session_explain.proofs.targets.target_known.Statement.{statement}
+use Rattle.session_explain.proofs.targets.target_known.Tie as tie
+
+mutation-target-requires : tie.Need-mutation-target-requires
+mutation-target-requires c κs = search needs
+
+one-if-absent-requires : tie.Need-one-if-absent-requires
+one-if-absent-requires c κs = search needs
+
+returns : tie.Need-returns
+returns c =
+    let a = c .before .before .before .before .before .args in
+    λ k texts lent.
+    ap (λ (n : ℕ). eqb n 0) (c .one-if-absent .ensures)
+    ∙ ap (λ (t : MutationTarget). eqb (absentOne (anchored (a .nodes .now) (a .bindings .now) (a .collections .now)) t) 0) (c .before .mutation-target .ensures texts)
+    ∙ known-is k (a .nodes .now) (a .bindings .now) (a .collections .now) lent (operationOf texts (a .operation))
+
+pub target-known-spec : {M : Type 1} → statement M
+target-known-spec = tie.close (tie.spec mutation-target-requires one-if-absent-requires returns)

@@ -1,0 +1,3 @@
+pub mod Unknown
+pub mod Walking
+pub mod UnknownLaws

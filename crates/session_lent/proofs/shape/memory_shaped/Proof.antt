@@ -1,0 +1,42 @@
+-- `memory_shaped` meets its contract: anchors, the half that is read, the half that is written.
+use mathlib.Core.Path.{refl, sym, _∙_}
+use borrow.Author.Needs.{needs}
+use Rattle.session_lent.proofs.shape.memory_shaped.Statement.{statement}
+use Rattle.session_lent.proofs.shape.memory_shaped.Tie as tie
+use Rattle.session_lent.proofs.shape.memory_shaped.Reads as reads
+use Rattle.session_lent.proofs.shape.memory_shaped.Lts as lts
+use Rattle.session_lent.proofs.shape.anchors_shaped.Reads as anchors-shaped-reads
+use Rattle.session_lent.proofs.shape.half_shaped.Reads as half-shaped-reads
+
+anchors-shaped-requires : tie.Need-anchors-shaped-requires
+anchors-shaped-requires c κs = search needs
+
+half-shaped-requires : tie.Need-half-shaped-requires
+half-shaped-requires c κs = search needs
+
+half-shaped-requires-2 : tie.Need-half-shaped-requires-2
+half-shaped-requires-2 c κs = search needs
+
+returns : tie.Need-returns
+returns c = sym (rw (sym (c .before .before .before .before .before .anchors-shaped .ensures) ∙ c .before .before .before .before .if1 .taken, sym (c .before .before .before .half-shaped .ensures) ∙ c .before .before .if2 .taken, sym (c .before .half-shaped2 .ensures) ∙ c .if3 .taken) refl)
+
+returns-2 : tie.Need-returns-2
+returns-2 c = sym (rw (sym (c .before .before .before .before .before .anchors-shaped .ensures) ∙ c .before .before .before .before .if1 .taken, sym (c .before .before .before .half-shaped .ensures) ∙ c .before .before .if2 .taken, sym (c .before .half-shaped2 .ensures) ∙ c .if3 .left) refl)
+
+returns-3 : tie.Need-returns-3
+returns-3 c = sym (rw (sym (c .before .before .before .anchors-shaped .ensures) ∙ c .before .before .if1 .taken, sym (c .before .half-shaped .ensures) ∙ c .if2 .left) refl)
+
+returns-4 : tie.Need-returns-4
+returns-4 c = sym (rw (sym (c .before .anchors-shaped .ensures) ∙ c .if1 .left) refl)
+
+pub memory-shaped-spec : {M : Type 1} → statement M
+memory-shaped-spec =
+    tie.close
+    (tie.spec
+    anchors-shaped-requires
+    half-shaped-requires
+    half-shaped-requires-2
+    returns
+    returns-2
+    returns-3
+    returns-4)

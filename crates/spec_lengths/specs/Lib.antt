@@ -1,0 +1,5 @@
+pub mod Lengths
+pub mod LengthExamples
+pub mod LengthsLaws
+pub mod LengthsAfter
+pub mod LengthPremises
