@@ -1,14 +1,16 @@
-// The lines of a whole projection, printed from the tables of a state.
+// The lines of a whole projection, printed from its tables.
 ghost use mathlib.Core.Path.{_≡_};
 ghost use mathlib.Core.List.{List, map, flatMap};
 ghost use Prim.Native.Nat.{_+_, _≤_};
 ghost use Rattle.spec_lists.specs.Lists.{All};
 ghost use Rattle.spec_patch.specs.Sizes.{projectionBindings, projectionAvailabilities, projectionEntries};
 ghost use Rattle.spec_projection.specs.Projection.{Projection};
+ghost use Rattle.spec_projection.specs.Valid.{Valid};
 ghost use Rattle.spec_listing.specs.Listing.{projectionLines};
 ghost use Rattle.bytes_records.specs.Table.{Holds};
 ghost use Rattle.bytes_printer.specs.Prints.{Prints, Within};
-ghost use Rattle.local_projection_state.specs.Stores.{Stores};
+ghost use Rattle.panel_rows.specs.Rows.{bindingWidth, availabilityWidth, entryWidth, bindingRow, availabilityRow, entryRow};
+ghost use Rattle.local_projection_state.specs.Stores.{Stored, Stores};
 ghost use Rattle.listing_lines.specs.RowKinds.{Element, Fits, rowOf, widthOf, lineOf};
 use crate::RowKind;
 use bytes_printer::Printed;
@@ -69,7 +71,34 @@ fn record_count(counts: ProjectionCounts) -> u64
     (counts.bindings + (counts.availabilities + counts.entries)) as u64
 }
 
-// P and the record count, then the records in stored order.
+// P and the record count, then the records of three tables in stored order.
+pub fn print_tables(
+    out: &mut [u8],
+    at: Printed,
+    bindings: &[u8],
+    availability: &[u8],
+    entries: &[u8],
+    counts: ProjectionCounts,
+) -> Printed
+    ensures { λ r. ⌜ ((p : Projection) → Stored bindingRow bindingWidth projectionBindings (counts .bindings) (now (bindings .entry)) (p .bindings)
+        → Stored availabilityRow availabilityWidth projectionAvailabilities (counts .availabilities) (now (availability .entry)) (p .availabilities)
+        → Stored entryRow entryWidth projectionEntries (counts .entries) (now (entries .entry)) (p .entries) → Valid p
+        → Prints (now (out .entry)) at (projectionLines p) (now (out .exit)) r) ⌝ }
+{
+    let count = record_count(counts);
+    let head = crate::print_number_line(out, at, 80, count);
+    let first = print_rows(out, head, RowKind::Binding, bindings, counts.bindings);
+    let second = print_rows(
+        out,
+        first,
+        RowKind::Availability,
+        availability,
+        counts.availabilities,
+    );
+    print_rows(out, second, RowKind::Entry, entries, counts.entries)
+}
+
+// The listing of what a state stores.
 pub fn print_projection(out: &mut [u8], at: Printed, state: LocalProjectionState) -> Printed
     ensures { λ r. ⌜ ((p : Projection) → Stores state p → Prints (now (out .entry)) at (projectionLines p) (now (out .exit)) r) ⌝ }
 {
@@ -77,15 +106,5 @@ pub fn print_projection(out: &mut [u8], at: Printed, state: LocalProjectionState
     let bindings = state.bindings;
     let availability = state.availability;
     let entries = state.entries;
-    let count = record_count(counts);
-    let head = crate::print_number_line(out, at, 80, count);
-    let first = print_rows(out, head, RowKind::Binding, &bindings, counts.bindings);
-    let second = print_rows(
-        out,
-        first,
-        RowKind::Availability,
-        &availability,
-        counts.availabilities,
-    );
-    print_rows(out, second, RowKind::Entry, &entries, counts.entries)
+    print_tables(out, at, &bindings, &availability, &entries, counts)
 }

@@ -1,16 +1,20 @@
-// The listing of a set, printed; and that of a set or a state, written into a lent slice whole or not at all: 01, 'Listing'.
+// The listing of a set, printed; and that of a set, a state or its tables, written into a lent slice whole or not at all: 01, 'Listing'.
 ghost use mathlib.Core.List.{List};
 ghost use Prim.Native.Nat.{ℕ};
+ghost use Rattle.spec_patch.specs.Sizes.{projectionBindings, projectionAvailabilities, projectionEntries};
 ghost use Rattle.spec_projection.specs.Projection.{Projection};
+ghost use Rattle.spec_projection.specs.Valid.{Valid};
 ghost use Rattle.spec_listing.specs.Listing.{projectionLines, listing};
 ghost use Rattle.bytes_printer.specs.Prints.{Prints};
 ghost use Rattle.projection_patch.specs.Meaning.{editionOf};
-ghost use Rattle.local_projection_state.specs.Stores.{Stores};
+ghost use Rattle.panel_rows.specs.Rows.{bindingWidth, availabilityWidth, entryWidth, bindingRow, availabilityRow, entryRow};
+ghost use Rattle.local_projection_state.specs.Stores.{Stored, Stores};
 ghost use Rattle.listing_panel.specs.Written.{Holds, Writes, Kept};
 use bytes_printer::Printed;
 use listing_lines::tables;
 use listing_lines::tables::LISTING_BYTES;
 use local_projection_state::LocalProjectionState;
+use local_projection_state::ProjectionCounts;
 use patch_part_writer::written::WriteRefusal;
 use patch_part_writer::written::Written;
 use projection_patch::patch::ProjectionPatchEdition;
@@ -32,15 +36,36 @@ fn write_lines(text: &[u8], end: Printed, out: &mut [u8]) -> Written
     Written::Refused(WriteRefusal::OutputTooShort)
 }
 
-// Writes the listing of what a state stores. Of a state that stores no projection it writes some lines, or answers 14.
-pub fn write_projection(state: LocalProjectionState, out: &mut [u8]) -> Written
-    ensures lines { λ r. ⌜ ((p : Projection) → Stores state p → Writes (now (out .entry)) (projectionLines p) (now (out .exit)) r) ⌝ }
+// Writes the listing of what three tables store. Of tables that store no projection it writes some lines, or answers 14.
+pub fn write_tables(
+    bindings: &[u8],
+    availability: &[u8],
+    entries: &[u8],
+    counts: ProjectionCounts,
+    out: &mut [u8],
+) -> Written
+    ensures lines { λ r. ⌜ ((p : Projection) → Stored bindingRow bindingWidth projectionBindings (counts .bindings) (now (bindings .entry)) (p .bindings)
+        → Stored availabilityRow availabilityWidth projectionAvailabilities (counts .availabilities) (now (availability .entry)) (p .availabilities)
+        → Stored entryRow entryWidth projectionEntries (counts .entries) (now (entries .entry)) (p .entries) → Valid p
+        → Writes (now (out .entry)) (projectionLines p) (now (out .exit)) r) ⌝ }
     ensures kept { λ r. ⌜ Kept (now (out .entry)) (now (out .exit)) r ⌝ }
 {
     let mut text = [0u8; LISTING_BYTES];
     let start = Printed::Next(0);
-    let end = tables::print_projection(&mut text, start, state);
+    let end = tables::print_tables(&mut text, start, bindings, availability, entries, counts);
     write_lines(&text, end, out)
+}
+
+// Writes the listing of what a state stores.
+pub fn write_projection(state: LocalProjectionState, out: &mut [u8]) -> Written
+    ensures lines { λ r. ⌜ ((p : Projection) → Stores state p → Writes (now (out .entry)) (projectionLines p) (now (out .exit)) r) ⌝ }
+    ensures kept { λ r. ⌜ Kept (now (out .entry)) (now (out .exit)) r ⌝ }
+{
+    let counts = state.counts;
+    let bindings = state.bindings;
+    let availability = state.availability;
+    let entries = state.entries;
+    write_tables(&bindings, &availability, &entries, counts, out)
 }
 
 // Prints the listing of a set: that of an empty projection after it, or the line of its refusal.

@@ -6,11 +6,12 @@ use mathlib.Core.Bool.{Bool, _&&_}
 use mathlib.Core.List.{List}
 use lib.Dec.{leb, eqb}
 use lib.ListN.{length}
-use Rattle.spec_patch.specs.Sizes.{anchors}
+use Rattle.spec_patch.specs.Sizes.{anchors, projectionBindings, projectionAvailabilities, projectionEntries}
 use Rattle.spec_session.specs.Session.{Session}
 use Rattle.spec_session.specs.ValidSession.{FewAnchors}
 use Rattle.spec_lengths.specs.Lengths.{collectionLengths}
 use Rattle.session_gates.specs.Lent.{Lent}
+use Rattle.panel_rows.specs.Rows.{bindingBytes, availabilityBytes, entryBytes}
 use Rattle.local_projection_state.specs.Stores.{StoredTables, StoredLengths, countsOf}
 use Rattle.panel_changes.specs.SetChanges.{tablesFit, countsFit, Ready}
 use Rattle.session_lent.specs.Head.{headNumbers, countsAt, headOf}
@@ -31,6 +32,19 @@ anchorsShaped nodes pairs collections = leb nodes anchors && (leb pairs (2 * anc
 -- a head, and tables of these lengths: no count is over its capacity
 unfoldable pub halfShaped : List ℕ → (bindings availability entries : ℕ) → Bool
 halfShaped head bindings availability entries = eqb (length head) headNumbers && (tablesFit bindings availability entries && countsFit (countsAt head))
+
+-- a head, and one table, which has these bytes: its count is not over its capacity
+unfoldable pub tableShaped : (head : List ℕ) (count table bytes capacity : ℕ) → Bool
+tableShaped head count table bytes capacity = eqb (length head) headNumbers && (eqb table bytes && leb count capacity)
+
+abbrev pub bindingsShaped : List ℕ → ℕ → Bool
+bindingsShaped head table = tableShaped head (countsAt head .bindings) table bindingBytes projectionBindings
+
+abbrev pub availabilitiesShaped : List ℕ → ℕ → Bool
+availabilitiesShaped head table = tableShaped head (countsAt head .availabilities) table availabilityBytes projectionAvailabilities
+
+abbrev pub entriesShaped : List ℕ → ℕ → Bool
+entriesShaped head table = tableShaped head (countsAt head .entries) table entryBytes projectionEntries
 
 -- the half that a batch writes to: as creation or an earlier call left it, so that nothing stands behind the rows that its head counts
 pub record LentRoom (head bindings availability entries lengths : List ℕ) : Type 0 where

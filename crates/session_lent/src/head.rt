@@ -73,7 +73,7 @@ pub(crate) fn limits_in(head: &[u64]) -> ShellLifecycleLimits
 }
 
 // How many rows of each table are used.
-pub(crate) fn counts_in(head: &[u64]) -> ProjectionCounts
+pub fn counts_in(head: &[u64]) -> ProjectionCounts
     requires { ⌜ length (now head) ≡ headNumbers ⌝ }
     ensures { λ r. ⌜ r ≡ countsAt (now (head .entry)) ⌝ }
 {

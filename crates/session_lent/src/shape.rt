@@ -25,12 +25,7 @@ pub(crate) fn anchors_shaped(nodes: usize, pairs: usize, collections: usize) -> 
 }
 
 // Whether a head and tables of these lengths are a half of a session's memory: no count is over its capacity.
-pub(crate) fn half_shaped(
-    head: &[u64],
-    bindings: usize,
-    availability: usize,
-    entries: usize,
-) -> bool
+pub fn half_shaped(head: &[u64], bindings: usize, availability: usize, entries: usize) -> bool
     ensures { λ r. ⌜ r ≡ halfShaped (now (head .entry)) bindings availability entries ⌝ }
 {
     if head.len() != head::NUMBERS {

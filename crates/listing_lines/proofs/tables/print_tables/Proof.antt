@@ -1,0 +1,62 @@
+-- `listing_lines::tables::print_tables` meets its contract: the line of the count, then the lines of the three tables.
+use Prim.Native.Nat.{ℕ}
+use mathlib.Core.Path.{_≡_, ap, _∙_}
+use mathlib.Core.List.{[], _∷_}
+use native.Mathlib.Omega.{arith}
+use borrow.Author.Needs.{needs}
+use Rattle.spec_projection.specs.Valid.{FitsBinding, FitsNodeAvailability, FitsEntry}
+use Rattle.spec_decimal.specs.Decimal.{decimal}
+use Rattle.spec_listing.specs.Listing.{fields, recordCount, projectionLines}
+use Rattle.bytes_printer.specs.PrintsLaws.{_⨾_, same-bytes, ends-within}
+use Rattle.panel_rows.specs.Rows.{bindingRow, availabilityRow, entryRow}
+use Rattle.listing_lines.proofs.Lines.{holds-length}
+use Rattle.listing_lines.proofs.tables.print_tables.Statement.{statement}
+use Rattle.listing_lines.proofs.tables.print_tables.Tie as tie
+
+record-count-requires : tie.Need-record-count-requires
+record-count-requires c κs = search needs
+
+print-number-line-requires : tie.Need-print-number-line-requires
+print-number-line-requires c κs = search needs
+
+print-rows-requires : tie.Need-print-rows-requires
+print-rows-requires c κs = search needs
+
+print-rows-requires-2 : tie.Need-print-rows-requires-2
+print-rows-requires-2 c κs = search needs
+
+print-rows-requires-3 : tie.Need-print-rows-requires-3
+print-rows-requires-3 c κs = search needs
+
+same-length : tie.Need-same-length
+same-length c = search needs
+
+returns : tie.Need-returns
+unfolding recordCount projectionLines
+returns c =
+    let third = c .before .before in
+    let second = third .before .before .before .before in
+    let first = second .before .before .before .before in
+    let head = first .before .before .before .before in
+    let count = head .before .before in
+    λ p bs vs es v.
+    let b = holds-length FitsBinding bindingRow (p .bindings) (bs .rows) in
+    let a = holds-length FitsNodeAvailability availabilityRow (p .availabilities) (vs .rows) in
+    let e = holds-length FitsEntry entryRow (p .entries) (es .rows) in
+    let total : count .record-count .result ≡ recordCount p = count .record-count .ensures (omega (arith, v .fewBindings)) (omega (arith, v .fewAvailabilities)) (omega (arith, v .fewEntries)) ∙ omega arith in
+    let counted = same-bytes (ap (λ (n : ℕ). 80 ∷ fields (decimal n ∷ [])) total) (head .print-number-line .ensures) in
+    let bound = first .print-rows .ensures (p .bindings) (v .fitBindings) (bs .rows) (ends-within counted) in
+    let available = second .print-rows2 .ensures (p .availabilities) (v .fitAvailabilities) (vs .rows) (ends-within bound) in
+    counted ⨾ bound ⨾ available ⨾ third .print-rows3 .ensures (p .entries) (v .fitEntries) (es .rows) (ends-within available)
+
+pub print-tables-spec : {M : Type 1} → statement M
+print-tables-spec =
+    tie.close
+    (tie.spec
+    record-count-requires
+    print-number-line-requires
+    print-rows-requires
+    print-rows-requires-2
+    print-rows-requires-3
+    same-length
+    returns)

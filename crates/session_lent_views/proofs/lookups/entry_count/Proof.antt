@@ -1,0 +1,41 @@
+-- `entry_count` meets its contract: the look-up in the table, or no session.
+use mathlib.Core.Path.{refl}
+use borrow.Author.Needs.{needs}
+use Rattle.session_lent_views.specs.ViewsLaws.{tables-stored, entries-stored, entries-shaped, rows-none, rows-some, viewed-refused, viewed-answered}
+use Rattle.session_lent_views.proofs.lookups.entry_count.Statement.{statement}
+use Rattle.session_lent_views.proofs.lookups.entry_count.Tie as tie
+
+entry-rows-requires : tie.Need-entry-rows-requires
+entry-rows-requires c κs = search needs
+
+enum-known-count : tie.Need-enum-known-count
+enum-known-count c = search needs
+
+enum-told : tie.Need-enum-told
+enum-told c = search needs
+
+returns : tie.Need-returns
+returns c =
+    let call = c .before .before .entry-rows in
+    viewed-refused _ refl (rows-none _ _ (call .result) (call .ensures) (c .enum-told .given .1)) (entries-shaped _ _)
+
+entry-count-requires : tie.Need-entry-count-requires
+entry-count-requires c κs = search needs
+
+returns-2 : tie.Need-returns-2
+returns-2 c =
+    let call = c .before .before .before .before .entry-rows in
+    let bound = c .before .before .count .given in
+    let some = rows-some _ _ (call .result) (bound .0 .0) (call .ensures) (bound .1) in
+    viewed-answered (c .entry-count .result) (some .0) (λ m h. c .entry-count .ensures (m .projection) (entries-stored _ (some .1) h) (tables-stored (h .tables) .valid))
+
+pub entry-count-spec : {M : Type 1} → statement M
+entry-count-spec =
+    tie.close
+    (tie.spec
+    entry-rows-requires
+    enum-known-count
+    enum-told
+    returns
+    entry-count-requires
+    returns-2)

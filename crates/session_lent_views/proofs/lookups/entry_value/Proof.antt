@@ -1,0 +1,45 @@
+-- `entry_value` meets its contract: the look-up in the table, or no session.
+use mathlib.Core.Path.{refl}
+use borrow.Author.Needs.{needs}
+use Rattle.session_lent_views.specs.ViewsLaws.{tables-stored, entries-stored, entries-shaped, rows-none, rows-some, viewed-refused, viewed-answered}
+use Rattle.session_lent_views.proofs.lookups.entry_value.Statement.{statement}
+use Rattle.session_lent_views.proofs.lookups.entry_value.Tie as tie
+
+entry-rows-requires : tie.Need-entry-rows-requires
+entry-rows-requires c κs = search needs
+
+enum-known-count : tie.Need-enum-known-count
+enum-known-count c = search needs
+
+enum-told : tie.Need-enum-told
+enum-told c = search needs
+
+no-value-session-requires : tie.Need-no-value-session-requires
+no-value-session-requires c κs = search needs
+
+returns : tie.Need-returns
+returns c =
+    let call = c .before .before .before .entry-rows in
+    viewed-refused (c .no-value-session .result) (c .no-value-session .ensures) (rows-none _ _ (call .result) (call .ensures) (c .before .enum-told .given .1)) (entries-shaped _ _)
+
+entry-value-requires : tie.Need-entry-value-requires
+entry-value-requires c κs = search needs
+
+returns-2 : tie.Need-returns-2
+returns-2 c =
+    let call = c .before .before .before .before .entry-rows in
+    let bound = c .before .before .count .given in
+    let some = rows-some _ _ (call .result) (bound .0 .0) (call .ensures) (bound .1) in
+    viewed-answered (c .entry-value .result) (some .0) (λ m h. c .entry-value .ensures (m .projection) (entries-stored _ (some .1) h) (tables-stored (h .tables) .valid))
+
+pub entry-value-spec : {M : Type 1} → statement M
+entry-value-spec =
+    tie.close
+    (tie.spec
+    entry-rows-requires
+    enum-known-count
+    enum-told
+    no-value-session-requires
+    returns
+    entry-value-requires
+    returns-2)

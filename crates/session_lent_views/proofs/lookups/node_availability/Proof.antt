@@ -1,0 +1,41 @@
+-- `node_availability` meets its contract: the look-up in the table, or no session.
+use mathlib.Core.Path.{refl}
+use borrow.Author.Needs.{needs}
+use Rattle.session_lent_views.specs.ViewsLaws.{tables-stored, availabilities-stored, availabilities-shaped, rows-none, rows-some, viewed-refused, viewed-answered}
+use Rattle.session_lent_views.proofs.lookups.node_availability.Statement.{statement}
+use Rattle.session_lent_views.proofs.lookups.node_availability.Tie as tie
+
+availability-rows-requires : tie.Need-availability-rows-requires
+availability-rows-requires c κs = search needs
+
+enum-known-count : tie.Need-enum-known-count
+enum-known-count c = search needs
+
+enum-told : tie.Need-enum-told
+enum-told c = search needs
+
+returns : tie.Need-returns
+returns c =
+    let call = c .before .before .availability-rows in
+    viewed-refused _ refl (rows-none _ _ (call .result) (call .ensures) (c .enum-told .given .1)) (availabilities-shaped _ _)
+
+node-availability-requires : tie.Need-node-availability-requires
+node-availability-requires c κs = search needs
+
+returns-2 : tie.Need-returns-2
+returns-2 c =
+    let call = c .before .before .before .before .availability-rows in
+    let bound = c .before .before .count .given in
+    let some = rows-some _ _ (call .result) (bound .0 .0) (call .ensures) (bound .1) in
+    viewed-answered (c .node-availability .result) (some .0) (λ m h. c .node-availability .ensures (m .projection) (availabilities-stored _ (some .1) h) (tables-stored (h .tables) .valid))
+
+pub node-availability-spec : {M : Type 1} → statement M
+node-availability-spec =
+    tie.close
+    (tie.spec
+    availability-rows-requires
+    enum-known-count
+    enum-told
+    returns
+    node-availability-requires
+    returns-2)

@@ -1,0 +1,45 @@
+-- `print_collection` meets its contract: the collection is printed from the table, or there is no session.
+use borrow.Author.Needs.{needs}
+use Rattle.session_lent_views.specs.ViewsLaws.{tables-stored, entries-stored, entries-shaped, rows-none, rows-some, written-refused, written-answered}
+use Rattle.session_lent_views.proofs.print.print_collection.Statement.{statement}
+use Rattle.session_lent_views.proofs.print.print_collection.Tie as tie
+
+entry-rows-requires : tie.Need-entry-rows-requires
+entry-rows-requires c κs = search needs
+
+enum-known-count : tie.Need-enum-known-count
+enum-known-count c = search needs
+
+enum-told : tie.Need-enum-told
+enum-told c = search needs
+
+returns : tie.Need-returns
+returns c =
+    let call = c .before .before .entry-rows in
+    written-refused _ (rows-none _ _ (call .result) (call .ensures) (c .enum-told .given .1)) (entries-shaped _ _)
+
+print-collection-requires : tie.Need-print-collection-requires
+print-collection-requires c κs = search needs
+
+same-length : tie.Need-same-length
+same-length c = search needs
+
+returns-2 : tie.Need-returns-2
+returns-2 c =
+    let write = c .before .before .print-collection in
+    let bound = c .before .before .before .before .before .count .given in
+    let call = c .before .before .before .before .before .before .before .entry-rows in
+    let some = rows-some _ _ (call .result) (bound .0 .0) (call .ensures) (bound .1) in
+    written-answered _ _ (write .result) (some .0) (write .ensures .1) (λ m h. write .ensures .0 (m .projection) (entries-stored _ (some .1) h) (tables-stored (h .tables) .valid))
+
+pub print-collection-spec : {M : Type 1} → statement M
+print-collection-spec =
+    tie.close
+    (tie.spec
+    entry-rows-requires
+    enum-known-count
+    enum-told
+    returns
+    print-collection-requires
+    same-length
+    returns-2)
