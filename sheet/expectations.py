@@ -25,7 +25,9 @@ class Expectation:
     # further lines of the answer, records of the panel, or (key, printed value or None) of a list
     lines: list = field(default_factory=list)
 
-    def add(self, words):
+    def add(self, words, column):
+        """Takes a line below; an answer's own spaces begin at the column."""
+        own = words.text[min(words.at, column) :]
         words.peek()
         if self.kind == "list":
             self.lines.append(_entry(words))
@@ -34,7 +36,13 @@ class Expectation:
         else:
             if self.kind == "panel" and words.peek() not in RECORDS:
                 raise words.fault("a record as listings print it: B, A or C")
-            self.lines.append(words.text[words.at :])
+            self.lines.append(own if self.kind == "answer" else words.text[words.at :])
+
+    def add_blank(self, text):
+        """Takes a line of spaces, which an answer may have."""
+        if self.kind == "answer":
+            self.lines.append(text)
+        return self.kind == "answer"
 
     # ---- comparing
 
@@ -120,8 +128,9 @@ def begins_alike(words, line):
 
 
 def same_line(words, line):
-    """Whether the words are the whole line, spaces for tabs."""
-    return words == line.replace("\t", " ")
+    """Whether the words are the whole line, spaces for tabs; how far they are indented is the author's, unless the line begins with spaces."""
+    line = line.replace("\t", " ")
+    return line in (words, words.lstrip(" "))
 
 
 def _without_letter(line):

@@ -12,6 +12,8 @@ from .words import HEX, SheetError, SheetErrors, Words
 
 NO_PATCH = Patch(0, 0, 0, None, 0, 0, 0, 0, None)
 SET_LINES = "patch, an operation (%s), hex, edition, expect or #" % ", ".join(OPERATIONS)
+# how much deeper the lines of an answer stand than their expect
+DEEPER = 2
 
 
 @dataclass
@@ -97,7 +99,8 @@ class _Parser:
 
     def _take(self, number, text):
         if not text.strip(" "):
-            self.blanks.append(Plain(number, b""))
+            if not self._blank_of_an_answer(text):
+                self.blanks.append(Plain(number, b""))
             return
         indent = len(text) - len(text.lstrip(" "))
         if indent == 0:
@@ -107,6 +110,12 @@ class _Parser:
         else:
             self._under(indent, Words(text, number, indent))
         self.blanks = []
+
+    def _blank_of_an_answer(self, text):
+        """Whether a line of spaces is one that an answer is expected to have, as a print's."""
+        if self.expectation is None or len(text) <= self.expectation[0] + DEEPER:
+            return False
+        return self.expectation[1].add_blank(text[self.expectation[0] + DEEPER :])
 
     def finished(self):
         self._close()
@@ -243,7 +252,7 @@ class _Parser:
         if not words.peek().startswith("#"):
             _utf8(words)
         if self.expectation is not None and indent > self.expectation[0]:
-            self.expectation[1].add(words)
+            self.expectation[1].add(words, self.expectation[0] + DEEPER)
             return
         self.expectation = None
         word = words.peek()

@@ -134,5 +134,20 @@ class Errors(unittest.TestCase):
         self.expect("batch sequence=18446744073709551615\nbatch\n", (2, 6, "sequence=… written out"))
 
 
+class AnswerLinesTest(unittest.TestCase):
+    """Lines of an answer that begin with spaces, or have nothing else, as those of a print."""
+
+    SHEET = b"print 9 131072\n  expect O 0 162\n" + b"    " + b"7".rjust(20) + b"\n    " + b" " * 80 + b"\n\nshow\n"
+
+    def test_spaces_are_the_line_s_own(self):
+        expectation = parse(self.SHEET)[0].expects[0]
+        self.assertEqual(expectation.lines, ["7".rjust(20), " " * 80])
+        self.assertTrue(expectation._answer_met(["O\t0\t162", "7".rjust(20), " " * 80]))
+        self.assertFalse(expectation._answer_met(["O\t0\t162", "7".rjust(19), " " * 80]))
+
+    def test_an_empty_line_stays_one(self):
+        self.assertEqual(script_of(parse(self.SHEET)), b"print 9 131072\n\nshow\n")
+
+
 if __name__ == "__main__":
     unittest.main()
