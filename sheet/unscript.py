@@ -199,7 +199,10 @@ def commented(script):
     """The script with each set told in comments above its line; bytes that are no set by their remark alone."""
     state, out = Unscripting(), b""
     for data, ended in lines_of(script):
-        for line in state.line(data, ended)[1:]:
+        head, *lines = state.line(data, ended)
+        if not lines and ended and head.split(" ")[0] in WITH_SET:
+            lines = ["  a set without patches"]
+        for line in lines:
             line = line[2:]
             if not line.startswith("hex "):
                 told = line[2:] if line.startswith("# ") else line

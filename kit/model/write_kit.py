@@ -10,6 +10,7 @@ from pathlib import Path
 import kit
 from domain import outside
 from landed import LANDED, REQUESTS
+from readable import readable
 
 SUBJECTS = {
     "examples": "The settled examples",
@@ -57,7 +58,7 @@ def write_data(folder, cases):
     for old in list(folder.glob("*.script")) + list(folder.glob("*.answers")):
         old.unlink()
     for case in cases:
-        (folder / (case.name + ".script")).write_bytes(case.script)
+        (folder / (case.name + ".script")).write_bytes(readable(case.script, case.answers))
         (folder / (case.name + ".answers")).write_bytes(case.answers)
     (folder / "index").write_text("".join(name + "\n" for name in sorted(case.name for case in cases)))
 

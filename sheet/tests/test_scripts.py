@@ -39,6 +39,11 @@ class RoundTrip(unittest.TestCase):
             script = (KIT / (name + ".script")).read_bytes()
             self.assertEqual(without_comments(commented(script)), without_comments(script))
 
+    def test_comments_tell_the_sets(self):
+        empty = script_of(parse(b"check\n"))
+        self.assertEqual(commented(empty), b"#     a set without patches\n" + empty)
+        self.assertIn(b"\n#       insert 9 1 before 2 T Ok\n", commented((KIT / "step7_repeats_count.script").read_bytes()))
+
     def test_a_script_without_a_last_line_end(self):
         for script in (b"", b"show", b"create\nshow", b"raw \xff\x00\t\\\r\n", b"#\r\n", b"\n\n", b"  show\n"):
             with self.subTest(script):
