@@ -16,7 +16,7 @@ REQUESTS = {
 LANDED = [
     "edition",
     "marks",
-    # "lengths",
+    "lengths",
     "escapes",
     "depends",
     # "pages",

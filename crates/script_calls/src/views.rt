@@ -1,14 +1,14 @@
-// What a replay shows of the session: its projection, and values of it.
+// What a replay shows of the session: its projection, and values and lengths of it.
 use crate::state;
 use crate::state::ReplayState;
 use crate::state::ReplayStep;
 use bytes_printer::Printed;
 use script_answers::value;
-ghost use Rattle.spec_projection.specs.Lookups.{bindingOf, availabilityOf, entryOf};
+ghost use Rattle.spec_projection.specs.Lookups.{bindingOf, availabilityOf, entryOf, entryCount};
 ghost use Rattle.spec_session.specs.Session.{Session};
 ghost use Rattle.spec_listing.specs.Listing.{projectionLines};
 ghost use Rattle.spec_replay.specs.Replay.{State, asked, onward};
-ghost use Rattle.spec_replay.specs.Answers.{valueLine, availabilityLine};
+ghost use Rattle.spec_replay.specs.Answers.{valueLine, availabilityLine, lengthLine};
 ghost use Rattle.script_calls.specs.ReplayHolds.{ReplayHolds, Stepped};
 
 // The projection as a listing.
@@ -78,6 +78,25 @@ pub fn entry_value(state: ReplayState, collection: u64, key: u64, out: &mut [u8]
         let lookup = session.entry_value(collection, key);
         let start = Printed::Next(0);
         let printed = value::print_value(out, start, lookup);
+        return ReplayStep {
+            state,
+            printed,
+            stopped: false,
+        };
+    }
+    state::no_session(state, out)
+}
+
+// How many entries a collection has, as it is stored.
+pub fn collection_length(state: ReplayState, collection: u64, out: &mut [u8]) -> ReplayStep
+    ensures { λ r. ⌜ ((m : State) → ReplayHolds state m
+        → Stepped state (now (out .entry)) (now (out .exit)) r (asked m (λ (x : Session). onward m (lengthLine (entryCount (x .projection) collection))))) ⌝ }
+{
+    if state.exists {
+        let session = state.session;
+        let length = session.collection_length(collection);
+        let start = Printed::Next(0);
+        let printed = listing_lines::print_number_line(out, start, 90, length);
         return ReplayStep {
             state,
             printed,

@@ -8,7 +8,7 @@ use lib.ListN.{getD}
 use Rattle.spec_lists.specs.Lists.{if_then_else_}
 use Rattle.spec_patch.specs.Sizes.{setBytes}
 use Rattle.spec_session.specs.Lifecycle.{Stimulus, activate, suspend, resume, close, noOp}
-use Rattle.spec_replay.specs.Script.{Command, session, node, binding, collection, create, apply, batch, check, list, show, valueBinding, valueNode, valueEntry, markBinding, markNode, markEntry, senders, wait, turn, edition, convert, depends, print, other, placesLent, bytesLent, groupArguments, Arguments, end, given, atMost, numberedEdition, hex}
+use Rattle.spec_replay.specs.Script.{Command, session, node, binding, collection, create, apply, batch, check, list, show, valueBinding, valueNode, valueEntry, markBinding, markNode, markEntry, senders, wait, turn, edition, convert, depends, print, collectionLength, other, placesLent, bytesLent, groupArguments, Arguments, end, given, atMost, numberedEdition, hex}
 use Rattle.script_parser.specs.Fields.{numbers, filled}
 
 pub record Form : Type 0 where
@@ -60,7 +60,7 @@ firstBase = 16
 
 -- how many first words there are
 abbrev pub firstWords : ℕ
-firstWords = 20
+firstWords = 21
 
 -- a place for none stands behind them
 abbrev pub formCount : ℕ
@@ -115,6 +115,7 @@ firstForms =
     ∷ (31 ⇛ record { count = 1; withSet = true; makes = λ ns set. upTo setBytes (at ns 0) (λ room. convert room set) })
     ∷ (33 ⇛ record { count = 1; withSet = true; makes = λ ns set. upTo placesLent (at ns 0) (λ room. depends room set) })
     ∷ (34 ⇛ record { count = 2; withSet = false; makes = λ ns set. upTo bytesLent (at ns 1) (print (at ns 0)) })
+    ∷ (36 ⇛ record { count = 1; withSet = false; makes = λ ns set. collectionLength (at ns 0) })
     ∷ []
 
 unfoldable pub formAt : ℕ → Form

@@ -124,6 +124,7 @@ first-form k h =
     also (λ a b c fs. tested-then (atMost placesLent) refl readHex _ fs)
     also (λ a b c fs. number-and-bounded bytesLent _ fs)
     also (λ a b c fs. refl)
+    also (λ a b c fs. refl)
     also (λ a b c fs. none-form fs)
     also tt)
     k (omega arith) (omega arith)

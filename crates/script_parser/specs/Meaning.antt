@@ -16,7 +16,7 @@ use Rattle.script_parser.specs.declared.GroupMember.{GroupMember}
 use Rattle.script_parser.specs.declared.SetupLine.{SetupLine}
 use Rattle.script_parser.specs.declared.SetupLine.the-variants.{Session, Node, Binding, Collection}
 use Rattle.script_parser.specs.declared.CallLine.{CallLine}
-use Rattle.script_parser.specs.declared.CallLine.the-variants.{Create, Apply, Show, ValueBinding, ValueNode, ValueEntry, MarkBinding, MarkNode, MarkEntry, Senders, Wait, Turn, Edition, Print}
+use Rattle.script_parser.specs.declared.CallLine.the-variants.{Create, Apply, Show, ValueBinding, ValueNode, ValueEntry, MarkBinding, MarkNode, MarkEntry, Senders, Wait, Turn, Edition, Print, Length}
 use Rattle.script_parser.specs.declared.SetLine.{SetLine}
 use Rattle.script_parser.specs.declared.SetLine.the-variants.{Batch, Check, List as Listed, Convert, Depends}
 use Rattle.script_parser.specs.declared.ScriptCommand.{ScriptCommand}
@@ -57,6 +57,7 @@ callOf (Wait s) = script.wait s
 callOf Turn = script.turn
 callOf (Edition ed) = script.edition (editionOf ed)
 callOf (Print c room) = script.print c room
+callOf (Length c) = script.collectionLength c
 
 abbrev pub withSetOf : SetLine → List ℕ → Command
 withSetOf (Batch b) = script.batch (envelopeOf b) (b .«target_references»)

@@ -26,7 +26,7 @@ ghost use Rattle.script_parser.specs.Meaning.{setFrom, commandOf};
 
 // How many numbers each form takes, and 0x10 more where a set stands behind them; 0 for a form of any number of fields. The second words stand before the first, each table in its
 // own order with a place for none behind it.
-const SHAPES: [usize; 37] = [
+const SHAPES: [usize; 38] = [
     1,
     1,
     1,
@@ -63,6 +63,7 @@ const SHAPES: [usize; 37] = [
     0x11,
     2,
     0,
+    1,
     0,
 ];
 
@@ -217,6 +218,7 @@ fn first_command(form: usize, values: [u64; NumberFields::MOST]) -> ScriptComman
         29 => ScriptCommand::Call(CallLine::Turn),
         30 => edition(first),
         34 => paper(first, second),
+        36 => ScriptCommand::Call(CallLine::Length(first)),
         _ => ScriptCommand::Other,
     }
 }

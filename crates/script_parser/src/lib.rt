@@ -62,6 +62,7 @@ pub enum CallLine {
     Turn,
     Edition(ProjectionPatchEdition),
     Print(u64, u64),
+    Length(u64),
 }
 
 // What a line asks for with its set; a conversion into so many bytes, and what the set depends on into so many places.

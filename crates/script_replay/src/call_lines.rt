@@ -33,5 +33,6 @@ pub(crate) fn call(state: ReplayState, wanted: CallLine, out: &mut [u8]) -> Repl
         CallLine::Print(collection, room) => {
             paper::print_collection(state, collection, room, out)
         }
+        CallLine::Length(collection) => views::collection_length(state, collection, out),
     }
 }

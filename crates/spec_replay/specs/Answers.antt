@@ -151,6 +151,10 @@ groupLines notAGroup = 85 ∷ fields (decimal groupNumber ∷ [])
 groupLines (taken n c) = 85 ∷ fields (decimal 0 ∷ decimal n ∷ cursorField c ∷ [])
 groupLines (refusedAt i a) = (85 ∷ fields (decimal 0 ∷ decimal 0 ∷ decimal i ∷ [])) ++ batchLine a
 
+-- length: Z and how many entries the collection has
+unfoldable pub lengthLine : ℕ → List ℕ
+lengthLine n = 90 ∷ fields (decimal n ∷ [])
+
 -- N: there is no session, or there are no senders
 unfoldable pub noSessionLine : List ℕ
 noSessionLine = 78 ∷ fields []

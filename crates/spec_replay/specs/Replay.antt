@@ -8,7 +8,7 @@ use Rattle.spec_lists.specs.Lists.{if_then_else_, isEmpty}
 use Rattle.spec_patch.specs.Sizes.{anchors}
 use Rattle.spec_patch.specs.Edition.{Edition, v1}
 use Rattle.spec_patch.specs.Read.{readSet}
-use Rattle.spec_projection.specs.Lookups.{bindingOf, availabilityOf, entryOf, bindingMark, availabilityMark, entryMark}
+use Rattle.spec_projection.specs.Lookups.{bindingOf, availabilityOf, entryOf, entryCount, bindingMark, availabilityMark, entryMark}
 use Rattle.spec_session.specs.Session as sessions
 use Rattle.spec_session.specs.Session.{Limits, BindingPair, Catalogue, Session, Creation, made, refused}
 use Rattle.spec_session.specs.Lifecycle.{LifecycleStep, lifecycleStep}
@@ -23,8 +23,8 @@ use Rattle.spec_turns.specs.Turns as turns
 use Rattle.spec_turns.specs.Turns.{Turns, SetUp, RegisterStep, TurnStep}
 use Rattle.spec_listing.specs.Listing.{projectionLines, listing}
 use Rattle.spec_replay.specs.Lines.{newline, split}
-use Rattle.spec_replay.specs.Script.{Command, nothing, session, node, binding, collection, create, apply, batch, check, list, show, valueBinding, valueNode, valueEntry, senders, wait, turn, edition, convert, markBinding, markNode, markEntry, depends, print, group, other, command}
-use Rattle.spec_replay.specs.Answers.{creationLine, lifecycleLine, batchLine, checkLines, valueLine, availabilityLine, setUpLine, registerLine, turnLine, conversionLine, markLine, dependencyLines, printLines, groupLines, noSessionLine, otherLine}
+use Rattle.spec_replay.specs.Script.{Command, nothing, session, node, binding, collection, create, apply, batch, check, list, show, valueBinding, valueNode, valueEntry, senders, wait, turn, edition, convert, markBinding, markNode, markEntry, depends, print, group, collectionLength, other, command}
+use Rattle.spec_replay.specs.Answers.{creationLine, lifecycleLine, batchLine, checkLines, valueLine, availabilityLine, setUpLine, registerLine, turnLine, conversionLine, markLine, dependencyLines, printLines, groupLines, lengthLine, noSessionLine, otherLine}
 
 -- what a creation takes
 pub record Setup : Type 0 where
@@ -153,6 +153,7 @@ replayLine n s (markEntry c k) = asked s (λ x. onward s (markLine (entryMark (x
 replayLine n s (depends room set) = onward s (dependencyLines (dependenciesOf (s .edition) set (replicate room 0)))
 replayLine n s (print c room) = asked s (λ x. onward s (printLines room (collectionPrint (x .projection) c)))
 replayLine n s (group bs sets) = asked s (λ x. grouped s (groups.group x bs sets))
+replayLine n s (collectionLength c) = asked s (λ x. onward s (lengthLine (entryCount (x .projection) c)))
 replayLine n s other = stops (otherLine n)
 
 -- ---- the whole script

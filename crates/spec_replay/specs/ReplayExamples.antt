@@ -24,7 +24,7 @@ use Rattle.spec_projection.specs.Projection.{Projection, empty, availabilityKey
 use Rattle.spec_projection.specs.Apply.{replaySteps, applySteps, operationsOf}
 use Rattle.spec_projection.specs.Entries.{isEntry}
 use Rattle.spec_projection.specs.FirstMatch.{findFirst}
-use Rattle.spec_projection.specs.Lookups.{availabilityOf, entriesIn, entriesOf, bindingMark, availabilityMark, entryMark}
+use Rattle.spec_projection.specs.Lookups.{availabilityOf, entriesIn, entriesOf, entryCount, bindingMark, availabilityMark, entryMark}
 use Rattle.spec_session.specs.Session.{closed, at, newSession, anchorsFit, create}
 use Rattle.spec_session.specs.Diagnostics.{diagnosticsOf}
 use Rattle.spec_session.specs.Lifecycle.{transition, dispositionOf, stateOf, withLifecycle, rejectLifecycle, enterLifecycle, lifecycleStep}
@@ -40,7 +40,7 @@ use Rattle.spec_listing.specs.Listing.{fields, recordCount, projectionLines, re
 use Rattle.spec_replay.specs.Lines.{prepend, split}
 use Rattle.spec_replay.specs.Hex.{hexDigit, hexByte, cons, hexPairs, readHex, hexCharacter, bytePair, hexField}
 use Rattle.spec_replay.specs.Script.{ascii, end, given, readBy, atMost, numberedEdition, byWord, stimuli, sessionArguments, bindingArguments, applyArguments, batchArguments, convertArguments, dependsArguments, printArguments, beforeLast, memberParts, memberField, groupLast, groupArguments, boundArguments, keyedArguments, values, marks, markArguments, valueArguments, commands, fieldsCommand, isRemark, command}
-use Rattle.spec_replay.specs.Answers.{dispositionField, lifecycleField, cursorField, placeField, sessionFields, creationLine, lifecycleLine, batchLine, checkedLine, checkLines, availabilityLine, setUpLine, registerLine, turnLine, conversionLine, markLine, keyLine, firstKeys, verdictLines, dependencyLines, printLines, groupLines, noSessionLine, otherLine}
+use Rattle.spec_replay.specs.Answers.{dispositionField, lifecycleField, cursorField, placeField, sessionFields, creationLine, lifecycleLine, batchLine, checkedLine, checkLines, availabilityLine, setUpLine, registerLine, turnLine, conversionLine, markLine, keyLine, firstKeys, verdictLines, dependencyLines, printLines, groupLines, lengthLine, noSessionLine, otherLine}
 use Rattle.spec_replay.specs.Replay.{State, noAnchors, start, keep, withSetup, withAnchors, withNode, withBinding, withSession, withTurns, withEdition, asked, askedTurns, created, applied, batched, grouped, settled, registered, turned, replayLine, replayLines, commandsOf, replayFrom, replay}
 
 prints : String → String → Bool
@@ -125,6 +125,9 @@ examples =
     ∷ prints "group 7,1,0,0,0,3,0 -\n" "?\t1\n"
     ∷ prints "group 7,1,0,0,0,1,0\n" "?\t1\n"
     ∷ prints "group 0,0,0,0,0,1,0 0,0,0,0,0,1,0 0,0,0,0,0,1,0 0,0,0,0,0,1,0 0,0,0,0,0,1,0 0,0,0,0,0,1,0 0,0,0,0,0,1,0 0,0,0,0,0,1,0 0,0,0,0,0,1,0 0,0,0,0,0,1,0 0,0,0,0,0,1,0 0,0,0,0,0,1,0 0,0,0,0,0,1,0 0,0,0,0,0,1,0 0,0,0,0,0,1,0 0,0,0,0,0,1,0 -\ngroup 0,0,0,0,0,1,0 0,0,0,0,0,1,0 0,0,0,0,0,1,0 0,0,0,0,0,1,0 0,0,0,0,0,1,0 0,0,0,0,0,1,0 0,0,0,0,0,1,0 0,0,0,0,0,1,0 0,0,0,0,0,1,0 0,0,0,0,0,1,0 0,0,0,0,0,1,0 0,0,0,0,0,1,0 0,0,0,0,0,1,0 0,0,0,0,0,1,0 0,0,0,0,0,1,0 0,0,0,0,0,1,0 0,0,0,0,0,1,0 -\n" "N\n?\t2\n"
+    -- how many entries a collection has: one, and none
+    ∷ printsMarked "length 9\nlength 8\n" "Z\t1\nZ\t0\n"
+    ∷ prints "length 9\nlength\n" "N\n?\t2\n"
     -- any other line ends the replay
     ∷ prints "create \nshow\n" "?\t1\n"
     ∷ prints "node 01\n" "?\t1\n"
@@ -150,11 +153,11 @@ unfolding examples prints closedWith printsAt marked printsMarked shows
     newTurns setUp refuseRegister startWaiting register after firstAsked firstWaiting nextSender numberAfter spendTurn turnFor turn
     encodeCounted encode allValues otherEdition conversionNumber unread allKinds rewritten convertTo convert
     walkPatches keysAtStart dependenciesBy dependencies allWords refusalNumber wordsWritten answerBy answerReading dependenciesOf
-    octets encodeScalar isEntry entriesIn entriesOf quadLetter printedValue lineCount textPieces columnOf keyLead laidOut printedLines entryLines collectionLines lineOctets collectionPrint
+    octets encodeScalar isEntry entriesIn entriesOf entryCount quadLetter printedValue lineCount textPieces columnOf keyLead laidOut printedLines entryLines collectionLines lineOctets collectionPrint
     isRejected totalBytes isGroup sendFirst runGroup withCursor concludeGroup group
     fields recordCount projectionLines refusalLine outcomeLines readingLines listing
     prepend split hexDigit hexByte cons hexPairs readHex hexCharacter bytePair hexField end given readBy atMost numberedEdition byWord stimuli sessionArguments bindingArguments applyArguments batchArguments convertArguments dependsArguments printArguments beforeLast memberParts memberField groupLast groupArguments
     boundArguments keyedArguments values marks markArguments valueArguments commands fieldsCommand isRemark command
-    dispositionField lifecycleField cursorField placeField sessionFields creationLine lifecycleLine batchLine checkedLine checkLines availabilityLine setUpLine registerLine turnLine conversionLine markLine keyLine firstKeys verdictLines dependencyLines printLines groupLines noSessionLine otherLine
+    dispositionField lifecycleField cursorField placeField sessionFields creationLine lifecycleLine batchLine checkedLine checkLines availabilityLine setUpLine registerLine turnLine conversionLine markLine keyLine firstKeys verdictLines dependencyLines printLines groupLines lengthLine noSessionLine otherLine
     noAnchors start keep withSetup withAnchors withNode withBinding withSession withTurns withEdition asked askedTurns created applied batched grouped settled registered turned replayLine replayLines commandsOf replayFrom replay
 replay-examples = tt

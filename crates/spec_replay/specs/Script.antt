@@ -44,6 +44,7 @@ pub data Command : Type 0 where
   depends : (room : ℕ) → (set : List ℕ) → Command
   print : (collection room : ℕ) → Command
   group : List GroupBatch → (sets : List ℕ) → Command
+  collectionLength : (collection : ℕ) → Command
   other : Command
 
 -- a line has at most 131,072 bytes without its LF
@@ -313,6 +314,7 @@ commands =
     ∷ (ascii "depends" ⇒ dependsArguments)
     ∷ (ascii "print" ⇒ printArguments)
     ∷ (ascii "group" ⇒ groupArguments)
+    ∷ (ascii "length" ⇒ number (λ n. end (collectionLength n)))
     ∷ []
 
 -- the fields of a line: a known word and its arguments

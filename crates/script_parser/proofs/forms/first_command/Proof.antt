@@ -85,7 +85,11 @@ returns-11 c = λ line. c .paper .ensures line ∙ by-form (c .before .before) 3
 
 returns-12 : tie.Need-returns-12
 unfolding formAt
-returns-12 c =
+returns-12 c = λ line. by-form (c .before) 36 (c .match .keys12)
+
+returns-13 : tie.Need-returns-13
+unfolding formAt
+returns-13 c =
     let form = c .before .args .form in
     let none = c .match .rest in
     λ line. rw (
@@ -106,6 +110,7 @@ returns-12 c =
       ne-eqb form 31 (no-set c 31 refl),
       ne-eqb form 33 (no-set c 33 refl),
       ne-eqb form 34 (search none),
+      ne-eqb form 36 (search none),
     )
 
 pub first-command-spec : {M : Type 1} → statement M
@@ -131,4 +136,5 @@ first-command-spec =
     returns-9
     returns-10
     returns-11
-    returns-12)
+    returns-12
+    returns-13)

@@ -91,6 +91,12 @@ enum-known-wanted-11 c = search needs
 print-collection-requires : tie.Need-print-collection-requires
 print-collection-requires c κs = search needs
 
+enum-known-wanted-12 : tie.Need-enum-known-wanted-12
+enum-known-wanted-12 c = search needs
+
+collection-length-requires : tie.Need-collection-length-requires
+collection-length-requires c κs = search needs
+
 same-length : tie.Need-same-length
 same-length c = search needs
 
@@ -190,6 +196,16 @@ returns-14 c =
     let told = called .before .before .before in
     λ m h n. line-step n m _ _ (ap callOf (sym (told .wanted11 .given .1))) (called .print-collection .ensures m h)
 
+same-length-14 : tie.Need-same-length-14
+same-length-14 c = search needs
+
+returns-15 : tie.Need-returns-15
+unfolding replayLine
+returns-15 c =
+    let called = c .before .before in
+    let told = called .before .before .before in
+    λ m h n. line-step n m _ _ (ap callOf (sym (told .wanted12 .given .1))) (called .collection-length .ensures m h)
+
 pub call-spec : {M : Type 1} → statement M
 call-spec =
     tie.close
@@ -222,6 +238,8 @@ call-spec =
     in-edition-requires
     enum-known-wanted-11
     print-collection-requires
+    enum-known-wanted-12
+    collection-length-requires
     same-length
     returns
     same-length-2
@@ -248,4 +266,6 @@ call-spec =
     returns-12
     returns-13
     same-length-13
-    returns-14)
+    returns-14
+    same-length-14
+    returns-15)
