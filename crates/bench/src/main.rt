@@ -1,11 +1,12 @@
 // Uses one set, session, projection, text or list many times. The input is a letter for the use, a space, how often in decimal, a line end and the data. What is
 // printed depends on the uses.
-//   r q k   reading, the quick check and the check of a set; the data is the set
+//   r q k d reading, the quick check and the check of a set, and what it depends on; the data is the set
 //   i       bringing in a term list; the data is the list
 //   t w     the UTF-8 check of a text, and the writing of a list that repeats it; the data is the text
 //   b v a e batches, and look-ups of bindings, availabilities and entries; o operations in place on a projection; p pages of 64 keys, x the same with each
 //           row taken apart, s as many single look-ups; the data is a set that fills the panel, a set that is applied to it and one that takes it back,
 //           each after its length as a u32
+mod dependencies;
 mod imports;
 mod lists;
 mod lookups;
@@ -80,6 +81,7 @@ fn with_data(way: u8, times: u64, rest: &[u8]) -> u64 {
 fn use_often(way: u8, data: &mut [u8], times: u64) -> u64 {
     match way {
         b'r' | b'q' | b'k' => sets::use_often(way, data, times),
+        b'd' => dependencies::depend_often(data, times),
         b'i' => imports::import_often(data, times),
         b't' => texts::check_often(data, times),
         b'w' => lists::write_often(data, times),

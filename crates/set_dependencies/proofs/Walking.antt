@@ -21,9 +21,10 @@ use Rattle.projection_patch.specs.declared.patch.ProjectionPatchOperation.the-v
 use Rattle.patch_walk.specs.Steps.{AtSteps}
 use Rattle.patch_walk.specs.StepsLaws.{Visited, Opened}
 use Rattle.patch_walk.specs.declared.SetCursor.{SetCursor}
-use Rattle.set_dependencies.specs.SettledRows.{SettledTable}
+use Rattle.set_dependencies.specs.SettledRows.{SettledIn, noPlaces}
+use Rattle.set_dependencies.specs.declared.settled_rows.SettledPlaces.{SettledPlaces}
 use Rattle.set_dependencies.specs.Settling.{SettlesTo, Judges}
-use Rattle.set_dependencies.specs.SettlingLaws.{table-length}
+use Rattle.set_dependencies.specs.SettlingLaws.{places-length}
 use Rattle.set_dependencies.specs.SetSettling.{SetSettlesTo}
 use Rattle.set_dependencies.specs.declared.settling.Settling.{Settling}
 use Rattle.set_dependencies.specs.declared.settling.Settling.the-variants as settling
@@ -41,25 +42,25 @@ expects-alike texts (CollectionMove c k b) = refl
 
 module _ (ed : Edition) (set : List ℕ) (whole : Walk) where
   -- operations of the open patch are left, then patches; settling their keys too gives what the whole walk gives
-  pub record Walking (c : SetCursor) (count opened patch index : ℕ) (table : List ℕ) : Type 0 where
+  pub record Walking (c : SetCursor) (places : SettledPlaces) (opened patch index : ℕ) (table : List ℕ) : Type 0 where
     pub os : List Operation
     pub ps : List Patch
     pub here : AtSteps ed set c os ps
     pub settled : List Settled
-    pub stored : SettledTable count table settled
+    pub stored : SettledIn places table settled
     -- 13 bytes for each key
-    pub few : 13 * count ≤ c .at
+    pub few : 13 * places .count ≤ c .at
     pub same : walkOn (walkOperations patch index os settled) (λ u. walkPatches opened ps u) ≡ whole
 
-  module _ {c : SetCursor} {count opened patch index : ℕ} {table : List ℕ} (w : Walking c count opened patch index table) where
-    pub walk-end : (w .os ≡ []) × (w .ps ≡ []) → SetSettlesTo whole (set-settling.Settled count) table
+  module _ {c : SetCursor} {places : SettledPlaces} {opened patch index : ℕ} {table : List ℕ} (w : Walking c places opened patch index table) where
+    pub walk-end : (w .os ≡ []) × (w .ps ≡ []) → SetSettlesTo whole (set-settling.Settled places) table
     unfolding walkOperations walkPatches
     walk-end all =
-        subst (λ x. SetSettlesTo x (set-settling.Settled count) table)
+        subst (λ x. SetSettlesTo x (set-settling.Settled places) table)
         (ap₂ (λ (os : List Operation) (ps : List Patch). walkOn (walkOperations patch index os (w .settled)) (λ u. walkPatches opened ps u)) (sym (all .0)) (sym (all .1)) ∙ w .same) (w .stored)
 
     -- a patch's head: its operations are left now, counted from 0
-    pub walk-head : {head : ProjectionPatch} {d : SetCursor} → Opened ed set c (w .os) (w .ps) head d → Walking d count (opened + 1) opened 0 table
+    pub walk-head : {head : ProjectionPatch} {d : SetCursor} → Opened ed set c (w .os) (w .ps) head d → Walking d places (opened + 1) opened 0 table
     unfolding walkOperations walkPatches
     walk-head o = record {
       os = o .first .operations;
@@ -102,24 +103,24 @@ module _ (ed : Edition) (set : List ℕ) (whole : Walk) where
           here = v .next;
           settled = u;
           stored = h;
-          few = omega (arith, w .few, position, expectations-bytes (v .first), judgeAll-length (expectations (v .first)) (w .settled) u e, table-length u h, table-length (w .settled) (w .stored));
+          few = omega (arith, w .few, position, expectations-bytes (v .first), judgeAll-length (expectations (v .first)) (w .settled) u e, places-length u h, places-length (w .settled) (w .stored));
           same = by-step (some u) e;
         }
         go settling.Contradiction none e h = sym (by-step none e)
         go settling.Contradiction (some u) e h = absurd h
 
-        after : (r : Settling) → Judges count table exit r (expectations (operationOf [] x)) → After exit r
+        after : (r : Settling) → Judges places table exit r (expectations (operationOf [] x)) → After exit r
         after r judges =
             let within = v .next .inside in
             go r (judgeAll (expectations (v .first)) (w .settled)) refl
-            (subst (Judges count table exit r) expected judges (w .settled) (w .stored) (omega (arith, w .few, position, expectations-bytes (v .first), within, short)))
+            (subst (Judges places table exit r) expected judges (w .settled) (w .stored) (omega (arith, w .few, position, expectations-bytes (v .first), within, short)))
 
-        pub walk-on : {r : Settling} {more : ℕ} → Judges count table exit r (expectations (operationOf [] x)) → r ≡ settling.Settled more → Walking d more opened patch (index + 1) exit
+        pub walk-on : {r : Settling} {more : SettledPlaces} → Judges places table exit r (expectations (operationOf [] x)) → r ≡ settling.Settled more → Walking d more opened patch (index + 1) exit
         walk-on {r} judges is = subst (After exit) is (after r judges)
 
-        pub walk-contradicts : {r : Settling} → Judges count table exit r (expectations (operationOf [] x)) → r ≡ settling.Contradiction → SetSettlesTo whole (set-settling.Contradiction patch index) exit
+        pub walk-contradicts : {r : Settling} → Judges places table exit r (expectations (operationOf [] x)) → r ≡ settling.Contradiction → SetSettlesTo whole (set-settling.Contradiction patch index) exit
         walk-contradicts {r} judges is = subst (λ y. SetSettlesTo y (set-settling.Contradiction patch index) exit) (sym (subst (After exit) is (after r judges))) (refl, refl)
 
-pub walk-start : (ed : Edition) (set : List ℕ) {c : SetCursor} {table : List ℕ} (ps : List Patch) → AtSteps ed set c [] ps → SettledTable 0 table [] → Walking ed set (walkPatches 0 ps []) c 0 0 0 0 table
+pub walk-start : (ed : Edition) (set : List ℕ) {c : SetCursor} {table : List ℕ} (ps : List Patch) → AtSteps ed set c [] ps → SettledIn noPlaces table [] → Walking ed set (walkPatches 0 ps []) c noPlaces 0 0 0 table
 unfolding walkOperations
 walk-start ed set ps here stored = record { os = []; ps = ps; here = here; settled = []; stored = stored; few = omega arith; same = refl }

@@ -21,7 +21,8 @@ use Rattle.projection_patch.specs.declared.read_values.ProjectionPatchReadFault
 use Rattle.check_findings.specs.Found.{isFound}
 use Rattle.check_quick.specs.QuickAnswers.{quickAnswer}
 use Rattle.check_quick.specs.declared.quick_set.QuickCheck.the-variants as quick
-use Rattle.set_dependencies.specs.SettledRows.{SettledTable}
+use Rattle.set_dependencies.specs.SettledRows.{SettledIn}
+use Rattle.set_dependencies.specs.declared.settled_rows.SettledPlaces.{SettledPlaces}
 use Rattle.set_dependencies.specs.SetSettling.{SetSettlesTo}
 use Rattle.set_dependencies.specs.DependsAnswers.{answerTo}
 use Rattle.set_dependencies.specs.declared.walk_set.SetSettling.the-variants as set-settling
@@ -63,9 +64,9 @@ module _ (t : List Settled) (lent : List ℕ) where
 -- ---- by the walk
 
 module _ (table : List ℕ) where
-  pub settled-walk : (w : Walk) (n : ℕ) → SetSettlesTo w (set-settling.Settled n) table → (t : List Settled) × (w ≡ settles t) × SettledTable n table t
-  settled-walk (settles t) n h = (t, refl, h)
-  settled-walk (contradicts p o) n h = absurd h
+  pub settled-walk : (w : Walk) (p : SettledPlaces) → SetSettlesTo w (set-settling.Settled p) table → (t : List Settled) × (w ≡ settles t) × SettledIn p table t
+  settled-walk (settles t) p h = (t, refl, h)
+  settled-walk (contradicts q o) p h = absurd h
 
   pub contradicted-walk : (w : Walk) (i j : ℕ) → SetSettlesTo w (set-settling.Contradiction i j) table → w ≡ contradicts i j
   contradicted-walk (settles t) i j h = absurd h

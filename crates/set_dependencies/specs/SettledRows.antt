@@ -1,9 +1,9 @@
 -- How settled keys are stored: one row for each, in the order of their keys.
-use Prim.Native.Nat.{ℕ, _+_, _*_, _/_}
+use Prim.Native.Nat.{ℕ, _+_, _*_, _/_, _≤_}
 use mathlib.Core.Path.{_≡_}
 use mathlib.Core.Bool.{Bool, true, false}
 use mathlib.Core.List.{List, [], _∷_, _++_, map}
-use lib.ListN.{length}
+use lib.ListN.{length, drop}
 use Rattle.spec_lists.specs.Lists.{All}
 use Rattle.spec_lists.specs.Order.{Ascending}
 use Rattle.spec_patch.specs.Sizes.{setBytes}
@@ -12,6 +12,7 @@ use Rattle.spec_patch.specs.Fits.{U64}
 use Rattle.spec_dependencies.specs.Settled.{Settled, settledKey}
 use Rattle.bytes_records.specs.Table.{Holds}
 use Rattle.set_dependencies.specs.declared.settled_rows.SettledKey.{SettledKey}
+use Rattle.set_dependencies.specs.declared.settled_rows.SettledPlaces.{SettledPlaces}
 
 -- the collection and the key, in bytes
 abbrev pub rowFields : List ℕ
@@ -41,9 +42,28 @@ pub record FitsSettled (s : Settled) : Type 0 where
   pub collection : U64 (s .collection)
   pub key : U64 (s .key)
 
--- a table of so many rows stores what is settled
+-- so many rows store what is settled
 pub record SettledTable (count : ℕ) (table : List ℕ) (t : List Settled) : Type 0 where
-  pub size : length table ≡ rowCapacity * rowWidth
   pub rows : Holds rowWidth count table (map settledRow t)
   pub fit : All FitsSettled t
   pub ascending : Ascending settledKey t
+
+-- ---- a table that grows to both sides
+
+-- the table has these rows, from the place on at which they start: that of the first row is in the middle, and there is room for as many as a set can
+-- look for on either side of it
+pub record RowsIn (p : SettledPlaces) (table : List ℕ) (rows : List (List ℕ)) : Type 0 where
+  pub size : length table ≡ 2 * (rowCapacity * rowWidth)
+  pub low : p .start ≤ rowCapacity
+  pub high : rowCapacity ≤ p .start + p .count
+  pub held : Holds rowWidth (p .count) (drop (p .start * rowWidth) table) rows
+
+-- its rows store what is settled
+pub record SettledIn (p : SettledPlaces) (table : List ℕ) (t : List Settled) : Type 0 where
+  pub rows : RowsIn p table (map settledRow t)
+  pub fit : All FitsSettled t
+  pub ascending : Ascending settledKey t
+
+-- no rows yet
+abbrev pub noPlaces : SettledPlaces
+noPlaces = record { start = rowCapacity; count = 0 }

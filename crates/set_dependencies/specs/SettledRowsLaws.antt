@@ -1,11 +1,12 @@
 -- Laws of settled rows: their width, that they ascend as their keys do, and what stands at a position.
-use Prim.Native.Nat.{ℕ, zero, suc, _*_, _<_}
-use mathlib.Core.Path.{_≡_, refl, sym, ap, _∙_}
+use Prim.Native.Nat.{ℕ, zero, suc, _*_, _≤_, _<_}
+use mathlib.Core.Path.{_≡_, refl, sym, ap, _∙_, subst}
 use mathlib.Core.Bool.{Bool, true, false, not}
 use mathlib.Core.List.{List, [], _∷_, map}
 use native.Mathlib.Omega.{arith}
 use lib.Dec.{eqb}
-use lib.ListN.{length, getD, length-append, length-replicate}
+use lib.ListN.{length, drop, getD, length-append, length-replicate}
+use lib.Seq.{drop-at}
 use Rattle.spec_lists.specs.Lists.{All}
 use Rattle.spec_lists.specs.ListLaws.{all-map, all-member, getD-member}
 use Rattle.spec_lists.specs.BytesLaws.{length-littleEndian}
@@ -16,9 +17,10 @@ use Rattle.bytes_records.specs.KeysLaws.{leading-number}
 use Rattle.bytes_records.specs.Search.{placeOf}
 use Rattle.bytes_records.specs.SearchLaws.{place-map}
 use Rattle.bytes_records.specs.Moves.{zeros}
-use Rattle.bytes_records.specs.Table.{Wide}
-use Rattle.bytes_records.specs.TableLaws.{holds-none}
-use Rattle.set_dependencies.specs.SettledRows.{rowFields, flag, settledRow, rowWidth, rowCapacity, FitsSettled, SettledTable}
+use Rattle.bytes_records.specs.Table.{Wide, Holds}
+use Rattle.bytes_records.specs.TableLaws.{zeros-split, holds-none}
+use Rattle.set_dependencies.specs.SettledRows.{rowFields, flag, settledRow, rowWidth, rowCapacity, FitsSettled, SettledTable, RowsIn, SettledIn, noPlaces}
+use Rattle.set_dependencies.specs.declared.settled_rows.SettledPlaces.{SettledPlaces}
 
 pub row-wide : (s : Settled) → Wide rowWidth (settledRow s)
 unfolding settledRow
@@ -78,7 +80,30 @@ pub not-false : (a : Bool) → not a ≡ false → a ≡ true
 not-false true h = refl
 not-false false h = sym h
 
+-- ---- places
+
+module _ {p : SettledPlaces} {table : List ℕ} where
+  -- the table reaches to the place of the first row
+  pub start-within : {rows : List (List ℕ)} → RowsIn p table rows → p .start * rowWidth ≤ length table
+  start-within h = omega (arith, h .size, h .low)
+
+  -- the rows from that place on
+  pub settled-rows : {t : List Settled} → SettledIn p table t → SettledTable (p .count) (drop (p .start * rowWidth) table) t
+  settled-rows s = record { rows = s .rows .held; fit = s .fit; ascending = s .ascending }
+
 -- ---- no rows
 
-pub none-settled : SettledTable 0 (zeros (rowCapacity * rowWidth)) []
-none-settled = record { size = length-replicate {A = ℕ} (rowCapacity * rowWidth) 0; rows = holds-none rowWidth (rowCapacity * rowWidth); fit = tt; ascending = tt }
+pub none-settled : SettledIn noPlaces (zeros (2 * (rowCapacity * rowWidth))) []
+none-settled = record {
+  rows = record {
+    size = length-replicate {A = ℕ} (2 * (rowCapacity * rowWidth)) 0;
+    low = omega arith;
+    high = omega arith;
+    held = subst (λ (l : List ℕ). Holds rowWidth 0 l []) (sym half) (holds-none rowWidth (rowCapacity * rowWidth));
+  };
+  fit = tt;
+  ascending = tt;
+}
+  where
+    half : drop (rowCapacity * rowWidth) (zeros (2 * (rowCapacity * rowWidth))) ≡ zeros (rowCapacity * rowWidth)
+    half = ap (drop (rowCapacity * rowWidth)) (zeros-split (rowCapacity * rowWidth) (2 * (rowCapacity * rowWidth)) (omega arith)) ∙ drop-at (zeros (rowCapacity * rowWidth)) (zeros (rowCapacity * rowWidth)) (rowCapacity * rowWidth) (length-replicate {A = ℕ} (rowCapacity * rowWidth) 0)

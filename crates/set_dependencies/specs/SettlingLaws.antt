@@ -6,47 +6,57 @@ use mathlib.Core.List.{List, [], _∷_, map}
 use mathlib.Core.Option.{Option, none, some}
 use native.Mathlib.Omega.{arith}
 use lib.ListN.{length, getD, length-map}
-use Rattle.spec_lists.specs.Order.{upsert}
+use Rattle.spec_lists.specs.Lists.{All}
+use Rattle.spec_lists.specs.Order.{Ascending, upsert}
 use Rattle.spec_lists.specs.OrderLaws.{upsert-all, upsert-ascending}
 use Rattle.spec_patch.specs.Fits.{U64}
 use Rattle.spec_dependencies.specs.Expectations.{Expectation}
 use Rattle.spec_dependencies.specs.Settled.{Settled, settledKey, settledBy, judgeBy, judge, further, judgeAll}
 use Rattle.spec_dependencies.specs.CountLaws.{judgeAll-length}
 use Rattle.bytes_records.specs.Positions.{insertAt, replaceAt}
-use Rattle.bytes_records.specs.Table.{Holds, Changed, canInsert, canReplace}
-use Rattle.bytes_records.specs.TableLaws.{can-insert, can-replace}
+use Rattle.bytes_records.specs.Table.{Holds, Changed, canReplace}
+use Rattle.bytes_records.specs.TableLaws.{can-replace}
 use Rattle.bytes_records.specs.Search.{placeOf, upsertAt}
 use Rattle.bytes_records.specs.SearchLaws.{upsert-place, map-upsertAt}
 use Rattle.bytes_records.specs.declared.Place.{Place}
 use Rattle.bytes_records.specs.declared.Place.the-variants.{Taken, Before}
-use Rattle.set_dependencies.specs.SettledRows.{settledRow, rowWidth, rowCapacity, FitsSettled, SettledTable}
-use Rattle.set_dependencies.specs.SettledRowsLaws.{row-wide, noKey}
+use Rattle.set_dependencies.specs.SettledRows.{settledRow, rowWidth, FitsSettled, SettledTable, RowsIn, SettledIn}
+use Rattle.set_dependencies.specs.SettledRowsLaws.{row-wide, noKey, settled-rows}
 use Rattle.set_dependencies.specs.PlaceLaws.{Tells, place-tells}
-use Rattle.set_dependencies.specs.Settling.{SettlesTo}
+use Rattle.set_dependencies.specs.Settling.{SettlesAgain, SettlesTo}
+use Rattle.set_dependencies.specs.declared.settled_rows.SettledPlaces.{SettledPlaces}
 use Rattle.set_dependencies.specs.declared.settling.Settling.{Settling}
 use Rattle.set_dependencies.specs.declared.settling.Settling.the-variants as settling
 
 pub table-length : {count : ℕ} {table : List ℕ} (t : List Settled) → SettledTable count table t → length t ≡ count
 table-length t s = sym (length-map t settledRow) ∙ s .rows .counted
 
-module _ (e : Expectation) (fits : U64 (e .collection) × U64 (e .key)) {count : ℕ} {table : List ℕ} (t : List Settled) (s : SettledTable count table t) where
+pub places-length : {p : SettledPlaces} {table : List ℕ} (t : List Settled) → SettledIn p table t → length t ≡ p .count
+places-length t s = table-length t (settled-rows s)
+
+module _ (e : Expectation) (fits : U64 (e .collection) × U64 (e .key)) (t : List Settled) (fit : All FitsSettled t) (ascending : Ascending settledKey t) where
   abbrev place : Place
   place = placeOf settledKey (e .collection ∷ e .key ∷ []) t
 
   tells : (p : Place) → place ≡ p → Tells settledKey (e .collection ∷ e .key ∷ []) noKey p t
-  tells p is = subst (λ q. Tells settledKey (e .collection ∷ e .key ∷ []) noKey q t) is (place-tells settledKey (e .collection ∷ e .key ∷ []) noKey t (s .ascending))
+  tells p is = subst (λ q. Tells settledKey (e .collection ∷ e .key ∷ []) noKey q t) is (place-tells settledKey (e .collection ∷ e .key ∷ []) noKey t ascending)
 
-  -- the rows with the key's row at its place store the keys with it
-  stored : (b : Bool) (p : Place) → place ≡ p → (exit : List ℕ) → length exit ≡ length table → (m : ℕ)
-      → Holds rowWidth m exit (upsertAt p (settledRow (settledBy b e)) (map settledRow t)) → SettledTable m exit (upsert settledKey (settledBy b e) t)
-  unfolding settledBy settledKey
-  stored b p is exit same m h = record {
-    size = same ∙ s .size;
-    rows = subst (Holds rowWidth m exit)
-        (ap (λ q. upsertAt q (settledRow (settledBy b e)) (map settledRow t)) (sym is) ∙ sym (map-upsertAt settledRow place (settledBy b e) t) ∙ ap (map settledRow) (sym (upsert-place settledKey (settledBy b e) t))) h;
-    fit = upsert-all settledKey FitsSettled (settledBy b e) t (record { collection = fits .0; key = fits .1 }) (s .fit);
-    ascending = upsert-ascending settledKey (settledBy b e) t (s .ascending);
-  }
+  module _ (b : Bool) where
+    -- the keys with that of the expectation
+    abbrev more : List Settled
+    more = upsert settledKey (settledBy b e) t
+
+    -- their rows are the rows with its row at its place
+    more-rows : (p : Place) → place ≡ p → upsertAt p (settledRow (settledBy b e)) (map settledRow t) ≡ map settledRow more
+    unfolding settledBy settledKey
+    more-rows p is = ap (λ q. upsertAt q (settledRow (settledBy b e)) (map settledRow t)) (sym is) ∙ sym (map-upsertAt settledRow place (settledBy b e) t) ∙ ap (map settledRow) (sym (upsert-place settledKey (settledBy b e) t))
+
+    more-fit : All FitsSettled more
+    unfolding settledBy
+    more-fit = upsert-all settledKey FitsSettled (settledBy b e) t (record { collection = fits .0; key = fits .1 }) fit
+
+    more-ascending : Ascending settledKey more
+    more-ascending = upsert-ascending settledKey (settledBy b e) t ascending
 
   -- ---- a key that is settled already
 
@@ -58,43 +68,54 @@ module _ (e : Expectation) (fits : U64 (e .collection) × U64 (e .key)) {count :
     pub old-within : at < length t
     old-within = tells (Taken at) is .0
 
-    pub contradicts-old : Bool·beq (old .now) (e .expected) ≡ false → (exit : List ℕ) → SettlesTo (judge e t) settling.Contradiction exit
+    pub contradicts-old : Bool·beq (old .now) (e .expected) ≡ false → (count : ℕ) (exit : List ℕ) → SettlesAgain (judge e t) count false exit
     unfolding judge judgeBy
-    contradicts-old a exit = rw (tells (Taken at) is .1, a) tt
+    contradicts-old a count exit = rw (tells (Taken at) is .1, a) tt
 
-    pub settles-again : Bool·beq (old .now) (e .expected) ≡ true → (exit : List ℕ) → length exit ≡ length table → (row : List ℕ) → row ≡ settledRow (settledBy (old .atStart) e) → {answer : Bool}
-        → Changed rowWidth count count (replaceAt at row) (canReplace (length table) rowWidth count at row) table exit answer → SettlesTo (judge e t) (settling.Settled count) exit
+    pub settles-again : Bool·beq (old .now) (e .expected) ≡ true → {count : ℕ} {table : List ℕ} → SettledTable count table t → (exit row : List ℕ) → row ≡ settledRow (settledBy (old .atStart) e) → {answer : Bool}
+        → Changed rowWidth count count (replaceAt at row) (canReplace (length table) rowWidth count at row) table exit answer → SettlesAgain (judge e t) count answer exit
     unfolding judge judgeBy upsertAt
-    settles-again a exit same row r c =
+    settles-again a {count} s exit row r c =
         let wide : length row ≡ rowWidth = ap length r ∙ row-wide (settledBy (old .atStart) e) in
-        let h = c .made (c .told ∙ can-replace (s .rows) at row (omega (arith, old-within, table-length t s)) wide) (map settledRow t) (s .rows) in
-        rw (tells (Taken at) is .1, a) (stored (old .atStart) (Taken at) is exit same count (subst (λ x. Holds rowWidth count exit (replaceAt at x (map settledRow t))) r h))
+        let done = c .told ∙ can-replace (s .rows) at row (omega (arith, old-within, table-length t s)) wide in
+        let h = c .made done (map settledRow t) (s .rows) in
+        let kept : SettledTable count exit (more (old .atStart)) = record {
+          rows = subst (Holds rowWidth count exit) (ap (λ x. replaceAt at x (map settledRow t)) r ∙ more-rows (old .atStart) (Taken at) is) h;
+          fit = more-fit (old .atStart);
+          ascending = more-ascending (old .atStart);
+        } in
+        rw (done, tells (Taken at) is .1, a) kept
 
   -- ---- a key that is not settled yet
 
-  pub settles-first : (at : ℕ) → place ≡ Before at → count < rowCapacity → (exit : List ℕ) → length exit ≡ length table → (row : List ℕ) → row ≡ settledRow (settledBy (e .expected) e) → {answer : Bool}
-      → Changed rowWidth count (count + 1) (insertAt at row) (canInsert (length table) rowWidth count at row) table exit answer → SettlesTo (judge e t) (settling.Settled (count + 1)) exit
-  unfolding judge judgeBy upsertAt
-  settles-first at is room exit same row r c =
-      let wide : length row ≡ rowWidth = ap length r ∙ row-wide (settledBy (e .expected) e) in
-      let here = tells (Before at) is in
-      let h = c .made (c .told ∙ can-insert (s .rows) at row (omega (arith, here .0, table-length t s)) wide (omega (arith, s .size))) (map settledRow t) (s .rows) in
-      rw (here .1) (stored (e .expected) (Before at) is exit same (count + 1) (subst (λ x. Holds rowWidth (count + 1) exit (insertAt at x (map settledRow t))) r h))
+  module _ (at : ℕ) (is : place ≡ Before at) where
+    pub first-within : at ≤ length t
+    first-within = tells (Before at) is .0
+
+    pub settles-first : (p : SettledPlaces) (exit row : List ℕ) → row ≡ settledRow (settledBy (e .expected) e) → RowsIn p exit (insertAt at row (map settledRow t)) → SettlesTo (judge e t) (settling.Settled p) exit
+    unfolding judge judgeBy upsertAt
+    settles-first p exit row r h =
+        let kept : SettledIn p exit (more (e .expected)) = record {
+          rows = subst (RowsIn p exit) (ap (λ x. insertAt at x (map settledRow t)) r ∙ more-rows (e .expected) (Before at) is) h;
+          fit = more-fit (e .expected);
+          ascending = more-ascending (e .expected);
+        } in
+        rw (tells (Before at) is .1) kept
 
 -- ---- one expectation after another
 
 -- a table has at most one row more
-pub judged-count : (e : Expectation) {count more : ℕ} {table : List ℕ} (t : List Settled) → SettledTable count table t → (exit : List ℕ) → SettlesTo (judge e t) (settling.Settled more) exit → more ≤ count + 1
+pub judged-count : (e : Expectation) {p : SettledPlaces} (more : SettledPlaces) {table : List ℕ} (t : List Settled) → SettledIn p table t → (exit : List ℕ) → SettlesTo (judge e t) (settling.Settled more) exit → more .count ≤ p .count + 1
 unfolding judgeAll
-judged-count e {count} {more} {table} t s exit h = go (judge e t) refl h
+judged-count e {p} more {table} t s exit h = go (judge e t) refl h
   where
-    go : (x : Option (List Settled)) → judge e t ≡ x → SettlesTo x (settling.Settled more) exit → more ≤ count + 1
+    go : (x : Option (List Settled)) → judge e t ≡ x → SettlesTo x (settling.Settled more) exit → more .count ≤ p .count + 1
     go none is h = absurd h
-    go (some u) is h = omega (arith, judgeAll-length (e ∷ []) t u (rw is), table-length t s, table-length u h)
+    go (some u) is h = omega (arith, judgeAll-length (e ∷ []) t u (rw is), places-length t s, places-length u h)
 
 -- the others go on from what the first settled
-pub judged-on : (e : Expectation) (es : List Expectation) {more : ℕ} {middle : List ℕ} (t : List Settled) → SettlesTo (judge e t) (settling.Settled more) middle
-    → (r : Settling) (exit : List ℕ) → ((u : List Settled) → SettledTable more middle u → SettlesTo (judgeAll es u) r exit) → SettlesTo (judgeAll (e ∷ es) t) r exit
+pub judged-on : (e : Expectation) (es : List Expectation) {more : SettledPlaces} {middle : List ℕ} (t : List Settled) → SettlesTo (judge e t) (settling.Settled more) middle
+    → (r : Settling) (exit : List ℕ) → ((u : List Settled) → SettledIn more middle u → SettlesTo (judgeAll es u) r exit) → SettlesTo (judgeAll (e ∷ es) t) r exit
 unfolding judgeAll
 judged-on e es {more} {middle} t h r exit later = go (judge e t) h
   where

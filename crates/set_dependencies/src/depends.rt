@@ -69,7 +69,11 @@ fn depends_clean(set: &[u8], edition: ProjectionPatchEdition, out: &mut [u64]) -
     let mut table = [0u8; settled_rows::TABLE_BYTES];
     match patch_walk::open_set(set, edition) {
         SetOpening::At(start) => match walk_set::settle_steps(set, edition, start, &mut table) {
-            SetSettling::Settled(count) => list_keys(&table, count, out),
+            SetSettling::Settled(places) => list_keys(
+                settled_rows::rows_from(&table, places.start),
+                places.count,
+                out,
+            ),
             SetSettling::Contradiction { patch, operation } => DependenciesAnswer::Never {
                 patch,
                 operation,

@@ -2,6 +2,7 @@
 // findings settles its keys in a sorted table; the two lists are written from it.
 pub mod depends;
 pub mod find_settled;
+pub mod insert_settled;
 pub mod settled_rows;
 pub mod settling;
 pub mod walk_set;

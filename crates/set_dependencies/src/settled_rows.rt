@@ -1,8 +1,10 @@
 // Rows of settled keys: the collection and the key, then whether it must be there at the start, and whether it is there now.
 use projection_patch::patch::ProjectionPatchSet;
 ghost use mathlib.Core.Path.{_≡_};
+ghost use Prim.Native.Nat.{_*_, _≤_};
+ghost use lib.ListN.{length, drop};
 ghost use Rattle.spec_dependencies.specs.Settled.{Settled};
-ghost use Rattle.set_dependencies.specs.SettledRows.{flag, settledRow, settledOf, FitsSettled};
+ghost use Rattle.set_dependencies.specs.SettledRows.{rowWidth, flag, settledRow, settledOf, FitsSettled};
 
 // Where the key stands in a row, and the two bytes behind it.
 pub const KEY: usize = 8;
@@ -19,7 +21,25 @@ const KEY_BYTES: usize = 13;
 // So many keys a set can look for.
 pub const ROWS: usize = ProjectionPatchSet::BYTES / KEY_BYTES;
 
-pub const TABLE_BYTES: usize = ROWS * WIDTH;
+// So many rows before the first row's place, and as many behind it: a table grows to both sides.
+pub const TABLE_BYTES: usize = 2 * ROWS * WIDTH;
+
+// Where the rows of a table begin, counted in rows, and how many they are.
+pub struct SettledPlaces {
+    pub start: usize,
+    pub count: usize,
+}
+
+// The table from a row on, or no bytes where it has no such row.
+pub fn rows_from(table: &[u8], start: usize) -> &[u8]
+    ensures { λ r. ⌜ (start * rowWidth ≤ length (now (table .entry)) → now r ≡ drop (start * rowWidth) (now (table .entry))) ⌝ }
+{
+    if table.len() / WIDTH < start {
+        return &table[..0];
+    }
+    let from = start * WIDTH;
+    &table[from..]
+}
 
 pub struct SettledKey {
     pub collection: u64,

@@ -1,7 +1,9 @@
 // What operations expect of keys, judged one after the other by what is settled so far.
 use crate::find_settled;
+use crate::insert_settled;
 use crate::settled_rows;
 use crate::settled_rows::SettledKey;
+use crate::settled_rows::SettledPlaces;
 use bytes_records::Place;
 use projection_patch::contract_primitives::CollectionKey;
 use projection_patch::contract_primitives::StaticNodeId;
@@ -15,8 +17,9 @@ ghost use Rattle.spec_dependencies.specs.Settled.{Settled, settledKey, judge};
 ghost use Rattle.bytes_records.specs.Search.{placeOf};
 ghost use Rattle.bytes_records.specs.declared.Place.the-variants.{Taken, Before};
 ghost use Rattle.projection_patch.specs.Meaning.{beforeOf, operationOf};
-ghost use Rattle.set_dependencies.specs.SettledRows.{rowCapacity, SettledTable};
-ghost use Rattle.set_dependencies.specs.Settling.{expectedOf, leftOf, expectationOf, SettlesTo, Judges};
+ghost use Rattle.set_dependencies.specs.SettledRows.{rowCapacity, SettledTable, SettledIn};
+ghost use Rattle.set_dependencies.specs.Settling.{expectedOf, leftOf, expectationOf, SettlesAgain, SettlesTo, Judges};
+ghost use Rattle.set_dependencies.specs.declared.settling.Settling.the-variants as settling;
 
 // What an operation does with a key that it looks for: an added one must be absent, the others must be there; a taken one is gone afterwards.
 pub enum KeyUse {
@@ -49,29 +52,29 @@ impl KeyUse {
     }
 }
 
-// How many rows the table has now, or that the key is not as expected. A table that is full answers so too; one of as many rows as a set
+// Where the rows of the table are now, or that the key is not as expected. A table that is full stays as it is; one of as many rows as a set
 // can look for never is.
 pub enum Settling {
-    Settled(usize),
+    Settled(SettledPlaces),
     Contradiction,
 }
 
-// A key that is settled already, in the row at position `at`: it keeps what it must be at the start.
+// Whether a key that is settled already, in the row at position `at`, is as expected; it keeps what it must be at the start.
 fn settle_again(
-    table: &mut [u8],
+    rows: &mut [u8],
     count: usize,
     at: usize,
     collection: u64,
     key: u64,
     key_use: KeyUse,
-) -> Settling
-    ensures { λ r. ⌜ ((t : List Settled) → SettledTable count (now (table .entry)) t → placeOf settledKey (collection ∷ key ∷ []) t ≡ Taken at
-        → SettlesTo (judge (expectationOf collection key «key_use») t) r (now (table .exit))) ⌝ }
+) -> bool
+    ensures { λ r. ⌜ ((t : List Settled) → SettledTable count (now (rows .entry)) t → placeOf settledKey (collection ∷ key ∷ []) t ≡ Taken at
+        → SettlesAgain (judge (expectationOf collection key «key_use») t) count r (now (rows .exit))) ⌝ }
 {
-    let row = bytes_records::record_at(table, settled_rows::WIDTH, count, at);
+    let row = bytes_records::record_at(rows, settled_rows::WIDTH, count, at);
     let old = settled_rows::settled_key(row);
     if old.present != key_use.expected() {
-        return Settling::Contradiction;
+        return false;
     }
     let new = settled_rows::settled_row(SettledKey {
         collection,
@@ -79,59 +82,84 @@ fn settle_again(
         at_start: old.at_start,
         present: key_use.left(),
     });
-    bytes_records::replace_record(table, settled_rows::WIDTH, count, at, &new);
-    Settling::Settled(count)
+    bytes_records::replace_record(rows, settled_rows::WIDTH, count, at, &new)
 }
 
 // A key that is not settled yet, before the row at position `at`: it must be at the start as expected.
 fn settle_first(
     table: &mut [u8],
-    count: usize,
+    places: SettledPlaces,
     at: usize,
     collection: u64,
     key: u64,
     key_use: KeyUse,
-) -> Settling
-    ensures { λ r. ⌜ ((t : List Settled) → SettledTable count (now (table .entry)) t → placeOf settledKey (collection ∷ key ∷ []) t ≡ Before at
-        → count < rowCapacity → SettlesTo (judge (expectationOf collection key «key_use») t) r (now (table .exit))) ⌝ }
+) -> SettledPlaces
+    ensures { λ r. ⌜ ((t : List Settled) → SettledIn places (now (table .entry)) t → placeOf settledKey (collection ∷ key ∷ []) t ≡ Before at
+        → places .count < rowCapacity → SettlesTo (judge (expectationOf collection key «key_use») t) (settling.Settled r) (now (table .exit))) ⌝ }
 {
-    if settled_rows::ROWS <= count {
-        return Settling::Contradiction;
-    }
     let row = settled_rows::settled_row(SettledKey {
         collection,
         key,
         at_start: key_use.expected(),
         present: key_use.left(),
     });
-    bytes_records::insert_record(table, settled_rows::WIDTH, count, at, &row);
-    Settling::Settled(count + 1)
+    insert_settled::insert_near(table, places, at, &row)
 }
 
 // Judges one key that an operation looks for.
-fn settle(table: &mut [u8], count: usize, collection: u64, key: u64, key_use: KeyUse) -> Settling
-    ensures { λ r. ⌜ ((t : List Settled) → SettledTable count (now (table .entry)) t → count < rowCapacity
+fn settle(
+    table: &mut [u8],
+    places: SettledPlaces,
+    collection: u64,
+    key: u64,
+    key_use: KeyUse,
+) -> Settling
+    ensures { λ r. ⌜ ((t : List Settled) → SettledIn places (now (table .entry)) t → places .count < rowCapacity
         → SettlesTo (judge (expectationOf collection key «key_use») t) r (now (table .exit))) ⌝ }
 {
-    match find_settled::find_by_halving(table, settled_rows::WIDTH, count, collection, key) {
-        Place::Taken(at) => settle_again(table, count, at, collection, key, key_use),
-        Place::Before(at) => settle_first(table, count, at, collection, key, key_use),
+    let rows = settled_rows::rows_from(table, places.start);
+    match find_settled::find_by_halving(rows, settled_rows::WIDTH, places.count, collection, key) {
+        Place::Taken(at) => {
+            if table.len() / settled_rows::WIDTH < places.start {
+                return Settling::Contradiction;
+            }
+            let from = places.start * settled_rows::WIDTH;
+            if settle_again(
+                &mut table[from..],
+                places.count,
+                at,
+                collection,
+                key,
+                key_use,
+            ) {
+                return Settling::Settled(places);
+            }
+            Settling::Contradiction
+        }
+        Place::Before(at) => Settling::Settled(settle_first(
+            table,
+            places,
+            at,
+            collection,
+            key,
+            key_use,
+        )),
     }
 }
 
 // Judges the key of an operation, and then that a named neighbour is there.
 fn settle_beside(
     table: &mut [u8],
-    count: usize,
+    places: SettledPlaces,
     collection: StaticNodeId,
     key: CollectionKey,
     key_use: KeyUse,
     before: OptionalKey,
 ) -> Settling
-    ensures { λ r. ⌜ Judges count (now (table .entry)) (now (table .exit)) r (expectationOf (collection .0) (key .0) «key_use» ∷ neighbour (collection .0) (beforeOf before)) ⌝ }
+    ensures { λ r. ⌜ Judges places (now (table .entry)) (now (table .exit)) r (expectationOf (collection .0) (key .0) «key_use» ∷ neighbour (collection .0) (beforeOf before)) ⌝ }
 {
     let node = collection.raw();
-    match settle(table, count, node, key.raw(), key_use) {
+    match settle(table, places, node, key.raw(), key_use) {
         Settling::Settled(more) => match before {
             OptionalKey::None => Settling::Settled(more),
             OptionalKey::Some(beside) => settle(table, more, node, beside.raw(), KeyUse::Kept),
@@ -143,33 +171,33 @@ fn settle_beside(
 // Judges what an operation expects. Bindings and availabilities expect nothing.
 pub fn settle_operation(
     table: &mut [u8],
-    count: usize,
+    places: SettledPlaces,
     operation: ProjectionPatchOperation,
 ) -> Settling
-    ensures { λ r. ⌜ Judges count (now (table .entry)) (now (table .exit)) r (expectations (operationOf [] operation)) ⌝ }
+    ensures { λ r. ⌜ Judges places (now (table .entry)) (now (table .exit)) r (expectations (operationOf [] operation)) ⌝ }
 {
     let alone = OptionalKey::None;
     match operation {
-        ProjectionPatchOperation::SetBindingValue { .. } => Settling::Settled(count),
-        ProjectionPatchOperation::SetNodeAvailability { .. } => Settling::Settled(count),
+        ProjectionPatchOperation::SetBindingValue { .. } => Settling::Settled(places),
+        ProjectionPatchOperation::SetNodeAvailability { .. } => Settling::Settled(places),
         ProjectionPatchOperation::CollectionInsert {
             collection,
             key,
             before,
             ..
-        } => settle_beside(table, count, collection, key, KeyUse::Added, before),
+        } => settle_beside(table, places, collection, key, KeyUse::Added, before),
         ProjectionPatchOperation::CollectionUpdate {
             collection,
             key,
             ..
-        } => settle_beside(table, count, collection, key, KeyUse::Kept, alone),
+        } => settle_beside(table, places, collection, key, KeyUse::Kept, alone),
         ProjectionPatchOperation::CollectionRemove { collection, key } => {
-            settle_beside(table, count, collection, key, KeyUse::Taken, alone)
+            settle_beside(table, places, collection, key, KeyUse::Taken, alone)
         }
         ProjectionPatchOperation::CollectionMove {
             collection,
             key,
             before,
-        } => settle_beside(table, count, collection, key, KeyUse::Kept, before),
+        } => settle_beside(table, places, collection, key, KeyUse::Kept, before),
     }
 }

@@ -1,4 +1,6 @@
 // One walk over a set that settles the keys of its operations.
+use crate::settled_rows;
+use crate::settled_rows::SettledPlaces;
 use crate::settling;
 use crate::settling::Settling;
 use patch_walk::SetCursor;
@@ -13,12 +15,12 @@ ghost use Rattle.spec_patch.specs.Patch.{Patch};
 ghost use Rattle.spec_dependencies.specs.Dependencies.{walkPatches};
 ghost use Rattle.projection_patch.specs.Meaning.{editionOf};
 ghost use Rattle.patch_walk.specs.Steps.{AtSteps};
-ghost use Rattle.set_dependencies.specs.SettledRows.{SettledTable};
+ghost use Rattle.set_dependencies.specs.SettledRows.{SettledIn, noPlaces};
 ghost use Rattle.set_dependencies.specs.SetSettling.{SetSettlesTo};
 
-// How many rows the table has at the end; or the first operation that contradicts those before it, by its patch and its index there.
+// Where the rows of the table are at the end; or the first operation that contradicts those before it, by its patch and its index there.
 pub enum SetSettling {
-    Settled(usize),
+    Settled(SettledPlaces),
     Contradiction { patch: usize, operation: usize },
     Unreadable(ProjectionPatchReadFault),
 }
@@ -30,11 +32,14 @@ pub fn settle_steps(
     from: SetCursor,
     table: &mut [u8],
 ) -> SetSettling
-    ensures { λ r. ⌜ ((ps : List Patch) → length (now (set .entry)) ≤ setBytes → AtSteps (editionOf edition) (now (set .entry)) from [] ps → SettledTable 0 (now (table .entry)) []
+    ensures { λ r. ⌜ ((ps : List Patch) → length (now (set .entry)) ≤ setBytes → AtSteps (editionOf edition) (now (set .entry)) from [] ps → SettledIn noPlaces (now (table .entry)) []
         → SetSettlesTo (walkPatches 0 ps []) r (now (table .exit))) ⌝ }
 {
     let mut cursor = from;
-    let mut count: usize = 0;
+    let mut places = SettledPlaces {
+        start: settled_rows::ROWS,
+        count: 0,
+    };
     let mut opened: usize = 0;
     let mut patch: usize = 0;
     let mut index: usize = 0;
@@ -47,9 +52,9 @@ pub fn settle_steps(
                 cursor = next;
             }
             SetStep::Operation(operation, next) => {
-                match settling::settle_operation(table, count, operation) {
+                match settling::settle_operation(table, places, operation) {
                     Settling::Settled(more) => {
-                        count = more;
+                        places = more;
                         index = index + 1;
                         cursor = next;
                     }
@@ -62,7 +67,7 @@ pub fn settle_steps(
                 }
             }
             SetStep::End => {
-                return SetSettling::Settled(count);
+                return SetSettling::Settled(places);
             }
             SetStep::Refused(fault) => {
                 return SetSettling::Unreadable(fault);

@@ -28,7 +28,7 @@ pub fn least(runs: impl Fn() -> f64) -> f64 {
 
 /// Nanoseconds of the proved program for one repeat.
 pub fn proved(program: &str, way: char, set: &[u8]) -> f64 {
-    let mut count = 1_000;
+    let mut count = 50;
     while process_seconds(program, way, count, set) < 0.06 {
         count *= 4;
     }
@@ -89,6 +89,14 @@ pub fn checking(program: &str) {
                 show(&format!("{name} {patches} x {operations}"), proved(program, way, &set), theirs);
             }
         }
+    }
+}
+
+/// What the set with the most keys depends on, in each order of its keys; the original has no such call.
+pub fn depending(program: &str) {
+    for order in bench_sets::ORDERS {
+        let set = sets::encode(&bench_sets::keys(order));
+        println!("{:40} {:12.0} ns", format!("{order}, {} bytes", set.len()), proved(program, 'd', &set));
     }
 }
 

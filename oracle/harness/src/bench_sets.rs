@@ -76,6 +76,34 @@ pub fn found(operations: u64) -> Vec<RawPatch> {
     list
 }
 
+/// The orders in which keys come.
+pub const ORDERS: [&str; 5] = ["ascending", "descending", "inward", "outward", "scattered"];
+
+/// The key at a position among so many; inward they come from both ends in turn, outward from the middle.
+fn key(order: &str, i: u64, count: u64) -> u64 {
+    match order {
+        "ascending" => i + 1,
+        "descending" => count - i,
+        "inward" if i % 2 == 0 => i / 2 + 1,
+        "inward" => count - i / 2,
+        "outward" => key("inward", count - 1 - i, count),
+        _ => (i + 1).wrapping_mul(0x9e37_79b9_7f4a_7c15),
+    }
+}
+
+/// As many moves before a neighbour as 32,768 bytes hold, 128 to a patch, each of two keys of its own: no set has more keys.
+pub fn keys(order: &str) -> Vec<RawPatch> {
+    let list = |moves: u64| -> Vec<RawPatch> {
+        let key = |i: u64| key(order, i, 2 * moves);
+        let all: Vec<BridgePatchOperation> = (0..moves)
+            .map(|i| BridgePatchOperation::CollectionMove { collection: 9, key: key(2 * i), before: Some(key(2 * i + 1)) })
+            .collect();
+        all.chunks(128).enumerate().map(|(p, moves)| patch(p as u64, moves.to_vec())).collect()
+    };
+    let fits = |moves: &u64| sets::encode(&list(*moves)).len() <= 32_768;
+    list((1_000..).take_while(fits).last().unwrap_or(0))
+}
+
 /// One patch of 128 bindings with a text each.
 pub fn bindings() -> Vec<RawPatch> {
     let binding = |node: u64| BridgePatchOperation::SetBindingValue {

@@ -38,6 +38,7 @@ oracle vectors ANSWERS SEED FOLDER [SCRIPT_BYTES]
 oracle sets COUNT SEED
 oracle rewrite COUNT SEED PROGRAM...
 oracle bench-read PROGRAM | bench-check PROGRAM | bench-sizes PROGRAM
+oracle bench-depends PROGRAM | bench-keys ORDER
 oracle bench-original build|check TIMES PATCHES OPERATIONS | bench-original build|check TIMES found OPERATIONS
 oracle bench-original page TIMES
 oracle bench-set texts | bench-set PATCHES OPERATIONS | bench-set found OPERATIONS
@@ -67,6 +68,8 @@ fn main() {
         ["bench-read", program] => bench::reading(program),
         ["bench-check", program] => bench::checking(program),
         ["bench-sizes", program] => bench::sizes(program),
+        ["bench-depends", program] => bench::depending(program),
+        ["bench-keys", order] if bench_sets::ORDERS.contains(order) => put(&sets::encode(&bench_sets::keys(order))),
         ["bench-original", way @ ("build" | "check"), times, patches, operations] => {
             bench::checking_often(*way == "check", number(times), &benchmark_list(patches, number(operations)))
         }

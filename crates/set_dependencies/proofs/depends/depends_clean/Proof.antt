@@ -16,8 +16,8 @@ use Rattle.spec_dependencies.specs.Settled.{Settled}
 use Rattle.spec_dependencies.specs.Answer.{answerBy}
 use Rattle.projection_patch.specs.Meaning.{editionOf}
 use Rattle.patch_walk.specs.StepsLaws.{opened-at, never-unopened}
-use Rattle.set_dependencies.specs.SettledRows.{SettledTable}
-use Rattle.set_dependencies.specs.SettledRowsLaws.{none-settled}
+use Rattle.set_dependencies.specs.SettledRows.{SettledTable, SettledIn}
+use Rattle.set_dependencies.specs.SettledRowsLaws.{start-within, settled-rows, none-settled}
 use Rattle.set_dependencies.specs.SetSettling.{SetSettlesTo}
 use Rattle.set_dependencies.specs.DependsAnswers.{answerTo}
 use Rattle.set_dependencies.specs.DependsLaws.{settled-walk, contradicted-walk, readable-walk}
@@ -55,11 +55,14 @@ slice-aggregate-settle-steps c = search needs
 settle-steps-requires : tie.Need-settle-steps-requires
 settle-steps-requires c κs = search needs
 
-enum-known-count : tie.Need-enum-known-count
-enum-known-count c = search needs
+enum-known-places : tie.Need-enum-known-places
+enum-known-places c = search needs
 
-slice-aggregate-list-keys : tie.Need-slice-aggregate-list-keys
-slice-aggregate-list-keys c = search needs
+slice-aggregate-rows-from : tie.Need-slice-aggregate-rows-from
+slice-aggregate-rows-from c = search needs
+
+rows-from-requires : tie.Need-rows-from-requires
+rows-from-requires c κs = search needs
 
 list-keys-requires : tie.Need-list-keys-requires
 list-keys-requires c κs = search needs
@@ -89,18 +92,24 @@ same-length : tie.Need-same-length
 same-length c = search needs
 
 -- where all operations settle
-settled : (c : tie.After-count) (ps : List Patch) → let k = c .before .before .before in readSet (edition (opening k)) (set (opening k)) ≡ patches ps
-    → (t : List Settled) × (walkPatches 0 ps [] ≡ settles t) × SettledTable (c .count .given .0 .0) (k .settle-steps .last .1 .1 .1 .0) t
-settled c ps e = let k = c .before .before .before in settled-walk (k .settle-steps .last .1 .1 .1 .0) (walkPatches 0 ps []) _ (walked k _ (c .count .given .1) ps e)
+settled : (c : tie.After-places) (ps : List Patch) → let k = c .before .before .before in readSet (edition (opening k)) (set (opening k)) ≡ patches ps
+    → (t : List Settled) × (walkPatches 0 ps [] ≡ settles t) × SettledIn (c .places .given .0 .0) (k .settle-steps .last .1 .1 .1 .0) t
+settled c ps e = let k = c .before .before .before in settled-walk (k .settle-steps .last .1 .1 .1 .0) (walkPatches 0 ps []) _ (walked k _ (c .places .given .1) ps e)
+
+-- the rows that were listed
+listed : (c : tie.After-rows-from) (t : List Settled) → let p = c .before .before .before in SettledIn (p .places .given .0 .0) (p .before .before .before .settle-steps .last .1 .1 .1 .0) t
+    → SettledTable (p .places .given .0 .0 .count) (c .rows-from .result .now) t
+listed c t s = let p = c .before .before .before in subst (λ (l : List ℕ). SettledTable (p .places .given .0 .0 .count) l t) (sym (c .rows-from .ensures (start-within (s .rows)))) (settled-rows s)
 
 returns : tie.Need-returns
 unfolding dependencies
 returns c =
     let call = c .before .before in
-    let count = call .before .before .before .before in
-    let o = opening (count .before .before .before) in (
-      λ ps e. call .list-keys .ensures .0 (settled count ps e .0) (settled count ps e .2) ∙ ap (λ (w : Walk). answerTo (answerBy (dependenciesBy w) (lent o) .answer)) (sym (settled count ps e .1)),
-      λ ps e. call .list-keys .ensures .1 (settled count ps e .0) (settled count ps e .2) ∙ ap (λ (w : Walk). answerBy (dependenciesBy w) (lent o) .output) (sym (settled count ps e .1)),
+    let rows = call .before .before in
+    let places = rows .before .before .before in
+    let o = opening (places .before .before .before) in (
+      λ ps e. call .list-keys .ensures .0 (settled places ps e .0) (listed rows _ (settled places ps e .2)) ∙ ap (λ (w : Walk). answerTo (answerBy (dependenciesBy w) (lent o) .answer)) (sym (settled places ps e .1)),
+      λ ps e. call .list-keys .ensures .1 (settled places ps e .0) (listed rows _ (settled places ps e .2)) ∙ ap (λ (w : Walk). answerBy (dependenciesBy w) (lent o) .output) (sym (settled places ps e .1)),
     )
 
 -- where one contradicts
@@ -140,8 +149,9 @@ depends-clean-spec =
     enum-known-start
     slice-aggregate-settle-steps
     settle-steps-requires
-    enum-known-count
-    slice-aggregate-list-keys
+    enum-known-places
+    slice-aggregate-rows-from
+    rows-from-requires
     list-keys-requires
     enum-known-patch
     enum-known-fault

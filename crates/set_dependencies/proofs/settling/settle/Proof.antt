@@ -1,14 +1,24 @@
 -- `settle` meets its contract: the rows tell the place of the key.
-use mathlib.Core.Path.{_≡_, sym, _∙_}
+use mathlib.Core.Path.{_≡_, sym, _∙_, subst}
+use mathlib.Core.Bool.{Bool}
 use mathlib.Core.List.{List, [], _∷_, map}
+use mathlib.Core.Option.{Option}
+use native.Mathlib.Omega.{arith}
 use borrow.Author.Needs.{needs}
 use denote.Ref.{now}
-use Rattle.spec_dependencies.specs.Settled.{Settled, settledKey}
+use Prim.Native.Nat.{ℕ}
+use Rattle.spec_dependencies.specs.Settled.{Settled, settledKey, judge}
 use Rattle.bytes_records.specs.Search.{placeOf}
-use Rattle.set_dependencies.specs.SettledRows.{settledRow, SettledTable}
-use Rattle.set_dependencies.specs.SettledRowsLaws.{rows-place, rows-ascending}
+use Rattle.bytes_records.specs.Table.{Holds}
+use Rattle.set_dependencies.specs.SettledRows.{settledRow, rowWidth, SettledIn}
+use Rattle.set_dependencies.specs.SettledRowsLaws.{rows-place, rows-ascending, start-within}
+use Rattle.set_dependencies.specs.Settling.{expectationOf, SettlesAgain}
+use Rattle.set_dependencies.proofs.Nearer.{rows-lent, settles-in, contradicts-in}
 use Rattle.set_dependencies.proofs.settling.settle.Statement.{statement}
 use Rattle.set_dependencies.proofs.settling.settle.Tie as tie
+
+rows-from-requires : tie.Need-rows-from-requires
+rows-from-requires c κs = search needs
 
 find-by-halving-requires : tie.Need-find-by-halving-requires
 find-by-halving-requires c κs = search needs
@@ -16,8 +26,59 @@ find-by-halving-requires c κs = search needs
 enum-known-at : tie.Need-enum-known-at
 enum-known-at c = search needs
 
+abbrev start : tie.After-find-by-halving → tie.Start
+start k = k .before .before .before .before
+
+placed : (k : tie.After-find-by-halving) (t : List Settled) → let a = start k .args in SettledIn (a .places) (now (a .table)) t
+    → placeOf settledKey (a .collection ∷ a .key ∷ []) t ≡ k .find-by-halving .result
+placed k t s =
+    let held = subst (λ (l : List ℕ). Holds rowWidth (start k .args .places .count) l (map settledRow t)) (sym (k .before .rows-from .ensures (start-within (s .rows)))) (s .rows .held) in
+    sym (k .find-by-halving .ensures .0 (map settledRow t) held (rows-ascending t (s .fit) (s .ascending)) ∙ rows-place t (s .fit) _)
+
+same-length : tie.Need-same-length
+same-length c = search needs
+
+returns : tie.Need-returns
+returns c = λ t s room. absurd (omega (arith, s .rows .size, s .rows .low, c .if1 .taken))
+
+mul-from : tie.Need-mul-from
+mul-from c = search needs
+
+sub-settle-again : tie.Need-sub-settle-again
+sub-settle-again c = search needs
+
+part-settle-again-start : tie.Need-part-settle-again-start
+part-settle-again-start c = search needs
+
+part-settle-again-end : tie.Need-part-settle-again-end
+part-settle-again-end c = search needs
+
 settle-again-requires : tie.Need-settle-again-requires
 settle-again-requires c κs = search needs
+
+-- where a key was found
+abbrev found : tie.After-settle-again → tie.After-at
+found k = k .before .before .before .before .before .before
+
+abbrev own : tie.After-settle-again → tie.Start
+own k = start (found k .before .before)
+
+-- what is settled with the key
+abbrev settled : tie.After-settle-again → List Settled → Option (List Settled)
+settled k t = judge (expectationOf (own k .args .collection) (own k .args .key) (own k .args .key-use)) t
+
+-- what was done with its row
+again : (k : tie.After-settle-again) (b : Bool) → k .settle-again .result ≡ b → (t : List Settled) → SettledIn (own k .args .places) (now (own k .args .table)) t
+    → SettlesAgain (settled k t) (own k .args .places .count) b (k .settle-again .last .0)
+again k b is t s =
+    subst (λ (b : Bool). SettlesAgain (settled k t) (own k .args .places .count) b (k .settle-again .last .0)) is
+    (k .settle-again .ensures t (rows-lent s) (placed (found k .before .before) t s ∙ found k .at .given .1))
+
+same-length-2 : tie.Need-same-length-2
+same-length-2 c = search needs
+
+returns-2 : tie.Need-returns-2
+returns-2 c = λ t s room. let k = c .before .before .before in settles-in s (settled k t) (k .settle-again .last .0) (search needs) (again k _ (c .if2 .taken) t s)
 
 enum-known-at-2 : tie.Need-enum-known-at-2
 enum-known-at-2 c = search needs
@@ -25,24 +86,17 @@ enum-known-at-2 c = search needs
 settle-first-requires : tie.Need-settle-first-requires
 settle-first-requires c κs = search needs
 
-placed : (k : tie.After-find-by-halving) (t : List Settled) → let a = k .before .before .before .args in SettledTable (a .count) (now (a .table)) t
-    → placeOf settledKey (a .collection ∷ a .key ∷ []) t ≡ k .find-by-halving .result
-placed k t s = sym (k .find-by-halving .ensures .0 (map settledRow t) (s .rows) (rows-ascending t (s .fit) (s .ascending)) ∙ rows-place t (s .fit) _)
+same-length-3 : tie.Need-same-length-3
+same-length-3 c = search needs
 
-same-length : tie.Need-same-length
-same-length c = search needs
+returns-3 : tie.Need-returns-3
+returns-3 c = λ t s room. let k = c .before .before .before in contradicts-in (settled k t) (own k .args .places .count) (k .settle-again .last .0) _ (again k _ (c .if2 .left) t s)
 
-returns : tie.Need-returns
-returns c = λ t s room.
-    let call = c .before .before in
-    let told = call .before .before .before in
-    call .settle-again .ensures t s (placed (told .before .before) t s ∙ told .at .given .1)
+same-length-4 : tie.Need-same-length-4
+same-length-4 c = search needs
 
-same-length-2 : tie.Need-same-length-2
-same-length-2 c = search needs
-
-returns-2 : tie.Need-returns-2
-returns-2 c = λ t s room.
+returns-4 : tie.Need-returns-4
+returns-4 c = λ t s room.
     let call = c .before .before in
     let told = call .before .before .before in
     call .settle-first .ensures t s (placed (told .before .before) t s ∙ told .at2 .given .1) room
@@ -51,12 +105,21 @@ pub settle-spec : {M : Type 1} → statement M
 settle-spec =
     tie.close
     (tie.spec
+    rows-from-requires
     find-by-halving-requires
     enum-known-at
-    settle-again-requires
-    enum-known-at-2
-    settle-first-requires
     same-length
     returns
+    mul-from
+    sub-settle-again
+    part-settle-again-start
+    part-settle-again-end
+    settle-again-requires
     same-length-2
-    returns-2)
+    returns-2
+    enum-known-at-2
+    settle-first-requires
+    same-length-3
+    returns-3
+    same-length-4
+    returns-4)

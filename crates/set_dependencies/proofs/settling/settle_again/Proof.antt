@@ -39,11 +39,11 @@ module _ (k : tie.After-settled-key) where
   fits : U64 (start k .args .collection) × U64 (start k .args .key)
   fits = (start k .fits .collection .fits, start k .fits .key .fits)
 
-  module _ (t : List Settled) (s : SettledTable (start k .args .count) (now (start k .args .table)) t) (is : placeOf settledKey (start k .args .collection ∷ start k .args .key ∷ []) t ≡ Taken (start k .args .at)) where
+  module _ (t : List Settled) (s : SettledTable (start k .args .count) (now (start k .args .rows)) t) (is : placeOf settledKey (start k .args .collection ∷ start k .args .key ∷ []) t ≡ Taken (start k .args .at)) where
     -- what was read is the key's row
     old-is : settledOf (k .settled-key .result) ≡ getD t (start k .args .at) noKey
     old-is =
-        let within = old-within e fits t s (start k .args .at) is in
+        let within = old-within e fits t (s .fit) (s .ascending) (start k .args .at) is in
         k .settled-key .ensures (getD t (start k .args .at) noKey) (row-fits t (start k .args .at) (s .fit) within) (k .before .record-at .ensures .0 (map settledRow t) (s .rows) ∙ row-of t (start k .args .at) within)
 
     tested : (b : Bool) → b ≡ expectedOf (start k .args .key-use) → Bool·beq (k .settled-key .result .present) b ≡ Bool·beq (getD t (start k .args .at) noKey .now) (e .expected)
@@ -53,7 +53,7 @@ returns : tie.Need-returns
 returns c = λ t s is.
     let test = c .before .before in
     let k = test .before in
-    contradicts-old (e k) (fits k) t s (start k .args .at) is (sym (tested k t s is _ (test .expected .ensures)) ∙ not-true _ (c .if1 .taken)) _
+    contradicts-old (e k) (fits k) t (s .fit) (s .ascending) (start k .args .at) is (sym (tested k t s is _ (test .expected .ensures)) ∙ not-true _ (c .if1 .taken)) _ _
 
 left-requires : tie.Need-left-requires
 left-requires c κs = search needs
@@ -79,7 +79,7 @@ returns-2 c = λ t s is.
     let tested′ = flags .before in
     let test = tested′ .before .before in
     let k = test .before in
-    settles-again (e k) (fits k) t s (start k .args .at) is (sym (tested k t s is _ (test .expected .ensures)) ∙ not-false _ (tested′ .if1 .left)) _ (search needs) _
+    settles-again (e k) (fits k) t (s .fit) (s .ascending) (start k .args .at) is (sym (tested k t s is _ (test .expected .ensures)) ∙ not-false _ (tested′ .if1 .left)) s _ _
     (row .settled-row .ensures ∙ ap settledRow (λ i. record { collection = start k .args .collection; key = start k .args .key; atStart = old-is k t s is i .atStart; now = flags .left .ensures i }))
     (call .replace-record .ensures)
 

@@ -9,7 +9,7 @@ use Rattle.spec_dependencies.specs.Expectations.{Expectation, neighbour}
 use Rattle.spec_dependencies.specs.Settled.{Settled, judge, judgeAll}
 use Rattle.projection_patch.specs.Meaning.{beforeOf}
 use Rattle.projection_patch.specs.declared.patch.OptionalKey.{OptionalKey}
-use Rattle.set_dependencies.specs.SettledRows.{rowCapacity, SettledTable}
+use Rattle.set_dependencies.specs.SettledRows.{rowCapacity, SettledIn}
 use Rattle.set_dependencies.specs.Settling.{expectationOf, SettlesTo, Judges}
 use Rattle.set_dependencies.specs.SettlingLaws.{judged-count, judged-on, judged-none, judged-one}
 use Rattle.set_dependencies.specs.declared.settling.Settling.{Settling}
@@ -55,17 +55,17 @@ abbrev own : tie.After-settle → Expectation
 own k = expectationOf (start k .args .collection .0) (start k .args .key .0) (start k .args .key-use)
 
 -- what the first call did with the key
-first : (k : tie.After-settle) (r : Settling) → k .settle .result ≡ r → (t : List Settled) → SettledTable (start k .args .count) (now (start k .args .table)) t
-    → start k .args .count < rowCapacity → SettlesTo (judge (own k) t) r (k .settle .last .0)
+first : (k : tie.After-settle) (r : Settling) → k .settle .result ≡ r → (t : List Settled) → SettledIn (start k .args .places) (now (start k .args .table)) t
+    → start k .args .places .count < rowCapacity → SettlesTo (judge (own k) t) r (k .settle .last .0)
 first k r is t s room =
     subst (λ x. SettlesTo (judge (own k) t) x (k .settle .last .0)) is (subst (λ (e : Expectation). SettlesTo (judge e t) (k .settle .result) (k .settle .last .0))
     (λ i. expectationOf (node k .raw .ensures i) (k .before .raw2 .ensures i) (start k .args .key-use)) (k .settle .ensures t s room))
 
 -- the contract, by what the neighbour is
 beside : (k : tie.After-settle) {b : OptionalKey} → start k .args .before ≡ b → (r : Settling) (exit : List ℕ)
-    → Judges (start k .args .count) (now (start k .args .table)) exit r (own k ∷ neighbour (start k .args .collection .0) (beforeOf b))
-    → Judges (start k .args .count) (now (start k .args .table)) exit r (own k ∷ neighbour (start k .args .collection .0) (beforeOf (start k .args .before)))
-beside k is r exit = subst (λ b. Judges (start k .args .count) (now (start k .args .table)) exit r (own k ∷ neighbour (start k .args .collection .0) (beforeOf b))) (sym is)
+    → Judges (start k .args .places) (now (start k .args .table)) exit r (own k ∷ neighbour (start k .args .collection .0) (beforeOf b))
+    → Judges (start k .args .places) (now (start k .args .table)) exit r (own k ∷ neighbour (start k .args .collection .0) (beforeOf (start k .args .before)))
+beside k is r exit = subst (λ b. Judges (start k .args .places) (now (start k .args .table)) exit r (own k ∷ neighbour (start k .args .collection .0) (beforeOf b))) (sym is)
 
 same-length : tie.Need-same-length
 same-length c = search needs
@@ -94,7 +94,7 @@ returns-2 c =
     judged-on (own k) _ t settled _ _ (λ u h.
     judged-one _ u _ _
     (subst (λ (e : Expectation). SettlesTo (judge e u) (call .settle2 .result) (call .settle2 .last .0)) (λ i. expectationOf (node k .raw .ensures i) (raw .raw3 .ensures i) key-use.Kept)
-    (call .settle2 .ensures u h (omega (arith, room, judged-count (own k) t s _ settled))))))
+    (call .settle2 .ensures u h (omega (arith, room, judged-count (own k) _ t s _ settled))))))
 
 same-length-3 : tie.Need-same-length-3
 same-length-3 c = search needs

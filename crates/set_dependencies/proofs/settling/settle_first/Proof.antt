@@ -1,16 +1,17 @@
--- `settle_first` meets its contract: there is room for the key's row, and it is inserted at its place.
-use mathlib.Core.Path.{ap, _∙_}
+-- `settle_first` meets its contract: the key's row is inserted at its place.
+use mathlib.Core.Path.{_≡_, ap, _∙_}
+use mathlib.Core.List.{List, map}
 use native.Mathlib.Omega.{arith}
 use borrow.Author.Needs.{needs}
+use lib.ListN.{length}
+use Rattle.spec_patch.specs.Fits.{U64}
 use Rattle.spec_dependencies.specs.Settled.{settledBy}
 use Rattle.set_dependencies.specs.SettledRows.{settledRow}
+use Rattle.set_dependencies.specs.SettledRowsLaws.{row-wide}
 use Rattle.set_dependencies.specs.Settling.{expectationOf}
-use Rattle.set_dependencies.specs.SettlingLaws.{settles-first}
+use Rattle.set_dependencies.specs.SettlingLaws.{places-length, first-within, settles-first}
 use Rattle.set_dependencies.proofs.settling.settle_first.Statement.{statement}
 use Rattle.set_dependencies.proofs.settling.settle_first.Tie as tie
-
-returns : tie.Need-returns
-returns c = λ t s is room. absurd (omega (arith, room, c .if1 .taken))
 
 expected-requires : tie.Need-expected-requires
 expected-requires c κs = search needs
@@ -21,40 +22,37 @@ left-requires c κs = search needs
 settled-row-requires : tie.Need-settled-row-requires
 settled-row-requires c κs = search needs
 
-slice-aggregate-insert-record : tie.Need-slice-aggregate-insert-record
-slice-aggregate-insert-record c = search needs
+slice-aggregate-insert-near : tie.Need-slice-aggregate-insert-near
+slice-aggregate-insert-near c = search needs
 
-insert-record-requires : tie.Need-insert-record-requires
-insert-record-requires c κs = search needs
-
-add-t16 : tie.Need-add-t16
-add-t16 c = search needs
+insert-near-requires : tie.Need-insert-near-requires
+insert-near-requires c κs = search needs
 
 same-length : tie.Need-same-length
 same-length c = search needs
 
-returns-2 : tie.Need-returns-2
+returns : tie.Need-returns
 unfolding settledBy
-returns-2 c = λ t s is room.
+returns c = λ t s is room.
     let call = c .before .before in
     let row = call .before .before .before in
     let left = row .before in
     let expected = left .before in
-    let start = expected .before .before .before in
-    settles-first (expectationOf (start .args .collection) (start .args .key) (start .args .key-use)) (start .fits .collection .fits, start .fits .key .fits) t s (start .args .at) is room _ (search needs) _
-    (row .settled-row .ensures ∙ ap settledRow (λ i. record { collection = start .args .collection; key = start .args .key; atStart = expected .expected .ensures i; now = left .left .ensures i }))
-    (call .insert-record .ensures)
+    let start = expected .before .before in
+    let e = expectationOf (start .args .collection) (start .args .key) (start .args .key-use) in
+    let fits : U64 (start .args .collection) × U64 (start .args .key) = (start .fits .collection .fits, start .fits .key .fits) in
+    let is-row : row .settled-row .result ≡ settledRow (settledBy (e .expected) e) = row .settled-row .ensures ∙ ap settledRow (λ i. record { collection = start .args .collection; key = start .args .key; atStart = expected .expected .ensures i; now = left .left .ensures i }) in
+    settles-first e fits t (s .fit) (s .ascending) (start .args .at) is _ _ _ is-row
+    (call .insert-near .ensures (map settledRow t) (s .rows) room (omega (arith, first-within e fits t (s .fit) (s .ascending) (start .args .at) is, places-length t s)) (ap length is-row ∙ row-wide (settledBy (e .expected) e)))
 
 pub settle-first-spec : {M : Type 1} → statement M
 settle-first-spec =
     tie.close
     (tie.spec
-    returns
     expected-requires
     left-requires
     settled-row-requires
-    slice-aggregate-insert-record
-    insert-record-requires
-    add-t16
+    slice-aggregate-insert-near
+    insert-near-requires
     same-length
-    returns-2)
+    returns)

@@ -15,8 +15,8 @@ use Rattle.set_dependencies.proofs.settling.settle_operation.Tie as tie
 
 -- the contract, by what the operation is
 by-case : (k : tie.Start) {o : ProjectionPatchOperation} → k .args .operation ≡ o → (r : Settling) (exit : List ℕ)
-    → Judges (k .args .count) (now (k .args .table)) exit r (expectations (operationOf [] o)) → Judges (k .args .count) (now (k .args .table)) exit r (expectations (operationOf [] (k .args .operation)))
-by-case k is r exit = subst (λ o. Judges (k .args .count) (now (k .args .table)) exit r (expectations (operationOf [] o))) (sym is)
+    → Judges (k .args .places) (now (k .args .table)) exit r (expectations (operationOf [] o)) → Judges (k .args .places) (now (k .args .table)) exit r (expectations (operationOf [] (k .args .operation)))
+by-case k is r exit = subst (λ o. Judges (k .args .places) (now (k .args .table)) exit r (expectations (operationOf [] o))) (sym is)
 
 enum-told : tie.Need-enum-told
 enum-told c = search needs

@@ -15,18 +15,18 @@ use Rattle.projection_patch.specs.Meaning.{editionOf}
 use Rattle.patch_walk.specs.Steps.{StepWithin, AtSteps}
 use Rattle.patch_walk.specs.StepsLaws.{visited, opened, done, never-refused}
 use Rattle.patch_walk.specs.declared.SetStep.{SetStep}
-use Rattle.set_dependencies.specs.SettledRows.{SettledTable}
+use Rattle.set_dependencies.specs.SettledRows.{SettledIn, noPlaces}
 use Rattle.set_dependencies.proofs.Walking.{Walking, walk-start, walk-end, walk-head, walk-on, walk-contradicts}
 use Rattle.set_dependencies.proofs.walk_set.settle_steps.Statement.{statement}
 use Rattle.set_dependencies.proofs.walk_set.settle_steps.Tie as tie
 
 abbrev Inv-loop : tie.InvT-loop
-Inv-loop set edition table₀ cursor₀ count₀ opened₀ patch₀ index₀ table cursor count opened patch index =
+Inv-loop set edition table₀ cursor₀ places₀ opened₀ patch₀ index₀ table cursor places opened patch index =
     (length table ≡ length table₀) × (opened ≤ cursor .at) × (index ≤ cursor .at)
-    × ((ps : List Patch) → length set ≤ setBytes → AtSteps (editionOf edition) set cursor₀ [] ps → SettledTable 0 table₀ [] → Walking (editionOf edition) set (walkPatches 0 ps []) cursor count opened patch index table)
+    × ((ps : List Patch) → length set ≤ setBytes → AtSteps (editionOf edition) set cursor₀ [] ps → SettledIn noPlaces table₀ [] → Walking (editionOf edition) set (walkPatches 0 ps []) cursor places opened patch index table)
 
 abbrev μ-loop : tie.MeasureT-loop
-μ-loop set edition table₀ cursor₀ count₀ opened₀ patch₀ index₀ table cursor count opened patch index = length set - cursor .at
+μ-loop set edition table₀ cursor₀ places₀ opened₀ patch₀ index₀ table cursor places opened patch index = length set - cursor .at
 
 loop-holds : tie.Need-loop-holds Inv-loop μ-loop
 loop-holds c = (refl, omega arith, omega arith, λ ps short here stored. walk-start _ _ ps here stored)
