@@ -34,12 +34,12 @@ use Rattle.session_splitting.specs.CallsLaws.{answersOf, sent-is, Follow
 
 -- ---- equal meanings are equal values
 
-dispositionTo : Disposition → ProjectionPatchApplicationDisposition
+pub dispositionTo : Disposition → ProjectionPatchApplicationDisposition
 dispositionTo step.applied = Applied
 dispositionTo step.noChange = NoChange
 dispositionTo step.rejected = Rejected
 
-disposition-back : (d : ProjectionPatchApplicationDisposition) → dispositionTo (dispositionTold d) ≡ d
+pub disposition-back : (d : ProjectionPatchApplicationDisposition) → dispositionTo (dispositionTold d) ≡ d
 unfolding dispositionTo dispositionTold
 disposition-back Applied = refl
 disposition-back NoChange = refl
@@ -53,7 +53,7 @@ was-rejected : (b : ProjectionPatchBatch) → batchAnswerOf (b .result) .disposi
 unfolding dispositionTo
 was-rejected b e = sym (disposition-back (b .result .disposition)) ∙ ap dispositionTo e
 
-diagnostics-same : (a b : ShellDiagnostics) → diagnosticsMean a ≡ diagnosticsMean b → a ≡ b
+pub diagnostics-same : (a b : ShellDiagnostics) → diagnosticsMean a ≡ diagnosticsMean b → a ≡ b
 diagnostics-same a b e = λ i. record {
   «stable_code» = ap (λ (d : Diagnostics). d .code) e i;
   «evaluation_stage» = ap (λ (d : Diagnostics). d .stage) e i;

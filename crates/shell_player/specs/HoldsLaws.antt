@@ -53,12 +53,12 @@ lifecycle-back Active = refl
 lifecycle-back Suspended = refl
 lifecycle-back Closed = refl
 
-cursor-back : (c : ProjectionReplayCursor) → c ≡ cursorTo (cursorOf c)
+pub cursor-back : (c : ProjectionReplayCursor) → c ≡ cursorTo (cursorOf c)
 unfolding cursorTo cursorOf
 cursor-back Uninitialized = refl
 cursor-back (At n) = refl
 
-state-back : (t : ShellLocalState) → t ≡ stateTo (stateTold t)
+pub state-back : (t : ShellLocalState) → t ≡ stateTo (stateTold t)
 state-back t = λ i. record { «session_id» = t .«session_id»; lifecycle = lifecycle-back (t .lifecycle) i; «replay_cursor» = cursor-back (t .«replay_cursor») i }
 
 pub one-struct : (s : ShellSession) (m : Session) → Holds s m → s ≡ sessionTo m

@@ -1,0 +1,66 @@
+-- What the laws speak of is there: every valid session of the model can be held, and slices that hold one can be made anew.
+use Prim.Native.Nat.{ℕ, _*_, _%_}
+use mathlib.Core.Path.{_≡_, refl, ap, _∙_}
+use mathlib.Core.Bool.{true}
+use mathlib.Core.List.{List, map, flatMap}
+use native.Mathlib.Omega.{arith}
+use borrow.Author.Tests.{eq-eqb}
+use lib.ListN.{length}
+use Rattle.spec_projection.specs.Valid.{Valid}
+use Rattle.spec_projection.specs.ValidLaws.{empty-valid}
+use Rattle.spec_session.specs.Session.{Catalogue, Session}
+use Rattle.spec_session.specs.ValidSession.{FewAnchors}
+use Rattle.spec_examples.specs.SplitInstances.{start}
+use Rattle.active_projection_target_catalog.specs.Catalog.{pairTo, pairNumbers}
+use Rattle.panel_rows.specs.Rows.{lengthBytes}
+use Rattle.local_projection_state.specs.Stores.{stateOf}
+use Rattle.local_projection_state.specs.StoresLaws.{some-state}
+use Rattle.panel_changes.specs.SetChangesLaws.{lengths-fit, stored-lengths}
+use Rattle.session_lent.specs.Head.{headNumbers, headOf}
+use Rattle.session_lent.specs.HeadLaws.{long}
+use Rattle.session_lent.specs.Steps.{roomShaped}
+use Rattle.session_lent.specs.CreationLaws.{pairs-apart}
+use Rattle.session_lent_laws.specs.Memory.{Anchors, Half, HeldIn, Panel}
+use Rattle.session_lent_laws.specs.StructLaws.{held-room}
+
+-- ---- a session as lent slices
+
+abbrev pub anchorsOf : Catalogue → Anchors
+anchorsOf c = record { nodes = c .nodes; pairs = flatMap pairNumbers (map pairTo (c .bindings)); collections = c .collections }
+
+abbrev pub halfOf : Session → Half
+halfOf m = record {
+  head = headOf m;
+  bindings = stateOf (m .projection) .bindings;
+  availability = stateOf (m .projection) .availability;
+  entries = stateOf (m .projection) .entries;
+  lengths = stateOf (m .projection) .lengths;
+}
+
+module _ (m : Session) (few : FewAnchors (m .catalogue)) (valid : Valid (m .projection)) where
+  half-holds : HeldIn (anchorsOf (m .catalogue)) (halfOf m) m
+  unfolding stateOf
+  half-holds = record {
+    head-is = refl;
+    anchors-are = record { nodes-are = refl; bindings-are = refl; collections-are = refl };
+    few = few;
+    projection = some-state (m .projection) valid .tables;
+    collections-told = some-state (m .projection) valid .lengths;
+  }
+
+  pub some-panel : Panel (anchorsOf (m .catalogue)) (record { held = halfOf m; other = halfOf m }) m
+  some-panel = record { held = half-holds; room = held-room (anchorsOf (m .catalogue)) (halfOf m) m half-holds }
+
+-- the session whose batches of `SplitInstances` apply whole and in pieces, or fail at an operation
+pub start-panel : Panel (anchorsOf (start .catalogue)) (record { held = halfOf start; other = halfOf start }) start
+unfolding start
+start-panel = some-panel start (record { nodes = omega arith; bindings = omega arith; collections = omega arith }) empty-valid
+
+-- ---- slices that a session can be made in
+
+pub held-shaped : (k : Anchors) (h : Half) (m : Session) → HeldIn k h m → roomShaped (length (h .head)) (length (k .pairs)) (length (h .bindings)) (length (h .availability)) (length (h .entries)) (length (h .lengths)) ≡ true
+unfolding roomShaped
+held-shaped k h m held =
+    let pairs : length (k .pairs) ≡ 2 * length (map pairTo (m .catalogue .bindings)) = ap length (held .anchors-are .bindings-are) ∙ pairs-apart (map pairTo (m .catalogue .bindings)) in
+    let even : length (k .pairs) % 2 ≡ 0 = omega (arith, pairs) in
+    rw (eq-eqb (length (h .head)) headNumbers (long (h .head) m (held .head-is)), eq-eqb (length (k .pairs) % 2) 0 even, eq-eqb (length (h .lengths)) lengthBytes (held .collections-told .size), lengths-fit (h .bindings) (h .availability) (h .entries) (stored-lengths (held .projection)))
