@@ -25,14 +25,10 @@ ghost use Rattle.local_projection_state.specs.Stores.{StoredTables};
 ghost use Rattle.session_explain.specs.Refused.{StandsFor, refusedTo};
 ghost use Rattle.session_explain.specs.Reasons.{stepTo};
 
-// The operation by its patch and its index there with its rule, or that all apply.
+// The operation by its patch and its index there, with its rule; or that all apply.
 pub enum FirstRefused {
     AllApply,
-    Refused {
-        patch: usize,
-        operation: usize,
-        rule: OperationRule,
-    },
+    Refused(usize, usize, OperationRule),
     Unreadable(ProjectionPatchReadFault),
 }
 
@@ -79,20 +75,13 @@ fn refused_from(
                         cursor = next;
                     }
                     OperationChange::Refused(_) => {
-                        return FirstRefused::Refused {
-                            patch,
-                            operation: index,
-                            rule: rules::rule_of(entries, held.entries, operation),
-                        };
+                        let rule = rules::rule_of(entries, held.entries, operation);
+                        return FirstRefused::Refused(patch, index, rule);
                     }
                 }
             }
-            SetStep::End => {
-                return FirstRefused::AllApply;
-            }
-            SetStep::Refused(fault) => {
-                return FirstRefused::Unreadable(fault);
-            }
+            SetStep::End => return FirstRefused::AllApply,
+            SetStep::Refused(fault) => return FirstRefused::Unreadable(fault),
         }
     }
 }
@@ -139,15 +128,12 @@ pub fn explain_operations(
 {
     match first_refused(panel, set, edition) {
         FirstRefused::AllApply => StepReason::Fine,
-        FirstRefused::Refused {
-            patch,
-            operation,
-            rule,
-        } => StepReason::Because(BatchReason::OperationFails {
-            patch,
-            operation,
-            rule,
-        }),
+        FirstRefused::Refused(patch, operation, rule) =>
+            StepReason::Because(BatchReason::OperationFails {
+                patch,
+                operation,
+                rule,
+            }),
         FirstRefused::Unreadable(_) => StepReason::Fine,
     }
 }
