@@ -9,3 +9,4 @@ pub mod Replaying
 pub mod Steps
 pub mod StepsLaws
 pub mod BatchLaws
+pub mod ListingLaws

@@ -75,7 +75,7 @@ capped-is most (because r) = go (eqb most 0)
     go true = refl
     go false = refl
 
-found-is : (x : Explained (Unit {0})) → foundTo (reasonOf x) ≡ stepTo x
+pub found-is : (x : Explained (Unit {0})) → foundTo (reasonOf x) ≡ stepTo x
 unfolding reasonOf
 found-is (fine u) = refl
 found-is (because r) = refl

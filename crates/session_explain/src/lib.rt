@@ -2,6 +2,7 @@
 pub mod batch;
 pub mod checks;
 pub mod gates;
+pub mod listing;
 pub mod operations;
 pub mod reading;
 pub mod reasons;
