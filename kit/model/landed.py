@@ -11,6 +11,7 @@ REQUESTS = {
     "print": "The panel on paper",
     "import": "Term lists",
     "group": "Several batches, or none",
+    "explain": "The rule behind an answer",
 }
 
 LANDED = [
@@ -23,4 +24,5 @@ LANDED = [
     "print",
     # "import",
     "group",
+    # "explain",
 ]

@@ -7,6 +7,7 @@ from canonical import Fault, read_set
 from checks import findings
 from convert import convert
 from depends import Never, depends
+from explain import explain
 from group import Member, NoGroup, apply_group
 from listing import line, listing, listing_tables, value_fields
 from pages import page
@@ -128,6 +129,21 @@ class Replay:
             return line(b"N")
         disposition, diagnostics = self.session.batch(*numbers, self.edition, data)
         return line(b"R", disposition.encode("ascii"), *diagnostics, self._cursor())
+
+    def do_explain(self, session, sequence, patches, stimulus_bytes, references, data):
+        """The rule behind the answer that do_batch would give; nothing is changed."""
+        numbers = [number(field) for field in (session, sequence, patches, stimulus_bytes, references)]
+        data = set_bytes(data)
+        if self.session is None:
+            return line(b"N")
+        reason = explain(self.session, *numbers, self.edition, data)
+        if reason is None:
+            return line(b"W", 0)
+        if reason == "withheld":
+            return line(b"W", 0, b"withheld")
+        code, name, figures = reason
+        words = [b"-" if figure is None else figure.encode("ascii") if isinstance(figure, str) else figure for figure in figures]
+        return line(b"W", code, name.encode("ascii"), *words)
 
     def do_check(self, data):
         return check_lines(set_bytes(data), self.edition)
@@ -284,7 +300,7 @@ class Replay:
 
     # how many fields follow each command; and of those that have any number, how many at least
     FIELDS = {
-        b"session": 5, b"node": 1, b"binding": 2, b"collection": 1, b"create": 0, b"apply": 2, b"batch": 6,
+        b"session": 5, b"node": 1, b"binding": 2, b"collection": 1, b"create": 0, b"apply": 2, b"batch": 6, b"explain": 6,
         b"check": 1, b"list": 1, b"show": 0, b"value binding": 2, b"value node": 1, b"value entry": 2,
         b"mark binding": 2, b"mark node": 1, b"mark entry": 2, b"length": 1,
         b"senders": 1, b"wait": 1, b"turn": 0, b"edition": 1, b"convert": 2, b"depends": 2, b"print": 2, b"import": 11,

@@ -82,14 +82,14 @@ class Session:
 
     # ---- one batch
 
-    def _knows(self, operation):
+    def knows(self, operation):
         if operation.number == 1:
             return (operation.node, operation.slot) in self.bindings
         if operation.number == 2:
             return operation.node in self.nodes
         return operation.collection in self.collections
 
-    def _takes(self, sequence):
+    def takes(self, sequence):
         if self.cursor is None:
             return True
         return self.cursor != LAST_U64 and sequence == self.cursor + 1
@@ -113,10 +113,10 @@ class Session:
             raise Refusal(5)
         if len(operations) > self.limits.references:
             raise Refusal(4)
-        absent = sum(not self._knows(operation) for operation in operations)
+        absent = sum(not self.knows(operation) for operation in operations)
         if absent:
             raise Refusal(6, absent)
-        if patch_count != 0 and not self._takes(sequence):
+        if patch_count != 0 and not self.takes(sequence):
             raise Refusal(7)
         return patches
 

@@ -86,7 +86,7 @@ WRONG = [
     ("counts absent targets as one", "session.py", "raise Refusal(6, absent)", "raise Refusal(6)"),
     (
         "counts repeats of an absent target once", "session.py",
-        "sum(not self._knows(operation) for operation in operations)",
+        "sum(not self.knows(operation) for operation in operations)",
         "len({operation for operation in operations if not self._knows(operation)})",
     ),
     (

@@ -1,2 +1,10 @@
-// The rule behind a batch's refusal, found in its set: the first operation whose target is no anchor.
+// The rule behind a batch's refusal: which one, where and with which figures.
+pub mod batch;
+pub mod checks;
+pub mod gates;
+pub mod listing;
+pub mod operations;
+pub mod reading;
+pub mod reasons;
+pub mod rules;
 pub mod targets;

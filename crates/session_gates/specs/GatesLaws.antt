@@ -52,7 +52,7 @@ unfolding readable
 erased-reading (patches ps) f g h k = h ps
 erased-reading (fault r) f g h k = k r
 
-operations-counted : (ps : List Patch) → operationCount ps ≡ length (operationsOf ps)
+pub operations-counted : (ps : List Patch) → operationCount ps ≡ length (operationsOf ps)
 unfolding operationCount operationsOf flatMap
 operations-counted [] = refl
 operations-counted (p ∷ ps) = ap (λ n. length (p .operations) + n) (operations-counted ps) ∙ sym (length-append (p .operations) (operationsOf ps))

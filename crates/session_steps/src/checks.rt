@@ -27,7 +27,7 @@ pub struct ActivatedShellSessionContext {
 }
 
 // A count of anchors that an array can hold.
-fn held(count: usize) -> usize
+pub fn held(count: usize) -> usize
     ensures { λ r. ⌜ r ≡ min count anchors ⌝ }
 {
     if count < ActiveProjectionTargetCatalog::ANCHORS {

@@ -1,0 +1,34 @@
+-- `session_explain::checks::explain_checks` meets its contract: the preflight's reason, or else that of the set.
+use Rattle.session_explain.specs.StepsLaws.{checks-because, checks-fine}
+use borrow.Author.Needs.{needs}
+use Rattle.session_explain.proofs.checks.explain_checks.Statement.{statement}
+use Rattle.session_explain.proofs.checks.explain_checks.Tie as tie
+
+explain-preflight-requires : tie.Need-explain-preflight-requires
+explain-preflight-requires c κs = search needs
+
+enum-known-reason : tie.Need-enum-known-reason
+enum-known-reason c = search needs
+
+enum-told : tie.Need-enum-told
+enum-told c = search needs
+
+explain-set-requires : tie.Need-explain-set-requires
+explain-set-requires c κs = search needs
+
+returns : tie.Need-returns
+returns c = λ k lent. checks-because _ _ _ _ _ k _ _ _ (c .before .before .before .explain-preflight .ensures) (c .before .reason .given .1)
+
+returns-2 : tie.Need-returns-2
+returns-2 c = λ k lent. checks-fine _ _ _ _ _ k _ _ _ (c .before .before .before .explain-preflight .ensures) (c .before .enum-told .given .1) (c .explain-set .ensures k lent)
+
+pub explain-checks-spec : {M : Type 1} → statement M
+explain-checks-spec =
+    tie.close
+    (tie.spec
+    explain-preflight-requires
+    enum-known-reason
+    enum-told
+    explain-set-requires
+    returns
+    returns-2)
