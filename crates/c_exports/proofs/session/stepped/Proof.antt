@@ -2,10 +2,10 @@
 use mathlib.Core.Path.{sym, ap, _∙_}
 use Rattle.c_exports.specs.Exports.{stepTold}
 use borrow.Author.Needs.{needs}
-use Rattle.c_exports.proofs.calls.stepped.Statement.{statement}
-use Rattle.c_exports.proofs.calls.stepped.Tie as tie
-use Rattle.c_exports.proofs.calls.stepped.Reads as reads
-use Rattle.c_exports.proofs.calls.stepped.Lts as lts
+use Rattle.c_exports.proofs.session.stepped.Statement.{statement}
+use Rattle.c_exports.proofs.session.stepped.Tie as tie
+use Rattle.c_exports.proofs.session.stepped.Reads as reads
+use Rattle.c_exports.proofs.session.stepped.Lts as lts
 use Rattle.c_exports.proofs.answers.no_step.Reads as no-step-reads
 use Rattle.c_exports.proofs.answers.step_of.Reads as step-of-reads
 

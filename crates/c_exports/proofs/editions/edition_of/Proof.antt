@@ -1,11 +1,11 @@
 -- `edition_of` meets its contract.
 use mathlib.Core.Path.{refl}
 use borrow.Author.Tests.{eq-eqb, ne-eqb}
-use Rattle.c_exports.specs.Calls.{editionAt}
-use Rattle.c_exports.proofs.calls.edition_of.Statement.{statement}
-use Rattle.c_exports.proofs.calls.edition_of.Tie as tie
-use Rattle.c_exports.proofs.calls.edition_of.Reads as reads
-use Rattle.c_exports.proofs.calls.edition_of.Lts as lts
+use Rattle.c_exports.specs.Editions.{editionAt}
+use Rattle.c_exports.proofs.editions.edition_of.Statement.{statement}
+use Rattle.c_exports.proofs.editions.edition_of.Tie as tie
+use Rattle.c_exports.proofs.editions.edition_of.Reads as reads
+use Rattle.c_exports.proofs.editions.edition_of.Lts as lts
 
 returns : tie.Need-returns
 unfolding editionAt

@@ -2,10 +2,10 @@
 use mathlib.Core.Path.{sym, ap, _∙_}
 use Rattle.c_exports.specs.Exports.{batchTold}
 use borrow.Author.Needs.{needs}
-use Rattle.c_exports.proofs.calls.answered.Statement.{statement}
-use Rattle.c_exports.proofs.calls.answered.Tie as tie
-use Rattle.c_exports.proofs.calls.answered.Reads as reads
-use Rattle.c_exports.proofs.calls.answered.Lts as lts
+use Rattle.c_exports.proofs.session.answered.Statement.{statement}
+use Rattle.c_exports.proofs.session.answered.Tie as tie
+use Rattle.c_exports.proofs.session.answered.Reads as reads
+use Rattle.c_exports.proofs.session.answered.Lts as lts
 use Rattle.c_exports.proofs.answers.answer_of.Reads as answer-of-reads
 use Rattle.c_exports.proofs.answers.unanswered.Reads as unanswered-reads
 

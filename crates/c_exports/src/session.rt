@@ -1,8 +1,8 @@
-// The exported calls. What each answers is what the call of `session_lent` below it answers, as numbers; wrong numbers of an edition or of a
+// The exported calls on a session: creation, step and batch. What each answers is what the call of `session_lent` below it answers, as numbers; wrong numbers of an edition or of a
 // command are told apart by a disposition of their own, and change nothing.
 use crate::answers;
+use crate::editions;
 use local_projection_state::LocalProjectionState;
-use projection_patch::patch::ProjectionPatchEdition;
 use session_gates::gates::OrderedProjectionPatchBatchEnvelope;
 use session_lent::batch;
 use session_lent::batch::LentBatch;
@@ -15,9 +15,8 @@ use session_lifecycle::lifecycle::ShellTransitionInput;
 use session_lifecycle::state::ShellLifecycleLimits;
 use session_lifecycle::state::ShellSessionId;
 ghost use mathlib.Core.Path.{_≡_};
-ghost use Rattle.projection_patch.specs.Meaning.{editionOf};
 ghost use Rattle.c_exports.specs.Exports.{batchTold, stepTold, creationTold};
-ghost use Rattle.c_exports.specs.Calls.{editionAt, ExportedCreation, ExportedStep, ExportedBatch};
+ghost use Rattle.c_exports.specs.Calls.{ExportedCreation, ExportedStep, ExportedBatch};
 
 // 0 Applied, 1 NoChange, 2 Rejected, 3 no session in the memory, 4 no such edition; the diagnostics; the cursor after the call, if there is one.
 #[repr(C)]
@@ -140,16 +139,6 @@ fn answered(answer: LentBatch) -> GeysertrayAnswer
     }
 }
 
-// The second edition, or the first.
-fn edition_of(edition: u64) -> ProjectionPatchEdition
-    ensures { λ r. ⌜ editionOf r ≡ editionAt edition ⌝ }
-{
-    if edition == 1 {
-        return ProjectionPatchEdition::V1;
-    }
-    ProjectionPatchEdition::V2
-}
-
 // One batch, from one half of a panel's memory to the other, which has the next session where the answer is Applied and is left otherwise.
 #[no_mangle]
 pub extern "C" fn geysertray_batch<'a>(
@@ -189,7 +178,7 @@ pub extern "C" fn geysertray_batch<'a>(
         patch_count,
         stimulus_bytes,
     };
-    let told = edition_of(edition);
+    let told = editions::edition_of(edition);
     let answer = batch::apply_projection_patch_batch(
         head,
         nodes,

@@ -3,13 +3,13 @@ use mathlib.Core.Path.{refl}
 use native.Mathlib.Omega.{arith}
 use Rattle.c_exports.specs.Calls.{same-stimulus}
 use borrow.Author.Needs.{needs}
-use Rattle.c_exports.proofs.calls.geysertray_lifecycle_step.Statement.{statement}
-use Rattle.c_exports.proofs.calls.geysertray_lifecycle_step.Tie as tie
-use Rattle.c_exports.proofs.calls.geysertray_lifecycle_step.Reads as reads
-use Rattle.c_exports.proofs.calls.geysertray_lifecycle_step.Lts as lts
+use Rattle.c_exports.proofs.session.geysertray_lifecycle_step.Statement.{statement}
+use Rattle.c_exports.proofs.session.geysertray_lifecycle_step.Tie as tie
+use Rattle.c_exports.proofs.session.geysertray_lifecycle_step.Reads as reads
+use Rattle.c_exports.proofs.session.geysertray_lifecycle_step.Lts as lts
 use Rattle.c_exports.proofs.answers.no_step.Reads as no-step-reads
 use Rattle.c_exports.proofs.answers.stimulus_of.Reads as stimulus-of-reads
-use Rattle.c_exports.proofs.calls.stepped.Reads as stepped-reads
+use Rattle.c_exports.proofs.session.stepped.Reads as stepped-reads
 use Rattle.session_lent.proofs.lifecycle.transition.Reads as transition-reads
 
 no-step-requires : tie.Need-no-step-requires
