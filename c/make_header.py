@@ -29,6 +29,9 @@ CAPACITIES = {
     "PageLookup::KEYS": "GEYSERTRAY_PAGE_KEYS",
     "panel_print::PRINT_BYTES": "GEYSERTRAY_PRINT_BYTES",
     "tables::LISTING_BYTES": "GEYSERTRAY_LISTING_BYTES",
+    "ProjectionPatchSet::BYTES": "GEYSERTRAY_SET_BYTES",
+    "FindingsListed::NUMBERS": "GEYSERTRAY_FINDING_NUMBERS",
+    "settled_rows::ROWS": "GEYSERTRAY_DEPENDS_KEYS",
 }
 SCALARS = {"u64": "uint64_t", "u32": "uint32_t", "u8": "uint8_t", "i64": "int64_t", "usize": "size_t"}
 

@@ -112,6 +112,9 @@ enum {
 #define GEYSERTRAY_PAGE_KEYS 64
 #define GEYSERTRAY_PRINT_BYTES 46848
 #define GEYSERTRAY_LISTING_BYTES 102150
+#define GEYSERTRAY_SET_BYTES 32768
+#define GEYSERTRAY_FINDING_NUMBERS 945
+#define GEYSERTRAY_DEPENDS_KEYS 2520
 
 /* 0 Applied, 1 NoChange, 2 Rejected, 3 no session in the memory, 4 no such edition; the diagnostics; the cursor after the call, if there is one. */
 typedef struct {
