@@ -10,7 +10,7 @@ import sys
 from pathlib import Path
 
 ROOT = Path(__file__).resolve().parent.parent
-SOURCE = ROOT / "crates" / "c_exports" / "src" / "calls.rt"
+SOURCES = [ROOT / "crates" / "c_exports" / "src" / name for name in ("session.rt", "counts.rt", "values.rt", "views.rt")]
 HEADER = ROOT / "include" / "geysertray.h"
 BEGIN, END = "/* ---- made from crates/c_exports by c/make_header.py */\n", "/* ---- end of what is made */\n"
 
@@ -20,8 +20,20 @@ SIZES = {
     "LocalProjectionState::AVAILABILITY_BYTES": "GEYSERTRAY_AVAILABILITY_BYTES",
     "LocalProjectionState::ENTRY_BYTES": "GEYSERTRAY_ENTRY_BYTES",
     "LocalProjectionState::LENGTH_BYTES": "GEYSERTRAY_LENGTH_BYTES",
+    "ProjectionPatchValue::TEXT_BYTES": "GEYSERTRAY_TEXT_BYTES",
+    "PageLookup::WIDTH": "GEYSERTRAY_PAGE_WIDTH",
 }
-SCALARS = {"u64": "uint64_t", "u32": "uint32_t", "u8": "uint8_t", "usize": "size_t"}
+# capacities that no declaration names
+CAPACITIES = {
+    "ActiveProjectionTargetCatalog::ANCHORS": "GEYSERTRAY_ANCHORS",
+    "PageLookup::KEYS": "GEYSERTRAY_PAGE_KEYS",
+    "panel_print::PRINT_BYTES": "GEYSERTRAY_PRINT_BYTES",
+    "tables::LISTING_BYTES": "GEYSERTRAY_LISTING_BYTES",
+    "ProjectionPatchSet::BYTES": "GEYSERTRAY_SET_BYTES",
+    "FindingsListed::NUMBERS": "GEYSERTRAY_FINDING_NUMBERS",
+    "settled_rows::ROWS": "GEYSERTRAY_DEPENDS_KEYS",
+}
+SCALARS = {"u64": "uint64_t", "u32": "uint32_t", "u8": "uint8_t", "i64": "int64_t", "usize": "size_t"}
 
 
 def constants():
@@ -76,18 +88,33 @@ def comment_before(text, at):
     return "/* %s */\n" % "\n   ".join(lines) if lines else ""
 
 
-def declarations():
-    text, found = SOURCE.read_text(encoding="utf-8"), constants()
-    out = ["#define %s %d\n" % (word, value(name, found)) for name, word in SIZES.items()]
-    out.append("#define GEYSERTRAY_ANCHORS %d\n" % value("ActiveProjectionTargetCatalog::ANCHORS", found))
-    for row in re.finditer(r"pub struct (\w+) \{\n(.*?)\n\}", text, re.S):
-        fields = re.findall(r"pub (\w+): (\w+),", row.group(2))
-        body = "".join("    %s %s;\n" % (SCALARS[kind], name) for name, kind in fields)
-        out.append("\n%stypedef struct {\n%s} %s;\n" % (comment_before(text, row.start()), body, camel(row.group(1))))
-    for row in re.finditer(r'pub extern "C" fn (\w+)(?:<\'a>)?\(\n(.*?)\n\) -> (\w+)', text, re.S):
-        parameters = [part for name, kind in re.findall(r"^    (\w+): (.+),$", row.group(2), re.M) for part in type_of(kind, name)]
+def field_of(name, text):
+    """The C member of one field."""
+    array = re.fullmatch(r"\[(\w+); ([\w:]+)\]", text)
+    if array:
+        return "    %s %s[%s];\n" % (SCALARS[array.group(1)], name, SIZES[array.group(2)])
+    return "    %s %s;\n" % (SCALARS.get(text) or camel(text), name)
+
+
+def structs_of(text):
+    for row in re.finditer(r"#\[repr\(C\)\]\npub struct (\w+) \{\n(.*?)\n\}", text, re.S):
+        body = "".join(field_of(name, kind) for name, kind in re.findall(r"pub (\w+): (.+),", row.group(2)))
+        yield "\n%stypedef struct {\n%s} %s;\n" % (comment_before(text, row.start()), body, camel(row.group(1)))
+
+
+def functions_of(text):
+    for row in re.finditer(r'pub extern "C" fn (\w+)(?:<\'a>)?\((.*?)\) -> (\w+)\n', text, re.S):
+        parameters = [part for name, kind in re.findall(r"(\w+): ((?:&(?:'a )?(?:mut )?)?\[[^\]]*\]|&?\w+)", row.group(2)) for part in type_of(kind, name)]
         kind = SCALARS.get(row.group(3)) or camel(row.group(3))
-        out.append("\n%s%s %s(\n    %s);\n" % (comment_before(text, row.start()), kind, row.group(1), ",\n    ".join(parameters)))
+        listed = "\n    %s" % ",\n    ".join(parameters) if parameters else "void"
+        yield "\n%s%s %s(%s);\n" % (comment_before(text, row.start()), kind, row.group(1), listed)
+
+
+def declarations():
+    texts, found = [path.read_text(encoding="utf-8") for path in SOURCES], constants()
+    out = ["#define %s %d\n" % (word, value(name, found)) for name, word in {**SIZES, **CAPACITIES}.items()]
+    out += [declared for text in texts for declared in structs_of(text)]
+    out += [declared for text in texts for declared in functions_of(text)]
     return "".join(out)
 
 

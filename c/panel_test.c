@@ -1,4 +1,5 @@
-/* A panel in C: creation, a batch that is applied, batches that are refused and leave every byte, a step. Each line that fails is told, and the status is 1.
+/* A panel in C: creation, a batch that is applied, batches that are refused and leave every byte, a step; what the panel then holds; and the calls on
+   bytes. Each line that fails is told, and the status is 1.
 
    cc -std=c11 -Wall -Wextra -Wpedantic -Iinclude c/panel_test.c target/staticlib/libc_exports.a -o panel_test */
 #include "geysertray.h"
@@ -16,7 +17,7 @@ static void expect(int holds, const char *what, int line)
 }
 #define EXPECT(condition) expect((condition), #condition, __LINE__)
 
-/* ---- a set of one patch with one insert, put together from document 01's 'Canonical bytes' */
+/* ---- sets, put together from document 01's 'Canonical bytes' */
 
 static uint8_t *put(uint8_t *at, uint64_t number, int bytes)
 {
@@ -26,24 +27,72 @@ static uint8_t *put(uint8_t *at, uint64_t number, int bytes)
     return at;
 }
 
-static size_t insert_set(uint8_t *out, uint64_t id, uint64_t collection, uint64_t key, uint64_t value)
+static uint8_t *put_heading(uint8_t *at, uint64_t patches)
 {
-    uint8_t *at = put(out, 27, 4);
+    at = put(at, 27, 4);
     memcpy(at, "UI_DNA2_PROJECTION_PATCH_V1", 27);
-    at = put(at + 27, 1, 4);
+    return put(at + 27, patches, 4);
+}
+
+static uint8_t *put_patch(uint8_t *at, uint64_t id, uint64_t sequence, uint64_t operations)
+{
     at = put(put(put(at, id, 8), 1, 8), 1, 8);       /* id, stream, document */
     at = put(at, 0, 1);                              /* no surface */
-    at = put(put(put(put(at, id - 1, 8), id, 8), 1, 8), id, 8); /* revisions, epoch, sequence */
-    at = put(put(at, 1, 4), 3, 1);                   /* one operation: insert */
-    at = put(put(put(at, collection, 8), key, 8), 0, 1);
-    at = put(put(at, 4, 1), value, 8);               /* unsigned */
-    return (size_t)(at - out);
+    at = put(put(put(put(at, id - 1, 8), id, 8), 1, 8), sequence, 8); /* revisions, epoch, sequence */
+    return put(at, operations, 4);
 }
+
+static uint8_t *put_insert(uint8_t *at, uint64_t collection, uint64_t key, uint64_t before_key)
+{
+    at = put(put(put(at, 3, 1), collection, 8), key, 8);
+    return before_key ? put(put(at, 1, 1), before_key, 8) : put(at, 0, 1);
+}
+
+static size_t insert_set(uint8_t *out, uint64_t id, uint64_t collection, uint64_t key, uint64_t value)
+{
+    uint8_t *at = put_insert(put_patch(put_heading(out, 1), id, id, 1), collection, key, 0);
+    return (size_t)(put(put(at, 4, 1), value, 8) - out); /* unsigned */
+}
+
+/* document 01's 'Listing': Pending for node 5; in collection 9 insert key 2 as -4, then key 1 before 2 as text Ok; binding 5, 0 as T */
+static size_t listing_set(uint8_t *out)
+{
+    uint8_t *at = put_patch(put_heading(out, 1), 1, 1, 4);
+    at = put(put(put(at, 2, 1), 5, 8), 3, 1);
+    at = put(put(put_insert(at, 9, 2, 0), 2, 1), (uint64_t)-4, 8);
+    at = put(put(put_insert(at, 9, 1, 2), 3, 1), 2, 4);
+    memcpy(at, "Ok", 2);
+    at = put(put(put(at + 2, 1, 1), 5, 8), 0, 4);
+    return (size_t)(put(put(at, 1, 1), 2, 1) - out);
+}
+
+static const char listed[] = "P\t4\nB\t5\t0\tQ\t2\nA\t5\t3\nC\t9\t1\tT\tOk\nC\t9\t2\tS\t-4\n";
 
 static geysertray_panel panel, before;
 static uint64_t many[129];
+static uint8_t output[GEYSERTRAY_LISTING_BYTES];
 
-int main(void)
+/* whether the bytes of the output from an index on are as they were lent: each 0x5a */
+static int kept_from(size_t from)
+{
+    size_t i;
+    for (i = from; i < sizeof output; i++)
+        if (output[i] != 0x5a)
+            return 0;
+    return 1;
+}
+
+static int counted(geysertray_count answer, uint64_t count)
+{
+    return answer.disposition == GEYSERTRAY_ANSWERED && answer.number == 0 && answer.count == count;
+}
+
+static int refused(geysertray_count answer, uint64_t number)
+{
+    return answer.disposition == GEYSERTRAY_REJECTED && answer.number == number && answer.count == 0 && kept_from(0);
+}
+
+static void test_session(void)
 {
     uint8_t set[256];
     size_t size = insert_set(set, 1, 9, 7, 42);
@@ -105,6 +154,105 @@ int main(void)
     EXPECT(geysertray_create(1, 0, 0, 0, 0, many, 129, many, 0, many, 0, half->head, half->bindings, half->availability, half->entries, half->lengths) == GEYSERTRAY_TOO_MANY_ANCHORS);
     EXPECT(geysertray_create(1, 0, 0, 0, 0, many, 0, many, 3, many, 0, half->head, half->bindings, half->availability, half->entries, half->lengths) == GEYSERTRAY_NO_SESSION);
     EXPECT(memcmp(&panel, &before, sizeof panel) == 0);
+}
+
+/* ---- what a panel holds */
+
+static void open_listed(void)
+{
+    uint8_t set[256];
+    size_t size = listing_set(set);
+    EXPECT(size == 181);
+    panel.node_count = 1, panel.nodes[0] = 5;
+    panel.pair_count = 1, panel.pairs[0] = 5, panel.pairs[1] = 0;
+    panel.collection_count = 1, panel.collections[0] = 9;
+    EXPECT(geysertray_open(&panel, 7, 4096, 8, 4, 16) == 0);
+    EXPECT(geysertray_send(&panel, 7, 1, 1, size, 4, set, size, 1).disposition == GEYSERTRAY_APPLIED);
+}
+
+static void test_lookups(void)
+{
+    geysertray_value value = geysertray_panel_binding(&panel, 5, 0);
+    geysertray_availability node = geysertray_panel_node(&panel, 5);
+    geysertray_entry entry;
+    size_t i;
+    EXPECT(value.disposition == GEYSERTRAY_ANSWERED && value.found == 1 && value.mark == 1 && value.kind == GEYSERTRAY_QUAD && value.quad == GEYSERTRAY_QUAD_T);
+    EXPECT(geysertray_panel_binding(&panel, 5, 1).found == 0);
+    EXPECT(node.found == 1 && node.mark == 1 && node.availability == GEYSERTRAY_PENDING);
+    EXPECT(geysertray_panel_node(&panel, 6).found == 0);
+    value = geysertray_panel_entry(&panel, 9, 2);
+    EXPECT(value.kind == GEYSERTRAY_SIGNED && value.signed_number == -4 && value.unsigned_number == 0);
+    value = geysertray_panel_entry(&panel, 9, 1);
+    EXPECT(value.kind == GEYSERTRAY_TEXT && value.text_length == 2 && memcmp(value.text, "Ok", 2) == 0);
+    for (i = 2; i < GEYSERTRAY_TEXT_BYTES; i++)
+        EXPECT(value.text[i] == 0);
+    value = geysertray_panel_entry(&panel, 9, 3);
+    EXPECT(value.disposition == GEYSERTRAY_ANSWERED && value.found == 0 && value.kind == 0);
+    entry = geysertray_panel_entry_at(&panel, 9, 1);
+    EXPECT(entry.key == 2 && entry.value.found == 1 && entry.value.signed_number == -4);
+    EXPECT(geysertray_panel_entry_at(&panel, 9, 2).value.found == 0);
+    EXPECT(counted(geysertray_panel_count(&panel, 9), 2) && counted(geysertray_panel_length(&panel, 9), 2));
+    EXPECT(counted(geysertray_panel_count(&panel, 8), 0) && counted(geysertray_panel_length(&panel, 8), 0));
+}
+
+static void test_page(void)
+{
+    const uint64_t keys[] = {2, 7, 1, 2};
+    geysertray_page_place place;
+    memset(output, 0x5a, sizeof output);
+    EXPECT(refused(geysertray_panel_page(&panel, 9, keys, 4, output, 4 * GEYSERTRAY_PAGE_WIDTH - 1), GEYSERTRAY_OUTPUT_TOO_SHORT));
+    EXPECT(refused(geysertray_panel_page(&panel, 9, many, 65, output, sizeof output), GEYSERTRAY_TOO_MANY_KEYS));
+    EXPECT(counted(geysertray_panel_page(&panel, 9, keys, 4, output, sizeof output), 4) && kept_from(4 * GEYSERTRAY_PAGE_WIDTH));
+    place = geysertray_page_row(output);
+    EXPECT(place.position == 1 && place.value.found == 1 && place.value.mark == 1 && place.value.signed_number == -4);
+    EXPECT(geysertray_page_row(output + GEYSERTRAY_PAGE_WIDTH).value.found == 0);
+    place = geysertray_page_row(output + 2 * GEYSERTRAY_PAGE_WIDTH);
+    EXPECT(place.position == 0 && place.value.kind == GEYSERTRAY_TEXT && place.value.text_length == 2);
+    EXPECT(memcmp(output, output + 3 * GEYSERTRAY_PAGE_WIDTH, GEYSERTRAY_PAGE_WIDTH) == 0);
+}
+
+static void test_text(void)
+{
+    char printed[256];
+    size_t size = strlen(listed);
+    memset(output, 0x5a, sizeof output);
+    EXPECT(refused(geysertray_panel_listing(&panel, output, size - 1), GEYSERTRAY_OUTPUT_TOO_SHORT));
+    EXPECT(counted(geysertray_panel_listing(&panel, output, sizeof output), size));
+    EXPECT(memcmp(output, listed, size) == 0 && kept_from(size));
+    /* document 02, Job 10: key in 20, two spaces, 58 characters, newline */
+    snprintf(printed, sizeof printed, "%20d  %-58s\n%20d  %-58s\n", 1, "Ok", 2, "-4");
+    memset(output, 0x5a, sizeof output);
+    EXPECT(refused(geysertray_panel_print(&panel, 9, output, 161), GEYSERTRAY_OUTPUT_TOO_SHORT));
+    EXPECT(counted(geysertray_panel_print(&panel, 9, output, sizeof output), 162));
+    EXPECT(memcmp(output, printed, 162) == 0 && kept_from(162));
+}
+
+/* counts over a capacity are no session, for every call that reads */
+static void test_no_session(void)
+{
+    geysertray_half *half = geysertray_current(&panel);
+    half->head[8] = half->head[9] = half->head[10] = 1000;
+    memset(output, 0x5a, sizeof output);
+    EXPECT(geysertray_panel_binding(&panel, 5, 0).disposition == GEYSERTRAY_NO_SESSION);
+    EXPECT(geysertray_panel_node(&panel, 5).disposition == GEYSERTRAY_NO_SESSION);
+    EXPECT(geysertray_panel_entry(&panel, 9, 1).disposition == GEYSERTRAY_NO_SESSION);
+    EXPECT(geysertray_panel_entry_at(&panel, 9, 0).value.disposition == GEYSERTRAY_NO_SESSION);
+    EXPECT(geysertray_panel_count(&panel, 9).disposition == GEYSERTRAY_NO_SESSION);
+    EXPECT(geysertray_panel_length(&panel, 9).disposition == GEYSERTRAY_NO_SESSION);
+    EXPECT(geysertray_panel_page(&panel, 9, many, 1, output, sizeof output).disposition == GEYSERTRAY_NO_SESSION);
+    EXPECT(geysertray_panel_print(&panel, 9, output, sizeof output).disposition == GEYSERTRAY_NO_SESSION);
+    EXPECT(geysertray_panel_listing(&panel, output, sizeof output).disposition == GEYSERTRAY_NO_SESSION);
+    EXPECT(kept_from(0));
+}
+
+int main(void)
+{
+    test_session();
+    open_listed();
+    test_lookups();
+    test_page();
+    test_text();
+    test_no_session();
     printf(failures ? "%d failed\n" : "a panel in C: ok\n", failures);
     return failures != 0;
 }

@@ -1,4 +1,4 @@
-"""The first use of a program: it is proved and built by `rt check`, and one line tells how far that is."""
+"""The first use of a program or of the library: it is proved and built by rt, and one line tells how far that is."""
 
 import shutil
 import subprocess
@@ -73,17 +73,17 @@ def watch(process, progress, out):
         tell(out, "", True)
 
 
-def prove(program, root=ROOT, out=sys.stderr):
-    """Whether the program stands in target/bin afterwards."""
+def prove(program, verb="check", root=ROOT, out=sys.stderr):
+    """Whether the program stands in target/bin afterwards, or with the verb staticlib the library in target/staticlib."""
     if not shutil.which("rt"):
         print("geysertray: %s is not built yet, and to prove and build it the tool rt must be on the path" % program, file=out)
         return False
     (root / "target").mkdir(exist_ok=True)
     log = root / "target" / "first-use.log"
-    print("geysertray: first use: %s is proved and built, with all that it rests on" % program, file=out)
+    print("geysertray: %s is proved and built, with all that it rests on" % ("the library" if verb == "staticlib" else "first use: " + program), file=out)
     since = time.time()
     with open(log, "wb") as file:
-        process = subprocess.Popen(["rt", "check", program], cwd=root, stdin=subprocess.DEVNULL, stdout=file, stderr=subprocess.STDOUT)
+        process = subprocess.Popen(["rt", verb, program], cwd=root, stdin=subprocess.DEVNULL, stdout=file, stderr=subprocess.STDOUT)
         watch(process, Progress(reached(program, root), root / "target" / "log", since), out)
     if process.returncode:
         print("geysertray: %s was not built; the whole log is target/first-use.log" % program, file=out)
@@ -93,4 +93,4 @@ def prove(program, root=ROOT, out=sys.stderr):
 
 
 if __name__ == "__main__":
-    sys.exit(0 if prove(sys.argv[1]) else 2)
+    sys.exit(0 if prove(*sys.argv[1:]) else 2)

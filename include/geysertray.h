@@ -1,4 +1,4 @@
-/* A match panel's session in memory that the caller owns, for C and whatever calls C. docs/EMBEDDING.md has examples.
+/* A match panel's session in memory that the caller owns, and calls on the bytes of sets, for C and whatever calls C. docs/EMBEDDING.md has examples.
 
    A panel has its anchors and two halves. A batch reads the one half and writes the next session to the other; after `applied` the two are
    exchanged, and after any other answer nothing has changed. The calls allocate nothing and keep nothing between them. Memory that is lent to one
@@ -14,9 +14,10 @@
 extern "C" {
 #endif
 
-/* what became of a call */
+/* what became of a call; calls that read or write but change no session answer 0, 2, 3 or 4 */
 enum {
     GEYSERTRAY_APPLIED = 0,
+    GEYSERTRAY_ANSWERED = 0,
     GEYSERTRAY_NO_CHANGE = 1,
     GEYSERTRAY_REJECTED = 2,
     GEYSERTRAY_NO_SESSION = 3,
@@ -52,7 +53,51 @@ enum {
     GEYSERTRAY_MALFORMED = 10,
     GEYSERTRAY_CHECKS_FAILED = 11,
     GEYSERTRAY_OVER_CAPACITY = 12,
-    GEYSERTRAY_TOO_MANY_ANCHORS = 13
+    GEYSERTRAY_TOO_MANY_ANCHORS = 13,
+    GEYSERTRAY_OUTPUT_TOO_SHORT = 14,
+    GEYSERTRAY_OTHER_FORM = 15,
+    GEYSERTRAY_TOO_MANY_KEYS = 16,
+    GEYSERTRAY_KIND_MISSING = 18
+};
+
+/* kinds of values, and what a quad and a node's availability are */
+enum {
+    GEYSERTRAY_QUAD = 1,
+    GEYSERTRAY_SIGNED = 2,
+    GEYSERTRAY_TEXT = 3,
+    GEYSERTRAY_UNSIGNED = 4,
+    GEYSERTRAY_SCORE = 5
+};
+enum {
+    GEYSERTRAY_QUAD_N = 0,
+    GEYSERTRAY_QUAD_F = 1,
+    GEYSERTRAY_QUAD_T = 2,
+    GEYSERTRAY_QUAD_S = 3
+};
+enum {
+    GEYSERTRAY_AVAILABLE = 0,
+    GEYSERTRAY_UNAVAILABLE = 1,
+    GEYSERTRAY_HIDDEN = 2,
+    GEYSERTRAY_PENDING = 3,
+    GEYSERTRAY_STALE = 4
+};
+
+/* findings of the patch checks: the first of the three numbers of a record */
+enum {
+    GEYSERTRAY_FOUND_BROKEN_CHAIN = 1,
+    GEYSERTRAY_FOUND_BEFORE_SELF = 2,
+    GEYSERTRAY_FOUND_DUPLICATE_TARGET = 3,
+    GEYSERTRAY_FOUND_DUPLICATE_ID = 4,
+    GEYSERTRAY_FOUND_DUPLICATE_SEQUENCE = 5,
+    GEYSERTRAY_FOUND_NO_OPERATIONS = 6,
+    GEYSERTRAY_FOUND_MIXED_DOCUMENT = 7,
+    GEYSERTRAY_FOUND_MIXED_EPOCH = 8,
+    GEYSERTRAY_FOUND_MIXED_STREAM = 9,
+    GEYSERTRAY_FOUND_REVISION_NOT_ABOVE = 10,
+    GEYSERTRAY_FOUND_SEQUENCE_GAP = 11,
+    GEYSERTRAY_FOUND_SEQUENCE_OVERFLOW = 12,
+    GEYSERTRAY_FOUND_ID_ZERO = 13,
+    GEYSERTRAY_FOUND_STREAM_ZERO = 14
 };
 
 /* ---- made from crates/c_exports by c/make_header.py */
@@ -61,7 +106,15 @@ enum {
 #define GEYSERTRAY_AVAILABILITY_BYTES 1088
 #define GEYSERTRAY_ENTRY_BYTES 34432
 #define GEYSERTRAY_LENGTH_BYTES 2048
+#define GEYSERTRAY_TEXT_BYTES 240
+#define GEYSERTRAY_PAGE_WIDTH 262
 #define GEYSERTRAY_ANCHORS 128
+#define GEYSERTRAY_PAGE_KEYS 64
+#define GEYSERTRAY_PRINT_BYTES 46848
+#define GEYSERTRAY_LISTING_BYTES 102150
+#define GEYSERTRAY_SET_BYTES 32768
+#define GEYSERTRAY_FINDING_NUMBERS 945
+#define GEYSERTRAY_DEPENDS_KEYS 2520
 
 /* 0 Applied, 1 NoChange, 2 Rejected, 3 no session in the memory, 4 no such edition; the diagnostics; the cursor after the call, if there is one. */
 typedef struct {
@@ -86,6 +139,47 @@ typedef struct {
     uint64_t cursor;
     uint64_t stimulus_bytes;
 } geysertray_lifecycle;
+
+/* 0 and how many; 2 and the number of the rule that refuses; 3 no session in the memory; 4 no such edition. A refusal leaves every byte. */
+typedef struct {
+    uint64_t disposition;
+    uint64_t number;
+    uint64_t count;
+} geysertray_count;
+
+/* 0, or 3 for no session in the memory; found is 1, or 0 and then every other number and byte is 0; the mark is the id of the patch that last
+   gave the value. The kinds are 1 quad (N 0, F 1, T 2, S 3), 2 signed, 3 text, 4 unsigned, 5 score, which stands in unsigned_number. */
+typedef struct {
+    uint64_t disposition;
+    uint64_t found;
+    uint64_t mark;
+    uint64_t kind;
+    uint64_t quad;
+    int64_t signed_number;
+    uint64_t unsigned_number;
+    uint64_t text_length;
+    uint8_t text[GEYSERTRAY_TEXT_BYTES];
+} geysertray_value;
+
+/* Likewise; the availability is 0 Available, 1 Unavailable, 2 Hidden, 3 Pending, 4 Stale. */
+typedef struct {
+    uint64_t disposition;
+    uint64_t found;
+    uint64_t mark;
+    uint64_t availability;
+} geysertray_availability;
+
+/* The entry at a position: its key, and its value. */
+typedef struct {
+    uint64_t key;
+    geysertray_value value;
+} geysertray_entry;
+
+/* A key of a page: its position in the collection, and its value. */
+typedef struct {
+    uint64_t position;
+    geysertray_value value;
+} geysertray_page_place;
 
 /* Makes a new session in one half of a panel's memory: 0, or 13 for too many anchors of a kind, or 3 where the numbers of the bindings are no pairs. */
 uint64_t geysertray_create(
@@ -137,6 +231,77 @@ geysertray_answer geysertray_batch(
     uint8_t to_availability[GEYSERTRAY_AVAILABILITY_BYTES],
     uint8_t to_entries[GEYSERTRAY_ENTRY_BYTES],
     uint8_t to_lengths[GEYSERTRAY_LENGTH_BYTES]);
+
+/* The value of a binding. */
+geysertray_value geysertray_binding_value(
+    const uint64_t head[GEYSERTRAY_HEAD_NUMBERS],
+    const uint8_t bindings[GEYSERTRAY_BINDING_BYTES],
+    uint64_t node,
+    uint32_t slot);
+
+/* The availability of a node. */
+geysertray_availability geysertray_node_availability(
+    const uint64_t head[GEYSERTRAY_HEAD_NUMBERS],
+    const uint8_t availability[GEYSERTRAY_AVAILABILITY_BYTES],
+    uint64_t node);
+
+/* The value of a collection's key. */
+geysertray_value geysertray_entry_value(
+    const uint64_t head[GEYSERTRAY_HEAD_NUMBERS],
+    const uint8_t entries[GEYSERTRAY_ENTRY_BYTES],
+    uint64_t collection,
+    uint64_t key);
+
+/* How many entries a collection has, counted in the table of entries. */
+geysertray_count geysertray_entry_count(
+    const uint64_t head[GEYSERTRAY_HEAD_NUMBERS],
+    const uint8_t entries[GEYSERTRAY_ENTRY_BYTES],
+    uint64_t collection);
+
+/* The entry at a position of a collection, from 0. */
+geysertray_entry geysertray_entry_at(
+    const uint64_t head[GEYSERTRAY_HEAD_NUMBERS],
+    const uint8_t entries[GEYSERTRAY_ENTRY_BYTES],
+    uint64_t collection,
+    size_t position);
+
+/* How many entries a collection has, told by the table of lengths alone. */
+geysertray_count geysertray_collection_length(
+    const uint64_t head[GEYSERTRAY_HEAD_NUMBERS],
+    const uint8_t lengths[GEYSERTRAY_LENGTH_BYTES],
+    uint64_t collection);
+
+/* Looks up to 64 keys of a collection up together: a row of GEYSERTRAY_PAGE_WIDTH bytes for each, in their order, and the count is that of the
+   rows; 16 for more keys, 14 for too little room. What is behind the rows stays. */
+geysertray_count geysertray_collection_page(
+    const uint64_t head[GEYSERTRAY_HEAD_NUMBERS],
+    const uint8_t entries[GEYSERTRAY_ENTRY_BYTES],
+    uint64_t collection,
+    const uint64_t *keys,
+    size_t keys_count,
+    uint8_t *answers,
+    size_t answers_count);
+
+/* Takes a row of a page apart. Of other bytes it tells some value, or none. */
+geysertray_page_place geysertray_page_row(
+    const uint8_t row[GEYSERTRAY_PAGE_WIDTH]);
+
+/* Prints a collection for paper, whole or not at all; the count is that of the bytes; 14 for too little room. What is behind them stays. */
+geysertray_count geysertray_print_collection(
+    const uint64_t head[GEYSERTRAY_HEAD_NUMBERS],
+    const uint8_t entries[GEYSERTRAY_ENTRY_BYTES],
+    uint64_t collection,
+    uint8_t *out,
+    size_t out_count);
+
+/* Writes the listing of a session's panel, whole or not at all; the count is that of the bytes; 14 for too little room. What is behind them stays. */
+geysertray_count geysertray_listing(
+    const uint64_t head[GEYSERTRAY_HEAD_NUMBERS],
+    const uint8_t bindings[GEYSERTRAY_BINDING_BYTES],
+    const uint8_t availability[GEYSERTRAY_AVAILABILITY_BYTES],
+    const uint8_t entries[GEYSERTRAY_ENTRY_BYTES],
+    uint8_t *out,
+    size_t out_count);
 /* ---- end of what is made */
 
 /* ---- a panel in one block */
@@ -197,6 +362,70 @@ static inline geysertray_answer geysertray_send(
     if (answer.disposition == GEYSERTRAY_APPLIED)
         panel->current = 1 - panel->current;
     return answer;
+}
+
+/* ---- what a panel holds */
+
+/* The value of a binding. */
+static inline geysertray_value geysertray_panel_binding(const geysertray_panel *panel, uint64_t node, uint32_t slot)
+{
+    const geysertray_half *half = &panel->halves[panel->current];
+    return geysertray_binding_value(half->head, half->bindings, node, slot);
+}
+
+/* The availability of a node. */
+static inline geysertray_availability geysertray_panel_node(const geysertray_panel *panel, uint64_t node)
+{
+    const geysertray_half *half = &panel->halves[panel->current];
+    return geysertray_node_availability(half->head, half->availability, node);
+}
+
+/* The value of a collection's key. */
+static inline geysertray_value geysertray_panel_entry(const geysertray_panel *panel, uint64_t collection, uint64_t key)
+{
+    const geysertray_half *half = &panel->halves[panel->current];
+    return geysertray_entry_value(half->head, half->entries, collection, key);
+}
+
+/* The entry at a position of a collection, from 0. */
+static inline geysertray_entry geysertray_panel_entry_at(const geysertray_panel *panel, uint64_t collection, size_t position)
+{
+    const geysertray_half *half = &panel->halves[panel->current];
+    return geysertray_entry_at(half->head, half->entries, collection, position);
+}
+
+/* How many entries a collection has: counted, and told by the table of lengths. Both answer alike of a panel. */
+static inline geysertray_count geysertray_panel_count(const geysertray_panel *panel, uint64_t collection)
+{
+    const geysertray_half *half = &panel->halves[panel->current];
+    return geysertray_entry_count(half->head, half->entries, collection);
+}
+static inline geysertray_count geysertray_panel_length(const geysertray_panel *panel, uint64_t collection)
+{
+    const geysertray_half *half = &panel->halves[panel->current];
+    return geysertray_collection_length(half->head, half->lengths, collection);
+}
+
+/* A page of keys; geysertray_page_row takes each row apart. */
+static inline geysertray_count geysertray_panel_page(
+    const geysertray_panel *panel, uint64_t collection, const uint64_t *keys, size_t keys_count, uint8_t *answers, size_t answers_count)
+{
+    const geysertray_half *half = &panel->halves[panel->current];
+    return geysertray_collection_page(half->head, half->entries, collection, keys, keys_count, answers, answers_count);
+}
+
+/* The print of a collection; GEYSERTRAY_PRINT_BYTES hold every one. */
+static inline geysertray_count geysertray_panel_print(const geysertray_panel *panel, uint64_t collection, uint8_t *out, size_t out_count)
+{
+    const geysertray_half *half = &panel->halves[panel->current];
+    return geysertray_print_collection(half->head, half->entries, collection, out, out_count);
+}
+
+/* The listing; GEYSERTRAY_LISTING_BYTES hold every one. */
+static inline geysertray_count geysertray_panel_listing(const geysertray_panel *panel, uint8_t *out, size_t out_count)
+{
+    const geysertray_half *half = &panel->halves[panel->current];
+    return geysertray_listing(half->head, half->bindings, half->availability, half->entries, out, out_count);
 }
 
 #ifdef __cplusplus

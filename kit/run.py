@@ -4,6 +4,7 @@
 The program reads a replay script from standard input and prints its answers. Options before it:
     --data FOLDER   the cases, if they are not in the repository's place
     --only TEXT     just the cases whose names contain this text
+    --without A,B   no case that has one of these commands, for a panel that does not know them; the last line counts them
 Each case prints a line; the last line has the numbers. The status is 0 if every case passed.
 """
 
@@ -44,33 +45,38 @@ def run_case(data, name, program):
     return None if got == expected else first_difference(expected, got)
 
 
+def has_command(data, name, commands):
+    """Whether a line of the case begins with one of these words."""
+    lines = (data / (name + ".script")).read_bytes().split(b"\n")
+    return any(line.split(b" ")[0].decode("latin-1") in commands for line in lines)
+
+
 def options(arguments):
-    """The data folder, the text that names must contain, and the program."""
-    data, only = DATA, ""
-    while arguments[:1] and arguments[0] in ("--data", "--only"):
-        if arguments[0] == "--data":
-            data = Path(arguments[1])
-        else:
-            only = arguments[1]
+    """What was told before the program, and the program."""
+    told = {"--data": str(DATA), "--only": "", "--without": ""}
+    while arguments[:1] and arguments[0] in told:
+        told[arguments[0]] = arguments[1]
         arguments = arguments[2:]
     if not arguments:
         sys.exit(__doc__)
-    return data, only, arguments
+    return Path(told["--data"]), told["--only"], [word for word in told["--without"].split(",") if word], arguments
 
 
 def main():
-    data, only, program = options(sys.argv[1:])
+    data, only, without, program = options(sys.argv[1:])
     names = (data / "index").read_text().split()
     scripts = sorted(path.stem for path in data.glob("*.script"))
     if scripts != sorted(names):
         sys.exit("index and folder differ: %s" % ", ".join(sorted(set(scripts) ^ set(names))))
     failed = 0
-    chosen = [name for name in names if only in name]
+    named = [name for name in names if only in name]
+    chosen = [name for name in named if not has_command(data, name, without)]
     for name in chosen:
         fault = run_case(data, name, program)
         failed += fault is not None
         print("passed " + name if fault is None else "FAILED %s: %s" % (name, fault), flush=True)
-    print("%d cases, %d failed" % (len(chosen), failed))
+    skipped = ", %d skipped" % (len(named) - len(chosen)) if without else ""
+    print("%d cases, %d failed%s" % (len(chosen), failed, skipped))
     sys.exit(failed != 0)
 
 

@@ -2,9 +2,7 @@
 use Prim.Native.Nat.{ℕ, _<_, _≤_}
 use mathlib.Core.Path.{_≡_, subst}
 use mathlib.Core.List.{List}
-use lib.Dec.{eqb}
-use Rattle.spec_lists.specs.Lists.{if_then_else_}
-use Rattle.spec_patch.specs.Edition.{Edition, v1, v2}
+use Rattle.spec_patch.specs.Edition.{Edition}
 use Rattle.spec_session.specs.Session.{Limits}
 use Rattle.spec_session.specs.Lifecycle.{Stimulus}
 use Rattle.spec_session.specs.Batch.{BatchEnvelope}
@@ -13,13 +11,10 @@ use Rattle.session_lent.specs.Batches.{SameHalf, BatchCall}
 use Rattle.session_lent.specs.declared.batch.LentBatch.{LentBatch}
 use Rattle.session_lent.specs.declared.creation.LentCreation.{LentCreation}
 use Rattle.session_lent.specs.declared.lifecycle.LentTransition.{LentTransition}
-use Rattle.c_exports.specs.declared.calls.GeysertrayAnswer.{GeysertrayAnswer}
-use Rattle.c_exports.specs.declared.calls.GeysertrayLifecycle.{GeysertrayLifecycle}
+use Rattle.c_exports.specs.declared.session.GeysertrayAnswer.{GeysertrayAnswer}
+use Rattle.c_exports.specs.declared.session.GeysertrayLifecycle.{GeysertrayLifecycle}
+use Rattle.c_exports.specs.Editions.{editionAt}
 use Rattle.c_exports.specs.Exports.{batchTold, stepTold, creationTold, noSession, noStep, commandAt}
-
--- the edition of a number
-unfoldable pub editionAt : ℕ → Edition
-editionAt n = if eqb n 1 then v1 else v2
 
 pub record ExportedCreation (id : ℕ) (limits : Limits) (nodes pairs collections head b a e l : List ℕ) (r : ℕ) (head′ b′ a′ e′ l′ : List ℕ) : Type 0 where
   pub answer : LentCreation

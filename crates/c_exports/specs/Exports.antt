@@ -13,8 +13,8 @@ use Rattle.session_lent.specs.declared.creation.LentCreation.{LentCreation}
 use Rattle.session_lent.specs.declared.creation.LentCreation.the-variants as creation
 use Rattle.session_lent.specs.declared.lifecycle.LentTransition.{LentTransition}
 use Rattle.session_lent.specs.declared.lifecycle.LentTransition.the-variants as transition
-use Rattle.c_exports.specs.declared.calls.GeysertrayAnswer.{GeysertrayAnswer}
-use Rattle.c_exports.specs.declared.calls.GeysertrayLifecycle.{GeysertrayLifecycle}
+use Rattle.c_exports.specs.declared.session.GeysertrayAnswer.{GeysertrayAnswer}
+use Rattle.c_exports.specs.declared.session.GeysertrayLifecycle.{GeysertrayLifecycle}
 
 abbrev pub dispositionNumber : Disposition → ℕ
 dispositionNumber applied = 0

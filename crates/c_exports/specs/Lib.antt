@@ -1,2 +1,5 @@
+pub mod Editions
 pub mod Exports
 pub mod Calls
+pub mod Counts
+pub mod Values

@@ -1,6 +1,6 @@
 // Answers as numbers.
-use crate::calls::GeysertrayAnswer;
-use crate::calls::GeysertrayLifecycle;
+use crate::session::GeysertrayAnswer;
+use crate::session::GeysertrayLifecycle;
 use session_lifecycle::lifecycle::ShellLifecycleCommand;
 use session_lifecycle::lifecycle::ShellLifecycleStimulus;
 use session_lifecycle::lifecycle::ShellTransitionDisposition;

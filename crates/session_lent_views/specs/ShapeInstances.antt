@@ -5,8 +5,9 @@ use mathlib.Core.Bool.{true, false}
 use mathlib.Core.List.{List, [], _∷_}
 use lib.ListN.{take}
 use Rattle.spec_patch.specs.Sizes.{projectionBindings, projectionEntries}
-use Rattle.panel_rows.specs.Rows.{bindingBytes, availabilityBytes, entryBytes}
+use Rattle.panel_rows.specs.Rows.{bindingBytes, availabilityBytes, entryBytes, lengthBytes}
 use Rattle.session_lent.specs.LentSession.{tableShaped, bindingsShaped, availabilitiesShaped, entriesShaped}
+use Rattle.session_lent_views.specs.Views.{lengthsShaped}
 
 -- a head of session 7, Active, with so many bindings and entries
 abbrev counted : ℕ → ℕ → List ℕ
@@ -32,3 +33,8 @@ one-byte-too-many = refl
 pub ten-numbers : entriesShaped (take 10 (counted 0 0)) entryBytes ≡ false
 unfolding tableShaped
 ten-numbers = refl
+
+-- the table of lengths has its own length, and goes with a head whose entries are not too many
+pub shaped-lengths : (lengthsShaped (counted 0 projectionEntries) lengthBytes ≡ true) × ((lengthsShaped (counted 0 0) entryBytes ≡ false) × (lengthsShaped (counted 0 (projectionEntries + 1)) lengthBytes ≡ false))
+unfolding tableShaped
+shaped-lengths = (refl, (refl, refl))

@@ -7,12 +7,15 @@ use mathlib.Core.List.{List}
 use mathlib.Core.Option.{none}
 use lib.ListN.{length}
 use Rattle.spec_lists.specs.Lists.{if_then_else_}
+use Rattle.spec_patch.specs.Sizes.{projectionEntries}
+use Rattle.spec_projection.specs.Lookups.{bindingOf, bindingMark, availabilityOf, availabilityMark, entryOf, entryMark, entryAt, entryCount}
 use Rattle.spec_session.specs.Session.{Session}
 use Rattle.spec_listing.specs.Listing.{projectionLines}
 use Rattle.spec_panel_print.specs.Print.{collectionPrint}
 use Rattle.spec_page.specs.Page.{pageRefusal, tableLeft}
 use Rattle.bytes_wire.specs.Write.{overwrite}
-use Rattle.panel_rows.specs.Lookup.{noValue}
+use Rattle.panel_rows.specs.Rows.{lengthBytes}
+use Rattle.panel_rows.specs.Lookup.{noValue, valueLookup, availabilityLookup}
 use Rattle.panel_rows.specs.declared.values.ValueLookup.{ValueLookup}
 use Rattle.panel_lookups.specs.Nth.{entryLookup}
 use Rattle.panel_lookups.specs.declared.positions.EntryLookup.{EntryLookup}
@@ -22,10 +25,15 @@ use Rattle.panel_page.specs.PageTable as page
 use Rattle.panel_page.specs.PageTable.{pageWidth, pageBytes, pageAnswer}
 use Rattle.patch_part_writer.specs.declared.written.Written.{Written}
 use Rattle.listing_panel.specs.Written.{Writes, Kept}
-use Rattle.session_lent.specs.LentSession.{LentSession, halfShaped, entriesShaped}
+use Rattle.session_lent.specs.Head.{countsAt}
+use Rattle.session_lent.specs.LentSession.{LentSession, halfShaped, tableShaped, bindingsShaped, availabilitiesShaped, entriesShaped}
 use Rattle.session_lent_views.specs.declared.tables.TableRows.{TableRows}
 use Rattle.session_lent_views.specs.declared.tables.TableRows.the-variants as rows
 use Rattle.session_lent_views.specs.declared.lookups.LentValue.{LentValue}
+use Rattle.session_lent_views.specs.declared.lookups.LentAvailability.{LentAvailability}
+use Rattle.session_lent_views.specs.declared.lookups.LentAvailability.the-variants as available
+use Rattle.session_lent_views.specs.declared.lookups.LentCount.{LentCount}
+use Rattle.session_lent_views.specs.declared.lookups.LentCount.the-variants as counting
 use Rattle.session_lent_views.specs.declared.lookups.LentEntry.{LentEntry}
 use Rattle.session_lent_views.specs.declared.listing.LentListing.{LentListing}
 use Rattle.session_lent_views.specs.declared.listing.LentListing.the-variants as listing
@@ -58,6 +66,19 @@ pub record HoldsEntries (head entries : List ℕ) (m : Session) : Type 0 where
   pub availability : List ℕ
   pub tables : HoldsTables head bindings availability entries m
 
+pub record HoldsLengths (head lengths : List ℕ) (m : Session) : Type 0 where
+  pub nodes : List ℕ
+  pub pairs : List ℕ
+  pub collections : List ℕ
+  pub bindings : List ℕ
+  pub availability : List ℕ
+  pub entries : List ℕ
+  pub held : LentSession head nodes pairs collections bindings availability entries lengths m
+
+-- a head, and the table of its collections' lengths: the count of entries is not over its capacity
+abbrev pub lengthsShaped : List ℕ → ℕ → Bool
+lengthsShaped head table = tableShaped head (countsAt head .entries) table lengthBytes projectionEntries
+
 -- ---- look-ups
 
 -- how many rows are used, where head and table have a session's shape
@@ -81,6 +102,32 @@ entryAnswered e = record { «no_session» = false; entry = e }
 
 abbrev pub entryNoSession : LentEntry
 entryNoSession = record { «no_session» = true; entry = entryLookup none }
+
+-- what each look-up answers
+
+abbrev pub BindingView : (head bindings : List ℕ) (node slot : ℕ) → LentValue → Type 0
+BindingView head bindings node slot r =
+    Viewed (bindingsShaped head (length bindings)) valueNoSession valueAnswered (HoldsBindings head bindings) (λ (m : Session). valueLookup (bindingMark (m .projection) node slot) (bindingOf (m .projection) node slot)) r
+
+abbrev pub AvailabilityView : (head availability : List ℕ) (node : ℕ) → LentAvailability → Type 0
+AvailabilityView head availability node r =
+    Viewed (availabilitiesShaped head (length availability)) available.NoSession available.Answered (HoldsAvailabilities head availability) (λ (m : Session). availabilityLookup (availabilityMark (m .projection) node) (availabilityOf (m .projection) node)) r
+
+abbrev pub EntryView : (head entries : List ℕ) (collection key : ℕ) → LentValue → Type 0
+EntryView head entries collection key r =
+    Viewed (entriesShaped head (length entries)) valueNoSession valueAnswered (HoldsEntries head entries) (λ (m : Session). valueLookup (entryMark (m .projection) collection key) (entryOf (m .projection) collection key)) r
+
+abbrev pub CountView : (head entries : List ℕ) (collection : ℕ) → LentCount → Type 0
+CountView head entries collection r =
+    Viewed (entriesShaped head (length entries)) counting.NoSession counting.Answered (HoldsEntries head entries) (λ (m : Session). entryCount (m .projection) collection) r
+
+abbrev pub PlaceView : (head entries : List ℕ) (collection position : ℕ) → LentEntry → Type 0
+PlaceView head entries collection position r =
+    Viewed (entriesShaped head (length entries)) entryNoSession entryAnswered (HoldsEntries head entries) (λ (m : Session). entryLookup (entryAt (m .projection) collection position)) r
+
+abbrev pub LengthView : (head lengths : List ℕ) (collection : ℕ) → LentCount → Type 0
+LengthView head lengths collection r =
+    Viewed (lengthsShaped head (length lengths)) counting.NoSession counting.Answered (HoldsLengths head lengths) (λ (m : Session). entryCount (m .projection) collection) r
 
 -- ---- what is written into a lent slice: before, the answer, and afterwards
 

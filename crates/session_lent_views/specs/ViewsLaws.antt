@@ -4,19 +4,22 @@ use mathlib.Core.Path.{_≡_, refl, sym, ap, subst, _∙_}
 use mathlib.Core.Bool.{Bool, true, false, _&&_, false≢true}
 use mathlib.Core.List.{List}
 use native.Mathlib.Omega.{arith}
+use borrow.Author.Tests.{eq-eqb}
 use lib.Dec.{leb, eqb}
 use lib.ListN.{length}
 use Rattle.spec_lists.specs.ListLaws.{and-left, and-right}
 use Rattle.spec_patch.specs.Sizes.{projectionBindings, projectionAvailabilities, projectionEntries}
+use Rattle.spec_projection.specs.Valid.{Valid}
 use Rattle.spec_session.specs.Session.{Session}
-use Rattle.panel_rows.specs.Rows.{bindingBytes, availabilityBytes, entryBytes, bindingWidth, availabilityWidth, entryWidth, bindingRow, availabilityRow, entryRow}
-use Rattle.local_projection_state.specs.Stores.{Stored, StoredTables}
+use Rattle.spec_lengths.specs.Lengths.{collectionLengths}
+use Rattle.panel_rows.specs.Rows.{bindingBytes, availabilityBytes, entryBytes, lengthBytes, bindingWidth, availabilityWidth, entryWidth, bindingRow, availabilityRow, entryRow}
+use Rattle.local_projection_state.specs.Stores.{Stored, StoredTables, StoredLengths}
 use Rattle.local_projection_state.specs.declared.ProjectionCounts.{ProjectionCounts}
 use Rattle.panel_changes.specs.SetChanges.{tablesFit, countsFit}
 use Rattle.session_lent.specs.Head.{headNumbers, countsAt}
 use Rattle.session_lent.specs.LentSession.{halfShaped, tableShaped, bindingsShaped, availabilitiesShaped, entriesShaped}
 use Rattle.session_lent.specs.BatchesLaws.{held-half, held-tables}
-use Rattle.session_lent_views.specs.Views.{HoldsTables, HoldsBindings, HoldsAvailabilities, HoldsEntries, tableRows, Viewed, ViewWritten}
+use Rattle.session_lent_views.specs.Views.{HoldsTables, HoldsBindings, HoldsAvailabilities, HoldsEntries, HoldsLengths, lengthsShaped, tableRows, Viewed, ViewWritten}
 use Rattle.session_lent_views.specs.declared.tables.TableRows.{TableRows}
 use Rattle.session_lent_views.specs.declared.tables.TableRows.the-variants.{Rows, NoSession}
 
@@ -79,6 +82,23 @@ availabilities-shaped head a m h = half-availabilities head (length (h .bindings
 
 pub entries-shaped : (head e : List ℕ) (m : Session) → HoldsEntries head e m → entriesShaped head (length e) ≡ true
 entries-shaped head e m h = half-entries head (length (h .bindings)) (length (h .availability)) (length e) (tables-shaped head (h .bindings) (h .availability) e m (h .tables))
+
+lengths-held : {head l : List ℕ} {m : Session} (h : HoldsLengths head l m) → HoldsTables head (h .bindings) (h .availability) (h .entries) m
+lengths-held {l = l} h = record { nodes = h .nodes; pairs = h .pairs; collections = h .collections; lengths = l; held = h .held }
+
+-- the lengths are those of a projection that is stored, and so is valid
+pub lengths-stored : {head l : List ℕ} {m : Session} → HoldsLengths head l m → StoredLengths l (collectionLengths (m .projection))
+lengths-stored h = h .held .collections-told
+
+pub lengths-valid : {head l : List ℕ} {m : Session} → HoldsLengths head l m → Valid (m .projection)
+lengths-valid h = tables-stored (lengths-held h) .valid
+
+pub lengths-shaped : (head l : List ℕ) (m : Session) → HoldsLengths head l m → lengthsShaped head (length l) ≡ true
+unfolding tableShaped
+lengths-shaped head l m h =
+    let entries = entries-shaped head (h .entries) m (record { bindings = h .bindings; availability = h .availability; tables = lengths-held h }) in
+    let rest = and-right (eqb (length head) headNumbers) _ entries in
+    all-three (and-left (eqb (length head) headNumbers) _ entries) (eq-eqb (length l) lengthBytes (lengths-stored h .size)) (and-right (eqb (length (h .entries)) entryBytes) _ rest)
 
 -- ---- answers, by the shape
 

@@ -1,21 +1,14 @@
 // Look-ups in the tables of a lent session. Without a record every field of the answer is zero, and so it is where there is no session.
 use crate::tables;
 use crate::tables::TableRows;
+use panel_lengths::lookup;
 use panel_lookups::positions;
 use panel_lookups::positions::EntryLookup;
 use panel_rows::values;
 use panel_rows::values::AvailabilityLookup;
 use panel_rows::values::ValueLookup;
 ghost use mathlib.Core.Path.{_≡_};
-ghost use lib.ListN.{length};
-ghost use Rattle.spec_projection.specs.Lookups.{bindingOf, bindingMark, availabilityOf, availabilityMark, entryOf, entryMark, entryAt, entryCount};
-ghost use Rattle.spec_session.specs.Session.{Session};
-ghost use Rattle.panel_rows.specs.Lookup.{valueLookup, availabilityLookup};
-ghost use Rattle.panel_lookups.specs.Nth.{entryLookup};
-ghost use Rattle.session_lent.specs.LentSession.{bindingsShaped, availabilitiesShaped, entriesShaped};
-ghost use Rattle.session_lent_views.specs.Views.{HoldsBindings, HoldsAvailabilities, HoldsEntries, Viewed, valueAnswered, valueNoSession, entryAnswered, entryNoSession};
-ghost use Rattle.session_lent_views.specs.declared.lookups.LentAvailability.the-variants as availability_answers;
-ghost use Rattle.session_lent_views.specs.declared.lookups.LentCount.the-variants as count_answers;
+ghost use Rattle.session_lent_views.specs.Views.{BindingView, AvailabilityView, EntryView, CountView, PlaceView, LengthView, valueNoSession, entryNoSession};
 
 // A value, or that there is no session. A value holds an array, which an enum cannot, so that a field says so.
 pub struct LentValue {
@@ -60,8 +53,7 @@ fn no_entry_session() -> LentEntry
 
 // The value of a binding, and its mark.
 pub fn binding_value(head: &[u64], bindings: &[u8], node: u64, slot: u32) -> LentValue
-    ensures { λ r. ⌜ Viewed (bindingsShaped (now (head .entry)) (length (now (bindings .entry)))) valueNoSession valueAnswered (HoldsBindings (now (head .entry)) (now (bindings .entry)))
-        (λ (m : Session). valueLookup (bindingMark (m .projection) node slot) (bindingOf (m .projection) node slot)) r ⌝ }
+    ensures { λ r. ⌜ BindingView (now (head .entry)) (now (bindings .entry)) node slot r ⌝ }
 {
     let TableRows::Rows(count) = tables::binding_rows(head, bindings.len()) else {
         return no_value_session();
@@ -75,8 +67,7 @@ pub fn binding_value(head: &[u64], bindings: &[u8], node: u64, slot: u32) -> Len
 
 // A node's availability, and its mark.
 pub fn node_availability(head: &[u64], availability: &[u8], node: u64) -> LentAvailability
-    ensures { λ r. ⌜ Viewed (availabilitiesShaped (now (head .entry)) (length (now (availability .entry)))) availability_answers.NoSession availability_answers.Answered (HoldsAvailabilities (now (head .entry)) (now (availability .entry)))
-        (λ (m : Session). availabilityLookup (availabilityMark (m .projection) node) (availabilityOf (m .projection) node)) r ⌝ }
+    ensures { λ r. ⌜ AvailabilityView (now (head .entry)) (now (availability .entry)) node r ⌝ }
 {
     let TableRows::Rows(count) = tables::availability_rows(head, availability.len()) else {
         return LentAvailability::NoSession;
@@ -86,8 +77,7 @@ pub fn node_availability(head: &[u64], availability: &[u8], node: u64) -> LentAv
 
 // The value of a collection's key, and its mark.
 pub fn entry_value(head: &[u64], entries: &[u8], collection: u64, key: u64) -> LentValue
-    ensures { λ r. ⌜ Viewed (entriesShaped (now (head .entry)) (length (now (entries .entry)))) valueNoSession valueAnswered (HoldsEntries (now (head .entry)) (now (entries .entry)))
-        (λ (m : Session). valueLookup (entryMark (m .projection) collection key) (entryOf (m .projection) collection key)) r ⌝ }
+    ensures { λ r. ⌜ EntryView (now (head .entry)) (now (entries .entry)) collection key r ⌝ }
 {
     let TableRows::Rows(count) = tables::entry_rows(head, entries.len()) else {
         return no_value_session();
@@ -101,8 +91,7 @@ pub fn entry_value(head: &[u64], entries: &[u8], collection: u64, key: u64) -> L
 
 // How many entries a collection has.
 pub fn entry_count(head: &[u64], entries: &[u8], collection: u64) -> LentCount
-    ensures { λ r. ⌜ Viewed (entriesShaped (now (head .entry)) (length (now (entries .entry)))) count_answers.NoSession count_answers.Answered (HoldsEntries (now (head .entry)) (now (entries .entry)))
-        (λ (m : Session). entryCount (m .projection) collection) r ⌝ }
+    ensures { λ r. ⌜ CountView (now (head .entry)) (now (entries .entry)) collection r ⌝ }
 {
     let TableRows::Rows(count) = tables::entry_rows(head, entries.len()) else {
         return LentCount::NoSession;
@@ -112,8 +101,7 @@ pub fn entry_count(head: &[u64], entries: &[u8], collection: u64) -> LentCount
 
 // The entry at a position of its collection, from 0, and its mark.
 pub fn entry_at(head: &[u64], entries: &[u8], collection: u64, position: usize) -> LentEntry
-    ensures { λ r. ⌜ Viewed (entriesShaped (now (head .entry)) (length (now (entries .entry)))) entryNoSession entryAnswered (HoldsEntries (now (head .entry)) (now (entries .entry)))
-        (λ (m : Session). entryLookup (entryAt (m .projection) collection position)) r ⌝ }
+    ensures { λ r. ⌜ PlaceView (now (head .entry)) (now (entries .entry)) collection position r ⌝ }
 {
     let TableRows::Rows(count) = tables::entry_rows(head, entries.len()) else {
         return no_entry_session();
@@ -123,4 +111,14 @@ pub fn entry_at(head: &[u64], entries: &[u8], collection: u64, position: usize) 
         no_session: false,
         entry,
     }
+}
+
+// How many entries a collection has, told by the table of lengths alone.
+pub fn collection_length(head: &[u64], lengths: &[u8], collection: u64) -> LentCount
+    ensures { λ r. ⌜ LengthView (now (head .entry)) (now (lengths .entry)) collection r ⌝ }
+{
+    let TableRows::Rows(_) = tables::length_rows(head, lengths.len()) else {
+        return LentCount::NoSession;
+    };
+    LentCount::Answered(lookup::collection_length(lengths, collection) as usize)
 }

@@ -6,7 +6,7 @@ ghost use Prim.Native.Nat.{_<_};
 ghost use lib.ListN.{getD};
 ghost use Rattle.session_lent.specs.Head.{headNumbers, countsAt};
 ghost use Rattle.session_lent.specs.LentSession.{tableShaped, bindingsShaped, availabilitiesShaped, entriesShaped};
-ghost use Rattle.session_lent_views.specs.Views.{tableRows};
+ghost use Rattle.session_lent_views.specs.Views.{tableRows, lengthsShaped};
 
 // So many rows, or head and table cannot be a session's: one has another length, or the count is over its capacity.
 pub enum TableRows {
@@ -64,6 +64,19 @@ pub(crate) fn entry_rows(head: &[u64], table: usize) -> TableRows
         10,
         table,
         LocalProjectionState::ENTRY_BYTES,
+        LocalProjectionState::ENTRIES,
+    )
+}
+
+// The entries that a table of lengths tells of.
+pub(crate) fn length_rows(head: &[u64], table: usize) -> TableRows
+    ensures { λ r. ⌜ r ≡ tableRows (lengthsShaped (now (head .entry)) table) (countsAt (now (head .entry)) .entries) ⌝ }
+{
+    rows_at(
+        head,
+        10,
+        table,
+        LocalProjectionState::LENGTH_BYTES,
         LocalProjectionState::ENTRIES,
     )
 }

@@ -1,0 +1,78 @@
+// The C++ wrapper on the set of examples/panel.set, whose listing README.md has: test < examples/panel.set. Each line that fails is told, and the status is 1.
+//
+// c++ -std=c++17 -Wall -Wextra -Wpedantic -Ibuild/include bindings/cpp/test.cpp build/libgeysertray.a -o build/cpp_test
+#include "geysertray.hpp"
+
+#include <cstdio>
+#include <iostream>
+#include <iterator>
+
+static int failures;
+
+static void expect(bool holds, const char *what, int line)
+{
+    if (!holds) {
+        std::printf("line %d: %s\n", line, what);
+        failures++;
+    }
+}
+#define EXPECT(condition) expect((condition), #condition, __LINE__)
+
+// The number that a call is refused with, or 0.
+template <class Call> static std::uint64_t refusal(Call call)
+{
+    try {
+        call();
+    } catch (const geysertray::refused &refused) {
+        return refused.number();
+    }
+    return 0;
+}
+
+static const char *const listing = "P\t4\nB\t5\t0\tQ\t2\nA\t5\t3\nC\t9\t1\tT\tOk\nC\t9\t2\tS\t-4\n";
+
+static void look_at(const geysertray::panel &panel)
+{
+    EXPECT(panel.listing() == listing);
+    EXPECT(panel.binding(5, 0)->kind == geysertray::kind::quad && panel.binding(5, 0)->number == GEYSERTRAY_QUAD_T);
+    EXPECT(!panel.binding(5, 1));
+    EXPECT(panel.node(5)->first == GEYSERTRAY_PENDING && !panel.node(6));
+    EXPECT(panel.entry(9, 1)->text == "Ok" && panel.entry(9, 2)->signed_number == -4 && !panel.entry(9, 3));
+    EXPECT(panel.length(9) == 2 && panel.length(8) == 0);
+    EXPECT(panel.entry_at(9, 0)->first == 1 && panel.entry_at(9, 1)->first == 2 && !panel.entry_at(9, 2));
+    const auto page = panel.page(9, {2, 3, 1});
+    EXPECT(page.size() == 3 && page[0]->position == 1 && !page[1] && page[2]->value.text == "Ok");
+    EXPECT(panel.page(9, {}).empty());
+    EXPECT(refusal([&] { panel.page(9, std::vector<std::uint64_t>(65)); }) == GEYSERTRAY_TOO_MANY_KEYS);
+    EXPECT(panel.print(9).substr(0, 24) == "                   1  Ok");
+}
+
+static void send(const geysertray::bytes &set)
+{
+    geysertray::panel panel(7, {4096, 8, 4, 16}, {5}, {{5, 0}}, {9});
+    EXPECT(panel.listing() == "P\t0\n");
+    EXPECT(panel.step(GEYSERTRAY_ACTIVATE).lifecycle == GEYSERTRAY_ACTIVE);
+    EXPECT(refusal([&] { panel.step(GEYSERTRAY_RESUME); }) == GEYSERTRAY_INVALID_LIFECYCLE);
+    EXPECT(panel.send({7, 3, 1, 0, 4}, set).cursor == 3);
+    look_at(panel);
+    try {
+        panel.send({7, 4, 1, 0, 4}, set);
+        EXPECT(!"the keys are there already");
+    } catch (const geysertray::refused &refused) {
+        EXPECT(refused.number() == GEYSERTRAY_KEY_RULE && refused.answer()->stage == 8 && refused.answer()->cursor == 3);
+        EXPECT(std::string(refused.what()).rfind("8: An operation met a list that it does not fit", 0) == 0);
+    }
+    look_at(panel);
+    EXPECT(refusal([&] { panel.send({7, 4, 0, 0, 0}, {}); }) == GEYSERTRAY_MALFORMED);
+    geysertray::panel moved = std::move(panel);
+    look_at(moved);
+}
+
+int main()
+{
+    const geysertray::bytes set{std::istreambuf_iterator<char>(std::cin), {}};
+    send(set);
+    EXPECT(refusal([] { geysertray::panel(1, {0, 0, 0, 0}, std::vector<std::uint64_t>(129), {}, {}); }) == GEYSERTRAY_TOO_MANY_ANCHORS);
+    std::printf(failures ? "%d failed\n" : "a panel in C++: ok\n", failures);
+    return failures != 0;
+}

@@ -1,0 +1,375 @@
+"""A match panel by libgeysertray. docs/EMBEDDING.md begins with an example.
+
+A refused call raises Refused, which names the rule, and leaves the panel as it was. One thread at a time may use a panel; different panels share
+nothing. The library is the file that GEYSERTRAY_LIBRARY names, else libgeysertray.so.1 where the loader finds it.
+"""
+
+from __future__ import annotations
+
+import ctypes
+import functools
+import os
+from enum import Enum, IntEnum
+from typing import Iterable, Iterator, NamedTuple, Optional, Sequence, Union
+
+HEAD_NUMBERS = 11
+BINDING_BYTES = 16960
+AVAILABILITY_BYTES = 1088
+ENTRY_BYTES = 34432
+LENGTH_BYTES = 2048
+TEXT_BYTES = 240
+PAGE_WIDTH = 262
+# room that holds every answer of its call: docs/RULES.md, number 14
+LISTING_BYTES = 102150
+PRINT_BYTES = 46848
+
+# what each number means, in the words of docs/RULES.md
+RULES = {
+    1: "The batch names another session.",
+    2: "The session was closed; it takes nothing any more.",
+    3: "This command has no place in this state, such as resuming what was never suspended.",
+    4: "One of the session's own limits is passed: patches or stimulus bytes as declared, or target references as counted.",
+    5: "The declared count of patches or of target references is not what the set has.",
+    6: "So many operations (the logical count) aim at a node, a binding or a collection that the session was not created with.",
+    7: "The batch's number is not the one after the last that was applied: a batch was lost, sent twice, or sent after a refused one.",
+    8: "An operation met a list that it does not fit: the key to insert is there already, or the key or the neighbour is missing.",
+    9: "The panel is full: 64 bindings, 64 availabilities, 128 entries over all collections.",
+    10: "The bytes are no set: wrong heading or byte, too few bytes, a text cut off however long it was to be, a text that is no UTF-8, a score above 100 or in the first edition, bytes left over.",
+    11: "The set reads, and its patches contradict each other or themselves.",
+    12: "More than a set can carry: 32,768 bytes, 64 patches, 128 operations a patch, 240 bytes or 160 characters a text, all of whose bytes are there.",
+    13: "A session was to be created with more than 128 anchors of one kind.",
+    14: "The output is shorter than the bytes that the writer, the converter or bringing in a term list would write, than the list of keys that a set depends on, or than the print of a collection; or an answer table has fewer places than a page has keys.",
+    15: "A line of a term list has another form than key, tab, text: it is empty, has no tab or two, its key has a sign, a leading zero or is past 2^64−1, or its text is no UTF-8.",
+    16: "A page of more than 64 keys was asked for, whatever room there is for the answers.",
+    17: "No batches, more than eight, or lengths that do not add up to the bytes that were lent.",
+    18: "A set of the second edition with a match score was to be converted into the first, which has none.",
+    19: "A sender registered under a number that the set-up does not have: n senders are numbered 0 to n − 1.",
+    20: "The sender waits already; it keeps its place.",
+    21: "Turns were to be set up for no senders, or for more than eight.",
+}
+HIDDEN = "The session's limit of diagnostics is 0, so the number is hidden; the logical count still tells how many there were."
+
+
+class Disposition(IntEnum):
+    APPLIED = 0
+    NO_CHANGE = 1
+    REJECTED = 2
+    NO_SESSION = 3
+    NO_SUCH = 4
+
+
+class Command(IntEnum):
+    ACTIVATE = 0
+    SUSPEND = 1
+    RESUME = 2
+    CLOSE = 3
+    NO_OP = 4
+
+
+class Lifecycle(IntEnum):
+    CREATED = 0
+    ACTIVE = 1
+    SUSPENDED = 2
+    CLOSED = 3
+
+
+class Kind(Enum):
+    """A value's kind, by the letter of listings."""
+
+    QUAD = "Q"
+    SIGNED = "S"
+    TEXT = "T"
+    UNSIGNED = "U"
+    SCORE = "M"
+
+
+class Limits(NamedTuple):
+    stimulus_bytes: int
+    diagnostics: int
+    patches: int
+    references: int
+
+
+class Answer(NamedTuple):
+    """What became of a batch; the cursor stands as after the call."""
+
+    disposition: Disposition
+    number: int
+    stage: int
+    logical: int
+    emitted: int
+    cursor: Optional[int]
+
+
+class Step(NamedTuple):
+    """What became of a lifecycle step; lifecycle and cursor stand as after the call."""
+
+    disposition: Disposition
+    number: int
+    stage: int
+    logical: int
+    emitted: int
+    cursor: Optional[int]
+    lifecycle: Lifecycle
+    stimulus_bytes: int
+
+
+class Value(NamedTuple):
+    """A text is a str, every other kind a number; mark is the patch that last gave the value."""
+
+    kind: Kind
+    value: Union[int, str]
+    mark: int
+
+
+class Entry(NamedTuple):
+    key: int
+    value: Value
+
+
+class Availability(NamedTuple):
+    availability: int
+    mark: int
+
+
+class PageEntry(NamedTuple):
+    position: int
+    value: Value
+
+
+class Refused(Exception):
+    """A call was refused, and nothing was changed. `answer` has the rest where a session refused it."""
+
+    def __init__(self, number: int, answer: Union[Answer, Step, None] = None):
+        self.number = number
+        self.sentence = RULES.get(number, HIDDEN)
+        self.answer = answer
+        super().__init__("%d: %s" % (number, self.sentence))
+
+
+class NoSession(Exception):
+    """The panel's memory holds no session: something else wrote to it."""
+
+
+# ---- the library
+
+class _Unsigned:
+    """A number of so many bits. ctypes alone would cut it."""
+
+    def __init__(self, kind):
+        self.kind, self.past = kind, 256 ** ctypes.sizeof(kind)
+
+    def from_param(self, number):
+        if not 0 <= number < self.past:
+            raise ValueError("%d is no number from 0 to %d" % (number, self.past - 1))
+        return self.kind(number)
+
+
+_U64, _U32, _SIZE, _AT = _Unsigned(ctypes.c_uint64), _Unsigned(ctypes.c_uint32), _Unsigned(ctypes.c_size_t), ctypes.c_void_p
+_SLICE = (_AT, _SIZE)
+
+
+def _numbers_struct(name, *fields):
+    return type(name, (ctypes.Structure,), {"_fields_": [(field, ctypes.c_uint64) for field in fields]})
+
+
+_Answer = _numbers_struct("_Answer", "disposition", "number", "stage", "logical", "emitted", "has_cursor", "cursor")
+_Lifecycle = _numbers_struct("_Lifecycle", "disposition", "number", "stage", "logical", "emitted", "lifecycle", "has_cursor", "cursor", "stimulus_bytes")
+_Count = _numbers_struct("_Count", "disposition", "number", "count")
+_Availability = _numbers_struct("_Availability", "disposition", "found", "mark", "availability")
+
+
+class _Value(ctypes.Structure):
+    _fields_ = [(field, ctypes.c_uint64) for field in ("disposition", "found", "mark", "kind", "quad")]
+    _fields_ += [("signed_number", ctypes.c_int64), ("unsigned_number", ctypes.c_uint64), ("text_length", ctypes.c_uint64)]
+    _fields_ += [("text", ctypes.c_uint8 * TEXT_BYTES)]
+
+
+class _Entry(ctypes.Structure):
+    _fields_ = [("key", ctypes.c_uint64), ("value", _Value)]
+
+
+class _PagePlace(ctypes.Structure):
+    _fields_ = [("position", ctypes.c_uint64), ("value", _Value)]
+
+
+class _Half(ctypes.Structure):
+    _fields_ = [("head", ctypes.c_uint64 * HEAD_NUMBERS), ("bindings", ctypes.c_uint8 * BINDING_BYTES)]
+    _fields_ += [("availability", ctypes.c_uint8 * AVAILABILITY_BYTES), ("entries", ctypes.c_uint8 * ENTRY_BYTES)]
+    _fields_ += [("lengths", ctypes.c_uint8 * LENGTH_BYTES)]
+
+
+# each call: its answer, and its parameters
+_CALLS = {
+    "create": (ctypes.c_uint64, *[_U64] * 5, *_SLICE * 3, *[_AT] * 5),
+    "lifecycle_step": (_Lifecycle, _AT, _U64, _U64),
+    "batch": (_Answer, _AT, *_SLICE * 3, *[_AT] * 3, *[_U64] * 5, *_SLICE, _U64, *[_AT] * 5),
+    "binding_value": (_Value, _AT, _AT, _U64, _U32),
+    "node_availability": (_Availability, _AT, _AT, _U64),
+    "entry_value": (_Value, _AT, _AT, _U64, _U64),
+    "entry_count": (_Count, _AT, _AT, _U64),
+    "entry_at": (_Entry, _AT, _AT, _U64, _SIZE),
+    "collection_length": (_Count, _AT, _AT, _U64),
+    "collection_page": (_Count, _AT, _AT, _U64, *_SLICE * 2),
+    "page_row": (_PagePlace, _AT),
+    "print_collection": (_Count, _AT, _AT, _U64, *_SLICE),
+    "listing": (_Count, *[_AT] * 4, *_SLICE),
+}
+
+
+@functools.lru_cache(maxsize=None)
+def _library() -> ctypes.CDLL:
+    return ctypes.CDLL(os.environ.get("GEYSERTRAY_LIBRARY", "libgeysertray.so.1"))
+
+
+@functools.lru_cache(maxsize=None)
+def _function(name):
+    function = getattr(_library(), "geysertray_" + name)
+    function.restype, *function.argtypes = _CALLS[name]
+    return function
+
+
+def _call(name, *arguments):
+    """The answer of a call that is no refusal. None of its numbers is lost: what has no place in the answer is raised."""
+    try:
+        answer = _function(name)(*arguments)
+    except ctypes.ArgumentError as fault:
+        raise ValueError(str(fault)) from fault
+    told = getattr(answer, "value", answer)
+    disposition = getattr(told, "disposition", Disposition.APPLIED)
+    if disposition == Disposition.NO_SESSION:
+        raise NoSession
+    if disposition == Disposition.NO_SUCH:
+        raise ValueError("no such edition or command")
+    if disposition == Disposition.REJECTED and not isinstance(answer, (_Answer, _Lifecycle)):
+        raise Refused(answer.number)
+    return answer
+
+
+def _lent(data: bytes):
+    """Bytes that a call reads: where they are, and how many."""
+    return data, len(data)
+
+
+def _numbers(values: Iterable[int]):
+    """Numbers that a call reads, never nowhere."""
+    kept = [_U64.from_param(value).value for value in values]
+    return (ctypes.c_uint64 * max(1, len(kept)))(*kept), len(kept)
+
+
+def _room(kind, places: int):
+    """Memory that a call writes, never nowhere."""
+    return (kind * max(1, places))(), places
+
+
+def _written(name, *arguments, room: int) -> bytes:
+    """The bytes that a call writes into so much room."""
+    out, places = _room(ctypes.c_uint8, room)
+    answer = _call(name, *arguments, out, places)
+    return bytes(out[: answer.count])
+
+
+def _cursor(answer) -> Optional[int]:
+    return answer.cursor if answer.has_cursor else None
+
+
+def _value(value: _Value) -> Optional[Value]:
+    if not value.found:
+        return None
+    kind = list(Kind)[value.kind - 1]
+    if kind is Kind.TEXT:
+        return Value(kind, bytes(value.text[: value.text_length]).decode("utf-8"), value.mark)
+    number = {Kind.QUAD: value.quad, Kind.SIGNED: value.signed_number}.get(kind, value.unsigned_number)
+    return Value(kind, number, value.mark)
+
+
+# ---- a panel
+
+class Panel:
+    """A session and its panel, in memory of its own."""
+
+    def __init__(
+        self, id: int, limits: Limits, nodes: Iterable[int] = (), bindings: Iterable[tuple[int, int]] = (), collections: Iterable[int] = ()
+    ):
+        pairs = [number for pair in bindings for number in pair]
+        self.id = id
+        self._anchors = (*_numbers(nodes), *_numbers(pairs), *_numbers(collections))
+        self._half, self._next = _Half(), _Half()
+        for half in (self._half, self._next):
+            refusal = _call("create", id, *limits, *self._anchors, half.head, half.bindings, half.availability, half.entries, half.lengths)
+            if refusal:
+                raise Refused(refusal)
+
+    def step(self, command: Command, stimulus_bytes: int = 0) -> Step:
+        """One lifecycle step."""
+        told = _call("lifecycle_step", self._half.head, command, stimulus_bytes)
+        diagnostics = (told.number, told.stage, told.logical, told.emitted)
+        step = Step(Disposition(told.disposition), *diagnostics, _cursor(told), Lifecycle(told.lifecycle), told.stimulus_bytes)
+        if step.disposition is Disposition.REJECTED:
+            raise Refused(step.number, step)
+        return step
+
+    def send(
+        self, data: bytes, *, sequence: int, patches: int, references: int, stimulus_bytes: int = 0, session: Optional[int] = None, edition: int = 1
+    ) -> Answer:
+        """One batch: a set's bytes, and what its sender declares of them. Without a session the batch names this one."""
+        half, to = self._half, self._next
+        declared = (self.id if session is None else session, sequence, patches, stimulus_bytes, references)
+        told = _call(
+            "batch", half.head, *self._anchors, half.bindings, half.availability, half.entries, *declared, *_lent(data), edition,
+            to.head, to.bindings, to.availability, to.entries, to.lengths,
+        )
+        answer = Answer(Disposition(told.disposition), told.number, told.stage, told.logical, told.emitted, _cursor(told))
+        if answer.disposition is Disposition.REJECTED:
+            raise Refused(answer.number, answer)
+        if answer.disposition is Disposition.APPLIED:
+            self._half, self._next = to, half
+        return answer
+
+    def binding(self, node: int, slot: int) -> Optional[Value]:
+        return _value(_call("binding_value", self._half.head, self._half.bindings, node, slot))
+
+    def node(self, node: int) -> Optional[Availability]:
+        told = _call("node_availability", self._half.head, self._half.availability, node)
+        return Availability(told.availability, told.mark) if told.found else None
+
+    def entry(self, collection: int, key: int) -> Optional[Value]:
+        return _value(_call("entry_value", self._half.head, self._half.entries, collection, key))
+
+    def entry_at(self, collection: int, position: int) -> Optional[Entry]:
+        """The entry at a position of its collection, from 0."""
+        told = _call("entry_at", self._half.head, self._half.entries, collection, position)
+        value = _value(told.value)
+        return None if value is None else Entry(told.key, value)
+
+    def entries(self, collection: int) -> Iterator[Entry]:
+        """A collection's entries in their order."""
+        for position in range(self.length(collection)):
+            entry = self.entry_at(collection, position)
+            if entry is not None:
+                yield entry
+
+    def count(self, collection: int) -> int:
+        """How many entries a collection has, counted in its rows."""
+        return _call("entry_count", self._half.head, self._half.entries, collection).count
+
+    def length(self, collection: int) -> int:
+        """How many entries a collection has, as it is kept with the panel."""
+        return _call("collection_length", self._half.head, self._half.lengths, collection).count
+
+    def page(self, collection: int, keys: Sequence[int], room: Optional[int] = None) -> list[Optional[PageEntry]]:
+        """Up to 64 keys of a collection looked up together, into as many places as room tells."""
+        width = PAGE_WIDTH * (len(keys) if room is None else room)
+        out, places = _room(ctypes.c_uint8, width)
+        rows = _call("collection_page", self._half.head, self._half.entries, collection, *_numbers(keys), out, places).count
+        found = [_call("page_row", bytes(out[PAGE_WIDTH * at : PAGE_WIDTH * (at + 1)])) for at in range(rows)]
+        return [PageEntry(row.position, value) if (value := _value(row.value)) else None for row in found]
+
+    def print(self, collection: int, room: int = PRINT_BYTES) -> str:
+        """A collection laid out for paper, in lines of 80 characters."""
+        return _written("print_collection", self._half.head, self._half.entries, collection, room=room).decode("utf-8")
+
+    def listing(self, room: int = LISTING_BYTES) -> str:
+        """Every record of the panel, one to a line."""
+        half = self._half
+        return _written("listing", half.head, half.bindings, half.availability, half.entries, room=room).decode("utf-8")

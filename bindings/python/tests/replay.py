@@ -1,0 +1,251 @@
+"""Answers a replay script over the binding: python3 bindings/python/tests/replay.py < SCRIPT. kit/README.md has the form of commands and answers."""
+
+import re
+import sys
+from pathlib import Path
+
+sys.path.insert(0, str(Path(__file__).resolve().parent.parent))
+
+from geysertray import Command, Disposition, Kind, Lifecycle, Limits, Panel, Refused
+
+LINE_BYTES = 131072
+KEPT_ANCHORS = 129
+PAGE_KEYS = 128
+DECIMAL = re.compile(r"0|[1-9][0-9]{0,19}")
+HEX = re.compile(r"(?:[0-9a-f]{2})+")
+STEPS = {"activate": Command.ACTIVATE, "suspend": Command.SUSPEND, "resume": Command.RESUME, "close": Command.CLOSE, "noop": Command.NO_OP}
+DISPOSITIONS = {Disposition.APPLIED: "applied", Disposition.NO_CHANGE: "no-change", Disposition.REJECTED: "rejected"}
+LIFECYCLES = {Lifecycle.CREATED: "created", Lifecycle.ACTIVE: "active", Lifecycle.SUSPENDED: "suspended", Lifecycle.CLOSED: "closed"}
+ESCAPES = str.maketrans({"\\": "\\\\", "\t": "\\t", "\n": "\\n", "\r": "\\r"})
+
+
+class BadLine(Exception):
+    """A line that is no command."""
+
+
+class NotBound(Exception):
+    """A command whose call the library does not export."""
+
+
+# ---- fields
+
+def up_to(last):
+    def number(field):
+        if not DECIMAL.fullmatch(field) or int(field) > last:
+            raise BadLine
+        return int(field)
+
+    return number
+
+
+def set_bytes(field):
+    if field != "-" and not HEX.fullmatch(field):
+        raise BadLine
+    return bytes.fromhex(field.strip("-"))
+
+
+def one_of(words):
+    def word(field):
+        if field not in words:
+            raise BadLine
+        return words[field]
+
+    return word
+
+
+NUMBER, SLOT, STEP, EDITION = up_to(2**64 - 1), up_to(2**32 - 1), one_of(STEPS), one_of({"1": 1, "2": 2})
+FIELDS = {
+    "session": (NUMBER,) * 5,
+    "node": (NUMBER,),
+    "binding": (NUMBER, SLOT),
+    "collection": (NUMBER,),
+    "create": (),
+    "apply": (STEP, NUMBER),
+    "batch": (NUMBER,) * 5 + (set_bytes,),
+    "show": (),
+    "value binding": (NUMBER, SLOT),
+    "value node": (NUMBER,),
+    "value entry": (NUMBER, NUMBER),
+    "mark binding": (NUMBER, SLOT),
+    "mark node": (NUMBER,),
+    "mark entry": (NUMBER, NUMBER),
+    "edition": (EDITION,),
+    "print": (NUMBER, up_to(131072)),
+    "length": (NUMBER,),
+}
+METHODS = {"edition": "edition_"}
+NOT_BOUND = ("check", "list", "convert", "depends", "import", "group", "senders", "wait", "turn")
+NEED_A_SESSION = ("apply", "batch", "show", "value", "mark", "print", "length", "page")
+
+
+def page_fields(count):
+    """A page has any number of keys."""
+    return (NUMBER, up_to(128), *[NUMBER] * min(count - 2, PAGE_KEYS))
+
+
+# ---- lines of answers
+
+def line(*fields):
+    return "\t".join(str(field) for field in fields) + "\n"
+
+
+def or_none(number):
+    return "-" if number is None else number
+
+
+def value_fields(value):
+    return value.kind.value, value.value.translate(ESCAPES) if value.kind is Kind.TEXT else value.value
+
+
+def answer_line(answer):
+    return line("R", DISPOSITIONS[answer.disposition], *answer[1:5], or_none(answer.cursor))
+
+
+def step_line(step):
+    return line("L", DISPOSITIONS[step.disposition], *step[1:5], LIFECYCLES[step.lifecycle], or_none(step.cursor), step.stimulus_bytes)
+
+
+def told(letter, call, lines):
+    """The lines of what a call answers, or its refusal's number behind the letter."""
+    try:
+        return lines(call())
+    except Refused as refusal:
+        return line(letter, refusal.number)
+
+
+class Replay:
+    """The set-up for the next session, and the panel, if there is one."""
+
+    def __init__(self):
+        self.panel, self.edition = None, 1
+        self.session(0, 0, 0, 0, 0)
+
+    def session(self, id, *limits):
+        self.id, self.limits, self.anchors = id, Limits(*limits), ([], [], [])
+        return ""
+
+    def _keep(self, kind, anchor):
+        if len(self.anchors[kind]) < KEPT_ANCHORS:
+            self.anchors[kind].append(anchor)
+        return ""
+
+    def node(self, node):
+        return self._keep(0, node)
+
+    def binding(self, node, slot):
+        return self._keep(1, (node, slot))
+
+    def collection(self, collection):
+        return self._keep(2, collection)
+
+    def create(self):
+        self.panel = None
+        try:
+            self.panel = Panel(self.id, self.limits, *self.anchors)
+        except Refused as refusal:
+            return line("S", refusal.number)
+        return line("S", 0)
+
+    def apply(self, command, stimulus_bytes):
+        try:
+            return step_line(self.panel.step(command, stimulus_bytes))
+        except Refused as refusal:
+            return step_line(refusal.answer)
+
+    def batch(self, session, sequence, patches, stimulus_bytes, references, data):
+        try:
+            return answer_line(
+                self.panel.send(
+                    data, session=session, sequence=sequence, patches=patches, stimulus_bytes=stimulus_bytes, references=references, edition=self.edition
+                )
+            )
+        except Refused as refusal:
+            return answer_line(refusal.answer)
+
+    def show(self):
+        return self.panel.listing()
+
+    # ---- look-ups
+
+    @staticmethod
+    def _value(value):
+        return line("V", "-") if value is None else line("V", *value_fields(value))
+
+    def value_binding(self, node, slot):
+        return self._value(self.panel.binding(node, slot))
+
+    def value_node(self, node):
+        found = self.panel.node(node)
+        return line("V", "-") if found is None else line("V", "A", found.availability)
+
+    def value_entry(self, collection, key):
+        return self._value(self.panel.entry(collection, key))
+
+    @staticmethod
+    def _mark(row):
+        return line("X", "-" if row is None else row.mark)
+
+    def mark_binding(self, node, slot):
+        return self._mark(self.panel.binding(node, slot))
+
+    def mark_node(self, node):
+        return self._mark(self.panel.node(node))
+
+    def mark_entry(self, collection, key):
+        return self._mark(self.panel.entry(collection, key))
+
+    def print(self, collection, room):
+        return told("O", lambda: self.panel.print(collection, room), lambda text: line("O", 0, len(text.encode("utf-8"))) + text)
+
+    def length(self, collection):
+        return line("Z", self.panel.length(collection))
+
+    def page(self, collection, room, *keys):
+        def lines(rows):
+            found = [line("M", "-") if row is None else line("M", row.position, *value_fields(row.value)) for row in rows]
+            return line("Y", 0, len(rows)) + "".join(found)
+
+        return told("Y", lambda: self.panel.page(collection, keys, room), lines)
+
+    # ---- the edition
+
+    def edition_(self, edition):
+        self.edition = edition
+        return ""
+
+    # ---- one line
+
+    def answer(self, text):
+        if text == "" or text.startswith("#"):
+            return ""
+        command, *fields = text.split(" ")
+        if command in NOT_BOUND:
+            raise NotBound(command)
+        if command in ("value", "mark") and fields:
+            command += " " + fields.pop(0)
+        readers = page_fields(len(fields)) if command == "page" else FIELDS.get(command)
+        if readers is None or len(readers) != len(fields):
+            raise BadLine
+        values = [read(field) for read, field in zip(readers, fields)]
+        if self.panel is None and command.split(" ")[0] in NEED_A_SESSION:
+            return line("N")
+        return getattr(self, METHODS.get(command, command.replace(" ", "_")))(*values)
+
+
+def replay(script):
+    """The answers to a script, up to its end or its first bad line."""
+    state, out = Replay(), []
+    *lines, behind = script.split(b"\n")
+    for count, text in enumerate(lines + [behind] * bool(behind), 1):
+        try:
+            if count > len(lines) or len(text) > LINE_BYTES:
+                raise BadLine
+            out.append(state.answer(text.decode("latin-1")))
+        except BadLine:
+            out.append(line("?", count))
+            break
+    return "".join(out).encode("utf-8")
+
+
+if __name__ == "__main__":
+    sys.stdout.buffer.write(replay(sys.stdin.buffer.read()))

@@ -1,0 +1,194 @@
+/* A coverage-guided fuzzer of the calls, by libFuzzer; docs/EMBEDDING.md has the commands. The proved code has no counters in it. So a breakpoint is
+   put at the first byte of each of its basic blocks, whose addresses GEYSERTRAY_BLOCKS lists (c/blocks.py); the first visit of a block takes its
+   breakpoint away and is counted as news, which is what libFuzzer keeps an input for.
+
+   An input is a session's life: records of a byte for what is called, and its arguments. */
+#define _GNU_SOURCE
+#include "geysertray.h"
+#include <signal.h>
+#include <stdio.h>
+#include <stdlib.h>
+#include <string.h>
+#include <sys/mman.h>
+#include <ucontext.h>
+
+/* ---- blocks that were visited */
+
+enum { MOST_BLOCKS = 16384, PAGE = 4096 };
+
+__attribute__((section("__libfuzzer_extra_counters"))) static uint8_t visited[MOST_BLOCKS];
+static struct { uint8_t *at, code; } blocks[MOST_BLOCKS];
+static size_t block_count, visited_count;
+
+static void visit(int signal, siginfo_t *info, void *context)
+{
+    greg_t *registers = ((ucontext_t *)context)->uc_mcontext.gregs;
+    uint8_t *at = (uint8_t *)(registers[REG_RIP] - 1);
+    size_t low = 0, high = block_count;
+    (void)signal, (void)info;
+    while (low < high) {
+        size_t middle = (low + high) / 2;
+        if (blocks[middle].at < at)
+            low = middle + 1;
+        else
+            high = middle;
+    }
+    if (low == block_count || blocks[low].at != at)
+        abort();
+    *at = blocks[low].code;
+    visited[low] = 1;
+    visited_count++;
+    registers[REG_RIP]--;
+}
+
+static void set_breakpoints(FILE *list)
+{
+    unsigned long address;
+    size_t i;
+    while (block_count < MOST_BLOCKS && fscanf(list, "%lx", &address) == 1)
+        blocks[block_count++].at = (uint8_t *)address;
+    for (i = 0; i < block_count; i++) {
+        uintptr_t page = (uintptr_t)blocks[i].at / PAGE * PAGE;
+        if (mprotect((void *)page, 2 * PAGE, PROT_READ | PROT_WRITE | PROT_EXEC) != 0)
+            abort();
+        blocks[i].code = *blocks[i].at;
+    }
+    for (i = 0; i < block_count; i++)
+        *blocks[i].at = 0xcc;
+}
+
+static void tell_visited(void)
+{
+    fprintf(stderr, "%zu of %zu blocks of the proved code were visited\n", visited_count, block_count);
+}
+
+int LLVMFuzzerInitialize(int *count, char ***words)
+{
+    const char *name = getenv("GEYSERTRAY_BLOCKS");
+    FILE *list = name ? fopen(name, "r") : NULL;
+    struct sigaction action = {0};
+    (void)count, (void)words;
+    if (!list) {
+        fprintf(stderr, "GEYSERTRAY_BLOCKS must name the list that c/blocks.py made\n");
+        exit(2);
+    }
+    action.sa_sigaction = visit, action.sa_flags = SA_SIGINFO | SA_NODEFER;
+    sigaction(SIGTRAP, &action, NULL);
+    set_breakpoints(list);
+    fclose(list);
+    atexit(tell_visited);
+    return 0;
+}
+
+/* ---- what is left of the input */
+
+static const uint8_t *rest;
+static size_t left;
+
+static uint64_t take(int bytes)
+{
+    uint64_t number = 0;
+    for (; bytes > 0; bytes--, number = number << 8)
+        if (left)
+            number |= *rest++, left--;
+    return number >> 8;
+}
+
+/* A slice of the input, with its length before it. */
+static const uint8_t *take_slice(size_t *length)
+{
+    const uint8_t *at;
+    *length = take(2);
+    if (*length > left)
+        *length = left;
+    at = rest;
+    rest += *length, left -= *length;
+    return at;
+}
+
+/* ---- the calls */
+
+static geysertray_panel panel, before;
+
+static void must(int holds, const char *what)
+{
+    if (!holds) {
+        fprintf(stderr, "%s\n", what);
+        abort();
+    }
+}
+
+/* The ids that the kit's sets name most. */
+static void open_panel(void)
+{
+    size_t i;
+    for (i = 0; i < GEYSERTRAY_ANCHORS; i++)
+        panel.nodes[i] = i, panel.collections[i] = i, panel.pairs[2 * i] = i / 8, panel.pairs[2 * i + 1] = i % 8;
+    panel.node_count = panel.pair_count = panel.collection_count = GEYSERTRAY_ANCHORS;
+    must(geysertray_open(&panel, 1, take(1) << 8, take(1), take(1), take(1) << 4) == 0, "no panel");
+}
+
+static void batch(void)
+{
+    geysertray_answer answer;
+    const geysertray_half *half = geysertray_current(&panel);
+    uint64_t sequence = half->head[2] ? half->head[3] + 1 : 1, edition = take(1), patches = take(1), references = take(1);
+    size_t length;
+    const uint8_t *set = take_slice(&length);
+    before = panel;
+    answer = geysertray_send(&panel, 1, sequence, patches, length, references, set, length, edition);
+    if (answer.disposition != GEYSERTRAY_APPLIED)
+        must(memcmp(&panel, &before, sizeof panel) == 0, "a refused batch wrote something");
+}
+
+static void step(void)
+{
+    geysertray_lifecycle answer;
+    before = panel;
+    answer = geysertray_step(&panel, take(1), take(1));
+    if (answer.disposition != GEYSERTRAY_APPLIED)
+        must(memcmp(&panel, &before, sizeof panel) == 0, "a refused step wrote something");
+}
+
+static uint8_t out[GEYSERTRAY_LISTING_BYTES];
+static int sound = 1;
+
+static void look(void)
+{
+    uint64_t collection = take(1), key = take(1), position = take(1), keys[3] = {key, position, key};
+    geysertray_count count = geysertray_panel_count(&panel, collection), length = geysertray_panel_length(&panel, collection);
+    geysertray_panel_binding(&panel, collection, (uint32_t)key);
+    geysertray_panel_node(&panel, key);
+    geysertray_panel_entry(&panel, collection, key);
+    geysertray_panel_entry_at(&panel, collection, position);
+    geysertray_panel_print(&panel, collection, out, sizeof out);
+    if (geysertray_panel_page(&panel, collection, keys, 3, out, sizeof out).disposition == GEYSERTRAY_ANSWERED)
+        geysertray_page_row(out);
+    geysertray_panel_listing(&panel, out, sizeof out);
+    if (sound)
+        must(count.count == length.count, "a collection's count is not its length");
+}
+
+/* Wrong bytes in the session, which stay to its end. */
+static void spoil(void)
+{
+    geysertray_half *half = geysertray_current(&panel);
+    size_t at = take(2), length;
+    const uint8_t *bytes = take_slice(&length);
+    if (length > sizeof *half - at % sizeof *half)
+        length = sizeof *half - at % sizeof *half;
+    memcpy((uint8_t *)half + at % sizeof *half, bytes, length);
+    sound = 0;
+}
+
+static void (*const calls[])(void) = {batch, step, look, spoil};
+
+int LLVMFuzzerTestOneInput(const uint8_t *data, size_t size)
+{
+    rest = data, left = size, sound = 1;
+    memset(&panel, 0, sizeof panel);
+    open_panel();
+    while (left)
+        calls[take(1) % (sizeof calls / sizeof *calls)]();
+    return 0;
+}

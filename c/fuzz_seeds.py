@@ -1,0 +1,54 @@
+#!/usr/bin/env python3
+"""Inputs for c/fuzz.c to begin with, made of the kit's scripts: c/fuzz_seeds.py FOLDER"""
+
+import sys
+from pathlib import Path
+
+DATA = Path(__file__).resolve().parent.parent / "crates" / "test_conformance" / "data"
+# the places of c/fuzz.c's calls
+BATCH, STEP, LOOK = range(3)
+STEPS = ("activate", "suspend", "resume", "close", "noop")
+# limits that let most batches pass
+OPEN = bytes([255, 8, 64, 255])
+LONGEST = 16384
+
+
+def lent(field):
+    data = bytes.fromhex(field.strip("-"))
+    return len(data).to_bytes(2, "big") + data if len(data) < 65536 else b"\0\0"
+
+
+def small(field):
+    return int(field) % 256
+
+
+def record(words, edition):
+    """The bytes of one line, or none."""
+    if words[0] == "batch" and len(words) == 7:
+        return bytes([BATCH, edition, small(words[3]), small(words[5])]) + lent(words[6])
+    if words[0] == "apply" and words[1] in STEPS:
+        return bytes([STEP, STEPS.index(words[1]), 0])
+    if words[0] in ("show", "print", "value"):
+        return bytes([LOOK, small(words[2]) if words[2:] and words[2].isdigit() else 9, 1, 0])
+    return b""
+
+
+def seed(script):
+    made, edition = OPEN, 1
+    for line in script.split("\n"):
+        words = line.split(" ")
+        try:
+            edition = int(words[1]) if words[0] == "edition" else edition
+            made += record(words, edition)
+        except (ValueError, IndexError):
+            continue
+    return made[:LONGEST]
+
+
+if __name__ == "__main__":
+    if len(sys.argv) != 2:
+        sys.exit(__doc__)
+    folder = Path(sys.argv[1])
+    folder.mkdir(parents=True, exist_ok=True)
+    for path in sorted(DATA.glob("*.script")):
+        (folder / path.stem).write_bytes(seed(path.read_text(encoding="latin-1")))

@@ -1,0 +1,47 @@
+-- `geysertray_lifecycle_step` meets its contract: the command is tested first.
+use mathlib.Core.Path.{refl}
+use native.Mathlib.Omega.{arith}
+use Rattle.c_exports.specs.Calls.{same-stimulus}
+use borrow.Author.Needs.{needs}
+use Rattle.c_exports.proofs.session.geysertray_lifecycle_step.Statement.{statement}
+use Rattle.c_exports.proofs.session.geysertray_lifecycle_step.Tie as tie
+use Rattle.c_exports.proofs.session.geysertray_lifecycle_step.Reads as reads
+use Rattle.c_exports.proofs.session.geysertray_lifecycle_step.Lts as lts
+use Rattle.c_exports.proofs.answers.no_step.Reads as no-step-reads
+use Rattle.c_exports.proofs.answers.stimulus_of.Reads as stimulus-of-reads
+use Rattle.c_exports.proofs.session.stepped.Reads as stepped-reads
+use Rattle.session_lent.proofs.lifecycle.transition.Reads as transition-reads
+
+no-step-requires : tie.Need-no-step-requires
+no-step-requires c κs = search needs
+
+returns : tie.Need-returns
+returns c = record { known = λ k. absurd (omega (arith, c .before .if1 .taken)); unknown = λ k. (c .no-step .ensures, refl) }
+
+stimulus-of-requires : tie.Need-stimulus-of-requires
+stimulus-of-requires c κs = search needs
+
+transition-requires : tie.Need-transition-requires
+transition-requires c κs = search needs
+
+stepped-requires : tie.Need-stepped-requires
+stepped-requires c κs = search needs
+
+returns-2 : tie.Need-returns-2
+returns-2 c =
+    let call = c .before .transition in
+    record {
+      known = λ k. record { answer = call .result; call = same-stimulus (c .before .before .before .stimulus-of .ensures) (call .ensures); told = c .stepped .ensures };
+      unknown = λ k. absurd (omega (arith, c .before .before .before .before .if1 .left));
+    }
+
+pub geysertray-lifecycle-step-spec : {M : Type 1} → statement M
+geysertray-lifecycle-step-spec =
+    tie.close
+    (tie.spec
+    no-step-requires
+    returns
+    stimulus-of-requires
+    transition-requires
+    stepped-requires
+    returns-2)
