@@ -10,9 +10,10 @@ import sys
 from pathlib import Path
 
 ROOT = Path(__file__).resolve().parent.parent
-SOURCES = [ROOT / "crates" / "c_exports" / "src" / name for name in ("session.rt", "counts.rt", "values.rt", "views.rt")]
+ANSWERS = [ROOT / "crates" / "c_answers" / "src" / name for name in ("answers.rt", "counts.rt", "values.rt", "sets.rt")]
+CALLS = [ROOT / "crates" / "c_exports" / "src" / name for name in ("lib.rt", "session.rt", "views.rt", "bytes.rt")]
 HEADER = ROOT / "include" / "geysertray.h"
-BEGIN, END = "/* ---- made from crates/c_exports by c/make_header.py */\n", "/* ---- end of what is made */\n"
+BEGIN, END = "/* ---- made from crates/c_answers and crates/c_exports by c/make_header.py */\n", "/* ---- end of what is made */\n"
 
 SIZES = {
     "head::NUMBERS": "GEYSERTRAY_HEAD_NUMBERS",
@@ -111,10 +112,10 @@ def functions_of(text):
 
 
 def declarations():
-    texts, found = [path.read_text(encoding="utf-8") for path in SOURCES], constants()
+    found = constants()
     out = ["#define %s %d\n" % (word, value(name, found)) for name, word in {**SIZES, **CAPACITIES}.items()]
-    out += [declared for text in texts for declared in structs_of(text)]
-    out += [declared for text in texts for declared in functions_of(text)]
+    out += [declared for path in ANSWERS for declared in structs_of(path.read_text(encoding="utf-8"))]
+    out += [declared for path in CALLS for declared in functions_of(path.read_text(encoding="utf-8"))]
     return "".join(out)
 
 
@@ -127,7 +128,7 @@ def main(argument):
         HEADER.write_text(made, encoding="utf-8")
         return 0
     if made != text:
-        print("include/geysertray.h is not what crates/c_exports declares; run c/make_header.py --write", file=sys.stderr)
+        print("include/geysertray.h is not what the crates declare; run c/make_header.py --write", file=sys.stderr)
         return 1
     return 0
 

@@ -245,14 +245,111 @@ static void test_no_session(void)
     EXPECT(kept_from(0));
 }
 
+/* ---- calls on bytes */
+
+static void test_check(void)
+{
+    uint8_t set[512], *at = put_heading(set, 3);
+    uint64_t findings[8];
+    geysertray_checked answer;
+    int i;
+    memset(findings, 0x5a, sizeof findings);
+    /* document 01: three patches alike, id 7, sequence 3: kinds 4 and 5, each (7, 3), once */
+    for (i = 0; i < 3; i++)
+        at = put(put(put_insert(put_patch(at, 7, 3, 1), 9, 1, 0), 4, 1), 1, 8);
+    answer = geysertray_check(set, (size_t)(at - set), 1, findings, 8);
+    EXPECT(answer.disposition == GEYSERTRAY_ANSWERED && answer.in_patch == 0 && answer.logical == 2 && answer.written == 2);
+    EXPECT(findings[0] == GEYSERTRAY_FOUND_DUPLICATE_ID && findings[1] == 7 && findings[2] == 3);
+    EXPECT(findings[3] == GEYSERTRAY_FOUND_DUPLICATE_SEQUENCE && findings[4] == 7 && findings[5] == 3 && findings[6] == findings[7]);
+    answer = geysertray_check(set, (size_t)(at - set), 1, findings, 5);
+    EXPECT(answer.logical == 2 && answer.written == 1);
+    /* a patch without operations: kind 6, in the patch */
+    at = put_patch(put_heading(set, 1), 7, 3, 0);
+    answer = geysertray_check(set, (size_t)(at - set), 1, findings, 8);
+    EXPECT(answer.in_patch == 1 && answer.patch == 0 && answer.logical == 1 && findings[0] == GEYSERTRAY_FOUND_NO_OPERATIONS);
+    answer = geysertray_check(set, 3, 1, findings, 8);
+    EXPECT(answer.disposition == GEYSERTRAY_REJECTED && answer.number == GEYSERTRAY_MALFORMED);
+    answer = geysertray_check(set, 3, 0, findings, 8);
+    EXPECT(answer.disposition == GEYSERTRAY_NO_SUCH && answer.number == 0);
+}
+
+static void test_import(void)
+{
+    static const char list[] = "1\tOk\n", twice[] = "1\tOk\n1\tOk\n";
+    uint8_t set[256], *at = put_insert(put_patch(put_heading(set, 1), 4, 4, 1), 9, 1, 0);
+    size_t size;
+    at = put(put(at, 3, 1), 2, 4);
+    memcpy(at, "Ok", 2);
+    size = (size_t)(at + 2 - set);
+    memset(output, 0x5a, sizeof output);
+    EXPECT(refused(geysertray_import_terms((const uint8_t *)list, 4, 1, 9, 4, 1, 1, 0, 0, 3, 4, 1, 4, output, size - 1), GEYSERTRAY_OUTPUT_TOO_SHORT));
+    EXPECT(refused(geysertray_import_terms((const uint8_t *)list, 1, 1, 9, 4, 1, 1, 0, 0, 3, 4, 1, 4, output, sizeof output), GEYSERTRAY_OTHER_FORM));
+    EXPECT(refused(geysertray_import_terms((const uint8_t *)twice, 10, 1, 9, 4, 1, 1, 0, 0, 3, 4, 1, 4, output, sizeof output), GEYSERTRAY_CHECKS_FAILED));
+    EXPECT(geysertray_import_terms((const uint8_t *)list, 5, 3, 9, 4, 1, 1, 0, 0, 3, 4, 1, 4, output, sizeof output).disposition == GEYSERTRAY_NO_SUCH && kept_from(0));
+    EXPECT(counted(geysertray_import_terms((const uint8_t *)list, 5, 1, 9, 4, 1, 1, 0, 77, 3, 4, 1, 4, output, sizeof output), size));
+    EXPECT(memcmp(output, set, size) == 0 && kept_from(size));
+    /* a surface takes eight bytes more: the byte 1 and the number in place of the byte 0 */
+    EXPECT(counted(geysertray_import_terms((const uint8_t *)list, 5, 1, 9, 4, 1, 1, 1, 77, 3, 4, 1, 4, output, sizeof output), size + 8));
+    EXPECT(output[59] == 1 && output[60] == 77);
+}
+
+static void test_depends(void)
+{
+    uint8_t set[256], *at = put_insert(put_patch(put_heading(set, 1), 1, 1, 1), 9, 7, 6);
+    uint64_t keys[5] = {5, 5, 5, 5, 5};
+    geysertray_dependencies answer;
+    at = put(put(at, 4, 1), 1, 8);
+    /* document 02, Job 8: the neighbour must be there, the key absent */
+    answer = geysertray_depends(set, (size_t)(at - set), 1, keys, 3);
+    EXPECT(answer.disposition == GEYSERTRAY_REJECTED && answer.number == GEYSERTRAY_OUTPUT_TOO_SHORT && keys[0] == 5);
+    answer = geysertray_depends(set, (size_t)(at - set), 1, keys, 5);
+    EXPECT(answer.disposition == GEYSERTRAY_ANSWERED && answer.never == 0 && answer.held == 1 && answer.lacked == 1);
+    EXPECT(keys[0] == 9 && keys[1] == 6 && keys[2] == 9 && keys[3] == 7 && keys[4] == 5);
+    /* removing a key and then updating it */
+    at = put(put(put(put_patch(put_heading(set, 1), 1, 1, 2), 5, 1), 9, 8), 7, 8);
+    at = put(put(put(put(put(at, 4, 1), 9, 8), 7, 8), 4, 1), 1, 8);
+    answer = geysertray_depends(set, (size_t)(at - set), 1, keys, 0);
+    EXPECT(answer.disposition == GEYSERTRAY_ANSWERED && answer.never == 1 && answer.patch == 0 && answer.operation == 1);
+    EXPECT(geysertray_depends(set, 9, 1, keys, 5).number == GEYSERTRAY_MALFORMED);
+    EXPECT(geysertray_depends(set, 9, 7, keys, 5).disposition == GEYSERTRAY_NO_SUCH);
+}
+
+static void test_editions(void)
+{
+    uint8_t set[256], back[256];
+    size_t size = listing_set(set), lines = strlen(listed);
+    memset(output, 0x5a, sizeof output);
+    EXPECT(refused(geysertray_convert(set, size, 1, output, size - 1), GEYSERTRAY_OUTPUT_TOO_SHORT));
+    EXPECT(refused(geysertray_convert(set, size, 2, output, sizeof output), GEYSERTRAY_MALFORMED));
+    EXPECT(geysertray_convert(set, size, 3, output, sizeof output).disposition == GEYSERTRAY_NO_SUCH);
+    EXPECT(counted(geysertray_convert(set, size, 1, output, sizeof output), size) && kept_from(size));
+    EXPECT(output[30] == '2' && memcmp(output, set, 30) == 0 && memcmp(output + 31, set + 31, size - 31) == 0);
+    EXPECT(counted(geysertray_convert(output, size, 2, back, sizeof back), size) && memcmp(back, set, size) == 0);
+    /* a score of 100 in place of the quad: the other edition lacks it */
+    memcpy(set, output, size);
+    set[size - 2] = 5, set[size - 1] = 100;
+    memset(output, 0x5a, sizeof output);
+    EXPECT(refused(geysertray_convert(set, size, 2, output, sizeof output), GEYSERTRAY_KIND_MISSING));
+    EXPECT(counted(geysertray_set_listing(back, size, 1, output, sizeof output), lines) && memcmp(output, listed, lines) == 0 && kept_from(lines));
+    memset(output, 0x5a, sizeof output);
+    EXPECT(refused(geysertray_set_listing(back, size, 1, output, lines - 1), GEYSERTRAY_OUTPUT_TOO_SHORT));
+    EXPECT(geysertray_set_listing(back, size, 0, output, sizeof output).disposition == GEYSERTRAY_NO_SUCH);
+    EXPECT(counted(geysertray_set_listing(back, size, 2, output, sizeof output), 5) && memcmp(output, "E\t10\n", 5) == 0);
+}
+
 int main(void)
 {
+    EXPECT(geysertray_version() == 1000000);
     test_session();
     open_listed();
     test_lookups();
     test_page();
     test_text();
     test_no_session();
+    test_check();
+    test_import();
+    test_depends();
+    test_editions();
     printf(failures ? "%d failed\n" : "a panel in C: ok\n", failures);
     return failures != 0;
 }

@@ -100,7 +100,7 @@ enum {
     GEYSERTRAY_FOUND_STREAM_ZERO = 14
 };
 
-/* ---- made from crates/c_exports by c/make_header.py */
+/* ---- made from crates/c_answers and crates/c_exports by c/make_header.py */
 #define GEYSERTRAY_HEAD_NUMBERS 11
 #define GEYSERTRAY_BINDING_BYTES 16960
 #define GEYSERTRAY_AVAILABILITY_BYTES 1088
@@ -180,6 +180,32 @@ typedef struct {
     uint64_t position;
     geysertray_value value;
 } geysertray_page_place;
+
+/* 0, and whether the findings are those of a patch (1, and its index from 0) or of the set (0, also where there are none), how many there are
+   and how many records were written; 2 and the number of reading's rule; 4 no such edition. */
+typedef struct {
+    uint64_t disposition;
+    uint64_t number;
+    uint64_t in_patch;
+    uint64_t patch;
+    uint64_t logical;
+    uint64_t written;
+} geysertray_checked;
+
+/* 0, and either never is 1 with the first operation that contradicts those before it, by its patch and its index there; or how many keys must
+   be there at the start and how many must be absent. 2 and the number of the rule that refuses; 4 no such edition. */
+typedef struct {
+    uint64_t disposition;
+    uint64_t number;
+    uint64_t never;
+    uint64_t patch;
+    uint64_t operation;
+    uint64_t held;
+    uint64_t lacked;
+} geysertray_dependencies;
+
+/* The version of the library: 1000000 times the major number, 1000 times the minor one, and the patch number. */
+uint64_t geysertray_version(void);
 
 /* Makes a new session in one half of a panel's memory: 0, or 13 for too many anchors of a kind, or 3 where the numbers of the bindings are no pairs. */
 uint64_t geysertray_create(
@@ -301,6 +327,59 @@ geysertray_count geysertray_listing(
     const uint8_t availability[GEYSERTRAY_AVAILABILITY_BYTES],
     const uint8_t entries[GEYSERTRAY_ENTRY_BYTES],
     uint8_t *out,
+    size_t out_count);
+
+/* Checks a set: records of three numbers, kind, domain and secondary, as many as fit; 12 or 10 for a set that does not read. */
+geysertray_checked geysertray_check(
+    const uint8_t *set,
+    size_t set_count,
+    uint64_t edition,
+    uint64_t *findings,
+    size_t findings_count);
+
+/* Brings a term list in as a set of one patch, of this envelope (has_surface 0: no surface): an insert for each line; the count is that of the
+   bytes. 15 for a line of another form, 12, 11 for what the patch checks find, 14. What is behind the set stays. */
+geysertray_count geysertray_import_terms(
+    const uint8_t *list,
+    size_t list_count,
+    uint64_t edition,
+    uint64_t collection,
+    uint64_t patch_id,
+    uint64_t stream,
+    uint64_t document,
+    uint64_t has_surface,
+    uint64_t surface,
+    uint64_t previous_revision,
+    uint64_t revision,
+    uint64_t epoch,
+    uint64_t sequence,
+    uint8_t *out,
+    size_t out_count);
+
+/* Converts a set of an edition into the other; the count is that of the bytes. 12 or 10 for a set that does not read, 18 for a value that the
+   other edition lacks, 14. What is behind the set stays. */
+geysertray_count geysertray_convert(
+    const uint8_t *set,
+    size_t set_count,
+    uint64_t edition,
+    uint8_t *out,
+    size_t out_count);
+
+/* Writes the listing of a set on an empty panel; the count is that of the bytes. A set that is refused is listed as `E` and the number; 14. */
+geysertray_count geysertray_set_listing(
+    const uint8_t *set,
+    size_t set_count,
+    uint64_t edition,
+    uint8_t *out,
+    size_t out_count);
+
+/* What a set depends on: two numbers for each key, collection and key, first of those that must be there at the start, then of those that must
+   be absent. 12 or 10 for a set that does not read, 11 for what the patch checks find, 14; these and never write nothing. */
+geysertray_dependencies geysertray_depends(
+    const uint8_t *set,
+    size_t set_count,
+    uint64_t edition,
+    uint64_t *out,
     size_t out_count);
 /* ---- end of what is made */
 

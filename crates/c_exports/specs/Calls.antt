@@ -9,23 +9,25 @@ use Rattle.spec_session.specs.Batch.{BatchEnvelope}
 use Rattle.session_lent.specs.Steps.{TransitionCall, CreationCall}
 use Rattle.session_lent.specs.Batches.{SameHalf, BatchCall}
 use Rattle.session_lent.specs.declared.batch.LentBatch.{LentBatch}
-use Rattle.session_lent.specs.declared.creation.LentCreation.{LentCreation}
 use Rattle.session_lent.specs.declared.lifecycle.LentTransition.{LentTransition}
-use Rattle.c_exports.specs.declared.session.GeysertrayAnswer.{GeysertrayAnswer}
-use Rattle.c_exports.specs.declared.session.GeysertrayLifecycle.{GeysertrayLifecycle}
-use Rattle.c_exports.specs.Editions.{editionAt}
-use Rattle.c_exports.specs.Exports.{batchTold, stepTold, creationTold, noSession, noStep, commandAt}
+use Rattle.c_answers.specs.declared.answers.GeysertrayAnswer.{GeysertrayAnswer}
+use Rattle.c_answers.specs.declared.answers.GeysertrayLifecycle.{GeysertrayLifecycle}
+use Rattle.c_answers.specs.Answers.{batchTold, stepTold, creationTold, noSession, noStep}
+use Rattle.c_answers.specs.Asked.{commandAt, editionAt}
 
-pub record ExportedCreation (id : ℕ) (limits : Limits) (nodes pairs collections head b a e l : List ℕ) (r : ℕ) (head′ b′ a′ e′ l′ : List ℕ) : Type 0 where
-  pub answer : LentCreation
-  pub call : CreationCall id limits nodes pairs collections head b a e l answer head′ b′ a′ e′ l′
-  pub told : r ≡ creationTold answer
+-- a call below answers, and what it answers is told as numbers
+pub record Told {A R : Type 0} (tells : A → R) (Call : A → Type 0) (r : R) : Type 0 where
+  pub answer : A
+  pub call : Call answer
+  pub told : r ≡ tells answer
+
+abbrev pub ExportedCreation : (id : ℕ) (limits : Limits) (nodes pairs collections head b a e l : List ℕ) (r : ℕ) (head′ b′ a′ e′ l′ : List ℕ) → Type 0
+ExportedCreation id limits nodes pairs collections head b a e l r head′ b′ a′ e′ l′ =
+    Told creationTold (λ answer. CreationCall id limits nodes pairs collections head b a e l answer head′ b′ a′ e′ l′) r
 
 -- a step that was called
-pub record SteppedAs (command n : ℕ) (h : List ℕ) (r : GeysertrayLifecycle) (h′ : List ℕ) : Type 0 where
-  pub answer : LentTransition
-  pub call : TransitionCall h (commandAt command) n answer h′
-  pub told : r ≡ stepTold answer
+abbrev pub SteppedAs : (command n : ℕ) (h : List ℕ) (r : GeysertrayLifecycle) (h′ : List ℕ) → Type 0
+SteppedAs command n h r h′ = Told stepTold (λ answer. TransitionCall h (commandAt command) n answer h′) r
 
 pub record ExportedStep (command n : ℕ) (h : List ℕ) (r : GeysertrayLifecycle) (h′ : List ℕ) : Type 0 where
   pub known : command ≤ 4 → SteppedAs command n h r h′
@@ -33,10 +35,9 @@ pub record ExportedStep (command n : ℕ) (h : List ℕ) (r : GeysertrayLifecycl
 
 module _ (edition : ℕ) (v : BatchEnvelope) (declared : ℕ) (set head nodes pairs collections b a e toH toB toA toE toL : List ℕ) where
   -- a batch that was called
-  pub record BatchedAs (r : GeysertrayAnswer) (h′ b′ a′ e′ l′ : List ℕ) : Type 0 where
-    pub answer : LentBatch
-    pub call : BatchCall (editionAt edition) v declared set head nodes pairs collections b a e toH toB toA toE toL answer h′ b′ a′ e′ l′
-    pub told : r ≡ batchTold answer
+  abbrev pub BatchedAs : (r : GeysertrayAnswer) (h′ b′ a′ e′ l′ : List ℕ) → Type 0
+  BatchedAs r h′ b′ a′ e′ l′ =
+      Told batchTold (λ answer. BatchCall (editionAt edition) v declared set head nodes pairs collections b a e toH toB toA toE toL answer h′ b′ a′ e′ l′) r
 
   pub record ExportedBatch (r : GeysertrayAnswer) (h′ b′ a′ e′ l′ : List ℕ) : Type 0 where
     pub known : 1 ≤ edition → edition ≤ 2 → BatchedAs r h′ b′ a′ e′ l′

@@ -1,64 +1,23 @@
-// The exported calls on a session: creation, step and batch. What each answers is what the call of `session_lent` below it answers, as numbers; wrong numbers of an edition or of a
-// command are told apart by a disposition of their own, and change nothing.
-use crate::answers;
-use crate::editions;
+// The exported calls on a session: creation, step and batch. What each answers is what the call of `session_lent` below it answers, as
+// numbers; wrong numbers of an edition or of a command are told apart by a disposition of their own, and change nothing.
+use c_answers::answers;
+use c_answers::answers::GeysertrayAnswer;
+use c_answers::answers::GeysertrayLifecycle;
+use c_answers::asked;
 use local_projection_state::LocalProjectionState;
 use session_gates::gates::OrderedProjectionPatchBatchEnvelope;
 use session_lent::batch;
-use session_lent::batch::LentBatch;
 use session_lent::creation;
-use session_lent::creation::LentCreation;
 use session_lent::head;
 use session_lent::lifecycle;
-use session_lent::lifecycle::LentTransition;
 use session_lifecycle::lifecycle::ShellTransitionInput;
 use session_lifecycle::state::ShellLifecycleLimits;
 use session_lifecycle::state::ShellSessionId;
-ghost use mathlib.Core.Path.{_≡_};
-ghost use Rattle.c_exports.specs.Exports.{batchTold, stepTold, creationTold};
 ghost use Rattle.c_exports.specs.Calls.{ExportedCreation, ExportedStep, ExportedBatch};
-
-// 0 Applied, 1 NoChange, 2 Rejected, 3 no session in the memory, 4 no such edition; the diagnostics; the cursor after the call, if there is one.
-#[repr(C)]
-pub struct GeysertrayAnswer {
-    pub disposition: u64,
-    pub number: u64,
-    pub stage: u64,
-    pub logical: u64,
-    pub emitted: u64,
-    pub has_cursor: u64,
-    pub cursor: u64,
-}
-
-// The same of a lifecycle step, with 4 for no such command, and the lifecycle after it: 0 Created, 1 Active, 2 Suspended, 3 Closed.
-#[repr(C)]
-pub struct GeysertrayLifecycle {
-    pub disposition: u64,
-    pub number: u64,
-    pub stage: u64,
-    pub logical: u64,
-    pub emitted: u64,
-    pub lifecycle: u64,
-    pub has_cursor: u64,
-    pub cursor: u64,
-    pub stimulus_bytes: u64,
-}
-
-const NO_SESSION: u64 = 3;
 
 const NO_SUCH: u64 = 4;
 
 const LAST_COMMAND: u64 = 4;
-
-fn created(answer: LentCreation) -> u64
-    ensures { λ r. ⌜ r ≡ creationTold answer ⌝ }
-{
-    match answer {
-        LentCreation::Created => 0,
-        LentCreation::AnchorsOverCapacity => 13,
-        LentCreation::NoSession => NO_SESSION,
-    }
-}
 
 // Makes a new session in one half of a panel's memory: 0, or 13 for too many anchors of a kind, or 3 where the numbers of the bindings are no pairs.
 #[no_mangle]
@@ -98,16 +57,7 @@ pub extern "C" fn geysertray_create(
         entries,
         lengths,
     );
-    created(answer)
-}
-
-fn stepped(answer: LentTransition) -> GeysertrayLifecycle
-    ensures { λ r. ⌜ r ≡ stepTold answer ⌝ }
-{
-    match answer {
-        LentTransition::Answered(result) => answers::step_of(result),
-        LentTransition::NoSession => answers::no_step(NO_SESSION),
-    }
+    answers::created(answer)
 }
 
 // One lifecycle step: 0 Activate, 1 Suspend, 2 Resume, 3 Close, 4 the explicit no-op.
@@ -123,20 +73,11 @@ pub extern "C" fn geysertray_lifecycle_step(
         return answers::no_step(NO_SUCH);
     }
     let input = ShellTransitionInput {
-        stimulus: answers::stimulus_of(command),
+        stimulus: asked::stimulus_of(command),
         stimulus_bytes,
     };
     let answer = lifecycle::transition(head, input);
-    stepped(answer)
-}
-
-fn answered(answer: LentBatch) -> GeysertrayAnswer
-    ensures { λ r. ⌜ r ≡ batchTold answer ⌝ }
-{
-    match answer {
-        LentBatch::Answered(result) => answers::answer_of(result),
-        LentBatch::NoSession => answers::unanswered(NO_SESSION),
-    }
+    answers::stepped(answer)
 }
 
 // One batch, from one half of a panel's memory to the other, which has the next session where the answer is Applied and is left otherwise.
@@ -178,7 +119,7 @@ pub extern "C" fn geysertray_batch<'a>(
         patch_count,
         stimulus_bytes,
     };
-    let told = editions::edition_of(edition);
+    let told = asked::edition_of(edition);
     let answer = batch::apply_projection_patch_batch(
         head,
         nodes,
@@ -197,5 +138,5 @@ pub extern "C" fn geysertray_batch<'a>(
         to_entries,
         to_lengths,
     );
-    answered(answer)
+    answers::answered(answer)
 }

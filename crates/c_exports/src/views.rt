@@ -1,97 +1,26 @@
 // The exported calls that read a session: look-ups, a page of them, the listing and the print of a collection.
-use crate::counts;
-use crate::counts::GeysertrayCount;
-use crate::values;
-use crate::values::GeysertrayAvailability;
-use crate::values::GeysertrayEntry;
-use crate::values::GeysertrayPagePlace;
-use crate::values::GeysertrayValue;
+use c_answers::counts;
+use c_answers::counts::GeysertrayCount;
+use c_answers::values;
+use c_answers::values::GeysertrayAvailability;
+use c_answers::values::GeysertrayEntry;
+use c_answers::values::GeysertrayPagePlace;
+use c_answers::values::GeysertrayValue;
 use local_projection_state::LocalProjectionState;
-use panel_page::PageAnswer;
 use panel_page::rows::PageLookup;
-use panel_print::PrintAnswer;
-use patch_part_writer::written::Written;
 use session_lent::head;
 use session_lent_views::listing;
-use session_lent_views::listing::LentListing;
 use session_lent_views::lookups;
-use session_lent_views::lookups::LentCount;
 use session_lent_views::page;
-use session_lent_views::page::LentPage;
 use session_lent_views::print;
-use session_lent_views::print::LentPrint;
 ghost use mathlib.Core.Path.{_≡_};
 ghost use mathlib.Core.Option.{Option};
 ghost use Rattle.spec_page.specs.Page.{PageEntry};
 ghost use Rattle.panel_page.specs.PageTable.{answerRow, FitsAnswer, pageLookup};
 ghost use Rattle.session_lent_views.specs.Views.{BindingView, AvailabilityView, EntryView, CountView, PlaceView, LengthView, ListingCall, PrintCall, PageCall};
-ghost use Rattle.c_exports.specs.Counts.{Told};
-ghost use Rattle.c_exports.specs.Values.{valueTold, entryTold, placeTold, availabilityTold, countTold, writtenTo, listingTold, printTo, printTold, pageTo, pageTold};
-
-const NO_SESSION: u64 = 3;
-
-fn count_told(answer: LentCount) -> GeysertrayCount
-    ensures { λ r. ⌜ r ≡ countTold answer ⌝ }
-{
-    match answer {
-        LentCount::Answered(n) => counts::counted(n),
-        LentCount::NoSession => counts::not_counted(NO_SESSION),
-    }
-}
-
-pub(crate) fn written_to(answer: Written) -> GeysertrayCount
-    ensures { λ r. ⌜ r ≡ writtenTo answer ⌝ }
-{
-    match answer {
-        Written::Wrote(n) => counts::counted(n),
-        Written::Refused(refusal) => counts::refused(refusal.number()),
-    }
-}
-
-fn listing_told(answer: LentListing) -> GeysertrayCount
-    ensures { λ r. ⌜ r ≡ listingTold answer ⌝ }
-{
-    match answer {
-        LentListing::Answered(written) => written_to(written),
-        LentListing::NoSession => counts::not_counted(NO_SESSION),
-    }
-}
-
-fn print_to(answer: PrintAnswer) -> GeysertrayCount
-    ensures { λ r. ⌜ r ≡ printTo answer ⌝ }
-{
-    match answer {
-        PrintAnswer::Wrote(n) => counts::counted(n),
-        PrintAnswer::Refused(refusal) => counts::refused(refusal.number()),
-    }
-}
-
-fn print_told(answer: LentPrint) -> GeysertrayCount
-    ensures { λ r. ⌜ r ≡ printTold answer ⌝ }
-{
-    match answer {
-        LentPrint::Answered(print) => print_to(print),
-        LentPrint::NoSession => counts::not_counted(NO_SESSION),
-    }
-}
-
-fn page_to(answer: PageAnswer) -> GeysertrayCount
-    ensures { λ r. ⌜ r ≡ pageTo answer ⌝ }
-{
-    match answer {
-        PageAnswer::Answered(n) => counts::counted(n),
-        PageAnswer::Refused(refusal) => counts::refused(refusal.number()),
-    }
-}
-
-fn page_told(answer: LentPage) -> GeysertrayCount
-    ensures { λ r. ⌜ r ≡ pageTold answer ⌝ }
-{
-    match answer {
-        LentPage::Answered(page) => page_to(page),
-        LentPage::NoSession => counts::not_counted(NO_SESSION),
-    }
-}
+ghost use Rattle.c_answers.specs.Counts.{countTold, listingTold, printTold, pageTold};
+ghost use Rattle.c_answers.specs.Values.{valueTold, entryTold, placeTold, availabilityTold};
+ghost use Rattle.c_exports.specs.Calls.{Told};
 
 // The value of a binding.
 #[no_mangle]
@@ -144,7 +73,7 @@ pub extern "C" fn geysertray_entry_count(
     ensures { λ r. ⌜ Told countTold (CountView (now (head .entry)) (now (entries .entry)) collection) r ⌝ }
 {
     let answer = lookups::entry_count(head, entries, collection);
-    count_told(answer)
+    counts::count_told(answer)
 }
 
 // The entry at a position of a collection, from 0.
@@ -171,7 +100,7 @@ pub extern "C" fn geysertray_collection_length(
     ensures { λ r. ⌜ Told countTold (LengthView (now (head .entry)) (now (lengths .entry)) collection) r ⌝ }
 {
     let answer = lookups::collection_length(head, lengths, collection);
-    count_told(answer)
+    counts::count_told(answer)
 }
 
 // Looks up to 64 keys of a collection up together: a row of GEYSERTRAY_PAGE_WIDTH bytes for each, in their order, and the count is that of the
@@ -187,7 +116,7 @@ pub extern "C" fn geysertray_collection_page(
     ensures { λ r. ⌜ Told pageTold (λ a. PageCall (now (head .entry)) (now (entries .entry)) collection (now (keys .entry)) (now (answers .entry)) a (now (answers .exit))) r ⌝ }
 {
     let answer = page::collection_page(head, entries, collection, keys, answers);
-    page_told(answer)
+    counts::page_told(answer)
 }
 
 // Takes a row of a page apart. Of other bytes it tells some value, or none.
@@ -210,7 +139,7 @@ pub extern "C" fn geysertray_print_collection(
     ensures { λ r. ⌜ Told printTold (λ a. PrintCall (now (head .entry)) (now (entries .entry)) collection (now (out .entry)) a (now (out .exit))) r ⌝ }
 {
     let answer = print::print_collection(head, entries, collection, out);
-    print_told(answer)
+    counts::print_told(answer)
 }
 
 // Writes the listing of a session's panel, whole or not at all; the count is that of the bytes; 14 for too little room. What is behind them stays.
@@ -225,5 +154,5 @@ pub extern "C" fn geysertray_listing(
     ensures { λ r. ⌜ Told listingTold (λ a. ListingCall (now (head .entry)) (now (bindings .entry)) (now (availability .entry)) (now (entries .entry)) (now (out .entry)) a (now (out .exit))) r ⌝ }
 {
     let answer = listing::write_projection(head, bindings, availability, entries, out);
-    listing_told(answer)
+    counts::listing_told(answer)
 }

@@ -7,9 +7,9 @@ use Rattle.c_exports.proofs.session.geysertray_batch.Statement.{stateme
 use Rattle.c_exports.proofs.session.geysertray_batch.Tie as tie
 use Rattle.c_exports.proofs.session.geysertray_batch.Reads as reads
 use Rattle.c_exports.proofs.session.geysertray_batch.Lts as lts
-use Rattle.c_exports.proofs.answers.unanswered.Reads as unanswered-reads
-use Rattle.c_exports.proofs.session.answered.Reads as answered-reads
-use Rattle.c_exports.proofs.editions.edition_of.Reads as edition-of-reads
+use Rattle.c_answers.proofs.answers.unanswered.Reads as unanswered-reads
+use Rattle.c_answers.proofs.answers.answered.Reads as answered-reads
+use Rattle.c_answers.proofs.asked.edition_of.Reads as edition-of-reads
 use Rattle.session_lent.proofs.batch.apply_projection_patch_batch.Reads as apply-projection-patch-batch-reads
 
 unanswered-requires : tie.Need-unanswered-requires

@@ -1,12 +1,12 @@
 -- `geysertray_page_row` meets its contract: the row is taken apart, and told.
 use mathlib.Core.Path.{ap, _∙_}
-use Rattle.c_exports.specs.Values.{placeTold}
+use Rattle.c_answers.specs.Values.{placeTold}
 use borrow.Author.Needs.{needs}
 use Rattle.c_exports.proofs.views.geysertray_page_row.Statement.{statement}
 use Rattle.c_exports.proofs.views.geysertray_page_row.Tie as tie
 use Rattle.c_exports.proofs.views.geysertray_page_row.Reads as reads
 use Rattle.c_exports.proofs.views.geysertray_page_row.Lts as lts
-use Rattle.c_exports.proofs.values.place_told.Reads as place-told-reads
+use Rattle.c_answers.proofs.values.place_told.Reads as place-told-reads
 use Rattle.panel_page.proofs.rows.PageLookup.read.Reads as read-reads
 
 read-requires : tie.Need-read-requires

@@ -1,0 +1,28 @@
+-- `answer_of` meets its contract: one number after the other.
+use borrow.Author.Needs.{needs}
+use Rattle.c_answers.proofs.answers.answer_of.Statement.{statement}
+use Rattle.c_answers.proofs.answers.answer_of.Tie as tie
+use Rattle.c_answers.proofs.answers.answer_of.Reads as reads
+use Rattle.c_answers.proofs.answers.answer_of.Lts as lts
+use Rattle.c_answers.proofs.answers.cursor_kind.Reads as cursor-kind-reads
+use Rattle.c_answers.proofs.answers.cursor_number.Reads as cursor-number-reads
+use Rattle.c_answers.proofs.answers.disposition_number.Reads as disposition-number-reads
+
+disposition-number-requires : tie.Need-disposition-number-requires
+disposition-number-requires c κs = search needs
+
+cursor-kind-requires : tie.Need-cursor-kind-requires
+cursor-kind-requires c κs = search needs
+
+cursor-number-requires : tie.Need-cursor-number-requires
+cursor-number-requires c κs = search needs
+
+returns : tie.Need-returns
+returns c =
+    let a = c .before .before .before .before .args in
+    λ i. record { disposition = c .before .before .disposition-number .ensures i; number = a .result .diagnostics .«stable_code»; stage = a .result .diagnostics .«evaluation_stage»; logical = a .result .diagnostics .«logical_diagnostic_count»; emitted = a .result .diagnostics .«emitted_diagnostic_count»; «has_cursor» = c .before .cursor-kind .ensures i; cursor = c .cursor-number .ensures i }
+
+pub answer-of-spec : {M : Type 1} → statement M
+answer-of-spec =
+    tie.close
+    (tie.spec disposition-number-requires cursor-kind-requires cursor-number-requires returns)

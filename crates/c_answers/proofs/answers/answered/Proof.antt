@@ -1,0 +1,33 @@
+-- `answered` meets its contract.
+use mathlib.Core.Path.{sym, ap, _∙_}
+use Rattle.c_answers.specs.Answers.{batchTold}
+use borrow.Author.Needs.{needs}
+use Rattle.c_answers.proofs.answers.answered.Statement.{statement}
+use Rattle.c_answers.proofs.answers.answered.Tie as tie
+use Rattle.c_answers.proofs.answers.answered.Reads as reads
+use Rattle.c_answers.proofs.answers.answered.Lts as lts
+use Rattle.c_answers.proofs.answers.answer_of.Reads as answer-of-reads
+use Rattle.c_answers.proofs.answers.unanswered.Reads as unanswered-reads
+
+enum-known-answer : tie.Need-enum-known-answer
+enum-known-answer c = search needs
+
+answer-of-requires : tie.Need-answer-of-requires
+answer-of-requires c κs = search needs
+
+enum-told : tie.Need-enum-told
+enum-told c = search needs
+
+unanswered-requires : tie.Need-unanswered-requires
+unanswered-requires c κs = search needs
+
+returns : tie.Need-returns
+returns c = c .answer-of .ensures ∙ ap batchTold (sym (c .before .before .answer .given .1))
+
+returns-2 : tie.Need-returns-2
+returns-2 c = c .unanswered .ensures ∙ ap batchTold (sym (c .before .enum-told .given .1))
+
+pub answered-spec : {M : Type 1} → statement M
+answered-spec =
+    tie.close
+    (tie.spec enum-known-answer answer-of-requires enum-told unanswered-requires returns returns-2)

@@ -1,0 +1,37 @@
+-- `step_of` meets its contract: one number after the other.
+use borrow.Author.Needs.{needs}
+use Rattle.c_answers.proofs.answers.step_of.Statement.{statement}
+use Rattle.c_answers.proofs.answers.step_of.Tie as tie
+use Rattle.c_answers.proofs.answers.step_of.Reads as reads
+use Rattle.c_answers.proofs.answers.step_of.Lts as lts
+use Rattle.c_answers.proofs.answers.cursor_kind.Reads as cursor-kind-reads
+use Rattle.c_answers.proofs.answers.cursor_number.Reads as cursor-number-reads
+use Rattle.c_answers.proofs.answers.lifecycle_number.Reads as lifecycle-number-reads
+use Rattle.c_answers.proofs.answers.step_number.Reads as step-number-reads
+
+step-number-requires : tie.Need-step-number-requires
+step-number-requires c κs = search needs
+
+lifecycle-number-requires : tie.Need-lifecycle-number-requires
+lifecycle-number-requires c κs = search needs
+
+cursor-kind-requires : tie.Need-cursor-kind-requires
+cursor-kind-requires c κs = search needs
+
+cursor-number-requires : tie.Need-cursor-number-requires
+cursor-number-requires c κs = search needs
+
+returns : tie.Need-returns
+returns c =
+    let a = c .before .before .before .before .before .before .args in
+    λ i. record { disposition = c .before .before .before .step-number .ensures i; number = a .result .diagnostics .«stable_code»; stage = a .result .diagnostics .«evaluation_stage»; logical = a .result .diagnostics .«logical_diagnostic_count»; emitted = a .result .diagnostics .«emitted_diagnostic_count»; lifecycle = c .before .before .lifecycle-number .ensures i; «has_cursor» = c .before .cursor-kind .ensures i; cursor = c .cursor-number .ensures i; «stimulus_bytes» = a .result .«stimulus_bytes» }
+
+pub step-of-spec : {M : Type 1} → statement M
+step-of-spec =
+    tie.close
+    (tie.spec
+    step-number-requires
+    lifecycle-number-requires
+    cursor-kind-requires
+    cursor-number-requires
+    returns)

@@ -1,0 +1,33 @@
+-- `stepped` meets its contract.
+use mathlib.Core.Path.{sym, ap, _∙_}
+use Rattle.c_answers.specs.Answers.{stepTold}
+use borrow.Author.Needs.{needs}
+use Rattle.c_answers.proofs.answers.stepped.Statement.{statement}
+use Rattle.c_answers.proofs.answers.stepped.Tie as tie
+use Rattle.c_answers.proofs.answers.stepped.Reads as reads
+use Rattle.c_answers.proofs.answers.stepped.Lts as lts
+use Rattle.c_answers.proofs.answers.no_step.Reads as no-step-reads
+use Rattle.c_answers.proofs.answers.step_of.Reads as step-of-reads
+
+enum-known-answer : tie.Need-enum-known-answer
+enum-known-answer c = search needs
+
+step-of-requires : tie.Need-step-of-requires
+step-of-requires c κs = search needs
+
+enum-told : tie.Need-enum-told
+enum-told c = search needs
+
+no-step-requires : tie.Need-no-step-requires
+no-step-requires c κs = search needs
+
+returns : tie.Need-returns
+returns c = c .step-of .ensures ∙ ap stepTold (sym (c .before .before .answer .given .1))
+
+returns-2 : tie.Need-returns-2
+returns-2 c = c .no-step .ensures ∙ ap stepTold (sym (c .before .enum-told .given .1))
+
+pub stepped-spec : {M : Type 1} → statement M
+stepped-spec =
+    tie.close
+    (tie.spec enum-known-answer step-of-requires enum-told no-step-requires returns returns-2)

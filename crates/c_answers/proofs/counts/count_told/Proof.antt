@@ -1,0 +1,33 @@
+-- `count_told` meets its contract.
+use mathlib.Core.Path.{sym, ap, _∙_}
+use Rattle.c_answers.specs.Counts.{countTold}
+use borrow.Author.Needs.{needs}
+use Rattle.c_answers.proofs.counts.count_told.Statement.{statement}
+use Rattle.c_answers.proofs.counts.count_told.Tie as tie
+use Rattle.c_answers.proofs.counts.count_told.Reads as reads
+use Rattle.c_answers.proofs.counts.count_told.Lts as lts
+use Rattle.c_answers.proofs.counts.counted.Reads as counted-reads
+use Rattle.c_answers.proofs.counts.not_counted.Reads as not-counted-reads
+
+enum-known-answer : tie.Need-enum-known-answer
+enum-known-answer c = search needs
+
+counted-requires : tie.Need-counted-requires
+counted-requires c κs = search needs
+
+enum-told : tie.Need-enum-told
+enum-told c = search needs
+
+not-counted-requires : tie.Need-not-counted-requires
+not-counted-requires c κs = search needs
+
+returns : tie.Need-returns
+returns c = c .counted .ensures ∙ ap countTold (sym (c .before .before .answer .given .1))
+
+returns-2 : tie.Need-returns-2
+returns-2 c = c .not-counted .ensures ∙ ap countTold (sym (c .before .enum-told .given .1))
+
+pub count-told-spec : {M : Type 1} → statement M
+count-told-spec =
+    tie.close
+    (tie.spec enum-known-answer counted-requires enum-told not-counted-requires returns returns-2)

@@ -1,0 +1,44 @@
+-- `check_told` meets its contract.
+use mathlib.Core.Path.{sym, ap, _∙_}
+use Rattle.c_answers.specs.Sets.{unchecked, checkTold}
+use borrow.Author.Needs.{needs}
+use Rattle.c_answers.proofs.sets.check_told.Statement.{statement}
+use Rattle.c_answers.proofs.sets.check_told.Tie as tie
+use Rattle.c_answers.proofs.sets.check_told.Reads as reads
+use Rattle.c_answers.proofs.sets.check_told.Lts as lts
+use Rattle.c_answers.proofs.sets.checked_at.Reads as checked-at-reads
+use Rattle.c_answers.proofs.sets.unchecked.Reads as unchecked-reads
+use Rattle.projection_patch.proofs.read_values.ProjectionPatchReadFault.number.Reads as number-reads
+
+enum-known-answer : tie.Need-enum-known-answer
+enum-known-answer c = search needs
+
+checked-at-requires : tie.Need-checked-at-requires
+checked-at-requires c κs = search needs
+
+enum-known-answer-2 : tie.Need-enum-known-answer-2
+enum-known-answer-2 c = search needs
+
+number-requires : tie.Need-number-requires
+number-requires c κs = search needs
+
+unchecked-requires : tie.Need-unchecked-requires
+unchecked-requires c κs = search needs
+
+returns : tie.Need-returns
+returns c = c .checked-at .ensures ∙ ap checkTold (sym (c .before .before .answer .given .1))
+
+returns-2 : tie.Need-returns-2
+returns-2 c = c .unchecked .ensures ∙ ap (unchecked 2) (c .before .number .ensures) ∙ ap checkTold (sym (c .before .before .before .answer2 .given .1))
+
+pub check-told-spec : {M : Type 1} → statement M
+check-told-spec =
+    tie.close
+    (tie.spec
+    enum-known-answer
+    checked-at-requires
+    enum-known-answer-2
+    number-requires
+    unchecked-requires
+    returns
+    returns-2)

@@ -1,0 +1,5 @@
+pub mod Answers
+pub mod Asked
+pub mod Counts
+pub mod Sets
+pub mod Values

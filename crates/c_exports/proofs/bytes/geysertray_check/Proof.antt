@@ -1,0 +1,55 @@
+-- `geysertray_check` meets its contract: the edition is tested, and the call below is told it.
+use mathlib.Core.Path.{refl, sym, ap, _∙_}
+use Rattle.c_answers.specs.Asked.{byEdition}
+use Rattle.c_answers.specs.Sets.{checkTold}
+use borrow.Author.Needs.{needs}
+use Rattle.c_exports.proofs.bytes.geysertray_check.Statement.{statement}
+use Rattle.c_exports.proofs.bytes.geysertray_check.Tie as tie
+use Rattle.c_exports.proofs.bytes.geysertray_check.Reads as reads
+use Rattle.c_exports.proofs.bytes.geysertray_check.Lts as lts
+use Rattle.c_answers.proofs.asked.edition_of.Reads as edition-of-reads
+use Rattle.c_answers.proofs.asked.is_edition.Reads as is-edition-reads
+use Rattle.c_answers.proofs.sets.check_told.Reads as check-told-reads
+use Rattle.c_answers.proofs.sets.unchecked.Reads as unchecked-reads
+use Rattle.check_set.proofs.check_set.check.Reads as check-reads
+
+is-edition-requires : tie.Need-is-edition-requires
+is-edition-requires c κs = search needs
+
+edition-of-requires : tie.Need-edition-of-requires
+edition-of-requires c κs = search needs
+
+check-requires : tie.Need-check-requires
+check-requires c κs = search needs
+
+check-told-requires : tie.Need-check-told-requires
+check-told-requires c κs = search needs
+
+same-length : tie.Need-same-length
+same-length c = search needs
+
+returns : tie.Need-returns
+unfolding byEdition
+returns c =
+    let call = c .before .before .before .check in
+    rw (sym (c .before .before .before .before .before .before .before .is-edition .ensures) ∙ c .before .before .before .before .before .before .if1 .taken, sym (c .before .before .before .before .before .edition-of .ensures)) (c .check-told .ensures ∙ ap checkTold (call .ensures .0), call .ensures .1)
+
+unchecked-requires : tie.Need-unchecked-requires
+unchecked-requires c κs = search needs
+
+returns-2 : tie.Need-returns-2
+unfolding byEdition
+returns-2 c = rw (sym (c .before .before .is-edition .ensures) ∙ c .before .if1 .left) (c .unchecked .ensures, refl)
+
+pub geysertray-check-spec : {M : Type 1} → statement M
+geysertray-check-spec =
+    tie.close
+    (tie.spec
+    is-edition-requires
+    edition-of-requires
+    check-requires
+    check-told-requires
+    same-length
+    returns
+    unchecked-requires
+    returns-2)

@@ -1,0 +1,55 @@
+-- `geysertray_depends` meets its contract: the edition is tested, and the call below is told it.
+use mathlib.Core.Path.{refl, sym, ap, _∙_}
+use Rattle.c_answers.specs.Asked.{byEdition}
+use Rattle.c_answers.specs.Sets.{dependenciesTold}
+use borrow.Author.Needs.{needs}
+use Rattle.c_exports.proofs.bytes.geysertray_depends.Statement.{statement}
+use Rattle.c_exports.proofs.bytes.geysertray_depends.Tie as tie
+use Rattle.c_exports.proofs.bytes.geysertray_depends.Reads as reads
+use Rattle.c_exports.proofs.bytes.geysertray_depends.Lts as lts
+use Rattle.c_answers.proofs.asked.edition_of.Reads as edition-of-reads
+use Rattle.c_answers.proofs.asked.is_edition.Reads as is-edition-reads
+use Rattle.c_answers.proofs.sets.dependencies_told.Reads as dependencies-told-reads
+use Rattle.c_answers.proofs.sets.not_told.Reads as not-told-reads
+use Rattle.set_dependencies.proofs.depends.depends.Reads as depends-reads
+
+is-edition-requires : tie.Need-is-edition-requires
+is-edition-requires c κs = search needs
+
+edition-of-requires : tie.Need-edition-of-requires
+edition-of-requires c κs = search needs
+
+depends-requires : tie.Need-depends-requires
+depends-requires c κs = search needs
+
+dependencies-told-requires : tie.Need-dependencies-told-requires
+dependencies-told-requires c κs = search needs
+
+same-length : tie.Need-same-length
+same-length c = search needs
+
+returns : tie.Need-returns
+unfolding byEdition
+returns c =
+    let call = c .before .before .before .depends in
+    rw (sym (c .before .before .before .before .before .before .before .is-edition .ensures) ∙ c .before .before .before .before .before .before .if1 .taken, sym (c .before .before .before .before .before .edition-of .ensures)) (c .dependencies-told .ensures ∙ ap dependenciesTold (call .ensures .0), call .ensures .1)
+
+not-told-requires : tie.Need-not-told-requires
+not-told-requires c κs = search needs
+
+returns-2 : tie.Need-returns-2
+unfolding byEdition
+returns-2 c = rw (sym (c .before .before .is-edition .ensures) ∙ c .before .if1 .left) (c .not-told .ensures, refl)
+
+pub geysertray-depends-spec : {M : Type 1} → statement M
+geysertray-depends-spec =
+    tie.close
+    (tie.spec
+    is-edition-requires
+    edition-of-requires
+    depends-requires
+    dependencies-told-requires
+    same-length
+    returns
+    not-told-requires
+    returns-2)
