@@ -1,10 +1,9 @@
 -- Answers that mean the same are equal.
-use Prim.Native.Nat.{ℕ}
 use mathlib.Core.Path.{_≡_, refl, sym, ap, _∙_}
 use Rattle.spec_session.specs.Lifecycle as step
 use Rattle.spec_session.specs.Lifecycle.{Disposition, LifecycleAnswer}
 use Rattle.spec_session.specs.Batch.{BatchAnswer}
-use Rattle.session_lifecycle.specs.Meaning.{dispositionMeans, cursorOf, stateTold, answerOf}
+use Rattle.session_lifecycle.specs.Meaning.{dispositionMeans, answerOf}
 use Rattle.session_lifecycle.specs.declared.lifecycle.ShellTransitionDisposition.{ShellTransitionDisposition}
 use Rattle.session_lifecycle.specs.declared.lifecycle.ShellTransitionDisposition.the-variants.{Applied, NoChange, Rejected}
 use Rattle.session_lifecycle.specs.declared.lifecycle.ShellTransitionResult.{ShellTransitionResult}

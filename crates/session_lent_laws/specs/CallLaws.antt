@@ -1,6 +1,6 @@
 -- Each call on lent memory gives the answer of the call by value, and leaves the bytes of the struct that is handed back.
 use Prim.Native.Nat.{ℕ}
-use mathlib.Core.Path.{_≡_, refl, sym, ap, subst, _∙_}
+use mathlib.Core.Path.{_≡_, sym, ap, subst, _∙_}
 use mathlib.Core.Bool.{true}
 use mathlib.Core.List.{List}
 use native.Mathlib.Omega.{arith}
@@ -9,7 +9,7 @@ use lib.ListN.{length}
 use Rattle.spec_patch.specs.Edition.{Edition}
 use Rattle.spec_session.specs.Session.{Session, Limits, Catalogue, Creation, made, refused, create}
 use Rattle.spec_session.specs.Lifecycle.{Stimulus, lifecycleStep}
-use Rattle.spec_session.specs.Batch.{BatchEnvelope, BatchStep, batch}
+use Rattle.spec_session.specs.Batch.{BatchEnvelope, batch}
 use Rattle.panel_rows.specs.Rows.{lengthBytes}
 use Rattle.session_lifecycle.specs.Meaning.{answerOf}
 use Rattle.session_gates.specs.Lent.{Lent}
@@ -26,7 +26,6 @@ use Rattle.shell_player.specs.declared.session.ShellTransition.{ShellTransition
 use Rattle.shell_player.specs.declared.batch.ProjectionPatchBatch.{ProjectionPatchBatch}
 use Rattle.session_creation.specs.Creation.{Creates}
 use Rattle.session_creation.specs.declared.ShellSessionCreation.{ShellSessionCreation}
-use Rattle.session_lent.specs.Head.{headNumbers}
 use Rattle.session_lent.specs.HeadLaws.{long}
 use Rattle.session_lent.specs.Steps.{roomShaped, CreatedIn, CreationCall, TransitionCall}
 use Rattle.session_lent.specs.Batches.{SameHalf, NextIn, LentStep, memoryShaped}
@@ -34,7 +33,6 @@ use Rattle.session_lent.specs.BatchesLaws.{held-half, held-anchors, room-half}
 use Rattle.session_lent.specs.CreationLaws.{creation-became}
 use Rattle.session_lent.specs.LifecycleLaws.{transition-became}
 use Rattle.session_lent.specs.declared.creation.LentCreation.{LentCreation}
-use Rattle.session_lent.specs.declared.creation.LentCreation.the-variants as creation
 use Rattle.session_lent.specs.declared.lifecycle.LentTransition.{LentTransition}
 use Rattle.session_lent.specs.declared.lifecycle.LentTransition.the-variants as transition
 use Rattle.session_lent.specs.declared.batch.LentBatch.{LentBatch}
@@ -76,18 +74,22 @@ transition-alike s k h m by-value held u n t step r head′ call =
 
 -- ---- the batch
 
+-- memory that holds a session has the shape of one
+pub memory-fits : (ed : Edition) (v : BatchEnvelope) (declared : ℕ) (set : List ℕ) (k : Anchors) (p : Memory) (m : Session) → Panel k p m
+    → memoryShaped ed v declared set (p .held .head) (k .nodes) (k .pairs) (k .collections) (p .held .bindings) (p .held .availability) (p .held .entries) (p .other .head) (p .other .bindings) (p .other .availability) (p .other .entries) (p .other .lengths) ≡ true
+memory-fits ed v declared set k p m panel = rw (
+  held-anchors (p .held .head) (k .nodes) (k .pairs) (k .collections) (p .held .bindings) (p .held .availability) (p .held .entries) (p .held .lengths) m (panel .held),
+  held-half (p .held .head) (k .nodes) (k .pairs) (k .collections) (p .held .bindings) (p .held .availability) (p .held .entries) (p .held .lengths) m (panel .held),
+  room-half (p .other .head) (p .other .bindings) (p .other .availability) (p .other .entries) (p .other .lengths) (panel .room),
+  eq-eqb (length (p .other .lengths)) lengthBytes (panel .room .tables .collections),
+)
+
 module _ (ed : Edition) (v : BatchEnvelope) (declared : ℕ) (set : List ℕ) (k : Anchors) (p : Memory) (m : Session) (panel : Panel k p m) (r : LentBatch) (w : Half) (call : LentBatchCall ed v declared set k p r w) where
   abbrev other : Half
   other = p .other
 
-  -- memory that holds a session has the shape of one
-  fits : memoryShaped ed v declared set (p .held .head) (k .nodes) (k .pairs) (k .collections) (p .held .bindings) (p .held .availability) (p .held .entries) (other .head) (other .bindings) (other .availability) (other .entries) (other .lengths) ≡ true
-  fits = rw (
-    held-anchors (p .held .head) (k .nodes) (k .pairs) (k .collections) (p .held .bindings) (p .held .availability) (p .held .entries) (p .held .lengths) m (panel .held),
-    held-half (p .held .head) (k .nodes) (k .pairs) (k .collections) (p .held .bindings) (p .held .availability) (p .held .entries) (p .held .lengths) m (panel .held),
-    room-half (other .head) (other .bindings) (other .availability) (other .entries) (other .lengths) (panel .room),
-    eq-eqb (length (other .lengths)) lengthBytes (panel .room .tables .collections),
-  )
+  abbrev fits : memoryShaped ed v declared set (p .held .head) (k .nodes) (k .pairs) (k .collections) (p .held .bindings) (p .held .availability) (p .held .entries) (other .head) (other .bindings) (other .availability) (other .entries) (other .lengths) ≡ true
+  fits = memory-fits ed v declared set k p m panel
 
   abbrev result : ProjectionPatchApplicationResult
   result = call .answered fits .0

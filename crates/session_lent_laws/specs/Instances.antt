@@ -1,8 +1,8 @@
 -- What the laws speak of is there: every valid session of the model can be held, and slices that hold one can be made anew.
-use Prim.Native.Nat.{ℕ, _*_, _%_}
+use Prim.Native.Nat.{_*_, _%_}
 use mathlib.Core.Path.{_≡_, refl, ap, _∙_}
 use mathlib.Core.Bool.{true}
-use mathlib.Core.List.{List, map, flatMap}
+use mathlib.Core.List.{map, flatMap}
 use native.Mathlib.Omega.{arith}
 use borrow.Author.Tests.{eq-eqb}
 use lib.ListN.{length}
@@ -16,12 +16,14 @@ use Rattle.panel_rows.specs.Rows.{lengthBytes}
 use Rattle.local_projection_state.specs.Stores.{stateOf}
 use Rattle.local_projection_state.specs.StoresLaws.{some-state}
 use Rattle.panel_changes.specs.SetChangesLaws.{lengths-fit, stored-lengths}
+use Rattle.shell_player.specs.Holds.{Holds}
+use Rattle.shell_player.specs.declared.session.ShellSession.{ShellSession}
 use Rattle.session_lent.specs.Head.{headNumbers, headOf}
 use Rattle.session_lent.specs.HeadLaws.{long}
 use Rattle.session_lent.specs.Steps.{roomShaped}
 use Rattle.session_lent.specs.CreationLaws.{pairs-apart}
-use Rattle.session_lent_laws.specs.Memory.{Anchors, Half, HeldIn, Panel}
-use Rattle.session_lent_laws.specs.StructLaws.{held-room}
+use Rattle.session_lent_laws.specs.Memory.{Anchors, Half, HeldIn, Panel, structIn}
+use Rattle.session_lent_laws.specs.StructLaws.{same-bytes, held-room}
 
 -- ---- a session as lent slices
 
@@ -38,7 +40,7 @@ halfOf m = record {
 }
 
 module _ (m : Session) (few : FewAnchors (m .catalogue)) (valid : Valid (m .projection)) where
-  half-holds : HeldIn (anchorsOf (m .catalogue)) (halfOf m) m
+  pub half-holds : HeldIn (anchorsOf (m .catalogue)) (halfOf m) m
   unfolding stateOf
   half-holds = record {
     head-is = refl;
@@ -50,6 +52,12 @@ module _ (m : Session) (few : FewAnchors (m .catalogue)) (valid : Valid (m .proj
 
   pub some-panel : Panel (anchorsOf (m .catalogue)) (record { held = halfOf m; other = halfOf m }) m
   some-panel = record { held = half-holds; room = held-room (anchorsOf (m .catalogue)) (halfOf m) m half-holds }
+
+-- and so every session by value has slices with its numbers and bytes
+pub struct-held : (s : ShellSession) (m : Session) → Holds s m → HeldIn (anchorsOf (m .catalogue)) (halfOf m) m × (s ≡ structIn (anchorsOf (m .catalogue)) (halfOf m))
+struct-held s m h =
+    let held = half-holds m (h .few) (h .projection .tables .valid) in
+    (held, same-bytes (anchorsOf (m .catalogue)) (halfOf m) m held s h)
 
 -- the session whose batches of `SplitInstances` apply whole and in pieces, or fail at an operation
 pub start-panel : Panel (anchorsOf (start .catalogue)) (record { held = halfOf start; other = halfOf start }) start

@@ -6,3 +6,4 @@ pub mod AnswerLaws
 pub mod CallLaws
 pub mod Theorem
 pub mod Instances
+pub mod Premises

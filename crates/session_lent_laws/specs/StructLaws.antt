@@ -1,14 +1,13 @@
 -- A half that holds a session has the numbers and bytes of the one struct that stores it; and it is room for a later session.
 use Prim.Native.Nat.{ℕ, _-_, _*_}
-use mathlib.Core.Path.{_≡_, refl, sym, ap, ap₂, subst, _∙_}
-use mathlib.Core.List.{List, [], _∷_, _++_, flatten, flatMap, map}
-use lib.ListN.{length, drop, getD, length-map}
+use mathlib.Core.Path.{_≡_, refl, sym, ap, _∙_}
+use mathlib.Core.List.{List, [], _∷_, flatten, flatMap, map}
+use lib.ListN.{length, drop, length-map}
 use lib.Seq.{drop-at}
 use Rattle.spec_session.specs.Session as model
-use Rattle.spec_session.specs.Session.{Lifecycle, Cursor, Limits, Catalogue, Session}
+use Rattle.spec_session.specs.Session.{Lifecycle, Cursor, Catalogue, Session}
 use Rattle.spec_session.specs.Lifecycle.{LocalState}
 use Rattle.spec_session.specs.Lifecycle as step
-use Rattle.spec_projection.specs.Projection.{Projection}
 use Rattle.active_projection_target_catalog.specs.Catalog.{pairTo, noPair, padded, catalogWith, catalogueOf, catalogTo, pairNumbers}
 use Rattle.active_projection_target_catalog.specs.CatalogLaws.{catalogue-back}
 use Rattle.active_projection_target_catalog.specs.declared.catalog.BindingPair.{BindingPair}
@@ -22,7 +21,7 @@ use Rattle.local_projection_state.specs.StoresLaws.{one-projection}
 use Rattle.shell_player.specs.Holds as struct
 use Rattle.shell_player.specs.HoldsLaws.{lifecycleTo, cursorTo, stateTo, one-struct}
 use Rattle.shell_player.specs.declared.session.ShellSession.{ShellSession}
-use Rattle.session_lent.specs.Head.{stateAt, limitsAt}
+use Rattle.session_lent.specs.Head.{stateAt}
 use Rattle.session_lent.specs.HeadLaws.{state-told, limits-told, long}
 use Rattle.session_lent.specs.BatchesLaws.{held-tables}
 use Rattle.session_lent_laws.specs.Memory.{Anchors, Half, HeldIn, RoomIn, pairsIn, catalogIn, structIn}
@@ -48,7 +47,7 @@ one-session s a b g h =
 
 -- ---- the struct of a half stores what the half holds
 
-pairs-told : (bs : List BindingPair) → pairsIn (flatMap pairNumbers bs) ≡ bs
+pub pairs-told : (bs : List BindingPair) → pairsIn (flatMap pairNumbers bs) ≡ bs
 unfolding pairsIn pairNumbers flatMap
 pairs-told [] = refl
 pairs-told (b ∷ bs) = ap (λ (l : List BindingPair). b ∷ l) (pairs-told bs)

@@ -1,6 +1,6 @@
 -- Whole and pieces, for the calls on lent memory: they are calls by value of the structs that have the memory's bytes.
 use Prim.Native.Nat.{ℕ, suc, _+_, _-_}
-use mathlib.Core.Path.{_≡_, refl, sym, ap, subst, _∙_}
+use mathlib.Core.Path.{_≡_, refl, sym, ap, _∙_}
 use mathlib.Core.Bool.{Bool, true, false}
 use mathlib.Core.List.{List, [], _∷_}
 use lib.ListN.{length}
@@ -8,13 +8,10 @@ use Rattle.spec_lists.specs.Lists.{All}
 use Rattle.spec_patch.specs.Edition.{Edition}
 use Rattle.spec_patch.specs.Encode.{encode}
 use Rattle.spec_session.specs.Session.{Session}
-use Rattle.spec_session.specs.Batch.{BatchEnvelope, batch}
 use Rattle.spec_splitting.specs.Splitting.{Piece, references, Given}
 use Rattle.session_lifecycle.specs.Meaning.{cursorOf}
 use Rattle.session_steps.specs.declared.answers.ProjectionPatchApplicationDisposition.{ProjectionPatchApplicationDisposition}
-use Rattle.session_steps.specs.declared.answers.ProjectionPatchApplicationDisposition.the-variants.{Applied}
 use Rattle.shell_player.specs.declared.session.ShellSession.{ShellSession}
-use Rattle.shell_player.specs.declared.batch.ProjectionPatchBatch.{ProjectionPatchBatch}
 use Rattle.session_splitting.specs.Calls.{envelopeFor, Sent, refused, Onward, Calls, lastOf}
 use Rattle.session_splitting.specs.Claim.{WasApplied, WholeAndPieces}
 use Rattle.session_splitting.specs.Theorem.{session-whole-and-pieces}

@@ -96,7 +96,11 @@ pub fn keys(order: &str) -> Vec<RawPatch> {
     let list = |moves: u64| -> Vec<RawPatch> {
         let key = |i: u64| key(order, i, 2 * moves);
         let all: Vec<BridgePatchOperation> = (0..moves)
-            .map(|i| BridgePatchOperation::CollectionMove { collection: 9, key: key(2 * i), before: Some(key(2 * i + 1)) })
+            .map(|i| BridgePatchOperation::CollectionMove {
+                collection: 9,
+                key: key(2 * i),
+                before: Some(key(2 * i + 1)),
+            })
             .collect();
         all.chunks(128).enumerate().map(|(p, moves)| patch(p as u64, moves.to_vec())).collect()
     };
