@@ -98,7 +98,7 @@ class Refusals(unittest.TestCase):
         row = trial.rows[-1]
         self.assertEqual(row.reason, Reason("8", "key-absent", ["0", "1"]))
         self.assertEqual((row.breaks.patch, row.breaks.operation), (0, 1))
-        self.assertIn("Rule key-absent (patch 0, operation 1)", text(trial, "x", Rules()))
+        self.assertIn("Rule key-absent: The key to update, remove or move is not in the list. (patch 0, operation 1)", text(trial, "x", Rules()))
         self.assertIn("Rule <code>key-absent</code>", page(trial, "x", Rules()))
         self.assertIsNone(trial.rows[4].reason)
 
