@@ -6,12 +6,17 @@ Reason = namedtuple("Reason", "number name figures")
 
 PLACE = ("patch", "operation")
 LIMITS = ("patches", "at most", "bytes", "at most")
+READING = (
+    "set-too-long", "heading", "too-few-bytes", "operation-tag", "value-kind", "optional", "availability", "quad", "score", "text-not-utf8",
+    "patch-count", "operation-count", "text-length", "text-characters", "bytes-left",
+)
 # what the figures of a rule are; where a program prints another count of them they are shown as they are
 FIGURES = {
     "foreign-session": ("named", "in use"),
     "declared-patches": LIMITS,
     "declared-bytes": LIMITS,
     "declared-patches-and-bytes": LIMITS,
+    **{rule: ("byte",) + PLACE for rule in READING},
     "findings": ("place", "count", "kind", "domain", "secondary"),
     "counts-differ": ("patches declared", "there", "references declared", "there"),
     "references": ("there", "at most"),

@@ -87,7 +87,7 @@ WRONG = [
     (
         "counts repeats of an absent target once", "session.py",
         "sum(not self.knows(operation) for operation in operations)",
-        "len({operation for operation in operations if not self._knows(operation)})",
+        "len({operation for operation in operations if not self.knows(operation)})",
     ),
     (
         "knows a binding by its node", "session.py",

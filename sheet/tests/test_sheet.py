@@ -26,7 +26,7 @@ from sheet.unscript import unscript
 
 LIFT_PROGRAM = [sys.executable, "-B", str(EXAMPLES / "lift_panel.py")]
 LIFT_PANEL = answering(EXAMPLES / "lift_panel.py")
-EXPLAINING = answering(ROOT / "sheet" / "tests" / "explaining_panel.py")
+PLAIN_PANEL = answering(ROOT / "sheet" / "tests" / "plain_panel.py")
 CASES = (
     "step7_repeats_count", "step9_break_at_the_fifth_operation", "read_patch_count_65_is_12", "text_241_bytes_is_12",
     "kind_12_replaces_05", "cap_1_of_4_absent_targets", "script_stops_at_the_first_bad_line", "convert_score_18",
@@ -92,13 +92,13 @@ class Refusals(unittest.TestCase):
         self.assertEqual(row.unread, "10")
 
     def test_explain_where_the_program_has_it(self):
-        self.assertFalse(knows_explain(MODEL))
-        self.assertTrue(knows_explain(EXPLAINING))
-        trial = Trial(parse(SMALL + b"batch\n  patch\n    update 9 1 U 2\n    remove 9 7\n    remove 9 8\n"), EXPLAINING, explain=True)
+        self.assertTrue(knows_explain(MODEL))
+        self.assertFalse(knows_explain(PLAIN_PANEL))
+        trial = Trial(parse(SMALL + b"batch\n  patch\n    update 9 1 U 2\n    remove 9 7\n    remove 9 8\n"), MODEL, explain=True)
         row = trial.rows[-1]
         self.assertEqual(row.reason, Reason("8", "key-absent", ["0", "1"]))
         self.assertEqual((row.breaks.patch, row.breaks.operation), (0, 1))
-        self.assertIn("Rule key-absent (patch 0, operation 1)", text(trial, "x", Rules()))
+        self.assertIn("Rule key-absent: The key to update, remove or move is not in the list. (patch 0, operation 1)", text(trial, "x", Rules()))
         self.assertIn("Rule <code>key-absent</code>", page(trial, "x", Rules()))
         self.assertIsNone(trial.rows[4].reason)
 
