@@ -1,6 +1,7 @@
 #!/usr/bin/env python3
-"""Whether a built library exports just the calls that the header declares: c/check_library.py FOLDER"""
+"""Whether a built library exports just the calls that the header declares, under the version that it tells: c/check_library.py FOLDER"""
 
+import ctypes
 import re
 import subprocess
 import sys
@@ -25,6 +26,14 @@ def names(*command):
     return {line.split()[-1] for line in output(*command).splitlines() if line.strip() and not line.endswith(":")}
 
 
+def version(shared):
+    """The version that the library tells of itself."""
+    call = ctypes.CDLL(str(shared)).geysertray_version
+    call.restype = ctypes.c_uint64
+    number = call()
+    return "%d.%d.%d" % (number // 1000000, number // 1000 % 1000, number % 1000)
+
+
 def faults(folder):
     shared, archive = folder / SONAME, folder / "libgeysertray.a"
     calls = declared(HEADER.read_text(encoding="utf-8"))
@@ -38,6 +47,8 @@ def faults(folder):
         yield "%s asks for %s" % (shared, sorted(asked - MAY_ASK))
     if "[%s]" % SONAME not in output("readelf", "-d", str(shared)):
         yield "%s has another soname" % shared
+    if not shared.resolve().name.endswith(".so." + version(shared)):
+        yield "%s tells version %s" % (shared.resolve(), version(shared))
 
 
 if __name__ == "__main__":

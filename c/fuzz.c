@@ -150,7 +150,28 @@ static void step(void)
         must(memcmp(&panel, &before, sizeof panel) == 0, "a refused step wrote something");
 }
 
-static uint8_t out[GEYSERTRAY_LISTING_BYTES];
+static uint8_t out[GEYSERTRAY_LISTING_BYTES], again[GEYSERTRAY_LISTING_BYTES];
+static uint64_t words[2 * GEYSERTRAY_DEPENDS_KEYS];
+
+/* A set that converts goes back to the same bytes, and a term list becomes a set without findings. */
+static void on_bytes(void)
+{
+    uint64_t edition = take(1), room = take(2);
+    size_t length;
+    const uint8_t *set = take_slice(&length);
+    geysertray_count made = geysertray_convert(set, length, edition, out, room % (GEYSERTRAY_SET_BYTES + 1));
+    if (made.disposition == GEYSERTRAY_ANSWERED) {
+        geysertray_count back = geysertray_convert(out, made.count, 3 - edition, again, sizeof again);
+        must(back.disposition == GEYSERTRAY_ANSWERED && back.count == length && memcmp(again, set, length) == 0, "converted there and back it is another set");
+    }
+    geysertray_check(set, length, edition, words, room % (2 * GEYSERTRAY_DEPENDS_KEYS + 1));
+    geysertray_depends(set, length, edition, words, room % (2 * GEYSERTRAY_DEPENDS_KEYS + 1));
+    geysertray_set_listing(set, length, edition, out, sizeof out);
+    made = geysertray_import_terms(set, length, edition, 9, 1, 1, 1, 0, 0, 0, 1, 1, 1, out, room % (GEYSERTRAY_SET_BYTES + 1));
+    if (made.disposition == GEYSERTRAY_ANSWERED)
+        must(geysertray_check(out, made.count, edition, words, 2 * GEYSERTRAY_DEPENDS_KEYS).logical == 0, "a term list became a set with findings");
+}
+
 static int sound = 1;
 
 static void look(void)
@@ -181,7 +202,7 @@ static void spoil(void)
     sound = 0;
 }
 
-static void (*const calls[])(void) = {batch, step, look, spoil};
+static void (*const calls[])(void) = {batch, step, on_bytes, look, spoil};
 
 int LLVMFuzzerTestOneInput(const uint8_t *data, size_t size)
 {

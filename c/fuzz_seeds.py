@@ -6,7 +6,7 @@ from pathlib import Path
 
 DATA = Path(__file__).resolve().parent.parent / "crates" / "test_conformance" / "data"
 # the places of c/fuzz.c's calls
-BATCH, STEP, LOOK = range(3)
+BATCH, STEP, ON_BYTES, LOOK = range(4)
 STEPS = ("activate", "suspend", "resume", "close", "noop")
 # limits that let most batches pass
 OPEN = bytes([255, 8, 64, 255])
@@ -28,6 +28,8 @@ def record(words, edition):
         return bytes([BATCH, edition, small(words[3]), small(words[5])]) + lent(words[6])
     if words[0] == "apply" and words[1] in STEPS:
         return bytes([STEP, STEPS.index(words[1]), 0])
+    if words[0] in ("check", "list", "convert", "depends"):
+        return bytes([ON_BYTES, edition, 255, 255]) + lent(words[-1])
     if words[0] in ("show", "print", "value"):
         return bytes([LOOK, small(words[2]) if words[2:] and words[2].isdigit() else 9, 1, 0])
     return b""

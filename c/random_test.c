@@ -391,8 +391,59 @@ static void page(void)
         geysertray_collection_page(AT64(HEAD), AT8(ENTRIES), collection, AT64(SET), count, AT8(OUT), room), GEYSERTRAY_PAGE_WIDTH, "collection_page");
 }
 
+static void on_set(void)
+{
+    const uint8_t *bytes = lend_set();
+    uint64_t edition = chance(30) ? set_edition : number();
+    size_t room;
+    switch (chance(3)) {
+    case 0:
+        room = lend_out(GEYSERTRAY_SET_BYTES, 1);
+        look_at_out(geysertray_convert(bytes, SET_COUNT, edition, AT8(OUT), room), 1, "convert");
+        break;
+    case 1:
+        room = lend_out(GEYSERTRAY_LISTING_BYTES, 1);
+        look_at_out(geysertray_set_listing(bytes, SET_COUNT, edition, AT8(OUT), room), 1, "set_listing");
+        break;
+    default:
+        room = lend_out(GEYSERTRAY_SET_BYTES, 1);
+        look_at_out(
+            geysertray_import_terms(
+                bytes, SET_COUNT, edition, number(), number(), number(), number(), chance(2), number(), number(), number(), number(), number(), AT8(OUT), room),
+            1, "import_terms");
+    }
+}
+
+/* Lines of a term list, some of another form. */
+static void import(void)
+{
+    static const char line[] = "12\tSuction valve\n";
+    size_t count = chance(140), i, room;
+    char list[140 * sizeof line];
+    for (i = 0; i < count; i++)
+        memcpy(list + i * (sizeof line - 1), line, sizeof line - 1), list[i * (sizeof line - 1)] = (char)(chance(400) ? '1' + chance(9) : chance(256));
+    lend(SET, list, count * (sizeof line - 1));
+    room = lend_out(GEYSERTRAY_SET_BYTES, 1);
+    look_at_out(
+        geysertray_import_terms(AT8(SET), count * (sizeof line - 1), 1 + chance(2), number(), 1, 1, 1, chance(2), number(), 0, 1, 1, 1, AT8(OUT), room), 1, "import");
+}
+
+static void check_set(void)
+{
+    const uint8_t *bytes = lend_set();
+    uint64_t edition = chance(30) ? set_edition : number();
+    size_t room = lend_out(8 * GEYSERTRAY_FINDING_NUMBERS, 8);
+    if (chance(2)) {
+        geysertray_checked told = geysertray_check(bytes, SET_COUNT, edition, AT64(OUT), room);
+        look_at_out((geysertray_count){told.disposition, told.number, 3 * told.written}, 8, "check");
+    } else {
+        geysertray_dependencies told = geysertray_depends(bytes, SET_COUNT, edition, AT64(OUT), room);
+        look_at_out((geysertray_count){told.disposition, told.number, 2 * (told.held + told.lacked)}, 8, "depends");
+    }
+}
+
 static void (*const calls[])(void) = {
-    step, batch, batch, batch, batch, batch, batch, create_refused, look_up, look_up, list_panel, print_collection, page,
+    step, batch, batch, batch, batch, batch, batch, create_refused, look_up, look_up, list_panel, print_collection, page, on_set, import, check_set,
 };
 
 int main(int count, char **words)

@@ -16,11 +16,12 @@ static geysertray_panel panel;
 static int has_session;
 static uint64_t edition = 1;
 /* the fields of a line */
-static uint64_t numbers[MOST_FIELDS];
+static uint64_t numbers[MOST_FIELDS], has_optional;
 static size_t number_count;
 static uint8_t set[LINE_BYTES / 2 + 1];
 static size_t set_count;
 static uint8_t out[LINE_BYTES];
+static uint64_t words[16384];
 
 static const char *const dispositions[] = {"applied", "no-change", "rejected"};
 static const char *const lifecycles[] = {"created", "active", "suspended", "closed"};
@@ -237,9 +238,69 @@ static void mark_entry(void)
     print_mark(value.found, value.mark);
 }
 
+/* ---- calls on bytes */
+
+static void check(void)
+{
+    geysertray_checked told = geysertray_check(set, set_count, edition, words, sizeof words / sizeof *words);
+    uint64_t i;
+    if (refused('K', told.disposition, told.number))
+        return;
+    if (told.in_patch)
+        printf("K\t0\t%" PRIu64 "\t%" PRIu64 "\n", told.patch, told.logical);
+    else
+        printf("K\t0\tset\t%" PRIu64 "\n", told.logical);
+    for (i = 0; i < told.written; i++)
+        printf("F\t%" PRIu64 "\t%" PRIu64 "\t%" PRIu64 "\n", words[3 * i], words[3 * i + 1], words[3 * i + 2]);
+}
+
+static void list(void)
+{
+    geysertray_count told = geysertray_set_listing(set, set_count, edition, out, sizeof out);
+    fwrite(out, 1, told.count, stdout);
+}
+
+/* A set that was made, behind the letter. */
+static void print_set(char letter, geysertray_count told)
+{
+    uint64_t i;
+    if (refused(letter, told.disposition, told.number))
+        return;
+    printf("%c\t0\t", letter);
+    for (i = 0; i < told.count; i++)
+        printf("%02x", out[i]);
+    putchar('\n');
+}
+
+static void convert(void)
+{
+    print_set('T', geysertray_convert(set, set_count, edition, out, numbers[0]));
+}
+
+static void import_terms(void)
+{
+    const uint64_t *n = numbers;
+    print_set('I', geysertray_import_terms(set, set_count, edition, n[1], n[2], n[3], n[4], has_optional, n[5], n[6], n[7], n[8], n[9], out, n[0]));
+}
+
+static void depends(void)
+{
+    geysertray_dependencies told = geysertray_depends(set, set_count, edition, words, numbers[0]);
+    uint64_t i;
+    if (refused('D', told.disposition, told.number))
+        return;
+    if (told.never) {
+        printf("D\t0\tnever\t%" PRIu64 "\t%" PRIu64 "\n", told.patch, told.operation);
+        return;
+    }
+    printf("D\t0\tneeds\t%" PRIu64 "\t%" PRIu64 "\n", told.held, told.lacked);
+    for (i = 0; i < told.held + told.lacked; i++)
+        printf("Q\t%" PRIu64 "\t%" PRIu64 "\n", words[2 * i], words[2 * i + 1]);
+}
+
 /* ---- one line */
 
-/* The form has a letter for each field: n a number, s a slot, h bytes in hex, e an edition, a a step; p and k are rooms;
+/* The form has a letter for each field: n a number, s a slot, o a number or none, h bytes in hex, e an edition, a a step; c, d, p and k are rooms;
    behind * stand up to 128 numbers. */
 static const struct command {
     const char *word, *form;
@@ -253,6 +314,8 @@ static const struct command {
     {"create", "", 0, create},
     {"apply", "an", 1, apply},
     {"batch", "nnnnnh", 1, batch},
+    {"check", "h", 0, check},
+    {"list", "h", 0, list},
     {"show", "", 1, show},
     {"value binding", "ns", 1, value_binding},
     {"value node", "n", 1, value_node},
@@ -261,9 +324,12 @@ static const struct command {
     {"mark node", "n", 1, mark_node},
     {"mark entry", "nn", 1, mark_entry},
     {"edition", "e", 0, in_edition},
+    {"convert", "ch", 0, convert},
+    {"depends", "dh", 0, depends},
     {"print", "np", 1, print},
     {"length", "n", 1, length},
     {"page", "nk*", 1, page},
+    {"import", "cnnnnonnnnh", 0, import_terms},
 };
 
 static int read_number(const char *field, size_t length, uint64_t last, uint64_t *number)
@@ -310,10 +376,13 @@ static int read_field(char form, const char *field, size_t length, uint64_t *num
 {
     switch (form) {
     case 'h': return read_hex(field, length);
+    case 'o': has_optional = length != 1 || *field != '-'; return !has_optional || read_number(field, length, UINT64_MAX, number);
     case 'k': return read_number(field, length, 128, number);
     case 'a': return read_step(field, length, number);
     case 'e': return read_number(field, length, 2, number) && *number > 0;
     case 's': return read_number(field, length, UINT32_MAX, number);
+    case 'c': return read_number(field, length, 32768, number);
+    case 'd': return read_number(field, length, 16384, number);
     case 'p': return read_number(field, length, 131072, number);
     default: return read_number(field, length, UINT64_MAX, number);
     }

@@ -267,6 +267,82 @@ private:
     int current_ = 0;
 };
 
+// ---- calls on bytes, which need no panel
+
+using key = std::pair<std::uint64_t, std::uint64_t>;
+
+struct finding {
+    std::uint64_t kind, domain, secondary;
+};
+
+// What was found, in the patch of that place, or in the set.
+struct findings {
+    std::optional<std::uint64_t> patch;
+    std::vector<finding> found;
+};
+
+// Never, with the patch and the operation that contradicts those before it; or the keys of collections that must be there, and that must be absent.
+struct dependencies {
+    std::optional<key> never;
+    std::vector<key> held, lacked;
+};
+
+// A patch without its operations.
+struct envelope {
+    std::uint64_t id, stream, document;
+    std::optional<std::uint64_t> surface;
+    std::uint64_t previous_revision, revision, epoch, sequence;
+};
+
+// What the patch checks find in a set.
+inline findings check(const bytes &set, std::uint64_t edition = 1)
+{
+    std::vector<std::uint64_t> out(GEYSERTRAY_FINDING_NUMBERS);
+    const auto told = detail::accepted(geysertray_check(detail::at(set), set.size(), edition, out.data(), out.size()));
+    findings all{told.in_patch ? std::make_optional(told.patch) : std::nullopt, {}};
+    for (std::size_t i = 0; i < told.written; i++)
+        all.found.push_back({out[3 * i], out[3 * i + 1], out[3 * i + 2]});
+    return all;
+}
+
+// What a panel must hold and lack for a set to apply.
+inline dependencies depends(const bytes &set, std::uint64_t edition = 1)
+{
+    std::vector<std::uint64_t> out(2 * GEYSERTRAY_DEPENDS_KEYS);
+    const auto told = detail::accepted(geysertray_depends(detail::at(set), set.size(), edition, out.data(), out.size()));
+    dependencies all;
+    if (told.never)
+        all.never = key(told.patch, told.operation);
+    for (std::size_t i = 0; i < told.held + told.lacked; i++)
+        (i < told.held ? all.held : all.lacked).emplace_back(out[2 * i], out[2 * i + 1]);
+    return all;
+}
+
+// A set of this edition in the other one.
+inline bytes convert(const bytes &set, std::uint64_t edition)
+{
+    return detail::written(
+        GEYSERTRAY_SET_BYTES, [&](std::uint8_t *out, std::size_t room) { return geysertray_convert(detail::at(set), set.size(), edition, out, room); });
+}
+
+// Lines of key, tab and text as a set with one patch of inserts.
+inline bytes import_terms(const bytes &terms, std::uint64_t collection, const envelope &patch, std::uint64_t edition = 1)
+{
+    return detail::written(GEYSERTRAY_SET_BYTES, [&](std::uint8_t *out, std::size_t room) {
+        return geysertray_import_terms(
+            detail::at(terms), terms.size(), edition, collection, patch.id, patch.stream, patch.document, patch.surface.has_value(), patch.surface.value_or(0),
+            patch.previous_revision, patch.revision, patch.epoch, patch.sequence, out, room);
+    });
+}
+
+// What a set makes of an empty panel, as panel::listing tells it; a refused set is one line of E and the number.
+inline std::string set_listing(const bytes &set, std::uint64_t edition = 1)
+{
+    return detail::text(detail::written(GEYSERTRAY_LISTING_BYTES, [&](std::uint8_t *out, std::size_t room) {
+        return geysertray_set_listing(detail::at(set), set.size(), edition, out, room);
+    }));
+}
+
 } // namespace geysertray
 
 #endif

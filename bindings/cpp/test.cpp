@@ -68,10 +68,29 @@ static void send(const geysertray::bytes &set)
     look_at(moved);
 }
 
+static void on_bytes(const geysertray::bytes &set)
+{
+    EXPECT(geysertray::set_listing(set) == listing);
+    EXPECT(geysertray::set_listing({}) == "E\t10\n");
+    EXPECT(geysertray::check(set).found.empty() && !geysertray::check(set).patch);
+    EXPECT(refusal([&] { geysertray::check({}); }) == GEYSERTRAY_MALFORMED);
+    EXPECT(geysertray::convert(geysertray::convert(set, 1), 2) == set);
+    EXPECT(geysertray::depends(set).held.empty() && geysertray::depends(set).lacked.size() == 2);
+    const geysertray::bytes terms{'7', '\t', 'O', 'k', '\n'};
+    EXPECT(geysertray::set_listing(geysertray::import_terms(terms, 9, {1, 1, 1, std::nullopt, 0, 1, 1, 1})) == "P\t1\nC\t9\t7\tT\tOk\n");
+    EXPECT(refusal([] { geysertray::import_terms({'7'}, 9, {1, 1, 1, 3, 0, 1, 1, 1}); }) == GEYSERTRAY_OTHER_FORM);
+    try {
+        geysertray::check(set, 3);
+        EXPECT(!"there is no third edition");
+    } catch (const std::invalid_argument &) {
+    }
+}
+
 int main()
 {
     const geysertray::bytes set{std::istreambuf_iterator<char>(std::cin), {}};
     send(set);
+    on_bytes(set);
     EXPECT(refusal([] { geysertray::panel(1, {0, 0, 0, 0}, std::vector<std::uint64_t>(129), {}, {}); }) == GEYSERTRAY_TOO_MANY_ANCHORS);
     std::printf(failures ? "%d failed\n" : "a panel in C++: ok\n", failures);
     return failures != 0;

@@ -20,8 +20,11 @@ LENGTH_BYTES = 2048
 TEXT_BYTES = 240
 PAGE_WIDTH = 262
 # room that holds every answer of its call: docs/RULES.md, number 14
+SET_BYTES = 32768
 LISTING_BYTES = 102150
 PRINT_BYTES = 46848
+DEPENDS_KEYS = 2520
+FINDING_NUMBERS = 945
 
 # what each number means, in the words of docs/RULES.md
 RULES = {
@@ -137,6 +140,46 @@ class PageEntry(NamedTuple):
     value: Value
 
 
+class Finding(NamedTuple):
+    kind: int
+    domain: int
+    secondary: int
+
+
+class Findings(NamedTuple):
+    """The patch that they belong to, from 0, or none for the set."""
+
+    patch: Optional[int]
+    found: list[Finding]
+
+
+class Never(NamedTuple):
+    """The first operation that contradicts those before it: the set applies to no panel."""
+
+    patch: int
+    operation: int
+
+
+class Needs(NamedTuple):
+    """Pairs of collection and key: those that must be there, and those that must be absent."""
+
+    held: list[tuple[int, int]]
+    lacked: list[tuple[int, int]]
+
+
+class Envelope(NamedTuple):
+    """A patch without its operations."""
+
+    id: int
+    stream: int
+    document: int
+    surface: Optional[int]
+    previous_revision: int
+    revision: int
+    epoch: int
+    sequence: int
+
+
 class Refused(Exception):
     """A call was refused, and nothing was changed. `answer` has the rest where a session refused it."""
 
@@ -177,6 +220,8 @@ _Answer = _numbers_struct("_Answer", "disposition", "number", "stage", "logical"
 _Lifecycle = _numbers_struct("_Lifecycle", "disposition", "number", "stage", "logical", "emitted", "lifecycle", "has_cursor", "cursor", "stimulus_bytes")
 _Count = _numbers_struct("_Count", "disposition", "number", "count")
 _Availability = _numbers_struct("_Availability", "disposition", "found", "mark", "availability")
+_Checked = _numbers_struct("_Checked", "disposition", "number", "in_patch", "patch", "logical", "written")
+_Dependencies = _numbers_struct("_Dependencies", "disposition", "number", "never", "patch", "operation", "held", "lacked")
 
 
 class _Value(ctypes.Structure):
@@ -214,6 +259,12 @@ _CALLS = {
     "page_row": (_PagePlace, _AT),
     "print_collection": (_Count, _AT, _AT, _U64, *_SLICE),
     "listing": (_Count, *[_AT] * 4, *_SLICE),
+    "check": (_Checked, *_SLICE, _U64, *_SLICE),
+    "import_terms": (_Count, *_SLICE, *[_U64] * 11, *_SLICE),
+    "depends": (_Dependencies, *_SLICE, _U64, *_SLICE),
+    "convert": (_Count, *_SLICE, _U64, *_SLICE),
+    "set_listing": (_Count, *_SLICE, _U64, *_SLICE),
+    "version": (ctypes.c_uint64,),
 }
 
 
@@ -373,3 +424,49 @@ class Panel:
         """Every record of the panel, one to a line."""
         half = self._half
         return _written("listing", half.head, half.bindings, half.availability, half.entries, room=room).decode("utf-8")
+
+
+# ---- calls on bytes, which need no panel
+
+def check(data: bytes, edition: int = 1) -> Findings:
+    """What the patch checks find in a set."""
+    out, places = _room(ctypes.c_uint64, FINDING_NUMBERS)
+    told = _call("check", *_lent(data), edition, out, places)
+    records = [Finding(*out[3 * at : 3 * at + 3]) for at in range(told.written)]
+    return Findings(told.patch if told.in_patch else None, records)
+
+
+def depends(data: bytes, edition: int = 1, room: int = 2 * DEPENDS_KEYS) -> Union[Needs, Never]:
+    """What a panel must hold and lack for a set to apply."""
+    out, places = _room(ctypes.c_uint64, room)
+    told = _call("depends", *_lent(data), edition, out, places)
+    if told.never:
+        return Never(told.patch, told.operation)
+    keys = [(out[2 * at], out[2 * at + 1]) for at in range(told.held + told.lacked)]
+    return Needs(keys[: told.held], keys[told.held :])
+
+
+def convert(data: bytes, edition: int, room: int = SET_BYTES) -> bytes:
+    """A set of this edition in the other one."""
+    return _written("convert", *_lent(data), edition, room=room)
+
+
+def import_terms(terms: bytes, collection: int, envelope: Envelope, edition: int = 1, room: int = SET_BYTES) -> bytes:
+    """Lines of key, tab and text as a set with one patch of inserts."""
+    id, stream, document, surface, *rest = envelope
+    surfaced = (0, 0) if surface is None else (1, surface)
+    return _written("import_terms", *_lent(terms), edition, collection, id, stream, document, *surfaced, *rest, room=room)
+
+
+def set_listing(data: bytes, edition: int = 1, room: int = LISTING_BYTES) -> str:
+    """What a set makes of an empty panel, as listing tells it."""
+    lines = _written("set_listing", *_lent(data), edition, room=room).decode("utf-8")
+    if lines.startswith("E\t"):
+        raise Refused(int(lines[2:]))
+    return lines
+
+
+def version() -> str:
+    """The library's version, as 1.0.0."""
+    number = _function("version")()
+    return "%d.%d.%d" % (number // 1000000, number // 1000 % 1000, number % 1000)

@@ -1,6 +1,8 @@
+import geysertray.Geysertray;
 import geysertray.Panel;
 import geysertray.Refused;
 import java.io.IOException;
+import java.nio.charset.StandardCharsets;
 import java.nio.file.Files;
 import java.nio.file.Path;
 import java.util.List;
@@ -57,6 +59,10 @@ final class Calls {
 
     public static void main(String[] arguments) throws IOException {
         send(Files.readAllBytes(Path.of("examples/panel.set")));
+        byte[] terms = "7\tOk\n".getBytes(StandardCharsets.US_ASCII);
+        byte[] made = Geysertray.importTerms(terms, 9, new Geysertray.Envelope(1, 1, 1, OptionalLong.empty(), 0, 1, 1, 1), 1, Geysertray.SET_BYTES);
+        expect("P\t1\nC\t9\t7\tT\tOk\n", Geysertray.setListing(made, 1));
+        expect("1.0.0", Geysertray.version());
         System.out.println(failures == 0 ? "a panel in Java: ok" : failures + " failed");
         System.exit(failures == 0 ? 0 : 1);
     }

@@ -1,3 +1,4 @@
+import geysertray.Geysertray;
 import geysertray.Panel;
 import geysertray.Refused;
 import java.math.BigInteger;
@@ -9,6 +10,7 @@ import java.util.List;
 import java.util.Locale;
 import java.util.Map;
 import java.util.Optional;
+import java.util.OptionalLong;
 import java.util.function.Function;
 import java.util.function.Supplier;
 
@@ -19,15 +21,15 @@ final class Replay implements AutoCloseable {
     private static final int PAGE_KEYS = 128;
     private static final List<String> STEPS = List.of("activate", "suspend", "resume", "close", "noop");
 
-    /** The form of a command's fields: n a number, s a slot, h bytes in hex, e an edition, a a step; p and k are rooms. */
+    /** The form of a command's fields: n a number, s a slot, o a number or none, h bytes in hex, e an edition, a a step; c, d, p and k are rooms. */
     private static final Map<String, String> FORMS = Map.ofEntries(
             Map.entry("session", "nnnnn"), Map.entry("node", "n"), Map.entry("binding", "ns"), Map.entry("collection", "n"), Map.entry("create", ""),
-            Map.entry("apply", "an"), Map.entry("batch", "nnnnnh"), Map.entry("show", ""),
+            Map.entry("apply", "an"), Map.entry("batch", "nnnnnh"), Map.entry("check", "h"), Map.entry("list", "h"), Map.entry("show", ""),
             Map.entry("value binding", "ns"), Map.entry("value node", "n"), Map.entry("value entry", "nn"), Map.entry("mark binding", "ns"),
-            Map.entry("mark node", "n"), Map.entry("mark entry", "nn"), Map.entry("edition", "e"),
-            Map.entry("print", "np"), Map.entry("length", "n"));
-    private static final Map<Character, Long> LAST = Map.of('n', -1L, 'k', 128L, 's', 0xffffffffL, 'p', 131072L);
-    private static final List<String> NOT_BOUND = List.of("check", "list", "convert", "depends", "import", "group", "senders", "wait", "turn");
+            Map.entry("mark node", "n"), Map.entry("mark entry", "nn"), Map.entry("edition", "e"), Map.entry("convert", "ch"), Map.entry("depends", "dh"),
+            Map.entry("print", "np"), Map.entry("length", "n"), Map.entry("import", "cnnnnonnnnh"));
+    private static final Map<Character, Long> LAST = Map.of('n', -1L, 'o', -1L, 'k', 128L, 's', 0xffffffffL, 'c', 32768L, 'd', 16384L, 'p', 131072L);
+    private static final List<String> NOT_BOUND = List.of("group", "senders", "wait", "turn");
     private static final List<String> NEED_A_SESSION = List.of("apply", "batch", "show", "value", "mark", "print", "length", "page");
 
     /** A line that is no command. */
@@ -47,6 +49,7 @@ final class Replay implements AutoCloseable {
     private final List<Long> collections = new ArrayList<>();
     private long edition = 1;
     private Panel panel;
+    private boolean hasOptional;
 
     /** The answers to a script, up to its end or its first bad line. */
     static byte[] replay(byte[] script) throws NotBound {
@@ -104,7 +107,11 @@ final class Replay implements AutoCloseable {
     }
 
     private Object value(char kind, String field) throws BadLine {
+        if (kind == 'o') {
+            hasOptional = !field.equals("-");
+        }
         return switch (kind) {
+            case 'o' -> hasOptional ? number(field, -1L) : 0L;
             case 'h' -> bytes(field);
             case 'a' -> place(STEPS, field);
             case 'e' -> place(List.of("1", "2"), field) + 1;
@@ -153,7 +160,18 @@ final class Replay implements AutoCloseable {
             case "apply" -> apply(numbers);
             case "batch" -> batch(numbers, set);
             case "edition" -> edition(numbers[0]);
+            case "check", "list", "convert", "depends", "import" -> onBytes(command, numbers, set);
             default -> look(command, numbers);
+        };
+    }
+
+    private String onBytes(String command, long[] numbers, byte[] set) {
+        return switch (command) {
+            case "check" -> told("K", () -> Geysertray.check(set, edition), Replay::findings);
+            case "list" -> told("E", () -> Geysertray.setListing(set, edition), it -> it);
+            case "convert" -> told("T", () -> Geysertray.convert(set, edition, (int) numbers[0]), it -> line("T", 0, HexFormat.of().formatHex(it)));
+            case "import" -> told("I", () -> bringIn(numbers, set), it -> line("I", 0, HexFormat.of().formatHex(it)));
+            default -> told("D", () -> Geysertray.depends(set, edition, (int) numbers[0]), Replay::dependencies);
         };
     }
 
@@ -170,6 +188,11 @@ final class Replay implements AutoCloseable {
             case "page" -> told("Y", () -> panel.page(numbers[0], Arrays.copyOfRange(numbers, 2, numbers.length), (int) numbers[1]), Replay::page);
             default -> panel.listing();
         };
+    }
+
+    private byte[] bringIn(long[] n, byte[] terms) {
+        OptionalLong surface = hasOptional ? OptionalLong.of(n[5]) : OptionalLong.empty();
+        return Geysertray.importTerms(terms, n[1], new Geysertray.Envelope(n[2], n[3], n[4], surface, n[6], n[7], n[8], n[9]), edition, (int) n[0]);
     }
 
     // ---- the session
@@ -279,5 +302,22 @@ final class Replay implements AutoCloseable {
             case UNSIGNED -> line("U", value.number());
             case SCORE -> line("M", value.number());
         };
+    }
+
+    private static String findings(Geysertray.Findings findings) {
+        Object place = findings.patch().isPresent() ? (Object) findings.patch().getAsLong() : "set";
+        StringBuilder out = new StringBuilder(line("K", 0, place, findings.found().size()));
+        findings.found().forEach(it -> out.append(line("F", it.kind(), it.domain(), it.secondary())));
+        return out.toString();
+    }
+
+    private static String dependencies(Geysertray.Dependencies told) {
+        if (told.never()) {
+            return line("D", 0, "never", told.patch(), told.operation());
+        }
+        StringBuilder out = new StringBuilder(line("D", 0, "needs", told.held().size(), told.lacked().size()));
+        told.held().forEach(it -> out.append(line("Q", it.collection(), it.key())));
+        told.lacked().forEach(it -> out.append(line("Q", it.collection(), it.key())));
+        return out.toString();
     }
 }

@@ -8,7 +8,7 @@ ROOT = Path(__file__).resolve().parent.parent.parent.parent
 sys.path.insert(0, str(ROOT / "bindings" / "python"))
 
 import geysertray
-from geysertray import Entry, Kind, Limits, PageEntry, Panel, Refused, Value
+from geysertray import Entry, Envelope, Kind, Limits, PageEntry, Panel, Refused, Value
 
 SET = (ROOT / "examples" / "panel.set").read_bytes()
 OK, MINUS_4 = Value(Kind.TEXT, "Ok", 1), Value(Kind.SIGNED, -4, 1)
@@ -50,6 +50,13 @@ class PanelTest(unittest.TestCase):
         for call in (lambda: self.panel.entry(2**64, 1), lambda: self.panel.entry(-1, 1), lambda: self.panel.binding(5, 2**32), lambda: panel(nodes=[2**64])):
             self.assertRaisesRegex(ValueError, "is no number from 0 to", call)
         self.assertRaises(Refused, lambda: panel(nodes=range(129)))
+
+    def test_terms(self):
+        made = geysertray.import_terms(b"7\tOk\n", 9, Envelope(1, 1, 1, None, 0, 1, 1, 1))
+        self.assertEqual(geysertray.set_listing(made), "P\t1\nC\t9\t7\tT\tOk\n")
+
+    def test_version(self):
+        self.assertEqual(geysertray.version(), "1.0.0")
 
 
 if __name__ == "__main__":

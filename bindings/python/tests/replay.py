@@ -6,7 +6,8 @@ from pathlib import Path
 
 sys.path.insert(0, str(Path(__file__).resolve().parent.parent))
 
-from geysertray import Command, Disposition, Kind, Lifecycle, Limits, Panel, Refused
+import geysertray
+from geysertray import Command, Disposition, Envelope, Kind, Lifecycle, Limits, Never, Panel, Refused
 
 LINE_BYTES = 131072
 KEPT_ANCHORS = 129
@@ -53,6 +54,10 @@ def one_of(words):
     return word
 
 
+def optional(field):
+    return None if field == "-" else NUMBER(field)
+
+
 NUMBER, SLOT, STEP, EDITION = up_to(2**64 - 1), up_to(2**32 - 1), one_of(STEPS), one_of({"1": 1, "2": 2})
 FIELDS = {
     "session": (NUMBER,) * 5,
@@ -62,6 +67,8 @@ FIELDS = {
     "create": (),
     "apply": (STEP, NUMBER),
     "batch": (NUMBER,) * 5 + (set_bytes,),
+    "check": (set_bytes,),
+    "list": (set_bytes,),
     "show": (),
     "value binding": (NUMBER, SLOT),
     "value node": (NUMBER,),
@@ -70,11 +77,14 @@ FIELDS = {
     "mark node": (NUMBER,),
     "mark entry": (NUMBER, NUMBER),
     "edition": (EDITION,),
+    "convert": (up_to(32768), set_bytes),
+    "depends": (up_to(16384), set_bytes),
     "print": (NUMBER, up_to(131072)),
     "length": (NUMBER,),
+    "import": (up_to(32768), *[NUMBER] * 4, optional, *[NUMBER] * 4, set_bytes),
 }
-METHODS = {"edition": "edition_"}
-NOT_BOUND = ("check", "list", "convert", "depends", "import", "group", "senders", "wait", "turn")
+METHODS = {"edition": "edition_", "import": "import_"}
+NOT_BOUND = ("group", "senders", "wait", "turn")
 NEED_A_SESSION = ("apply", "batch", "show", "value", "mark", "print", "length", "page")
 
 
@@ -207,11 +217,37 @@ class Replay:
 
         return told("Y", lambda: self.panel.page(collection, keys, room), lines)
 
-    # ---- the edition
+    # ---- calls on bytes
 
     def edition_(self, edition):
         self.edition = edition
         return ""
+
+    def check(self, data):
+        def lines(findings):
+            place = "set" if findings.patch is None else findings.patch
+            return line("K", 0, place, len(findings.found)) + "".join(line("F", *finding) for finding in findings.found)
+
+        return told("K", lambda: geysertray.check(data, self.edition), lines)
+
+    def list(self, data):
+        return told("E", lambda: geysertray.set_listing(data, self.edition), str)
+
+    def convert(self, room, data):
+        return told("T", lambda: geysertray.convert(data, self.edition, room), lambda made: line("T", 0, made.hex()))
+
+    def depends(self, room, data):
+        def lines(answer):
+            if isinstance(answer, Never):
+                return line("D", 0, "never", *answer)
+            return line("D", 0, "needs", *map(len, answer)) + "".join(line("Q", *key) for key in answer.held + answer.lacked)
+
+        return told("D", lambda: geysertray.depends(data, self.edition, room), lines)
+
+    def import_(self, room, collection, *fields):
+        *envelope, terms = fields
+        made = lambda: geysertray.import_terms(terms, collection, Envelope(*envelope), self.edition, room)
+        return told("I", made, lambda data: line("I", 0, data.hex()))
 
     # ---- one line
 
