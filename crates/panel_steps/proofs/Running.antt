@@ -1,10 +1,14 @@
 -- A run over a set, one step at a time: what is left, from the projection that the plan stands for now, gives what the whole gives.
 use Prim.Native.Nat.{ℕ, _+_, _≤_, _<_}
+use mathlib.Core.Logic.{_≢_, inl, inr}
+use mathlib.Core.Bool.{false}
 use mathlib.Core.Path.{_≡_, refl, sym, ap, ap₂, _∙_, subst}
-use mathlib.Core.List.{List, [], _++_, map, flatMap}
+use mathlib.Core.List.{List, [], _∷_, _++_, map, flatMap}
 use mathlib.Core.Option.{none, some}
 use native.Mathlib.Omega.{arith}
-use lib.ListN.{drop}
+use denote.Enum.Declared.{tagOf}
+use types.Run.{OneOf}
+use lib.ListN.{length, drop}
 use Rattle.spec_lists.specs.Lists.{All}
 use Rattle.spec_lists.specs.BytesLaws.{length-littleEndian}
 use Rattle.spec_patch.specs.Sizes.{projectionEntries}
@@ -20,8 +24,8 @@ use Rattle.projection_patch.specs.ReadAnswers.{lentFrom}
 use Rattle.projection_patch.specs.declared.patch.ProjectionPatch.{ProjectionPatch}
 use Rattle.projection_patch.specs.declared.patch.ProjectionPatchOperation.{ProjectionPatchOperation}
 use Rattle.projection_patch.specs.declared.patch.ProjectionPatchOperation.the-variants.{SetBindingValue, SetNodeAvailability, CollectionInsert, CollectionUpdate, CollectionRemove, CollectionMove}
-use Rattle.patch_walk.specs.Steps.{StepWithin, AtSteps}
-use Rattle.patch_walk.specs.StepsLaws.{Visited, Opened}
+use Rattle.patch_walk.specs.Steps.{stepAnswer, StepWithin, AtSteps}
+use Rattle.patch_walk.specs.StepsLaws.{Visited, Opened, visited, opened, done as all-done, never-refused}
 use Rattle.patch_walk.specs.declared.SetCursor.{SetCursor}
 use Rattle.patch_walk.specs.declared.SetStep.{SetStep}
 use Rattle.patch_walk.specs.declared.SetStep.the-variants as set-step
@@ -40,7 +44,10 @@ use Rattle.panel_operations.specs.OperationChange.{plannedOperation, OperationB
 use Rattle.panel_operations.specs.OperationLaws.{planned-is}
 use Rattle.panel_operations.specs.declared.OperationChange.{OperationChange}
 use Rattle.panel_operations.specs.declared.OperationChange.the-variants as operation
-use Rattle.panel_steps.specs.Runs.{RunBecame, PlannedAs}
+use Rattle.patch_walk.proofs.SetStep as set-steps
+use Rattle.panel_steps.specs.Runs.{headOf, RunBecame, PlannedAs}
+use Rattle.panel_steps.specs.declared.HeadStep.the-variants as head-step
+use Rattle.panel_steps.specs.declared.PlanRun.{PlanRun}
 use Rattle.panel_steps.specs.declared.PlanRun.the-variants.{Planned, Refused}
 
 -- the bytes before a value are as many, whatever the value
@@ -70,6 +77,20 @@ operation-within c size x d is h = subst (StepWithin c size) is h
 
 pub head-within : (c : SetCursor) (size : ℕ) {r : SetStep} (x : ProjectionPatch) (d : SetCursor) → r ≡ set-step.Head x d → StepWithin c size r → (c .at < d .at) × (d .at ≤ size)
 head-within c size x d is h = subst (StepWithin c size) is h
+
+-- a step that was told as a head
+pub record HeadAt (s : SetStep) (d : SetCursor) : Type 0 where
+  pub head : ProjectionPatch
+  pub is : s ≡ set-step.Head head d
+
+pub opened-step : (n : ProjectionCounts) (s : SetStep) (d : SetCursor) → head-step.Opened d ≡ headOf n s → HeadAt s d
+opened-step n (set-step.Head h x) d e = let same : x ≡ d = cc in record { head = h; is = ap (set-step.Head h) same }
+opened-step n (set-step.Operation x f) d e = absurd (let z : _≡_ {A = ℕ} 0 1 = cc in omega arith)
+opened-step n set-step.End d e = absurd (let z : _≡_ {A = ℕ} 0 1 = cc in omega arith)
+opened-step n (set-step.Refused f) d e = absurd (let z : _≡_ {A = ℕ} 0 1 = cc in omega arith)
+
+pub opened-within : (c : SetCursor) (size : ℕ) (n : ProjectionCounts) (s : SetStep) (d : SetCursor) → head-step.Opened d ≡ headOf n s → StepWithin c size s → (c .at < d .at) × (d .at ≤ size)
+opened-within c size n s d e h = let x = opened-step n s d e in head-within c size (x .head) d (x .is) h
 
 -- ---- a run
 
@@ -128,6 +149,29 @@ module _ {ed : Edition} {p : Projection} {set : List ℕ} where
           ap (λ (id : ℕ). applySteps (run .model) (map (stepOf id) (o .first .operations) ++ replaySteps (o .rest))) (ap (λ (e : SetCursor). e .«patch_id») (o .behind) ∙ ap (λ (x : ProjectionPatch). x .envelope .«patch_id» .0) (o .placed))
           ∙ ap₂ (λ (os : List Operation) (ps : List Patch). applySteps (run .model) (map (stepOf (c .«patch_id»)) os ++ replaySteps ps)) (sym (o .none)) (sym (o .is)) ∙ run .same;
     }
+
+    -- the same of the step that was told
+    pub run-opened : {d : SetCursor} → head-step.Opened d ≡ headOf n (stepAnswer false ed c set) → Running ed p set d n b a e whole
+    run-opened {d} e = let x = opened-step n (stepAnswer false ed c set) d e in run-head (opened false ed set c (run .here) refl (x .head) d (x .is))
+
+    -- where no operation is left the run ends at the end alone
+    pub run-ended : c .«operations_left» ≡ 0 → {r : PlanRun} → head-step.Ended r ≡ headOf n (stepAnswer false ed c set) → RunBecame (PlannedAs ed p set b a e) r whole
+    run-ended all-passed {r} told = go (stepAnswer false ed c set) refl told
+      where
+        go : (s : SetStep) → s ≡ stepAnswer false ed c set → head-step.Ended r ≡ headOf n s → RunBecame (PlannedAs ed p set b a e) r whole
+        go (set-step.Head h d) is t = absurd (let z : _≡_ {A = ℕ} 0 1 = cc in omega arith)
+        go (set-step.Operation x d) is t = let v = visited false ed set c (run .here) is x d refl in absurd (omega (arith, all-passed, run .here .operations, ap length (v .is)))
+        go set-step.End is t = let same : Planned n ≡ r = cc in subst (λ y. RunBecame (PlannedAs ed p set b a e) y whole) same (run-end (all-done false ed set c (run .here) is refl))
+        go (set-step.Refused f) is t = absurd (never-refused false ed set c (run .here) is f refl)
+
+    -- and where some are left an operation stands there
+    pub some-operation : c .«operations_left» ≢ 0 → (s : SetStep) → s ≡ stepAnswer false ed c set → OneOf (0 ∷ 2 ∷ 3 ∷ []) (tagOf set-steps.the-type s) → ⊥
+    some-operation left (set-step.Head h d) is k = left (sym (run .here .operations) ∙ ap length (opened false ed set c (run .here) is h d refl .none))
+    some-operation left (set-step.Operation x d) is (inl e) = absurd (omega arith)
+    some-operation left (set-step.Operation x d) is (inr (inl e)) = absurd (omega arith)
+    some-operation left (set-step.Operation x d) is (inr (inr e)) = absurd (omega arith)
+    some-operation left set-step.End is k = left (sym (run .here .operations) ∙ ap length (all-done false ed set c (run .here) is refl .0))
+    some-operation left (set-step.Refused f) is k = never-refused false ed set c (run .here) is f refl
 
     -- ---- an operation
 

@@ -12,6 +12,11 @@ use Rattle.panel_plan.specs.PlanRows.{StoredPlan}
 use Rattle.panel_plan.specs.SetValues.{valueIn}
 use Rattle.panel_plan.specs.Sources.{SourcedPlan}
 use Rattle.panel_bindings.specs.Change.{faultOf}
+use Rattle.projection_patch.specs.declared.read_values.ProjectionPatchReadFault.the-variants.{Malformed}
+use Rattle.patch_walk.specs.declared.SetStep.{SetStep}
+use Rattle.patch_walk.specs.declared.SetStep.the-variants as set-step
+use Rattle.panel_steps.specs.declared.HeadStep.{HeadStep}
+use Rattle.panel_steps.specs.declared.HeadStep.the-variants as head-step
 use Rattle.panel_steps.specs.declared.PlanRun.{PlanRun}
 use Rattle.panel_steps.specs.declared.PlanRun.the-variants.{Planned, Refused, Unreadable}
 
@@ -22,6 +27,13 @@ RunBecame Next (Planned n) (stopped f) = ⊥
 RunBecame Next (Refused e) (done q) = ⊥
 RunBecame Next (Refused e) (stopped f) = faultOf e ≡ f
 RunBecame Next (Unreadable f) x = ⊥
+
+-- what a step is to a walk that expects a patch's head or the end, with so many rows held
+abbrev pub headOf : ProjectionCounts → SetStep → HeadStep
+headOf held (set-step.Head h d) = head-step.Opened d
+headOf held (set-step.Operation x d) = head-step.Ended (Unreadable Malformed)
+headOf held set-step.End = head-step.Ended (Planned held)
+headOf held (set-step.Refused f) = head-step.Ended (Unreadable f)
 
 -- tables that store a plan of the projection x, for a batch on p: its sources stand for values, and resolving them gives x
 pub record PlannedAs (ed : Edition) (p : Projection) (set b a e : List ℕ) (n : ProjectionCounts) (x : Projection) : Type 0 where

@@ -2,6 +2,7 @@
 // the id of its patch.
 // After crates/prom-ui/src/local_projection_state.rs.
 ghost use mathlib.Core.Path.{_≡_};
+ghost use mathlib.Core.Bool.{false};
 ghost use mathlib.Core.List.{List, []};
 ghost use Prim.Native.Nat.{_≤_};
 ghost use lib.ListN.{length};
@@ -11,11 +12,11 @@ ghost use Rattle.spec_projection.specs.Projection.{Projection};
 ghost use Rattle.spec_projection.specs.Apply.{replaySteps, applySteps};
 ghost use Rattle.spec_projection.specs.Valid.{Valid};
 ghost use Rattle.projection_patch.specs.Meaning.{editionOf, operationOf};
-ghost use Rattle.patch_walk.specs.Steps.{AtSteps};
+ghost use Rattle.patch_walk.specs.Steps.{stepAnswer, StepWithin, AtSteps};
 ghost use Rattle.panel_plan.specs.Plan.{planOf};
 ghost use Rattle.panel_plan.specs.PlanRows.{StoredPlan};
 ghost use Rattle.panel_plan.specs.SetValues.{valueOffset};
-ghost use Rattle.panel_steps.specs.Runs.{RunBecame, PlannedAs};
+ghost use Rattle.panel_steps.specs.Runs.{headOf, RunBecame, PlannedAs};
 use local_projection_state::LocalProjectionState;
 use local_projection_state::ProjectionCounts;
 use panel_bindings::LocalProjectionApplicationError;
@@ -51,6 +52,32 @@ fn value_offset(operation: ProjectionPatchOperation) -> usize
     }
 }
 
+// What stands at a cursor whose patch has no operations left: the next patch's head, with the cursor behind it, or the end of the run.
+enum HeadStep {
+    Opened(SetCursor),
+    Ended(PlanRun),
+}
+
+// Heads are read by themselves: an operation is then taken from where it was read, and not copied into a step that may be either.
+fn next_head(
+    set: &[u8],
+    cursor: SetCursor,
+    held: ProjectionCounts,
+    edition: ProjectionPatchEdition,
+) -> HeadStep
+    ensures is { λ r. ⌜ r ≡ headOf held (stepAnswer false (editionOf edition) cursor (now (set .entry))) ⌝ }
+    ensures within { λ r. ⌜ StepWithin cursor (length (now (set .entry))) (stepAnswer false (editionOf edition) cursor (now (set .entry))) ⌝ }
+{
+    match patch_walk::next_step(set, cursor, false, edition) {
+        SetStep::Head(_, next) => HeadStep::Opened(next),
+        SetStep::Operation(_, _) => {
+            HeadStep::Ended(PlanRun::Unreadable(ProjectionPatchReadFault::Malformed))
+        }
+        SetStep::End => HeadStep::Ended(PlanRun::Planned(held)),
+        SetStep::Refused(fault) => HeadStep::Ended(PlanRun::Unreadable(fault)),
+    }
+}
+
 // Plans the operations from a cursor on, on the plan that a batch starts from.
 pub fn plan_steps(
     bindings: &mut [u8],
@@ -69,36 +96,38 @@ pub fn plan_steps(
     let mut held = counts;
     let mut cursor = from;
     loop {
-        match patch_walk::next_step(set, cursor, false, edition) {
-            SetStep::Head(_, next) => {
-                cursor = next;
-            }
-            SetStep::Operation(operation, next) => {
-                let at = cursor.at + value_offset(operation);
-                let source = (LocalProjectionState::ENTRIES + at) as u64;
-                match panel_operations::apply_operation(
-                    bindings,
-                    availability,
-                    entries,
-                    held,
-                    cursor.patch_id,
-                    operation,
-                    source,
-                ) {
-                    OperationChange::Applied(n) => {
-                        held = n;
-                        cursor = next;
-                    }
-                    OperationChange::Refused(error) => {
-                        return PlanRun::Refused(error);
-                    }
+        if cursor.operations_left == 0 {
+            match next_head(set, cursor, held, edition) {
+                HeadStep::Opened(next) => {
+                    cursor = next;
+                }
+                HeadStep::Ended(run) => {
+                    return run;
                 }
             }
-            SetStep::End => {
-                return PlanRun::Planned(held);
-            }
-            SetStep::Refused(fault) => {
-                return PlanRun::Unreadable(fault);
+        } else {
+            let step = patch_walk::next_step(set, cursor, false, edition);
+            let SetStep::Operation(operation, next) = step else {
+                return PlanRun::Unreadable(ProjectionPatchReadFault::Malformed);
+            };
+            let at = cursor.at + value_offset(operation);
+            let source = (LocalProjectionState::ENTRIES + at) as u64;
+            match panel_operations::apply_operation(
+                bindings,
+                availability,
+                entries,
+                held,
+                cursor.patch_id,
+                operation,
+                source,
+            ) {
+                OperationChange::Applied(n) => {
+                    held = n;
+                    cursor = next;
+                }
+                OperationChange::Refused(error) => {
+                    return PlanRun::Refused(error);
+                }
             }
         }
     }

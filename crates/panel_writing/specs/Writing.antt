@@ -1,5 +1,5 @@
 -- The bytes that a plan's rows are written as, from any bytes of the plan, of the table before the batch and of the set.
-use Prim.Native.Nat.{ℕ, zero, suc, _+_, _-_, _*_, max}
+use Prim.Native.Nat.{ℕ, zero, suc, _+_, _-_, _*_, _≤_, _<_, max}
 use mathlib.Core.Path.{_≡_}
 use mathlib.Core.Bool.{Bool, false, _&&_}
 use mathlib.Core.List.{List, [], _∷_, _++_}
@@ -11,7 +11,7 @@ use Rattle.spec_patch.specs.Patch.{Value}
 use Rattle.spec_patch.specs.Edition.{Edition}
 use Rattle.spec_patch.specs.Reader.{Result, read, refused}
 use Rattle.spec_patch.specs.Read.{readValueBy}
-use Rattle.bytes_records.specs.Moves.{zeros}
+use Rattle.bytes_records.specs.Moves.{zeros, overwrite}
 use Rattle.bytes_records.specs.Table.{tableBytes}
 use Rattle.panel_rows.specs.Rows.{valueWidth, fieldAt, writtenRow}
 use Rattle.panel_plan.specs.PlanRows.{sourceWidth}
@@ -29,13 +29,19 @@ bytesRead set at (refused fault) = []
 unfoldable pub valueBytes : Edition → List ℕ → ℕ → List ℕ
 valueBytes ed set at = bytesRead set at (readValueBy false ed (drop at set))
 
--- the bytes that a source stands for: those behind the mark of a row of the table before the batch, or those of a value of the set
-unfoldable pub sourceBytes : Edition → (key : ℕ) (from set : List ℕ) → ℕ → List ℕ
-sourceBytes ed key from set n = if ltb n projectionEntries then drop key (rowAt (key + valueWidth) n from) else valueBytes ed set (n - projectionEntries)
+-- what becomes of a row of the new table by its source, or of some rows by the source of the first: rows of the table before the batch from
+-- that one on, as they are; or the ids and the mark, and a value of the set
+unfoldable pub sourceRow : Edition → (key : ℕ) (front from set : List ℕ) → ℕ → List ℕ → List ℕ
+sourceRow ed key front from set n old =
+    if ltb n projectionEntries then overwrite (take (length old) (drop (n * (key + valueWidth)) from)) old else writtenRow front (valueBytes ed set (n - projectionEntries)) old
 
--- what becomes of a row of the new table
+-- the same by the plan's row
 unfoldable pub plannedRow : Edition → (key : ℕ) (row from set old : List ℕ) → List ℕ
-plannedRow ed key row from set old = writtenRow (take key row) (sourceBytes ed key from set (fieldAt key sourceWidth row)) old
+plannedRow ed key row from set old = sourceRow ed key (take key row) from set (fieldAt key sourceWidth row) old
+
+-- n rows of a plan, from the i-th on, that one copy writes: their sources follow each other in the table before the batch
+abbrev pub Run : (key : ℕ) (plan : List ℕ) (i source n : ℕ) → Type 0
+Run key plan i source n = (k : ℕ) → 1 ≤ k → k < n → (fieldAt key sourceWidth (rowAt (key + sourceWidth) (i + k) plan) ≡ source + k) × (source + k < projectionEntries)
 
 -- row i of the new table
 unfoldable pub newRow : Edition → (key : ℕ) (plan from set to : List ℕ) → ℕ → List ℕ

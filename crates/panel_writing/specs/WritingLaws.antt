@@ -3,12 +3,12 @@ use Prim.Native.Nat.{ℕ, zero, suc, _+_, _-_, _*_, _≤_, _<_, max}
 use mathlib.Core.Path.{_≡_, refl, sym, ap, ap₂, _∙_, subst}
 use mathlib.Core.Logic.{_≢_}
 use mathlib.Core.Bool.{true, false}
-use mathlib.Core.List.{List, [], _∷_, _++_, map, flatten, append-assoc}
+use mathlib.Core.List.{List, [], _∷_, _++_, map, flatten, append-nil, append-assoc}
 use native.Mathlib.Nat.{mul-le-mul-right, suc-mul, le-max-left, le-max-right, max-le}
 use native.Mathlib.Omega.{arith}
 use borrow.Author.Tests.{lt-ltb, le-ltb, le-leb, lt-leb, eq-eqb, ne-eqb, eqb-true, leb-true}
 use lib.Dec.{leb}
-use lib.ListN.{length, take, drop, getD, length-append, length-drop, length-map, take-append-drop}
+use lib.ListN.{length, take, drop, getD, length-append, length-drop, length-map, take-append-drop, drop-of-length-le}
 use lib.Seq.{take-at, drop-at, drop-drop, take-suc, take-all, length-take-le}
 use Rattle.spec_lists.specs.Lists.{All}
 use Rattle.spec_lists.specs.ListLaws.{and-left, and-right, all-map}
@@ -21,12 +21,12 @@ use Rattle.spec_patch.specs.Fits.{U64, Storable, StorableBy, FitsValue}
 use Rattle.spec_patch.specs.Read.{readValueBy, readValue}
 use Rattle.spec_patch.specs.ReadLaws.{value-codec, value-codec-by, value-any}
 use Rattle.spec_projection.specs.MapLaws.{all-image}
-use Rattle.bytes_records.specs.Moves.{zeros}
+use Rattle.bytes_records.specs.Moves.{zeros, overwrite}
 use Rattle.bytes_records.specs.MovesLaws.{drop-zeros}
 use Rattle.bytes_records.specs.Table.{Wide, tableBytes}
 use Rattle.bytes_records.specs.TableLaws.{row-at, length-flatten, zeros-split}
 use Rattle.panel_rows.specs.Rows.{valueWidth, padded, fieldAt, writtenRow}
-use Rattle.panel_rows.specs.RowsLaws.{written-encoded, written-padded}
+use Rattle.panel_rows.specs.RowsLaws.{length-padded, written-encoded}
 use Rattle.local_projection_state.specs.Stores.{Stored}
 use Rattle.local_projection_state.specs.StoresLaws.{stored}
 use Rattle.panel_plan.specs.Plan.{old, new, valueFrom}
@@ -34,7 +34,7 @@ use Rattle.panel_plan.specs.PlanLaws.{old-value, new-value}
 use Rattle.panel_plan.specs.PlanRows.{sourceNumber, sourceWidth}
 use Rattle.panel_plan.specs.SetValues.{valueRead, valueIn}
 use Rattle.panel_plan.specs.Sources.{Sourced, from-row, from-set}
-use Rattle.panel_writing.specs.Writing.{rowAt, bytesRead, valueBytes, sourceBytes, plannedRow, newRow, rowsTo, canWrite, usedBytes, writtenTable, ClearBehind}
+use Rattle.panel_writing.specs.Writing.{rowAt, bytesRead, valueBytes, sourceRow, plannedRow, newRow, rowsTo, canWrite, usedBytes, writtenTable, ClearBehind}
 
 -- ---- whether a table is written
 
@@ -92,14 +92,17 @@ clear-behind-more used count width to room clear =
 
 -- ---- a source
 
-module _ (ed : Edition) (key : ℕ) (from set : List ℕ) (n : ℕ) where
-  pub source-old : n < projectionEntries → sourceBytes ed key from set n ≡ drop key (rowAt (key + valueWidth) n from)
-  unfolding sourceBytes
+module _ (ed : Edition) (key : ℕ) (front from set : List ℕ) (n : ℕ) (old : List ℕ) where
+  pub source-old : n < projectionEntries → sourceRow ed key front from set n old ≡ overwrite (take (length old) (drop (n * (key + valueWidth)) from)) old
+  unfolding sourceRow
   source-old h = rw (lt-ltb n projectionEntries h)
 
-  pub source-new : projectionEntries ≤ n → sourceBytes ed key from set n ≡ valueBytes ed set (n - projectionEntries)
-  unfolding sourceBytes
+  pub source-new : projectionEntries ≤ n → sourceRow ed key front from set n old ≡ writtenRow front (valueBytes ed set (n - projectionEntries)) old
+  unfolding sourceRow
   source-new h = rw (le-ltb n projectionEntries h)
+
+overwrite-all : (s t : List ℕ) → length s ≡ length t → overwrite s t ≡ s
+overwrite-all s t e = ap (λ (l : List ℕ). s ++ l) (drop-of-length-le t {i = length s} (omega arith)) ∙ append-nil s
 
 value-long : (v : Value) → 1 ≤ length (encodeValue v)
 unfolding encodeValue
@@ -148,14 +151,10 @@ rows-to f l same (suc n) h = ap₂ (λ (a : List (List ℕ)) (b : List ℕ). a +
 
 module _ {A : Type 0} (ids : A → List ℕ) (value : A → Value) (planRow row : A → List ℕ) (key : ℕ) (long : (a : A) → length (ids a) ≡ key)
     (plan-is : (a : A) → planRow a ≡ ids a ++ u64 (sourceNumber (value a))) (row-is : (a : A) → row a ≡ ids a ++ padded (value a)) where
-  row-behind : (a : A) → drop key (row a) ≡ padded (value a)
-  row-behind a = ap (drop key) (row-is a) ∙ drop-at (ids a) (padded (value a)) key (long a)
-
-  -- a source that is a row of the table before the batch stands for what is behind its mark
-  value-of-row : (l : List A) (i : ℕ) → i < length l → padded (getD (map value l) i (quad N)) ≡ drop key (getD (map row l) i [])
-  value-of-row [] i h = absurd (omega arith)
-  value-of-row (a ∷ l) zero h = sym (row-behind a)
-  value-of-row (a ∷ l) (suc i) h = value-of-row l i (omega arith)
+  row-of : (l : List A) (i : ℕ) → i < length l → getD (map row l) i [] ≡ getD (map ids l) i [] ++ padded (getD (map value l) i (quad N))
+  row-of [] i h = absurd (omega arith)
+  row-of (a ∷ l) zero h = row-is a
+  row-of (a ∷ l) (suc i) h = row-of l i (omega arith)
 
   stored-value : (l : List A) → All (λ a. Storable (value a)) l → (i : ℕ) → i < length l → Storable (getD (map value l) i (quad N))
   stored-value [] h i below = absurd (omega arith)
@@ -187,42 +186,47 @@ module _ {A : Type 0} (ids : A → List ℕ) (value : A → Value) (planRow row 
     abbrev meaning : Value → Value
     meaning = valueFrom (map value l) (valueIn ed set)
 
-    meaning-storable : (x : Value) → Sourced ed (length l) set x → Storable (meaning x)
-    meaning-storable _ (from-row i h) = subst Storable (sym (old-value (map value l) (valueIn ed set) i (omega arith))) (stored-value l storable i h)
-    meaning-storable _ (from-set at v rest fits e) = subst Storable (sym (new-value (map value l) (valueIn ed set) at ∙ set-value ed set at v rest fits e)) (fits .storable)
+    meaning-storable : (front : List ℕ) (x : Value) → Sourced ed (map ids l) set front x → Storable (meaning x)
+    meaning-storable _ _ (from-row i h) =
+        let below : i < length l = omega (arith, length-map l ids) in
+        subst Storable (sym (old-value (map value l) (valueIn ed set) i (omega arith))) (stored-value l storable i below)
+    meaning-storable _ _ (from-set front at v rest fits e) = subst Storable (sym (new-value (map value l) (valueIn ed set) at ∙ set-value ed set at v rest fits e)) (fits .storable)
 
-    source-written : (x : Value) → Sourced ed (length l) set x → (front old : List ℕ) → length front + valueWidth ≡ length old
-        → writtenRow front (sourceBytes ed key from set (sourceNumber x)) old ≡ front ++ padded (meaning x)
+    source-written : (front : List ℕ) (x : Value) → Sourced ed (map ids l) set front x → (to : List ℕ) → length front ≡ key → length to ≡ key + valueWidth
+        → sourceRow ed key front from set (sourceNumber x) to ≡ front ++ padded (meaning x)
     unfolding old new
-    source-written _ (from-row i h) front to room =
-        let below : i < n = omega (arith, s .rows .counted, length-map l row) in
-        let bytes : sourceBytes ed key from set i ≡ padded (meaning (old i)) =
-        source-old ed key from set i (omega arith) ∙ ap (drop key) (row-at (s .rows) i below) ∙ sym (ap padded (old-value (map value l) (valueIn ed set) i (omega arith)) ∙ value-of-row l i h) in
-        ap (λ (bs : List ℕ). writtenRow front bs to) bytes ∙ written-padded front to room (meaning (old i)) (meaning-storable (old i) (from-row i h))
-    source-written _ (from-set at v rest fits e) front to room =
+    source-written front _ (from-row i h) to size room =
+        let below : i < length l = omega (arith, length-map l ids) in
+        let counted : i < n = omega (arith, s .rows .counted, length-map l row) in
+        let w = key + valueWidth in
+        let v = getD (map value l) i (quad N) in
+        let long : length (front ++ padded v) ≡ length to = length-append front (padded v) ∙ omega (arith, length-padded v (stored-value l storable i below)) in
+        source-old ed key front from set i to (omega arith) ∙ ap (λ (k : ℕ). overwrite (take k (drop (i * w) from)) to) room
+        ∙ ap (λ (r : List ℕ). overwrite r to) (row-at (s .rows) i counted ∙ row-of l i below) ∙ overwrite-all (front ++ padded v) to long
+        ∙ ap (λ (y : Value). front ++ padded y) (sym (old-value (map value l) (valueIn ed set) i (omega arith)))
+    source-written _ _ (from-set front at v rest fits e) to size room =
         let there : projectionEntries + at - projectionEntries ≡ at = omega arith in
-        let bytes : sourceBytes ed key from set (projectionEntries + at) ≡ encodeValue v =
-        source-new ed key from set (projectionEntries + at) (omega arith) ∙ ap (valueBytes ed set) there ∙ set-bytes ed set at v rest fits e in
-        ap (λ (bs : List ℕ). writtenRow front bs to) bytes ∙ written-encoded front to room v (fits .storable)
+        source-new ed key front from set (projectionEntries + at) to (omega arith) ∙ ap (λ (bs : List ℕ). writtenRow front bs to) (ap (valueBytes ed set) there ∙ set-bytes ed set at v rest fits e)
+        ∙ written-encoded front to (omega arith) v (fits .storable)
         ∙ ap (λ (w : Value). front ++ padded w) (sym (new-value (map value l) (valueIn ed set) at ∙ set-value ed set at v rest fits e))
 
     module _ (resolve : A → A) (same-ids : (a : A) → ids (resolve a) ≡ ids a) (same-value : (a : A) → value (resolve a) ≡ meaning (value a))
         (m : List A) {places count : ℕ} {plan : List ℕ} (t : Stored planRow (key + sourceWidth) places count plan m)
-        (sourced : All (λ a. U64 (sourceNumber (value a)) × Sourced ed (length l) set (value a)) m) (to : List ℕ) (room : count * (key + valueWidth) ≤ length to) where
+        (sourced : All (λ a. U64 (sourceNumber (value a)) × Sourced ed (map ids l) set (ids a) (value a)) m) (to : List ℕ) (room : count * (key + valueWidth) ≤ length to) where
       row-resolved : (i : ℕ) → i < length (map row (map resolve m)) → newRow ed key plan from set to i ≡ getD (map row (map resolve m)) i []
       unfolding newRow plannedRow
       row-resolved i h =
           let below : i < length m = omega (arith, length-map (map resolve m) row, length-map m resolve) in
           let counted : i < count = omega (arith, t .rows .counted, length-map m planRow) in
-          let x = planned-at (λ a. U64 (sourceNumber (value a)) × Sourced ed (length l) set (value a)) resolve m i below sourced in
+          let x = planned-at (λ a. U64 (sourceNumber (value a)) × Sourced ed (map ids l) set (ids a) (value a)) resolve m i below sourced in
           let a = x .element in
           let w = key + valueWidth in
           let inside : i * w + w ≤ length to = omega (arith, rw suc-mul at (mul-le-mul-right w counted)) in
           let old = rowAt w i to in
           let wide : length old ≡ w = length-take-le w (drop (i * w) to) (omega (arith, length-drop (i * w) to)) in
           ap (λ (r : List ℕ). plannedRow ed key r from set old) (row-at (t .rows) i counted ∙ x .planned ∙ plan-is a)
-          ∙ ap₂ (λ (front : List ℕ) (number : ℕ). writtenRow front (sourceBytes ed key from set number) old) (take-at (ids a) (u64 (sourceNumber (value a))) key (long a)) (source-field a (x .has .0))
-          ∙ source-written (value a) (x .has .1) (ids a) old (omega (arith, long a))
+          ∙ ap₂ (λ (front : List ℕ) (number : ℕ). sourceRow ed key front from set number old) (take-at (ids a) (u64 (sourceNumber (value a))) key (long a)) (source-field a (x .has .0))
+          ∙ source-written (ids a) (value a) (x .has .1) old (long a) wide
           ∙ ap₂ (λ (front : List ℕ) (v : Value). front ++ padded v) (sym (same-ids a)) (sym (same-value a)) ∙ sym (x .resolved ∙ row-is (resolve a))
 
       rows-resolved : rowsTo (newRow ed key plan from set to) count ≡ map row (map resolve m)
@@ -244,14 +248,14 @@ module _ {A : Type 0} (ids : A → List ℕ) (value : A → Value) (planRow row 
     (resolve : A → A) (same-ids : (a : A) → ids (resolve a) ≡ ids a) (fits-resolved : (a : A) → Fits a → Storable (value (resolve a)) → Fits (resolve a)) where
   pub table-resolved : (ed : Edition) (set : List ℕ) (l m : List A) → All Fits l → All Fits m → length l ≤ projectionEntries → ((a : A) → value (resolve a) ≡ valueFrom (map value l) (valueIn ed set) (value a))
       → {capacity n count : ℕ} {plan from : List ℕ} → length m ≤ capacity → Stored row (key + valueWidth) capacity n from l → Stored planRow (key + sourceWidth) capacity count plan m
-      → All (λ a. Sourced ed (length l) set (value a)) m → (used : ℕ) (to : List ℕ) → used ≤ capacity → length to ≡ capacity * (key + valueWidth) → ClearBehind used (key + valueWidth) to
+      → All (λ a. Sourced ed (map ids l) set (ids a) (value a)) m → (used : ℕ) (to : List ℕ) → used ≤ capacity → length to ≡ capacity * (key + valueWidth) → ClearBehind used (key + valueWidth) to
       → Stored row (key + valueWidth) capacity count (tableBytes (usedBytes key count used) (rowsTo (newRow ed key plan from set (take (usedBytes key count used) to)) count) ++ drop (usedBytes key count used) to) (map resolve m)
   table-resolved ed set l m fl fm few same-value {capacity} {n} {count} small s t sourced used to fewer size clear =
       let storable = all-map Fits (λ a. Storable (value a)) fits-value l fl in
-      let both = all-pair Fits (λ a. Sourced ed (length l) set (value a)) m fm sourced in
-      let numbers = all-map (λ a. Fits a × Sourced ed (length l) set (value a)) (λ a. U64 (sourceNumber (value a)) × Sourced ed (length l) set (value a)) (λ a h. (number-fits (value a) (fits-value a (h .0)), h .1)) m both in
-      let fits = all-image resolve (λ a. Fits a × Sourced ed (length l) set (value a)) Fits (λ a h. fits-resolved a (h .0)
-      (subst Storable (sym (same-value a)) (meaning-storable ids value planRow row key long plan-is row-is ed set l storable few s (value a) (h .1)))) m both in
+      let both = all-pair Fits (λ a. Sourced ed (map ids l) set (ids a) (value a)) m fm sourced in
+      let numbers = all-map (λ a. Fits a × Sourced ed (map ids l) set (ids a) (value a)) (λ a. U64 (sourceNumber (value a)) × Sourced ed (map ids l) set (ids a) (value a)) (λ a h. (number-fits (value a) (fits-value a (h .0)), h .1)) m both in
+      let fits = all-image resolve (λ a. Fits a × Sourced ed (map ids l) set (ids a) (value a)) Fits (λ a h. fits-resolved a (h .0)
+      (subst Storable (sym (same-value a)) (meaning-storable ids value planRow row key long plan-is row-is ed set l storable few s (ids a) (value a) (h .1)))) m both in
       let counted : length (map resolve m) ≡ count = length-map m resolve ∙ sym (length-map m planRow) ∙ t .rows .counted in
       let w = key + valueWidth in
       let places = max count used * w in

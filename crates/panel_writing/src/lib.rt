@@ -2,7 +2,7 @@
 // set. What is read is lent read-only, and a refusal leaves every byte of the new table.
 ghost use mathlib.Core.Path.{_≡_};
 ghost use mathlib.Core.Bool.{true};
-ghost use Prim.Native.Nat.{ℕ, _+_, _*_, _≤_, max};
+ghost use Prim.Native.Nat.{ℕ, _+_, _*_, _≤_, _<_, min, max};
 ghost use lib.Dec.{eqb};
 ghost use lib.ListN.{length};
 ghost use Rattle.spec_lists.specs.Lists.{if_then_else_, All};
@@ -11,14 +11,14 @@ ghost use Rattle.spec_projection.specs.Projection.{Projection};
 ghost use Rattle.spec_projection.specs.Valid.{Valid};
 ghost use Rattle.bytes_records.specs.Table.{tableBytes};
 ghost use Rattle.projection_patch.specs.Meaning.{editionOf};
-ghost use Rattle.panel_rows.specs.Rows.{valueWidth, bindingValueAt, bindingWidth, bindingRow, entryValueAt, entryWidth, entryRow};
+ghost use Rattle.panel_rows.specs.Rows.{fieldAt, valueWidth, bindingValueAt, bindingWidth, bindingRow, entryValueAt, entryWidth, entryRow};
 ghost use Rattle.local_projection_state.specs.Stores.{Stored};
-ghost use Rattle.panel_plan.specs.PlanRows.{PlannedBindings, PlannedEntries};
+ghost use Rattle.panel_plan.specs.PlanRows.{sourceWidth, PlannedBindings, PlannedEntries};
 ghost use Rattle.panel_plan.specs.Plan.{resolution};
 ghost use Rattle.panel_plan.specs.Resolved.{resolved};
 ghost use Rattle.panel_plan.specs.SetValues.{valueIn};
 ghost use Rattle.panel_plan.specs.Sources.{SourcedBinding, SourcedEntry};
-ghost use Rattle.panel_writing.specs.Writing.{rowAt, valueBytes, plannedRow, newRow, rowsTo, canWrite, writtenTable, ClearBehind};
+ghost use Rattle.panel_writing.specs.Writing.{rowAt, valueBytes, plannedRow, Run, newRow, rowsTo, canWrite, writtenTable, ClearBehind};
 use local_projection_state::LocalProjectionState;
 use panel_plan::SOURCE_WIDTH;
 use panel_rows::fields;
@@ -45,8 +45,8 @@ fn value_bytes(set: &[u8], edition: ProjectionPatchEdition, at: usize) -> &[u8]
     }
 }
 
-// Writes one row: the ids and the mark of the plan's row, and the bytes of its value, which stand behind the mark of an old row
-// or in the set.
+// Writes one row of the plan, or some that have old rows for their sources, one after the other: the bytes of the old rows, or the ids and the
+// mark of the plan's row with the value that stands in the set.
 fn write_planned(
     key: usize,
     row: &[u8],
@@ -58,15 +58,58 @@ fn write_planned(
     requires { ⌜ key ≤ entryValueAt ⌝ }
     ensures { λ _. ⌜ now (to .exit) ≡ plannedRow (editionOf edition) key (now (row .entry)) (now (from .entry)) (now (set .entry)) (now (to .entry)) ⌝ }
 {
-    let front = fields::key_part(row, key);
     let source = fields::number_at(row, key, SOURCE_WIDTH) as usize;
     if source < LocalProjectionState::ENTRIES {
-        let old = row_at(from, key + panel_rows::VALUE_WIDTH, source);
-        written::write_row(to, front, fields::value_part(old, key));
+        let start = source * (key + panel_rows::VALUE_WIDTH);
+        let old = fields::key_part(fields::value_part(from, start), to.len());
+        bytes_records::moves::copy(old, to);
     } else {
+        let front = fields::key_part(row, key);
         let at = source - LocalProjectionState::ENTRIES;
         written::write_row(to, front, value_bytes(set, edition, at));
     }
+}
+
+fn lesser(a: usize, b: usize) -> usize
+    ensures { λ r. ⌜ r ≡ min a b ⌝ }
+{
+    if a < b {
+        return a;
+    }
+    b
+}
+
+// Whether a source stands at a position of the plan.
+fn has_source(plan: &[u8], at: usize, source: usize) -> bool
+    requires { ⌜ at ≤ projectionEntries * entryWidth ⌝ }
+    ensures { λ r. ⌜ (r ≡ true → fieldAt at sourceWidth (now (plan .entry)) ≡ source) ⌝ }
+{
+    let end = at + SOURCE_WIDTH;
+    if plan.len() < end {
+        return false;
+    }
+    bytes_records::keys::number_of(&plan[at..end]) == source as u64
+}
+
+// How many rows from the i-th on are written in one copy: old rows that follow each other, or one row.
+fn run_length(key: usize, plan: &[u8], count: usize, i: usize, source: usize) -> usize
+    requires { ⌜ (key ≤ entryValueAt) × ((count ≤ projectionEntries) × (i < count)) ⌝ }
+    ensures { λ r. ⌜ (1 ≤ r) × ((i + r ≤ count) × Run key (now (plan .entry)) i source r) ⌝ }
+{
+    if LocalProjectionState::ENTRIES <= source {
+        return 1;
+    }
+    let width = key + SOURCE_WIDTH;
+    let most = lesser(count - i, LocalProjectionState::ENTRIES - source);
+    let mut n: usize = 1;
+    while n < most {
+        if has_source(plan, (i + n) * width + key, source + n) {
+            n += 1;
+        } else {
+            return n;
+        }
+    }
+    n
 }
 
 // Writes so many rows from the front of the new table, and zeros behind them.
@@ -87,10 +130,12 @@ fn write_rows(
     let mut i = 0;
     while i < count {
         let row = row_at(plan, key + SOURCE_WIDTH, i);
+        let source = fields::number_at(row, key, SOURCE_WIDTH) as usize;
+        let n = run_length(key, plan, count, i, source);
         let start = i * width;
-        let end = start + width;
+        let end = start + n * width;
         write_planned(key, row, from, set, edition, &mut to[start..end]);
-        i += 1;
+        i += n;
     }
     let used = count * width;
     bytes_records::moves::clear(&mut to[used..]);

@@ -1,53 +1,72 @@
--- `write_planned` meets its contract: the bytes of the source, behind the plan's ids and mark.
-use mathlib.Core.Path.{sym, ap, _∙_}
+-- `write_planned` meets its contract: the rows from the source on, or the value of the set behind the plan's ids and mark.
+use Prim.Native.Nat.{_+_, _*_, _≤_}
+use mathlib.Core.Path.{_≡_, sym, ap, ap₂, _∙_}
+use native.Mathlib.Nat.{mul-le-mul, min-le-left}
+use native.Mathlib.Omega.{arith}
 use borrow.Author.Needs.{needs}
 use denote.Ref.{now}
-use lib.ListN.{drop}
+use lib.ListN.{length, take, drop, length-take}
+use Rattle.spec_patch.specs.Sizes.{projectionEntries}
+use Rattle.bytes_records.specs.Moves.{overwrite}
 use Rattle.projection_patch.specs.Meaning.{editionOf}
+use Rattle.panel_rows.specs.Rows.{valueWidth, entryWidth, writtenRow}
 use Rattle.panel_writing.specs.WritingLaws.{source-old, source-new}
 use Rattle.panel_writing.proofs.Bytes.{planned-written}
 use Rattle.panel_writing.proofs.write_planned.Statement.{statement}
 use Rattle.panel_writing.proofs.write_planned.Tie as tie
 
-key-part-requires : tie.Need-key-part-requires
-key-part-requires c κs = search needs
+-- the old rows are those of the first tables
+place : (c : tie.Then1) → let a = c .before .before .before .before .before .before .args in c .before .number-at .result * (a .key + valueWidth) ≤ projectionEntries * entryWidth
+place c = mul-le-mul {n₂ = projectionEntries} {m₂ = entryWidth} (omega (arith, c .if1 .taken)) (omega (arith, c .before .before .before .before .before .before .pre))
 
 number-at-requires : tie.Need-number-at-requires
 number-at-requires c κs = search needs
 
-add-row-at : tie.Need-add-row-at
-add-row-at c = search needs
+add-start : tie.Need-add-start
+add-start c = search needs
 
-row-at-requires : tie.Need-row-at-requires
-row-at-requires c κs = search needs
+mul-start : tie.Need-mul-start
+mul-start c = omega (arith, place c)
 
 value-part-requires : tie.Need-value-part-requires
 value-part-requires c κs = search needs
 
-write-row-requires : tie.Need-write-row-requires
-write-row-requires c κs = search needs
+key-part-requires : tie.Need-key-part-requires
+key-part-requires c κs = search needs
+
+-- no more bytes than there is room for
+copied : (c : tie.After-key-part) → now (c .key-part .result) ≡ take (length (now (c .before .before .before .before .before .before .before .before .args .to))) (drop (c .before .before .before .number-at .result * (c .before .before .before .before .before .before .before .before .args .key + valueWidth)) (now (c .before .before .before .before .before .before .before .before .args .from)))
+copied c = c .key-part .ensures ∙ ap (take (length (now (c .before .before .before .before .before .before .before .before .args .to)))) (c .before .value-part .ensures)
+
+copy-requires : tie.Need-copy-requires
+copy-requires c κs =
+    let part = c .before in
+    let a = part .before .before .before .before .before .before .before .before .args in
+    let rows = drop (part .before .before .before .number-at .result * (a .key + valueWidth)) (now (a .from)) in
+    let few : length (take (length (now (a .to))) rows) ≤ length (now (a .to)) = rw (length-take (length (now (a .to))) rows) (min-le-left (length (now (a .to))) (length rows)) in
+    omega (arith, few, ap length (copied part))
+
+key-part-requires-2 : tie.Need-key-part-requires-2
+key-part-requires-2 c κs = search needs
 
 value-bytes-requires : tie.Need-value-bytes-requires
 value-bytes-requires c κs = search needs
 
-write-row-requires-2 : tie.Need-write-row-requires-2
-write-row-requires-2 c κs = search needs
+write-row-requires : tie.Need-write-row-requires
+write-row-requires c κs = search needs
 
 same-length : tie.Need-same-length
 same-length c = search needs
 
 returns : tie.Need-returns
 returns c =
-    let write = c .before .before in
-    let part = write .before in
-    let old = part .before .before in
-    let number = old .before .before in
-    let front = number .before in
-    let a = front .before .before .before .before .before .args in
+    let copy = c .before .before in
+    let part = copy .before .before in
+    let number = part .before .before .before in
+    let a = number .before .before .before .before .before .args in
     let ed = editionOf (a .edition) in
-    planned-written ed (a .key) (now (a .row)) (now (a .from)) (now (a .set)) (now (a .to)) (front .key-part .ensures) (number .number-at .ensures)
-    (part .value-part .ensures ∙ ap (drop (a .key)) (old .row-at .ensures) ∙ sym (source-old ed (a .key) (now (a .from)) (now (a .set)) _ (old .before .if1 .taken)))
-    (write .write-row .ensures .1)
+    planned-written ed (a .key) (now (a .row)) (now (a .from)) (now (a .set)) (now (a .to)) (number .number-at .ensures)
+    (copy .copy .ensures ∙ ap (λ rows. overwrite rows (now (a .to))) (copied part) ∙ sym (source-old ed (a .key) (take (a .key) (now (a .row))) (now (a .from)) (now (a .set)) _ (now (a .to)) (part .before .before .if1 .taken)))
 
 same-length-2 : tie.Need-same-length-2
 same-length-2 c = search needs
@@ -55,27 +74,28 @@ same-length-2 c = search needs
 returns-2 : tie.Need-returns-2
 returns-2 c =
     let write = c .before .before in
-    let part = write .before in
-    let number = part .before .before .before in
-    let front = number .before in
-    let a = front .before .before .before .before .before .args in
+    let value = write .before in
+    let front = value .before .before in
+    let number = front .before .before in
+    let a = number .before .before .before .before .before .args in
     let ed = editionOf (a .edition) in
-    planned-written ed (a .key) (now (a .row)) (now (a .from)) (now (a .set)) (now (a .to)) (front .key-part .ensures) (number .number-at .ensures)
-    (part .value-bytes .ensures ∙ sym (source-new ed (a .key) (now (a .from)) (now (a .set)) _ (part .before .before .if1 .left)))
-    (write .write-row2 .ensures .1)
+    planned-written ed (a .key) (now (a .row)) (now (a .from)) (now (a .set)) (now (a .to)) (number .number-at .ensures)
+    (write .write-row .ensures .1 ∙ ap₂ (λ ids bytes. writtenRow ids bytes (now (a .to))) (front .key-part2 .ensures) (value .value-bytes .ensures)
+    ∙ sym (source-new ed (a .key) (take (a .key) (now (a .row))) (now (a .from)) (now (a .set)) _ (now (a .to)) (front .before .if1 .left)))
 
 pub write-planned-spec : {M : Type 1} → statement M
 write-planned-spec =
     tie.close
     (tie.spec
-    key-part-requires
     number-at-requires
-    add-row-at
-    row-at-requires
+    add-start
+    mul-start
     value-part-requires
-    write-row-requires
+    key-part-requires
+    copy-requires
+    key-part-requires-2
     value-bytes-requires
-    write-row-requires-2
+    write-row-requires
     same-length
     returns
     same-length-2

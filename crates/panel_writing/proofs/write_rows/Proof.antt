@@ -1,17 +1,18 @@
 -- `write_rows` meets its contract: the rows before the i-th are written; the measure is the rows left.
 use Prim.Native.Nat.{_+_, _-_, _*_, _≤_}
-use mathlib.Core.Path.{_≡_, refl, subst}
-use native.Mathlib.Nat.{suc-mul}
+use mathlib.Core.Path.{_≡_, refl, ap, _∙_, subst}
+use native.Mathlib.Nat.{add-mul}
 use native.Mathlib.Omega.{arith}
 use borrow.Author.Needs.{needs}
 use denote.Ref.{now}
 use lib.ListN.{length}
 use Rattle.projection_patch.specs.Meaning.{editionOf}
-use Rattle.bytes_records.proofs.Offsets.{start-le, end-le}
-use Rattle.panel_rows.specs.Rows.{valueWidth}
-use Rattle.panel_writing.specs.Writing.{newRow}
-use Rattle.panel_writing.proofs.Bytes.{planned, planned-keeps, planned-by}
-use Rattle.panel_writing.proofs.Turns.{RowsWritten, none-written, same-size, one-written, rest-cleared}
+use Rattle.bytes_records.proofs.Offsets.{start-le}
+use Rattle.panel_rows.specs.Rows.{valueWidth, fieldAt}
+use Rattle.panel_plan.specs.PlanRows.{sourceWidth}
+use Rattle.panel_writing.specs.Writing.{rowAt, Run, newRow}
+use Rattle.panel_writing.proofs.Bytes.{planned, planned-keeps, planned-splits, planned-by}
+use Rattle.panel_writing.proofs.Turns.{RowsWritten, none-written, same-size, run-written, rest-cleared}
 use Rattle.panel_writing.proofs.write_rows.Statement.{statement}
 use Rattle.panel_writing.proofs.write_rows.Tie as tie
 
@@ -21,12 +22,22 @@ Inv-loop key plan count from set edition to₀ width i₀ to i = (i ≤ count) �
 abbrev μ-loop : tie.MeasureT-loop
 μ-loop key plan count from set edition to₀ width i₀ to i = count - i
 
--- the i-th row stands in the table, and so do all
-room : (c : tie.In-loop Inv-loop μ-loop) → let a = c .before .before .before .before .before .before .args in
-    c .before .loop .i * (a .key + valueWidth) + (a .key + valueWidth) ≤ length (now (a .to))
+-- the rows of a run stand in the table, and so do all
+room : (c : tie.After-run-length Inv-loop μ-loop) → let a = c .before .before .before .before .before .before .before .before .before .args in
+    c .before .before .before .before .loop .i * (a .key + valueWidth) + c .run-length .result * (a .key + valueWidth) ≤ length (now (a .to))
 room c =
-    let start = c .before .before .before .before .before .before in
-    omega (arith, end-le (start .args .key + valueWidth) (c .before .loop .i) (start .args .count) (c .loop-test .taken), start .pre .2)
+    let start = c .before .before .before .before .before .before .before .before .before in
+    let w = start .args .key + valueWidth in
+    let i = c .before .before .before .before .loop .i in
+    omega (arith, start-le w (c .run-length .ensures .1 .0), add-mul i (c .run-length .result) w, start .pre .2)
+
+-- the run that was found is that of the i-th row's source
+run : (c : tie.After-run-length Inv-loop μ-loop) → let a = c .before .before .before .before .before .before .before .before .before .args in
+    let i = c .before .before .before .before .loop .i in
+    Run (a .key) (now (a .plan)) i (fieldAt (a .key) sourceWidth (rowAt (a .key + sourceWidth) i (now (a .plan)))) (c .run-length .result)
+run c =
+    let a = c .before .before .before .before .before .before .before .before .before .args in
+    subst (λ source. Run (a .key) (now (a .plan)) (c .before .before .before .before .loop .i) source (c .run-length .result)) (c .before .number-at .ensures ∙ ap (fieldAt (a .key) sourceWidth) (c .before .before .row-at .ensures)) (c .run-length .ensures .1 .1)
 
 fits : (c : tie.At-loop Inv-loop μ-loop) → let a = c .before .before .before .before .before .args in c .loop .i * (a .key + valueWidth) ≤ length (now (a .to))
 fits c =
@@ -45,11 +56,20 @@ add-row-at c = search needs
 row-at-requires : tie.Need-row-at-requires Inv-loop μ-loop
 row-at-requires c κs = search needs
 
+number-at-requires : tie.Need-number-at-requires Inv-loop μ-loop
+number-at-requires c κs = search needs
+
+run-length-requires : tie.Need-run-length-requires Inv-loop μ-loop
+run-length-requires c κs = search needs
+
 mul-start : tie.Need-mul-start Inv-loop μ-loop
-mul-start c = omega (arith, room (c .before))
+mul-start c = omega (arith, room c)
+
+mul-end : tie.Need-mul-end Inv-loop μ-loop
+mul-end c = omega (arith, room c)
 
 add-end : tie.Need-add-end Inv-loop μ-loop
-add-end c = omega (arith, room (c .before))
+add-end c = omega (arith, room c)
 
 sub-write-planned : tie.Need-sub-write-planned Inv-loop μ-loop
 sub-write-planned c = search needs
@@ -58,7 +78,7 @@ part-write-planned-start : tie.Need-part-write-planned-start Inv-loop μ-loop
 part-write-planned-start c = search needs
 
 part-write-planned-end : tie.Need-part-write-planned-end Inv-loop μ-loop
-part-write-planned-end c = omega (arith, room (c .before))
+part-write-planned-end c = omega (arith, room c)
 
 write-planned-requires : tie.Need-write-planned-requires Inv-loop μ-loop
 write-planned-requires c κs = search needs
@@ -72,14 +92,17 @@ loop-less c = search needs
 loop-again : tie.Need-loop-again Inv-loop μ-loop
 loop-again c =
     let call = c .before .before in
-    let turn = call .before .before .before in
-    let h = turn .before in
+    let found = call .before .before in
+    let h = found .before .before .before .before in
     let a = h .before .before .before .before .before .args in
     let ed = editionOf (a .edition) in
-    let next = one-written (a .key + valueWidth) (now (a .to)) (planned ed (a .key) (now (a .plan)) (now (a .from)) (now (a .set))) (h .loop .i) (h .loop .inv .1 .1)
-    (planned-keeps ed (a .key) (now (a .plan)) (now (a .from)) (now (a .set)) (h .loop .i)) (room turn)
-    (planned-by ed (a .key) (now (a .plan)) (now (a .from)) (now (a .set)) (h .loop .i) _ (call .before .before .row-at .ensures) (call .write-planned .ensures)) in
-    (search needs, (same-size (a .key + valueWidth) (now (a .to)) _ (h .loop .i + 1) next (omega (arith, room turn, suc-mul (h .loop .i) (a .key + valueWidth))), next))
+    let w = a .key + valueWidth in
+    let i = h .loop .i in
+    let n = found .run-length .result in
+    let next = run-written w (now (a .to)) (planned ed (a .key) (now (a .plan)) (now (a .from)) (now (a .set))) i (h .loop .inv .1 .1) n (found .run-length .ensures .0)
+    (planned-keeps ed (a .key) (now (a .plan)) (now (a .from)) (now (a .set)) i) (planned-splits ed (a .key) (now (a .plan)) (now (a .from)) (now (a .set)) i n (run found)) (room found)
+    (planned-by ed (a .key) (now (a .plan)) (now (a .from)) (now (a .set)) i _ (found .before .before .row-at .ensures) (call .write-planned .ensures)) in
+    (found .run-length .ensures .1 .0, (same-size w (now (a .to)) _ (i + n) next (omega (arith, room found, add-mul i n w)), next))
 
 mul-used : tie.Need-mul-used Inv-loop μ-loop
 mul-used c = omega (arith, c .before .before .before .before .before .before .pre .2)
@@ -120,7 +143,10 @@ write-rows-spec =
     loop-holds
     add-row-at
     row-at-requires
+    number-at-requires
+    run-length-requires
     mul-start
+    mul-end
     add-end
     sub-write-planned
     part-write-planned-start

@@ -1,0 +1,49 @@
+-- `has_source` meets its contract: the eight bytes spell the source.
+use Prim.Native.Nat.{_+_, _-_}
+use mathlib.Core.Path.{_≡_, sym, ap, _∙_}
+use mathlib.Core.Bool.{false≢true}
+use native.Mathlib.Omega.{arith}
+use borrow.Author.Needs.{needs}
+use borrow.Author.Tests.{eqb-true}
+use denote.Ref.{now}
+use lib.ListN.{take, drop}
+use Rattle.spec_lists.specs.Bytes.{numberOf}
+use Rattle.panel_plan.specs.PlanRows.{sourceWidth}
+use Rattle.panel_writing.proofs.has_source.Statement.{statement}
+use Rattle.panel_writing.proofs.has_source.Tie as tie
+
+add-end : tie.Need-add-end
+add-end c = search needs
+
+returns : tie.Need-returns
+returns c = λ e. absurd (false≢true e)
+
+sub-number-of : tie.Need-sub-number-of
+sub-number-of c = search needs
+
+part-number-of-start : tie.Need-part-number-of-start
+part-number-of-start c = search needs
+
+part-number-of-end : tie.Need-part-number-of-end
+part-number-of-end c = search needs
+
+number-of-requires : tie.Need-number-of-requires
+number-of-requires c κs = search needs
+
+returns-2 : tie.Need-returns-2
+returns-2 c = λ e.
+    let a = c .before .before .before .before .args in
+    let size : sourceWidth ≡ a .at + sourceWidth - a .at = omega arith in
+    ap (λ n. numberOf (take n (drop (a .at) (now (a .plan))))) size ∙ sym (c .number-of .ensures) ∙ eqb-true _ _ e
+
+pub has-source-spec : {M : Type 1} → statement M
+has-source-spec =
+    tie.close
+    (tie.spec
+    add-end
+    returns
+    sub-number-of
+    part-number-of-start
+    part-number-of-end
+    number-of-requires
+    returns-2)
