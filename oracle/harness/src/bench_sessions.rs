@@ -101,6 +101,24 @@ pub fn batches(program: &str, collections: u64) {
     }
 }
 
+/// Batches on a session in lent memory, beside the original with its admission.
+pub fn lent(program: &str, collections: u64) {
+    println!("entries operations         lent     original  ratio    admitted  ratio");
+    for entries in ENTRIES {
+        for operations in OPERATIONS {
+            let panel = Layout { entries, collections }.panel(operations);
+            let ours = proved(program, 'l', &bench_panels::data(&panel)) / 2.0;
+            let theirs = original_batch(&panel);
+            let whole = theirs + admission(&panel);
+            println!(
+                "{entries:7} {operations:10} {ours:9.0} ns {theirs:9.0} ns {:6.2} {whole:8.0} ns {:6.2}",
+                ours / theirs,
+                ours / whole
+            );
+        }
+    }
+}
+
 fn original_set(panel: &PanelSets) -> f64 {
     let batch = |list: &[RawPatch]| admitted(glue::check(built(list)));
     let (fill, forth, back) = (batch(&panel.fill), batch(&panel.forth), batch(&panel.back));
