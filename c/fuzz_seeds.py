@@ -1,10 +1,11 @@
 #!/usr/bin/env python3
-"""Inputs for c/fuzz.c to begin with, made of the kit's scripts: c/fuzz_seeds.py FOLDER"""
+"""Inputs for c/fuzz.c to begin with, made of the kit's scripts and a term list of the examples: c/fuzz_seeds.py FOLDER"""
 
 import sys
 from pathlib import Path
 
-DATA = Path(__file__).resolve().parent.parent / "crates" / "test_conformance" / "data"
+ROOT = Path(__file__).resolve().parent.parent
+DATA = ROOT / "crates" / "test_conformance" / "data"
 # the places of c/fuzz.c's calls
 BATCH, STEP, ON_BYTES, LOOK = range(4)
 STEPS = ("activate", "suspend", "resume", "close", "noop")
@@ -28,7 +29,7 @@ def record(words, edition):
         return bytes([BATCH, edition, small(words[3]), small(words[5])]) + lent(words[6])
     if words[0] == "apply" and words[1] in STEPS:
         return bytes([STEP, STEPS.index(words[1]), 0])
-    if words[0] in ("check", "list", "convert", "depends"):
+    if words[0] in ("check", "list", "convert", "depends", "import"):
         return bytes([ON_BYTES, edition, 255, 255]) + lent(words[-1])
     if words[0] in ("show", "print", "value"):
         return bytes([LOOK, small(words[2]) if words[2:] and words[2].isdigit() else 9, 1, 0])
@@ -54,3 +55,5 @@ if __name__ == "__main__":
     folder.mkdir(parents=True, exist_ok=True)
     for path in sorted(DATA.glob("*.script")):
         (folder / path.stem).write_bytes(seed(path.read_text(encoding="latin-1")))
+    terms = (ROOT / "examples" / "terms.txt").read_bytes()
+    (folder / "terms").write_bytes(seed("import " + terms.hex()))
