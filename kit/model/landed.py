@@ -19,7 +19,7 @@ LANDED = [
     "lengths",
     "escapes",
     "depends",
-    # "pages",
+    "pages",
     "print",
     # "import",
     "group",
