@@ -12,7 +12,7 @@ from random_sets import COLLECTIONS, NODES, SLOTS, patch_list
 rules_of("Job 7 in document 02", answers="02")
 
 PAGE = "spec_page Page.page"
-ROOM = "spec_page Page.pageAnswer"
+ROOM = "spec_page Page.pageRefusal"
 LAST = 2**64 - 1
 
 

@@ -20,7 +20,7 @@ LANDED = [
     "lengths",
     "escapes",
     "depends",
-    # "pages",
+    "pages",
     "print",
     # "import",
     "group",

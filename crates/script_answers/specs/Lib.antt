@@ -6,4 +6,6 @@ pub mod CheckOf
 pub mod ConversionOf
 pub mod DependenciesTold
 pub mod PrintTold
+pub mod PageTold
+pub mod PageToldLaws
 pub mod TurnAnswers

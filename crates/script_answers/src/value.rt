@@ -8,7 +8,7 @@ use bytes_printer::Printed;
 use panel_rows::values::AvailabilityLookup;
 use panel_rows::values::ValueLookup;
 
-fn print_none(out: &mut [u8], at: Printed) -> Printed
+pub(crate) fn print_none(out: &mut [u8], at: Printed) -> Printed
     ensures { λ r. ⌜ Prints (now (out .entry)) at (fields (dash ∷ [])) (now (out .exit)) r ⌝ }
 {
     let none = bytes_printer::print_field_bytes(out, at, b"-");

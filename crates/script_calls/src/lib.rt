@@ -2,6 +2,7 @@
 pub mod calls;
 pub mod groups;
 pub mod marks;
+pub mod pages;
 pub mod paper;
 pub mod setup;
 pub mod state;

@@ -14,10 +14,10 @@ use Rattle.spec_patch.specs.Edition.{Edition}
 use Rattle.spec_lists.specs.ListLaws.{and-left, and-right, test-cases}
 use Rattle.spec_decimal.specs.Decimal.{readDecimal}
 use Rattle.spec_replay.specs.Hex.{readHex}
-use Rattle.spec_replay.specs.Script.{Command, other, apply, Arguments, end, given, readBy, number, atMost, slot, numberedEdition, hex, stimuli, sessionArguments, bindingArguments, batchArguments, convertArguments, dependsArguments, placesLent, printArguments, bytesLent, roomUpTo, groupArguments, boundArguments, keyedArguments, values, marks, commands}
+use Rattle.spec_replay.specs.Script.{Command, other, apply, Arguments, end, given, readBy, number, atMost, slot, numberedEdition, hex, stimuli, sessionArguments, bindingArguments, batchArguments, convertArguments, dependsArguments, placesLent, printArguments, bytesLent, roomUpTo, groupArguments, pageArguments, boundArguments, keyedArguments, values, marks, commands}
 use Rattle.script_parser.specs.Fields.{mostNumbers}
 use Rattle.script_parser.specs.Words.{rowAt}
-use Rattle.script_parser.specs.Forms.{formArguments, upTo, noForm, stimulusBase, valueBase, markBase, firstBase, firstWords, formCount, formAt, groupForm, askedBy, shapeOf, shapesFrom}
+use Rattle.script_parser.specs.Forms.{formArguments, upTo, noForm, stimulusBase, valueBase, markBase, firstBase, firstWords, formCount, formAt, groupForm, pageForm, askedBy, shapeOf, shapesFrom}
 
 -- no form takes no fields
 pub none-form : (fs : List (List ℕ)) → other ≡ formArguments noForm fs
@@ -28,7 +28,7 @@ none-form (f ∷ fs) = refl
 -- ---- a number that is tested: reading it and testing it when the whole line was read is the same
 
 module _ {A : Type 0} (test : Option ℕ → Option A) (no-number : test none ≡ none) where
-  number-first : (next : A → Arguments) (fs : List (List ℕ)) → readBy (λ f. test (readDecimal f)) next fs ≡ number (λ n gs. given (test (some n)) (λ a. next a gs)) fs
+  pub number-first : (next : A → Arguments) (fs : List (List ℕ)) → readBy (λ f. test (readDecimal f)) next fs ≡ number (λ n gs. given (test (some n)) (λ a. next a gs)) fs
   unfolding readBy given
   number-first next [] = refl
   number-first next (f ∷ fs) = by-number (readDecimal f)
@@ -123,6 +123,7 @@ first-form k h =
     also (λ a b c fs. absurd (c refl))
     also (λ a b c fs. tested-then (atMost placesLent) refl readHex _ fs)
     also (λ a b c fs. number-and-bounded bytesLent _ fs)
+    also (λ a b c fs. refl)
     also (λ a b c fs. refl)
     also (λ a b c fs. refl)
     also (λ a b c fs. none-form fs)
@@ -244,6 +245,10 @@ module _ (k : ℕ) (fs : List (List ℕ)) where
   unfolding askedBy
   group-asked e = rw (eq-eqb k groupForm e)
 
-  pub counted-asked : (k ≡ groupForm → ⊥) → askedBy k fs ≡ formArguments (formAt k) fs
+  pub page-asked : k ≡ pageForm → askedBy k fs ≡ pageArguments fs
   unfolding askedBy
-  counted-asked e = rw (ne-eqb k groupForm e)
+  page-asked e = rw e
+
+  pub counted-asked : (k ≡ groupForm → ⊥) → (k ≡ pageForm → ⊥) → askedBy k fs ≡ formArguments (formAt k) fs
+  unfolding askedBy
+  counted-asked g p = rw (ne-eqb k groupForm g, ne-eqb k pageForm p)

@@ -7,3 +7,5 @@ pub mod FormPlaces
 pub mod Meaning
 pub mod Members
 pub mod MembersLaws
+pub mod Keys
+pub mod KeysLaws

@@ -20,7 +20,7 @@ use Rattle.script_parser.specs.declared.CallLine.the-variants.{Create, A
 use Rattle.script_parser.specs.declared.SetLine.{SetLine}
 use Rattle.script_parser.specs.declared.SetLine.the-variants.{Batch, Check, List as Listed, Convert, Depends}
 use Rattle.script_parser.specs.declared.ScriptCommand.{ScriptCommand}
-use Rattle.script_parser.specs.declared.ScriptCommand.the-variants.{Nothing, Setup, Call, WithSet, Group, Other}
+use Rattle.script_parser.specs.declared.ScriptCommand.the-variants.{Nothing, Setup, Call, WithSet, Group, Page, Other}
 
 abbrev pub envelopeOf : BatchLine → BatchEnvelope
 envelopeOf b = record { session = b .«session_id»; sequence = b .«sequence_no»; patches = b .«patch_count»; stimulusBytes = b .«stimulus_bytes» }
@@ -72,4 +72,5 @@ commandOf line (Setup s) = setupOf s
 commandOf line (Call c) = callOf c
 commandOf line (WithSet s i) = setFrom line i (withSetOf s)
 commandOf line (Group e) = script.groupArguments (fieldsAfter space line e)
+commandOf line (Page e) = script.pageArguments (fieldsAfter space line e)
 commandOf line Other = script.other

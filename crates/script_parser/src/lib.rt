@@ -1,6 +1,7 @@
 // A line of a replay script, read as a command.
 mod fields;
 mod forms;
+pub mod keys;
 pub mod members;
 mod words;
 
@@ -74,14 +75,15 @@ pub enum SetLine {
     Depends(u16),
 }
 
-// What a line asks for. WithSet holds where the hex of the set starts in the line; such a line is Other if that is no hex. Group holds where the
-// word ends, and read_group reads the fields behind it.
+// What a line asks for. WithSet holds where the hex of the set starts in the line; such a line is Other if that is no hex. Group and Page
+// hold where the word ends, and read_group and read_page read the fields behind it.
 pub enum ScriptCommand {
     Nothing,
     Setup(SetupLine),
     Call(CallLine),
     WithSet(SetLine, usize),
     Group(usize),
+    Page(usize),
     Other,
 }
 
@@ -133,6 +135,9 @@ fn parse_fields(line: &[u8]) -> ScriptCommand
     let found = words::find_form(line);
     if found.form == FormAt::GROUP {
         return ScriptCommand::Group(found.end);
+    }
+    if found.form == FormAt::PAGE {
+        return ScriptCommand::Page(found.end);
     }
     counted_fields(line, found.form, found.end)
 }

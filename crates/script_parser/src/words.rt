@@ -28,8 +28,10 @@ impl FormAt {
 
     pub(crate) const FIRST: usize = 16;
 
-    // The form of a line with any number of fields.
+    // The forms of lines with any number of fields.
     pub(crate) const GROUP: usize = 35;
+
+    pub(crate) const PAGE: usize = 37;
 }
 
 // The number of the field among words that are parted by spaces: that of all of them where it is none.
@@ -77,7 +79,7 @@ pub(crate) fn find_form(line: &[u8]) -> FormAt
 {
     let end = field_end(line, 0, SPACE);
     let first = word_index(
-        b"session node binding collection create apply batch check list show value senders wait turn edition convert mark depends print group length",
+        b"session node binding collection create apply batch check list show value senders wait turn edition convert mark depends print group length page",
         &line[0..end],
     );
     if first == 5 {

@@ -2,6 +2,7 @@
 mod call_lines;
 mod dependency_lines;
 mod group_lines;
+mod page_lines;
 mod set_lines;
 mod setup_lines;
 
@@ -34,6 +35,7 @@ pub fn run_line(state: ReplayState, number: u64, line: &[u8], out: &mut [u8]) ->
             set_lines::run_with_set(state, wanted, from, number, line, out)
         }
         ScriptCommand::Group(end) => group_lines::run_group(state, end, number, line, out),
+        ScriptCommand::Page(end) => page_lines::run_page(state, end, number, line, out),
         ScriptCommand::Other => setup_lines::other(state, number, out),
     }
 }

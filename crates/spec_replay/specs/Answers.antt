@@ -3,7 +3,7 @@ use Prim.Native.Nat.{ℕ, zero, suc, _+_}
 use mathlib.Core.List.{List, [], _∷_, _++_, flatMap}
 use mathlib.Core.Option.{Option, none, some}
 use lib.Dec.{leb}
-use lib.ListN.{length, getD, drop}
+use lib.ListN.{length, getD, take, drop}
 use Rattle.spec_lists.specs.Lists.{if_then_else_}
 use Rattle.spec_patch.specs.Patch.{Value, Availability}
 use Rattle.spec_patch.specs.Encode.{availabilityByte}
@@ -22,6 +22,7 @@ use Rattle.spec_turns.specs.Turns.{SetUp, setUpNumber, RegisterAnswer, register
 use Rattle.spec_dependencies.specs.Dependencies.{CollectionKey}
 use Rattle.spec_dependencies.specs.Answer as dependencies
 use Rattle.spec_dependencies.specs.Answer.{DependencyAnswer, answerNever, answerNeeds, refusalNumber, Answered}
+use Rattle.spec_page.specs.Page.{PageEntry, PageRefusal, pageNumber, Page}
 use Rattle.spec_group.specs.Group.{GroupAnswer, notAGroup, taken, refusedAt, groupNumber}
 use Rattle.spec_decimal.specs.Decimal.{decimal}
 use Rattle.spec_listing.specs.Listing.{fields, valueFields}
@@ -154,6 +155,19 @@ groupLines (refusedAt i a) = (85 ∷ fields (decimal 0 ∷ decimal 0 ∷ decimal
 -- length: Z and how many entries the collection has
 unfoldable pub lengthLine : ℕ → List ℕ
 lengthLine n = 90 ∷ fields (decimal n ∷ [])
+
+-- M, position, kind, value, or M and -
+unfoldable pub rowLine : Option PageEntry → List ℕ
+rowLine none = 77 ∷ fields (dash ∷ [])
+rowLine (some e) = 77 ∷ fields (decimal (e .position) ∷ valueFields (e .value))
+
+unfoldable pub answeredLines : (keys : ℕ) → Option PageRefusal → List (Option PageEntry) → List ℕ
+answeredLines n (some r) places = 89 ∷ fields (decimal (pageNumber r) ∷ [])
+answeredLines n none places = (89 ∷ fields (decimal 0 ∷ decimal n ∷ [])) ++ flatMap rowLine (take n places)
+
+-- page: Y and 16 or 14; or Y, 0, the number of keys, and a line for the place of each
+unfoldable pub pageLines : (keys : ℕ) → Page → List ℕ
+pageLines n p = answeredLines n (p .refusal) (p .places)
 
 -- N: there is no session, or there are no senders
 unfoldable pub noSessionLine : List ℕ

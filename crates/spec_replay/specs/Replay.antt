@@ -17,14 +17,15 @@ use Rattle.spec_session.specs.Batch.{BatchStep}
 use Rattle.spec_conversion.specs.Conversion as conversions
 use Rattle.spec_dependencies.specs.Answer.{dependenciesOf}
 use Rattle.spec_panel_print.specs.Print.{collectionPrint}
+use Rattle.spec_page.specs.Page as pages
 use Rattle.spec_group.specs.Group as groups
 use Rattle.spec_group.specs.Group.{GroupStep}
 use Rattle.spec_turns.specs.Turns as turns
 use Rattle.spec_turns.specs.Turns.{Turns, SetUp, RegisterStep, TurnStep}
 use Rattle.spec_listing.specs.Listing.{projectionLines, listing}
 use Rattle.spec_replay.specs.Lines.{newline, split}
-use Rattle.spec_replay.specs.Script.{Command, nothing, session, node, binding, collection, create, apply, batch, check, list, show, valueBinding, valueNode, valueEntry, senders, wait, turn, edition, convert, markBinding, markNode, markEntry, depends, print, group, collectionLength, other, command}
-use Rattle.spec_replay.specs.Answers.{creationLine, lifecycleLine, batchLine, checkLines, valueLine, availabilityLine, setUpLine, registerLine, turnLine, conversionLine, markLine, dependencyLines, printLines, groupLines, lengthLine, noSessionLine, otherLine}
+use Rattle.spec_replay.specs.Script.{Command, nothing, session, node, binding, collection, create, apply, batch, check, list, show, valueBinding, valueNode, valueEntry, senders, wait, turn, edition, convert, markBinding, markNode, markEntry, depends, print, group, collectionLength, page, other, command}
+use Rattle.spec_replay.specs.Answers.{creationLine, lifecycleLine, batchLine, checkLines, valueLine, availabilityLine, setUpLine, registerLine, turnLine, conversionLine, markLine, dependencyLines, printLines, groupLines, lengthLine, pageLines, noSessionLine, otherLine}
 
 -- what a creation takes
 pub record Setup : Type 0 where
@@ -154,6 +155,7 @@ replayLine n s (depends room set) = onward s (dependencyLines (dependenciesOf (s
 replayLine n s (print c room) = asked s (λ x. onward s (printLines room (collectionPrint (x .projection) c)))
 replayLine n s (group bs sets) = asked s (λ x. grouped s (groups.group x bs sets))
 replayLine n s (collectionLength c) = asked s (λ x. onward s (lengthLine (entryCount (x .projection) c)))
+replayLine n s (page c room keys) = asked s (λ x. onward s (pageLines (length keys) (pages.page (x .projection) c keys (replicate room none))))
 replayLine n s other = stops (otherLine n)
 
 -- ---- the whole script

@@ -12,7 +12,7 @@ use Rattle.spec_decimal.specs.Decimal.{digits, decimal, isNumeral, numberWith, 
 use Rattle.spec_text.specs.Scalars.{encodeScalar, encode as octets}
 use Rattle.spec_patch.specs.Patch.{pending, quad, T as true-quad}
 use Rattle.spec_patch.specs.Edition.{v1, digit, letters}
-use Rattle.spec_patch.specs.Encode.{heading, encodeCounted, encode}
+use Rattle.spec_patch.specs.Encode.{quadByte, heading, encodeCounted, encode}
 use Rattle.spec_patch.specs.Reader.{faultNumber, many, literal}
 use Rattle.spec_patch.specs.Read.{readPatch, readPatches, ended, readSet}
 use Rattle.spec_patch.specs.Write.{allValues}
@@ -33,14 +33,15 @@ use Rattle.spec_conversion.specs.Conversion.{otherEdition, conversionNumber, un
 use Rattle.spec_dependencies.specs.Dependencies.{walkPatches, keysAtStart, dependenciesBy, dependencies}
 use Rattle.spec_dependencies.specs.Answer.{allWords, hasFindings, refused, answerNever, answerNeeds, refusalNumber, wordsWritten, answerBy, answerReading, dependenciesOf}
 use Rattle.spec_panel_print.specs.Print.{quadLetter, printedValue, lineCount, textPieces, columnOf, keyLead, laidOut, printedLines, entryLines, collectionLines, lineOctets, collectionPrint}
+use Rattle.spec_page.specs.Page.{findFrom, pageEntry, pageRows, pageRefusal, tableLeft, page}
 use Rattle.spec_splitting.specs.Splitting.{isRejected}
 use Rattle.spec_group.specs.Group.{totalBytes, isGroup, sendFirst, runGroup, withCursor, concludeGroup, group}
 use Rattle.spec_turns.specs.Turns.{newTurns, setUp, refuseRegister, startWaiting, register, after, firstAsked, firstWaiting, nextSender, numberAfter, spendTurn, turnFor, turn}
-use Rattle.spec_listing.specs.Listing.{fields, recordCount, projectionLines, refusalLine, outcomeLines, readingLines, listing}
+use Rattle.spec_listing.specs.Listing.{fields, valueFields, recordCount, projectionLines, refusalLine, outcomeLines, readingLines, listing}
 use Rattle.spec_replay.specs.Lines.{prepend, split}
 use Rattle.spec_replay.specs.Hex.{hexDigit, hexByte, cons, hexPairs, readHex, hexCharacter, bytePair, hexField}
-use Rattle.spec_replay.specs.Script.{ascii, end, given, readBy, atMost, numberedEdition, byWord, stimuli, sessionArguments, bindingArguments, applyArguments, batchArguments, convertArguments, dependsArguments, printArguments, beforeLast, memberParts, memberField, groupLast, groupArguments, boundArguments, keyedArguments, values, marks, markArguments, valueArguments, commands, fieldsCommand, isRemark, command}
-use Rattle.spec_replay.specs.Answers.{dispositionField, lifecycleField, cursorField, placeField, sessionFields, creationLine, lifecycleLine, batchLine, checkedLine, checkLines, availabilityLine, setUpLine, registerLine, turnLine, conversionLine, markLine, keyLine, firstKeys, verdictLines, dependencyLines, printLines, groupLines, lengthLine, noSessionLine, otherLine}
+use Rattle.spec_replay.specs.Script.{ascii, end, given, readBy, atMost, numberedEdition, byWord, stimuli, sessionArguments, bindingArguments, applyArguments, batchArguments, convertArguments, dependsArguments, printArguments, beforeLast, memberParts, memberField, groupLast, groupArguments, upToEnd, pageArguments, boundArguments, keyedArguments, values, marks, markArguments, valueArguments, commands, fieldsCommand, isRemark, command}
+use Rattle.spec_replay.specs.Answers.{dispositionField, lifecycleField, cursorField, placeField, sessionFields, creationLine, lifecycleLine, batchLine, checkedLine, checkLines, availabilityLine, setUpLine, registerLine, turnLine, conversionLine, markLine, keyLine, firstKeys, verdictLines, dependencyLines, printLines, groupLines, lengthLine, rowLine, answeredLines, pageLines, noSessionLine, otherLine}
 use Rattle.spec_replay.specs.Replay.{State, noAnchors, start, keep, withSetup, withAnchors, withNode, withBinding, withSession, withTurns, withEdition, asked, askedTurns, created, applied, batched, grouped, settled, registered, turned, replayLine, replayLines, commandsOf, replayFrom, replay}
 
 prints : String → String → Bool
@@ -128,6 +129,12 @@ examples =
     -- how many entries a collection has: one, and none
     ∷ printsMarked "length 9\nlength 8\n" "Z\t1\nZ\t0\n"
     ∷ prints "length 9\nlength\n" "N\n?\t2\n"
+    -- a page of keys: a key that is there, one that is not, one given twice; no keys; a place too few; 65 keys, whatever the room
+    ∷ printsMarked "page 9 3 20 7 20\npage 8 1 20\npage 9 0\npage 9 1 20 20\n" "Y\t0\t3\nM\t0\tQ\t2\nM\t-\nM\t0\tQ\t2\nY\t0\t1\nM\t-\nY\t0\t0\nY\t14\n"
+    ∷ printsMarked "page 9 64 20 20 20 20 20 20 20 20 20 20 20 20 20 20 20 20 20 20 20 20 20 20 20 20 20 20 20 20 20 20 20 20 20 20 20 20 20 20 20 20 20 20 20 20 20 20 20 20 20 20 20 20 20 20 20 20 20 20 20 20 20 20 20 20 20\n" "Y\t16\n"
+    ∷ prints "page 9 128\npage 9 129\n" "N\n?\t2\n"
+    ∷ prints "page 0 0 0 0 0 0 0 0 0 0 0 0 0 0 0 0 0 0 0 0 0 0 0 0 0 0 0 0 0 0 0 0 0 0 0 0 0 0 0 0 0 0 0 0 0 0 0 0 0 0 0 0 0 0 0 0 0 0 0 0 0 0 0 0 0 0 0 0 0 0 0 0 0 0 0 0 0 0 0 0 0 0 0 0 0 0 0 0 0 0 0 0 0 0 0 0 0 0 0 0 0 0 0 0 0 0 0 0 0 0 0 0 0 0 0 0 0 0 0 0 0 0 0 0 0 0 0 0 0 0\npage 0 0 0 0 0 0 0 0 0 0 0 0 0 0 0 0 0 0 0 0 0 0 0 0 0 0 0 0 0 0 0 0 0 0 0 0 0 0 0 0 0 0 0 0 0 0 0 0 0 0 0 0 0 0 0 0 0 0 0 0 0 0 0 0 0 0 0 0 0 0 0 0 0 0 0 0 0 0 0 0 0 0 0 0 0 0 0 0 0 0 0 0 0 0 0 0 0 0 0 0 0 0 0 0 0 0 0 0 0 0 0 0 0 0 0 0 0 0 0 0 0 0 0 0 0 0 0 0 0 0 0\n" "N\n?\t2\n"
+    ∷ prints "page 9\n" "?\t1\n"
     -- any other line ends the replay
     ∷ prints "create \nshow\n" "?\t1\n"
     ∷ prints "node 01\n" "?\t1\n"
@@ -155,9 +162,10 @@ unfolding examples prints closedWith printsAt marked printsMarked shows
     walkPatches keysAtStart dependenciesBy dependencies allWords refusalNumber wordsWritten answerBy answerReading dependenciesOf
     octets encodeScalar isEntry entriesIn entriesOf entryCount quadLetter printedValue lineCount textPieces columnOf keyLead laidOut printedLines entryLines collectionLines lineOctets collectionPrint
     isRejected totalBytes isGroup sendFirst runGroup withCursor concludeGroup group
-    fields recordCount projectionLines refusalLine outcomeLines readingLines listing
-    prepend split hexDigit hexByte cons hexPairs readHex hexCharacter bytePair hexField end given readBy atMost numberedEdition byWord stimuli sessionArguments bindingArguments applyArguments batchArguments convertArguments dependsArguments printArguments beforeLast memberParts memberField groupLast groupArguments
+    findFrom pageEntry pageRows pageRefusal tableLeft page quadByte
+    fields valueFields recordCount projectionLines refusalLine outcomeLines readingLines listing
+    prepend split hexDigit hexByte cons hexPairs readHex hexCharacter bytePair hexField end given readBy atMost numberedEdition byWord stimuli sessionArguments bindingArguments applyArguments batchArguments convertArguments dependsArguments printArguments beforeLast memberParts memberField groupLast groupArguments upToEnd pageArguments
     boundArguments keyedArguments values marks markArguments valueArguments commands fieldsCommand isRemark command
-    dispositionField lifecycleField cursorField placeField sessionFields creationLine lifecycleLine batchLine checkedLine checkLines availabilityLine setUpLine registerLine turnLine conversionLine markLine keyLine firstKeys verdictLines dependencyLines printLines groupLines lengthLine noSessionLine otherLine
+    dispositionField lifecycleField cursorField placeField sessionFields creationLine lifecycleLine batchLine checkedLine checkLines availabilityLine setUpLine registerLine turnLine conversionLine markLine keyLine firstKeys verdictLines dependencyLines printLines groupLines lengthLine rowLine answeredLines pageLines noSessionLine otherLine
     noAnchors start keep withSetup withAnchors withNode withBinding withSession withTurns withEdition asked askedTurns created applied batched grouped settled registered turned replayLine replayLines commandsOf replayFrom replay
 replay-examples = tt

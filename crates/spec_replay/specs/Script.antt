@@ -45,6 +45,7 @@ pub data Command : Type 0 where
   print : (collection room : ℕ) → Command
   group : List GroupBatch → (sets : List ℕ) → Command
   collectionLength : (collection : ℕ) → Command
+  page : (collection room : ℕ) → (keys : List ℕ) → Command
   other : Command
 
 -- a line has at most 131,072 bytes without its LF
@@ -255,6 +256,27 @@ groupLast bs f = given (readHex f) (group bs)
 unfoldable pub groupArguments : Arguments
 groupArguments = beforeLast lineMembers memberField groupLast
 
+-- so many numbers at most, up to the end of the line
+unfoldable pub upToEnd : ℕ → (List ℕ → Command) → Arguments
+upToEnd n next [] = next []
+upToEnd zero next (f ∷ fs) = other
+upToEnd (suc n) next (f ∷ fs) = given (readDecimal f) (λ k. upToEnd n (λ ks. next (k ∷ ks)) fs)
+
+-- so many places of an answer table can be lent to a page
+abbrev pub placesOfPage : ℕ
+placesOfPage = 128
+
+-- so many keys can stand in a line
+abbrev pub lineKeys : ℕ
+lineKeys = 128
+
+-- page COLLECTION ROOM [KEY ...]
+unfoldable pub pageArguments : Arguments
+pageArguments = do
+  c ← number
+  room ← roomUpTo placesOfPage
+  upToEnd lineKeys (page c room)
+
 -- N SLOT, a binding that is asked for
 unfoldable pub boundArguments : (ℕ → ℕ → Command) → Arguments
 boundArguments asks = do
@@ -315,6 +337,7 @@ commands =
     ∷ (ascii "print" ⇒ printArguments)
     ∷ (ascii "group" ⇒ groupArguments)
     ∷ (ascii "length" ⇒ number (λ n. end (collectionLength n)))
+    ∷ (ascii "page" ⇒ pageArguments)
     ∷ []
 
 -- the fields of a line: a known word and its arguments

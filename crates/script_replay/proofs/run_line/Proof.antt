@@ -51,6 +51,12 @@ enum-known-end c = search needs
 run-group-requires : tie.Need-run-group-requires
 run-group-requires c κs = search needs
 
+enum-known-end-2 : tie.Need-enum-known-end-2
+enum-known-end-2 c = search needs
+
+run-page-requires : tie.Need-run-page-requires
+run-page-requires c κs = search needs
+
 enum-told-2 : tie.Need-enum-told-2
 enum-told-2 c = search needs
 
@@ -100,8 +106,17 @@ same-length-5 : tie.Need-same-length-5
 same-length-5 c = search needs
 
 returns-7 : tie.Need-returns-7
-unfolding replayLine
 returns-7 c =
+    let a = c .before .before .before .before .before .before .before .before .before .before .before .args in
+    let p = c .before .before .before .before .before .before .before .parse-line in
+    λ m h. line-step (a .number) m _ _ (parsed-as (a .line .now) (p .result) _ (p .ensures) (c .before .before .before .before .before .end2 .given .1)) (c .before .before .run-page .ensures m h)
+
+same-length-6 : tie.Need-same-length-6
+same-length-6 c = search needs
+
+returns-8 : tie.Need-returns-8
+unfolding replayLine
+returns-8 c =
     let a = c .before .before .before .before .before .before .before .before .before .before .args in
     let p = c .before .before .before .before .before .before .parse-line in
     λ m h. line-step (a .number) m _ _ (parsed-as (a .line .now) (p .result) _ (p .ensures) (c .before .before .before .before .enum-told2 .given .1)) (c .before .before .other2 .ensures)
@@ -124,6 +139,8 @@ run-line-spec =
     run-with-set-requires
     enum-known-end
     run-group-requires
+    enum-known-end-2
+    run-page-requires
     enum-told-2
     other-requires-2
     returns-2
@@ -135,4 +152,6 @@ run-line-spec =
     same-length-4
     returns-6
     same-length-5
-    returns-7)
+    returns-7
+    same-length-6
+    returns-8)

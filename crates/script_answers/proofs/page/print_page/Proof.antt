@@ -1,0 +1,65 @@
+-- `script_answers::page::print_page` meets its contract: the answer decides, and the places stand in the answer table.
+use Prim.Native.Nat.{ℕ}
+use mathlib.Core.Path.{ap, _∙_}
+use mathlib.Core.List.{[], _∷_}
+use borrow.Author.Needs.{needs}
+use denote.Ref.{now}
+use Rattle.spec_decimal.specs.Decimal.{decimal}
+use Rattle.spec_listing.specs.Listing.{fields}
+use Rattle.bytes_printer.specs.PrintsLaws.{same-bytes}
+use Rattle.script_answers.specs.PageToldLaws.{keys-counted, keys-table, answered-lines, refused-lines}
+use Rattle.script_answers.proofs.page.print_page.Statement.{statement}
+use Rattle.script_answers.proofs.page.print_page.Tie as tie
+
+enum-known-answer : tie.Need-enum-known-answer
+enum-known-answer c = search needs
+
+print-answered-requires : tie.Need-print-answered-requires
+print-answered-requires c κs = search needs
+
+enum-known-answer-2 : tie.Need-enum-known-answer-2
+enum-known-answer-2 c = search needs
+
+number-requires : tie.Need-number-requires
+number-requires c κs = search needs
+
+print-number-line-requires : tie.Need-print-number-line-requires
+print-number-line-requires c κs = search needs
+
+same-length : tie.Need-same-length
+same-length c = search needs
+
+returns : tie.Need-returns
+returns c =
+    let call = c .before .before in
+    let told = call .before .before .before in
+    let args = told .before .before .before .before .args in
+    λ p k keys places h.
+    let is = told .answer .given .1 in
+    same-bytes (answered-lines p k keys places (args .answer) (now (args .table)) h _ is)
+    (call .print-answered .ensures p k keys _ (h .valid) (keys-counted p k keys places (args .answer) (now (args .table)) h _ is) (keys-table p k keys places (args .answer) (now (args .table)) h _ is))
+
+same-length-2 : tie.Need-same-length-2
+same-length-2 c = search needs
+
+returns-2 : tie.Need-returns-2
+returns-2 c =
+    let call = c .before .before in
+    let told = call .before .before .before .before in
+    let args = told .before .before .before .before .args in
+    let number = ap (λ (n : ℕ). 89 ∷ fields (decimal n ∷ [])) (call .before .number .ensures) in
+    λ p k keys places h. same-bytes (number ∙ refused-lines p k keys places (args .answer) (now (args .table)) h _ (told .answer2 .given .1)) (call .print-number-line .ensures)
+
+pub print-page-spec : {M : Type 1} → statement M
+print-page-spec =
+    tie.close
+    (tie.spec
+    enum-known-answer
+    print-answered-requires
+    enum-known-answer-2
+    number-requires
+    print-number-line-requires
+    same-length
+    returns
+    same-length-2
+    returns-2)
