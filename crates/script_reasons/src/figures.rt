@@ -88,55 +88,23 @@ pub fn print_figures(out: &mut [u8], at: Printed, reason: BatchReason) -> Printe
     match reason {
         BatchReason::ForeignSession { named, own } => print_two(out, at, named, own),
         BatchReason::SessionClosed => bytes_printer::print_newline(out, at),
-        BatchReason::DeclaredLimits {
-            which: _,
-            patches,
-            patches_limit,
-            bytes,
-            bytes_limit,
-        } => print_four(out, at, patches, patches_limit, bytes, bytes_limit),
-        BatchReason::Unreadable {
-            rule: _,
-            inside,
-            position,
-        } => {
+        BatchReason::DeclaredLimits(_, a, b, c, d) => print_four(out, at, a, b, c, d),
+        BatchReason::Unreadable(_, inside, position) => {
             let byte = bytes_printer::print_field_u64(out, at, position as u64);
             print_inside(out, byte, inside)
         }
-        BatchReason::HasFindings {
-            place,
-            count,
-            kind,
-            domain,
-            secondary,
-        } => {
+        BatchReason::HasFindings(place, count, kind, domain, secondary) => {
             let named = print_place(out, at, place);
             print_four(out, named, count as u64, kind, domain, secondary)
         }
-        BatchReason::CountsDiffer {
-            patches,
-            actual_patches,
-            references,
-            actual_references,
-        } => print_four(
-            out,
-            at,
-            patches,
-            actual_patches,
-            references,
-            actual_references,
-        ),
+        BatchReason::CountsDiffer(a, b, c, d) => print_four(out, at, a, b, c, d),
         BatchReason::ReferencesOver { actual, limit } => print_two(out, at, actual, limit),
-        BatchReason::UnknownTarget {
-            count,
-            patch,
-            operation,
-        } => print_three(out, at, count as u64, patch as u64, operation as u64),
+        BatchReason::UnknownTarget(count, patch, operation) => {
+            print_three(out, at, count as u64, patch as u64, operation as u64)
+        }
         BatchReason::CursorMismatch { takes } => print_takes(out, at, takes),
-        BatchReason::OperationFails {
-            patch,
-            operation,
-            rule: _,
-        } => print_two(out, at, patch as u64, operation as u64),
+        BatchReason::OperationFails(patch, operation, _) => {
+            print_two(out, at, patch as u64, operation as u64)
+        }
     }
 }

@@ -47,13 +47,13 @@ pub fn number_of(reason: BatchReason) -> u64
     match reason {
         BatchReason::ForeignSession { .. } => 1,
         BatchReason::SessionClosed => 2,
-        BatchReason::DeclaredLimits { .. } => 4,
-        BatchReason::Unreadable { rule, .. } => reading_number(rule),
-        BatchReason::HasFindings { .. } => 11,
-        BatchReason::CountsDiffer { .. } => 5,
+        BatchReason::DeclaredLimits(_, _, _, _, _) => 4,
+        BatchReason::Unreadable(rule, _, _) => reading_number(rule),
+        BatchReason::HasFindings(_, _, _, _, _) => 11,
+        BatchReason::CountsDiffer(_, _, _, _) => 5,
         BatchReason::ReferencesOver { .. } => 4,
-        BatchReason::UnknownTarget { .. } => 6,
+        BatchReason::UnknownTarget(_, _, _) => 6,
         BatchReason::CursorMismatch { .. } => 7,
-        BatchReason::OperationFails { rule, .. } => operation_number(rule),
+        BatchReason::OperationFails(_, _, rule) => operation_number(rule),
     }
 }

@@ -88,10 +88,14 @@ pub fn print_word(out: &mut [u8], at: Printed, reason: BatchReason) -> Printed
             b"foreign-session",
         ),
         BatchReason::SessionClosed => bytes_printer::print_field_bytes(out, at, b"closed"),
-        BatchReason::DeclaredLimits { which, .. } => print_limit(out, at, which),
-        BatchReason::Unreadable { rule, .. } => print_reading(out, at, rule),
-        BatchReason::HasFindings { .. } => bytes_printer::print_field_bytes(out, at, b"findings"),
-        BatchReason::CountsDiffer { .. } => bytes_printer::print_field_bytes(
+        BatchReason::DeclaredLimits(which, _, _, _, _) => print_limit(out, at, which),
+        BatchReason::Unreadable(rule, _, _) => print_reading(out, at, rule),
+        BatchReason::HasFindings(_, _, _, _, _) => bytes_printer::print_field_bytes(
+            out,
+            at,
+            b"findings",
+        ),
+        BatchReason::CountsDiffer(_, _, _, _) => bytes_printer::print_field_bytes(
             out,
             at,
             b"counts-differ",
@@ -101,12 +105,12 @@ pub fn print_word(out: &mut [u8], at: Printed, reason: BatchReason) -> Printed
             at,
             b"references",
         ),
-        BatchReason::UnknownTarget { .. } => bytes_printer::print_field_bytes(
+        BatchReason::UnknownTarget(_, _, _) => bytes_printer::print_field_bytes(
             out,
             at,
             b"unknown-target",
         ),
         BatchReason::CursorMismatch { .. } => bytes_printer::print_field_bytes(out, at, b"cursor"),
-        BatchReason::OperationFails { rule, .. } => print_operation(out, at, rule),
+        BatchReason::OperationFails(_, _, rule) => print_operation(out, at, rule),
     }
 }
