@@ -42,11 +42,7 @@ fn explain_targets(
     match targets::first_unknown(set, edition, nodes, bindings, collections) {
         FirstUnknown::AllKnown => StepReason::Fine,
         FirstUnknown::Unknown { patch, operation } =>
-            StepReason::Because(BatchReason::UnknownTarget {
-                count: absent,
-                patch,
-                operation,
-            }),
+            StepReason::Because(BatchReason::UnknownTarget(absent, patch, operation)),
         FirstUnknown::Unreadable(_) => StepReason::Fine,
     }
 }

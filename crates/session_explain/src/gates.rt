@@ -26,13 +26,13 @@ fn over_declared(
 ) -> StepReason
     ensures { λ r. ⌜ r ≡ overTo which (limitsOf limits) (envelopeMeans envelope) ⌝ }
 {
-    StepReason::Because(BatchReason::DeclaredLimits {
+    StepReason::Because(BatchReason::DeclaredLimits(
         which,
-        patches: envelope.patch_count,
-        patches_limit: limits.max_patches_per_transition,
-        bytes: envelope.stimulus_bytes,
-        bytes_limit: limits.max_transition_stimulus_bytes,
-    })
+        envelope.patch_count,
+        limits.max_patches_per_transition,
+        envelope.stimulus_bytes,
+        limits.max_transition_stimulus_bytes,
+    ))
 }
 
 // Step 3: the declared figures are within their limits.
@@ -105,12 +105,12 @@ pub fn explain_counts(
             return explain_references(limits, references);
         }
     }
-    StepReason::Because(BatchReason::CountsDiffer {
-        patches: envelope.patch_count,
-        actual_patches: patches,
-        references: declared,
-        actual_references: references,
-    })
+    StepReason::Because(BatchReason::CountsDiffer(
+        envelope.patch_count,
+        patches,
+        declared,
+        references,
+    ))
 }
 
 // The one number that a cursor takes; Uninitialized asks for none, and after the last there is none.

@@ -129,11 +129,7 @@ pub fn explain_operations(
     match first_refused(panel, set, edition) {
         FirstRefused::AllApply => StepReason::Fine,
         FirstRefused::Refused(patch, operation, rule) =>
-            StepReason::Because(BatchReason::OperationFails {
-                patch,
-                operation,
-                rule,
-            }),
+            StepReason::Because(BatchReason::OperationFails(patch, operation, rule)),
         FirstRefused::Unreadable(_) => StepReason::Fine,
     }
 }

@@ -23,11 +23,11 @@ pub fn explain_check(set: &[u8], edition: ProjectionPatchEdition) -> StepReason
 {
     match set::locate_set(set, edition) {
         SetLocated::Read => StepReason::Fine,
-        SetLocated::Unread(rule, inside, position) => StepReason::Because(BatchReason::Unreadable {
+        SetLocated::Unread(rule, inside, position) => StepReason::Because(BatchReason::Unreadable(
             rule,
             inside,
             position,
-        }),
+        )),
     }
 }
 
@@ -45,13 +45,13 @@ pub fn explain_findings(set: &[u8], edition: ProjectionPatchEdition) -> StepReas
             if logical == 0 {
                 return StepReason::Fine;
             }
-            StepReason::Because(BatchReason::HasFindings {
+            StepReason::Because(BatchReason::HasFindings(
                 place,
-                count: logical,
-                kind: first[0],
-                domain: first[1],
-                secondary: first[2],
-            })
+                logical,
+                first[0],
+                first[1],
+                first[2],
+            ))
         }
         PatchSetCheck::Refused(_) => StepReason::Fine,
     }

@@ -25,53 +25,22 @@ pub enum OperationRule {
 
 // In the order of a batch's steps. Patches and operations are told by their index from 0.
 pub enum BatchReason {
-    ForeignSession {
-        named: u64,
-        own: u64,
-    },
+    ForeignSession { named: u64, own: u64 },
     SessionClosed,
-    DeclaredLimits {
-        which: DeclaredLimit,
-        patches: u64,
-        patches_limit: u64,
-        bytes: u64,
-        bytes_limit: u64,
-    },
-    Unreadable {
-        rule: ReadingRule,
-        inside: Inside,
-        position: usize,
-    },
-    HasFindings {
-        place: CheckPlace,
-        count: usize,
-        kind: u64,
-        domain: u64,
-        secondary: u64,
-    },
-    CountsDiffer {
-        patches: u64,
-        actual_patches: u64,
-        references: u64,
-        actual_references: u64,
-    },
-    ReferencesOver {
-        actual: u64,
-        limit: u64,
-    },
-    UnknownTarget {
-        count: usize,
-        patch: usize,
-        operation: usize,
-    },
-    CursorMismatch {
-        takes: OptionalNumber,
-    },
-    OperationFails {
-        patch: usize,
-        operation: usize,
-        rule: OperationRule,
-    },
+    // Which, the patches and their limit, the bytes and their limit.
+    DeclaredLimits(DeclaredLimit, u64, u64, u64, u64),
+    // The rule, the place, and the position of the field.
+    Unreadable(ReadingRule, Inside, usize),
+    // The place, how many, and kind, domain and secondary of the first.
+    HasFindings(CheckPlace, usize, u64, u64, u64),
+    // Patches declared and there, references declared and there.
+    CountsDiffer(u64, u64, u64, u64),
+    ReferencesOver { actual: u64, limit: u64 },
+    // How many, and patch and operation of the first.
+    UnknownTarget(usize, usize, usize),
+    CursorMismatch { takes: OptionalNumber },
+    // Patch, operation and rule.
+    OperationFails(usize, usize, OperationRule),
 }
 
 // Why a step refuses, if it does.

@@ -1,0 +1,50 @@
+-- `script_reasons::print_given` meets its contract: the letter, the number, the name and the figures.
+use Prim.Native.Nat.{ℕ}
+use mathlib.Core.Path.{ap, _∙_}
+use mathlib.Core.List.{_∷_}
+use Rattle.spec_decimal.specs.Decimal.{decimal}
+use Rattle.spec_explain.specs.Reason.{reasonWord}
+use Rattle.spec_listing.specs.Listing.{fields}
+use Rattle.spec_replay.specs.Reasons.{figureFields, reasonLine}
+use Rattle.bytes_printer.specs.PrintsLaws.{_⨾_, same-bytes}
+use Rattle.script_reasons.specs.Meaning.{reasonOf}
+use Rattle.script_reasons.specs.Numbers.{number-is}
+use borrow.Author.Needs.{needs}
+use Rattle.script_reasons.proofs.print_given.Statement.{statement}
+use Rattle.script_reasons.proofs.print_given.Tie as tie
+
+print-byte-requires : tie.Need-print-byte-requires
+print-byte-requires c κs = search needs
+
+number-of-requires : tie.Need-number-of-requires
+number-of-requires c κs = search needs
+
+print-field-u64-requires : tie.Need-print-field-u64-requires
+print-field-u64-requires c κs = search needs
+
+print-word-requires : tie.Need-print-word-requires
+print-word-requires c κs = search needs
+
+print-figures-requires : tie.Need-print-figures-requires
+print-figures-requires c κs = search needs
+
+same-length : tie.Need-same-length
+same-length c = search needs
+
+returns : tie.Need-returns
+unfolding fields reasonLine
+returns c =
+    let r = c .before .before .before .before .before .before .before .before .before .before .before .before .before .before .before .before .before .before .args .reason in
+    same-bytes (ap (λ (n : ℕ). 87 ∷ fields (decimal n ∷ reasonWord (reasonOf r) ∷ figureFields (reasonOf r))) (c .before .before .before .before .before .before .before .before .before .before .before .number-of .ensures ∙ number-is r)) (c .before .before .before .before .before .before .before .before .before .before .before .before .before .before .before .print-byte .ensures ⨾ c .before .before .before .before .before .before .before .before .before .before .print-field-u64 .ensures ⨾ c .before .before .before .before .before .before .print-word .ensures ⨾ c .before .before .print-figures .ensures)
+
+pub print-given-spec : {M : Type 1} → statement M
+print-given-spec =
+    tie.close
+    (tie.spec
+    print-byte-requires
+    number-of-requires
+    print-field-u64-requires
+    print-word-requires
+    print-figures-requires
+    same-length
+    returns)
