@@ -1,0 +1,36 @@
+-- `set_up` meets its contract.
+use mathlib.Core.Path.{refl, ap, _∙_}
+use Rattle.session_turns.specs.declared.TurnsSetUp.{TurnsSetUp}
+use Rattle.session_lent_turns.specs.declared.LentSetUp.the-variants.{Answered}
+use Rattle.session_lent_turns.specs.LentTurns.{setUpLeft}
+use borrow.Author.Needs.{needs}
+use Rattle.session_lent_turns.proofs.set_up.Statement.{statement}
+use Rattle.session_lent_turns.proofs.set_up.Tie as tie
+use Rattle.session_lent_turns.proofs.set_up.Reads as reads
+use Rattle.session_lent_turns.proofs.set_up.Lts as lts
+use Rattle.session_lent_turns.proofs.keep_set_up.Reads as keep-set-up-reads
+use Rattle.session_turns.proofs.SenderTurns.new.Reads as new-reads
+
+returns : tie.Need-returns
+returns c = record { other = λ no. (refl, refl); eleven = λ yes. absurd (c .if1 .taken yes) }
+
+new-requires : tie.Need-new-requires
+new-requires c κs = search needs
+
+keep-set-up-requires : tie.Need-keep-set-up-requires
+keep-set-up-requires c κs = search needs
+
+same-length : tie.Need-same-length
+same-length c = search needs
+
+returns-2 : tie.Need-returns-2
+returns-2 c =
+    let a = c .before .before .before .before .before .before .before .before .args in
+    let made = c .before .before .before .before .before .new .ensures in
+    record {
+      other = λ no. absurd (no (c .before .before .before .before .before .before .if1 .left));
+      eleven = λ yes. (ap (λ (m : TurnsSetUp). Answered (m .answer)) made, c .before .before .keep-set-up .ensures ∙ ap (λ (m : TurnsSetUp). setUpLeft (a .numbers .now) (m .answer) (m .turns)) made);
+    }
+
+pub set-up-spec : {M : Type 1} → statement M
+set-up-spec = tie.close (tie.spec returns new-requires keep-set-up-requires same-length returns-2)

@@ -1,0 +1,46 @@
+-- `turn` meets its contract.
+use mathlib.Core.Path.{refl, ap, _∙_}
+use Rattle.spec_turns.specs.Turns as model
+use Rattle.session_lifecycle.specs.Meaning.{cursorOf}
+use Rattle.session_turns.specs.Meaning.{turnTakenTo, turnsOf}
+use Rattle.session_turns.specs.declared.SenderTurns.{SenderTurns}
+use Rattle.session_turns.specs.declared.TurnTaken.{TurnTaken}
+use Rattle.session_lent_turns.specs.declared.LentTurn.the-variants.{Answered}
+use Rattle.session_lent_turns.specs.LentTurns.{turnLeft}
+use borrow.Author.Needs.{needs}
+use Rattle.session_lent_turns.proofs.turn.Statement.{statement}
+use Rattle.session_lent_turns.proofs.turn.Tie as tie
+use Rattle.session_lent_turns.proofs.turn.Reads as reads
+use Rattle.session_lent_turns.proofs.turn.Lts as lts
+use Rattle.session_lent_turns.proofs.keep_turn.Reads as keep-turn-reads
+use Rattle.session_lent_turns.proofs.turns_in.Reads as turns-in-reads
+use Rattle.session_turns.proofs.SenderTurns.turn.Reads as turn-reads
+
+returns : tie.Need-returns
+returns c = record { other = λ no. (refl, refl); eleven = λ yes. absurd (c .if1 .taken yes) }
+
+turns-in-requires : tie.Need-turns-in-requires
+turns-in-requires c κs = search needs
+
+turn-requires : tie.Need-turn-requires
+turn-requires c κs = search needs
+
+keep-turn-requires : tie.Need-keep-turn-requires
+keep-turn-requires c κs = search needs
+
+same-length : tie.Need-same-length
+same-length c = search needs
+
+returns-2 : tie.Need-returns-2
+returns-2 c =
+    let a = c .before .before .before .before .before .before .before .before .before .before .args in
+    let done = c .before .before .before .before .before .turn .ensures ∙ ap (λ (t : SenderTurns). turnTakenTo t (model.turn (turnsOf t) (cursorOf (a .cursor)))) (c .before .before .before .before .before .before .turns-in .ensures) in
+    record {
+      other = λ no. absurd (no (c .before .before .before .before .before .before .before .before .if1 .left));
+      eleven = λ yes. (ap (λ (m : TurnTaken). Answered (m .answer)) done, c .before .before .keep-turn .ensures ∙ ap (λ (m : TurnTaken). turnLeft (a .numbers .now) (m .answer) (m .turns)) done);
+    }
+
+pub turn-spec : {M : Type 1} → statement M
+turn-spec =
+    tie.close
+    (tie.spec returns turns-in-requires turn-requires keep-turn-requires same-length returns-2)
