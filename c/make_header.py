@@ -10,8 +10,8 @@ import sys
 from pathlib import Path
 
 ROOT = Path(__file__).resolve().parent.parent
-ANSWERS = [ROOT / "crates" / "c_answers" / "src" / name for name in ("answers.rt", "counts.rt", "values.rt", "sets.rt")]
-CALLS = [ROOT / "crates" / "c_exports" / "src" / name for name in ("lib.rt", "session.rt", "views.rt", "bytes.rt")]
+ANSWERS = [ROOT / "crates" / "c_answers" / "src" / name for name in ("answers.rt", "counts.rt", "values.rt", "sets.rt")] + [ROOT / "crates" / "c_exports" / "src" / "turns.rt"]
+CALLS = [ROOT / "crates" / "c_exports" / "src" / name for name in ("lib.rt", "session.rt", "views.rt", "bytes.rt", "turns.rt")]
 HEADER = ROOT / "include" / "geysertray.h"
 BEGIN, END = "/* ---- made from crates/c_answers and crates/c_exports by c/make_header.py */\n", "/* ---- end of what is made */\n"
 
@@ -23,6 +23,7 @@ SIZES = {
     "LocalProjectionState::LENGTH_BYTES": "GEYSERTRAY_LENGTH_BYTES",
     "ProjectionPatchValue::TEXT_BYTES": "GEYSERTRAY_TEXT_BYTES",
     "PageLookup::WIDTH": "GEYSERTRAY_PAGE_WIDTH",
+    "session_lent_turns::NUMBERS": "GEYSERTRAY_TURNS_NUMBERS",
 }
 # capacities that no declaration names
 CAPACITIES = {

@@ -337,6 +337,29 @@ static void test_editions(void)
     EXPECT(counted(geysertray_set_listing(back, size, 2, output, sizeof output), 5) && memcmp(output, "E\t10\n", 5) == 0);
 }
 
+/* document 02, Job 14: in a circle after the one last named, at the start from sender 0 on */
+static void test_turns(void)
+{
+    uint64_t turns[GEYSERTRAY_TURNS_NUMBERS] = {0}, kept[GEYSERTRAY_TURNS_NUMBERS];
+    geysertray_turn turn;
+    EXPECT(geysertray_turns_set_up(turns, 0) == GEYSERTRAY_WRONG_SENDER_COUNT && geysertray_turns_set_up(turns, 9) == GEYSERTRAY_WRONG_SENDER_COUNT);
+    EXPECT(turns[0] == 0 && geysertray_turns_set_up(turns, 3) == 0 && turns[0] == 3);
+    EXPECT(geysertray_turns_next(turns, 0, 0).named == 0);
+    EXPECT(geysertray_turns_register(turns, 3) == GEYSERTRAY_UNKNOWN_SENDER);
+    EXPECT(geysertray_turns_register(turns, 0) == 0 && geysertray_turns_register(turns, 2) == 0);
+    memcpy(kept, turns, sizeof turns);
+    EXPECT(geysertray_turns_register(turns, 2) == GEYSERTRAY_ALREADY_WAITING && memcmp(kept, turns, sizeof turns) == 0);
+    turn = geysertray_turns_next(turns, 0, 0);
+    EXPECT(turn.named == 1 && turn.sender == 0 && turn.number == 1);
+    EXPECT(geysertray_turns_register(turns, 0) == 0);
+    turn = geysertray_turns_next(turns, 1, 41);
+    EXPECT(turn.named == 1 && turn.sender == 2 && turn.number == 42);
+    turn = geysertray_turns_next(turns, 1, UINT64_MAX);
+    EXPECT(turn.named == 1 && turn.sender == 0 && turn.number == UINT64_MAX);
+    memcpy(kept, turns, sizeof turns);
+    EXPECT(geysertray_panel_turn(&panel, turns).named == 0 && memcmp(kept, turns, sizeof turns) == 0);
+}
+
 int main(void)
 {
     EXPECT(geysertray_version() == 1000000);
@@ -350,6 +373,7 @@ int main(void)
     test_import();
     test_depends();
     test_editions();
+    test_turns();
     printf(failures ? "%d failed\n" : "a panel in C: ok\n", failures);
     return failures != 0;
 }

@@ -15,6 +15,9 @@ static size_t node_count, pair_count, collection_count;
 static geysertray_panel panel;
 static int has_session;
 static uint64_t edition = 1;
+/* the turns, if there are any */
+static uint64_t turns[GEYSERTRAY_TURNS_NUMBERS];
+static int has_turns;
 /* the fields of a line */
 static uint64_t numbers[MOST_FIELDS], has_optional;
 static size_t number_count;
@@ -298,6 +301,38 @@ static void depends(void)
         printf("Q\t%" PRIu64 "\t%" PRIu64 "\n", words[2 * i], words[2 * i + 1]);
 }
 
+/* ---- turns */
+
+static void senders(void)
+{
+    uint64_t number = geysertray_turns_set_up(turns, numbers[0]);
+    has_turns = has_turns || number == 0;
+    printf("J\t%" PRIu64 "\n", number);
+}
+
+static void wait_for_turn(void)
+{
+    if (has_turns)
+        printf("J\t%" PRIu64 "\n", geysertray_turns_register(turns, numbers[0]));
+    else
+        printf("N\n");
+}
+
+static void turn(void)
+{
+    const uint64_t *head = geysertray_current(&panel)->head;
+    geysertray_turn told;
+    if (!has_turns) {
+        printf("N\n");
+        return;
+    }
+    told = geysertray_turns_next(turns, head[2], head[3]);
+    if (told.named)
+        printf("J\t%" PRIu64 "\t%" PRIu64 "\n", told.sender, told.number);
+    else
+        printf("J\tnone\n");
+}
+
 /* ---- one line */
 
 /* The form has a letter for each field: n a number, s a slot, o a number or none, h bytes in hex, e an edition, a a step; c, d, p and k are rooms;
@@ -328,6 +363,9 @@ static const struct command {
     {"depends", "dh", 0, depends},
     {"print", "np", 1, print},
     {"length", "n", 1, length},
+    {"senders", "n", 0, senders},
+    {"wait", "n", 0, wait_for_turn},
+    {"turn", "", 1, turn},
     {"page", "nk*", 1, page},
     {"import", "cnnnnonnnnh", 0, import_terms},
 };

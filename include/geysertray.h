@@ -57,7 +57,10 @@ enum {
     GEYSERTRAY_OUTPUT_TOO_SHORT = 14,
     GEYSERTRAY_OTHER_FORM = 15,
     GEYSERTRAY_TOO_MANY_KEYS = 16,
-    GEYSERTRAY_KIND_MISSING = 18
+    GEYSERTRAY_KIND_MISSING = 18,
+    GEYSERTRAY_UNKNOWN_SENDER = 19,
+    GEYSERTRAY_ALREADY_WAITING = 20,
+    GEYSERTRAY_WRONG_SENDER_COUNT = 21
 };
 
 /* kinds of values, and what a quad and a node's availability are */
@@ -108,6 +111,7 @@ enum {
 #define GEYSERTRAY_LENGTH_BYTES 2048
 #define GEYSERTRAY_TEXT_BYTES 240
 #define GEYSERTRAY_PAGE_WIDTH 262
+#define GEYSERTRAY_TURNS_NUMBERS 11
 #define GEYSERTRAY_ANCHORS 128
 #define GEYSERTRAY_PAGE_KEYS 64
 #define GEYSERTRAY_PRINT_BYTES 46848
@@ -203,6 +207,14 @@ typedef struct {
     uint64_t held;
     uint64_t lacked;
 } geysertray_dependencies;
+
+/* Whether a sender was named (1), and then which, and the number for its batch. */
+typedef struct {
+    uint64_t disposition;
+    uint64_t named;
+    uint64_t sender;
+    uint64_t number;
+} geysertray_turn;
 
 /* The version of the library: 1000000 times the major number, 1000 times the minor one, and the patch number. */
 uint64_t geysertray_version(void);
@@ -381,6 +393,23 @@ geysertray_dependencies geysertray_depends(
     uint64_t edition,
     uint64_t *out,
     size_t out_count);
+
+/* Sets turns up for one to eight senders, of whom nobody waits: 0, or 21 for any other number, which leaves the numbers. */
+uint64_t geysertray_turns_set_up(
+    uint64_t turns[GEYSERTRAY_TURNS_NUMBERS],
+    size_t senders);
+
+/* The sender of a number from 0 waits from now on: 0; 19 for a number out of the range, 20 for one that waits already, which leave the numbers. */
+uint64_t geysertray_turns_register(
+    uint64_t turns[GEYSERTRAY_TURNS_NUMBERS],
+    size_t sender);
+
+/* Names the sender whose turn it is, which then waits no more, with the number for its batch: the one after the session's cursor, whose two
+   numbers stand in its head. With none waiting the numbers stay. */
+geysertray_turn geysertray_turns_next(
+    uint64_t turns[GEYSERTRAY_TURNS_NUMBERS],
+    uint64_t has_cursor,
+    uint64_t cursor);
 /* ---- end of what is made */
 
 /* ---- a panel in one block */
@@ -441,6 +470,13 @@ static inline geysertray_answer geysertray_send(
     if (answer.disposition == GEYSERTRAY_APPLIED)
         panel->current = 1 - panel->current;
     return answer;
+}
+
+/* The next turn, with the number for a batch to this panel. */
+static inline geysertray_turn geysertray_panel_turn(const geysertray_panel *panel, uint64_t turns[GEYSERTRAY_TURNS_NUMBERS])
+{
+    const geysertray_half *half = &panel->halves[panel->current];
+    return geysertray_turns_next(turns, half->head[2], half->head[3]);
 }
 
 /* ---- what a panel holds */

@@ -17,6 +17,7 @@ BINDING_BYTES = 16960
 AVAILABILITY_BYTES = 1088
 ENTRY_BYTES = 34432
 LENGTH_BYTES = 2048
+TURNS_NUMBERS = 11
 TEXT_BYTES = 240
 PAGE_WIDTH = 262
 # room that holds every answer of its call: docs/RULES.md, number 14
@@ -140,6 +141,13 @@ class PageEntry(NamedTuple):
     value: Value
 
 
+class Turn(NamedTuple):
+    """Whose turn it is, and the number for its batch."""
+
+    sender: int
+    number: int
+
+
 class Finding(NamedTuple):
     kind: int
     domain: int
@@ -220,6 +228,7 @@ _Answer = _numbers_struct("_Answer", "disposition", "number", "stage", "logical"
 _Lifecycle = _numbers_struct("_Lifecycle", "disposition", "number", "stage", "logical", "emitted", "lifecycle", "has_cursor", "cursor", "stimulus_bytes")
 _Count = _numbers_struct("_Count", "disposition", "number", "count")
 _Availability = _numbers_struct("_Availability", "disposition", "found", "mark", "availability")
+_Turn = _numbers_struct("_Turn", "disposition", "named", "sender", "number")
 _Checked = _numbers_struct("_Checked", "disposition", "number", "in_patch", "patch", "logical", "written")
 _Dependencies = _numbers_struct("_Dependencies", "disposition", "number", "never", "patch", "operation", "held", "lacked")
 
@@ -265,6 +274,9 @@ _CALLS = {
     "convert": (_Count, *_SLICE, _U64, *_SLICE),
     "set_listing": (_Count, *_SLICE, _U64, *_SLICE),
     "version": (ctypes.c_uint64,),
+    "turns_set_up": (ctypes.c_uint64, _AT, _SIZE),
+    "turns_register": (ctypes.c_uint64, _AT, _SIZE),
+    "turns_next": (_Turn, _AT, _U64, _U64),
 }
 
 
@@ -377,6 +389,12 @@ class Panel:
             self._half, self._next = to, half
         return answer
 
+    @property
+    def cursor(self) -> Optional[int]:
+        """The number of the last batch that was applied."""
+        has_cursor, cursor = self._half.head[2:4]
+        return cursor if has_cursor else None
+
     def binding(self, node: int, slot: int) -> Optional[Value]:
         return _value(_call("binding_value", self._half.head, self._half.bindings, node, slot))
 
@@ -424,6 +442,28 @@ class Panel:
         """Every record of the panel, one to a line."""
         half = self._half
         return _written("listing", half.head, half.bindings, half.availability, half.entries, room=room).decode("utf-8")
+
+
+class Turns:
+    """Turns among one to eight senders to one panel, numbered from 0."""
+
+    def __init__(self, senders: int):
+        self._numbers = (ctypes.c_uint64 * TURNS_NUMBERS)()
+        self._do("turns_set_up", senders)
+
+    def _do(self, name: str, number: int) -> None:
+        refusal = _call(name, self._numbers, number)
+        if refusal:
+            raise Refused(refusal)
+
+    def wait(self, sender: int) -> None:
+        """The sender waits for its turn from now on."""
+        self._do("turns_register", sender)
+
+    def turn(self, cursor: Optional[int]) -> Optional[Turn]:
+        """Whose turn it is now, with the panel's cursor; it waits no more. None where nobody waits."""
+        told = _call("turns_next", self._numbers, *((0, 0) if cursor is None else (1, cursor)))
+        return Turn(told.sender, told.number) if told.named else None
 
 
 # ---- calls on bytes, which need no panel

@@ -140,6 +140,11 @@ public final class Panel implements AutoCloseable {
         return answer;
     }
 
+    /** The number of the last batch that was applied. */
+    public OptionalLong cursor() {
+        return at(half.head(), 2) == 0 ? OptionalLong.empty() : OptionalLong.of(at(half.head(), 3));
+    }
+
     public Optional<Value> binding(long node, int slot) {
         try (Arena arena = Arena.ofConfined()) {
             return value(Library.answer(arena, "binding_value", VALUE, 0, half.head(), half.bindings(), node, slot), 0);

@@ -1,6 +1,7 @@
 import geysertray.Geysertray;
 import geysertray.Panel;
 import geysertray.Refused;
+import geysertray.Turns;
 import java.math.BigInteger;
 import java.nio.charset.StandardCharsets;
 import java.util.ArrayList;
@@ -27,10 +28,10 @@ final class Replay implements AutoCloseable {
             Map.entry("apply", "an"), Map.entry("batch", "nnnnnh"), Map.entry("check", "h"), Map.entry("list", "h"), Map.entry("show", ""),
             Map.entry("value binding", "ns"), Map.entry("value node", "n"), Map.entry("value entry", "nn"), Map.entry("mark binding", "ns"),
             Map.entry("mark node", "n"), Map.entry("mark entry", "nn"), Map.entry("edition", "e"), Map.entry("convert", "ch"), Map.entry("depends", "dh"),
-            Map.entry("print", "np"), Map.entry("length", "n"), Map.entry("import", "cnnnnonnnnh"));
+            Map.entry("print", "np"), Map.entry("length", "n"), Map.entry("senders", "n"), Map.entry("wait", "n"), Map.entry("turn", ""), Map.entry("import", "cnnnnonnnnh"));
     private static final Map<Character, Long> LAST = Map.of('n', -1L, 'o', -1L, 'k', 128L, 's', 0xffffffffL, 'c', 32768L, 'd', 16384L, 'p', 131072L);
-    private static final List<String> NOT_BOUND = List.of("group", "senders", "wait", "turn");
-    private static final List<String> NEED_A_SESSION = List.of("apply", "batch", "show", "value", "mark", "print", "length", "page");
+    private static final List<String> NOT_BOUND = List.of("group");
+    private static final List<String> NEED_A_SESSION = List.of("apply", "batch", "show", "value", "mark", "print", "length", "page", "turn");
 
     /** A line that is no command. */
     static final class BadLine extends Exception {
@@ -50,6 +51,7 @@ final class Replay implements AutoCloseable {
     private long edition = 1;
     private Panel panel;
     private boolean hasOptional;
+    private Turns turns;
 
     /** The answers to a script, up to its end or its first bad line. */
     static byte[] replay(byte[] script) throws NotBound {
@@ -160,9 +162,23 @@ final class Replay implements AutoCloseable {
             case "apply" -> apply(numbers);
             case "batch" -> batch(numbers, set);
             case "edition" -> edition(numbers[0]);
+            case "senders" -> told("J", () -> turns = new Turns(numbers[0]), it -> line("J", 0));
+            case "wait", "turn" -> turns == null ? line("N") : onTurns(command, numbers);
             case "check", "list", "convert", "depends", "import" -> onBytes(command, numbers, set);
             default -> look(command, numbers);
         };
+    }
+
+    private String onTurns(String command, long[] numbers) {
+        if (command.equals("wait")) {
+            return told("J", () -> await(numbers[0]), it -> line("J", 0));
+        }
+        return turns.turn(panel.cursor()).map(it -> line("J", it.sender(), it.number())).orElse(line("J", "none"));
+    }
+
+    private Turns await(long sender) {
+        turns.await(sender);
+        return turns;
     }
 
     private String onBytes(String command, long[] numbers, byte[] set) {

@@ -7,7 +7,7 @@ from pathlib import Path
 sys.path.insert(0, str(Path(__file__).resolve().parent.parent))
 
 import geysertray
-from geysertray import Command, Disposition, Envelope, Kind, Lifecycle, Limits, Never, Panel, Refused
+from geysertray import Command, Disposition, Envelope, Kind, Lifecycle, Limits, Never, Panel, Refused, Turns
 
 LINE_BYTES = 131072
 KEPT_ANCHORS = 129
@@ -81,11 +81,15 @@ FIELDS = {
     "depends": (up_to(16384), set_bytes),
     "print": (NUMBER, up_to(131072)),
     "length": (NUMBER,),
+    "senders": (NUMBER,),
+    "wait": (NUMBER,),
+    "turn": (),
     "import": (up_to(32768), *[NUMBER] * 4, optional, *[NUMBER] * 4, set_bytes),
 }
 METHODS = {"edition": "edition_", "import": "import_"}
-NOT_BOUND = ("group", "senders", "wait", "turn")
-NEED_A_SESSION = ("apply", "batch", "show", "value", "mark", "print", "length", "page")
+NOT_BOUND = ("group",)
+NEED_A_SESSION = ("apply", "batch", "show", "value", "mark", "print", "length", "page", "turn")
+NEED_TURNS = ("wait", "turn")
 
 
 def page_fields(count):
@@ -127,7 +131,7 @@ class Replay:
     """The set-up for the next session, and the panel, if there is one."""
 
     def __init__(self):
-        self.panel, self.edition = None, 1
+        self.panel, self.edition, self.turns = None, 1, None
         self.session(0, 0, 0, 0, 0)
 
     def session(self, id, *limits):
@@ -249,6 +253,22 @@ class Replay:
         made = lambda: geysertray.import_terms(terms, collection, Envelope(*envelope), self.edition, room)
         return told("I", made, lambda data: line("I", 0, data.hex()))
 
+    # ---- turns
+
+    def senders(self, senders):
+        try:
+            self.turns = Turns(senders)
+        except Refused as refusal:
+            return line("J", refusal.number)
+        return line("J", 0)
+
+    def wait(self, sender):
+        return told("J", lambda: self.turns.wait(sender), lambda done: line("J", 0))
+
+    def turn(self):
+        named = self.turns.turn(self.panel.cursor)
+        return line("J", "none") if named is None else line("J", *named)
+
     # ---- one line
 
     def answer(self, text):
@@ -264,6 +284,8 @@ class Replay:
             raise BadLine
         values = [read(field) for read, field in zip(readers, fields)]
         if self.panel is None and command.split(" ")[0] in NEED_A_SESSION:
+            return line("N")
+        if self.turns is None and command in NEED_TURNS:
             return line("N")
         return getattr(self, METHODS.get(command, command.replace(" ", "_")))(*values)
 

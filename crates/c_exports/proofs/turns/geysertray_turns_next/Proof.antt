@@ -1,0 +1,28 @@
+-- `geysertray_turns_next` meets its contract: the call below is told the cursor.
+use mathlib.Core.Path.{sym}
+use borrow.Author.Needs.{needs}
+use Rattle.c_exports.proofs.turns.geysertray_turns_next.Statement.{statement}
+use Rattle.c_exports.proofs.turns.geysertray_turns_next.Tie as tie
+use Rattle.c_exports.proofs.turns.geysertray_turns_next.Reads as reads
+use Rattle.c_exports.proofs.turns.geysertray_turns_next.Lts as lts
+use Rattle.c_exports.proofs.turns.cursor_at.Reads as cursor-at-reads
+use Rattle.c_exports.proofs.turns.lent_turn_told.Reads as lent-turn-told-reads
+use Rattle.session_lent_turns.proofs.turn.Reads as turn-reads
+
+cursor-at-requires : tie.Need-cursor-at-requires
+cursor-at-requires c κs = search needs
+
+turn-requires : tie.Need-turn-requires
+turn-requires c κs = search needs
+
+lent-turn-told-requires : tie.Need-lent-turn-told-requires
+lent-turn-told-requires c κs = search needs
+
+returns : tie.Need-returns
+returns c =
+    let call = c .before .turn in
+    rw (sym (c .before .before .before .cursor-at .ensures)) (record { answer = call .result; call = call .ensures; told = c .lent-turn-told .ensures })
+
+pub geysertray-turns-next-spec : {M : Type 1} → statement M
+geysertray-turns-next-spec =
+    tie.close (tie.spec cursor-at-requires turn-requires lent-turn-told-requires returns)

@@ -1,0 +1,23 @@
+-- `turn_to` meets its contract.
+use mathlib.Core.Path.{sym, ap}
+use Rattle.c_exports.specs.Turns.{turnTo}
+use borrow.Author.Needs.{needs}
+use Rattle.c_exports.proofs.turns.turn_to.Statement.{statement}
+use Rattle.c_exports.proofs.turns.turn_to.Tie as tie
+use Rattle.c_exports.proofs.turns.turn_to.Reads as reads
+use Rattle.c_exports.proofs.turns.turn_to.Lts as lts
+
+enum-told : tie.Need-enum-told
+enum-told c = search needs
+
+enum-known-answer : tie.Need-enum-known-answer
+enum-known-answer c = search needs
+
+returns : tie.Need-returns
+returns c = ap turnTo (sym (c .enum-told .given .1))
+
+returns-2 : tie.Need-returns-2
+returns-2 c = ap turnTo (sym (c .before .answer .given .1))
+
+pub turn-to-spec : {M : Type 1} → statement M
+turn-to-spec = tie.close (tie.spec enum-told enum-known-answer returns returns-2)
