@@ -25,7 +25,7 @@ class _NoCommand(Exception):
 
 
 def number(word, last=LAST_U64):
-    if not DECIMAL.fullmatch(word) or int(word) > last:
+    if not DECIMAL.fullmatch(word) or len(word) > len(str(last)) or int(word) > last:
         raise _NoCommand
     return int(word)
 

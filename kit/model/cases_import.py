@@ -11,10 +11,10 @@ from patch import insert, update
 rules_of("Job 1 in document 02", answers="02")
 
 IMPORT = "spec_import Import.importTerms"
-FORM = "spec_import Lines.term"
-CUT = "spec_import Lines.linesOf"
-ORDER = "spec_import Import.imported"
-BACK = "spec_import ImportLaws.read-back"
+FORM = "spec_import Import.readTerm"
+CUT = "spec_import Import.lines"
+ORDER = "spec_import Import.importTerms"
+BACK = "spec_import ImportLaws.reads-import"
 LAST = 2**64 - 1
 # id, stream, document, surface, previous revision, revision, epoch, sequence
 NUMBERS = dict(id=7, stream=1, document=1, surface=None, previous=0, revision=1, epoch=1, sequence=3)

@@ -22,7 +22,7 @@ LANDED = [
     "depends",
     "pages",
     "print",
-    # "import",
+    "import",
     "group",
     # "explain",
 ]

@@ -3,6 +3,7 @@ pub mod Records
 pub mod Checks
 pub mod SetUps
 pub mod Conversions
+pub mod Imports
 pub mod Keys
 pub mod DependencyLines
 pub mod Prints

@@ -4,6 +4,7 @@ pub mod CreationAnswers
 pub mod LookupLines
 pub mod CheckOf
 pub mod ConversionOf
+pub mod ImportOf
 pub mod DependenciesTold
 pub mod PrintTold
 pub mod PageTold

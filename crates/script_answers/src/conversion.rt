@@ -12,7 +12,7 @@ use bytes_printer::Printed;
 use patch_converter::ConversionAnswer;
 
 // The letter of the call, 0, and the set in hex.
-fn print_set(out: &mut [u8], at: Printed, letter: u8, set: &[u8]) -> Printed
+pub(crate) fn print_set(out: &mut [u8], at: Printed, letter: u8, set: &[u8]) -> Printed
     ensures { λ r. ⌜ Prints (now (out .entry)) at (letter ∷ fields (decimal 0 ∷ hexField (now (set .entry)) ∷ [])) (now (out .exit)) r ⌝ }
 {
     let start = bytes_printer::print_byte(out, at, letter);

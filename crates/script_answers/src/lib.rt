@@ -4,6 +4,7 @@ pub mod conversion;
 pub mod dependencies;
 pub mod fields;
 pub mod group;
+pub mod import;
 pub mod page;
 pub mod paper;
 pub mod session;

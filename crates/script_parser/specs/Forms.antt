@@ -8,7 +8,7 @@ use lib.ListN.{getD}
 use Rattle.spec_lists.specs.Lists.{if_then_else_}
 use Rattle.spec_patch.specs.Sizes.{setBytes}
 use Rattle.spec_session.specs.Lifecycle.{Stimulus, activate, suspend, resume, close, noOp}
-use Rattle.spec_replay.specs.Script.{Command, session, node, binding, collection, create, apply, batch, check, list, show, valueBinding, valueNode, valueEntry, markBinding, markNode, markEntry, senders, wait, turn, edition, convert, depends, print, collectionLength, other, placesLent, bytesLent, groupArguments, pageArguments, Arguments, end, given, atMost, numberedEdition, hex}
+use Rattle.spec_replay.specs.Script.{Command, session, node, binding, collection, create, apply, batch, check, list, show, valueBinding, valueNode, valueEntry, markBinding, markNode, markEntry, senders, wait, turn, edition, convert, depends, print, collectionLength, other, placesLent, bytesLent, groupArguments, pageArguments, importArguments, Arguments, end, given, atMost, numberedEdition, hex}
 use Rattle.script_parser.specs.Fields.{numbers, filled}
 
 pub record Form : Type 0 where
@@ -60,7 +60,7 @@ firstBase = 16
 
 -- how many first words there are
 abbrev pub firstWords : ℕ
-firstWords = 22
+firstWords = 23
 
 -- a place for none stands behind them
 abbrev pub formCount : ℕ
@@ -129,9 +129,13 @@ groupForm = 35
 abbrev pub pageForm : ℕ
 pageForm = 37
 
+-- the form of bringing in a term list, which has more fields than others
+abbrev pub importForm : ℕ
+importForm = 38
+
 -- what the fields behind the words of a form ask for
 unfoldable pub askedBy : ℕ → Arguments
-askedBy k = if eqb k groupForm then groupArguments else if eqb k pageForm then pageArguments else formArguments (formAt k)
+askedBy k = if eqb k groupForm then groupArguments else if eqb k pageForm then pageArguments else if eqb k importForm then importArguments else formArguments (formAt k)
 
 -- how many numbers a form takes, and 16 more where it has a set
 abbrev pub shapeOf : Form → ℕ

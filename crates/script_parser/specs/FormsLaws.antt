@@ -14,10 +14,10 @@ use Rattle.spec_patch.specs.Edition.{Edition}
 use Rattle.spec_lists.specs.ListLaws.{and-left, and-right, test-cases}
 use Rattle.spec_decimal.specs.Decimal.{readDecimal}
 use Rattle.spec_replay.specs.Hex.{readHex}
-use Rattle.spec_replay.specs.Script.{Command, other, apply, Arguments, end, given, readBy, number, atMost, slot, numberedEdition, hex, stimuli, sessionArguments, bindingArguments, batchArguments, convertArguments, dependsArguments, placesLent, printArguments, bytesLent, roomUpTo, groupArguments, pageArguments, boundArguments, keyedArguments, values, marks, commands}
+use Rattle.spec_replay.specs.Script.{Command, other, apply, Arguments, end, given, readBy, number, atMost, slot, numberedEdition, hex, stimuli, sessionArguments, bindingArguments, batchArguments, convertArguments, dependsArguments, placesLent, printArguments, bytesLent, roomUpTo, groupArguments, pageArguments, importArguments, boundArguments, keyedArguments, values, marks, commands}
 use Rattle.script_parser.specs.Fields.{mostNumbers}
 use Rattle.script_parser.specs.Words.{rowAt}
-use Rattle.script_parser.specs.Forms.{formArguments, upTo, noForm, stimulusBase, valueBase, markBase, firstBase, firstWords, formCount, formAt, groupForm, pageForm, askedBy, shapeOf, shapesFrom}
+use Rattle.script_parser.specs.Forms.{formArguments, upTo, noForm, stimulusBase, valueBase, markBase, firstBase, firstWords, formCount, formAt, groupForm, pageForm, importForm, askedBy, shapeOf, shapesFrom}
 
 -- no form takes no fields
 pub none-form : (fs : List (List ℕ)) → other ≡ formArguments noForm fs
@@ -123,6 +123,7 @@ first-form k h =
     also (λ a b c fs. absurd (c refl))
     also (λ a b c fs. tested-then (atMost placesLent) refl readHex _ fs)
     also (λ a b c fs. number-and-bounded bytesLent _ fs)
+    also (λ a b c fs. refl)
     also (λ a b c fs. refl)
     also (λ a b c fs. refl)
     also (λ a b c fs. refl)
@@ -249,6 +250,10 @@ module _ (k : ℕ) (fs : List (List ℕ)) where
   unfolding askedBy
   page-asked e = rw e
 
-  pub counted-asked : (k ≡ groupForm → ⊥) → (k ≡ pageForm → ⊥) → askedBy k fs ≡ formArguments (formAt k) fs
+  pub import-asked : k ≡ importForm → askedBy k fs ≡ importArguments fs
   unfolding askedBy
-  counted-asked g p = rw (ne-eqb k groupForm g, ne-eqb k pageForm p)
+  import-asked e = rw e
+
+  pub counted-asked : (k ≡ groupForm → ⊥) → (k ≡ pageForm → ⊥) → (k ≡ importForm → ⊥) → askedBy k fs ≡ formArguments (formAt k) fs
+  unfolding askedBy
+  counted-asked g p i = rw (ne-eqb k groupForm g, ne-eqb k pageForm p, ne-eqb k importForm i)

@@ -9,3 +9,5 @@ pub mod Members
 pub mod MembersLaws
 pub mod Keys
 pub mod KeysLaws
+pub mod Imports
+pub mod ImportsLaws

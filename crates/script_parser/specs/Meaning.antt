@@ -8,6 +8,7 @@ use Rattle.spec_replay.specs.Script as script
 use Rattle.spec_replay.specs.Lines.{space}
 use Rattle.spec_replay.specs.Hex.{readHex}
 use Rattle.spec_replay.specs.Script.{Command, given}
+use Rattle.projection_patch.specs.Meaning as patches
 use Rattle.projection_patch.specs.Meaning.{editionOf}
 use Rattle.script_parser.specs.Fields.{fieldsAfter}
 use Rattle.session_lifecycle.specs.Meaning.{limitsOf, stimulusOf}
@@ -18,7 +19,7 @@ use Rattle.script_parser.specs.declared.SetupLine.the-variants.{Session,
 use Rattle.script_parser.specs.declared.CallLine.{CallLine}
 use Rattle.script_parser.specs.declared.CallLine.the-variants.{Create, Apply, Show, ValueBinding, ValueNode, ValueEntry, MarkBinding, MarkNode, MarkEntry, Senders, Wait, Turn, Edition, Print, Length}
 use Rattle.script_parser.specs.declared.SetLine.{SetLine}
-use Rattle.script_parser.specs.declared.SetLine.the-variants.{Batch, Check, List as Listed, Convert, Depends}
+use Rattle.script_parser.specs.declared.SetLine.the-variants.{Batch, Check, List as Listed, Convert, Depends, Import}
 use Rattle.script_parser.specs.declared.ScriptCommand.{ScriptCommand}
 use Rattle.script_parser.specs.declared.ScriptCommand.the-variants.{Nothing, Setup, Call, WithSet, Group, Page, Other}
 
@@ -65,6 +66,7 @@ withSetOf Check = script.check
 withSetOf Listed = script.list
 withSetOf (Convert room) = script.convert room
 withSetOf (Depends room) = script.depends room
+withSetOf (Import i) = script.importList (i .room) (i .collection) (patches.envelopeOf (i .envelope))
 
 abbrev pub commandOf : List ℕ → ScriptCommand → Command
 commandOf line Nothing = script.nothing

@@ -26,7 +26,7 @@ ghost use Rattle.script_parser.specs.Meaning.{setFrom, commandOf};
 
 // How many numbers each form takes, and 0x10 more where a set stands behind them; 0 for a form of any number of fields. The second words stand before the first, each table in its
 // own order with a place for none behind it.
-const SHAPES: [usize; 39] = [
+const SHAPES: [usize; 40] = [
     1,
     1,
     1,
@@ -64,6 +64,7 @@ const SHAPES: [usize; 39] = [
     2,
     0,
     1,
+    0,
     0,
     0,
 ];

@@ -1,6 +1,7 @@
 // A line of a replay script, read as a command.
 mod fields;
 mod forms;
+mod imports;
 pub mod keys;
 pub mod members;
 mod words;
@@ -9,6 +10,7 @@ use bytes_hex::Decoded;
 use fields::HexField;
 use fields::NumberFields;
 use projection_patch::patch::ProjectionPatchEdition;
+use projection_patch::patch::ProjectionPatchEnvelope;
 use session_lifecycle::lifecycle::ShellTransitionInput;
 use session_lifecycle::state::ShellLifecycleLimits;
 use words::FormAt;
@@ -39,6 +41,13 @@ pub struct GroupMember {
     pub bytes: u64,
 }
 
+// A term list is brought in: into so many bytes, for a collection, under an envelope.
+pub struct ImportLine {
+    pub room: u16,
+    pub collection: u64,
+    pub envelope: ProjectionPatchEnvelope,
+}
+
 // A line for the next creation.
 pub enum SetupLine {
     Session(u64, ShellLifecycleLimits),
@@ -66,13 +75,14 @@ pub enum CallLine {
     Length(u64),
 }
 
-// What a line asks for with its set; a conversion into so many bytes, and what the set depends on into so many places.
+// What a line asks for with its set, or its term list; a conversion into so many bytes, and what the set depends on into so many places.
 pub enum SetLine {
     Batch(BatchLine),
     Check,
     List,
     Convert(u16),
     Depends(u16),
+    Import(ImportLine),
 }
 
 // What a line asks for. WithSet holds where the hex of the set starts in the line; such a line is Other if that is no hex. Group and Page
@@ -138,6 +148,9 @@ fn parse_fields(line: &[u8]) -> ScriptCommand
     }
     if found.form == FormAt::PAGE {
         return ScriptCommand::Page(found.end);
+    }
+    if found.form == FormAt::IMPORT {
+        return imports::read_import(line, found.end);
     }
     counted_fields(line, found.form, found.end)
 }

@@ -32,6 +32,9 @@ impl FormAt {
     pub(crate) const GROUP: usize = 35;
 
     pub(crate) const PAGE: usize = 37;
+
+    // The form of a line with more numbers than others.
+    pub(crate) const IMPORT: usize = 38;
 }
 
 // The number of the field among words that are parted by spaces: that of all of them where it is none.
@@ -79,7 +82,7 @@ pub(crate) fn find_form(line: &[u8]) -> FormAt
 {
     let end = field_end(line, 0, SPACE);
     let first = word_index(
-        b"session node binding collection create apply batch check list show value senders wait turn edition convert mark depends print group length page",
+        b"session node binding collection create apply batch check list show value senders wait turn edition convert mark depends print group length page import",
         &line[0..end],
     );
     if first == 5 {

@@ -2,6 +2,7 @@
 mod call_lines;
 mod dependency_lines;
 mod group_lines;
+mod import_lines;
 mod page_lines;
 mod set_lines;
 mod setup_lines;

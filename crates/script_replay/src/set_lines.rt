@@ -1,5 +1,6 @@
-// Lines with a set in hex: a batch, a check, a listing, a conversion, and what it depends on.
+// Lines with a set in hex: a batch, a check, a listing, a conversion, and what it depends on; and with a term list.
 use crate::dependency_lines;
+use crate::import_lines;
 use crate::setup_lines;
 use bytes_hex::Decoded;
 use bytes_printer::Printed;
@@ -108,6 +109,10 @@ fn use_set(state: ReplayState, wanted: SetLine, set: &[u8], out: &mut [u8]) -> R
         }
         SetLine::Depends(room) => {
             let printed = dependency_lines::depends_into(set, edition, room, out);
+            answered(state, printed)
+        }
+        SetLine::Import(line) => {
+            let printed = import_lines::import_into(set, edition, line, out);
             answered(state, printed)
         }
     }

@@ -30,7 +30,7 @@ use Rattle.spec_import.specs.LineLaws.{Printable, Kept}
 use Rattle.spec_import.specs.ImportLaws.{Importable, imports-exactly}
 
 -- every definition that the tests compute through
-unfoldable opened : Unit {0}
+unfoldable pub opened : Unit {0}
 unfolding
     mathlib.Core.List.flatMap
     Rattle.spec_lists.specs.Bytes.littleEndian

@@ -22,6 +22,8 @@ use Rattle.spec_turns.specs.Turns.{SetUp, setUpNumber, RegisterAnswer, register
 use Rattle.spec_dependencies.specs.Dependencies.{CollectionKey}
 use Rattle.spec_dependencies.specs.Answer as dependencies
 use Rattle.spec_dependencies.specs.Answer.{DependencyAnswer, answerNever, answerNeeds, refusalNumber, Answered}
+use Rattle.spec_import.specs.Import as imports
+use Rattle.spec_import.specs.Import.{Imported, imported, importNumber}
 use Rattle.spec_page.specs.Page.{PageEntry, PageRefusal, pageNumber, Page}
 use Rattle.spec_group.specs.Group.{GroupAnswer, notAGroup, taken, refusedAt, groupNumber}
 use Rattle.spec_decimal.specs.Decimal.{decimal}
@@ -168,6 +170,11 @@ answeredLines n none places = (89 ∷ fields (decimal 0 ∷ decimal n ∷ [])) +
 -- page: Y and 16 or 14; or Y, 0, the number of keys, and a line for the place of each
 unfoldable pub pageLines : (keys : ℕ) → Page → List ℕ
 pageLines n p = answeredLines n (p .refusal) (p .places)
+
+-- import: I, 0 and the set in hex, or I and the number
+unfoldable pub importLine : Imported → List ℕ
+importLine (imported bs) = 73 ∷ fields (decimal 0 ∷ hexField bs ∷ [])
+importLine (imports.refused r) = 73 ∷ fields (decimal (importNumber r) ∷ [])
 
 -- N: there is no session, or there are no senders
 unfoldable pub noSessionLine : List ℕ

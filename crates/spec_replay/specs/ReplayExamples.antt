@@ -33,6 +33,7 @@ use Rattle.spec_conversion.specs.Conversion.{otherEdition, conversionNumber, un
 use Rattle.spec_dependencies.specs.Dependencies.{walkPatches, keysAtStart, dependenciesBy, dependencies}
 use Rattle.spec_dependencies.specs.Answer.{allWords, hasFindings, refused, answerNever, answerNeeds, refusalNumber, wordsWritten, answerBy, answerReading, dependenciesOf}
 use Rattle.spec_panel_print.specs.Print.{quadLetter, printedValue, lineCount, textPieces, columnOf, keyLead, laidOut, printedLines, entryLines, collectionLines, lineOctets, collectionPrint}
+use Rattle.spec_import.specs.ImportInstances.{opened}
 use Rattle.spec_page.specs.Page.{findFrom, pageEntry, pageRows, pageRefusal, tableLeft, page}
 use Rattle.spec_splitting.specs.Splitting.{isRejected}
 use Rattle.spec_group.specs.Group.{totalBytes, isGroup, sendFirst, runGroup, withCursor, concludeGroup, group}
@@ -40,8 +41,8 @@ use Rattle.spec_turns.specs.Turns.{newTurns, setUp, refuseRegister, startWaitin
 use Rattle.spec_listing.specs.Listing.{fields, valueFields, recordCount, projectionLines, refusalLine, outcomeLines, readingLines, listing}
 use Rattle.spec_replay.specs.Lines.{prepend, split}
 use Rattle.spec_replay.specs.Hex.{hexDigit, hexByte, cons, hexPairs, readHex, hexCharacter, bytePair, hexField}
-use Rattle.spec_replay.specs.Script.{ascii, end, given, readBy, atMost, numberedEdition, byWord, stimuli, sessionArguments, bindingArguments, applyArguments, batchArguments, convertArguments, dependsArguments, printArguments, beforeLast, memberParts, memberField, groupLast, groupArguments, upToEnd, pageArguments, boundArguments, keyedArguments, values, marks, markArguments, valueArguments, commands, fieldsCommand, isRemark, command}
-use Rattle.spec_replay.specs.Answers.{dispositionField, lifecycleField, cursorField, placeField, sessionFields, creationLine, lifecycleLine, batchLine, checkedLine, checkLines, availabilityLine, setUpLine, registerLine, turnLine, conversionLine, markLine, keyLine, firstKeys, verdictLines, dependencyLines, printLines, groupLines, lengthLine, rowLine, answeredLines, pageLines, noSessionLine, otherLine}
+use Rattle.spec_replay.specs.Script.{ascii, end, given, readBy, atMost, numberedEdition, readOptional, byWord, stimuli, sessionArguments, bindingArguments, applyArguments, batchArguments, convertArguments, importArguments, dependsArguments, printArguments, beforeLast, memberParts, memberField, groupLast, groupArguments, upToEnd, pageArguments, boundArguments, keyedArguments, values, marks, markArguments, valueArguments, commands, fieldsCommand, isRemark, command}
+use Rattle.spec_replay.specs.Answers.{dispositionField, lifecycleField, cursorField, placeField, sessionFields, creationLine, lifecycleLine, batchLine, checkedLine, checkLines, availabilityLine, setUpLine, registerLine, turnLine, conversionLine, markLine, keyLine, firstKeys, verdictLines, dependencyLines, printLines, groupLines, lengthLine, rowLine, answeredLines, pageLines, importLine, noSessionLine, otherLine}
 use Rattle.spec_replay.specs.Replay.{State, noAnchors, start, keep, withSetup, withAnchors, withNode, withBinding, withSession, withTurns, withEdition, asked, askedTurns, created, applied, batched, grouped, settled, registered, turned, replayLine, replayLines, commandsOf, replayFrom, replay}
 
 prints : String → String → Bool
@@ -164,8 +165,28 @@ unfolding examples prints closedWith printsAt marked printsMarked shows
     isRejected totalBytes isGroup sendFirst runGroup withCursor concludeGroup group
     findFrom pageEntry pageRows pageRefusal tableLeft page quadByte
     fields valueFields recordCount projectionLines refusalLine outcomeLines readingLines listing
-    prepend split hexDigit hexByte cons hexPairs readHex hexCharacter bytePair hexField end given readBy atMost numberedEdition byWord stimuli sessionArguments bindingArguments applyArguments batchArguments convertArguments dependsArguments printArguments beforeLast memberParts memberField groupLast groupArguments upToEnd pageArguments
+    prepend split hexDigit hexByte cons hexPairs readHex hexCharacter bytePair hexField end given readBy atMost numberedEdition readOptional byWord stimuli sessionArguments bindingArguments applyArguments batchArguments convertArguments importArguments dependsArguments printArguments beforeLast memberParts memberField groupLast groupArguments upToEnd pageArguments
     boundArguments keyedArguments values marks markArguments valueArguments commands fieldsCommand isRemark command
-    dispositionField lifecycleField cursorField placeField sessionFields creationLine lifecycleLine batchLine checkedLine checkLines availabilityLine setUpLine registerLine turnLine conversionLine markLine keyLine firstKeys verdictLines dependencyLines printLines groupLines lengthLine rowLine answeredLines pageLines noSessionLine otherLine
+    dispositionField lifecycleField cursorField placeField sessionFields creationLine lifecycleLine batchLine checkedLine checkLines availabilityLine setUpLine registerLine turnLine conversionLine markLine keyLine firstKeys verdictLines dependencyLines printLines groupLines lengthLine rowLine answeredLines pageLines importLine noSessionLine otherLine
     noAnchors start keep withSetup withAnchors withNode withBinding withSession withTurns withEdition asked askedTurns created applied batched grouped settled registered turned replayLine replayLines commandsOf replayFrom replay
 replay-examples = tt
+
+-- a term list brought in, by script
+pub importExamples : List Bool
+importExamples =
+    -- a line, without a surface; one byte too few; no lines; a line without a tab; a key twice
+    prints "import 121 9 7 1 1 - 0 1 1 3 32094f6b0a\nimport 120 9 7 1 1 - 0 1 1 3 32094f6b0a\n" "I\t0\t1b00000055495f444e41325f50524f4a454354494f4e5f50415443485f5631010000000700000000000000010000000000000001000000000000000000000000000000000100000000000000010000000000000003000000000000000100000003090000000000000002000000000000000003020000004f6b\nI\t14\n"
+    ∷ prints "import 32768 9 7 1 1 - 0 1 1 3 -\nimport 32768 9 7 1 1 5 0 1 1 3 320a\nimport 32768 9 7 1 1 - 0 1 1 3 32090a32090a\n" "I\t11\nI\t15\nI\t11\n"
+    -- the edition in force
+    ∷ prints "edition 2\nimport 121 9 7 1 1 - 0 1 1 3 32094f6b0a\n" "I\t0\t1b00000055495f444e41325f50524f4a454354494f4e5f50415443485f5632010000000700000000000000010000000000000001000000000000000000000000000000000100000000000000010000000000000003000000000000000100000003090000000000000002000000000000000003020000004f6b\n"
+    -- the room's bound, a dash for the surface alone, and eleven fields
+    ∷ prints "import 32769 9 7 1 1 - 0 1 1 3 -\n" "?\t1\n"
+    ∷ prints "import 0 9 7 1 1 1 - 1 1 3 -\n" "?\t1\n"
+    ∷ prints "import 0 9 7 1 1 - 0 1 1 -\n" "?\t1\n"
+    ∷ []
+
+pub import-examples : T (all (λ (b : Bool). b) importExamples)
+unfolding opened importExamples prints
+    faultNumber hexDigit hexByte cons hexPairs readHex hexCharacter bytePair hexField end given readBy atMost numberedEdition readOptional byWord importArguments commands fieldsCommand isRemark command
+    fields importLine otherLine start withEdition replayLine replayLines commandsOf replayFrom replay
+import-examples = tt

@@ -2,12 +2,13 @@
 use Prim.Native.Nat.{ℕ, zero, suc}
 use mathlib.Core.Bool.{Bool, true}
 use mathlib.Core.List.{List, [], _∷_}
-use mathlib.Core.Option.{Option, none, some}
+use mathlib.Core.Option.{Option, none, some, Option·map}
 use lib.Dec.{leb, eqb}
 use lib.ListN.{length}
 use Rattle.spec_lists.specs.Lists.{if_then_else_, equalLists}
 use Rattle.spec_decimal.specs.Decimal.{readDecimal}
 use Rattle.spec_patch.specs.Sizes.{setBytes}
+use Rattle.spec_patch.specs.Patch.{Envelope}
 use Rattle.spec_patch.specs.Edition.{Edition, v1, v2}
 use Rattle.spec_session.specs.Session.{Limits, BindingPair}
 use Rattle.spec_session.specs.Lifecycle.{Stimulus, activate, suspend, resume, close, noOp}
@@ -46,6 +47,7 @@ pub data Command : Type 0 where
   group : List GroupBatch → (sets : List ℕ) → Command
   collectionLength : (collection : ℕ) → Command
   page : (collection room : ℕ) → (keys : List ℕ) → Command
+  importList : (room collection : ℕ) → Envelope → (content : List ℕ) → Command
   other : Command
 
 -- a line has at most 131,072 bytes without its LF
@@ -112,6 +114,13 @@ numberedEdition (some n) = if eqb n 1 then some v1 else if eqb n 2 then some v2 
 
 abbrev pub editionField : Field Edition
 editionField = readBy (λ f. numberedEdition (readDecimal f))
+
+-- a number, or - for none
+unfoldable pub readOptional : List ℕ → Option (Option ℕ)
+readOptional f = if equalLists eqb (ascii "-") f then some none else Option·map some (readDecimal f)
+
+abbrev pub optional : Field (Option ℕ)
+optional = readBy readOptional
 
 -- bytes in lower-case hex
 abbrev pub hex : Field (List ℕ)
@@ -189,6 +198,22 @@ convertArguments = do
   room ← roomUpTo setBytes
   set ← hex
   end (convert room set)
+
+-- import ROOM COLLECTION ID STREAM DOCUMENT SURFACE PREVIOUS REVISION EPOCH SEQUENCE HEX
+unfoldable pub importArguments : Arguments
+importArguments = do
+  room ← roomUpTo setBytes
+  c ← number
+  id ← number
+  stream ← number
+  document ← number
+  surface ← optional
+  previous ← number
+  revision ← number
+  epoch ← number
+  sequence ← number
+  content ← hex
+  end (importList room c (record { id = id; stream = stream; document = document; surface = surface; previous = previous; revision = revision; epoch = epoch; sequence = sequence }) content)
 
 -- so many numbers can be lent to the call that tells what a set depends on
 abbrev pub placesLent : ℕ
@@ -338,6 +363,7 @@ commands =
     ∷ (ascii "group" ⇒ groupArguments)
     ∷ (ascii "length" ⇒ number (λ n. end (collectionLength n)))
     ∷ (ascii "page" ⇒ pageArguments)
+    ∷ (ascii "import" ⇒ importArguments)
     ∷ []
 
 -- the fields of a line: a known word and its arguments

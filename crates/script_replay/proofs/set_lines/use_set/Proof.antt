@@ -5,10 +5,12 @@ use Rattle.spec_patch.specs.Read.{readSet}
 use Rattle.spec_conversion.specs.Conversion.{convert}
 use lib.ListN.{replicate}
 use Rattle.spec_dependencies.specs.Answer.{dependenciesOf}
+use Rattle.spec_import.specs.Import.{importTerms}
 use Rattle.spec_listing.specs.Listing.{listing}
-use Rattle.spec_replay.specs.Answers.{checkLines, conversionLine, dependencyLines}
+use Rattle.spec_replay.specs.Answers.{checkLines, conversionLine, dependencyLines, importLine}
 use Rattle.spec_replay.specs.Replay.{replayLine}
 use Rattle.bytes_printer.specs.PrintsLaws.{same-bytes}
+use Rattle.projection_patch.specs.Meaning.{envelopeOf}
 use Rattle.script_parser.specs.Meaning.{withSetOf}
 use Rattle.script_parser.specs.declared.SetLine.{SetLine}
 use Rattle.script_replay.specs.LineLaws.{line-step}
@@ -57,6 +59,15 @@ depends-into-requires c κs = search needs
 
 answered-requires-4 : tie.Need-answered-requires-4
 answered-requires-4 c κs = search needs
+
+enum-known-wanted-4 : tie.Need-enum-known-wanted-4
+enum-known-wanted-4 c = search needs
+
+import-into-requires : tie.Need-import-into-requires
+import-into-requires c κs = search needs
+
+answered-requires-5 : tie.Need-answered-requires-5
+answered-requires-5 c κs = search needs
 
 same-length : tie.Need-same-length
 same-length c = search needs
@@ -116,6 +127,19 @@ returns-5 c =
     λ m h n. line-step n m _ _ (ap (λ (w : SetLine). withSetOf w set) (sym (told .wanted3 .given .1)))
     (c .answered4 .ensures m h _ _ _ (same-bytes (ap (λ (ed : Edition). dependencyLines (dependenciesOf ed set (replicate (told .wanted3 .given .0 .0) 0))) (h .edition-is)) (depended .depends-into .ensures)))
 
+same-length-6 : tie.Need-same-length-6
+same-length-6 c = search needs
+
+returns-6 : tie.Need-returns-6
+unfolding replayLine
+returns-6 c =
+    let brought = c .before .before .before in
+    let told = brought .before .before .before in
+    let set = told .before .before .before .before .args .set .now in
+    let wanted = told .wanted4 .given .0 .0 in
+    λ m h n. line-step n m _ _ (ap (λ (w : SetLine). withSetOf w set) (sym (told .wanted4 .given .1)))
+    (c .answered5 .ensures m h _ _ _ (same-bytes (ap (λ (ed : Edition). importLine (importTerms ed (wanted .collection) (envelopeOf (wanted .envelope)) set (wanted .room))) (h .edition-is)) (brought .import-into .ensures)))
+
 pub use-set-spec : {M : Type 1} → statement M
 use-set-spec =
     tie.close
@@ -134,6 +158,9 @@ use-set-spec =
     enum-known-wanted-3
     depends-into-requires
     answered-requires-4
+    enum-known-wanted-4
+    import-into-requires
+    answered-requires-5
     same-length
     returns
     same-length-2
@@ -143,4 +170,6 @@ use-set-spec =
     same-length-4
     returns-4
     same-length-5
-    returns-5)
+    returns-5
+    same-length-6
+    returns-6)

@@ -1,0 +1,59 @@
+-- `script_replay::import_lines::import_into` meets its contract: as many bytes are lent as the line says.
+use Prim.Native.Nat.{ℕ, _-_, _≤_}
+use mathlib.Core.Path.{_≡_, ap, _∙_}
+use native.Mathlib.Omega.{arith}
+use borrow.Author.Needs.{needs}
+use denote.Ref.{now}
+use lib.ListN.{length, take, drop, replicate, length-replicate}
+use lib.Seq.{length-take-le}
+use Rattle.spec_import.specs.Import.{importTerms}
+use Rattle.spec_replay.specs.Answers.{importLine}
+use Rattle.bytes_printer.specs.PrintsLaws.{same-bytes}
+use Rattle.projection_patch.specs.Meaning.{editionOf, envelopeOf}
+use Rattle.script_replay.proofs.import_lines.import_into.Statement.{statement}
+use Rattle.script_replay.proofs.import_lines.import_into.Tie as tie
+
+lent-length : (n room : ℕ) → room ≤ n → length (take (room - 0) (drop 0 (replicate {A = ℕ} n 0))) ≡ room
+lent-length n room h =
+    let same : room - 0 ≡ room = omega arith in
+    length-take-le (room - 0) (replicate n 0) (omega (arith, length-replicate {A = ℕ} n 0)) ∙ same
+
+few : (c : tie.Start) → c .args .wanted .room ≤ 65536
+few c = search needs
+
+cast-end : tie.Need-cast-end
+cast-end c = search needs
+
+sub-print-imported : tie.Need-sub-print-imported
+sub-print-imported c = search needs
+
+part-lent-start : tie.Need-part-lent-start
+part-lent-start c = search needs
+
+part-lent-end : tie.Need-part-lent-end
+part-lent-end c = search needs
+
+print-imported-requires : tie.Need-print-imported-requires
+print-imported-requires c κs = search needs
+
+same-length : tie.Need-same-length
+same-length c = search needs
+
+returns : tie.Need-returns
+returns c =
+    let printed = c .before .before .before in
+    let start = printed .before .before .before .before .before .before .before in
+    let args = start .args in
+    same-bytes (ap (λ (n : ℕ). importLine (importTerms (editionOf (args .edition)) (args .wanted .collection) (envelopeOf (args .wanted .envelope)) (now (args .list)) n)) (lent-length 65536 (args .wanted .room) (few start))) (printed .print-imported .ensures)
+
+pub import-into-spec : {M : Type 1} → statement M
+import-into-spec =
+    tie.close
+    (tie.spec
+    cast-end
+    sub-print-imported
+    part-lent-start
+    part-lent-end
+    print-imported-requires
+    same-length
+    returns)
