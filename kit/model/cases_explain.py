@@ -139,6 +139,10 @@ case(
     "explain_references", "the references that there are, and their limit", STEPS,
     set_up(references=1) + [explain(4, one(availability(5, 0), update(9, 1, Q))), explain(4, GOOD)], ["S 0", "W 4 references 2 1", "W 0"],
 )
+case(
+    "explain_counts_before_references", "counts that differ are told before the limit of references", STEPS,
+    set_up(references=1) + [explain(4, one(availability(5, 0), update(9, 1, Q)), references=1)], ["S 0", "W 5 counts-differ 1 1 1 2"],
+)
 told(
     "unknown_target", "how many targets are unknown, repeats included, and where the first is", STEPS,
     explain(4, patches_of([availability(5, 0)], [binding(5, 1, Q), remove(8, 1), availability(6, 0), insert(8, 2, Q)])),

@@ -11,7 +11,7 @@ ADDED = {
     b"senders": "turns among senders", b"wait": "turns among senders", b"turn": "turns among senders",
     b"edition": "the second edition", b"convert": "the second edition", b"mark": "marks",
     b"length": "stored lengths", b"depends": "what a set depends on", b"page": "pages of keys", b"print": "the print",
-    b"import": "term lists", b"group": "groups of batches",
+    b"import": "term lists", b"group": "groups of batches", b"explain": "the rule behind an answer",
 }
 
 

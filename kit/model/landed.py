@@ -24,5 +24,5 @@ LANDED = [
     "print",
     "import",
     "group",
-    # "explain",
+    "explain",
 ]

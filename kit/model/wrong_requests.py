@@ -791,4 +791,93 @@ WRONG_BY_REQUEST = {
             'return line(b"U", 17 if self.session.limits.diagnostics else 0)',
         ),
     ],
+    "explain": [
+        ("tells no reason of a foreign session", "explain.py", "if named != session.id:", "if False:"),
+        (
+            "exchanges the ids of two sessions", "explain.py",
+            '"foreign-session", named, session.id',
+            '"foreign-session", session.id, named',
+        ),
+        (
+            "explains no batch without patches on a closed session", "explain.py",
+            'if session.lifecycle == "closed":',
+            'if session.lifecycle == "closed" and patch_count:',
+        ),
+        ("names one declared limit where two are passed", "explain.py", '"-and-".join(over)', "over[0]"),
+        (
+            "tells two of four declared figures", "explain.py",
+            ", patch_count, limits.patches, stimulus_bytes, limits.bytes)\n\n\ndef",
+            ", patch_count, limits.patches)\n\n\ndef",
+        ),
+        ("tells the byte behind the field", "explain.py", "stop.position, way", "way.at, way"),
+        (
+            "tells a long text at its first byte", "explain.py",
+            'raise Stop("text-length", at)',
+            'raise Stop("text-length", start)',
+        ),
+        (
+            "tells a text that is cut off as too long", "explain.py",
+            "        content = self.take(length)\n        if length > TEXT_BYTES:\n            raise Stop(\"text-length\", at)\n",
+            "        if length > TEXT_BYTES:\n            raise Stop(\"text-length\", at)\n        content = self.take(length)\n",
+        ),
+        (
+            "tells the heading as a whole", "explain.py",
+            "        for byte in u32(len(heading)) + heading:\n            self.byte((byte,), \"heading\")\n",
+            "        if self.take(31) != u32(len(heading)) + heading:\n            raise Stop(\"heading\", 0)\n",
+        ),
+        ("tells no patch", "explain.py", "way.patch_index, way.operation_index", "None, way.operation_index"),
+        ("counts operations from 1", "explain.py", "enumerate(patch.operations)]", "enumerate(patch.operations, 1)]"),
+        ("tells an operation behind the last patch", "explain.py", "            self.operation_index = None\n", ""),
+        ("tells 10 for what is too much", "explain.py", "12 if stop.rule in OVER_CAPACITY else 10", "10"),
+        ("tells the last finding", "explain.py", "*found[0])", "*found[-1])"),
+        (
+            "tells the counts that are there first", "explain.py",
+            "patch_count, len(patches), references, actual)",
+            "len(patches), patch_count, actual, references)",
+        ),
+        (
+            "looks at the limit of references before the counts", "explain.py",
+            "    if patch_count != len(patches) or references != actual:",
+            "    if actual <= limits.references and (patch_count != len(patches) or references != actual):",
+        ),
+        ("tells the last unknown target", "explain.py", "*unknown[0])", "*unknown[-1])"),
+        ("counts an unknown target once", "explain.py", "len(unknown), *unknown", "1, *unknown"),
+        ("tells the cursor itself", "explain.py", "else session.cursor + 1", "else session.cursor"),
+        (
+            "tells a number after the last", "explain.py",
+            "None if session.cursor == LAST_U64 else session.cursor + 1",
+            "session.cursor + 1",
+        ),
+        (
+            "looks for the neighbour before the key", "explain.py",
+            "        if operation.key in keys:\n            return \"key-present\"\n",
+            "        if operation.key in keys and operation.before in (None, *keys):\n            return \"key-present\"\n",
+        ),
+        (
+            "tells a missing key as a missing neighbour", "explain.py",
+            '"neighbour-absent" if operation.key in keys else "key-absent"',
+            '"neighbour-absent"',
+        ),
+        ("tries each operation on the panel as it was", "explain.py", "        projection = after\n", ""),
+        (
+            "tells the reason under a cap of 0", "explain.py",
+            'reason.answer if session.limits.diagnostics else "withheld"',
+            "reason.answer",
+        ),
+        (
+            "tells nothing of a reason that is withheld", "replay.py",
+            'return line(b"W", 0, b"withheld")',
+            'return line(b"W", 0)',
+        ),
+        (
+            "sends the batch that is asked about", "replay.py",
+            "        reason = explain(self.session, *numbers, self.edition, data)\n",
+            "        reason = explain(self.session, *numbers, self.edition, data)\n        self.session.batch(*numbers, self.edition, data)\n",
+        ),
+        (
+            "explains in the first edition always", "replay.py",
+            "explain(self.session, *numbers, self.edition, data)",
+            "explain(self.session, *numbers, 1, data)",
+        ),
+    ],
 }

@@ -4,6 +4,7 @@ pub mod groups;
 pub mod marks;
 pub mod pages;
 pub mod paper;
+pub mod reasons;
 pub mod setup;
 pub mod state;
 pub mod turns;

@@ -8,7 +8,8 @@ use lib.ListN.{getD}
 use Rattle.spec_lists.specs.Lists.{if_then_else_}
 use Rattle.spec_patch.specs.Sizes.{setBytes}
 use Rattle.spec_session.specs.Lifecycle.{Stimulus, activate, suspend, resume, close, noOp}
-use Rattle.spec_replay.specs.Script.{Command, session, node, binding, collection, create, apply, batch, check, list, show, valueBinding, valueNode, valueEntry, markBinding, markNode, markEntry, senders, wait, turn, edition, convert, depends, print, collectionLength, other, placesLent, bytesLent, groupArguments, pageArguments, importArguments, Arguments, end, given, atMost, numberedEdition, hex}
+use Rattle.spec_session.specs.Batch.{BatchEnvelope}
+use Rattle.spec_replay.specs.Script.{Command, session, node, binding, collection, create, apply, batch, check, list, show, valueBinding, valueNode, valueEntry, markBinding, markNode, markEntry, senders, wait, turn, edition, convert, depends, print, collectionLength, explainBatch, other, placesLent, bytesLent, groupArguments, pageArguments, importArguments, Arguments, end, given, atMost, numberedEdition, hex}
 use Rattle.script_parser.specs.Fields.{numbers, filled}
 
 pub record Form : Type 0 where
@@ -38,6 +39,10 @@ withSlot = upTo 4294967295
 abbrev stimulusForm : Stimulus → Form
 stimulusForm s = record { count = 1; withSet = false; makes = λ ns set. apply s (at ns 0) }
 
+-- a batch that is sent or asked about
+abbrev batchForm : (BatchEnvelope → ℕ → List ℕ → Command) → Form
+batchForm asks = record { count = 5; withSet = true; makes = λ ns. asks (record { session = at ns 0; sequence = at ns 1; patches = at ns 2; stimulusBytes = at ns 3 }) (at ns 4) }
+
 -- no command
 abbrev pub noForm : Form
 noForm = record { count = 0; withSet = false; makes = λ ns set. other }
@@ -60,7 +65,7 @@ firstBase = 16
 
 -- how many first words there are
 abbrev pub firstWords : ℕ
-firstWords = 23
+firstWords = 24
 
 -- a place for none stands behind them
 abbrev pub formCount : ℕ
@@ -104,7 +109,7 @@ firstForms =
     ∷ (18 ⇛ record { count = 2; withSet = false; makes = λ ns set. withSlot (at ns 1) (λ s. binding (record { node = at ns 0; slot = s })) })
     ∷ (19 ⇛ record { count = 1; withSet = false; makes = λ ns set. collection (at ns 0) })
     ∷ (20 ⇛ record { count = 0; withSet = false; makes = λ ns set. create })
-    ∷ (22 ⇛ record { count = 5; withSet = true; makes = λ ns. batch (record { session = at ns 0; sequence = at ns 1; patches = at ns 2; stimulusBytes = at ns 3 }) (at ns 4) })
+    ∷ (22 ⇛ batchForm batch)
     ∷ (23 ⇛ record { count = 0; withSet = true; makes = λ ns. check })
     ∷ (24 ⇛ record { count = 0; withSet = true; makes = λ ns. list })
     ∷ (25 ⇛ record { count = 0; withSet = false; makes = λ ns set. show })
@@ -116,6 +121,7 @@ firstForms =
     ∷ (33 ⇛ record { count = 1; withSet = true; makes = λ ns set. upTo placesLent (at ns 0) (λ room. depends room set) })
     ∷ (34 ⇛ record { count = 2; withSet = false; makes = λ ns set. upTo bytesLent (at ns 1) (print (at ns 0)) })
     ∷ (36 ⇛ record { count = 1; withSet = false; makes = λ ns set. collectionLength (at ns 0) })
+    ∷ (39 ⇛ batchForm explainBatch)
     ∷ []
 
 unfoldable pub formAt : ℕ → Form

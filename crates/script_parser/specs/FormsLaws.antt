@@ -127,6 +127,7 @@ first-form k h =
     also (λ a b c fs. refl)
     also (λ a b c fs. refl)
     also (λ a b c fs. refl)
+    also (λ a b c fs. refl)
     also (λ a b c fs. none-form fs)
     also tt)
     k (omega arith) (omega arith)
@@ -212,7 +213,7 @@ module _ (k : ℕ) (h : k < formCount) where
 
 -- the forms with a set
 abbrev pub setForms : List ℕ
-setForms = 22 ∷ 23 ∷ 24 ∷ 31 ∷ 33 ∷ []
+setForms = 22 ∷ 23 ∷ 24 ∷ 31 ∷ 33 ∷ 39 ∷ []
 
 pub sets-listed : (k : ℕ) → k < formCount → any (eqb k) setForms ≡ formAt k .withSet
 unfolding formAt

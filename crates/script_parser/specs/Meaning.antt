@@ -19,7 +19,7 @@ use Rattle.script_parser.specs.declared.SetupLine.the-variants.{Session,
 use Rattle.script_parser.specs.declared.CallLine.{CallLine}
 use Rattle.script_parser.specs.declared.CallLine.the-variants.{Create, Apply, Show, ValueBinding, ValueNode, ValueEntry, MarkBinding, MarkNode, MarkEntry, Senders, Wait, Turn, Edition, Print, Length}
 use Rattle.script_parser.specs.declared.SetLine.{SetLine}
-use Rattle.script_parser.specs.declared.SetLine.the-variants.{Batch, Check, List as Listed, Convert, Depends, Import}
+use Rattle.script_parser.specs.declared.SetLine.the-variants.{Batch, Check, List as Listed, Convert, Depends, Import, Explain}
 use Rattle.script_parser.specs.declared.ScriptCommand.{ScriptCommand}
 use Rattle.script_parser.specs.declared.ScriptCommand.the-variants.{Nothing, Setup, Call, WithSet, Group, Page, Other}
 
@@ -67,6 +67,7 @@ withSetOf Listed = script.list
 withSetOf (Convert room) = script.convert room
 withSetOf (Depends room) = script.depends room
 withSetOf (Import i) = script.importList (i .room) (i .collection) (patches.envelopeOf (i .envelope))
+withSetOf (Explain b) = script.explainBatch (envelopeOf b) (b .«target_references»)
 
 abbrev pub commandOf : List ℕ → ScriptCommand → Command
 commandOf line Nothing = script.nothing

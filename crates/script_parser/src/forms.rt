@@ -24,9 +24,12 @@ ghost use Rattle.script_parser.specs.Fields.{mostNumbers};
 ghost use Rattle.script_parser.specs.Forms.{upTo, withSlot, firstBase, formCount, formAt};
 ghost use Rattle.script_parser.specs.Meaning.{setFrom, commandOf};
 
+// The shape of a batch's fields, which two words share.
+const BATCH: usize = 0x15;
+
 // How many numbers each form takes, and 0x10 more where a set stands behind them; 0 for a form of any number of fields. The second words stand before the first, each table in its
 // own order with a place for none behind it.
-const SHAPES: [usize; 40] = [
+const SHAPES: [usize; 41] = [
     1,
     1,
     1,
@@ -49,7 +52,7 @@ const SHAPES: [usize; 40] = [
     1,
     0,
     0,
-    0x15,
+    BATCH,
     0x10,
     0x10,
     0,
@@ -66,6 +69,7 @@ const SHAPES: [usize; 40] = [
     1,
     0,
     0,
+    BATCH,
     0,
 ];
 
@@ -247,21 +251,20 @@ pub(crate) fn set_command(
     ensures { λ r. ⌜ ((line : List ℕ) → commandOf line r ≡ setFrom line from (formAt form .makes values)) ⌝ }
 {
     let first = values[0];
+    let batch = BatchLine {
+        session_id: first,
+        sequence_no: values[1],
+        patch_count: values[2],
+        stimulus_bytes: values[3],
+        target_references: values[4],
+    };
     match form {
-        22 => ScriptCommand::WithSet(
-            SetLine::Batch(BatchLine {
-                session_id: first,
-                sequence_no: values[1],
-                patch_count: values[2],
-                stimulus_bytes: values[3],
-                target_references: values[4],
-            }),
-            from,
-        ),
+        22 => ScriptCommand::WithSet(SetLine::Batch(batch), from),
         23 => ScriptCommand::WithSet(SetLine::Check, from),
         24 => ScriptCommand::WithSet(SetLine::List, from),
         31 => conversion(first, from),
         33 => dependencies(first, from),
+        39 => ScriptCommand::WithSet(SetLine::Explain(batch), from),
         _ => ScriptCommand::Other,
     }
 }

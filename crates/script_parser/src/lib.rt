@@ -75,7 +75,7 @@ pub enum CallLine {
     Length(u64),
 }
 
-// What a line asks for with its set, or its term list; a conversion into so many bytes, and what the set depends on into so many places.
+// What a line asks for with its set, or its term list: a batch to be sent, or the rule behind its refusal; a conversion into so many bytes, and what the set depends on into so many places.
 pub enum SetLine {
     Batch(BatchLine),
     Check,
@@ -83,6 +83,7 @@ pub enum SetLine {
     Convert(u16),
     Depends(u16),
     Import(ImportLine),
+    Explain(BatchLine),
 }
 
 // What a line asks for. WithSet holds where the hex of the set starts in the line; such a line is Other if that is no hex. Group and Page

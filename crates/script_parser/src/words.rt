@@ -82,7 +82,7 @@ pub(crate) fn find_form(line: &[u8]) -> FormAt
 {
     let end = field_end(line, 0, SPACE);
     let first = word_index(
-        b"session node binding collection create apply batch check list show value senders wait turn edition convert mark depends print group length page import",
+        b"session node binding collection create apply batch check list show value senders wait turn edition convert mark depends print group length page import explain",
         &line[0..end],
     );
     if first == 5 {

@@ -1,4 +1,5 @@
 // One line of a replay script: the command that it asks for is run, and its answer printed.
+mod batch_lines;
 mod call_lines;
 mod dependency_lines;
 mod group_lines;

@@ -1,17 +1,14 @@
-// Lines with a set in hex: a batch, a check, a listing, a conversion, and what it depends on; and with a term list.
+// Lines with a set in hex: a batch that is sent or asked about, a check, a listing, a conversion, and what it depends on; and with a term list.
+use crate::batch_lines;
 use crate::dependency_lines;
 use crate::import_lines;
 use crate::setup_lines;
 use bytes_hex::Decoded;
 use bytes_printer::Printed;
 use projection_patch::patch::ProjectionPatchEdition;
-use script_calls::calls;
 use script_calls::state::ReplayState;
 use script_calls::state::ReplayStep;
-use script_parser::BatchLine;
 use script_parser::SetLine;
-use session_gates::gates::OrderedProjectionPatchBatchEnvelope;
-use session_lifecycle::state::ShellSessionId;
 ghost use mathlib.Core.List.{List};
 ghost use Prim.Native.Nat.{ℕ, _≤_};
 ghost use lib.ListN.{length};
@@ -63,19 +60,6 @@ fn convert_into(set: &[u8], edition: ProjectionPatchEdition, room: u16, out: &mu
     print_converted(set, edition, &mut lent[0..end], out)
 }
 
-fn apply_batch(state: ReplayState, batch: BatchLine, set: &[u8], out: &mut [u8]) -> ReplayStep
-    ensures { λ r. ⌜ ((m : State) → ReplayHolds state m → (number : ℕ)
-        → Stepped state (now (out .entry)) (now (out .exit)) r (replayLine number m (withSetOf (SetLine.Batch batch) (now (set .entry))))) ⌝ }
-{
-    let envelope = OrderedProjectionPatchBatchEnvelope {
-        session_id: ShellSessionId(batch.session_id),
-        sequence_no: batch.sequence_no,
-        patch_count: batch.patch_count,
-        stimulus_bytes: batch.stimulus_bytes,
-    };
-    calls::apply_batch(state, envelope, batch.target_references, set, out)
-}
-
 // The state stays where something was printed.
 fn answered(state: ReplayState, printed: Printed) -> ReplayStep
     ensures { λ r. ⌜ ((m : State) → ReplayHolds state m → (before after lines : List ℕ) → Prints before (Next 0) lines after printed → Stepped state before after r (onward m lines)) ⌝ }
@@ -93,7 +77,7 @@ fn use_set(state: ReplayState, wanted: SetLine, set: &[u8], out: &mut [u8]) -> R
 {
     let edition = state.edition;
     match wanted {
-        SetLine::Batch(batch) => apply_batch(state, batch, set, out),
+        SetLine::Batch(batch) => batch_lines::apply_batch(state, batch, set, out),
         SetLine::Check => {
             let printed = print_checked(set, edition, out);
             answered(state, printed)
@@ -115,6 +99,7 @@ fn use_set(state: ReplayState, wanted: SetLine, set: &[u8], out: &mut [u8]) -> R
             let printed = import_lines::import_into(set, edition, line, out);
             answered(state, printed)
         }
+        SetLine::Explain(batch) => batch_lines::explain_batch(state, batch, set, out),
     }
 }
 

@@ -19,14 +19,16 @@ use Rattle.spec_dependencies.specs.Answer.{dependenciesOf}
 use Rattle.spec_panel_print.specs.Print.{collectionPrint}
 use Rattle.spec_page.specs.Page as pages
 use Rattle.spec_import.specs.Import.{importTerms}
+use Rattle.spec_explain.specs.Explain.{explain}
 use Rattle.spec_group.specs.Group as groups
 use Rattle.spec_group.specs.Group.{GroupStep}
 use Rattle.spec_turns.specs.Turns as turns
 use Rattle.spec_turns.specs.Turns.{Turns, SetUp, RegisterStep, TurnStep}
 use Rattle.spec_listing.specs.Listing.{projectionLines, listing}
 use Rattle.spec_replay.specs.Lines.{newline, split}
-use Rattle.spec_replay.specs.Script.{Command, nothing, session, node, binding, collection, create, apply, batch, check, list, show, valueBinding, valueNode, valueEntry, senders, wait, turn, edition, convert, markBinding, markNode, markEntry, depends, print, group, collectionLength, page, importList, other, command}
+use Rattle.spec_replay.specs.Script.{Command, nothing, session, node, binding, collection, create, apply, batch, check, list, show, valueBinding, valueNode, valueEntry, senders, wait, turn, edition, convert, markBinding, markNode, markEntry, depends, print, group, collectionLength, page, importList, explainBatch, other, command}
 use Rattle.spec_replay.specs.Answers.{creationLine, lifecycleLine, batchLine, checkLines, valueLine, availabilityLine, setUpLine, registerLine, turnLine, conversionLine, markLine, dependencyLines, printLines, groupLines, lengthLine, pageLines, importLine, noSessionLine, otherLine}
+use Rattle.spec_replay.specs.Reasons.{reasonLine}
 
 -- what a creation takes
 pub record Setup : Type 0 where
@@ -158,6 +160,7 @@ replayLine n s (group bs sets) = asked s (λ x. grouped s (groups.group x bs set
 replayLine n s (collectionLength c) = asked s (λ x. onward s (lengthLine (entryCount (x .projection) c)))
 replayLine n s (page c room keys) = asked s (λ x. onward s (pageLines (length keys) (pages.page (x .projection) c keys (replicate room none))))
 replayLine n s (importList room c e content) = onward s (importLine (importTerms (s .edition) c e content room))
+replayLine n s (explainBatch e references set) = asked s (λ x. onward s (reasonLine (explain (s .edition) x e references set)))
 replayLine n s other = stops (otherLine n)
 
 -- ---- the whole script

@@ -34,6 +34,8 @@ use Rattle.spec_dependencies.specs.Dependencies.{walkPatches, keysAtStart, depe
 use Rattle.spec_dependencies.specs.Answer.{allWords, hasFindings, refused, answerNever, answerNeeds, refusalNumber, wordsWritten, answerBy, answerReading, dependenciesOf}
 use Rattle.spec_panel_print.specs.Print.{quadLetter, printedValue, lineCount, textPieces, columnOf, keyLead, laidOut, printedLines, entryLines, collectionLines, lineOctets, collectionPrint}
 use Rattle.spec_import.specs.ImportInstances.{opened}
+use Rattle.spec_explain.specs.Opened.{opened as explaining}
+use Rattle.spec_explain.specs.Explain.{underCap, explain}
 use Rattle.spec_page.specs.Page.{findFrom, pageEntry, pageRows, pageRefusal, tableLeft, page}
 use Rattle.spec_splitting.specs.Splitting.{isRejected}
 use Rattle.spec_group.specs.Group.{totalBytes, isGroup, sendFirst, runGroup, withCursor, concludeGroup, group}
@@ -43,6 +45,7 @@ use Rattle.spec_replay.specs.Lines.{prepend, split}
 use Rattle.spec_replay.specs.Hex.{hexDigit, hexByte, cons, hexPairs, readHex, hexCharacter, bytePair, hexField}
 use Rattle.spec_replay.specs.Script.{ascii, end, given, readBy, atMost, numberedEdition, readOptional, byWord, stimuli, sessionArguments, bindingArguments, applyArguments, batchArguments, convertArguments, importArguments, dependsArguments, printArguments, beforeLast, memberParts, memberField, groupLast, groupArguments, upToEnd, pageArguments, boundArguments, keyedArguments, values, marks, markArguments, valueArguments, commands, fieldsCommand, isRemark, command}
 use Rattle.spec_replay.specs.Answers.{dispositionField, lifecycleField, cursorField, placeField, sessionFields, creationLine, lifecycleLine, batchLine, checkedLine, checkLines, availabilityLine, setUpLine, registerLine, turnLine, conversionLine, markLine, keyLine, firstKeys, verdictLines, dependencyLines, printLines, groupLines, lengthLine, rowLine, answeredLines, pageLines, importLine, noSessionLine, otherLine}
+use Rattle.spec_replay.specs.Reasons.{insideFields, takesField, figureFields, reasonLine}
 use Rattle.spec_replay.specs.Replay.{State, noAnchors, start, keep, withSetup, withAnchors, withNode, withBinding, withSession, withTurns, withEdition, asked, askedTurns, created, applied, batched, grouped, settled, registered, turned, replayLine, replayLines, commandsOf, replayFrom, replay}
 
 prints : String → String → Bool
@@ -190,3 +193,24 @@ unfolding opened importExamples prints
     faultNumber hexDigit hexByte cons hexPairs readHex hexCharacter bytePair hexField end given readBy atMost numberedEdition readOptional byWord importArguments commands fieldsCommand isRemark command
     fields importLine otherLine start withEdition replayLine replayLines commandsOf replayFrom replay
 import-examples = tt
+
+-- the rule behind a batch's refusal, by script
+pub explainExamples : List Bool
+explainExamples =
+    -- without a session; another session's id; a declared count over its limit; no bytes; the empty set, whatever its number; the edition in force
+    prints "explain 7 1 0 0 0 -\nsession 7 100 4 8 8\ncreate\nexplain 8 1 0 0 0 -\nexplain 7 1 9 0 0 -\nexplain 7 1 0 0 0 -\nexplain 7 900 0 0 0 1b00000055495f444e41325f50524f4a454354494f4e5f50415443485f563100000000\nedition 2\nexplain 7 1 0 0 0 1b00000055495f444e41325f50524f4a454354494f4e5f50415443485f563100000000\n"
+    "N\nS\t0\nW\t1\tforeign-session\t8\t7\nW\t4\tdeclared-patches\t9\t8\t0\t100\nW\t10\ttoo-few-bytes\t0\t-\t-\nW\t0\nW\t10\theading\t30\t-\t-\n"
+    -- a reason that the limit of diagnostics hides
+    ∷ prints "session 7 100 0 8 8\ncreate\nexplain 8 1 0 0 0 -\n" "S\t0\nW\t0\twithheld\n"
+    -- as many fields as a batch
+    ∷ prints "explain 7 1 0 0 0\n" "?\t1\n"
+    ∷ prints "explain 7 1 0 0 0 - -\n" "?\t1\n"
+    ∷ []
+
+pub explain-examples : T (all (λ (b : Bool). b) explainExamples)
+unfolding explaining explainExamples prints
+    digits decimal isNumeral numberWith readDecimal newSession anchorsFit create underCap explain
+    prepend split hexDigit hexByte cons hexPairs readHex end given readBy atMost numberedEdition byWord sessionArguments batchArguments commands fieldsCommand isRemark command
+    fields creationLine insideFields takesField figureFields reasonLine noSessionLine otherLine
+    noAnchors start withSetup withSession withEdition asked created replayLine replayLines commandsOf replayFrom replay
+explain-examples = tt

@@ -48,6 +48,7 @@ pub data Command : Type 0 where
   collectionLength : (collection : ℕ) → Command
   page : (collection room : ℕ) → (keys : List ℕ) → Command
   importList : (room collection : ℕ) → Envelope → (content : List ℕ) → Command
+  explainBatch : BatchEnvelope → (references : ℕ) → (set : List ℕ) → Command
   other : Command
 
 -- a line has at most 131,072 bytes without its LF
@@ -181,16 +182,16 @@ applyArguments = do
   bytes ← number
   end (apply s bytes)
 
--- batch ID SEQUENCE PATCHES BYTES REFERENCES HEX
-unfoldable pub batchArguments : Arguments
-batchArguments = do
+-- ID SEQUENCE PATCHES BYTES REFERENCES HEX, a batch that is sent or asked about
+unfoldable pub batchArguments : (BatchEnvelope → ℕ → List ℕ → Command) → Arguments
+batchArguments asks = do
   id ← number
   sequence ← number
   patches ← number
   bytes ← number
   references ← number
   set ← hex
-  end (batch (record { session = id; sequence = sequence; patches = patches; stimulusBytes = bytes }) references set)
+  end (asks (record { session = id; sequence = sequence; patches = patches; stimulusBytes = bytes }) references set)
 
 -- convert ROOM HEX: as many bytes are lent as a set may have, and no more
 unfoldable pub convertArguments : Arguments
@@ -347,7 +348,7 @@ commands =
     ∷ (ascii "collection" ⇒ number (λ n. end (collection n)))
     ∷ (ascii "create" ⇒ end create)
     ∷ (ascii "apply" ⇒ applyArguments)
-    ∷ (ascii "batch" ⇒ batchArguments)
+    ∷ (ascii "batch" ⇒ batchArguments batch)
     ∷ (ascii "check" ⇒ hex (λ set. end (check set)))
     ∷ (ascii "list" ⇒ hex (λ set. end (list set)))
     ∷ (ascii "show" ⇒ end show)
@@ -364,6 +365,7 @@ commands =
     ∷ (ascii "length" ⇒ number (λ n. end (collectionLength n)))
     ∷ (ascii "page" ⇒ pageArguments)
     ∷ (ascii "import" ⇒ importArguments)
+    ∷ (ascii "explain" ⇒ batchArguments explainBatch)
     ∷ []
 
 -- the fields of a line: a known word and its arguments

@@ -111,6 +111,7 @@ returns-13 c =
       ne-eqb form 33 (no-set c 33 refl),
       ne-eqb form 34 (search none),
       ne-eqb form 36 (search none),
+      ne-eqb form 39 (no-set c 39 refl),
     )
 
 pub first-command-spec : {M : Type 1} → statement M

@@ -17,17 +17,17 @@ by-form c line k e = ap (λ (n : ℕ). setFrom line (c .args .from) (formAt n .m
 array-read-first : tie.Need-array-read-first
 array-read-first c = search needs
 
-array-read-t12 : tie.Need-array-read-t12
-array-read-t12 c = search needs
+array-read-t9 : tie.Need-array-read-t9
+array-read-t9 c = search needs
 
-array-read-t15 : tie.Need-array-read-t15
-array-read-t15 c = search needs
+array-read-t14 : tie.Need-array-read-t14
+array-read-t14 c = search needs
 
-array-read-t18 : tie.Need-array-read-t18
-array-read-t18 c = search needs
+array-read-t17 : tie.Need-array-read-t17
+array-read-t17 c = search needs
 
-array-read-t21 : tie.Need-array-read-t21
-array-read-t21 c = search needs
+array-read-t20 : tie.Need-array-read-t20
+array-read-t20 c = search needs
 
 conversion-requires : tie.Need-conversion-requires
 conversion-requires c κs = search needs
@@ -57,10 +57,14 @@ returns-5 c = λ line. c .dependencies .ensures line ∙ by-form (c .before .bef
 
 returns-6 : tie.Need-returns-6
 unfolding formAt
-returns-6 c =
+returns-6 c = λ line. by-form (c .before) line 39 (c .match .keys6)
+
+returns-7 : tie.Need-returns-7
+unfolding formAt
+returns-7 c =
     let form = c .before .args .form in
     let none = c .match .rest in
-    let listed = rw (ne-eqb form 22 (search none), ne-eqb form 23 (search none), ne-eqb form 24 (search none), ne-eqb form 31 (search none), ne-eqb form 33 (search none)) at (sets-listed form (c .before .pre .0)) in
+    let listed = rw (ne-eqb form 22 (search none), ne-eqb form 23 (search none), ne-eqb form 24 (search none), ne-eqb form 31 (search none), ne-eqb form 33 (search none), ne-eqb form 39 (search none)) at (sets-listed form (c .before .pre .0)) in
     absurd (false≢true (listed ∙ c .before .pre .1))
 
 pub set-command-spec : {M : Type 1} → statement M
@@ -68,10 +72,10 @@ set-command-spec =
     tie.close
     (tie.spec
     array-read-first
-    array-read-t12
-    array-read-t15
-    array-read-t18
-    array-read-t21
+    array-read-t9
+    array-read-t14
+    array-read-t17
+    array-read-t20
     conversion-requires
     dependencies-requires
     returns
@@ -79,4 +83,5 @@ set-command-spec =
     returns-3
     returns-4
     returns-5
-    returns-6)
+    returns-6
+    returns-7)

@@ -18,7 +18,7 @@ use Rattle.script_parser.proofs.words.find_form.Tie as tie
 
 -- the words of the tables
 abbrev firstTable : List ℕ
-firstTable = ascii "session node binding collection create apply batch check list show value senders wait turn edition convert mark depends print group length page import"
+firstTable = ascii "session node binding collection create apply batch check list show value senders wait turn edition convert mark depends print group length page import explain"
 
 abbrev stimulusTable : List ℕ
 stimulusTable = ascii "activate suspend resume close noop"

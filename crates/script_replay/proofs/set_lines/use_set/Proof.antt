@@ -69,6 +69,12 @@ import-into-requires c κs = search needs
 answered-requires-5 : tie.Need-answered-requires-5
 answered-requires-5 c κs = search needs
 
+enum-known-wanted-5 : tie.Need-enum-known-wanted-5
+enum-known-wanted-5 c = search needs
+
+explain-batch-requires : tie.Need-explain-batch-requires
+explain-batch-requires c κs = search needs
+
 same-length : tie.Need-same-length
 same-length c = search needs
 
@@ -140,6 +146,16 @@ returns-6 c =
     λ m h n. line-step n m _ _ (ap (λ (w : SetLine). withSetOf w set) (sym (told .wanted4 .given .1)))
     (c .answered5 .ensures m h _ _ _ (same-bytes (ap (λ (ed : Edition). importLine (importTerms ed (wanted .collection) (envelopeOf (wanted .envelope)) set (wanted .room))) (h .edition-is)) (brought .import-into .ensures)))
 
+same-length-7 : tie.Need-same-length-7
+same-length-7 c = search needs
+
+returns-7 : tie.Need-returns-7
+returns-7 c =
+    let explained = c .before .before in
+    let told = explained .before .before .before in
+    let set = told .before .before .before .before .args .set .now in
+    λ m h n. line-step n m _ _ (ap (λ (w : SetLine). withSetOf w set) (sym (told .wanted5 .given .1))) (explained .explain-batch .ensures m h n)
+
 pub use-set-spec : {M : Type 1} → statement M
 use-set-spec =
     tie.close
@@ -161,6 +177,8 @@ use-set-spec =
     enum-known-wanted-4
     import-into-requires
     answered-requires-5
+    enum-known-wanted-5
+    explain-batch-requires
     same-length
     returns
     same-length-2
@@ -172,4 +190,6 @@ use-set-spec =
     same-length-5
     returns-5
     same-length-6
-    returns-6)
+    returns-6
+    same-length-7
+    returns-7)

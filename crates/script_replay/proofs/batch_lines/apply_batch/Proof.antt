@@ -1,0 +1,32 @@
+-- `script_replay::batch_lines::apply_batch` meets its contract: the envelope and the declared count are those of the line.
+use mathlib.Core.Path.{ap}
+use denote.Ref.{now}
+use Rattle.spec_session.specs.Batch.{BatchEnvelope}
+use Rattle.spec_replay.specs.Script.{Command, batch}
+use Rattle.spec_replay.specs.Replay.{replayLine}
+use Rattle.session_gates.specs.Gates.{envelopeMeans}
+use Rattle.script_replay.specs.LineLaws.{line-step}
+use borrow.Author.Needs.{needs}
+use Rattle.script_replay.proofs.batch_lines.apply_batch.Statement.{statement}
+use Rattle.script_replay.proofs.batch_lines.apply_batch.Tie as tie
+
+envelope-of-requires : tie.Need-envelope-of-requires
+envelope-of-requires c κs = search needs
+
+apply-batch-requires : tie.Need-apply-batch-requires
+apply-batch-requires c κs = search needs
+
+same-length : tie.Need-same-length
+same-length c = search needs
+
+returns : tie.Need-returns
+unfolding replayLine
+returns c =
+    let call = c .before .before in
+    let made = call .before .before in
+    let args = made .before .before .before .args in
+    let command : BatchEnvelope → Command = λ e. batch e (args .batch .«target_references») (now (args .set)) in
+    λ m h n. line-step n m _ (command (envelopeMeans (made .envelope-of .result))) (ap command (made .envelope-of .ensures)) (call .apply-batch .ensures m h)
+
+pub apply-batch-spec : {M : Type 1} → statement M
+apply-batch-spec = tie.close (tie.spec envelope-of-requires apply-batch-requires same-length returns)

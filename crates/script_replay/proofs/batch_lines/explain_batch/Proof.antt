@@ -1,0 +1,32 @@
+-- `script_replay::batch_lines::explain_batch` meets its contract: the batch that is asked about is that of the line.
+use mathlib.Core.Path.{ap}
+use denote.Ref.{now}
+use Rattle.spec_session.specs.Batch.{BatchEnvelope}
+use Rattle.spec_replay.specs.Script.{Command, explainBatch}
+use Rattle.spec_replay.specs.Replay.{replayLine}
+use Rattle.session_gates.specs.Gates.{envelopeMeans}
+use Rattle.script_replay.specs.LineLaws.{line-step}
+use borrow.Author.Needs.{needs}
+use Rattle.script_replay.proofs.batch_lines.explain_batch.Statement.{statement}
+use Rattle.script_replay.proofs.batch_lines.explain_batch.Tie as tie
+
+envelope-of-requires : tie.Need-envelope-of-requires
+envelope-of-requires c κs = search needs
+
+explain-batch-requires : tie.Need-explain-batch-requires
+explain-batch-requires c κs = search needs
+
+same-length : tie.Need-same-length
+same-length c = search needs
+
+returns : tie.Need-returns
+unfolding replayLine
+returns c =
+    let call = c .before .before in
+    let made = call .before .before in
+    let args = made .before .before .before .args in
+    let command : BatchEnvelope → Command = λ e. explainBatch e (args .batch .«target_references») (now (args .set)) in
+    λ m h n. line-step n m _ (command (envelopeMeans (made .envelope-of .result))) (ap command (made .envelope-of .ensures)) (call .explain-batch .ensures m h)
+
+pub explain-batch-spec : {M : Type 1} → statement M
+explain-batch-spec = tie.close (tie.spec envelope-of-requires explain-batch-requires same-length returns)
