@@ -8,6 +8,7 @@ from sheet.programs import ProgramFault, run
 from sheet.rules import Rules
 
 from .asking import SET_BYTES, Panel, Refused, line, set_field
+from .explaining import explained
 from .paper import printed
 from .proving import prove
 from .terms import imported
@@ -26,6 +27,7 @@ EXAMPLES = {
     "convert": "./geysertray convert < examples/panel.set > second.set",
     "print": "./geysertray print 9 < examples/panel.set",
     "depends": "./geysertray depends < examples/panel.set",
+    "explain": "./geysertray explain < examples/pump_manual.script",
 }
 
 
@@ -58,13 +60,14 @@ def options():
     command("convert", "Write a set in the other edition.")
     command("print", "Print a collection of the panel that a set makes, in lines of 80 characters.").add_argument("collection", metavar="COLLECTION", type=u64)
     command("depends", "Print the keys that a set needs, and those that must be absent.")
+    command("explain", "Say of each batch of a script whether it is refused, and by which rule; the script itself says its editions.")
     return parser
 
 
 def main(arguments, program=None, data=None):
     """The status: 0, 1 for a refusal, 2 for what could not be asked."""
     chosen = options().parse_args(arguments)
-    asked = {"listing": list_set, "check": check, "import": bring_in, "convert": convert, "print": print_paper, "depends": depends}[chosen.command]
+    asked = {"listing": list_set, "check": check, "import": bring_in, "convert": convert, "print": print_paper, "depends": depends, "explain": explain}[chosen.command]
     try:
         if program is None:
             program = built(LISTINGS[chosen.edition] if chosen.command == "listing" else "replay")
@@ -138,6 +141,10 @@ def depends(panel, chosen, data):
     if rows[0][1] != b"0":
         raise Refused(int(rows[0][1]))
     return write(b"".join(b"\t".join(row) + b"\n" for row in rows))
+
+
+def explain(panel, chosen, data):
+    return write(explained(panel.program, Rules(), data))
 
 
 def bring_in(panel, chosen, data):

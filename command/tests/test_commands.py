@@ -141,12 +141,40 @@ class UsageTest(unittest.TestCase):
             self.assertEqual(called(arguments, b"")[0], 2, arguments)
 
     def test_help_has_an_example(self):
-        for name in ("listing", "check", "import", "convert", "print", "depends"):
+        for name in ("listing", "check", "import", "convert", "print", "depends", "explain"):
             out = io.StringIO()
             with contextlib.redirect_stdout(out), self.assertRaises(SystemExit) as end:
                 main([name, "--help"], MODEL, b"")
             self.assertEqual(end.exception.code, 0)
             self.assertIn("./geysertray " + name, out.getvalue())
+
+
+class ExplainTest(unittest.TestCase):
+    def told(self, script):
+        status, out, told = called(["explain"], script)
+        self.assertEqual((status, told), (0, ""))
+        return out.decode("utf-8").split("\n")[:-1]
+
+    def test_each_batch_has_a_line(self):
+        lines = self.told((ROOT / "examples" / "pump_manual.script").read_bytes())
+        script = (ROOT / "examples" / "pump_manual.script").read_bytes().split(b"\n")
+        batches = [number for number, line in enumerate(script, 1) if line.startswith(b"batch ")]
+        self.assertEqual([int(line.split(":")[0].split(" ")[1]) for line in lines], batches)
+        self.assertIn("not refused", lines[0])
+
+    def test_the_rule_and_its_place(self):
+        # a batch for session 8 while session 7 is in use, and one without a session
+        script = b"batch 8 1 0 0 0 -\nsession 7 9 9 9 9\ncreate\nbatch 8 1 0 0 0 -\n"
+        first, second = self.told(script)
+        self.assertEqual(first, "line 1: no session to send it to")
+        self.assertTrue(second.startswith("line 4: refused with 1, foreign-session (named 8, in use 7): "), second)
+
+    def test_a_cap_of_0_withholds(self):
+        script = b"session 7 9 0 9 9\ncreate\nbatch 8 1 0 0 0 -\n"
+        self.assertEqual(self.told(script), ["line 3: refused, and the rule is withheld: the session shows no diagnostics"])
+
+    def test_another_line_is_bad_usage(self):
+        self.assertEqual(called(["explain"], b"shew\n")[0], 2)
 
 
 if __name__ == "__main__":
