@@ -30,7 +30,7 @@ final class Replay implements AutoCloseable {
             Map.entry("mark node", "n"), Map.entry("mark entry", "nn"), Map.entry("edition", "e"), Map.entry("convert", "ch"), Map.entry("depends", "dh"),
             Map.entry("print", "np"), Map.entry("length", "n"), Map.entry("senders", "n"), Map.entry("wait", "n"), Map.entry("turn", ""), Map.entry("import", "cnnnnonnnnh"));
     private static final Map<Character, Long> LAST = Map.of('n', -1L, 'o', -1L, 'k', 128L, 's', 0xffffffffL, 'c', 32768L, 'd', 16384L, 'p', 131072L);
-    private static final List<String> NOT_BOUND = List.of("group");
+    private static final List<String> NOT_BOUND = List.of("group", "explain");
     private static final List<String> NEED_A_SESSION = List.of("apply", "batch", "show", "value", "mark", "print", "length", "page", "turn");
 
     /** A line that is no command. */

@@ -87,7 +87,7 @@ FIELDS = {
     "import": (up_to(32768), *[NUMBER] * 4, optional, *[NUMBER] * 4, set_bytes),
 }
 METHODS = {"edition": "edition_", "import": "import_"}
-NOT_BOUND = ("group",)
+NOT_BOUND = ("group", "explain")
 NEED_A_SESSION = ("apply", "batch", "show", "value", "mark", "print", "length", "page", "turn")
 NEED_TURNS = ("wait", "turn")
 
