@@ -6,7 +6,7 @@ from cases_script import bad
 from kit import PANEL, STARTED, batch, case, on_panel, rules_of, set_up, started
 from patch import availability, binding, insert, move, remove, update
 
-rules_of("the rule behind an answer in kit/README.md")
+rules_of("the rule behind an answer in kit/README.md", answers="01 and kit/README.md")
 
 STEPS = "spec_explain Explain.explainSteps"
 READING = "spec_explain Locate.locate"
