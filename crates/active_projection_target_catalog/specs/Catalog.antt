@@ -25,8 +25,8 @@ catalogueOf c = record {
 abbrev pub noPair : BindingPair
 noPair = record { node = 0; slot = 0 }
 
-unfoldable pub padded : {A : Type 0} → A → List A → List A
-padded none l = take anchors l ++ replicate (anchors - length l) none
+unfoldable pub paddedPairs : {A : Type 0} → A → List A → List A
+paddedPairs none l = take anchors l ++ replicate (anchors - length l) none
 
 -- the catalogue of given anchors; the pairs stand in their array, and so many of them are given
 unfoldable pub catalogWith : List ℕ → List BindingPair → ℕ → List ℕ → ActiveProjectionTargetCatalog
@@ -34,9 +34,9 @@ catalogWith nodes pairs count collections = record {
   «node_count» = length nodes;
   «binding_count» = count;
   «collection_count» = length collections;
-  «node_anchors» = padded 0 nodes;
+  «node_anchors» = paddedPairs 0 nodes;
   «binding_anchors» = pairs;
-  «collection_anchors» = padded 0 collections;
+  «collection_anchors» = paddedPairs 0 collections;
 }
 
 -- a pair of the model
@@ -45,7 +45,7 @@ pairTo b = record { node = b .node; slot = b .slot }
 
 -- the one catalogue that stores the anchors of a session
 unfoldable pub catalogTo : model.Catalogue → ActiveProjectionTargetCatalog
-catalogTo m = catalogWith (m .nodes) (padded noPair (map pairTo (m .bindings))) (length (m .bindings)) (m .collections)
+catalogTo m = catalogWith (m .nodes) (paddedPairs noPair (map pairTo (m .bindings))) (length (m .bindings)) (m .collections)
 
 -- ---- pairs taken apart
 

@@ -14,7 +14,7 @@ use Rattle.spec_patch.specs.Sizes.{anchors}
 use Rattle.spec_session.specs.Session as model
 use Rattle.spec_session.specs.Session.{Catalogue}
 use Rattle.spec_session.specs.ValidSession.{FewAnchors}
-use Rattle.active_projection_target_catalog.specs.Catalog.{pairOf, pairTo, noPair, padded, catalogueOf, catalogWith, catalogTo, pairNumbers, pairSeen}
+use Rattle.active_projection_target_catalog.specs.Catalog.{pairOf, pairTo, noPair, paddedPairs, catalogueOf, catalogWith, catalogTo, pairNumbers, pairSeen}
 use Rattle.active_projection_target_catalog.specs.declared.catalog.BindingPair.{BindingPair}
 
 pub seen-pairs : (node slot : ℕ) (bs : List BindingPair) → pairSeen node slot (flatMap pairNumbers bs) ≡ any (λ (b : model.BindingPair). eqb (b .node) node && eqb (b .slot) slot) (map pairOf bs)
@@ -66,11 +66,11 @@ module _ (node slot : ℕ) (ns : List ℕ) (at : ℕ) (within : at + 2 ≤ lengt
   seen-on e = seen-turn node slot ns at within ∙ rw e
 
 -- fewer than two numbers are no pair
-pub seen-end : (node slot : ℕ) (ns : List ℕ) → length ns < 2 → pairSeen node slot ns ≡ false
+pub pair-seen-end : (node slot : ℕ) (ns : List ℕ) → length ns < 2 → pairSeen node slot ns ≡ false
 unfolding pairSeen
-seen-end node slot [] h = refl
-seen-end node slot (n ∷ []) h = refl
-seen-end node slot (n ∷ s ∷ ns) h = absurd (omega arith)
+pair-seen-end node slot [] h = refl
+pair-seen-end node slot (n ∷ []) h = refl
+pair-seen-end node slot (n ∷ s ∷ ns) h = absurd (omega arith)
 
 any-turn : (test : ℕ → Bool) (ns : List ℕ) (at : ℕ) → at < length ns → any test (drop at ns) ≡ (test (getD ns at 0) || any test (drop (at + 1) ns))
 any-turn test ns at h = let one : at + 1 ≡ suc at = omega arith in rw one (ap (any test) (drop-cons ns at 0 h))
@@ -97,14 +97,14 @@ module _ {A : Type 0} (z : A) (l : List A) (i : ℕ) where
       ∙ sym (append-assoc (take i l) (getD l i d ∷ []) (replicate (anchors - (i + 1)) z))
       ∙ ap (λ t. t ++ replicate (anchors - (i + 1)) z) (sym (take-suc l i d below) ∙ ap (λ n. take n l) (sym more))
 
-  pub padded-short : length l ≡ i → i ≤ anchors → take i l ++ replicate (anchors - i) z ≡ padded z l
-  unfolding padded
+  pub padded-short : length l ≡ i → i ≤ anchors → take i l ++ replicate (anchors - i) z ≡ paddedPairs z l
+  unfolding paddedPairs
   padded-short e room =
       ap (λ t. t ++ replicate (anchors - i) z) (take-all i l (omega arith) ∙ sym (take-all anchors l (omega arith)))
       ∙ ap (λ n. take anchors l ++ replicate (anchors - n) z) (sym e)
 
-  pub padded-full : i ≡ anchors → anchors ≤ length l → take i l ++ replicate (anchors - i) z ≡ padded z l
-  unfolding padded
+  pub padded-full : i ≡ anchors → anchors ≤ length l → take i l ++ replicate (anchors - i) z ≡ paddedPairs z l
+  unfolding paddedPairs
   padded-full e full =
       ap (λ n. take n l ++ replicate (anchors - n) z) e
       ∙ ap (λ n. take anchors l ++ replicate n z) (let same : anchors - anchors ≡ anchors - length l = omega arith in same)
@@ -112,8 +112,8 @@ module _ {A : Type 0} (z : A) (l : List A) (i : ℕ) where
 -- ---- the catalogue of given anchors
 
 -- so many anchors as there is room for are those that the catalogue names
-padded-take : {A : Type 0} (z : A) (l : List A) → length l ≤ anchors → take (length l) (padded z l) ≡ l
-unfolding padded
+padded-take : {A : Type 0} (z : A) (l : List A) → length l ≤ anchors → take (length l) (paddedPairs z l) ≡ l
+unfolding paddedPairs
 padded-take z l few = ap (λ t. take (length l) (t ++ replicate (anchors - length l) z)) (take-all anchors l few) ∙ take-at l (replicate (anchors - length l) z) (length l) refl
 
 pub pairs-back : (bs : List model.BindingPair) → map pairOf (map pairTo bs) ≡ bs
@@ -130,8 +130,8 @@ catalogue-back m few =
     let pairs = map pairTo (m .bindings) in
     let count = length (m .bindings) in
     let counted : length pairs ≡ count = length-map (m .bindings) pairTo in
-    let kept : take count (padded noPair pairs) ≡ pairs =
-    ap (λ n. take n (padded noPair pairs)) (sym counted) ∙ padded-take noPair pairs (omega (arith, counted, few .bindings)) in
+    let kept : take count (paddedPairs noPair pairs) ≡ pairs =
+    ap (λ n. take n (paddedPairs noPair pairs)) (sym counted) ∙ padded-take noPair pairs (omega (arith, counted, few .bindings)) in
     let nodes = padded-take 0 (m .nodes) (few .nodes) in
     let collections = padded-take 0 (m .collections) (few .collections) in
     λ i. record { nodes = nodes i; bindings = (ap (map pairOf) kept ∙ pairs-back (m .bindings)) i; collections = collections i }

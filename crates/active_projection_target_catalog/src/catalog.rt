@@ -1,7 +1,7 @@
 // The catalogue by value: fixed arrays with their counts, and zeros in every unused place.
 ghost use mathlib.Core.Path.{_≡_};
 ghost use mathlib.Core.List.{flatMap};
-ghost use Rattle.active_projection_target_catalog.specs.Catalog.{pairNumbers, padded, catalogWith};
+ghost use Rattle.active_projection_target_catalog.specs.Catalog.{pairNumbers, paddedPairs, catalogWith};
 
 pub struct BindingPair {
     pub node: u64,
@@ -59,7 +59,7 @@ pub fn pair_numbers(pairs: [BindingPair; ActiveProjectionTargetCatalog::ANCHORS]
 
 // The ids that fit an array of anchors, and zeros in every other place.
 pub fn padded_ids(ids: &[u64]) -> [u64; ActiveProjectionTargetCatalog::ANCHORS]
-    ensures { λ r. ⌜ r ≡ padded 0 (now (ids .entry)) ⌝ }
+    ensures { λ r. ⌜ r ≡ paddedPairs 0 (now (ids .entry)) ⌝ }
 {
     let mut anchors = [0u64; ActiveProjectionTargetCatalog::ANCHORS];
     let mut i = 0;

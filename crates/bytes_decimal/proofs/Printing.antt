@@ -10,7 +10,7 @@ use Rattle.spec_decimal.specs.Decimal.{digit, decimal}
 use Rattle.spec_decimal.specs.ReadLaws.{decimal-last, decimal-more, length-decimal}
 
 -- the digits of rest are those of n that are not stored: zeros stand up to index start, and the last digits of n behind it
-pub record Stored (n start rest : ℕ) (bytes : List ℕ) : Type 0 where
+pub record StoredDigits (n start rest : ℕ) (bytes : List ℕ) : Type 0 where
   pub small : rest < 2 ^ 64
   pub last : List ℕ
   pub digits : decimal rest ++ last ≡ decimal n
@@ -25,10 +25,10 @@ zeros-snoc (suc k) bs = ap (λ (l : List ℕ). 0 ∷ l) (zeros-snoc k bs)
 put : (k d : ℕ) (bs : List ℕ) → set (replicate (suc k) 0 ++ bs) k d ≡ replicate k 0 ++ (d ∷ bs)
 put k d bs = ap (λ (l : List ℕ). set l k d) (zeros-snoc k bs) ∙ set-at (replicate k 0) 0 bs d k (length-replicate k 0)
 
-pub stored-start : (n : ℕ) → n < 2 ^ 64 → Stored n 19 n (replicate 20 0)
+pub stored-start : (n : ℕ) → n < 2 ^ 64 → StoredDigits n 19 n (replicate 20 0)
 stored-start n h = record { small = h; last = []; digits = append-nil (decimal n); held = refl; size = refl }
 
-module _ {n start rest : ℕ} {bytes : List ℕ} (s : Stored n start rest bytes) where
+module _ {n start rest : ℕ} {bytes : List ℕ} (s : StoredDigits n start rest bytes) where
   -- there is a place for each digit that is left
   pub place-left : 10 ≤ rest → 1 ≤ start
   place-left h =
@@ -39,7 +39,7 @@ module _ {n start rest : ℕ} {bytes : List ℕ} (s : Stored n start rest bytes)
   pub inside : start < 20
   inside = omega (arith, s .size)
 
-  pub stored-turn : 10 ≤ rest → Stored n (start - 1) (rest / 10) (set bytes start (digit (rest % 10)))
+  pub stored-turn : 10 ≤ rest → StoredDigits n (start - 1) (rest / 10) (set bytes start (digit (rest % 10)))
   stored-turn h =
       let place : suc (start - 1) ≡ start = omega (arith, place-left h) in
       record {

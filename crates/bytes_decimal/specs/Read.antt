@@ -13,13 +13,13 @@ use Rattle.bytes_decimal.specs.declared.ReadI64.{ReadI64}
 use Rattle.bytes_decimal.specs.declared.ReadI64.the-variants as I64
 
 -- the number that an answer holds
-abbrev pub numberU64 : ReadU64 → Option ℕ
-numberU64 (U64.Read n) = some n
-numberU64 U64.Malformed = none
+abbrev pub decimalU64 : ReadU64 → Option ℕ
+decimalU64 (U64.Read n) = some n
+decimalU64 U64.Malformed = none
 
-abbrev pub numberI64 : ReadI64 → Option ℤ
-numberI64 (I64.Read z) = some z
-numberI64 I64.Malformed = none
+abbrev pub decimalI64 : ReadI64 → Option ℤ
+decimalI64 (I64.Read z) = some z
+decimalI64 I64.Malformed = none
 
 -- the number n with one digit more after its own, if it is a u64
 unfoldable pub withDigit : ℕ → ℕ → Option ℕ

@@ -3,7 +3,7 @@ ghost use mathlib.Core.Path.{_≡_};
 ghost use mathlib.Core.Option.{some};
 ghost use lib.ListN.{drop};
 ghost use Rattle.spec_decimal.specs.Decimal.{readDecimal, positive, negative, readSignedDecimal};
-ghost use Rattle.bytes_decimal.specs.Read.{withDigit, readDigits, numberU64, numberI64};
+ghost use Rattle.bytes_decimal.specs.Read.{withDigit, readDigits, decimalU64, decimalI64};
 ghost use Rattle.bytes_decimal.specs.Print.{HoldsDigits};
 
 pub enum ReadU64 {
@@ -29,7 +29,7 @@ impl Digits {
 
 // The number n with one digit more after its own.
 fn with_digit(n: u64, byte: u8) -> ReadU64
-    ensures { λ r. ⌜ numberU64 r ≡ withDigit n byte ⌝ }
+    ensures { λ r. ⌜ decimalU64 r ≡ withDigit n byte ⌝ }
 {
     if byte < 48 {
         return ReadU64::Malformed;
@@ -46,7 +46,7 @@ fn with_digit(n: u64, byte: u8) -> ReadU64
 
 // The number that the bytes from index from on spell, if all are digits; leading zeros are taken.
 fn read_digits(text: &[u8], from: usize) -> ReadU64
-    ensures { λ r. ⌜ numberU64 r ≡ readDigits 0 (drop from (now (text .entry))) ⌝ }
+    ensures { λ r. ⌜ decimalU64 r ≡ readDigits 0 (drop from (now (text .entry))) ⌝ }
 {
     let mut n: u64 = 0;
     let mut i = from;
@@ -66,7 +66,7 @@ fn read_digits(text: &[u8], from: usize) -> ReadU64
 
 // Reads the number that the bytes from index from on spell.
 fn read_from(text: &[u8], from: usize) -> ReadU64
-    ensures { λ r. ⌜ numberU64 r ≡ readDecimal (drop from (now (text .entry))) ⌝ }
+    ensures { λ r. ⌜ decimalU64 r ≡ readDecimal (drop from (now (text .entry))) ⌝ }
 {
     if text.len() <= from {
         return ReadU64::Malformed;
@@ -80,13 +80,13 @@ fn read_from(text: &[u8], from: usize) -> ReadU64
 }
 
 pub fn read_u64(text: &[u8]) -> ReadU64
-    ensures { λ r. ⌜ numberU64 r ≡ readDecimal (now (text .entry)) ⌝ }
+    ensures { λ r. ⌜ decimalU64 r ≡ readDecimal (now (text .entry)) ⌝ }
 {
     read_from(text, 0)
 }
 
 fn to_positive(n: u64) -> ReadI64
-    ensures { λ r. ⌜ numberI64 r ≡ positive (some n) ⌝ }
+    ensures { λ r. ⌜ decimalI64 r ≡ positive (some n) ⌝ }
 {
     if n < 0x8000_0000_0000_0000 {
         ReadI64::Read(n as i64)
@@ -97,7 +97,7 @@ fn to_positive(n: u64) -> ReadI64
 
 // The number −n. The magnitude of the least i64 is no i64, so one less is made negative.
 fn to_negative(n: u64) -> ReadI64
-    ensures { λ r. ⌜ numberI64 r ≡ negative (some n) ⌝ }
+    ensures { λ r. ⌜ decimalI64 r ≡ negative (some n) ⌝ }
 {
     if n == 0 {
         return ReadI64::Malformed;
@@ -110,7 +110,7 @@ fn to_negative(n: u64) -> ReadI64
 }
 
 pub fn read_i64(text: &[u8]) -> ReadI64
-    ensures { λ r. ⌜ numberI64 r ≡ readSignedDecimal (now (text .entry)) ⌝ }
+    ensures { λ r. ⌜ decimalI64 r ≡ readSignedDecimal (now (text .entry)) ⌝ }
 {
     if text.len() == 0 {
         return ReadI64::Malformed;

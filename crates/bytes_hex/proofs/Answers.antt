@@ -56,11 +56,11 @@ unfolding decoding decodedInto readHex
 no-text out [] h = (refl, refl)
 no-text out (b ∷ bs) h = absurd (omega arith)
 
-pub dash : (out text : List ℕ) → length text ≡ 1 → getD text 0 0 ≡ 45 → (Bytes 0 ≡ decoding (length out) (readHex text)) × (out ≡ decodedInto out (readHex text))
+pub dash-decoded : (out text : List ℕ) → length text ≡ 1 → getD text 0 0 ≡ 45 → (Bytes 0 ≡ decoding (length out) (readHex text)) × (out ≡ decodedInto out (readHex text))
 unfolding decoding decodedInto readHex
-dash out [] h e = absurd (omega arith)
-dash out (b ∷ []) h e = (rw (eq-eqb b 45 e, le-leb 0 (length out) (omega arith)), rw (eq-eqb b 45 e) (sym (overwrite-in-place out 0 [] 0 refl (has-room out 0 0 (omega arith)))))
-dash out (b ∷ c ∷ bs) h e = absurd (omega arith)
+dash-decoded out [] h e = absurd (omega arith)
+dash-decoded out (b ∷ []) h e = (rw (eq-eqb b 45 e, le-leb 0 (length out) (omega arith)), rw (eq-eqb b 45 e) (sym (overwrite-in-place out 0 [] 0 refl (has-room out 0 0 (omega arith)))))
+dash-decoded out (b ∷ c ∷ bs) h e = absurd (omega arith)
 
 pub no-dash : (text : List ℕ) → (length text ≡ 0 → ⊥) → (length text ≡ 1 → getD text 0 0 ≡ 45 → ⊥) → hexPairs text ≡ readHex text
 unfolding readHex

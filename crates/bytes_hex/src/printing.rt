@@ -3,7 +3,7 @@ ghost use mathlib.Core.Path.{_≡_};
 ghost use mathlib.Core.List.{flatMap};
 ghost use Prim.Native.Nat.{_<_};
 ghost use Rattle.spec_replay.specs.Hex.{hexCharacter, bytePair, hexField};
-ghost use Rattle.bytes_printer.specs.Prints.{field, Prints, Within};
+ghost use Rattle.bytes_printer.specs.Prints.{spacedField, Prints, Within};
 use bytes_printer::Printed;
 
 fn hex_character(digit: u8) -> u8
@@ -40,7 +40,7 @@ fn print_pairs(out: &mut [u8], from: Printed, bytes: &[u8]) -> Printed
 
 // A tab, then two digits for each byte, or a dash for no bytes.
 pub fn print_field_hex(out: &mut [u8], at: Printed, bytes: &[u8]) -> Printed
-    ensures { λ r. ⌜ Prints (now (out .entry)) at (field (hexField (now (bytes .entry)))) (now (out .exit)) r ⌝ }
+    ensures { λ r. ⌜ Prints (now (out .entry)) at (spacedField (hexField (now (bytes .entry)))) (now (out .exit)) r ⌝ }
 {
     let start = bytes_printer::print_byte(out, at, 9);
     if bytes.len() == 0 {

@@ -8,12 +8,12 @@ use Rattle.spec_lists.specs.Lists.{if_then_else_}
 use Rattle.bytes_printer.specs.declared.Printed.{Printed}
 use Rattle.bytes_printer.specs.declared.Printed.the-variants.{Next, NoRoom}
 
-abbrev pub newline : ℕ
-newline = 10
+abbrev pub lineFeed : ℕ
+lineFeed = 10
 
 -- a tab, then the field
-abbrev pub field : List ℕ → List ℕ
-field bs = 9 ∷ bs
+abbrev pub spacedField : List ℕ → List ℕ
+spacedField bs = 9 ∷ bs
 
 -- the slice afterwards: the bytes from the position on, as many as there is room for; nothing where there is no position
 unfoldable pub printed : List ℕ → Printed → List ℕ → List ℕ
@@ -21,13 +21,13 @@ printed l (Next i) bs = take i l ++ take (length l - i) bs ++ drop (i + length b
 printed l NoRoom bs = l
 
 -- where printing goes on: behind the bytes, if all of them have room
-unfoldable pub behind : List ℕ → Printed → List ℕ → Printed
-behind l (Next i) bs = if leb (i + length bs) (length l) then Next (i + length bs) else NoRoom
-behind l NoRoom bs = NoRoom
+unfoldable pub printedBehind : List ℕ → Printed → List ℕ → Printed
+printedBehind l (Next i) bs = if leb (i + length bs) (length l) then Next (i + length bs) else NoRoom
+printedBehind l NoRoom bs = NoRoom
 
 -- printing the bytes at a position turns the slice from before to after, and answers r
 pub record Prints (before : List ℕ) (at : Printed) (bs after : List ℕ) (r : Printed) : Type 0 where
-  pub answer : r ≡ behind before at bs
+  pub answer : r ≡ printedBehind before at bs
   pub output : after ≡ printed before at bs
 
 -- a position that is in the slice or at its end, or none

@@ -11,17 +11,17 @@ use borrow.Author.Tests.{leb-true, leb-false, le-leb, lt-leb}
 use Rattle.spec_lists.specs.ListLaws.{flatMap-append, test-cases}
 use Rattle.bytes_printer.specs.declared.Printed.{Printed}
 use Rattle.bytes_printer.specs.declared.Printed.the-variants.{Next, NoRoom}
-use Rattle.bytes_printer.specs.Prints.{printed, behind, Prints, Within}
+use Rattle.bytes_printer.specs.Prints.{printed, printedBehind, Prints, Within}
 
 -- ---- bytes that fit, and bytes that do not
 
 module _ (l : List ℕ) (i : ℕ) (bs : List ℕ) where
-  pub behind-all : i + length bs ≤ length l → behind l (Next i) bs ≡ Next (i + length bs)
-  unfolding behind
+  pub behind-all : i + length bs ≤ length l → printedBehind l (Next i) bs ≡ Next (i + length bs)
+  unfolding printedBehind
   behind-all h = rw (le-leb (i + length bs) (length l) h)
 
-  pub behind-none : length l < i + length bs → behind l (Next i) bs ≡ NoRoom
-  unfolding behind
+  pub behind-none : length l < i + length bs → printedBehind l (Next i) bs ≡ NoRoom
+  unfolding printedBehind
   behind-none h = rw (lt-leb (i + length bs) (length l) h)
 
   pub printed-all : i + length bs ≤ length l → printed l (Next i) bs ≡ take i l ++ bs ++ drop (i + length bs) l
@@ -62,51 +62,51 @@ module _ (l : List ℕ) (i : ℕ) (a b : List ℕ) where
         let sum : length l - i ≡ length a + (length l - (i + length a)) = omega arith in
         ap (λ (k : ℕ). take k (a ++ b)) sum ∙ take-append-add a b (length l - (i + length a))
 
-  output-append : printed (printed l (Next i) a) (behind l (Next i) a) b ≡ printed l (Next i) (a ++ b)
+  output-append : printed (printed l (Next i) a) (printedBehind l (Next i) a) b ≡ printed l (Next i) (a ++ b)
   unfolding printed
   output-append = test-cases (leb (i + length a) (length l)) (λ t. all (leb-true _ _ t)) (λ t. part (leb-false _ _ t))
     where
-      all : i + length a ≤ length l → printed (printed l (Next i) a) (behind l (Next i) a) b ≡ printed l (Next i) (a ++ b)
+      all : i + length a ≤ length l → printed (printed l (Next i) a) (printedBehind l (Next i) a) b ≡ printed l (Next i) (a ++ b)
       all h =
           ap (λ (p : Printed). printed (printed l (Next i) a) p b) (behind-all l i a h)
           ∙ ap₂ (λ (x y : List ℕ). x ++ take (length (printed l (Next i) a) - (i + length a)) b ++ y) (taken h) (dropped h)
           ∙ ap (λ (k : ℕ). take i l ++ a ++ take (k - (i + length a)) b ++ drop (i + length (a ++ b)) l) (length-printed l (Next i) a)
           ∙ ap (λ (x : List ℕ). x ++ drop (i + length (a ++ b)) l) (append-assoc (take i l) a _ ∙ ap (λ (x : List ℕ). take i l ++ x) (sym (middle h)))
 
-      part : length l < i + length a → printed (printed l (Next i) a) (behind l (Next i) a) b ≡ printed l (Next i) (a ++ b)
+      part : length l < i + length a → printed (printed l (Next i) a) (printedBehind l (Next i) a) b ≡ printed l (Next i) (a ++ b)
       part h =
           ap (λ (p : Printed). printed (printed l (Next i) a) p b) (behind-none l i a h)
           ∙ printed-part l i a (omega arith)
           ∙ ap (λ (x : List ℕ). take i l ++ x) (sym (take-append-le (length l - i) a b (omega arith)))
           ∙ sym (printed-part l i (a ++ b) (omega (arith, length-append a b)))
 
-  answer-append : behind (printed l (Next i) a) (behind l (Next i) a) b ≡ behind l (Next i) (a ++ b)
-  unfolding behind
+  answer-append : printedBehind (printed l (Next i) a) (printedBehind l (Next i) a) b ≡ printedBehind l (Next i) (a ++ b)
+  unfolding printedBehind
   answer-append = test-cases (leb (i + length a) (length l)) (λ t. all (leb-true _ _ t)) (λ t. part (leb-false _ _ t))
     where
-      all : i + length a ≤ length l → behind (printed l (Next i) a) (behind l (Next i) a) b ≡ behind l (Next i) (a ++ b)
+      all : i + length a ≤ length l → printedBehind (printed l (Next i) a) (printedBehind l (Next i) a) b ≡ printedBehind l (Next i) (a ++ b)
       all h =
           let sum : i + length a + length b ≡ i + length (a ++ b) = omega (arith, length-append a b) in
-          ap (λ (p : Printed). behind (printed l (Next i) a) p b) (behind-all l i a h) ∙ rw (length-printed l (Next i) a, sum)
+          ap (λ (p : Printed). printedBehind (printed l (Next i) a) p b) (behind-all l i a h) ∙ rw (length-printed l (Next i) a, sum)
 
-      part : length l < i + length a → behind (printed l (Next i) a) (behind l (Next i) a) b ≡ behind l (Next i) (a ++ b)
+      part : length l < i + length a → printedBehind (printed l (Next i) a) (printedBehind l (Next i) a) b ≡ printedBehind l (Next i) (a ++ b)
       part h =
-          ap (λ (p : Printed). behind (printed l (Next i) a) p b) (behind-none l i a h) ∙ sym (behind-none l i (a ++ b) (omega (arith, length-append a b)))
+          ap (λ (p : Printed). printedBehind (printed l (Next i) a) p b) (behind-none l i a h) ∙ sym (behind-none l i (a ++ b) (omega (arith, length-append a b)))
 
 infixr 60 _⨾_
 -- printing a, then b where that ended, is printing a ++ b
 pub _⨾_ : {l m n : List ℕ} {at r s : Printed} {a b : List ℕ} → Prints l at a m r → Prints m r b n s → Prints l at (a ++ b) n s
-unfolding printed behind
+unfolding printed printedBehind
 _⨾_ {l} {at = at} {a = a} {b = b} p q = record {
-  answer = q .answer ∙ ap₂ (λ (x : List ℕ) (y : Printed). behind x y b) (p .output) (p .answer) ∙ answers at;
+  answer = q .answer ∙ ap₂ (λ (x : List ℕ) (y : Printed). printedBehind x y b) (p .output) (p .answer) ∙ answers at;
   output = q .output ∙ ap₂ (λ (x : List ℕ) (y : Printed). printed x y b) (p .output) (p .answer) ∙ outputs at;
 }
   where
-    answers : (at : Printed) → behind (printed l at a) (behind l at a) b ≡ behind l at (a ++ b)
+    answers : (at : Printed) → printedBehind (printed l at a) (printedBehind l at a) b ≡ printedBehind l at (a ++ b)
     answers (Next i) = answer-append l i a b
     answers NoRoom = refl
 
-    outputs : (at : Printed) → printed (printed l at a) (behind l at a) b ≡ printed l at (a ++ b)
+    outputs : (at : Printed) → printed (printed l at a) (printedBehind l at a) b ≡ printed l at (a ++ b)
     outputs (Next i) = output-append l i a b
     outputs NoRoom = refl
 
@@ -121,7 +121,7 @@ from-next {l} {m} {bs} {at} {r} e p = subst (λ (a : Printed). Prints l a bs m r
 
 -- without a position nothing is printed
 pub not-printed : (l bs : List ℕ) {at : Printed} → at ≡ NoRoom → Prints l at bs l NoRoom
-unfolding printed behind
+unfolding printed printedBehind
 not-printed l bs e = subst (λ (a : Printed). Prints l a bs l NoRoom) (sym e) (record { answer = refl; output = refl })
 
 -- ---- nothing, one byte, and a slice that is full
@@ -147,7 +147,7 @@ module _ (l : List ℕ) (i : ℕ) where
 
 -- nothing is printed at a position in the slice
 pub nothing-printed : (l : List ℕ) (at : Printed) → Within l at → Prints l at [] l at
-unfolding printed behind
+unfolding printed printedBehind
 nothing-printed l (Next i) h =
     let same : i + 0 ≡ i = omega arith in
     record {
@@ -161,10 +161,10 @@ keeps-length {l} {at = at} {bs = bs} p = ap length (p .output) ∙ length-printe
 
 -- a print ends in the slice
 pub ends-within : {l m : List ℕ} {at r : Printed} {bs : List ℕ} → Prints l at bs m r → Within m r
-unfolding behind
+unfolding printedBehind
 ends-within {l} {m} {at} {r} {bs} p = subst (λ (x : Printed). Within m x) (sym (p .answer)) (by-position at (keeps-length p))
   where
-    by-position : (at : Printed) → length m ≡ length l → Within m (behind l at bs)
+    by-position : (at : Printed) → length m ≡ length l → Within m (printedBehind l at bs)
     by-position (Next i) size = test-cases (leb (i + length bs) (length l)) (λ t. rw t (omega (arith, leb-true (i + length bs) (length l) t))) (λ t. rw t tt)
     by-position NoRoom size = tt
 
@@ -204,8 +204,8 @@ module _ {A : Type 0} (line : A → List ℕ) (xs : List A) {l : List ℕ} {at :
 -- ---- what a whole print leaves
 
 -- bytes that fit, printed from the start
-pub whole : {l bs m : List ℕ} {r : Printed} → Prints l (Next 0) bs m r → length bs ≤ length l → (r ≡ Next (length bs)) × (take (length bs) m ≡ bs)
-whole {l} {bs} p h = (
+pub whole-printed : {l bs m : List ℕ} {r : Printed} → Prints l (Next 0) bs m r → length bs ≤ length l → (r ≡ Next (length bs)) × (take (length bs) m ≡ bs)
+whole-printed {l} {bs} p h = (
   p .answer ∙ behind-all l 0 bs (omega arith) ∙ ap Next (omega arith),
   ap (take (length bs)) (p .output ∙ printed-all l 0 bs (omega arith)) ∙ take-at bs (drop (0 + length bs) l) (length bs) refl,
 )

@@ -2,7 +2,7 @@
 // fits; once something did not fit, nothing further is written.
 ghost use mathlib.Core.List.{[], _∷_};
 ghost use Rattle.spec_decimal.specs.Decimal.{decimal, signedDecimal};
-ghost use Rattle.bytes_printer.specs.Prints.{field, newline, Prints};
+ghost use Rattle.bytes_printer.specs.Prints.{spacedField, lineFeed, Prints};
 
 // The position behind what was printed, or that it did not fit.
 pub enum Printed {
@@ -62,28 +62,28 @@ pub fn print_i64(out: &mut [u8], at: Printed, z: i64) -> Printed
 
 // A tab, then the field.
 pub fn print_field_bytes(out: &mut [u8], at: Printed, text: &[u8]) -> Printed
-    ensures { λ r. ⌜ Prints (now (out .entry)) at (field (now (text .entry))) (now (out .exit)) r ⌝ }
+    ensures { λ r. ⌜ Prints (now (out .entry)) at (spacedField (now (text .entry))) (now (out .exit)) r ⌝ }
 {
     let start = print_byte(out, at, 9);
     print_bytes(out, start, text)
 }
 
 pub fn print_field_u64(out: &mut [u8], at: Printed, n: u64) -> Printed
-    ensures { λ r. ⌜ Prints (now (out .entry)) at (field (decimal n)) (now (out .exit)) r ⌝ }
+    ensures { λ r. ⌜ Prints (now (out .entry)) at (spacedField (decimal n)) (now (out .exit)) r ⌝ }
 {
     let start = print_byte(out, at, 9);
     print_u64(out, start, n)
 }
 
 pub fn print_field_i64(out: &mut [u8], at: Printed, z: i64) -> Printed
-    ensures { λ r. ⌜ Prints (now (out .entry)) at (field (signedDecimal z)) (now (out .exit)) r ⌝ }
+    ensures { λ r. ⌜ Prints (now (out .entry)) at (spacedField (signedDecimal z)) (now (out .exit)) r ⌝ }
 {
     let start = print_byte(out, at, 9);
     print_i64(out, start, z)
 }
 
 pub fn print_newline(out: &mut [u8], at: Printed) -> Printed
-    ensures { λ r. ⌜ Prints (now (out .entry)) at (newline ∷ []) (now (out .exit)) r ⌝ }
+    ensures { λ r. ⌜ Prints (now (out .entry)) at (lineFeed ∷ []) (now (out .exit)) r ⌝ }
 {
     print_byte(out, at, 10)
 }

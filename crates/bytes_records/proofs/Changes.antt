@@ -10,15 +10,15 @@ use borrow.Rule.Slice.PartMut.{midOf, putMid}
 use borrow.Author.Tests.{le-leb, lt-leb, lt-ltb, le-ltb, eq-eqb, ne-eqb}
 use Rattle.spec_lists.specs.ListLaws.{all-append, all-take, all-drop}
 use Rattle.bytes_records.specs.Positions.{insertAt, removeAt, replaceAt}
-use Rattle.bytes_records.specs.Table.{Wide, Holds, canInsert, canRemove, canReplace, Changed}
+use Rattle.bytes_records.specs.Table.{Wide, HoldsRows, canInsert, canRemove, canReplace, Changed}
 use Rattle.bytes_records.specs.TableLaws.{flatten-append, flatten-middle, wide-middle, zeros-split, holds, before-length, after-length, split, row-width, row-bytes, row-split}
-use Rattle.bytes_records.specs.Moves.{zeros, overwrite, pushFront, popFront}
+use Rattle.bytes_records.specs.Moves.{zeros, overwriteRows, pushFront, popFront}
 use Rattle.bytes_records.proofs.Parts.{part-is, lent}
 use Rattle.bytes_records.proofs.Offsets.{start-le}
 
 -- ---- the rows of the table afterwards
 
-module _ {w n : ℕ} {l : List ℕ} (m : List (List ℕ)) (t : Holds w n l m) where
+module _ {w n : ℕ} {l : List ℕ} (m : List (List ℕ)) (t : HoldsRows w n l m) where
   module _ (i : ℕ) (below : i < n) where
     row-size : length (getD m i []) ≡ i * w + w - i * w
     row-size = omega (arith, row-width t i below)
@@ -39,7 +39,7 @@ module _ {w n : ℕ} {l : List ℕ} (m : List (List ℕ)) (t : Holds w n l m) wh
     insert-size = simp (length-append, length-replicate) (omega (arith, after-length t i within, start-le w within))
 
     pub inserted : (s : List ℕ) → s ≡ pushFront r (midOf (i * w) (n * w + w - i * w) l)
-        → Holds w (n + 1) (putMid (i * w) (n * w + w - i * w) l s) (insertAt i r m)
+        → HoldsRows w (n + 1) (putMid (i * w) (n * w + w - i * w) l s) (insertAt i r m)
     inserted s e =
         let kept : length (flatten (drop i m)) ≡ length (flatten (drop i m) ++ zeros w) - length r = simp (length-append, length-replicate) (omega arith) in
         let long : length (insertAt i r m) ≡ n + 1 = simp (length-append, length-take, length-drop) (omega (arith, t .counted)) in
@@ -52,7 +52,7 @@ module _ {w n : ℕ} {l : List ℕ} (m : List (List ℕ)) (t : Holds w n l m) wh
 
   module _ (i : ℕ) (below : i < n) where
     pub removed : (s : List ℕ) → s ≡ popFront w (midOf (i * w) (n * w - i * w) l)
-        → Holds w (n - 1) (putMid (i * w) (n * w - i * w) l s) (removeAt i m)
+        → HoldsRows w (n - 1) (putMid (i * w) (n * w - i * w) l s) (removeAt i m)
     removed s e =
         let within : i ≤ n = omega arith in
         let long : length (removeAt i m) ≡ n - 1 = simp (length-append, length-take, length-drop) (omega (arith, t .counted)) in
@@ -66,8 +66,8 @@ module _ {w n : ℕ} {l : List ℕ} (m : List (List ℕ)) (t : Holds w n l m) wh
         (split t i within) (before-length t i within) (after-length t i within) (popFront w) s e
         ∙ rw (row-bytes t i below, drop-at, flatten-append, zeros-split w (w + (length l - n * w)), k, append-assoc, append-assoc))
 
-    pub replaced : (r : List ℕ) → length r ≡ w → (s : List ℕ) → s ≡ overwrite r (midOf (i * w) (i * w + w - i * w) l)
-        → Holds w n (putMid (i * w) (i * w + w - i * w) l s) (replaceAt i r m)
+    pub replaced : (r : List ℕ) → length r ≡ w → (s : List ℕ) → s ≡ overwriteRows r (midOf (i * w) (i * w + w - i * w) l)
+        → HoldsRows w n (putMid (i * w) (i * w + w - i * w) l s) (replaceAt i r m)
     replaced r width s e =
         let within : i ≤ n = omega arith in
         let long : length (replaceAt i r m) ≡ n = simp (length-append, length-take, length-drop) (omega (arith, t .counted)) in
@@ -77,7 +77,7 @@ module _ {w n : ℕ} {l : List ℕ} (m : List (List ℕ)) (t : Holds w n l m) wh
         (wide-middle w (take i m) r (drop (i + 1) m) (all-take (Wide w) i m (t .wide)) width (all-drop (Wide w) (i + 1) m (t .wide)))
         long
         (lent l (flatten (take i m)) (getD m i []) (flatten (drop (i + 1) m) ++ zeros (length l - n * w)) _ _
-        (row-split t i below) (before-length t i within) (row-size i below) (overwrite r) s e
+        (row-split t i below) (before-length t i within) (row-size i below) (overwriteRows r) s e
         ∙ rw (gone, append-nil, flatten-middle, append-assoc, append-assoc))
 
 -- ---- the answer
@@ -86,7 +86,7 @@ module _ {w n n′ : ℕ} {f : List (List ℕ) → List (List ℕ)} {can : Bool}
   pub refused : can ≡ false → Changed w n n′ f can l l false
   refused e = record { told = sym e; made = λ h. absurd (false≢true h); kept = λ h. refl }
 
-  pub changed : {l′ : List ℕ} → can ≡ true → ((m : List (List ℕ)) → Holds w n l m → Holds w n′ l′ (f m)) → Changed w n n′ f can l l′ true
+  pub changed : {l′ : List ℕ} → can ≡ true → ((m : List (List ℕ)) → HoldsRows w n l m → HoldsRows w n′ l′ (f m)) → Changed w n n′ f can l l′ true
   changed e h = record { told = sym e; made = λ k. h; kept = λ k. absurd (false≢true (sym k)) }
 
 module _ (size w n at : ℕ) where

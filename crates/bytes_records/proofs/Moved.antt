@@ -12,7 +12,7 @@ use borrow.Rule.Slice.PartMut.{midOf, putMid}
 use borrow.Author.Tests.{le-leb, lt-leb, lt-ltb, le-ltb, eq-eqb, ne-eqb}
 use Rattle.spec_lists.specs.ListLaws.{all-append, all-left, all-right}
 use Rattle.bytes_records.specs.Positions.{insertAt, removeAt, moveAt}
-use Rattle.bytes_records.specs.Table.{Wide, Holds, canMove}
+use Rattle.bytes_records.specs.Table.{Wide, HoldsRows, canMove}
 use Rattle.bytes_records.specs.TableLaws.{flatten-append, flatten-middle, wide-middle, length-flatten, holds, padded}
 use Rattle.bytes_records.specs.Moves.{zeros, pushFront, pushBack}
 use Rattle.bytes_records.proofs.Parts.{lent}
@@ -41,9 +41,9 @@ module _ {A : Type 0} (a : List A) (x : A) (b c : List A) (r : A) (from to : ℕ
 -- ---- the rows of the table afterwards
 
 module _ {w n : ℕ} {l : List ℕ} (a : List (List ℕ)) (x : List ℕ) (b c : List (List ℕ)) (r : List ℕ) (from to : ℕ) (width : length r ≡ w) where
-  bytes-later : Holds w n l (a ++ x ∷ (b ++ c)) → length a ≡ from → length a + length b ≡ to
+  bytes-later : HoldsRows w n l (a ++ x ∷ (b ++ c)) → length a ≡ from → length a + length b ≡ to
       → (s : List ℕ) → s ≡ pushBack r (midOf (from * w) (to * w + w - from * w) l)
-      → Holds w n (putMid (from * w) (to * w + w - from * w) l s) (a ++ (b ++ r ∷ c))
+      → HoldsRows w n (putMid (from * w) (to * w + w - from * w) l s) (a ++ (b ++ r ∷ c))
   bytes-later t front end s e =
       let wide = all-right (Wide w) a (x ∷ (b ++ c)) (t .wide) in
       let wide-a = all-left (Wide w) a (x ∷ (b ++ c)) (t .wide) in
@@ -59,9 +59,9 @@ module _ {w n : ℕ} {l : List ℕ} (a : List (List ℕ)) (x : List ℕ) (b c : 
       (lent l (flatten a) (x ++ flatten b) (flatten c ++ zeros (length l - n * w)) _ _ split start size (pushBack r) s e
       ∙ rw (drop-at x (flatten b) (length r) gone, flatten-append, flatten-middle) (simp append-assoc))
 
-  bytes-earlier : Holds w n l (a ++ (b ++ x ∷ c)) → length a + length b ≡ from → length a ≡ to
+  bytes-earlier : HoldsRows w n l (a ++ (b ++ x ∷ c)) → length a + length b ≡ from → length a ≡ to
       → (s : List ℕ) → s ≡ pushFront r (midOf (to * w) (from * w + w - to * w) l)
-      → Holds w n (putMid (to * w) (from * w + w - to * w) l s) (a ++ (r ∷ (b ++ c)))
+      → HoldsRows w n (putMid (to * w) (from * w + w - to * w) l s) (a ++ (r ∷ (b ++ c)))
   bytes-earlier t end front s e =
       let wide = all-right (Wide w) a (b ++ x ∷ c) (t .wide) in
       let wide-a = all-left (Wide w) a (b ++ x ∷ c) (t .wide) in
@@ -77,9 +77,9 @@ module _ {w n : ℕ} {l : List ℕ} (a : List (List ℕ)) (x : List ℕ) (b c : 
       (lent l (flatten a) (flatten b ++ x) (flatten c ++ zeros (length l - n * w)) _ _ split start size (pushFront r) s e
       ∙ rw (take-at (flatten b) x _ left, flatten-middle, flatten-append) (simp append-assoc))
 
-module _ {w n : ℕ} {l : List ℕ} (m : List (List ℕ)) (t : Holds w n l m) (from to : ℕ) (r : List ℕ) (width : length r ≡ w) where
+module _ {w n : ℕ} {l : List ℕ} (m : List (List ℕ)) (t : HoldsRows w n l m) (from to : ℕ) (r : List ℕ) (width : length r ≡ w) where
   pub moved-later : from < to → to < n → (s : List ℕ) → s ≡ pushBack r (midOf (from * w) (to * w + w - from * w) l)
-      → Holds w n (putMid (from * w) (to * w + w - from * w) l s) (moveAt from to r m)
+      → HoldsRows w n (putMid (from * w) (to * w + w - from * w) l s) (moveAt from to r m)
   moved-later order below s e =
       let a = take from m in
       let x = getD m from [] in
@@ -92,11 +92,11 @@ module _ {w n : ℕ} {l : List ℕ} (m : List (List ℕ)) (t : Holds w n l m) (f
       let on : from + 1 + (to - from) ≡ to + 1 = omega arith in
       let rest : drop (from + 1) m ≡ b ++ c = sym (take-append-drop (to - from) (drop (from + 1) m)) ∙ rw (drop-drop, on) in
       let parts : m ≡ a ++ x ∷ (b ++ c) = split-at m from [] here ∙ ap (λ (d : List (List ℕ)). a ++ x ∷ d) (ap (λ (i : ℕ). drop i m) (sym (add-one from)) ∙ rest) in
-      let held = bytes-later a x b c r from to width (subst (Holds w n l) parts t) front end s e in
-      subst (Holds w n _) (sym (list-later a x b c r from to front end) ∙ ap (moveAt from to r) (sym parts)) held
+      let held = bytes-later a x b c r from to width (subst (HoldsRows w n l) parts t) front end s e in
+      subst (HoldsRows w n _) (sym (list-later a x b c r from to front end) ∙ ap (moveAt from to r) (sym parts)) held
 
   pub moved-earlier : to ≤ from → from < n → (s : List ℕ) → s ≡ pushFront r (midOf (to * w) (from * w + w - to * w) l)
-      → Holds w n (putMid (to * w) (from * w + w - to * w) l s) (moveAt from to r m)
+      → HoldsRows w n (putMid (to * w) (from * w + w - to * w) l s) (moveAt from to r m)
   moved-earlier order below s e =
       let a = take to m in
       let b = take (from - to) (drop to m) in
@@ -109,8 +109,8 @@ module _ {w n : ℕ} {l : List ℕ} (m : List (List ℕ)) (t : Holds w n l m) (f
       let on : to + (from - to) ≡ from = omega arith in
       let before : take from m ≡ a ++ b = ap (λ (i : ℕ). take i m) (sym on) ∙ take-add to (from - to) m in
       let parts : m ≡ a ++ (b ++ x ∷ c) = split-at m from [] here ∙ rw (before, ← add-one, append-assoc) in
-      let held = bytes-earlier a x b c r from to width (subst (Holds w n l) parts t) end front s e in
-      subst (Holds w n _) (sym (list-earlier a x b c r from to end front) ∙ ap (moveAt from to r) (sym parts)) held
+      let held = bytes-earlier a x b c r from to width (subst (HoldsRows w n l) parts t) end front s e in
+      subst (HoldsRows w n _) (sym (list-earlier a x b c r from to end front) ∙ ap (moveAt from to r) (sym parts)) held
 
 -- ---- the answer
 

@@ -15,24 +15,24 @@ use Rattle.spec_lists.specs.ListLaws.{and-left}
 use Rattle.spec_lists.specs.Order.{lexLess}
 use Rattle.bytes_records.specs.Positions.{firstIndex}
 use Rattle.bytes_records.specs.PositionsLaws.{firstIndex-le, first-passes}
-use Rattle.bytes_records.specs.Table.{Holds}
+use Rattle.bytes_records.specs.Table.{HoldsRows}
 use Rattle.bytes_records.specs.TableLaws.{fitting, row-at, row-cons}
 use Rattle.bytes_records.specs.Keys.{orderOf}
-use Rattle.bytes_records.specs.Search.{firstNumber, isPair, Rising, Starts, nextPlace, placeOf, later}
+use Rattle.bytes_records.specs.Search.{firstRowNumber, isPair, Rising, Starts, nextPlace, placeOf, later}
 use Rattle.bytes_records.specs.SearchLaws.{rising-at, later-none, later-next}
 use Rattle.bytes_records.specs.declared.Place.the-variants.{Taken, Before}
 use Rattle.bytes_records.specs.declared.keys.Order.the-variants.{Below, Same, Above}
 use Rattle.bytes_records.proofs.Offsets.{end-le}
 
 -- the lent part that is the row's first eight bytes
-pub head-is : {w n : ℕ} {l : List ℕ} (m : List (List ℕ)) (t : Holds w n l m) (i : ℕ) → i < n → 8 ≤ w
+pub head-is : {w n : ℕ} {l : List ℕ} (m : List (List ℕ)) (t : HoldsRows w n l m) (i : ℕ) → i < n → 8 ≤ w
     → midOf (i * w) (i * w + 8 - i * w) l ≡ take 8 (getD m i [])
 head-is {w} {n} {l} m t i below wide =
     let k : i * w + 8 - i * w ≡ 8 = omega arith in
     rw (k, ← row-at t i below, take-take)
 
 -- the lent part that is the eight bytes behind these
-pub second-is : {w n : ℕ} {l : List ℕ} (m : List (List ℕ)) (t : Holds w n l m) (i : ℕ) → i < n → 16 ≤ w
+pub second-is : {w n : ℕ} {l : List ℕ} (m : List (List ℕ)) (t : HoldsRows w n l m) (i : ℕ) → i < n → 16 ≤ w
     → midOf (i * w + 8) (i * w + 8 + 8 - (i * w + 8)) l ≡ take 8 (drop 8 (getD m i []))
 second-is {w} {n} {l} m t i below wide =
     let k : i * w + 8 + 8 - (i * w + 8) ≡ 8 = omega arith in
@@ -45,7 +45,7 @@ second-is {w} {n} {l} m t i below wide =
 -- ---- two numbers, in rows that rise by the first
 
 module _ (m : List (List ℕ)) (rising : Rising m) (id second : ℕ) where
-  pair-id : firstIndex (isPair id second) m < length m → firstNumber (getD m (firstIndex (isPair id second) m) []) ≡ id
+  pair-id : firstIndex (isPair id second) m < length m → firstRowNumber (getD m (firstIndex (isPair id second) m) []) ≡ id
   pair-id some = eqb-true _ id (and-left _ _ (first-passes (isPair id second) m [] some))
 
   module _ (start : ℕ) (starts : Starts id start m) where
@@ -60,7 +60,7 @@ module _ (m : List (List ℕ)) (rising : Rising m) (id second : ℕ) where
         go false e = ltb-false (firstIndex (isPair id second) m) start e
 
     -- and ends behind them
-    pub pair-gone : (i : ℕ) → start ≤ i → i < length m → i ≤ firstIndex (isPair id second) m → (firstNumber (getD m i []) ≡ id → ⊥) → firstIndex (isPair id second) m ≡ length m
+    pub pair-gone : (i : ℕ) → start ≤ i → i < length m → i ≤ firstIndex (isPair id second) m → (firstRowNumber (getD m i []) ≡ id → ⊥) → firstIndex (isPair id second) m ≡ length m
     pair-gone i behind below passed other = go (ltb (firstIndex (isPair id second) m) (length m)) refl
       where
         go : (t : Bool) → ltb (firstIndex (isPair id second) m) (length m) ≡ t → firstIndex (isPair id second) m ≡ length m
@@ -109,7 +109,7 @@ module _ (key : List ℕ → List ℕ) (k : List ℕ) where
   unfolding Placed
   placed-none m = later-none (placeOf key k m)
 
-  module _ {w n : ℕ} {l : List ℕ} (m : List (List ℕ)) (t : Holds w n l m) (i : ℕ) (placed : Placed i m) where
+  module _ {w n : ℕ} {l : List ℕ} (m : List (List ℕ)) (t : HoldsRows w n l m) (i : ℕ) (placed : Placed i m) where
     -- the place from position i on, by the row there
     module _ (below : i < n) where
       here : placeOf key k (drop i m) ≡ placeOf key k (getD m i [] ∷ drop (i + 1) m)

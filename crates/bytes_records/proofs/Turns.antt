@@ -6,7 +6,7 @@ use native.Mathlib.Numerals.{add-one}
 use native.Mathlib.Nat.{add-comm, sub-self}
 use native.Mathlib.Omega.{arith}
 use lib.ListN.{length, take, drop, getD, set, length-take, length-drop, drop-of-length-le, length-append, List·getD-append}
-use Rattle.bytes_records.specs.Moves.{zeros, overwrite, pushFront, pushBack, popFront}
+use Rattle.bytes_records.specs.Moves.{zeros, overwriteRows, pushFront, pushBack, popFront}
 use Rattle.bytes_records.proofs.Parts.{lent}
 use borrow.Rule.Slice.PartMut.{midOf, putMid}
 use lib.Seq.{take-suc, take-all, take-length, drop-length, drop-cons, append-snoc, set-at, drop-at, getD-take, getD-drop, getD-append-add}
@@ -81,16 +81,16 @@ down-end l s by i low high e =
     rw (e, n, take-all)
 
 -- t once the loop of `copy` has come up to index i
-abbrev pub copied : ℕ → List ℕ → List ℕ → List ℕ
-copied i s t = take i s ++ drop i t
+abbrev pub copiedTurn : ℕ → List ℕ → List ℕ → List ℕ
+copiedTurn i s t = take i s ++ drop i t
 
 module _ (s t u : List ℕ) (i : ℕ) where
-  pub copied-turn : i < length s → i < length t → u ≡ copied i s t → set u i (getD s i 0) ≡ copied (i + 1) s t
+  pub copied-turn : i < length s → i < length t → u ≡ copiedTurn i s t → set u i (getD s i 0) ≡ copiedTurn (i + 1) s t
   copied-turn more room e =
       let n : length (take i s) ≡ i = simp length-take (omega arith) in
       rw (e, add-one, drop-cons t i 0, set-at (take i s) _ _ _ i n, take-suc s i 0, append-snoc)
 
-  pub copied-end : i ≤ length s → length s ≤ i → u ≡ copied i s t → u ≡ overwrite s t
+  pub copied-end : i ≤ length s → length s ≤ i → u ≡ copiedTurn i s t → u ≡ overwriteRows s t
   copied-end low high e =
       let n : i ≡ length s = omega arith in
       rw (e, n, take-length)
@@ -103,7 +103,7 @@ fill-end l s i low high e =
 
 -- a copy over the place that `shift_up` leaves free
 pub pushed : (s r s₁ s₂ : List ℕ) → length r ≤ length s → s₁ ≡ take (length r) s ++ take (length s - length r) s
-    → s₂ ≡ overwrite r s₁ → s₂ ≡ pushFront r s
+    → s₂ ≡ overwriteRows r s₁ → s₂ ≡ pushFront r s
 pushed s r s₁ s₂ room shifted written =
     let n : length (take (length r) s) ≡ length r = simp length-take (omega arith) in
     rw (written, shifted, drop-at)
@@ -132,10 +132,10 @@ popped s s₁ z by room shifted cleared =
 
 -- a copy over that place
 pub pushed-back : (s r s₁ z : List ℕ) → length r ≤ length s → s₁ ≡ drop (length r) s ++ drop (length s - length r) s
-    → z ≡ overwrite r (midOf (length s₁ - length r) (length s₁ - (length s₁ - length r)) s₁)
+    → z ≡ overwriteRows r (midOf (length s₁ - length r) (length s₁ - (length s₁ - length r)) s₁)
     → putMid (length s₁ - length r) (length s₁ - (length s₁ - length r)) s₁ z ≡ pushBack r s
 pushed-back s r s₁ z room shifted written =
-    let size = freed s s₁ z (length r) room shifted (overwrite r) written in
+    let size = freed s s₁ z (length r) room shifted (overwriteRows r) written in
     let h : length (drop (length s - length r) s) ≤ length r = omega arith in
-    freed-lent s s₁ z (length r) room shifted (overwrite r) written
+    freed-lent s s₁ z (length r) room shifted (overwriteRows r) written
     ∙ rw (drop-of-length-le (drop (length s - length r) s) h, append-nil)

@@ -8,8 +8,8 @@ abbrev pub zeros : ℕ → List ℕ
 zeros n = replicate n 0
 
 -- s over the first bytes of t
-abbrev pub overwrite : List ℕ → List ℕ → List ℕ
-overwrite s t = s ++ drop (length s) t
+abbrev pub overwriteRows : List ℕ → List ℕ → List ℕ
+overwriteRows s t = s ++ drop (length s) t
 
 -- s before the bytes of t, whose last ones are lost
 abbrev pub pushFront : List ℕ → List ℕ → List ℕ

@@ -7,10 +7,15 @@ use native.Mathlib.Numerals.{add-one}
 use native.Mathlib.Omega.{arith}
 use borrow.Author.Tests.{ltb-true, ltb-false}
 use lib.Dec.{ltb}
-use lib.ListN.{length, take, drop, getD}
+use lib.ListN.{length, take, drop, getD, length-append, take-append-drop}
 use Rattle.spec_lists.specs.Lists.{if_then_else_, any, All}
 use Rattle.spec_lists.specs.ListLaws.{map-take, map-drop}
 use Rattle.bytes_records.specs.Positions.{insertAt, removeAt, replaceAt, firstIndex}
+
+-- ---- one element more
+
+pub length-insertAt : {A : Type 0} (i : ℕ) (a : A) (l : List A) → length (insertAt i a l) ≡ length l + 1
+length-insertAt i a l = omega (arith, length-append (take i l) (a ∷ drop i l), length-append (take i l) (drop i l), ap length (take-append-drop i l))
 
 -- ---- under a map
 

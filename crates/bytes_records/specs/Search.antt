@@ -15,39 +15,39 @@ use Rattle.bytes_records.specs.declared.Place.the-variants.{Taken, Befor
 
 -- ---- the numbers of eight bytes that a row begins with
 
-abbrev pub firstNumber : List ℕ → ℕ
-firstNumber row = numberOf (take 8 row)
+abbrev pub firstRowNumber : List ℕ → ℕ
+firstRowNumber row = numberOf (take 8 row)
 
 abbrev pub secondNumber : List ℕ → ℕ
 secondNumber row = numberOf (take 8 (drop 8 row))
 
 -- the first number is above the id
 abbrev pub isAbove : ℕ → List ℕ → Bool
-isAbove id row = ltb id (firstNumber row)
+isAbove id row = ltb id (firstRowNumber row)
 
 -- the numbers are these two
 abbrev pub isPair : ℕ → ℕ → List ℕ → Bool
-isPair id second row = eqb (firstNumber row) id && eqb (secondNumber row) second
+isPair id second row = eqb (firstRowNumber row) id && eqb (secondNumber row) second
 
 -- no row's first number is below that of an earlier row
 abbrev pub Rising : List (List ℕ) → Type 0
 Rising [] = Unit {0}
-Rising (row ∷ rows) = All (λ later. firstNumber row ≤ firstNumber later) rows × Rising rows
+Rising (row ∷ rows) = All (λ later. firstRowNumber row ≤ firstRowNumber later) rows × Rising rows
 
 -- the rows from a position on are those whose first number is not below the id
 pub record Starts (id at : ℕ) (rows : List (List ℕ)) : Type 0 where
-  pub below : (i : ℕ) → i < at → firstNumber (getD rows i []) < id
-  pub from : (i : ℕ) → at ≤ i → i < length rows → id ≤ firstNumber (getD rows i [])
+  pub below : (i : ℕ) → i < at → firstRowNumber (getD rows i []) < id
+  pub from : (i : ℕ) → at ≤ i → i < length rows → id ≤ firstRowNumber (getD rows i [])
 
 -- ---- the first element that passes a test
 
-unfoldable pub findFirst : {A : Type 0} → (A → Bool) → List A → Found
-findFirst test l = if ltb (firstIndex test l) (length l) then At (firstIndex test l) else Absent
+unfoldable pub findFirstRow : {A : Type 0} → (A → Bool) → List A → Found
+findFirstRow test l = if ltb (firstIndex test l) (length l) then At (firstIndex test l) else Absent
 
 -- what was found is one of n
-unfoldable pub Within : ℕ → Found → Type 0
-Within n (At i) = i < n
-Within n Absent = Unit {0}
+unfoldable pub WithinRows : ℕ → Found → Type 0
+WithinRows n (At i) = i < n
+WithinRows n Absent = Unit {0}
 
 -- ---- the place of a key in a list that ascends by keys, as `upsert` goes through it
 

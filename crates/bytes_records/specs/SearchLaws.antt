@@ -16,7 +16,7 @@ use Rattle.spec_lists.specs.Order.{lexLess, upsert}
 use Rattle.bytes_records.specs.Positions.{firstIndex}
 use Rattle.bytes_records.specs.PositionsLaws.{firstIndex-map, firstIndex-le, first-passes, first-le, any-lt, any-none, map-insertAt, map-replaceAt}
 use Rattle.bytes_records.specs.Keys.{leadingNumbers}
-use Rattle.bytes_records.specs.Search.{firstNumber, isAbove, Rising, Starts, findFirst, nextPlace, placeOf, upsertAt, later}
+use Rattle.bytes_records.specs.Search.{firstRowNumber, isAbove, Rising, Starts, findFirstRow, nextPlace, placeOf, upsertAt, later}
 use Rattle.bytes_records.specs.declared.Found.the-variants.{At, Absent}
 use Rattle.bytes_records.specs.declared.Place.{Place}
 use Rattle.bytes_records.specs.declared.Place.the-variants.{Taken, Before}
@@ -25,8 +25,8 @@ use Rattle.bytes_records.specs.declared.Place.the-variants.{Taken, Befor
 
 module _ {A : Type 0} (test : A → Bool) (l : List A) where
   -- what was found is the first, and one passes
-  pub find-at : (i : ℕ) → findFirst test l ≡ At i → (i ≡ firstIndex test l) × (i < length l) × (any test l ≡ true)
-  unfolding findFirst
+  pub find-at : (i : ℕ) → findFirstRow test l ≡ At i → (i ≡ firstIndex test l) × (i < length l) × (any test l ≡ true)
+  unfolding findFirstRow
   find-at i e = go (ltb (firstIndex test l) (length l)) refl (any test l) refl e
     where
       go : (t : Bool) → ltb (firstIndex test l) (length l) ≡ t → (s : Bool) → any test l ≡ s
@@ -37,8 +37,8 @@ module _ {A : Type 0} (test : A → Bool) (l : List A) where
       go true f false g e = absurd (omega (arith, ltb-true (firstIndex test l) (length l) f, any-none test l g))
       go false f s g e = let z : _≡_ {A = ℕ} 0 1 = cc in absurd (omega arith)
 
-  pub find-absent : findFirst test l ≡ Absent → any test l ≡ false
-  unfolding findFirst
+  pub find-absent : findFirstRow test l ≡ Absent → any test l ≡ false
+  unfolding findFirstRow
   find-absent e = go (ltb (firstIndex test l) (length l)) refl (any test l) refl e
     where
       go : (t : Bool) → ltb (firstIndex test l) (length l) ≡ t → (s : Bool) → any test l ≡ s
@@ -48,30 +48,30 @@ module _ {A : Type 0} (test : A → Bool) (l : List A) where
       go false f false g e = refl
 
   -- a search that stopped at i, or at the end
-  pub find-stopped : (i : ℕ) → firstIndex test l ≡ i → i < length l → findFirst test l ≡ At i
-  unfolding findFirst
+  pub find-stopped : (i : ℕ) → firstIndex test l ≡ i → i < length l → findFirstRow test l ≡ At i
+  unfolding findFirstRow
   find-stopped i e h = rw (e, lt-ltb i (length l) h)
 
-  pub find-ended : firstIndex test l ≡ length l → findFirst test l ≡ Absent
-  unfolding findFirst
+  pub find-ended : firstIndex test l ≡ length l → findFirstRow test l ≡ Absent
+  unfolding findFirstRow
   find-ended e = rw (e, le-ltb (length l) (length l) (omega arith))
 
-pub find-map : {A B : Type 0} (f : A → B) (test : B → Bool) (own : A → Bool) (l : List A) → All (λ x. test (f x) ≡ own x) l → findFirst test (map f l) ≡ findFirst own l
-unfolding findFirst
+pub find-map : {A B : Type 0} (f : A → B) (test : B → Bool) (own : A → Bool) (l : List A) → All (λ x. test (f x) ≡ own x) l → findFirstRow test (map f l) ≡ findFirstRow own l
+unfolding findFirstRow
 find-map f test own l h = rw (firstIndex-map f test own l h, length-map)
 
 -- ---- rows that rise by their first number
 
-pub rising-at : (rows : List (List ℕ)) → Rising rows → (i j : ℕ) → i ≤ j → j < length rows → firstNumber (getD rows i []) ≤ firstNumber (getD rows j [])
+pub rising-at : (rows : List (List ℕ)) → Rising rows → (i j : ℕ) → i ≤ j → j < length rows → firstRowNumber (getD rows i []) ≤ firstRowNumber (getD rows j [])
 rising-at [] h i j order below = absurd (omega arith)
 rising-at (row ∷ rows) h zero zero order below = omega arith
-rising-at (row ∷ rows) h zero (suc j) order below = all-member (λ later. firstNumber row ≤ firstNumber later) rows (h .0) (getD-member rows j [] (omega arith))
+rising-at (row ∷ rows) h zero (suc j) order below = all-member (λ later. firstRowNumber row ≤ firstRowNumber later) rows (h .0) (getD-member rows j [] (omega arith))
 rising-at (row ∷ rows) h (suc i) zero order below = absurd (omega arith)
 rising-at (row ∷ rows) h (suc i) (suc j) order below = rising-at rows (h .1) i j (omega arith) (omega arith)
 
 module _ (rows : List (List ℕ)) (rising : Rising rows) where
   -- the rows above the id follow all others
-  pub above-later : (id i : ℕ) → i < length rows → firstNumber (getD rows i []) ≤ id → i < firstIndex (isAbove id) rows
+  pub above-later : (id i : ℕ) → i < length rows → firstRowNumber (getD rows i []) ≤ id → i < firstIndex (isAbove id) rows
   above-later id i below h = go (ltb i (firstIndex (isAbove id) rows)) refl
     where
       go : (t : Bool) → ltb i (firstIndex (isAbove id) rows) ≡ t → i < firstIndex (isAbove id) rows
@@ -90,12 +90,12 @@ module _ (rows : List (List ℕ)) (rising : Rising rows) where
             omega (arith, ltb-true (id - 1) _ passes, rising-at rows rising (firstIndex (isAbove (id - 1)) rows) i h k);
       }
     where
-      below : (i : ℕ) → i < firstIndex (isAbove (id - 1)) rows → firstNumber (getD rows i []) < id
-      below i h = go (ltb (id - 1) (firstNumber (getD rows i []))) refl
+      below : (i : ℕ) → i < firstIndex (isAbove (id - 1)) rows → firstRowNumber (getD rows i []) < id
+      below i h = go (ltb (id - 1) (firstRowNumber (getD rows i []))) refl
         where
-          go : (t : Bool) → ltb (id - 1) (firstNumber (getD rows i [])) ≡ t → firstNumber (getD rows i []) < id
+          go : (t : Bool) → ltb (id - 1) (firstRowNumber (getD rows i [])) ≡ t → firstRowNumber (getD rows i []) < id
           go true e = absurd (omega (arith, first-le (isAbove (id - 1)) rows i [] (omega (arith, firstIndex-le (isAbove (id - 1)) rows)) e))
-          go false e = omega (arith, ltb-false (id - 1) (firstNumber (getD rows i [])) e)
+          go false e = omega (arith, ltb-false (id - 1) (firstRowNumber (getD rows i [])) e)
 
 -- ---- places
 

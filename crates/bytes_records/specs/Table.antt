@@ -17,7 +17,7 @@ unfoldable pub tableBytes : ℕ → List (List ℕ) → List ℕ
 tableBytes size rows = flatten rows ++ zeros (size - length (flatten rows))
 
 -- the table holds these rows, so many and so wide
-pub record Holds (width count : ℕ) (table : List ℕ) (rows : List (List ℕ)) : Type 0 where
+pub record HoldsRows (width count : ℕ) (table : List ℕ) (rows : List (List ℕ)) : Type 0 where
   pub wide : All (Wide width) rows
   pub counted : length rows ≡ count
   pub bytes : table ≡ tableBytes (length table) rows
@@ -43,5 +43,5 @@ canMove size width count from to row = ltb from count && (ltb to count && (eqb (
 -- what a change of a table answers, and what the table is afterwards: it is made where it can be, and nothing changes otherwise
 pub record Changed (width count newCount : ℕ) (change : List (List ℕ) → List (List ℕ)) (can : Bool) (entry exit : List ℕ) (answer : Bool) : Type 0 where
   pub told : answer ≡ can
-  pub made : answer ≡ true → (rows : List (List ℕ)) → Holds width count entry rows → Holds width newCount exit (change rows)
+  pub made : answer ≡ true → (rows : List (List ℕ)) → HoldsRows width count entry rows → HoldsRows width newCount exit (change rows)
   pub kept : answer ≡ false → exit ≡ entry

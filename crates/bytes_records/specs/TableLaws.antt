@@ -12,7 +12,7 @@ use borrow.Author.Tests.{le-leb, lt-ltb, eq-eqb}
 use Rattle.spec_lists.specs.Lists.{All}
 use Rattle.spec_lists.specs.ListLaws.{all-append, all-take, all-drop}
 use Rattle.bytes_records.specs.Moves.{zeros}
-use Rattle.bytes_records.specs.Table.{Wide, tableBytes, Holds, canInsert, canRemove, canReplace, canMove}
+use Rattle.bytes_records.specs.Table.{Wide, tableBytes, HoldsRows, canInsert, canRemove, canReplace, canMove}
 
 -- ---- rows one after the other
 
@@ -43,18 +43,18 @@ zeros-split a b h =
 -- ---- what holds rows
 
 -- rows of one width, and zeros behind them, are a table
-pub holds : (w n : ℕ) (l : List ℕ) (m : List (List ℕ)) (k : ℕ) → All (Wide w) m → length m ≡ n → l ≡ flatten m ++ zeros k → Holds w n l m
+pub holds : (w n : ℕ) (l : List ℕ) (m : List (List ℕ)) (k : ℕ) → All (Wide w) m → length m ≡ n → l ≡ flatten m ++ zeros k → HoldsRows w n l m
 unfolding tableBytes
 holds w n l m k wide counted e =
     let rest : length l - length (flatten m) ≡ k = omega (arith, simp (length-append, length-replicate) at (ap length e)) in
     record { wide = wide; counted = counted; bytes = rw rest e }
 
 -- zeros hold no rows
-pub holds-none : (w k : ℕ) → Holds w 0 (zeros k) []
+pub holds-none : (w k : ℕ) → HoldsRows w 0 (zeros k) []
 unfolding flatten
 holds-none w k = holds w 0 (zeros k) [] k tt refl refl
 
-module _ {w n : ℕ} {l : List ℕ} {m : List (List ℕ)} (t : Holds w n l m) where
+module _ {w n : ℕ} {l : List ℕ} {m : List (List ℕ)} (t : HoldsRows w n l m) where
   pub used : length (flatten m) ≡ n * w
   used = length-flatten w m (t .wide) ∙ ap (λ (k : ℕ). k * w) (t .counted)
 
@@ -115,19 +115,19 @@ module _ {w n : ℕ} {l : List ℕ} {m : List (List ℕ)} (t : Holds w n l m) wh
       List·getD-eq-default m [] h
 
 -- a table holds one list of rows only
-pub holds-unique : (w n : ℕ) (l : List ℕ) (m m′ : List (List ℕ)) → Holds w n l m → Holds w n l m′ → m ≡ m′
+pub holds-unique : (w n : ℕ) (l : List ℕ) (m m′ : List (List ℕ)) → HoldsRows w n l m → HoldsRows w n l m′ → m ≡ m′
 holds-unique w n l m m′ s t =
     ext-getD [] m m′ (s .counted ∙ sym (t .counted)) (λ i h.
     let below : i < n = omega (arith, s .counted) in
     sym (row-at s i below) ∙ row-at t i below)
 
 -- the rows determine every byte
-pub holds-bytes : (w n : ℕ) (l l′ : List ℕ) (m : List (List ℕ)) → Holds w n l m → Holds w n l′ m → length l ≡ length l′ → l ≡ l′
+pub holds-bytes : (w n : ℕ) (l l′ : List ℕ) (m : List (List ℕ)) → HoldsRows w n l m → HoldsRows w n l′ m → length l ≡ length l′ → l ≡ l′
 holds-bytes w n l l′ m s t e = s .bytes ∙ ap (λ (k : ℕ). tableBytes k m) e ∙ sym (t .bytes)
 
 -- ---- when a table can be changed
 
-module _ {w n : ℕ} {l : List ℕ} {m : List (List ℕ)} (t : Holds w n l m) (at : ℕ) where
+module _ {w n : ℕ} {l : List ℕ} {m : List (List ℕ)} (t : HoldsRows w n l m) (at : ℕ) where
   pub can-remove : at < n → canRemove (length l) w n at ≡ true
   unfolding canRemove
   can-remove h = rw (lt-ltb at n h, le-leb (n * w) (length l) (fitting t))

@@ -6,9 +6,9 @@ ghost use mathlib.Core.Path.{_≡_};
 ghost use Prim.Native.Nat.{ℕ, _+_, _-_, _*_, _≤_, _<_};
 ghost use lib.ListN.{length, getD};
 ghost use Rattle.bytes_records.specs.Positions.{insertAt, removeAt, replaceAt, moveAt, firstIndex};
-ghost use Rattle.bytes_records.specs.Table.{Holds, Changed, canInsert, canRemove, canReplace, canMove};
+ghost use Rattle.bytes_records.specs.Table.{HoldsRows, Changed, canInsert, canRemove, canReplace, canMove};
 ghost use Rattle.bytes_records.specs.Keys.{leadingNumbers};
-ghost use Rattle.bytes_records.specs.Search.{isAbove, isPair, Rising, Starts, findFirst, Within, placeOf, PlaceWithin};
+ghost use Rattle.bytes_records.specs.Search.{isAbove, isPair, Rising, Starts, findFirstRow, WithinRows, placeOf, PlaceWithin};
 
 pub mod keys;
 pub mod moves;
@@ -127,7 +127,7 @@ pub fn move_record(
 // The record at position `at`, or no bytes where there is none.
 pub fn record_at(table: &[u8], width: usize, count: usize, at: usize) -> &[u8]
     requires { ⌜ 0 < width ⌝ }
-    ensures row { λ r. ⌜ ((rows : List (List ℕ)) → Holds width count (now (table .entry)) rows → now r ≡ getD rows at []) ⌝ }
+    ensures row { λ r. ⌜ ((rows : List (List ℕ)) → HoldsRows width count (now (table .entry)) rows → now r ≡ getD rows at []) ⌝ }
     ensures within { λ r. ⌜ length (now r) ≤ width ⌝ }
 {
     if count <= at {
@@ -145,7 +145,7 @@ pub fn record_at(table: &[u8], width: usize, count: usize, at: usize) -> &[u8]
 // record of that id goes to stand last among those of the same id.
 pub fn find_above(table: &[u8], width: usize, count: usize, id: u64) -> usize
     requires { ⌜ 8 ≤ width ⌝ }
-    ensures first { λ r. ⌜ ((rows : List (List ℕ)) → Holds width count (now (table .entry)) rows → Rising rows
+    ensures first { λ r. ⌜ ((rows : List (List ℕ)) → HoldsRows width count (now (table .entry)) rows → Rising rows
         → r ≡ firstIndex (isAbove id) rows) ⌝ }
     ensures within { λ r. ⌜ r ≤ count ⌝ }
 {
@@ -170,7 +170,7 @@ pub fn find_above(table: &[u8], width: usize, count: usize, id: u64) -> usize
 // The position of the first record whose first number is not below id, or the count, in a table that rises by it.
 fn find_start(table: &[u8], width: usize, count: usize, id: u64) -> usize
     requires { ⌜ 8 ≤ width ⌝ }
-    ensures start { λ r. ⌜ ((rows : List (List ℕ)) → Holds width count (now (table .entry)) rows → Rising rows
+    ensures start { λ r. ⌜ ((rows : List (List ℕ)) → HoldsRows width count (now (table .entry)) rows → Rising rows
         → Starts id r rows) ⌝ }
     ensures within { λ r. ⌜ r ≤ count ⌝ }
 {
@@ -183,9 +183,9 @@ fn find_start(table: &[u8], width: usize, count: usize, id: u64) -> usize
 // The first record that begins with the numbers id and second, in a table that rises by the first.
 pub fn find_pair(table: &[u8], width: usize, count: usize, id: u64, second: u64) -> Found
     requires { ⌜ 16 ≤ width ⌝ }
-    ensures first { λ r. ⌜ ((rows : List (List ℕ)) → Holds width count (now (table .entry)) rows → Rising rows
-        → r ≡ findFirst (isPair id second) rows) ⌝ }
-    ensures within { λ r. ⌜ Within count r ⌝ }
+    ensures first { λ r. ⌜ ((rows : List (List ℕ)) → HoldsRows width count (now (table .entry)) rows → Rising rows
+        → r ≡ findFirstRow (isPair id second) rows) ⌝ }
+    ensures within { λ r. ⌜ WithinRows count r ⌝ }
 {
     if table.len() / width < count {
         return Found::Absent;
@@ -217,7 +217,7 @@ pub fn find_pair_place(
     second: u64,
 ) -> Place
     requires { ⌜ (size ≤ 8) × (8 + size ≤ width) ⌝ }
-    ensures first { λ r. ⌜ ((rows : List (List ℕ)) → Holds width count (now (table .entry)) rows
+    ensures first { λ r. ⌜ ((rows : List (List ℕ)) → HoldsRows width count (now (table .entry)) rows
         → r ≡ placeOf (leadingNumbers (8 ∷ size ∷ [])) (id ∷ second ∷ []) rows) ⌝ }
     ensures within { λ r. ⌜ PlaceWithin count r ⌝ }
 {
@@ -245,7 +245,7 @@ pub fn find_pair_place(
 // The place of a record that begins with the number id, in a table that ascends by it.
 pub fn find_place(table: &[u8], width: usize, count: usize, id: u64) -> Place
     requires { ⌜ 8 ≤ width ⌝ }
-    ensures first { λ r. ⌜ ((rows : List (List ℕ)) → Holds width count (now (table .entry)) rows
+    ensures first { λ r. ⌜ ((rows : List (List ℕ)) → HoldsRows width count (now (table .entry)) rows
         → r ≡ placeOf (leadingNumbers (8 ∷ [])) (id ∷ []) rows) ⌝ }
     ensures within { λ r. ⌜ PlaceWithin count r ⌝ }
 {

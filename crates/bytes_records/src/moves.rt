@@ -4,12 +4,12 @@ ghost use mathlib.Core.Path.{_≡_};
 ghost use mathlib.Core.List.{_++_};
 ghost use Prim.Native.Nat.{_-_, _≤_};
 ghost use lib.ListN.{length, take, drop};
-ghost use Rattle.bytes_records.specs.Moves.{zeros, overwrite, pushFront, pushBack, popFront};
+ghost use Rattle.bytes_records.specs.Moves.{zeros, overwriteRows, pushFront, pushBack, popFront};
 
 // Copies source over the first bytes of target.
 pub fn copy(source: &[u8], target: &mut [u8])
     requires { ⌜ length (now source) ≤ length (now target) ⌝ }
-    ensures { λ _. ⌜ now (target .exit) ≡ overwrite (now (source .entry)) (now (target .entry)) ⌝ }
+    ensures { λ _. ⌜ now (target .exit) ≡ overwriteRows (now (source .entry)) (now (target .entry)) ⌝ }
 {
     let mut i = 0;
     while i < source.len() {

@@ -26,11 +26,11 @@ class-table classes e = record { class-at = λ b h. eqb-true (getD classes b 0) 
 abbrev sameRange : Range → Range → Bool
 sameRange r s = eqb (r .low) (s .low) && eqb (r .high) (s .high)
 
-abbrev pub same : After → After → Bool
-same (expects rs) (expects ss) = equalLists sameRange rs ss
-same (expects rs) refused = false
-same refused (expects ss) = false
-same refused refused = true
+abbrev pub same-class : After → After → Bool
+same-class (expects rs) (expects ss) = equalLists sameRange rs ss
+same-class (expects rs) refused = false
+same-class refused (expects ss) = false
+same-class refused refused = true
 
 range-equal : (r s : Range) → sameRange r s ≡ true → r ≡ s
 range-equal r s e =
@@ -38,7 +38,7 @@ range-equal r s e =
     let high : r .high ≡ s .high = eqb-true (r .high) (s .high) (and-right (eqb (r .low) (s .low)) (eqb (r .high) (s .high)) e) in
     ap₂ _⋯_ low high
 
-same-equal : (a b : After) → same a b ≡ true → a ≡ b
+same-equal : (a b : After) → same-class a b ≡ true → a ≡ b
 same-equal (expects rs) (expects ss) e = ap expects (equalLists-equal sameRange range-equal rs ss e)
 same-equal (expects rs) refused e = cc
 same-equal refused (expects ss) e = cc
@@ -53,7 +53,7 @@ beq-equal true true e = refl
 -- ---- first bytes
 
 leadsRight : ℕ → Bool
-leadsRight b = same (lead sequences b) (afterClass (classOf b))
+leadsRight b = same-class (lead sequences b) (afterClass (classOf b))
 
 -- What a first byte leads to, its class says.
 pub lead-class : (b : ℕ) → b < 256 → lead sequences b ≡ afterClass (classOf b)

@@ -32,12 +32,12 @@ answerTo a = record {
 }
 
 -- no session (3), or no such edition (4): every other number is 0
-abbrev pub noSession : ℕ → GeysertrayAnswer
-noSession d = record { disposition = d; number = 0; stage = 0; logical = 0; emitted = 0; «has_cursor» = 0; cursor = 0 }
+abbrev pub sessionAbsent : ℕ → GeysertrayAnswer
+sessionAbsent d = record { disposition = d; number = 0; stage = 0; logical = 0; emitted = 0; «has_cursor» = 0; cursor = 0 }
 
 -- a lifecycle answer as nine numbers
-abbrev pub lifecycleTo : LifecycleAnswer → GeysertrayLifecycle
-lifecycleTo a = record {
+abbrev pub lifecycleNumberTo : LifecycleAnswer → GeysertrayLifecycle
+lifecycleNumberTo a = record {
   disposition = dispositionNumber (a .disposition);
   number = a .diagnostics .code;
   stage = a .diagnostics .stage;
@@ -56,10 +56,10 @@ noStep d = record { disposition = d; number = 0; stage = 0; logical = 0; emitted
 
 abbrev pub batchTold : LentBatch → GeysertrayAnswer
 batchTold (batches.Answered r) = answerTo (batchAnswerOf r)
-batchTold batches.NoSession = noSession 3
+batchTold batches.NoSession = sessionAbsent 3
 
 abbrev pub stepTold : LentTransition → GeysertrayLifecycle
-stepTold (transition.Answered r) = lifecycleTo (answerOf r)
+stepTold (transition.Answered r) = lifecycleNumberTo (answerOf r)
 stepTold transition.NoSession = noStep 3
 
 abbrev pub creationTold : LentCreation → ℕ

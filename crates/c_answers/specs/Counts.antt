@@ -4,7 +4,7 @@ use Rattle.spec_patch.specs.Write.{writeNumber}
 use Rattle.spec_page.specs.Page.{pageNumber}
 use Rattle.spec_import.specs.Import.{importNumber}
 use Rattle.spec_conversion.specs.Conversion.{conversionNumber}
-use Rattle.patch_part_writer.specs.Answer.{refusalOf}
+use Rattle.patch_part_writer.specs.Answer.{writeRefusalOf}
 use Rattle.patch_part_writer.specs.declared.written.Written.{Written}
 use Rattle.patch_part_writer.specs.declared.written.Written.the-variants as written
 use Rattle.panel_page.specs.PageTable as page
@@ -50,7 +50,7 @@ countTold counting.NoSession = notCounted 3
 -- bytes written, or 14
 abbrev pub writtenTo : Written → GeysertrayCount
 writtenTo (written.Wrote n) = countedTo n
-writtenTo (written.Refused f) = refusedTo (writeNumber (refusalOf f))
+writtenTo (written.Refused f) = refusedTo (writeNumber (writeRefusalOf f))
 
 abbrev pub listingTold : LentListing → GeysertrayCount
 listingTold (listing.Answered w) = writtenTo w
@@ -67,7 +67,7 @@ printTold print.NoSession = notCounted 3
 -- rows written, or 16 or 14
 abbrev pub pageTo : PageAnswer → GeysertrayCount
 pageTo (page-answer.Answered n) = countedTo n
-pageTo (page-answer.Refused f) = refusedTo (pageNumber (page.refusalOf f))
+pageTo (page-answer.Refused f) = refusedTo (pageNumber (page.pageRefusalOf f))
 
 abbrev pub pageTold : LentPage → GeysertrayCount
 pageTold (paged.Answered a) = pageTo a

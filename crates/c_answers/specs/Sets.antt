@@ -20,8 +20,8 @@ abbrev pub checkedIn : (inPatch patch logical written : ℕ) → GeysertrayCheck
 checkedIn i patch logical written = record { disposition = 0; number = 0; «in_patch» = i; patch = patch; logical = logical; written = written }
 
 -- no check was made: 2 with reading's number, or 4 for no such edition
-abbrev pub unchecked : (disposition number : ℕ) → GeysertrayChecked
-unchecked d n = record { disposition = d; number = n; «in_patch» = 0; patch = 0; logical = 0; written = 0 }
+abbrev pub uncheckedSet : (disposition number : ℕ) → GeysertrayChecked
+uncheckedSet d n = record { disposition = d; number = n; «in_patch» = 0; patch = 0; logical = 0; written = 0 }
 
 abbrev pub checkedAt : CheckPlace → (logical written : ℕ) → GeysertrayChecked
 checkedAt (place.Patch i) logical written = checkedIn 1 i logical written
@@ -29,7 +29,7 @@ checkedAt place.Set logical written = checkedIn 0 0 logical written
 
 abbrev pub checkTold : PatchSetCheck → GeysertrayChecked
 checkTold (set-check.Checked p logical written) = checkedAt p logical written
-checkTold (set-check.Refused f) = unchecked 2 (faultNumber (faultOf f))
+checkTold (set-check.Refused f) = uncheckedSet 2 (faultNumber (faultOf f))
 
 -- ---- what a set depends on
 

@@ -23,8 +23,8 @@ abbrev pub viewNumber : Bool → ℕ
 viewNumber false = 0
 viewNumber true = 3
 
-abbrev pub valueTo : Bool → ValueLookup → GeysertrayValue
-valueTo none v = record {
+abbrev pub valueNumberTo : Bool → ValueLookup → GeysertrayValue
+valueNumberTo none v = record {
   disposition = viewNumber none;
   found = bit (v .found);
   mark = v .mark;
@@ -37,13 +37,13 @@ valueTo none v = record {
 }
 
 abbrev pub valueTold : LentValue → GeysertrayValue
-valueTold v = valueTo (v .«no_session») (v .value)
+valueTold v = valueNumberTo (v .«no_session») (v .value)
 
 abbrev pub entryTold : LentEntry → GeysertrayEntry
-entryTold e = record { key = e .entry .key; value = valueTo (e .«no_session») (e .entry .value) }
+entryTold e = record { key = e .entry .key; value = valueNumberTo (e .«no_session») (e .entry .value) }
 
 abbrev pub placeTold : PageLookup → GeysertrayPagePlace
-placeTold p = record { position = p .position; value = valueTo false (p .value) }
+placeTold p = record { position = p .position; value = valueNumberTo false (p .value) }
 
 abbrev pub availabilityTold : LentAvailability → GeysertrayAvailability
 availabilityTold (available.Answered a) = record { disposition = 0; found = bit (a .found); mark = a .mark; availability = a .availability }

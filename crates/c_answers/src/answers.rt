@@ -12,7 +12,7 @@ ghost use mathlib.Core.Path.{_≡_};
 ghost use Rattle.session_lifecycle.specs.Meaning.{lifecycleOf, cursorOf, dispositionMeans, answerOf};
 ghost use Rattle.session_steps.specs.Answers.{dispositionTold, batchAnswerOf};
 ghost use Rattle.session_lent.specs.Head.{lifecycleNumber, cursorKind, cursorNumber};
-ghost use Rattle.c_answers.specs.Answers.{dispositionNumber, answerTo, lifecycleTo, noSession, noStep, batchTold, stepTold, creationTold};
+ghost use Rattle.c_answers.specs.Answers.{dispositionNumber, answerTo, lifecycleNumberTo, sessionAbsent, noStep, batchTold, stepTold, creationTold};
 
 // 0 Applied, 1 NoChange, 2 Rejected, 3 no session in the memory, 4 no such edition; the diagnostics; the cursor after the call, if there is one.
 #[repr(C)]
@@ -111,7 +111,7 @@ fn answer_of(result: ProjectionPatchApplicationResult) -> GeysertrayAnswer
 
 // Nothing but the disposition tells that there was no session, or no such edition.
 pub fn unanswered(disposition: u64) -> GeysertrayAnswer
-    ensures { λ r. ⌜ r ≡ noSession disposition ⌝ }
+    ensures { λ r. ⌜ r ≡ sessionAbsent disposition ⌝ }
 {
     GeysertrayAnswer {
         disposition,
@@ -125,7 +125,7 @@ pub fn unanswered(disposition: u64) -> GeysertrayAnswer
 }
 
 fn step_of(result: ShellTransitionResult) -> GeysertrayLifecycle
-    ensures { λ r. ⌜ r ≡ lifecycleTo (answerOf result) ⌝ }
+    ensures { λ r. ⌜ r ≡ lifecycleNumberTo (answerOf result) ⌝ }
 {
     let disposition = result.disposition;
     let diagnostics = result.diagnostics;

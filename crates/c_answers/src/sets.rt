@@ -3,7 +3,7 @@ use check_set::check_set::CheckPlace;
 use check_set::check_set::PatchSetCheck;
 use set_dependencies::depends::DependenciesAnswer;
 ghost use mathlib.Core.Path.{_≡_};
-ghost use Rattle.c_answers.specs.Sets.{checkedIn, checkedAt, unchecked, checkTold, neverBy, needsKeys, notTold, dependenciesTold};
+ghost use Rattle.c_answers.specs.Sets.{checkedIn, checkedAt, uncheckedSet, checkTold, neverBy, needsKeys, notTold, dependenciesTold};
 
 // 0, and whether the findings are those of a patch (1, and its index from 0) or of the set (0, also where there are none), how many there are
 // and how many records were written; 2 and the number of reading's rule; 4 no such edition.
@@ -46,7 +46,7 @@ fn checked_in(in_patch: u64, patch: usize, logical: usize, written: usize) -> Ge
 }
 
 pub fn unchecked(disposition: u64, number: u64) -> GeysertrayChecked
-    ensures { λ r. ⌜ r ≡ unchecked disposition number ⌝ }
+    ensures { λ r. ⌜ r ≡ uncheckedSet disposition number ⌝ }
 {
     GeysertrayChecked {
         disposition,

@@ -6,7 +6,7 @@ use session_lent_views::lookups::LentAvailability;
 use session_lent_views::lookups::LentEntry;
 use session_lent_views::lookups::LentValue;
 ghost use mathlib.Core.Path.{_≡_};
-ghost use Rattle.c_answers.specs.Values.{bit, viewNumber, valueTo, valueTold, entryTold, placeTold, availabilityTold};
+ghost use Rattle.c_answers.specs.Values.{bit, viewNumber, valueNumberTo, valueTold, entryTold, placeTold, availabilityTold};
 
 // 0, or 3 for no session in the memory; found is 1, or 0 and then every other number and byte is 0; the mark is the id of the patch that last
 // gave the value. The kinds are 1 quad (N 0, F 1, T 2, S 3), 2 signed, 3 text, 4 unsigned, 5 score, which stands in unsigned_number.
@@ -65,7 +65,7 @@ fn view_number(none: bool) -> u64
 }
 
 fn value_to(none: bool, value: ValueLookup) -> GeysertrayValue
-    ensures { λ r. ⌜ r ≡ valueTo none value ⌝ }
+    ensures { λ r. ⌜ r ≡ valueNumberTo none value ⌝ }
 {
     let text = value.text;
     GeysertrayValue {

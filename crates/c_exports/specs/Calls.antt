@@ -12,7 +12,7 @@ use Rattle.session_lent.specs.declared.batch.LentBatch.{LentBatch}
 use Rattle.session_lent.specs.declared.lifecycle.LentTransition.{LentTransition}
 use Rattle.c_answers.specs.declared.answers.GeysertrayAnswer.{GeysertrayAnswer}
 use Rattle.c_answers.specs.declared.answers.GeysertrayLifecycle.{GeysertrayLifecycle}
-use Rattle.c_answers.specs.Answers.{batchTold, stepTold, creationTold, noSession, noStep}
+use Rattle.c_answers.specs.Answers.{batchTold, stepTold, creationTold, sessionAbsent, noStep}
 use Rattle.c_answers.specs.Asked.{commandAt, editionAt}
 
 -- a call below answers, and what it answers is told as numbers
@@ -41,8 +41,8 @@ module _ (edition : ℕ) (v : BatchEnvelope) (declared : ℕ) (set head nodes pa
 
   pub record ExportedBatch (r : GeysertrayAnswer) (h′ b′ a′ e′ l′ : List ℕ) : Type 0 where
     pub known : 1 ≤ edition → edition ≤ 2 → BatchedAs r h′ b′ a′ e′ l′
-    pub low : edition < 1 → (r ≡ noSession 4) × SameHalf toH toB toA toE toL h′ b′ a′ e′ l′
-    pub high : 2 < edition → (r ≡ noSession 4) × SameHalf toH toB toA toE toL h′ b′ a′ e′ l′
+    pub low : edition < 1 → (r ≡ sessionAbsent 4) × SameHalf toH toB toA toE toL h′ b′ a′ e′ l′
+    pub high : 2 < edition → (r ≡ sessionAbsent 4) × SameHalf toH toB toA toE toL h′ b′ a′ e′ l′
 
 -- ---- a call told otherwise
 

@@ -14,14 +14,14 @@ ghost use Rattle.spec_listing.specs.Listing.{listing};
 ghost use Rattle.spec_import.specs.Import.{importTerms};
 ghost use Rattle.spec_conversion.specs.Conversion.{convert};
 ghost use Rattle.spec_dependencies.specs.Answer.{dependenciesOf};
-ghost use Rattle.patch_part_writer.specs.Answer.{answerAt, outputAt};
+ghost use Rattle.patch_part_writer.specs.Answer.{writtenAt, outputAt};
 ghost use Rattle.patch_import.specs.Answers.{importAnswer, importOutput};
 ghost use Rattle.patch_converter.specs.Answers.{conversionAnswer, conversionOutput};
 ghost use Rattle.check_set.specs.CheckAnswers.{checkAnswer, checkNumbers};
-ghost use Rattle.set_dependencies.specs.DependsAnswers.{answerTo};
+ghost use Rattle.set_dependencies.specs.DependsAnswers.{dependsAnswerTo};
 ghost use Rattle.c_answers.specs.Asked.{byEdition, envelopeAt};
 ghost use Rattle.c_answers.specs.Counts.{notCounted, writtenTo, importTold, conversionTold};
-ghost use Rattle.c_answers.specs.Sets.{unchecked, checkTold, notTold, dependenciesTold};
+ghost use Rattle.c_answers.specs.Sets.{uncheckedSet, checkTold, notTold, dependenciesTold};
 
 const NO_SUCH: u64 = 4;
 
@@ -32,7 +32,7 @@ pub extern "C" fn geysertray_check(
     edition: u64,
     findings: &mut [u64],
 ) -> GeysertrayChecked
-    ensures told { λ r. ⌜ r ≡ byEdition edition (λ e. checkTold (checkAnswer (readSet e (now (set .entry))) (length (now (findings .entry))))) (unchecked 4 0) ⌝ }
+    ensures told { λ r. ⌜ r ≡ byEdition edition (λ e. checkTold (checkAnswer (readSet e (now (set .entry))) (length (now (findings .entry))))) (uncheckedSet 4 0) ⌝ }
     ensures written { λ _. ⌜ now (findings .exit) ≡ byEdition edition (λ e. checkNumbers (readSet e (now (set .entry))) (now (findings .entry))) (now (findings .entry)) ⌝ }
 {
     if asked::is_edition(edition) {
@@ -103,7 +103,7 @@ pub extern "C" fn geysertray_set_listing(
     edition: u64,
     out: &mut [u8],
 ) -> GeysertrayCount
-    ensures told { λ r. ⌜ r ≡ byEdition edition (λ e. writtenTo (answerAt (now (out .entry)) 0 (write_model.wrote (listing e (now (set .entry)))))) (notCounted 4) ⌝ }
+    ensures told { λ r. ⌜ r ≡ byEdition edition (λ e. writtenTo (writtenAt (now (out .entry)) 0 (write_model.wrote (listing e (now (set .entry)))))) (notCounted 4) ⌝ }
     ensures written { λ _. ⌜ now (out .exit) ≡ byEdition edition (λ e. outputAt (now (out .entry)) 0 (write_model.wrote (listing e (now (set .entry))))) (now (out .entry)) ⌝ }
 {
     if asked::is_edition(edition) {
@@ -121,7 +121,7 @@ pub extern "C" fn geysertray_depends(
     edition: u64,
     out: &mut [u64],
 ) -> GeysertrayDependencies
-    ensures told { λ r. ⌜ r ≡ byEdition edition (λ e. dependenciesTold (answerTo (dependenciesOf e (now (set .entry)) (now (out .entry)) .answer))) (notTold 4 0) ⌝ }
+    ensures told { λ r. ⌜ r ≡ byEdition edition (λ e. dependenciesTold (dependsAnswerTo (dependenciesOf e (now (set .entry)) (now (out .entry)) .answer))) (notTold 4 0) ⌝ }
     ensures written { λ _. ⌜ now (out .exit) ≡ byEdition edition (λ e. dependenciesOf e (now (set .entry)) (now (out .entry)) .output) (now (out .entry)) ⌝ }
 {
     if asked::is_edition(edition) {

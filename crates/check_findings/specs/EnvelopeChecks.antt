@@ -8,15 +8,15 @@ use Rattle.check_findings.specs.declared.envelope_checks.OptionalFinding
 use Rattle.check_findings.specs.declared.envelope_checks.EnvelopeFindings.{EnvelopeFindings}
 use Rattle.check_findings.specs.declared.envelope_checks.PairFindings.{PairFindings}
 
-abbrev pub row : ℕ → ℕ → ℕ → Finding
-row k d s = record { kind = k; domain = d; secondary = s }
+abbrev pub envelopeRow : ℕ → ℕ → ℕ → Finding
+envelopeRow k d s = record { kind = k; domain = d; secondary = s }
 
-unfoldable pub optionalOf : OptionalFinding → List Finding
-optionalOf None = []
-optionalOf (Some f) = findingOf f ∷ []
+unfoldable pub surfaceIdOf : OptionalFinding → List Finding
+surfaceIdOf None = []
+surfaceIdOf (Some f) = findingOf f ∷ []
 
 unfoldable pub envelopeListed : EnvelopeFindings → List Finding
-envelopeListed r = optionalOf (r .revision) ++ (optionalOf (r .«patch_id») ++ optionalOf (r .«stream_id»))
+envelopeListed r = surfaceIdOf (r .revision) ++ (surfaceIdOf (r .«patch_id») ++ surfaceIdOf (r .«stream_id»))
 
 unfoldable pub pairListed : PairFindings → List Finding
-pairListed r = optionalOf (r .document) ++ (optionalOf (r .epoch) ++ (optionalOf (r .stream) ++ optionalOf (r .sequence)))
+pairListed r = surfaceIdOf (r .document) ++ (surfaceIdOf (r .epoch) ++ (surfaceIdOf (r .stream) ++ surfaceIdOf (r .sequence)))

@@ -6,7 +6,7 @@ use native.Mathlib.Omega.{arith}
 use lib.ListN.{length, length-append}
 use Rattle.spec_checks.specs.Finding.{Finding}
 use Rattle.spec_checks.specs.Answer.{recordLength}
-use Rattle.check_table.specs.FindingTable.{insertedCount, insertedNumbers, Kept}
+use Rattle.check_table.specs.FindingTable.{insertedCount, insertedNumbers, KeptFindings}
 use Rattle.check_table.specs.FindingTableLaws.{kept-snoc, inserted-length}
 use Rattle.check_findings.specs.InsertFindings.{insertedAll}
 
@@ -25,12 +25,12 @@ inserted-then a b count ns count₁ ns₁ count₂ ns₂ h k =
     (k .0 ∙ ap (λ t. t .0) both, k .1 ∙ ap (λ t. t .1) both)
 
 -- the table holds these findings too, where it has three places for each that was found so far
-pub kept-all : (fs raw : List Finding) (count : ℕ) (ns : List ℕ) → Kept raw count ns → recordLength * (length raw + length fs) ≤ length ns
-    → Kept (raw ++ fs) (insertedAll fs count ns .0) (insertedAll fs count ns .1)
+pub kept-all : (fs raw : List Finding) (count : ℕ) (ns : List ℕ) → KeptFindings raw count ns → recordLength * (length raw + length fs) ≤ length ns
+    → KeptFindings (raw ++ fs) (insertedAll fs count ns .0) (insertedAll fs count ns .1)
 unfolding insertedAll
-kept-all [] raw count ns k room = subst (λ l. Kept l count ns) (sym (append-nil raw)) k
+kept-all [] raw count ns k room = subst (λ l. KeptFindings l count ns) (sym (append-nil raw)) k
 kept-all (f ∷ fs) raw count ns k room =
     let more : length (raw ++ (f ∷ [])) ≡ length raw + 1 = length-append raw (f ∷ []) in
     let next = kept-snoc f raw count ns k (omega arith) in
     let long = inserted-length f raw count ns k (omega arith) in
-    subst (λ l. Kept l (insertedAll (f ∷ fs) count ns .0) (insertedAll (f ∷ fs) count ns .1)) (append-assoc raw (f ∷ []) fs) (kept-all fs (raw ++ (f ∷ [])) (insertedCount f count ns) (insertedNumbers f count ns) next (omega arith))
+    subst (λ l. KeptFindings l (insertedAll (f ∷ fs) count ns .0) (insertedAll (f ∷ fs) count ns .1)) (append-assoc raw (f ∷ []) fs) (kept-all fs (raw ++ (f ∷ [])) (insertedCount f count ns) (insertedNumbers f count ns) next (omega arith))

@@ -6,7 +6,7 @@ ghost use Rattle.projection_patch.specs.Meaning.{envelopeOf};
 ghost use Rattle.spec_checks.specs.Finding.{report};
 ghost use Rattle.spec_checks.specs.PatchChecks.{envelopeFindings};
 ghost use Rattle.spec_checks.specs.SetChecks.{sequenceFindings, pairFindings};
-ghost use Rattle.check_findings.specs.EnvelopeChecks.{row, optionalOf, envelopeListed, pairListed};
+ghost use Rattle.check_findings.specs.EnvelopeChecks.{envelopeRow, surfaceIdOf, envelopeListed, pairListed};
 
 pub enum OptionalFinding {
     None,
@@ -29,7 +29,7 @@ pub struct PairFindings {
 }
 
 pub fn report_if(test: bool, kind: u64, domain: u64, secondary: u64) -> OptionalFinding
-    ensures { λ r. ⌜ optionalOf r ≡ report test (row kind domain secondary) ⌝ }
+    ensures { λ r. ⌜ surfaceIdOf r ≡ report test (envelopeRow kind domain secondary) ⌝ }
 {
     if test {
         return OptionalFinding::Some(Finding {
@@ -60,7 +60,7 @@ fn sequence_finding(
     before: ProjectionPatchEnvelope,
     envelope: ProjectionPatchEnvelope,
 ) -> OptionalFinding
-    ensures { λ r. ⌜ optionalOf r ≡ sequenceFindings (envelopeOf before) (envelopeOf envelope) ⌝ }
+    ensures { λ r. ⌜ surfaceIdOf r ≡ sequenceFindings (envelopeOf before) (envelopeOf envelope) ⌝ }
 {
     let last = before.sequence.raw();
     let last_id = before.patch_id.raw();

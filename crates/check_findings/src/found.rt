@@ -3,11 +3,11 @@ use crate::envelope_checks::EnvelopeFindings;
 use crate::envelope_checks::OptionalFinding;
 use crate::envelope_checks::PairFindings;
 ghost use mathlib.Core.Path.{_≡_};
-ghost use Rattle.check_findings.specs.EnvelopeChecks.{optionalOf, envelopeListed, pairListed};
+ghost use Rattle.check_findings.specs.EnvelopeChecks.{surfaceIdOf, envelopeListed, pairListed};
 ghost use Rattle.check_findings.specs.Found.{isFound};
 
 fn is_found(optional: OptionalFinding) -> bool
-    ensures { λ r. ⌜ r ≡ isFound (optionalOf optional) ⌝ }
+    ensures { λ r. ⌜ r ≡ isFound (surfaceIdOf optional) ⌝ }
 {
     match optional {
         OptionalFinding::None => false,

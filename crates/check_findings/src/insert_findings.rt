@@ -3,12 +3,12 @@ use crate::envelope_checks::EnvelopeFindings;
 use crate::envelope_checks::OptionalFinding;
 use crate::envelope_checks::PairFindings;
 ghost use mathlib.Core.Path.{_≡_};
-ghost use Rattle.check_findings.specs.EnvelopeChecks.{optionalOf, envelopeListed, pairListed};
+ghost use Rattle.check_findings.specs.EnvelopeChecks.{surfaceIdOf, envelopeListed, pairListed};
 ghost use Rattle.check_findings.specs.InsertFindings.{insertedAll};
 
 pub fn insert_optional(records: &mut [u64], count: usize, optional: OptionalFinding) -> usize
-    ensures counted { λ r. ⌜ r ≡ insertedAll (optionalOf optional) count (now (records .entry)) .0 ⌝ }
-    ensures numbers { λ _. ⌜ now (records .exit) ≡ insertedAll (optionalOf optional) count (now (records .entry)) .1 ⌝ }
+    ensures counted { λ r. ⌜ r ≡ insertedAll (surfaceIdOf optional) count (now (records .entry)) .0 ⌝ }
+    ensures numbers { λ _. ⌜ now (records .exit) ≡ insertedAll (surfaceIdOf optional) count (now (records .entry)) .1 ⌝ }
 {
     match optional {
         OptionalFinding::None => count,

@@ -21,7 +21,7 @@ use Rattle.projection_patch.specs.declared.patch.ProjectionPatch.{ProjectionPat
 use Rattle.projection_patch.specs.declared.patch.ProjectionPatchOperation.{ProjectionPatchOperation}
 use Rattle.projection_patch.specs.declared.read_values.ProjectionPatchReadFault.{ProjectionPatchReadFault}
 use Rattle.projection_patch.proofs.At.{position}
-use Rattle.projection_patch.proofs.Answers.{Told, Got, NotGot, got, not-got}
+use Rattle.projection_patch.proofs.Answers.{ToldReading, Got, NotGot, got, not-got}
 use Rattle.patch_sets.specs.Walk.{headOf}
 use Rattle.patch_sets.specs.SetAnswers.{headTo}
 use Rattle.patch_sets.proofs.ReadAt.{HeadAt}
@@ -30,7 +30,7 @@ use Rattle.check_targets.specs.ToldLaws.{target-told, self-told, envelope-back}
 use Rattle.check_quick.specs.Anchors.{absentAmong, absentOf}
 use Rattle.check_quick.specs.Quick.{operationFound, foundFrom, headFound, patchFound}
 use Rattle.check_quick.specs.QuickLaws.{or-assoc, or-false}
-use Rattle.check_quick.specs.QuickAnswers.{tallyFrom, tallyOf, operationsAnswer, checkedTo, patchAnswer}
+use Rattle.check_quick.specs.QuickAnswers.{tallyFrom, tallyOf, operationsAnswer, quickCheckedTo, patchAnswer}
 use Rattle.check_quick.specs.declared.quick_operations.Tally.{Tally}
 use Rattle.check_quick.specs.declared.quick_operations.OperationsChecked.{OperationsChecked}
 use Rattle.check_quick.specs.declared.quick_operations.OperationsChecked.the-variants as operations-checked
@@ -38,21 +38,21 @@ use Rattle.check_quick.specs.declared.quick_patches.PatchChecked.{PatchC
 use Rattle.check_quick.specs.declared.quick_patches.PatchCheckRead.the-variants as patch-read
 
 -- the answer of the operations that are left, after others with a finding or none, and with their targets
-abbrev pub leftAnswer : Edition → (MutationTarget → Bool) → List ℕ → (at left : ℕ) → Bool → List ℕ → OperationsChecked
-leftAnswer ed known set at left found ts = operationsAnswer (tallyFrom known found ts) (length set) (many left (readOperation ed) (drop at set))
+abbrev pub quickLeftAnswer : Edition → (MutationTarget → Bool) → List ℕ → (at left : ℕ) → Bool → List ℕ → OperationsChecked
+quickLeftAnswer ed known set at left found ts = operationsAnswer (tallyFrom known found ts) (length set) (many left (readOperation ed) (drop at set))
 
 module _ (ed : Edition) (known : MutationTarget → Bool) (set : List ℕ) (at left : ℕ) (found : Bool) (ts : List ℕ) where
   -- ---- where nothing is left to read
 
-  pub none-left : at ≤ length set → left ≡ 0 → (absent : ℕ) → absent ≡ absentAmong known ts → operations-checked.Read (record { found = found; absent = absent }) at ≡ leftAnswer ed known set at left found ts
+  pub none-left : at ≤ length set → left ≡ 0 → (absent : ℕ) → absent ≡ absentAmong known ts → operations-checked.Read (record { found = found; absent = absent }) at ≡ quickLeftAnswer ed known set at left found ts
   unfolding many foundFrom flatMap
   none-left h none absent all = rw (none, position set at h, or-false found, all, append-nil ts)
 
   module _ (more : 0 < left) where
-    one-more : (r : OperationsChecked) → r ≡ leftAnswer ed known set at (suc (left - 1)) found ts → r ≡ leftAnswer ed known set at left found ts
-    one-more r e = let same : suc (left - 1) ≡ left = omega arith in e ∙ ap (λ (n : ℕ). leftAnswer ed known set at n found ts) same
+    one-more : (r : OperationsChecked) → r ≡ quickLeftAnswer ed known set at (suc (left - 1)) found ts → r ≡ quickLeftAnswer ed known set at left found ts
+    one-more r e = let same : suc (left - 1) ≡ left = omega arith in e ∙ ap (λ (n : ℕ). quickLeftAnswer ed known set at n found ts) same
 
-    pub refusal : (f : ProjectionPatchReadFault) → NotGot (readOperation ed) (drop at set) 0 f → operations-checked.Refused f ≡ leftAnswer ed known set at left found ts
+    pub refusal : (f : ProjectionPatchReadFault) → NotGot (readOperation ed) (drop at set) 0 f → operations-checked.Refused f ≡ quickLeftAnswer ed known set at left found ts
     unfolding many
     refusal f g = one-more (operations-checked.Refused f) (rw (g .is, g .same))
 
@@ -62,9 +62,9 @@ module _ (ed : Edition) (known : MutationTarget → Bool) (set : List ℕ) (at l
       abbrev o : Operation
       o = g .a
 
-      step : leftAnswer ed known set (at + taken) (left - 1) (found || operationFound ts o) (ts ++ targetNumbers o) ≡ leftAnswer ed known set at left found ts
+      step : quickLeftAnswer ed known set (at + taken) (left - 1) (found || operationFound ts o) (ts ++ targetNumbers o) ≡ quickLeftAnswer ed known set at left found ts
       unfolding many foundFrom flatMap
-      step = one-more (leftAnswer ed known set (at + taken) (left - 1) (found || operationFound ts o) (ts ++ targetNumbers o))
+      step = one-more (quickLeftAnswer ed known set (at + taken) (left - 1) (found || operationFound ts o) (ts ++ targetNumbers o))
           (rw (g .is, drop-drop taken at set) (go (many (left - 1) (readOperation ed) (drop (at + taken) set))))
         where
           go : (r : Result (List Operation)) → operationsAnswer (tallyFrom known (found || operationFound ts o) (ts ++ targetNumbers o)) (length set) r
@@ -76,17 +76,17 @@ module _ (ed : Edition) (known : MutationTarget → Bool) (set : List ℕ) (at l
 
       -- what is told of the operation does not depend on where its text stands
       pub turn : (t : MutationTarget) (found′ : Bool) (ts′ : List ℕ) → t ≡ mutationTarget (operationOf [] x) → found′ ≡ (found || (targetSeen t ts || beforeSelf (operationOf [] x))) → ts′ ≡ ts ++ numbersOf t
-          → leftAnswer ed known set (at + taken) (left - 1) found′ ts′ ≡ leftAnswer ed known set at left found ts
+          → quickLeftAnswer ed known set (at + taken) (left - 1) found′ ts′ ≡ quickLeftAnswer ed known set at left found ts
       unfolding operationFound targetNumbers
       turn t found′ ts′ target-is found-is ts-are =
-          let rest : Bool → List ℕ → OperationsChecked = leftAnswer ed known set (at + taken) (left - 1) in
+          let rest : Bool → List ℕ → OperationsChecked = quickLeftAnswer ed known set (at + taken) (left - 1) in
           let target : t ≡ mutationTarget o = target-is ∙ sym (ap (λ y. mutationTarget (operationOf [] y)) (g .same)) ∙ target-told [] taken o in
           let self : beforeSelf (operationOf [] x) ≡ beforeSelf o = sym (ap (λ y. beforeSelf (operationOf [] y)) (g .same)) ∙ self-told [] taken o in
           ap₂ rest found-is ts-are ∙ ap₂ (λ (u : MutationTarget) (b : Bool). rest (found || (targetSeen u ts || b)) (ts ++ numbersOf u)) target self ∙ step
 
 -- ---- a patch: its head, then its operations
 
-operations-told : Told operations-checked.Read operations-checked.Refused
+operations-told : ToldReading operations-checked.Read operations-checked.Refused
 operations-told = record {
   value = λ x y m n e. cc;
   next = λ x y m n e. cc;
@@ -113,5 +113,5 @@ module _ (ed : Edition) (known : MutationTarget → Bool) {set : List ℕ} {at t
       let heads : head ≡ headTo (headOf p) = sym same ∙ ap (λ (n : ℕ). headTo (h .0, n)) (front .counts ∙ sym long) in
       let own : envelopeOf (head .envelope) ≡ h .0 = sym (ap (λ (x : ProjectionPatch). envelopeOf (x .envelope)) same) ∙ envelope-back (h .0) in
       let founds : found ≡ patchFound p = found-is ∙ ap₂ (λ (e : Envelope) (n : ℕ). headFound e n || foundFrom [] os) own (sym long) in
-      let all : _≡_ {A = PatchChecked} (record { head = head; found = found; absent = absent }) (checkedTo known p) = λ i. record { head = heads i; found = founds i; absent = absents i } in
+      let all : _≡_ {A = PatchChecked} (record { head = head; found = found; absent = absent }) (quickCheckedTo known p) = λ i. record { head = heads i; found = founds i; absent = absents i } in
       ap₂ patch-read.Read all (sym there) ∙ sym (ap (patchAnswer known (length set)) reads)

@@ -21,7 +21,7 @@ use Rattle.spec_projection.specs.Apply.{operationsOf}
 use Rattle.projection_patch.specs.Meaning.{envelopeOf}
 use Rattle.projection_patch.specs.ReadAnswers.{faultTo, anywhere}
 use Rattle.projection_patch.specs.declared.read_values.ProjectionPatchReadFault.{ProjectionPatchReadFault}
-use Rattle.projection_patch.proofs.Answers.{Told, Got, NotGot, got, not-got}
+use Rattle.projection_patch.proofs.Answers.{ToldReading, Got, NotGot, got, not-got}
 use Rattle.patch_sets.specs.SetAnswers.{operationCount}
 use Rattle.check_findings.specs.IdsLaws.{ids-snoc}
 use Rattle.check_targets.specs.ToldLaws.{envelope-back}
@@ -29,7 +29,7 @@ use Rattle.check_quick.specs.Anchors.{absentAmong, absentOf}
 use Rattle.check_quick.specs.AnchorsLaws.{absent-append, absent-few}
 use Rattle.check_quick.specs.Quick.{patchFound, afterFound, patchesFound, AtMost, leastPatch}
 use Rattle.check_quick.specs.QuickLaws.{or-assoc, or-false, quick-found, at-most-more}
-use Rattle.check_quick.specs.QuickAnswers.{checkedTo, patchAnswer, inspectedBy, endAnswer}
+use Rattle.check_quick.specs.QuickAnswers.{quickCheckedTo, patchAnswer, inspectedBy, quickEndAnswer}
 use Rattle.check_quick.specs.declared.quick_patches.PatchChecked.{PatchChecked}
 use Rattle.check_quick.specs.declared.quick_patches.PatchCheckRead.{PatchCheckRead}
 use Rattle.check_quick.specs.declared.quick_patches.PatchCheckRead.the-variants as patch-read
@@ -38,7 +38,7 @@ use Rattle.check_quick.specs.declared.inspection.SetInspection.the-varia
 
 -- ---- a patch's answer taken apart
 
-patch-told : Told patch-read.Read patch-read.Refused
+patch-told : ToldReading patch-read.Read patch-read.Refused
 patch-told = record {
   value = λ x y m n e. cc;
   next = λ x y m n e. cc;
@@ -47,11 +47,11 @@ patch-told = record {
 }
 
 module _ (ed : Edition) (known : MutationTarget → Bool) (l : List ℕ) (at : ℕ) {r : PatchCheckRead} (ensured : r ≡ patchAnswer known (length l) (readPatch ed (drop at l))) where
-  pub patch-got : Bytes l → {x : PatchChecked} {end : ℕ} → r ≡ patch-read.Read x end → Got (readPatch ed) (anywhere (checkedTo known)) l at x end
-  patch-got bytes {x} {end} = got (anywhere (checkedTo known)) (patch-codec ed) patch-told l at r ensured bytes x end
+  pub patch-got : Bytes l → {x : PatchChecked} {end : ℕ} → r ≡ patch-read.Read x end → Got (readPatch ed) (anywhere (quickCheckedTo known)) l at x end
+  patch-got bytes {x} {end} = got (anywhere (quickCheckedTo known)) (patch-codec ed) patch-told l at r ensured bytes x end
 
   pub no-patch : {f : ProjectionPatchReadFault} → r ≡ patch-read.Refused f → NotGot (readPatch ed) l at f
-  no-patch {f} = not-got (anywhere (checkedTo known)) (patch-codec ed) patch-told l at r ensured f
+  no-patch {f} = not-got (anywhere (quickCheckedTo known)) (patch-codec ed) patch-told l at r ensured f
 
 -- ---- the bytes of a patch
 
@@ -80,7 +80,7 @@ encoded-least p =
     omega (arith, length-append e (count ++ operations), length-append count operations, length-littleEndian 4 (length (p .operations)), envelope-least (p .envelope))
 
 -- a patch that was read takes the fewest bytes or more
-pub least-taken : (ed : Edition) (known : MutationTarget → Bool) (l : List ℕ) (at : ℕ) → Bytes l → at ≤ length l → (x : PatchChecked) (end : ℕ) → Got (readPatch ed) (anywhere (checkedTo known)) l at x end → at + leastPatch ≤ end
+pub least-taken : (ed : Edition) (known : MutationTarget → Bool) (l : List ℕ) (at : ℕ) → Bytes l → at ≤ length l → (x : PatchChecked) (end : ℕ) → Got (readPatch ed) (anywhere (quickCheckedTo known)) l at x end → at + leastPatch ≤ end
 least-taken ed known l at bytes within x end g =
     let all = patch-codec ed .only (bytes-drop at l bytes) (g .a) (drop end l) (g .is) .1 in
     omega (arith, ap length all, length-drop at l, length-drop end l, length-append (encodePatch (g .a)) (drop end l), encoded-least (g .a), g .there)
@@ -96,7 +96,7 @@ at-most-still ids ids′ used id highest higher room are h up below = rw (ids-fr
 -- ---- patches
 
 -- what was counted and found of the patches before
-pub record Passed : Type 0 where
+pub record PassedPatches : Type 0 where
   pub done : ℕ
   pub operations : ℕ
   pub absent : ℕ
@@ -110,31 +110,31 @@ same-told : {b c : Bool} {n m k n′ m′ k′ : ℕ} → b ≡ c → n ≡ n′
 same-told p q r s = λ i. told (p i) (q i) (r i) (s i)
 
 -- the answer of the patches that are left, after others with these ids, the last of them with the previous envelope
-abbrev after : (MutationTarget → Bool) → Passed → List ℕ → Option Envelope → SetReading → SetInspection
+abbrev after : (MutationTarget → Bool) → PassedPatches → List ℕ → Option Envelope → SetReading → SetInspection
 after known t ids previous (patches ps) = told (t .found || patchesFound ids previous ps) (t .done + length ps) (t .operations + operationCount ps) (t .absent + absentOf known (operationsOf ps))
 after known t ids previous (fault f) = inspection.Refused (faultTo f)
 
-abbrev pub patchesLeft : Edition → (MutationTarget → Bool) → List ℕ → (at left : ℕ) → Passed → List ℕ → Option Envelope → SetInspection
+abbrev pub patchesLeft : Edition → (MutationTarget → Bool) → List ℕ → (at left : ℕ) → PassedPatches → List ℕ → Option Envelope → SetInspection
 patchesLeft ed known l at left t ids previous = after known t ids previous (ended (many left (readPatch ed) (drop at l)))
 
-abbrev pub passed : ℕ → ℕ → ℕ → Bool → Passed
-passed d o a found = record { done = d; operations = o; absent = a; found = found }
+abbrev pub passed-patches : ℕ → ℕ → ℕ → Bool → PassedPatches
+passed-patches d o a found = record { done = d; operations = o; absent = a; found = found }
 
 module _ (ed : Edition) (known : MutationTarget → Bool) (l : List ℕ) (at left : ℕ) where
-  pub none-passed : patchesLeft ed known l at left (passed 0 0 0 false) [] none ≡ inspectedBy known (ended (many left (readPatch ed) (drop at l)))
+  pub none-passed : patchesLeft ed known l at left (passed-patches 0 0 0 false) [] none ≡ inspectedBy known (ended (many left (readPatch ed) (drop at l)))
   unfolding inspectedBy
   none-passed = go (ended (many left (readPatch ed) (drop at l)))
     where
-      go : (r : SetReading) → after known (passed 0 0 0 false) [] none r ≡ inspectedBy known r
+      go : (r : SetReading) → after known (passed-patches 0 0 0 false) [] none r ≡ inspectedBy known r
       go (patches ps) = same-told (quick-found ps) (omega arith) (omega arith) (omega arith)
       go (fault f) = refl
 
-  module _ (t : Passed) (previous : Option Envelope) where
-    pub end-is : (ids : List ℕ) (count : ℕ) → left ≡ 0 → t .done ≡ count → endAnswer (length l - at) (t .found) count (t .operations) (t .absent) ≡ patchesLeft ed known l at left t ids previous
+  module _ (t : PassedPatches) (previous : Option Envelope) where
+    pub end-is : (ids : List ℕ) (count : ℕ) → left ≡ 0 → t .done ≡ count → quickEndAnswer (length l - at) (t .found) count (t .operations) (t .absent) ≡ patchesLeft ed known l at left t ids previous
     unfolding many ended patchesFound operationCount operationsOf flatMap absentAmong
     end-is ids count all e = rw all (go (drop at l) (length-drop at l))
       where
-        go : (rest : List ℕ) → length rest ≡ length l - at → endAnswer (length l - at) (t .found) count (t .operations) (t .absent) ≡ after known t ids previous (ended (read [] rest))
+        go : (rest : List ℕ) → length rest ≡ length l - at → quickEndAnswer (length l - at) (t .found) count (t .operations) (t .absent) ≡ after known t ids previous (ended (read [] rest))
         go [] h = rw (le-ltb 0 (length l - at) (omega arith)) (same-told (sym (or-false (t .found))) (omega arith) (omega arith) (omega arith))
         go (b ∷ rest) h = rw (lt-ltb 0 (length l - at) (omega arith))
 
@@ -146,22 +146,22 @@ module _ (ed : Edition) (known : MutationTarget → Bool) (l : List ℕ) (at lef
       unfolding many ended
       patch-refused ids f g = one-more ids (inspection.Refused f) (rw (g .is, g .same))
 
-      module _ (x : PatchChecked) (end : ℕ) (g : Got (readPatch ed) (anywhere (checkedTo known)) l at x end) where
+      module _ (x : PatchChecked) (end : ℕ) (g : Got (readPatch ed) (anywhere (quickCheckedTo known)) l at x end) where
         abbrev p : Patch
         p = g .a
 
         -- behind the patch, by its envelope and by what was told of it
-        abbrev next : Envelope → PatchChecked → Bool → Passed
-        next e y found = passed (t .done + 1) (t .operations + y .head .«operation_count») (t .absent + y .absent) found
+        abbrev next : Envelope → PatchChecked → Bool → PassedPatches
+        next e y found = passed-patches (t .done + 1) (t .operations + y .head .«operation_count») (t .absent + y .absent) found
 
         abbrev behind : List ℕ → Envelope → PatchChecked → SetInspection
         behind ids e y = patchesLeft ed known l end (left - 1) (next e y ((t .found || y .found) || afterFound ids previous e)) (ids ++ (e .id ∷ [])) (some e)
 
-        step : (ids : List ℕ) → behind ids (p .envelope) (checkedTo known p) ≡ patchesLeft ed known l at left t ids previous
+        step : (ids : List ℕ) → behind ids (p .envelope) (quickCheckedTo known p) ≡ patchesLeft ed known l at left t ids previous
         unfolding many ended operationCount patchesFound operationsOf flatMap
-        step ids = one-more ids (behind ids (p .envelope) (checkedTo known p)) (rw (g .is) (go (many (left - 1) (readPatch ed) (drop end l))))
+        step ids = one-more ids (behind ids (p .envelope) (quickCheckedTo known p)) (rw (g .is) (go (many (left - 1) (readPatch ed) (drop end l))))
           where
-            go : (r : Result (List Patch)) → after known (next (p .envelope) (checkedTo known p) ((t .found || patchFound p) || afterFound ids previous (p .envelope))) (ids ++ (p .envelope .id ∷ [])) (some (p .envelope)) (ended r)
+            go : (r : Result (List Patch)) → after known (next (p .envelope) (quickCheckedTo known p) ((t .found || patchFound p) || afterFound ids previous (p .envelope))) (ids ++ (p .envelope .id ∷ [])) (some (p .envelope)) (ended r)
                 ≡ after known t ids previous (ended (onward r (λ ps rest. read (p ∷ ps) rest)))
             go (read ps []) =
                 let rest = patchesFound (ids ++ (p .envelope .id ∷ [])) (some (p .envelope)) ps in

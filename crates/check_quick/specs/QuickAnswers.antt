@@ -55,11 +55,11 @@ abbrev pub previousOf : PreviousEnvelope → Option Envelope
 previousOf previous.None = none
 previousOf (previous.Some e) = some (envelopeOf e)
 
-abbrev pub checkedTo : (MutationTarget → Bool) → Patch → PatchChecked
-checkedTo known p = record { head = headTo (headOf p); found = patchFound p; absent = absentOf known (p .operations) }
+abbrev pub quickCheckedTo : (MutationTarget → Bool) → Patch → PatchChecked
+quickCheckedTo known p = record { head = headTo (headOf p); found = patchFound p; absent = absentOf known (p .operations) }
 
 abbrev pub patchAnswer : (MutationTarget → Bool) → ℕ → Result Patch → PatchCheckRead
-patchAnswer known = answer (anywhere (checkedTo known)) patch-read.Read patch-read.Refused
+patchAnswer known = answer (anywhere (quickCheckedTo known)) patch-read.Read patch-read.Refused
 
 -- 12 or 10; a finding; or none, with how many patches and operations there are, and how many targets are not known
 unfoldable pub inspectedBy : (MutationTarget → Bool) → SetReading → SetInspection
@@ -73,8 +73,8 @@ abbrev pub inspectionAnswer : (nodes bindings collections : List ℕ) → SetRea
 inspectionAnswer nodes bindings collections = inspectedBy (anchored nodes bindings collections)
 
 -- the answer behind the last patch: bytes left are 10
-abbrev pub endAnswer : ℕ → Bool → ℕ → ℕ → ℕ → SetInspection
-endAnswer left found count operations absent =
+abbrev pub quickEndAnswer : ℕ → Bool → ℕ → ℕ → ℕ → SetInspection
+quickEndAnswer left found count operations absent =
     if ltb 0 left then inspection.Refused Malformed else
     if found then inspection.Found else
     inspection.Clean count operations absent

@@ -98,9 +98,9 @@ patch-found p = raw-found p ∙ sym (sorted-found (rawPatchFindings p))
 abbrev pub idOf : Patch → ℕ
 idOf p = p .envelope .id
 
-abbrev pub lastOf : List Patch → Option Envelope
-lastOf [] = none
-lastOf (q ∷ earlier) = some (q .envelope)
+abbrev pub lastEnvelope : List Patch → Option Envelope
+lastEnvelope [] = none
+lastEnvelope (q ∷ earlier) = some (q .envelope)
 
 -- kind 4 and the neighbours' kinds alone
 abbrev afterEach : List ℕ → Option Envelope → List Patch → Bool
@@ -115,12 +115,12 @@ pub map-snoc : (l : List Patch) (p : Patch) → map idOf (l ++ (p ∷ [])) ≡ m
 map-snoc [] p = refl
 map-snoc (q ∷ l) p = ap (λ m. idOf q ∷ m) (map-snoc l p)
 
-previous-found : (earlier : List Patch) (p : Patch) → previousFound (lastOf earlier) (p .envelope) ≡ isFound (previousFindings earlier p)
+previous-found : (earlier : List Patch) (p : Patch) → previousFound (lastEnvelope earlier) (p .envelope) ≡ isFound (previousFindings earlier p)
 unfolding previousFound previousFindings isFound
 previous-found [] p = refl
 previous-found (q ∷ earlier) p = refl
 
-after-found : (done : List Patch) (p : Patch) → afterFound (map idOf done) (lastOf (reverse done)) (p .envelope) ≡ isFound (afterFindings (reverse done) p)
+after-found : (done : List Patch) (p : Patch) → afterFound (map idOf done) (lastEnvelope (reverse done)) (p .envelope) ≡ isFound (afterFindings (reverse done) p)
 unfolding afterFound afterFindings duplicateIdFindings idSeen
 after-found done p =
     let same : ℕ → Bool = λ n. eqb n (p .envelope .id) in
@@ -128,13 +128,13 @@ after-found done p =
     ap₂ _||_ (any-map same done ∙ sym (any-reverse (λ (q : Patch). eqb (q .envelope .id) (p .envelope .id)) done)) (previous-found (reverse done) p)
     ∙ sym (found-append (report there _) (previousFindings (reverse done) p) ∙ ap (λ t. t || isFound (previousFindings (reverse done) p)) (found-report there _))
 
-each-found : (done ps : List Patch) → afterEach (map idOf done) (lastOf (reverse done)) ps ≡ isFound (checkEach afterFindings (reverse done) ps)
+each-found : (done ps : List Patch) → afterEach (map idOf done) (lastEnvelope (reverse done)) ps ≡ isFound (checkEach afterFindings (reverse done) ps)
 unfolding checkEach isFound
 each-found done [] = refl
 each-found done (p ∷ ps) =
     let turned : reverse (done ++ (p ∷ [])) ≡ p ∷ reverse done = reverse-append done (p ∷ []) in
     ap₂ _||_ (after-found done p)
-    (ap₂ (λ ids l. afterEach ids l ps) (sym (map-snoc done p)) (ap lastOf (sym turned)) ∙ each-found (done ++ (p ∷ [])) ps ∙ ap (λ e. isFound (checkEach afterFindings e ps)) turned)
+    (ap₂ (λ ids l. afterEach ids l ps) (sym (map-snoc done p)) (ap lastEnvelope (sym turned)) ∙ each-found (done ++ (p ∷ [])) ps ∙ ap (λ e. isFound (checkEach afterFindings e ps)) turned)
     ∙ sym (found-append (afterFindings (reverse done) p) (checkEach afterFindings (p ∷ reverse done) ps))
 
 set-found : (ps : List Patch) → afterEach [] none ps ≡ isFound (setFindings ps)

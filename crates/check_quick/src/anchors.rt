@@ -2,7 +2,7 @@
 use active_projection_target_catalog::membership;
 use check_targets::MutationTarget;
 ghost use mathlib.Core.Path.{_≡_};
-ghost use Rattle.check_targets.specs.Targets.{targetOf};
+ghost use Rattle.check_targets.specs.Targets.{checkTargetOf};
 ghost use Rattle.check_quick.specs.Anchors.{anchored, absentOne, absentAmong};
 
 // A target of kind 1 is a binding, of kind 2 a node, of any other a collection.
@@ -12,7 +12,7 @@ fn contains_target(
     collections: &[u64],
     target: MutationTarget,
 ) -> bool
-    ensures { λ r. ⌜ r ≡ anchored (now (nodes .entry)) (now (bindings .entry)) (now (collections .entry)) (targetOf target) ⌝ }
+    ensures { λ r. ⌜ r ≡ anchored (now (nodes .entry)) (now (bindings .entry)) (now (collections .entry)) (checkTargetOf target) ⌝ }
 {
     if target.kind == 1 {
         return membership::contains_binding(bindings, target.first, target.second);
@@ -29,7 +29,7 @@ pub fn one_if_absent(
     collections: &[u64],
     target: MutationTarget,
 ) -> usize
-    ensures { λ r. ⌜ r ≡ absentOne (anchored (now (nodes .entry)) (now (bindings .entry)) (now (collections .entry))) (targetOf target) ⌝ }
+    ensures { λ r. ⌜ r ≡ absentOne (anchored (now (nodes .entry)) (now (bindings .entry)) (now (collections .entry))) (checkTargetOf target) ⌝ }
 {
     if contains_target(nodes, bindings, collections, target) {
         return 0;

@@ -14,7 +14,7 @@ ghost use Rattle.spec_patch.specs.Reader.{many};
 ghost use Rattle.spec_patch.specs.Read.{readPatch, ended, readSet};
 ghost use Rattle.projection_patch.specs.Meaning.{editionOf};
 ghost use Rattle.check_quick.specs.Quick.{RoomForIds};
-ghost use Rattle.check_quick.specs.QuickAnswers.{inspectionAnswer, endAnswer};
+ghost use Rattle.check_quick.specs.QuickAnswers.{inspectionAnswer, quickEndAnswer};
 
 // Most sets are this short, and little is cleared for their ids.
 const SHORT_BYTES: usize = 512;
@@ -40,7 +40,7 @@ fn at_end(
     operation_count: usize,
     absent: usize,
 ) -> SetInspection
-    ensures { λ r. ⌜ r ≡ endAnswer left found «patch_count» «operation_count» absent ⌝ }
+    ensures { λ r. ⌜ r ≡ quickEndAnswer left found «patch_count» «operation_count» absent ⌝ }
 {
     if 0 < left {
         return SetInspection::Refused(ProjectionPatchReadFault::Malformed);

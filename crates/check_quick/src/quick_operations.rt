@@ -15,7 +15,7 @@ ghost use Rattle.spec_patch.specs.Read.{readOperation};
 ghost use Rattle.spec_patch.specs.Sizes.{patchOperations};
 ghost use Rattle.projection_patch.specs.Meaning.{editionOf};
 ghost use Rattle.spec_checks.specs.Target.{MutationTarget as Target};
-ghost use Rattle.check_targets.specs.Targets.{targetOf, numbersOf, targetSeen, withTarget};
+ghost use Rattle.check_targets.specs.Targets.{checkTargetOf, numbersOf, targetSeen, withTarget};
 ghost use Rattle.check_targets.specs.Marks.{markPlaces, Marked};
 ghost use Rattle.check_quick.specs.Anchors.{anchored};
 ghost use Rattle.check_quick.specs.QuickAnswers.{tallyOf, talliedBy, operationsAnswer};
@@ -49,9 +49,9 @@ fn operation_found(
     before_self: bool,
 ) -> bool
     requires { ⌜ (used + 3 ≤ length (now targets)) × Marked (now marks) (take used (now targets)) ⌝ }
-    ensures found { λ r. ⌜ r ≡ (found || (targetSeen (targetOf target) (take used (now (targets .entry))) || «before_self»)) ⌝ }
-    ensures kept { λ _. ⌜ now (targets .exit) ≡ withTarget used (targetOf target) (now (targets .entry)) ⌝ }
-    ensures marked { λ _. ⌜ Marked (now (marks .exit)) (take used (now (targets .entry)) ++ numbersOf (targetOf target)) ⌝ }
+    ensures found { λ r. ⌜ r ≡ (found || (targetSeen (checkTargetOf target) (take used (now (targets .entry))) || «before_self»)) ⌝ }
+    ensures kept { λ _. ⌜ now (targets .exit) ≡ withTarget used (checkTargetOf target) (now (targets .entry)) ⌝ }
+    ensures marked { λ _. ⌜ Marked (now (marks .exit)) (take used (now (targets .entry)) ++ numbersOf (checkTargetOf target)) ⌝ }
 {
     if check_targets::seen_by_mark(targets, marks, used, target) {
         return true;

@@ -20,7 +20,7 @@ use Rattle.patch_walk.specs.declared.SetStep.the-variants as set-step
 use Rattle.check_targets.specs.Targets.{targetNumbers, targetSeen, withTarget}
 use Rattle.check_targets.specs.TargetsLaws.{targets-snoc, with-target-front}
 use Rattle.check_targets.specs.ToldLaws.{target-told, self-told}
-use Rattle.check_findings.specs.EnvelopeChecks.{row}
+use Rattle.check_findings.specs.EnvelopeChecks.{envelopeRow}
 use Rattle.check_findings.specs.InsertFindings.{insertedAll}
 use Rattle.check_findings.specs.InsertFindingsLaws.{insertedAll-append, Inserted}
 use Rattle.check_set.specs.ListedLaws.{listed-operation}
@@ -50,7 +50,7 @@ module _ (ed : Edition) (set : List ℕ) (id : ℕ) (os : List Operation) (ps : 
         (self-now : self ≡ beforeSelf (operationOf [] x))
         (seen-now : seen ≡ targetSeen target (take used targets))
         (targets-now : targets′ ≡ withTarget used target targets)
-        (now : Inserted (report self (row 2 id index) ++ report seen (row 3 id index)) kept records kept′ records′) where
+        (now : Inserted (report self (envelopeRow 2 id index) ++ report seen (envelopeRow 3 id index)) kept records kept′ records′) where
       v : Visited ed set c (run .rest) ps x d
       v = visited false ed set c (run .here) answer-is x d told
 
@@ -66,10 +66,10 @@ module _ (ed : Edition) (set : List ℕ) (id : ℕ) (os : List Operation) (ps : 
       seen-is : seen ≡ targetSeen (mutationTarget o) (flatMap targetNumbers (run .done))
       seen-is = seen-now ∙ ap₂ (λ t l. targetSeen t l) target-is (run .seen)
 
-      list-is : report self (row 2 id index) ++ report seen (row 3 id index) ≡ own (reverse (run .done)) o
+      list-is : report self (envelopeRow 2 id index) ++ report seen (envelopeRow 3 id index) ≡ own (reverse (run .done)) o
       list-is =
-          ap₂ (λ (b s : Bool). report b (row 2 id index) ++ report s (row 3 id index)) self-is seen-is
-          ∙ ap (λ (i : ℕ). report (beforeSelf o) (row 2 id i) ++ report (targetSeen (mutationTarget o) (flatMap targetNumbers (run .done))) (row 3 id i)) (run .counted)
+          ap₂ (λ (b s : Bool). report b (envelopeRow 2 id index) ++ report s (envelopeRow 3 id index)) self-is seen-is
+          ∙ ap (λ (i : ℕ). report (beforeSelf o) (envelopeRow 2 id i) ++ report (targetSeen (mutationTarget o) (flatMap targetNumbers (run .done))) (envelopeRow 3 id i)) (run .counted)
           ∙ listed-operation id (run .done) o
 
       abbrev rest′ : List Finding

@@ -28,12 +28,12 @@ use Rattle.patch_walk.specs.declared.SetCursor.{SetCursor}
 use Rattle.patch_walk.specs.declared.SetStep.{SetStep}
 use Rattle.patch_walk.specs.declared.SetStep.the-variants as set-step
 use Rattle.check_targets.specs.ToldLaws.{envelope-back}
-use Rattle.check_table.specs.FindingTable.{Kept}
+use Rattle.check_table.specs.FindingTable.{KeptFindings}
 use Rattle.check_table.specs.FindingTableLaws.{kept-none}
 use Rattle.check_findings.specs.IdsLaws.{ids-snoc}
 use Rattle.check_findings.specs.InsertFindings.{insertedAll}
 use Rattle.check_findings.specs.InsertFindingsLaws.{Inserted, kept-all}
-use Rattle.check_quick.specs.QuickLaws.{idOf, lastOf, map-snoc}
+use Rattle.check_quick.specs.QuickLaws.{idOf, lastEnvelope, map-snoc}
 use Rattle.check_set.specs.Listed.{tableLength, ListedAs, afterListed, listedTo, FindingsListedAs}
 use Rattle.check_set.specs.ListedLaws.{after-listed, table-is, none-found, patch-is, first-next}
 use Rattle.check_set.specs.declared.list_operations.Listed.{Listed}
@@ -50,10 +50,10 @@ module _ (ed : Edition) (bytes : List ℕ) (ps : List Patch) where
     pub here : AtSteps ed bytes c [] rest
     pub place : findings ps ≡ firstFindings done rest whole
     pub raw : List Finding
-    pub holds : Kept raw kept records
+    pub holds : KeptFindings raw kept records
     pub all : rawSetFindings ps ≡ raw ++ checkEach afterFindings (reverse before) rest
     pub known : take done ids ≡ map idOf before
-    pub last : previous ≡ lastOf (reverse before)
+    pub last : previous ≡ lastEnvelope (reverse before)
 
   pub run-start : (c : SetCursor) (ids records : List ℕ) → AtSteps ed bytes c [] ps → Run c 0 0 ids none records
   unfolding findings rawSetFindings
@@ -111,7 +111,7 @@ module _ (ed : Edition) (bytes : List ℕ) (ps : List Patch) where
         more = run .before ++ (p ∷ [])
 
         list-is : afterListed (take done ids) previous (envelopeOf (h .envelope)) ≡ own
-        list-is = ap₂ (λ (l : List ℕ) (q : Option Envelope). afterListed l q (envelopeOf (h .envelope))) (run .known) (run .last) ∙ ap (afterListed (map idOf (run .before)) (lastOf (reverse (run .before)))) envelope-is ∙ after-listed (run .before) p
+        list-is = ap₂ (λ (l : List ℕ) (q : Option Envelope). afterListed l q (envelopeOf (h .envelope))) (run .known) (run .last) ∙ ap (afterListed (map idOf (run .before)) (lastEnvelope (reverse (run .before)))) envelope-is ∙ after-listed (run .before) p
 
         table-now : Inserted own kept records kept′ after
         table-now =
@@ -130,10 +130,10 @@ module _ (ed : Edition) (bytes : List ℕ) (ps : List Patch) where
             let rest = checkEach afterFindings (reverse more) (o .rest) in
             omega (arith, ap length all-now, raw-set-length ps, length-append (run .raw ++ own) rest, length-append (run .raw) own)
 
-        holds-now : Kept (run .raw ++ own) kept′ after
+        holds-now : KeptFindings (run .raw ++ own) kept′ after
         holds-now =
-            subst (λ (l : List ℕ). Kept (run .raw ++ own) kept′ l) (sym (table-now .1))
-            (subst (λ (n : ℕ). Kept (run .raw ++ own) n (insertedAll own kept records .1)) (sym (table-now .0)) (kept-all own (run .raw) kept records (run .holds) fits))
+            subst (λ (l : List ℕ). KeptFindings (run .raw ++ own) kept′ l) (sym (table-now .1))
+            (subst (λ (n : ℕ). KeptFindings (run .raw ++ own) n (insertedAll own kept records .1)) (sym (table-now .0)) (kept-all own (run .raw) kept records (run .holds) fits))
 
         known-now : take (done + 1) ids′ ≡ map idOf more
         known-now =
@@ -153,5 +153,5 @@ module _ (ed : Edition) (bytes : List ℕ) (ps : List Patch) where
           holds = holds-now;
           all = all-now;
           known = known-now;
-          last = ap some envelope-is ∙ ap lastOf (sym (reverse-append (run .before) (p ∷ [])));
+          last = ap some envelope-is ∙ ap lastEnvelope (sym (reverse-append (run .before) (p ∷ [])));
         }

@@ -20,23 +20,23 @@ use Rattle.spec_checks.specs.Answer.{recordLength}
 use Rattle.spec_checks.specs.CountLaws.{raw-patch-length}
 use Rattle.check_targets.specs.Targets.{targetNumbers, targetSeen}
 use Rattle.check_targets.specs.TargetsLaws.{seen-earlier}
-use Rattle.check_table.specs.FindingTable.{Kept}
+use Rattle.check_table.specs.FindingTable.{KeptFindings}
 use Rattle.check_table.specs.FindingTableLaws.{kept-none}
-use Rattle.check_findings.specs.EnvelopeChecks.{row}
+use Rattle.check_findings.specs.EnvelopeChecks.{envelopeRow}
 use Rattle.check_findings.specs.Ids.{idSeen}
 use Rattle.check_findings.specs.InsertFindings.{insertedAll}
 use Rattle.check_findings.specs.InsertFindingsLaws.{Inserted, kept-all}
-use Rattle.check_quick.specs.QuickLaws.{idOf, lastOf, any-map}
+use Rattle.check_quick.specs.QuickLaws.{idOf, lastEnvelope, any-map}
 use Rattle.check_set.specs.Listed.{tableLength, headFindings, previousListed, afterListed, listedTo, FindingsListedAs}
 
 -- ---- a patch
 
 -- an operation after those that are done, by their targets and their number
 pub listed-operation : (id : ℕ) (done : List Operation) (o : Operation)
-    → report (beforeSelf o) (row 2 id (length done)) ++ report (targetSeen (mutationTarget o) (flatMap targetNumbers done)) (row 3 id (length done)) ≡ operationFindings id (reverse done) o
+    → report (beforeSelf o) (envelopeRow 2 id (length done)) ++ report (targetSeen (mutationTarget o) (flatMap targetNumbers done)) (envelopeRow 3 id (length done)) ≡ operationFindings id (reverse done) o
 unfolding operationFindings kindNumber
 listed-operation id done o =
-    ap₂ (λ (t : Bool) (i : ℕ). report (beforeSelf o) (row 2 id i) ++ report t (row 3 id i)) (seen-earlier o done) (sym (length-reverse done))
+    ap₂ (λ (t : Bool) (i : ℕ). report (beforeSelf o) (envelopeRow 2 id i) ++ report t (envelopeRow 3 id i)) (seen-earlier o done) (sym (length-reverse done))
 
 -- its head, then its operations
 pub listed-patch : (p : Patch) → headFindings (p .envelope) (length (p .operations)) ++ checkEach (operationFindings (p .envelope .id)) [] (p .operations) ≡ rawPatchFindings p
@@ -49,12 +49,12 @@ listed-patch p =
 
 -- ---- a patch after earlier ones
 
-previous-listed : (earlier : List Patch) (p : Patch) → previousListed (lastOf earlier) (p .envelope) ≡ previousFindings earlier p
+previous-listed : (earlier : List Patch) (p : Patch) → previousListed (lastEnvelope earlier) (p .envelope) ≡ previousFindings earlier p
 unfolding previousListed previousFindings
 previous-listed [] p = refl
 previous-listed (q ∷ earlier) p = refl
 
-pub after-listed : (done : List Patch) (p : Patch) → afterListed (map idOf done) (lastOf (reverse done)) (p .envelope) ≡ afterFindings (reverse done) p
+pub after-listed : (done : List Patch) (p : Patch) → afterListed (map idOf done) (lastEnvelope (reverse done)) (p .envelope) ≡ afterFindings (reverse done) p
 unfolding afterListed afterFindings duplicateIdFindings idSeen
 after-listed done p =
     let same : ℕ → Bool = λ n. eqb n (p .envelope .id) in
@@ -72,14 +72,14 @@ unfolding sortUnique
 sorted-some f l = some-member _ (upsert-new findingKey f (sortUnique findingKey l))
 
 -- the answer that a table gives
-pub table-is : (place : Place) (raw : List Finding) (kept : ℕ) (ns : List ℕ) → Kept raw kept ns → FindingsListedAs (record { place = place; found = sortUnique findingKey raw }) (listedTo place kept) ns
+pub table-is : (place : Place) (raw : List Finding) (kept : ℕ) (ns : List ℕ) → KeptFindings raw kept ns → FindingsListedAs (record { place = place; found = sortUnique findingKey raw }) (listedTo place kept) ns
 table-is place raw kept ns k = (ap (listedTo place) (k .counted), ap (λ (n : ℕ). take (recordLength * n) ns) (sym (k .counted)) ∙ k .words)
 
 module _ (p : Patch) (before : List ℕ) (few : length (p .operations) ≤ patchOperations) (room : tableLength ≤ length before) (kept : ℕ) (ns : List ℕ) (now : Inserted (rawPatchFindings p) 0 before kept ns) where
-  patch-kept : Kept (rawPatchFindings p) kept ns
+  patch-kept : KeptFindings (rawPatchFindings p) kept ns
   patch-kept =
-      subst (λ (l : List ℕ). Kept (rawPatchFindings p) kept l) (sym (now .1))
-      (subst (λ (n : ℕ). Kept (rawPatchFindings p) n (insertedAll (rawPatchFindings p) 0 before .1)) (sym (now .0))
+      subst (λ (l : List ℕ). KeptFindings (rawPatchFindings p) kept l) (sym (now .1))
+      (subst (λ (n : ℕ). KeptFindings (rawPatchFindings p) n (insertedAll (rawPatchFindings p) 0 before .1)) (sym (now .0))
       (kept-all (rawPatchFindings p) [] 0 before (kept-none before) (omega (arith, raw-patch-length p))))
 
   -- a table without records is that of a patch without findings, and as it was

@@ -15,7 +15,7 @@ ghost use Rattle.spec_checks.specs.PatchChecks.{operationFindings};
 ghost use Rattle.projection_patch.specs.Meaning.{editionOf};
 ghost use Rattle.patch_walk.specs.Steps.{AtSteps};
 ghost use Rattle.check_targets.specs.Marks.{markPlaces};
-ghost use Rattle.check_findings.specs.EnvelopeChecks.{row};
+ghost use Rattle.check_findings.specs.EnvelopeChecks.{envelopeRow};
 ghost use Rattle.check_findings.specs.InsertFindings.{insertedAll};
 ghost use Rattle.check_set.specs.Listed.{ListedAs};
 
@@ -34,8 +34,8 @@ fn insert_operation(
     before_self: bool,
     seen: bool,
 ) -> usize
-    ensures counted { λ r. ⌜ r ≡ insertedAll (report «before_self» (row 2 id index) ++ report seen (row 3 id index)) kept (now (records .entry)) .0 ⌝ }
-    ensures numbers { λ _. ⌜ now (records .exit) ≡ insertedAll (report «before_self» (row 2 id index) ++ report seen (row 3 id index)) kept (now (records .entry)) .1 ⌝ }
+    ensures counted { λ r. ⌜ r ≡ insertedAll (report «before_self» (envelopeRow 2 id index) ++ report seen (envelopeRow 3 id index)) kept (now (records .entry)) .0 ⌝ }
+    ensures numbers { λ _. ⌜ now (records .exit) ≡ insertedAll (report «before_self» (envelopeRow 2 id index) ++ report seen (envelopeRow 3 id index)) kept (now (records .entry)) .1 ⌝ }
 {
     let self_finding = envelope_checks::report_if(before_self, 2, id, index);
     let seen_finding = envelope_checks::report_if(seen, 3, id, index);

@@ -22,8 +22,8 @@ findingsIn (k ∷ d ∷ []) = []
 findingsIn (k ∷ d ∷ s ∷ ns) = record { kind = k; domain = d; secondary = s } ∷ findingsIn ns
 
 -- there is room for one more record than count
-unfoldable pub hasRoom : ℕ → List ℕ → Bool
-hasRoom count ns = leb (recordLength * count + recordLength) (length ns)
+unfoldable pub tableHasRoom : ℕ → List ℕ → Bool
+tableHasRoom count ns = leb (recordLength * count + recordLength) (length ns)
 
 -- the first count records and one more finding, unless it is among them
 unfoldable pub insertedFindings : model.Finding → ℕ → List ℕ → List model.Finding
@@ -31,15 +31,15 @@ insertedFindings f count ns = upsert model.findingKey f (findingsIn (take (recor
 
 -- how many records there are then
 unfoldable pub insertedCount : model.Finding → ℕ → List ℕ → ℕ
-insertedCount f count ns = if hasRoom count ns then length (insertedFindings f count ns) else count
+insertedCount f count ns = if tableHasRoom count ns then length (insertedFindings f count ns) else count
 
 -- the whole list then: what stands past the records is as it was
 unfoldable pub insertedNumbers : model.Finding → ℕ → List ℕ → List ℕ
 insertedNumbers f count ns =
     let fs = insertedFindings f count ns in
-    if hasRoom count ns then findingWords fs ++ drop (recordLength * length fs) ns else ns
+    if tableHasRoom count ns then findingWords fs ++ drop (recordLength * length fs) ns else ns
 
 -- the table holds the findings so far, sorted and without repeats
-pub record Kept (raw : List model.Finding) (count : ℕ) (ns : List ℕ) : Type 0 where
+pub record KeptFindings (raw : List model.Finding) (count : ℕ) (ns : List ℕ) : Type 0 where
   pub counted : count ≡ length (sortUnique model.findingKey raw)
   pub words : take (recordLength * count) ns ≡ findingWords (sortUnique model.findingKey raw)

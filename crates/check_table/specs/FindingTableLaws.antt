@@ -19,6 +19,7 @@ use Rattle.bytes_records.specs.Keys.{orderOf}
 use Rattle.bytes_records.specs.declared.keys.Order.{Order}
 use Rattle.bytes_records.specs.declared.keys.Order.the-variants.{Below, Same, Above}
 use Rattle.bytes_records.specs.Positions.{insertAt}
+use Rattle.bytes_records.specs.PositionsLaws.{length-insertAt}
 use Rattle.bytes_records.specs.Search.{nextPlace, placeOf, upsertAt, PlaceWithin, later}
 use Rattle.bytes_records.specs.SearchLaws.{upsert-place, later-next}
 use Rattle.bytes_records.specs.declared.Place.{Place}
@@ -28,7 +29,7 @@ use Rattle.spec_checks.specs.Answer.{recordLength, findingWords}
 use Rattle.spec_checks.specs.AnswerLaws.{findingWords-length}
 use Rattle.spec_checks.specs.FindingsLaws.{findingKey-injective}
 use Rattle.check_targets.specs.Threes.{three-at}
-use Rattle.check_table.specs.FindingTable.{findingsIn, hasRoom, insertedFindings, insertedCount, insertedNumbers, Kept}
+use Rattle.check_table.specs.FindingTable.{findingsIn, tableHasRoom, insertedFindings, insertedCount, insertedNumbers, KeptFindings}
 
 -- ---- records and their numbers
 
@@ -45,8 +46,8 @@ unfolding findingWords findingsIn findingKey flatMap
 findings-words [] = refl
 findings-words (f ∷ fs) = ap (λ l. f ∷ l) (findings-words fs)
 
-pub findings-length : (n : ℕ) (ns : List ℕ) → length ns ≡ recordLength * n → length (findingsIn ns) ≡ n
-findings-length n ns h = omega (arith, findingWords-length (findingsIn ns), ap length (words-findings n ns h))
+pub findingsIn-length : (n : ℕ) (ns : List ℕ) → length ns ≡ recordLength * n → length (findingsIn ns) ≡ n
+findingsIn-length n ns h = omega (arith, findingWords-length (findingsIn ns), ap length (words-findings n ns h))
 
 findings-few : (ns : List ℕ) → length ns < 3 → findingsIn ns ≡ []
 unfolding findingsIn
@@ -129,9 +130,6 @@ upsert-before f fs i e = upsert-place findingKey f fs ∙ rw e
 
 -- ---- a finding that is inserted
 
-pub length-insertAt : {A : Type 0} (i : ℕ) (a : A) (l : List A) → length (insertAt i a l) ≡ length l + 1
-length-insertAt i a l = omega (arith, length-append (take i l) (a ∷ drop i l), length-append (take i l) (drop i l), ap length (take-append-drop i l))
-
 module _ (ns : List ℕ) (count i : ℕ) (f : Finding) (fs : List Finding) (words : take (recordLength * count) ns ≡ findingWords fs) (counted : length fs ≡ count)
     (below : i ≤ count) (room : recordLength * count + recordLength ≤ length ns) where
   abbrev front : List ℕ
@@ -198,7 +196,7 @@ within-before n i p w e = rw e at w
 
 module _ (f : Finding) (count : ℕ) (ns : List ℕ) where
   pub no-room : length ns < recordLength * count + recordLength → (count ≡ insertedCount f count ns) × (ns ≡ insertedNumbers f count ns)
-  unfolding insertedCount insertedNumbers hasRoom
+  unfolding insertedCount insertedNumbers tableHasRoom
   no-room h = (rw (lt-leb (recordLength * count + recordLength) (length ns) h), rw (lt-leb (recordLength * count + recordLength) (length ns) h))
 
   module _ (room : recordLength * count + recordLength ≤ length ns) where
@@ -209,17 +207,17 @@ module _ (f : Finding) (count : ℕ) (ns : List ℕ) where
     held-size = omega (arith, length-take (recordLength * count) ns)
 
     held-count : length held ≡ count
-    held-count = findings-length count (take (recordLength * count) ns) held-size
+    held-count = findingsIn-length count (take (recordLength * count) ns) held-size
 
     held-words : findingWords held ≡ take (recordLength * count) ns
     held-words = words-findings count (take (recordLength * count) ns) held-size
 
     count-is : (fs : List Finding) → insertedFindings f count ns ≡ fs → length fs ≡ insertedCount f count ns
-    unfolding insertedCount hasRoom
+    unfolding insertedCount tableHasRoom
     count-is fs e = rw (le-leb (recordLength * count + recordLength) (length ns) room) (sym (ap length e))
 
     numbers-are : (fs : List Finding) → insertedFindings f count ns ≡ fs → findingWords fs ++ drop (recordLength * length fs) ns ≡ insertedNumbers f count ns
-    unfolding insertedNumbers hasRoom
+    unfolding insertedNumbers tableHasRoom
     numbers-are fs e = rw (le-leb (recordLength * count + recordLength) (length ns) room) (sym (ap (λ l. findingWords l ++ drop (recordLength * length l) ns) e))
 
     pub there-already : (i : ℕ) → placeOf findingKey (findingKey f) held ≡ Taken i → (count ≡ insertedCount f count ns) × (ns ≡ insertedNumbers f count ns)
@@ -242,12 +240,12 @@ module _ (f : Finding) (count : ℕ) (ns : List ℕ) where
 
 -- ---- the findings one after the other
 
-pub kept-none : (ns : List ℕ) → Kept [] 0 ns
+pub kept-none : (ns : List ℕ) → KeptFindings [] 0 ns
 unfolding sortUnique findingWords flatMap
 kept-none ns = record { counted = refl; words = refl }
 
 -- one finding more; there is room where the slice has three places for each finding so far and for this one
-module _ (f : Finding) (raw : List Finding) (count : ℕ) (ns : List ℕ) (kept : Kept raw count ns) (room : recordLength * length raw + recordLength ≤ length ns) where
+module _ (f : Finding) (raw : List Finding) (count : ℕ) (ns : List ℕ) (kept : KeptFindings raw count ns) (room : recordLength * length raw + recordLength ≤ length ns) where
   abbrev sorted : List Finding
   sorted = sortUnique findingKey (raw ++ (f ∷ []))
 
@@ -260,7 +258,7 @@ module _ (f : Finding) (raw : List Finding) (count : ℕ) (ns : List ℕ) (kept 
       ap (λ l. upsert findingKey f (findingsIn l)) (kept .words) ∙ ap (upsert findingKey f) (findings-words (sortUnique findingKey raw))
       ∙ sym (sortUnique-snoc findingKey findingKey-injective raw f)
 
-  pub kept-snoc : Kept (raw ++ (f ∷ [])) (insertedCount f count ns) (insertedNumbers f count ns)
+  pub kept-snoc : KeptFindings (raw ++ (f ∷ [])) (insertedCount f count ns) (insertedNumbers f count ns)
   kept-snoc =
       let counts = count-is f count ns kept-room sorted sorted-is in
       let numbers = numbers-are f count ns kept-room sorted sorted-is in

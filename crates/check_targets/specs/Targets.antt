@@ -8,8 +8,8 @@ use Rattle.spec_patch.specs.Patch.{Operation}
 use Rattle.spec_checks.specs.Target as model
 use Rattle.check_targets.specs.declared.MutationTarget.{MutationTarget}
 
-abbrev pub targetOf : MutationTarget → model.MutationTarget
-targetOf t = record { kind = t .kind; first = t .first; second = t .second }
+abbrev pub checkTargetOf : MutationTarget → model.MutationTarget
+checkTargetOf t = record { kind = t .kind; first = t .first; second = t .second }
 
 abbrev pub madeOf : ℕ → ℕ → ℕ → model.MutationTarget
 madeOf k f s = record { kind = k; first = f; second = s }

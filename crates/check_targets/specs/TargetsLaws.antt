@@ -29,12 +29,12 @@ module _ (t : MutationTarget) (ns : List ℕ) (at : ℕ) (within : at + 3 ≤ le
   seen-on e = seen-turn t ns at within ∙ rw e
 
 -- fewer than three numbers are no target
-pub seen-end : (t : MutationTarget) (ns : List ℕ) → length ns < 3 → targetSeen t ns ≡ false
+pub target-seen-end : (t : MutationTarget) (ns : List ℕ) → length ns < 3 → targetSeen t ns ≡ false
 unfolding targetSeen
-seen-end t [] h = refl
-seen-end t (k ∷ []) h = refl
-seen-end t (k ∷ f ∷ []) h = refl
-seen-end t (k ∷ f ∷ s ∷ ns) h = absurd (omega arith)
+target-seen-end t [] h = refl
+target-seen-end t (k ∷ []) h = refl
+target-seen-end t (k ∷ f ∷ []) h = refl
+target-seen-end t (k ∷ f ∷ s ∷ ns) h = absurd (omega arith)
 
 seen-each : (o : Operation) (os : List Operation) → targetSeen (mutationTarget o) (flatMap targetNumbers os) ≡ any (sameTarget o) os
 unfolding targetSeen targetNumbers flatMap sameTarget equalTargets

@@ -6,7 +6,7 @@ ghost use lib.ListN.{length, take};
 ghost use Rattle.spec_checks.specs.Target.{mutationTarget};
 ghost use Rattle.spec_checks.specs.PatchChecks.{isSelf, beforeSelf};
 ghost use Rattle.projection_patch.specs.Meaning.{beforeOf, operationOf};
-ghost use Rattle.check_targets.specs.Targets.{targetOf, madeOf, equalTargets, numbersOf, targetSeen, withTarget};
+ghost use Rattle.check_targets.specs.Targets.{checkTargetOf, madeOf, equalTargets, numbersOf, targetSeen, withTarget};
 ghost use Rattle.check_targets.specs.Marks.{markOf, Marked};
 use projection_patch::contract_primitives::CollectionKey;
 use projection_patch::patch::OptionalKey;
@@ -36,7 +36,7 @@ impl MutationTarget {
 }
 
 fn target_of(kind: u64, first: u64, second: u64) -> MutationTarget
-    ensures { λ r. ⌜ targetOf r ≡ madeOf kind first second ⌝ }
+    ensures { λ r. ⌜ checkTargetOf r ≡ madeOf kind first second ⌝ }
 {
     MutationTarget {
         kind,
@@ -46,7 +46,7 @@ fn target_of(kind: u64, first: u64, second: u64) -> MutationTarget
 }
 
 pub fn mutation_target(operation: ProjectionPatchOperation) -> MutationTarget
-    ensures { λ r. ⌜ ((texts : List ℕ) → targetOf r ≡ mutationTarget (operationOf texts operation)) ⌝ }
+    ensures { λ r. ⌜ ((texts : List ℕ) → checkTargetOf r ≡ mutationTarget (operationOf texts operation)) ⌝ }
 {
     match operation {
         ProjectionPatchOperation::SetBindingValue { target, value: _ } => {
@@ -126,7 +126,7 @@ pub fn before_self(operation: ProjectionPatchOperation) -> bool
 
 // The key or slot is tested first: operations of a patch mostly differ there.
 fn same_target(a: MutationTarget, b: MutationTarget) -> bool
-    ensures { λ r. ⌜ r ≡ equalTargets (targetOf a) (targetOf b) ⌝ }
+    ensures { λ r. ⌜ r ≡ equalTargets (checkTargetOf a) (checkTargetOf b) ⌝ }
 {
     if a.second != b.second {
         return false;
@@ -139,7 +139,7 @@ fn same_target(a: MutationTarget, b: MutationTarget) -> bool
 
 // Whether the target is among those that stand in targets, three numbers each.
 fn target_seen(targets: &[u64], target: MutationTarget) -> bool
-    ensures { λ r. ⌜ r ≡ targetSeen (targetOf target) (now (targets .entry)) ⌝ }
+    ensures { λ r. ⌜ r ≡ targetSeen (checkTargetOf target) (now (targets .entry)) ⌝ }
 {
     let mut at = 0;
     while 3 <= targets.len() - at {
@@ -164,7 +164,7 @@ fn target_seen(targets: &[u64], target: MutationTarget) -> bool
 // Puts a target behind the first used numbers.
 fn put_target(targets: &mut [u64], used: usize, target: MutationTarget)
     requires { ⌜ used + 3 ≤ length (now targets) ⌝ }
-    ensures { λ _. ⌜ now (targets .exit) ≡ withTarget used (targetOf target) (now (targets .entry)) ⌝ }
+    ensures { λ _. ⌜ now (targets .exit) ≡ withTarget used (checkTargetOf target) (now (targets .entry)) ⌝ }
 {
     targets[used] = target.kind;
     targets[used + 1] = target.first;
@@ -174,8 +174,8 @@ fn put_target(targets: &mut [u64], used: usize, target: MutationTarget)
 // Whether the target is among those in the first used numbers, behind which it is put for later operations.
 fn seen_before(targets: &mut [u64], used: usize, target: MutationTarget) -> bool
     requires { ⌜ used + 3 ≤ length (now targets) ⌝ }
-    ensures seen { λ r. ⌜ r ≡ targetSeen (targetOf target) (take used (now (targets .entry))) ⌝ }
-    ensures kept { λ _. ⌜ now (targets .exit) ≡ withTarget used (targetOf target) (now (targets .entry)) ⌝ }
+    ensures seen { λ r. ⌜ r ≡ targetSeen (checkTargetOf target) (take used (now (targets .entry))) ⌝ }
+    ensures kept { λ _. ⌜ now (targets .exit) ≡ withTarget used (checkTargetOf target) (now (targets .entry)) ⌝ }
 {
     let seen = target_seen(&targets[0..used], target);
     put_target(targets, used, target);
@@ -184,7 +184,7 @@ fn seen_before(targets: &mut [u64], used: usize, target: MutationTarget) -> bool
 
 // The place of a target's mark. Targets that differ may share it; the factors keep neighbouring keys and kinds apart.
 fn mark_of(target: MutationTarget) -> usize
-    ensures { λ r. ⌜ r ≡ markOf (targetOf target) ⌝ }
+    ensures { λ r. ⌜ r ≡ markOf (checkTargetOf target) ⌝ }
 {
     let first = target.first % MutationTarget::PLACES;
     let second = target.second % MutationTarget::PLACES;
@@ -201,9 +201,9 @@ pub fn seen_by_mark(
     target: MutationTarget,
 ) -> bool
     requires { ⌜ (used + 3 ≤ length (now targets)) × Marked (now marks) (take used (now targets)) ⌝ }
-    ensures seen { λ r. ⌜ r ≡ targetSeen (targetOf target) (take used (now (targets .entry))) ⌝ }
-    ensures kept { λ _. ⌜ now (targets .exit) ≡ withTarget used (targetOf target) (now (targets .entry)) ⌝ }
-    ensures marked { λ _. ⌜ Marked (now (marks .exit)) (take used (now (targets .entry)) ++ numbersOf (targetOf target)) ⌝ }
+    ensures seen { λ r. ⌜ r ≡ targetSeen (checkTargetOf target) (take used (now (targets .entry))) ⌝ }
+    ensures kept { λ _. ⌜ now (targets .exit) ≡ withTarget used (checkTargetOf target) (now (targets .entry)) ⌝ }
+    ensures marked { λ _. ⌜ Marked (now (marks .exit)) (take used (now (targets .entry)) ++ numbersOf (checkTargetOf target)) ⌝ }
 {
     let place = mark_of(target);
     let mark = marks[place];

@@ -9,12 +9,12 @@ use lib.ListN.{length, take, getD, length-map}
 use Rattle.spec_lists.specs.Lists.{All}
 use Rattle.spec_lists.specs.ListLaws.{flatMap-append}
 use Rattle.bytes_printer.specs.declared.Printed.{Printed}
-use Rattle.bytes_records.specs.Table.{Holds}
+use Rattle.bytes_records.specs.Table.{HoldsRows}
 use Rattle.bytes_records.specs.TableLaws.{fitting}
 use Rattle.bytes_printer.specs.Prints.{Prints}
 use Rattle.bytes_printer.specs.PrintsLaws.{_⨾_, same-bytes}
 use Rattle.listing_lines.specs.declared.RowKind.{RowKind}
-use Rattle.listing_lines.specs.RowKinds.{Element, Fits as FitsKind, rowOf, lineOf}
+use Rattle.listing_lines.specs.RowKinds.{Element, FitsRow as FitsKind, rowOf, lineOfRow}
 
 -- the element at a position of a list, and its row
 pub record ElementAt {A : Type 0} (Fits : A → Type 0) (row : A → List ℕ) (xs : List A) (i : ℕ) : Type 0 where
@@ -31,7 +31,7 @@ module _ {A : Type 0} (Fits : A → Type 0) (row : A → List ℕ) where
       let e = element-at xs i (omega arith) (fit .1) in
       record { element = e .element; fits = e .fits; stored = e .stored; more = ap (λ (l : List A). x ∷ l) (e .more) }
 
-  module _ {width count : ℕ} {table : List ℕ} (xs : List A) (t : Holds width count table (map row xs)) where
+  module _ {width count : ℕ} {table : List ℕ} (xs : List A) (t : HoldsRows width count table (map row xs)) where
     pub holds-length : length xs ≡ count
     holds-length = sym (length-map xs row) ∙ t .counted
 
@@ -54,6 +54,6 @@ module _ {A : Type 0} (Fits : A → Type 0) (row : A → List ℕ) where
 
 -- ---- the kind of a row, as a match told it
 
-pub told : {row l m : List ℕ} {at r : Printed} {kind k : RowKind} → kind ≡ k → ((x : Element k) → FitsKind k x → row ≡ rowOf k x → Prints l at (lineOf k x) m r)
-    → (x : Element kind) → FitsKind kind x → row ≡ rowOf kind x → Prints l at (lineOf kind x) m r
-told {row} {l} {m} {at} {r} is p = subst (λ (k : RowKind). (x : Element k) → FitsKind k x → row ≡ rowOf k x → Prints l at (lineOf k x) m r) (sym is) p
+pub told : {row l m : List ℕ} {at r : Printed} {kind k : RowKind} → kind ≡ k → ((x : Element k) → FitsKind k x → row ≡ rowOf k x → Prints l at (lineOfRow k x) m r)
+    → (x : Element kind) → FitsKind kind x → row ≡ rowOf kind x → Prints l at (lineOfRow kind x) m r
+told {row} {l} {m} {at} {r} is p = subst (λ (k : RowKind). (x : Element k) → FitsKind k x → row ≡ rowOf k x → Prints l at (lineOfRow k x) m r) (sym is) p

@@ -14,20 +14,20 @@ Element Binding = BindingRecord
 Element Availability = NodeAvailability
 Element Entry = EntryRecord
 
-abbrev pub Fits : (k : RowKind) → Element k → Type 0
-Fits Binding = FitsBinding
-Fits Availability = FitsNodeAvailability
-Fits Entry = FitsEntry
+abbrev pub FitsRow : (k : RowKind) → Element k → Type 0
+FitsRow Binding = FitsBinding
+FitsRow Availability = FitsNodeAvailability
+FitsRow Entry = FitsEntry
 
 abbrev pub rowOf : (k : RowKind) → Element k → List ℕ
 rowOf Binding = bindingRow
 rowOf Availability = availabilityRow
 rowOf Entry = entryRow
 
-abbrev pub lineOf : (k : RowKind) → Element k → List ℕ
-lineOf Binding = bindingLine
-lineOf Availability = availabilityLine
-lineOf Entry = entryLine
+abbrev pub lineOfRow : (k : RowKind) → Element k → List ℕ
+lineOfRow Binding = bindingLine
+lineOfRow Availability = availabilityLine
+lineOfRow Entry = entryLine
 
 abbrev pub widthOf : RowKind → ℕ
 widthOf Binding = bindingWidth

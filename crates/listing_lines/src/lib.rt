@@ -11,10 +11,10 @@ ghost use Rattle.spec_projection.specs.Valid.{FitsBinding, FitsNodeAvailability
 ghost use Rattle.spec_decimal.specs.Decimal.{decimal};
 ghost use Rattle.spec_listing.specs.Escapes.{escaped};
 ghost use Rattle.spec_listing.specs.Listing.{fields, bindingLine, availabilityLine, entryLine};
-ghost use Rattle.bytes_printer.specs.Prints.{field, Prints};
+ghost use Rattle.bytes_printer.specs.Prints.{spacedField, Prints};
 ghost use Rattle.panel_rows.specs.Rows.{bindingRow, availabilityRow, entryRow};
 ghost use Rattle.listing_lines.specs.LookupFields.{lookupFields};
-ghost use Rattle.listing_lines.specs.RowKinds.{Element, Fits, rowOf, lineOf};
+ghost use Rattle.listing_lines.specs.RowKinds.{Element, FitsRow, rowOf, lineOfRow};
 use bytes_printer::Printed;
 use panel_rows::fields as row_fields;
 use panel_rows::values::ValueLookup;
@@ -22,7 +22,7 @@ use projection_patch::patch::ProjectionPatchValue;
 
 // A field of one letter.
 fn print_letter(out: &mut [u8], at: Printed, letter: u8) -> Printed
-    ensures { λ r. ⌜ Prints (now (out .entry)) at (field (letter ∷ [])) (now (out .exit)) r ⌝ }
+    ensures { λ r. ⌜ Prints (now (out .entry)) at (spacedField (letter ∷ [])) (now (out .exit)) r ⌝ }
 {
     let tab = bytes_printer::print_byte(out, at, 9);
     bytes_printer::print_byte(out, tab, letter)
@@ -143,8 +143,8 @@ pub enum RowKind {
 }
 
 pub(crate) fn print_row(out: &mut [u8], at: Printed, kind: RowKind, row: &[u8]) -> Printed
-    ensures { λ r. ⌜ ((x : Element kind) → Fits kind x → now (row .entry) ≡ rowOf kind x
-        → Prints (now (out .entry)) at (lineOf kind x) (now (out .exit)) r) ⌝ }
+    ensures { λ r. ⌜ ((x : Element kind) → FitsRow kind x → now (row .entry) ≡ rowOf kind x
+        → Prints (now (out .entry)) at (lineOfRow kind x) (now (out .exit)) r) ⌝ }
 {
     match kind {
         RowKind::Binding => print_binding(out, at, row),

@@ -7,11 +7,11 @@ ghost use Rattle.spec_patch.specs.Sizes.{projectionBindings, projectionAvailabi
 ghost use Rattle.spec_projection.specs.Projection.{Projection};
 ghost use Rattle.spec_projection.specs.Valid.{Valid};
 ghost use Rattle.spec_listing.specs.Listing.{projectionLines};
-ghost use Rattle.bytes_records.specs.Table.{Holds};
+ghost use Rattle.bytes_records.specs.Table.{HoldsRows};
 ghost use Rattle.bytes_printer.specs.Prints.{Prints, Within};
 ghost use Rattle.panel_rows.specs.Rows.{bindingWidth, availabilityWidth, entryWidth, bindingRow, availabilityRow, entryRow};
 ghost use Rattle.local_projection_state.specs.Stores.{Stored, Stores};
-ghost use Rattle.listing_lines.specs.RowKinds.{Element, Fits, rowOf, widthOf, lineOf};
+ghost use Rattle.listing_lines.specs.RowKinds.{Element, FitsRow, rowOf, widthOf, lineOfRow};
 use crate::RowKind;
 use bytes_printer::Printed;
 use local_projection_state::LocalProjectionState;
@@ -37,8 +37,8 @@ fn row_width(kind: RowKind) -> usize
 
 // The line of each row of a table. A table that is too short for its count answers NoRoom.
 fn print_rows(out: &mut [u8], from: Printed, kind: RowKind, table: &[u8], count: usize) -> Printed
-    ensures { λ r. ⌜ ((xs : List (Element kind)) → All (Fits kind) xs → Holds (widthOf kind) count (now (table .entry)) (map (rowOf kind) xs) → Within (now (out .entry)) from
-        → Prints (now (out .entry)) from (flatMap (lineOf kind) xs) (now (out .exit)) r) ⌝ }
+    ensures { λ r. ⌜ ((xs : List (Element kind)) → All (FitsRow kind) xs → HoldsRows (widthOf kind) count (now (table .entry)) (map (rowOf kind) xs) → Within (now (out .entry)) from
+        → Prints (now (out .entry)) from (flatMap (lineOfRow kind) xs) (now (out .exit)) r) ⌝ }
 {
     let width = row_width(kind);
     if table.len() / width < count {

@@ -75,17 +75,17 @@ set-numbered ed set = by-reading (readSet ed set)
 -- ---- the listing by the answer of the code
 
 -- a state that stores what the listing shows
-pub record Shows (ed : Edition) (set : List ℕ) (next : LocalProjectionState) : Type 0 where
+pub record ShowsLines (ed : Edition) (set : List ℕ) (next : LocalProjectionState) : Type 0 where
   pub projection : Projection
   pub stores : Stores next projection
   pub lines : listing ed set ≡ projectionLines projection
 
 module _ (ed : Edition) (set : List ℕ) (next : LocalProjectionState) (o : ProjectionOutcome) (became : SetBecame next o (applySet ed empty set)) where
-  pub set-applied : outcomeNumber o ≡ 0 → Shows ed set next
+  pub set-applied : outcomeNumber o ≡ 0 → ShowsLines ed set next
   unfolding setLines
   set-applied zero = go (applySet ed empty set) (listing-applies ed set) (set-numbered ed set) became
     where
-      go : (x : SetOutcome) → listing ed set ≡ setLines x → Numbered x → SetBecame next o x → Shows ed set next
+      go : (x : SetOutcome) → listing ed set ≡ setLines x → Numbered x → SetBecame next o x → ShowsLines ed set next
       go (applied q) e n b = record { projection = q; stores = b .1; lines = e }
       go (refused m) e n b = absurd (n (sym b ∙ zero))
 

@@ -11,19 +11,19 @@ use Rattle.bytes_wire.specs.WriteLaws.{room-true, overwrite-refused, drop-past-
 use Rattle.bytes_printer.specs.declared.Printed.{Printed}
 use Rattle.bytes_printer.specs.declared.Printed.the-variants.{Next, NoRoom}
 use Rattle.bytes_printer.specs.Prints.{Prints}
-use Rattle.bytes_printer.specs.PrintsLaws.{whole}
+use Rattle.bytes_printer.specs.PrintsLaws.{whole-printed}
 use Rattle.patch_part_writer.specs.declared.written.WriteRefusal.the-variants.{OutputTooShort}
 use Rattle.patch_part_writer.specs.declared.written.Written.{Written}
 use Rattle.patch_part_writer.specs.declared.written.Written.the-variants.{Wrote, Refused}
-use Rattle.listing_panel.specs.Written.{Holds, Writes}
+use Rattle.listing_panel.specs.Written.{HoldsLines, Writes}
 
 -- lines that fit, printed from the start of a text, stand there
-pub printed-holds : {before lines text : List ℕ} {end : Printed} → Prints before (Next 0) lines text end → length lines ≤ length before → Holds text end lines
-printed-holds p h = let w = whole p h in record { position = w .0; bytes = w .1 }
+pub printed-holds : {before lines text : List ℕ} {end : Printed} → Prints before (Next 0) lines text end → length lines ≤ length before → HoldsLines text end lines
+printed-holds p h = let w = whole-printed p h in record { position = w .0; bytes = w .1 }
 
 -- ---- by the position where printing ended
 
-module _ (text : List ℕ) (end : Printed) (lines : List ℕ) (h : Holds text end lines) where
+module _ (text : List ℕ) (end : Printed) (lines : List ℕ) (h : HoldsLines text end lines) where
   pub ended : end ≡ NoRoom → ⊥
   ended e = let z : _≡_ {A = ℕ} 0 1 = cc (h .position) in omega arith
 

@@ -9,7 +9,7 @@ ghost use Rattle.bytes_printer.specs.Prints.{Prints};
 ghost use Rattle.projection_patch.specs.Meaning.{editionOf};
 ghost use Rattle.panel_rows.specs.Rows.{bindingWidth, availabilityWidth, entryWidth, bindingRow, availabilityRow, entryRow};
 ghost use Rattle.local_projection_state.specs.Stores.{Stored, Stores};
-ghost use Rattle.listing_panel.specs.Written.{Holds, Writes, Kept};
+ghost use Rattle.listing_panel.specs.Written.{HoldsLines, Writes, KeptLines};
 use bytes_printer::Printed;
 use listing_lines::tables;
 use listing_lines::tables::LISTING_BYTES;
@@ -21,8 +21,8 @@ use projection_patch::patch::ProjectionPatchEdition;
 
 // Writes the lines that were printed from the start of text up to a position.
 fn write_lines(text: &[u8], end: Printed, out: &mut [u8]) -> Written
-    ensures lines { λ r. ⌜ ((lines : List ℕ) → Holds (now (text .entry)) end lines → Writes (now (out .entry)) lines (now (out .exit)) r) ⌝ }
-    ensures kept { λ r. ⌜ Kept (now (out .entry)) (now (out .exit)) r ⌝ }
+    ensures lines { λ r. ⌜ ((lines : List ℕ) → HoldsLines (now (text .entry)) end lines → Writes (now (out .entry)) lines (now (out .exit)) r) ⌝ }
+    ensures kept { λ r. ⌜ KeptLines (now (out .entry)) (now (out .exit)) r ⌝ }
 {
     let Printed::Next(len) = end else {
         return Written::Refused(WriteRefusal::OutputTooShort);
@@ -48,7 +48,7 @@ pub fn write_tables(
         → Stored availabilityRow availabilityWidth projectionAvailabilities (counts .availabilities) (now (availability .entry)) (p .availabilities)
         → Stored entryRow entryWidth projectionEntries (counts .entries) (now (entries .entry)) (p .entries) → Valid p
         → Writes (now (out .entry)) (projectionLines p) (now (out .exit)) r) ⌝ }
-    ensures kept { λ r. ⌜ Kept (now (out .entry)) (now (out .exit)) r ⌝ }
+    ensures kept { λ r. ⌜ KeptLines (now (out .entry)) (now (out .exit)) r ⌝ }
 {
     let mut text = [0u8; LISTING_BYTES];
     let start = Printed::Next(0);
@@ -59,7 +59,7 @@ pub fn write_tables(
 // Writes the listing of what a state stores.
 pub fn write_projection(state: LocalProjectionState, out: &mut [u8]) -> Written
     ensures lines { λ r. ⌜ ((p : Projection) → Stores state p → Writes (now (out .entry)) (projectionLines p) (now (out .exit)) r) ⌝ }
-    ensures kept { λ r. ⌜ Kept (now (out .entry)) (now (out .exit)) r ⌝ }
+    ensures kept { λ r. ⌜ KeptLines (now (out .entry)) (now (out .exit)) r ⌝ }
 {
     let counts = state.counts;
     let bindings = state.bindings;

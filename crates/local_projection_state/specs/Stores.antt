@@ -8,7 +8,7 @@ use Rattle.spec_patch.specs.Sizes.{projectionBindings, projectionAvailabilities
 use Rattle.spec_projection.specs.Projection.{Projection}
 use Rattle.spec_projection.specs.Valid.{Valid}
 use Rattle.spec_lengths.specs.Lengths.{CollectionLength, collectionLengths}
-use Rattle.bytes_records.specs.Table.{tableBytes, Holds}
+use Rattle.bytes_records.specs.Table.{tableBytes, HoldsRows}
 use Rattle.panel_rows.specs.Rows.{bindingWidth, availabilityWidth, entryWidth, lengthWidth, bindingBytes, availabilityBytes, entryBytes, lengthBytes, bindingRow, availabilityRow, entryRow, lengthRow}
 use Rattle.local_projection_state.specs.declared.LocalProjectionState.{LocalProjectionState}
 use Rattle.local_projection_state.specs.declared.ProjectionCounts.{ProjectionCounts}
@@ -16,7 +16,7 @@ use Rattle.local_projection_state.specs.declared.ProjectionCounts.{Proje
 -- a table of so many places stores a list: one row for each element, in order
 pub record Stored {A : Type 0} (row : A → List ℕ) (width capacity count : ℕ) (table : List ℕ) (l : List A) : Type 0 where
   pub size : length table ≡ capacity * width
-  pub rows : Holds width count table (map row l)
+  pub rows : HoldsRows width count table (map row l)
 
 -- three tables store a projection
 pub record StoredTables (counts : ProjectionCounts) (bindingTable availabilityTable entryTable : List ℕ) (p : Projection) : Type 0 where
@@ -39,8 +39,8 @@ abbrev pub countsOf : Projection → ProjectionCounts
 countsOf p = record { bindings = length (p .bindings); availabilities = length (p .availabilities); entries = length (p .entries) }
 
 -- the state that stores a projection
-unfoldable pub stateOf : Projection → LocalProjectionState
-stateOf p = record {
+unfoldable pub storedState : Projection → LocalProjectionState
+storedState p = record {
   counts = countsOf p;
   bindings = tableBytes bindingBytes (map bindingRow (p .bindings));
   availability = tableBytes availabilityBytes (map availabilityRow (p .availabilities));

@@ -14,11 +14,11 @@ use Rattle.spec_projection.specs.ValidLaws.{empty-valid}
 use Rattle.spec_lengths.specs.Lengths.{collectionsIn, lengthsIn, collectionLengths, FitsLength}
 use Rattle.spec_lengths.specs.LengthsLaws.{few-lengths, lengths-fit}
 use Rattle.bytes_records.specs.Moves.{zeros}
-use Rattle.bytes_records.specs.Table.{Wide, tableBytes, Holds}
+use Rattle.bytes_records.specs.Table.{Wide, tableBytes, HoldsRows}
 use Rattle.bytes_records.specs.TableLaws.{length-flatten, holds, holds-none, holds-unique, holds-bytes}
 use Rattle.panel_rows.specs.Rows.{bindingWidth, availabilityWidth, entryWidth, lengthWidth, bindingBytes, availabilityBytes, entryBytes, lengthBytes, bindingRow, availabilityRow, entryRow, lengthRow}
 use Rattle.panel_rows.specs.RowsLaws.{binding-wide, availability-wide, entry-wide, length-wide, binding-tells, availability-tells, entry-tells, length-tells}
-use Rattle.local_projection_state.specs.Stores.{Stored, StoredTables, StoredLengths, Stores, stateOf}
+use Rattle.local_projection_state.specs.Stores.{Stored, StoredTables, StoredLengths, Stores, storedState}
 use Rattle.local_projection_state.specs.declared.LocalProjectionState.{LocalProjectionState}
 
 -- ---- one table
@@ -61,7 +61,7 @@ module _ {A : Type 0} (row : A → List ℕ) (width capacity : ℕ) {n m : ℕ} 
   one-count = sym (s .rows .counted) ∙ v .rows .counted
 
   one-table : t ≡ u
-  one-table = holds-bytes width m t u (map row l) (subst (λ (k : ℕ). Holds width k t (map row l)) one-count (s .rows)) (v .rows) (s .size ∙ sym (v .size))
+  one-table = holds-bytes width m t u (map row l) (subst (λ (k : ℕ). HoldsRows width k t (map row l)) one-count (s .rows)) (v .rows) (s .size ∙ sym (v .size))
 
 -- ---- the three tables
 
@@ -104,8 +104,8 @@ pub lengths-stored : (es : List Entry) → All FitsEntry es → length es ≤ pr
 lengths-stored es fit few = stored lengthRow FitsLength lengthWidth length-wide length-tells projectionEntries (lengthsIn es) (lengths-fit es fit few) (omega (arith, few-lengths es))
 
 -- and there is one
-pub some-state : (p : Projection) → Valid p → Stores (stateOf p) p
-unfolding stateOf collectionLengths
+pub some-state : (p : Projection) → Valid p → Stores (storedState p) p
+unfolding storedState collectionLengths
 some-state p v = record {
   tables = record {
     bindings = stored bindingRow FitsBinding bindingWidth binding-wide binding-tells projectionBindings (p .bindings) (v .fitBindings) (v .fewBindings);

@@ -38,7 +38,7 @@ applySet ed p set = applyReading p (readSet ed set)
 -- the number of a refusal; 0 says that there is none
 unfoldable pub outcomeNumber : ProjectionOutcome → ℕ
 outcomeNumber Applied = 0
-outcomeNumber (Refused e) = operationFaultNumber (change.faultOf e)
+outcomeNumber (Refused e) = operationFaultNumber (change.applicationFaultOf e)
 outcomeNumber Findings = 11
 outcomeNumber (Unreadable f) = faultNumber (reading.faultOf f)
 
@@ -47,7 +47,7 @@ abbrev pub StepsBecame : LocalProjectionState → ProjectionOutcome → Outcome 
 StepsBecame next Applied (done q) = Stores next q
 StepsBecame next Applied (stopped f) = ⊥
 StepsBecame next (Refused e) (done q) = ⊥
-StepsBecame next (Refused e) (stopped f) = change.faultOf e ≡ f
+StepsBecame next (Refused e) (stopped f) = change.applicationFaultOf e ≡ f
 StepsBecame next Findings x = ⊥
 StepsBecame next (Unreadable f) x = ⊥
 
@@ -57,8 +57,8 @@ SetBecame next o (applied q) = (o ≡ Applied) × Stores next q
 SetBecame next o (refused n) = outcomeNumber o ≡ n
 
 -- a refusal hands back the state that came in
-abbrev pub KeptUnlessApplied : LocalProjectionState → LocalProjectionState → ProjectionOutcome → Type 0
-KeptUnlessApplied state next Applied = Unit {0}
-KeptUnlessApplied state next (Refused e) = next ≡ state
-KeptUnlessApplied state next Findings = next ≡ state
-KeptUnlessApplied state next (Unreadable f) = next ≡ state
+abbrev pub StateKeptUnlessApplied : LocalProjectionState → LocalProjectionState → ProjectionOutcome → Type 0
+StateKeptUnlessApplied state next Applied = Unit {0}
+StateKeptUnlessApplied state next (Refused e) = next ≡ state
+StateKeptUnlessApplied state next Findings = next ≡ state
+StateKeptUnlessApplied state next (Unreadable f) = next ≡ state

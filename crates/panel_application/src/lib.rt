@@ -7,7 +7,7 @@ ghost use Rattle.spec_projection.specs.Projection.{Projection};
 ghost use Rattle.spec_projection.specs.Apply.{replaySteps, applySteps};
 ghost use Rattle.projection_patch.specs.Meaning.{editionOf};
 ghost use Rattle.local_projection_state.specs.Stores.{Stores};
-ghost use Rattle.panel_application.specs.Application.{applySet, outcomeNumber, StepsBecame, SetBecame, KeptUnlessApplied};
+ghost use Rattle.panel_application.specs.Application.{applySet, outcomeNumber, StepsBecame, SetBecame, StateKeptUnlessApplied};
 use check_quick::quick_set;
 use check_quick::quick_set::QuickCheck;
 use local_projection_state::LocalProjectionState;
@@ -72,7 +72,7 @@ fn apply_readable(
 ) -> ProjectionApplication
     ensures steps { λ r. ⌜ ((ps : List Patch) (p : Projection) → readSet (editionOf edition) (now (set .entry)) ≡ patches ps → Stores state p
         → StepsBecame (r .state) (r .outcome) (applySteps p (replaySteps ps))) ⌝ }
-    ensures kept { λ r. ⌜ KeptUnlessApplied state (r .state) (r .outcome) ⌝ }
+    ensures kept { λ r. ⌜ StateKeptUnlessApplied state (r .state) (r .outcome) ⌝ }
 {
     let mut bindings = [0u8; LocalProjectionState::BINDING_BYTES];
     let mut availability = [0u8; LocalProjectionState::AVAILABILITY_BYTES];
@@ -118,7 +118,7 @@ pub fn apply_projection_patch_set(
     edition: ProjectionPatchEdition,
 ) -> ProjectionApplication
     ensures applied { λ r. ⌜ ((p : Projection) → Stores state p → SetBecame (r .state) (r .outcome) (applySet (editionOf edition) p (now (set .entry)))) ⌝ }
-    ensures kept { λ r. ⌜ KeptUnlessApplied state (r .state) (r .outcome) ⌝ }
+    ensures kept { λ r. ⌜ StateKeptUnlessApplied state (r .state) (r .outcome) ⌝ }
 {
     match quick_set::quick_check(set, edition) {
         QuickCheck::Clean {

@@ -12,7 +12,7 @@ use Rattle.spec_projection.specs.Projection.{Binding, NodeAvailability, Project
 use Rattle.spec_projection.specs.Apply.{done, stopped, projectionFull, withBindings, withAvailabilities, applyBinding, applyAvailability}
 use Rattle.spec_projection.specs.Valid.{FitsBinding, FitsNodeAvailability, Valid}
 use Rattle.bytes_records.specs.Keys.{leadingNumbers}
-use Rattle.bytes_records.specs.Table.{Wide, Holds}
+use Rattle.bytes_records.specs.Table.{Wide, HoldsRows}
 use Rattle.bytes_records.specs.Search.{placeOf, upsertAt, PlaceWithin}
 use Rattle.bytes_records.specs.declared.Place.{Place}
 use Rattle.panel_rows.specs.Rows.{availabilityWidth, availabilityRow, bindingFields, availabilityFields}
@@ -24,17 +24,17 @@ use Rattle.panel_bindings.specs.declared.TableChange.{TableChange}
 use Rattle.panel_bindings.proofs.Upserts.{Made}
 
 -- what the calls told: where the row goes, what it is, and what became of the table
-pub record Told {A : Type 0} (row : A → List ℕ) (key : A → List ℕ) (rowKey : List ℕ → List ℕ) (w n : ℕ) (a : A) (table exit bytes : List ℕ) (place : Place) (r : TableChange) : Type 0 where
+pub record ToldSetting {A : Type 0} (row : A → List ℕ) (key : A → List ℕ) (rowKey : List ℕ → List ℕ) (w n : ℕ) (a : A) (table exit bytes : List ℕ) (place : Place) (r : TableChange) : Type 0 where
   pub same : length exit ≡ length table
   pub is : bytes ≡ row a
   pub wide : Wide w bytes
   pub within : PlaceWithin n place
-  pub placed : (rows : List (List ℕ)) → Holds w n table rows → place ≡ placeOf rowKey (key a) rows
+  pub placed : (rows : List (List ℕ)) → HoldsRows w n table rows → place ≡ placeOf rowKey (key a) rows
   pub made : Made w n table exit bytes r place
 
 module _ {A : Type 0} (row : A → List ℕ) (key : A → List ℕ) (rowKey : List ℕ → List ℕ) (w capacity : ℕ) (Fits : A → Type 0) (keys : (x : A) → Fits x → rowKey (row x) ≡ key x) where
   set-made : (Next : ℕ → Projection → Type 0) (put : List A → Projection) (a : A) (l : List A) (n : ℕ) (table exit bytes : List ℕ) (place : Place) (r : TableChange)
-      → ((m : ℕ) → Stored row w capacity m exit (upsert key a l) → Next m (put (upsert key a l))) → All Fits l → Stored row w capacity n table l → Told row key rowKey w n a table exit bytes place r
+      → ((m : ℕ) → Stored row w capacity m exit (upsert key a l) → Next m (put (upsert key a l))) → All Fits l → Stored row w capacity n table l → ToldSetting row key rowKey w n a table exit bytes place r
       → Became Next r (if leb (length (upsert key a l)) capacity then done (put (upsert key a l)) else stopped projectionFull)
   set-made Next put a l n table exit bytes place r next fit s t =
       set-became row key rowKey w capacity Next put exit (t .same ∙ s .size) (upsert key a l) next r
@@ -46,7 +46,7 @@ module _ {A : Type 0} (row : A → List ℕ) (key : A → List ℕ) (rowKey : Li
 module _ (n : ℕ) (table exit bytes : List ℕ) (place : Place) (r : TableChange) (p : Projection) (v : Valid p) where
   -- rows of any width that begin with the node and the slot
   pub binding-set : (row : Binding → List ℕ) (w : ℕ) → ((b : Binding) → FitsBinding b → leadingNumbers bindingFields (row b) ≡ bindingKey b)
-      → (b : Binding) → Stored row w projectionBindings n table (p .bindings) → Told row bindingKey (leadingNumbers bindingFields) w n b table exit bytes place r
+      → (b : Binding) → Stored row w projectionBindings n table (p .bindings) → ToldSetting row bindingKey (leadingNumbers bindingFields) w n b table exit bytes place r
       → Became (λ m q. Stored row w projectionBindings m exit (q .bindings)) r (applyBinding p b)
   unfolding applyBinding withBindings
   binding-set row w keys b s t =
@@ -54,7 +54,7 @@ module _ (n : ℕ) (table exit bytes : List ℕ) (place : Place) (r : TableChang
       (λ m q. Stored row w projectionBindings m exit (q .bindings)) (withBindings p) b (p .bindings) n table exit bytes place r (λ m h. h) (v .fitBindings) s t
 
   pub availability-set : (a : NodeAvailability) → Stored availabilityRow availabilityWidth projectionAvailabilities n table (p .availabilities)
-      → Told availabilityRow availabilityKey (leadingNumbers availabilityFields) availabilityWidth n a table exit bytes place r
+      → ToldSetting availabilityRow availabilityKey (leadingNumbers availabilityFields) availabilityWidth n a table exit bytes place r
       → Became (λ m q. Stored availabilityRow availabilityWidth projectionAvailabilities m exit (q .availabilities)) r (applyAvailability p a)
   unfolding applyAvailability withAvailabilities
   availability-set a s t =

@@ -6,19 +6,20 @@ use mathlib.Core.List.{List}
 use native.Mathlib.Omega.{arith}
 use lib.ListN.{length}
 use Rattle.bytes_records.specs.Positions.{insertAt, replaceAt}
-use Rattle.bytes_records.specs.Table.{Wide, Holds, Changed, canInsert, canReplace}
+use Rattle.bytes_records.specs.Table.{Wide, HoldsRows, Changed, canInsert, canReplace}
 use Rattle.bytes_records.specs.Search.{upsertAt, PlaceWithin}
 use Rattle.bytes_records.specs.declared.Place.{Place}
 use Rattle.bytes_records.specs.declared.Place.the-variants.{Taken, Before}
 use Rattle.panel_bindings.specs.Change.{RowsBecame}
-use Rattle.panel_bindings.specs.RowChanges.{length-insertAt, few, replaced, inserted, full}
+use Rattle.bytes_records.specs.PositionsLaws.{length-insertAt}
+use Rattle.panel_bindings.specs.RowChanges.{few, replaced, inserted, full}
 use Rattle.panel_bindings.specs.declared.LocalProjectionApplicationError.the-variants.{ProjectionFull}
 use Rattle.panel_bindings.specs.declared.TableChange.{TableChange}
 use Rattle.panel_bindings.specs.declared.TableChange.the-variants.{Applied, Refused}
 
 -- what the contract says of a place and an answer
 abbrev pub Made : ℕ → ℕ → List ℕ → List ℕ → List ℕ → TableChange → Place → Type 0
-Made w n l exit row r place = (capacity : ℕ) (rows : List (List ℕ)) → length l ≡ capacity * w → Holds w n l rows → Wide w row → PlaceWithin n place → RowsBecame w capacity (upsertAt place row rows) exit r
+Made w n l exit row r place = (capacity : ℕ) (rows : List (List ℕ)) → length l ≡ capacity * w → HoldsRows w n l rows → Wide w row → PlaceWithin n place → RowsBecame w capacity (upsertAt place row rows) exit r
 
 module _ {w n : ℕ} {l exit : List ℕ} {answer : Bool} (some : 0 < w) (same : length exit ≡ length l) (at : ℕ) (row : List ℕ) where
   taken-made : Changed w n n (replaceAt at row) (canReplace (length l) w n at row) l exit answer → Made w n l exit row (Applied n) (Taken at)
@@ -36,7 +37,7 @@ module _ {w n : ℕ} {l exit : List ℕ} {answer : Bool} (some : 0 < w) (same : 
   full-made : answer ≡ false → Changed w n (n + 1) (insertAt at row) (canInsert (length l) w n at row) l exit answer → Made w n l exit row (Refused ProjectionFull) (Before at)
   unfolding upsertAt PlaceWithin
   full-made e c capacity rows size t wide h =
-      (omega (arith, full t at capacity size row h wide e c, length-insertAt at row rows (omega (arith, t .counted)), t .counted), refl)
+      (omega (arith, full t at capacity size row h wide e c, length-insertAt at row rows, t .counted), refl)
 
   module _ (place : Place) where
     pub upsert-taken : place ≡ Taken at → Changed w n n (replaceAt at row) (canReplace (length l) w n at row) l exit answer → Made w n l exit row (Applied n) place

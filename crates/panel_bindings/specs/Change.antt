@@ -5,29 +5,29 @@ use mathlib.Core.List.{List}
 use lib.ListN.{length}
 use Rattle.spec_projection.specs.Projection.{Projection}
 use Rattle.spec_projection.specs.Apply.{OperationFault, keyRule, projectionFull, Outcome, done, stopped}
-use Rattle.bytes_records.specs.Table.{Holds}
+use Rattle.bytes_records.specs.Table.{HoldsRows}
 use Rattle.panel_bindings.specs.declared.LocalProjectionApplicationError.{LocalProjectionApplicationError}
 use Rattle.panel_bindings.specs.declared.LocalProjectionApplicationError.the-variants.{KeyRule, ProjectionFull}
 use Rattle.panel_bindings.specs.declared.TableChange.{TableChange}
 use Rattle.panel_bindings.specs.declared.TableChange.the-variants.{Applied, Refused}
 
-abbrev pub faultOf : LocalProjectionApplicationError → OperationFault
-faultOf KeyRule = keyRule
-faultOf ProjectionFull = projectionFull
+abbrev pub applicationFaultOf : LocalProjectionApplicationError → OperationFault
+applicationFaultOf KeyRule = keyRule
+applicationFaultOf ProjectionFull = projectionFull
 
 -- the answer is the outcome's: with so many rows the table is what the next projection says, or the refusal is the fault's
 abbrev pub Became : (ℕ → Projection → Type 0) → TableChange → Outcome → Type 0
 Became Next (Applied n) (done q) = Next n q
 Became Next (Applied n) (stopped f) = ⊥
 Became Next (Refused e) (done q) = ⊥
-Became Next (Refused e) (stopped f) = faultOf e ≡ f
+Became Next (Refused e) (stopped f) = applicationFaultOf e ≡ f
 
 -- a refusal leaves every byte
-abbrev pub Kept : TableChange → List ℕ → List ℕ → Type 0
-Kept (Applied n) entry exit = Unit {0}
-Kept (Refused e) entry exit = exit ≡ entry
+abbrev pub KeptTable : TableChange → List ℕ → List ℕ → Type 0
+KeptTable (Applied n) entry exit = Unit {0}
+KeptTable (Refused e) entry exit = exit ≡ entry
 
 -- the table holds these rows now, or they are more than it has places for
 abbrev pub RowsBecame : (width capacity : ℕ) → List (List ℕ) → List ℕ → TableChange → Type 0
-RowsBecame width capacity rows exit (Applied n) = (length rows ≤ capacity) × Holds width n exit rows
+RowsBecame width capacity rows exit (Applied n) = (length rows ≤ capacity) × HoldsRows width n exit rows
 RowsBecame width capacity rows exit (Refused e) = (capacity < length rows) × (e ≡ ProjectionFull)

@@ -14,7 +14,7 @@ use Rattle.bytes_records.specs.Search.{placeOf, upsertAt}
 use Rattle.bytes_records.specs.SearchLaws.{place-map, upsert-place, map-upsertAt}
 use Rattle.bytes_records.specs.declared.Place.{Place}
 use Rattle.local_projection_state.specs.Stores.{Stored}
-use Rattle.panel_bindings.specs.Change.{faultOf, Became, RowsBecame}
+use Rattle.panel_bindings.specs.Change.{applicationFaultOf, Became, RowsBecame}
 use Rattle.panel_bindings.specs.declared.LocalProjectionApplicationError.{LocalProjectionApplicationError}
 use Rattle.panel_bindings.specs.declared.TableChange.{TableChange}
 use Rattle.panel_bindings.specs.declared.TableChange.the-variants.{Applied, Refused}
@@ -23,7 +23,7 @@ module _ (Next : ℕ → Projection → Type 0) where
   pub became-done : {x : Outcome} (n : ℕ) {q : Projection} → x ≡ done q → Next n q → Became Next (Applied n) x
   became-done n e h = subst (λ y. Became Next (Applied n) y) (sym e) h
 
-  pub became-stopped : {x : Outcome} (e : LocalProjectionApplicationError) → x ≡ stopped (faultOf e) → Became Next (Refused e) x
+  pub became-stopped : {x : Outcome} (e : LocalProjectionApplicationError) → x ≡ stopped (applicationFaultOf e) → Became Next (Refused e) x
   became-stopped e h = subst (λ y. Became Next (Refused e) y) (sym h) refl
 
 -- ---- a record set by its key
@@ -44,4 +44,4 @@ module _ {A : Type 0} (row : A → List ℕ) (key : A → List ℕ) (rowKey : Li
         rw (le-leb (length list) capacity few) (next n (record { size = same; rows = h .1 }))
     set-became (Refused e) h =
         let over : capacity < length list = omega (arith, h .0, length-map list row) in
-        rw (lt-leb (length list) capacity over) (ap faultOf (h .1))
+        rw (lt-leb (length list) capacity over) (ap applicationFaultOf (h .1))

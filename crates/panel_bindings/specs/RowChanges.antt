@@ -7,14 +7,11 @@ use native.Mathlib.Nat.{suc-mul, le-of-mul-le-mul-right, lt-of-mul-lt-mul-right,
 use native.Mathlib.Omega.{arith}
 use borrow.Author.Tests.{leb-true, leb-false}
 use lib.Dec.{leb, eqb}
-use lib.ListN.{length, length-append, length-take, length-drop}
+use lib.ListN.{length}
 use Rattle.spec_lists.specs.ListLaws.{and-right, test-cases}
 use Rattle.bytes_records.specs.Positions.{insertAt, removeAt, replaceAt}
-use Rattle.bytes_records.specs.Table.{Wide, Holds, Changed, canInsert, canRemove, canReplace}
+use Rattle.bytes_records.specs.Table.{Wide, HoldsRows, Changed, canInsert, canRemove, canReplace}
 use Rattle.bytes_records.specs.TableLaws.{fitting, can-insert, can-remove, can-replace}
-
-pub length-insertAt : {A : Type 0} (i : ℕ) (a : A) (l : List A) → i ≤ length l → length (insertAt i a l) ≡ length l + 1
-length-insertAt i a l h = simp (length-append, length-take, length-drop) (omega arith)
 
 -- a row that is inserted makes no more rows than there are bytes
 pub insert-room : (size w n at : ℕ) (row : List ℕ) → 0 < w → canInsert size w n at row ≡ true → n + 1 ≤ size
@@ -23,19 +20,19 @@ insert-room size w n at row some e =
     let room : n * w + w ≤ size = leb-true (n * w + w) size (and-right (eqb (length row) w) _ (and-right (leb at n) _ e)) in
     omega (arith, le-mul-of-pos-right (suc n) some, suc-mul n w)
 
-module _ {w n : ℕ} {l : List ℕ} {rows : List (List ℕ)} (t : Holds w n l rows) where
+module _ {w n : ℕ} {l : List ℕ} {rows : List (List ℕ)} (t : HoldsRows w n l rows) where
   -- a table holds no more rows than it has places
   pub few : (capacity : ℕ) → 0 < w → length l ≡ capacity * w → n ≤ capacity
   few capacity some size = le-of-mul-le-mul-right (rw size at (fitting t)) some
 
   module _ (at : ℕ) {exit : List ℕ} {answer : Bool} where
-    pub replaced : (row : List ℕ) → at < n → Wide w row → Changed w n n (replaceAt at row) (canReplace (length l) w n at row) l exit answer → Holds w n exit (replaceAt at row rows)
+    pub replaced : (row : List ℕ) → at < n → Wide w row → Changed w n n (replaceAt at row) (canReplace (length l) w n at row) l exit answer → HoldsRows w n exit (replaceAt at row rows)
     replaced row h e c = c .made (c .told ∙ can-replace t at row h e) rows t
 
-    pub removed : {m : ℕ} → at < n → Changed w n m (removeAt at) (canRemove (length l) w n at) l exit answer → Holds w m exit (removeAt at rows)
+    pub removed : {m : ℕ} → at < n → Changed w n m (removeAt at) (canRemove (length l) w n at) l exit answer → HoldsRows w m exit (removeAt at rows)
     removed h c = c .made (c .told ∙ can-remove t at h) rows t
 
-    pub inserted : {m : ℕ} → (row : List ℕ) → answer ≡ true → Changed w n m (insertAt at row) (canInsert (length l) w n at row) l exit answer → Holds w m exit (insertAt at row rows)
+    pub inserted : {m : ℕ} → (row : List ℕ) → answer ≡ true → Changed w n m (insertAt at row) (canInsert (length l) w n at row) l exit answer → HoldsRows w m exit (insertAt at row rows)
     inserted row e c = c .made e rows t
 
     -- a table that refuses a row which is in order is full

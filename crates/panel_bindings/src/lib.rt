@@ -9,13 +9,13 @@ ghost use Rattle.spec_patch.specs.Patch.{unsigned};
 ghost use Rattle.spec_projection.specs.Projection.{Projection};
 ghost use Rattle.spec_projection.specs.Apply.{operationFaultNumber, applyBinding, applyAvailability};
 ghost use Rattle.spec_projection.specs.Valid.{Valid};
-ghost use Rattle.bytes_records.specs.Table.{Holds, Wide};
+ghost use Rattle.bytes_records.specs.Table.{HoldsRows, Wide};
 ghost use Rattle.bytes_records.specs.Search.{upsertAt, PlaceWithin};
-ghost use Rattle.projection_patch.specs.Meaning.{availabilityOf};
+ghost use Rattle.projection_patch.specs.Meaning.{availabilityValueOf};
 ghost use Rattle.panel_rows.specs.Rows.{availabilityWidth, availabilityRow};
 ghost use Rattle.local_projection_state.specs.Stores.{Stored};
 ghost use Rattle.panel_plan.specs.PlanRows.{PlannedBindings};
-ghost use Rattle.panel_bindings.specs.Change.{faultOf, Became, Kept, RowsBecame};
+ghost use Rattle.panel_bindings.specs.Change.{applicationFaultOf, Became, KeptTable, RowsBecame};
 use bytes_records::Place;
 use projection_patch::patch::ProjectionNodeAvailability;
 
@@ -28,7 +28,7 @@ pub enum LocalProjectionApplicationError {
 impl LocalProjectionApplicationError {
     // The number of a refusal.
     pub fn number(self) -> u64
-        ensures { λ r. ⌜ r ≡ operationFaultNumber (faultOf self) ⌝ }
+        ensures { λ r. ⌜ r ≡ operationFaultNumber (applicationFaultOf self) ⌝ }
     {
         match self {
             LocalProjectionApplicationError::KeyRule => 8,
@@ -46,9 +46,9 @@ pub enum TableChange {
 // Writes row at its place: over the row of its key, or inserted before the one that is there.
 fn upsert_row(table: &mut [u8], width: usize, count: usize, place: Place, row: &[u8]) -> TableChange
     requires { ⌜ 0 < width ⌝ }
-    ensures made { λ r. ⌜ ((capacity : ℕ) (rows : List (List ℕ)) → length (now (table .entry)) ≡ capacity * width → Holds width count (now (table .entry)) rows
+    ensures made { λ r. ⌜ ((capacity : ℕ) (rows : List (List ℕ)) → length (now (table .entry)) ≡ capacity * width → HoldsRows width count (now (table .entry)) rows
         → Wide width (now (row .entry)) → PlaceWithin count place → RowsBecame width capacity (upsertAt place (now (row .entry)) rows) (now (table .exit)) r) ⌝ }
-    ensures kept { λ r. ⌜ Kept r (now (table .entry)) (now (table .exit)) ⌝ }
+    ensures kept { λ r. ⌜ KeptTable r (now (table .entry)) (now (table .exit)) ⌝ }
 {
     match place {
         Place::Taken(at) => {
@@ -76,7 +76,7 @@ pub fn set_binding_source(
     ensures made { λ r. ⌜ ((p : Projection) → PlannedBindings count (now (table .entry)) (p .bindings) → Valid p
         → Became (λ n q. PlannedBindings n (now (table .exit)) (q .bindings)) r
         (applyBinding p (record { node = node; slot = slot; mark = mark; value = unsigned source }))) ⌝ }
-    ensures kept { λ r. ⌜ Kept r (now (table .entry)) (now (table .exit)) ⌝ }
+    ensures kept { λ r. ⌜ KeptTable r (now (table .entry)) (now (table .exit)) ⌝ }
 {
     let width = panel_plan::BINDING_WIDTH;
     let row = panel_plan::binding_row(node, slot, mark, source);
@@ -101,8 +101,8 @@ pub fn set_node_availability(
 ) -> TableChange
     ensures made { λ r. ⌜ ((p : Projection) → Stored availabilityRow availabilityWidth projectionAvailabilities count (now (table .entry)) (p .availabilities) → Valid p
         → Became (λ n q. Stored availabilityRow availabilityWidth projectionAvailabilities n (now (table .exit)) (q .availabilities)) r
-        (applyAvailability p (record { node = node; mark = mark; availability = availabilityOf availability }))) ⌝ }
-    ensures kept { λ r. ⌜ Kept r (now (table .entry)) (now (table .exit)) ⌝ }
+        (applyAvailability p (record { node = node; mark = mark; availability = availabilityValueOf availability }))) ⌝ }
+    ensures kept { λ r. ⌜ KeptTable r (now (table .entry)) (now (table .exit)) ⌝ }
 {
     let width = panel_rows::AVAILABILITY_WIDTH;
     let row = panel_rows::availability_row(node, mark, availability);

@@ -12,7 +12,7 @@ use Rattle.spec_lengths.specs.Lengths.{collectionLengths}
 use Rattle.panel_rows.specs.Rows.{bindingWidth, bindingBytes, availabilityBytes, entryWidth, entryBytes, lengthBytes}
 use Rattle.local_projection_state.specs.Stores.{StoredTables, StoredLengths}
 use Rattle.local_projection_state.specs.declared.ProjectionCounts.{ProjectionCounts}
-use Rattle.panel_bindings.specs.Change.{faultOf}
+use Rattle.panel_bindings.specs.Change.{applicationFaultOf}
 use Rattle.panel_writing.specs.Writing.{ClearBehind}
 use Rattle.panel_changes.specs.declared.SetChange.{SetChange}
 use Rattle.panel_changes.specs.declared.SetChange.the-variants.{Applied, Refused, Unreadable, BadTables}
@@ -22,8 +22,8 @@ unfoldable pub tablesFit : ℕ → ℕ → ℕ → Bool
 tablesFit b a e = eqb b bindingBytes && (eqb a availabilityBytes && eqb e entryBytes)
 
 -- each table has a place for so many rows
-unfoldable pub countsFit : ProjectionCounts → Bool
-countsFit n = leb (n .bindings) projectionBindings && (leb (n .availabilities) projectionAvailabilities && leb (n .entries) projectionEntries)
+unfoldable pub changeCountsFit : ProjectionCounts → Bool
+changeCountsFit n = leb (n .bindings) projectionBindings && (leb (n .availabilities) projectionAvailabilities && leb (n .entries) projectionEntries)
 
 pub record TableLengths (b a e : List ℕ) : Type 0 where
   pub bindings : length b ≡ bindingBytes
@@ -35,10 +35,10 @@ abbrev pub noneUsed : ProjectionCounts
 noneUsed = record { bindings = 0; availabilities = 0; entries = 0 }
 
 -- the tables that are written: as long as they should be, and zero behind the rows that were used; that of the lengths may hold anything
-pub record Ready (used : ProjectionCounts) (b a e l : List ℕ) : Type 0 where
+pub record ReadyTables (used : ProjectionCounts) (b a e l : List ℕ) : Type 0 where
   pub lengths : TableLengths b a e
   pub collections : length l ≡ lengthBytes
-  pub few : countsFit used ≡ true
+  pub few : changeCountsFit used ≡ true
   pub bindings : ClearBehind (used .bindings) bindingWidth b
   pub entries : ClearBehind (used .entries) entryWidth e
 
@@ -51,7 +51,7 @@ abbrev pub ChangeBecame : (ProjectionCounts → Projection → Type 0) → SetCh
 ChangeBecame Next (Applied n) (done q) = Next n q
 ChangeBecame Next (Applied n) (stopped f) = ⊥
 ChangeBecame Next (Refused e) (done q) = ⊥
-ChangeBecame Next (Refused e) (stopped f) = faultOf e ≡ f
+ChangeBecame Next (Refused e) (stopped f) = applicationFaultOf e ≡ f
 ChangeBecame Next (Unreadable f) x = ⊥
 ChangeBecame Next BadTables x = ⊥
 
@@ -59,8 +59,8 @@ ChangeBecame Next BadTables x = ⊥
 abbrev pub Same : (b a e l b′ a′ e′ l′ : List ℕ) → Type 0
 Same b a e l b′ a′ e′ l′ = (b′ ≡ b) × ((a′ ≡ a) × ((e′ ≡ e) × (l′ ≡ l)))
 
-abbrev pub KeptUnlessApplied : SetChange → (b a e l b′ a′ e′ l′ : List ℕ) → Type 0
-KeptUnlessApplied (Applied n) b a e l b′ a′ e′ l′ = Unit {0}
-KeptUnlessApplied (Refused f) b a e l b′ a′ e′ l′ = Same b a e l b′ a′ e′ l′
-KeptUnlessApplied (Unreadable f) b a e l b′ a′ e′ l′ = Same b a e l b′ a′ e′ l′
-KeptUnlessApplied BadTables b a e l b′ a′ e′ l′ = Same b a e l b′ a′ e′ l′
+abbrev pub TablesKeptUnlessApplied : SetChange → (b a e l b′ a′ e′ l′ : List ℕ) → Type 0
+TablesKeptUnlessApplied (Applied n) b a e l b′ a′ e′ l′ = Unit {0}
+TablesKeptUnlessApplied (Refused f) b a e l b′ a′ e′ l′ = Same b a e l b′ a′ e′ l′
+TablesKeptUnlessApplied (Unreadable f) b a e l b′ a′ e′ l′ = Same b a e l b′ a′ e′ l′
+TablesKeptUnlessApplied BadTables b a e l b′ a′ e′ l′ = Same b a e l b′ a′ e′ l′

@@ -29,7 +29,7 @@ use Rattle.spec_projection.specs.RowMap.{mapRows}
 use Rattle.spec_projection.specs.Valid.{Valid}
 use Rattle.spec_lengths.specs.Lengths.{collectionLengths}
 use Rattle.spec_lengths.specs.LengthsAfter.{lengths-mapped}
-use Rattle.bytes_records.specs.Moves.{zeros, overwrite}
+use Rattle.bytes_records.specs.Moves.{zeros, overwriteRows}
 use Rattle.bytes_records.specs.MovesLaws.{length-zeros, drop-zeros}
 use Rattle.bytes_records.specs.TableLaws.{holds-none}
 use Rattle.panel_rows.specs.Rows.{bindingBytes, availabilityBytes, entryBytes, lengthBytes, bindingWidth, availabilityWidth, entryWidth, bindingRow, availabilityRow, entryRow}
@@ -46,7 +46,7 @@ use Rattle.panel_steps.specs.declared.PlanRun.the-variants as plan
 use Rattle.panel_bindings.specs.declared.LocalProjectionApplicationError.{LocalProjectionApplicationError}
 use Rattle.projection_patch.specs.declared.read_values.ProjectionPatchReadFault.{ProjectionPatchReadFault}
 use Rattle.panel_writing.specs.Writing.{ClearBehind}
-use Rattle.panel_changes.specs.SetChanges.{tablesFit, countsFit, TableLengths, noneUsed, Ready, StoredAfter, ChangeBecame}
+use Rattle.panel_changes.specs.SetChanges.{tablesFit, changeCountsFit, TableLengths, noneUsed, ReadyTables, StoredAfter, ChangeBecame}
 use Rattle.panel_changes.specs.declared.SetChange.the-variants as change
 
 -- ---- lengths and counts
@@ -64,9 +64,9 @@ fit-lengths b a e h =
       entries = eqb-true (length e) entryBytes (and-right two three rest);
     }
 
-pub lengths-fit : (b a e : List ℕ) → TableLengths b a e → tablesFit (length b) (length a) (length e) ≡ true
+pub tableLengths-fit : (b a e : List ℕ) → TableLengths b a e → tablesFit (length b) (length a) (length e) ≡ true
 unfolding tablesFit
-lengths-fit b a e h = rw (eq-eqb (length b) bindingBytes (h .bindings), eq-eqb (length a) availabilityBytes (h .availability), eq-eqb (length e) entryBytes (h .entries))
+tableLengths-fit b a e h = rw (eq-eqb (length b) bindingBytes (h .bindings), eq-eqb (length a) availabilityBytes (h .availability), eq-eqb (length e) entryBytes (h .entries))
 
 -- zeros store no rows
 pub none-stored : {A : Type 0} (row : A → List ℕ) (width capacity : ℕ) → Stored row width capacity 0 (zeros (capacity * width)) []
@@ -77,8 +77,8 @@ clear-zeros width n =
     let none : 0 * width ≡ 0 = zero-mul width in
     ap (λ (k : ℕ). drop k (zeros n)) none ∙ drop-zeros 0 n (omega arith) ∙ ap zeros (ap (λ (k : ℕ). k - 0) (sym (length-zeros n)) ∙ ap (λ (k : ℕ). length (zeros n) - k) (sym none))
 
-pub zeros-ready : Ready noneUsed (zeros bindingBytes) (zeros availabilityBytes) (zeros entryBytes) (zeros lengthBytes)
-unfolding countsFit
+pub zeros-ready : ReadyTables noneUsed (zeros bindingBytes) (zeros availabilityBytes) (zeros entryBytes) (zeros lengthBytes)
+unfolding changeCountsFit
 zeros-ready = record {
   lengths = record { bindings = length-zeros bindingBytes; availability = length-zeros availabilityBytes; entries = length-zeros entryBytes };
   collections = length-zeros lengthBytes;
@@ -87,12 +87,12 @@ zeros-ready = record {
   entries = clear-zeros entryWidth entryBytes;
 }
 
-pub few-fit : (n : ProjectionCounts) → n .bindings ≤ projectionBindings → n .availabilities ≤ projectionAvailabilities → n .entries ≤ projectionEntries → countsFit n ≡ true
-unfolding countsFit
+pub few-fit : (n : ProjectionCounts) → n .bindings ≤ projectionBindings → n .availabilities ≤ projectionAvailabilities → n .entries ≤ projectionEntries → changeCountsFit n ≡ true
+unfolding changeCountsFit
 few-fit n b a e = rw (le-leb (n .bindings) projectionBindings b, le-leb (n .availabilities) projectionAvailabilities a, le-leb (n .entries) projectionEntries e)
 
-pub fit-few : (n : ProjectionCounts) → countsFit n ≡ true → (n .bindings ≤ projectionBindings) × (n .entries ≤ projectionEntries)
-unfolding countsFit
+pub fit-few : (n : ProjectionCounts) → changeCountsFit n ≡ true → (n .bindings ≤ projectionBindings) × (n .entries ≤ projectionEntries)
+unfolding changeCountsFit
 fit-few n h =
     let one = leb (n .bindings) projectionBindings in
     let two = leb (n .availabilities) projectionAvailabilities in
@@ -107,14 +107,14 @@ module _ {n : ProjectionCounts} {b a e : List ℕ} {p : Projection} where
   pub stored-lengths : StoredTables n b a e p → TableLengths b a e
   stored-lengths s = record { bindings = s .bindings .size; availability = s .availabilities .size; entries = s .entries .size }
 
-  pub stored-counts : StoredTables n b a e p → countsFit n ≡ true
+  pub stored-counts : StoredTables n b a e p → changeCountsFit n ≡ true
   stored-counts s =
       few-fit n
       (omega (arith, counted (p .bindings) (s .bindings), s .valid .fewBindings))
       (omega (arith, counted (p .availabilities) (s .availabilities), s .valid .fewAvailabilities))
       (omega (arith, counted (p .entries) (s .entries), s .valid .fewEntries))
 
-  pub planned-counts : StoredPlan n b a e p → countsFit n ≡ true
+  pub planned-counts : StoredPlan n b a e p → changeCountsFit n ≡ true
   planned-counts s =
       few-fit n
       (omega (arith, counted (p .bindings) (s .bindings), s .valid .fewBindings))
@@ -124,7 +124,7 @@ module _ {n : ProjectionCounts} {b a e : List ℕ} {p : Projection} where
 -- ---- the plan that a set starts from
 
 -- a copy over a table as long is the other table
-pub whole-copy : (s t : List ℕ) → length s ≡ length t → overwrite s t ≡ s
+pub whole-copy : (s t : List ℕ) → length s ≡ length t → overwriteRows s t ≡ s
 whole-copy s t e = let none : length t ≤ length s = omega arith in ap (λ (l : List ℕ). s ++ l) (drop-of-length-le t none) ∙ append-nil s
 
 pub plan-starts : {n : ProjectionCounts} {b a e b′ a′ e′ : List ℕ} {p : Projection} → StoredTables n b a e p → a′ ≡ a → PlannedBindings (n .bindings) b′ (numbered bindingWith 0 (p .bindings)) → PlannedEntries (n .entries) e′ (numbered entryWith 0 (p .entries)) → StoredPlan n b′ a′ e′ (planOf p)

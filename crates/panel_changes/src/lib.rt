@@ -19,7 +19,7 @@ ghost use Rattle.panel_rows.specs.Rows.{availabilityBytes, lengthBytes};
 ghost use Rattle.local_projection_state.specs.Stores.{StoredTables};
 ghost use Rattle.panel_plan.specs.PlanRows.{PlannedBindings, PlannedEntries};
 ghost use Rattle.panel_steps.specs.Runs.{RunBecame, PlannedAs};
-ghost use Rattle.panel_changes.specs.SetChanges.{tablesFit, countsFit, TableLengths, noneUsed, Ready, StoredAfter, ChangeBecame, KeptUnlessApplied};
+ghost use Rattle.panel_changes.specs.SetChanges.{tablesFit, changeCountsFit, TableLengths, noneUsed, ReadyTables, StoredAfter, ChangeBecame, TablesKeptUnlessApplied};
 use local_projection_state::LocalProjectionState;
 use local_projection_state::ProjectionCounts;
 use panel_bindings::LocalProjectionApplicationError;
@@ -55,7 +55,7 @@ pub fn tables_fit(bindings: usize, availability: usize, entries: usize) -> bool
 
 // Whether each table has a place for so many rows.
 pub fn counts_fit(counts: ProjectionCounts) -> bool
-    ensures { λ r. ⌜ r ≡ countsFit counts ⌝ }
+    ensures { λ r. ⌜ r ≡ changeCountsFit counts ⌝ }
 {
     if LocalProjectionState::BINDINGS < counts.bindings {
         return false;
@@ -77,7 +77,7 @@ fn arguments_fit(
     counts: ProjectionCounts,
     used: ProjectionCounts,
 ) -> bool
-    ensures { λ r. ⌜ r ≡ (tablesFit «from_bindings» «from_availability» «from_entries» && (tablesFit «to_bindings» «to_availability» «to_entries» && (countsFit counts && countsFit used))) ⌝ }
+    ensures { λ r. ⌜ r ≡ (tablesFit «from_bindings» «from_availability» «from_entries» && (tablesFit «to_bindings» «to_availability» «to_entries» && (changeCountsFit counts && changeCountsFit used))) ⌝ }
 {
     if tables_fit(from_bindings, from_availability, from_entries) {
         if tables_fit(to_bindings, to_availability, to_entries) {
@@ -105,10 +105,10 @@ fn write_tables(
     to_lengths: &mut [u8],
     used: ProjectionCounts,
 ) -> bool
-    requires { ⌜ TableLengths (now «to_bindings») (now «to_availability») (now «to_entries») × ((length (now «to_lengths») ≡ lengthBytes) × ((length (now «plan_availability») ≡ availabilityBytes) × (countsFit used ≡ true))) ⌝ }
-    ensures told { λ r. ⌜ r ≡ countsFit counts ⌝ }
+    requires { ⌜ TableLengths (now «to_bindings») (now «to_availability») (now «to_entries») × ((length (now «to_lengths») ≡ lengthBytes) × ((length (now «plan_availability») ≡ availabilityBytes) × (changeCountsFit used ≡ true))) ⌝ }
+    ensures told { λ r. ⌜ r ≡ changeCountsFit counts ⌝ }
     ensures kept { λ r. ⌜ (r ≡ false → (now («to_bindings» .exit) ≡ now («to_bindings» .entry)) × ((now («to_availability» .exit) ≡ now («to_availability» .entry)) × ((now («to_entries» .exit) ≡ now («to_entries» .entry)) × (now («to_lengths» .exit) ≡ now («to_lengths» .entry))))) ⌝ }
-    ensures stored { λ r. ⌜ (r ≡ true → Ready used (now («to_bindings» .entry)) (now («to_availability» .entry)) (now («to_entries» .entry)) (now («to_lengths» .entry)) → (p x : Projection) (n : ProjectionCounts) (a : List ℕ) → StoredTables n (now («from_bindings» .entry)) a (now («from_entries» .entry)) p
+    ensures stored { λ r. ⌜ (r ≡ true → ReadyTables used (now («to_bindings» .entry)) (now («to_availability» .entry)) (now («to_entries» .entry)) (now («to_lengths» .entry)) → (p x : Projection) (n : ProjectionCounts) (a : List ℕ) → StoredTables n (now («from_bindings» .entry)) a (now («from_entries» .entry)) p
         → PlannedAs (editionOf edition) p (now (set .entry)) (now («plan_bindings» .entry)) (now («plan_availability» .entry)) (now («plan_entries» .entry)) counts x → Valid x
         → StoredAfter counts (now («to_bindings» .exit)) (now («to_availability» .exit)) (now («to_entries» .exit)) (now («to_lengths» .exit)) x) ⌝ }
 {
@@ -185,11 +185,11 @@ fn apply_from(
     to_lengths: &mut [u8],
     used: ProjectionCounts,
 ) -> SetChange
-    requires { ⌜ (length (now set) ≤ setBytes) × ((length (now «from_availability») ≡ availabilityBytes) × (TableLengths (now «to_bindings») (now «to_availability») (now «to_entries») × ((length (now «to_lengths») ≡ lengthBytes) × (countsFit used ≡ true)))) ⌝ }
+    requires { ⌜ (length (now set) ≤ setBytes) × ((length (now «from_availability») ≡ availabilityBytes) × (TableLengths (now «to_bindings») (now «to_availability») (now «to_entries») × ((length (now «to_lengths») ≡ lengthBytes) × (changeCountsFit used ≡ true)))) ⌝ }
     ensures changed { λ r. ⌜ ((p : Projection) (ps : List Patch) → StoredTables counts (now («from_bindings» .entry)) (now («from_availability» .entry)) (now («from_entries» .entry)) p
-        → All (FitsPatch (editionOf edition)) ps → AtSteps (editionOf edition) (now (set .entry)) cursor [] ps → Ready used (now («to_bindings» .entry)) (now («to_availability» .entry)) (now («to_entries» .entry)) (now («to_lengths» .entry))
+        → All (FitsPatch (editionOf edition)) ps → AtSteps (editionOf edition) (now (set .entry)) cursor [] ps → ReadyTables used (now («to_bindings» .entry)) (now («to_availability» .entry)) (now («to_entries» .entry)) (now («to_lengths» .entry))
         → ChangeBecame (λ n q. StoredAfter n (now («to_bindings» .exit)) (now («to_availability» .exit)) (now («to_entries» .exit)) (now («to_lengths» .exit)) q) r (applySteps p (replaySteps ps))) ⌝ }
-    ensures kept { λ r. ⌜ KeptUnlessApplied r (now («to_bindings» .entry)) (now («to_availability» .entry)) (now («to_entries» .entry)) (now («to_lengths» .entry)) (now («to_bindings» .exit)) (now («to_availability» .exit)) (now («to_entries» .exit)) (now («to_lengths» .exit)) ⌝ }
+    ensures kept { λ r. ⌜ TablesKeptUnlessApplied r (now («to_bindings» .entry)) (now («to_availability» .entry)) (now («to_entries» .entry)) (now («to_lengths» .entry)) (now («to_bindings» .exit)) (now («to_availability» .exit)) (now («to_entries» .exit)) (now («to_lengths» .exit)) ⌝ }
 {
     let mut bindings = [0u8; panel_plan::BINDING_BYTES];
     let mut availability = [0u8; LocalProjectionState::AVAILABILITY_BYTES];
@@ -260,9 +260,9 @@ pub fn apply_set<'a>(
     used: ProjectionCounts,
 ) -> SetChange
     ensures changed { λ r. ⌜ ((p : Projection) (ps : List Patch) → StoredTables counts (now («from_bindings» .entry)) (now («from_availability» .entry)) (now («from_entries» .entry)) p
-        → readSet (editionOf edition) (now (set .entry)) ≡ patches ps → Ready used (now («to_bindings» .entry)) (now («to_availability» .entry)) (now («to_entries» .entry)) (now («to_lengths» .entry))
+        → readSet (editionOf edition) (now (set .entry)) ≡ patches ps → ReadyTables used (now («to_bindings» .entry)) (now («to_availability» .entry)) (now («to_entries» .entry)) (now («to_lengths» .entry))
         → ChangeBecame (λ n q. StoredAfter n (now («to_bindings» .exit)) (now («to_availability» .exit)) (now («to_entries» .exit)) (now («to_lengths» .exit)) q) r (applySteps p (replaySteps ps))) ⌝ }
-    ensures kept { λ r. ⌜ KeptUnlessApplied r (now («to_bindings» .entry)) (now («to_availability» .entry)) (now («to_entries» .entry)) (now («to_lengths» .entry)) (now («to_bindings» .exit)) (now («to_availability» .exit)) (now («to_entries» .exit)) (now («to_lengths» .exit)) ⌝ }
+    ensures kept { λ r. ⌜ TablesKeptUnlessApplied r (now («to_bindings» .entry)) (now («to_availability» .entry)) (now («to_entries» .entry)) (now («to_lengths» .entry)) (now («to_bindings» .exit)) (now («to_availability» .exit)) (now («to_entries» .exit)) (now («to_lengths» .exit)) ⌝ }
 {
     if to_lengths.len() != LocalProjectionState::LENGTH_BYTES {
         return SetChange::BadTables;

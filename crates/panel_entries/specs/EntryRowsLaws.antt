@@ -12,23 +12,23 @@ use Rattle.spec_patch.specs.Encode.{u64}
 use Rattle.spec_projection.specs.Projection.{Entry}
 use Rattle.spec_projection.specs.Entries.{isEntry, isLater}
 use Rattle.spec_projection.specs.Valid.{Behind, Grouped, FitsEntry}
-use Rattle.bytes_records.specs.Search.{firstNumber, secondNumber, isAbove, isPair, Rising}
+use Rattle.bytes_records.specs.Search.{firstRowNumber, secondNumber, isAbove, isPair, Rising}
 use Rattle.panel_rows.specs.Rows.{padded, entryRow}
 use Rattle.panel_plan.specs.PlanRows.{sourceNumber, plannedEntryRow}
-use Rattle.panel_entries.specs.EntryRows.{Keyed}
+use Rattle.panel_entries.specs.EntryRows.{KeyedRow}
 
-pub stored-keyed : Keyed entryRow
+pub stored-keyed : KeyedRow entryRow
 unfolding entryRow
 stored-keyed = record { behind = λ e. u64 (e .mark) ++ padded (e .value); is = λ e. refl }
 
-pub planned-keyed : Keyed plannedEntryRow
+pub planned-keyed : KeyedRow plannedEntryRow
 unfolding plannedEntryRow
 planned-keyed = record { behind = λ e. u64 (e .mark) ++ u64 (sourceNumber (e .value)); is = λ e. refl }
 
-module _ {row : Entry → List ℕ} (keyed : Keyed row) where
+module _ {row : Entry → List ℕ} (keyed : KeyedRow row) where
   -- the numbers that a row begins with
   module _ (e : Entry) (h : FitsEntry e) where
-    entry-collection : firstNumber (row e) ≡ e .collection
+    entry-collection : firstRowNumber (row e) ≡ e .collection
     entry-collection = rw (keyed .is e, take-at _ _ _ (length-littleEndian 8 (e .collection)), numberOf-littleEndian 8 (e .collection) (h .collection))
 
     entry-key : secondNumber (row e) ≡ e .key
@@ -43,7 +43,7 @@ module _ {row : Entry → List ℕ} (keyed : Keyed row) where
   entry-above c e h = ap (λ x. ltb c x) (entry-collection e h)
 
   -- rows of grouped entries rise by their collections
-  behind-rows : (x : Entry) → FitsEntry x → (es : List Entry) → All FitsEntry es → All (Behind x) es → All (λ later. firstNumber (row x) ≤ firstNumber later) (map row es)
+  behind-rows : (x : Entry) → FitsEntry x → (es : List Entry) → All FitsEntry es → All (Behind x) es → All (λ later. firstRowNumber (row x) ≤ firstRowNumber later) (map row es)
   behind-rows x h [] fit behind = tt
   behind-rows x h (e ∷ es) fit behind =
       (omega (arith, entry-collection x h, entry-collection e (fit .0), behind .0 .collection), behind-rows x h es (fit .1) (behind .1))

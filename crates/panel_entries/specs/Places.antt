@@ -8,14 +8,14 @@ use Rattle.spec_lists.specs.Lists.{if_then_else_}
 use Rattle.spec_projection.specs.Projection.{Entry}
 use Rattle.spec_projection.specs.Entries.{isEntry, isLater}
 use Rattle.bytes_records.specs.Positions.{firstIndex}
-use Rattle.bytes_records.specs.Search.{findFirst}
+use Rattle.bytes_records.specs.Search.{findFirstRow}
 use Rattle.bytes_records.specs.declared.Found.{Found}
 use Rattle.bytes_records.specs.declared.Found.the-variants.{At, Absent}
 
 -- before the neighbour, if it is there; or before the first entry of a later collection
 unfoldable pub placeBefore : ℕ → Option ℕ → List Entry → Found
 placeBefore c none es = At (firstIndex (isLater c) es)
-placeBefore c (some k) es = findFirst (isEntry c k) es
+placeBefore c (some k) es = findFirstRow (isEntry c k) es
 
 -- one of n, or behind them
 unfoldable pub PositionWithin : ℕ → Found → Type 0

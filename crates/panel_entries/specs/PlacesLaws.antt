@@ -21,7 +21,7 @@ use Rattle.spec_projection.specs.Valid.{Grouped}
 use Rattle.spec_projection.specs.Apply.{keyRule, projectionFull, done, stopped, withEntries, applyInsert, applyUpdate, applyRemove, applyMove}
 use Rattle.bytes_records.specs.Positions.{insertAt, removeAt, replaceAt, firstIndex}
 use Rattle.bytes_records.specs.PositionsLaws.{insert-first, remove-first, replace-first, any-lt}
-use Rattle.bytes_records.specs.Search.{findFirst}
+use Rattle.bytes_records.specs.Search.{findFirstRow}
 use Rattle.bytes_records.specs.SearchLaws.{find-at, find-absent, find-stopped}
 use Rattle.bytes_records.specs.declared.Found.the-variants.{At, Absent}
 use Rattle.panel_plan.specs.PlanRows.{plannedEntryRow}
@@ -45,23 +45,23 @@ module _ {A : Type 0} (test : A → Bool) where
 -- ---- update and remove
 
 module _ (p : Projection) where
-  pub update-found : (e : Entry) (i : ℕ) → findFirst (isEntry (e .collection) (e .key)) (p .entries) ≡ At i → applyUpdate p e ≡ done (withEntries p (replaceAt i e (p .entries)))
+  pub update-found : (e : Entry) (i : ℕ) → findFirstRow (isEntry (e .collection) (e .key)) (p .entries) ≡ At i → applyUpdate p e ≡ done (withEntries p (replaceAt i e (p .entries)))
   unfolding applyUpdate contains replaceEntry
   update-found e i h =
       let f = find-at (isEntry (e .collection) (e .key)) (p .entries) i h in
       rw (f .2, f .0) (ap (λ es. done (withEntries p es)) (replace-at-first (isEntry (e .collection) (e .key)) e (p .entries) (f .2)))
 
-  pub update-absent : (e : Entry) → findFirst (isEntry (e .collection) (e .key)) (p .entries) ≡ Absent → applyUpdate p e ≡ stopped keyRule
+  pub update-absent : (e : Entry) → findFirstRow (isEntry (e .collection) (e .key)) (p .entries) ≡ Absent → applyUpdate p e ≡ stopped keyRule
   unfolding applyUpdate contains
   update-absent e h = rw (find-absent (isEntry (e .collection) (e .key)) (p .entries) h)
 
-  pub remove-found : (c k i : ℕ) → findFirst (isEntry c k) (p .entries) ≡ At i → applyRemove p c k ≡ done (withEntries p (removeAt i (p .entries)))
+  pub remove-found : (c k i : ℕ) → findFirstRow (isEntry c k) (p .entries) ≡ At i → applyRemove p c k ≡ done (withEntries p (removeAt i (p .entries)))
   unfolding applyRemove contains removeEntry
   remove-found c k i h =
       let f = find-at (isEntry c k) (p .entries) i h in
       rw (f .2, f .0) (ap (λ es. done (withEntries p es)) (remove-at-first (isEntry c k) (p .entries)))
 
-  pub remove-absent : (c k : ℕ) → findFirst (isEntry c k) (p .entries) ≡ Absent → applyRemove p c k ≡ stopped keyRule
+  pub remove-absent : (c k : ℕ) → findFirstRow (isEntry c k) (p .entries) ≡ Absent → applyRemove p c k ≡ stopped keyRule
   unfolding applyRemove contains
   remove-absent c k h = rw (find-absent (isEntry c k) (p .entries) h)
 
@@ -84,11 +84,11 @@ neighbour-absent c none es h = let z : _≡_ {A = ℕ} 0 1 = cc in absurd (omega
 neighbour-absent c (some k) es h = find-absent (isEntry c k) es h
 
 module _ (p : Projection) (before : Option ℕ) (e : Entry) where
-  pub insert-present : (i : ℕ) → findFirst (isEntry (e .collection) (e .key)) (p .entries) ≡ At i → applyInsert p before e ≡ stopped keyRule
+  pub insert-present : (i : ℕ) → findFirstRow (isEntry (e .collection) (e .key)) (p .entries) ≡ At i → applyInsert p before e ≡ stopped keyRule
   unfolding applyInsert contains
   insert-present i h = rw (find-at (isEntry (e .collection) (e .key)) (p .entries) i h .2)
 
-  module _ (absent : findFirst (isEntry (e .collection) (e .key)) (p .entries) ≡ Absent) where
+  module _ (absent : findFirstRow (isEntry (e .collection) (e .key)) (p .entries) ≡ Absent) where
     pub insert-no-neighbour : placeBefore (e .collection) before (p .entries) ≡ Absent → applyInsert p before e ≡ stopped keyRule
     unfolding applyInsert contains
     insert-no-neighbour h = rw (find-absent (isEntry (e .collection) (e .key)) (p .entries) absent, neighbour-absent (e .collection) before (p .entries) h)
@@ -144,7 +144,7 @@ module _ {A : Type 0} (test : A → Bool) {B : Type 0} (f : A → B) where
       (λ e. let r = first-found l (rw e at h) in
       rw e (record { element = r .element; passes = r .passes; found = rw e (r .found); at = r .at; image = r .image; below = omega (arith, r .below) }))
 
-  pub found-at : (l : List A) (i : ℕ) → findFirst test l ≡ At i → FoundAt test f l i
+  pub found-at : (l : List A) (i : ℕ) → findFirstRow test l ≡ At i → FoundAt test f l i
   found-at l i h =
       let g = find-at test l i h in
       subst (FoundAt test f l) (sym (g .0)) (first-found l (g .2))
@@ -186,11 +186,11 @@ module _ (c k : ℕ) (es : List Entry) (i : ℕ) (g : FoundAt (isEntry c k) plan
       ∙ find-absent (isEntry c b) es (rw f at h))
 
 module _ (p : Projection) (ordered : Grouped (p .entries)) (c k : ℕ) (before : Option ℕ) where
-  pub move-absent : findFirst (isEntry c k) (p .entries) ≡ Absent → applyMove p before (first.findFirst (isEntry c k) (p .entries)) ≡ stopped keyRule
+  pub move-absent : findFirstRow (isEntry c k) (p .entries) ≡ Absent → applyMove p before (first.findFirst (isEntry c k) (p .entries)) ≡ stopped keyRule
   unfolding applyMove
   move-absent h = rw (found-none (isEntry c k) (p .entries) (find-absent (isEntry c k) (p .entries) h))
 
-  module _ (i : ℕ) (there : findFirst (isEntry c k) (p .entries) ≡ At i) where
+  module _ (i : ℕ) (there : findFirstRow (isEntry c k) (p .entries) ≡ At i) where
     abbrev pub moved : FoundAt (isEntry c k) plannedEntryRow (p .entries) i
     moved = found-at (isEntry c k) plannedEntryRow (p .entries) i there
 

@@ -6,11 +6,11 @@ ghost use Rattle.spec_lists.specs.Lists.{All};
 ghost use Rattle.spec_projection.specs.Projection.{Entry};
 ghost use Rattle.spec_projection.specs.Entries.{isEntry};
 ghost use Rattle.spec_projection.specs.Valid.{FitsEntry, Grouped};
-ghost use Rattle.bytes_records.specs.Table.{Holds};
-ghost use Rattle.bytes_records.specs.Search.{findFirst, Within};
+ghost use Rattle.bytes_records.specs.Table.{HoldsRows};
+ghost use Rattle.bytes_records.specs.Search.{findFirstRow, WithinRows};
 ghost use Rattle.projection_patch.specs.Meaning.{beforeOf};
 ghost use Rattle.panel_plan.specs.PlanRows.{plannedEntryWidth, plannedEntryRow};
-ghost use Rattle.panel_entries.specs.EntryRows.{Keyed};
+ghost use Rattle.panel_entries.specs.EntryRows.{KeyedRow};
 ghost use Rattle.panel_entries.specs.Places.{placeBefore, PositionWithin, isItself, placeBeforeOther};
 use bytes_records::Found;
 use projection_patch::patch::OptionalKey;
@@ -18,16 +18,16 @@ use projection_patch::patch::OptionalKey;
 // The position of a collection's key, in rows of any width.
 pub fn find_entry(table: &[u8], width: usize, count: usize, collection: u64, key: u64) -> Found
     requires { ⌜ 16 ≤ width ⌝ }
-    ensures first { λ r. ⌜ ((row : Entry → List ℕ) → Keyed row → (es : List Entry) → All FitsEntry es → Grouped es → Holds width count (now (table .entry)) (map row es)
-        → r ≡ findFirst (isEntry collection key) es) ⌝ }
-    ensures within { λ r. ⌜ Within count r ⌝ }
+    ensures first { λ r. ⌜ ((row : Entry → List ℕ) → KeyedRow row → (es : List Entry) → All FitsEntry es → Grouped es → HoldsRows width count (now (table .entry)) (map row es)
+        → r ≡ findFirstRow (isEntry collection key) es) ⌝ }
+    ensures within { λ r. ⌜ WithinRows count r ⌝ }
 {
     bytes_records::find_pair(table, width, count, collection, key)
 }
 
 // Where an entry goes: before its neighbour, or last of its collection.
 pub fn place_before(table: &[u8], count: usize, collection: u64, before: OptionalKey) -> Found
-    ensures first { λ r. ⌜ ((es : List Entry) → All FitsEntry es → Grouped es → Holds plannedEntryWidth count (now (table .entry)) (map plannedEntryRow es)
+    ensures first { λ r. ⌜ ((es : List Entry) → All FitsEntry es → Grouped es → HoldsRows plannedEntryWidth count (now (table .entry)) (map plannedEntryRow es)
         → r ≡ placeBefore collection (beforeOf before) es) ⌝ }
     ensures within { λ r. ⌜ PositionWithin count r ⌝ }
 {
@@ -61,7 +61,7 @@ pub fn place_before_other(
     key: u64,
     before: OptionalKey,
 ) -> Found
-    ensures first { λ r. ⌜ ((es : List Entry) → All FitsEntry es → Grouped es → Holds plannedEntryWidth count (now (table .entry)) (map plannedEntryRow es)
+    ensures first { λ r. ⌜ ((es : List Entry) → All FitsEntry es → Grouped es → HoldsRows plannedEntryWidth count (now (table .entry)) (map plannedEntryRow es)
         → r ≡ placeBeforeOther collection key (beforeOf before) es) ⌝ }
     ensures within { λ r. ⌜ PositionWithin count r ⌝ }
 {

@@ -11,11 +11,11 @@ ghost use Rattle.spec_projection.specs.Entries.{isEntry};
 ghost use Rattle.spec_projection.specs.Apply.{applyInsert, applyUpdate, applyRemove, applyMove};
 ghost use Rattle.spec_projection.specs.Valid.{Valid};
 ghost use Rattle.bytes_records.specs.Positions.{insertAt, removeAt};
-ghost use Rattle.bytes_records.specs.Table.{Holds};
+ghost use Rattle.bytes_records.specs.Table.{HoldsRows};
 ghost use Rattle.spec_patch.specs.Patch.{unsigned};
 ghost use Rattle.projection_patch.specs.Meaning.{beforeOf};
 ghost use Rattle.panel_plan.specs.PlanRows.{plannedEntryWidth, PlannedEntries};
-ghost use Rattle.panel_bindings.specs.Change.{Became, Kept};
+ghost use Rattle.panel_bindings.specs.Change.{Became, KeptTable};
 ghost use Rattle.panel_entries.specs.Places.{withoutAt};
 use bytes_records::Found;
 use panel_bindings::LocalProjectionApplicationError;
@@ -34,7 +34,7 @@ pub fn update_entry(
     ensures made { λ r. ⌜ ((p : Projection) → PlannedEntries count (now (table .entry)) (p .entries) → Valid p
         → Became (λ n q. PlannedEntries n (now (table .exit)) (q .entries)) r
         (applyUpdate p (record { collection = collection; key = key; mark = mark; value = unsigned source }))) ⌝ }
-    ensures kept { λ r. ⌜ Kept r (now (table .entry)) (now (table .exit)) ⌝ }
+    ensures kept { λ r. ⌜ KeptTable r (now (table .entry)) (now (table .exit)) ⌝ }
 {
     match find::find_entry(table, panel_plan::ENTRY_WIDTH, count, collection, key) {
         Found::At(at) => {
@@ -50,7 +50,7 @@ pub fn update_entry(
 pub fn remove_entry(table: &mut [u8], count: usize, collection: u64, key: u64) -> TableChange
     ensures made { λ r. ⌜ ((p : Projection) → PlannedEntries count (now (table .entry)) (p .entries) → Valid p
         → Became (λ n q. PlannedEntries n (now (table .exit)) (q .entries)) r (applyRemove p collection key)) ⌝ }
-    ensures kept { λ r. ⌜ Kept r (now (table .entry)) (now (table .exit)) ⌝ }
+    ensures kept { λ r. ⌜ KeptTable r (now (table .entry)) (now (table .exit)) ⌝ }
 {
     match find::find_entry(table, panel_plan::ENTRY_WIDTH, count, collection, key) {
         Found::At(at) => {
@@ -74,7 +74,7 @@ pub fn insert_entry(
     ensures made { λ r. ⌜ ((p : Projection) → PlannedEntries count (now (table .entry)) (p .entries) → Valid p
         → Became (λ n q. PlannedEntries n (now (table .exit)) (q .entries)) r
         (applyInsert p (beforeOf before) (record { collection = collection; key = key; mark = mark; value = unsigned source }))) ⌝ }
-    ensures kept { λ r. ⌜ Kept r (now (table .entry)) (now (table .exit)) ⌝ }
+    ensures kept { λ r. ⌜ KeptTable r (now (table .entry)) (now (table .exit)) ⌝ }
 {
     if let Found::At(_) = find::find_entry(table, panel_plan::ENTRY_WIDTH, count, collection, key) {
         return TableChange::Refused(LocalProjectionApplicationError::KeyRule);
@@ -94,8 +94,8 @@ pub fn insert_entry(
 // Takes the row at position from out, and inserts it before the one at position to.
 fn move_row(table: &mut [u8], count: usize, from: usize, to: usize)
     requires { ⌜ (from < count) × (to ≤ count) ⌝ }
-    ensures { λ _. ⌜ ((rows : List (List ℕ)) → Holds plannedEntryWidth count (now (table .entry)) rows
-        → Holds plannedEntryWidth count (now (table .exit)) (insertAt (withoutAt from to) (getD rows from []) (removeAt from rows))) ⌝ }
+    ensures { λ _. ⌜ ((rows : List (List ℕ)) → HoldsRows plannedEntryWidth count (now (table .entry)) rows
+        → HoldsRows plannedEntryWidth count (now (table .exit)) (insertAt (withoutAt from to) (getD rows from []) (removeAt from rows))) ⌝ }
 {
     let width = panel_plan::ENTRY_WIDTH;
     let mut row = [0u8; panel_plan::ENTRY_WIDTH];
@@ -121,7 +121,7 @@ pub fn move_entry(
     ensures made { λ r. ⌜ ((p : Projection) → PlannedEntries count (now (table .entry)) (p .entries) → Valid p
         → Became (λ n q. PlannedEntries n (now (table .exit)) (q .entries)) r
         (applyMove p (beforeOf before) (findFirst (isEntry collection key) (p .entries)))) ⌝ }
-    ensures kept { λ r. ⌜ Kept r (now (table .entry)) (now (table .exit)) ⌝ }
+    ensures kept { λ r. ⌜ KeptTable r (now (table .entry)) (now (table .exit)) ⌝ }
 {
     match find::find_entry(table, panel_plan::ENTRY_WIDTH, count, collection, key) {
         Found::At(from) => match find::place_before_other(table, count, collection, key, before) {

@@ -11,7 +11,7 @@ use Rattle.spec_patch.specs.Sizes.{projectionEntries}
 use Rattle.spec_lengths.specs.Lengths.{CollectionLength, lengthRecord}
 use Rattle.bytes_records.specs.Moves.{zeros}
 use Rattle.bytes_records.specs.Positions.{insertAt}
-use Rattle.bytes_records.specs.Table.{Wide, Holds, canInsert, Changed}
+use Rattle.bytes_records.specs.Table.{Wide, HoldsRows, canInsert, Changed}
 use Rattle.bytes_records.specs.TableLaws.{holds-none, can-insert}
 use Rattle.panel_rows.specs.Rows.{idWidth, lengthWidth, lengthBytes, lengthRow, fieldAt}
 use Rattle.local_projection_state.specs.Stores.{Stored, StoredLengths}
@@ -25,7 +25,7 @@ pub record RunsWritten (plan : List ℕ) (count rows i : ℕ) (to : List ℕ) : 
   pub few : rows ≤ i
   pub within : i ≤ count
   pub size : length to ≡ lengthBytes
-  pub table : Holds lengthWidth rows to (map lengthRow written)
+  pub table : HoldsRows lengthWidth rows to (map lengthRow written)
   pub all : written ++ runs (collectionsFrom i (count - i) plan) ≡ runs (collectionsFrom 0 count plan)
 
 module _ (plan : List ℕ) (count : ℕ) where
@@ -37,7 +37,7 @@ module _ (plan : List ℕ) (count : ℕ) where
         few = omega arith;
         within = omega arith;
         size = size;
-        table = subst (λ (t : List ℕ). Holds lengthWidth 0 t []) (sym e) (holds-none lengthWidth n);
+        table = subst (λ (t : List ℕ). HoldsRows lengthWidth 0 t []) (sym e) (holds-none lengthWidth n);
         all = ap (λ (n : ℕ). runs (collectionsFrom 0 n plan)) all;
       }
 
@@ -66,7 +66,7 @@ module _ (plan : List ℕ) (count : ℕ) where
             few = omega (arith, w .few, run-within plan count i below end is .0);
             within = run-within plan count i below end is .1;
             size = same ∙ w .size;
-            table = subst (Holds lengthWidth (rows + 1) exit) (inserted-last row ∙ ap (λ (r : List ℕ). map lengthRow (w .written) ++ r ∷ []) e ∙ sym (map-append lengthRow (w .written) (length-of ∷ []))) made;
+            table = subst (HoldsRows lengthWidth (rows + 1) exit) (inserted-last row ∙ ap (λ (r : List ℕ). map lengthRow (w .written) ++ r ∷ []) e ∙ sym (map-append lengthRow (w .written) (length-of ∷ []))) made;
             all = append-assoc (w .written) (length-of ∷ []) (runs (collectionsFrom end (count - end) plan)) ∙ ap (λ (l : List CollectionLength). w .written ++ l) (sym (next-run plan count i below end is)) ∙ w .all;
           }
 
@@ -76,4 +76,4 @@ module _ (plan : List ℕ) (count : ℕ) where
         let none : count - i ≡ 0 = omega arith in
         let is : w .written ≡ runs (collectionsFrom 0 count plan) = sym (append-nil (w .written)) ∙ ap (λ (n : ℕ). w .written ++ runs (collectionsFrom i n plan)) (sym none) ∙ w .all in
         let many : rows ≡ length (w .written) = sym (w .table .counted) ∙ length-map (w .written) lengthRow in
-        subst (StoredLengths to) is (record { size = w .size; rows = subst (λ (n : ℕ). Holds lengthWidth n to (map lengthRow (w .written))) many (w .table) })
+        subst (StoredLengths to) is (record { size = w .size; rows = subst (λ (n : ℕ). HoldsRows lengthWidth n to (map lengthRow (w .written))) many (w .table) })

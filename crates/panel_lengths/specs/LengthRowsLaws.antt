@@ -10,7 +10,7 @@ use borrow.Author.Tests.{ltb-true, ltb-false}
 use lib.Dec.{ltb}
 use lib.ListN.{length, take, drop, getD, length-append, length-map, drop-of-length-le}
 use lib.Seq.{drop-cons, drop-at, drop-drop, take-at}
-use Rattle.spec_lists.specs.Lists.{All}
+use Rattle.spec_lists.specs.Lists.{All, orZero}
 use Rattle.spec_lists.specs.Bytes.{numberOf}
 use Rattle.spec_lists.specs.ListLaws.{all-member, getD-member, test-cases}
 use Rattle.spec_lists.specs.Order.{lookup}
@@ -20,7 +20,7 @@ use Rattle.spec_patch.specs.Patch.{unsigned}
 use Rattle.spec_patch.specs.Encode.{u64}
 use Rattle.spec_projection.specs.Projection.{Entry}
 use Rattle.spec_projection.specs.Valid.{FitsEntry}
-use Rattle.spec_lengths.specs.Lengths.{CollectionLength, FitsLength, lengthOf, lengthFound, orZero}
+use Rattle.spec_lengths.specs.Lengths.{CollectionLength, FitsLength, lengthOf, lengthFound}
 use Rattle.spec_lengths.specs.LengthsLaws.{found-here, found-past}
 use Rattle.bytes_records.specs.Moves.{zeros}
 use Rattle.bytes_records.specs.MovesLaws.{length-zeros, drop-zeros}

@@ -11,7 +11,7 @@ use borrow.Author.Tests.{eqb-true, eqb-false, eq-eqb, ne-eqb}
 use lib.Dec.{eqb}
 use lib.ListN.{length, take, drop, getD}
 use lib.Seq.{drop-cons}
-use Rattle.spec_lists.specs.Lists.{All}
+use Rattle.spec_lists.specs.Lists.{All, orZero}
 use Rattle.spec_lists.specs.ListLaws.{all-map, test-cases}
 use Rattle.spec_lists.specs.Order.{lexLess, lookup, Ascending}
 use Rattle.spec_lists.specs.OrderLaws.{lexLess-less, above, alike}
@@ -20,7 +20,7 @@ use Rattle.spec_projection.specs.Projection.{Entry}
 use Rattle.spec_projection.specs.Lookups.{entriesIn}
 use Rattle.spec_projection.specs.Valid.{Behind, Grouped}
 use Rattle.spec_projection.specs.CollectionLaws.{entriesIn-own, entriesIn-other}
-use Rattle.spec_lengths.specs.Lengths.{CollectionLength, lengthRecord, lengthKey, lengthsIn, lengthFound, orZero, lengthOf}
+use Rattle.spec_lengths.specs.Lengths.{CollectionLength, lengthRecord, lengthKey, lengthsIn, lengthFound, lengthOf}
 use Rattle.spec_lengths.specs.LengthsLaws.{nonZero, or-zero, found-here, found-past, lengths-found, lengths-ascend, lengths-determined}
 use Rattle.panel_rows.specs.Rows.{idWidth, fieldAt}
 use Rattle.panel_plan.specs.PlanRows.{plannedEntryWidth}

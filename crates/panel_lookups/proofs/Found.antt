@@ -13,7 +13,7 @@ use Rattle.spec_projection.specs.Entries.{isEntry}
 use Rattle.spec_projection.specs.Lookups.{bindingOf, bindingMark, availabilityOf, availabilityMark, entryOf, entryMark}
 use Rattle.spec_projection.specs.Valid.{FitsBinding, FitsNodeAvailability, FitsEntry, Valid}
 use Rattle.bytes_records.specs.Keys.{leadingNumbers}
-use Rattle.bytes_records.specs.Search.{placeOf, findFirst}
+use Rattle.bytes_records.specs.Search.{placeOf, findFirstRow}
 use Rattle.bytes_records.specs.SearchLaws.{place-map, find-absent}
 use Rattle.bytes_records.specs.declared.Place.{Place}
 use Rattle.bytes_records.specs.declared.Place.the-variants.{Taken, Before}
@@ -80,7 +80,7 @@ module _ (p : Projection) (v : Valid p) where
 
   -- ---- entries
 
-  module _ (c k : ℕ) (place : Found) (told : place ≡ findFirst (isEntry c k) (p .entries)) where
+  module _ (c k : ℕ) (place : Found) (told : place ≡ findFirstRow (isEntry c k) (p .entries)) where
     abbrev entryAnswer : Option Entry → ValueLookup
     entryAnswer o = valueLookup (Option·map (λ (x : Entry). x .mark) o) (Option·map (λ (x : Entry). x .value) o)
 

@@ -10,7 +10,7 @@ ghost use Rattle.spec_patch.specs.Sizes.{projectionEntries};
 ghost use Rattle.spec_projection.specs.Projection.{Entry, Projection};
 ghost use Rattle.spec_projection.specs.Lookups.{keyedValue, entryAt, entryCount};
 ghost use Rattle.spec_projection.specs.Valid.{FitsEntry, Valid};
-ghost use Rattle.bytes_records.specs.Table.{Holds};
+ghost use Rattle.bytes_records.specs.Table.{HoldsRows};
 ghost use Rattle.panel_rows.specs.Rows.{entryWidth, entryRow};
 ghost use Rattle.local_projection_state.specs.Stores.{Stored};
 ghost use Rattle.panel_lookups.specs.Nth.{countsFor, Nth, entryLookup};
@@ -27,7 +27,7 @@ pub struct EntryLookup {
 
 // 1 where the row at a position is of the collection, else 0.
 fn counts_for(table: &[u8], count: usize, at: usize, collection: u64) -> usize
-    ensures counted { λ r. ⌜ ((es : List Entry) (d : Entry) → All FitsEntry es → Holds entryWidth count (now (table .entry)) (map entryRow es) → at < count
+    ensures counted { λ r. ⌜ ((es : List Entry) (d : Entry) → All FitsEntry es → HoldsRows entryWidth count (now (table .entry)) (map entryRow es) → at < count
         → r ≡ countsFor collection (getD es at d)) ⌝ }
     ensures within { λ r. ⌜ r ≤ 1 ⌝ }
 {
@@ -57,7 +57,7 @@ pub fn entry_count(table: &[u8], count: usize, collection: u64) -> usize
 
 // The position of a collection's entry, by its position in the collection.
 fn find_nth(table: &[u8], count: usize, collection: u64, position: usize) -> Found
-    ensures { λ r. ⌜ ((es : List Entry) → All FitsEntry es → Holds entryWidth count (now (table .entry)) (map entryRow es)
+    ensures { λ r. ⌜ ((es : List Entry) → All FitsEntry es → HoldsRows entryWidth count (now (table .entry)) (map entryRow es)
         → Nth collection position es r) ⌝ }
 {
     if table.len() / panel_rows::ENTRY_WIDTH < count {

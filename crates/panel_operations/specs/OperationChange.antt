@@ -14,7 +14,7 @@ use Rattle.local_projection_state.specs.Stores.{Stored}
 use Rattle.local_projection_state.specs.declared.ProjectionCounts.{ProjectionCounts}
 use Rattle.panel_plan.specs.Plan.{withSource}
 use Rattle.panel_plan.specs.PlanRows.{PlannedBindings, PlannedEntries}
-use Rattle.panel_bindings.specs.Change.{faultOf, Became, Kept}
+use Rattle.panel_bindings.specs.Change.{applicationFaultOf, Became, KeptTable}
 use Rattle.panel_bindings.specs.declared.TableChange.{TableChange}
 use Rattle.panel_bindings.specs.declared.TableChange.the-variants as table
 use Rattle.panel_operations.specs.declared.OperationChange.{OperationChange}
@@ -29,7 +29,7 @@ abbrev pub OperationBecame : (ProjectionCounts → Projection → Type 0) → Op
 OperationBecame Next (Applied m) (done q) = Next m q
 OperationBecame Next (Applied m) (stopped f) = ⊥
 OperationBecame Next (Refused e) (done q) = ⊥
-OperationBecame Next (Refused e) (stopped f) = faultOf e ≡ f
+OperationBecame Next (Refused e) (stopped f) = applicationFaultOf e ≡ f
 
 -- what holds of the tables after a refusal
 abbrev pub AfterRefusal : Type 0 → OperationChange → Type 0
@@ -38,9 +38,9 @@ AfterRefusal Same (Refused e) = Same
 
 -- ---- one table's answer, with the counts of all three
 
-abbrev pub counted : (ℕ → ProjectionCounts) → TableChange → OperationChange
-counted put (table.Applied k) = Applied (put k)
-counted put (table.Refused e) = Refused e
+abbrev pub countedChange : (ℕ → ProjectionCounts) → TableChange → OperationChange
+countedChange put (table.Applied k) = Applied (put k)
+countedChange put (table.Refused e) = Refused e
 
 abbrev pub bindingsNow : ProjectionCounts → ℕ → ProjectionCounts
 bindingsNow n k = record { bindings = k; availabilities = n .availabilities; entries = n .entries }
@@ -55,9 +55,9 @@ entriesNow n k = record { bindings = n .bindings; availabilities = n .availabili
 pub record TableChanged {A : Type 0} (Table : ℕ → List ℕ → List A → Type 0) (list : Projection → List A) (n : ℕ) (put : ℕ → ProjectionCounts)
     (entry exit : List ℕ) (apply : Projection → Outcome) (r : OperationChange) : Type 0 where
   pub change : TableChange
-  pub told : r ≡ counted put change
+  pub told : r ≡ countedChange put change
   pub made : (p : Projection) → Table n entry (list p) → Valid p → Became (λ k q. Table k exit (list q)) change (apply p)
-  pub kept : Kept change entry exit
+  pub kept : KeptTable change entry exit
 
 abbrev pub BindingsChanged : ProjectionCounts → List ℕ → List ℕ → (Projection → Outcome) → OperationChange → Type 0
 BindingsChanged n = TableChanged PlannedBindings (λ (p : Projection). p .bindings) (n .bindings) (bindingsNow n)

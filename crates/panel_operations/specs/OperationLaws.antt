@@ -20,10 +20,10 @@ use Rattle.local_projection_state.specs.Stores.{Stored}
 use Rattle.local_projection_state.specs.declared.ProjectionCounts.{ProjectionCounts}
 use Rattle.panel_plan.specs.Plan.{withSource}
 use Rattle.panel_plan.specs.PlanRows.{PlannedBindings, PlannedEntries, StoredPlan}
-use Rattle.panel_bindings.specs.Change.{Became, Kept}
+use Rattle.panel_bindings.specs.Change.{Became, KeptTable}
 use Rattle.panel_bindings.specs.declared.TableChange.{TableChange}
 use Rattle.panel_bindings.specs.declared.TableChange.the-variants as table
-use Rattle.panel_operations.specs.OperationChange.{plannedOperation, OperationBecame, AfterRefusal, counted, TableChanged, BindingsChanged, AvailabilitiesChanged, EntriesChanged}
+use Rattle.panel_operations.specs.OperationChange.{plannedOperation, OperationBecame, AfterRefusal, countedChange, TableChanged, BindingsChanged, AvailabilitiesChanged, EntriesChanged}
 use Rattle.panel_operations.specs.declared.OperationChange.{OperationChange}
 
 -- the value is not looked at, nor its text
@@ -40,13 +40,13 @@ planned-is texts source (CollectionMove c k b) = refl
 
 module _ (put : ℕ → ProjectionCounts) where
   counted-became : (Now : ℕ → Projection → Type 0) (Next : ProjectionCounts → Projection → Type 0) (t : TableChange) (x : Outcome)
-      → ((k : ℕ) (q : Projection) → x ≡ done q → Now k q → Next (put k) q) → Became Now t x → OperationBecame Next (counted put t) x
+      → ((k : ℕ) (q : Projection) → x ≡ done q → Now k q → Next (put k) q) → Became Now t x → OperationBecame Next (countedChange put t) x
   counted-became Now Next (table.Applied k) (done q) next h = next k q refl h
   counted-became Now Next (table.Applied k) (stopped f) next h = absurd h
   counted-became Now Next (table.Refused e) (done q) next h = absurd h
   counted-became Now Next (table.Refused e) (stopped f) next h = h
 
-  counted-kept : {entry exit : List ℕ} (Same : Type 0) → (exit ≡ entry → Same) → (t : TableChange) → Kept t entry exit → AfterRefusal Same (counted put t)
+  counted-kept : {entry exit : List ℕ} (Same : Type 0) → (exit ≡ entry → Same) → (t : TableChange) → KeptTable t entry exit → AfterRefusal Same (countedChange put t)
   counted-kept Same same (table.Applied k) h = tt
   counted-kept Same same (table.Refused e) h = same h
 

@@ -8,9 +8,9 @@ ghost use Rattle.spec_projection.specs.Projection.{Projection};
 ghost use Rattle.spec_projection.specs.FirstMatch.{findFirst};
 ghost use Rattle.spec_projection.specs.Entries.{isEntry};
 ghost use Rattle.spec_projection.specs.Apply.{applyBinding, applyAvailability, applyInsert, applyUpdate, applyRemove, applyMove, applyOperation};
-ghost use Rattle.projection_patch.specs.Meaning.{availabilityOf, beforeOf};
+ghost use Rattle.projection_patch.specs.Meaning.{availabilityValueOf, beforeOf};
 ghost use Rattle.panel_plan.specs.PlanRows.{StoredPlan};
-ghost use Rattle.panel_operations.specs.OperationChange.{plannedOperation, OperationBecame, AfterRefusal, counted, bindingsNow, availabilitiesNow, entriesNow, BindingsChanged, AvailabilitiesChanged, EntriesChanged};
+ghost use Rattle.panel_operations.specs.OperationChange.{plannedOperation, OperationBecame, AfterRefusal, countedChange, bindingsNow, availabilitiesNow, entriesNow, BindingsChanged, AvailabilitiesChanged, EntriesChanged};
 use local_projection_state::ProjectionCounts;
 use panel_bindings::LocalProjectionApplicationError;
 use panel_bindings::TableChange;
@@ -29,7 +29,7 @@ pub enum OperationChange {
 
 // The counts with what one table answers.
 fn bindings_counted(counts: ProjectionCounts, change: TableChange) -> OperationChange
-    ensures { λ r. ⌜ r ≡ counted (bindingsNow counts) change ⌝ }
+    ensures { λ r. ⌜ r ≡ countedChange (bindingsNow counts) change ⌝ }
 {
     match change {
         TableChange::Applied(n) => OperationChange::Applied(ProjectionCounts {
@@ -42,7 +42,7 @@ fn bindings_counted(counts: ProjectionCounts, change: TableChange) -> OperationC
 }
 
 fn availabilities_counted(counts: ProjectionCounts, change: TableChange) -> OperationChange
-    ensures { λ r. ⌜ r ≡ counted (availabilitiesNow counts) change ⌝ }
+    ensures { λ r. ⌜ r ≡ countedChange (availabilitiesNow counts) change ⌝ }
 {
     match change {
         TableChange::Applied(n) => OperationChange::Applied(ProjectionCounts {
@@ -55,7 +55,7 @@ fn availabilities_counted(counts: ProjectionCounts, change: TableChange) -> Oper
 }
 
 fn entries_counted(counts: ProjectionCounts, change: TableChange) -> OperationChange
-    ensures { λ r. ⌜ r ≡ counted (entriesNow counts) change ⌝ }
+    ensures { λ r. ⌜ r ≡ countedChange (entriesNow counts) change ⌝ }
 {
     match change {
         TableChange::Applied(n) => OperationChange::Applied(ProjectionCounts {
@@ -92,7 +92,7 @@ fn set_availability(
     availability: ProjectionNodeAvailability,
 ) -> OperationChange
     ensures { λ r. ⌜ AvailabilitiesChanged counts (now (table .entry)) (now (table .exit))
-        (λ p. applyAvailability p (record { node = node .0; mark = patch; availability = availabilityOf availability })) r ⌝ }
+        (λ p. applyAvailability p (record { node = node .0; mark = patch; availability = availabilityValueOf availability })) r ⌝ }
 {
     let n = counts.availabilities;
     let change = panel_bindings::set_node_availability(table, n, node.raw(), patch, availability);

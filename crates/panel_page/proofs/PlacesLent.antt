@@ -7,10 +7,10 @@ use native.Mathlib.Omega.{arith}
 use borrow.Rule.Slice.PartMut.{midOf, putMid}
 use lib.ListN.{length, take, drop, getD, length-append, length-map, length-replicate, drop-of-length-le}
 use lib.Seq.{take-suc, drop-cons, take-all, take-at, drop-at, getD-at, append-snoc, length-take-le}
-use Rattle.bytes_records.specs.Moves.{overwrite}
+use Rattle.bytes_records.specs.Moves.{overwriteRows}
 use Rattle.bytes_records.specs.Positions.{replaceAt}
 use Rattle.bytes_records.specs.PositionsLaws.{map-replaceAt}
-use Rattle.bytes_records.specs.Table.{Holds}
+use Rattle.bytes_records.specs.Table.{HoldsRows}
 use Rattle.bytes_records.specs.TableLaws.{row-width}
 use Rattle.bytes_records.proofs.Changes.{row-is, replaced}
 use Rattle.panel_rows.specs.Rows.{filledRow, writtenRow}
@@ -20,15 +20,15 @@ use Rattle.panel_page.specs.Shown.{shown, Shows}
 use Rattle.panel_page.specs.ShownLaws.{shown-itself}
 
 -- a row in place of another of its width
-over : (r old : List ℕ) → length old ≡ length r → r ≡ overwrite r old
+over : (r old : List ℕ) → length old ≡ length r → r ≡ overwriteRows r old
 over r old same =
     let all : length old ≤ length r = omega arith in
     sym (ap (λ (l : List ℕ). r ++ l) (drop-of-length-le old all) ∙ append-nil r)
 
-module _ {w n : ℕ} {l : List ℕ} (m : List (List ℕ)) (t : Holds w n l m) (i : ℕ) (below : i < n) where
+module _ {w n : ℕ} {l : List ℕ} (m : List (List ℕ)) (t : HoldsRows w n l m) (i : ℕ) (below : i < n) where
   -- a place is lent, and comes back as what f makes of it
   pub place-changed : (f : List ℕ → List ℕ) → ((row : List ℕ) → length (f row) ≡ length row) → (s : List ℕ) → s ≡ f (midOf (i * w) (i * w + w - i * w) l)
-      → Holds w n (putMid (i * w) (i * w + w - i * w) l s) (replaceAt i (f (getD m i [])) m)
+      → HoldsRows w n (putMid (i * w) (i * w + w - i * w) l s) (replaceAt i (f (getD m i [])) m)
   place-changed f keeps s e =
       let row = getD m i [] in
       let part = row-is m t i below in
@@ -64,10 +64,10 @@ module _ (f : List ℕ → List ℕ) (m : List (List ℕ)) (i : ℕ) (below : i 
 
 -- one place more
 pub changed-turn : {w n : ℕ} {l : List ℕ} (f : List ℕ → List ℕ) → ((row : List ℕ) → length (f row) ≡ length row) → (m : List (List ℕ)) (i : ℕ) → i < n → length m ≡ n
-    → Holds w n l (changedTo f i m) → (s : List ℕ) → s ≡ f (midOf (i * w) (i * w + w - i * w) l) → Holds w n (putMid (i * w) (i * w + w - i * w) l s) (changedTo f (i + 1) m)
+    → HoldsRows w n l (changedTo f i m) → (s : List ℕ) → s ≡ f (midOf (i * w) (i * w + w - i * w) l) → HoldsRows w n (putMid (i * w) (i * w + w - i * w) l s) (changedTo f (i + 1) m)
 changed-turn {w} {n} {l} f keeps m i below count t s e =
     let inside : i < length m = omega arith in
-    subst (Holds w n _) (ap (λ (row : List ℕ). replaceAt i (f row) (changedTo f i m)) (next-place f m i inside) ∙ changed-more f m i inside) (place-changed (changedTo f i m) t i below f keeps s e)
+    subst (HoldsRows w n _) (ap (λ (row : List ℕ). replaceAt i (f row) (changedTo f i m)) (next-place f m i inside) ∙ changed-more f m i inside) (place-changed (changedTo f i m) t i below f keeps s e)
 
 pub changed-all : (f : List ℕ → List ℕ) (m : List (List ℕ)) (i : ℕ) → length m ≤ i → changedTo f i m ≡ map f m
 changed-all f m i h = ap₂ (λ (a b : List (List ℕ)). map f a ++ b) (take-all i m h) (drop-of-length-le m h) ∙ append-nil (map f m)

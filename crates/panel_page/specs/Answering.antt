@@ -19,8 +19,8 @@ unfoldable pub mixed : (f g : ℕ → List ℕ) → List ℕ → ℕ → List (L
 mixed f g keys i = map f (take i keys) ++ map g (drop i keys)
 
 -- the row of an entry at a position
-abbrev pub answerOf : ℕ → Entry → List ℕ
-answerOf n e = answerRow (some (positioned n (keyedValue e)))
+abbrev pub pageAnswerOf : ℕ → Entry → List ℕ
+pageAnswerOf n e = answerRow (some (positioned n (keyedValue e)))
 
 -- the row of each key once these entries went by
 unfoldable pub answersIn : ℕ → List Entry → ℕ → List ℕ

@@ -19,9 +19,9 @@ use Rattle.spec_projection.specs.Valid.{Behind, Grouped}
 use Rattle.spec_page.specs.Page.{positioned, findFrom}
 use Rattle.bytes_records.specs.Positions.{replaceAt}
 use Rattle.panel_page.specs.PageTable.{answerRow}
-use Rattle.panel_page.specs.Index.{placeOf, lastBelow}
+use Rattle.panel_page.specs.Index.{indexPlaceOf, lastBelow}
 use Rattle.panel_page.specs.IndexLaws.{last-le, last-passes}
-use Rattle.panel_page.specs.Answering.{answering, mixed, answerOf, answersIn}
+use Rattle.panel_page.specs.Answering.{answering, mixed, pageAnswerOf, answersIn}
 
 -- ---- rows that are written from the last key to the first
 
@@ -85,10 +85,10 @@ module _ (key : ℕ) (row : List ℕ) (f : ℕ → List ℕ) (k : ℕ) where
 
 -- a chain passes over keys that are not this one
 pub chain-passed : (keys : List ℕ) (key : ℕ) (row : List ℕ) (f : ℕ → List ℕ) (n : ℕ) → n ≤ length keys
-    → mixed f (answering key row f) keys n ≡ mixed f (answering key row f) keys (lastBelow (placeOf key) keys n)
+    → mixed f (answering key row f) keys n ≡ mixed f (answering key row f) keys (lastBelow (indexPlaceOf key) keys n)
 chain-passed keys key row f n within =
-    mixed-passed f (answering key row f) keys (lastBelow (placeOf key) keys n) n (last-le (placeOf key) keys n) within
-    (λ m low high. answering-other key row f (getD keys m 0) (λ e. last-passes (placeOf key) keys n m low high (ap placeOf e)))
+    mixed-passed f (answering key row f) keys (lastBelow (indexPlaceOf key) keys n) n (last-le (indexPlaceOf key) keys n) within
+    (λ m low high. answering-other key row f (getD keys m 0) (λ e. last-passes (indexPlaceOf key) keys n m low high (ap indexPlaceOf e)))
 
 -- ---- one more entry
 
@@ -126,16 +126,16 @@ module _ (c : ℕ) (l : List Entry) (e : Entry) where
   unfolding answersIn
   answers-other h = λ i k. answerRow (findFrom 0 k (entries-other c l e h i))
 
-  pub answers-own : e .collection ≡ c → findFrom 0 (e .key) (entriesIn c l) ≡ none → answersIn c (l ++ e ∷ []) ≡ answering (e .key) (answerOf (length (entriesIn c l)) e) (answersIn c l)
+  pub answers-own : e .collection ≡ c → findFrom 0 (e .key) (entriesIn c l) ≡ none → answersIn c (l ++ e ∷ []) ≡ answering (e .key) (pageAnswerOf (length (entriesIn c l)) e) (answersIn c l)
   unfolding answersIn answering
   answers-own h absent = λ i k. point k i
     where
-      point : (k : ℕ) → answersIn c (l ++ e ∷ []) k ≡ answering (e .key) (answerOf (length (entriesIn c l)) e) (answersIn c l) k
+      point : (k : ℕ) → answersIn c (l ++ e ∷ []) k ≡ answering (e .key) (pageAnswerOf (length (entriesIn c l)) e) (answersIn c l) k
       point k = ap (λ (r : List KeyedValue). answerRow (findFrom 0 k r)) (entries-own c l e h)
           ∙ test-cases (eqb (e .key) k)
           (λ t. rw t
           (ap answerRow (found-last 0 k (entriesIn c l) (keyedValue e) t (ap (λ (j : ℕ). findFrom 0 j (entriesIn c l)) (sym (eqb-true (e .key) k t)) ∙ absent))
-          ∙ ap (λ (n : ℕ). answerOf n e) (zero-add (length (entriesIn c l)))))
+          ∙ ap (λ (n : ℕ). pageAnswerOf n e) (zero-add (length (entriesIn c l)))))
           (λ t. rw t (ap answerRow (found-beside 0 k (entriesIn c l) (keyedValue e) t)))
 
 -- ---- no key stands twice in a collection

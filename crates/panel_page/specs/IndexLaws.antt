@@ -12,30 +12,30 @@ use lib.Seq.{getD-set-same, getD-set-other}
 use Rattle.spec_lists.specs.ListLaws.{test-cases}
 use Rattle.bytes_records.specs.Moves.{zeros}
 use Rattle.bytes_records.specs.MovesLaws.{length-zeros}
-use Rattle.panel_page.specs.Index.{keyPlaces, placeOf, lastBelow, Indexed, OnChain}
+use Rattle.panel_page.specs.Index.{keyPlaces, indexPlaceOf, lastBelow, Indexed, OnChain}
 
 module _ (b : ℕ) (keys : List ℕ) where
   pub last-le : (n : ℕ) → lastBelow b keys n ≤ n
   unfolding lastBelow
   last-le zero = omega arith
-  last-le (suc n) = test-cases (eqb (placeOf (getD keys n 0)) b) (λ t. rw t (omega arith)) (λ t. rw t (omega (arith, last-le n)))
+  last-le (suc n) = test-cases (eqb (indexPlaceOf (getD keys n 0)) b) (λ t. rw t (omega arith)) (λ t. rw t (omega (arith, last-le n)))
 
   -- what the chain names has the place
-  pub last-has : (n : ℕ) → 0 < lastBelow b keys n → placeOf (getD keys (lastBelow b keys n - 1) 0) ≡ b
+  pub last-has : (n : ℕ) → 0 < lastBelow b keys n → indexPlaceOf (getD keys (lastBelow b keys n - 1) 0) ≡ b
   unfolding lastBelow
   last-has zero h = absurd (omega arith)
-  last-has (suc n) h = test-cases (eqb (placeOf (getD keys n 0)) b)
-      (λ t. let here : suc n - 1 ≡ n = omega arith in rw (t, here) (eqb-true (placeOf (getD keys n 0)) b t))
+  last-has (suc n) h = test-cases (eqb (indexPlaceOf (getD keys n 0)) b)
+      (λ t. let here : suc n - 1 ≡ n = omega arith in rw (t, here) (eqb-true (indexPlaceOf (getD keys n 0)) b t))
       (λ t. rw t (last-has n (rw t at h)))
 
   -- what it passes over has not
-  pub last-passes : (n i : ℕ) → lastBelow b keys n ≤ i → i < n → placeOf (getD keys i 0) ≡ b → ⊥
+  pub last-passes : (n i : ℕ) → lastBelow b keys n ≤ i → i < n → indexPlaceOf (getD keys i 0) ≡ b → ⊥
   unfolding lastBelow
   last-passes zero i h below own = omega arith
-  last-passes (suc n) i h below own = test-cases (eqb (placeOf (getD keys n 0)) b)
+  last-passes (suc n) i h below own = test-cases (eqb (indexPlaceOf (getD keys n 0)) b)
       (λ t. absurd (omega (arith, rw t at h)))
       (λ t. test-cases (eqb i n)
-      (λ u. absurd (eqb-false (placeOf (getD keys n 0)) b t (ap (λ (j : ℕ). placeOf (getD keys j 0)) (sym (eqb-true i n u)) ∙ own)))
+      (λ u. absurd (eqb-false (indexPlaceOf (getD keys n 0)) b t (ap (λ (j : ℕ). indexPlaceOf (getD keys j 0)) (sym (eqb-true i n u)) ∙ own)))
       (λ u. absurd (last-passes n i (rw t at h) (omega (arith, eqb-false i n u)) own)))
 
 -- ---- the index as it is made
@@ -53,7 +53,7 @@ module _ (keys : List ℕ) where
 
   module _ (heads earlier : List ℕ) (i : ℕ) (some-room : i < length earlier) (h : Indexed i keys heads earlier) where
     abbrev place : ℕ
-    place = placeOf (getD keys i 0)
+    place = indexPlaceOf (getD keys i 0)
 
     small : place < keyPlaces
     small = omega arith
@@ -66,11 +66,11 @@ module _ (keys : List ℕ) where
         rw t (ap (λ (c : ℕ). getD (set heads place (i + 1)) c 0) (sym same) ∙ getD-set-same heads place (i + 1) 0 here ∙ add-one i))
         (λ t. rw t (getD-set-other heads place b (i + 1) 0 (λ e. eqb-false place b t (sym e)) ∙ h .last b inside))
 
-    chain-turn : (j : ℕ) → j < i + 1 → getD (set earlier i (getD heads place 0)) j 0 ≡ lastBelow (placeOf (getD keys j 0)) keys j
+    chain-turn : (j : ℕ) → j < i + 1 → getD (set earlier i (getD heads place 0)) j 0 ≡ lastBelow (indexPlaceOf (getD keys j 0)) keys j
     chain-turn j below = test-cases (eqb j i)
         (λ t. let same = eqb-true j i t in
         ap (λ (k : ℕ). getD (set earlier i (getD heads place 0)) k 0) same ∙ getD-set-same earlier i (getD heads place 0) 0 some-room ∙ h .last place small
-        ∙ ap (λ (k : ℕ). lastBelow (placeOf (getD keys k 0)) keys k) (sym same))
+        ∙ ap (λ (k : ℕ). lastBelow (indexPlaceOf (getD keys k 0)) keys k) (sym same))
         (λ t. getD-set-other earlier i j (getD heads place 0) 0 (eqb-false j i t) ∙ h .chain j (omega (arith, eqb-false j i t)))
 
     -- of one key more
@@ -84,12 +84,12 @@ module _ (keys : List ℕ) where
 
 -- ---- the chain of a key's place
 
-pub on-chain : (keys : List ℕ) (key n : ℕ) → n ≤ length keys → OnChain keys key (lastBelow (placeOf key) keys n)
-on-chain keys key n within = (omega (arith, last-le (placeOf key) keys n), last-has (placeOf key) keys n)
+pub on-chain : (keys : List ℕ) (key n : ℕ) → n ≤ length keys → OnChain keys key (lastBelow (indexPlaceOf key) keys n)
+on-chain keys key n within = (omega (arith, last-le (indexPlaceOf key) keys n), last-has (indexPlaceOf key) keys n)
 
 module _ {keys heads earlier : List ℕ} (h : Indexed (length keys) keys heads earlier) (key : ℕ) where
-  pub chain-start : (place : ℕ) → place ≡ placeOf key → getD heads place 0 ≡ lastBelow (placeOf key) keys (length keys)
-  chain-start place e = ap (λ (b : ℕ). getD heads b 0) e ∙ h .last (placeOf key) (omega arith)
+  pub chain-start : (place : ℕ) → place ≡ indexPlaceOf key → getD heads place 0 ≡ lastBelow (indexPlaceOf key) keys (length keys)
+  chain-start place e = ap (λ (b : ℕ). getD heads b 0) e ∙ h .last (indexPlaceOf key) (omega arith)
 
-  pub chain-next : (next : ℕ) → OnChain keys key next → 0 < next → getD earlier (next - 1) 0 ≡ lastBelow (placeOf key) keys (next - 1)
+  pub chain-next : (next : ℕ) → OnChain keys key next → 0 < next → getD earlier (next - 1) 0 ≡ lastBelow (indexPlaceOf key) keys (next - 1)
   chain-next next on more = h .chain (next - 1) (omega arith) ∙ ap (λ (b : ℕ). lastBelow b keys (next - 1)) (on .1 more)

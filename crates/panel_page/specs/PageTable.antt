@@ -58,9 +58,9 @@ pageLookup (some x) = record { position = x .position; value = foundValue (x .ma
 
 -- ---- what the call answers
 
-abbrev pub refusalOf : PageRefusal → model.PageRefusal
-refusalOf TooManyKeys = model.tooManyKeys
-refusalOf TooFewPlaces = model.tooFewPlaces
+abbrev pub pageRefusalOf : PageRefusal → model.PageRefusal
+pageRefusalOf TooManyKeys = model.tooManyKeys
+pageRefusalOf TooFewPlaces = model.tooFewPlaces
 
 -- the refusal, or so many rows
 abbrev pub pageAnswer : ℕ → Option model.PageRefusal → PageAnswer
@@ -69,6 +69,6 @@ pageAnswer n (some model.tooManyKeys) = Refused TooManyKeys
 pageAnswer n (some model.tooFewPlaces) = Refused TooFewPlaces
 
 -- places behind the rows stay, and a refusal leaves every byte
-abbrev pub OthersKept : List ℕ → List ℕ → PageAnswer → Type 0
-OthersKept before after (Answered n) = drop (n * pageWidth) after ≡ drop (n * pageWidth) before
-OthersKept before after (Refused f) = after ≡ before
+abbrev pub OtherPlacesKept : List ℕ → List ℕ → PageAnswer → Type 0
+OtherPlacesKept before after (Answered n) = drop (n * pageWidth) after ≡ drop (n * pageWidth) before
+OtherPlacesKept before after (Refused f) = after ≡ before

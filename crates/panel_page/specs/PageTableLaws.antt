@@ -20,13 +20,13 @@ use Rattle.spec_page.specs.Page.{PageEntry, findFrom, pageEntry, pageRows}
 use Rattle.spec_page.specs.PageLaws.{page-length}
 use Rattle.bytes_records.specs.Moves.{zeros}
 use Rattle.bytes_records.specs.MovesLaws.{length-zeros}
-use Rattle.bytes_records.specs.Table.{Wide, Holds}
+use Rattle.bytes_records.specs.Table.{Wide, HoldsRows}
 use Rattle.bytes_records.specs.TableLaws.{holds, used, padded, row-at}
 use Rattle.panel_rows.specs.Rows as rows
 use Rattle.panel_rows.specs.Rows.{markWidth, entryMarkAt, fieldAt, entryRow, filledRow}
 use Rattle.panel_rows.specs.RowsLaws.{length-padded}
 use Rattle.panel_page.specs.PageTable.{foundWidth, positionWidth, pageMarkAt, pageValueAt, pageWidth, answerRow, pageBytes, FitsAnswer}
-use Rattle.panel_page.specs.Answering.{answerOf, answersIn}
+use Rattle.panel_page.specs.Answering.{pageAnswerOf, answersIn}
 
 -- ---- rows
 
@@ -36,7 +36,7 @@ answer-wide none h = length-zeros pageWidth
 answer-wide (some x) h = simp (length-append, length-littleEndian) (omega (arith, length-padded (x .value) (h .1 .1)))
 
 -- the fields before the mark, and what an entry's row has from its mark on
-pub answer-filled : (n : ℕ) (e : Entry) → FitsEntry e → filledRow pageWidth (1 ∷ u64 n) (drop entryMarkAt (entryRow e)) ≡ answerOf n e
+pub answer-filled : (n : ℕ) (e : Entry) → FitsEntry e → filledRow pageWidth (1 ∷ u64 n) (drop entryMarkAt (entryRow e)) ≡ pageAnswerOf n e
 unfolding filledRow entryRow answerRow
 answer-filled n e fits =
     let value = u64 (e .mark) ++ rows.padded (e .value) in
@@ -81,7 +81,7 @@ unfolding answersIn answerRow findFrom entriesIn
 nothing-found c k = refl
 
 -- rows that fill a table are all its bytes
-pub holds-all : {w n : ℕ} {l : List ℕ} {m : List (List ℕ)} → Holds w n l m → length l ≡ n * w → l ≡ flatten m
+pub holds-all : {w n : ℕ} {l : List ℕ} {m : List (List ℕ)} → HoldsRows w n l m → length l ≡ n * w → l ≡ flatten m
 holds-all {w} {n} {l} {m} t size =
     let none-left : length l - n * w ≡ 0 = omega arith in
     padded t ∙ ap (λ (k : ℕ). flatten m ++ zeros k) none-left ∙ append-nil (flatten m)
@@ -117,7 +117,7 @@ module _ (p : Projection) (v : Valid p) (c : ℕ) where
   rows-wide (k ∷ keys) = (answer-wide (pageEntry p c k) (page-fits p v c k), rows-wide keys)
 
   -- a table of zeros into which they were written holds them
-  pub rows-hold : (keys : List ℕ) (k : ℕ) → Holds pageWidth (length keys) (pageBytes p c keys ++ zeros k) (map answerRow (pageRows p c keys))
+  pub rows-hold : (keys : List ℕ) (k : ℕ) → HoldsRows pageWidth (length keys) (pageBytes p c keys ++ zeros k) (map answerRow (pageRows p c keys))
   unfolding pageBytes
   rows-hold keys k =
       let rows = pageRows p c keys in

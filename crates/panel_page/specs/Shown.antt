@@ -6,7 +6,7 @@ use lib.Dec.{eqb}
 use lib.ListN.{length, getD, set}
 use Rattle.spec_lists.specs.Lists.{if_then_else_}
 use Rattle.bytes_records.specs.Moves.{zeros}
-use Rattle.bytes_records.specs.Table.{Holds}
+use Rattle.bytes_records.specs.Table.{HoldsRows}
 use Rattle.panel_page.specs.PageTable.{pageWidth}
 
 -- the place with its first byte 0
@@ -20,5 +20,5 @@ shown row = if eqb (getD row 0 0) 0 then zeros (length row) else row
 -- the places of a table of so many stand for these rows
 pub record Shows (n : ℕ) (table : List ℕ) (rows : List (List ℕ)) : Type 0 where
   pub places : List (List ℕ)
-  pub held : Holds pageWidth n table places
+  pub held : HoldsRows pageWidth n table places
   pub stand : map shown places ≡ rows

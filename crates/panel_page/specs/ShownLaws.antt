@@ -11,7 +11,7 @@ use Rattle.spec_lists.specs.Lists.{All}
 use Rattle.spec_lists.specs.ListLaws.{if-cases}
 use Rattle.bytes_records.specs.Moves.{zeros}
 use Rattle.bytes_records.specs.MovesLaws.{length-zeros}
-use Rattle.bytes_records.specs.Table.{Wide, Holds}
+use Rattle.bytes_records.specs.Table.{Wide, HoldsRows}
 use Rattle.bytes_records.specs.TableLaws.{holds}
 use Rattle.panel_page.specs.PageTable.{pageWidth}
 use Rattle.panel_page.specs.PageTableLaws.{nothing-found}
@@ -68,7 +68,7 @@ module _ (w : ℕ) where
   places-bytes (suc n) l e =
       ap (λ (r : List ℕ). take w l ++ r) (places-bytes n (drop w l) (simp length-drop (omega (arith, suc-mul n w)))) ∙ take-append-drop w l
 
-  pub places-held : (n : ℕ) (l : List ℕ) → length l ≡ n * w → Holds w n l (placesOf w n l)
+  pub places-held : (n : ℕ) (l : List ℕ) → length l ≡ n * w → HoldsRows w n l (placesOf w n l)
   places-held n l e = holds w n l (placesOf w n l) 0 (places-wide n l (omega arith)) (places-count n l) (sym (append-nil _ ∙ places-bytes n l e))
 
 -- ---- emptied places are the rows of keys of which none was found
@@ -80,6 +80,6 @@ empty-rows c (k ∷ keys) [] wide e = absurd (omega (arith, e))
 empty-rows c (k ∷ keys) (r ∷ m) wide e =
     ap₂ (λ (x : List ℕ) (l : List (List ℕ)). x ∷ l) (shown-emptied r ∙ ap zeros (wide .0) ∙ sym (nothing-found c k)) (empty-rows c keys m (wide .1) (omega (arith, e)))
 
-pub shows-nothing : (c : ℕ) (keys l : List ℕ) (m : List (List ℕ)) → All (Wide pageWidth) m → length m ≡ length keys → Holds pageWidth (length keys) l (map emptied m)
+pub shows-nothing : (c : ℕ) (keys l : List ℕ) (m : List (List ℕ)) → All (Wide pageWidth) m → length m ≡ length keys → HoldsRows pageWidth (length keys) l (map emptied m)
     → Shows (length keys) l (map (answersIn c []) keys)
 shows-nothing c keys l m wide e t = record { places = map emptied m; held = t; stand = empty-rows c keys m wide e }

@@ -10,11 +10,11 @@ ghost use Rattle.spec_projection.specs.Projection.{Entry};
 ghost use Rattle.spec_projection.specs.Lookups.{entriesIn};
 ghost use Rattle.spec_projection.specs.Valid.{FitsEntry, Grouped};
 ghost use Rattle.spec_page.specs.Page.{findFrom};
-ghost use Rattle.bytes_records.specs.Table.{Holds};
+ghost use Rattle.bytes_records.specs.Table.{HoldsRows};
 ghost use Rattle.panel_rows.specs.Rows.{entryWidth, entryRow, filledRow};
 ghost use Rattle.panel_page.specs.PageTable.{pageWidth};
 ghost use Rattle.panel_page.specs.Index.{Indexed};
-ghost use Rattle.panel_page.specs.Answering.{answering, mixed, answerOf, answersIn};
+ghost use Rattle.panel_page.specs.Answering.{answering, mixed, pageAnswerOf, answersIn};
 ghost use Rattle.panel_page.specs.Shown.{Shows};
 use crate::index;
 use crate::rows;
@@ -70,7 +70,7 @@ fn answer_entry(
     requires { ⌜ Indexed (length (now keys)) (now keys) (now heads) (now earlier) × ((length (now row) ≤ entryWidth) × (length (now answers) ≡ length (now keys) * pageWidth)) ⌝ }
     ensures { λ _. ⌜ ((e : Entry) → FitsEntry e → now (row .entry) ≡ entryRow e → (f : ℕ → List ℕ)
         → Shows (length (now (keys .entry))) (now (answers .entry)) (map f (now (keys .entry)))
-        → Shows (length (now (keys .entry))) (now (answers .exit)) (map (answering (e .key) (answerOf position e) f) (now (keys .entry)))) ⌝ }
+        → Shows (length (now (keys .entry))) (now (answers .exit)) (map (answering (e .key) (pageAnswerOf position e) f) (now (keys .entry)))) ⌝ }
 {
     let key = fields::entry_key(row);
     let head = rows::answer_head(position);
@@ -114,7 +114,7 @@ pub(crate) fn answer_rows(
     answers: &mut [u8],
 )
     requires { ⌜ Indexed (length (now keys)) (now keys) (now heads) (now earlier) × (length (now answers) ≡ length (now keys) * pageWidth) ⌝ }
-    ensures { λ _. ⌜ ((es : List Entry) → All FitsEntry es → Grouped es → Holds entryWidth count (now (table .entry)) (map entryRow es)
+    ensures { λ _. ⌜ ((es : List Entry) → All FitsEntry es → Grouped es → HoldsRows entryWidth count (now (table .entry)) (map entryRow es)
         → Shows (length (now (keys .entry))) (now (answers .entry)) (map (answersIn collection []) (now (keys .entry)))
         → Shows (length (now (keys .entry))) (now (answers .exit)) (map (answersIn collection es) (now (keys .entry)))) ⌝ }
 {

@@ -5,7 +5,7 @@ ghost use mathlib.Core.Path.{_≡_};
 ghost use Prim.Native.Nat.{_≤_};
 ghost use lib.ListN.{length};
 ghost use Rattle.bytes_records.specs.Moves.{zeros};
-ghost use Rattle.panel_page.specs.Index.{keyPlaces, placeOf, Indexed};
+ghost use Rattle.panel_page.specs.Index.{keyPlaces, indexPlaceOf, Indexed};
 
 // A prime, so that keys in steps of a round number have places of their own.
 const PLACES: u64 = 251;
@@ -13,7 +13,7 @@ const PLACES: u64 = 251;
 pub(crate) const KEY_PLACES: usize = PLACES as usize;
 
 pub(crate) fn key_place(key: u64) -> usize
-    ensures { λ r. ⌜ r ≡ placeOf key ⌝ }
+    ensures { λ r. ⌜ r ≡ indexPlaceOf key ⌝ }
 {
     (key % PLACES) as usize
 }

@@ -13,7 +13,7 @@ ghost use Rattle.spec_projection.specs.Valid.{Valid};
 ghost use Rattle.spec_page.specs.Page.{pageKeys, pageNumber, pageRefusal, tableLeft};
 ghost use Rattle.panel_rows.specs.Rows.{entryWidth, entryRow};
 ghost use Rattle.local_projection_state.specs.Stores.{Stored};
-ghost use Rattle.panel_page.specs.PageTable.{pageWidth, pageBytes, refusalOf, pageAnswer, OthersKept};
+ghost use Rattle.panel_page.specs.PageTable.{pageWidth, pageBytes, pageRefusalOf, pageAnswer, OtherPlacesKept};
 use rows::PageLookup;
 
 pub enum PageRefusal {
@@ -24,7 +24,7 @@ pub enum PageRefusal {
 impl PageRefusal {
     // 02's number.
     pub fn number(self) -> u64
-        ensures { λ r. ⌜ r ≡ pageNumber (refusalOf self) ⌝ }
+        ensures { λ r. ⌜ r ≡ pageNumber (pageRefusalOf self) ⌝ }
     {
         match self {
             PageRefusal::TooManyKeys => 16,
@@ -65,7 +65,7 @@ pub fn collection_page(
     ensures told { λ r. ⌜ r ≡ pageAnswer (length (now (keys .entry))) (pageRefusal (length (now (keys .entry))) (length (now (answers .entry)) / pageWidth)) ⌝ }
     ensures written { λ _. ⌜ ((p : Projection) → Stored entryRow entryWidth projectionEntries count (now (table .entry)) (p .entries) → Valid p
         → now (answers .exit) ≡ tableLeft (pageRefusal (length (now (keys .entry))) (length (now (answers .entry)) / pageWidth)) (pageBytes p collection (now (keys .entry))) (now (answers .entry))) ⌝ }
-    ensures kept { λ r. ⌜ OthersKept (now (answers .entry)) (now (answers .exit)) r ⌝ }
+    ensures kept { λ r. ⌜ OtherPlacesKept (now (answers .entry)) (now (answers .exit)) r ⌝ }
 {
     if PageLookup::KEYS < keys.len() {
         return PageAnswer::Refused(PageRefusal::TooManyKeys);

@@ -4,7 +4,7 @@ ghost use mathlib.Core.Path.{_≡_};
 ghost use mathlib.Core.List.{List, map};
 ghost use Prim.Native.Nat.{ℕ, _*_};
 ghost use lib.ListN.{length};
-ghost use Rattle.bytes_records.specs.Table.{Holds};
+ghost use Rattle.bytes_records.specs.Table.{HoldsRows};
 ghost use Rattle.panel_page.specs.PageTable.{pageWidth};
 ghost use Rattle.panel_page.specs.Shown.{emptied, shown};
 use crate::rows::PageLookup;
@@ -21,7 +21,7 @@ fn empty_place(place: &mut [u8])
 // Lets every place stand for a row of zeros.
 pub(crate) fn empty_places(answers: &mut [u8], count: usize)
     requires { ⌜ length (now answers) ≡ count * pageWidth ⌝ }
-    ensures { λ _. ⌜ ((m : List (List ℕ)) → Holds pageWidth count (now (answers .entry)) m → Holds pageWidth count (now (answers .exit)) (map emptied m)) ⌝ }
+    ensures { λ _. ⌜ ((m : List (List ℕ)) → HoldsRows pageWidth count (now (answers .entry)) m → HoldsRows pageWidth count (now (answers .exit)) (map emptied m)) ⌝ }
 {
     let mut i: usize = 0;
     while i < count {
@@ -46,7 +46,7 @@ fn clear_empty(place: &mut [u8])
 // Makes every place the row that it stands for.
 pub(crate) fn clear_empty_places(answers: &mut [u8], count: usize)
     requires { ⌜ length (now answers) ≡ count * pageWidth ⌝ }
-    ensures { λ _. ⌜ ((m : List (List ℕ)) → Holds pageWidth count (now (answers .entry)) m → Holds pageWidth count (now (answers .exit)) (map shown m)) ⌝ }
+    ensures { λ _. ⌜ ((m : List (List ℕ)) → HoldsRows pageWidth count (now (answers .entry)) m → HoldsRows pageWidth count (now (answers .exit)) (map shown m)) ⌝ }
 {
     let mut i: usize = 0;
     while i < count {

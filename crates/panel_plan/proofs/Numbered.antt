@@ -14,14 +14,14 @@ use Rattle.bytes_records.specs.Moves as moves
 use Rattle.bytes_wire.specs.Write.{overwrite}
 use Rattle.bytes_wire.specs.WriteLaws.{has-room, overwrite-in-place}
 use Rattle.bytes_records.specs.Positions.{insertAt}
-use Rattle.bytes_records.specs.Table.{Holds, Changed, canInsert}
+use Rattle.bytes_records.specs.Table.{HoldsRows, Changed, canInsert}
 use Rattle.bytes_records.specs.TableLaws.{row-cons, row-width, can-insert}
 use Rattle.panel_plan.specs.PlanRows.{sourceWidth}
 use Rattle.panel_plan.specs.NumberedRows.{numberedRow, numberedRows}
 
 -- the front of a row, and the number over what stood behind it
 pub number-written : (old row : List ℕ) (front i : ℕ) {copied written : List ℕ} → front ≤ length old → length row ≡ front + sourceWidth
-    → copied ≡ moves.overwrite (take front old) row → written ≡ overwrite copied front (u64 i) → written ≡ numberedRow front i old
+    → copied ≡ moves.overwriteRows (take front old) row → written ≡ overwrite copied front (u64 i) → written ≡ numberedRow front i old
 unfolding numberedRow
 number-written old row front i {copied} wide size e f =
     let part = take front old in
@@ -39,14 +39,14 @@ length-numbered front i row h = length-append (take front row) (u64 i) ∙ omega
 -- the first i rows are numbered: with the others they are all
 pub record Numbering (front i : ℕ) (to : List ℕ) (rows : List (List ℕ)) : Type 0 where
   pub made : List (List ℕ)
-  pub held : Holds (front + sourceWidth) i to made
+  pub held : HoldsRows (front + sourceWidth) i to made
   pub same : made ++ numberedRows front i (drop i rows) ≡ numberedRows front 0 rows
 
 module _ {front : ℕ} {rows : List (List ℕ)} where
-  pub numbering-start : {to : List ℕ} → Holds (front + sourceWidth) 0 to [] → Numbering front 0 to rows
+  pub numbering-start : {to : List ℕ} → HoldsRows (front + sourceWidth) 0 to [] → Numbering front 0 to rows
   numbering-start h = record { made = []; held = h; same = refl }
 
-  module _ {w n : ℕ} {from : List ℕ} (t : Holds w n from rows) where
+  module _ {w n : ℕ} {from : List ℕ} (t : HoldsRows w n from rows) where
     pub numbering-more : {i : ℕ} {to exit part row : List ℕ} {b : Bool} → i < n → front ≤ w → n * (front + sourceWidth) ≤ length to → part ≡ getD rows i [] → row ≡ numberedRow front i part
         → Changed (front + sourceWidth) i (i + 1) (insertAt i row) (canInsert (length to) (front + sourceWidth) i i row) to exit b → Numbering front i to rows → Numbering front (i + 1) exit rows
     unfolding numberedRows
@@ -59,7 +59,7 @@ module _ {front : ℕ} {rows : List (List ℕ)} where
         let last : insertAt i row (s .made) ≡ s .made ++ row ∷ [] = ap₂ (λ x y. x ++ row ∷ y) (ap (λ m. take m (s .made)) (sym (s .held .counted)) ∙ take-length (s .made)) (drop-of-length-le (s .made) all) in
         record {
           made = s .made ++ row ∷ [];
-          held = subst (Holds (front + sourceWidth) (i + 1) exit) last (c .made (c .told ∙ can) (s .made) (s .held));
+          held = subst (HoldsRows (front + sourceWidth) (i + 1) exit) last (c .made (c .told ∙ can) (s .made) (s .held));
           same =
               append-assoc (s .made) (row ∷ []) (numberedRows front (i + 1) (drop (i + 1) rows))
               ∙ ap (λ (r : List ℕ). s .made ++ r ∷ numberedRows front (i + 1) (drop (i + 1) rows)) own
@@ -68,9 +68,9 @@ module _ {front : ℕ} {rows : List (List ℕ)} where
               ∙ s .same;
         }
 
-    pub numbering-end : {i : ℕ} {to : List ℕ} → i ≡ n → Numbering front i to rows → Holds (front + sourceWidth) n to (numberedRows front 0 rows)
+    pub numbering-end : {i : ℕ} {to : List ℕ} → i ≡ n → Numbering front i to rows → HoldsRows (front + sourceWidth) n to (numberedRows front 0 rows)
     unfolding numberedRows
     numbering-end {i} {to} is s =
         let past : length rows ≤ i = omega (arith, t .counted) in
         let whole : s .made ≡ numberedRows front 0 rows = sym (append-nil (s .made)) ∙ ap (λ l. s .made ++ numberedRows front i l) (sym (drop-of-length-le rows past)) ∙ s .same in
-        subst (λ k. Holds (front + sourceWidth) k to (numberedRows front 0 rows)) is (subst (Holds (front + sourceWidth) i to) whole (s .held))
+        subst (λ k. HoldsRows (front + sourceWidth) k to (numberedRows front 0 rows)) is (subst (HoldsRows (front + sourceWidth) i to) whole (s .held))

@@ -10,7 +10,7 @@ use Rattle.spec_lists.specs.BytesLaws.{length-littleEndian}
 use Rattle.spec_patch.specs.Patch.{Value}
 use Rattle.spec_patch.specs.Encode.{u32, u64}
 use Rattle.spec_projection.specs.Projection.{Binding, Entry}
-use Rattle.bytes_records.specs.Table.{Holds}
+use Rattle.bytes_records.specs.Table.{HoldsRows}
 use Rattle.bytes_records.specs.TableLaws.{fitting}
 use Rattle.panel_rows.specs.Rows.{bindingValueAt, entryValueAt, padded, bindingRow, entryRow}
 use Rattle.panel_rows.specs.RowsLaws.{regroup}
@@ -40,12 +40,12 @@ module _ {A : Type 0} (row planned : A → List ℕ) (put : A → Value → A) (
 
   -- a table of the old rows, numbered in one that has no rows, stores the plan
   pub stored-numbered : (width capacity n : ℕ) {from to exit : List ℕ} (l : List A) → 0 < width → front ≤ width → length exit ≡ length to
-      → ((rows : List (List ℕ)) → front ≤ width → Holds width n from rows → Holds (front + sourceWidth) 0 to [] → n * (front + sourceWidth) ≤ length to → Holds (front + sourceWidth) n exit (numberedRows front 0 rows))
+      → ((rows : List (List ℕ)) → front ≤ width → HoldsRows width n from rows → HoldsRows (front + sourceWidth) 0 to [] → n * (front + sourceWidth) ≤ length to → HoldsRows (front + sourceWidth) n exit (numberedRows front 0 rows))
       → Stored row width capacity n from l → Stored planned (front + sourceWidth) capacity 0 to [] → Stored planned (front + sourceWidth) capacity n exit (numbered put 0 l)
   stored-numbered width capacity n {from} {to} {exit} l some wide same made s none =
       let few : n ≤ capacity = le-of-mul-le-mul-right (rw (s .size) at (fitting (s .rows))) some in
       let room : n * (front + sourceWidth) ≤ capacity * (front + sourceWidth) = mul-le-mul-right (front + sourceWidth) few in
       record {
         size = same ∙ none .size;
-        rows = subst (Holds (front + sourceWidth) n exit) (rows-numbered 0 l) (made (map row l) wide (s .rows) (none .rows) (omega (arith, none .size)));
+        rows = subst (HoldsRows (front + sourceWidth) n exit) (rows-numbered 0 l) (made (map row l) wide (s .rows) (none .rows) (omega (arith, none .size)));
       }

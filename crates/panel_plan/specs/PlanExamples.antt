@@ -2,7 +2,7 @@
 -- 22, 23; node 5 has one binding.
 use Prim.Native.Nat.{ℕ, zero, suc, _+_}
 use mathlib.Core.Path.{_≡_, refl}
-use mathlib.Core.Bool.{Bool, true, false}
+use mathlib.Core.Bool.{Bool}
 use mathlib.Core.List.{List, [], _∷_, map}
 use mathlib.Core.Option.{none, some}
 use lib.Dec.{eqb}
@@ -13,6 +13,7 @@ use Rattle.spec_projection.specs.Projection.{Binding, Entry, Projection, bindin
 use Rattle.spec_projection.specs.FirstMatch.{findFirst, insertBeforeFirst, replaceFirst, removeFirst}
 use Rattle.spec_projection.specs.Entries.{isEntry, isLater, contains, containsNeighbour, insertLast, insertBefore, insertEntry, replaceEntry, removeEntry}
 use Rattle.spec_projection.specs.Apply.{Outcome, done, stopped, ReplayStep, stepOf, operationFaultNumber, withBindings, withAvailabilities, withEntries, applyBinding, applyAvailability, applyInsert, applyUpdate, applyRemove, applyMove, applyOperation, applyStep, applySteps}
+use Rattle.spec_projection.specs.ApplyExamples.{failing}
 use Rattle.spec_projection.specs.RowMap.{mapRows}
 use Rattle.panel_plan.specs.Resolved.{resolvedBinding, resolvedEntry, resolving, resolvedOutcome}
 use Rattle.panel_plan.specs.Plan.{old, new, valueFrom, resolution, numbered, bindingWith, entryWith, planOf, withSource}
@@ -80,8 +81,8 @@ resolves expected f p ss = equalLists eqb (ask f (resolvedOutcome (resolution p 
 
 -- ---- the table
 
-pub examples : List Bool
-examples =
+pub planExamples : List Bool
+planExamples =
     -- the plan at first: rows 0, 1, 2, and row 0 of the bindings
     plans (0 ∷ 1 ∷ 2 ∷ []) values before []
     ∷ plans (0 ∷ []) bindings before []
@@ -109,14 +110,9 @@ examples =
     ∷ plans (9 ∷ []) keys full (at 60 (insert 9 500 none) ∷ [])
     ∷ []
 
-pub failing : ℕ → List Bool → List ℕ
-failing i [] = []
-failing i (true ∷ rows) = failing (suc i) rows
-failing i (false ∷ rows) = i ∷ failing (suc i) rows
-
 -- no row fails
-pub plan-examples : failing 0 examples ≡ []
-unfolding examples failing keyed before numbers full set at plain number ask keys values marks bindings plans resolves
+pub plan-examples : failing 0 planExamples ≡ []
+unfolding planExamples failing keyed before numbers full set at plain number ask keys values marks bindings plans resolves
     lexLess upsert bindingKey availabilityKey findFirst insertBeforeFirst replaceFirst removeFirst
     isEntry isLater contains containsNeighbour insertLast insertBefore insertEntry replaceEntry removeEntry
     operationFaultNumber withBindings withAvailabilities withEntries applyBinding applyAvailability applyInsert applyUpdate applyRemove applyMove applyOperation applyStep applySteps

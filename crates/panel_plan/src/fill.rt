@@ -6,7 +6,7 @@ ghost use lib.ListN.{length};
 ghost use Rattle.spec_patch.specs.Sizes.{projectionBindings, projectionEntries};
 ghost use Rattle.spec_patch.specs.Encode.{u64};
 ghost use Rattle.spec_projection.specs.Projection.{Binding, Entry};
-ghost use Rattle.bytes_records.specs.Table.{Holds};
+ghost use Rattle.bytes_records.specs.Table.{HoldsRows};
 ghost use Rattle.panel_rows.specs.Rows.{bindingWidth, entryWidth, bindingRow, entryRow};
 ghost use Rattle.local_projection_state.specs.Stores.{Stored};
 ghost use Rattle.panel_plan.specs.Plan.{numbered, bindingWith, entryWith};
@@ -31,8 +31,8 @@ fn number_row(old: &[u8], front: usize, number: usize, row: &mut [u8])
 // for one of them.
 fn number_rows(from: &[u8], width: usize, count: usize, front: usize, row: &mut [u8], to: &mut [u8])
     requires { ⌜ (0 < width) × (length (now row) ≡ front + sourceWidth) ⌝ }
-    ensures { λ _. ⌜ ((rows : List (List ℕ)) → front ≤ width → Holds width count (now (from .entry)) rows → Holds (front + sourceWidth) 0 (now (to .entry)) []
-        → count * (front + sourceWidth) ≤ length (now (to .entry)) → Holds (front + sourceWidth) count (now (to .exit)) (numberedRows front 0 rows)) ⌝ }
+    ensures { λ _. ⌜ ((rows : List (List ℕ)) → front ≤ width → HoldsRows width count (now (from .entry)) rows → HoldsRows (front + sourceWidth) 0 (now (to .entry)) []
+        → count * (front + sourceWidth) ≤ length (now (to .entry)) → HoldsRows (front + sourceWidth) count (now (to .exit)) (numberedRows front 0 rows)) ⌝ }
 {
     let size = front + super::SOURCE_WIDTH;
     let mut i: usize = 0;

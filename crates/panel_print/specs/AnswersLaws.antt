@@ -10,7 +10,7 @@ use Rattle.bytes_wire.specs.WriteLaws.{overwrite-refused, drop-past-overwrite}
 use Rattle.bytes_printer.specs.declared.Printed.{Printed}
 use Rattle.bytes_printer.specs.declared.Printed.the-variants.{Next, NoRoom}
 use Rattle.bytes_printer.specs.Prints.{Prints}
-use Rattle.bytes_printer.specs.PrintsLaws.{whole}
+use Rattle.bytes_printer.specs.PrintsLaws.{whole-printed}
 use Rattle.panel_print.specs.declared.PrintRefusal.the-variants.{OutputTooShort}
 use Rattle.panel_print.specs.declared.PrintAnswer.{PrintAnswer}
 use Rattle.panel_print.specs.declared.PrintAnswer.the-variants.{Wrote, Refused}
@@ -18,7 +18,7 @@ use Rattle.panel_print.specs.Answers.{PrintedWhole, printAnswer}
 
 -- what fits is printed whole
 pub printed-whole : {before print text : List ℕ} {end : Printed} → Prints before (Next 0) print text end → length print ≤ length before → PrintedWhole text end print
-printed-whole p h = let w = whole p h in record { position = w .0; bytes = w .1 }
+printed-whole p h = let w = whole-printed p h in record { position = w .0; bytes = w .1 }
 
 -- ---- where printing ended
 

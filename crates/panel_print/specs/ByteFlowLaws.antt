@@ -11,7 +11,7 @@ use lib.Seq.{drop-cons}
 use borrow.Author.Tests.{ltb-true, ltb-false, lt-ltb, le-ltb, le-leb, lt-leb, eq-eqb, ne-eqb}
 use Rattle.spec_lists.specs.Lists.{if_then_else_, All}
 use Rattle.spec_lists.specs.ListLaws.{test-cases}
-use Rattle.spec_text.specs.Scalars.{Scalar, encodeScalar, encode}
+use Rattle.spec_text.specs.Scalars.{Scalar, encodeScalar, encodeScalars}
 use Rattle.spec_panel_print.specs.Print.{textWidth, blank, fullStop, lineEnd, deleteCharacter, isControl, printedCharacter, blankLead}
 use Rattle.spec_panel_print.specs.Flow.{flowed}
 use Rattle.panel_print.specs.ByteFlow.{beginsCharacter, columnAfter, brokenByte, flowedBytes}
@@ -158,9 +158,9 @@ some-blanks (suc n) (suc m) h = ap (λ (l : List ℕ). blank ∷ l) (some-blanks
 
 -- ---- all characters
 
-pub flows-encoding : (column : ℕ) (cs : List ℕ) → All Scalar cs → flowedBytes column (encode cs) ≡ flowed column (map printedCharacter cs)
-unfolding flowedBytes flowed encode flatMap
+pub flows-encoding : (column : ℕ) (cs : List ℕ) → All Scalar cs → flowedBytes column (encodeScalars cs) ≡ flowed column (map printedCharacter cs)
+unfolding flowedBytes flowed encodeScalars flatMap
 flows-encoding column [] s = refl
 flows-encoding column (c ∷ cs) s =
-    flows-character column c (encode cs) (s .0 .0)
+    flows-character column c (encodeScalars cs) (s .0 .0)
     ∙ rw (flows-encoding 1 cs (s .1), flows-encoding (suc column) cs (s .1))

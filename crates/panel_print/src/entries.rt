@@ -6,7 +6,7 @@ ghost use Rattle.spec_projection.specs.Projection.{Entry};
 ghost use Rattle.spec_projection.specs.Lookups.{keyedValue};
 ghost use Rattle.spec_projection.specs.Valid.{FitsEntry};
 ghost use Rattle.spec_panel_print.specs.Print.{keyLead};
-ghost use Rattle.bytes_records.specs.Table.{Holds};
+ghost use Rattle.bytes_records.specs.Table.{HoldsRows};
 ghost use Rattle.bytes_printer.specs.Prints.{Prints, Within};
 ghost use Rattle.bytes_printer.specs.declared.Printed.the-variants.{Next};
 ghost use Rattle.panel_rows.specs.Rows.{entryWidth, entryRow};
@@ -106,7 +106,7 @@ pub(crate) fn print_rows(
     count: usize,
     collection: u64,
 ) -> Printed
-    ensures { λ r. ⌜ ((es : List Entry) → All FitsEntry es → Holds entryWidth count (now (table .entry)) (map entryRow es) → Within (now (out .entry)) from
+    ensures { λ r. ⌜ ((es : List Entry) → All FitsEntry es → HoldsRows entryWidth count (now (table .entry)) (map entryRow es) → Within (now (out .entry)) from
         → Prints (now (out .entry)) from (flatMap (rowPrint collection) es) (now (out .exit)) r) ⌝ }
 {
     let width = panel_rows::ENTRY_WIDTH;

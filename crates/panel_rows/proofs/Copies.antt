@@ -8,7 +8,7 @@ use borrow.Author.Tests.{le-leb, lt-leb}
 use borrow.Rule.Slice.PartMut.{midOf, putMid}
 use lib.Dec.{leb}
 use lib.ListN.{length, drop, length-append, length-drop}
-use Rattle.bytes_records.specs.Moves.{zeros, overwrite}
+use Rattle.bytes_records.specs.Moves.{zeros, overwriteRows}
 use Rattle.bytes_records.proofs.Parts.{lent}
 use Rattle.panel_rows.specs.Rows.{filledRow, writtenRow}
 use Rattle.panel_rows.specs.RowsLaws.{written-filled, written-left}
@@ -27,14 +27,14 @@ module _ (key value row : List ℕ) where
   row-left over = (sym (lt-leb (length key + length value) (length row) over), sym (written-left key value row over))
 
   -- a row that has one
-  module _ {one part : List ℕ} (room : length key + length value ≤ length row) (first : one ≡ overwrite key row)
-      (second : part ≡ overwrite value (midOf (length key) (length one - length key) one)) where
+  module _ {one part : List ℕ} (room : length key + length value ≤ length row) (first : one ≡ overwriteRows key row)
+      (second : part ≡ overwriteRows value (midOf (length key) (length one - length key) one)) where
     abbrev both : List ℕ
     both = putMid (length key) (length one - length key) one part
 
     both-is : both ≡ key ++ value ++ drop (length value) (drop (length key) row)
     both-is =
-        rest-lent one key (drop (length key) row) (length key) (overwrite value) first refl second
+        rest-lent one key (drop (length key) row) (length key) (overwriteRows value) first refl second
         ∙ sym (append-assoc key value (drop (length value) (drop (length key) row)))
 
     abbrev end : ℕ

@@ -15,7 +15,7 @@ use Rattle.spec_patch.specs.Patch.{Quad, N, F, T, S, Value, quad, signed, text,
 use Rattle.spec_patch.specs.Encode.{u32, quadByte, kindOf, valueBody, encodeText, encodeValue}
 use Rattle.spec_patch.specs.Fits.{Storable, StorableBy}
 use Rattle.spec_patch.specs.Read.{readValueBy}
-use Rattle.bytes_records.specs.Moves.{zeros, overwrite}
+use Rattle.bytes_records.specs.Moves.{zeros, overwriteRows}
 use Rattle.bytes_records.specs.MovesLaws.{drop-zeros}
 use Rattle.projection_patch.specs.Meaning.{quadTo, quadOf, valueTo, valueOf}
 use Rattle.projection_patch.specs.ReadAnswers.{lentPart, valueAnswer}
@@ -25,7 +25,7 @@ use Rattle.projection_patch.specs.declared.patch.ProjectionPatchValue.{Projecti
 use Rattle.projection_patch.specs.declared.read_values.ProjectionPatchReadFault.{ProjectionPatchReadFault}
 use Rattle.projection_patch.specs.declared.read_values.ValueRead.{ValueRead}
 use Rattle.projection_patch.specs.declared.read_values.ValueRead.the-variants as value-read
-use Rattle.patch_part_writer.specs.Extent.{valueText, Within}
+use Rattle.patch_part_writer.specs.Extent.{valueText, WithinTexts}
 use Rattle.panel_rows.specs.Rows.{valueWidth, padded}
 use Rattle.panel_rows.specs.RowsLaws.{read-padded}
 use Rattle.panel_rows.specs.Lookup.{quadNumber, foundValue}
@@ -56,12 +56,12 @@ module _ (row : List ℕ) (mark start len : ℕ) (inside : start + len ≤ lengt
   pub text-fits : {part : List ℕ} → part ≡ lentPart row start (start + len) → length part ≤ textBytes
   text-fits e = omega (arith, ap length (e ∙ text-lent), text-long)
 
-  pub as-text : {part copied : List ℕ} → part ≡ lentPart row start (start + len) → copied ≡ overwrite part (zeros textBytes)
+  pub as-text : {part copied : List ℕ} → part ≡ lentPart row start (start + len) → copied ≡ overwriteRows part (zeros textBytes)
       → _≡_ {A = ValueLookup} (record { found = true; mark = mark; kind = 3; quad = 0; signed = pos 0; unsigned = 0; «text_len» = len; text = copied }) (foundValue mark (text (take len (drop start row))))
   as-text {copied = copied} is e =
       let t = take len (drop start row) in
       let bytes : copied ≡ t ++ zeros (textBytes - length t) =
-      e ∙ ap (λ (l : List ℕ). overwrite l (zeros textBytes)) (is ∙ text-lent) ∙ ap (λ (l : List ℕ). t ++ l) (drop-zeros (length t) textBytes (omega (arith, text-long))) in
+      e ∙ ap (λ (l : List ℕ). overwriteRows l (zeros textBytes)) (is ∙ text-lent) ∙ ap (λ (l : List ℕ). t ++ l) (drop-zeros (length t) textBytes (omega (arith, text-long))) in
       λ i. record { found = true; mark = mark; kind = 3; quad = 0; signed = pos 0; unsigned = 0; «text_len» = sym text-long i; text = bytes i }
 
 -- ---- the value behind a position of a row
@@ -89,7 +89,7 @@ module _ (row : List ℕ) (at : ℕ) where
         ap (λ (l : List ℕ). take (length t) (drop (length row - length rest - length t) l)) whole ∙ ap (take (length t)) (drop-at pre (t ++ rest) (length row - length rest - length t) start) ∙ take-at t rest (length t) refl,
       )
 
-  value-there : (v : Value) → Storable v → drop at row ≡ padded v → Within row (valueText (valueTo (endOf row v) v)) × (valueOf row (valueTo (endOf row v) v) ≡ v)
+  value-there : (v : Value) → Storable v → drop at row ≡ padded v → WithinTexts row (valueText (valueTo (endOf row v) v)) × (valueOf row (valueTo (endOf row v) v) ≡ v)
   unfolding padded StorableBy
   value-there (quad q) h e = (record { inside = omega arith; short = omega arith }, ap quad (quad-back q))
   value-there (signed z) h e = (record { inside = omega arith; short = omega arith }, refl)
@@ -103,11 +103,11 @@ module _ (row : List ℕ) (at : ℕ) where
     reads : r ≡ value-read.Read (valueTo (endOf row v) v) (endOf row v)
     reads = answer-is ∙ ap (λ (l : List ℕ). valueAnswer (length row) (readValueBy false v2 l)) e ∙ ap (valueAnswer (length row)) (read-padded false v h)
 
-    pub value-read-back : (x : ProjectionPatchValue) (end : ℕ) → r ≡ value-read.Read x end → Within row (valueText x) × (valueOf row x ≡ v)
+    pub value-read-back : (x : ProjectionPatchValue) (end : ℕ) → r ≡ value-read.Read x end → WithinTexts row (valueText x) × (valueOf row x ≡ v)
     value-read-back x end f =
         let both : value-read.Read (valueTo (endOf row v) v) (endOf row v) ≡ value-read.Read x end = sym reads ∙ f in
         let same : valueTo (endOf row v) v ≡ x = cc both in
-        subst (λ y. Within row (valueText y) × (valueOf row y ≡ v)) same (value-there v h e)
+        subst (λ y. WithinTexts row (valueText y) × (valueOf row y ≡ v)) same (value-there v h e)
 
     pub value-not-refused : (f : ProjectionPatchReadFault) → r ≡ value-read.Refused f → ⊥
     value-not-refused f q = let z : _≡_ {A = ℕ} 0 1 = cc (sym q ∙ reads) in omega arith

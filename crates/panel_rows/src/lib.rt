@@ -4,7 +4,7 @@ pub mod values;
 pub mod written;
 
 ghost use mathlib.Core.Path.{_≡_};
-ghost use Rattle.projection_patch.specs.Meaning.{availabilityOf};
+ghost use Rattle.projection_patch.specs.Meaning.{availabilityValueOf};
 ghost use Rattle.spec_lengths.specs.Lengths.{lengthRecord};
 ghost use Rattle.panel_rows.specs.Rows.{availabilityRow, lengthRow};
 use patch_part_writer::fields as operation_fields;
@@ -60,7 +60,7 @@ pub fn availability_row(
     mark: u64,
     availability: ProjectionNodeAvailability,
 ) -> [u8; AVAILABILITY_WIDTH]
-    ensures { λ r. ⌜ r ≡ availabilityRow (record { node = node; mark = mark; availability = availabilityOf availability }) ⌝ }
+    ensures { λ r. ⌜ r ≡ availabilityRow (record { node = node; mark = mark; availability = availabilityValueOf availability }) ⌝ }
 {
     let mut row = [0u8; AVAILABILITY_WIDTH];
     bytes_wire::write_u64_at(&mut row, 0, node);

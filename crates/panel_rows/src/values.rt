@@ -5,7 +5,7 @@ ghost use lib.ListN.{length, take, drop};
 ghost use Rattle.spec_patch.specs.Sizes.{textBytes};
 ghost use Rattle.spec_patch.specs.Patch as model;
 ghost use Rattle.spec_patch.specs.Fits.{Storable};
-ghost use Rattle.patch_part_writer.specs.Extent.{valueText, Within};
+ghost use Rattle.patch_part_writer.specs.Extent.{valueText, WithinTexts};
 ghost use Rattle.projection_patch.specs.Meaning.{valueOf};
 ghost use Rattle.panel_rows.specs.Rows.{padded};
 ghost use Rattle.panel_rows.specs.Lookup.{quadNumber, noValue, foundQuad, foundValue};
@@ -150,7 +150,7 @@ fn quad_number(state: ProjectionQuadState) -> u8
 
 // A value whose text, if it is one, stands in row.
 fn value_lookup(row: &[u8], mark: u64, value: ProjectionPatchValue) -> ValueLookup
-    ensures { λ r. ⌜ (Within (now (row .entry)) (valueText value) → r ≡ foundValue mark (valueOf (now (row .entry)) value)) ⌝ }
+    ensures { λ r. ⌜ (WithinTexts (now (row .entry)) (valueText value) → r ≡ foundValue mark (valueOf (now (row .entry)) value)) ⌝ }
 {
     match value {
         ProjectionPatchValue::Quad(state) => quad_value(mark, quad_number(state)),

@@ -38,14 +38,14 @@ use Rattle.panel_plan.specs.PlanValid.{planned-fits}
 use Rattle.panel_plan.specs.SetValues.{valueIn, valueOffset, StandsAt}
 use Rattle.panel_plan.specs.SetValuesLaws.{value-there, value-stands}
 use Rattle.panel_plan.specs.SourcesLaws.{plan-sourced, operation-sourced}
-use Rattle.panel_bindings.specs.Change.{faultOf}
+use Rattle.panel_bindings.specs.Change.{applicationFaultOf}
 use Rattle.panel_bindings.specs.declared.LocalProjectionApplicationError.{LocalProjectionApplicationError}
 use Rattle.panel_operations.specs.OperationChange.{plannedOperation, OperationBecame}
 use Rattle.panel_operations.specs.OperationLaws.{planned-is}
 use Rattle.panel_operations.specs.declared.OperationChange.{OperationChange}
 use Rattle.panel_operations.specs.declared.OperationChange.the-variants as operation
 use Rattle.patch_walk.proofs.SetStep as set-steps
-use Rattle.panel_steps.specs.Runs.{headOf, RunBecame, PlannedAs}
+use Rattle.panel_steps.specs.Runs.{runHead, RunBecame, PlannedAs}
 use Rattle.panel_steps.specs.declared.HeadStep.the-variants as head-step
 use Rattle.panel_steps.specs.declared.PlanRun.{PlanRun}
 use Rattle.panel_steps.specs.declared.PlanRun.the-variants.{Planned, Refused}
@@ -83,13 +83,13 @@ pub record HeadAt (s : SetStep) (d : SetCursor) : Type 0 where
   pub head : ProjectionPatch
   pub is : s ≡ set-step.Head head d
 
-pub opened-step : (n : ProjectionCounts) (s : SetStep) (d : SetCursor) → head-step.Opened d ≡ headOf n s → HeadAt s d
+pub opened-step : (n : ProjectionCounts) (s : SetStep) (d : SetCursor) → head-step.Opened d ≡ runHead n s → HeadAt s d
 opened-step n (set-step.Head h x) d e = let same : x ≡ d = cc in record { head = h; is = ap (set-step.Head h) same }
 opened-step n (set-step.Operation x f) d e = absurd (let z : _≡_ {A = ℕ} 0 1 = cc in omega arith)
 opened-step n set-step.End d e = absurd (let z : _≡_ {A = ℕ} 0 1 = cc in omega arith)
 opened-step n (set-step.Refused f) d e = absurd (let z : _≡_ {A = ℕ} 0 1 = cc in omega arith)
 
-pub opened-within : (c : SetCursor) (size : ℕ) (n : ProjectionCounts) (s : SetStep) (d : SetCursor) → head-step.Opened d ≡ headOf n s → StepWithin c size s → (c .at < d .at) × (d .at ≤ size)
+pub opened-within : (c : SetCursor) (size : ℕ) (n : ProjectionCounts) (s : SetStep) (d : SetCursor) → head-step.Opened d ≡ runHead n s → StepWithin c size s → (c .at < d .at) × (d .at ≤ size)
 opened-within c size n s d e h = let x = opened-step n s d e in head-within c size (x .head) d (x .is) h
 
 -- ---- a run
@@ -106,7 +106,7 @@ pub record Running (ed : Edition) (p : Projection) (set : List ℕ) (c : SetCurs
 -- what an operation's answer makes of a run: it goes on, or its outcome is the operation's refusal
 abbrev After : Edition → Projection → List ℕ → SetCursor → (b a e : List ℕ) → Outcome → OperationChange → Type 0
 After ed p set d b a e whole (operation.Applied m) = Running ed p set d m b a e whole
-After ed p set d b a e whole (operation.Refused error) = whole ≡ stopped (faultOf error)
+After ed p set d b a e whole (operation.Refused error) = whole ≡ stopped (applicationFaultOf error)
 
 pub record Turned (ed : Edition) (p : Projection) (set : List ℕ) (d : SetCursor) (b a e : List ℕ) (whole : Outcome) (r : OperationChange) : Type 0 where
   after : After ed p set d b a e whole r
@@ -151,14 +151,14 @@ module _ {ed : Edition} {p : Projection} {set : List ℕ} where
     }
 
     -- the same of the step that was told
-    pub run-opened : {d : SetCursor} → head-step.Opened d ≡ headOf n (stepAnswer false ed c set) → Running ed p set d n b a e whole
+    pub run-opened : {d : SetCursor} → head-step.Opened d ≡ runHead n (stepAnswer false ed c set) → Running ed p set d n b a e whole
     run-opened {d} e = let x = opened-step n (stepAnswer false ed c set) d e in run-head (opened false ed set c (run .here) refl (x .head) d (x .is))
 
     -- where no operation is left the run ends at the end alone
-    pub run-ended : c .«operations_left» ≡ 0 → {r : PlanRun} → head-step.Ended r ≡ headOf n (stepAnswer false ed c set) → RunBecame (PlannedAs ed p set b a e) r whole
+    pub run-ended : c .«operations_left» ≡ 0 → {r : PlanRun} → head-step.Ended r ≡ runHead n (stepAnswer false ed c set) → RunBecame (PlannedAs ed p set b a e) r whole
     run-ended all-passed {r} told = go (stepAnswer false ed c set) refl told
       where
-        go : (s : SetStep) → s ≡ stepAnswer false ed c set → head-step.Ended r ≡ headOf n s → RunBecame (PlannedAs ed p set b a e) r whole
+        go : (s : SetStep) → s ≡ stepAnswer false ed c set → head-step.Ended r ≡ runHead n s → RunBecame (PlannedAs ed p set b a e) r whole
         go (set-step.Head h d) is t = absurd (let z : _≡_ {A = ℕ} 0 1 = cc in omega arith)
         go (set-step.Operation x d) is t = let v = visited false ed set c (run .here) is x d refl in absurd (omega (arith, all-passed, run .here .operations, ap length (v .is)))
         go set-step.End is t = let same : Planned n ≡ r = cc in subst (λ y. RunBecame (PlannedAs ed p set b a e) y whole) same (run-end (all-done false ed set c (run .here) is refl))

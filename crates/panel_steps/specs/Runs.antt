@@ -11,7 +11,7 @@ use Rattle.panel_plan.specs.Plan.{resolution}
 use Rattle.panel_plan.specs.PlanRows.{StoredPlan}
 use Rattle.panel_plan.specs.SetValues.{valueIn}
 use Rattle.panel_plan.specs.Sources.{SourcedPlan}
-use Rattle.panel_bindings.specs.Change.{faultOf}
+use Rattle.panel_bindings.specs.Change.{applicationFaultOf}
 use Rattle.projection_patch.specs.declared.read_values.ProjectionPatchReadFault.the-variants.{Malformed}
 use Rattle.patch_walk.specs.declared.SetStep.{SetStep}
 use Rattle.patch_walk.specs.declared.SetStep.the-variants as set-step
@@ -25,15 +25,15 @@ abbrev pub RunBecame : (ProjectionCounts → Projection → Type 0) → PlanRun 
 RunBecame Next (Planned n) (done q) = Next n q
 RunBecame Next (Planned n) (stopped f) = ⊥
 RunBecame Next (Refused e) (done q) = ⊥
-RunBecame Next (Refused e) (stopped f) = faultOf e ≡ f
+RunBecame Next (Refused e) (stopped f) = applicationFaultOf e ≡ f
 RunBecame Next (Unreadable f) x = ⊥
 
 -- what a step is to a walk that expects a patch's head or the end, with so many rows held
-abbrev pub headOf : ProjectionCounts → SetStep → HeadStep
-headOf held (set-step.Head h d) = head-step.Opened d
-headOf held (set-step.Operation x d) = head-step.Ended (Unreadable Malformed)
-headOf held set-step.End = head-step.Ended (Planned held)
-headOf held (set-step.Refused f) = head-step.Ended (Unreadable f)
+abbrev pub runHead : ProjectionCounts → SetStep → HeadStep
+runHead held (set-step.Head h d) = head-step.Opened d
+runHead held (set-step.Operation x d) = head-step.Ended (Unreadable Malformed)
+runHead held set-step.End = head-step.Ended (Planned held)
+runHead held (set-step.Refused f) = head-step.Ended (Unreadable f)
 
 -- tables that store a plan of the projection x, for a batch on p: its sources stand for values, and resolving them gives x
 pub record PlannedAs (ed : Edition) (p : Projection) (set b a e : List ℕ) (n : ProjectionCounts) (x : Projection) : Type 0 where

@@ -16,7 +16,7 @@ ghost use Rattle.patch_walk.specs.Steps.{stepAnswer, StepWithin, AtSteps};
 ghost use Rattle.panel_plan.specs.Plan.{planOf};
 ghost use Rattle.panel_plan.specs.PlanRows.{StoredPlan};
 ghost use Rattle.panel_plan.specs.SetValues.{valueOffset};
-ghost use Rattle.panel_steps.specs.Runs.{headOf, RunBecame, PlannedAs};
+ghost use Rattle.panel_steps.specs.Runs.{runHead, RunBecame, PlannedAs};
 use local_projection_state::LocalProjectionState;
 use local_projection_state::ProjectionCounts;
 use panel_bindings::LocalProjectionApplicationError;
@@ -65,7 +65,7 @@ fn next_head(
     held: ProjectionCounts,
     edition: ProjectionPatchEdition,
 ) -> HeadStep
-    ensures is { λ r. ⌜ r ≡ headOf held (stepAnswer false (editionOf edition) cursor (now (set .entry))) ⌝ }
+    ensures is { λ r. ⌜ r ≡ runHead held (stepAnswer false (editionOf edition) cursor (now (set .entry))) ⌝ }
     ensures within { λ r. ⌜ StepWithin cursor (length (now (set .entry))) (stepAnswer false (editionOf edition) cursor (now (set .entry))) ⌝ }
 {
     match patch_walk::next_step(set, cursor, false, edition) {

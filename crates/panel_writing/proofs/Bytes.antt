@@ -19,11 +19,11 @@ use Rattle.projection_patch.specs.ReadAnswers.{valueAnswer}
 use Rattle.projection_patch.specs.declared.patch.ProjectionPatchValue.{ProjectionPatchValue}
 use Rattle.projection_patch.specs.declared.read_values.ProjectionPatchReadFault.{ProjectionPatchReadFault}
 use Rattle.projection_patch.specs.declared.read_values.ValueRead.the-variants as value-read
-use Rattle.bytes_records.specs.Moves.{overwrite}
+use Rattle.bytes_records.specs.Moves.{overwriteRows}
 use Rattle.panel_rows.specs.Rows.{valueWidth, fieldAt}
 use Rattle.panel_rows.specs.RowsLaws.{length-written}
 use Rattle.panel_plan.specs.PlanRows.{sourceWidth}
-use Rattle.panel_writing.specs.Writing.{rowAt, bytesRead, sourceRow, plannedRow, Run}
+use Rattle.panel_writing.specs.Writing.{rowAt, bytesRead, sourceRow, plannedRow, RowRun}
 use Rattle.panel_writing.specs.WritingLaws.{source-old}
 
 module _ (set : List ℕ) (at : ℕ) where
@@ -68,7 +68,7 @@ drop-take (suc k) m zero (x ∷ l) e = absurd (omega arith)
 drop-take (suc k) m (suc n) (x ∷ l) e = drop-take k m n l (omega arith)
 
 module _ (key : ℕ) (plan : List ℕ) (i source : ℕ) where
-  pub run-of-one : Run key plan i source 1
+  pub run-of-one : RowRun key plan i source 1
   run-of-one k some h = absurd (omega arith)
 
   -- the source of a row is found where its row has it
@@ -78,7 +78,7 @@ module _ (key : ℕ) (plan : List ℕ) (i source : ℕ) where
       ap (λ (l : List ℕ). numberOf (take sourceWidth l)) (drop-take key sourceWidth (key + sourceWidth) rest refl) ∙ ap numberOf (take-take sourceWidth sourceWidth (drop key rest) (omega arith))
       ∙ ap (λ (l : List ℕ). numberOf (take sourceWidth l)) (drop-drop key (at * (key + sourceWidth)) plan)
 
-  pub run-and-next : (n : ℕ) → Run key plan i source n → fieldAt ((i + n) * (key + sourceWidth) + key) sourceWidth plan ≡ source + n → source + n < projectionEntries → Run key plan i source (n + 1)
+  pub run-and-next : (n : ℕ) → RowRun key plan i source n → fieldAt ((i + n) * (key + sourceWidth) + key) sourceWidth plan ≡ source + n → source + n < projectionEntries → RowRun key plan i source (n + 1)
   run-and-next n run e low k some h = next (eq-or-lt-of-le {n = k} {m = n} (omega arith))
     where
       next : (k ≡ n) ⊎ (k < n) → (fieldAt key sourceWidth (rowAt (key + sourceWidth) (i + k) plan) ≡ source + k) × (source + k < projectionEntries)
@@ -88,14 +88,14 @@ module _ (key : ℕ) (plan : List ℕ) (i source : ℕ) where
 -- ---- rows of the table before the batch, in one copy
 
 -- a copy is that of its parts
-overwrite-split : (a : ℕ) (s t : List ℕ) → a ≤ length t → overwrite (take (length t) s) t ≡ overwrite (take (length (take a t)) s) (take a t) ++ overwrite (take (length (drop a t)) (drop a s)) (drop a t)
+overwrite-split : (a : ℕ) (s t : List ℕ) → a ≤ length t → overwriteRows (take (length t) s) t ≡ overwriteRows (take (length (take a t)) s) (take a t) ++ overwriteRows (take (length (drop a t)) (drop a s)) (drop a t)
 overwrite-split zero s t h = refl
 overwrite-split (suc a) s [] h = absurd (omega arith)
 overwrite-split (suc a) [] (y ∷ t) h = rw (take-nil (length (drop a t))) (sym (ap (λ (l : List ℕ). y ∷ l) (take-append-drop a t)))
 overwrite-split (suc a) (x ∷ s) (y ∷ t) h = ap (λ (l : List ℕ). x ∷ l) (overwrite-split a s t (omega arith))
 
 -- the rows of a run, and the one behind them
-pub planned-splits : (ed : Edition) (key : ℕ) (plan from set : List ℕ) (i n : ℕ) → Run key plan i (fieldAt key sourceWidth (rowAt (key + sourceWidth) i plan)) n
+pub planned-splits : (ed : Edition) (key : ℕ) (plan from set : List ℕ) (i n : ℕ) → RowRun key plan i (fieldAt key sourceWidth (rowAt (key + sourceWidth) i plan)) n
     → (k : ℕ) → 1 ≤ k → k < n → (l : List ℕ) → length l ≡ k * (key + valueWidth) + (key + valueWidth)
     → planned ed key plan from set i l ≡ planned ed key plan from set i (take (k * (key + valueWidth)) l) ++ planned ed key plan from set (i + k) (drop (k * (key + valueWidth)) l)
 unfolding plannedRow
@@ -108,7 +108,7 @@ planned-splits ed key plan from set i n run k some h l size =
     let behind : drop (k * w) (drop (s * w) from) ≡ drop ((s + k) * w) from = drop-drop (k * w) (s * w) from ∙ ap (λ (m : ℕ). drop m from) (sym (add-mul s k w)) in
     source-old ed key (take key first) from set s l low ∙ overwrite-split (k * w) (drop (s * w) from) l (omega arith)
     ∙ ap₂ (λ (a b : List ℕ). a ++ b) (sym (source-old ed key (take key first) from set s (take (k * w) l) low))
-    (ap (λ (r : List ℕ). overwrite (take (length (drop (k * w) l)) r) (drop (k * w) l)) behind ∙ sym (source-old ed key (take key next) from set (s + k) (drop (k * w) l) (run k some h .1))
+    (ap (λ (r : List ℕ). overwriteRows (take (length (drop (k * w) l)) r) (drop (k * w) l)) behind ∙ sym (source-old ed key (take key next) from set (s + k) (drop (k * w) l) (run k some h .1))
     ∙ ap (λ (m : ℕ). sourceRow ed key (take key next) from set m (drop (k * w) l)) (sym (run k some h .0)))
 
 pub planned-by : (ed : Edition) (key : ℕ) (plan from set : List ℕ) (i : ℕ) (old : List ℕ) {row part : List ℕ} → row ≡ rowAt (key + sourceWidth) i plan

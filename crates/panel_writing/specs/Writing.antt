@@ -11,7 +11,7 @@ use Rattle.spec_patch.specs.Patch.{Value}
 use Rattle.spec_patch.specs.Edition.{Edition}
 use Rattle.spec_patch.specs.Reader.{Result, read, refused}
 use Rattle.spec_patch.specs.Read.{readValueBy}
-use Rattle.bytes_records.specs.Moves.{zeros, overwrite}
+use Rattle.bytes_records.specs.Moves.{zeros, overwriteRows}
 use Rattle.bytes_records.specs.Table.{tableBytes}
 use Rattle.panel_rows.specs.Rows.{valueWidth, fieldAt, writtenRow}
 use Rattle.panel_plan.specs.PlanRows.{sourceWidth}
@@ -33,15 +33,15 @@ valueBytes ed set at = bytesRead set at (readValueBy false ed (drop at set))
 -- that one on, as they are; or the ids and the mark, and a value of the set
 unfoldable pub sourceRow : Edition → (key : ℕ) (front from set : List ℕ) → ℕ → List ℕ → List ℕ
 sourceRow ed key front from set n old =
-    if ltb n projectionEntries then overwrite (take (length old) (drop (n * (key + valueWidth)) from)) old else writtenRow front (valueBytes ed set (n - projectionEntries)) old
+    if ltb n projectionEntries then overwriteRows (take (length old) (drop (n * (key + valueWidth)) from)) old else writtenRow front (valueBytes ed set (n - projectionEntries)) old
 
 -- the same by the plan's row
 unfoldable pub plannedRow : Edition → (key : ℕ) (row from set old : List ℕ) → List ℕ
 plannedRow ed key row from set old = sourceRow ed key (take key row) from set (fieldAt key sourceWidth row) old
 
 -- n rows of a plan, from the i-th on, that one copy writes: their sources follow each other in the table before the batch
-abbrev pub Run : (key : ℕ) (plan : List ℕ) (i source n : ℕ) → Type 0
-Run key plan i source n = (k : ℕ) → 1 ≤ k → k < n → (fieldAt key sourceWidth (rowAt (key + sourceWidth) (i + k) plan) ≡ source + k) × (source + k < projectionEntries)
+abbrev pub RowRun : (key : ℕ) (plan : List ℕ) (i source n : ℕ) → Type 0
+RowRun key plan i source n = (k : ℕ) → 1 ≤ k → k < n → (fieldAt key sourceWidth (rowAt (key + sourceWidth) (i + k) plan) ≡ source + k) × (source + k < projectionEntries)
 
 -- row i of the new table
 unfoldable pub newRow : Edition → (key : ℕ) (plan from set to : List ℕ) → ℕ → List ℕ

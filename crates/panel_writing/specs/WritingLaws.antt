@@ -21,7 +21,7 @@ use Rattle.spec_patch.specs.Fits.{U64, Storable, StorableBy, FitsValue}
 use Rattle.spec_patch.specs.Read.{readValueBy, readValue}
 use Rattle.spec_patch.specs.ReadLaws.{value-codec, value-codec-by, value-any}
 use Rattle.spec_projection.specs.MapLaws.{all-image}
-use Rattle.bytes_records.specs.Moves.{zeros, overwrite}
+use Rattle.bytes_records.specs.Moves.{zeros, overwriteRows}
 use Rattle.bytes_records.specs.MovesLaws.{drop-zeros}
 use Rattle.bytes_records.specs.Table.{Wide, tableBytes}
 use Rattle.bytes_records.specs.TableLaws.{row-at, length-flatten, zeros-split}
@@ -93,7 +93,7 @@ clear-behind-more used count width to room clear =
 -- ---- a source
 
 module _ (ed : Edition) (key : ℕ) (front from set : List ℕ) (n : ℕ) (old : List ℕ) where
-  pub source-old : n < projectionEntries → sourceRow ed key front from set n old ≡ overwrite (take (length old) (drop (n * (key + valueWidth)) from)) old
+  pub source-old : n < projectionEntries → sourceRow ed key front from set n old ≡ overwriteRows (take (length old) (drop (n * (key + valueWidth)) from)) old
   unfolding sourceRow
   source-old h = rw (lt-ltb n projectionEntries h)
 
@@ -101,7 +101,7 @@ module _ (ed : Edition) (key : ℕ) (front from set : List ℕ) (n : ℕ) (old :
   unfolding sourceRow
   source-new h = rw (le-ltb n projectionEntries h)
 
-overwrite-all : (s t : List ℕ) → length s ≡ length t → overwrite s t ≡ s
+overwrite-all : (s t : List ℕ) → length s ≡ length t → overwriteRows s t ≡ s
 overwrite-all s t e = ap (λ (l : List ℕ). s ++ l) (drop-of-length-le t {i = length s} (omega arith)) ∙ append-nil s
 
 value-long : (v : Value) → 1 ≤ length (encodeValue v)
@@ -201,8 +201,8 @@ module _ {A : Type 0} (ids : A → List ℕ) (value : A → Value) (planRow row 
         let w = key + valueWidth in
         let v = getD (map value l) i (quad N) in
         let long : length (front ++ padded v) ≡ length to = length-append front (padded v) ∙ omega (arith, length-padded v (stored-value l storable i below)) in
-        source-old ed key front from set i to (omega arith) ∙ ap (λ (k : ℕ). overwrite (take k (drop (i * w) from)) to) room
-        ∙ ap (λ (r : List ℕ). overwrite r to) (row-at (s .rows) i counted ∙ row-of l i below) ∙ overwrite-all (front ++ padded v) to long
+        source-old ed key front from set i to (omega arith) ∙ ap (λ (k : ℕ). overwriteRows (take k (drop (i * w) from)) to) room
+        ∙ ap (λ (r : List ℕ). overwriteRows r to) (row-at (s .rows) i counted ∙ row-of l i below) ∙ overwrite-all (front ++ padded v) to long
         ∙ ap (λ (y : Value). front ++ padded y) (sym (old-value (map value l) (valueIn ed set) i (omega arith)))
     source-written _ _ (from-set front at v rest fits e) to size room =
         let there : projectionEntries + at - projectionEntries ≡ at = omega arith in

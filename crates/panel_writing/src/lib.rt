@@ -18,7 +18,7 @@ ghost use Rattle.panel_plan.specs.Plan.{resolution};
 ghost use Rattle.panel_plan.specs.Resolved.{resolved};
 ghost use Rattle.panel_plan.specs.SetValues.{valueIn};
 ghost use Rattle.panel_plan.specs.Sources.{SourcedBinding, SourcedEntry};
-ghost use Rattle.panel_writing.specs.Writing.{rowAt, valueBytes, plannedRow, Run, newRow, rowsTo, canWrite, writtenTable, ClearBehind};
+ghost use Rattle.panel_writing.specs.Writing.{rowAt, valueBytes, plannedRow, RowRun, newRow, rowsTo, canWrite, writtenTable, ClearBehind};
 use local_projection_state::LocalProjectionState;
 use panel_plan::SOURCE_WIDTH;
 use panel_rows::fields;
@@ -94,7 +94,7 @@ fn has_source(plan: &[u8], at: usize, source: usize) -> bool
 // How many rows from the i-th on are written in one copy: old rows that follow each other, or one row.
 fn run_length(key: usize, plan: &[u8], count: usize, i: usize, source: usize) -> usize
     requires { ⌜ (key ≤ entryValueAt) × ((count ≤ projectionEntries) × (i < count)) ⌝ }
-    ensures { λ r. ⌜ (1 ≤ r) × ((i + r ≤ count) × Run key (now (plan .entry)) i source r) ⌝ }
+    ensures { λ r. ⌜ (1 ≤ r) × ((i + r ≤ count) × RowRun key (now (plan .entry)) i source r) ⌝ }
 {
     if LocalProjectionState::ENTRIES <= source {
         return 1;

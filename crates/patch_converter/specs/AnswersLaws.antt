@@ -10,7 +10,7 @@ use lib.ListN.{length, take, drop, length-append, length-drop}
 use lib.Seq.{take-at, length-take-le}
 use Rattle.spec_lists.specs.Bytes.{Bytes}
 use Rattle.spec_patch.specs.Patch.{Patch}
-use Rattle.spec_patch.specs.Edition.{Edition, digit}
+use Rattle.spec_patch.specs.Edition.{Edition, editionDigit}
 use Rattle.spec_patch.specs.Encode.{encode}
 use Rattle.spec_patch.specs.Reader.{malformed, overCapacity}
 use Rattle.spec_patch.specs.Read.{SetReading, patches, fault, readSet}
@@ -71,7 +71,7 @@ module _ (from : Edition) (set : List ℕ) where
             let none : leb (length (encode (otherEdition from) ps)) room ≡ false = lt-leb (length (encode (otherEdition from) ps)) room (omega (arith, long)) in
             rw (reads, kinds, none)
 
-        pub is-converted : length set ≤ room → convert from set room ≡ model.converted (take 30 set ++ (digit (otherEdition from) ∷ drop 31 set))
+        pub is-converted : length set ≤ room → convert from set room ≡ model.converted (take 30 set ++ (editionDigit (otherEdition from) ∷ drop 31 set))
         unfolding convert
         is-converted h =
             let to = otherEdition from in

@@ -3,7 +3,7 @@ ghost use mathlib.Core.Path.{_≡_};
 ghost use mathlib.Core.List.{List, _∷_, _++_};
 ghost use Prim.Native.Nat.{ℕ, _≤_};
 ghost use lib.ListN.{length, take, drop};
-ghost use Rattle.spec_patch.specs.Edition.{digit};
+ghost use Rattle.spec_patch.specs.Edition.{editionDigit};
 ghost use Rattle.spec_patch.specs.Read.{readSet};
 ghost use Rattle.spec_conversion.specs.Conversion.{otherEdition, conversionNumber, convert};
 ghost use Rattle.bytes_wire.specs.Write.{overwrite};
@@ -67,7 +67,7 @@ fn unread(fault: ProjectionPatchReadFault) -> ConversionRefusal
 // The set with the letter of the other edition.
 fn store_with_letter(set: &[u8], to: ProjectionPatchEdition, out: &mut [u8])
     requires { ⌜ (31 ≤ length (now set)) × (length (now set) ≤ length (now out)) ⌝ }
-    ensures { λ _. ⌜ now (out .exit) ≡ overwrite (now (out .entry)) 0 (take 30 (now (set .entry)) ++ (digit (editionOf to) ∷ drop 31 (now (set .entry)))) ⌝ }
+    ensures { λ _. ⌜ now (out .exit) ≡ overwrite (now (out .entry)) 0 (take 30 (now (set .entry)) ++ (editionDigit (editionOf to) ∷ drop 31 (now (set .entry)))) ⌝ }
 {
     bytes_wire::write_bytes_at(out, 0, &set[0..DIGIT_AT]);
     bytes_wire::write_u8_at(out, DIGIT_AT, edition_digit(to));

@@ -17,7 +17,7 @@ use Rattle.spec_checks.specs.Target.{mutationTarget}
 use Rattle.spec_checks.specs.PatchChecks.{isSelf, beforeSelf}
 use Rattle.spec_import.specs.Import as model
 use Rattle.spec_import.specs.Import.{Term, lines, keepsText, Terms, terms, faulty, also, readTerms, insertOf}
-use Rattle.spec_import.specs.LineLaws.{Kept}
+use Rattle.spec_import.specs.LineLaws.{KeptTerm}
 use Rattle.projection_patch.specs.Meaning.{operationOf}
 use Rattle.patch_part_writer.specs.Parts.{sizeWithin}
 use Rattle.patch_part_writer.specs.PartsLaws.{size-kept}
@@ -153,7 +153,7 @@ module _ (collection : ℕ) (x : Terms) where
 
 -- ---- few bytes
 
-pub bytes-few : (collection : ℕ) (ts : List Term) → All Kept ts → length (insertBytes collection ts) ≤ termBytes textBytes * length ts
+pub bytes-few : (collection : ℕ) (ts : List Term) → All KeptTerm ts → length (insertBytes collection ts) ≤ termBytes textBytes * length ts
 unfolding insertBytes flatMap keepsText insertOf encodeOperation encodeOptional encodeValue kindOf valueBody encodeText
 bytes-few collection [] k = omega arith
 bytes-few collection (t ∷ ts) k =

@@ -14,7 +14,7 @@ use Rattle.spec_import.specs.LineLaws.{terms-inj, lines-read}
 use Rattle.bytes_wire.specs.Write.{overwrite}
 use Rattle.bytes_wire.specs.WriteLaws.{overwrite-append}
 use Rattle.patch_writer.proofs.Progress.{Next}
-use Rattle.patch_terms.specs.Places.{firstLine}
+use Rattle.patch_terms.specs.Places.{firstTermLine}
 use Rattle.patch_terms.specs.Answers.{termAnswer, lineTo, lineAnswer, HoldsTerm}
 use Rattle.patch_terms.specs.declared.TermRead.{TermRead}
 use Rattle.patch_terms.specs.declared.TermRead.the-variants as term-read
@@ -61,12 +61,12 @@ module _ {list : List ℕ} {at : ℕ} {rest : List Term} (left : Left list at re
 
   -- so each holds a term
   pub left-holds : at < length list → HoldsTerm (drop at list)
-  left-holds more = go (termAnswer (firstLine (drop at list))) refl
+  left-holds more = go (termAnswer (firstTermLine (drop at list))) refl
     where
-      go : (r : TermRead) → termAnswer (firstLine (drop at list)) ≡ r → HoldsTerm (drop at list)
+      go : (r : TermRead) → termAnswer (firstTermLine (drop at list)) ≡ r → HoldsTerm (drop at list)
       go (term-read.Term k start) e = record { key = k; start = start; is = e }
-      go term-read.OtherForm e = left-other more (ap (lineTo at (at + length (firstLine (drop at list)))) e)
-      go term-read.OverCapacity e = left-over more (ap (lineTo at (at + length (firstLine (drop at list)))) e)
+      go term-read.OtherForm e = left-other more (ap (lineTo at (at + length (firstTermLine (drop at list)))) e)
+      go term-read.OverCapacity e = left-over more (ap (lineTo at (at + length (firstTermLine (drop at list)))) e)
 
   -- none is left behind the end
   pub left-end : length list ≤ at → rest ≡ []

@@ -5,7 +5,7 @@ ghost use mathlib.Core.List.{_++_};
 ghost use Prim.Native.Nat.{_+_, _≤_};
 ghost use lib.ListN.{length, take};
 ghost use Rattle.spec_import.specs.Import.{lines, readTerms};
-ghost use Rattle.check_targets.specs.Targets.{targetOf, numbersOf, targetSeen, withTarget};
+ghost use Rattle.check_targets.specs.Targets.{checkTargetOf, numbersOf, targetSeen, withTarget};
 ghost use Rattle.check_targets.specs.Marks.{markPlaces, Marked};
 ghost use Rattle.patch_import.specs.Survey.{patchNumbers, surveyOf};
 use crate::answer::ImportRefusal;
@@ -34,9 +34,9 @@ fn repeats(
     target: MutationTarget,
 ) -> bool
     requires { ⌜ (used + 3 ≤ length (now targets)) × Marked (now marks) (take used (now targets)) ⌝ }
-    ensures found { λ r. ⌜ r ≡ (repeated || targetSeen (targetOf target) (take used (now (targets .entry)))) ⌝ }
-    ensures kept { λ _. ⌜ now (targets .exit) ≡ withTarget used (targetOf target) (now (targets .entry)) ⌝ }
-    ensures marked { λ _. ⌜ Marked (now (marks .exit)) (take used (now (targets .entry)) ++ numbersOf (targetOf target)) ⌝ }
+    ensures found { λ r. ⌜ r ≡ (repeated || targetSeen (checkTargetOf target) (take used (now (targets .entry)))) ⌝ }
+    ensures kept { λ _. ⌜ now (targets .exit) ≡ withTarget used (checkTargetOf target) (now (targets .entry)) ⌝ }
+    ensures marked { λ _. ⌜ Marked (now (marks .exit)) (take used (now (targets .entry)) ++ numbersOf (checkTargetOf target)) ⌝ }
 {
     if check_targets::seen_by_mark(targets, marks, used, target) {
         return true;

@@ -33,22 +33,22 @@ ruleTo model.textLength = rules.TextLength
 ruleTo model.characterCount = rules.CharacterCount
 ruleTo model.bytesLeft = rules.BytesLeft
 
-abbrev pub ruleOf : ReadingRule → model.ReadingRule
-ruleOf rules.SetTooLong = model.setTooLong
-ruleOf rules.WrongHeading = model.wrongHeading
-ruleOf rules.TooFewBytes = model.tooFewBytes
-ruleOf rules.OperationTag = model.operationTag
-ruleOf rules.ValueKind = model.valueKind
-ruleOf rules.OptionalTag = model.optionalTag
-ruleOf rules.AvailabilityTag = model.availabilityTag
-ruleOf rules.QuadTag = model.quadTag
-ruleOf rules.ScoreRange = model.scoreRange
-ruleOf rules.NotUtf8 = model.notUtf8
-ruleOf rules.PatchCount = model.patchCount
-ruleOf rules.OperationCount = model.operationCount
-ruleOf rules.TextLength = model.textLength
-ruleOf rules.CharacterCount = model.characterCount
-ruleOf rules.BytesLeft = model.bytesLeft
+abbrev pub readingRuleOf : ReadingRule → model.ReadingRule
+readingRuleOf rules.SetTooLong = model.setTooLong
+readingRuleOf rules.WrongHeading = model.wrongHeading
+readingRuleOf rules.TooFewBytes = model.tooFewBytes
+readingRuleOf rules.OperationTag = model.operationTag
+readingRuleOf rules.ValueKind = model.valueKind
+readingRuleOf rules.OptionalTag = model.optionalTag
+readingRuleOf rules.AvailabilityTag = model.availabilityTag
+readingRuleOf rules.QuadTag = model.quadTag
+readingRuleOf rules.ScoreRange = model.scoreRange
+readingRuleOf rules.NotUtf8 = model.notUtf8
+readingRuleOf rules.PatchCount = model.patchCount
+readingRuleOf rules.OperationCount = model.operationCount
+readingRuleOf rules.TextLength = model.textLength
+readingRuleOf rules.CharacterCount = model.characterCount
+readingRuleOf rules.BytesLeft = model.bytesLeft
 
 -- the places, both ways
 abbrev pub insideTo : model.Inside → Inside
@@ -80,6 +80,6 @@ abbrev pub endTo : ℕ → Located → SetLocated
 endTo n (located.Past at) = if ltb at n then sets.Unread rules.BytesLeft insides.Outside at else sets.Read
 endTo n (located.Stop rule inside p) = sets.Unread rule inside p
 
-abbrev pub setAnswer : Option model.Unread → SetLocated
-setAnswer none = sets.Read
-setAnswer (some u) = sets.Unread (ruleTo (u .rule)) (insideTo (u .inside)) (u .position)
+abbrev pub locatedSet : Option model.Unread → SetLocated
+locatedSet none = sets.Read
+locatedSet (some u) = sets.Unread (ruleTo (u .rule)) (insideTo (u .inside)) (u .position)

@@ -13,8 +13,8 @@ use Rattle.spec_explain.specs.ReadingRule.{ReadingRule, notUtf8, operationCount
 use Rattle.spec_explain.specs.Locate.{Locator, past, stopAt, _⨟_, fieldThen, field, counted, within, locateOptional, locateAvailability, locateValue, locateOperation, locateEnvelope}
 
 -- a byte that is at most the highest
-unfoldable pub atMost : ReadingRule → ℕ → Locator
-atMost rule highest field = fieldThen byte (λ n rest. if leb n highest then past rest else stopAt rule field) field
+unfoldable pub fieldAtMost : ReadingRule → ℕ → Locator
+fieldAtMost rule highest field = fieldThen byte (λ n rest. if leb n highest then past rest else stopAt rule field) field
 
 -- the n bytes of a text behind its length, with which the first list begins
 unfoldable pub textAfter : List ℕ → ℕ → Locator

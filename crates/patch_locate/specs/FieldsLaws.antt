@@ -15,7 +15,7 @@ use Rattle.spec_explain.specs.ReadingRule.{quadTag, availabilityTag, scoreRange
 use Rattle.spec_explain.specs.Locate.{Located, past, stop, Locator, stopAt, goOn, _⨟_, field, byRow, locateOptional, locateQuad, locateAvailability, locateScore, locateValue, locateEnvelope}
 use Rattle.spec_explain.specs.SteadyLaws.{Steady}
 use Rattle.spec_explain.specs.SteadySetLaws.{steady-u64, steady-u32, steady-optional, steady-availability, steady-value}
-use Rattle.patch_locate.specs.Fields.{atMost, fieldOf, fieldsOf}
+use Rattle.patch_locate.specs.Fields.{fieldAtMost, fieldOf, fieldsOf}
 
 -- ---- tags that end, as one test
 
@@ -27,8 +27,8 @@ quad-row bs t rest false false true d p q r s = sym (rw (le-leb t 3 (omega (arit
 quad-row bs t rest false false false true p q r s = sym (rw (le-leb t 3 (omega (arith, eqb-true t 3 s))))
 quad-row bs t rest false false false false p q r s = sym (rw (lt-leb t 3 (omega (arith, eqb-false t 0 p, eqb-false t 1 q, eqb-false t 2 r, eqb-false t 3 s))))
 
-pub quad-is : (bs : List ℕ) → locateQuad bs ≡ atMost quadTag 3 bs
-unfolding locateQuad atMost byRow
+pub quad-is : (bs : List ℕ) → locateQuad bs ≡ fieldAtMost quadTag 3 bs
+unfolding locateQuad fieldAtMost byRow
 quad-is [] = refl
 quad-is (t ∷ rest) = quad-row (t ∷ rest) t rest (eqb t 0) (eqb t 1) (eqb t 2) (eqb t 3) refl refl refl refl
 
@@ -41,13 +41,13 @@ availability-row bs t rest false false false true e p q r s u = sym (rw (le-leb 
 availability-row bs t rest false false false false true p q r s u = sym (rw (le-leb t 4 (omega (arith, eqb-true t 4 u))))
 availability-row bs t rest false false false false false p q r s u = sym (rw (lt-leb t 4 (omega (arith, eqb-false t 0 p, eqb-false t 1 q, eqb-false t 2 r, eqb-false t 3 s, eqb-false t 4 u))))
 
-pub availability-is : (bs : List ℕ) → locateAvailability bs ≡ atMost availabilityTag 4 bs
-unfolding locateAvailability atMost byRow
+pub availability-is : (bs : List ℕ) → locateAvailability bs ≡ fieldAtMost availabilityTag 4 bs
+unfolding locateAvailability fieldAtMost byRow
 availability-is [] = refl
 availability-is (t ∷ rest) = availability-row (t ∷ rest) t rest (eqb t 0) (eqb t 1) (eqb t 2) (eqb t 3) (eqb t 4) refl refl refl refl refl
 
-pub score-is : (bs : List ℕ) → locateScore bs ≡ atMost scoreRange 100 bs
-unfolding locateScore atMost
+pub score-is : (bs : List ℕ) → locateScore bs ≡ fieldAtMost scoreRange 100 bs
+unfolding locateScore fieldAtMost
 score-is bs = refl
 
 -- ---- fields by their letters

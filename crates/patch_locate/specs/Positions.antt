@@ -16,8 +16,8 @@ use Rattle.spec_explain.specs.ReadingRule as model
 use Rattle.spec_explain.specs.Locate as locating
 use Rattle.spec_explain.specs.Locate.{Stop, Locator, stopAt, goOn, _⨟_, fieldThen, field}
 use Rattle.spec_explain.specs.SteadyLaws.{Steady}
-use Rattle.patch_locate.specs.Answers.{ruleTo, ruleOf, locatedAnswer}
-use Rattle.patch_locate.specs.Fields.{atMost}
+use Rattle.patch_locate.specs.Answers.{ruleTo, readingRuleOf, locatedAnswer}
+use Rattle.patch_locate.specs.Fields.{fieldAtMost}
 use Rattle.patch_locate.specs.declared.rules.ReadingRule.{ReadingRule}
 use Rattle.patch_locate.specs.declared.rules.ReadingRule.the-variants as rules
 use Rattle.patch_locate.specs.declared.rules.Inside.{Inside}
@@ -26,7 +26,7 @@ use Rattle.patch_locate.specs.declared.rules.Located.{Located}
 use Rattle.patch_locate.specs.declared.rules.Located.the-variants as located
 
 -- a rule is told as itself
-pub rule-back : (r : ReadingRule) → r ≡ ruleTo (ruleOf r)
+pub rule-back : (r : ReadingRule) → r ≡ ruleTo (readingRuleOf r)
 rule-back rules.SetTooLong = refl
 rule-back rules.WrongHeading = refl
 rule-back rules.TooFewBytes = refl
@@ -64,10 +64,10 @@ behind-parts part at taken rest e = test-cases (leb at (length part))
 
 module _ (part : List ℕ) (at : ℕ) where
   -- a stop at a position, which may be behind the end
-  pub stop-anywhere : (r : ReadingRule) → located.Stop r insides.Outside (length part - (length part - at)) ≡ locatedAnswer (length part) (stopAt (ruleOf r) (drop at part))
+  pub stop-anywhere : (r : ReadingRule) → located.Stop r insides.Outside (length part - (length part - at)) ≡ locatedAnswer (length part) (stopAt (readingRuleOf r) (drop at part))
   stop-anywhere r = ap₂ (λ (x : ReadingRule) (k : ℕ). located.Stop x insides.Outside (length part - k)) (rule-back r) (sym (length-drop at part))
 
-  pub stop-here : (r : ReadingRule) → at ≤ length part → located.Stop r insides.Outside at ≡ locatedAnswer (length part) (stopAt (ruleOf r) (drop at part))
+  pub stop-here : (r : ReadingRule) → at ≤ length part → located.Stop r insides.Outside at ≡ locatedAnswer (length part) (stopAt (readingRuleOf r) (drop at part))
   stop-here r h = let same : at ≡ length part - (length part - at) = omega arith in ap (λ (k : ℕ). located.Stop r insides.Outside k) same ∙ stop-anywhere r
 
   -- a position behind what was passed
@@ -97,29 +97,29 @@ module _ (part : List ℕ) (at : ℕ) where
   -- ---- a byte that is at most the highest
 
   module _ (r : ReadingRule) (highest : ℕ) where
-    pub at-most-lacking : length part ≤ at → located.Stop rules.TooFewBytes insides.Outside (length part - (length part - at)) ≡ locatedAnswer (length part) (atMost (ruleOf r) highest (drop at part))
-    unfolding atMost
-    at-most-lacking h = tag-lacking (λ n rest. if leb n highest then locating.past rest else stopAt (ruleOf r) (drop at part)) h
+    pub at-most-lacking : length part ≤ at → located.Stop rules.TooFewBytes insides.Outside (length part - (length part - at)) ≡ locatedAnswer (length part) (fieldAtMost (readingRuleOf r) highest (drop at part))
+    unfolding fieldAtMost
+    at-most-lacking h = tag-lacking (λ n rest. if leb n highest then locating.past rest else stopAt (readingRuleOf r) (drop at part)) h
 
-    pub at-most-past : at < length part → getD part at 0 ≤ highest → located.Past (at + 1) ≡ locatedAnswer (length part) (atMost (ruleOf r) highest (drop at part))
-    unfolding atMost
+    pub at-most-past : at < length part → getD part at 0 ≤ highest → located.Past (at + 1) ≡ locatedAnswer (length part) (fieldAtMost (readingRuleOf r) highest (drop at part))
+    unfolding fieldAtMost
     at-most-past h k =
         past-after
-        ∙ tag-there (λ n rest. if leb n highest then locating.past rest else stopAt (ruleOf r) (drop at part)) h (getD part at 0) refl
+        ∙ tag-there (λ n rest. if leb n highest then locating.past rest else stopAt (readingRuleOf r) (drop at part)) h (getD part at 0) refl
       where
-        past-after : located.Past (at + 1) ≡ locatedAnswer (length part) (if leb (getD part at 0) highest then locating.past (drop (at + 1) part) else stopAt (ruleOf r) (drop at part))
+        past-after : located.Past (at + 1) ≡ locatedAnswer (length part) (if leb (getD part at 0) highest then locating.past (drop (at + 1) part) else stopAt (readingRuleOf r) (drop at part))
         past-after =
             let same : at + 1 ≡ length part - length (drop (at + 1) part) = omega (arith, length-drop (at + 1) part) in
             rw (le-leb (getD part at 0) highest k) (ap located.Past same)
 
-    pub at-most-over : at < length part → highest < getD part at 0 → located.Stop r insides.Outside at ≡ locatedAnswer (length part) (atMost (ruleOf r) highest (drop at part))
-    unfolding atMost
+    pub at-most-over : at < length part → highest < getD part at 0 → located.Stop r insides.Outside at ≡ locatedAnswer (length part) (fieldAtMost (readingRuleOf r) highest (drop at part))
+    unfolding fieldAtMost
     at-most-over h k =
         stop-here r (omega arith)
         ∙ ap (locatedAnswer (length part)) (sym (over (leb (getD part at 0) highest) (lt-leb (getD part at 0) highest k)))
-        ∙ tag-there (λ n rest. if leb n highest then locating.past rest else stopAt (ruleOf r) (drop at part)) h (getD part at 0) refl
+        ∙ tag-there (λ n rest. if leb n highest then locating.past rest else stopAt (readingRuleOf r) (drop at part)) h (getD part at 0) refl
       where
-        over : (t : Bool) → t ≡ false → (if t then locating.past (drop (at + 1) part) else stopAt (ruleOf r) (drop at part)) ≡ stopAt (ruleOf r) (drop at part)
+        over : (t : Bool) → t ≡ false → (if t then locating.past (drop (at + 1) part) else stopAt (readingRuleOf r) (drop at part)) ≡ stopAt (readingRuleOf r) (drop at part)
         over t e = rw e
 
 -- ---- what follows what was passed

@@ -19,7 +19,7 @@ use Rattle.spec_explain.specs.Locate as locating
 use Rattle.spec_explain.specs.Locate.{Locator, stopAt, _⨟_, fieldThen, repeated, counted, placedStop, locatePatch, locateLetters, locatePatches, atEnd, stopOf, fromStart, locate}
 use Rattle.spec_explain.specs.SteadyLaws.{Steady, steady-within}
 use Rattle.spec_explain.specs.SteadySetLaws.{steady-operation, steady-patches}
-use Rattle.patch_locate.specs.Answers.{ruleTo, ruleOf, insideTo, insideOf, locatedAnswer, withinTo, endTo, setAnswer}
+use Rattle.patch_locate.specs.Answers.{ruleTo, readingRuleOf, insideTo, insideOf, locatedAnswer, withinTo, endTo, locatedSet}
 use Rattle.patch_locate.specs.Fields.{operationIn, patchFields}
 use Rattle.patch_locate.specs.Positions.{stop-anywhere, stop-here, tag-lacking, tag-there}
 use Rattle.patch_locate.specs.declared.rules.ReadingRule.{ReadingRule}
@@ -50,13 +50,13 @@ repeated-start l count bs = let all : count - 0 ≡ count = omega arith in ap (�
 -- ---- a count
 
 module _ (part : List ℕ) (at : ℕ) (rule : ReadingRule) (capacity : ℕ) (l : ℕ → Locator) where
-  pub count-lacking : {f : Fault} → readU32 (drop at part) ≡ refused f → located.Stop rules.TooFewBytes insides.Outside (length part - (length part - at)) ≡ locatedAnswer (length part) (counted (ruleOf rule) capacity l (drop at part))
+  pub count-lacking : {f : Fault} → readU32 (drop at part) ≡ refused f → located.Stop rules.TooFewBytes insides.Outside (length part - (length part - at)) ≡ locatedAnswer (length part) (counted (readingRuleOf rule) capacity l (drop at part))
   count-lacking e = rw e (stop-anywhere part at rules.TooFewBytes)
 
-  pub count-fits : (n : ℕ) → readU32 (drop at part) ≡ read n (drop (at + 4) part) → n ≤ capacity → locatedAnswer (length part) (repeated l 0 n (drop (at + 4) part)) ≡ locatedAnswer (length part) (counted (ruleOf rule) capacity l (drop at part))
+  pub count-fits : (n : ℕ) → readU32 (drop at part) ≡ read n (drop (at + 4) part) → n ≤ capacity → locatedAnswer (length part) (repeated l 0 n (drop (at + 4) part)) ≡ locatedAnswer (length part) (counted (readingRuleOf rule) capacity l (drop at part))
   count-fits n e h = rw (e, le-leb n capacity h)
 
-  pub count-over : (n : ℕ) → readU32 (drop at part) ≡ read n (drop (at + 4) part) → at ≤ length part → capacity < n → located.Stop rule insides.Outside at ≡ locatedAnswer (length part) (counted (ruleOf rule) capacity l (drop at part))
+  pub count-over : (n : ℕ) → readU32 (drop at part) ≡ read n (drop (at + 4) part) → at ≤ length part → capacity < n → located.Stop rule insides.Outside at ≡ locatedAnswer (length part) (counted (readingRuleOf rule) capacity l (drop at part))
   count-over n e room h = rw (e, lt-leb n capacity h) (stop-here part at rule room)
 
 -- ---- places
@@ -119,11 +119,11 @@ letters-end ls i h bs = rw (drop-of-length-le ls h)
 
 -- ---- the end
 
-pub end-is : (ed : Edition) (set : List ℕ) → length set ≤ setBytes → endTo (length set) (locatedAnswer (length set) (locatePatches ed set)) ≡ setAnswer (locate ed set)
+pub end-is : (ed : Edition) (set : List ℕ) → length set ≤ setBytes → endTo (length set) (locatedAnswer (length set) (locatePatches ed set)) ≡ locatedSet (locate ed set)
 unfolding locate stopOf atEnd
 end-is ed set h = rw (le-leb (length set) setBytes h) (by-way (locatePatches ed set) refl)
   where
-    by-way : (x : locating.Located) → locatePatches ed set ≡ x → endTo (length set) (locatedAnswer (length set) x) ≡ setAnswer (fromStart set (atEnd x))
+    by-way : (x : locating.Located) → locatePatches ed set ≡ x → endTo (length set) (locatedAnswer (length set) x) ≡ locatedSet (fromStart set (atEnd x))
     by-way (locating.past []) is =
         let same : length set - 0 ≡ length set = omega arith in
         ap (λ (t : Bool). if t then sets.Unread rules.BytesLeft insides.Outside (length set - 0) else sets.Read) (le-ltb (length set - 0) (length set) (omega arith))
@@ -133,9 +133,9 @@ end-is ed set h = rw (le-leb (length set) setBytes h) (by-way (locatePatches ed 
         ap (λ (t : Bool). if t then sets.Unread rules.BytesLeft insides.Outside (length set - length (b ∷ rest)) else sets.Read) (lt-ltb (length set - length (b ∷ rest)) (length set) (omega (arith, long)))
     by-way (locating.stop s) is = refl
 
-pub too-long : (ed : Edition) (set : List ℕ) → setBytes < length set → sets.Unread rules.SetTooLong insides.Outside 0 ≡ setAnswer (locate ed set)
+pub set-too-long : (ed : Edition) (set : List ℕ) → setBytes < length set → sets.Unread rules.SetTooLong insides.Outside 0 ≡ locatedSet (locate ed set)
 unfolding locate stopOf
-too-long ed set h =
+set-too-long ed set h =
     let start : 0 ≡ length set - length set = omega arith in
     rw (lt-leb (length set) setBytes h) (ap (λ (k : ℕ). sets.Unread rules.SetTooLong insides.Outside k) start)
 

@@ -7,8 +7,8 @@ ghost use Rattle.spec_patch.specs.Reader.{number};
 ghost use Rattle.spec_explain.specs.ReadingRule.{valueKind};
 ghost use Rattle.spec_explain.specs.Locate.{field, byRow, scoreRow, locateOptional, locateText, locateValue, locateOperation};
 ghost use Rattle.projection_patch.specs.Meaning.{editionOf};
-ghost use Rattle.patch_locate.specs.Answers.{ruleOf, locatedAnswer};
-ghost use Rattle.patch_locate.specs.Fields.{atMost, textAfter, fieldOf, fieldsOf};
+ghost use Rattle.patch_locate.specs.Answers.{readingRuleOf, locatedAnswer};
+ghost use Rattle.patch_locate.specs.Fields.{fieldAtMost, textAfter, fieldOf, fieldsOf};
 use crate::rules::Inside;
 use crate::rules::Located;
 use crate::rules::ReadingRule;
@@ -42,7 +42,7 @@ fn number_at(part: &[u8], at: usize, width: usize) -> Located
 
 // A byte that is at most the highest.
 fn byte_at_most(part: &[u8], at: usize, highest: u8, rule: ReadingRule) -> Located
-    ensures { λ r. ⌜ r ≡ locatedAnswer (length (now (part .entry))) (atMost (ruleOf rule) highest (drop at (now (part .entry)))) ⌝ }
+    ensures { λ r. ⌜ r ≡ locatedAnswer (length (now (part .entry))) (fieldAtMost (readingRuleOf rule) highest (drop at (now (part .entry)))) ⌝ }
 {
     if part.len() <= at {
         return stop_at(part.len(), at, ReadingRule::TooFewBytes);

@@ -7,7 +7,7 @@ ghost use Rattle.spec_patch.specs.Encode.{heading};
 ghost use Rattle.spec_explain.specs.ReadingRule.{patchCount, operationCount};
 ghost use Rattle.spec_explain.specs.Locate.{repeated, counted, locatePatch, locateLetters, locatePatches, locate};
 ghost use Rattle.projection_patch.specs.Meaning.{editionOf};
-ghost use Rattle.patch_locate.specs.Answers.{locatedAnswer, withinTo, endTo, setAnswer};
+ghost use Rattle.patch_locate.specs.Answers.{locatedAnswer, withinTo, endTo, locatedSet};
 ghost use Rattle.patch_locate.specs.Fields.{operationIn, patchFields};
 use crate::fields;
 use crate::rules::Inside;
@@ -183,7 +183,7 @@ fn at_end(bytes: usize, located: Located) -> SetLocated
 
 // Where the reading of a set stops, or that it is read.
 pub fn locate_set(set: &[u8], edition: ProjectionPatchEdition) -> SetLocated
-    ensures { λ r. ⌜ r ≡ setAnswer (locate (editionOf edition) (now (set .entry))) ⌝ }
+    ensures { λ r. ⌜ r ≡ locatedSet (locate (editionOf edition) (now (set .entry))) ⌝ }
 {
     if ProjectionPatchSet::BYTES < set.len() {
         return SetLocated::Unread(ReadingRule::SetTooLong, Inside::Outside, 0);

@@ -6,6 +6,6 @@ pub fails : (b : Bool) → not b ≡ true → b ≡ false
 fails true e = sym e
 fails false e = refl
 
-pub holds : (b : Bool) → not b ≡ false → b ≡ true
-holds true e = refl
-holds false e = sym e
+pub not-false-holds : (b : Bool) → not b ≡ false → b ≡ true
+not-false-holds true e = refl
+not-false-holds false e = sym e

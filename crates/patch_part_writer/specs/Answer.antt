@@ -11,10 +11,10 @@ use Rattle.patch_part_writer.specs.declared.written.WriteRefusal.the-var
 use Rattle.patch_part_writer.specs.declared.written.Written.{Written}
 use Rattle.patch_part_writer.specs.declared.written.Written.the-variants.{Wrote, Refused}
 
-abbrev pub refusalOf : WriteRefusal → model.WriteRefusal
-refusalOf OverCapacity = model.overCapacity
-refusalOf Malformed = model.malformed
-refusalOf OutputTooShort = model.outputTooShort
+abbrev pub writeRefusalOf : WriteRefusal → model.WriteRefusal
+writeRefusalOf OverCapacity = model.overCapacity
+writeRefusalOf Malformed = model.malformed
+writeRefusalOf OutputTooShort = model.outputTooShort
 
 abbrev pub refusalTo : model.WriteRefusal → WriteRefusal
 refusalTo model.overCapacity = OverCapacity
@@ -22,9 +22,9 @@ refusalTo model.malformed = Malformed
 refusalTo model.outputTooShort = OutputTooShort
 
 -- the position behind the bytes where there is room for them, else 14
-abbrev pub answerAt : List ℕ → ℕ → model.Written → Written
-answerAt out at (model.wrote bs) = if hasRoom out at (length bs) then Wrote (at + length bs) else Refused OutputTooShort
-answerAt out at (model.refused n) = Refused (refusalTo n)
+abbrev pub writtenAt : List ℕ → ℕ → model.Written → Written
+writtenAt out at (model.wrote bs) = if hasRoom out at (length bs) then Wrote (at + length bs) else Refused OutputTooShort
+writtenAt out at (model.refused n) = Refused (refusalTo n)
 
 -- the bytes in their place where there is room for them; a refusal leaves every byte as it was
 abbrev pub outputAt : List ℕ → ℕ → model.Written → List ℕ
@@ -39,9 +39,9 @@ withRoom room (model.wrote bs) = if leb (length bs) room then model.wrote bs els
 withRoom room (model.refused n) = model.refused n
 
 -- the length
-abbrev pub answerOf : model.Written → Written
-answerOf (model.wrote bs) = Wrote (length bs)
-answerOf (model.refused n) = Refused (refusalTo n)
+abbrev pub writeAnswerOf : model.Written → Written
+writeAnswerOf (model.wrote bs) = Wrote (length bs)
+writeAnswerOf (model.refused n) = Refused (refusalTo n)
 
 -- the bytes, and the rest of the output as it was
 abbrev pub outputOf : List ℕ → model.Written → List ℕ

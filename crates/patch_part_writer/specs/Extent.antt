@@ -60,6 +60,6 @@ operationText (CollectionRemove c k) = record { start = 0; len = 0 }
 operationText (CollectionMove c k b) = record { start = 0; len = 0 }
 
 -- a text that stands within the texts, and keeps its capacity
-pub record Within (texts : List ℕ) (t : TextPlace) : Type 0 where
+pub record WithinTexts (texts : List ℕ) (t : TextPlace) : Type 0 where
   pub inside : t .start + t .len ≤ length texts
   pub short : t .len ≤ textBytes

@@ -16,35 +16,35 @@ use Rattle.patch_part_writer.specs.declared.written.Written.the-variants
 use Rattle.patch_part_writer.specs.declared.written.WriteRefusal.{WriteRefusal}
 use Rattle.patch_part_writer.specs.declared.written.WriteRefusal.the-variants.{OverCapacity, Malformed, OutputTooShort}
 use Rattle.patch_part_writer.specs.Extent.{operationSize, operationText}
-use Rattle.patch_part_writer.specs.Answer.{refusalOf, refusalTo, answerAt, outputAt}
+use Rattle.patch_part_writer.specs.Answer.{writeRefusalOf, refusalTo, writtenAt, outputAt}
 use Rattle.patch_part_writer.specs.Parts.{sizeWithin}
 
 -- ---- the answer by the result
 
-same-refusal : (r : WriteRefusal) → r ≡ refusalTo (refusalOf r)
+same-refusal : (r : WriteRefusal) → r ≡ refusalTo (writeRefusalOf r)
 same-refusal OverCapacity = refl
 same-refusal Malformed = refl
 same-refusal OutputTooShort = refl
 
 module _ (out : List ℕ) (at : ℕ) where
   abbrev pub Answers : model.Written → Written → List ℕ → Type 0
-  Answers w r after = (r ≡ answerAt out at w) × (after ≡ outputAt out at w)
+  Answers w r after = (r ≡ writtenAt out at w) × (after ≡ outputAt out at w)
 
   pub answers-refused : {w : model.Written} {n : model.WriteRefusal} → w ≡ model.refused n → Answers w (Refused (refusalTo n)) out
-  answers-refused e = (sym (ap (answerAt out at) e), sym (ap (outputAt out at) e))
+  answers-refused e = (sym (ap (writtenAt out at) e), sym (ap (outputAt out at) e))
 
-  pub answers-refusal : {w : model.Written} (r : WriteRefusal) → w ≡ model.refused (refusalOf r) → Answers w (Refused r) out
+  pub answers-refusal : {w : model.Written} (r : WriteRefusal) → w ≡ model.refused (writeRefusalOf r) → Answers w (Refused r) out
   answers-refusal r e = (ap Refused (same-refusal r) ∙ answers-refused e .0, answers-refused e .1)
 
   module _ {w : model.Written} {bs : List ℕ} (e : w ≡ model.wrote bs) (n : ℕ) (long : length bs ≡ n) where
     pub answers-short : leb (at + n) (length out) ≡ false → Answers w (Refused OutputTooShort) out
     unfolding hasRoom
     answers-short h =
-        (sym (ap (answerAt out at) e ∙ rw (long, h)), sym (ap (outputAt out at) e ∙ overwrite-refused out at bs n long h))
+        (sym (ap (writtenAt out at) e ∙ rw (long, h)), sym (ap (outputAt out at) e ∙ overwrite-refused out at bs n long h))
 
     pub answers-wrote : leb (at + n) (length out) ≡ true → (after : List ℕ) → after ≡ overwrite out at bs → Answers w (Wrote (at + n)) after
     unfolding hasRoom
-    answers-wrote h after is = (sym (ap (answerAt out at) e ∙ rw (long, h)), is ∙ sym (ap (outputAt out at) e))
+    answers-wrote h after is = (sym (ap (writtenAt out at) e ∙ rw (long, h)), is ∙ sym (ap (outputAt out at) e))
 
 -- ---- the size of an operation
 

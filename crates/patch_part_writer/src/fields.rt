@@ -8,8 +8,8 @@ ghost use mir.Val.{ofZ};
 ghost use Rattle.spec_patch.specs.Sizes.{textBytes};
 ghost use Rattle.spec_patch.specs.Encode.{u32, u64, encodeOptional, encodeValue, quadByte, availabilityByte};
 ghost use Rattle.bytes_wire.specs.Write.{overwrite};
-ghost use Rattle.projection_patch.specs.Meaning.{beforeOf, quadOf, availabilityOf, valueOf};
-ghost use Rattle.patch_part_writer.specs.Extent.{beforeSize, valueSize, valueText, Within};
+ghost use Rattle.projection_patch.specs.Meaning.{beforeOf, quadOf, availabilityValueOf, valueOf};
+ghost use Rattle.patch_part_writer.specs.Extent.{beforeSize, valueSize, valueText, WithinTexts};
 use projection_patch::patch::OptionalKey;
 use projection_patch::patch::ProjectionNodeAvailability;
 use projection_patch::patch::ProjectionPatchValue;
@@ -84,7 +84,7 @@ fn quad_byte(state: ProjectionQuadState) -> u8
 }
 
 pub fn availability_byte(availability: ProjectionNodeAvailability) -> u8
-    ensures { λ r. ⌜ r ≡ availabilityByte (availabilityOf availability) ⌝ }
+    ensures { λ r. ⌜ r ≡ availabilityByte (availabilityValueOf availability) ⌝ }
 {
     match availability {
         ProjectionNodeAvailability::Available => 0,
@@ -96,7 +96,7 @@ pub fn availability_byte(availability: ProjectionNodeAvailability) -> u8
 }
 
 pub fn store_value(out: &mut [u8], at: usize, value: ProjectionPatchValue, texts: &[u8])
-    requires { ⌜ (at + valueSize value ≤ length (now out)) × Within (now texts) (valueText value) ⌝ }
+    requires { ⌜ (at + valueSize value ≤ length (now out)) × WithinTexts (now texts) (valueText value) ⌝ }
     ensures { λ _. ⌜ now (out .exit) ≡ overwrite (now (out .entry)) at (encodeValue (valueOf (now (texts .entry)) value)) ⌝ }
 {
     match value {

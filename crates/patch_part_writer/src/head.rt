@@ -4,7 +4,7 @@ ghost use mathlib.Core.List.{_++_};
 ghost use Prim.Native.Nat.{_+_, _≤_};
 ghost use lib.ListN.{length};
 ghost use Rattle.spec_patch.specs.Sizes.{setPatches, patchOperations};
-ghost use Rattle.spec_patch.specs.Edition.{digit};
+ghost use Rattle.spec_patch.specs.Edition.{editionDigit};
 ghost use Rattle.spec_patch.specs.Encode.{u32, u64, encodeOptional, encodeEnvelope, heading};
 ghost use Rattle.bytes_wire.specs.Write.{overwrite};
 ghost use Rattle.projection_patch.specs.Meaning.{editionOf, surfaceOf, envelopeOf};
@@ -21,7 +21,7 @@ pub const DIGIT_AT: usize = 30;
 
 // The last letter of the heading.
 pub fn edition_digit(edition: ProjectionPatchEdition) -> u8
-    ensures { λ r. ⌜ r ≡ digit (editionOf edition) ⌝ }
+    ensures { λ r. ⌜ r ≡ editionDigit (editionOf edition) ⌝ }
 {
     match edition {
         ProjectionPatchEdition::V1 => 49,

@@ -6,7 +6,7 @@ ghost use lib.ListN.{length};
 ghost use Rattle.spec_patch.specs.Encode.{u32, u64, encodeOptional, encodeValue, encodeOperation};
 ghost use Rattle.bytes_wire.specs.Write.{overwrite};
 ghost use Rattle.projection_patch.specs.Meaning.{beforeOf, valueOf, operationOf};
-ghost use Rattle.patch_part_writer.specs.Extent.{beforeSize, valueSize, operationSize, valueText, operationText, Within};
+ghost use Rattle.patch_part_writer.specs.Extent.{beforeSize, valueSize, operationSize, valueText, operationText, WithinTexts};
 use crate::extent::before_size;
 use crate::fields::availability_byte;
 use crate::fields::store_before;
@@ -26,7 +26,7 @@ fn store_binding(
     value: ProjectionPatchValue,
     texts: &[u8],
 )
-    requires { ⌜ (at + (13 + valueSize value) ≤ length (now out)) × Within (now texts) (valueText value) ⌝ }
+    requires { ⌜ (at + (13 + valueSize value) ≤ length (now out)) × WithinTexts (now texts) (valueText value) ⌝ }
     ensures { λ _. ⌜ now (out .exit) ≡ overwrite (now (out .entry)) at (1 ∷ u64 (target .node .0) ++ (u32 (target .slot .0) ++ encodeValue (valueOf (now (texts .entry)) value))) ⌝ }
 {
     let node = target.node;
@@ -53,7 +53,7 @@ fn store_insert(
     value: ProjectionPatchValue,
     texts: &[u8],
 )
-    requires { ⌜ (at + (17 + (beforeSize before + valueSize value)) ≤ length (now out)) × Within (now texts) (valueText value) ⌝ }
+    requires { ⌜ (at + (17 + (beforeSize before + valueSize value)) ≤ length (now out)) × WithinTexts (now texts) (valueText value) ⌝ }
     ensures { λ _. ⌜ now (out .exit) ≡ overwrite (now (out .entry)) at (3 ∷ u64 collection ++ (u64 key ++ (encodeOptional (beforeOf before) ++ encodeValue (valueOf (now (texts .entry)) value)))) ⌝ }
 {
     store_entry(out, at, 3, collection, key);
@@ -69,7 +69,7 @@ fn store_update(
     value: ProjectionPatchValue,
     texts: &[u8],
 )
-    requires { ⌜ (at + (17 + valueSize value) ≤ length (now out)) × Within (now texts) (valueText value) ⌝ }
+    requires { ⌜ (at + (17 + valueSize value) ≤ length (now out)) × WithinTexts (now texts) (valueText value) ⌝ }
     ensures { λ _. ⌜ now (out .exit) ≡ overwrite (now (out .entry)) at (4 ∷ u64 collection ++ (u64 key ++ encodeValue (valueOf (now (texts .entry)) value))) ⌝ }
 {
     store_entry(out, at, 4, collection, key);
@@ -86,7 +86,7 @@ fn store_move(out: &mut [u8], at: usize, collection: u64, key: u64, before: Opti
 
 // Whether RFC 3629 allows the text is tested before, once for the whole list.
 pub fn store_operation(out: &mut [u8], at: usize, operation: ProjectionPatchOperation, texts: &[u8])
-    requires { ⌜ (at + operationSize operation ≤ length (now out)) × Within (now texts) (operationText operation) ⌝ }
+    requires { ⌜ (at + operationSize operation ≤ length (now out)) × WithinTexts (now texts) (operationText operation) ⌝ }
     ensures { λ _. ⌜ now (out .exit) ≡ overwrite (now (out .entry)) at (encodeOperation (operationOf (now (texts .entry)) operation)) ⌝ }
 {
     match operation {

@@ -1,7 +1,7 @@
 // What writing answers.
 ghost use mathlib.Core.Path.{_≡_};
 ghost use Rattle.spec_patch.specs.Write.{writeNumber};
-ghost use Rattle.patch_part_writer.specs.Answer.{refusalOf};
+ghost use Rattle.patch_part_writer.specs.Answer.{writeRefusalOf};
 
 pub enum WriteRefusal {
     OverCapacity,
@@ -12,7 +12,7 @@ pub enum WriteRefusal {
 impl WriteRefusal {
     // 01's number.
     pub fn number(self) -> u64
-        ensures { λ r. ⌜ r ≡ writeNumber (refusalOf self) ⌝ }
+        ensures { λ r. ⌜ r ≡ writeNumber (writeRefusalOf self) ⌝ }
     {
         match self {
             WriteRefusal::OverCapacity => 12,

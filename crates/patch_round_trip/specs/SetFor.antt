@@ -39,30 +39,30 @@ placesFrom at (o ∷ os) =
     let size = length (encodeOperation o) in
     record { operation = shift at (operationTo size o) } ∷ placesFrom (at + size) os
 
-abbrev pub operationsOf : List model.Patch → List model.Operation
-operationsOf ps = flatMap (λ (p : model.Patch). p .operations) ps
+abbrev pub operationsFor : List model.Patch → List model.Operation
+operationsFor ps = flatMap (λ (p : model.Patch). p .operations) ps
 
 abbrev pub textsFor : List model.Patch → List ℕ
-textsFor ps = flatMap encodeOperation (operationsOf ps)
+textsFor ps = flatMap encodeOperation (operationsFor ps)
 
-abbrev pub headTo : model.Patch → ProjectionPatch
-headTo p = record { envelope = envelopeTo (p .envelope); «operation_count» = length (p .operations) }
+abbrev pub headFor : model.Patch → ProjectionPatch
+headFor p = record { envelope = envelopeTo (p .envelope); «operation_count» = length (p .operations) }
 
 -- what stands in a place that is not used
 abbrev pub noHead : ProjectionPatch
-noHead = headTo (record { envelope = record { id = 0; stream = 0; document = 0; surface = none; previous = 0; revision = 0; epoch = 0; sequence = 0 }; operations = [] })
+noHead = headFor (record { envelope = record { id = 0; stream = 0; document = 0; surface = none; previous = 0; revision = 0; epoch = 0; sequence = 0 }; operations = [] })
 
 abbrev pub noPlace : OperationPlace
 noPlace = record { operation = CollectionRemove (nodeTo 0) (keyTo 0) }
 
 abbrev pub placesFor : List model.Patch → List OperationPlace
-placesFor ps = placesFrom 0 (operationsOf ps)
+placesFor ps = placesFrom 0 (operationsFor ps)
 
 abbrev pub spareHeads : List model.Patch → List ProjectionPatch
 spareHeads ps = replicate (setPatches - length ps) noHead
 
 abbrev pub sparePlaces : List model.Patch → List OperationPlace
-sparePlaces ps = replicate (setPlaces - length (operationsOf ps)) noPlace
+sparePlaces ps = replicate (setPlaces - length (operationsFor ps)) noPlace
 
 unfoldable pub setFor : List model.Patch → ProjectionPatchSet
-setFor ps = record { «patch_count» = length ps; patches = map headTo ps ++ spareHeads ps; operations = placesFor ps ++ sparePlaces ps }
+setFor ps = record { «patch_count» = length ps; patches = map headFor ps ++ spareHeads ps; operations = placesFor ps ++ sparePlaces ps }

@@ -34,7 +34,7 @@ use Rattle.patch_part_writer.specs.ExtentLaws.{length-heading}
 use Rattle.patch_writer.specs.Set.{setPlaces, operationAt, listFrom, heads, listOf, operationTotal, used, headSizes, operationSizes, fewOperations, countsFit, insideAt, patchSetBytes}
 use Rattle.patch_writer.specs.SetLaws.{size-list}
 use Rattle.patch_writer.specs.CallLaws.{Arrays, written-back}
-use Rattle.patch_round_trip.specs.SetFor.{shiftValue, shift, placesFrom, operationsOf, textsFor, headTo, noHead, noPlace, placesFor, spareHeads, sparePlaces, setFor}
+use Rattle.patch_round_trip.specs.SetFor.{shiftValue, shift, placesFrom, operationsFor, textsFor, headFor, noHead, noPlace, placesFor, spareHeads, sparePlaces, setFor}
 
 -- ---- operations and their texts
 
@@ -112,34 +112,34 @@ envelope-back e =
     (λ (s : Option ℕ). record { id = e .id; stream = e .stream; document = e .document; surface = s; previous = e .previous; revision = e .revision; epoch = e .epoch; sequence = e .sequence })
     (surface-back (e .surface))
 
-total : (ps : List model.Patch) → operationTotal (map headTo ps) ≡ length (operationsOf ps)
+total : (ps : List model.Patch) → operationTotal (map headFor ps) ≡ length (operationsFor ps)
 unfolding operationTotal flatMap
 total [] = refl
-total (p ∷ ps) = ap (λ (n : ℕ). length (p .operations) + n) (total ps) ∙ sym (length-append (p .operations) (operationsOf ps))
+total (p ∷ ps) = ap (λ (n : ℕ). length (p .operations) + n) (total ps) ∙ sym (length-append (p .operations) (operationsFor ps))
 
-few-heads : (ed : Edition) (ps : List model.Patch) → All (FitsPatch ed) ps → all fewOperations (map headTo ps) ≡ true
+few-heads : (ed : Edition) (ps : List model.Patch) → All (FitsPatch ed) ps → all fewOperations (map headFor ps) ≡ true
 few-heads ed [] h = refl
 few-heads ed (p ∷ ps) h = ap₂ (λ (a b : Bool). a && b) (le-leb (length (p .operations)) patchOperations (h .0 .few)) (few-heads ed ps (h .1))
 
-few-operations : (ed : Edition) (ps : List model.Patch) → All (FitsPatch ed) ps → length (operationsOf ps) ≤ 128 * length ps
+few-operations : (ed : Edition) (ps : List model.Patch) → All (FitsPatch ed) ps → length (operationsFor ps) ≤ 128 * length ps
 unfolding flatMap
 few-operations ed [] h = omega arith
-few-operations ed (p ∷ ps) h = omega (arith, length-append (p .operations) (operationsOf ps), few-operations ed ps (h .1), h .0 .few)
+few-operations ed (p ∷ ps) h = omega (arith, length-append (p .operations) (operationsFor ps), few-operations ed ps (h .1), h .0 .few)
 
 -- ---- the list
 
 -- heads and places stand for the list, whatever is in the places behind
-list-back : (texts : List ℕ) (ps : List model.Patch) (places : List OperationPlace) (more : List model.Operation) → map (operationAt texts) places ≡ operationsOf ps ++ more
-    → listFrom texts (map headTo ps) places ≡ ps
+list-back : (texts : List ℕ) (ps : List model.Patch) (places : List OperationPlace) (more : List model.Operation) → map (operationAt texts) places ≡ operationsFor ps ++ more
+    → listFrom texts (map headFor ps) places ≡ ps
 unfolding listFrom flatMap
 list-back texts [] places more e = refl
 list-back texts (p ∷ ps) places more e =
     let f = operationAt texts in
     let n = length (p .operations) in
-    let parted = e ∙ append-assoc (p .operations) (operationsOf ps) more in
+    let parted = e ∙ append-assoc (p .operations) (operationsFor ps) more in
     ap₂ (λ (q : model.Patch) (qs : List model.Patch). q ∷ qs)
-    (ap₂ (λ (x : model.Envelope) (os : List model.Operation). record { envelope = x; operations = os }) (envelope-back (p .envelope)) (map-take f n places ∙ ap (take n) parted ∙ take-at (p .operations) (operationsOf ps ++ more) n refl))
-    (list-back texts ps (drop n places) more (map-drop f n places ∙ ap (drop n) parted ∙ drop-at (p .operations) (operationsOf ps ++ more) n refl))
+    (ap₂ (λ (x : model.Envelope) (os : List model.Operation). record { envelope = x; operations = os }) (envelope-back (p .envelope)) (map-take f n places ∙ ap (take n) parted ∙ take-at (p .operations) (operationsFor ps ++ more) n refl))
+    (list-back texts ps (drop n places) more (map-drop f n places ∙ ap (drop n) parted ∙ drop-at (p .operations) (operationsFor ps ++ more) n refl))
 
 -- ---- the arrays are large enough: 61 bytes at least for a patch, 10 for an operation, 35 for the heading
 
@@ -166,23 +166,23 @@ operation-sizes (p ∷ ps) = omega (arith, at-least-ten (p .operation), operatio
     at-least-ten (CollectionMove c k b) = omega arith
 
 module _ (ed : Edition) (ps : List model.Patch) (fits : Fits ed ps) where
-  stand : map (operationAt (textsFor ps)) (placesFor ps) ≡ operationsOf ps
-  stand = places-back [] (operationsOf ps)
+  stand : map (operationAt (textsFor ps)) (placesFor ps) ≡ operationsFor ps
+  stand = places-back [] (operationsFor ps)
 
-  total-places : operationTotal (map headTo ps) ≡ length (placesFor ps)
-  total-places = total ps ∙ sym (length-places 0 (operationsOf ps))
+  total-places : operationTotal (map headFor ps) ≡ length (placesFor ps)
+  total-places = total ps ∙ sym (length-places 0 (operationsFor ps))
 
-  whole : take (operationTotal (map headTo ps)) (placesFor ps) ≡ placesFor ps
+  whole : take (operationTotal (map headFor ps)) (placesFor ps) ≡ placesFor ps
   whole = ap (λ (n : ℕ). take n (placesFor ps)) total-places ∙ take-length (placesFor ps)
 
   inside : all (insideAt (textsFor ps)) (placesFor ps) ≡ true
-  inside = places-inside (textsFor ps) 0 (operationsOf ps) (omega arith)
+  inside = places-inside (textsFor ps) 0 (operationsFor ps) (omega arith)
 
-  size : length (flatMap encodePatch ps) ≡ headSizes (map headTo ps) + operationSizes (placesFor ps)
+  size : length (flatMap encodePatch ps) ≡ headSizes (map headFor ps) + operationSizes (placesFor ps)
   size =
-      ap (λ (l : List model.Patch). length (flatMap encodePatch l)) (sym (list-back (textsFor ps) ps (placesFor ps) [] (stand ∙ sym (append-nil (operationsOf ps)))))
-      ∙ size-list (textsFor ps) (map headTo ps) (placesFor ps) (omega (arith, total-places)) (ap (all (insideAt (textsFor ps))) whole ∙ inside)
-      ∙ ap (λ (l : List OperationPlace). headSizes (map headTo ps) + operationSizes l) whole
+      ap (λ (l : List model.Patch). length (flatMap encodePatch l)) (sym (list-back (textsFor ps) ps (placesFor ps) [] (stand ∙ sym (append-nil (operationsFor ps)))))
+      ∙ size-list (textsFor ps) (map headFor ps) (placesFor ps) (omega (arith, total-places)) (ap (all (insideAt (textsFor ps))) whole ∙ inside)
+      ∙ ap (λ (l : List OperationPlace). headSizes (map headFor ps) + operationSizes l) whole
 
   long : length (encode ed ps) ≡ 35 + length (flatMap encodePatch ps)
   unfolding encode encodeCounted
@@ -192,36 +192,36 @@ module _ (ed : Edition) (ps : List model.Patch) (fits : Fits ed ps) where
       ∙ ap (λ (n : ℕ). n + length (flatMap encodePatch ps)) (length-heading ed (length ps))
 
   -- no list that fits has more operations than there are places
-  pub enough-places : length (operationsOf ps) ≤ setPlaces
+  pub enough-places : length (operationsFor ps) ≤ setPlaces
   enough-places =
       omega (
         arith,
         fits .short,
         long,
         size,
-        head-sizes (map headTo ps),
-        length-map ps headTo,
+        head-sizes (map headFor ps),
+        length-map ps headFor,
         operation-sizes (placesFor ps),
-        length-places 0 (operationsOf ps),
+        length-places 0 (operationsFor ps),
         few-operations ed ps (fits .patches),
       )
 
   arrays : Arrays (setFor ps)
   unfolding setFor
   arrays = record {
-    patches = length-append (map headTo ps) (spareHeads ps) ∙ omega (arith, length-map ps headTo, length-replicate (setPatches - length ps) noHead, fits .few);
-    operations = length-append (placesFor ps) (sparePlaces ps) ∙ omega (arith, length-places 0 (operationsOf ps), length-replicate (setPlaces - length (operationsOf ps)) noPlace, enough-places);
+    patches = length-append (map headFor ps) (spareHeads ps) ∙ omega (arith, length-map ps headFor, length-replicate (setPatches - length ps) noHead, fits .few);
+    operations = length-append (placesFor ps) (sparePlaces ps) ∙ omega (arith, length-places 0 (operationsFor ps), length-replicate (setPlaces - length (operationsFor ps)) noPlace, enough-places);
   }
 
-  heads-are : heads (setFor ps) ≡ map headTo ps
+  heads-are : heads (setFor ps) ≡ map headFor ps
   unfolding setFor
-  heads-are = take-at (map headTo ps) (spareHeads ps) (length ps) (length-map ps headTo)
+  heads-are = take-at (map headFor ps) (spareHeads ps) (length ps) (length-map ps headFor)
 
   used-are : used (setFor ps) ≡ placesFor ps
   unfolding setFor
   used-are =
       ap (λ (hs : List ProjectionPatch). take (operationTotal hs) (setFor ps .operations)) heads-are
-      ∙ take-at (placesFor ps) (sparePlaces ps) (operationTotal (map headTo ps)) (sym total-places)
+      ∙ take-at (placesFor ps) (sparePlaces ps) (operationTotal (map headFor ps)) (sym total-places)
 
   counts : countsFit (setFor ps) ≡ true
   unfolding countsFit setFor
@@ -230,7 +230,7 @@ module _ (ed : Edition) (ps : List model.Patch) (fits : Fits ed ps) where
         le-leb (length ps) setPatches (fits .few),
         heads-are,
         few-heads ed ps (fits .patches),
-        le-leb (operationTotal (map headTo ps)) setPlaces (omega (arith, total ps, enough-places)),
+        le-leb (operationTotal (map headFor ps)) setPlaces (omega (arith, total ps, enough-places)),
       )
 
   -- the set stands for the list

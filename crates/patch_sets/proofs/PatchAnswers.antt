@@ -17,7 +17,7 @@ use Rattle.projection_patch.specs.declared.patch.ProjectionPatchEnvelope.{Proje
 use Rattle.projection_patch.specs.declared.read_values.ProjectionPatchReadFault.{ProjectionPatchReadFault}
 use Rattle.projection_patch.specs.declared.read_values.CountRead.{CountRead}
 use Rattle.projection_patch.specs.declared.read_values.CountRead.the-variants as count-read
-use Rattle.projection_patch.proofs.Answers.{Told, Got, NotGot, got, not-got, count-told}
+use Rattle.projection_patch.proofs.Answers.{ToldReading, Got, NotGot, got, not-got, count-told}
 use Rattle.patch_sets.specs.Walk.{readHeading, readHead}
 use Rattle.patch_sets.specs.HeadLaws.{heading-codec, head-codec}
 use Rattle.patch_sets.specs.SetAnswers.{envelopeAnswer, headTo, headAnswer}
@@ -26,7 +26,7 @@ use Rattle.patch_sets.specs.declared.EnvelopeRead.the-variants as envelo
 use Rattle.patch_sets.specs.declared.PatchHeadRead.{PatchHeadRead}
 use Rattle.patch_sets.specs.declared.PatchHeadRead.the-variants as head-read
 
-envelope-told : Told envelope-read.Read envelope-read.Refused
+envelope-told : ToldReading envelope-read.Read envelope-read.Refused
 envelope-told = record {
   value = λ x y m n e. cc;
   next = λ x y m n e. cc;
@@ -34,7 +34,7 @@ envelope-told = record {
   apart = λ x m f e. let z : _≡_ {A = ℕ} 0 1 = cc in omega arith;
 }
 
-pub head-told : Told head-read.Read head-read.Refused
+pub head-told : ToldReading head-read.Read head-read.Refused
 head-told = record {
   value = λ x y m n e. cc;
   next = λ x y m n e. cc;

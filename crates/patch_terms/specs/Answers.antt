@@ -12,7 +12,7 @@ use Rattle.patch_terms.specs.declared.TermRead.{TermRead}
 use Rattle.patch_terms.specs.declared.TermRead.the-variants as term-read
 use Rattle.patch_terms.specs.declared.LineRead.{LineRead}
 use Rattle.patch_terms.specs.declared.LineRead.the-variants as line-read
-use Rattle.patch_terms.specs.Places.{firstLine}
+use Rattle.patch_terms.specs.Places.{firstTermLine}
 
 -- a term whose text starts at a position, if it is within its limits
 abbrev pub keptAt : ℕ → Term → TermRead
@@ -38,10 +38,10 @@ lineTo at end term-read.OverCapacity = line-read.OverCapacity
 
 -- the line at a position where these bytes begin
 abbrev pub lineAnswer : ℕ → List ℕ → LineRead
-lineAnswer at bs = lineTo at (at + length (firstLine bs)) (termAnswer (firstLine bs))
+lineAnswer at bs = lineTo at (at + length (firstTermLine bs)) (termAnswer (firstTermLine bs))
 
 -- the first line of these bytes holds a term within its limits
 pub record HoldsTerm (bs : List ℕ) : Type 0 where
   pub key : ℕ
   pub start : ℕ
-  pub is : termAnswer (firstLine bs) ≡ term-read.Term key start
+  pub is : termAnswer (firstTermLine bs) ≡ term-read.Term key start

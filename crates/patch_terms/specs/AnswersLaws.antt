@@ -22,7 +22,7 @@ use Rattle.projection_patch.specs.declared.text_rule.TextJudgement.the-variants
 use Rattle.spec_import.specs.Import.{Term, termWith, termOfFields, readTerm, keepsText}
 use Rattle.spec_import.specs.FormLaws.{some-part}
 use Rattle.patch_terms.specs.declared.TermRead.the-variants.{Term as Read, OtherForm, OverCapacity}
-use Rattle.patch_terms.specs.Places.{placeOf}
+use Rattle.patch_terms.specs.Places.{bytePlaceOf}
 use Rattle.patch_terms.specs.PlacesLaws.{place-within, place-lacks, place-found, place-none}
 use Rattle.patch_terms.specs.Answers.{judgedTerm, termTo, termAnswer}
 
@@ -71,7 +71,7 @@ module _ (k start : ℕ) (t : List ℕ) where
 
 module _ (line : List ℕ) where
   abbrev at-tab : ℕ
-  at-tab = placeOf tab line
+  at-tab = bytePlaceOf tab line
 
   -- no tab
   pub line-whole : at-tab ≡ length line → OtherForm ≡ termAnswer line
@@ -89,16 +89,16 @@ module _ (line : List ℕ) where
     parted = ap (split tab) (place-found tab line found) ∙ split-part tab key behind (place-lacks tab line)
 
     -- a second tab
-    pub line-more : placeOf tab behind < length behind → OtherForm ≡ termAnswer line
+    pub line-more : bytePlaceOf tab behind < length behind → OtherForm ≡ termAnswer line
     unfolding readTerm termOfFields
     line-more h =
-        let first = take (placeOf tab behind) behind in
-        let rest = drop (suc (placeOf tab behind)) behind in
+        let first = take (bytePlaceOf tab behind) behind in
+        let rest = drop (suc (bytePlaceOf tab behind)) behind in
         let w = some-part tab rest in
         let three : split tab line ≡ key ∷ first ∷ w .0 ∷ w .1 = parted ∙ ap (λ (fs : List (List ℕ)). key ∷ fs) (ap (split tab) (place-found tab behind h) ∙ split-part tab first rest (place-lacks tab behind) ∙ ap (λ (fs : List (List ℕ)). first ∷ fs) (w .2)) in
         sym (ap (λ (fs : List (List ℕ)). termTo (length line) (termOfFields fs)) three)
 
-    module _ (only : placeOf tab behind ≡ length behind) where
+    module _ (only : bytePlaceOf tab behind ≡ length behind) where
       two : termAnswer line ≡ termTo (length line) (termWith (readDecimal key) behind)
       unfolding readTerm termOfFields
       two = ap (λ (fs : List (List ℕ)). termTo (length line) (termOfFields fs)) (parted ∙ ap (λ (fs : List (List ℕ)). key ∷ fs) (split-whole tab behind (place-none tab behind only)))
@@ -135,42 +135,42 @@ module _ (line : List ℕ) (k start : ℕ) (is : termAnswer line ≡ Read k star
   other-never e = absurd (let same : OtherForm ≡ Read k start = e ∙ is in let z : _≡_ {A = ℕ} 0 1 = cc in omega arith)
 
   -- it has a tab
-  pub known-tab : placeOf tab line < length line
+  pub known-tab : bytePlaceOf tab line < length line
   known-tab =
-      test-cases (eqb (placeOf tab line) (length line))
-      (λ e. other-never (line-whole line (eqb-true (placeOf tab line) (length line) e)))
-      (λ e. let apart = eqb-false (placeOf tab line) (length line) e in let within = place-within tab line in less apart within)
+      test-cases (eqb (bytePlaceOf tab line) (length line))
+      (λ e. other-never (line-whole line (eqb-true (bytePlaceOf tab line) (length line) e)))
+      (λ e. let apart = eqb-false (bytePlaceOf tab line) (length line) e in let within = place-within tab line in less apart within)
     where
       less : {m n : ℕ} → m ≢ n → m ≤ n → m < n
       less apart within = omega arith
 
-  known-only : let behind = drop (suc (placeOf tab line)) line in placeOf tab behind ≡ length behind
+  known-only : let behind = drop (suc (bytePlaceOf tab line)) line in bytePlaceOf tab behind ≡ length behind
   known-only =
-      let behind = drop (suc (placeOf tab line)) line in
-      test-cases (eqb (placeOf tab behind) (length behind))
-      (λ e. eqb-true (placeOf tab behind) (length behind) e)
-      (λ e. other-never (line-more line known-tab (less (eqb-false (placeOf tab behind) (length behind) e) (place-within tab behind))))
+      let behind = drop (suc (bytePlaceOf tab line)) line in
+      test-cases (eqb (bytePlaceOf tab behind) (length behind))
+      (λ e. eqb-true (bytePlaceOf tab behind) (length behind) e)
+      (λ e. other-never (line-more line known-tab (less (eqb-false (bytePlaceOf tab behind) (length behind) e) (place-within tab behind))))
     where
       less : {m n : ℕ} → m ≢ n → m ≤ n → m < n
       less apart within = omega arith
 
   -- its key stands before the tab, and its text behind it
-  pub known-key : (readDecimal (take (placeOf tab line) line) ≡ some k) × (start ≡ suc (placeOf tab line))
-  known-key = by-key (readDecimal (take (placeOf tab line) line)) refl
+  pub known-key : (readDecimal (take (bytePlaceOf tab line) line) ≡ some k) × (start ≡ suc (bytePlaceOf tab line))
+  known-key = by-key (readDecimal (take (bytePlaceOf tab line) line)) refl
     where
       behind : List ℕ
-      behind = drop (suc (placeOf tab line)) line
+      behind = drop (suc (bytePlaceOf tab line)) line
 
-      by-text : (n : ℕ) → readDecimal (take (placeOf tab line) line) ≡ some n → (a b : Bool) → allowed true behind ≡ a → keepsText (record { key = n; words = behind }) ≡ b → judgedTerm n (suc (placeOf tab line)) behind ≡ Read k start
-          → (readDecimal (take (placeOf tab line) line) ≡ some k) × (start ≡ suc (placeOf tab line))
+      by-text : (n : ℕ) → readDecimal (take (bytePlaceOf tab line) line) ≡ some n → (a b : Bool) → allowed true behind ≡ a → keepsText (record { key = n; words = behind }) ≡ b → judgedTerm n (suc (bytePlaceOf tab line)) behind ≡ Read k start
+          → (readDecimal (take (bytePlaceOf tab line) line) ≡ some k) × (start ≡ suc (bytePlaceOf tab line))
       by-text n h true true a b e =
-          let same : Read n (suc (placeOf tab line)) ≡ Read k start = rw (a, b) at e in
+          let same : Read n (suc (bytePlaceOf tab line)) ≡ Read k start = rw (a, b) at e in
           let keys : n ≡ k = cc in
-          let starts : suc (placeOf tab line) ≡ start = cc in
+          let starts : suc (bytePlaceOf tab line) ≡ start = cc in
           (h ∙ ap some keys, sym starts)
       by-text n h true false a b e = absurd (let z : _≡_ {A = ℕ} 0 1 = cc (rw (a, b) at e) in omega arith)
       by-text n h false b a c e = absurd (let z : _≡_ {A = ℕ} 0 1 = cc (rw a at e) in omega arith)
 
-      by-key : (o : Option ℕ) → readDecimal (take (placeOf tab line) line) ≡ o → (readDecimal (take (placeOf tab line) line) ≡ some k) × (start ≡ suc (placeOf tab line))
+      by-key : (o : Option ℕ) → readDecimal (take (bytePlaceOf tab line) line) ≡ o → (readDecimal (take (bytePlaceOf tab line) line) ≡ some k) × (start ≡ suc (bytePlaceOf tab line))
       by-key none h = other-never (line-unspelled line known-tab known-only h)
-      by-key (some n) h = by-text n h (allowed true behind) (keepsText (record { key = n; words = behind })) refl refl (line-judged line known-tab known-only n h (suc (placeOf tab line)) refl ∙ is)
+      by-key (some n) h = by-text n h (allowed true behind) (keepsText (record { key = n; words = behind })) refl refl (line-judged line known-tab known-only n h (suc (bytePlaceOf tab line)) refl ∙ is)

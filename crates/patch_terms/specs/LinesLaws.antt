@@ -17,7 +17,7 @@ use Rattle.spec_import.specs.LineLaws.{lineOf}
 use Rattle.spec_import.specs.FormLaws.{form-exactly}
 use Rattle.patch_terms.specs.declared.TermRead.the-variants as term-read
 use Rattle.patch_terms.specs.declared.LineRead.the-variants as line-read
-use Rattle.patch_terms.specs.Places.{placeOf, firstLine}
+use Rattle.patch_terms.specs.Places.{bytePlaceOf, firstTermLine}
 use Rattle.patch_terms.specs.PlacesLaws.{place-within, lines-at}
 use Rattle.patch_terms.specs.Answers.{termTo, lineTo, lineAnswer}
 
@@ -43,17 +43,17 @@ module _ (list : List ℕ) (at : ℕ) where
   bytes = drop at list
 
   abbrev first : List ℕ
-  first = firstLine bytes
+  first = firstTermLine bytes
 
   -- a term whose text stands in the list, and the next line behind it
   pub record TermAt (k start len next : ℕ) : Type 0 where
     pub holds : readTerm first ≡ some (termOf list k start len)
     pub kept : keepsText (termOf list k start len) ≡ true
-    pub ends : next ≡ suc (at + placeOf newline bytes)
+    pub ends : next ≡ suc (at + bytePlaceOf newline bytes)
     pub inside : start + len ≤ length list
 
-  first-long : length first ≡ placeOf newline bytes
-  first-long = length-take-le (placeOf newline bytes) bytes (place-within newline bytes)
+  first-long : length first ≡ bytePlaceOf newline bytes
+  first-long = length-take-le (bytePlaceOf newline bytes) bytes (place-within newline bytes)
 
   -- the words stand where the answer says
   words-at : (t : Term) → readTerm first ≡ some t → at ≤ length list → (start len : ℕ) → at + (length first - length (t .words)) ≡ start → (at + length first) - start ≡ len
@@ -61,7 +61,7 @@ module _ (list : List ℕ) (at : ℕ) where
   words-at t e low start len s l =
       let last = text-last first t e in
       let m = length (t .words) in
-      let n = placeOf newline bytes in
+      let n = bytePlaceOf newline bytes in
       let long : len ≡ m = omega (arith, last .1) in
       let size : (length first - m) ≡ (n - m) = ap (λ (x : ℕ). x - m) first-long in
       let same : take m (drop (n - m) bytes) ≡ t .words = sym (last-of-first bytes m n (omega (arith, last .1, first-long)) (place-within newline bytes)) ∙ ap (λ (x : ℕ). drop x first) (sym size) ∙ last .0 in (
@@ -93,7 +93,7 @@ module _ (list : List ℕ) (at : ℕ) where
   -- ---- the lines that are left
 
   module _ (n : ℕ) (more : at < length list) where
-    step : readTerms n (lines bytes) ≡ lineThen n (readTerm first) (readTerms (suc n) (lines (drop (suc (at + placeOf newline bytes)) list)))
+    step : readTerms n (lines bytes) ≡ lineThen n (readTerm first) (readTerms (suc n) (lines (drop (suc (at + bytePlaceOf newline bytes)) list)))
     unfolding readTerms
     step = ap (readTerms n) (lines-at list at more)
 
@@ -109,7 +109,7 @@ module _ (list : List ℕ) (at : ℕ) where
     unfolding lineThen
     reads-other e = step ∙ go (readTerm first) refl e
       where
-        go : (o : Option Term) → readTerm first ≡ o → lineTo at (at + length first) (termTo (length first) o) ≡ line-read.OtherForm → lineThen n (readTerm first) (readTerms (suc n) (lines (drop (suc (at + placeOf newline bytes)) list))) ≡ faulty otherForm
+        go : (o : Option Term) → readTerm first ≡ o → lineTo at (at + length first) (termTo (length first) o) ≡ line-read.OtherForm → lineThen n (readTerm first) (readTerms (suc n) (lines (drop (suc (at + bytePlaceOf newline bytes)) list))) ≡ faulty otherForm
         go none h e = rw h
         go (some t) h e =
             test-cases (keepsText t)
@@ -120,7 +120,7 @@ module _ (list : List ℕ) (at : ℕ) where
     unfolding lineThen
     reads-over e = step ∙ go (readTerm first) refl e
       where
-        go : (o : Option Term) → readTerm first ≡ o → lineTo at (at + length first) (termTo (length first) o) ≡ line-read.OverCapacity → lineThen n (readTerm first) (readTerms (suc n) (lines (drop (suc (at + placeOf newline bytes)) list))) ≡ faulty overCapacity
+        go : (o : Option Term) → readTerm first ≡ o → lineTo at (at + length first) (termTo (length first) o) ≡ line-read.OverCapacity → lineThen n (readTerm first) (readTerms (suc n) (lines (drop (suc (at + bytePlaceOf newline bytes)) list))) ≡ faulty overCapacity
         go none h e = absurd (let z : _≡_ {A = ℕ} 0 1 = cc in omega arith)
         go (some t) h e =
             test-cases (keepsText t)

@@ -7,14 +7,14 @@ use Rattle.spec_lists.specs.Lists.{if_then_else_}
 use Rattle.spec_listing.specs.Escapes.{newline}
 
 -- the index of the first such byte, or the length
-unfoldable pub placeOf : ℕ → List ℕ → ℕ
-placeOf byte [] = 0
-placeOf byte (b ∷ bs) = if eqb b byte then 0 else suc (placeOf byte bs)
+unfoldable pub bytePlaceOf : ℕ → List ℕ → ℕ
+bytePlaceOf byte [] = 0
+bytePlaceOf byte (b ∷ bs) = if eqb b byte then 0 else suc (bytePlaceOf byte bs)
 
 -- the bytes before the first newline
-abbrev pub firstLine : List ℕ → List ℕ
-firstLine bs = take (placeOf newline bs) bs
+abbrev pub firstTermLine : List ℕ → List ℕ
+firstTermLine bs = take (bytePlaceOf newline bs) bs
 
 -- the bytes behind it
 abbrev pub otherLines : List ℕ → List ℕ
-otherLines bs = drop (suc (placeOf newline bs)) bs
+otherLines bs = drop (suc (bytePlaceOf newline bs)) bs

@@ -13,23 +13,23 @@ use Rattle.spec_lists.specs.ListLaws.{test-cases}
 use Rattle.spec_listing.specs.Escapes.{newline}
 use Rattle.spec_listing.specs.Split.{prepend, lacks}
 use Rattle.spec_import.specs.Import.{lines}
-use Rattle.patch_terms.specs.Places.{placeOf, firstLine, otherLines}
+use Rattle.patch_terms.specs.Places.{bytePlaceOf, firstTermLine, otherLines}
 
 module _ (byte : ℕ) where
-  pub place-within : (l : List ℕ) → placeOf byte l ≤ length l
-  unfolding placeOf
+  pub place-within : (l : List ℕ) → bytePlaceOf byte l ≤ length l
+  unfolding bytePlaceOf
   place-within [] = omega arith
   place-within (b ∷ l) = test-cases (eqb b byte) (λ t. rw t (omega arith)) (λ t. rw t (omega (arith, place-within l)))
 
   -- none stands before it
-  pub place-lacks : (l : List ℕ) → lacks byte (take (placeOf byte l) l) ≡ true
-  unfolding placeOf
+  pub place-lacks : (l : List ℕ) → lacks byte (take (bytePlaceOf byte l) l) ≡ true
+  unfolding bytePlaceOf
   place-lacks [] = refl
   place-lacks (b ∷ l) = test-cases (eqb b byte) (λ t. rw t) (λ t. rw (t, t) (place-lacks l))
 
   -- the byte stands there
-  pub place-found : (l : List ℕ) → placeOf byte l < length l → l ≡ take (placeOf byte l) l ++ (byte ∷ drop (suc (placeOf byte l)) l)
-  unfolding placeOf
+  pub place-found : (l : List ℕ) → bytePlaceOf byte l < length l → l ≡ take (bytePlaceOf byte l) l ++ (byte ∷ drop (suc (bytePlaceOf byte l)) l)
+  unfolding bytePlaceOf
   place-found [] = λ h. absurd (omega arith)
   place-found (b ∷ l) =
       test-cases (eqb b byte)
@@ -37,39 +37,39 @@ module _ (byte : ℕ) where
       (λ t. rw t (λ h. ap (λ (r : List ℕ). b ∷ r) (place-found l (omega arith))))
 
   -- or there is none
-  pub place-none : (l : List ℕ) → placeOf byte l ≡ length l → lacks byte l ≡ true
-  place-none l h = ap (lacks byte) (sym (take-all (placeOf byte l) l (omega arith))) ∙ place-lacks l
+  pub place-none : (l : List ℕ) → bytePlaceOf byte l ≡ length l → lacks byte l ≡ true
+  place-none l h = ap (lacks byte) (sym (take-all (bytePlaceOf byte l) l (omega arith))) ∙ place-lacks l
 
   -- ---- the scan: what is left answers as the whole does
 
-  pub place-turn : (l : List ℕ) (i : ℕ) → i < length l → getD l i 0 ≢ byte → i + placeOf byte (drop i l) ≡ i + 1 + placeOf byte (drop (i + 1) l)
-  unfolding placeOf
+  pub place-turn : (l : List ℕ) (i : ℕ) → i < length l → getD l i 0 ≢ byte → i + bytePlaceOf byte (drop i l) ≡ i + 1 + bytePlaceOf byte (drop (i + 1) l)
+  unfolding bytePlaceOf
   place-turn l i h e =
       let next : suc i ≡ i + 1 = omega arith in
-      rw (drop-cons l i 0 h, ne-eqb (getD l i 0) byte e) (sym (ap (λ (n : ℕ). n + placeOf byte (drop n l)) (sym next) ∙ omega arith))
+      rw (drop-cons l i 0 h, ne-eqb (getD l i 0) byte e) (sym (ap (λ (n : ℕ). n + bytePlaceOf byte (drop n l)) (sym next) ∙ omega arith))
 
-  pub place-here : (l : List ℕ) (i : ℕ) → i < length l → getD l i 0 ≡ byte → i + placeOf byte (drop i l) ≡ i
-  unfolding placeOf
+  pub place-here : (l : List ℕ) (i : ℕ) → i < length l → getD l i 0 ≡ byte → i + bytePlaceOf byte (drop i l) ≡ i
+  unfolding bytePlaceOf
   place-here l i h e = rw (drop-cons l i 0 h, eq-eqb (getD l i 0) byte e) (omega arith)
 
-  pub place-end : (l : List ℕ) (i : ℕ) → length l ≤ i → i + placeOf byte (drop i l) ≡ i
-  unfolding placeOf
+  pub place-end : (l : List ℕ) (i : ℕ) → length l ≤ i → i + bytePlaceOf byte (drop i l) ≡ i
+  unfolding bytePlaceOf
   place-end l i h = rw (drop-of-length-le l {i = i} h) (omega arith)
 
 -- ---- lines
 
 -- a list with bytes has a first line, and the others behind it
-lines-first : (b : ℕ) (bs : List ℕ) → lines (b ∷ bs) ≡ firstLine (b ∷ bs) ∷ lines (otherLines (b ∷ bs))
-unfolding lines prepend placeOf
+lines-first : (b : ℕ) (bs : List ℕ) → lines (b ∷ bs) ≡ firstTermLine (b ∷ bs) ∷ lines (otherLines (b ∷ bs))
+unfolding lines prepend bytePlaceOf
 lines-first b [] = test-cases (eqb b newline) (λ t. rw t) (λ t. rw t)
 lines-first b (c ∷ bs) =
     let later = ap (prepend b) (lines-first c bs) in
     test-cases (eqb b newline) (λ t. rw t) (λ t. rw t later)
 
 -- and so has the list from a position on
-pub lines-at : (l : List ℕ) (at : ℕ) → at < length l → lines (drop at l) ≡ firstLine (drop at l) ∷ lines (drop (suc (at + placeOf newline (drop at l))) l)
+pub lines-at : (l : List ℕ) (at : ℕ) → at < length l → lines (drop at l) ≡ firstTermLine (drop at l) ∷ lines (drop (suc (at + bytePlaceOf newline (drop at l))) l)
 lines-at l at h =
     let here = drop-cons l at 0 h in
-    let first : lines (drop at l) ≡ firstLine (drop at l) ∷ lines (otherLines (drop at l)) = rw here (lines-first (getD l at 0) (drop (suc at) l)) in
-    let behind : at + suc (placeOf newline (drop at l)) ≡ suc (at + placeOf newline (drop at l)) = omega arith in
-    first ∙ ap (λ (r : List ℕ). firstLine (drop at l) ∷ lines r) (drop-drop (suc (placeOf newline (drop at l))) at l ∙ ap (λ (n : ℕ). drop n l) behind)
+    let first : lines (drop at l) ≡ firstTermLine (drop at l) ∷ lines (otherLines (drop at l)) = rw here (lines-first (getD l at 0) (drop (suc at) l)) in
+    let behind : at + suc (bytePlaceOf newline (drop at l)) ≡ suc (at + bytePlaceOf newline (drop at l)) = omega arith in
+    first ∙ ap (λ (r : List ℕ). firstTermLine (drop at l) ∷ lines r) (drop-drop (suc (bytePlaceOf newline (drop at l))) at l ∙ ap (λ (n : ℕ). drop n l) behind)

@@ -2,7 +2,7 @@
 ghost use mathlib.Core.Path.{_≡_};
 ghost use Prim.Native.Nat.{_≤_};
 ghost use lib.ListN.{length, drop};
-ghost use Rattle.patch_terms.specs.Places.{placeOf};
+ghost use Rattle.patch_terms.specs.Places.{bytePlaceOf};
 ghost use Rattle.patch_terms.specs.Answers.{judgedTerm, termAnswer, lineAnswer, HoldsTerm};
 use bytes_decimal::ReadU64;
 use projection_patch::patch::ProjectionPatchValue;
@@ -34,7 +34,7 @@ pub enum LineRead {
 
 // The index of the first such byte, or the length where there is none.
 fn place_of(bytes: &[u8], byte: u8) -> usize
-    ensures { λ r. ⌜ r ≡ placeOf byte (now (bytes .entry)) ⌝ }
+    ensures { λ r. ⌜ r ≡ bytePlaceOf byte (now (bytes .entry)) ⌝ }
 {
     let mut i = 0;
     while i < bytes.len() {

@@ -60,5 +60,5 @@ noPatch = record {
   «operation_count» = 0;
 }
 
-abbrev pub noPlace : OperationPlace
-noPlace = record { operation = SetBindingValue (record { node = record { 0 = 0 }; slot = record { 0 = 0 } }) (Quad quad.N) }
+abbrev pub no-text-place : OperationPlace
+no-text-place = record { operation = SetBindingValue (record { node = record { 0 = 0 }; slot = record { 0 = 0 } }) (Quad quad.N) }

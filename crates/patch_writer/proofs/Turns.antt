@@ -12,14 +12,14 @@ use Rattle.projection_patch.specs.Meaning.{envelopeOf}
 use Rattle.projection_patch.specs.declared.patch.ProjectionPatch.{ProjectionPatch}
 use Rattle.projection_patch.specs.declared.patch.OperationPlace.{OperationPlace}
 use Rattle.projection_patch.specs.declared.patch.ProjectionPatchSet.{ProjectionPatchSet}
-use Rattle.patch_part_writer.specs.Extent.{headSize, operationSize, operationText, Within}
+use Rattle.patch_part_writer.specs.Extent.{headSize, operationSize, operationText, WithinTexts}
 use Rattle.patch_part_writer.specs.ExtentLaws.{length-head, length-operation}
 use Rattle.patch_part_writer.specs.Parts.{sizeWithin}
 use Rattle.patch_part_writer.specs.PartsLaws.{size-kept}
 use Rattle.patch_writer.specs.Set.{operationAt, listFrom, heads, operationTotal, fewOperations, shortAt, insideAt}
 use Rattle.patch_writer.specs.CallLaws.{Arrays, few-patches, few-operations, enough-places, many-heads}
-use Rattle.patch_writer.specs.Survey.{Ready}
-use Rattle.patch_writer.proofs.Elements.{left-cons, whole-cons, each, noPatch, noPlace}
+use Rattle.patch_writer.specs.Survey.{ReadyToWrite}
+use Rattle.patch_writer.proofs.Elements.{left-cons, whole-cons, each, noPatch, no-text-place}
 use Rattle.patch_writer.proofs.Progress.{Next}
 
 -- the bytes of operations
@@ -128,10 +128,10 @@ module _ (texts : List ℕ) (hs : List ProjectionPatch) (ps : List OperationPlac
 -- where a pass over a set stands: p heads and i operations are written, the last patch lacks `left` operations, and `turns` turns are left
 pub record Standing (texts : List ℕ) (set : ProjectionPatchSet) (operations room at p i left turns : ℕ) : Type 0 where
   pub arrays : Arrays set
-  pub ready : Ready texts set operations room at
+  pub ready : ReadyToWrite texts set operations room at
   pub counts : Counts (heads set) p i left turns
 
-module _ (texts : List ℕ) (set : ProjectionPatchSet) (arrays : Arrays set) {operations room at : ℕ} (ready : Ready texts set operations room at) where
+module _ (texts : List ℕ) (set : ProjectionPatchSet) (arrays : Arrays set) {operations room at : ℕ} (ready : ReadyToWrite texts set operations room at) where
   pub few-turns : set .«patch_count» + operations ≤ 3184
   few-turns = omega (arith, arrays .operations, few-patches texts set arrays (ready .fit), enough-places texts set arrays (ready .fit), ready .counted)
 
@@ -174,7 +174,7 @@ module _ {texts : List ℕ} {set : ProjectionPatchSet} {operations room at p i l
 
   module _ (more : 0 < left) where
     abbrev place : OperationPlace
-    place = getD (set .operations) i noPlace
+    place = getD (set .operations) i no-text-place
 
     place-index : i < operationTotal (heads set)
     place-index = place-left (heads set) p i left turns (here .counts) more
@@ -182,10 +182,10 @@ module _ {texts : List ℕ} {set : ProjectionPatchSet} {operations room at p i l
     pub small-place-index : i < 3120
     small-place-index = omega (arith, place-index, enough, here .arrays .operations)
 
-    pub place-within : Within texts (operationText (place .operation))
+    pub place-within : WithinTexts texts (operationText (place .operation))
     place-within = record {
-      inside = leb-true (operationText (place .operation) .start + operationText (place .operation) .len) (length texts) (each (insideAt texts) (operationTotal (heads set)) (set .operations) i noPlace (here .ready .inside) place-index enough);
-      short = leb-true (operationText (place .operation) .len) textBytes (each shortAt (operationTotal (heads set)) (set .operations) i noPlace (here .ready .short) place-index enough);
+      inside = leb-true (operationText (place .operation) .start + operationText (place .operation) .len) (length texts) (each (insideAt texts) (operationTotal (heads set)) (set .operations) i no-text-place (here .ready .inside) place-index enough);
+      short = leb-true (operationText (place .operation) .len) textBytes (each shortAt (operationTotal (heads set)) (set .operations) i no-text-place (here .ready .short) place-index enough);
     }
 
     pub place-size : sizeWithin (place .operation) ≡ operationSize (place .operation)
@@ -195,7 +195,7 @@ module _ {texts : List ℕ} {set : ProjectionPatchSet} {operations room at p i l
     operation-next = record {
       parted =
           rest-operation texts (heads set) (set .operations) p i left place more
-          (whole-cons (set .operations) i noPlace (omega (arith, place-index, enough)));
+          (whole-cons (set .operations) i no-text-place (omega (arith, place-index, enough)));
       long = length-operation texts (place .operation) (place-within .inside);
     }
 

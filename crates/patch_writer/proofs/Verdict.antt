@@ -24,7 +24,7 @@ use Rattle.patch_part_writer.specs.declared.written.WriteRefusal.the-variants a
 use Rattle.patch_writer.specs.declared.survey.HeadSurvey.the-variants as ofHeads
 use Rattle.patch_writer.specs.declared.survey.OperationSurvey.the-variants as ofOperations
 use Rattle.patch_writer.specs.declared.survey.Survey.the-variants as ofSet
-use Rattle.patch_part_writer.specs.Answer.{refusalOf}
+use Rattle.patch_part_writer.specs.Answer.{writeRefusalOf}
 use Rattle.patch_part_writer.specs.Extent.{operationText}
 use Rattle.patch_part_writer.specs.ExtentLaws.{operation-small}
 use Rattle.patch_writer.specs.Set.{setPlaces, heads, listOf, used, operationTotal, headSizes, operationSizes, setSize, fewOperations, shortAt, insideAt, allowedAt, fewAt, countsFit, capacitiesKept, patchSetBytes}
@@ -159,15 +159,15 @@ module _ (ed : Edition) (texts : List ℕ) (set : ProjectionPatchSet) where
 
   -- ---- what the survey says of the writing
 
-  pub survey-refused : (r : WriteRefusal) → setSurvey ed texts set ≡ ofSet.Refused r → patchSetBytes ed texts set ≡ model.refused (refusalOf r)
+  pub survey-refused : (r : WriteRefusal) → setSurvey ed texts set ≡ ofSet.Refused r → patchSetBytes ed texts set ≡ model.refused (writeRefusalOf r)
   unfolding setSurvey patchSetBytes
   survey-refused r e = go (capacitiesKept set) (all (allowedAt ed texts) (used set)) (all (fewAt texts) (used set)) e
     where
-      told : (w : WriteRefusal) → ofSet.Refused w ≡ ofSet.Refused r → model.refused (refusalOf w) ≡ model.refused (refusalOf r)
-      told w e = let is : w ≡ r = cc in ap (λ (x : WriteRefusal). model.refused (refusalOf x)) is
+      told : (w : WriteRefusal) → ofSet.Refused w ≡ ofSet.Refused r → model.refused (writeRefusalOf w) ≡ model.refused (writeRefusalOf r)
+      told w e = let is : w ≡ r = cc in ap (λ (x : WriteRefusal). model.refused (writeRefusalOf x)) is
 
       go : (k a f : Bool) → (if k then byValues (operationTotal (heads set)) (setSize set) (judged a f) else ofSet.Refused refusal.OverCapacity) ≡ ofSet.Refused r
-          → (if k then (if a then (if f then model.wrote (encode ed (listOf texts set)) else model.refused model.overCapacity) else model.refused model.malformed) else model.refused model.overCapacity) ≡ model.refused (refusalOf r)
+          → (if k then (if a then (if f then model.wrote (encode ed (listOf texts set)) else model.refused model.overCapacity) else model.refused model.malformed) else model.refused model.overCapacity) ≡ model.refused (writeRefusalOf r)
       go true true true e = absurd (let z : _≡_ {A = ℕ} 0 1 = cc in omega arith)
       go true true false e = told refusal.OverCapacity e
       go true false f e = told refusal.Malformed e

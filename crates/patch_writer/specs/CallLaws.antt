@@ -28,10 +28,10 @@ use Rattle.projection_patch.specs.declared.patch.ProjectionPatchSet.{Projection
 use Rattle.patch_part_writer.specs.declared.written.Written as call
 use Rattle.patch_part_writer.specs.declared.written.Written.the-variants.{Wrote, Refused}
 use Rattle.patch_part_writer.specs.declared.written.WriteRefusal.the-variants.{OutputTooShort}
-use Rattle.patch_part_writer.specs.Answer.{refusalTo, answerAt, outputAt, withRoom, answerOf, outputOf}
+use Rattle.patch_part_writer.specs.Answer.{refusalTo, writtenAt, outputAt, withRoom, writeAnswerOf, outputOf}
 use Rattle.patch_part_writer.specs.ExtentLaws.{length-heading}
 use Rattle.patch_writer.specs.Set.{setPlaces, heads, listOf, operationTotal, used, headSizes, operationSizes, setSize, fewOperations, countsFit, shortAt, insideAt, capacitiesKept, allowedAt, fewAt, patchSetBytes}
-use Rattle.patch_writer.specs.RangeLaws.{Passed, passed-in-range}
+use Rattle.patch_writer.specs.RangeLaws.{PassedSet, passed-in-range}
 use Rattle.patch_writer.specs.SetLaws.{length-list, counts-list, values-list, size-list, place-short, place-allowed, place-few}
 
 -- the arrays of a set have their lengths, as those of every set that is passed have
@@ -39,7 +39,7 @@ pub record Arrays (set : ProjectionPatchSet) : Type 0 where
   pub patches : length (set .patches) ≡ setPatches
   pub operations : length (set .operations) ≡ setPlaces
 
-pub passed-arrays : (set : ProjectionPatchSet) → Passed set → Arrays set
+pub passed-arrays : (set : ProjectionPatchSet) → PassedSet set → Arrays set
 passed-arrays set p =
     let fields = p .known .1 .1 in
     record { patches = sym (length-map (set .patches) _) ∙ fields .1 .0 .1 .0 .1; operations = sym (length-map (set .operations) _) ∙ fields .1 .1 .0 .1 .0 .1 }
@@ -51,11 +51,11 @@ module _ (out : List ℕ) where
   unfolding hasRoom
   from-start n = ap (λ (k : ℕ). leb k (length out)) (omega arith)
 
-  pub call-answer : (w : Written) → answerAt out 0 w ≡ answerOf (withRoom (length out) w)
+  pub call-answer : (w : Written) → writtenAt out 0 w ≡ writeAnswerOf (withRoom (length out) w)
   call-answer (refused n) = refl
   call-answer (wrote bs) = go (leb (length bs) (length out)) refl
     where
-      go : (t : Bool) → leb (length bs) (length out) ≡ t → answerAt out 0 (wrote bs) ≡ answerOf (withRoom (length out) (wrote bs))
+      go : (t : Bool) → leb (length bs) (length out) ≡ t → writtenAt out 0 (wrote bs) ≡ writeAnswerOf (withRoom (length out) (wrote bs))
       go true e = rw (from-start (length bs), e) (ap Wrote (omega arith))
       go false e = rw (from-start (length bs), e)
 
@@ -194,7 +194,7 @@ module _ (ed : Edition) (texts : List ℕ) (set : ProjectionPatchSet) where
   counted e = and-left (countsFit set) _ e
 
   -- what the call wrote, the reader reads as the same list
-  pub written-read : Passed set → (out : List ℕ) (r : call.Written) (o : List ℕ) → r ≡ answerAt out 0 (patchSetBytes ed texts set) → o ≡ outputAt out 0 (patchSetBytes ed texts set)
+  pub written-read : PassedSet set → (out : List ℕ) (r : call.Written) (o : List ℕ) → r ≡ writtenAt out 0 (patchSetBytes ed texts set) → o ≡ outputAt out 0 (patchSetBytes ed texts set)
       → (n : ℕ) → r ≡ Wrote n → readSet ed (take n o) ≡ patches (listOf texts set)
   written-read passed out r o answer output n e = ap (λ (l : List ℕ). readSet ed (take n l)) output ∙ by-result (patchSetBytes ed texts set) refl (sym answer ∙ e)
     where
@@ -210,17 +210,17 @@ module _ (ed : Edition) (texts : List ℕ) (set : ProjectionPatchSet) where
           ap (readSet ed) (ap (λ (k : ℕ). take k (overwrite out 0 bs)) position ∙ take-overwrite out 0 bs (length bs) refl room ∙ s .bytes) ∙ reads-back ed (listOf texts set) fits
       by-room bs is false room e = never outputTooShort e
 
-      by-result : (w : Written) → patchSetBytes ed texts set ≡ w → answerAt out 0 w ≡ Wrote n → readSet ed (take n (outputAt out 0 w)) ≡ patches (listOf texts set)
+      by-result : (w : Written) → patchSetBytes ed texts set ≡ w → writtenAt out 0 w ≡ Wrote n → readSet ed (take n (outputAt out 0 w)) ≡ patches (listOf texts set)
       by-result (wrote bs) is e = by-room bs is (hasRoom out 0 (length bs)) refl e
       by-result (refused w) is e = never w e
 
   -- what the reader read as the list of a set, the call writes back byte for byte, given room
-  pub read-written : Passed set → countsFit set ≡ true → all (insideAt texts) (used set) ≡ true → (bs : List ℕ) → Bytes bs → readSet ed bs ≡ patches (listOf texts set)
-      → (out : List ℕ) → length bs ≤ length out → (answerAt out 0 (patchSetBytes ed texts set) ≡ Wrote (length bs)) × (take (length bs) (outputAt out 0 (patchSetBytes ed texts set)) ≡ bs)
+  pub read-written : PassedSet set → countsFit set ≡ true → all (insideAt texts) (used set) ≡ true → (bs : List ℕ) → Bytes bs → readSet ed bs ≡ patches (listOf texts set)
+      → (out : List ℕ) → length bs ≤ length out → (writtenAt out 0 (patchSetBytes ed texts set) ≡ Wrote (length bs)) × (take (length bs) (outputAt out 0 (patchSetBytes ed texts set)) ≡ bs)
   read-written passed fit inside bs all-bytes e out enough =
       let back = written-back texts set (passed-arrays set passed) fit ed inside bs all-bytes e in
       let room = from-start out (length bs) ∙ le-leb (length bs) (length out) enough in
       let position : 0 + length bs ≡ length bs = omega arith in (
-        ap (answerAt out 0) back ∙ rw room (ap Wrote position),
+        ap (writtenAt out 0) back ∙ rw room (ap Wrote position),
         ap (λ (w : Written). take (length bs) (outputAt out 0 w)) back ∙ ap (λ (k : ℕ). take k (overwrite out 0 bs)) (sym position) ∙ take-overwrite out 0 bs (length bs) refl room,
       )

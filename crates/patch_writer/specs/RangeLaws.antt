@@ -104,14 +104,14 @@ abbrev InRangePlace : List ℕ → OperationPlace → Type 0
 InRangePlace texts p = OperationHolds InRangeValue (operationOf texts (p .operation))
 
 -- a set is a value of its type, by the logic's own relation of values and machine values: so is every set that a function is passed
-pub record Passed (set : ProjectionPatchSet) : Type 0 where
+pub record PassedSet (set : ProjectionPatchSet) : Type 0 where
   pub machine : List Val
   pub known : Is (structs.row setType.the-type) set machine
 
-heads-in-range : (set : ProjectionPatchSet) → Passed set → All InRangeHead (set .patches)
+heads-in-range : (set : ProjectionPatchSet) → PassedSet set → All InRangeHead (set .patches)
 heads-in-range set p = each-holds (structs.field patchType.the-type) InRangeHead (λ h vs k. envelope-in-range (h .envelope) _ (k .1 .1 .0)) (set .patches) _ (p .known .1 .1 .1 .0 .1 .1)
 
-places-in-range : (texts : List ℕ) (set : ProjectionPatchSet) → Passed set → All (InRangePlace texts) (set .operations)
+places-in-range : (texts : List ℕ) (set : ProjectionPatchSet) → PassedSet set → All (InRangePlace texts) (set .operations)
 places-in-range texts set p = each-holds (structs.field placeType.the-type) (InRangePlace texts) (λ o vs k. operation-in-range texts (o .operation) _ (k .1 .1 .0)) (set .operations) _ (p .known .1 .1 .1 .1 .0 .1 .1)
 
 -- ---- the list
@@ -130,6 +130,6 @@ list-in-range texts (p ∷ hs) ps h k =
     )
 
 -- each number of the list fits its field
-pub passed-in-range : (texts : List ℕ) (set : ProjectionPatchSet) → Passed set → InRange (listOf texts set)
+pub passed-in-range : (texts : List ℕ) (set : ProjectionPatchSet) → PassedSet set → InRange (listOf texts set)
 passed-in-range texts set p =
     list-in-range texts (heads set) (set .operations) (all-take InRangeHead (set .«patch_count») (set .patches) (heads-in-range set p)) (places-in-range texts set p)

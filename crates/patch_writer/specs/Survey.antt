@@ -81,7 +81,7 @@ setSurvey ed texts set =
     else ofSet.Refused refusal.OverCapacity
 
 -- what the pass that writes counts on: the counts fit, the texts are within the texts and keep their capacity, and the output has room
-pub record Ready (texts : List ℕ) (set : ProjectionPatchSet) (operations room at : ℕ) : Type 0 where
+pub record ReadyToWrite (texts : List ℕ) (set : ProjectionPatchSet) (operations room at : ℕ) : Type 0 where
   pub counted : operations ≡ operationTotal (heads set)
   pub fit : countsFit set ≡ true
   pub short : all shortAt (used set) ≡ true

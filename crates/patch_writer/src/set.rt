@@ -9,9 +9,9 @@ ghost use Rattle.spec_patch.specs.Read.{patches, readSet};
 ghost use Rattle.bytes_wire.specs.Write.{overwrite};
 ghost use Rattle.projection_patch.specs.Meaning.{editionOf};
 ghost use Rattle.patch_part_writer.specs.declared.written.Written.the-variants.{Wrote};
-ghost use Rattle.patch_part_writer.specs.Answer.{answerAt, outputAt};
+ghost use Rattle.patch_part_writer.specs.Answer.{writtenAt, outputAt};
 ghost use Rattle.patch_writer.specs.Set.{listOf, patchSetBytes};
-ghost use Rattle.patch_writer.specs.Survey.{Ready};
+ghost use Rattle.patch_writer.specs.Survey.{ReadyToWrite};
 use crate::survey::Survey;
 use crate::survey::survey_set;
 use patch_part_writer::extent::HEADING_BYTES;
@@ -33,7 +33,7 @@ fn write_patches(
     out: &mut [u8],
     at: usize,
 ) -> usize
-    requires { ⌜ Ready (now texts) set operations (length (now out)) at ⌝ }
+    requires { ⌜ ReadyToWrite (now texts) set operations (length (now out)) at ⌝ }
     ensures { λ r. ⌜ r ≡ at + length (flatMap encodePatch (listOf (now (texts .entry)) set)) ⌝ }
     ensures { λ _. ⌜ now (out .exit) ≡ overwrite (now (out .entry)) at (flatMap encodePatch (listOf (now (texts .entry)) set)) ⌝ }
 {
@@ -72,7 +72,7 @@ pub fn write_patch_set(
     edition: ProjectionPatchEdition,
     out: &mut [u8],
 ) -> Written
-    ensures { λ r. ⌜ r ≡ answerAt (now (out .entry)) 0 (patchSetBytes (editionOf edition) (now (texts .entry)) set) ⌝ }
+    ensures { λ r. ⌜ r ≡ writtenAt (now (out .entry)) 0 (patchSetBytes (editionOf edition) (now (texts .entry)) set) ⌝ }
     ensures { λ _. ⌜ now (out .exit) ≡ outputAt (now (out .entry)) 0 (patchSetBytes (editionOf edition) (now (texts .entry)) set) ⌝ }
     ensures { λ r. ⌜ ((n : ℕ) → r ≡ Wrote n → readSet (editionOf edition) (take n (now (out .exit))) ≡ patches (listOf (now (texts .entry)) set)) ⌝ }
 {

@@ -45,7 +45,7 @@ module _ {A : Type 0} (f : ℕ → Reader A) (l : List ℕ) (at : ℕ) where
 -- ---- an answer taken apart: once for every enum that has a reading and a refusal
 
 -- what the constructors of such an enum tell
-pub record Told {X B : Type 0} (reading : X → ℕ → B) (refusal : ProjectionPatchReadFault → B) : Type 0 where
+pub record ToldReading {X B : Type 0} (reading : X → ℕ → B) (refusal : ProjectionPatchReadFault → B) : Type 0 where
   pub value : (x y : X) (m n : ℕ) → reading x m ≡ reading y n → x ≡ y
   pub next : (x y : X) (m n : ℕ) → reading x m ≡ reading y n → m ≡ n
   pub reason : (f g : ProjectionPatchReadFault) → refusal f ≡ refusal g → f ≡ g
@@ -64,7 +64,7 @@ pub record NotGot {A : Type 0} (p : Reader A) (l : List ℕ) (at : ℕ) (f : Pro
   pub is : p (drop at l) ≡ refused fault
   pub same : faultTo fault ≡ f
 
-module _ {A X B : Type 0} {e : A → List ℕ} {Good : A → Type 0} {p : Reader A} {reading : X → ℕ → B} {refusal : ProjectionPatchReadFault → B} (to : ℕ → A → X) (codec : Codec e Good p) (told : Told reading refusal) (l : List ℕ) (at : ℕ) (r : B) (ensured : r ≡ answer to reading refusal (length l) (p (drop at l))) where
+module _ {A X B : Type 0} {e : A → List ℕ} {Good : A → Type 0} {p : Reader A} {reading : X → ℕ → B} {refusal : ProjectionPatchReadFault → B} (to : ℕ → A → X) (codec : Codec e Good p) (told : ToldReading reading refusal) (l : List ℕ) (at : ℕ) (r : B) (ensured : r ≡ answer to reading refusal (length l) (p (drop at l))) where
   pub got : Bytes l → (x : X) (end : ℕ) → r ≡ reading x end → Got p to l at x end
   got h x end q = pick (p (drop at l)) refl (sym ensured ∙ q)
     where
@@ -88,7 +88,7 @@ module _ {A X B : Type 0} {e : A → List ℕ} {Good : A → Type 0} {p : Reader
       pick (read a rest) is t = absurd (told .apart (to (length l - length rest) a) (length l - length rest) f t)
 
 -- the same answer told by other constructors
-module _ {A X B C : Type 0} {reading : X → ℕ → B} {refusal : ProjectionPatchReadFault → B} (to : ℕ → A → X) (told : Told reading refusal) (reading′ : X → ℕ → C) (refusal′ : ProjectionPatchReadFault → C) (n : ℕ) (result : Result A) {r : B} (ensured : r ≡ answer to reading refusal n result) where
+module _ {A X B C : Type 0} {reading : X → ℕ → B} {refusal : ProjectionPatchReadFault → B} (to : ℕ → A → X) (told : ToldReading reading refusal) (reading′ : X → ℕ → C) (refusal′ : ProjectionPatchReadFault → C) (n : ℕ) (result : Result A) {r : B} (ensured : r ≡ answer to reading refusal n result) where
   pub retold : (x : X) (end : ℕ) → r ≡ reading x end → reading′ x end ≡ answer to reading′ refusal′ n result
   retold x end q = pick result (sym ensured ∙ q)
     where
@@ -114,7 +114,7 @@ module _ {A X : Type 0} {e : A → List ℕ} {Good : A → Type 0} {p : Reader A
 
 -- ---- each of the enums
 
-pub count-told : Told count-read.Read count-read.Refused
+pub count-told : ToldReading count-read.Read count-read.Refused
 count-told = record {
   value = λ x y m n e. cc;
   next = λ x y m n e. cc;
@@ -122,7 +122,7 @@ count-told = record {
   apart = λ x m f e. let z : _≡_ {A = ℕ} 0 1 = cc in omega arith;
 }
 
-optional-told : Told optional-read.Read optional-read.Refused
+optional-told : ToldReading optional-read.Read optional-read.Refused
 optional-told = record {
   value = λ x y m n e. cc;
   next = λ x y m n e. cc;
@@ -130,7 +130,7 @@ optional-told = record {
   apart = λ x m f e. let z : _≡_ {A = ℕ} 0 1 = cc in omega arith;
 }
 
-availability-told : Told availability-read.Read availability-read.Refused
+availability-told : ToldReading availability-read.Read availability-read.Refused
 availability-told = record {
   value = λ x y m n e. cc;
   next = λ x y m n e. cc;
@@ -138,7 +138,7 @@ availability-told = record {
   apart = λ x m f e. let z : _≡_ {A = ℕ} 0 1 = cc in omega arith;
 }
 
-value-told : Told value-read.Read value-read.Refused
+value-told : ToldReading value-read.Read value-read.Refused
 value-told = record {
   value = λ x y m n e. cc;
   next = λ x y m n e. cc;
@@ -146,7 +146,7 @@ value-told = record {
   apart = λ x m f e. let z : _≡_ {A = ℕ} 0 1 = cc in omega arith;
 }
 
-pub operation-told : Told operation-read.Read operation-read.Refused
+pub operation-told : ToldReading operation-read.Read operation-read.Refused
 operation-told = record {
   value = λ x y m n e. cc;
   next = λ x y m n e. cc;

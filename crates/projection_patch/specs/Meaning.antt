@@ -105,12 +105,12 @@ quadOf quad.F = model.F
 quadOf quad.T = model.T
 quadOf quad.S = model.S
 
-abbrev pub availabilityOf : ProjectionNodeAvailability → model.Availability
-availabilityOf Available = model.available
-availabilityOf Unavailable = model.unavailable
-availabilityOf Hidden = model.hidden
-availabilityOf Pending = model.pending
-availabilityOf Stale = model.stale
+abbrev pub availabilityValueOf : ProjectionNodeAvailability → model.Availability
+availabilityValueOf Available = model.available
+availabilityValueOf Unavailable = model.unavailable
+availabilityValueOf Hidden = model.hidden
+availabilityValueOf Pending = model.pending
+availabilityValueOf Stale = model.stale
 
 -- a value whose text, if it is one, stands in the texts
 abbrev pub valueOf : List ℕ → ProjectionPatchValue → model.Value
@@ -122,7 +122,7 @@ valueOf texts (Score n) = model.score n
 
 abbrev pub operationOf : List ℕ → ProjectionPatchOperation → model.Operation
 operationOf texts (SetBindingValue t v) = model.setBinding (t .node .0) (t .slot .0) (valueOf texts v)
-operationOf texts (SetNodeAvailability n a) = model.setAvailability (n .0) (availabilityOf a)
+operationOf texts (SetNodeAvailability n a) = model.setAvailability (n .0) (availabilityValueOf a)
 operationOf texts (CollectionInsert c k b v) = model.insert (c .0) (k .0) (beforeOf b) (valueOf texts v)
 operationOf texts (CollectionUpdate c k v) = model.update (c .0) (k .0) (valueOf texts v)
 operationOf texts (CollectionRemove c k) = model.remove (c .0) (k .0)

@@ -6,9 +6,8 @@ use mathlib.Core.List.{List, [], _∷_, _++_, append-nil, append-assoc}
 use mathlib.Core.Bool.{Bool}
 use mathlib.Core.Option.{Option, none, some}
 use native.Mathlib.Omega.{arith}
-use borrow.Author.Tests.{le-leb}
 use lib.ListN.{length, take, drop, length-append, length-drop}
-use lib.Seq.{take-at, drop-at, drop-drop, take-all}
+use lib.Seq.{take-at, drop-at, take-all}
 use mir.Syntax.{w64}
 use mir.Val.{ofZ}
 use Rattle.spec_lists.specs.Bytes.{Bytes}
@@ -18,8 +17,8 @@ use Rattle.spec_patch.specs.Encode.{u32, u64, encodeOptional, quadByte, availab
 use Rattle.spec_patch.specs.Reader.{read}
 use Rattle.spec_patch.specs.Read.{readOperationBy}
 use Rattle.spec_patch.specs.ReadLaws.{operation-codec-by}
-use Rattle.projection_patch.specs.Meaning.{beforeTo, beforeOf, quadTo, quadOf, availabilityTo, availabilityOf, valueTo, valueOf, operationTo, operationOf}
-use Rattle.projection_patch.specs.ReadAnswers.{lentFrom, lentPart}
+use Rattle.projection_patch.specs.Meaning.{beforeTo, beforeOf, quadTo, quadOf, availabilityTo, availabilityValueOf, valueTo, valueOf, operationTo, operationOf}
+use Rattle.projection_patch.specs.ReadAnswers.{lentFrom}
 
 -- ---- the text of an operation, or no bytes where it has none
 
@@ -92,7 +91,7 @@ quad-back F = refl
 quad-back T = refl
 quad-back S = refl
 
-availability-back : (a : Availability) → availabilityOf (availabilityTo a) ≡ a
+availability-back : (a : Availability) → availabilityValueOf (availabilityTo a) ≡ a
 availability-back available = refl
 availability-back unavailable = refl
 availability-back hidden = refl
@@ -139,10 +138,3 @@ operation-back check ed part h o rest q =
 
 pub lent-from : (set : List ℕ) (at : ℕ) → lentFrom set at ≡ drop at set
 lent-from set at = take-all (length set - at) (drop at set) (omega (arith, length-drop at set))
-
--- a text's place in the part from a position on, as a part of the set
-pub lent-text : (set : List ℕ) (at start len : ℕ) → at + start + len ≤ length set → lentPart set (at + start) (at + start + len) ≡ take len (drop start (drop at set))
-unfolding lentPart
-lent-text set at start len h =
-    let n : at + start + len - (at + start) ≡ len = omega arith in
-    rw (le-leb (at + start + len) (length set) h, n, drop-drop start at set)

@@ -6,7 +6,7 @@ ghost use Rattle.spec_patch.specs.Edition.{Edition};
 ghost use Rattle.spec_patch.specs.Read.{operationAfter, readOperationBy, readOperation};
 ghost use Rattle.projection_patch.specs.Meaning.{editionOf, beforeTo};
 ghost use Rattle.bytes_wire.specs.Read.{firstNumber};
-ghost use Rattle.projection_patch.specs.ReadAnswers.{optionalOf, numbersAnswer, placeTo, operationAnswer};
+ghost use Rattle.projection_patch.specs.ReadAnswers.{optionalOf, numbersAnswer, textPlaceTo, operationAnswer};
 use crate::binding_graph::BindingSlot;
 use crate::binding_graph::BindingTarget;
 use crate::contract_primitives::CollectionKey;
@@ -38,7 +38,7 @@ pub enum PlaceRead {
 
 // The collection and the key behind the tag.
 pub fn place(part: &[u8]) -> PlaceRead
-    ensures { λ r. ⌜ r ≡ placeTo (numbersAnswer (firstNumber 8 (drop 1 (now (part .entry)))) (firstNumber 8 (drop 9 (now (part .entry))))) ⌝ }
+    ensures { λ r. ⌜ r ≡ textPlaceTo (numbersAnswer (firstNumber 8 (drop 1 (now (part .entry)))) (firstNumber 8 (drop 9 (now (part .entry))))) ⌝ }
 {
     match read_values::numbers_at(part, 1) {
         NumbersRead::Read(collection, key) => PlaceRead::Read(

@@ -18,7 +18,7 @@ use Rattle.spec_decimal.specs.Decimal.{decimal}
 use Rattle.spec_listing.specs.Listing.{fields}
 use Rattle.spec_replay.specs.Answers.{placeField, findingLine, checkedLine, checkLines}
 use Rattle.bytes_printer.specs.declared.Printed.{Printed}
-use Rattle.bytes_printer.specs.Prints.{field, Prints, Within}
+use Rattle.bytes_printer.specs.Prints.{spacedField, Prints, Within}
 use Rattle.bytes_printer.specs.PrintsLaws.{_⨾_, ends-within}
 use Rattle.projection_patch.specs.ReadAnswers.{faultTo, faultOf}
 use Rattle.projection_patch.specs.FaultLaws.{fault-back}
@@ -32,9 +32,9 @@ use Rattle.script_answers.specs.CheckOf.{CheckOf}
 
 -- ---- the place
 
-pub patch-place : (p : Place) (i : ℕ) → place.Patch i ≡ placeTo p → field (decimal i) ≡ field (placeField p)
+pub patch-place : (p : Place) (i : ℕ) → place.Patch i ≡ placeTo p → spacedField (decimal i) ≡ spacedField (placeField p)
 unfolding placeField
-patch-place (inPatch j) i is = let same : i ≡ j = cc in ap (λ (n : ℕ). field (decimal n)) same
+patch-place (inPatch j) i is = let same : i ≡ j = cc in ap (λ (n : ℕ). spacedField (decimal n)) same
 patch-place inSet i is = absurd (let z : _≡_ {A = ℕ} 0 1 = cc in omega arith)
 
 pub set-place : (p : Place) → place.Set ≡ placeTo p → p ≡ inSet
@@ -56,14 +56,14 @@ refused-reading (fault g) room f is =
 -- ---- findings
 
 -- what an answer's place, its count and the numbers lent to it tell
-pub record Told (f : Findings) (where-found : CheckPlace) (logical : ℕ) (records : List ℕ) : Type 0 where
+pub record ToldFindings (f : Findings) (where-found : CheckPlace) (logical : ℕ) (records : List ℕ) : Type 0 where
   pub place-is : where-found ≡ placeTo (f .place)
   pub counted : logical ≡ length (f .found)
   pub words : take (recordLength * logical) records ≡ findingWords (f .found)
 
 module _ (ps : List Patch) (lent : List ℕ) (room : recordLength * length (findings ps .found) ≤ length lent) where
   findings-told : (p : CheckPlace) (logical written : ℕ) (records : List ℕ) → set-check.Checked p logical written ≡ checkAnswer (patches ps) (length lent) → records ≡ checkNumbers (patches ps) lent
-      → Told (findings ps) p logical records
+      → ToldFindings (findings ps) p logical records
   unfolding checked
   findings-told p logical written records answered numbers =
       let found = findings ps .found in

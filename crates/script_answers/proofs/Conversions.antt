@@ -39,10 +39,10 @@ refusal-back model.malformed = refl
 refusal-back model.kindMissing = refl
 refusal-back model.outputTooShort = refl
 
-pub refused-line : (c : model.Converted) (answer : ConversionAnswer) (written : List ℕ) → ConversionOf c answer written → (f : ConversionRefusal) → answer ≡ Refused f
+pub conversion-refused : (c : model.Converted) (answer : ConversionAnswer) (written : List ℕ) → ConversionOf c answer written → (f : ConversionRefusal) → answer ≡ Refused f
     → 84 ∷ fields (decimal (conversionNumber (conversionRefusalOf f)) ∷ []) ≡ conversionLine c
 unfolding conversionLine
-refused-line (model.converted bs) answer written h f is = absurd (let z : _≡_ {A = ℕ} 0 1 = cc (is, h .answered) in omega arith)
-refused-line (model.refused g) answer written h f is =
+conversion-refused (model.converted bs) answer written h f is = absurd (let z : _≡_ {A = ℕ} 0 1 = cc (is, h .answered) in omega arith)
+conversion-refused (model.refused g) answer written h f is =
     let same : f ≡ conversionRefusalTo g = cc (is, h .answered) in
     ap (λ (r : model.ConversionRefusal). 84 ∷ fields (decimal (conversionNumber r) ∷ [])) (ap conversionRefusalOf same ∙ refusal-back g)

@@ -16,7 +16,7 @@ unfolding creationTo creationLine
 made-line (made s) is = refl
 made-line (refused r) is = absurd (let z : _≡_ {A = ℕ} 0 1 = cc in omega arith)
 
-pub refused-line : (c : Creation) (f : CreationRefusal) → Refused f ≡ creationTo c → 83 ∷ fields (decimal (creationNumber tooManyAnchors) ∷ []) ≡ creationLine c
+pub creation-refused : (c : Creation) (f : CreationRefusal) → Refused f ≡ creationTo c → 83 ∷ fields (decimal (creationNumber tooManyAnchors) ∷ []) ≡ creationLine c
 unfolding creationTo creationLine
-refused-line (made s) f is = absurd (let z : _≡_ {A = ℕ} 0 1 = cc in omega arith)
-refused-line (refused tooManyAnchors) f is = refl
+creation-refused (made s) f is = absurd (let z : _≡_ {A = ℕ} 0 1 = cc in omega arith)
+creation-refused (refused tooManyAnchors) f is = refl

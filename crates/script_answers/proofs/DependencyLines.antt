@@ -10,7 +10,7 @@ use Rattle.spec_dependencies.specs.Answer.{pairLength, DependencyAnswer, answer
 use Rattle.spec_listing.specs.Listing.{fields}
 use Rattle.spec_replay.specs.Answers.{verdictLines, dependencyLines}
 use Rattle.projection_patch.specs.FaultLaws.{fault-back}
-use Rattle.set_dependencies.specs.DependsAnswers.{dependsRefusalOf, dependsRefusalTo, answerTo}
+use Rattle.set_dependencies.specs.DependsAnswers.{dependsRefusalOf, dependsRefusalTo, dependsAnswerTo}
 use Rattle.set_dependencies.specs.declared.depends.DependenciesRefusal.{DependenciesRefusal}
 use Rattle.set_dependencies.specs.declared.depends.DependenciesAnswer.{DependenciesAnswer}
 use Rattle.set_dependencies.specs.declared.depends.DependenciesAnswer.the-variants as answers
@@ -18,12 +18,12 @@ use Rattle.script_answers.specs.DependenciesTold.{DependenciesTold}
 
 -- ---- the answer in the definitions' words
 
-never-told : (a : DependencyAnswer) (i j : ℕ) → answers.Never i j ≡ answerTo a → a ≡ answerNever i j
+never-told : (a : DependencyAnswer) (i j : ℕ) → answers.Never i j ≡ dependsAnswerTo a → a ≡ answerNever i j
 never-told (model.refused r) i j is = absurd (let z : _≡_ {A = ℕ} 0 1 = cc in omega arith)
 never-told (answerNever p o) i j is = let first : p ≡ i = cc in let second : o ≡ j = cc in ap₂ answerNever first second
 never-told (answerNeeds h l) i j is = absurd (let z : _≡_ {A = ℕ} 0 1 = cc in omega arith)
 
-needs-told : (a : DependencyAnswer) (h l : ℕ) → answers.Needs h l ≡ answerTo a → a ≡ answerNeeds h l
+needs-told : (a : DependencyAnswer) (h l : ℕ) → answers.Needs h l ≡ dependsAnswerTo a → a ≡ answerNeeds h l
 needs-told (model.refused r) h l is = absurd (let z : _≡_ {A = ℕ} 0 1 = cc in omega arith)
 needs-told (answerNever p o) h l is = absurd (let z : _≡_ {A = ℕ} 0 1 = cc in omega arith)
 needs-told (answerNeeds m n) h l is = let first : m ≡ h = cc in let second : n ≡ l = cc in ap₂ answerNeeds first second
@@ -33,7 +33,7 @@ refusal-back (model.unreadable f) = ap model.unreadable (fault-back f)
 refusal-back model.hasFindings = refl
 refusal-back model.outputTooShort = refl
 
-refusal-told : (a : DependencyAnswer) (f : DependenciesRefusal) → answers.Refused f ≡ answerTo a → a ≡ model.refused (dependsRefusalOf f)
+refusal-told : (a : DependencyAnswer) (f : DependenciesRefusal) → answers.Refused f ≡ dependsAnswerTo a → a ≡ model.refused (dependsRefusalOf f)
 refusal-told (model.refused r) f is = let same : f ≡ dependsRefusalTo r = cc in ap model.refused (sym (ap dependsRefusalOf same ∙ refusal-back r))
 refusal-told (answerNever p o) f is = absurd (let z : _≡_ {A = ℕ} 0 1 = cc in omega arith)
 refusal-told (answerNeeds m n) f is = absurd (let z : _≡_ {A = ℕ} 0 1 = cc in omega arith)

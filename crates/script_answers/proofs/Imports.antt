@@ -39,10 +39,10 @@ refusal-back model.overCapacity = refl
 refusal-back model.patchInvalid = refl
 refusal-back model.outputTooShort = refl
 
-pub refused-line : (c : model.Imported) (answer : ImportAnswer) (written : List ℕ) → ImportOf c answer written → (f : ImportRefusal) → answer ≡ Refused f
+pub import-refused : (c : model.Imported) (answer : ImportAnswer) (written : List ℕ) → ImportOf c answer written → (f : ImportRefusal) → answer ≡ Refused f
     → 73 ∷ fields (decimal (importNumber (importRefusalOf f)) ∷ []) ≡ importLine c
 unfolding importLine
-refused-line (model.imported bs) answer written h f is = absurd (let z : _≡_ {A = ℕ} 0 1 = cc (is, h .answered) in omega arith)
-refused-line (model.refused g) answer written h f is =
+import-refused (model.imported bs) answer written h f is = absurd (let z : _≡_ {A = ℕ} 0 1 = cc (is, h .answered) in omega arith)
+import-refused (model.refused g) answer written h f is =
     let same : f ≡ importRefusalTo g = cc (is, h .answered) in
     ap (λ (r : model.ImportRefusal). 73 ∷ fields (decimal (importNumber r) ∷ [])) (ap importRefusalOf same ∙ refusal-back g)

@@ -8,11 +8,11 @@ use lib.Seq.{getD-take}
 use Rattle.spec_checks.specs.Finding.{Finding, findingKey}
 use Rattle.spec_checks.specs.Answer.{recordLength, findingWords}
 use Rattle.spec_checks.specs.AnswerLaws.{findingWords-length}
-use Rattle.script_answers.specs.CheckOf.{findingOf}
+use Rattle.script_answers.specs.CheckOf.{findingTold}
 
 -- the finding at a position of a list of numbers
 abbrev numbersAt : List ℕ → ℕ → Finding
-numbersAt ns k = findingOf (getD ns k 0) (getD ns (suc k) 0) (getD ns (suc (suc k)) 0)
+numbersAt ns k = findingTold (getD ns k 0) (getD ns (suc k) 0) (getD ns (suc (suc k)) 0)
 
 in-words : (fs : List Finding) (i : ℕ) (d : Finding) (k : ℕ) → i < length fs → k ≡ recordLength * i → numbersAt (findingWords fs) k ≡ getD fs i d
 unfolding findingWords flatMap findingKey
@@ -25,7 +25,7 @@ in-words (f ∷ fs) (suc i) d (suc (suc zero)) h e = absurd (omega arith)
 in-words (f ∷ fs) (suc i) d (suc (suc (suc k))) h e = in-words fs i d k (omega arith) (omega arith)
 
 pub noFinding : Finding
-noFinding = findingOf 0 0 0
+noFinding = findingTold 0 0 0
 
 module _ (ns : List ℕ) (count : ℕ) (fs : List Finding) (counted : length fs ≡ count) (words : take (recordLength * count) ns ≡ findingWords fs) where
   pub words-there : recordLength * count ≤ length ns
@@ -35,7 +35,7 @@ module _ (ns : List ℕ) (count : ℕ) (fs : List Finding) (counted : length fs 
   at-place k h = sym (getD-take (recordLength * count) ns k 0 h) ∙ ap (λ (l : List ℕ). getD l k 0) words
 
   -- the numbers of the record of an index
-  pub finding-at : (i : ℕ) → i < count → findingOf (getD ns (recordLength * i) 0) (getD ns (recordLength * i + 1) 0) (getD ns (recordLength * i + 2) 0) ≡ getD fs i noFinding
+  pub finding-at : (i : ℕ) → i < count → findingTold (getD ns (recordLength * i) 0) (getD ns (recordLength * i + 1) 0) (getD ns (recordLength * i + 2) 0) ≡ getD fs i noFinding
   finding-at i h =
       let k = recordLength * i in
       let one : k + 1 ≡ suc k = omega arith in
@@ -43,4 +43,4 @@ module _ (ns : List ℕ) (count : ℕ) (fs : List Finding) (counted : length fs 
       let kinds = at-place k (omega arith) in
       let domains = ap (λ (n : ℕ). getD ns n 0) one ∙ at-place (suc k) (omega arith) in
       let secondaries = ap (λ (n : ℕ). getD ns n 0) two ∙ at-place (suc (suc k)) (omega arith) in
-      (λ j. findingOf (kinds j) (domains j) (secondaries j)) ∙ in-words fs i noFinding k (omega arith) refl
+      (λ j. findingTold (kinds j) (domains j) (secondaries j)) ∙ in-words fs i noFinding k (omega arith) refl

@@ -12,8 +12,8 @@ use Rattle.check_set.specs.CheckAnswers.{checkAnswer, checkNumbers}
 use Rattle.check_set.specs.declared.check_set.PatchSetCheck.{PatchSetCheck}
 
 -- the finding that three numbers tell
-abbrev pub findingOf : ℕ → ℕ → ℕ → Finding
-findingOf k d s = record { kind = k; domain = d; secondary = s }
+abbrev pub findingTold : ℕ → ℕ → ℕ → Finding
+findingTold k d s = record { kind = k; domain = d; secondary = s }
 
 -- the answer of a check of these bytes in an edition, and the numbers that it left in a list with room for every record
 pub record CheckOf (ed : Edition) (set : List ℕ) (answer : PatchSetCheck) (records : List ℕ) : Type 0 where

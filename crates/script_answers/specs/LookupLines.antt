@@ -8,7 +8,7 @@ use Rattle.spec_lists.specs.Lists.{if_then_else_}
 use Rattle.spec_patch.specs.Patch.{Value, quad, signed, text, unsigned, score, Availability}
 use Rattle.spec_decimal.specs.Decimal.{decimal}
 use Rattle.spec_listing.specs.Listing.{fields}
-use Rattle.spec_replay.specs.Answers.{dash, valueLine, availabilityLine, markLine}
+use Rattle.spec_replay.specs.Answers.{dash, valueLine, availabilityAnswerLine, markLine}
 use Rattle.panel_rows.specs.Lookup.{foundValue, valueLookup, availabilityLookup}
 use Rattle.panel_rows.specs.declared.values.ValueLookup.{ValueLookup}
 use Rattle.panel_rows.specs.declared.values.AvailabilityLookup.{AvailabilityLookup}
@@ -34,8 +34,8 @@ value-looked-up mark (some (text t)) = ap (λ (fs : List (List ℕ)). 86 ∷ fie
 value-looked-up mark (some (unsigned x)) = ap (λ (fs : List (List ℕ)). 86 ∷ fields fs) (found-fields _ (unsigned x))
 value-looked-up mark (some (score n)) = ap (λ (fs : List (List ℕ)). 86 ∷ fields fs) (found-fields _ (score n))
 
-pub availability-looked-up : (mark : Option ℕ) (o : Option Availability) → availabilityLookupLine (availabilityLookup mark o) ≡ availabilityLine o
-unfolding availabilityLookupLine foundLine availabilityLookup availabilityLine
+pub availability-looked-up : (mark : Option ℕ) (o : Option Availability) → availabilityLookupLine (availabilityLookup mark o) ≡ availabilityAnswerLine o
+unfolding availabilityLookupLine foundLine availabilityLookup availabilityAnswerLine
 availability-looked-up mark none = refl
 availability-looked-up mark (some a) = refl
 

@@ -19,7 +19,7 @@ use Rattle.spec_page.specs.PageLaws.{page-length}
 use Rattle.spec_replay.specs.Answers.{dash, rowLine, answeredLines, pageLines}
 use Rattle.listing_lines.specs.LookupFields.{lookupFields, found-fields}
 use Rattle.panel_rows.specs.Lookup.{foundValue}
-use Rattle.panel_page.specs.PageTable.{pageWidth, answerRow, pageBytes, FitsAnswer, pageLookup, refusalOf, pageAnswer}
+use Rattle.panel_page.specs.PageTable.{pageWidth, answerRow, pageBytes, FitsAnswer, pageLookup, pageRefusalOf, pageAnswer}
 use Rattle.panel_page.specs.PageTableLaws.{page-fits, page-place}
 use Rattle.panel_page.specs.declared.PageRefusal.{PageRefusal}
 use Rattle.panel_page.specs.declared.PageRefusal.the-variants.{TooManyKeys, TooFewPlaces}
@@ -97,14 +97,14 @@ module _ (p : Projection) (c : ℕ) (keys : List ℕ) (places : ℕ) (answer : P
         (sym (take-at rows (drop (length rows) (replicate places none)) (length keys) (page-length p c keys)))
         ∙ sym (ap (λ (o : Option model.PageRefusal). answeredLines (length keys) o (tableLeft o rows (replicate places none))) room)
 
-  pub refused-lines : (f : PageRefusal) → answer ≡ Refused f → 89 ∷ fields (decimal (pageNumber (refusalOf f)) ∷ []) ≡ pageLines (length keys) (page p c keys (replicate places none))
+  pub refused-lines : (f : PageRefusal) → answer ≡ Refused f → 89 ∷ fields (decimal (pageNumber (pageRefusalOf f)) ∷ []) ≡ pageLines (length keys) (page p c keys (replicate places none))
   unfolding pageLines answeredLines page
   refused-lines f is = go (pageRefusal (length keys) places) refl (sym (h .answered) ∙ is)
     where
       lines : (o : Option model.PageRefusal) → pageRefusal (length keys) places ≡ o → pageLines (length keys) (page p c keys (replicate places none)) ≡ answeredLines (length keys) o (tableLeft o (pageRows p c keys) (replicate places none))
       lines o e = ap (λ (q : Option model.PageRefusal). answeredLines (length keys) q (tableLeft q (pageRows p c keys) (replicate places none))) (ap (pageRefusal (length keys)) (length-replicate places none) ∙ e)
 
-      go : (o : Option model.PageRefusal) → pageRefusal (length keys) places ≡ o → pageAnswer (length keys) o ≡ Refused f → 89 ∷ fields (decimal (pageNumber (refusalOf f)) ∷ []) ≡ pageLines (length keys) (page p c keys (replicate places none))
+      go : (o : Option model.PageRefusal) → pageRefusal (length keys) places ≡ o → pageAnswer (length keys) o ≡ Refused f → 89 ∷ fields (decimal (pageNumber (pageRefusalOf f)) ∷ []) ≡ pageLines (length keys) (page p c keys (replicate places none))
       go none e q = absurd (let z : _≡_ {A = ℕ} 0 1 = cc in omega arith)
-      go (some model.tooManyKeys) e q = let same : TooManyKeys ≡ f = cc in ap (λ (g : PageRefusal). 89 ∷ fields (decimal (pageNumber (refusalOf g)) ∷ [])) (sym same) ∙ sym (lines (some model.tooManyKeys) e)
-      go (some model.tooFewPlaces) e q = let same : TooFewPlaces ≡ f = cc in ap (λ (g : PageRefusal). 89 ∷ fields (decimal (pageNumber (refusalOf g)) ∷ [])) (sym same) ∙ sym (lines (some model.tooFewPlaces) e)
+      go (some model.tooManyKeys) e q = let same : TooManyKeys ≡ f = cc in ap (λ (g : PageRefusal). 89 ∷ fields (decimal (pageNumber (pageRefusalOf g)) ∷ [])) (sym same) ∙ sym (lines (some model.tooManyKeys) e)
+      go (some model.tooFewPlaces) e q = let same : TooFewPlaces ≡ f = cc in ap (λ (g : PageRefusal). 89 ∷ fields (decimal (pageNumber (pageRefusalOf g)) ∷ [])) (sym same) ∙ sym (lines (some model.tooFewPlaces) e)

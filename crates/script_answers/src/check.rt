@@ -9,15 +9,15 @@ ghost use Rattle.spec_checks.specs.Finding.{Finding};
 ghost use Rattle.spec_checks.specs.Findings.{Place, Findings};
 ghost use Rattle.spec_checks.specs.Answer.{recordLength, findingWords};
 ghost use Rattle.spec_replay.specs.Answers.{placeField, findingLine, checkedLine, checkLines};
-ghost use Rattle.bytes_printer.specs.Prints.{field, Prints, Within};
+ghost use Rattle.bytes_printer.specs.Prints.{spacedField, Prints, Within};
 ghost use Rattle.check_set.specs.CheckAnswers.{placeTo};
-ghost use Rattle.script_answers.specs.CheckOf.{findingOf, CheckOf};
+ghost use Rattle.script_answers.specs.CheckOf.{findingTold, CheckOf};
 use bytes_printer::Printed;
 use check_set::check_set::CheckPlace;
 use check_set::check_set::PatchSetCheck;
 
 fn print_finding(out: &mut [u8], at: Printed, kind: u64, domain: u64, secondary: u64) -> Printed
-    ensures { λ r. ⌜ Prints (now (out .entry)) at (findingLine (findingOf kind domain secondary)) (now (out .exit)) r ⌝ }
+    ensures { λ r. ⌜ Prints (now (out .entry)) at (findingLine (findingTold kind domain secondary)) (now (out .exit)) r ⌝ }
 {
     let letter = bytes_printer::print_byte(out, at, 70);
     let first = bytes_printer::print_field_u64(out, letter, kind);
@@ -48,7 +48,7 @@ fn print_findings(out: &mut [u8], from: Printed, records: &[u64], count: usize) 
 }
 
 fn print_place(out: &mut [u8], at: Printed, place: CheckPlace) -> Printed
-    ensures { λ r. ⌜ ((p : Place) → place ≡ placeTo p → Prints (now (out .entry)) at (field (placeField p)) (now (out .exit)) r) ⌝ }
+    ensures { λ r. ⌜ ((p : Place) → place ≡ placeTo p → Prints (now (out .entry)) at (spacedField (placeField p)) (now (out .exit)) r) ⌝ }
 {
     match place {
         CheckPlace::Patch(index) => bytes_printer::print_field_u64(out, at, index as u64),

@@ -7,13 +7,13 @@ ghost use Rattle.spec_dependencies.specs.Answer.{pairLength, Answered, answerNe
 ghost use Rattle.spec_listing.specs.Listing.{fields};
 ghost use Rattle.spec_replay.specs.Answers.{keyLine, firstKeys, verdictLines, dependencyLines};
 ghost use Rattle.bytes_printer.specs.Prints.{Prints, Within};
-ghost use Rattle.script_answers.specs.DependenciesTold.{keyOf, DependenciesTold};
+ghost use Rattle.script_answers.specs.DependenciesTold.{collectionKeyOf, DependenciesTold};
 use bytes_printer::Printed;
 use set_dependencies::depends::DependenciesAnswer;
 use set_dependencies::write_keys;
 
 fn print_key(out: &mut [u8], at: Printed, collection: u64, key: u64) -> Printed
-    ensures { λ r. ⌜ Prints (now (out .entry)) at (keyLine (keyOf collection key)) (now (out .exit)) r ⌝ }
+    ensures { λ r. ⌜ Prints (now (out .entry)) at (keyLine (collectionKeyOf collection key)) (now (out .exit)) r ⌝ }
 {
     let letter = bytes_printer::print_byte(out, at, 81);
     let first = bytes_printer::print_field_u64(out, letter, collection);

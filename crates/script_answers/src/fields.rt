@@ -1,7 +1,7 @@
 // The fields of a session's answers, each with the tab before it.
 ghost use mathlib.Core.List.{[]};
 ghost use Rattle.spec_replay.specs.Answers.{dispositionField, lifecycleField, cursorField, sessionFields};
-ghost use Rattle.bytes_printer.specs.Prints.{field, Prints};
+ghost use Rattle.bytes_printer.specs.Prints.{spacedField, Prints};
 ghost use Rattle.session_lifecycle.specs.Meaning.{dispositionMeans, diagnosticsMean, lifecycleOf, cursorOf};
 ghost use Rattle.script_answers.specs.OpenFields.{openFields};
 use bytes_printer::Printed;
@@ -15,7 +15,7 @@ fn print_disposition(
     at: Printed,
     disposition: ShellTransitionDisposition,
 ) -> Printed
-    ensures { λ r. ⌜ Prints (now (out .entry)) at (field (dispositionField (dispositionMeans disposition))) (now (out .exit)) r ⌝ }
+    ensures { λ r. ⌜ Prints (now (out .entry)) at (spacedField (dispositionField (dispositionMeans disposition))) (now (out .exit)) r ⌝ }
 {
     match disposition {
         ShellTransitionDisposition::Applied => {
@@ -31,7 +31,7 @@ fn print_disposition(
 }
 
 pub fn print_lifecycle(out: &mut [u8], at: Printed, lifecycle: ShellLifecycle) -> Printed
-    ensures { λ r. ⌜ Prints (now (out .entry)) at (field (lifecycleField (lifecycleOf lifecycle))) (now (out .exit)) r ⌝ }
+    ensures { λ r. ⌜ Prints (now (out .entry)) at (spacedField (lifecycleField (lifecycleOf lifecycle))) (now (out .exit)) r ⌝ }
 {
     match lifecycle {
         ShellLifecycle::Created => bytes_printer::print_field_bytes(out, at, b"created"),
@@ -42,7 +42,7 @@ pub fn print_lifecycle(out: &mut [u8], at: Printed, lifecycle: ShellLifecycle) -
 }
 
 pub fn print_cursor(out: &mut [u8], at: Printed, cursor: ProjectionReplayCursor) -> Printed
-    ensures { λ r. ⌜ Prints (now (out .entry)) at (field (cursorField (cursorOf cursor))) (now (out .exit)) r ⌝ }
+    ensures { λ r. ⌜ Prints (now (out .entry)) at (spacedField (cursorField (cursorOf cursor))) (now (out .exit)) r ⌝ }
 {
     match cursor {
         ProjectionReplayCursor::Uninitialized => bytes_printer::print_field_bytes(out, at, b"-"),

@@ -39,7 +39,7 @@ abbrev pub SteppedBy : ReplayState → List ℕ → List ℕ → ReplayStep → 
 SteppedBy s before after r (onward m printed) = (r .stopped ≡ false) × (ReplayHolds (r .state) m × Prints before (Next 0) printed after (r .printed))
 SteppedBy s before after r (stops printed) = (r .stopped ≡ true) × ((r .state ≡ s) × Prints before (Next 0) printed after (r .printed))
 
-pub record Stepped (s : ReplayState) (before after : List ℕ) (r : ReplayStep) (step : Step) : Type 0 where
+pub record ReplayStepped (s : ReplayState) (before after : List ℕ) (r : ReplayStep) (step : Step) : Type 0 where
   pub is : SteppedBy s before after r step
 
 -- the state with another session

@@ -29,7 +29,7 @@ use Rattle.script_calls.specs.SetsUpLaws.{kept-front}
 use Rattle.script_calls.specs.declared.setup.ReplaySetup.{ReplaySetup}
 use Rattle.script_calls.specs.declared.state.ReplayState.{ReplayState}
 use Rattle.script_calls.specs.declared.state.ReplayStep.{ReplayStep}
-use Rattle.script_calls.specs.ReplayHolds.{SessionHeld, ReplayHolds, Stepped, isCreated}
+use Rattle.script_calls.specs.ReplayHolds.{SessionHeld, ReplayHolds, ReplayStepped, isCreated}
 
 -- there is a session of the model, which the struct stores
 held-some : (b : Bool) (s : ShellSession) (o : Option Session) → b ≡ true → SessionHeld b s o → (x : Session) × (o ≡ some x) × Holds s x
@@ -53,14 +53,14 @@ module _ (m : State) (f : Session → Step) where
 
 module _ (s : ReplayState) (m : State) (h : ReplayHolds s m) (before after : List ℕ) (r : ReplayStep) (f : Session → Step) where
   -- the session answers
-  pub asked-there : s .exists ≡ true → ((x : Session) → Holds (s .session) x → Stepped s before after r (f x)) → Stepped s before after r (asked m f)
+  pub asked-there : s .exists ≡ true → ((x : Session) → Holds (s .session) x → ReplayStepped s before after r (f x)) → ReplayStepped s before after r (asked m f)
   asked-there e step =
       let one = held-some (s .exists) (s .session) (m .session) e (h .session-is) in
-      subst (Stepped s before after r) (sym (asked-is m f (some (one .0)) (one .1))) (step (one .0) (one .2))
+      subst (ReplayStepped s before after r) (sym (asked-is m f (some (one .0)) (one .1))) (step (one .0) (one .2))
 
   -- there is none
-  pub asked-nowhere : s .exists ≡ false → Stepped s before after r (onward m noSessionLine) → Stepped s before after r (asked m f)
-  asked-nowhere e step = subst (Stepped s before after r) (sym (asked-is m f none (held-none (s .exists) (s .session) (m .session) e (h .session-is)))) step
+  pub asked-nowhere : s .exists ≡ false → ReplayStepped s before after r (onward m noSessionLine) → ReplayStepped s before after r (asked m f)
+  asked-nowhere e step = subst (ReplayStepped s before after r) (sym (asked-is m f none (held-none (s .exists) (s .session) (m .session) e (h .session-is)))) step
 
 module _ (s : ReplayState) (m : State) (h : ReplayHolds s m) where
   -- the state with a later session of the same replay
@@ -70,21 +70,21 @@ module _ (s : ReplayState) (m : State) (h : ReplayHolds s m) where
 
 module _ {s : ReplayState} {before after : List ℕ} where
   -- a step that goes on, by its parts
-  pub goes-on : {r : ReplayStep} {m : State} {printed : List ℕ} → r .stopped ≡ false → ReplayHolds (r .state) m → Prints before (Next 0) printed after (r .printed) → Stepped s before after r (onward m printed)
+  pub goes-on : {r : ReplayStep} {m : State} {printed : List ℕ} → r .stopped ≡ false → ReplayHolds (r .state) m → Prints before (Next 0) printed after (r .printed) → ReplayStepped s before after r (onward m printed)
   goes-on e h p = record { is = (e, (h, p)) }
 
-  pub stops-there : (r : ReplayStep) {printed : List ℕ} → r .stopped ≡ true → r .state ≡ s → Prints before (Next 0) printed after (r .printed) → Stepped s before after r (stops printed)
+  pub stops-there : (r : ReplayStep) {printed : List ℕ} → r .stopped ≡ true → r .state ≡ s → Prints before (Next 0) printed after (r .printed) → ReplayStepped s before after r (stops printed)
   stops-there r e same p = record { is = (e, (same, p)) }
 
 -- a batch in the edition that the struct stores is one in the edition of the replay
 pub in-edition : {s : ReplayState} {before after : List ℕ} {r : ReplayStep} (m : State) (own : ProjectionPatchEdition) → editionOf own ≡ m .edition → (x : Session) (e : BatchEnvelope) (references : ℕ) (set : List ℕ)
-    → Stepped s before after r (batched m (batch (editionOf own) x e references set)) → Stepped s before after r (batched m (batch (m .edition) x e references set))
-in-edition {s} {before} {after} {r} m own is x e references set step = subst (λ (ed : Edition). Stepped s before after r (batched m (batch ed x e references set))) is step
+    → ReplayStepped s before after r (batched m (batch (editionOf own) x e references set)) → ReplayStepped s before after r (batched m (batch (m .edition) x e references set))
+in-edition {s} {before} {after} {r} m own is x e references set step = subst (λ (ed : Edition). ReplayStepped s before after r (batched m (batch ed x e references set))) is step
 
 -- a creation takes the place of what there was
 pub created-step : (s : ReplayState) (m : State) → ReplayHolds s m → (c : Creation) (r : ShellSessionCreation) → Creates c r → (b : Bool) → b ≡ isCreated (r .answer)
     → (before after : List ℕ) (p : Printed) → Prints before (Next 0) (creationLine c) after p
-    → Stepped s before after (record { state = record { setup = s .setup; exists = b; session = r .session; turns = s .turns; edition = s .edition }; printed = p; stopped = false }) (created m c)
+    → ReplayStepped s before after (record { state = record { setup = s .setup; exists = b; session = r .session; turns = s .turns; edition = s .edition }; printed = p; stopped = false }) (created m c)
 unfolding created Creates isCreated withSession
 created-step s m h (made x) r k b e before after p printed = goes-on refl (record { setup-is = h .setup-is; session-is = rw (e, k .0) (k .1); turns-are = h .turns-are; edition-is = h .edition-is }) printed
 created-step s m h (refused f) r k b e before after p printed = goes-on refl (record { setup-is = h .setup-is; session-is = rw (e, k .0) (k .1); turns-are = h .turns-are; edition-is = h .edition-is }) printed

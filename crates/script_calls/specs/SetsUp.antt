@@ -22,8 +22,8 @@ pub record Keeps {A : Type 0} (none : A) (array : List A) (count : ℕ) (l : Lis
   pub is : array ≡ l ++ replicate (keptAnchors - count) none
 
 -- the set-up with other anchors
-abbrev pub anchored : Setup → Catalogue → Setup
-anchored m c = record { id = m .id; limits = m .limits; catalogue = c }
+abbrev pub anchoredReplay : Setup → Catalogue → Setup
+anchoredReplay m c = record { id = m .id; limits = m .limits; catalogue = c }
 
 -- the struct stands for a set-up of the definitions
 pub record SetsUp (s : ReplaySetup) (m : Setup) : Type 0 where

@@ -30,7 +30,7 @@ use Rattle.script_calls.specs.TurnsHeld.{heldTurns, TurnsHeld, afterSetU
 use Rattle.script_calls.specs.TurnsHeldLaws.{turns-there, turns-nowhere, told-turns, held-next}
 use Rattle.script_calls.specs.declared.state.ReplayState.{ReplayState}
 use Rattle.script_calls.specs.declared.state.ReplayStep.{ReplayStep}
-use Rattle.script_calls.specs.ReplayHolds.{ReplayHolds, Stepped, withLatestTurns}
+use Rattle.script_calls.specs.ReplayHolds.{ReplayHolds, ReplayStepped, withLatestTurns}
 use Rattle.script_calls.specs.ReplayHoldsLaws.{goes-on}
 
 module _ (m : State) (f : Turns → Step) where
@@ -40,14 +40,14 @@ module _ (m : State) (f : Turns → Step) where
 
 module _ (s : ReplayState) (m : State) (h : ReplayHolds s m) (before after : List ℕ) (r : ReplayStep) (f : Turns → Step) where
   -- the turns answer
-  pub turns-asked : 0 < s .turns .senders → ((t : Turns) → TurnsHeld (s .turns) (some t) → Stepped s before after r (f t)) → Stepped s before after r (askedTurns m f)
+  pub turns-asked : 0 < s .turns .senders → ((t : Turns) → TurnsHeld (s .turns) (some t) → ReplayStepped s before after r (f t)) → ReplayStepped s before after r (askedTurns m f)
   turns-asked e step =
       let one = turns-there (s .turns) (m .turns) (h .turns-are) e in
-      subst (Stepped s before after r) (sym (asked-is m f (some (one .0)) (one .1))) (step (one .0) (one .2))
+      subst (ReplayStepped s before after r) (sym (asked-is m f (some (one .0)) (one .1))) (step (one .0) (one .2))
 
   -- there are none
-  pub no-turns-asked : s .turns .senders ≤ 0 → Stepped s before after r (onward m noSessionLine) → Stepped s before after r (askedTurns m f)
-  no-turns-asked e step = subst (Stepped s before after r) (sym (asked-is m f none (turns-nowhere (s .turns) (m .turns) (h .turns-are) e))) step
+  pub no-turns-asked : s .turns .senders ≤ 0 → ReplayStepped s before after r (onward m noSessionLine) → ReplayStepped s before after r (askedTurns m f)
+  no-turns-asked e step = subst (ReplayStepped s before after r) (sym (asked-is m f none (turns-nowhere (s .turns) (m .turns) (h .turns-are) e))) step
 
 module _ (s : ReplayState) (m : State) (h : ReplayHolds s m) where
   -- the state with the turns after a call
@@ -83,9 +83,9 @@ module _ (x : SenderTurns) (t : Turns) (h : TurnsHeld x (some t)) where
     turned-answer = ap (λ (k : TurnTaken). turnAnswerOf (k .answer)) taken ∙ answer-back (turn t c .answer)
 
 -- a turn at a cursor is one at the same cursor told otherwise
-pub at-cursor : {s : ReplayState} {before after : List ℕ} {r : ReplayStep} (m : State) (c d : Cursor) → c ≡ d → Stepped s before after r (askedTurns m (λ t. turned m (turn t c)))
-    → Stepped s before after r (askedTurns m (λ t. turned m (turn t d)))
-at-cursor {s} {before} {after} {r} m c d e step = subst (λ (k : Cursor). Stepped s before after r (askedTurns m (λ t. turned m (turn t k)))) e step
+pub at-cursor : {s : ReplayState} {before after : List ℕ} {r : ReplayStep} (m : State) (c d : Cursor) → c ≡ d → ReplayStepped s before after r (askedTurns m (λ t. turned m (turn t c)))
+    → ReplayStepped s before after r (askedTurns m (λ t. turned m (turn t d)))
+at-cursor {s} {before} {after} {r} m c d e step = subst (λ (k : Cursor). ReplayStepped s before after r (askedTurns m (λ t. turned m (turn t k)))) e step
 
 -- ---- set-up
 
@@ -103,7 +103,7 @@ few-made k = by (between 1 mostSenders k) refl
 
 module _ (s : ReplayState) (m : State) (h : ReplayHolds s m) (r : TurnsSetUp) (x : SenderTurns) (chosen : x ≡ afterSetUp (s .turns) (r .answer) (r .turns)) (before after : List ℕ) (p : Printed) where
   settled-as : (u : SetUp) → FewMade u → r ≡ setUpTo u → Prints before (Next 0) (setUpLine u) after p
-      → Stepped s before after (record { state = withLatestTurns s x; printed = p; stopped = false }) (settled m u)
+      → ReplayStepped s before after (record { state = withLatestTurns s x; printed = p; stopped = false }) (settled m u)
   unfolding settled setUpTo afterSetUp heldTurns withTurns
   settled-as (model.made t) few is printed =
       let made : x ≡ heldTurns (some t) = chosen ∙ ap (λ (k : TurnsSetUp). afterSetUp (s .turns) (k .answer) (k .turns)) is in
@@ -113,5 +113,5 @@ module _ (s : ReplayState) (m : State) (h : ReplayHolds s m) (r : TurnsSetUp) (x
       goes-on refl (record { setup-is = h .setup-is; session-is = h .session-is; turns-are = subst (λ (u : SenderTurns). TurnsHeld u (m .turns)) (sym own) (h .turns-are); edition-is = h .edition-is }) printed
 
   pub settled-step : (k : ℕ) → r ≡ setUpTo (setUp k) → Prints before (Next 0) (setUpLine (setUp k)) after p
-      → Stepped s before after (record { state = withLatestTurns s x; printed = p; stopped = false }) (settled m (setUp k))
+      → ReplayStepped s before after (record { state = withLatestTurns s x; printed = p; stopped = false }) (settled m (setUp k))
   settled-step k = settled-as (setUp k) (few-made k)

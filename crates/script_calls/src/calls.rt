@@ -19,12 +19,12 @@ ghost use Rattle.session_lifecycle.specs.Meaning.{stimulusOf};
 ghost use Rattle.session_gates.specs.Gates.{envelopeMeans};
 ghost use Rattle.session_creation.specs.Creation.{Creates};
 ghost use Rattle.script_calls.specs.SetsUp.{SetsUp};
-ghost use Rattle.script_calls.specs.ReplayHolds.{isCreated, ReplayHolds, Stepped};
+ghost use Rattle.script_calls.specs.ReplayHolds.{isCreated, ReplayHolds, ReplayStepped};
 
 // A lifecycle step of the session.
 pub fn apply(state: ReplayState, input: ShellTransitionInput, out: &mut [u8]) -> ReplayStep
     ensures { λ r. ⌜ ((m : State) → ReplayHolds state m
-        → Stepped state (now (out .entry)) (now (out .exit)) r (asked m (λ (x : Session). applied m (lifecycleStep x (stimulusOf (input .stimulus)) (input .«stimulus_bytes»))))) ⌝ }
+        → ReplayStepped state (now (out .entry)) (now (out .exit)) r (asked m (λ (x : Session). applied m (lifecycleStep x (stimulusOf (input .stimulus)) (input .«stimulus_bytes»))))) ⌝ }
 {
     if state.exists {
         let session = state.session;
@@ -52,7 +52,7 @@ pub fn apply_batch(
     out: &mut [u8],
 ) -> ReplayStep
     ensures { λ r. ⌜ ((m : State) → ReplayHolds state m
-        → Stepped state (now (out .entry)) (now (out .exit)) r (asked m (λ (x : Session). batched m (batch (m .edition) x (envelopeMeans envelope) references (now (set .entry)))))) ⌝ }
+        → ReplayStepped state (now (out .entry)) (now (out .exit)) r (asked m (λ (x : Session). batched m (batch (m .edition) x (envelopeMeans envelope) references (now (set .entry)))))) ⌝ }
 {
     if state.exists {
         let session = state.session;
@@ -115,7 +115,7 @@ fn create_session(setup: ReplaySetup) -> ShellSessionCreation
 // A new session, or none where the set-up has too many anchors.
 pub fn create_latest(state: ReplayState, out: &mut [u8]) -> ReplayStep
     ensures { λ r. ⌜ ((m : State) → ReplayHolds state m
-        → Stepped state (now (out .entry)) (now (out .exit)) r (created m (create (m .setup .id) (m .setup .limits) (m .setup .catalogue)))) ⌝ }
+        → ReplayStepped state (now (out .entry)) (now (out .exit)) r (created m (create (m .setup .id) (m .setup .limits) (m .setup .catalogue)))) ⌝ }
 {
     let setup = state.setup;
     let creation = create_session(setup);

@@ -10,7 +10,7 @@ ghost use Rattle.spec_session.specs.Session.{Session};
 ghost use Rattle.spec_group.specs.Group as model;
 ghost use Rattle.spec_replay.specs.Replay.{State, asked, grouped};
 ghost use Rattle.session_group.specs.Groups.{Names};
-ghost use Rattle.script_calls.specs.ReplayHolds.{ReplayHolds, Stepped};
+ghost use Rattle.script_calls.specs.ReplayHolds.{ReplayHolds, ReplayStepped};
 
 // A group of so many batches, the first eight of which stand in the places; their sets lie end to end.
 pub fn apply_group(
@@ -21,7 +21,7 @@ pub fn apply_group(
     out: &mut [u8],
 ) -> ReplayStep
     ensures { λ r. ⌜ ((m : State) → ReplayHolds state m → (bs : List model.GroupBatch) → Names count batches bs
-        → Stepped state (now (out .entry)) (now (out .exit)) r (asked m (λ (x : Session). grouped m (model.group x bs (now (sets .entry)))))) ⌝ }
+        → ReplayStepped state (now (out .entry)) (now (out .exit)) r (asked m (λ (x : Session). grouped m (model.group x bs (now (sets .entry)))))) ⌝ }
 {
     if state.exists {
         let session = state.session;

@@ -8,12 +8,12 @@ ghost use Rattle.spec_projection.specs.Lookups.{bindingMark, availabilityMark, 
 ghost use Rattle.spec_session.specs.Session.{Session};
 ghost use Rattle.spec_replay.specs.Replay.{State, asked, onward};
 ghost use Rattle.spec_replay.specs.Answers.{markLine};
-ghost use Rattle.script_calls.specs.ReplayHolds.{ReplayHolds, Stepped};
+ghost use Rattle.script_calls.specs.ReplayHolds.{ReplayHolds, ReplayStepped};
 
 // The mark of a binding.
 pub fn binding_mark(state: ReplayState, node: u64, slot: u32, out: &mut [u8]) -> ReplayStep
     ensures { λ r. ⌜ ((m : State) → ReplayHolds state m
-        → Stepped state (now (out .entry)) (now (out .exit)) r (asked m (λ (x : Session). onward m (markLine (bindingMark (x .projection) node slot))))) ⌝ }
+        → ReplayStepped state (now (out .entry)) (now (out .exit)) r (asked m (λ (x : Session). onward m (markLine (bindingMark (x .projection) node slot))))) ⌝ }
 {
     if state.exists {
         let session = state.session;
@@ -32,7 +32,7 @@ pub fn binding_mark(state: ReplayState, node: u64, slot: u32, out: &mut [u8]) ->
 // The mark of a node's availability.
 pub fn availability_mark(state: ReplayState, node: u64, out: &mut [u8]) -> ReplayStep
     ensures { λ r. ⌜ ((m : State) → ReplayHolds state m
-        → Stepped state (now (out .entry)) (now (out .exit)) r (asked m (λ (x : Session). onward m (markLine (availabilityMark (x .projection) node))))) ⌝ }
+        → ReplayStepped state (now (out .entry)) (now (out .exit)) r (asked m (λ (x : Session). onward m (markLine (availabilityMark (x .projection) node))))) ⌝ }
 {
     if state.exists {
         let session = state.session;
@@ -51,7 +51,7 @@ pub fn availability_mark(state: ReplayState, node: u64, out: &mut [u8]) -> Repla
 // The mark of a collection's key.
 pub fn entry_mark(state: ReplayState, collection: u64, key: u64, out: &mut [u8]) -> ReplayStep
     ensures { λ r. ⌜ ((m : State) → ReplayHolds state m
-        → Stepped state (now (out .entry)) (now (out .exit)) r (asked m (λ (x : Session). onward m (markLine (entryMark (x .projection) collection key))))) ⌝ }
+        → ReplayStepped state (now (out .entry)) (now (out .exit)) r (asked m (λ (x : Session). onward m (markLine (entryMark (x .projection) collection key))))) ⌝ }
 {
     if state.exists {
         let session = state.session;

@@ -16,7 +16,7 @@ ghost use Rattle.bytes_printer.specs.declared.Printed.the-variants.{Next};
 ghost use Rattle.bytes_printer.specs.Prints.{Prints};
 ghost use Rattle.panel_page.specs.PageTable.{pageWidth};
 ghost use Rattle.shell_player.specs.Holds.{Holds};
-ghost use Rattle.script_calls.specs.ReplayHolds.{ReplayHolds, Stepped};
+ghost use Rattle.script_calls.specs.ReplayHolds.{ReplayHolds, ReplayStepped};
 
 // As many places as a line's room can count.
 const PAGE_BYTES: usize = 256 * PageLookup::WIDTH;
@@ -61,7 +61,7 @@ pub fn look_up(
     out: &mut [u8],
 ) -> ReplayStep
     ensures { λ r. ⌜ ((m : State) → ReplayHolds state m
-        → Stepped state (now (out .entry)) (now (out .exit)) r (asked m (λ (x : Session). onward m (pageLines (length (now (keys .entry))) (page (x .projection) collection (now (keys .entry)) (replicate room none)))))) ⌝ }
+        → ReplayStepped state (now (out .entry)) (now (out .exit)) r (asked m (λ (x : Session). onward m (pageLines (length (now (keys .entry))) (page (x .projection) collection (now (keys .entry)) (replicate room none)))))) ⌝ }
 {
     if state.exists {
         let session = state.session;

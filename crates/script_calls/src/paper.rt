@@ -16,7 +16,7 @@ ghost use Rattle.spec_replay.specs.Replay.{State, asked, onward};
 ghost use Rattle.bytes_printer.specs.declared.Printed.the-variants.{Next};
 ghost use Rattle.bytes_printer.specs.Prints.{Prints};
 ghost use Rattle.shell_player.specs.Holds.{Holds};
-ghost use Rattle.script_calls.specs.ReplayHolds.{ReplayHolds, Stepped};
+ghost use Rattle.script_calls.specs.ReplayHolds.{ReplayHolds, ReplayStepped};
 
 // No print has more bytes than the longest, so that more are never lent.
 fn lent_bytes(room: u64) -> usize
@@ -55,7 +55,7 @@ pub fn print_collection(
     out: &mut [u8],
 ) -> ReplayStep
     ensures { λ r. ⌜ ((m : State) → ReplayHolds state m
-        → Stepped state (now (out .entry)) (now (out .exit)) r (asked m (λ (x : Session). onward m (printLines room (collectionPrint (x .projection) collection))))) ⌝ }
+        → ReplayStepped state (now (out .entry)) (now (out .exit)) r (asked m (λ (x : Session). onward m (printLines room (collectionPrint (x .projection) collection))))) ⌝ }
 {
     if state.exists {
         let session = state.session;

@@ -15,7 +15,7 @@ ghost use Rattle.bytes_printer.specs.Prints.{Prints};
 ghost use Rattle.projection_patch.specs.Meaning.{editionOf};
 ghost use Rattle.session_gates.specs.Gates.{envelopeMeans};
 ghost use Rattle.shell_player.specs.Holds.{Holds};
-ghost use Rattle.script_calls.specs.ReplayHolds.{ReplayHolds, Stepped};
+ghost use Rattle.script_calls.specs.ReplayHolds.{ReplayHolds, ReplayStepped};
 
 fn print_explained(
     session: ShellSession,
@@ -48,7 +48,7 @@ pub fn explain_batch(
     out: &mut [u8],
 ) -> ReplayStep
     ensures { λ r. ⌜ ((m : State) → ReplayHolds state m
-        → Stepped state (now (out .entry)) (now (out .exit)) r (asked m (λ (x : Session). onward m (reasonLine (explain (m .edition) x (envelopeMeans envelope) references (now (set .entry))))))) ⌝ }
+        → ReplayStepped state (now (out .entry)) (now (out .exit)) r (asked m (λ (x : Session). onward m (reasonLine (explain (m .edition) x (envelopeMeans envelope) references (now (set .entry))))))) ⌝ }
 {
     if state.exists {
         let session = state.session;

@@ -6,7 +6,7 @@ ghost use lib.ListN.{set};
 ghost use Rattle.spec_replay.specs.Replay.{Setup, noAnchors, withNode, withBinding, withCollection};
 ghost use Rattle.active_projection_target_catalog.specs.Catalog.{pairOf};
 ghost use Rattle.session_lifecycle.specs.Meaning.{limitsOf};
-ghost use Rattle.script_calls.specs.SetsUp.{keptCount, anchored, SetsUp};
+ghost use Rattle.script_calls.specs.SetsUp.{keptCount, anchoredReplay, SetsUp};
 
 pub struct ReplaySetup {
     pub id: u64,
@@ -76,7 +76,7 @@ impl ReplaySetup {
 
     // The set-up with a node more, unless it keeps as many as it can.
     pub fn with_node(self, node: u64) -> ReplaySetup
-        ensures { λ r. ⌜ ((m : Setup) → SetsUp self m → SetsUp r (anchored m (withNode (m .catalogue) node))) ⌝ }
+        ensures { λ r. ⌜ ((m : Setup) → SetsUp self m → SetsUp r (anchoredReplay m (withNode (m .catalogue) node))) ⌝ }
     {
         let own = self.nodes;
         let nodes = kept_ids(own, self.node_count, node);
@@ -88,7 +88,7 @@ impl ReplaySetup {
     }
 
     pub fn with_binding(self, pair: BindingPair) -> ReplaySetup
-        ensures { λ r. ⌜ ((m : Setup) → SetsUp self m → SetsUp r (anchored m (withBinding (m .catalogue) (pairOf pair)))) ⌝ }
+        ensures { λ r. ⌜ ((m : Setup) → SetsUp self m → SetsUp r (anchoredReplay m (withBinding (m .catalogue) (pairOf pair)))) ⌝ }
     {
         let own = self.pairs;
         let pairs = kept_pairs(own, self.pair_count, pair);
@@ -100,7 +100,7 @@ impl ReplaySetup {
     }
 
     pub fn with_collection(self, collection: u64) -> ReplaySetup
-        ensures { λ r. ⌜ ((m : Setup) → SetsUp self m → SetsUp r (anchored m (withCollection (m .catalogue) collection))) ⌝ }
+        ensures { λ r. ⌜ ((m : Setup) → SetsUp self m → SetsUp r (anchoredReplay m (withCollection (m .catalogue) collection))) ⌝ }
     {
         let own = self.collections;
         let collections = kept_ids(own, self.collection_count, collection);

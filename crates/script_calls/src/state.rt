@@ -8,7 +8,7 @@ use shell_player::session::ShellSession;
 ghost use mathlib.Core.Path.{_≡_};
 ghost use Rattle.spec_replay.specs.Replay.{State, onward};
 ghost use Rattle.spec_replay.specs.Answers.{noSessionLine};
-ghost use Rattle.script_calls.specs.ReplayHolds.{ReplayHolds, Stepped, withLatest, withLatestTurns};
+ghost use Rattle.script_calls.specs.ReplayHolds.{ReplayHolds, ReplayStepped, withLatest, withLatestTurns};
 
 // Turns of no senders stand for none.
 pub struct ReplayState {
@@ -46,7 +46,7 @@ pub fn with_turns(state: ReplayState, turns: SenderTurns) -> ReplayState
 
 // The answer where a session or senders are asked for and there are none.
 pub fn no_session(state: ReplayState, out: &mut [u8]) -> ReplayStep
-    ensures { λ r. ⌜ ((m : State) → ReplayHolds state m → Stepped state (now (out .entry)) (now (out .exit)) r (onward m noSessionLine)) ⌝ }
+    ensures { λ r. ⌜ ((m : State) → ReplayHolds state m → ReplayStepped state (now (out .entry)) (now (out .exit)) r (onward m noSessionLine)) ⌝ }
 {
     let start = Printed::Next(0);
     let printed = session::print_no_session(out, start);

@@ -13,7 +13,7 @@ ghost use Rattle.spec_turns.specs.Turns as model;
 ghost use Rattle.spec_replay.specs.Replay.{State, asked, askedTurns, settled, registered, turned};
 ghost use Rattle.session_lifecycle.specs.Meaning.{cursorOf};
 ghost use Rattle.script_calls.specs.TurnsHeld.{afterSetUp};
-ghost use Rattle.script_calls.specs.ReplayHolds.{ReplayHolds, Stepped};
+ghost use Rattle.script_calls.specs.ReplayHolds.{ReplayHolds, ReplayStepped};
 
 // The turns that were made, or the own ones where none were.
 fn after_set_up(own: SenderTurns, answer: SetUpAnswer, made: SenderTurns) -> SenderTurns
@@ -27,7 +27,7 @@ fn after_set_up(own: SenderTurns, answer: SetUpAnswer, made: SenderTurns) -> Sen
 
 // A new circle of senders; a refused one leaves the circle before it as it was.
 pub fn set_up(state: ReplayState, senders: u64, out: &mut [u8]) -> ReplayStep
-    ensures { λ r. ⌜ ((m : State) → ReplayHolds state m → Stepped state (now (out .entry)) (now (out .exit)) r (settled m (setUp senders))) ⌝ }
+    ensures { λ r. ⌜ ((m : State) → ReplayHolds state m → ReplayStepped state (now (out .entry)) (now (out .exit)) r (settled m (setUp senders))) ⌝ }
 {
     let own = state.turns;
     let step = SenderTurns::new(senders as usize);
@@ -47,7 +47,7 @@ pub fn set_up(state: ReplayState, senders: u64, out: &mut [u8]) -> ReplayStep
 // A sender waits for its turn from now on.
 pub fn register(state: ReplayState, sender: u64, out: &mut [u8]) -> ReplayStep
     ensures { λ r. ⌜ ((m : State) → ReplayHolds state m
-        → Stepped state (now (out .entry)) (now (out .exit)) r (askedTurns m (λ (t : Turns). registered m (model.register t sender)))) ⌝ }
+        → ReplayStepped state (now (out .entry)) (now (out .exit)) r (askedTurns m (λ (t : Turns). registered m (model.register t sender)))) ⌝ }
 {
     let own = state.turns;
     if 0 < own.senders {
@@ -69,7 +69,7 @@ pub fn register(state: ReplayState, sender: u64, out: &mut [u8]) -> ReplayStep
 // Whose turn it is while the session's cursor stands so.
 fn turn_at(state: ReplayState, cursor: ProjectionReplayCursor, out: &mut [u8]) -> ReplayStep
     ensures { λ r. ⌜ ((m : State) → ReplayHolds state m
-        → Stepped state (now (out .entry)) (now (out .exit)) r (askedTurns m (λ (t : Turns). turned m (model.turn t (cursorOf cursor))))) ⌝ }
+        → ReplayStepped state (now (out .entry)) (now (out .exit)) r (askedTurns m (λ (t : Turns). turned m (model.turn t (cursorOf cursor))))) ⌝ }
 {
     let own = state.turns;
     if 0 < own.senders {
@@ -91,7 +91,7 @@ fn turn_at(state: ReplayState, cursor: ProjectionReplayCursor, out: &mut [u8]) -
 // Whose turn it is, and the number for its batch.
 pub fn turn(state: ReplayState, out: &mut [u8]) -> ReplayStep
     ensures { λ r. ⌜ ((m : State) → ReplayHolds state m
-        → Stepped state (now (out .entry)) (now (out .exit)) r (asked m (λ (x : Session). askedTurns m (λ (t : Turns). turned m (model.turn t (x .cursor)))))) ⌝ }
+        → ReplayStepped state (now (out .entry)) (now (out .exit)) r (asked m (λ (x : Session). askedTurns m (λ (t : Turns). turned m (model.turn t (x .cursor)))))) ⌝ }
 {
     if state.exists {
         let session = state.session;

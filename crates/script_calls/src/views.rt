@@ -8,13 +8,13 @@ ghost use Rattle.spec_projection.specs.Lookups.{bindingOf, availabilityOf, entr
 ghost use Rattle.spec_session.specs.Session.{Session};
 ghost use Rattle.spec_listing.specs.Listing.{projectionLines};
 ghost use Rattle.spec_replay.specs.Replay.{State, asked, onward};
-ghost use Rattle.spec_replay.specs.Answers.{valueLine, availabilityLine, lengthLine};
-ghost use Rattle.script_calls.specs.ReplayHolds.{ReplayHolds, Stepped};
+ghost use Rattle.spec_replay.specs.Answers.{valueLine, availabilityAnswerLine, lengthLine};
+ghost use Rattle.script_calls.specs.ReplayHolds.{ReplayHolds, ReplayStepped};
 
 // The projection as a listing.
 pub fn show(state: ReplayState, out: &mut [u8]) -> ReplayStep
     ensures { λ r. ⌜ ((m : State) → ReplayHolds state m
-        → Stepped state (now (out .entry)) (now (out .exit)) r (asked m (λ (x : Session). onward m (projectionLines (x .projection))))) ⌝ }
+        → ReplayStepped state (now (out .entry)) (now (out .exit)) r (asked m (λ (x : Session). onward m (projectionLines (x .projection))))) ⌝ }
 {
     if state.exists {
         let session = state.session;
@@ -33,7 +33,7 @@ pub fn show(state: ReplayState, out: &mut [u8]) -> ReplayStep
 // The value of a binding.
 pub fn binding_value(state: ReplayState, node: u64, slot: u32, out: &mut [u8]) -> ReplayStep
     ensures { λ r. ⌜ ((m : State) → ReplayHolds state m
-        → Stepped state (now (out .entry)) (now (out .exit)) r (asked m (λ (x : Session). onward m (valueLine (bindingOf (x .projection) node slot))))) ⌝ }
+        → ReplayStepped state (now (out .entry)) (now (out .exit)) r (asked m (λ (x : Session). onward m (valueLine (bindingOf (x .projection) node slot))))) ⌝ }
 {
     if state.exists {
         let session = state.session;
@@ -52,7 +52,7 @@ pub fn binding_value(state: ReplayState, node: u64, slot: u32, out: &mut [u8]) -
 // A node's availability.
 pub fn node_availability(state: ReplayState, node: u64, out: &mut [u8]) -> ReplayStep
     ensures { λ r. ⌜ ((m : State) → ReplayHolds state m
-        → Stepped state (now (out .entry)) (now (out .exit)) r (asked m (λ (x : Session). onward m (availabilityLine (availabilityOf (x .projection) node))))) ⌝ }
+        → ReplayStepped state (now (out .entry)) (now (out .exit)) r (asked m (λ (x : Session). onward m (availabilityAnswerLine (availabilityOf (x .projection) node))))) ⌝ }
 {
     if state.exists {
         let session = state.session;
@@ -71,7 +71,7 @@ pub fn node_availability(state: ReplayState, node: u64, out: &mut [u8]) -> Repla
 // The value of a collection's key.
 pub fn entry_value(state: ReplayState, collection: u64, key: u64, out: &mut [u8]) -> ReplayStep
     ensures { λ r. ⌜ ((m : State) → ReplayHolds state m
-        → Stepped state (now (out .entry)) (now (out .exit)) r (asked m (λ (x : Session). onward m (valueLine (entryOf (x .projection) collection key))))) ⌝ }
+        → ReplayStepped state (now (out .entry)) (now (out .exit)) r (asked m (λ (x : Session). onward m (valueLine (entryOf (x .projection) collection key))))) ⌝ }
 {
     if state.exists {
         let session = state.session;
@@ -90,7 +90,7 @@ pub fn entry_value(state: ReplayState, collection: u64, key: u64, out: &mut [u8]
 // How many entries a collection has, as it is stored.
 pub fn collection_length(state: ReplayState, collection: u64, out: &mut [u8]) -> ReplayStep
     ensures { λ r. ⌜ ((m : State) → ReplayHolds state m
-        → Stepped state (now (out .entry)) (now (out .exit)) r (asked m (λ (x : Session). onward m (lengthLine (entryCount (x .projection) collection))))) ⌝ }
+        → ReplayStepped state (now (out .entry)) (now (out .exit)) r (asked m (λ (x : Session). onward m (lengthLine (entryCount (x .projection) collection))))) ⌝ }
 {
     if state.exists {
         let session = state.session;

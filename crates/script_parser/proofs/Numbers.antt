@@ -5,7 +5,7 @@ use mathlib.Core.List.{List, [], _∷_, _++_, append-assoc, append-nil}
 use native.Mathlib.Omega.{arith}
 use lib.ListN.{length, set, replicate, length-append}
 use lib.Seq.{set-at}
-use Rattle.spec_replay.specs.Script.{other, Arguments, number}
+use Rattle.spec_replay.specs.Script.{other, Arguments, numberField}
 use Rattle.script_parser.specs.Fields.{fieldsAfter, numbers, mostNumbers, filled, numberThen, NumberAfter}
 use Rattle.script_parser.specs.declared.fields.NumberField.{NumberField}
 use Rattle.script_parser.specs.declared.fields.NumberField.the-variants.{Number, Other}
@@ -26,7 +26,7 @@ reading-start separator line from count =
 module _ {separator : ℕ} {line : List ℕ} {from count i : ℕ} {values : List ℕ} {at : ℕ} (r : Reading separator line from count i values at) where
   -- reading goes on with the next number
   on : i < count → (next : List ℕ → Arguments)
-      → numbers count next (fieldsAfter separator line from) ≡ number (λ n. numbers (count - (i + 1)) (λ ns. next (r .so-far ++ (n ∷ ns)))) (fieldsAfter separator line at)
+      → numbers count next (fieldsAfter separator line from) ≡ numberField (λ n. numbers (count - (i + 1)) (λ ns. next (r .so-far ++ (n ∷ ns)))) (fieldsAfter separator line at)
   on h next =
       let left : count - i ≡ suc (count - (i + 1)) = omega arith in
       r .same next ∙ ap (λ (k : ℕ). numbers k (λ ns. next (r .so-far ++ ns)) (fieldsAfter separator line at)) left

@@ -13,7 +13,7 @@ use Rattle.spec_replay.specs.Lines.{space, split}
 use Rattle.spec_replay.specs.Script.{Arguments, readBy, Row, byWord, commands, fieldsCommand}
 use Rattle.script_parser.specs.Fields.{firstField, fieldsAfter}
 use Rattle.script_parser.specs.FieldsLaws.{fieldsAfter-drop, none-after, some-after, one-after, split-first, field-part}
-use Rattle.script_parser.specs.Words.{indexOf, wordsOf, rowAt, indexOf-most, by-index}
+use Rattle.script_parser.specs.Words.{indexOf, wordsOf, wordRowAt, indexOf-most, by-index}
 use Rattle.script_parser.specs.Forms.{formCount, formAt, askedBy}
 use Rattle.script_parser.specs.FormsLaws.{none-form}
 use Rattle.script_parser.specs.FormPlaces.{SecondWord}
@@ -45,18 +45,18 @@ module _ (words field : List ℕ) (at to : ℕ) (e : to ≡ at + length (firstFi
 -- ---- the first word of a line
 
 pub first-word : (line : List ℕ) (to k : ℕ) (words : List ℕ) → to ≡ 0 + length (firstField space (drop 0 line)) → wordsOf commands ≡ split space words
-    → k ≡ indexOf (take (to - 0) (drop 0 line)) (split space words) → fieldsCommand (split space line) ≡ rowAt (λ a. a) commands k (fieldsAfter space line to)
+    → k ≡ indexOf (take (to - 0) (drop 0 line)) (split space words) → fieldsCommand (split space line) ≡ wordRowAt (λ a. a) commands k (fieldsAfter space line to)
 unfolding fieldsCommand readBy
 first-word line to k words e same is =
     let ends : to ≡ length (firstField space line) = omega arith in
     ap (readBy (byWord commands) (λ a. a)) (split-first space line)
     ∙ by-index (λ a. a) commands (firstField space line) (fieldsAfter space line (length (firstField space line)))
-    ∙ ap₂ (λ (n i : ℕ). rowAt (λ a. a) commands n (fieldsAfter space line i)) (ap₂ (λ (f : List ℕ) (ws : List (List ℕ)). indexOf f ws) (sym (field-part space line 0 to e)) same ∙ sym is) (sym ends)
+    ∙ ap₂ (λ (n i : ℕ). wordRowAt (λ a. a) commands n (fieldsAfter space line i)) (ap₂ (λ (f : List ℕ) (ws : List (List ℕ)). indexOf f ws) (sym (field-part space line 0 to e)) same ∙ sym is) (sym ends)
 
 -- ---- the second word
 
 module _ {A : Type 0} (next : A → Arguments) (rows : List (Row A)) (base most : ℕ) (size : length (wordsOf rows) ≡ most) (within : base + most < formCount)
-    (agree : (j : ℕ) → j ≤ most → (fs : List (List ℕ)) → rowAt next rows j fs ≡ askedBy (base + j) fs)
+    (agree : (j : ℕ) → j ≤ most → (fs : List (List ℕ)) → wordRowAt next rows j fs ≡ askedBy (base + j) fs)
     (line : List ℕ) (at : ℕ) (words : List ℕ) (same : wordsOf rows ≡ split space words) (r : FormAt) (s : SecondWord line at words base r) where
   abbrev second : List ℕ
   second = firstField space (drop (at + 1) line)

@@ -8,9 +8,9 @@ use borrow.Author.Tests.{le-leb, lt-leb, eq-eqb, ne-eqb}
 use Rattle.spec_replay.specs.Lines.{space, split}
 use Rattle.spec_replay.specs.Script.{nothing, other, lineBytes, commentMark, fieldsCommand, isRemark, command}
 
-pub too-long : (line : List ℕ) → lineBytes < length line → command line ≡ other
+pub line-too-long : (line : List ℕ) → lineBytes < length line → command line ≡ other
 unfolding command
-too-long line h = rw (lt-leb (length line) lineBytes h)
+line-too-long line h = rw (lt-leb (length line) lineBytes h)
 
 pub no-byte : (line : List ℕ) → length line ≡ 0 → command line ≡ nothing
 unfolding command isRemark

@@ -7,7 +7,7 @@ use lib.ListN.{length, drop, replicate}
 use Rattle.spec_lists.specs.Lists.{if_then_else_}
 use Rattle.spec_replay.specs.Lines.{space, split}
 use Rattle.spec_replay.specs.Hex.{readHex}
-use Rattle.spec_replay.specs.Script.{Command, other, Arguments, end, given, number, hex}
+use Rattle.spec_replay.specs.Script.{Command, other, Arguments, end, given, numberField, hex}
 use Rattle.script_parser.specs.declared.fields.NumberField.{NumberField}
 use Rattle.script_parser.specs.declared.fields.NumberField.the-variants as NumberAnswer
 use Rattle.script_parser.specs.declared.fields.NumberFields.{NumberFields}
@@ -30,12 +30,12 @@ numberThen separator line (NumberAnswer.Number n e) next = next n (fieldsAfter s
 numberThen separator line NumberAnswer.Other next = other
 
 abbrev pub NumberAfter : ℕ → List ℕ → ℕ → NumberField → Type 0
-NumberAfter separator line at r = (next : ℕ → Arguments) → number next (fieldsAfter separator line at) ≡ numberThen separator line r next
+NumberAfter separator line at r = (next : ℕ → Arguments) → numberField next (fieldsAfter separator line at) ≡ numberThen separator line r next
 
 -- so many numbers, one behind the other
 abbrev pub numbers : ℕ → (List ℕ → Arguments) → Arguments
 numbers zero next = next []
-numbers (suc k) next = number (λ n. numbers k (λ ns. next (n ∷ ns)))
+numbers (suc k) next = numberField (λ n. numbers k (λ ns. next (n ∷ ns)))
 
 -- no command has more
 abbrev pub mostNumbers : ℕ

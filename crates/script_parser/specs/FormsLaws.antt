@@ -14,9 +14,9 @@ use Rattle.spec_patch.specs.Edition.{Edition}
 use Rattle.spec_lists.specs.ListLaws.{and-left, and-right, test-cases}
 use Rattle.spec_decimal.specs.Decimal.{readDecimal}
 use Rattle.spec_replay.specs.Hex.{readHex}
-use Rattle.spec_replay.specs.Script.{Command, other, apply, Arguments, end, given, readBy, number, atMost, slot, numberedEdition, hex, stimuli, sessionArguments, bindingArguments, batchArguments, convertArguments, dependsArguments, placesLent, printArguments, bytesLent, roomUpTo, groupArguments, pageArguments, importArguments, boundArguments, keyedArguments, values, marks, commands}
+use Rattle.spec_replay.specs.Script.{Command, other, apply, Arguments, end, given, readBy, numberField, atMost, slot, numberedEdition, hex, stimuli, sessionArguments, bindingArguments, batchArguments, convertArguments, dependsArguments, placesLent, printArguments, bytesLent, roomUpTo, groupArguments, pageArguments, importArguments, boundArguments, keyedArguments, values, marks, commands}
 use Rattle.script_parser.specs.Fields.{mostNumbers}
-use Rattle.script_parser.specs.Words.{rowAt}
+use Rattle.script_parser.specs.Words.{wordRowAt}
 use Rattle.script_parser.specs.Forms.{formArguments, upTo, noForm, stimulusBase, valueBase, markBase, firstBase, firstWords, formCount, formAt, groupForm, pageForm, importForm, askedBy, shapeOf, shapesFrom}
 
 -- no form takes no fields
@@ -28,7 +28,7 @@ none-form (f ∷ fs) = refl
 -- ---- a number that is tested: reading it and testing it when the whole line was read is the same
 
 module _ {A : Type 0} (test : Option ℕ → Option A) (no-number : test none ≡ none) where
-  pub number-first : (next : A → Arguments) (fs : List (List ℕ)) → readBy (λ f. test (readDecimal f)) next fs ≡ number (λ n gs. given (test (some n)) (λ a. next a gs)) fs
+  pub number-first : (next : A → Arguments) (fs : List (List ℕ)) → readBy (λ f. test (readDecimal f)) next fs ≡ numberField (λ n gs. given (test (some n)) (λ a. next a gs)) fs
   unfolding readBy given
   number-first next [] = refl
   number-first next (f ∷ fs) = by-number (readDecimal f)
@@ -38,9 +38,9 @@ module _ {A : Type 0} (test : Option ℕ → Option A) (no-number : test none �
       by-number (some n) = refl
 
   -- the last field
-  tested-last : (next : A → Command) (fs : List (List ℕ)) → readBy (λ f. test (readDecimal f)) (λ a. end (next a)) fs ≡ number (λ n. end (given (test (some n)) next)) fs
+  tested-last : (next : A → Command) (fs : List (List ℕ)) → readBy (λ f. test (readDecimal f)) (λ a. end (next a)) fs ≡ numberField (λ n. end (given (test (some n)) next)) fs
   unfolding given
-  tested-last next fs = number-first (λ a. end (next a)) fs ∙ (λ i. number (λ n gs. at-end (test (some n)) gs i) fs)
+  tested-last next fs = number-first (λ a. end (next a)) fs ∙ (λ i. numberField (λ n gs. at-end (test (some n)) gs i) fs)
     where
       at-end : (o : Option A) (gs : List (List ℕ)) → given o (λ a. end (next a) gs) ≡ end (given o next) gs
       at-end none gs = none-form gs
@@ -48,9 +48,9 @@ module _ {A : Type 0} (test : Option ℕ → Option A) (no-number : test none �
 
   -- a last field of another kind behind it
   pub tested-then : {B : Type 0} (read : List ℕ → Option B) (next : A → B → Command) (fs : List (List ℕ))
-      → readBy (λ f. test (readDecimal f)) (λ a. readBy read (λ b. end (next a b))) fs ≡ number (λ n. readBy read (λ b. end (given (test (some n)) (λ a. next a b)))) fs
+      → readBy (λ f. test (readDecimal f)) (λ a. readBy read (λ b. end (next a b))) fs ≡ numberField (λ n. readBy read (λ b. end (given (test (some n)) (λ a. next a b)))) fs
   unfolding given readBy
-  tested-then {B} read next fs = number-first (λ a. readBy read (λ b. end (next a b))) fs ∙ (λ i. number (λ n gs. at-last (test (some n)) gs i) fs)
+  tested-then {B} read next fs = number-first (λ a. readBy read (λ b. end (next a b))) fs ∙ (λ i. numberField (λ n gs. at-last (test (some n)) gs i) fs)
     where
       no-last : (x : Option B) (gs : List (List ℕ)) → other ≡ given x (λ b. end other gs)
       no-last none gs = refl
@@ -62,11 +62,11 @@ module _ {A : Type 0} (test : Option ℕ → Option A) (no-number : test none �
       at-last (some a) gs = refl
 
 -- a number, and one up to a bound behind it
-number-and-bounded : (bound : ℕ) (next : ℕ → ℕ → Command) (fs : List (List ℕ)) → number (λ n. roomUpTo bound (λ s. end (next n s))) fs ≡ number (λ n. number (λ s. end (upTo bound s (next n)))) fs
+number-and-bounded : (bound : ℕ) (next : ℕ → ℕ → Command) (fs : List (List ℕ)) → numberField (λ n. roomUpTo bound (λ s. end (next n s))) fs ≡ numberField (λ n. numberField (λ s. end (upTo bound s (next n)))) fs
 unfolding atMost
-number-and-bounded bound next fs = λ i. number (λ n gs. tested-last (atMost bound) refl (next n) gs i) fs
+number-and-bounded bound next fs = λ i. numberField (λ n gs. tested-last (atMost bound) refl (next n) gs i) fs
 
-number-and-slot : (next : ℕ → ℕ → Command) (fs : List (List ℕ)) → number (λ n. slot (λ s. end (next n s))) fs ≡ number (λ n. number (λ s. end (upTo 4294967295 s (next n)))) fs
+number-and-slot : (next : ℕ → ℕ → Command) (fs : List (List ℕ)) → numberField (λ n. slot (λ s. end (next n s))) fs ≡ numberField (λ n. numberField (λ s. end (upTo 4294967295 s (next n)))) fs
 number-and-slot = number-and-bounded 4294967295
 
 -- ---- the tables
@@ -98,7 +98,7 @@ markWord = 16
 
 -- the row of a first word is its form, if no second word follows
 abbrev FirstRow : ℕ → Type 0
-FirstRow k = (k ≡ applyWord → ⊥) → (k ≡ valueWord → ⊥) → (k ≡ markWord → ⊥) → (fs : List (List ℕ)) → rowAt (λ a. a) commands k fs ≡ askedBy (firstBase + k) fs
+FirstRow k = (k ≡ applyWord → ⊥) → (k ≡ valueWord → ⊥) → (k ≡ markWord → ⊥) → (fs : List (List ℕ)) → wordRowAt (λ a. a) commands k fs ≡ askedBy (firstBase + k) fs
 
 pub first-form : (k : ℕ) → k ≤ firstWords → FirstRow k
 unfolding commands askedBy formAt atMost numberedEdition sessionArguments bindingArguments batchArguments convertArguments dependsArguments printArguments
@@ -132,7 +132,7 @@ first-form k h =
     also tt)
     k (omega arith) (omega arith)
 
-pub stimulus-form : (j : ℕ) → j ≤ 5 → (fs : List (List ℕ)) → rowAt (λ s. number (λ n. end (apply s n))) stimuli j fs ≡ askedBy (stimulusBase + j) fs
+pub stimulus-form : (j : ℕ) → j ≤ 5 → (fs : List (List ℕ)) → wordRowAt (λ s. numberField (λ n. end (apply s n))) stimuli j fs ≡ askedBy (stimulusBase + j) fs
 unfolding stimuli askedBy formAt
 stimulus-form zero h fs = refl
 stimulus-form (suc zero) h fs = refl
@@ -142,7 +142,7 @@ stimulus-form (suc (suc (suc (suc zero)))) h fs = refl
 stimulus-form (suc (suc (suc (suc (suc zero))))) h fs = none-form fs
 stimulus-form (suc (suc (suc (suc (suc (suc j)))))) h fs = absurd (omega arith)
 
-pub value-form : (j : ℕ) → j ≤ 3 → (fs : List (List ℕ)) → rowAt (λ a. a) values j fs ≡ askedBy (valueBase + j) fs
+pub value-form : (j : ℕ) → j ≤ 3 → (fs : List (List ℕ)) → wordRowAt (λ a. a) values j fs ≡ askedBy (valueBase + j) fs
 unfolding values askedBy formAt boundArguments keyedArguments
 value-form zero h fs = number-and-slot _ fs
 value-form (suc zero) h fs = refl
@@ -150,7 +150,7 @@ value-form (suc (suc zero)) h fs = refl
 value-form (suc (suc (suc zero))) h fs = none-form fs
 value-form (suc (suc (suc (suc j)))) h fs = absurd (omega arith)
 
-pub mark-form : (j : ℕ) → j ≤ 3 → (fs : List (List ℕ)) → rowAt (λ a. a) marks j fs ≡ askedBy (markBase + j) fs
+pub mark-form : (j : ℕ) → j ≤ 3 → (fs : List (List ℕ)) → wordRowAt (λ a. a) marks j fs ≡ askedBy (markBase + j) fs
 unfolding marks askedBy formAt boundArguments keyedArguments
 mark-form zero h fs = number-and-slot _ fs
 mark-form (suc zero) h fs = refl

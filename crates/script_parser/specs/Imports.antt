@@ -4,7 +4,7 @@ use mathlib.Core.Path.{_≡_}
 use mathlib.Core.List.{List}
 use mathlib.Core.Option.{Option}
 use Rattle.spec_replay.specs.Lines.{space}
-use Rattle.spec_replay.specs.Script.{Command, importList, other, Arguments, end, number, optional, hex}
+use Rattle.spec_replay.specs.Script.{Command, importList, other, Arguments, end, numberField, optional, hex}
 use Rattle.projection_patch.specs.Meaning.{surfaceOf}
 use Rattle.script_parser.specs.Fields.{fieldsAfter, numbers, filled}
 use Rattle.script_parser.specs.Forms.{at}

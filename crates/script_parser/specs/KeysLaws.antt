@@ -9,7 +9,7 @@ use lib.ListN.{length, take, set, length-set}
 use lib.Seq.{take-suc-set}
 use Rattle.spec_lists.specs.Lists.{if_then_else_}
 use Rattle.spec_replay.specs.Lines.{space}
-use Rattle.spec_replay.specs.Script.{Command, page, other, Arguments, number, readBy, atMost, upToEnd, placesOfPage, lineKeys, pageArguments}
+use Rattle.spec_replay.specs.Script.{Command, page, other, Arguments, numberField, readBy, atMost, upToEnd, placesOfPage, lineKeys, pageArguments}
 use Rattle.script_parser.specs.Fields.{fieldsAfter, numbers, filled, numberThen, NumberAfter}
 use Rattle.script_parser.specs.FieldsLaws.{none-after, one-after}
 use Rattle.script_parser.specs.Forms.{at, upTo}
@@ -22,26 +22,26 @@ use Rattle.script_parser.specs.declared.fields.NumberField.the-variants.
 -- ---- before the keys
 
 -- what follows the collection and the room
-abbrev pub behindRoom : List ℕ → Arguments
-behindRoom ns fs = upTo placesOfPage (at ns 1) (λ room. upToEnd lineKeys (page (at ns 0) room) fs)
+abbrev pub keysBehindRoom : List ℕ → Arguments
+keysBehindRoom ns fs = upTo placesOfPage (at ns 1) (λ room. upToEnd lineKeys (page (at ns 0) room) fs)
 
 -- two numbers, the second of which is tested
-pub page-numbers : (fs : List (List ℕ)) → pageArguments fs ≡ numbers 2 (λ ns. behindRoom (filled 2 ns)) fs
+pub page-numbers : (fs : List (List ℕ)) → pageArguments fs ≡ numbers 2 (λ ns. keysBehindRoom (filled 2 ns)) fs
 unfolding pageArguments atMost
-page-numbers fs = λ i. number (λ c gs. number-first (atMost placesOfPage) refl (λ room. upToEnd lineKeys (page c room)) gs i) fs
+page-numbers fs = λ i. numberField (λ c gs. number-first (atMost placesOfPage) refl (λ room. upToEnd lineKeys (page c room)) gs i) fs
 
 -- ---- the keys so far
 
 -- the keys of the first fields stand in the first places, and the rest of the fields is read behind them
-pub record Keyed (line : List ℕ) (end : ℕ) (keys : List ℕ) (count from : ℕ) : Type 0 where
+pub record KeyedLine (line : List ℕ) (end : ℕ) (keys : List ℕ) (count from : ℕ) : Type 0 where
   pub places : length keys ≡ lineKeys
   pub few : count ≤ lineKeys
   pub same : (next : List ℕ → Command) → upToEnd lineKeys next (fieldsAfter space line end) ≡ upToEnd (lineKeys - count) (λ ks. next (take count keys ++ ks)) (fieldsAfter space line from)
 
-pub keyed-start : (line : List ℕ) (end : ℕ) (keys : List ℕ) → length keys ≡ lineKeys → Keyed line end keys 0 end
+pub keyed-start : (line : List ℕ) (end : ℕ) (keys : List ℕ) → length keys ≡ lineKeys → KeyedLine line end keys 0 end
 keyed-start line end keys many = record { places = many; few = omega arith; same = λ next. refl }
 
-module _ {line : List ℕ} {end : ℕ} {keys : List ℕ} {count from : ℕ} (k : Keyed line end keys count from) where
+module _ {line : List ℕ} {end : ℕ} {keys : List ℕ} {count from : ℕ} (k : KeyedLine line end keys count from) where
   -- no field is left
   pub keyed-end : length line ≤ from → (next : List ℕ → Command) → upToEnd lineKeys next (fieldsAfter space line end) ≡ next (take count keys)
   unfolding upToEnd
@@ -71,13 +71,13 @@ module _ {line : List ℕ} {end : ℕ} {keys : List ℕ} {count from : ℕ} (k :
           k .same next
           ∙ ap (λ (n : ℕ). upToEnd n (λ ks. next (take count keys ++ ks)) (fieldsAfter space line from)) left
           ∙ ap (upToEnd (suc (lineKeys - (count + 1))) (λ ks. next (take count keys ++ ks))) (one-after space line from inside)
-          ∙ sym (ap (number goes) (one-after space line from inside))
+          ∙ sym (ap (numberField goes) (one-after space line from inside))
           ∙ told goes
 
       pub keyed-off : r ≡ Other → (next : List ℕ → Command) → upToEnd lineKeys next (fieldsAfter space line end) ≡ other
       keyed-off is next = onward next ∙ ap (λ (x : NumberField). numberThen space line x (λ n. upToEnd (lineKeys - (count + 1)) (λ ks. next (take count keys ++ (n ∷ ks))))) is
 
-      pub keyed-turn : (n to : ℕ) → r ≡ Number n to → Keyed line end (set keys count n) (count + 1) to
+      pub keyed-turn : (n to : ℕ) → r ≡ Number n to → KeyedLine line end (set keys count n) (count + 1) to
       keyed-turn n to is =
           let kept : take (count + 1) (set keys count n) ≡ take count keys ++ (n ∷ []) =
           ap (λ (m : ℕ). take m (set keys count n)) (add-one count) ∙ take-suc-set keys count n (omega (arith, k .places)) in

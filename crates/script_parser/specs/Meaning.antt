@@ -23,11 +23,11 @@ use Rattle.script_parser.specs.declared.SetLine.the-variants.{Batch, Che
 use Rattle.script_parser.specs.declared.ScriptCommand.{ScriptCommand}
 use Rattle.script_parser.specs.declared.ScriptCommand.the-variants.{Nothing, Setup, Call, WithSet, Group, Page, Other}
 
-abbrev pub envelopeOf : BatchLine → BatchEnvelope
-envelopeOf b = record { session = b .«session_id»; sequence = b .«sequence_no»; patches = b .«patch_count»; stimulusBytes = b .«stimulus_bytes» }
+abbrev pub scriptEnvelopeOf : BatchLine → BatchEnvelope
+scriptEnvelopeOf b = record { session = b .«session_id»; sequence = b .«sequence_no»; patches = b .«patch_count»; stimulusBytes = b .«stimulus_bytes» }
 
 abbrev pub memberOf : GroupMember → GroupBatch
-memberOf m = record { edition = editionOf (m .edition); envelope = envelopeOf (m .batch); references = m .batch .«target_references»; bytes = m .bytes }
+memberOf m = record { edition = editionOf (m .edition); envelope = scriptEnvelopeOf (m .batch); references = m .batch .«target_references»; bytes = m .bytes }
 
 -- the batches in the first places
 abbrev pub firstMembers : ℕ → List GroupMember → List GroupBatch
@@ -61,19 +61,19 @@ callOf (Print c room) = script.print c room
 callOf (Length c) = script.collectionLength c
 
 abbrev pub withSetOf : SetLine → List ℕ → Command
-withSetOf (Batch b) = script.batch (envelopeOf b) (b .«target_references»)
+withSetOf (Batch b) = script.batch (scriptEnvelopeOf b) (b .«target_references»)
 withSetOf Check = script.check
 withSetOf Listed = script.list
 withSetOf (Convert room) = script.convert room
 withSetOf (Depends room) = script.depends room
 withSetOf (Import i) = script.importList (i .room) (i .collection) (patches.envelopeOf (i .envelope))
-withSetOf (Explain b) = script.explainBatch (envelopeOf b) (b .«target_references»)
+withSetOf (Explain b) = script.explainBatch (scriptEnvelopeOf b) (b .«target_references»)
 
-abbrev pub commandOf : List ℕ → ScriptCommand → Command
-commandOf line Nothing = script.nothing
-commandOf line (Setup s) = setupOf s
-commandOf line (Call c) = callOf c
-commandOf line (WithSet s i) = setFrom line i (withSetOf s)
-commandOf line (Group e) = script.groupArguments (fieldsAfter space line e)
-commandOf line (Page e) = script.pageArguments (fieldsAfter space line e)
-commandOf line Other = script.other
+abbrev pub scriptCommandOf : List ℕ → ScriptCommand → Command
+scriptCommandOf line Nothing = script.nothing
+scriptCommandOf line (Setup s) = setupOf s
+scriptCommandOf line (Call c) = callOf c
+scriptCommandOf line (WithSet s i) = setFrom line i (withSetOf s)
+scriptCommandOf line (Group e) = script.groupArguments (fieldsAfter space line e)
+scriptCommandOf line (Page e) = script.pageArguments (fieldsAfter space line e)
+scriptCommandOf line Other = script.other

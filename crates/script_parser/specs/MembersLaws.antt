@@ -12,7 +12,7 @@ use Rattle.spec_decimal.specs.Decimal.{readDecimal}
 use Rattle.spec_group.specs.Group.{GroupBatch}
 use Rattle.spec_replay.specs.Lines.{space, split}
 use Rattle.spec_replay.specs.Hex.{readHex}
-use Rattle.spec_replay.specs.Script.{Command, group, other, end, given, number, numberedEdition, beforeLast, comma, memberParts, memberField, lineMembers, groupLast, groupArguments}
+use Rattle.spec_replay.specs.Script.{Command, group, other, end, given, numberField, numberedEdition, beforeLast, comma, memberParts, memberField, lineMembers, groupLast, groupArguments}
 use Rattle.script_parser.specs.Fields.{firstField, fieldsAfter, numbers, mostNumbers, filled}
 use Rattle.script_parser.specs.FieldsLaws.{length-firstField, none-after, some-after, one-after, field-part}
 use Rattle.script_parser.specs.FormsLaws.{tested-then}
@@ -29,7 +29,7 @@ use Rattle.script_parser.specs.declared.members.MemberField.the-variants
 pub member-numbers : (next : GroupBatch → Command) (fs : List (List ℕ)) → memberParts next fs ≡ numbers mostNumbers (λ ns. end (memberMade (filled mostNumbers ns) next)) fs
 unfolding memberParts numberedEdition
 member-numbers next fs =
-    λ i. number (λ a. number (λ b. number (λ c. number (λ d. number (λ e gs.
+    λ i. numberField (λ a. numberField (λ b. numberField (λ c. numberField (λ d. numberField (λ e gs.
     tested-then numberedEdition refl readDecimal (λ ed n. next (record { edition = ed; envelope = record { session = a; sequence = b; patches = c; stimulusBytes = d }; references = e; bytes = n })) gs i))))) fs
 
 -- ---- the field of a batch

@@ -18,8 +18,8 @@ abbrev pub wordsOf : {A : Type 0} → List (Row A) → List (List ℕ)
 wordsOf rows = map (λ r. r .word) rows
 
 -- what each row goes on with; behind the last row there is any other line
-abbrev pub rowAt : {A : Type 0} → (A → Arguments) → List (Row A) → ℕ → Arguments
-rowAt next rows k = getD (map (λ r. next (r .meaning)) rows) k (λ fs. other)
+abbrev pub wordRowAt : {A : Type 0} → (A → Arguments) → List (Row A) → ℕ → Arguments
+wordRowAt next rows k = getD (map (λ r. next (r .meaning)) rows) k (λ fs. other)
 
 pub indexOf-most : (field : List ℕ) (ws : List (List ℕ)) → indexOf field ws ≤ length ws
 unfolding indexOf
@@ -28,7 +28,7 @@ indexOf-most field (w ∷ ws) = test-cases (equalLists eqb w field) (λ t. rw t 
 
 -- a table is looked up by the number of its word: one law for every table
 pub by-index : {A : Type 0} (next : A → Arguments) (rows : List (Row A)) (field : List ℕ) (fs : List (List ℕ))
-    → given (byWord rows field) (λ a. next a fs) ≡ rowAt next rows (indexOf field (wordsOf rows)) fs
+    → given (byWord rows field) (λ a. next a fs) ≡ wordRowAt next rows (indexOf field (wordsOf rows)) fs
 unfolding indexOf byWord given
 by-index next [] field fs = refl
 by-index next (r ∷ rows) field fs = test-cases (equalLists eqb (r .word) field) (λ t. rw t) (λ t. rw t (by-index next rows field fs))

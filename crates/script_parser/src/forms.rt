@@ -22,7 +22,7 @@ ghost use Rattle.spec_replay.specs.Script.{placesLent, bytesLent, given, number
 ghost use Rattle.session_lifecycle.specs.Meaning.{stimulusOf};
 ghost use Rattle.script_parser.specs.Fields.{mostNumbers};
 ghost use Rattle.script_parser.specs.Forms.{upTo, withSlot, firstBase, formCount, formAt};
-ghost use Rattle.script_parser.specs.Meaning.{setFrom, commandOf};
+ghost use Rattle.script_parser.specs.Meaning.{setFrom, scriptCommandOf};
 
 // The shape of a batch's fields, which two words share.
 const BATCH: usize = 0x15;
@@ -90,7 +90,7 @@ pub(crate) fn has_set(form: usize) -> bool
 }
 
 fn binding(node: u64, slot: u64) -> ScriptCommand
-    ensures { λ r. ⌜ ((line : List ℕ) → commandOf line r ≡ withSlot slot (λ s. script.binding (record { node = node; slot = s }))) ⌝ }
+    ensures { λ r. ⌜ ((line : List ℕ) → scriptCommandOf line r ≡ withSlot slot (λ s. script.binding (record { node = node; slot = s }))) ⌝ }
 {
     if slot <= 0xffff_ffff {
         ScriptCommand::Setup(SetupLine::Binding(node, slot as u32))
@@ -100,7 +100,7 @@ fn binding(node: u64, slot: u64) -> ScriptCommand
 }
 
 fn value_binding(node: u64, slot: u64) -> ScriptCommand
-    ensures { λ r. ⌜ ((line : List ℕ) → commandOf line r ≡ withSlot slot (script.valueBinding node)) ⌝ }
+    ensures { λ r. ⌜ ((line : List ℕ) → scriptCommandOf line r ≡ withSlot slot (script.valueBinding node)) ⌝ }
 {
     if slot < 0x1_0000_0000 {
         ScriptCommand::Call(CallLine::ValueBinding(node, slot as u32))
@@ -110,7 +110,7 @@ fn value_binding(node: u64, slot: u64) -> ScriptCommand
 }
 
 fn mark_binding(node: u64, slot: u64) -> ScriptCommand
-    ensures { λ r. ⌜ ((line : List ℕ) → commandOf line r ≡ withSlot slot (script.markBinding node)) ⌝ }
+    ensures { λ r. ⌜ ((line : List ℕ) → scriptCommandOf line r ≡ withSlot slot (script.markBinding node)) ⌝ }
 {
     if slot < 0x1_0000_0000 {
         ScriptCommand::Call(CallLine::MarkBinding(node, slot as u32))
@@ -120,7 +120,7 @@ fn mark_binding(node: u64, slot: u64) -> ScriptCommand
 }
 
 fn lifecycle_step(command: ShellLifecycleCommand, bytes: u64) -> ScriptCommand
-    ensures { λ r. ⌜ ((line : List ℕ) → commandOf line r ≡ script.apply (stimulusOf (ShellLifecycleStimulus.Command command)) bytes) ⌝ }
+    ensures { λ r. ⌜ ((line : List ℕ) → scriptCommandOf line r ≡ script.apply (stimulusOf (ShellLifecycleStimulus.Command command)) bytes) ⌝ }
 {
     ScriptCommand::Call(CallLine::Apply(ShellTransitionInput {
         stimulus: ShellLifecycleStimulus::Command(command),
@@ -129,7 +129,7 @@ fn lifecycle_step(command: ShellLifecycleCommand, bytes: u64) -> ScriptCommand
 }
 
 fn edition(number: u64) -> ScriptCommand
-    ensures { λ r. ⌜ ((line : List ℕ) → commandOf line r ≡ given (numberedEdition (some number)) script.edition) ⌝ }
+    ensures { λ r. ⌜ ((line : List ℕ) → scriptCommandOf line r ≡ given (numberedEdition (some number)) script.edition) ⌝ }
 {
     match number {
         1 => ScriptCommand::Call(CallLine::Edition(ProjectionPatchEdition::V1)),
@@ -140,7 +140,7 @@ fn edition(number: u64) -> ScriptCommand
 
 // No more room is lent than a set may have bytes.
 fn conversion(room: u64, from: usize) -> ScriptCommand
-    ensures { λ r. ⌜ ((line : List ℕ) → commandOf line r ≡ setFrom line from (λ set. upTo setBytes room (λ n. script.convert n set))) ⌝ }
+    ensures { λ r. ⌜ ((line : List ℕ) → scriptCommandOf line r ≡ setFrom line from (λ set. upTo setBytes room (λ n. script.convert n set))) ⌝ }
 {
     if room <= 32768 {
         ScriptCommand::WithSet(SetLine::Convert(room as u16), from)
@@ -151,7 +151,7 @@ fn conversion(room: u64, from: usize) -> ScriptCommand
 
 // No more places are lent than a line may ask for.
 fn dependencies(room: u64, from: usize) -> ScriptCommand
-    ensures { λ r. ⌜ ((line : List ℕ) → commandOf line r ≡ setFrom line from (λ set. upTo placesLent room (λ n. script.depends n set))) ⌝ }
+    ensures { λ r. ⌜ ((line : List ℕ) → scriptCommandOf line r ≡ setFrom line from (λ set. upTo placesLent room (λ n. script.depends n set))) ⌝ }
 {
     if room <= 16384 {
         ScriptCommand::WithSet(SetLine::Depends(room as u16), from)
@@ -162,7 +162,7 @@ fn dependencies(room: u64, from: usize) -> ScriptCommand
 
 // No more bytes are lent than a line may ask for.
 fn paper(collection: u64, room: u64) -> ScriptCommand
-    ensures { λ r. ⌜ ((line : List ℕ) → commandOf line r ≡ upTo bytesLent room (script.print collection)) ⌝ }
+    ensures { λ r. ⌜ ((line : List ℕ) → scriptCommandOf line r ≡ upTo bytesLent room (script.print collection)) ⌝ }
 {
     if room <= 131072 {
         ScriptCommand::Call(CallLine::Print(collection, room))
@@ -174,7 +174,7 @@ fn paper(collection: u64, room: u64) -> ScriptCommand
 // The command of a form of a second word.
 fn second_command(form: usize, values: [u64; NumberFields::MOST]) -> ScriptCommand
     requires { ⌜ form < firstBase ⌝ }
-    ensures { λ r. ⌜ ((line : List ℕ) → commandOf line r ≡ formAt form .makes values []) ⌝ }
+    ensures { λ r. ⌜ ((line : List ℕ) → scriptCommandOf line r ≡ formAt form .makes values []) ⌝ }
 {
     let first = values[0];
     let second = values[1];
@@ -200,7 +200,7 @@ fn second_command(form: usize, values: [u64; NumberFields::MOST]) -> ScriptComma
 // The command of a form of a first word, which has no set.
 fn first_command(form: usize, values: [u64; NumberFields::MOST]) -> ScriptCommand
     requires { ⌜ (firstBase ≤ form) × (formAt form .withSet ≡ false) ⌝ }
-    ensures { λ r. ⌜ ((line : List ℕ) → commandOf line r ≡ formAt form .makes values []) ⌝ }
+    ensures { λ r. ⌜ ((line : List ℕ) → scriptCommandOf line r ≡ formAt form .makes values []) ⌝ }
 {
     let first = values[0];
     let second = values[1];
@@ -232,7 +232,7 @@ fn first_command(form: usize, values: [u64; NumberFields::MOST]) -> ScriptComman
 // The command of a form without a set.
 pub(crate) fn command_of(form: usize, values: [u64; NumberFields::MOST]) -> ScriptCommand
     requires { ⌜ formAt form .withSet ≡ false ⌝ }
-    ensures { λ r. ⌜ ((line : List ℕ) → commandOf line r ≡ formAt form .makes values []) ⌝ }
+    ensures { λ r. ⌜ ((line : List ℕ) → scriptCommandOf line r ≡ formAt form .makes values []) ⌝ }
 {
     if form < FormAt::FIRST {
         second_command(form, values)
@@ -248,7 +248,7 @@ pub(crate) fn set_command(
     from: usize,
 ) -> ScriptCommand
     requires { ⌜ (form < formCount) × (formAt form .withSet ≡ true) ⌝ }
-    ensures { λ r. ⌜ ((line : List ℕ) → commandOf line r ≡ setFrom line from (formAt form .makes values)) ⌝ }
+    ensures { λ r. ⌜ ((line : List ℕ) → scriptCommandOf line r ≡ setFrom line from (formAt form .makes values)) ⌝ }
 {
     let first = values[0];
     let batch = BatchLine {

@@ -23,7 +23,7 @@ ghost use Rattle.spec_replay.specs.Lines.{space};
 ghost use Rattle.spec_replay.specs.Script.{importArguments};
 ghost use Rattle.projection_patch.specs.Meaning.{surfaceOf};
 ghost use Rattle.script_parser.specs.Fields.{fieldsAfter};
-ghost use Rattle.script_parser.specs.Meaning.{setFrom, commandOf};
+ghost use Rattle.script_parser.specs.Meaning.{setFrom, scriptCommandOf};
 ghost use Rattle.script_parser.specs.Imports.{SurfaceAfter, importMade, behindSurface, behindRoom};
 
 // A surface or none, and where its field ends; Other is any other field, or none.
@@ -60,7 +60,7 @@ fn import_command(
     back: [u64; NumberFields::MOST],
     from: usize,
 ) -> ScriptCommand
-    ensures { λ r. ⌜ ((line : List ℕ) → commandOf line r ≡ setFrom line from (importMade room front (surfaceOf surface) back)) ⌝ }
+    ensures { λ r. ⌜ ((line : List ℕ) → scriptCommandOf line r ≡ setFrom line from (importMade room front (surfaceOf surface) back)) ⌝ }
 {
     let envelope = ProjectionPatchEnvelope {
         patch_id: ProjectionPatchId::new(front[1]),
@@ -91,7 +91,7 @@ fn read_back(
     front: [u64; NumberFields::MOST],
     surface: OptionalSurfaceId,
 ) -> ScriptCommand
-    ensures { λ r. ⌜ commandOf (now (line .entry)) r ≡ behindSurface room front (surfaceOf surface) (fieldsAfter space (now (line .entry)) end) ⌝ }
+    ensures { λ r. ⌜ scriptCommandOf (now (line .entry)) r ≡ behindSurface room front (surfaceOf surface) (fieldsAfter space (now (line .entry)) end) ⌝ }
 {
     let numbers = fields::read_numbers(line, end, 4, SPACE);
     let back = numbers.values;
@@ -106,7 +106,7 @@ fn read_back(
 
 // The fields behind the room, which ends at index end.
 fn read_front(line: &[u8], end: usize, room: u16) -> ScriptCommand
-    ensures { λ r. ⌜ commandOf (now (line .entry)) r ≡ behindRoom room (fieldsAfter space (now (line .entry)) end) ⌝ }
+    ensures { λ r. ⌜ scriptCommandOf (now (line .entry)) r ≡ behindRoom room (fieldsAfter space (now (line .entry)) end) ⌝ }
 {
     let numbers = fields::read_numbers(line, end, 4, SPACE);
     let front = numbers.values;
@@ -121,7 +121,7 @@ fn read_front(line: &[u8], end: usize, room: u16) -> ScriptCommand
 
 // Reads the fields behind the word, which ends at index end. No more room is lent than a set may have bytes.
 pub(crate) fn read_import(line: &[u8], end: usize) -> ScriptCommand
-    ensures { λ r. ⌜ commandOf (now (line .entry)) r ≡ importArguments (fieldsAfter space (now (line .entry)) end) ⌝ }
+    ensures { λ r. ⌜ scriptCommandOf (now (line .entry)) r ≡ importArguments (fieldsAfter space (now (line .entry)) end) ⌝ }
 {
     match fields::number_after(line, end, SPACE) {
         NumberField::Number(room, to) => {

@@ -23,7 +23,7 @@ ghost use Rattle.spec_replay.specs.Script.{fieldsCommand, command};
 ghost use Rattle.bytes_hex.specs.Decoding.{decoding, decodedInto};
 ghost use Rattle.script_parser.specs.Fields.{fieldsAfter};
 ghost use Rattle.script_parser.specs.Forms.{lastArguments, formArguments, formCount, formAt};
-ghost use Rattle.script_parser.specs.Meaning.{commandOf};
+ghost use Rattle.script_parser.specs.Meaning.{scriptCommandOf};
 
 // The batch's envelope, and the declared count of target references.
 pub struct BatchLine {
@@ -111,7 +111,7 @@ fn last_fields(
     end: usize,
 ) -> ScriptCommand
     requires { ⌜ form < formCount ⌝ }
-    ensures { λ r. ⌜ commandOf (now (line .entry)) r ≡ lastArguments (formAt form) values (fieldsAfter space (now (line .entry)) end) ⌝ }
+    ensures { λ r. ⌜ scriptCommandOf (now (line .entry)) r ≡ lastArguments (formAt form) values (fieldsAfter space (now (line .entry)) end) ⌝ }
 {
     if forms::has_set(form) {
         return match fields::last_hex(line, end) {
@@ -128,7 +128,7 @@ fn last_fields(
 // The command of a form with so many fields, whose words end at index end.
 fn counted_fields(line: &[u8], form: usize, end: usize) -> ScriptCommand
     requires { ⌜ form < formCount ⌝ }
-    ensures { λ r. ⌜ commandOf (now (line .entry)) r ≡ formArguments (formAt form) (fieldsAfter space (now (line .entry)) end) ⌝ }
+    ensures { λ r. ⌜ scriptCommandOf (now (line .entry)) r ≡ formArguments (formAt form) (fieldsAfter space (now (line .entry)) end) ⌝ }
 {
     let count = forms::number_count(form);
     let numbers = fields::read_numbers(line, end, count, fields::SPACE);
@@ -141,7 +141,7 @@ fn counted_fields(line: &[u8], form: usize, end: usize) -> ScriptCommand
 
 // A line that is neither too long nor a remark.
 fn parse_fields(line: &[u8]) -> ScriptCommand
-    ensures { λ r. ⌜ commandOf (now (line .entry)) r ≡ fieldsCommand (split space (now (line .entry))) ⌝ }
+    ensures { λ r. ⌜ scriptCommandOf (now (line .entry)) r ≡ fieldsCommand (split space (now (line .entry))) ⌝ }
 {
     let found = words::find_form(line);
     if found.form == FormAt::GROUP {
@@ -158,7 +158,7 @@ fn parse_fields(line: &[u8]) -> ScriptCommand
 
 // Reads a line without its LF.
 pub fn parse_line(line: &[u8]) -> ScriptCommand
-    ensures { λ r. ⌜ commandOf (now (line .entry)) r ≡ command (now (line .entry)) ⌝ }
+    ensures { λ r. ⌜ scriptCommandOf (now (line .entry)) r ≡ command (now (line .entry)) ⌝ }
 {
     if ScriptCommand::LINE_BYTES < line.len() {
         return ScriptCommand::Other;

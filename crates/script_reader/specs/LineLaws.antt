@@ -8,7 +8,7 @@ use lib.ListN.{length, getD, drop, drop-of-length-le}
 use lib.Seq.{drop-cons}
 use borrow.Author.Tests.{eq-eqb, ne-eqb}
 use Rattle.spec_replay.specs.Lines.{newline, prepend, split}
-use Rattle.script_reader.specs.Lines.{firstPart, firstLine}
+use Rattle.script_reader.specs.Lines.{firstPart, firstScriptLine}
 
 -- a byte before the first part is one before its first byte
 first-prepend : (b : ℕ) (parts : List (List ℕ)) → firstPart (prepend b parts) ≡ b ∷ firstPart parts
@@ -17,14 +17,14 @@ first-prepend b [] = refl
 first-prepend b (part ∷ parts) = refl
 
 module _ (bytes : List ℕ) (i : ℕ) where
-  pub at-newline : i < length bytes → getD bytes i 0 ≡ newline → length (firstLine (drop i bytes)) ≡ 0
-  unfolding firstLine firstPart split
+  pub at-newline : i < length bytes → getD bytes i 0 ≡ newline → length (firstScriptLine (drop i bytes)) ≡ 0
+  unfolding firstScriptLine firstPart split
   at-newline h e = rw (drop-cons bytes i 0 h, eq-eqb (getD bytes i 0) newline e)
 
-  pub past-byte : i < length bytes → (getD bytes i 0 ≡ newline → ⊥) → length (firstLine (drop i bytes)) ≡ 1 + length (firstLine (drop (i + 1) bytes))
-  unfolding firstLine split
+  pub past-byte : i < length bytes → (getD bytes i 0 ≡ newline → ⊥) → length (firstScriptLine (drop i bytes)) ≡ 1 + length (firstScriptLine (drop (i + 1) bytes))
+  unfolding firstScriptLine split
   past-byte h e = rw (add-one i, drop-cons bytes i 0 h, ne-eqb (getD bytes i 0) newline e, first-prepend (getD bytes i 0) (split newline (drop (suc i) bytes))) (omega arith)
 
-  pub at-end : length bytes ≤ i → length (firstLine (drop i bytes)) ≡ 0
-  unfolding firstLine firstPart split
+  pub at-end : length bytes ≤ i → length (firstScriptLine (drop i bytes)) ≡ 0
+  unfolding firstScriptLine firstPart split
   at-end h = rw (drop-of-length-le bytes h)

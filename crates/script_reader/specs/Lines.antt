@@ -8,5 +8,5 @@ firstPart [] = []
 firstPart (part ∷ parts) = part
 
 -- the bytes before the first LF
-unfoldable pub firstLine : List ℕ → List ℕ
-firstLine l = firstPart (split newline l)
+unfoldable pub firstScriptLine : List ℕ → List ℕ
+firstScriptLine l = firstPart (split newline l)

@@ -4,7 +4,7 @@ use Rattle.spec_explain.specs.OperationRule as operations
 use Rattle.spec_explain.specs.Reason as model
 use Rattle.spec_explain.specs.Explain as explaining
 use Rattle.projection_patch.specs.ReadAnswers.{optionalOf}
-use Rattle.patch_locate.specs.Answers.{ruleOf, insideOf}
+use Rattle.patch_locate.specs.Answers.{readingRuleOf, insideOf}
 use Rattle.check_set.specs.declared.check_set.CheckPlace.{CheckPlace}
 use Rattle.check_set.specs.declared.check_set.CheckPlace.the-variants as places
 use Rattle.session_explain.specs.declared.reasons.DeclaredLimit.{DeclaredLimit}
@@ -16,9 +16,9 @@ use Rattle.session_explain.specs.declared.reasons.BatchReason.the-variants as r
 use Rattle.session_explain.specs.declared.reasons.BatchExplanation.{BatchExplanation}
 use Rattle.session_explain.specs.declared.reasons.BatchExplanation.the-variants as explanations
 
-abbrev pub placeOf : CheckPlace → Place
-placeOf (places.Patch i) = inPatch i
-placeOf places.Set = inSet
+abbrev pub findingPlaceOf : CheckPlace → Place
+findingPlaceOf (places.Patch i) = inPatch i
+findingPlaceOf places.Set = inSet
 
 abbrev pub limitOf : DeclaredLimit → model.Limit
 limitOf limits.Patches = model.patchLimit
@@ -33,19 +33,19 @@ operationRuleOf rules.BindingsFull = operations.bindingsFull
 operationRuleOf rules.AvailabilitiesFull = operations.availabilitiesFull
 operationRuleOf rules.EntriesFull = operations.entriesFull
 
-abbrev pub reasonOf : BatchReason → model.Reason
-reasonOf (reasons.ForeignSession named own) = model.foreignSession named own
-reasonOf reasons.SessionClosed = model.sessionClosed
-reasonOf (reasons.DeclaredLimits w a b c d) = model.declaredLimits (limitOf w) a b c d
-reasonOf (reasons.Unreadable rule inside p) = model.unreadable (record { rule = ruleOf rule; inside = insideOf inside; position = p })
-reasonOf (reasons.HasFindings place n k d s) = model.hasFindings (placeOf place) n (record { kind = k; domain = d; secondary = s })
-reasonOf (reasons.CountsDiffer a b c d) = model.countsDiffer a b c d
-reasonOf (reasons.ReferencesOver a b) = model.referencesOver a b
-reasonOf (reasons.UnknownTarget n i j) = model.unknownTarget n i j
-reasonOf (reasons.CursorMismatch t) = model.cursorMismatch (optionalOf t)
-reasonOf (reasons.OperationFails i j r) = model.operationFails i j (operationRuleOf r)
+abbrev pub printedReasonOf : BatchReason → model.Reason
+printedReasonOf (reasons.ForeignSession named own) = model.foreignSession named own
+printedReasonOf reasons.SessionClosed = model.sessionClosed
+printedReasonOf (reasons.DeclaredLimits w a b c d) = model.declaredLimits (limitOf w) a b c d
+printedReasonOf (reasons.Unreadable rule inside p) = model.unreadable (record { rule = readingRuleOf rule; inside = insideOf inside; position = p })
+printedReasonOf (reasons.HasFindings place n k d s) = model.hasFindings (findingPlaceOf place) n (record { kind = k; domain = d; secondary = s })
+printedReasonOf (reasons.CountsDiffer a b c d) = model.countsDiffer a b c d
+printedReasonOf (reasons.ReferencesOver a b) = model.referencesOver a b
+printedReasonOf (reasons.UnknownTarget n i j) = model.unknownTarget n i j
+printedReasonOf (reasons.CursorMismatch t) = model.cursorMismatch (optionalOf t)
+printedReasonOf (reasons.OperationFails i j r) = model.operationFails i j (operationRuleOf r)
 
 abbrev pub explanationOf : BatchExplanation → explaining.Explanation
 explanationOf explanations.None = explaining.noReason
 explanationOf explanations.Withheld = explaining.withheld
-explanationOf (explanations.Given r) = explaining.given (reasonOf r)
+explanationOf (explanations.Given r) = explaining.given (printedReasonOf r)

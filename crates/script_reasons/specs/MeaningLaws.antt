@@ -8,12 +8,12 @@ use Rattle.spec_explain.specs.OperationRule as operations
 use Rattle.spec_explain.specs.Reason as model
 use Rattle.spec_explain.specs.Explain.{Explanation, noReason, withheld, given}
 use Rattle.projection_patch.specs.ReadAnswers.{optionalTo, optionalOf}
-use Rattle.patch_locate.specs.Answers.{ruleTo, ruleOf, insideTo, insideOf}
+use Rattle.patch_locate.specs.Answers.{ruleTo, readingRuleOf, insideTo, insideOf}
 use Rattle.check_set.specs.CheckAnswers.{placeTo}
 use Rattle.session_explain.specs.Reasons.{limitTo, operationRuleTo, reasonTo, explanationTo}
-use Rattle.script_reasons.specs.Meaning.{placeOf, limitOf, operationRuleOf, reasonOf, explanationOf}
+use Rattle.script_reasons.specs.Meaning.{findingPlaceOf, limitOf, operationRuleOf, printedReasonOf, explanationOf}
 
-rule-back : (r : readings.ReadingRule) → ruleOf (ruleTo r) ≡ r
+rule-back : (r : readings.ReadingRule) → readingRuleOf (ruleTo r) ≡ r
 rule-back readings.setTooLong = refl
 rule-back readings.wrongHeading = refl
 rule-back readings.tooFewBytes = refl
@@ -35,7 +35,7 @@ inside-back readings.outside = refl
 inside-back (readings.inPatch i) = refl
 inside-back (readings.inOperation i j) = refl
 
-place-back : (p : Place) → placeOf (placeTo p) ≡ p
+place-back : (p : Place) → findingPlaceOf (placeTo p) ≡ p
 place-back (inPatch i) = refl
 place-back inSet = refl
 
@@ -56,7 +56,7 @@ takes-back : (t : Option ℕ) → optionalOf (optionalTo t) ≡ t
 takes-back none = refl
 takes-back (some n) = refl
 
-reason-back : (r : model.Reason) → reasonOf (reasonTo r) ≡ r
+reason-back : (r : model.Reason) → printedReasonOf (reasonTo r) ≡ r
 reason-back (model.foreignSession named own) = refl
 reason-back model.sessionClosed = refl
 reason-back (model.declaredLimits w a b c d) = ap (λ (x : model.Limit). model.declaredLimits x a b c d) (limit-back w)

@@ -9,7 +9,7 @@ use Rattle.session_explain.specs.declared.reasons.OperationRule.the-variants as
 use Rattle.session_explain.specs.declared.reasons.BatchReason.{BatchReason}
 use Rattle.session_explain.specs.declared.reasons.BatchReason.the-variants as reasons
 use Rattle.spec_session.specs.Diagnostics.{sessionNumber}
-use Rattle.script_reasons.specs.Meaning.{reasonOf}
+use Rattle.script_reasons.specs.Meaning.{printedReasonOf}
 
 abbrev pub readingNumberTold : ReadingRule → ℕ
 readingNumberTold readings.SetTooLong = 12
@@ -49,7 +49,7 @@ numberTold (reasons.CursorMismatch t) = 7
 numberTold (reasons.OperationFails i j r) = operationNumberTold r
 
 -- it is the number of the refusal that the reason is behind
-pub number-is : (r : BatchReason) → numberTold r ≡ reasonNumber (reasonOf r)
+pub number-is : (r : BatchReason) → numberTold r ≡ reasonNumber (printedReasonOf r)
 number-is (reasons.ForeignSession named own) = refl
 number-is reasons.SessionClosed = refl
 number-is (reasons.DeclaredLimits w a b c d) = refl

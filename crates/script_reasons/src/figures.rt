@@ -4,10 +4,10 @@ ghost use Rattle.spec_decimal.specs.Decimal.{decimal};
 ghost use Rattle.spec_listing.specs.Listing.{fields};
 ghost use Rattle.spec_replay.specs.Answers.{dash, placeField};
 ghost use Rattle.spec_replay.specs.Reasons.{insideFields, takesField, figureFields};
-ghost use Rattle.bytes_printer.specs.Prints.{field, Prints};
+ghost use Rattle.bytes_printer.specs.Prints.{spacedField, Prints};
 ghost use Rattle.projection_patch.specs.ReadAnswers.{optionalOf};
 ghost use Rattle.patch_locate.specs.Answers.{insideOf};
-ghost use Rattle.script_reasons.specs.Meaning.{placeOf, reasonOf};
+ghost use Rattle.script_reasons.specs.Meaning.{findingPlaceOf, printedReasonOf};
 use bytes_printer::Printed;
 use check_set::check_set::CheckPlace;
 use patch_locate::rules::Inside;
@@ -73,7 +73,7 @@ fn print_takes(out: &mut [u8], at: Printed, takes: OptionalNumber) -> Printed
 }
 
 fn print_place(out: &mut [u8], at: Printed, place: CheckPlace) -> Printed
-    ensures { λ r. ⌜ Prints (now (out .entry)) at (field (placeField (placeOf place))) (now (out .exit)) r ⌝ }
+    ensures { λ r. ⌜ Prints (now (out .entry)) at (spacedField (placeField (findingPlaceOf place))) (now (out .exit)) r ⌝ }
 {
     match place {
         CheckPlace::Patch(index) => bytes_printer::print_field_u64(out, at, index as u64),
@@ -83,7 +83,7 @@ fn print_place(out: &mut [u8], at: Printed, place: CheckPlace) -> Printed
 
 // The figures of a reason.
 pub fn print_figures(out: &mut [u8], at: Printed, reason: BatchReason) -> Printed
-    ensures { λ r. ⌜ Prints (now (out .entry)) at (fields (figureFields (reasonOf reason))) (now (out .exit)) r ⌝ }
+    ensures { λ r. ⌜ Prints (now (out .entry)) at (fields (figureFields (printedReasonOf reason))) (now (out .exit)) r ⌝ }
 {
     match reason {
         BatchReason::ForeignSession { named, own } => print_two(out, at, named, own),

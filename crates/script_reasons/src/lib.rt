@@ -6,13 +6,13 @@ pub mod words;
 ghost use Rattle.spec_explain.specs.Explain.{given};
 ghost use Rattle.spec_replay.specs.Reasons.{reasonLine};
 ghost use Rattle.bytes_printer.specs.Prints.{Prints};
-ghost use Rattle.script_reasons.specs.Meaning.{reasonOf, explanationOf};
+ghost use Rattle.script_reasons.specs.Meaning.{printedReasonOf, explanationOf};
 use bytes_printer::Printed;
 use session_explain::reasons::BatchExplanation;
 use session_explain::reasons::BatchReason;
 
 fn print_given(out: &mut [u8], at: Printed, reason: BatchReason) -> Printed
-    ensures { λ r. ⌜ Prints (now (out .entry)) at (reasonLine (given (reasonOf reason))) (now (out .exit)) r ⌝ }
+    ensures { λ r. ⌜ Prints (now (out .entry)) at (reasonLine (given (printedReasonOf reason))) (now (out .exit)) r ⌝ }
 {
     let letter = bytes_printer::print_byte(out, at, 87);
     let number = bytes_printer::print_field_u64(out, letter, numbers::number_of(reason));

@@ -3,9 +3,9 @@ ghost use mathlib.Core.Path.{_≡_};
 ghost use Rattle.spec_explain.specs.ReadingRule.{readingWord};
 ghost use Rattle.spec_explain.specs.OperationRule.{operationWord};
 ghost use Rattle.spec_explain.specs.Reason.{limitWord, reasonWord};
-ghost use Rattle.bytes_printer.specs.Prints.{field, Prints};
-ghost use Rattle.patch_locate.specs.Answers.{ruleOf};
-ghost use Rattle.script_reasons.specs.Meaning.{limitOf, operationRuleOf, reasonOf};
+ghost use Rattle.bytes_printer.specs.Prints.{spacedField, Prints};
+ghost use Rattle.patch_locate.specs.Answers.{readingRuleOf};
+ghost use Rattle.script_reasons.specs.Meaning.{limitOf, operationRuleOf, printedReasonOf};
 use bytes_printer::Printed;
 use patch_locate::rules::ReadingRule;
 use session_explain::reasons::BatchReason;
@@ -13,7 +13,7 @@ use session_explain::reasons::DeclaredLimit;
 use session_explain::reasons::OperationRule;
 
 fn print_limit(out: &mut [u8], at: Printed, which: DeclaredLimit) -> Printed
-    ensures { λ r. ⌜ Prints (now (out .entry)) at (field (limitWord (limitOf which))) (now (out .exit)) r ⌝ }
+    ensures { λ r. ⌜ Prints (now (out .entry)) at (spacedField (limitWord (limitOf which))) (now (out .exit)) r ⌝ }
 {
     match which {
         DeclaredLimit::Patches => bytes_printer::print_field_bytes(out, at, b"declared-patches"),
@@ -27,7 +27,7 @@ fn print_limit(out: &mut [u8], at: Printed, which: DeclaredLimit) -> Printed
 }
 
 fn print_reading(out: &mut [u8], at: Printed, rule: ReadingRule) -> Printed
-    ensures { λ r. ⌜ Prints (now (out .entry)) at (field (readingWord (ruleOf rule))) (now (out .exit)) r ⌝ }
+    ensures { λ r. ⌜ Prints (now (out .entry)) at (spacedField (readingWord (readingRuleOf rule))) (now (out .exit)) r ⌝ }
 {
     match rule {
         ReadingRule::SetTooLong => bytes_printer::print_field_bytes(out, at, b"set-too-long"),
@@ -57,7 +57,7 @@ fn print_reading(out: &mut [u8], at: Printed, rule: ReadingRule) -> Printed
 }
 
 fn print_operation(out: &mut [u8], at: Printed, rule: OperationRule) -> Printed
-    ensures { λ r. ⌜ Prints (now (out .entry)) at (field (operationWord (operationRuleOf rule))) (now (out .exit)) r ⌝ }
+    ensures { λ r. ⌜ Prints (now (out .entry)) at (spacedField (operationWord (operationRuleOf rule))) (now (out .exit)) r ⌝ }
 {
     match rule {
         OperationRule::KeyPresent => bytes_printer::print_field_bytes(out, at, b"key-present"),
@@ -79,7 +79,7 @@ fn print_operation(out: &mut [u8], at: Printed, rule: OperationRule) -> Printed
 
 // The rule's name.
 pub fn print_word(out: &mut [u8], at: Printed, reason: BatchReason) -> Printed
-    ensures { λ r. ⌜ Prints (now (out .entry)) at (field (reasonWord (reasonOf reason))) (now (out .exit)) r ⌝ }
+    ensures { λ r. ⌜ Prints (now (out .entry)) at (spacedField (reasonWord (printedReasonOf reason))) (now (out .exit)) r ⌝ }
 {
     match reason {
         BatchReason::ForeignSession { .. } => bytes_printer::print_field_bytes(

@@ -16,7 +16,7 @@ use Rattle.spec_group.specs.Group.{groupBatches}
 use Rattle.spec_replay.specs.Script.{group, other, lineMembers}
 use Rattle.projection_patch.specs.declared.patch.ProjectionPatchEdition.the-variants.{V1}
 use Rattle.session_group.specs.declared.GroupBatch.{GroupBatch}
-use Rattle.session_group.specs.Groups.{batchMeans, named, Names}
+use Rattle.session_group.specs.Groups.{batchMeans, namedBatch, Names}
 use Rattle.script_parser.specs.Meaning.{memberOf, firstMembers, setFrom}
 use Rattle.script_parser.specs.Members.{groupThen}
 use Rattle.script_parser.specs.declared.GroupMember.{GroupMember}

@@ -20,33 +20,33 @@ use Rattle.bytes_hex.specs.declared.Decoded.{Decoded}
 use Rattle.bytes_hex.specs.declared.Decoded.the-variants as decoded
 use Rattle.bytes_hex.specs.Decoding.{decoding, decodedInto}
 use Rattle.bytes_hex.specs.DecodingLaws.{decoded-part, always-room}
-use Rattle.script_parser.specs.Meaning.{setFrom, setupOf, commandOf}
+use Rattle.script_parser.specs.Meaning.{setFrom, setupOf, scriptCommandOf}
 use Rattle.script_parser.specs.declared.SetupLine.{SetupLine}
 use Rattle.script_parser.specs.declared.ScriptCommand.{ScriptCommand}
 use Rattle.script_calls.specs.SetsUp.{SetsUp}
 use Rattle.script_calls.specs.declared.setup.ReplaySetup.{ReplaySetup}
 use Rattle.script_calls.specs.declared.state.ReplayState.{ReplayState}
 use Rattle.script_calls.specs.declared.state.ReplayStep.{ReplayStep}
-use Rattle.script_calls.specs.ReplayHolds.{ReplayHolds, Stepped}
+use Rattle.script_calls.specs.ReplayHolds.{ReplayHolds, ReplayStepped}
 use Rattle.script_calls.specs.ReplayHoldsLaws.{goes-on}
 use Rattle.script_replay.specs.SetupLines.{nextSetup, setup-line}
 
 -- a line that prints nothing leaves the slice as it was
-pub silent-step : (s : ReplayState) (l : List ℕ) (r : ReplayStep) (m : State) → r .stopped ≡ false → r .printed ≡ Next 0 → ReplayHolds (r .state) m → Stepped s l l r (onward m [])
+pub silent-step : (s : ReplayState) (l : List ℕ) (r : ReplayStep) (m : State) → r .stopped ≡ false → r .printed ≡ Next 0 → ReplayHolds (r .state) m → ReplayStepped s l l r (onward m [])
 silent-step s l r m goes unprinted h = goes-on goes h (subst (λ (p : Printed). Prints l (Next 0) [] l p) (sym unprinted) (nothing-printed l (Next 0) (omega arith)))
 
 -- a line for the next creation
 pub set-up-step : (s : ReplayState) (m : State) → ReplayHolds s m → (t : ReplaySetup) (line : SetupLine) → SetsUp t (nextSetup (m .setup) line) → (n : ℕ) (l : List ℕ)
-    → Stepped s l l (record { state = record { setup = t; exists = s .exists; session = s .session; turns = s .turns; edition = s .edition }; printed = Next 0; stopped = false }) (replayLine n m (setupOf line))
+    → ReplayStepped s l l (record { state = record { setup = t; exists = s .exists; session = s .session; turns = s .turns; edition = s .edition }; printed = Next 0; stopped = false }) (replayLine n m (setupOf line))
 set-up-step s m h t line new n l =
-    subst (Stepped s l l (record { state = record { setup = t; exists = s .exists; session = s .session; turns = s .turns; edition = s .edition }; printed = Next 0; stopped = false })) (setup-line n m line)
+    subst (ReplayStepped s l l (record { state = record { setup = t; exists = s .exists; session = s .session; turns = s .turns; edition = s .edition }; printed = Next 0; stopped = false })) (setup-line n m line)
     (silent-step s l _ _ refl refl (record { setup-is = new; session-is = h .session-is; turns-are = h .turns-are; edition-is = h .edition-is }))
 
 -- ---- lines
 
 -- a step at a command is one at the same command told otherwise
-pub line-step : {s : ReplayState} {before after : List ℕ} {r : ReplayStep} (n : ℕ) (m : State) (k j : Command) → j ≡ k → Stepped s before after r (replayLine n m j) → Stepped s before after r (replayLine n m k)
-line-step {s} {before} {after} {r} n m k j e step = subst (λ (x : Command). Stepped s before after r (replayLine n m x)) e step
+pub line-step : {s : ReplayState} {before after : List ℕ} {r : ReplayStep} (n : ℕ) (m : State) (k j : Command) → j ≡ k → ReplayStepped s before after r (replayLine n m j) → ReplayStepped s before after r (replayLine n m k)
+line-step {s} {before} {after} {r} n m k j e step = subst (λ (x : Command). ReplayStepped s before after r (replayLine n m x)) e step
 
 -- a line that is too long
 pub long-other : (line : List ℕ) → lineBytes < length line → command line ≡ other
@@ -54,8 +54,8 @@ unfolding command
 long-other line h = rw (lt-leb (length line) lineBytes h)
 
 -- what a parsed line stands for, by the case that it is
-pub parsed-as : (line : List ℕ) (p c : ScriptCommand) → commandOf line p ≡ command line → p ≡ c → commandOf line c ≡ command line
-parsed-as line p c told e = ap (commandOf line) (sym e) ∙ told
+pub parsed-as : (line : List ℕ) (p c : ScriptCommand) → scriptCommandOf line p ≡ command line → p ≡ c → scriptCommandOf line c ≡ command line
+parsed-as line p c told e = ap (scriptCommandOf line) (sym e) ∙ told
 
 -- ---- sets in hex
 

@@ -7,13 +7,13 @@ use Rattle.session_lifecycle.specs.Meaning.{limitsOf}
 use Rattle.script_parser.specs.Meaning.{setupOf}
 use Rattle.script_parser.specs.declared.SetupLine.{SetupLine}
 use Rattle.script_parser.specs.declared.SetupLine.the-variants.{Session, Node, Binding, Collection}
-use Rattle.script_calls.specs.SetsUp.{anchored}
+use Rattle.script_calls.specs.SetsUp.{anchoredReplay}
 
 abbrev pub nextSetup : Setup → SetupLine → Setup
 nextSetup m (Session id limits) = record { id = id; limits = limitsOf limits; catalogue = noAnchors }
-nextSetup m (Node n) = anchored m (withNode (m .catalogue) n)
-nextSetup m (Binding n s) = anchored m (withBinding (m .catalogue) (record { node = n; slot = s }))
-nextSetup m (Collection n) = anchored m (withCollection (m .catalogue) n)
+nextSetup m (Node n) = anchoredReplay m (withNode (m .catalogue) n)
+nextSetup m (Binding n s) = anchoredReplay m (withBinding (m .catalogue) (record { node = n; slot = s }))
+nextSetup m (Collection n) = anchoredReplay m (withCollection (m .catalogue) n)
 
 -- it is what the line does, and all that it does
 pub setup-line : (number : ℕ) (m : State) (line : SetupLine) → onward (record { setup = nextSetup (m .setup) line; session = m .session; turns = m .turns; edition = m .edition }) [] ≡ replayLine number m (setupOf line)

@@ -10,12 +10,12 @@ ghost use mathlib.Core.Path.{_≡_};
 ghost use Prim.Native.Nat.{ℕ};
 ghost use Rattle.spec_replay.specs.Replay.{State, replayLine};
 ghost use Rattle.session_gates.specs.Gates.{envelopeMeans};
-ghost use Rattle.script_parser.specs.Meaning.{envelopeOf, withSetOf};
+ghost use Rattle.script_parser.specs.Meaning.{scriptEnvelopeOf, withSetOf};
 ghost use Rattle.script_parser.specs.declared.SetLine.the-variants as SetLine;
-ghost use Rattle.script_calls.specs.ReplayHolds.{ReplayHolds, Stepped};
+ghost use Rattle.script_calls.specs.ReplayHolds.{ReplayHolds, ReplayStepped};
 
 fn envelope_of(batch: BatchLine) -> OrderedProjectionPatchBatchEnvelope
-    ensures { λ r. ⌜ envelopeMeans r ≡ envelopeOf batch ⌝ }
+    ensures { λ r. ⌜ envelopeMeans r ≡ scriptEnvelopeOf batch ⌝ }
 {
     OrderedProjectionPatchBatchEnvelope {
         session_id: ShellSessionId(batch.session_id),
@@ -32,7 +32,7 @@ pub(crate) fn apply_batch(
     out: &mut [u8],
 ) -> ReplayStep
     ensures { λ r. ⌜ ((m : State) → ReplayHolds state m → (number : ℕ)
-        → Stepped state (now (out .entry)) (now (out .exit)) r (replayLine number m (withSetOf (SetLine.Batch batch) (now (set .entry))))) ⌝ }
+        → ReplayStepped state (now (out .entry)) (now (out .exit)) r (replayLine number m (withSetOf (SetLine.Batch batch) (now (set .entry))))) ⌝ }
 {
     let envelope = envelope_of(batch);
     calls::apply_batch(state, envelope, batch.target_references, set, out)
@@ -45,7 +45,7 @@ pub(crate) fn explain_batch(
     out: &mut [u8],
 ) -> ReplayStep
     ensures { λ r. ⌜ ((m : State) → ReplayHolds state m → (number : ℕ)
-        → Stepped state (now (out .entry)) (now (out .exit)) r (replayLine number m (withSetOf (SetLine.Explain batch) (now (set .entry))))) ⌝ }
+        → ReplayStepped state (now (out .entry)) (now (out .exit)) r (replayLine number m (withSetOf (SetLine.Explain batch) (now (set .entry))))) ⌝ }
 {
     let envelope = envelope_of(batch);
     reasons::explain_batch(state, envelope, batch.target_references, set, out)

@@ -11,10 +11,10 @@ use script_parser::CallLine;
 ghost use Prim.Native.Nat.{ℕ};
 ghost use Rattle.spec_replay.specs.Replay.{State, replayLine};
 ghost use Rattle.script_parser.specs.Meaning.{callOf};
-ghost use Rattle.script_calls.specs.ReplayHolds.{ReplayHolds, Stepped};
+ghost use Rattle.script_calls.specs.ReplayHolds.{ReplayHolds, ReplayStepped};
 
 pub(crate) fn call(state: ReplayState, wanted: CallLine, out: &mut [u8]) -> ReplayStep
-    ensures { λ r. ⌜ ((m : State) → ReplayHolds state m → (number : ℕ) → Stepped state (now (out .entry)) (now (out .exit)) r (replayLine number m (callOf wanted))) ⌝ }
+    ensures { λ r. ⌜ ((m : State) → ReplayHolds state m → (number : ℕ) → ReplayStepped state (now (out .entry)) (now (out .exit)) r (replayLine number m (callOf wanted))) ⌝ }
 {
     match wanted {
         CallLine::Create => calls::create_latest(state, out),

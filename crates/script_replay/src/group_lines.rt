@@ -21,7 +21,7 @@ ghost use Rattle.spec_replay.specs.Replay.{State, replayLine};
 ghost use Rattle.session_group.specs.Groups.{batchMeans};
 ghost use Rattle.script_parser.specs.Fields.{fieldsAfter};
 ghost use Rattle.script_parser.specs.Meaning.{memberOf, firstMembers, setFrom};
-ghost use Rattle.script_calls.specs.ReplayHolds.{ReplayHolds, Stepped};
+ghost use Rattle.script_calls.specs.ReplayHolds.{ReplayHolds, ReplayStepped};
 
 // The most bytes that the hex of a line can spell.
 const SETS_BYTES: usize = 65536;
@@ -71,7 +71,7 @@ fn send_group(
     out: &mut [u8],
 ) -> ReplayStep
     ensures { λ r. ⌜ ((m : State) → ReplayHolds state m → length (now (line .entry)) ≤ lineBytes → count ≤ lineMembers
-        → Stepped state (now (out .entry)) (now (out .exit)) r (replayLine number m (setFrom (now (line .entry)) from (group (firstMembers count members))))) ⌝ }
+        → ReplayStepped state (now (out .entry)) (now (out .exit)) r (replayLine number m (setFrom (now (line .entry)) from (group (firstMembers count members))))) ⌝ }
 {
     let batches = first_batches(members);
     let mut sets = [0u8; SETS_BYTES];
@@ -91,7 +91,7 @@ pub(crate) fn run_group(
     out: &mut [u8],
 ) -> ReplayStep
     ensures { λ r. ⌜ ((m : State) → ReplayHolds state m → length (now (line .entry)) ≤ lineBytes
-        → Stepped state (now (out .entry)) (now (out .exit)) r (replayLine number m (groupArguments (fieldsAfter space (now (line .entry)) end)))) ⌝ }
+        → ReplayStepped state (now (out .entry)) (now (out .exit)) r (replayLine number m (groupArguments (fieldsAfter space (now (line .entry)) end)))) ⌝ }
 {
     let fields = members::read_group(line, end);
     if fields.read {

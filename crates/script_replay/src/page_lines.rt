@@ -8,7 +8,7 @@ ghost use Rattle.spec_replay.specs.Lines.{space};
 ghost use Rattle.spec_replay.specs.Script.{pageArguments};
 ghost use Rattle.spec_replay.specs.Replay.{State, replayLine};
 ghost use Rattle.script_parser.specs.Fields.{fieldsAfter};
-ghost use Rattle.script_calls.specs.ReplayHolds.{ReplayHolds, Stepped};
+ghost use Rattle.script_calls.specs.ReplayHolds.{ReplayHolds, ReplayStepped};
 
 // A page, whose word ends at index end of the line.
 pub(crate) fn run_page(
@@ -19,7 +19,7 @@ pub(crate) fn run_page(
     out: &mut [u8],
 ) -> ReplayStep
     ensures { λ r. ⌜ ((m : State) → ReplayHolds state m
-        → Stepped state (now (out .entry)) (now (out .exit)) r (replayLine number m (pageArguments (fieldsAfter space (now (line .entry)) end)))) ⌝ }
+        → ReplayStepped state (now (out .entry)) (now (out .exit)) r (replayLine number m (pageArguments (fieldsAfter space (now (line .entry)) end)))) ⌝ }
 {
     let page = keys::read_page(line, end);
     if page.read {

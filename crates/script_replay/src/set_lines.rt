@@ -21,7 +21,7 @@ ghost use Rattle.bytes_printer.specs.declared.Printed.the-variants.{Next};
 ghost use Rattle.bytes_printer.specs.Prints.{Prints};
 ghost use Rattle.projection_patch.specs.Meaning.{editionOf};
 ghost use Rattle.script_parser.specs.Meaning.{setFrom, withSetOf};
-ghost use Rattle.script_calls.specs.ReplayHolds.{ReplayHolds, Stepped};
+ghost use Rattle.script_calls.specs.ReplayHolds.{ReplayHolds, ReplayStepped};
 
 // Room for the record of every finding that a check can list.
 const RECORD_NUMBERS: usize = check_set::list_set::FindingsListed::NUMBERS;
@@ -62,7 +62,7 @@ fn convert_into(set: &[u8], edition: ProjectionPatchEdition, room: u16, out: &mu
 
 // The state stays where something was printed.
 fn answered(state: ReplayState, printed: Printed) -> ReplayStep
-    ensures { λ r. ⌜ ((m : State) → ReplayHolds state m → (before after lines : List ℕ) → Prints before (Next 0) lines after printed → Stepped state before after r (onward m lines)) ⌝ }
+    ensures { λ r. ⌜ ((m : State) → ReplayHolds state m → (before after lines : List ℕ) → Prints before (Next 0) lines after printed → ReplayStepped state before after r (onward m lines)) ⌝ }
 {
     ReplayStep {
         state,
@@ -73,7 +73,7 @@ fn answered(state: ReplayState, printed: Printed) -> ReplayStep
 
 fn use_set(state: ReplayState, wanted: SetLine, set: &[u8], out: &mut [u8]) -> ReplayStep
     ensures { λ r. ⌜ ((m : State) → ReplayHolds state m → (number : ℕ)
-        → Stepped state (now (out .entry)) (now (out .exit)) r (replayLine number m (withSetOf wanted (now (set .entry))))) ⌝ }
+        → ReplayStepped state (now (out .entry)) (now (out .exit)) r (replayLine number m (withSetOf wanted (now (set .entry))))) ⌝ }
 {
     let edition = state.edition;
     match wanted {
@@ -113,7 +113,7 @@ pub(crate) fn run_with_set(
     out: &mut [u8],
 ) -> ReplayStep
     ensures { λ r. ⌜ ((m : State) → ReplayHolds state m → length (now (line .entry)) ≤ lineBytes
-        → Stepped state (now (out .entry)) (now (out .exit)) r (replayLine number m (setFrom (now (line .entry)) from (withSetOf wanted)))) ⌝ }
+        → ReplayStepped state (now (out .entry)) (now (out .exit)) r (replayLine number m (setFrom (now (line .entry)) from (withSetOf wanted)))) ⌝ }
 {
     let mut set = [0u8; SET_BYTES];
     match script_parser::decode_set(line, from, &mut set) {

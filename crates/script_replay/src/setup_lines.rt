@@ -19,7 +19,7 @@ ghost use Rattle.spec_replay.specs.Replay.{Setup, State, stops, replayLine};
 ghost use Rattle.projection_patch.specs.Meaning.{editionOf};
 ghost use Rattle.script_parser.specs.Meaning.{setupOf};
 ghost use Rattle.script_calls.specs.SetsUp.{SetsUp};
-ghost use Rattle.script_calls.specs.ReplayHolds.{ReplayHolds, Stepped};
+ghost use Rattle.script_calls.specs.ReplayHolds.{ReplayHolds, ReplayStepped};
 ghost use Rattle.script_replay.specs.SetupLines.{nextSetup};
 
 // The state before the first line: no limits, no anchors, no session and no senders, and sets of the first edition. What stands for none is what a creation gives that is
@@ -57,7 +57,7 @@ pub fn start() -> ReplayState
 
 // A line that asks for nothing.
 pub(crate) fn nothing(state: ReplayState) -> ReplayStep
-    ensures { λ r. ⌜ ((m : State) → ReplayHolds state m → (number : ℕ) (out : List ℕ) → Stepped state out out r (replayLine number m script.nothing)) ⌝ }
+    ensures { λ r. ⌜ ((m : State) → ReplayHolds state m → (number : ℕ) (out : List ℕ) → ReplayStepped state out out r (replayLine number m script.nothing)) ⌝ }
 {
     ReplayStep {
         state,
@@ -83,7 +83,7 @@ fn next_setup(own: ReplaySetup, line: SetupLine) -> ReplaySetup
 
 // A line for the next creation; session and turns stay.
 pub(crate) fn set_up(state: ReplayState, line: SetupLine) -> ReplayStep
-    ensures { λ r. ⌜ ((m : State) → ReplayHolds state m → (number : ℕ) (out : List ℕ) → Stepped state out out r (replayLine number m (setupOf line))) ⌝ }
+    ensures { λ r. ⌜ ((m : State) → ReplayHolds state m → (number : ℕ) (out : List ℕ) → ReplayStepped state out out r (replayLine number m (setupOf line))) ⌝ }
 {
     let own = state.setup;
     let setup = next_setup(own, line);
@@ -98,7 +98,7 @@ pub(crate) fn set_up(state: ReplayState, line: SetupLine) -> ReplayStep
 
 // The edition of every set from here on.
 pub(crate) fn in_edition(state: ReplayState, edition: ProjectionPatchEdition) -> ReplayStep
-    ensures { λ r. ⌜ ((m : State) → ReplayHolds state m → (number : ℕ) (out : List ℕ) → Stepped state out out r (replayLine number m (script.edition (editionOf edition)))) ⌝ }
+    ensures { λ r. ⌜ ((m : State) → ReplayHolds state m → (number : ℕ) (out : List ℕ) → ReplayStepped state out out r (replayLine number m (script.edition (editionOf edition)))) ⌝ }
 {
     let setup = state.setup;
     let session = state.session;
@@ -119,7 +119,7 @@ pub(crate) fn in_edition(state: ReplayState, edition: ProjectionPatchEdition) ->
 
 // Any other line ends the replay.
 pub(crate) fn other(state: ReplayState, number: u64, out: &mut [u8]) -> ReplayStep
-    ensures { λ r. ⌜ Stepped state (now (out .entry)) (now (out .exit)) r (stops (otherLine number)) ⌝ }
+    ensures { λ r. ⌜ ReplayStepped state (now (out .entry)) (now (out .exit)) r (stops (otherLine number)) ⌝ }
 {
     let start = Printed::Next(0);
     let printed = session::print_other(out, start, number);

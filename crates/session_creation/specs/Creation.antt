@@ -12,9 +12,9 @@ use Rattle.spec_session.specs.Session as model
 use Rattle.session_lifecycle.specs.declared.state.ShellLifecycleLimits.{ShellLifecycleLimits}
 use Rattle.session_lifecycle.specs.declared.state.ShellLifecycle.the-variants.{Closed}
 use Rattle.session_lifecycle.specs.declared.state.ProjectionReplayCursor.the-variants.{Uninitialized}
-use Rattle.active_projection_target_catalog.specs.Catalog.{pairOf, noPair, padded, catalogWith}
+use Rattle.active_projection_target_catalog.specs.Catalog.{pairOf, noPair, paddedPairs, catalogWith}
 use Rattle.active_projection_target_catalog.specs.declared.catalog.BindingPair.{BindingPair}
-use Rattle.local_projection_state.specs.Stores.{stateOf}
+use Rattle.local_projection_state.specs.Stores.{storedState}
 use Rattle.shell_player.specs.declared.session.ShellSession.{ShellSession}
 use Rattle.session_creation.specs.declared.CreationRefusal.the-variants.{AnchorsOverCapacity}
 use Rattle.session_creation.specs.declared.CreationAnswer.the-variants.{Created, Refused}
@@ -37,10 +37,10 @@ noSession = record {
       «max_patches_per_transition» = 0;
       «max_target_references_per_transition» = 0;
     };
-    catalog = catalogWith [] (padded noPair []) 0 [];
+    catalog = catalogWith [] (paddedPairs noPair []) 0 [];
   };
   state = record { «session_id» = record { 0 = 0 }; lifecycle = Closed; «replay_cursor» = Uninitialized };
-  «local_projection» = stateOf empty;
+  «local_projection» = storedState empty;
 }
 
 -- a new session; the pairs stand in the array that the session keeps, and so many of them are given

@@ -15,7 +15,7 @@ use Rattle.spec_session.specs.Lifecycle.{stateOf}
 use Rattle.spec_session.specs.ValidSessionLaws.{few-anchors}
 use Rattle.session_lifecycle.specs.Meaning.{limitsOf, cursorOf}
 use Rattle.session_lifecycle.specs.declared.state.ShellLifecycleLimits.{ShellLifecycleLimits}
-use Rattle.active_projection_target_catalog.specs.Catalog.{pairOf, noPair, padded, catalogWith, catalogTo}
+use Rattle.active_projection_target_catalog.specs.Catalog.{pairOf, noPair, paddedPairs, catalogWith, catalogTo}
 use Rattle.active_projection_target_catalog.specs.CatalogLaws.{pairs-again}
 use Rattle.active_projection_target_catalog.specs.declared.catalog.BindingPair.{BindingPair}
 use Rattle.local_projection_state.specs.StoresLaws.{some-state}
@@ -35,11 +35,11 @@ module _ (id : ℕ) (limits : ShellLifecycleLimits) (nodes : List ℕ) (ps : Lis
   unfolding anchorsFit anchorsWithin
   same-fit = ap (λ n. leb (length nodes) anchors && (leb n anchors && leb (length collections) anchors)) (length-map ps pairOf)
 
-  same-catalogue : catalogWith nodes (padded noPair ps) (length ps) collections ≡ catalogTo listed
+  same-catalogue : catalogWith nodes (paddedPairs noPair ps) (length ps) collections ≡ catalogTo listed
   unfolding catalogTo
-  same-catalogue = ap₂ (λ (n : ℕ) (bs : List BindingPair). catalogWith nodes (padded noPair bs) n collections) (sym (length-map ps pairOf)) (sym (pairs-again ps))
+  same-catalogue = ap₂ (λ (n : ℕ) (bs : List BindingPair). catalogWith nodes (paddedPairs noPair bs) n collections) (sym (length-map ps pairOf)) (sym (pairs-again ps))
 
-  fresh-holds : anchorsFit listed ≡ true → Holds (freshSession id limits nodes (padded noPair ps) (length ps) collections) (newSession id (limitsOf limits) listed)
+  fresh-holds : anchorsFit listed ≡ true → Holds (freshSession id limits nodes (paddedPairs noPair ps) (length ps) collections) (newSession id (limitsOf limits) listed)
   unfolding newState newSession stateOf cursorOf
   fresh-holds fit = record {
     id = refl;
@@ -51,12 +51,12 @@ module _ (id : ℕ) (limits : ShellLifecycleLimits) (nodes : List ℕ) (ps : Lis
   }
 
   -- creation on the array of the pairs, zeros behind them, is the creation of the model
-  pub creates : Creates (create id (limitsOf limits) listed) (creationWith id limits nodes (padded noPair ps) (length ps) collections)
+  pub creates : Creates (create id (limitsOf limits) listed) (creationWith id limits nodes (paddedPairs noPair ps) (length ps) collections)
   unfolding Creates creationWith create
-  creates = subst (λ (t : Bool). Creates (create id (limitsOf limits) listed) (if t then record { answer = Created; session = freshSession id limits nodes (padded noPair ps) (length ps) collections } else record { answer = Refused AnchorsOverCapacity; session = noSession })) same-fit (go (anchorsFit listed) refl)
+  creates = subst (λ (t : Bool). Creates (create id (limitsOf limits) listed) (if t then record { answer = Created; session = freshSession id limits nodes (paddedPairs noPair ps) (length ps) collections } else record { answer = Refused AnchorsOverCapacity; session = noSession })) same-fit (go (anchorsFit listed) refl)
     where
       go : (t : Bool) → anchorsFit listed ≡ t
-          → Creates (if t then model.made (newSession id (limitsOf limits) listed) else model.refused model.tooManyAnchors) (if t then record { answer = Created; session = freshSession id limits nodes (padded noPair ps) (length ps) collections } else record { answer = Refused AnchorsOverCapacity; session = noSession })
+          → Creates (if t then model.made (newSession id (limitsOf limits) listed) else model.refused model.tooManyAnchors) (if t then record { answer = Created; session = freshSession id limits nodes (paddedPairs noPair ps) (length ps) collections } else record { answer = Refused AnchorsOverCapacity; session = noSession })
       go true f = (refl, fresh-holds f)
       go false f = (refl, refl)
 

@@ -8,7 +8,7 @@ use Rattle.spec_patch.specs.Read.{SetReading, patches, readSet}
 use Rattle.spec_session.specs.Session.{Limits, Session}
 use Rattle.spec_session.specs.Batch.{BatchEnvelope}
 use Rattle.spec_explain.specs.Walk.{walkPatches}
-use Rattle.spec_explain.specs.Explain.{_>>_, patchesOf, applyStep, applies, explainSteps, explainBatch, explain}
+use Rattle.spec_explain.specs.Explain.{_>>_, patchesRead, stepKept, applies, explainSteps, explainBatch, explain}
 use Rattle.session_lifecycle.specs.Meaning.{lifecycleOf, cursorOf, limitsOf}
 use Rattle.session_lifecycle.specs.declared.state.ShellLocalState.{ShellLocalState}
 use Rattle.active_projection_target_catalog.specs.Catalog.{catalogueOf}
@@ -24,13 +24,13 @@ use Rattle.session_explain.specs.declared.reasons.BatchExplanation.{Batc
 
 module _ (ed : Edition) (m : Session) (e : BatchEnvelope) (declared : ℕ) (set : List ℕ) where
   abbrev operations : StepReason
-  operations = stepTo (applySteps ed m e declared set (patchesOf (readSet ed set)))
+  operations = stepTo (applySteps ed m e declared set (patchesRead (readSet ed set)))
 
   -- the steps' reason under the cap is what the call tells
   told-is : {x : StepReason} → x ≡ firstTo (stepTo (checkSteps ed m e declared set)) operations → cappedTo (m .limits .diagnostics) x ≡ explanationTo (explain ed m e declared set)
   unfolding explain explainBatch
   told-is is =
-      ap (cappedTo (m .limits .diagnostics)) (is ∙ first-then (checkSteps ed m e declared set) (applySteps ed m e declared set (patchesOf (readSet ed set))) ∙ ap stepTo (sym (steps-are ed m e declared set)))
+      ap (cappedTo (m .limits .diagnostics)) (is ∙ first-then (checkSteps ed m e declared set) (applySteps ed m e declared set (patchesRead (readSet ed set))) ∙ ap stepTo (sym (steps-are ed m e declared set)))
       ∙ capped-is (m .limits .diagnostics) (explainSteps ed m e declared set)
 
   module _ {context : ActivatedShellSessionContext} {state : ShellLocalState} (seen : SeenSession context state m) {r : StepReason}
@@ -45,9 +45,9 @@ module _ (ed : Edition) (m : Session) (e : BatchEnvelope) (declared : ℕ) (set 
     pub checks-explain : {x : BatchReason} → r ≡ steps.Because x → {out : BatchExplanation} → out ≡ cappedTo (context .limits .«max_diagnostics_per_transition») r → out ≡ explanationTo (explain ed m e declared set)
     checks-explain is out = under out (is ∙ ap (λ (y : StepReason). firstTo y operations) (sym is ∙ checked))
 
-    pub operations-explain : r ≡ steps.Fine → {a : StepReason} → ((ps : List Patch) → readSet ed set ≡ patches ps → a ≡ stepTo (applies (walkPatches applyStep 0 (m .projection) ps)))
+    pub operations-explain : r ≡ steps.Fine → {a : StepReason} → ((ps : List Patch) → readSet ed set ≡ patches ps → a ≡ stepTo (applies (walkPatches stepKept 0 (m .projection) ps)))
         → {out : BatchExplanation} → out ≡ cappedTo (context .limits .«max_diagnostics_per_transition») a → out ≡ explanationTo (explain ed m e declared set)
-    unfolding patchesOf
+    unfolding patchesRead
     operations-explain is by out =
         let read = checks-read ed m e declared set (sym checked ∙ is) in
-        under out (ap₂ firstTo (sym is ∙ checked) (by (read .0) (read .1) ∙ ap (λ (x : SetReading). stepTo (applySteps ed m e declared set (patchesOf x))) (sym (read .1))))
+        under out (ap₂ firstTo (sym is ∙ checked) (by (read .0) (read .1) ∙ ap (λ (x : SetReading). stepTo (applySteps ed m e declared set (patchesRead x))) (sym (read .1))))

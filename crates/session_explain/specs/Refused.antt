@@ -14,15 +14,15 @@ use Rattle.session_explain.specs.declared.operations.FirstRefused.{First
 use Rattle.session_explain.specs.declared.operations.FirstRefused.the-variants as refused
 
 -- one value for every other
-abbrev pub blank : Resolution
-blank = record { inBinding = λ v. unsigned 0; inEntry = λ v. unsigned 0 }
+abbrev pub blankReason : Resolution
+blankReason = record { inBinding = λ v. unsigned 0; inEntry = λ v. unsigned 0 }
 
 -- the tables hold the rows of a projection, whatever their values
 pub record StandsFor (n : ProjectionCounts) (b a e : List ℕ) (p : Projection) : Type 0 where
   pub plan : Projection
   pub stored : StoredPlan n b a e plan
-  pub alike : resolved blank plan ≡ resolved blank p
+  pub alike : resolved blankReason plan ≡ resolved blankReason p
 
-abbrev pub refusedTo : Walk Projection → FirstRefused
-refusedTo (through p) = refused.AllApply
-refusedTo (halted h) = refused.Refused (h .patch) (h .operation) (operationRuleTo (ruleOf (h .left) (h .refused)))
+abbrev pub reasonRefusedTo : Walk Projection → FirstRefused
+reasonRefusedTo (through p) = refused.AllApply
+reasonRefusedTo (halted h) = refused.Refused (h .patch) (h .operation) (operationRuleTo (ruleOf (h .left) (h .refused)))

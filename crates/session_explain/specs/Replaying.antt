@@ -11,7 +11,7 @@ use Rattle.spec_projection.specs.Projection.{Projection}
 use Rattle.spec_projection.specs.Apply.{applyOperation}
 use Rattle.spec_explain.specs.OperationRule.{ruleOf}
 use Rattle.spec_explain.specs.Walk.{Walk, walkPatches}
-use Rattle.spec_explain.specs.Explain.{applyStep}
+use Rattle.spec_explain.specs.Explain.{stepKept}
 use Rattle.projection_patch.specs.Meaning.{operationOf}
 use Rattle.projection_patch.specs.ReadAnswers.{lentFrom}
 use Rattle.projection_patch.specs.declared.patch.ProjectionPatch.{ProjectionPatch}
@@ -26,7 +26,7 @@ use Rattle.panel_operations.specs.OperationChange.{plannedOperation, OperationB
 use Rattle.panel_operations.specs.declared.OperationChange.{OperationChange}
 use Rattle.panel_operations.specs.declared.OperationChange.the-variants as operation
 use Rattle.session_explain.specs.Reasons.{operationRuleTo}
-use Rattle.session_explain.specs.Refused.{StandsFor, refusedTo}
+use Rattle.session_explain.specs.Refused.{StandsFor, reasonRefusedTo}
 use Rattle.session_explain.specs.RefusedLaws.{rule-alike, fits-blank, Applies, StepBecame, step-became}
 use Rattle.session_explain.specs.Walking.{Walking, walk-start, walk-end, walk-head, walk-on, walk-halts}
 use Rattle.session_explain.specs.declared.operations.FirstRefused.the-variants as refused
@@ -41,12 +41,12 @@ module _ (ed : Edition) (set : List ℕ) (whole : Walk Projection) where
   pub record Replaying (c : SetCursor) (opened patch index : ℕ) (n : ProjectionCounts) (b a e : List ℕ) : Type 0 where
     pub model : Projection
     pub stands : StandsFor n b a e model
-    pub walk : Walking applyStep ed set whole c opened patch index model
+    pub walk : Walking stepKept ed set whole c opened patch index model
 
 module _ {ed : Edition} {set : List ℕ} {whole : Walk Projection} where
   module _ {c : SetCursor} {opened patch index : ℕ} {n : ProjectionCounts} {b a e : List ℕ} (r : Replaying ed set whole c opened patch index n b a e) where
-    pub replay-end : (r .walk .os ≡ []) × (r .walk .ps ≡ []) → refused.AllApply ≡ refusedTo whole
-    replay-end all = sym (ap refusedTo (walk-end _ _ _ _ (r .walk) all))
+    pub replay-end : (r .walk .os ≡ []) × (r .walk .ps ≡ []) → refused.AllApply ≡ reasonRefusedTo whole
+    replay-end all = sym (ap reasonRefusedTo (walk-end _ _ _ _ (r .walk) all))
 
     pub replay-head : {head : ProjectionPatch} {d : SetCursor} → Opened ed set c (r .walk .os) (r .walk .ps) head d → Replaying ed set whole d (opened + 1) opened 0 n b a e
     replay-head o = record { model = r .model; stands = r .stands; walk = walk-head _ _ _ _ (r .walk) o }
@@ -69,11 +69,11 @@ module _ {ed : Edition} {set : List ℕ} {whole : Walk Projection} where
             record { model = t .next; stands = t .held; walk = walk-on _ _ _ _ (r .walk) v (t .next) (t .went) }
 
         -- one that does not, with the rule of what the tables hold
-        pub replay-halts : {f : LocalProjectionApplicationError} → y ≡ operation.Refused f → (rule : OperationRule) → rule ≡ operationRuleTo (ruleOf (r .stands .plan) (operationOf texts x)) → refused.Refused patch index rule ≡ refusedTo whole
+        pub replay-halts : {f : LocalProjectionApplicationError} → y ≡ operation.Refused f → (rule : OperationRule) → rule ≡ operationRuleTo (ruleOf (r .stands .plan) (operationOf texts x)) → refused.Refused patch index rule ≡ reasonRefusedTo whole
         replay-halts is rule told =
-            let stays : applyStep (r .model) (c .«patch_id») (v .first) ≡ none = subst (StepBecame (r .stands) texts x (v .first) (v .means) (c .«patch_id») b′ a′ e′) is turned in
-            ap (refused.Refused patch index) (told ∙ ap operationRuleTo (rule-alike (r .stands) texts x (v .first) (v .means))) ∙ sym (ap refusedTo (walk-halts _ _ _ _ (r .walk) v stays))
+            let stays : stepKept (r .model) (c .«patch_id») (v .first) ≡ none = subst (StepBecame (r .stands) texts x (v .first) (v .means) (c .«patch_id») b′ a′ e′) is turned in
+            ap (refused.Refused patch index) (told ∙ ap operationRuleTo (rule-alike (r .stands) texts x (v .first) (v .means))) ∙ sym (ap reasonRefusedTo (walk-halts _ _ _ _ (r .walk) v stays))
 
 pub replay-start : {ed : Edition} {set : List ℕ} {c : SetCursor} {n : ProjectionCounts} {b a e : List ℕ} {p : Projection} {ps : List Patch} → StandsFor n b a e p → AtSteps ed set c [] ps
-    → Replaying ed set (walkPatches applyStep 0 p ps) c 0 0 0 n b a e
+    → Replaying ed set (walkPatches stepKept 0 p ps) c 0 0 0 n b a e
 replay-start {ps = ps} s here = record { model = _; stands = s; walk = walk-start _ _ _ _ ps _ here refl }

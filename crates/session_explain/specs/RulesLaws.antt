@@ -6,7 +6,7 @@ use mathlib.Core.Option.{Option}
 use Rattle.spec_patch.specs.Patch.{Value, insert, move}
 use Rattle.spec_projection.specs.Projection.{Projection}
 use Rattle.spec_projection.specs.Entries.{isEntry, contains}
-use Rattle.bytes_records.specs.Search.{findFirst}
+use Rattle.bytes_records.specs.Search.{findFirstRow}
 use Rattle.bytes_records.specs.SearchLaws.{find-at, find-absent}
 use Rattle.bytes_records.specs.declared.Found.the-variants.{At, Absent}
 use Rattle.panel_entries.specs.Places.{placeBefore}
@@ -24,11 +24,11 @@ use Rattle.session_explain.specs.declared.reasons.OperationRule.{Operati
 
 module _ (p : Projection) (c k : ℕ) (before : Option ℕ) where
   module _ (v : Value) where
-    pub insert-present : (i : ℕ) → findFirst (isEntry c k) (p .entries) ≡ At i → operationRuleTo keyPresent ≡ operationRuleTo (ruleOf p (insert c k before v))
+    pub insert-present : (i : ℕ) → findFirstRow (isEntry c k) (p .entries) ≡ At i → operationRuleTo keyPresent ≡ operationRuleTo (ruleOf p (insert c k before v))
     unfolding ruleOf contains
     insert-present i h = rw (find-at (isEntry c k) (p .entries) i h .2)
 
-    module _ (absent : findFirst (isEntry c k) (p .entries) ≡ Absent) where
+    module _ (absent : findFirstRow (isEntry c k) (p .entries) ≡ Absent) where
       pub insert-full : (i : ℕ) → placeBefore c before (p .entries) ≡ At i → operationRuleTo entriesFull ≡ operationRuleTo (ruleOf p (insert c k before v))
       unfolding ruleOf contains
       insert-full i h =
@@ -38,11 +38,11 @@ module _ (p : Projection) (c k : ℕ) (before : Option ℕ) where
       unfolding ruleOf contains
       insert-no-neighbour h = rw (find-absent (isEntry c k) (p .entries) absent, neighbour-absent c before (p .entries) h)
 
-  pub move-no-neighbour : (i : ℕ) → findFirst (isEntry c k) (p .entries) ≡ At i → operationRuleTo neighbourAbsent ≡ operationRuleTo (ruleOf p (move c k before))
+  pub move-no-neighbour : (i : ℕ) → findFirstRow (isEntry c k) (p .entries) ≡ At i → operationRuleTo neighbourAbsent ≡ operationRuleTo (ruleOf p (move c k before))
   unfolding ruleOf contains
   move-no-neighbour i h = rw (find-at (isEntry c k) (p .entries) i h .2)
 
-  pub move-absent : findFirst (isEntry c k) (p .entries) ≡ Absent → operationRuleTo keyAbsent ≡ operationRuleTo (ruleOf p (move c k before))
+  pub move-absent : findFirstRow (isEntry c k) (p .entries) ≡ Absent → operationRuleTo keyAbsent ≡ operationRuleTo (ruleOf p (move c k before))
   unfolding ruleOf contains
   move-absent h = rw (find-absent (isEntry c k) (p .entries) h)
 

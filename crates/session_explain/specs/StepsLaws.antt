@@ -26,7 +26,7 @@ use Rattle.spec_explain.specs.Locate.{locate}
 use Rattle.spec_explain.specs.LocateLaws.{Agrees, reads, stops, locate-agrees}
 use Rattle.spec_explain.specs.Walk.{Walk, through, halted, walkPatches, tested}
 use Rattle.spec_explain.specs.Reason.{foreignSession, sessionClosed, countsDiffer, cursorMismatch}
-use Rattle.spec_explain.specs.Explain.{Explained, fine, because, _>>=_, _>>_, require, patchesOf, readable, noFindings, targetKnown, knownTargets, numberAfter, applyStep, applies, explainSteps, overDeclared, reasonOf, withheld, given, underCap}
+use Rattle.spec_explain.specs.Explain.{Explained, fine, because, _>>=_, _>>_, requireOr, patchesRead, patchesReadable, noFindings, targetKnown, targetsKnown, nextNumber, stepKept, applies, explainSteps, overDeclared, reasonOf, withheld, given, underCap}
 use Rattle.spec_explain.specs.CallReasons.{explainCheck}
 use Rattle.projection_patch.specs.ReadAnswers.{faultTo, optionalTo}
 use Rattle.projection_patch.specs.declared.read_values.ProjectionPatchReadFault.{ProjectionPatchReadFault}
@@ -37,7 +37,7 @@ use Rattle.check_quick.specs.QuickAnswers.{inspectedBy, inspectionAnswer}
 use Rattle.check_quick.specs.declared.inspection.SetInspection.{SetInspection}
 use Rattle.check_quick.specs.declared.inspection.SetInspection.the-variants as inspection
 use Rattle.projection_patch.specs.declared.read_values.OptionalNumber.{OptionalNumber}
-use Rattle.patch_locate.specs.Answers.{setAnswer}
+use Rattle.patch_locate.specs.Answers.{locatedSet}
 use Rattle.check_set.specs.CheckAnswers.{placeTo, checkedTo}
 use Rattle.check_set.specs.declared.check_set.CheckPlace.{CheckPlace}
 use Rattle.check_set.specs.declared.check_set.PatchSetCheck.the-variants as set-check
@@ -51,9 +51,9 @@ use Rattle.session_gates.specs.LentLaws.{absent-is}
 use Rattle.session_gates.specs.declared.gates.BatchGate.{BatchGate}
 use Rattle.session_gates.specs.declared.gates.BatchGate.the-variants as gate
 use Rattle.session_explain.specs.Unknown.{unknownTo}
-use Rattle.session_explain.specs.Refused.{refusedTo}
+use Rattle.session_explain.specs.Refused.{reasonRefusedTo}
 use Rattle.session_explain.specs.Reasons.{reasonTo, foundTo, stepTo, explanationTo, firstTo, cappedTo, locatedTo, targetsTo, operationsTo}
-use Rattle.session_explain.specs.Steps.{declaredBy, preflightBy, referencesBy, countsBy, replayBy, cleanBy, setBy, checksBy}
+use Rattle.session_explain.specs.Steps.{declaredBy, explainPreflightBy, referencesBy, explainCountsBy, explainReplayBy, cleanBy, setBy, checksBy}
 use Rattle.session_explain.specs.declared.reasons.BatchReason.{BatchReason}
 use Rattle.session_explain.specs.declared.reasons.BatchReason.the-variants as reasons
 use Rattle.session_explain.specs.declared.reasons.StepReason.{StepReason}
@@ -82,17 +82,17 @@ found-is (because r) = refl
 
 -- ---- what the searches of a step come to
 
-pub located-is : (o : Option Unread) (ps : List Patch) → locatedTo (setAnswer o) ≡ foundTo (reasonOf (readable o ps >>= λ qs. fine tt))
-unfolding readable reasonOf
+pub located-is : (o : Option Unread) (ps : List Patch) → locatedTo (locatedSet o) ≡ foundTo (reasonOf (patchesReadable o ps >>= λ qs. fine tt))
+unfolding patchesReadable reasonOf
 located-is none ps = refl
 located-is (some u) ps = refl
 
-pub targets-are : (n : ℕ) (w : Walk (Unit {0})) → targetsTo n (unknownTo w) ≡ stepTo (knownTargets n w)
-unfolding knownTargets
+pub targets-are : (n : ℕ) (w : Walk (Unit {0})) → targetsTo n (unknownTo w) ≡ stepTo (targetsKnown n w)
+unfolding targetsKnown
 targets-are n (through u) = refl
 targets-are n (halted h) = refl
 
-pub operations-are : (w : Walk Projection) → operationsTo (refusedTo w) ≡ stepTo (applies w)
+pub operations-are : (w : Walk Projection) → operationsTo (reasonRefusedTo w) ≡ stepTo (applies w)
 unfolding applies
 operations-are (through p) = refl
 operations-are (halted h) = refl
@@ -135,36 +135,36 @@ findings-unread ps h = absurd (let z : _≡_ {A = ℕ} 0 1 = cc in omega arith)
 -- ---- the cursor
 
 module _ (c : Cursor) (e : BatchEnvelope) (g : BatchGate) (told : gateOf g ≡ gates.replayBy c e) where
-  pub replay-passed : g ≡ gate.Passed → steps.Fine ≡ stepTo (replayBy c e)
-  unfolding replayBy gates.replayBy gateOf require batching.require
+  pub replay-passed : g ≡ gate.Passed → steps.Fine ≡ stepTo (explainReplayBy c e)
+  unfolding explainReplayBy gates.replayBy gateOf requireOr batching.require
   replay-passed is = go (eqb (e .patches) 0 || takesNumber c (e .sequence)) (sym (ap gateOf is) ∙ told)
     where
-      go : (t : Bool) → pass tt ≡ batching.require t session.cursorMismatch → steps.Fine ≡ stepTo (require t (cursorMismatch (numberAfter c)))
+      go : (t : Bool) → pass tt ≡ batching.require t session.cursorMismatch → steps.Fine ≡ stepTo (requireOr t (cursorMismatch (nextNumber c)))
       go true h = refl
       go false h = absurd (let z : _≡_ {A = ℕ} 0 1 = cc in omega arith)
 
-  pub replay-refused : {r : ShellRefusal} {n : ℕ} → g ≡ gate.Refused r n → (o : OptionalNumber) → o ≡ optionalTo (numberAfter c) → steps.Because (reasons.CursorMismatch o) ≡ stepTo (replayBy c e)
-  unfolding replayBy gates.replayBy gateOf require batching.require
+  pub replay-refused : {r : ShellRefusal} {n : ℕ} → g ≡ gate.Refused r n → (o : OptionalNumber) → o ≡ optionalTo (nextNumber c) → steps.Because (reasons.CursorMismatch o) ≡ stepTo (explainReplayBy c e)
+  unfolding explainReplayBy gates.replayBy gateOf requireOr batching.require
   replay-refused {r} {n} is o after = ap (λ x. steps.Because (reasons.CursorMismatch x)) after ∙ go (eqb (e .patches) 0 || takesNumber c (e .sequence)) (sym (ap gateOf is) ∙ told)
     where
-      go : (t : Bool) → refuse (refusalOf r) n ≡ batching.require t session.cursorMismatch → steps.Because (reasons.CursorMismatch (optionalTo (numberAfter c))) ≡ stepTo (require t (cursorMismatch (numberAfter c)))
+      go : (t : Bool) → refuse (refusalOf r) n ≡ batching.require t session.cursorMismatch → steps.Because (reasons.CursorMismatch (optionalTo (nextNumber c))) ≡ stepTo (requireOr t (cursorMismatch (nextNumber c)))
       go true h = absurd (let z : _≡_ {A = ℕ} 0 1 = cc in omega arith)
       go false h = refl
 
 -- ---- several steps
 
 module _ (c : Catalogue) (l : Limits) (cursor : Cursor) (e : BatchEnvelope) (declared n k absent : ℕ) (ps : List Patch) where
-  pub clean-is : {counts known taken both r : StepReason} → counts ≡ stepTo (countsBy l e declared n k) → known ≡ stepTo (knownTargets absent (walkPatches (tested (targetKnown c)) 0 tt ps)) → taken ≡ stepTo (replayBy cursor e)
+  pub clean-is : {counts known taken both r : StepReason} → counts ≡ stepTo (explainCountsBy l e declared n k) → known ≡ stepTo (targetsKnown absent (walkPatches (tested (targetKnown c)) 0 tt ps)) → taken ≡ stepTo (explainReplayBy cursor e)
       → both ≡ firstTo known taken → r ≡ firstTo counts both → r ≡ stepTo (cleanBy c l cursor e declared n k absent ps)
   unfolding cleanBy
   clean-is counted known taken both r =
-      let targets = knownTargets absent (walkPatches (tested (targetKnown c)) 0 tt ps) in
-      r ∙ ap₂ firstTo counted (both ∙ ap₂ firstTo known taken ∙ first-then targets (replayBy cursor e)) ∙ first-then (countsBy l e declared n k) (targets >> replayBy cursor e)
+      let targets = targetsKnown absent (walkPatches (tested (targetKnown c)) 0 tt ps) in
+      r ∙ ap₂ firstTo counted (both ∙ ap₂ firstTo known taken ∙ first-then targets (explainReplayBy cursor e)) ∙ first-then (explainCountsBy l e declared n k) (targets >> explainReplayBy cursor e)
 
-module _ (ed : Edition) (id : ℕ) (l : Limits) (life : Lifecycle) (cursor : Cursor) (c : Catalogue) (e : BatchEnvelope) (declared : ℕ) (set : List ℕ) {pre : StepReason} (told : pre ≡ stepTo (preflightBy id l life e)) where
+module _ (ed : Edition) (id : ℕ) (l : Limits) (life : Lifecycle) (cursor : Cursor) (c : Catalogue) (e : BatchEnvelope) (declared : ℕ) (set : List ℕ) {pre : StepReason} (told : pre ≡ stepTo (explainPreflightBy id l life e)) where
   whole : firstTo pre (stepTo (setBy ed c l cursor e declared set)) ≡ stepTo (checksBy ed id l life cursor c e declared set)
   unfolding checksBy
-  whole = ap (λ (x : StepReason). firstTo x (stepTo (setBy ed c l cursor e declared set))) told ∙ first-then (preflightBy id l life e) (setBy ed c l cursor e declared set)
+  whole = ap (λ (x : StepReason). firstTo x (stepTo (setBy ed c l cursor e declared set))) told ∙ first-then (explainPreflightBy id l life e) (setBy ed c l cursor e declared set)
 
   pub checks-because : {r : BatchReason} → pre ≡ steps.Because r → steps.Because r ≡ stepTo (checksBy ed id l life cursor c e declared set)
   checks-because is = sym (ap (λ (x : StepReason). firstTo x (stepTo (setBy ed c l cursor e declared set))) is) ∙ whole
@@ -202,7 +202,7 @@ module _ (ed : Edition) (set nodes bindings collections : List ℕ) where
     here = subst Inspected (sym told) inspected
 
     pub set-unread : {f : ProjectionPatchReadFault} → i ≡ inspection.Refused f → foundTo (explainCheck ed set) ≡ Whole
-    unfolding setBy explainCheck readable reasonOf
+    unfolding setBy explainCheck patchesReadable reasonOf
     set-unread {f} is = go i here is
       where
         go : (j : SetInspection) → Inspected j → j ≡ inspection.Refused f → foundTo (explainCheck ed set) ≡ Whole
@@ -211,7 +211,7 @@ module _ (ed : Edition) (set nodes bindings collections : List ℕ) where
         go j (clean ps r l e) is = absurd (let z : _≡_ {A = ℕ} 0 1 = cc in omega arith)
 
     pub set-found : i ≡ inspection.Found → (r : StepReason) → ((ps : List Patch) → readSet ed set ≡ patches ps → r ≡ stepTo (noFindings (findings ps .place) (findings ps .found))) → r ≡ Whole
-    unfolding setBy readable patchesOf noFindings
+    unfolding setBy patchesReadable patchesRead noFindings
     set-found is r by = go i here is
       where
         go : (j : SetInspection) → Inspected j → j ≡ inspection.Found → r ≡ Whole
@@ -220,7 +220,7 @@ module _ (ed : Edition) (set nodes bindings collections : List ℕ) where
         go j (clean ps s l e) is = absurd (let z : _≡_ {A = ℕ} 0 1 = cc in omega arith)
 
     pub set-clean : {n k absent : ℕ} → i ≡ inspection.Clean n k absent → (r : StepReason) → ((ps : List Patch) → readSet ed set ≡ patches ps → r ≡ stepTo (cleanBy c l cursor e declared n k absent ps)) → r ≡ Whole
-    unfolding setBy readable patchesOf noFindings
+    unfolding setBy patchesReadable patchesRead noFindings
     set-clean {n} {k} {absent} is r by = go i here is
       where
         go : (j : SetInspection) → Inspected j → j ≡ inspection.Clean n k absent → r ≡ Whole
@@ -249,8 +249,8 @@ assoc-five (fine u) (fine v) (fine w) (fine x) (because r) y = refl
 assoc-five (fine u) (fine v) (fine w) (fine x) (fine z) y = refl
 
 -- what follows a set that is read goes by its patches
-after-reading : (o : Option Unread) (qs : List Patch) (f g h : List Patch → Explained (Unit {0})) → (f qs >> g qs) ≡ h qs → ((readable o qs >>= f) >> g qs) ≡ (readable o qs >>= h)
-unfolding readable
+after-reading : (o : Option Unread) (qs : List Patch) (f g h : List Patch → Explained (Unit {0})) → (f qs >> g qs) ≡ h qs → ((patchesReadable o qs >>= f) >> g qs) ≡ (patchesReadable o qs >>= h)
+unfolding patchesReadable
 after-reading none qs f g h e = e
 after-reading (some u) qs f g h e = refl
 
@@ -259,34 +259,34 @@ module _ (ed : Edition) (s : Session) (e : BatchEnvelope) (declared : ℕ) (set 
   checkSteps = checksBy ed (s .id) (s .limits) (s .lifecycle) (s .cursor) (s .catalogue) e declared set
 
   abbrev pub applySteps : List Patch → Explained (Unit {0})
-  applySteps ps = applies (walkPatches applyStep 0 (s .projection) ps)
+  applySteps ps = applies (walkPatches stepKept 0 (s .projection) ps)
 
-  pub steps-are : explainSteps ed s e declared set ≡ (checkSteps >> applySteps (patchesOf (readSet ed set)))
-  unfolding explainSteps checksBy preflightBy declaredBy setBy cleanBy countsBy referencesBy replayBy overDeclared
+  pub steps-are : explainSteps ed s e declared set ≡ (checkSteps >> applySteps (patchesRead (readSet ed set)))
+  unfolding explainSteps checksBy explainPreflightBy declaredBy setBy cleanBy explainCountsBy referencesBy explainReplayBy overDeclared
   steps-are =
-      let own = require (eqb (e .session) (s .id)) (foreignSession (e .session) (s .id)) in
-      let open′ = require (not (isClosed (s .lifecycle))) sessionClosed in
+      let own = requireOr (eqb (e .session) (s .id)) (foreignSession (e .session) (s .id)) in
+      let open′ = requireOr (not (isClosed (s .lifecycle))) sessionClosed in
       let within = declaredBy (s .limits) e in
-      let qs = patchesOf (readSet ed set) in
+      let qs = patchesRead (readSet ed set) in
       let clean : List Patch → Explained (Unit {0}) = λ ps. noFindings (findings ps .place) (findings ps .found) >> cleanBy (s .catalogue) (s .limits) (s .cursor) e declared (length ps) (length (operationsOf ps)) (absentTargets (s .catalogue) (operationsOf ps)) ps in
       sym (assoc-three own open′ within (setBy ed (s .catalogue) (s .limits) (s .cursor) e declared set) (applySteps qs)
       ∙ ap (λ (x : Explained (Unit {0})). own >> (open′ >> (within >> x)))
       (after-reading (locate ed set) qs clean applySteps _
       (assoc-five (noFindings (findings qs .place) (findings qs .found))
-      (require (eqb (e .patches) (length qs) && eqb declared (length (operationsOf qs))) (countsDiffer (e .patches) (length qs) declared (length (operationsOf qs))))
+      (requireOr (eqb (e .patches) (length qs) && eqb declared (length (operationsOf qs))) (countsDiffer (e .patches) (length qs) declared (length (operationsOf qs))))
       (referencesBy (s .limits) (length (operationsOf qs)))
-      (knownTargets (absentTargets (s .catalogue) (operationsOf qs)) (walkPatches (tested (targetKnown (s .catalogue))) 0 tt qs))
-      (replayBy (s .cursor) e) (applySteps qs))))
+      (targetsKnown (absentTargets (s .catalogue) (operationsOf qs)) (walkPatches (tested (targetKnown (s .catalogue))) 0 tt qs))
+      (explainReplayBy (s .cursor) e) (applySteps qs))))
 
   -- a set that passes the checks is read
   pub checks-read : stepTo checkSteps ≡ steps.Fine → (ps : List Patch) × (readSet ed set ≡ patches ps)
-  unfolding checksBy setBy readable
-  checks-read is = go (preflightBy (s .id) (s .limits) (s .lifecycle) e) (locate ed set) (readSet ed set) refl (locate-agrees ed set) is
+  unfolding checksBy setBy patchesReadable
+  checks-read is = go (explainPreflightBy (s .id) (s .limits) (s .lifecycle) e) (locate ed set) (readSet ed set) refl (locate-agrees ed set) is
     where
       after : List Patch → Explained (Unit {0})
       after ps = noFindings (findings ps .place) (findings ps .found) >> cleanBy (s .catalogue) (s .limits) (s .cursor) e declared (length ps) (length (operationsOf ps)) (absentTargets (s .catalogue) (operationsOf ps)) ps
 
-      go : (a : Explained (Unit {0})) (o : Option Unread) (x : SetReading) → readSet ed set ≡ x → Agrees ed o x → stepTo (a >> (readable o (patchesOf x) >>= after)) ≡ steps.Fine → (ps : List Patch) × (readSet ed set ≡ patches ps)
+      go : (a : Explained (Unit {0})) (o : Option Unread) (x : SetReading) → readSet ed set ≡ x → Agrees ed o x → stepTo (a >> (patchesReadable o (patchesRead x) >>= after)) ≡ steps.Fine → (ps : List Patch) × (readSet ed set ≡ patches ps)
       go (because r) o x q g h = absurd (let z : _≡_ {A = ℕ} 0 1 = cc in omega arith)
       go (fine u) none (patches ps) q (reads qs) h = (ps, q)
       go (fine u) (some v) (fault f) q (stops w k j) h = absurd (let z : _≡_ {A = ℕ} 0 1 = cc in omega arith)

@@ -19,7 +19,7 @@ ghost use Rattle.spec_patch.specs.Patch.{Patch};
 ghost use Rattle.spec_patch.specs.Read.{patches, readSet};
 ghost use Rattle.spec_session.specs.Session.{Catalogue};
 ghost use Rattle.spec_explain.specs.Walk.{walkPatches, tested};
-ghost use Rattle.spec_explain.specs.Explain.{targetKnown, knownTargets};
+ghost use Rattle.spec_explain.specs.Explain.{targetKnown, targetsKnown};
 ghost use Rattle.projection_patch.specs.Meaning.{editionOf};
 ghost use Rattle.session_lifecycle.specs.Meaning.{lifecycleOf, cursorOf, limitsOf};
 ghost use Rattle.session_gates.specs.Gates.{envelopeMeans};
@@ -37,7 +37,7 @@ fn explain_targets(
     absent: usize,
 ) -> StepReason
     ensures { λ r. ⌜ ((c : Catalogue) (ps : List Patch) → Lent c (now (nodes .entry)) (now (bindings .entry)) (now (collections .entry)) → readSet (editionOf edition) (now (set .entry)) ≡ patches ps
-        → r ≡ stepTo (knownTargets absent (walkPatches (tested (targetKnown c)) 0 tt ps))) ⌝ }
+        → r ≡ stepTo (targetsKnown absent (walkPatches (tested (targetKnown c)) 0 tt ps))) ⌝ }
 {
     match targets::first_unknown(set, edition, nodes, bindings, collections) {
         FirstUnknown::AllKnown => StepReason::Fine,

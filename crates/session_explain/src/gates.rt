@@ -11,12 +11,12 @@ use session_lifecycle::state::ProjectionReplayCursor;
 use session_lifecycle::state::ShellLifecycle;
 use session_lifecycle::state::ShellLifecycleLimits;
 ghost use mathlib.Core.Path.{_≡_};
-ghost use Rattle.spec_explain.specs.Explain.{numberAfter};
+ghost use Rattle.spec_explain.specs.Explain.{nextNumber};
 ghost use Rattle.projection_patch.specs.ReadAnswers.{optionalTo};
 ghost use Rattle.session_lifecycle.specs.Meaning.{lifecycleOf, cursorOf, limitsOf};
 ghost use Rattle.session_gates.specs.Gates.{envelopeMeans};
 ghost use Rattle.session_explain.specs.Reasons.{overTo, stepTo};
-ghost use Rattle.session_explain.specs.Steps.{declaredBy, preflightBy, referencesBy, countsBy, replayBy};
+ghost use Rattle.session_explain.specs.Steps.{declaredBy, explainPreflightBy, referencesBy, explainCountsBy, explainReplayBy};
 
 // The reason of declared figures over their limits.
 fn over_declared(
@@ -61,7 +61,7 @@ pub fn explain_preflight(
     lifecycle: ShellLifecycle,
     envelope: OrderedProjectionPatchBatchEnvelope,
 ) -> StepReason
-    ensures { λ r. ⌜ r ≡ stepTo (preflightBy id (limitsOf limits) (lifecycleOf lifecycle) (envelopeMeans envelope)) ⌝ }
+    ensures { λ r. ⌜ r ≡ stepTo (explainPreflightBy id (limitsOf limits) (lifecycleOf lifecycle) (envelopeMeans envelope)) ⌝ }
 {
     let session_id = envelope.session_id;
     if session_id.0 != id {
@@ -98,7 +98,7 @@ pub fn explain_counts(
     patches: u64,
     references: u64,
 ) -> StepReason
-    ensures { λ r. ⌜ r ≡ stepTo (countsBy (limitsOf limits) (envelopeMeans envelope) declared patches references) ⌝ }
+    ensures { λ r. ⌜ r ≡ stepTo (explainCountsBy (limitsOf limits) (envelopeMeans envelope) declared patches references) ⌝ }
 {
     if envelope.patch_count == patches {
         if declared == references {
@@ -115,7 +115,7 @@ pub fn explain_counts(
 
 // The one number that a cursor takes; Uninitialized asks for none, and after the last there is none.
 fn number_after(cursor: ProjectionReplayCursor) -> OptionalNumber
-    ensures { λ r. ⌜ r ≡ optionalTo (numberAfter (cursorOf cursor)) ⌝ }
+    ensures { λ r. ⌜ r ≡ optionalTo (nextNumber (cursorOf cursor)) ⌝ }
 {
     match cursor {
         ProjectionReplayCursor::Uninitialized => OptionalNumber::None,
@@ -133,7 +133,7 @@ pub fn explain_cursor(
     cursor: ProjectionReplayCursor,
     envelope: OrderedProjectionPatchBatchEnvelope,
 ) -> StepReason
-    ensures { λ r. ⌜ r ≡ stepTo (replayBy (cursorOf cursor) (envelopeMeans envelope)) ⌝ }
+    ensures { λ r. ⌜ r ≡ stepTo (explainReplayBy (cursorOf cursor) (envelopeMeans envelope)) ⌝ }
 {
     match gates::evaluate_replay_compatibility(cursor, envelope) {
         BatchGate::Passed => StepReason::Fine,

@@ -18,11 +18,11 @@ ghost use Rattle.spec_patch.specs.Patch.{Patch};
 ghost use Rattle.spec_patch.specs.Read.{patches, readSet};
 ghost use Rattle.spec_projection.specs.Projection.{Projection};
 ghost use Rattle.spec_explain.specs.Walk.{walkPatches};
-ghost use Rattle.spec_explain.specs.Explain.{applyStep, applies};
+ghost use Rattle.spec_explain.specs.Explain.{stepKept, applies};
 ghost use Rattle.projection_patch.specs.Meaning.{editionOf};
 ghost use Rattle.patch_walk.specs.Steps.{AtSteps};
 ghost use Rattle.local_projection_state.specs.Stores.{StoredTables};
-ghost use Rattle.session_explain.specs.Refused.{StandsFor, refusedTo};
+ghost use Rattle.session_explain.specs.Refused.{StandsFor, reasonRefusedTo};
 ghost use Rattle.session_explain.specs.Reasons.{stepTo};
 
 // The operation by its patch and its index there, with its rule; or that all apply.
@@ -44,7 +44,7 @@ fn refused_from(
     from: SetCursor,
 ) -> FirstRefused
     ensures { λ r. ⌜ ((p : Projection) (ps : List Patch) → StandsFor counts (now (bindings .entry)) (now (availability .entry)) (now (entries .entry)) p → AtSteps (editionOf edition) (now (set .entry)) from [] ps
-        → r ≡ refusedTo (walkPatches applyStep 0 p ps)) ⌝ }
+        → r ≡ reasonRefusedTo (walkPatches stepKept 0 p ps)) ⌝ }
 {
     let mut held = counts;
     let mut cursor = from;
@@ -93,7 +93,7 @@ pub fn first_refused(
     edition: ProjectionPatchEdition,
 ) -> FirstRefused
     ensures { λ r. ⌜ ((p : Projection) (ps : List Patch) → StoredTables (panel .counts) (panel .bindings) (panel .availability) (panel .entries) p → readSet (editionOf edition) (now (set .entry)) ≡ patches ps
-        → r ≡ refusedTo (walkPatches applyStep 0 p ps)) ⌝ }
+        → r ≡ reasonRefusedTo (walkPatches stepKept 0 p ps)) ⌝ }
 {
     let counts = panel.counts;
     let old_bindings = panel.bindings;
@@ -124,7 +124,7 @@ pub fn explain_operations(
     edition: ProjectionPatchEdition,
 ) -> StepReason
     ensures { λ r. ⌜ ((p : Projection) (ps : List Patch) → StoredTables (panel .counts) (panel .bindings) (panel .availability) (panel .entries) p → readSet (editionOf edition) (now (set .entry)) ≡ patches ps
-        → r ≡ stepTo (applies (walkPatches applyStep 0 p ps))) ⌝ }
+        → r ≡ stepTo (applies (walkPatches stepKept 0 p ps))) ⌝ }
 {
     match first_refused(panel, set, edition) {
         FirstRefused::AllApply => StepReason::Fine,

@@ -12,26 +12,26 @@ use Rattle.active_projection_target_catalog.specs.Catalog.{noPair}
 use Rattle.active_projection_target_catalog.specs.CatalogLaws.{padded-turn, padded-short, padded-full}
 use Rattle.active_projection_target_catalog.specs.declared.catalog.BindingPair.{BindingPair}
 use Rattle.session_from_pairs.specs.declared.pairs.BindingAnchors.{BindingAnchors}
-use Rattle.session_from_pairs.specs.Pairs.{noAnchors, withPair, anchorsOf}
+use Rattle.session_from_pairs.specs.Pairs.{noPairs, withPair, anchorsOf}
 
 abbrev holding : ℕ → List BindingPair → BindingAnchors
 holding given pairs = record { pairs = pairs; given = given }
 
 -- the first i pairs, and zero pairs behind them
-unfoldable pub upTo : List BindingPair → ℕ → BindingAnchors
-upTo ps i = holding (length ps) (take i ps ++ replicate (anchors - i) noPair)
+unfoldable pub upToPair : List BindingPair → ℕ → BindingAnchors
+upToPair ps i = holding (length ps) (take i ps ++ replicate (anchors - i) noPair)
 
 module _ (ps : List BindingPair) where
-  pub starts : noAnchors (length ps) ≡ upTo ps 0
-  unfolding upTo noAnchors
+  pub starts : noPairs (length ps) ≡ upToPair ps 0
+  unfolding upToPair noPairs
   starts = refl
 
-  pub steps : (i : ℕ) → i < length ps → i < anchors → withPair (upTo ps i) i (getD ps i noPair) ≡ upTo ps (i + 1)
-  unfolding upTo withPair
+  pub steps : (i : ℕ) → i < length ps → i < anchors → withPair (upToPair ps i) i (getD ps i noPair) ≡ upToPair ps (i + 1)
+  unfolding upToPair withPair
   steps i below room = ap (holding (length ps)) (padded-turn noPair ps i noPair below room)
 
-  pub all-copied : (i : ℕ) → i ≡ min (length ps) anchors → upTo ps i ≡ anchorsOf ps
-  unfolding upTo anchorsOf
+  pub all-copied : (i : ℕ) → i ≡ min (length ps) anchors → upToPair ps i ≡ anchorsOf ps
+  unfolding upToPair anchorsOf
   all-copied i e =
       ap (holding (length ps))
       (test-cases (leb (length ps) anchors)

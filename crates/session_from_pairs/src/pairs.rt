@@ -4,7 +4,7 @@ use active_projection_target_catalog::catalog::BindingPair;
 ghost use mathlib.Core.Path.{_≡_};
 ghost use Prim.Native.Nat.{min};
 ghost use Rattle.spec_patch.specs.Sizes.{anchors};
-ghost use Rattle.session_from_pairs.specs.Pairs.{noAnchors, withPair, anchorsOf};
+ghost use Rattle.session_from_pairs.specs.Pairs.{noPairs, withPair, anchorsOf};
 
 // Binding anchors as a session keeps them: the pairs with zero pairs behind them, and how many were given.
 pub struct BindingAnchors {
@@ -18,7 +18,7 @@ impl BindingAnchors {
 
     // So many pairs are given, and none is copied yet.
     fn none(given: usize) -> BindingAnchors
-        ensures { λ r. ⌜ r ≡ noAnchors given ⌝ }
+        ensures { λ r. ⌜ r ≡ noPairs given ⌝ }
     {
         let no_pair = BindingPair { node: 0, slot: 0 };
         BindingAnchors {

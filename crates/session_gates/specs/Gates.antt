@@ -62,9 +62,9 @@ erased (refuse r n) = refuse r n
 unfoldable pub countFits : SessionRefusal → ℕ → Bool
 countFits r n = if eqb (sessionNumber r) 6 then ltb 0 n else eqb n 1
 
-unfoldable pub counted : Check (Unit {0}) → Bool
-counted (pass u) = true
-counted (refuse r n) = countFits r n
+unfoldable pub checkCounted : Check (Unit {0}) → Bool
+checkCounted (pass u) = true
+checkCounted (refuse r n) = countFits r n
 
 -- where the first of two checks refuses, that is the answer
 abbrev pub Decides : Check (Unit {0}) → Check (Unit {0}) → Type 0

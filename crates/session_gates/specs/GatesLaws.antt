@@ -131,10 +131,10 @@ module _ (ed : Edition) (id : ℕ) (limits : ShellLifecycleLimits) (state : Shel
   -- an answer by these steps is that of the batch, its count fits, and the preflight's refusal decides
   abbrev ByBatch : Check (Unit {0}) → Type 0
   ByBatch answer = ((s : Session) → Seen s id limits state nodes bindings collections → answer ≡ erased (batchChecks ed s e declared set))
-      × ((gates.counted answer ≡ true) × Decides (preflightBy id (limitsOf limits) (lifecycleOf (state .lifecycle)) e) answer)
+      × ((gates.checkCounted answer ≡ true) × Decides (preflightBy id (limitsOf limits) (lifecycleOf (state .lifecycle)) e) answer)
 
   by-steps : (answer : Check (Unit {0})) → answer ≡ stepsSeen → ByBatch answer
-  by-steps answer is = (λ s seen. is ∙ steps-are s seen, (ap gates.counted is ∙ steps-counted _ _ _ _ _ _ _, λ r n h. is ∙ ap (λ c. c >> behind) h))
+  by-steps answer is = (λ s seen. is ∙ steps-are s seen, (ap gates.checkCounted is ∙ steps-counted _ _ _ _ _ _ _, λ r n h. is ∙ ap (λ c. c >> behind) h))
 
   pub preflight-refused : (r : SessionRefusal) (n : ℕ) → refuse r n ≡ preflightBy id (limitsOf limits) (lifecycleOf (state .lifecycle)) e → ByBatch (refuse r n)
   preflight-refused r n h = by-steps (refuse r n) (ap (λ c. c >> behind) h)

@@ -19,7 +19,7 @@ ghost use Rattle.spec_session.specs.Batch.{batchChecks};
 ghost use Rattle.projection_patch.specs.Meaning.{editionOf};
 ghost use Rattle.projection_patch.specs.ReadAnswers.{faultOf};
 ghost use Rattle.session_lifecycle.specs.Meaning.{refusalOf, lifecycleOf, cursorOf, limitsOf};
-ghost use Rattle.session_gates.specs.Gates.{gateOf, envelopeMeans, preflightBy, targetsBy, inspectionBy, erased, counted, Decides};
+ghost use Rattle.session_gates.specs.Gates.{gateOf, envelopeMeans, preflightBy, targetsBy, inspectionBy, erased, checkCounted, Decides};
 ghost use Rattle.session_gates.specs.Seen.{Seen};
 
 // The refusal of a set that does not read.
@@ -91,7 +91,7 @@ pub fn check_batch(
 ) -> BatchGate
     ensures checked { λ r. ⌜ ((s : Session) → Seen s id limits state (now (nodes .entry)) (now (bindings .entry)) (now (collections .entry))
         → gateOf r ≡ erased (batchChecks (editionOf edition) s (envelopeMeans envelope) declared (now (set .entry)))) ⌝ }
-    ensures whatever { λ r. ⌜ counted (gateOf r) ≡ true ⌝ }
+    ensures whatever { λ r. ⌜ checkCounted (gateOf r) ≡ true ⌝ }
     ensures preflight { λ r. ⌜ Decides (preflightBy id (limitsOf limits) (lifecycleOf (state .lifecycle)) (envelopeMeans envelope)) (gateOf r) ⌝ }
 {
     let lifecycle = state.lifecycle;

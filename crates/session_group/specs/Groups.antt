@@ -27,17 +27,17 @@ abbrev pub batchMeans : GroupBatch → model.GroupBatch
 batchMeans b = record { edition = editionOf (b .edition); envelope = envelopeMeans (b .envelope); references = b .«declared_target_reference_count»; bytes = b .bytes }
 
 -- the batches in the first places
-abbrev pub named : ℕ → List GroupBatch → List model.GroupBatch
-named count places = map batchMeans (take count places)
+abbrev pub namedBatch : ℕ → List GroupBatch → List model.GroupBatch
+namedBatch count places = map batchMeans (take count places)
 
 -- the batches that a call names: as many as its count, and the first eight of them stand in its places
 pub record Names (count : ℕ) (places : List GroupBatch) (bs : List model.GroupBatch) : Type 0 where
   pub many : length bs ≡ count
-  pub firsts : take groupBatches bs ≡ named count places
+  pub firsts : take groupBatches bs ≡ namedBatch count places
 
 -- whether they are a group, by the count and the places
 unfoldable pub namesGroup : ℕ → List GroupBatch → ℕ → Bool
-namesGroup count places bytes = leb 1 count && (leb count groupBatches && eqb (totalBytes (named count places)) bytes)
+namesGroup count places bytes = leb 1 count && (leb count groupBatches && eqb (totalBytes (namedBatch count places)) bytes)
 
 -- ---- the answers
 

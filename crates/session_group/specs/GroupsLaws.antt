@@ -14,7 +14,7 @@ use Rattle.spec_group.specs.Group as model
 use Rattle.spec_group.specs.Group.{groupBatches, totalBytes, isGroup}
 use Rattle.projection_patch.specs.declared.patch.ProjectionPatchEdition.the-variants.{V1}
 use Rattle.session_group.specs.declared.GroupBatch.{GroupBatch}
-use Rattle.session_group.specs.Groups.{batchMeans, named, Names, namesGroup}
+use Rattle.session_group.specs.Groups.{batchMeans, namedBatch, Names, namesGroup}
 
 -- what a read past the places would give
 abbrev pub noBatch : GroupBatch
@@ -26,20 +26,20 @@ noBatch = record {
 }
 
 module _ (count : ℕ) (places : List GroupBatch) (within : count ≤ length places) where
-  pub named-length : length (named count places) ≡ count
+  pub named-length : length (namedBatch count places) ≡ count
   named-length = length-map (take count places) batchMeans ∙ length-take-le count places within
 
   -- the batch in a place, and those behind it
-  pub named-cons : (i : ℕ) → i < count → drop i (named count places) ≡ batchMeans (getD places i noBatch) ∷ drop (i + 1) (named count places)
+  pub named-cons : (i : ℕ) → i < count → drop i (namedBatch count places) ≡ batchMeans (getD places i noBatch) ∷ drop (i + 1) (namedBatch count places)
   named-cons i more =
-      drop-cons (named count places) i (batchMeans noBatch) (omega (arith, named-length))
+      drop-cons (namedBatch count places) i (batchMeans noBatch) (omega (arith, named-length))
       ∙ ap₂ (λ (b : model.GroupBatch) (bs : List model.GroupBatch). b ∷ bs)
       (List·getD-map batchMeans (take count places) i noBatch ∙ ap batchMeans (getD-take count places i noBatch more))
-      (ap (λ (k : ℕ). drop k (named count places)) (sym (add-one i)))
+      (ap (λ (k : ℕ). drop k (namedBatch count places)) (sym (add-one i)))
 
   -- there is none behind the last
-  pub named-none : (i : ℕ) → count ≤ i → drop i (named count places) ≡ []
-  named-none i done = drop-of-length-le (named count places) {i = i} (omega (arith, named-length))
+  pub named-none : (i : ℕ) → count ≤ i → drop i (namedBatch count places) ≡ []
+  named-none i done = drop-of-length-le (namedBatch count places) {i = i} (omega (arith, named-length))
 
 -- ---- the lengths, counted down
 
@@ -79,19 +79,19 @@ module _ (count : ℕ) (places : List GroupBatch) (bytes : ℕ) where
   unfolding namesGroup
   many-named many = rw (le-leb 1 count (omega arith), lt-leb count groupBatches many)
 
-  pub some-named : 1 ≤ count → count ≤ groupBatches → namesGroup count places bytes ≡ eqb (totalBytes (named count places)) bytes
+  pub some-named : 1 ≤ count → count ≤ groupBatches → namesGroup count places bytes ≡ eqb (totalBytes (namedBatch count places)) bytes
   unfolding namesGroup
   some-named some few = rw (le-leb 1 count some, le-leb count groupBatches few)
 
-  pub group-named : namesGroup count places bytes ≡ true → (count ≤ groupBatches) × (totalBytes (named count places) ≡ bytes)
+  pub group-named : namesGroup count places bytes ≡ true → (count ≤ groupBatches) × (totalBytes (namedBatch count places) ≡ bytes)
   unfolding namesGroup
   group-named e =
       let few = and-right (leb 1 count) _ e in
-      (leb-true count groupBatches (and-left (leb count groupBatches) _ few), eqb-true (totalBytes (named count places)) bytes (and-right (leb count groupBatches) _ few))
+      (leb-true count groupBatches (and-left (leb count groupBatches) _ few), eqb-true (totalBytes (namedBatch count places)) bytes (and-right (leb count groupBatches) _ few))
 
 module _ {count : ℕ} {places : List GroupBatch} {bs : List model.GroupBatch} (names : Names count places bs) where
   -- at most eight batches are those in the places
-  pub names-all : count ≤ groupBatches → bs ≡ named count places
+  pub names-all : count ≤ groupBatches → bs ≡ namedBatch count places
   names-all few = sym (take-all groupBatches bs (omega (arith, names .many))) ∙ names .firsts
 
   pub names-group : (sets : List ℕ) → isGroup bs sets ≡ namesGroup count places (length sets)
@@ -100,7 +100,3 @@ module _ {count : ℕ} {places : List GroupBatch} {bs : List model.GroupBatch} (
       test-cases (leb count groupBatches)
       (λ e. rw (names .many, names-all (leb-true count groupBatches e)))
       (λ e. rw (names .many, e))
-
--- up to eight places name their batches
-pub names-places : (count : ℕ) (places : List GroupBatch) → count ≤ length places → count ≤ groupBatches → Names count places (named count places)
-names-places count places within few = record { many = named-length count places within; firsts = take-all groupBatches (named count places) (omega (arith, named-length count places within)) }

@@ -21,7 +21,7 @@ use Rattle.shell_player.specs.Holds.{Holds}
 use Rattle.shell_player.specs.Batches.{BatchBecame, BatchCall}
 use Rattle.session_group.specs.declared.GroupBatch.{GroupBatch}
 use Rattle.session_group.specs.declared.ProjectionPatchGroup.{ProjectionPatchGroup}
-use Rattle.session_group.specs.Groups.{batchMeans, named, Names, namesGroup, groupAnswerOf, noGroup, allTaken, firstRefused, GroupBecame}
+use Rattle.session_group.specs.Groups.{batchMeans, namedBatch, Names, namesGroup, groupAnswerOf, noGroup, allTaken, firstRefused, GroupBecame}
 use Rattle.session_group.specs.GroupsLaws.{group-named, names-all, names-group}
 
 holds-cursor : (s : ShellSession) (m : Session) → Holds s m → cursorOf (s .state .«replay_cursor») ≡ m .cursor
@@ -100,7 +100,7 @@ module _ (s : ShellSession) {count : ℕ} {places : List GroupBatch} (sets : Lis
   unfolding group groupAnswerOf
   group-refused e = rw (names-group names sets ∙ e) (record { answer = refl; next = holds })
 
-  pub group-sent : (r : ProjectionPatchGroup) → namesGroup count places (length sets) ≡ true → GroupBecame r (concludeGroup m count (runGroup 0 m (named count places) sets)) → GroupBecame r (group m bs sets)
+  pub group-sent : (r : ProjectionPatchGroup) → namesGroup count places (length sets) ≡ true → GroupBecame r (concludeGroup m count (runGroup 0 m (namedBatch count places) sets)) → GroupBecame r (group m bs sets)
   unfolding group
   group-sent r e became =
       let few = group-named count places (length sets) e .0 in

@@ -15,7 +15,7 @@ ghost use Rattle.spec_splitting.specs.Splitting.{isRejected};
 ghost use Rattle.spec_group.specs.Group.{groupBatches, totalBytes, runGroup, concludeGroup};
 ghost use Rattle.session_steps.specs.Answers.{dispositionTold};
 ghost use Rattle.shell_player.specs.Holds.{Holds};
-ghost use Rattle.session_group.specs.Groups.{named, namesGroup, answerNumber, noGroup, allTaken, firstRefused, GroupBecame, GroupCall, AnswerFits, AnyGroupCall};
+ghost use Rattle.session_group.specs.Groups.{namedBatch, namesGroup, answerNumber, noGroup, allTaken, firstRefused, GroupBecame, GroupCall, AnswerFits, AnyGroupCall};
 
 // One batch of a group, and how many bytes its set has.
 pub struct GroupBatch {
@@ -126,7 +126,7 @@ fn is_rejected(disposition: ProjectionPatchApplicationDisposition) -> bool
 // Whether the lengths add up to so many bytes. What is left of them is counted down, so that no sum runs over.
 fn adds_up(batches: [GroupBatch; GroupBatch::MOST], count: usize, bytes: usize) -> bool
     requires { ⌜ count ≤ groupBatches ⌝ }
-    ensures { λ r. ⌜ r ≡ eqb (totalBytes (named count batches)) bytes ⌝ }
+    ensures { λ r. ⌜ r ≡ eqb (totalBytes (namedBatch count batches)) bytes ⌝ }
 {
     let mut left = bytes;
     let mut place: usize = 0;
@@ -162,8 +162,8 @@ fn send_all(
     count: usize,
     sets: &[u8],
 ) -> ProjectionPatchGroup
-    requires { ⌜ (count ≤ groupBatches) × (totalBytes (named count batches) ≡ length (now sets)) ⌝ }
-    ensures holding { λ r. ⌜ ((m : Session) → Holds session m → GroupBecame r (concludeGroup m count (runGroup 0 m (named count batches) (now (sets .entry))))) ⌝ }
+    requires { ⌜ (count ≤ groupBatches) × (totalBytes (namedBatch count batches) ≡ length (now sets)) ⌝ }
+    ensures holding { λ r. ⌜ ((m : Session) → Holds session m → GroupBecame r (concludeGroup m count (runGroup 0 m (namedBatch count batches) (now (sets .entry))))) ⌝ }
     ensures whatever { λ r. ⌜ AnswerFits count session (r .session) (r .answer) ⌝ }
     ensures numbered { λ r. ⌜ answerNumber (r .answer) ≡ 0 ⌝ }
 {

@@ -23,8 +23,8 @@ use Rattle.session_lifecycle.specs.declared.state.ShellLocalState.{ShellLocalSt
 use Rattle.session_lifecycle.specs.declared.state.ShellLifecycleLimits.{ShellLifecycleLimits}
 use Rattle.local_projection_state.specs.Stores.{StoredTables, countsOf}
 use Rattle.local_projection_state.specs.declared.ProjectionCounts.{ProjectionCounts}
-use Rattle.panel_changes.specs.SetChanges.{tablesFit, countsFit, StoredAfter, ChangeBecame, KeptUnlessApplied}
-use Rattle.panel_changes.specs.SetChangesLaws.{lengths-fit, stored-lengths, stored-counts}
+use Rattle.panel_changes.specs.SetChanges.{tablesFit, changeCountsFit, StoredAfter, ChangeBecame, TablesKeptUnlessApplied}
+use Rattle.panel_changes.specs.SetChangesLaws.{tableLengths-fit, stored-lengths, stored-counts}
 use Rattle.panel_changes.specs.declared.SetChange.{SetChange}
 use Rattle.panel_changes.specs.declared.SetChange.the-variants as change
 use Rattle.session_gates.specs.Gates.{erased, preflightBy}
@@ -35,7 +35,7 @@ use Rattle.session_steps.specs.AnswersLaws.{applied-told}
 use Rattle.session_steps.specs.declared.answers.ProjectionPatchApplicationDisposition.{ProjectionPatchApplicationDisposition}
 use Rattle.session_steps.specs.declared.answers.ProjectionPatchApplicationDisposition.the-variants.{Applied, NoChange, Rejected}
 use Rattle.session_steps.specs.declared.answers.ProjectionPatchApplicationResult.{ProjectionPatchApplicationResult}
-use Rattle.session_lent.specs.Head.{headNumbers, stateAt, limitsAt, countsAt, headOf, movedHead}
+use Rattle.session_lent.specs.Head.{headNumbers, stateAt, limitsAt, countsAt, lentHeadOf, movedHead}
 use Rattle.session_lent.specs.HeadLaws.{state-told, limits-told, counts-told, long, moved-told}
 use Rattle.session_lent.specs.LentSession.{LentSession, LentRoom, anchorsShaped, halfShaped}
 use Rattle.session_lent.specs.CreationLaws.{anchors-agree, few-fit}
@@ -46,19 +46,19 @@ use Rattle.session_lent.specs.Batches.{SameHalf, KeptUnlessChanged, Next
 pub held-half : (head nodes pairs collections b a e l : List ℕ) (m : Session) → LentSession head nodes pairs collections b a e l m → halfShaped head (length b) (length a) (length e) ≡ true
 unfolding halfShaped
 held-half head nodes pairs collections b a e l m h =
-    let counts : countsFit (countsAt head) ≡ true = ap countsFit (counts-told head m (h .head-is)) ∙ stored-counts (h .projection) in
-    rw (eq-eqb (length head) headNumbers (long head m (h .head-is)), lengths-fit b a e (stored-lengths (h .projection)), counts)
+    let counts : changeCountsFit (countsAt head) ≡ true = ap changeCountsFit (counts-told head m (h .head-is)) ∙ stored-counts (h .projection) in
+    rw (eq-eqb (length head) headNumbers (long head m (h .head-is)), tableLengths-fit b a e (stored-lengths (h .projection)), counts)
 
 pub held-anchors : (head nodes pairs collections b a e l : List ℕ) (m : Session) → LentSession head nodes pairs collections b a e l m → anchorsShaped (length nodes) (length pairs) (length collections) ≡ true
 held-anchors head nodes pairs collections b a e l m h = anchors-agree (m .catalogue) nodes pairs collections (h .anchors-are) ∙ few-fit (m .catalogue) nodes pairs collections (h .anchors-are) (h .few)
 
 pub room-half : (head b a e l : List ℕ) → LentRoom head b a e l → halfShaped head (length b) (length a) (length e) ≡ true
 unfolding halfShaped
-room-half head b a e l r = rw (eq-eqb (length head) headNumbers (r .head-long), lengths-fit b a e (r .tables .lengths), r .tables .few)
+room-half head b a e l r = rw (eq-eqb (length head) headNumbers (r .head-long), tableLengths-fit b a e (r .tables .lengths), r .tables .few)
 
 pub half-head : (head : List ℕ) (b a e : ℕ) → halfShaped head b a e ≡ true → length head ≡ headNumbers
 unfolding halfShaped
-half-head head b a e h = eqb-true (length head) headNumbers (and-left (eqb (length head) headNumbers) (tablesFit b a e && countsFit (countsAt head)) h)
+half-head head b a e h = eqb-true (length head) headNumbers (and-left (eqb (length head) headNumbers) (tablesFit b a e && changeCountsFit (countsAt head)) h)
 
 -- the tables, with the counts that the head tells
 pub held-tables : {head nodes pairs collections b a e l : List ℕ} (m : Session) → LentSession head nodes pairs collections b a e l m → StoredTables (countsAt head) b a e (m .projection)
@@ -110,7 +110,7 @@ stopped-became P Q (change.Refused f) (stopped g) stop k = k
 stopped-became P Q (change.Unreadable f) x stop k = k
 stopped-became P Q change.BadTables x stop k = k
 
-pub stopped-kept : (u : SetChange) (to b a e l b′ a′ e′ l′ : List ℕ) → Stopped u → KeptUnlessApplied u b a e l b′ a′ e′ l′ → KeptUnlessChanged u to b a e l to b′ a′ e′ l′
+pub stopped-kept : (u : SetChange) (to b a e l b′ a′ e′ l′ : List ℕ) → Stopped u → TablesKeptUnlessApplied u b a e l b′ a′ e′ l′ → KeptUnlessChanged u to b a e l to b′ a′ e′ l′
 stopped-kept (change.Applied n) to b a e l b′ a′ e′ l′ stop k = absurd stop
 stopped-kept (change.Refused f) to b a e l b′ a′ e′ l′ stop k = (refl, k)
 stopped-kept (change.Unreadable f) to b a e l b′ a′ e′ l′ stop k = (refl, k)

@@ -50,8 +50,8 @@ countsAt h = record { bindings = getD h 8 0; availabilities = getD h 9 0; entrie
 -- ---- the heads of sessions
 
 -- id, lifecycle, cursor, limits, and how many rows each table has
-abbrev pub headOf : Session → List ℕ
-headOf m =
+abbrev pub lentHeadOf : Session → List ℕ
+lentHeadOf m =
     m .id
     ∷ lifecycleNumber (m .lifecycle)
     ∷ cursorKind (m .cursor)

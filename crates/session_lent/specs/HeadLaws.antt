@@ -13,7 +13,7 @@ use Rattle.spec_session.specs.Lifecycle.{LocalState, stateOf, withLifecycle}
 use Rattle.spec_session.specs.Batch.{advanced}
 use Rattle.local_projection_state.specs.Stores.{countsOf}
 use Rattle.local_projection_state.specs.declared.ProjectionCounts.{ProjectionCounts}
-use Rattle.session_lent.specs.Head.{headNumbers, lifecycleNumber, lifecycleNumbered, cursorKind, cursorNumber, cursorNumbered, stateAt, limitsAt, countsAt, headOf, newHead, movedHead}
+use Rattle.session_lent.specs.Head.{headNumbers, lifecycleNumber, lifecycleNumbered, cursorKind, cursorNumber, cursorNumbered, stateAt, limitsAt, countsAt, lentHeadOf, newHead, movedHead}
 
 -- ---- numbers back
 
@@ -24,10 +24,10 @@ lifecycle-back active = refl
 lifecycle-back suspended = refl
 lifecycle-back closed = refl
 
-pub cursor-back : (c : Cursor) → cursorNumbered (cursorKind c) (cursorNumber c) ≡ c
+pub cursor-numbered : (c : Cursor) → cursorNumbered (cursorKind c) (cursorNumber c) ≡ c
 unfolding cursorNumbered
-cursor-back uninitialized = refl
-cursor-back (at n) = refl
+cursor-numbered uninitialized = refl
+cursor-numbered (at n) = refl
 
 -- ---- the lifecycle of a number
 
@@ -49,12 +49,12 @@ numbered-closed n x y z = rw (ne-eqb n 0 x, ne-eqb n 1 y, ne-eqb n 2 z) refl
 
 -- ---- what the head of a session tells
 
-module _ (h : List ℕ) (m : Session) (is : h ≡ headOf m) where
+module _ (h : List ℕ) (m : Session) (is : h ≡ lentHeadOf m) where
   pub state-told : stateAt h ≡ stateOf m
   unfolding stateOf
   state-told =
       let l = lifecycle-back (m .lifecycle) in
-      let c = cursor-back (m .cursor) in
+      let c = cursor-numbered (m .cursor) in
       ap stateAt is ∙ (λ i. record { id = m .id; lifecycle = l i; cursor = c i })
 
   pub limits-told : limitsAt h ≡ m .limits
@@ -67,16 +67,16 @@ module _ (h : List ℕ) (m : Session) (is : h ≡ headOf m) where
   long = ap length is
 
   -- the head after a batch that was applied
-  pub moved-told : (n : ℕ) (k : ProjectionCounts) (p : Projection) → k ≡ countsOf p → movedHead h n k ≡ headOf (advanced m n p)
+  pub moved-told : (n : ℕ) (k : ProjectionCounts) (p : Projection) → k ≡ countsOf p → movedHead h n k ≡ lentHeadOf (advanced m n p)
   unfolding advanced
-  moved-told n k p same = ap (λ (x : List ℕ). movedHead x n k) is ∙ ap (λ (x : ProjectionCounts). movedHead (headOf m) n x) same
+  moved-told n k p same = ap (λ (x : List ℕ). movedHead x n k) is ∙ ap (λ (x : ProjectionCounts). movedHead (lentHeadOf m) n x) same
 
   -- the head with another lifecycle
-  pub entered-told : (x : Lifecycle) → set h 1 (lifecycleNumber x) ≡ headOf (withLifecycle m x)
+  pub entered-told : (x : Lifecycle) → set h 1 (lifecycleNumber x) ≡ lentHeadOf (withLifecycle m x)
   unfolding withLifecycle
   entered-told x = ap (λ (y : List ℕ). set y 1 (lifecycleNumber x)) is
 
-pub new-told : (id : ℕ) (l : Limits) (c : Catalogue) → newHead id l ≡ headOf (newSession id l c)
+pub new-told : (id : ℕ) (l : Limits) (c : Catalogue) → newHead id l ≡ lentHeadOf (newSession id l c)
 unfolding newSession empty
 new-told id l c = refl
 

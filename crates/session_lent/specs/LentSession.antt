@@ -13,11 +13,11 @@ use Rattle.spec_lengths.specs.Lengths.{collectionLengths}
 use Rattle.session_gates.specs.Lent.{Lent}
 use Rattle.panel_rows.specs.Rows.{bindingBytes, availabilityBytes, entryBytes}
 use Rattle.local_projection_state.specs.Stores.{StoredTables, StoredLengths, countsOf}
-use Rattle.panel_changes.specs.SetChanges.{tablesFit, countsFit, Ready}
-use Rattle.session_lent.specs.Head.{headNumbers, countsAt, headOf}
+use Rattle.panel_changes.specs.SetChanges.{tablesFit, changeCountsFit, ReadyTables}
+use Rattle.session_lent.specs.Head.{headNumbers, countsAt, lentHeadOf}
 
 pub record LentSession (head nodes pairs collections bindings availability entries lengths : List ℕ) (m : Session) : Type 0 where
-  pub head-is : head ≡ headOf m
+  pub head-is : head ≡ lentHeadOf m
   pub anchors-are : Lent (m .catalogue) nodes pairs collections
   pub few : FewAnchors (m .catalogue)
   pub projection : StoredTables (countsOf (m .projection)) bindings availability entries (m .projection)
@@ -31,7 +31,7 @@ anchorsShaped nodes pairs collections = leb nodes anchors && (leb pairs (2 * anc
 
 -- a head, and tables of these lengths: no count is over its capacity
 unfoldable pub halfShaped : List ℕ → (bindings availability entries : ℕ) → Bool
-halfShaped head bindings availability entries = eqb (length head) headNumbers && (tablesFit bindings availability entries && countsFit (countsAt head))
+halfShaped head bindings availability entries = eqb (length head) headNumbers && (tablesFit bindings availability entries && changeCountsFit (countsAt head))
 
 -- a head, and one table, which has these bytes: its count is not over its capacity
 unfoldable pub tableShaped : (head : List ℕ) (count table bytes capacity : ℕ) → Bool
@@ -49,4 +49,4 @@ entriesShaped head table = tableShaped head (countsAt head .entries) table entry
 -- the half that a batch writes to: as creation or an earlier call left it, so that nothing stands behind the rows that its head counts
 pub record LentRoom (head bindings availability entries lengths : List ℕ) : Type 0 where
   pub head-long : length head ≡ headNumbers
-  pub tables : Ready (countsAt head) bindings availability entries lengths
+  pub tables : ReadyTables (countsAt head) bindings availability entries lengths

@@ -16,7 +16,7 @@ use Rattle.session_lifecycle.specs.MeaningLaws.{bare-answers}
 use Rattle.session_lifecycle.specs.declared.lifecycle.ShellTransitionDisposition.{ShellTransitionDisposition}
 use Rattle.session_lifecycle.specs.declared.lifecycle.ShellTransitionDisposition.the-variants.{Applied, NoChange, Rejected}
 use Rattle.session_lifecycle.specs.declared.lifecycle.ShellTransitionResult.{ShellTransitionResult}
-use Rattle.session_lent.specs.Head.{lifecycleNumber, stateAt, limitsAt, headOf}
+use Rattle.session_lent.specs.Head.{lifecycleNumber, stateAt, limitsAt, lentHeadOf}
 use Rattle.session_lent.specs.HeadLaws.{state-told, limits-told, entered-told}
 use Rattle.session_lent.specs.LentSession.{LentSession}
 use Rattle.session_lent.specs.declared.lifecycle.LentTransition.{LentTransition}
@@ -44,7 +44,7 @@ module _ (h : List ℕ) (u : Stimulus) (n : ℕ) (r : ShellTransitionResult) (an
         head-is =
             ap (λ (x : Lifecycle). set h 1 (lifecycleNumber x)) entered
             ∙ entered-told h m (holds .head-is) (lifecycleStep m u n .answer .state .lifecycle)
-            ∙ sym (ap headOf rest);
+            ∙ sym (ap lentHeadOf rest);
         anchors-are = subst (λ (s : Session). Lent (s .catalogue) nodes pairs collections) (sym rest) (holds .anchors-are);
         few = subst (λ (s : Session). FewAnchors (s .catalogue)) (sym rest) (holds .few);
         projection = subst (λ (s : Session). StoredTables (countsOf (s .projection)) b a e (s .projection)) (sym rest) (holds .projection);

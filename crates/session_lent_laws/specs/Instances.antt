@@ -10,15 +10,15 @@ use Rattle.spec_projection.specs.Valid.{Valid}
 use Rattle.spec_projection.specs.ValidLaws.{empty-valid}
 use Rattle.spec_session.specs.Session.{Catalogue, Session}
 use Rattle.spec_session.specs.ValidSession.{FewAnchors}
-use Rattle.spec_examples.specs.SplitInstances.{start}
+use Rattle.spec_examples.specs.SplitInstances.{startSession}
 use Rattle.active_projection_target_catalog.specs.Catalog.{pairTo, pairNumbers}
 use Rattle.panel_rows.specs.Rows.{lengthBytes}
-use Rattle.local_projection_state.specs.Stores.{stateOf}
+use Rattle.local_projection_state.specs.Stores.{storedState}
 use Rattle.local_projection_state.specs.StoresLaws.{some-state}
-use Rattle.panel_changes.specs.SetChangesLaws.{lengths-fit, stored-lengths}
+use Rattle.panel_changes.specs.SetChangesLaws.{tableLengths-fit, stored-lengths}
 use Rattle.shell_player.specs.Holds.{Holds}
 use Rattle.shell_player.specs.declared.session.ShellSession.{ShellSession}
-use Rattle.session_lent.specs.Head.{headNumbers, headOf}
+use Rattle.session_lent.specs.Head.{headNumbers, lentHeadOf}
 use Rattle.session_lent.specs.HeadLaws.{long}
 use Rattle.session_lent.specs.Steps.{roomShaped}
 use Rattle.session_lent.specs.CreationLaws.{pairs-apart}
@@ -27,21 +27,21 @@ use Rattle.session_lent_laws.specs.StructLaws.{same-bytes, held-room}
 
 -- ---- a session as lent slices
 
-abbrev pub anchorsOf : Catalogue → Anchors
-anchorsOf c = record { nodes = c .nodes; pairs = flatMap pairNumbers (map pairTo (c .bindings)); collections = c .collections }
+abbrev pub instanceAnchors : Catalogue → Anchors
+instanceAnchors c = record { nodes = c .nodes; pairs = flatMap pairNumbers (map pairTo (c .bindings)); collections = c .collections }
 
 abbrev pub halfOf : Session → Half
 halfOf m = record {
-  head = headOf m;
-  bindings = stateOf (m .projection) .bindings;
-  availability = stateOf (m .projection) .availability;
-  entries = stateOf (m .projection) .entries;
-  lengths = stateOf (m .projection) .lengths;
+  head = lentHeadOf m;
+  bindings = storedState (m .projection) .bindings;
+  availability = storedState (m .projection) .availability;
+  entries = storedState (m .projection) .entries;
+  lengths = storedState (m .projection) .lengths;
 }
 
 module _ (m : Session) (few : FewAnchors (m .catalogue)) (valid : Valid (m .projection)) where
-  pub half-holds : HeldIn (anchorsOf (m .catalogue)) (halfOf m) m
-  unfolding stateOf
+  pub half-holds : HeldIn (instanceAnchors (m .catalogue)) (halfOf m) m
+  unfolding storedState
   half-holds = record {
     head-is = refl;
     anchors-are = record { nodes-are = refl; bindings-are = refl; collections-are = refl };
@@ -50,19 +50,19 @@ module _ (m : Session) (few : FewAnchors (m .catalogue)) (valid : Valid (m .proj
     collections-told = some-state (m .projection) valid .lengths;
   }
 
-  pub some-panel : Panel (anchorsOf (m .catalogue)) (record { held = halfOf m; other = halfOf m }) m
-  some-panel = record { held = half-holds; room = held-room (anchorsOf (m .catalogue)) (halfOf m) m half-holds }
+  pub some-panel : Panel (instanceAnchors (m .catalogue)) (record { held = halfOf m; other = halfOf m }) m
+  some-panel = record { held = half-holds; room = held-room (instanceAnchors (m .catalogue)) (halfOf m) m half-holds }
 
 -- and so every session by value has slices with its numbers and bytes
-pub struct-held : (s : ShellSession) (m : Session) → Holds s m → HeldIn (anchorsOf (m .catalogue)) (halfOf m) m × (s ≡ structIn (anchorsOf (m .catalogue)) (halfOf m))
+pub struct-held : (s : ShellSession) (m : Session) → Holds s m → HeldIn (instanceAnchors (m .catalogue)) (halfOf m) m × (s ≡ structIn (instanceAnchors (m .catalogue)) (halfOf m))
 struct-held s m h =
     let held = half-holds m (h .few) (h .projection .tables .valid) in
-    (held, same-bytes (anchorsOf (m .catalogue)) (halfOf m) m held s h)
+    (held, same-bytes (instanceAnchors (m .catalogue)) (halfOf m) m held s h)
 
 -- the session whose batches of `SplitInstances` apply whole and in pieces, or fail at an operation
-pub start-panel : Panel (anchorsOf (start .catalogue)) (record { held = halfOf start; other = halfOf start }) start
-unfolding start
-start-panel = some-panel start (record { nodes = omega arith; bindings = omega arith; collections = omega arith }) empty-valid
+pub start-panel : Panel (instanceAnchors (startSession .catalogue)) (record { held = halfOf startSession; other = halfOf startSession }) startSession
+unfolding startSession
+start-panel = some-panel startSession (record { nodes = omega arith; bindings = omega arith; collections = omega arith }) empty-valid
 
 -- ---- slices that a session can be made in
 
@@ -71,4 +71,4 @@ unfolding roomShaped
 held-shaped k h m held =
     let pairs : length (k .pairs) ≡ 2 * length (map pairTo (m .catalogue .bindings)) = ap length (held .anchors-are .bindings-are) ∙ pairs-apart (map pairTo (m .catalogue .bindings)) in
     let even : length (k .pairs) % 2 ≡ 0 = omega (arith, pairs) in
-    rw (eq-eqb (length (h .head)) headNumbers (long (h .head) m (held .head-is)), eq-eqb (length (k .pairs) % 2) 0 even, eq-eqb (length (h .lengths)) lengthBytes (held .collections-told .size), lengths-fit (h .bindings) (h .availability) (h .entries) (stored-lengths (held .projection)))
+    rw (eq-eqb (length (h .head)) headNumbers (long (h .head) m (held .head-is)), eq-eqb (length (k .pairs) % 2) 0 even, eq-eqb (length (h .lengths)) lengthBytes (held .collections-told .size), tableLengths-fit (h .bindings) (h .availability) (h .entries) (stored-lengths (held .projection)))

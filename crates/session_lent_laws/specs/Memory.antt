@@ -5,7 +5,7 @@ use lib.ListN.{length, getD}
 use Rattle.spec_patch.specs.Edition.{Edition}
 use Rattle.spec_session.specs.Session.{Session}
 use Rattle.spec_session.specs.Batch.{BatchEnvelope}
-use Rattle.active_projection_target_catalog.specs.Catalog.{noPair, padded, catalogWith}
+use Rattle.active_projection_target_catalog.specs.Catalog.{noPair, paddedPairs, catalogWith}
 use Rattle.active_projection_target_catalog.specs.declared.catalog.BindingPair.{BindingPair}
 use Rattle.active_projection_target_catalog.specs.declared.catalog.ActiveProjectionTargetCatalog.{ActiveProjectionTargetCatalog}
 use Rattle.session_steps.specs.declared.answers.ProjectionPatchApplicationDisposition.{ProjectionPatchApplicationDisposition}
@@ -72,7 +72,7 @@ pairsIn (n ∷ []) = []
 pairsIn (n ∷ s ∷ ns) = record { node = n; slot = s } ∷ pairsIn ns
 
 abbrev pub catalogIn : Anchors → ActiveProjectionTargetCatalog
-catalogIn k = catalogWith (k .nodes) (padded noPair (pairsIn (k .pairs))) (length (pairsIn (k .pairs))) (k .collections)
+catalogIn k = catalogWith (k .nodes) (paddedPairs noPair (pairsIn (k .pairs))) (length (pairsIn (k .pairs))) (k .collections)
 
 abbrev pub structIn : Anchors → Half → ShellSession
 structIn k h = record {

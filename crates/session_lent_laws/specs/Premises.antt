@@ -21,7 +21,7 @@ use Rattle.spec_session.specs.Batch.{BatchEnvelope, pass, batch}
 use Rattle.spec_session.specs.BatchLaws.{never-passes}
 use Rattle.spec_splitting.specs.Splitting.{Piece, references, patchesOf, Given}
 use Rattle.spec_examples.specs.Opened.{opened}
-use Rattle.spec_examples.specs.SplitInstances.{patchOf, start, piece}
+use Rattle.spec_examples.specs.SplitInstances.{patchNumbered, startSession, piece}
 use Rattle.active_projection_target_catalog.specs.Catalog.{pairOf, pairTo}
 use Rattle.active_projection_target_catalog.specs.CatalogLaws.{pairs-back}
 use Rattle.session_lifecycle.specs.Meaning.{cursorOf}
@@ -44,7 +44,7 @@ use Rattle.session_lent_laws.specs.Calls.{LentCall, LentSent, AllApplied
 use Rattle.session_lent_laws.specs.StructLaws.{pairs-told}
 use Rattle.session_lent_laws.specs.CallLaws.{memory-fits, lent-goes-on}
 use Rattle.session_lent_laws.specs.Theorem.{lent-all-applied}
-use Rattle.session_lent_laws.specs.Instances.{anchorsOf, halfOf, half-holds, start-panel}
+use Rattle.session_lent_laws.specs.Instances.{instanceAnchors, halfOf, half-holds, start-panel}
 
 -- ---- a head without rows and its anchors tell one session
 
@@ -89,16 +89,16 @@ module _ (k : Anchors) (h : Half) (m : Session) (held : HeldIn k h m) (none : m 
 abbrev pub appliedAt : ℕ → ProjectionPatchApplicationResult
 appliedAt n = record { disposition = Applied; diagnostics = record { «stable_code» = 0; «evaluation_stage» = 0; «logical_diagnostic_count» = 0; «emitted_diagnostic_count» = 0 }; «replay_cursor» = At n }
 
-module _ (ed : Edition) (m : Session) (few : FewAnchors (m .catalogue)) (p : Memory) (panel : Panel (anchorsOf (m .catalogue)) p m) (none : m .projection ≡ empty) (v : BatchEnvelope) (declared : ℕ) (set : List ℕ)
+module _ (ed : Edition) (m : Session) (few : FewAnchors (m .catalogue)) (p : Memory) (panel : Panel (instanceAnchors (m .catalogue)) p m) (none : m .projection ≡ empty) (v : BatchEnvelope) (declared : ℕ) (set : List ℕ)
     (applies : batch ed m v declared set .answer ≡ answerAt applied (at (v .sequence))) (kept : batch ed m v declared set .next .catalogue ≡ m .catalogue) (left : batch ed m v declared set .next .projection ≡ empty)
     (passes : preflightBy (m .id) (m .limits) (m .lifecycle) v ≡ pass tt) where
   abbrev next : Session
   next = batch ed m v declared set .next
 
-  next-held : HeldIn (anchorsOf (m .catalogue)) (halfOf next) next
-  next-held = subst (λ (c : Catalogue). HeldIn (anchorsOf c) (halfOf next) next) kept (half-holds next (subst FewAnchors (sym kept) few) (rw left empty-valid))
+  next-held : HeldIn (instanceAnchors (m .catalogue)) (halfOf next) next
+  next-held = subst (λ (c : Catalogue). HeldIn (instanceAnchors c) (halfOf next) next) kept (half-holds next (subst FewAnchors (sym kept) few) (rw left empty-valid))
 
-  some-call : LentBatchCall ed v declared set (anchorsOf (m .catalogue)) p (Answered (appliedAt (v .sequence))) (halfOf next)
+  some-call : LentBatchCall ed v declared set (instanceAnchors (m .catalogue)) p (Answered (appliedAt (v .sequence))) (halfOf next)
   unfolding dispositionTold cursorOf step.stateOf
   some-call = record {
     answered = λ fits. (
@@ -106,15 +106,15 @@ module _ (ed : Edition) (m : Session) (few : FewAnchors (m .catalogue)) (p : Mem
       (
         refl,
         record {
-          became = λ x l held room. subst (λ (y : Session). LentStep (appliedAt (v .sequence)) y (halfOf next .head) (m .catalogue .nodes) (anchorsOf (m .catalogue) .pairs) (m .catalogue .collections) (halfOf next .bindings) (halfOf next .availability) (halfOf next .entries) (halfOf next .lengths) (batch ed y v declared set))
-              (one-held (anchorsOf (m .catalogue)) (p .held) m (panel .held) none x l held) (record { answer = sym applies; next = next-held });
+          became = λ x l held room. subst (λ (y : Session). LentStep (appliedAt (v .sequence)) y (halfOf next .head) (m .catalogue .nodes) (instanceAnchors (m .catalogue) .pairs) (m .catalogue .collections) (halfOf next .bindings) (halfOf next .availability) (halfOf next .entries) (halfOf next .lengths) (batch ed y v declared set))
+              (one-held (instanceAnchors (m .catalogue)) (p .held) m (panel .held) none x l held) (record { answer = sym applies; next = next-held });
           kept = λ not. absurd (not refl);
           row = appliedRow refl;
           preflight = λ f n is. never-passes (sym (sym same ∙ is) ∙ passes);
         },
       ),
     );
-    refused = λ shape. absurd (false≢true (sym shape ∙ memory-fits ed v declared set (anchorsOf (m .catalogue)) p m panel));
+    refused = λ shape. absurd (false≢true (sym shape ∙ memory-fits ed v declared set (instanceAnchors (m .catalogue)) p m panel));
   }
     where
       same : preflightBy (stateAt (p .held .head) .id) (limitsAt (p .held .head)) (stateAt (p .held .head) .lifecycle) v ≡ preflightBy (m .id) (m .limits) (m .lifecycle) v
@@ -123,10 +123,10 @@ module _ (ed : Edition) (m : Session) (few : FewAnchors (m .catalogue)) (p : Mem
 -- ---- four patches, whole and in two pieces
 
 unfoldable pub putsIn : ℕ → Patch
-putsIn n = patchOf n (insert 9 1 none (unsigned 3) ∷ [])
+putsIn n = patchNumbered n (insert 9 1 none (unsigned 3) ∷ [])
 
 unfoldable pub takesOut : ℕ → Patch
-takesOut n = patchOf n (remove 9 1 ∷ [])
+takesOut n = patchNumbered n (remove 9 1 ∷ [])
 
 unfoldable pub firstPiece : Piece
 firstPiece = piece (putsIn 1 ∷ takesOut 2 ∷ [])
@@ -138,15 +138,15 @@ unfoldable pub wholePiece : Piece
 wholePiece = piece (putsIn 1 ∷ takesOut 2 ∷ putsIn 3 ∷ takesOut 4 ∷ [])
 
 puts-fits : (n : ℕ) → n < 100 → InRangePatch (putsIn n)
-unfolding putsIn patchOf opened OperationHolds InRangeValue OptionalU64
+unfolding putsIn patchNumbered opened OperationHolds InRangeValue OptionalU64
 puts-fits n h = omega (arith, h)
 
 takes-fits : (n : ℕ) → n < 100 → InRangePatch (takesOut n)
-unfolding takesOut patchOf opened OperationHolds InRangeValue OptionalU64
+unfolding takesOut patchNumbered opened OperationHolds InRangeValue OptionalU64
 takes-fits n h = omega (arith, h)
 
-given : Given start 40 wholePiece (firstPiece ∷ secondPiece ∷ [])
-unfolding start wholePiece firstPiece secondPiece piece opened patchesOf
+given : Given startSession 40 wholePiece (firstPiece ∷ secondPiece ∷ [])
+unfolding startSession wholePiece firstPiece secondPiece piece opened patchesOf
 given = record {
   inRange = (puts-fits 1 (omega arith), (takes-fits 2 (omega arith), (puts-fits 3 (omega arith), (takes-fits 4 (omega arith), tt))));
   cut = refl;
@@ -155,17 +155,17 @@ given = record {
   numbers = omega arith;
 }
 
-abbrev pub anchors : Anchors
-anchors = anchorsOf (start .catalogue)
+abbrev pub someAnchors : Anchors
+someAnchors = instanceAnchors (startSession .catalogue)
 
 abbrev pub memory : Memory
-memory = record { held = halfOf start; other = halfOf start }
+memory = record { held = halfOf startSession; other = halfOf startSession }
 
 abbrev pub sentTo : Memory → ℕ → Piece → BatchEnvelope
 sentTo p n q = record { session = getD (p .held .head) 0 0; sequence = n; patches = length (q .patches); stimulusBytes = q .stimulusBytes }
 
-few-start : FewAnchors (start .catalogue)
-unfolding start
+few-start : FewAnchors (startSession .catalogue)
+unfolding startSession
 few-start = record { nodes = omega arith; bindings = omega arith; collections = omega arith }
 
 -- the session after a piece
@@ -173,31 +173,31 @@ unfoldable pub afterPiece : Session → Memory → ℕ → Piece → Session
 afterPiece m p n q = batch v1 m (sentTo p n q) (references q) (encode v1 (q .patches)) .next
 
 -- the call that it takes
-abbrev pub callOf : Session → Memory → ℕ → Piece → LentCall
-callOf m p n q = record { result = appliedAt n; written = halfOf (afterPiece m p n q) }
+abbrev pub premiseCall : Session → Memory → ℕ → Piece → LentCall
+premiseCall m p n q = record { result = appliedAt n; written = halfOf (afterPiece m p n q) }
 
-whole-sent : LentSent v1 anchors memory 40 wholePiece (callOf start memory 40 wholePiece)
-unfolding opened afterPiece start wholePiece putsIn takesOut patchOf piece references preflightBy
-whole-sent = some-call v1 start few-start memory start-panel refl (sentTo memory 40 wholePiece) (references wholePiece) (encode v1 (wholePiece .patches)) refl refl refl refl
+whole-sent : LentSent v1 someAnchors memory 40 wholePiece (premiseCall startSession memory 40 wholePiece)
+unfolding opened afterPiece startSession wholePiece putsIn takesOut patchNumbered piece references preflightBy
+whole-sent = some-call v1 startSession few-start memory start-panel refl (sentTo memory 40 wholePiece) (references wholePiece) (encode v1 (wholePiece .patches)) refl refl refl refl
 
-first-sent : LentSent v1 anchors memory 40 firstPiece (callOf start memory 40 firstPiece)
-unfolding opened afterPiece start firstPiece putsIn takesOut patchOf piece references preflightBy
-first-sent = some-call v1 start few-start memory start-panel refl (sentTo memory 40 firstPiece) (references firstPiece) (encode v1 (firstPiece .patches)) refl refl refl refl
+first-sent : LentSent v1 someAnchors memory 40 firstPiece (premiseCall startSession memory 40 firstPiece)
+unfolding opened afterPiece startSession firstPiece putsIn takesOut patchNumbered piece references preflightBy
+first-sent = some-call v1 startSession few-start memory start-panel refl (sentTo memory 40 firstPiece) (references firstPiece) (encode v1 (firstPiece .patches)) refl refl refl refl
 
-unfoldable pub between : Session
-between = afterPiece start memory 40 firstPiece
+unfoldable pub betweenPieces : Session
+betweenPieces = afterPiece startSession memory 40 firstPiece
 
 abbrev pub betweenMemory : Memory
-betweenMemory = record { held = halfOf between; other = halfOf start }
+betweenMemory = record { held = halfOf betweenPieces; other = halfOf startSession }
 
-between-panel : Panel anchors betweenMemory between
-unfolding between afterPiece
-between-panel = lent-goes-on v1 (sentTo memory 40 firstPiece) (references firstPiece) (encode v1 (firstPiece .patches)) anchors memory start start-panel (appliedAt 40) (halfOf between) first-sent
+between-panel : Panel someAnchors betweenMemory betweenPieces
+unfolding betweenPieces afterPiece
+between-panel = lent-goes-on v1 (sentTo memory 40 firstPiece) (references firstPiece) (encode v1 (firstPiece .patches)) someAnchors memory startSession start-panel (appliedAt 40) (halfOf betweenPieces) first-sent
 
-second-sent : LentSent v1 anchors betweenMemory 41 secondPiece (callOf between betweenMemory 41 secondPiece)
-unfolding opened between afterPiece start firstPiece secondPiece putsIn takesOut patchOf piece references preflightBy
-second-sent = some-call v1 between few-start betweenMemory between-panel refl (sentTo betweenMemory 41 secondPiece) (references secondPiece) (encode v1 (secondPiece .patches)) refl refl refl refl
+second-sent : LentSent v1 someAnchors betweenMemory 41 secondPiece (premiseCall betweenPieces betweenMemory 41 secondPiece)
+unfolding opened betweenPieces afterPiece startSession firstPiece secondPiece putsIn takesOut patchNumbered piece references preflightBy
+second-sent = some-call v1 betweenPieces few-start betweenMemory between-panel refl (sentTo betweenMemory 41 secondPiece) (references secondPiece) (encode v1 (secondPiece .patches)) refl refl refl refl
 
-pub lent-premises-met : AllAppliedIn memory 40 (firstPiece ∷ secondPiece ∷ []) (callOf start memory 40 wholePiece) (callOf start memory 40 firstPiece ∷ callOf between betweenMemory 41 secondPiece ∷ [])
-unfolding refused between
-lent-premises-met = lent-all-applied v1 anchors memory start start-panel 40 wholePiece (firstPiece ∷ secondPiece ∷ []) given _ whole-sent _ (first-sent, (second-sent, tt)) refl
+pub lent-premises-met : AllAppliedIn memory 40 (firstPiece ∷ secondPiece ∷ []) (premiseCall startSession memory 40 wholePiece) (premiseCall startSession memory 40 firstPiece ∷ premiseCall betweenPieces betweenMemory 41 secondPiece ∷ [])
+unfolding refused betweenPieces
+lent-premises-met = lent-all-applied v1 someAnchors memory startSession start-panel 40 wholePiece (firstPiece ∷ secondPiece ∷ []) given _ whole-sent _ (first-sent, (second-sent, tt)) refl

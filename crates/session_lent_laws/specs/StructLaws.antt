@@ -8,11 +8,11 @@ use Rattle.spec_session.specs.Session as model
 use Rattle.spec_session.specs.Session.{Lifecycle, Cursor, Catalogue, Session}
 use Rattle.spec_session.specs.Lifecycle.{LocalState}
 use Rattle.spec_session.specs.Lifecycle as step
-use Rattle.active_projection_target_catalog.specs.Catalog.{pairTo, noPair, padded, catalogWith, catalogueOf, catalogTo, pairNumbers}
+use Rattle.active_projection_target_catalog.specs.Catalog.{pairTo, noPair, paddedPairs, catalogWith, catalogueOf, catalogTo, pairNumbers}
 use Rattle.active_projection_target_catalog.specs.CatalogLaws.{catalogue-back}
 use Rattle.active_projection_target_catalog.specs.declared.catalog.BindingPair.{BindingPair}
-use Rattle.bytes_records.specs.Table.{Holds}
-use Rattle.bytes_records.specs.TableLaws.{used, padded as padded-rows}
+use Rattle.bytes_records.specs.Table.{HoldsRows}
+use Rattle.bytes_records.specs.TableLaws.{used, paddedPairs as padded-rows}
 use Rattle.panel_changes.specs.SetChangesLaws.{stored-lengths, stored-counts}
 use Rattle.panel_writing.specs.Writing.{ClearBehind}
 use Rattle.session_gates.specs.Lent.{Lent}
@@ -57,7 +57,7 @@ unfolding catalogTo
 anchors-told k c l =
     let pairs : pairsIn (k .pairs) ≡ map pairTo (c .bindings) = ap pairsIn (l .bindings-are) ∙ pairs-told (map pairTo (c .bindings)) in
     let count : length (pairsIn (k .pairs)) ≡ length (c .bindings) = ap length pairs ∙ length-map (c .bindings) pairTo in
-    λ i. catalogWith (l .nodes-are i) (padded noPair (pairs i)) (count i) (l .collections-are i)
+    λ i. catalogWith (l .nodes-are i) (paddedPairs noPair (pairs i)) (count i) (l .collections-are i)
 
 lifecycle-told : (l : Lifecycle) → lifecycleOf (lifecycleTo l) ≡ l
 unfolding lifecycleTo
@@ -95,7 +95,7 @@ module _ (k : Anchors) (h : Half) (m : Session) (held : HeldIn k h m) where
 
 -- ---- a half that holds a session is room for a later one
 
-clear : {w n : ℕ} {l : List ℕ} {rows : List (List ℕ)} → Holds w n l rows → ClearBehind n w l
+clear : {w n : ℕ} {l : List ℕ} {rows : List (List ℕ)} → HoldsRows w n l rows → ClearBehind n w l
 clear {w} {n} {l} {rows} h = ap (drop (n * w)) (padded-rows h) ∙ drop-at (flatten rows) _ (n * w) (used h)
 
 pub held-room : (k : Anchors) (h : Half) (m : Session) → HeldIn k h m → RoomIn h

@@ -13,7 +13,7 @@ use Rattle.session_lifecycle.specs.Meaning.{cursorOf}
 use Rattle.session_steps.specs.declared.answers.ProjectionPatchApplicationDisposition.{ProjectionPatchApplicationDisposition}
 use Rattle.shell_player.specs.declared.session.ShellSession.{ShellSession}
 use Rattle.session_splitting.specs.Calls.{envelopeFor, Sent, refused, Onward, Calls, lastOf}
-use Rattle.session_splitting.specs.Claim.{WasApplied, WholeAndPieces}
+use Rattle.session_splitting.specs.Claim.{WasApplied, CallsInPieces}
 use Rattle.session_splitting.specs.Theorem.{session-whole-and-pieces}
 use Rattle.session_lent.specs.Head.{stateAt}
 use Rattle.session_lent_laws.specs.Memory.{Anchors, Half, Memory, Panel, exchanged, structIn}
@@ -67,7 +67,7 @@ all-applied k p (c ∷ cs) h = (h .0, all-applied k (afterCall p c) cs (h .1))
 module _ (ed : Edition) (k : Anchors) (p : Memory) (m : Session) (panel : Panel k p m) (n : ℕ) (whole : Piece) (pieces : List Piece) (given : Given m n whole pieces)
     (w : LentCall) (sent : LentSent ed k p n whole w) (cs : List LentCall) (calls : LentCalls ed k p n pieces cs) where
   -- what is claimed of calls by value holds of those that the lent calls stand for
-  pub lent-whole-and-pieces : WholeAndPieces ed (structIn k (p .held)) m n whole pieces (asBatch k p w) (asBatches k p cs)
+  pub lent-whole-and-pieces : CallsInPieces ed (structIn k (p .held)) m n whole pieces (asBatch k p w) (asBatches k p cs)
   lent-whole-and-pieces =
       session-whole-and-pieces ed (structIn k (p .held)) m (struct-holds k (p .held) m (panel .held)) n whole pieces given
       (asBatch k p w) (lent-sent ed k p m panel n whole w sent) (asBatches k p cs) (lent-calls ed k pieces cs p m n panel calls)

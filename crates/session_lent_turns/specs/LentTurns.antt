@@ -48,9 +48,9 @@ turnsAt t = record {
 
 -- ---- the numbers of turns
 
-abbrev pub flag : Bool → ℕ
-flag false = 0
-flag true = 1
+abbrev pub turnFlag : Bool → ℕ
+turnFlag false = 0
+turnFlag true = 1
 
 abbrev pub namedKind : NamedSender → ℕ
 namedKind Nobody = 0
@@ -61,10 +61,10 @@ namedNumber Nobody = 0
 namedNumber (Sender s) = s
 
 abbrev pub waitingFlag : SenderTurns → ℕ → ℕ
-waitingFlag t i = flag (getD (t .waiting) i false)
+waitingFlag t i = turnFlag (getD (t .waiting) i false)
 
-abbrev pub numbersOf : SenderTurns → List ℕ
-numbersOf t =
+abbrev pub turnNumbers : SenderTurns → List ℕ
+turnNumbers t =
     t .senders
     ∷ waitingFlag t 0
     ∷ waitingFlag t 1
@@ -87,7 +87,7 @@ pub record TurnsCall {A B : Type 0} (noTurns : A) (answered : B → A) (t : List
 
 -- turns that were made, or what stood there
 abbrev pub setUpLeft : List ℕ → SetUpAnswer → SenderTurns → List ℕ
-setUpLeft t set-up.Made next = numbersOf next
+setUpLeft t set-up.Made next = turnNumbers next
 setUpLeft t (set-up.Refused f) next = t
 
 abbrev pub SetUpCall : ℕ → (t : List ℕ) → LentSetUp → List ℕ → Type 0
@@ -96,7 +96,7 @@ SetUpCall senders t r t′ =
     TurnsCall lent-set-up.NoTurns lent-set-up.Answered t (made .answer) (setUpLeft t (made .answer) (made .turns)) r t′
 
 abbrev pub registerLeft : List ℕ → RegisterAnswer → SenderTurns → List ℕ
-registerLeft t register.Registered next = numbersOf next
+registerLeft t register.Registered next = turnNumbers next
 registerLeft t (register.Refused f) next = t
 
 abbrev pub RegisterCall : ℕ → (t : List ℕ) → LentRegistration → List ℕ → Type 0
@@ -107,7 +107,7 @@ RegisterCall sender t r t′ =
 -- with none waiting nothing moves
 abbrev pub turnLeft : List ℕ → TurnAnswer → SenderTurns → List ℕ
 turnLeft t turn.Nobody next = t
-turnLeft t (turn.Turn s n) next = numbersOf next
+turnLeft t (turn.Turn s n) next = turnNumbers next
 
 abbrev pub TurnCall : Cursor → (t : List ℕ) → LentTurn → List ℕ → Type 0
 TurnCall cursor t r t′ =

@@ -8,7 +8,7 @@ use session_turns::TurnAnswer;
 ghost use mathlib.Core.Path.{_≡_};
 ghost use lib.ListN.{length};
 ghost use Rattle.session_lifecycle.specs.Meaning.{cursorOf};
-ghost use Rattle.session_lent_turns.specs.LentTurns.{turnsNumbers, namedAt, turnsAt, flag, namedKind, namedNumber, numbersOf, setUpLeft, registerLeft, turnLeft, SetUpCall, RegisterCall, TurnCall};
+ghost use Rattle.session_lent_turns.specs.LentTurns.{turnsNumbers, namedAt, turnsAt, turnFlag, namedKind, namedNumber, turnNumbers, setUpLeft, registerLeft, turnLeft, SetUpCall, RegisterCall, TurnCall};
 
 // How many numbers tell the turns.
 pub const NUMBERS: usize = 11;
@@ -45,7 +45,7 @@ fn turns_in(numbers: &[u64]) -> SenderTurns
 }
 
 fn flag(waits: bool) -> u64
-    ensures { λ r. ⌜ r ≡ flag waits ⌝ }
+    ensures { λ r. ⌜ r ≡ turnFlag waits ⌝ }
 {
     if waits {
         return 1;
@@ -74,7 +74,7 @@ fn named_number(last: NamedSender) -> u64
 // Writes the numbers of turns.
 fn store_turns(turns: SenderTurns, numbers: &mut [u64])
     requires { ⌜ length (now numbers) ≡ turnsNumbers ⌝ }
-    ensures { λ _. ⌜ now (numbers .exit) ≡ numbersOf turns ⌝ }
+    ensures { λ _. ⌜ now (numbers .exit) ≡ turnNumbers turns ⌝ }
 {
     let waiting = turns.waiting;
     let last = turns.last;

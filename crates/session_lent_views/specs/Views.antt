@@ -24,7 +24,7 @@ use Rattle.panel_print.specs.declared.PrintAnswer.{PrintAnswer}
 use Rattle.panel_page.specs.PageTable as page
 use Rattle.panel_page.specs.PageTable.{pageWidth, pageBytes, pageAnswer}
 use Rattle.patch_part_writer.specs.declared.written.Written.{Written}
-use Rattle.listing_panel.specs.Written.{Writes, Kept}
+use Rattle.listing_panel.specs.Written.{Writes, KeptLines}
 use Rattle.session_lent.specs.Head.{countsAt}
 use Rattle.session_lent.specs.LentSession.{LentSession, halfShaped, tableShaped, bindingsShaped, availabilitiesShaped, entriesShaped}
 use Rattle.session_lent_views.specs.declared.tables.TableRows.{TableRows}
@@ -140,7 +140,7 @@ pub record ViewWritten {A B : Type 0} (shaped : Bool) (noSession : A) (answer : 
 -- the listing of the session's projection, whole or 14
 abbrev pub ListingCall : (head bindings availability entries out : List ℕ) → LentListing → List ℕ → Type 0
 ListingCall head bindings availability entries out r out′ =
-    ViewWritten (halfShaped head (length bindings) (length availability) (length entries)) listing.NoSession listing.Answered (HoldsTables head bindings availability entries) (Kept out out′) (λ m w. Writes out (projectionLines (m .projection)) out′ w) out r out′
+    ViewWritten (halfShaped head (length bindings) (length availability) (length entries)) listing.NoSession listing.Answered (HoldsTables head bindings availability entries) (KeptLines out out′) (λ m w. Writes out (projectionLines (m .projection)) out′ w) out r out′
 
 -- the print of a collection, whole or 14
 abbrev pub PrintCall : (head entries : List ℕ) (collection : ℕ) (out : List ℕ) → LentPrint → List ℕ → Type 0
@@ -151,5 +151,5 @@ PrintCall head entries collection out r out′ =
 -- a page of keys: a row for each, or 16 or 14
 abbrev pub PageCall : (head entries : List ℕ) (collection : ℕ) (keys out : List ℕ) → LentPage → List ℕ → Type 0
 PageCall head entries collection keys out r out′ =
-    ViewWritten (entriesShaped head (length entries)) paged.NoSession paged.Answered (HoldsEntries head entries) (λ w. (w ≡ pageAnswer (length keys) (pageRefusal (length keys) (length out / pageWidth))) × page.OthersKept out out′ w)
+    ViewWritten (entriesShaped head (length entries)) paged.NoSession paged.Answered (HoldsEntries head entries) (λ w. (w ≡ pageAnswer (length keys) (pageRefusal (length keys) (length out / pageWidth))) × page.OtherPlacesKept out out′ w)
     (λ m w. (w ≡ pageAnswer (length keys) (pageRefusal (length keys) (length out / pageWidth))) × (out′ ≡ tableLeft (pageRefusal (length keys) (length out / pageWidth)) (pageBytes (m .projection) collection keys) out)) out r out′

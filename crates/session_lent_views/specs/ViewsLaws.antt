@@ -15,7 +15,7 @@ use Rattle.spec_lengths.specs.Lengths.{collectionLengths}
 use Rattle.panel_rows.specs.Rows.{bindingBytes, availabilityBytes, entryBytes, lengthBytes, bindingWidth, availabilityWidth, entryWidth, bindingRow, availabilityRow, entryRow}
 use Rattle.local_projection_state.specs.Stores.{Stored, StoredTables, StoredLengths}
 use Rattle.local_projection_state.specs.declared.ProjectionCounts.{ProjectionCounts}
-use Rattle.panel_changes.specs.SetChanges.{tablesFit, countsFit}
+use Rattle.panel_changes.specs.SetChanges.{tablesFit, changeCountsFit}
 use Rattle.session_lent.specs.Head.{headNumbers, countsAt}
 use Rattle.session_lent.specs.LentSession.{halfShaped, tableShaped, bindingsShaped, availabilitiesShaped, entriesShaped}
 use Rattle.session_lent.specs.BatchesLaws.{held-half, held-tables}
@@ -58,20 +58,20 @@ module _ (head : List ℕ) (b a e : ℕ) (h : halfShaped head b a e ≡ true) wh
   unfolding halfShaped
   fit = and-left (tablesFit b a e) _ (and-right (eqb (length head) headNumbers) _ h)
 
-  few : countsFit (countsAt head) ≡ true
+  few : changeCountsFit (countsAt head) ≡ true
   unfolding halfShaped
   few = and-right (tablesFit b a e) _ (and-right (eqb (length head) headNumbers) _ h)
 
   half-bindings : bindingsShaped head b ≡ true
-  unfolding tableShaped tablesFit countsFit
+  unfolding tableShaped tablesFit changeCountsFit
   half-bindings = all-three long (and-left (eqb b bindingBytes) _ fit) (and-left (leb (countsAt head .bindings) projectionBindings) _ few)
 
   half-availabilities : availabilitiesShaped head a ≡ true
-  unfolding tableShaped tablesFit countsFit
+  unfolding tableShaped tablesFit changeCountsFit
   half-availabilities = all-three long (and-left (eqb a availabilityBytes) _ (and-right (eqb b bindingBytes) _ fit)) (and-left (leb (countsAt head .availabilities) projectionAvailabilities) _ (and-right (leb (countsAt head .bindings) projectionBindings) _ few))
 
   half-entries : entriesShaped head e ≡ true
-  unfolding tableShaped tablesFit countsFit
+  unfolding tableShaped tablesFit changeCountsFit
   half-entries = all-three long (and-right (eqb a availabilityBytes) _ (and-right (eqb b bindingBytes) _ fit)) (and-right (leb (countsAt head .availabilities) projectionAvailabilities) _ (and-right (leb (countsAt head .bindings) projectionBindings) _ few))
 
 pub bindings-shaped : (head b : List ℕ) (m : Session) → HoldsBindings head b m → bindingsShaped head (length b) ≡ true
@@ -87,8 +87,8 @@ lengths-held : {head l : List ℕ} {m : Session} (h : HoldsLengths head l m) →
 lengths-held {l = l} h = record { nodes = h .nodes; pairs = h .pairs; collections = h .collections; lengths = l; held = h .held }
 
 -- the lengths are those of a projection that is stored, and so is valid
-pub lengths-stored : {head l : List ℕ} {m : Session} → HoldsLengths head l m → StoredLengths l (collectionLengths (m .projection))
-lengths-stored h = h .held .collections-told
+pub held-lengths : {head l : List ℕ} {m : Session} → HoldsLengths head l m → StoredLengths l (collectionLengths (m .projection))
+held-lengths h = h .held .collections-told
 
 pub lengths-valid : {head l : List ℕ} {m : Session} → HoldsLengths head l m → Valid (m .projection)
 lengths-valid h = tables-stored (lengths-held h) .valid
@@ -98,7 +98,7 @@ unfolding tableShaped
 lengths-shaped head l m h =
     let entries = entries-shaped head (h .entries) m (record { bindings = h .bindings; availability = h .availability; tables = lengths-held h }) in
     let rest = and-right (eqb (length head) headNumbers) _ entries in
-    all-three (and-left (eqb (length head) headNumbers) _ entries) (eq-eqb (length l) lengthBytes (lengths-stored h .size)) (and-right (eqb (length (h .entries)) entryBytes) _ rest)
+    all-three (and-left (eqb (length head) headNumbers) _ entries) (eq-eqb (length l) lengthBytes (held-lengths h .size)) (and-right (eqb (length (h .entries)) entryBytes) _ rest)
 
 -- ---- answers, by the shape
 

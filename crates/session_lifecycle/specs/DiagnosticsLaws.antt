@@ -2,7 +2,8 @@
 use Prim.Native.Nat.{ℕ, min}
 use mathlib.Core.Path.{_≡_, sym, _∙_}
 use borrow.Author.Tests.{eq-eqb, ne-eqb}
-use Rattle.spec_session.specs.Diagnostics.{SessionRefusal, Diagnostics, sessionNumber, stageOf, orZero, diagnosticsOf}
+use Rattle.spec_lists.specs.Lists.{orZero}
+use Rattle.spec_session.specs.Diagnostics.{SessionRefusal, Diagnostics, sessionNumber, stageOf, diagnosticsOf}
 
 abbrev told : ℕ → ℕ → ℕ → ℕ → Diagnostics
 told code stage logical emitted = record { code = code; stage = stage; logical = logical; emitted = emitted }

@@ -1,7 +1,8 @@
 // Refusals of session answers, and diagnostics under the cap.
 ghost use mathlib.Core.Path.{_≡_};
 ghost use Prim.Native.Nat.{min};
-ghost use Rattle.spec_session.specs.Diagnostics.{sessionNumber, orZero, stageOf, noDiagnostics, diagnosticsOf};
+ghost use Rattle.spec_lists.specs.Lists.{orZero};
+ghost use Rattle.spec_session.specs.Diagnostics.{sessionNumber, stageOf, noDiagnostics, diagnosticsOf};
 ghost use Rattle.session_lifecycle.specs.Meaning.{refusalOf, diagnosticsMean};
 
 pub enum ShellRefusal {

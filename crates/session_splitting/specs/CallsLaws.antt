@@ -8,7 +8,7 @@ use Rattle.spec_patch.specs.Edition.{Edition}
 use Rattle.spec_patch.specs.Encode.{encode}
 use Rattle.spec_session.specs.Session.{Session}
 use Rattle.spec_session.specs.Batch.{BatchAnswer, batch}
-use Rattle.spec_splitting.specs.Splitting.{Piece, Run, references, envelopeOf, send, isRejected, continue, sendAll}
+use Rattle.spec_splitting.specs.Splitting.{Piece, Run, references, pieceEnvelope, send, isRejected, continue, sendAll}
 use Rattle.shell_player.specs.declared.session.ShellSession.{ShellSession}
 use Rattle.session_steps.specs.declared.answers.ProjectionPatchApplicationDisposition.{ProjectionPatchApplicationDisposition}
 use Rattle.session_steps.specs.declared.answers.ProjectionPatchApplicationDisposition.the-variants.{Applied, NoChange, Rejected}
@@ -23,7 +23,7 @@ answersOf bs = map (λ (b : ProjectionPatchBatch). batchAnswerOf (b .result)) bs
 
 -- a call with a piece is the sending of that piece
 pub sent-is : (ed : Edition) (s : ShellSession) (m : Session) → Holds s m → (n : ℕ) (p : Piece) (b : ProjectionPatchBatch) → Sent ed s n p b → BatchBecame b (send ed m n p)
-unfolding send envelopeOf
+unfolding send pieceEnvelope
 sent-is ed s m h n p b sent =
     subst (λ i. BatchBecame b (batch ed m (record { session = i; sequence = n; patches = length (p .patches); stimulusBytes = p .stimulusBytes }) (references p) (encode ed (p .patches)))) (h .id) (sent .became m h)
 
@@ -33,11 +33,11 @@ refused-told Applied = refl
 refused-told NoChange = refl
 refused-told Rejected = refl
 
-pub record Follows (s : ShellSession) (bs : List ProjectionPatchBatch) (r : Run) : Type 0 where
+pub record FollowsRun (s : ShellSession) (bs : List ProjectionPatchBatch) (r : Run) : Type 0 where
   pub answers : answersOf bs ≡ r .answers
   pub last : Holds (lastOf s bs) (r .last)
 
-pub calls-follow : (ed : Edition) (ps : List Piece) (bs : List ProjectionPatchBatch) (s : ShellSession) (m : Session) (n : ℕ) → Holds s m → Calls ed s n ps bs → Follows s bs (sendAll ed m n ps)
+pub calls-follow : (ed : Edition) (ps : List Piece) (bs : List ProjectionPatchBatch) (s : ShellSession) (m : Session) (n : ℕ) → Holds s m → Calls ed s n ps bs → FollowsRun s bs (sendAll ed m n ps)
 unfolding sendAll continue lastOf
 calls-follow ed [] [] s m n h c = record { answers = refl; last = h }
 calls-follow ed [] (b ∷ bs) s m n h c = absurd c
@@ -51,8 +51,8 @@ calls-follow ed (p ∷ ps) (b ∷ bs) s m n h c = go (refused (b .result .dispos
     told = ap (λ (a : BatchAnswer). isRejected (a .disposition)) (sym (step .answer)) ∙ refused-told (b .result .disposition)
 
     go : (t : Bool) → refused (b .result .disposition) ≡ t → Onward t bs (Calls ed (b .session) (n + 1) ps bs)
-        → (Holds (b .session) (send ed m n p .next) → Calls ed (b .session) (n + 1) ps bs → Follows (b .session) bs (sendAll ed (send ed m n p .next) (n + 1) ps))
-        → Follows s (b ∷ bs) (continue (send ed m n p) (sendAll ed (send ed m n p .next) (n + 1) ps))
+        → (Holds (b .session) (send ed m n p .next) → Calls ed (b .session) (n + 1) ps bs → FollowsRun (b .session) bs (sendAll ed (send ed m n p .next) (n + 1) ps))
+        → FollowsRun s (b ∷ bs) (continue (send ed m n p) (sendAll ed (send ed m n p .next) (n + 1) ps))
     go true e none ih = rw (told ∙ e, none) (record { answers = ap (λ (a : BatchAnswer). a ∷ []) (step .answer); last = step .next })
     go false e on ih =
         let rest = ih (step .next) on in

@@ -11,7 +11,7 @@ use Rattle.spec_session.specs.Session.{Session}
 use Rattle.spec_splitting.specs.Splitting.{Piece, patchesOf, FailsAtOperation, FailsIn}
 use Rattle.session_lifecycle.specs.declared.state.ProjectionReplayCursor.{ProjectionReplayCursor}
 use Rattle.session_lifecycle.specs.declared.state.ProjectionReplayCursor.the-variants.{At}
-use Rattle.local_projection_state.specs.Stores.{stateOf}
+use Rattle.local_projection_state.specs.Stores.{storedState}
 use Rattle.local_projection_state.specs.declared.LocalProjectionState.{LocalProjectionState}
 use Rattle.shell_player.specs.declared.session.ShellSession.{ShellSession}
 use Rattle.session_steps.specs.declared.answers.ProjectionPatchApplicationDisposition.the-variants.{Applied, Rejected}
@@ -57,9 +57,9 @@ pub record StopsAtRefusal (s : ShellSession) (m : Session) (n : ℕ) (whole : Pi
   pub alike : refusal .result .diagnostics ≡ w .result .diagnostics
   pub reached : Projection
   pub ran : applySteps (m .projection) (replaySteps (patchesOf before)) ≡ done reached
-  pub ended : lastOf s bs ≡ withProgress s (cursorPast (s .state .«replay_cursor») n (length before)) (stateOf reached)
+  pub ended : lastOf s bs ≡ withProgress s (cursorPast (s .state .«replay_cursor») n (length before)) (storedState reached)
 
 -- the claim for a struct that stores a session, the whole's call and the pieces' calls
-pub record WholeAndPieces (ed : Edition) (s : ShellSession) (m : Session) (n : ℕ) (whole : Piece) (pieces : List Piece) (w : ProjectionPatchBatch) (bs : List ProjectionPatchBatch) : Type 0 where
+pub record CallsInPieces (ed : Edition) (s : ShellSession) (m : Session) (n : ℕ) (whole : Piece) (pieces : List Piece) (w : ProjectionPatchBatch) (bs : List ProjectionPatchBatch) : Type 0 where
   pub applies : WasApplied w → AllApplied s n pieces w bs
   pub fails : (f : FailsAtOperation ed m n whole) → StopsAtRefusal s m n whole (f .fault) pieces w bs

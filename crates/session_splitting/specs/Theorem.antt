@@ -10,7 +10,7 @@ use Rattle.spec_projection.specs.Projection.{Projection}
 use Rattle.spec_session.specs.Session.{Cursor, Session}
 use Rattle.spec_session.specs.Lifecycle as step
 use Rattle.spec_session.specs.Lifecycle.{Disposition}
-use Rattle.spec_session.specs.Lifecycle.{stateOf as stateOfSession}
+use Rattle.spec_session.specs.Lifecycle.{storedState as stateOfSession}
 use Rattle.spec_session.specs.Diagnostics.{Diagnostics}
 use Rattle.spec_session.specs.Batch.{BatchAnswer}
 use Rattle.spec_splitting.specs.Splitting.{Piece, Run, send, sendAll, Given, Applies, AlikeBeside, FailsAtOperation, cursorAfter}
@@ -19,7 +19,7 @@ use Rattle.session_lifecycle.specs.Meaning.{diagnosticsMean}
 use Rattle.session_lifecycle.specs.declared.state.ProjectionReplayCursor.{ProjectionReplayCursor}
 use Rattle.session_lifecycle.specs.declared.state.ProjectionReplayCursor.the-variants.{At}
 use Rattle.session_lifecycle.specs.declared.diagnostics.ShellDiagnostics.{ShellDiagnostics}
-use Rattle.local_projection_state.specs.Stores.{stateOf}
+use Rattle.local_projection_state.specs.Stores.{storedState}
 use Rattle.shell_player.specs.declared.session.ShellSession.{ShellSession}
 use Rattle.session_steps.specs.declared.answers.ProjectionPatchApplicationDisposition.{ProjectionPatchApplicationDisposition}
 use Rattle.session_steps.specs.declared.answers.ProjectionPatchApplicationDisposition.the-variants.{Applied, NoChange, Rejected}
@@ -29,8 +29,8 @@ use Rattle.shell_player.specs.HoldsLaws.{cursorTo, sessionTo, one-struct}
 use Rattle.session_steps.specs.Answers.{dispositionTold, batchAnswerOf}
 use Rattle.shell_player.specs.Batches.{BatchBecame}
 use Rattle.session_splitting.specs.Calls.{Sent, Calls, lastOf}
-use Rattle.session_splitting.specs.Claim.{WasApplied, withProgress, cursorPast, AllApplied, StopsAtRefusal, WholeAndPieces}
-use Rattle.session_splitting.specs.CallsLaws.{answersOf, sent-is, Follows, calls-follow}
+use Rattle.session_splitting.specs.Claim.{WasApplied, withProgress, cursorPast, AllApplied, StopsAtRefusal, CallsInPieces}
+use Rattle.session_splitting.specs.CallsLaws.{answersOf, sent-is, FollowsRun, calls-follow}
 
 -- ---- equal meanings are equal values
 
@@ -116,7 +116,7 @@ past-told c n (suc k) = refl
 
 module _ (ed : Edition) (s : ShellSession) (m : Session) (holds : Holds s m) (n : ℕ) (whole : Piece) (pieces : List Piece) (given : Given m n whole pieces)
     (w : ProjectionPatchBatch) (sent : Sent ed s n whole w) (bs : List ProjectionPatchBatch) (calls : Calls ed s n pieces bs) where
-  follows : Follows s bs (sendAll ed m n pieces)
+  follows : FollowsRun s bs (sendAll ed m n pieces)
   follows = calls-follow ed pieces bs s m n holds calls
 
   whole-is : BatchBecame w (send ed m n whole)
@@ -164,9 +164,9 @@ module _ (ed : Edition) (s : ShellSession) (m : Session) (holds : Holds s m) (n 
         ran = stop .projection;
         ended = last-is
             ∙ ap sessionTo (same-session (stop .beside) (stop .cursor) refl)
-            ∙ ap (λ (c : ProjectionReplayCursor). withProgress (sessionTo m) c (stateOf (run .last .projection))) (past-told (m .cursor) n (length (stop .before)))
-            ∙ ap (λ (t : ShellSession). withProgress t (cursorPast (t .state .«replay_cursor») n (length (stop .before))) (stateOf (run .last .projection))) (sym (one-struct s m holds));
+            ∙ ap (λ (c : ProjectionReplayCursor). withProgress (sessionTo m) c (storedState (run .last .projection))) (past-told (m .cursor) n (length (stop .before)))
+            ∙ ap (λ (t : ShellSession). withProgress t (cursorPast (t .state .«replay_cursor») n (length (stop .before))) (storedState (run .last .projection))) (sym (one-struct s m holds));
       }
 
-  pub session-whole-and-pieces : WholeAndPieces ed s m n whole pieces w bs
+  pub session-whole-and-pieces : CallsInPieces ed s m n whole pieces w bs
   session-whole-and-pieces = record { applies = applied; fails = stopped-at }

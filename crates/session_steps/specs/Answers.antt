@@ -7,7 +7,7 @@ use Rattle.spec_session.specs.Diagnostics.{SessionRefusal, malformed, ofOperati
 use Rattle.spec_session.specs.Lifecycle.{Disposition, applied, noChange, rejected}
 use Rattle.spec_session.specs.Batch.{BatchAnswer}
 use Rattle.session_lifecycle.specs.Meaning.{cursorOf, diagnosticsMean}
-use Rattle.panel_bindings.specs.Change.{faultOf}
+use Rattle.panel_bindings.specs.Change.{applicationFaultOf}
 use Rattle.panel_changes.specs.declared.SetChange.{SetChange}
 use Rattle.panel_changes.specs.declared.SetChange.the-variants as change
 use Rattle.session_gates.specs.Gates.{countFits}
@@ -34,7 +34,7 @@ answerAt d c = record { disposition = d; diagnostics = noDiagnostics; cursor = c
 -- the answer of step 9, by what came of the operations
 unfoldable pub changeAnswer : ℕ → Cursor → ℕ → SetChange → BatchAnswer
 changeAnswer cap c n (change.Applied counts) = answerAt applied (at n)
-changeAnswer cap c n (change.Refused e) = rejectedAt cap (ofOperation (faultOf e)) 1 c
+changeAnswer cap c n (change.Refused e) = rejectedAt cap (ofOperation (applicationFaultOf e)) 1 c
 changeAnswer cap c n (change.Unreadable f) = rejectedAt cap malformed 1 c
 changeAnswer cap c n change.BadTables = rejectedAt cap malformed 1 c
 

@@ -9,7 +9,7 @@ use Rattle.spec_session.specs.Session.{Cursor}
 use Rattle.spec_session.specs.Diagnostics.{SessionRefusal, malformed, ofOperation}
 use Rattle.spec_session.specs.Lifecycle.{applied}
 use Rattle.spec_session.specs.Batch.{BatchAnswer, Check, refuse}
-use Rattle.panel_bindings.specs.Change.{faultOf}
+use Rattle.panel_bindings.specs.Change.{applicationFaultOf}
 use Rattle.panel_changes.specs.declared.SetChange.{SetChange}
 use Rattle.panel_changes.specs.declared.SetChange.the-variants as change
 use Rattle.session_gates.specs.Gates.{countFits}
@@ -34,7 +34,7 @@ operation-counted applying.projectionFull = refl
 pub change-row : (limit : ℕ) (c : Cursor) (n : ℕ) (a : BatchAnswer) (s : SetChange) → a ≡ changeAnswer limit c n s → AnswerRow limit c n a
 unfolding changeAnswer countFits
 change-row limit c n a (change.Applied k) h = appliedRow h
-change-row limit c n a (change.Refused f) h = rejectedRow (ofOperation (faultOf f)) 1 (operation-counted (faultOf f)) h
+change-row limit c n a (change.Refused f) h = rejectedRow (ofOperation (applicationFaultOf f)) 1 (operation-counted (applicationFaultOf f)) h
 change-row limit c n a (change.Unreadable f) h = rejectedRow malformed 1 refl h
 change-row limit c n a change.BadTables h = rejectedRow malformed 1 refl h
 

@@ -9,7 +9,7 @@ ghost use mathlib.Core.Path.{_≡_};
 ghost use Rattle.spec_session.specs.Session.{at};
 ghost use Rattle.spec_session.specs.Diagnostics.{ofOperation};
 ghost use Rattle.spec_session.specs.Lifecycle.{applied, noChange};
-ghost use Rattle.panel_bindings.specs.Change.{faultOf};
+ghost use Rattle.panel_bindings.specs.Change.{applicationFaultOf};
 ghost use Rattle.session_lifecycle.specs.Meaning.{refusalOf, cursorOf};
 ghost use Rattle.session_steps.specs.Answers.{batchAnswerOf, rejectedAt, answerAt, changeAnswer};
 
@@ -26,7 +26,7 @@ pub struct ProjectionPatchApplicationResult {
 }
 
 fn refusal_of(error: LocalProjectionApplicationError) -> ShellRefusal
-    ensures { λ r. ⌜ refusalOf r ≡ ofOperation (faultOf error) ⌝ }
+    ensures { λ r. ⌜ refusalOf r ≡ ofOperation (applicationFaultOf error) ⌝ }
 {
     match error {
         LocalProjectionApplicationError::KeyRule => ShellRefusal::KeyRule,

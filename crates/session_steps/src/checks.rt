@@ -17,7 +17,7 @@ ghost use Rattle.spec_session.specs.Session.{Session};
 ghost use Rattle.spec_session.specs.Batch.{batchChecks};
 ghost use Rattle.projection_patch.specs.Meaning.{editionOf};
 ghost use Rattle.session_lifecycle.specs.Meaning.{lifecycleOf, limitsOf};
-ghost use Rattle.session_gates.specs.Gates.{gateOf, envelopeMeans, preflightBy, erased, counted, Decides};
+ghost use Rattle.session_gates.specs.Gates.{gateOf, envelopeMeans, preflightBy, erased, checkCounted, Decides};
 ghost use Rattle.session_steps.specs.Checks.{SeenSession};
 
 pub struct ActivatedShellSessionContext {
@@ -46,7 +46,7 @@ pub fn check_session(
     edition: ProjectionPatchEdition,
 ) -> BatchGate
     ensures checked { λ r. ⌜ ((s : Session) → SeenSession context state s → gateOf r ≡ erased (batchChecks (editionOf edition) s (envelopeMeans envelope) declared (now (set .entry)))) ⌝ }
-    ensures whatever { λ r. ⌜ counted (gateOf r) ≡ true ⌝ }
+    ensures whatever { λ r. ⌜ checkCounted (gateOf r) ≡ true ⌝ }
     ensures preflight { λ r. ⌜ Decides (preflightBy (context .«session_id» .0) (limitsOf (context .limits)) (lifecycleOf (state .lifecycle)) (envelopeMeans envelope)) (gateOf r) ⌝ }
 {
     let session_id = context.session_id;

@@ -4,7 +4,7 @@ ghost use Prim.Native.Nat.{_/_};
 ghost use lib.ListN.{length};
 ghost use Rattle.spec_session.specs.Session.{Session};
 ghost use Rattle.spec_page.specs.Page.{pageRefusal, tableLeft};
-ghost use Rattle.panel_page.specs.PageTable.{pageWidth, pageBytes, pageAnswer, OthersKept};
+ghost use Rattle.panel_page.specs.PageTable.{pageWidth, pageBytes, pageAnswer, OtherPlacesKept};
 ghost use Rattle.shell_player.specs.Holds.{Holds};
 use panel_page::PageAnswer;
 use shell_player::session::ShellSession;
@@ -19,7 +19,7 @@ pub fn collection_page(
     ensures told { λ r. ⌜ r ≡ pageAnswer (length (now (keys .entry))) (pageRefusal (length (now (keys .entry))) (length (now (answers .entry)) / pageWidth)) ⌝ }
     ensures written { λ _. ⌜ ((m : Session) → Holds session m
         → now (answers .exit) ≡ tableLeft (pageRefusal (length (now (keys .entry))) (length (now (answers .entry)) / pageWidth)) (pageBytes (m .projection) collection (now (keys .entry))) (now (answers .entry))) ⌝ }
-    ensures kept { λ r. ⌜ OthersKept (now (answers .entry)) (now (answers .exit)) r ⌝ }
+    ensures kept { λ r. ⌜ OtherPlacesKept (now (answers .entry)) (now (answers .exit)) r ⌝ }
 {
     let table = session.local_projection.entries;
     let counts = session.local_projection.counts;

@@ -10,7 +10,7 @@ use lib.Seq.{take-all, drop-at, drop-drop}
 use borrow.Rule.Slice.PartMut.{midOf, putMid}
 use Rattle.bytes_records.specs.Moves.{zeros}
 use Rattle.bytes_records.specs.Positions.{insertAt, moveAt}
-use Rattle.bytes_records.specs.Table.{Holds, Changed, canInsert, canMove}
+use Rattle.bytes_records.specs.Table.{HoldsRows, Changed, canInsert, canMove}
 use Rattle.bytes_records.specs.TableLaws.{holds, padded, can-insert, can-move}
 use Rattle.spec_dependencies.specs.Settled.{Settled}
 use Rattle.set_dependencies.specs.SettledRows.{settledRow, rowWidth, rowCapacity, SettledTable, RowsIn, SettledIn}
@@ -34,7 +34,7 @@ module _ (from : ℕ) (xs : List ℕ) (within : from ≤ length xs) where
 -- ---- a row before the rows
 
 -- the bytes before the rows are one row more
-one-more : {count : ℕ} {part : List ℕ} (x rest : List ℕ) {rows : List (List ℕ)} → Holds rowWidth count rest rows → length x ≡ rowWidth → part ≡ x ++ rest → Holds rowWidth (count + 1) part (x ∷ rows)
+one-more : {count : ℕ} {part : List ℕ} (x rest : List ℕ) {rows : List (List ℕ)} → HoldsRows rowWidth count rest rows → length x ≡ rowWidth → part ≡ x ++ rest → HoldsRows rowWidth (count + 1) part (x ∷ rows)
 unfolding flatten
 one-more {count} {part} x rest {rows} h wide is =
     holds rowWidth (count + 1) part (x ∷ rows) (length rest - count * rowWidth) (wide, h .wide) (omega (arith, h .counted))
@@ -50,14 +50,14 @@ module _ {p : SettledPlaces} {table : List ℕ} {rows : List (List ℕ)} (h : Ro
   inserted-behind from is part exit lent c same =
       let inside : from ≤ length table = omega (arith, is, h .size, h .low) in
       let part-is : part ≡ drop (p .start * rowWidth) table = lent ∙ rest-lent from table inside ∙ ap (λ (n : ℕ). drop n table) is in
-      let held : Holds rowWidth (p .count) part rows = subst (λ (l : List ℕ). Holds rowWidth (p .count) l rows) (sym part-is) (h .held) in
+      let held : HoldsRows rowWidth (p .count) part rows = subst (λ (l : List ℕ). HoldsRows rowWidth (p .count) l rows) (sym part-is) (h .held) in
       let long : length part ≡ length table - from = ap length part-is ∙ length-drop (p .start * rowWidth) table ∙ omega (arith, is) in
       let put = c .made (c .told ∙ can-insert held at row within wide (omega (arith, long, is, h .size, h .low, room))) rows held in
       record {
         size = same ∙ h .size;
         low = h .low;
         high = omega (arith, h .high);
-        held = subst (λ (l : List ℕ). Holds rowWidth (p .count + 1) l (insertAt at row rows)) (sym (ap (λ (n : ℕ). drop n (putMid from (length table - from) table exit)) (sym is) ∙ rest-back from table inside exit)) put;
+        held = subst (λ (l : List ℕ). HoldsRows rowWidth (p .count + 1) l (insertAt at row rows)) (sym (ap (λ (n : ℕ). drop n (putMid from (length table - from) table exit)) (sym is) ∙ rest-back from table inside exit)) put;
       }
 
   -- ---- the first rows move down
@@ -71,7 +71,7 @@ module _ {p : SettledPlaces} {table : List ℕ} {rows : List (List ℕ)} (h : Ro
       let part-is : part ≡ drop from table = lent ∙ rest-lent from table inside in
       let next : from + rowWidth ≡ p .start * rowWidth = omega (arith, is, h .high, room) in
       let rest-is : drop rowWidth part ≡ drop (p .start * rowWidth) table = ap (drop rowWidth) part-is ∙ drop-drop rowWidth from table ∙ ap (λ (n : ℕ). drop n table) next in
-      let rest : Holds rowWidth (p .count) (drop rowWidth part) rows = subst (λ (l : List ℕ). Holds rowWidth (p .count) l rows) (sym rest-is) (h .held) in
+      let rest : HoldsRows rowWidth (p .count) (drop rowWidth part) rows = subst (λ (l : List ℕ). HoldsRows rowWidth (p .count) l rows) (sym rest-is) (h .held) in
       let long : length part ≡ length table - from = ap length part-is ∙ length-drop from table in
       let held = one-more (take rowWidth part) (drop rowWidth part) rest (length-take rowWidth part ∙ omega (arith, long, is, h .size, h .low)) (sym (take-append-drop rowWidth part)) in
       let put = c .made (c .told ∙ can-move held 0 at row (omega arith) (omega (arith, within)) wide) (take rowWidth part ∷ rows) held in
@@ -79,7 +79,7 @@ module _ {p : SettledPlaces} {table : List ℕ} {rows : List (List ℕ)} (h : Ro
         size = same ∙ h .size;
         low = omega (arith, h .low);
         high = omega (arith, h .high, room);
-        held = subst (λ (l : List ℕ). Holds rowWidth (p .count + 1) l (insertAt at row rows)) (sym (ap (λ (n : ℕ). drop n (putMid from (length table - from) table exit)) (sym is) ∙ rest-back from table inside exit)) put;
+        held = subst (λ (l : List ℕ). HoldsRows rowWidth (p .count + 1) l (insertAt at row rows)) (sym (ap (λ (n : ℕ). drop n (putMid from (length table - from) table exit)) (sym is) ∙ rest-back from table inside exit)) put;
       }
 
 -- ---- rows that stay as many
@@ -99,7 +99,7 @@ module _ {p : SettledPlaces} {table : List ℕ} {t : List Settled} (s : SettledI
       size = same ∙ s .rows .size;
       low = s .rows .low;
       high = s .rows .high;
-      held = subst (λ (l : List ℕ). Holds rowWidth (p .count) l (map settledRow u)) (sym (rest-back start table (start-within (s .rows)) exit)) (h .rows);
+      held = subst (λ (l : List ℕ). HoldsRows rowWidth (p .count) l (map settledRow u)) (sym (rest-back start table (start-within (s .rows)) exit)) (h .rows);
     };
     fit = h .fit;
     ascending = h .ascending;

@@ -11,7 +11,7 @@ use Rattle.spec_patch.specs.Patch.{Operation, Patch}
 use Rattle.spec_patch.specs.Encode.{encodeOperation}
 use Rattle.spec_dependencies.specs.Expectations.{expectations}
 use Rattle.spec_dependencies.specs.Settled.{Settled, judgeAll}
-use Rattle.spec_dependencies.specs.Dependencies.{Walk, contradicts, walkOn, walkStep, walkOperations, walkPatches}
+use Rattle.spec_dependencies.specs.Dependencies.{SettlingWalk, contradicts, walkOn, walkStep, walkOperations, walkPatches}
 use Rattle.spec_dependencies.specs.CountLaws.{judgeAll-length, expectations-bytes}
 use Rattle.projection_patch.specs.Meaning.{operationOf}
 use Rattle.projection_patch.specs.ReadAnswers.{lentFrom}
@@ -40,7 +40,7 @@ expects-alike texts (CollectionUpdate c k v) = refl
 expects-alike texts (CollectionRemove c k) = refl
 expects-alike texts (CollectionMove c k b) = refl
 
-module _ (ed : Edition) (set : List ℕ) (whole : Walk) where
+module _ (ed : Edition) (set : List ℕ) (whole : SettlingWalk) where
   -- operations of the open patch are left, then patches; settling their keys too gives what the whole walk gives
   pub record Walking (c : SetCursor) (places : SettledPlaces) (opened patch index : ℕ) (table : List ℕ) : Type 0 where
     pub os : List Operation

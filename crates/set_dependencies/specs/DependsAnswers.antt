@@ -16,7 +16,7 @@ dependsRefusalTo (unreadable f) = refusal.Unreadable (faultTo f)
 dependsRefusalTo hasFindings = refusal.Findings
 dependsRefusalTo outputTooShort = refusal.OutputTooShort
 
-abbrev pub answerTo : DependencyAnswer → DependenciesAnswer
-answerTo (refused r) = answer.Refused (dependsRefusalTo r)
-answerTo (answerNever i j) = answer.Never i j
-answerTo (answerNeeds held lacked) = answer.Needs held lacked
+abbrev pub dependsAnswerTo : DependencyAnswer → DependenciesAnswer
+dependsAnswerTo (refused r) = answer.Refused (dependsRefusalTo r)
+dependsAnswerTo (answerNever i j) = answer.Never i j
+dependsAnswerTo (answerNeeds held lacked) = answer.Needs held lacked

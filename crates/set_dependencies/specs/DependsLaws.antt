@@ -12,7 +12,7 @@ use Rattle.spec_patch.specs.Patch.{Patch}
 use Rattle.spec_patch.specs.Read.{SetReading, patches, fault}
 use Rattle.spec_checks.specs.Findings.{findings}
 use Rattle.spec_dependencies.specs.Settled.{Settled}
-use Rattle.spec_dependencies.specs.Dependencies.{Walk, settles, contradicts, keyWords, keysAtStart, dependenciesBy, dependencies}
+use Rattle.spec_dependencies.specs.Dependencies.{SettlingWalk, settles, contradicts, keyWords, keysAtStart, dependenciesBy, dependencies}
 use Rattle.spec_dependencies.specs.Answer.{pairLength, allWords, hasFindings, outputTooShort, refused, answerNeeds, answered, wordsWritten, answerBy, answerReading}
 use Rattle.spec_dependencies.specs.AnswerLaws.{allWords-length}
 use Rattle.spec_dependencies.specs.CountLaws.{keys-length}
@@ -24,7 +24,7 @@ use Rattle.check_quick.specs.declared.quick_set.QuickCheck.the-variants as quic
 use Rattle.set_dependencies.specs.SettledRows.{SettledIn}
 use Rattle.set_dependencies.specs.declared.settled_rows.SettledPlaces.{SettledPlaces}
 use Rattle.set_dependencies.specs.SetSettling.{SetSettlesTo}
-use Rattle.set_dependencies.specs.DependsAnswers.{answerTo}
+use Rattle.set_dependencies.specs.DependsAnswers.{dependsAnswerTo}
 use Rattle.set_dependencies.specs.declared.walk_set.SetSettling.the-variants as set-settling
 use Rattle.set_dependencies.specs.declared.depends.DependenciesRefusal.the-variants as refusal
 use Rattle.set_dependencies.specs.declared.depends.DependenciesAnswer.{DependenciesAnswer}
@@ -64,15 +64,15 @@ module _ (t : List Settled) (lent : List ℕ) where
 -- ---- by the walk
 
 module _ (table : List ℕ) where
-  pub settled-walk : (w : Walk) (p : SettledPlaces) → SetSettlesTo w (set-settling.Settled p) table → (t : List Settled) × (w ≡ settles t) × SettledIn p table t
+  pub settled-walk : (w : SettlingWalk) (p : SettledPlaces) → SetSettlesTo w (set-settling.Settled p) table → (t : List Settled) × (w ≡ settles t) × SettledIn p table t
   settled-walk (settles t) p h = (t, refl, h)
   settled-walk (contradicts q o) p h = absurd h
 
-  pub contradicted-walk : (w : Walk) (i j : ℕ) → SetSettlesTo w (set-settling.Contradiction i j) table → w ≡ contradicts i j
+  pub contradicted-walk : (w : SettlingWalk) (i j : ℕ) → SetSettlesTo w (set-settling.Contradiction i j) table → w ≡ contradicts i j
   contradicted-walk (settles t) i j h = absurd h
   contradicted-walk (contradicts p o) i j h = λ x. contradicts (sym (h .0) x) (sym (h .1) x)
 
-  pub readable-walk : (w : Walk) (f : ProjectionPatchReadFault) → SetSettlesTo w (set-settling.Unreadable f) table → ⊥
+  pub readable-walk : (w : SettlingWalk) (f : ProjectionPatchReadFault) → SetSettlesTo w (set-settling.Unreadable f) table → ⊥
   readable-walk (settles t) f h = h
   readable-walk (contradicts p o) f h = h
 
@@ -81,18 +81,18 @@ module _ (table : List ℕ) where
 module _ (lent : List ℕ) where
   -- what the call answers, and what it leaves
   abbrev pub Depends : SetReading → DependenciesAnswer → List ℕ → Type 0
-  Depends s r out = (r ≡ answerTo (answerReading s lent .answer)) × (out ≡ answerReading s lent .output)
+  Depends s r out = (r ≡ dependsAnswerTo (answerReading s lent .answer)) × (out ≡ answerReading s lent .output)
 
   pub clean-depends : (s : SetReading) (a b : ℕ) → quickAnswer s ≡ quick.Clean a b → (r : DependenciesAnswer) (out : List ℕ)
-      → ((ps : List Patch) → s ≡ patches ps → r ≡ answerTo (answerBy (dependencies ps) lent .answer)) → ((ps : List Patch) → s ≡ patches ps → out ≡ answerBy (dependencies ps) lent .output)
+      → ((ps : List Patch) → s ≡ patches ps → r ≡ dependsAnswerTo (answerBy (dependencies ps) lent .answer)) → ((ps : List Patch) → s ≡ patches ps → out ≡ answerBy (dependencies ps) lent .output)
       → Depends s r out
   unfolding answerReading isFound
   clean-depends (fault f) a b e r out h k = absurd (let z : _≡_ {A = ℕ} 0 1 = cc in omega arith)
   clean-depends (patches ps) a b e r out h k = go (isEmpty (findings ps .found)) _ e (h ps refl) (k ps refl)
     where
       go : (t : Bool) (n : ℕ) → (if not t then quick.Found else quick.Clean (length ps) n) ≡ quick.Clean a b
-          → r ≡ answerTo (answerBy (dependencies ps) lent .answer) → out ≡ answerBy (dependencies ps) lent .output
-          → (r ≡ answerTo ((if t then answerBy (dependencies ps) lent else answered (refused hasFindings) lent) .answer)) × (out ≡ (if t then answerBy (dependencies ps) lent else answered (refused hasFindings) lent) .output)
+          → r ≡ dependsAnswerTo (answerBy (dependencies ps) lent .answer) → out ≡ answerBy (dependencies ps) lent .output
+          → (r ≡ dependsAnswerTo ((if t then answerBy (dependencies ps) lent else answered (refused hasFindings) lent) .answer)) × (out ≡ (if t then answerBy (dependencies ps) lent else answered (refused hasFindings) lent) .output)
       go true n e h k = (h, k)
       go false n e h k = absurd (let z : _≡_ {A = ℕ} 0 1 = cc in omega arith)
 
@@ -102,7 +102,7 @@ module _ (lent : List ℕ) where
   found-depends (patches ps) e = go (isEmpty (findings ps .found)) _ e
     where
       go : (t : Bool) (n : ℕ) → (if not t then quick.Found else quick.Clean (length ps) n) ≡ quick.Found
-          → (answer.Refused refusal.Findings ≡ answerTo ((if t then answerBy (dependencies ps) lent else answered (refused hasFindings) lent) .answer)) × (lent ≡ (if t then answerBy (dependencies ps) lent else answered (refused hasFindings) lent) .output)
+          → (answer.Refused refusal.Findings ≡ dependsAnswerTo ((if t then answerBy (dependencies ps) lent else answered (refused hasFindings) lent) .answer)) × (lent ≡ (if t then answerBy (dependencies ps) lent else answered (refused hasFindings) lent) .output)
       go true n e = absurd (let z : _≡_ {A = ℕ} 0 1 = cc in omega arith)
       go false n e = (refl, refl)
 

@@ -10,7 +10,7 @@ use Rattle.spec_patch.specs.Sizes.{setBytes}
 use Rattle.spec_patch.specs.Encode.{u64}
 use Rattle.spec_patch.specs.Fits.{U64}
 use Rattle.spec_dependencies.specs.Settled.{Settled, settledKey}
-use Rattle.bytes_records.specs.Table.{Holds}
+use Rattle.bytes_records.specs.Table.{HoldsRows}
 use Rattle.set_dependencies.specs.declared.settled_rows.SettledKey.{SettledKey}
 use Rattle.set_dependencies.specs.declared.settled_rows.SettledPlaces.{SettledPlaces}
 
@@ -44,7 +44,7 @@ pub record FitsSettled (s : Settled) : Type 0 where
 
 -- so many rows store what is settled
 pub record SettledTable (count : ℕ) (table : List ℕ) (t : List Settled) : Type 0 where
-  pub rows : Holds rowWidth count table (map settledRow t)
+  pub rows : HoldsRows rowWidth count table (map settledRow t)
   pub fit : All FitsSettled t
   pub ascending : Ascending settledKey t
 
@@ -56,7 +56,7 @@ pub record RowsIn (p : SettledPlaces) (table : List ℕ) (rows : List (List ℕ)
   pub size : length table ≡ 2 * (rowCapacity * rowWidth)
   pub low : p .start ≤ rowCapacity
   pub high : rowCapacity ≤ p .start + p .count
-  pub held : Holds rowWidth (p .count) (drop (p .start * rowWidth) table) rows
+  pub held : HoldsRows rowWidth (p .count) (drop (p .start * rowWidth) table) rows
 
 -- its rows store what is settled
 pub record SettledIn (p : SettledPlaces) (table : List ℕ) (t : List Settled) : Type 0 where

@@ -17,7 +17,7 @@ use Rattle.bytes_records.specs.KeysLaws.{leading-number}
 use Rattle.bytes_records.specs.Search.{placeOf}
 use Rattle.bytes_records.specs.SearchLaws.{place-map}
 use Rattle.bytes_records.specs.Moves.{zeros}
-use Rattle.bytes_records.specs.Table.{Wide, Holds}
+use Rattle.bytes_records.specs.Table.{Wide, HoldsRows}
 use Rattle.bytes_records.specs.TableLaws.{zeros-split, holds-none}
 use Rattle.set_dependencies.specs.SettledRows.{rowFields, flag, settledRow, rowWidth, rowCapacity, FitsSettled, SettledTable, RowsIn, SettledIn, noPlaces}
 use Rattle.set_dependencies.specs.declared.settled_rows.SettledPlaces.{SettledPlaces}
@@ -99,7 +99,7 @@ none-settled = record {
     size = length-replicate {A = ℕ} (2 * (rowCapacity * rowWidth)) 0;
     low = omega arith;
     high = omega arith;
-    held = subst (λ (l : List ℕ). Holds rowWidth 0 l []) (sym half) (holds-none rowWidth (rowCapacity * rowWidth));
+    held = subst (λ (l : List ℕ). HoldsRows rowWidth 0 l []) (sym half) (holds-none rowWidth (rowCapacity * rowWidth));
   };
   fit = tt;
   ascending = tt;

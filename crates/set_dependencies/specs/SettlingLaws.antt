@@ -11,10 +11,10 @@ use Rattle.spec_lists.specs.Order.{Ascending, upsert}
 use Rattle.spec_lists.specs.OrderLaws.{upsert-all, upsert-ascending}
 use Rattle.spec_patch.specs.Fits.{U64}
 use Rattle.spec_dependencies.specs.Expectations.{Expectation}
-use Rattle.spec_dependencies.specs.Settled.{Settled, settledKey, settledBy, judgeBy, judge, further, judgeAll}
+use Rattle.spec_dependencies.specs.Settled.{Settled, settledKey, settledBy, judgeBy, judge, furtherSettled, judgeAll}
 use Rattle.spec_dependencies.specs.CountLaws.{judgeAll-length}
 use Rattle.bytes_records.specs.Positions.{insertAt, replaceAt}
-use Rattle.bytes_records.specs.Table.{Holds, Changed, canReplace}
+use Rattle.bytes_records.specs.Table.{HoldsRows, Changed, canReplace}
 use Rattle.bytes_records.specs.TableLaws.{can-replace}
 use Rattle.bytes_records.specs.Search.{placeOf, upsertAt}
 use Rattle.bytes_records.specs.SearchLaws.{upsert-place, map-upsertAt}
@@ -80,7 +80,7 @@ module _ (e : Expectation) (fits : U64 (e .collection) × U64 (e .key)) (t : Lis
         let done = c .told ∙ can-replace (s .rows) at row (omega (arith, old-within, table-length t s)) wide in
         let h = c .made done (map settledRow t) (s .rows) in
         let kept : SettledTable count exit (more (old .atStart)) = record {
-          rows = subst (Holds rowWidth count exit) (ap (λ x. replaceAt at x (map settledRow t)) r ∙ more-rows (old .atStart) (Taken at) is) h;
+          rows = subst (HoldsRows rowWidth count exit) (ap (λ x. replaceAt at x (map settledRow t)) r ∙ more-rows (old .atStart) (Taken at) is) h;
           fit = more-fit (old .atStart);
           ascending = more-ascending (old .atStart);
         } in
@@ -119,7 +119,7 @@ pub judged-on : (e : Expectation) (es : List Expectation) {more : SettledPlaces}
 unfolding judgeAll
 judged-on e es {more} {middle} t h r exit later = go (judge e t) h
   where
-    go : (x : Option (List Settled)) → SettlesTo x (settling.Settled more) middle → SettlesTo (further x (λ u. judgeAll es u)) r exit
+    go : (x : Option (List Settled)) → SettlesTo x (settling.Settled more) middle → SettlesTo (furtherSettled x (λ u. judgeAll es u)) r exit
     go none h = absurd h
     go (some u) h = later u h
 
@@ -129,7 +129,7 @@ pub judged-none : (e : Expectation) (es : List Expectation) (t : List Settled) (
 unfolding judgeAll
 judged-none e es t middle h exit = go (judge e t) h
   where
-    go : (x : Option (List Settled)) → SettlesTo x settling.Contradiction middle → SettlesTo (further x (λ u. judgeAll es u)) settling.Contradiction exit
+    go : (x : Option (List Settled)) → SettlesTo x settling.Contradiction middle → SettlesTo (furtherSettled x (λ u. judgeAll es u)) settling.Contradiction exit
     go none h = tt
     go (some u) h = absurd h
 

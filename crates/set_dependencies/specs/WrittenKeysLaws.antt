@@ -11,8 +11,8 @@ use Rattle.spec_dependencies.specs.Dependencies.{keyWords, keysAtStart}
 use Rattle.spec_dependencies.specs.Answer.{pairLength, allWords, wordsWritten}
 use Rattle.set_dependencies.specs.WrittenKeys.{KeysLeft}
 
-pub left-start : (b : Bool) (t : List Settled) (out : List ℕ) → KeysLeft b t 0 out (length (keysAtStart b t)) (wordsWritten (allWords (keysAtStart b t)) out)
-left-start b t out = record { counted = omega arith; words = refl }
+pub keysLeft-start : (b : Bool) (t : List Settled) (out : List ℕ) → KeysLeft b t 0 out (length (keysAtStart b t)) (wordsWritten (allWords (keysAtStart b t)) out)
+keysLeft-start b t out = record { counted = omega arith; words = refl }
 
 -- two numbers over two others
 module _ (out : List ℕ) (at c k : ℕ) (room : at + 2 ≤ length out) where

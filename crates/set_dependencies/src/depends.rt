@@ -17,7 +17,7 @@ ghost use Rattle.spec_dependencies.specs.Dependencies.{settles, dependenciesBy,
 ghost use Rattle.spec_dependencies.specs.Answer.{refusalNumber, answerBy, dependenciesOf};
 ghost use Rattle.projection_patch.specs.Meaning.{editionOf};
 ghost use Rattle.set_dependencies.specs.SettledRows.{SettledTable};
-ghost use Rattle.set_dependencies.specs.DependsAnswers.{dependsRefusalOf, answerTo};
+ghost use Rattle.set_dependencies.specs.DependsAnswers.{dependsRefusalOf, dependsAnswerTo};
 
 // Why the call is refused.
 pub enum DependenciesRefusal {
@@ -49,7 +49,7 @@ pub enum DependenciesAnswer {
 
 // Writes both lists of a table, if there is room for them.
 fn list_keys(table: &[u8], count: usize, out: &mut [u64]) -> DependenciesAnswer
-    ensures answered { λ r. ⌜ ((t : List Settled) → SettledTable count (now (table .entry)) t → r ≡ answerTo (answerBy (dependenciesBy (settles t)) (now (out .entry)) .answer)) ⌝ }
+    ensures answered { λ r. ⌜ ((t : List Settled) → SettledTable count (now (table .entry)) t → r ≡ dependsAnswerTo (answerBy (dependenciesBy (settles t)) (now (out .entry)) .answer)) ⌝ }
     ensures written { λ _. ⌜ ((t : List Settled) → SettledTable count (now (table .entry)) t → now (out .exit) ≡ answerBy (dependenciesBy (settles t)) (now (out .entry)) .output) ⌝ }
 {
     if out.len() / write_keys::PAIR < count {
@@ -63,7 +63,7 @@ fn list_keys(table: &[u8], count: usize, out: &mut [u64]) -> DependenciesAnswer
 
 // The answer of a set that reads and has no findings.
 fn depends_clean(set: &[u8], edition: ProjectionPatchEdition, out: &mut [u64]) -> DependenciesAnswer
-    ensures answered { λ r. ⌜ ((ps : List Patch) → readSet (editionOf edition) (now (set .entry)) ≡ patches ps → r ≡ answerTo (answerBy (dependencies ps) (now (out .entry)) .answer)) ⌝ }
+    ensures answered { λ r. ⌜ ((ps : List Patch) → readSet (editionOf edition) (now (set .entry)) ≡ patches ps → r ≡ dependsAnswerTo (answerBy (dependencies ps) (now (out .entry)) .answer)) ⌝ }
     ensures written { λ _. ⌜ ((ps : List Patch) → readSet (editionOf edition) (now (set .entry)) ≡ patches ps → now (out .exit) ≡ answerBy (dependencies ps) (now (out .entry)) .output) ⌝ }
 {
     let mut table = [0u8; settled_rows::TABLE_BYTES];
@@ -90,7 +90,7 @@ fn depends_clean(set: &[u8], edition: ProjectionPatchEdition, out: &mut [u64]) -
 // What a set depends on: both counts, and into out two numbers for each key, collection and key, first of those that must be there at the
 // start, then of those that must be absent. Nothing is written on a refusal or for never.
 pub fn depends(set: &[u8], edition: ProjectionPatchEdition, out: &mut [u64]) -> DependenciesAnswer
-    ensures answered { λ r. ⌜ r ≡ answerTo (dependenciesOf (editionOf edition) (now (set .entry)) (now (out .entry)) .answer) ⌝ }
+    ensures answered { λ r. ⌜ r ≡ dependsAnswerTo (dependenciesOf (editionOf edition) (now (set .entry)) (now (out .entry)) .answer) ⌝ }
     ensures written { λ _. ⌜ now (out .exit) ≡ dependenciesOf (editionOf edition) (now (set .entry)) (now (out .entry)) .output ⌝ }
 {
     match quick_set::quick_check(set, edition) {

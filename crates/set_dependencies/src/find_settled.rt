@@ -6,7 +6,7 @@ ghost use mathlib.Core.Path.{_≡_};
 ghost use mathlib.Core.List.{List, [], _∷_};
 ghost use Prim.Native.Nat.{ℕ, _≤_};
 ghost use Rattle.spec_lists.specs.Order.{Ascending};
-ghost use Rattle.bytes_records.specs.Table.{Holds};
+ghost use Rattle.bytes_records.specs.Table.{HoldsRows};
 ghost use Rattle.bytes_records.specs.Keys.{leadingNumbers};
 ghost use Rattle.bytes_records.specs.Search.{placeOf, PlaceWithin};
 ghost use Rattle.set_dependencies.specs.SettledRows.{rowFields};
@@ -14,7 +14,7 @@ ghost use Rattle.set_dependencies.specs.SettledRows.{rowFields};
 // The place of a record that begins with the numbers id and second.
 pub fn find_by_halving(table: &[u8], width: usize, count: usize, id: u64, second: u64) -> Place
     requires { ⌜ 16 ≤ width ⌝ }
-    ensures first { λ r. ⌜ ((rows : List (List ℕ)) → Holds width count (now (table .entry)) rows → Ascending (leadingNumbers rowFields) rows
+    ensures first { λ r. ⌜ ((rows : List (List ℕ)) → HoldsRows width count (now (table .entry)) rows → Ascending (leadingNumbers rowFields) rows
         → r ≡ placeOf (leadingNumbers rowFields) (id ∷ second ∷ []) rows) ⌝ }
     ensures within { λ r. ⌜ PlaceWithin count r ⌝ }
 {

@@ -12,7 +12,7 @@ use Rattle.session_lifecycle.specs.declared.state.ProjectionReplayCursor.the-va
 use Rattle.session_lifecycle.specs.declared.state.ShellLocalState.{ShellLocalState}
 use Rattle.session_lifecycle.specs.declared.state.ShellLifecycleLimits.{ShellLifecycleLimits}
 use Rattle.active_projection_target_catalog.specs.Catalog.{catalogTo}
-use Rattle.local_projection_state.specs.Stores.{stateOf}
+use Rattle.local_projection_state.specs.Stores.{storedState}
 use Rattle.local_projection_state.specs.StoresLaws.{one-state, some-state}
 use Rattle.shell_player.specs.declared.session.ShellSession.{ShellSession}
 use Rattle.shell_player.specs.Holds.{Holds}
@@ -43,7 +43,7 @@ abbrev pub sessionTo : Session → ShellSession
 sessionTo m = record {
   context = record { «session_id» = record { 0 = m .id }; limits = limitsTo (m .limits); catalog = catalogTo (m .catalogue) };
   state = stateTo (step.stateOf m);
-  «local_projection» = stateOf (m .projection);
+  «local_projection» = storedState (m .projection);
 }
 
 lifecycle-back : (l : ShellLifecycle) → l ≡ lifecycleTo (lifecycleOf l)
@@ -65,5 +65,5 @@ pub one-struct : (s : ShellSession) (m : Session) → Holds s m → s ≡ sessio
 one-struct s m h = λ i. record {
   context = record { «session_id» = record { 0 = h .id i }; limits = ap limitsTo (h .limits) i; catalog = h .catalogue i };
   state = (state-back (s .state) ∙ ap stateTo (h .state)) i;
-  «local_projection» = one-state (m .projection) (s .«local_projection») (stateOf (m .projection)) (h .projection) (some-state (m .projection) (h .projection .tables .valid)) i;
+  «local_projection» = one-state (m .projection) (s .«local_projection») (storedState (m .projection)) (h .projection) (some-state (m .projection) (h .projection .tables .valid)) i;
 }

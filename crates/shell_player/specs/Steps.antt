@@ -6,7 +6,7 @@ use Rattle.session_lifecycle.specs.declared.state.ShellLocalState.{ShellLocalSt
 use Rattle.session_lifecycle.specs.declared.state.ShellLifecycle.the-variants.{Created}
 use Rattle.session_lifecycle.specs.declared.state.ProjectionReplayCursor.the-variants.{Uninitialized}
 use Rattle.spec_projection.specs.Projection.{empty}
-use Rattle.local_projection_state.specs.Stores.{stateOf}
+use Rattle.local_projection_state.specs.Stores.{storedState}
 use Rattle.session_steps.specs.declared.checks.ActivatedShellSessionContext.{ActivatedShellSessionContext}
 use Rattle.shell_player.specs.declared.session.ShellSession.{ShellSession}
 use Rattle.shell_player.specs.declared.session.ShellTransition.{ShellTransition}
@@ -16,7 +16,7 @@ unfoldable pub newState : ActivatedShellSessionContext → ShellSession
 newState c = record {
   context = c;
   state = record { «session_id» = c .«session_id»; lifecycle = Created; «replay_cursor» = Uninitialized };
-  «local_projection» = stateOf empty;
+  «local_projection» = storedState empty;
 }
 
 -- the session with another state

@@ -1,12 +1,9 @@
 -- Laws of reports and of checks of each element: what they find, and how a loop goes on.
-use Prim.Native.Nat.{ℕ, suc, _<_}
-use mathlib.Core.Path.{_≡_, refl, sym, ap, _∙_}
+use mathlib.Core.Path.{_≡_, refl, ap}
 use mathlib.Core.Bool.{Bool, true, false, false≢true}
-use mathlib.Core.List.{List, [], _∷_, _++_, reverse, reverseAux, reverse-append}
+use mathlib.Core.List.{List, [], _∷_, _++_, reverseAux}
 use mathlib.Core.List.{List·Memᴰ, List·Memᴰ·head, List·Memᴰ·not-nil, List·Memᴰ·eq-of-singleton, List·Memᴰ·append-cases, Memᴰ·append-left, Memᴰ·append-right}
 use mathlib.Core.Logic.{⊎-elim, _↔_}
-use lib.ListN.{length, getD, take, drop}
-use lib.Seq.{drop-cons, take-suc}
 use Rattle.spec_checks.specs.Finding.{Finding, report, checkEach}
 
 pub report-member : (t : Bool) (f g : Finding) → List·Memᴰ f (report t g) ↔ ((t ≡ true) × (f ≡ g))
@@ -42,11 +39,3 @@ pub member-checkEach : {A : Type 0} (check : List A → A → List Finding) (ear
 unfolding checkEach
 member-checkEach check earlier [] x b f m = Memᴰ·append-left (checkEach check (x ∷ earlier) b) m
 member-checkEach check earlier (y ∷ a) x b f m = Memᴰ·append-right (check earlier y) (member-checkEach check (y ∷ earlier) a x b f m)
-
--- one element more: the earlier ones are the first i, nearest first
-pub checkEach-step : {A : Type 0} (check : List A → A → List Finding) (xs : List A) (i : ℕ) (d : A) → i < length xs
-    → checkEach check (reverse (take i xs)) (drop i xs) ≡ check (reverse (take i xs)) (getD xs i d) ++ checkEach check (reverse (take (suc i) xs)) (drop (suc i) xs)
-unfolding checkEach
-checkEach-step check xs i d h =
-    let earlier : reverse (take (suc i) xs) ≡ getD xs i d ∷ reverse (take i xs) = ap reverse (take-suc xs i d h) ∙ reverse-append (take i xs) (getD xs i d ∷ []) in
-    ap (checkEach check (reverse (take i xs))) (drop-cons xs i d h) ∙ ap (λ l. check (reverse (take i xs)) (getD xs i d) ++ checkEach check l (drop (suc i) xs)) (sym earlier)

@@ -10,19 +10,19 @@ use Rattle.spec_lists.specs.ListLaws.{getD-member, map-member}
 use Rattle.spec_checks.specs.Finding.{Kind, kindNumber, codeText, brokenRevisionChain, collectionBeforeSelf, duplicateMutationTarget, duplicatePatchId, duplicateSequence, emptyOperations, mixedDocument, mixedEpoch, mixedStream, nonIncreasingRevision, outOfOrderSequence, sequenceOverflow, zeroPatchId, zeroStreamId}
 
 -- every kind, in the order of its number
-abbrev pub kinds : List Kind
-kinds =
+abbrev pub findingKinds : List Kind
+findingKinds =
     brokenRevisionChain ∷ collectionBeforeSelf ∷ duplicateMutationTarget ∷ duplicatePatchId ∷ duplicateSequence ∷ emptyOperations ∷ mixedDocument
     ∷ mixedEpoch ∷ mixedStream ∷ nonIncreasingRevision ∷ outOfOrderSequence ∷ sequenceOverflow ∷ zeroPatchId ∷ zeroStreamId ∷ []
 
-pub kinds-numbered : map kindNumber kinds ≡ 1 ∷ 2 ∷ 3 ∷ 4 ∷ 5 ∷ 6 ∷ 7 ∷ 8 ∷ 9 ∷ 10 ∷ 11 ∷ 12 ∷ 13 ∷ 14 ∷ []
+pub kinds-numbered : map kindNumber findingKinds ≡ 1 ∷ 2 ∷ 3 ∷ 4 ∷ 5 ∷ 6 ∷ 7 ∷ 8 ∷ 9 ∷ 10 ∷ 11 ∷ 12 ∷ 13 ∷ 14 ∷ []
 unfolding kindNumber
 kinds-numbered = refl
 
-nth : (i : ℕ) → T (ltb i (length kinds)) → List·Memᴰ (getD kinds i brokenRevisionChain) kinds
-nth i h = getD-member kinds i brokenRevisionChain (lit< h)
+nth : (i : ℕ) → T (ltb i (length findingKinds)) → List·Memᴰ (getD findingKinds i brokenRevisionChain) findingKinds
+nth i h = getD-member findingKinds i brokenRevisionChain (lit< h)
 
-every-kind : (k : Kind) → List·Memᴰ k kinds
+every-kind : (k : Kind) → List·Memᴰ k findingKinds
 every-kind brokenRevisionChain = nth 0 tt
 every-kind collectionBeforeSelf = nth 1 tt
 every-kind duplicateMutationTarget = nth 2 tt
@@ -45,10 +45,10 @@ byNumber : Kind → Kind → Ordering
 byNumber a b = Nat.compare (kindNumber a) (kindNumber b)
 
 -- every pair, computed
-table : map (λ a. map (byText a) kinds) kinds ≡ map (λ a. map (byNumber a) kinds) kinds
+table : map (λ a. map (byText a) findingKinds) findingKinds ≡ map (λ a. map (byNumber a) findingKinds) findingKinds
 unfolding byText byNumber kindNumber codeText
 table = refl
 
 pub kind-order : (a b : Kind) → String.compare (codeText a) (codeText b) ≡ Nat.compare (kindNumber a) (kindNumber b)
 unfolding byText byNumber
-kind-order a b = map-member (byText a) (byNumber a) kinds (map-member (λ k. map (byText k) kinds) (λ k. map (byNumber k) kinds) kinds table (every-kind a)) (every-kind b)
+kind-order a b = map-member (byText a) (byNumber a) findingKinds (map-member (λ k. map (byText k) findingKinds) (λ k. map (byNumber k) findingKinds) findingKinds table (every-kind a)) (every-kind b)

@@ -30,7 +30,7 @@ unfolding
     mathlib.Core.List.flatMap
     Rattle.spec_lists.specs.Bytes.littleEndian
     Rattle.spec_lists.specs.Bytes.numberOf
-    Rattle.spec_patch.specs.Edition.digit
+    Rattle.spec_patch.specs.Edition.editionDigit
     Rattle.spec_patch.specs.Edition.letters
     Rattle.spec_patch.specs.Edition.addedKinds
     Rattle.spec_patch.specs.Edition.kinds

@@ -15,7 +15,7 @@ use Rattle.spec_lists.specs.ListLaws.{and-left, and-right, drop-behind}
 use Rattle.spec_lists.specs.Bytes.{Bytes}
 use Rattle.spec_lists.specs.BytesLaws.{length-littleEndian}
 use Rattle.spec_patch.specs.Patch.{Value, quad, signed, text, unsigned, score, Operation, setBinding, setAvailability, insert, update, remove, move, Patch}
-use Rattle.spec_patch.specs.Edition.{Edition, v1, v2, digit, letters, addedKinds, kinds, hasKind}
+use Rattle.spec_patch.specs.Edition.{Edition, v1, v2, editionDigit, letters, addedKinds, kinds, hasKind}
 use Rattle.spec_patch.specs.Encode.{u32, kindOf, encodeCounted, encodePatch, heading, encode}
 use Rattle.spec_patch.specs.Fits.{Fits}
 use Rattle.spec_patch.specs.FitsLaws.{length-encode}
@@ -63,9 +63,9 @@ module _ (ed : Edition) where
   unfolding letters
   length-front = simp (length-append, length-littleEndian)
 
-  encode-parts : (ps : List Patch) → encode ed ps ≡ front ed ++ (digit ed ∷ behind ps)
+  encode-parts : (ps : List Patch) → encode ed ps ≡ front ed ++ (editionDigit ed ∷ behind ps)
   unfolding encode heading letters
-  encode-parts ps = append-assoc (u32 27) (letters ed) (behind ps) ∙ sym (append-assoc (u32 27) (take 26 (letters ed)) (digit ed ∷ behind ps))
+  encode-parts ps = append-assoc (u32 27) (letters ed) (behind ps) ∙ sym (append-assoc (u32 27) (take 26 (letters ed)) (editionDigit ed ∷ behind ps))
 
   length-heading : length (heading ed) ≡ 31
   unfolding heading letters
@@ -85,14 +85,14 @@ module _ (from to : Edition) where
   same-length ps = omega (arith, length-encode from ps, length-encode to ps, length-heading from, length-heading to)
 
   -- one letter of the canonical bytes is the edition's
-  letter-changed : (ps : List Patch) → encode to ps ≡ take 30 (encode from ps) ++ (digit to ∷ drop 31 (encode from ps))
+  letter-changed : (ps : List Patch) → encode to ps ≡ take 30 (encode from ps) ++ (editionDigit to ∷ drop 31 (encode from ps))
   unfolding letters
   letter-changed ps =
-      let before = take-at (front from) (digit from ∷ behind ps) 30 (length-front from) in
-      let after = drop-behind 31 (front from) (digit from ∷ []) (behind ps) (length-append (front from) (digit from ∷ []) ∙ ap (λ (n : ℕ). n + 1) (length-front from)) in
+      let before = take-at (front from) (editionDigit from ∷ behind ps) 30 (length-front from) in
+      let after = drop-behind 31 (front from) (editionDigit from ∷ []) (behind ps) (length-append (front from) (editionDigit from ∷ []) ∙ ap (λ (n : ℕ). n + 1) (length-front from)) in
       encode-parts to ps
-      ∙ ap₂ (λ (a b : List ℕ). a ++ (digit to ∷ b)) (sym before) (sym after)
-      ∙ ap (λ (l : List ℕ). take 30 l ++ (digit to ∷ drop 31 l)) (sym (encode-parts from ps))
+      ∙ ap₂ (λ (a b : List ℕ). a ++ (editionDigit to ∷ b)) (sym before) (sym after)
+      ∙ ap (λ (l : List ℕ). take 30 l ++ (editionDigit to ∷ drop 31 l)) (sym (encode-parts from ps))
 
   -- a list that fits one edition fits another that has the kinds of its values
   fits-other : (ps : List Patch) → Fits from ps → allKinds to ps ≡ true → Fits to ps
@@ -185,8 +185,8 @@ module _ (from to : Edition) (set : List ℕ) (all-bytes : Bytes set) where
     length-kept = ap length (done .after) ∙ same-length from to (done .list) ∙ sym (ap length (done .before))
 
     -- but for the last letter of the heading they are the same
-    pub one-letter : bs ≡ take 30 set ++ (digit to ∷ drop 31 set)
-    one-letter = done .after ∙ letter-changed from to (done .list) ∙ ap (λ (l : List ℕ). take 30 l ++ (digit to ∷ drop 31 l)) (sym (done .before))
+    pub one-letter : bs ≡ take 30 set ++ (editionDigit to ∷ drop 31 set)
+    one-letter = done .after ∙ letter-changed from to (done .list) ∙ ap (λ (l : List ℕ). take 30 l ++ (editionDigit to ∷ drop 31 l)) (sym (done .before))
 
     -- converted back it is the set
     pub there-and-back : (room′ : ℕ) → length set ≤ room′ → convertTo to from bs room′ ≡ converted set

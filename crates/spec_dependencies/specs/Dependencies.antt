@@ -11,27 +11,27 @@ use Rattle.spec_dependencies.specs.Settled.{Settled, judgeAll}
 -- ---- the walk
 
 -- what all operations settle, or the patch and the operation in it, from 0, that contradicts those before
-pub data Walk : Type 0 where
-  settles : List Settled → Walk
-  contradicts : (patch operation : ℕ) → Walk
+pub data SettlingWalk : Type 0 where
+  settles : List Settled → SettlingWalk
+  contradicts : (patch operation : ℕ) → SettlingWalk
 
 -- goes on with what is settled
-abbrev pub walkOn : Walk → (List Settled → Walk) → Walk
+abbrev pub walkOn : SettlingWalk → (List Settled → SettlingWalk) → SettlingWalk
 walkOn (settles t) f = f t
 walkOn (contradicts i j) f = contradicts i j
 
 -- an operation of that place, by what its expectations come to
-abbrev pub walkStep : ℕ → ℕ → Option (List Settled) → Walk
+abbrev pub walkStep : ℕ → ℕ → Option (List Settled) → SettlingWalk
 walkStep i j none = contradicts i j
 walkStep i j (some t) = settles t
 
 -- the operations of patch i, from index j on
-unfoldable pub walkOperations : ℕ → ℕ → List Operation → List Settled → Walk
+unfoldable pub walkOperations : ℕ → ℕ → List Operation → List Settled → SettlingWalk
 walkOperations i j [] t = settles t
 walkOperations i j (o ∷ os) t = walkOn (walkStep i j (judgeAll (expectations o) t)) (λ u. walkOperations i (j + 1) os u)
 
 -- the patches from index i on; each counts its operations from 0
-unfoldable pub walkPatches : ℕ → List Patch → List Settled → Walk
+unfoldable pub walkPatches : ℕ → List Patch → List Settled → SettlingWalk
 walkPatches i [] t = settles t
 walkPatches i (p ∷ ps) t = walkOn (walkOperations i 0 (p .operations) t) (λ u. walkPatches (i + 1) ps u)
 
@@ -59,7 +59,7 @@ pub data Dependencies : Type 0 where
   neverApplicable : (patch operation : ℕ) → Dependencies
   needs : (held lacked : List CollectionKey) → Dependencies
 
-unfoldable pub dependenciesBy : Walk → Dependencies
+unfoldable pub dependenciesBy : SettlingWalk → Dependencies
 dependenciesBy (settles t) = needs (keysAtStart true t) (keysAtStart false t)
 dependenciesBy (contradicts i j) = neverApplicable i j
 

@@ -90,15 +90,15 @@ collections =
     ∷ (onePatch (remove 9 1 ∷ updateKey 8 1 ∷ insertKey 7 1 none ∷ []) ⊳ needs (keyAt 8 1 ∷ keyAt 9 1 ∷ []) (keyAt 7 1 ∷ []))
     ∷ []
 
-abbrev pub examples : List DependencyExample
-examples = single ++ (sameKey ++ (neighbours ++ collections))
+abbrev pub dependencyExamples : List DependencyExample
+dependencyExamples = single ++ (sameKey ++ (neighbours ++ collections))
 
-pub examples-depend : map (λ (e : DependencyExample). dependencies (e .set)) examples ≡ map (λ (e : DependencyExample). e .answer) examples
+pub examples-depend : map (λ (e : DependencyExample). dependencies (e .set)) dependencyExamples ≡ map (λ (e : DependencyExample). e .answer) dependencyExamples
 unfolding lexLess upsert lookup neighbour expectations settledKey settledBy judgeBy judge judgeAll walkOperations walkPatches keysAtStart dependenciesBy dependencies
 examples-depend = refl
 
 -- none of these sets has findings
-pub examples-clean : map (λ (e : DependencyExample). findings (e .set) .found) examples ≡ map (λ (e : DependencyExample). []) examples
+pub examples-clean : map (λ (e : DependencyExample). findings (e .set) .found) dependencyExamples ≡ map (λ (e : DependencyExample). []) dependencyExamples
 unfolding lexLess upsert sortUnique kindNumber findingKey report checkEach mutationTarget sameTarget isSelf beforeSelf operationFindings envelopeFindings rawPatchFindings patchFindings isLastSequence isSameSequence isNextSequence sequenceFindings pairFindings duplicateIdFindings previousFindings afterFindings rawSetFindings setFindings firstFindings findings
 examples-clean = refl
 

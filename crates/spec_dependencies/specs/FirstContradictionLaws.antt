@@ -11,7 +11,7 @@ use Rattle.spec_patch.specs.Patch.{Operation, Patch}
 use Rattle.spec_projection.specs.Apply.{operationsOf}
 use Rattle.spec_dependencies.specs.Expectations.{Expectation, expectations}
 use Rattle.spec_dependencies.specs.Settled.{Settled, judgeAll}
-use Rattle.spec_dependencies.specs.Dependencies.{Walk, settles, contradicts, walkPatches, neverApplicable, dependenciesBy, dependencies}
+use Rattle.spec_dependencies.specs.Dependencies.{SettlingWalk, settles, contradicts, walkPatches, neverApplicable, dependenciesBy, dependencies}
 use Rattle.spec_dependencies.specs.Presence.{Accepts}
 use Rattle.spec_dependencies.specs.Claim.{Possible, FirstContradiction}
 use Rattle.spec_dependencies.specs.SettledLaws.{current-none, starts-none, accepted, accepting, toldStart, told-starts}
@@ -49,7 +49,7 @@ pub never-first : (ps : List Patch) (i j : ℕ) → (dependencies ps ≡ neverAp
 unfolding dependencies dependenciesBy
 never-first ps i j = (λ e. first (walk-stops 0 ps [] i j (contradicted (walkPatches 0 ps []) e)), back)
   where
-    contradicted : (w : Walk) → dependenciesBy w ≡ neverApplicable i j → w ≡ contradicts i j
+    contradicted : (w : SettlingWalk) → dependenciesBy w ≡ neverApplicable i j → w ≡ contradicts i j
     contradicted (settles t) e = let z : _≡_ {A = ℕ} 0 1 = cc in absurd (omega arith)
     contradicted (contradicts a b) e =
         let places : a ≡ i = cc in

@@ -24,7 +24,7 @@ use Rattle.spec_projection.specs.Apply.{OperationFault, keyRule, projectionFull
 use Rattle.spec_projection.specs.ApplyLaws.{stopped-not-done}
 use Rattle.spec_projection.specs.OperationLaws.{applied-binding, applied-availability, applied-insert, applied-update, applied-remove, AppliedMove, applied-move}
 use Rattle.spec_projection.specs.Valid.{Grouped}
-use Rattle.spec_dependencies.specs.Expectations.{Expectation, added, kept, taken, neighbour, expectations}
+use Rattle.spec_dependencies.specs.Expectations.{Expectation, added, keptKey, taken, neighbour, expectations}
 use Rattle.spec_dependencies.specs.Presence.{Presence, presence, isOf, presenceAfter, presenceAfterAll, Accepts}
 
 -- ---- a test of some element, after an edit at the first match
@@ -101,7 +101,7 @@ after-kept e h stays = λ i c k. point c k i
 neighbour-after : (c : ℕ) (before : Option ℕ) (h : Presence) → Accepts (neighbour c before) h → presenceAfterAll (neighbour c before) h ≡ h
 unfolding neighbour presenceAfterAll
 neighbour-after c none h a = refl
-neighbour-after c (some n) h a = after-kept (kept c n) h (a .0)
+neighbour-after c (some n) h a = after-kept (keptKey c n) h (a .0)
 
 -- another key of the collection is as before
 other-after : (e : Expectation) (p : Projection) (n : ℕ) → e .key ≢ n → presenceAfter e (presence p) (e .collection) n ≡ contains (e .collection) n (p .entries)
@@ -146,14 +146,14 @@ insert-leaves p c k before m v q other g h =
     point d j = contains-insert before (record { collection = c; key = k; mark = m; value = v }) (p .entries) d j ∙ test-cases (eqb c d && eqb k j) (λ f. rw f) (λ f. rw f)
 
 update-leaves : (p : Projection) (c k m : ℕ) (v : Value) (q : Projection) → Grouped (p .entries)
-    → applyUpdate p (record { collection = c; key = k; mark = m; value = v }) ≡ done q → LeavesKeys p (kept c k ∷ []) q
+    → applyUpdate p (record { collection = c; key = k; mark = m; value = v }) ≡ done q → LeavesKeys p (keptKey c k ∷ []) q
 unfolding presence withEntries presenceAfterAll
 update-leaves p c k m v q g h =
     let e : Entry = record { collection = c; key = k; mark = m; value = v } in
     let a = applied-update p e q h in
     record {
       accepts = (a .0, tt);
-      keys = ap presence (a .1) ∙ (λ i d j. contains-replace e (p .entries) d j i) ∙ sym (after-kept (kept c k) (presence p) (a .0));
+      keys = ap presence (a .1) ∙ (λ i d j. contains-replace e (p .entries) d j i) ∙ sym (after-kept (keptKey c k) (presence p) (a .0));
       entries = rw (a .1) (replaceEntry-grouped e (p .entries) g);
     }
 
@@ -182,11 +182,11 @@ moved-keys before e l stored d j =
     (λ f. rw f (contains-remove (e .collection) (e .key) l d j (not-entry d j e f)))
 
 move-leaves : (p : Projection) (c k : ℕ) (before : Option ℕ) (q : Projection) → ((n : ℕ) → before ≡ some n → k ≢ n) → Grouped (p .entries)
-    → applyMove p before (findFirst (isEntry c k) (p .entries)) ≡ done q → LeavesKeys p (kept c k ∷ neighbour c before) q
+    → applyMove p before (findFirst (isEntry c k) (p .entries)) ≡ done q → LeavesKeys p (keptKey c k ∷ neighbour c before) q
 unfolding presence withEntries presenceAfterAll
 move-leaves p c k before q other g h = go (applied-move p before (findFirst (isEntry c k) (p .entries)) q h)
   where
-    go : AppliedMove p before (findFirst (isEntry c k) (p .entries)) q → LeavesKeys p (kept c k ∷ neighbour c before) q
+    go : AppliedMove p before (findFirst (isEntry c k) (p .entries)) q → LeavesKeys p (keptKey c k ∷ neighbour c before) q
     go a =
         let e = a .entry in
         let is = findFirst-passes (isEntry c k) (p .entries) e (a .found-entry) in
@@ -195,12 +195,12 @@ move-leaves p c k before q other g h = go (applied-move p before (findFirst (isE
         let stored = found-contains c k (p .entries) e (a .found-entry) in
         let here : contains c k (p .entries) ≡ true = rw (own, named) at stored in
         let beside : containsNeighbour c before (removeEntry c k (p .entries)) ≡ true = rw (own, named) at (a .neighbour) in
-        let there = neighbour-accepts (kept c k) before p other .0 (sym (neighbour-rest c k before (p .entries) other) ∙ beside) in
+        let there = neighbour-accepts (keptKey c k) before p other .0 (sym (neighbour-rest c k before (p .entries) other) ∙ beside) in
         record {
           accepts = (here, there);
           keys =
               ap presence (a .result) ∙ (λ i d j. moved-keys before e (p .entries) stored d j i)
-              ∙ sym (after-kept (kept c k) (presence p) here) ∙ sym (neighbour-after c before (presenceAfter (kept c k) (presence p)) there);
+              ∙ sym (after-kept (keptKey c k) (presence p) here) ∙ sym (neighbour-after c before (presenceAfter (keptKey c k) (presence p)) there);
           entries = rw (a .result) (insertEntry-grouped before e (removeEntry (e .collection) (e .key) (p .entries)) (removeEntry-gone (e .collection) (e .key) (p .entries) g) (a .neighbour) (removeEntry-grouped (e .collection) (e .key) (p .entries) g));
         }
 
@@ -250,5 +250,5 @@ operation-accepted p id (move c k before) b a h =
     let other : (n : ℕ) → before ≡ some n → k ≢ n = λ n e f. b (moved c k (ap (λ x. move c k x) (e ∙ ap some (sym f)))) in
     let found = contains-finds c k (p .entries) (a .0) in
     let is = findFirst-passes (isEntry c k) (p .entries) (found .0) (found .1) in
-    let there : containsNeighbour c before (removeEntry c k (p .entries)) ≡ true = neighbour-rest c k before (p .entries) other ∙ neighbour-accepts (kept c k) before p other .1 (a .1) in
+    let there : containsNeighbour c before (removeEntry c k (p .entries)) ≡ true = neighbour-rest c k before (p .entries) other ∙ neighbour-accepts (keptKey c k) before p other .1 (a .1) in
     done-not-stopped (rw (found .1, entry-collection c k (found .0) is, entry-key c k (found .0) is, there) at h)

@@ -11,7 +11,7 @@ use Rattle.spec_lists.specs.Order.{upsert, lookup, Ascending}
 use Rattle.spec_lists.specs.OrderLaws.{upsert-ascending}
 use Rattle.spec_lists.specs.LookupLaws.{lookup-upsert, lookup-upsert-other}
 use Rattle.spec_dependencies.specs.Expectations.{Expectation}
-use Rattle.spec_dependencies.specs.Settled.{Settled, settledKey, settledBy, judgeBy, judge, further, judgeAll}
+use Rattle.spec_dependencies.specs.Settled.{Settled, settledKey, settledBy, judgeBy, judge, furtherSettled, judgeAll}
 use Rattle.spec_dependencies.specs.Presence.{Presence, isOf, presenceAfter, Accepts}
 
 -- ---- tests
@@ -82,7 +82,7 @@ unfolding lookup
 starts-none h c k s e = absurd (Option·none-ne-some s e)
 
 -- what goes on was settled before
-pub further-some : (x : Option (List Settled)) (f : List Settled → Option (List Settled)) (u : List Settled) → further x f ≡ some u → (t : List Settled) × (x ≡ some t) × (f t ≡ some u)
+pub further-some : (x : Option (List Settled)) (f : List Settled → Option (List Settled)) (u : List Settled) → furtherSettled x f ≡ some u → (t : List Settled) × (x ≡ some t) × (f t ≡ some u)
 further-some none f u e = absurd (Option·none-ne-some u e)
 further-some (some t) f u e = (t, refl, e)
 
@@ -221,12 +221,12 @@ told-starts t c k s f = ap startOf f
 
 -- ---- two runs
 
-pub judgeAll-append : (a b : List Expectation) (t : List Settled) → judgeAll (a ++ b) t ≡ further (judgeAll a t) (λ u. judgeAll b u)
+pub judgeAll-append : (a b : List Expectation) (t : List Settled) → judgeAll (a ++ b) t ≡ furtherSettled (judgeAll a t) (λ u. judgeAll b u)
 unfolding judgeAll
 judgeAll-append [] b t = refl
 judgeAll-append (e ∷ a) b t = go (judge e t) (λ u. judgeAll-append a b u)
   where
-    go : (x : Option (List Settled)) → ((u : List Settled) → judgeAll (a ++ b) u ≡ further (judgeAll a u) (λ v. judgeAll b v))
-        → further x (λ u. judgeAll (a ++ b) u) ≡ further (further x (λ u. judgeAll a u)) (λ v. judgeAll b v)
+    go : (x : Option (List Settled)) → ((u : List Settled) → judgeAll (a ++ b) u ≡ furtherSettled (judgeAll a u) (λ v. judgeAll b v))
+        → furtherSettled x (λ u. judgeAll (a ++ b) u) ≡ furtherSettled (furtherSettled x (λ u. judgeAll a u)) (λ v. judgeAll b v)
     go none later = refl
     go (some u) later = later u

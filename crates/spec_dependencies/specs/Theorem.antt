@@ -16,7 +16,7 @@ use Rattle.spec_projection.specs.Projection.{Projection}
 use Rattle.spec_projection.specs.Apply.{keyRule, projectionFull, Outcome, done, stopped, replaySteps, operationsOf, applySteps}
 use Rattle.spec_projection.specs.Valid.{Valid}
 use Rattle.spec_dependencies.specs.Settled.{Settled, settledKey, judgeAll}
-use Rattle.spec_dependencies.specs.Dependencies.{Walk, settles, contradicts, walkPatches, CollectionKey, keysAtStart, Dependencies, neverApplicable, needs, dependenciesBy, dependencies}
+use Rattle.spec_dependencies.specs.Dependencies.{SettlingWalk, settles, contradicts, walkPatches, CollectionKey, keysAtStart, Dependencies, neverApplicable, needs, dependenciesBy, dependencies}
 use Rattle.spec_dependencies.specs.Presence.{presence, Accepts}
 use Rattle.spec_dependencies.specs.Claim.{AppliesTo, Each, Meets, ListsInOrder}
 use Rattle.spec_dependencies.specs.SettledLaws.{current-none, starts-none, accepted, accepting, judgeAll-ascending}
@@ -34,7 +34,7 @@ tabled none (needs held lacked) = ⊥
 tabled (some t) (neverApplicable i j) = ⊥
 tabled (some t) (needs held lacked) = (held ≡ keysAtStart true t) × (lacked ≡ keysAtStart false t)
 
-by-table : (w : Walk) → tabled (tableOf w) (dependenciesBy w)
+by-table : (w : SettlingWalk) → tabled (tableOf w) (dependenciesBy w)
 unfolding tabled dependenciesBy
 by-table (settles t) = (refl, refl)
 by-table (contradicts i j) = tt

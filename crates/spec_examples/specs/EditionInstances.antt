@@ -101,11 +101,11 @@ replaced =
     (80 ∷ 9 ∷ 49 ∷ 10 ∷ 67 ∷ 9 ∷ 57 ∷ 9 ∷ 49 ∷ 9 ∷ 85 ∷ 9 ∷ 53 ∷ 10 ∷ [])
 
 -- each edition's listing knows its own heading alone
-pub listed : Bool
-listed =
+pub editionsListed : Bool
+editionsListed =
     same (listing v2 (encode v2 (scored 0))) (80 ∷ 9 ∷ 49 ∷ 10 ∷ 67 ∷ 9 ∷ 57 ∷ 9 ∷ 49 ∷ 9 ∷ 77 ∷ 9 ∷ 48 ∷ 10 ∷ [])
     && same (listing v1 (encode v2 (scored 0))) (69 ∷ 9 ∷ 49 ∷ 48 ∷ 10 ∷ [])
 
-pub editions-hold : T (all (λ (b : Bool). b) (scoreBytes ∷ scoresRead ∷ scoresWritten ∷ otherHeading ∷ bothTaken ∷ replaced ∷ listed ∷ []))
-unfolding scoreBytes scoresRead scoresWritten otherHeading bothTaken replaced listed one scored reading writing start sent same flatMap opened
+pub editions-hold : T (all (λ (b : Bool). b) (scoreBytes ∷ scoresRead ∷ scoresWritten ∷ otherHeading ∷ bothTaken ∷ replaced ∷ editionsListed ∷ []))
+unfolding scoreBytes scoresRead scoresWritten otherHeading bothTaken replaced editionsListed one scored reading writing start sent same flatMap opened
 editions-hold = tt

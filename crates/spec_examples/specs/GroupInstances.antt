@@ -13,18 +13,18 @@ use Rattle.spec_session.specs.Session.{Cursor, uninitialized, at, Session}
 use Rattle.spec_session.specs.Batch.{BatchAnswer}
 use Rattle.spec_projection.specs.Projection.{Projection}
 use Rattle.spec_projection.specs.Lookups.{KeyedValue, entriesOf}
-use Rattle.spec_splitting.specs.Splitting.{Piece, envelopeOf, references, isRejected, send, sendAll, continue, patchesOf}
+use Rattle.spec_splitting.specs.Splitting.{Piece, pieceEnvelope, references, isRejected, send, sendAll, continue, patchesOf}
 use Rattle.spec_group.specs.Group.{GroupBatch, totalBytes, isGroup, sendFirst, runGroup, GroupAnswer, notAGroup, taken, refusedAt, takenCount, withCursor, concludeGroup, GroupStep, group}
 use Rattle.spec_group.specs.Singly.{pieceBatch, TakenAsWhole, RefusedAsWhole}
 use Rattle.spec_group.specs.PiecesLaws.{group-as-whole}
 use Rattle.spec_examples.specs.Opened.{opened}
-use Rattle.spec_examples.specs.SplitInstances.{patchOf, start, piece, first, scored, second, failing, pieces, failingPieces, given, given-failing, premise-applies, premise-fails}
+use Rattle.spec_examples.specs.SplitInstances.{patchNumbered, startSession, piece, first, scored, second, failingPatch, pieces, failingPieces, given-pieces, given-failing, premise-applies, premise-fails}
 
 -- ---- what the instances are made of
 
 -- a batch of these patches for the session at its start, with true counts, a number and an edition
 batchOf : Edition → ℕ → List Patch → GroupBatch
-batchOf ed n ps = pieceBatch ed start n (piece ps)
+batchOf ed n ps = pieceBatch ed startSession n (piece ps)
 
 -- the answer of a group, as numbers: how many were taken; or 0, the place and the number of the refusal; or 17
 numbers : GroupAnswer → List ℕ
@@ -41,7 +41,7 @@ ends : List GroupBatch → List ℕ → List (List ℕ)
 ends bs sets = numbers (step .answer) ∷ (cursorNumber (step .next .cursor) ∷ []) ∷ map (λ (e : KeyedValue). e .key) (entriesOf (step .next .projection) 9) ∷ []
   where
     step : GroupStep
-    step = group start bs sets
+    step = group startSession bs sets
 
 same : List (List ℕ) → List (List ℕ) → Bool
 same = equalLists (equalLists eqb)
@@ -54,7 +54,7 @@ two : List ℕ
 two = encode v1 (second ∷ [])
 
 bad : List ℕ
-bad = encode v1 (failing ∷ [])
+bad = encode v1 (failingPatch ∷ [])
 
 none : List ℕ
 none = encode v1 []
@@ -67,7 +67,7 @@ threeTaken = same (ends (batchOf v2 40 (scored ∷ []) ∷ batchOf v1 77 [] ∷ 
 
 -- the second fails at its operation: nothing is taken, its place is 1, and the first is taken back
 pub secondRefused : Bool
-secondRefused = same (ends (batchOf v2 40 (scored ∷ []) ∷ batchOf v1 41 (failing ∷ []) ∷ batchOf v1 42 (second ∷ []) ∷ []) (one ++ (bad ++ two))) ((0 ∷ 1 ∷ 8 ∷ []) ∷ (0 ∷ []) ∷ [] ∷ [])
+secondRefused = same (ends (batchOf v2 40 (scored ∷ []) ∷ batchOf v1 41 (failingPatch ∷ []) ∷ batchOf v1 42 (second ∷ []) ∷ []) (one ++ (bad ++ two))) ((0 ∷ 1 ∷ 8 ∷ []) ∷ (0 ∷ []) ∷ [] ∷ [])
 
 -- a wrong number is refused as it would be singly, after the first
 pub numberSkipped : Bool
@@ -84,13 +84,13 @@ noGroups =
 
 pub groups-hold : T (all (λ (b : Bool). b) (threeTaken ∷ secondRefused ∷ numberSkipped ∷ noGroups ∷ []))
 unfolding threeTaken secondRefused numberSkipped noGroups batchOf numbers cursorNumber ends same one two bad none entriesOf
-    totalBytes isGroup sendFirst runGroup withCursor concludeGroup group pieceBatch envelopeOf references isRejected
-    patchOf start piece first scored second failing flatMap opened
+    totalBytes isGroup sendFirst runGroup withCursor concludeGroup group pieceBatch pieceEnvelope references isRejected
+    patchNumbered startSession piece first scored second failingPatch flatMap opened
 groups-hold = tt
 
 -- the claim on pieces, met by a list that applies and by one that fails
-pub taken-together : TakenAsWhole v2 start 40 (piece (scored ∷ second ∷ [])) pieces
-taken-together = group-as-whole v2 start 40 _ pieces given (omega arith) .applies premise-applies
+pub taken-together : TakenAsWhole v2 startSession 40 (piece (scored ∷ second ∷ [])) pieces
+taken-together = group-as-whole v2 startSession 40 _ pieces given-pieces (omega arith) .applies premise-applies
 
-pub refused-together : RefusedAsWhole v1 start 40 (piece (first ∷ failing ∷ [])) failingPieces
-refused-together = group-as-whole v1 start 40 _ failingPieces given-failing (omega arith) .fails premise-fails
+pub refused-together : RefusedAsWhole v1 startSession 40 (piece (first ∷ failingPatch ∷ [])) failingPieces
+refused-together = group-as-whole v1 startSession 40 _ failingPieces given-failing (omega arith) .fails premise-fails

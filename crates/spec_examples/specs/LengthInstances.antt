@@ -16,9 +16,9 @@ use Rattle.spec_session.specs.Session.{Session}
 use Rattle.spec_session.specs.Lifecycle.{applied}
 use Rattle.spec_session.specs.Batch.{BatchEnvelope, BatchStep, advanced, applyBatch, batch}
 use Rattle.spec_session.specs.BatchLaws.{batch-unchanged, batch-applied}
-use Rattle.spec_splitting.specs.Splitting.{envelopeOf, references, send}
+use Rattle.spec_splitting.specs.Splitting.{pieceEnvelope, references, send}
 use Rattle.spec_examples.specs.Opened.{opened}
-use Rattle.spec_examples.specs.SplitInstances.{patchOf, start, piece, first}
+use Rattle.spec_examples.specs.SplitInstances.{patchNumbered, startSession, piece, first}
 
 abbrev pub lengthsKept : Session → List CollectionLength
 lengthsKept s = collectionLengths (s .projection)
@@ -40,20 +40,20 @@ module _ (ed : Edition) (s : Session) (e : BatchEnvelope) (declared : ℕ) (set 
 
 -- the session at its start after a batch that inserts key 1 into collection 9
 abbrev filled : Session
-filled = send v1 start 40 (piece (first ∷ [])) .next
+filled = send v1 startSession 40 (piece (first ∷ [])) .next
 
 -- a patch that inserts key 2, updates and moves key 1 and removes key 2 again, and one that removes a key that is not there
 abbrev works : Patch
-works = patchOf 2 (insert 9 2 none (unsigned 3) ∷ update 9 1 (unsigned 4) ∷ move 9 1 none ∷ remove 9 2 ∷ [])
+works = patchNumbered 2 (insert 9 2 none (unsigned 3) ∷ update 9 1 (unsigned 4) ∷ move 9 1 none ∷ remove 9 2 ∷ [])
 
 abbrev breaksOff : Patch
-breaksOff = patchOf 3 (insert 9 2 none (unsigned 3) ∷ remove 9 1 ∷ remove 9 7 ∷ [])
+breaksOff = patchNumbered 3 (insert 9 2 none (unsigned 3) ∷ remove 9 1 ∷ remove 9 7 ∷ [])
 
 abbrev empties : Patch
-empties = patchOf 4 (remove 9 1 ∷ [])
+empties = patchNumbered 4 (remove 9 1 ∷ [])
 
 pub batch-lengths-hold :
-    (lengthsKept start ≡ []) × ((lengthsKept filled ≡ lengthRecord 9 1 ∷ []) × ((lengthsKept (send v1 filled 41 (piece (works ∷ [])) .next) ≡ lengthRecord 9 1 ∷ [])
+    (lengthsKept startSession ≡ []) × ((lengthsKept filled ≡ lengthRecord 9 1 ∷ []) × ((lengthsKept (send v1 filled 41 (piece (works ∷ [])) .next) ≡ lengthRecord 9 1 ∷ [])
     × ((lengthsKept (send v1 filled 41 (piece (breaksOff ∷ [])) .next) ≡ lengthRecord 9 1 ∷ []) × (lengthsKept (send v1 filled 41 (piece (empties ∷ [])) .next) ≡ []))))
-unfolding opened send envelopeOf references start piece first patchOf sortUnique entriesIn collectionsIn lengthsIn collectionLengths
+unfolding opened send pieceEnvelope references startSession piece first patchNumbered sortUnique entriesIn collectionsIn lengthsIn collectionLengths
 batch-lengths-hold = (refl, (refl, (refl, (refl, refl))))

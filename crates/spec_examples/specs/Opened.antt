@@ -39,7 +39,7 @@ unfolding
     Rattle.spec_lists.specs.Bytes.littleEndian
     Rattle.spec_lists.specs.Bytes.numberOf
     Rattle.spec_text.specs.Scalars.encodeScalar
-    Rattle.spec_text.specs.Scalars.encode
+    Rattle.spec_text.specs.Scalars.encodeScalars
     Rattle.spec_decimal.specs.Decimal.digits
     Rattle.spec_decimal.specs.Decimal.decimal
     Rattle.spec_decimal.specs.Decimal.signedDecimal
@@ -49,7 +49,7 @@ unfolding
     Rattle.spec_decimal.specs.Decimal.positive
     Rattle.spec_decimal.specs.Decimal.negative
     Rattle.spec_decimal.specs.Decimal.readSignedDecimal
-    Rattle.spec_patch.specs.Edition.digit
+    Rattle.spec_patch.specs.Edition.editionDigit
     Rattle.spec_patch.specs.Edition.letters
     Rattle.spec_patch.specs.Edition.addedKinds
     Rattle.spec_patch.specs.Edition.kinds

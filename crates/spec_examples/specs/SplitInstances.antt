@@ -13,18 +13,18 @@ use Rattle.spec_projection.specs.Projection.{empty}
 use Rattle.spec_projection.specs.Lookups.{availabilityMark, entryMark}
 use Rattle.spec_projection.specs.Apply.{keyRule}
 use Rattle.spec_session.specs.Session.{uninitialized, Session, active}
-use Rattle.spec_splitting.specs.Splitting.{Piece, envelopeOf, references, send, continue, isRejected, sendAll, patchesOf, Given, Applies, AllApply, FailsAtOperation, StopsAtPiece}
+use Rattle.spec_splitting.specs.Splitting.{Piece, pieceEnvelope, references, send, continue, isRejected, sendAll, patchesOf, Given, Applies, AllApply, FailsAtOperation, StopsAtPiece}
 use Rattle.spec_splitting.specs.Theorem.{whole-and-pieces}
 use Rattle.spec_examples.specs.Opened.{opened}
 
-unfoldable pub patchOf : ℕ → List Operation → Patch
-patchOf n os = record {
+unfoldable pub patchNumbered : ℕ → List Operation → Patch
+patchNumbered n os = record {
   envelope = record { id = n; stream = 1; document = 1; surface = none; previous = n; revision = n + 1; epoch = 1; sequence = n };
   operations = os;
 }
 
-unfoldable pub start : Session
-start = record {
+unfoldable pub startSession : Session
+startSession = record {
   id = 7;
   limits = record { stimulusBytes = 100; diagnostics = 4; patches = 8; references = 8 };
   catalogue = record { nodes = 5 ∷ []; bindings = []; collections = 9 ∷ [] };
@@ -38,63 +38,63 @@ piece ps = record { patches = ps; stimulusBytes = 50 }
 
 -- inserts key 1 into collection 9
 unfoldable pub first : Patch
-first = patchOf 1 (insert 9 1 none (unsigned 3) ∷ [])
+first = patchNumbered 1 (insert 9 1 none (unsigned 3) ∷ [])
 
 -- the same with a score
 unfoldable pub scored : Patch
-scored = patchOf 1 (insert 9 1 none (score 87) ∷ [])
+scored = patchNumbered 1 (insert 9 1 none (score 87) ∷ [])
 
 unfoldable pub second : Patch
-second = patchOf 2 (setAvailability 5 pending ∷ [])
+second = patchNumbered 2 (setAvailability 5 pending ∷ [])
 
 -- removes a key that is not there
-unfoldable pub failing : Patch
-failing = patchOf 2 (remove 9 2 ∷ [])
+unfoldable pub failingPatch : Patch
+failingPatch = patchNumbered 2 (remove 9 2 ∷ [])
 
 -- ---- a list that applies
 
 abbrev pub pieces : List Piece
 pieces = piece (scored ∷ []) ∷ piece (second ∷ []) ∷ []
 
-pub given : Given start 40 (piece (scored ∷ second ∷ [])) pieces
-unfolding start piece scored second patchOf opened patchesOf OperationHolds InRangeValue OptionalU64
-given = record { inRange = omega arith; cut = refl; nonEmpty = omega arith; figures = omega arith; numbers = omega arith }
+pub given-pieces : Given startSession 40 (piece (scored ∷ second ∷ [])) pieces
+unfolding startSession piece scored second patchNumbered opened patchesOf OperationHolds InRangeValue OptionalU64
+given-pieces = record { inRange = omega arith; cut = refl; nonEmpty = omega arith; figures = omega arith; numbers = omega arith }
 
 -- the whole applies
-pub premise-applies : Applies (send v2 start 40 (piece (scored ∷ second ∷ [])) .answer)
-unfolding opened send envelopeOf references start piece scored second patchOf
+pub premise-applies : Applies (send v2 startSession 40 (piece (scored ∷ second ∷ [])) .answer)
+unfolding opened send pieceEnvelope references startSession piece scored second patchNumbered
 premise-applies = refl
 
 -- and so do the two pieces
-pub conclusion-applies : AllApply 40 (send v2 start 40 (piece (scored ∷ second ∷ []))) pieces (sendAll v2 start 40 pieces)
-conclusion-applies = whole-and-pieces v2 start 40 _ pieces given .applies premise-applies
+pub conclusion-applies : AllApply 40 (send v2 startSession 40 (piece (scored ∷ second ∷ []))) pieces (sendAll v2 startSession 40 pieces)
+conclusion-applies = whole-and-pieces v2 startSession 40 _ pieces given-pieces .applies premise-applies
 
 -- rows are marked by their patches, 1 and 2, and not by the numbers of the batches, 40 and 41: 02, Job 11
 abbrev pub splitMarks : Session → List (Option ℕ)
 splitMarks s = entryMark (s .projection) 9 1 ∷ availabilityMark (s .projection) 5 ∷ []
 
-pub marks-alike : (splitMarks (send v2 start 40 (piece (scored ∷ second ∷ [])) .next) ≡ some 1 ∷ some 2 ∷ []) × (splitMarks (sendAll v2 start 40 pieces .last) ≡ some 1 ∷ some 2 ∷ [])
-unfolding opened send sendAll continue isRejected envelopeOf references start piece scored second patchOf entryMark availabilityMark
+pub marks-alike : (splitMarks (send v2 startSession 40 (piece (scored ∷ second ∷ [])) .next) ≡ some 1 ∷ some 2 ∷ []) × (splitMarks (sendAll v2 startSession 40 pieces .last) ≡ some 1 ∷ some 2 ∷ [])
+unfolding opened send sendAll continue isRejected pieceEnvelope references startSession piece scored second patchNumbered entryMark availabilityMark
 marks-alike = (refl, refl)
 
 -- ---- a list that fails in its second piece
 
 abbrev pub failingPieces : List Piece
-failingPieces = piece (first ∷ []) ∷ piece (failing ∷ []) ∷ []
+failingPieces = piece (first ∷ []) ∷ piece (failingPatch ∷ []) ∷ []
 
-pub given-failing : Given start 40 (piece (first ∷ failing ∷ [])) failingPieces
-unfolding start piece first failing patchOf opened patchesOf OperationHolds InRangeValue OptionalU64
+pub given-failing : Given startSession 40 (piece (first ∷ failingPatch ∷ [])) failingPieces
+unfolding startSession piece first failingPatch patchNumbered opened patchesOf OperationHolds InRangeValue OptionalU64
 given-failing = record { inRange = omega arith; cut = refl; nonEmpty = omega arith; figures = omega arith; numbers = omega arith }
 
 -- the whole passes steps 1 to 8 and fails in step 9, by the key rule
-pub premise-fails : FailsAtOperation v1 start 40 (piece (first ∷ failing ∷ []))
-unfolding opened envelopeOf references start piece first failing patchOf
-premise-fails = record { patches = first ∷ failing ∷ []; passes = refl; fault = keyRule; fails = refl }
+pub premise-fails : FailsAtOperation v1 startSession 40 (piece (first ∷ failingPatch ∷ []))
+unfolding opened pieceEnvelope references startSession piece first failingPatch patchNumbered
+premise-fails = record { patches = first ∷ failingPatch ∷ []; passes = refl; fault = keyRule; fails = refl }
 
-pub conclusion-fails : StopsAtPiece start 40 (piece (first ∷ failing ∷ [])) (premise-fails .fault) (send v1 start 40 (piece (first ∷ failing ∷ [])) .answer .diagnostics) failingPieces (sendAll v1 start 40 failingPieces)
-conclusion-fails = whole-and-pieces v1 start 40 _ failingPieces given-failing .fails premise-fails
+pub conclusion-fails : StopsAtPiece startSession 40 (piece (first ∷ failingPatch ∷ [])) (premise-fails .fault) (send v1 startSession 40 (piece (first ∷ failingPatch ∷ [])) .answer .diagnostics) failingPieces (sendAll v1 startSession 40 failingPieces)
+conclusion-fails = whole-and-pieces v1 startSession 40 _ failingPieces given-failing .fails premise-fails
 
 -- the refusal is 8, of two answers
-pub fails-with-8 : (send v1 start 40 (piece (first ∷ failing ∷ [])) .answer .diagnostics .code ≡ 8) × (length (sendAll v1 start 40 failingPieces .answers) ≡ 2)
-unfolding opened send sendAll continue isRejected envelopeOf references start piece first failing patchOf
+pub fails-with-8 : (send v1 startSession 40 (piece (first ∷ failingPatch ∷ [])) .answer .diagnostics .code ≡ 8) × (length (sendAll v1 startSession 40 failingPieces .answers) ≡ 2)
+unfolding opened send sendAll continue isRejected pieceEnvelope references startSession piece first failingPatch patchNumbered
 fails-with-8 = (refl, refl)

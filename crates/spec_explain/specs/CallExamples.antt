@@ -20,8 +20,8 @@ use Rattle.spec_explain.specs.OperationRule.{keyAbsent}
 use Rattle.spec_explain.specs.Reason.{unreadable, hasFindings, operationFails}
 use Rattle.spec_explain.specs.CallReasons as CallReasons
 use Rattle.spec_explain.specs.CallReasons.{explainCheck, explainListing, ConversionReason, notRead, kindMissing, noRoom, conversionRefusal, conversionWord, explainConversion, LineRule, lineFields, lineKey, lineText, lineBytes, lineCharacters, lineCount, ImportReason, badLine, setOver, patchFindings, noImportRoom, importRefusal, importWord, explainImport}
-use Rattle.spec_explain.specs.ExplainExamples.{numbered}
-use Rattle.spec_explain.specs.Opened.{opened}
+use Rattle.spec_explain.specs.ExplainExamples.{numberedPatch}
+use Rattle.spec_explain.specs.Opened.{openedReasons}
 
 -- ---- the check and the listing
 
@@ -29,27 +29,27 @@ abbrev oneLeft : List ℕ
 oneLeft = encode v1 [] ++ (7 ∷ [])
 
 abbrev notEmpty : List ℕ
-notEmpty = encode v1 (numbered 1 (remove 9 1 ∷ []) ∷ [])
+notEmpty = encode v1 (numberedPatch 1 (remove 9 1 ∷ []) ∷ [])
 
 abbrev findingSix : List ℕ
-findingSix = encode v1 (numbered 1 [] ∷ [])
+findingSix = encode v1 (numberedPatch 1 [] ∷ [])
 
 pub checks-explained :
     map (explainCheck v1) (oneLeft ∷ findingSix ∷ notEmpty ∷ []) ≡ some (unreadable (record { rule = bytesLeft; inside = outside; position = 35 })) ∷ none ∷ none ∷ []
-unfolding opened explainCheck
+unfolding openedReasons explainCheck
 checks-explained = refl
 
 pub listings-explained :
     map (explainListing v1) (oneLeft ∷ findingSix ∷ notEmpty ∷ encode v1 [] ∷ [])
     ≡ some (unreadable (record { rule = bytesLeft; inside = outside; position = 35 })) ∷ some (hasFindings (places.inPatch 0) 1 (record { kind = 6; domain = 1; secondary = 0 })) ∷ some (operationFails 0 0 keyAbsent) ∷ none ∷ []
-unfolding opened explainListing
+unfolding openedReasons explainListing
 listings-explained = refl
 
 -- ---- the conversion
 
 -- a set of one patch whose second operation has a score
 abbrev scored : List Patch
-scored = numbered 1 (insert 9 1 none (unsigned 0) ∷ insert 9 2 none (score 7) ∷ insert 9 3 none (score 8) ∷ []) ∷ []
+scored = numberedPatch 1 (insert 9 1 none (unsigned 0) ∷ insert 9 2 none (score 7) ∷ insert 9 3 none (score 8) ∷ []) ∷ []
 
 -- edition, bytes and room of a conversion, and why it is refused
 pub record ConversionExample : Type 0 where
@@ -70,7 +70,7 @@ conversionExamples =
     ∷ []
 
 pub conversions-explained : map (λ (x : ConversionExample). explainConversion (x .edition) (x .set) (x .room)) conversionExamples ≡ map (λ (x : ConversionExample). x .reason) conversionExamples
-unfolding opened explainConversion CallReasons.explainConverting CallReasons.explainRewriting otherEdition valuePasses
+unfolding openedReasons explainConversion CallReasons.explainConverting CallReasons.explainRewriting otherEdition valuePasses
 conversions-explained = refl
 
 abbrev pub conversionNamed : Option ConversionReason → ℕ × List ℕ
@@ -102,8 +102,8 @@ bringing list room r = record { list = list; room = room; reason = r }
 abbrev brokenAt : ℕ → LineRule → Option ImportReason
 brokenAt n r = some (badLine (record { line = n; rule = r }))
 
-abbrev pub importExamples : List ImportExample
-importExamples =
+abbrev pub importReasonExamples : List ImportExample
+importReasonExamples =
     bringing (55 ∷ []) 1000 (brokenAt 0 lineFields)
     ∷ bringing (line 55 (97 ∷ []) ++ line 120 []) 1000 (brokenAt 1 lineKey)
     ∷ bringing (line 55 (0xff ∷ [])) 1000 (brokenAt 0 lineText)
@@ -115,8 +115,8 @@ importExamples =
     ∷ bringing (line 55 (97 ∷ [])) 120 none
     ∷ []
 
-pub imports-explained : map (λ (x : ImportExample). explainImport v1 9 (numbered 1 [] .envelope) (x .list) (x .room)) importExamples ≡ map (λ (x : ImportExample). x .reason) importExamples
-unfolding opened repeatedly explainImport CallReasons.afterLines CallReasons.explainPatch CallReasons.explainFound CallReasons.firstLine CallReasons.lineRule CallReasons.fieldsRule CallReasons.termRule CallReasons.termsOf
+pub imports-explained : map (λ (x : ImportExample). explainImport v1 9 (numberedPatch 1 [] .envelope) (x .list) (x .room)) importReasonExamples ≡ map (λ (x : ImportExample). x .reason) importReasonExamples
+unfolding openedReasons repeatedly explainImport CallReasons.lineReasonFirst CallReasons.explainPatch CallReasons.explainFound CallReasons.firstBadLine CallReasons.lineRule CallReasons.fieldsRule CallReasons.termRule CallReasons.termsOf
     Decimal.isNumeral Decimal.numberWith Decimal.readDecimal prepend split lines termWith termOfFields readTerm keepsText also lineThen readTerms insertOf patchOf
 imports-explained = refl
 
@@ -125,7 +125,7 @@ importNamed none = (0, [])
 importNamed (some r) = (importNumber (importRefusal r), importWord r)
 
 -- in the order above, and a set that would be too long
-pub imports-named : map importNamed (map (λ (x : ImportExample). x .reason) importExamples ++ (some (setOver 32769) ∷ [])) ≡
+pub imports-named : map importNamed (map (λ (x : ImportExample). x .reason) importReasonExamples ++ (some (setOver 32769) ∷ [])) ≡
     (15, ascii "line-fields") ∷ (15, ascii "line-key") ∷ (15, ascii "line-not-utf8") ∷ (12, ascii "line-text-length") ∷ (12, ascii "line-text-characters") ∷ (12, ascii "line-count")
     ∷ (11, ascii "findings") ∷ (14, ascii "output-too-short") ∷ (0, []) ∷ (12, ascii "set-too-long") ∷ []
 unfolding importNumber

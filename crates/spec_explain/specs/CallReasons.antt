@@ -26,26 +26,26 @@ use Rattle.spec_listing.specs.Escapes.{tab}
 use Rattle.spec_listing.specs.Split.{split}
 use Rattle.spec_import.specs.Import as imports
 use Rattle.spec_import.specs.Import.{Term, ImportRefusal, lines, Terms, terms, faulty, readTerms, patchOf}
-use Rattle.spec_explain.specs.ReadingRule.{faultOf, readingWord, Unread}
+use Rattle.spec_explain.specs.ReadingRule.{ruleFault, readingWord, Unread}
 use Rattle.spec_explain.specs.Locate.{locate}
 use Rattle.spec_explain.specs.Walk.{Walk, through, halted, walkPatches, tested}
 use Rattle.spec_explain.specs.Reason.{Reason}
-use Rattle.spec_explain.specs.Explain.{fine, _>>=_, _>>_, patchesOf, readable, noFindings, applyStep, applies, reasonOf}
+use Rattle.spec_explain.specs.Explain.{fine, _>>=_, _>>_, patchesRead, patchesReadable, noFindings, stepKept, applies, reasonOf}
 
 -- ---- the check: only what is not read is refused
 
 unfoldable pub explainCheck : Edition → List ℕ → Option Reason
 explainCheck ed set = reasonOf do
-  ps ← readable (locate ed set) (patchesOf (readSet ed set))
+  ps ← patchesReadable (locate ed set) (patchesRead (readSet ed set))
   fine tt
 
 -- ---- the listing: reading, the checks, and all operations on an empty projection
 
 unfoldable pub explainListing : Edition → List ℕ → Option Reason
 explainListing ed set = reasonOf do
-  ps ← readable (locate ed set) (patchesOf (readSet ed set))
+  ps ← patchesReadable (locate ed set) (patchesRead (readSet ed set))
   noFindings (findings ps .place) (findings ps .found)
-  applies (walkPatches applyStep 0 empty ps)
+  applies (walkPatches stepKept 0 empty ps)
 
 -- ---- the conversion: reading, then the first value of a kind that the other edition lacks, then the room
 
@@ -56,7 +56,7 @@ pub data ConversionReason : Type 0 where
 
 -- the refusal that a reason is behind
 abbrev pub conversionRefusal : ConversionReason → ConversionRefusal
-conversionRefusal (notRead u) = unread (faultOf (u .rule))
+conversionRefusal (notRead u) = unread (ruleFault (u .rule))
 conversionRefusal (kindMissing i j) = conversions.kindMissing
 conversionRefusal (noRoom needed room) = conversions.outputTooShort
 
@@ -74,7 +74,7 @@ explainConverting to room (some u) ps = some (notRead u)
 explainConverting to room none ps = explainRewriting to room ps (walkPatches (tested (valuePasses (kindIn to))) 0 tt ps)
 
 unfoldable pub explainConversion : Edition → List ℕ → ℕ → Option ConversionReason
-explainConversion from set room = explainConverting (otherEdition from) room (locate from set) (patchesOf (readSet from set))
+explainConversion from set room = explainConverting (otherEdition from) room (locate from set) (patchesRead (readSet from set))
 
 -- ---- a term list: its lines in order, then the bytes of the set, the checks, and the room
 
@@ -123,9 +123,9 @@ orLater n none later = later
 orLater n (some r) later = some (record { line = n; rule = r })
 
 -- the first line that breaks a rule, after n others
-unfoldable pub firstLine : ℕ → List (List ℕ) → Option BadLine
-firstLine n [] = none
-firstLine n (line ∷ rest) = orLater n (lineRule n line) (firstLine (suc n) rest)
+unfoldable pub firstBadLine : ℕ → List (List ℕ) → Option BadLine
+firstBadLine n [] = none
+firstBadLine n (line ∷ rest) = orLater n (lineRule n line) (firstBadLine (suc n) rest)
 
 pub data ImportReason : Type 0 where
   badLine : BadLine → ImportReason
@@ -158,12 +158,12 @@ unfoldable pub termsOf : Terms → List Term
 termsOf (terms ts) = ts
 termsOf (faulty r) = []
 
-unfoldable pub afterLines : Option BadLine → Option ImportReason → Option ImportReason
-afterLines none later = later
-afterLines (some b) later = some (badLine b)
+unfoldable pub lineReasonFirst : Option BadLine → Option ImportReason → Option ImportReason
+lineReasonFirst none later = later
+lineReasonFirst (some b) later = some (badLine b)
 
 unfoldable pub explainImport : Edition → ℕ → Envelope → List ℕ → ℕ → Option ImportReason
-explainImport ed collection e list room = afterLines (firstLine 0 (lines list)) (explainPatch ed (patchOf collection e (termsOf (readTerms 0 (lines list))) ∷ []) room)
+explainImport ed collection e list room = lineReasonFirst (firstBadLine 0 (lines list)) (explainPatch ed (patchOf collection e (termsOf (readTerms 0 (lines list))) ∷ []) room)
 
 -- ---- what is claimed of the line that is named: it breaks the rule, and no line before it breaks one
 pub record FirstBadLine (ls : List (List ℕ)) (b : BadLine) : Type 0 where
@@ -172,5 +172,5 @@ pub record FirstBadLine (ls : List (List ℕ)) (b : BadLine) : Type 0 where
   pub behind : List (List ℕ)
   pub parts : ls ≡ before ++ (line ∷ behind)
   pub index : length before ≡ b .line
-  pub fine-before : firstLine 0 before ≡ none
+  pub fine-before : firstBadLine 0 before ≡ none
   pub breaks : lineRule (b .line) line ≡ some (b .rule)

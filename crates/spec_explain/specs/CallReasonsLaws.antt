@@ -30,17 +30,17 @@ use Rattle.spec_listing.specs.Escapes.{tab}
 use Rattle.spec_listing.specs.Split.{split}
 use Rattle.spec_import.specs.Import as imports
 use Rattle.spec_import.specs.Import.{Term, lines, termWith, termOfFields, readTerm, keepsText, Terms, terms, faulty, also, lineThen, readTerms, patchOf, Imported, imported, importPatch, importTerms}
-use Rattle.spec_explain.specs.ReadingRule.{faultOf, Unread}
+use Rattle.spec_explain.specs.ReadingRule.{ruleFault, Unread}
 use Rattle.spec_explain.specs.Locate.{locate}
 use Rattle.spec_explain.specs.LocateLaws.{Agrees, reads, stops, locate-agrees}
 use Rattle.spec_explain.specs.OperationRule.{operationFault, ruleOf}
 use Rattle.spec_explain.specs.Walk.{Walk, through, halted, walkPatches, tested, operationsBefore, FirstLacking}
 use Rattle.spec_explain.specs.WalkLaws.{operations-parted, test-through, test-first}
 use Rattle.spec_explain.specs.Reason.{Reason, unreadable, hasFindings, operationFails, reasonNumber}
-use Rattle.spec_explain.specs.Explain.{fine, _>>=_, _>>_, patchesOf, readable, noFindings, applyStep, applies, reasonOf}
+use Rattle.spec_explain.specs.Explain.{fine, _>>=_, _>>_, patchesRead, patchesReadable, noFindings, stepKept, applies, reasonOf}
 use Rattle.spec_explain.specs.ExplainLaws.{all-applied, first-failing, stopped-there}
 use Rattle.spec_explain.specs.CallReasons as reasons
-use Rattle.spec_explain.specs.CallReasons.{explainCheck, explainListing, ConversionReason, conversionRefusal, explainRewriting, explainConverting, explainConversion, LineRule, lineFields, lineKey, lineText, lineBytes, lineCharacters, lineCount, lineRefusal, termRule, fieldsRule, lineRule, BadLine, orLater, firstLine, ImportReason, badLine, setOver, patchFindings, noImportRoom, importRefusal, explainFound, explainPatch, termsOf, explainImport, FirstBadLine}
+use Rattle.spec_explain.specs.CallReasons.{explainCheck, explainListing, ConversionReason, conversionRefusal, explainRewriting, explainConverting, explainConversion, LineRule, lineFields, lineKey, lineText, lineBytes, lineCharacters, lineCount, lineRefusal, termRule, fieldsRule, lineRule, BadLine, orLater, firstBadLine, ImportReason, badLine, setOver, patchFindings, noImportRoom, importRefusal, explainFound, explainPatch, termsOf, explainImport, FirstBadLine}
 
 -- ---- the check
 
@@ -49,12 +49,12 @@ pub data CheckExplained : Option Reason → SetReading → Type 0 where
   notChecked : (r : Reason) (f : Fault) → reasonNumber r ≡ faultNumber f → CheckExplained (some r) (fault f)
 
 pub check-explained : (ed : Edition) (set : List ℕ) → CheckExplained (explainCheck ed set) (readSet ed set)
-unfolding explainCheck reasonOf readable patchesOf
+unfolding explainCheck reasonOf patchesReadable patchesRead
 check-explained ed set = go (locate ed set) (readSet ed set) (locate-agrees ed set)
   where
-    go : (o : Option Unread) (x : SetReading) → Agrees ed o x → CheckExplained (reasonOf (readable o (patchesOf x) >>= (λ ps. fine tt))) x
+    go : (o : Option Unread) (x : SetReading) → Agrees ed o x → CheckExplained (reasonOf (patchesReadable o (patchesRead x) >>= (λ ps. fine tt))) x
     go none (patches ps) (reads qs) = checks ps
-    go (some u) (fault f) (stops v g is) = notChecked (unreadable u) f (reading-number (faultOf (u .rule)) ∙ ap faultNumber is)
+    go (some u) (fault f) (stops v g is) = notChecked (unreadable u) f (reading-number (ruleFault (u .rule)) ∙ ap faultNumber is)
 
 -- ---- the listing
 
@@ -63,24 +63,24 @@ pub data ListingExplained : Option Reason → List ℕ → Type 0 where
   notListed : (r : Reason) → ListingExplained (some r) (refusalLine (reasonNumber r))
 
 pub listing-explained : (ed : Edition) (set : List ℕ) → ListingExplained (explainListing ed set) (listing ed set)
-unfolding explainListing reasonOf readable patchesOf noFindings applies listing readingLines outcomeLines
+unfolding explainListing reasonOf patchesReadable patchesRead noFindings applies listing readingLines outcomeLines
 listing-explained ed set = by-reading (locate ed set) (readSet ed set) (locate-agrees ed set)
   where
-    by-walk : (ps : List Patch) (w : Walk Projection) → walkPatches applyStep 0 empty ps ≡ w → ListingExplained (reasonOf (applies w)) (outcomeLines (applySteps empty (replaySteps ps)))
+    by-walk : (ps : List Patch) (w : Walk Projection) → walkPatches stepKept 0 empty ps ≡ w → ListingExplained (reasonOf (applies w)) (outcomeLines (applySteps empty (replaySteps ps)))
     by-walk ps (through q) is = rw (all-applied empty ps q is) (lists q)
     by-walk ps (halted h) is =
         let rule = ruleOf (h .left) (h .refused) in
         rw (stopped-there empty ps (h .patch) (h .operation) rule (first-failing empty ps h is), ← operation-number (operationFault rule)) (notListed (operationFails (h .patch) (h .operation) rule))
 
     by-findings : (ps : List Patch) (fs : List Finding) → findings ps .found ≡ fs
-        → ListingExplained (reasonOf (noFindings (findings ps .place) fs >> applies (walkPatches applyStep 0 empty ps))) (if isEmpty fs then outcomeLines (applySteps empty (replaySteps ps)) else refusalLine 11)
-    by-findings ps [] is = by-walk ps (walkPatches applyStep 0 empty ps) refl
+        → ListingExplained (reasonOf (noFindings (findings ps .place) fs >> applies (walkPatches stepKept 0 empty ps))) (if isEmpty fs then outcomeLines (applySteps empty (replaySteps ps)) else refusalLine 11)
+    by-findings ps [] is = by-walk ps (walkPatches stepKept 0 empty ps) refl
     by-findings ps (f ∷ fs) is = notListed (hasFindings (findings ps .place) (length (f ∷ fs)) f)
 
     by-reading : (o : Option Unread) (x : SetReading) → Agrees ed o x
-        → ListingExplained (reasonOf (readable o (patchesOf x) >>= (λ ps. noFindings (findings ps .place) (findings ps .found) >> applies (walkPatches applyStep 0 empty ps)))) (readingLines x)
+        → ListingExplained (reasonOf (patchesReadable o (patchesRead x) >>= (λ ps. noFindings (findings ps .place) (findings ps .found) >> applies (walkPatches stepKept 0 empty ps)))) (readingLines x)
     by-reading none (patches ps) (reads qs) = by-findings ps (findings ps .found) refl
-    by-reading (some u) (fault f) (stops v g is) = rw (← is, ← reading-number (faultOf (u .rule))) (notListed (unreadable u))
+    by-reading (some u) (fault f) (stops v g is) = rw (← is, ← reading-number (ruleFault (u .rule))) (notListed (unreadable u))
 
 -- ---- the conversion
 
@@ -115,7 +115,7 @@ not-all test (x ∷ a) o b e = go (test x) (not-all test a o b e)
     go false h = refl
 
 pub conversion-explained : (from : Edition) (set : List ℕ) (room : ℕ) → ConversionExplained from set (explainConversion from set room) (convert from set room)
-unfolding explainConversion explainConverting explainRewriting convert convertTo rewritten allKinds allValues patchesOf
+unfolding explainConversion explainConverting explainRewriting convert convertTo rewritten allKinds allValues patchesRead
 conversion-explained from set room = by-reading (locate from set) (readSet from set) refl refl (locate-agrees from set)
   where
     to : Edition
@@ -139,7 +139,7 @@ conversion-explained from set room = by-reading (locate from set) (readSet from 
         rw (all-operations (valuePasses (kindIn (otherEdition from))) ps, operations-parted (f .there), not-all (valuePasses (kindIn (otherEdition from))) (operationsBefore (f .there)) (f .operation) _ (f .lacks))
         (kindMissing (h .patch) (h .operation) ps r f)
 
-    by-reading : (o : Option Unread) (x : SetReading) → locate from set ≡ o → readSet from set ≡ x → Agrees from o x → ConversionExplained from set (explainConverting (otherEdition from) room o (patchesOf x)) (rewritten (otherEdition from) room x)
+    by-reading : (o : Option Unread) (x : SetReading) → locate from set ≡ o → readSet from set ≡ x → Agrees from o x → ConversionExplained from set (explainConverting (otherEdition from) room o (patchesRead x)) (rewritten (otherEdition from) room x)
     by-reading none (patches ps) l r (reads qs) = by-walk ps r (walkPatches (tested (valuePasses (kindIn (otherEdition from)))) 0 tt ps) refl
     by-reading (some u) (fault f) l r (stops v g is) = rw (← is) (notRead u l)
 
@@ -186,10 +186,10 @@ data LinesTell : Option BadLine → Terms → Type 0 where
   hold : (ts : List Term) → LinesTell none (terms ts)
   broken : (b : BadLine) → LinesTell (some b) (faulty (lineRefusal (b .rule)))
 
-lines-tell : (n : ℕ) (ls : List (List ℕ)) → LinesTell (firstLine n ls) (readTerms n ls)
-unfolding firstLine readTerms lineThen also
+lines-tell : (n : ℕ) (ls : List (List ℕ)) → LinesTell (firstBadLine n ls) (readTerms n ls)
+unfolding firstBadLine readTerms lineThen also
 lines-tell n [] = hold []
-lines-tell n (line ∷ ls) = by-line (lineRule n line) (readTerm line) (line-tells n line) (firstLine (suc n) ls) (readTerms (suc n) ls) (lines-tell (suc n) ls)
+lines-tell n (line ∷ ls) = by-line (lineRule n line) (readTerm line) (line-tells n line) (firstBadLine (suc n) ls) (readTerms (suc n) ls) (lines-tell (suc n) ls)
   where
     added : (t : Term) (b : Option BadLine) (x : Terms) → LinesTell b x → LinesTell b (also t x)
     added t none (terms ts) (hold us) = hold (t ∷ ts)
@@ -201,8 +201,8 @@ lines-tell n (line ∷ ls) = by-line (lineRule n line) (readTerm line) (line-tel
     by-line (some r) none (tellsForm q is) b x later = rw (← is) (broken (record { line = n; rule = r }))
 
 pub import-explained : (ed : Edition) (collection : ℕ) (e : Envelope) (list : List ℕ) (room : ℕ) → ImportExplained (explainImport ed collection e list room) (importTerms ed collection e list room)
-unfolding explainImport reasons.afterLines explainPatch explainFound termsOf importTerms imports.afterLines importPatch
-import-explained ed collection e list room = by-lines (firstLine 0 (lines list)) (readTerms 0 (lines list)) (lines-tell 0 (lines list))
+unfolding explainImport reasons.lineReasonFirst explainPatch explainFound termsOf importTerms imports.afterLines importPatch
+import-explained ed collection e list room = by-lines (firstBadLine 0 (lines list)) (readTerms 0 (lines list)) (lines-tell 0 (lines list))
   where
     by-room : (ps : List Patch) (t : Bool)
         → ImportExplained (if t then none else some (noImportRoom (length (encode ed ps)) room)) (if t then imported (encode ed ps) else imports.refused imports.outputTooShort)
@@ -220,7 +220,7 @@ import-explained ed collection e list room = by-lines (firstLine 0 (lines list))
     by-bytes p true = by-findings (p ∷ []) (findings (p ∷ []) .place) (findings (p ∷ []) .found)
     by-bytes p false = notBrought (setOver (length (encode ed (p ∷ []))))
 
-    by-lines : (b : Option BadLine) (x : Terms) → LinesTell b x → ImportExplained (reasons.afterLines b (explainPatch ed (patchOf collection e (termsOf x) ∷ []) room)) (imports.afterLines ed collection e room x)
+    by-lines : (b : Option BadLine) (x : Terms) → LinesTell b x → ImportExplained (reasons.lineReasonFirst b (explainPatch ed (patchOf collection e (termsOf x) ∷ []) room)) (imports.afterLines ed collection e room x)
     by-lines none (terms ts) (hold us) = by-bytes (patchOf collection e ts) (leb (length (encode ed (patchOf collection e ts ∷ []))) setBytes)
     by-lines (some b) (faulty r) (broken c) = notBrought (badLine b)
 
@@ -231,18 +231,18 @@ record FirstFrom (n : ℕ) (ls : List (List ℕ)) (b : BadLine) : Type 0 where
   behind : List (List ℕ)
   parts : ls ≡ before ++ (line ∷ behind)
   index : n + length before ≡ b .line
-  fine-before : firstLine n before ≡ none
+  fine-before : firstBadLine n before ≡ none
   breaks : lineRule (b .line) line ≡ some (b .rule)
 
-first-from : (n : ℕ) (ls : List (List ℕ)) (b : BadLine) → firstLine n ls ≡ some b → FirstFrom n ls b
-unfolding firstLine
+first-from : (n : ℕ) (ls : List (List ℕ)) (b : BadLine) → firstBadLine n ls ≡ some b → FirstFrom n ls b
+unfolding firstBadLine
 first-from n [] b e = absurd (let z : _≡_ {A = ℕ} 0 1 = cc in omega arith)
 first-from n (line ∷ ls) b e = go (lineRule n line) refl (first-from (suc n) ls b) e
   where
     some-is : {x y : BadLine} → some x ≡ some y → x ≡ y
     some-is q = cc
 
-    go : (r : Option LineRule) → lineRule n line ≡ r → (firstLine (suc n) ls ≡ some b → FirstFrom (suc n) ls b) → orLater n r (firstLine (suc n) ls) ≡ some b → FirstFrom n (line ∷ ls) b
+    go : (r : Option LineRule) → lineRule n line ≡ r → (firstBadLine (suc n) ls ≡ some b → FirstFrom (suc n) ls b) → orLater n r (firstBadLine (suc n) ls) ≡ some b → FirstFrom n (line ∷ ls) b
     go (some r) is later e =
         let same = some-is e in
         record {
@@ -266,7 +266,7 @@ first-from n (line ∷ ls) b e = go (lineRule n line) refl (first-from (suc n) l
           breaks = f .breaks;
         }
 
-pub first-bad-line : (ls : List (List ℕ)) (b : BadLine) → firstLine 0 ls ≡ some b → FirstBadLine ls b
+pub first-bad-line : (ls : List (List ℕ)) (b : BadLine) → firstBadLine 0 ls ≡ some b → FirstBadLine ls b
 first-bad-line ls b e =
     let f = first-from 0 ls b e in
     record { before = f .before; line = f .line; behind = f .behind; parts = f .parts; index = omega (arith, f .index); fine-before = f .fine-before; breaks = f .breaks }

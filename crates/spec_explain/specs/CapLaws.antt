@@ -13,15 +13,15 @@ use Rattle.spec_session.specs.Session.{Session}
 use Rattle.spec_session.specs.Diagnostics.{SessionRefusal, sessionNumber, Diagnostics, diagnosticsOf}
 use Rattle.spec_session.specs.Lifecycle.{rejected}
 use Rattle.spec_session.specs.Batch.{BatchEnvelope, BatchStep, rejectBatch, batch}
-use Rattle.spec_explain.specs.Reason.{Reason, refusalOf, reasonNumber, logicalOf}
+use Rattle.spec_explain.specs.Reason.{Reason, refusalFor, reasonNumber, logicalOf}
 use Rattle.spec_explain.specs.Explain.{overDeclared, explainSteps, explainBatch, withheld, given, underCap, explanationNumber, explain}
 use Rattle.spec_explain.specs.Claim.{withCap}
 use Rattle.spec_explain.specs.ExplainLaws.{rejected-by, logical-some, no-diagnostics, reason-exactly}
 
 -- a number, and 0 without a reason
-unfoldable pub numberOf : Option Reason → ℕ
-numberOf none = 0
-numberOf (some r) = reasonNumber r
+unfoldable pub numberOfReason : Option Reason → ℕ
+numberOfReason none = 0
+numberOfReason (some r) = reasonNumber r
 
 -- the code of diagnostics, of which there is one at least, under a cap that is not 0, and under 0
 code-shown : (cap : ℕ) (k : SessionRefusal) (n : ℕ) → (n ≡ 0 → ⊥) → (cap ≡ 0 → ⊥) → diagnosticsOf cap k n .code ≡ sessionNumber k
@@ -33,7 +33,7 @@ unfolding diagnosticsOf
 code-hidden cap k n zero = rw (eq-eqb (min n cap) 0 (omega arith))
 
 module _ (ed : Edition) (s : Session) (e : BatchEnvelope) (references : ℕ) (set : List ℕ) where
-  code-of : (r : Reason) → explainBatch ed s e references set ≡ some r → batch ed s e references set .answer .diagnostics .code ≡ diagnosticsOf (s .limits .diagnostics) (refusalOf r) (logicalOf r) .code
+  code-of : (r : Reason) → explainBatch ed s e references set ≡ some r → batch ed s e references set .answer .diagnostics .code ≡ diagnosticsOf (s .limits .diagnostics) (refusalFor r) (logicalOf r) .code
   unfolding rejectBatch
   code-of r q = ap (λ (b : BatchStep). b .answer .diagnostics .code) (rejected-by ed s e references set r q)
 
@@ -44,8 +44,8 @@ module _ (ed : Edition) (s : Session) (e : BatchEnvelope) (references : ℕ) (se
     where
       by-cap : (r : Reason) → explainBatch ed s e references set ≡ some r → (t : Bool) → eqb (s .limits .diagnostics) 0 ≡ t
           → explanationNumber (if t then withheld else given r) ≡ batch ed s e references set .answer .diagnostics .code
-      by-cap r q true t = sym (code-of r q ∙ code-hidden (s .limits .diagnostics) (refusalOf r) (logicalOf r) (eqb-true _ 0 t))
-      by-cap r q false t = sym (code-of r q ∙ code-shown (s .limits .diagnostics) (refusalOf r) (logicalOf r) (logical-some ed s e references set r q) (eqb-false _ 0 t))
+      by-cap r q true t = sym (code-of r q ∙ code-hidden (s .limits .diagnostics) (refusalFor r) (logicalOf r) (eqb-true _ 0 t))
+      by-cap r q false t = sym (code-of r q ∙ code-shown (s .limits .diagnostics) (refusalFor r) (logicalOf r) (logical-some ed s e references set r q) (eqb-false _ 0 t))
 
       go : (o : Option Reason) → explainBatch ed s e references set ≡ o → explanationNumber (underCap (s .limits .diagnostics) o) ≡ batch ed s e references set .answer .diagnostics .code
       go none q = sym (ap (λ (d : Diagnostics). d .code) (no-diagnostics ed s e references set q))
@@ -66,13 +66,13 @@ module _ (ed : Edition) (s : Session) (e : BatchEnvelope) (references : ℕ) (se
   cap-free cap = refl
 
 -- the number of the reason is the batch's number before the cap: the one that is shown under any cap above 0
-pub number-before-cap : (ed : Edition) (s : Session) (e : BatchEnvelope) (references : ℕ) (set : List ℕ) (cap : ℕ) → batch ed (withCap (suc cap) s) e references set .answer .diagnostics .code ≡ numberOf (explainBatch ed s e references set)
-unfolding numberOf withCap
+pub number-before-cap : (ed : Edition) (s : Session) (e : BatchEnvelope) (references : ℕ) (set : List ℕ) (cap : ℕ) → batch ed (withCap (suc cap) s) e references set .answer .diagnostics .code ≡ numberOfReason (explainBatch ed s e references set)
+unfolding numberOfReason withCap
 number-before-cap ed s e references set cap = go (explainBatch ed s e references set) refl
   where
-    go : (o : Option Reason) → explainBatch ed s e references set ≡ o → batch ed (withCap (suc cap) s) e references set .answer .diagnostics .code ≡ numberOf o
+    go : (o : Option Reason) → explainBatch ed s e references set ≡ o → batch ed (withCap (suc cap) s) e references set .answer .diagnostics .code ≡ numberOfReason o
     go none q = ap (λ (d : Diagnostics). d .code) (no-diagnostics ed (withCap (suc cap) s) e references set (cap-free ed s e references set (suc cap) ∙ q))
     go (some r) q =
         let q′ = cap-free ed s e references set (suc cap) ∙ q in
         code-of ed (withCap (suc cap) s) e references set r q′
-        ∙ code-shown (suc cap) (refusalOf r) (logicalOf r) (logical-some ed (withCap (suc cap) s) e references set r q′) (λ z. omega arith)
+        ∙ code-shown (suc cap) (refusalFor r) (logicalOf r) (logical-some ed (withCap (suc cap) s) e references set r q′) (λ z. omega arith)

@@ -22,7 +22,7 @@ use Rattle.spec_explain.specs.Placed.{PlacedAt}
 use Rattle.spec_explain.specs.OperationRule.{OperationRule, operationFault, Breaks}
 use Rattle.spec_explain.specs.Walk.{At, patchId, stepsBefore, FirstLacking}
 use Rattle.spec_explain.specs.Reason.{patchLimit, byteLimit, bothLimits, Reason, foreignSession, sessionClosed, declaredLimits, unreadable, hasFindings, countsDiffer, referencesOver, unknownTarget, cursorMismatch, operationFails}
-use Rattle.spec_explain.specs.Explain.{targetKnown, numberAfter}
+use Rattle.spec_explain.specs.Explain.{targetKnown, nextNumber}
 
 -- the first operation that fails: those before it apply, and it does not, by this rule
 pub record FirstFailing (p : Projection) (ps : List Patch) (i j : ℕ) (rule : OperationRule) : Type 0 where
@@ -57,8 +57,8 @@ module _ (ed : Edition) (s : Session) (e : BatchEnvelope) (references : ℕ) (se
     -- step 7: so many, and the first of them
     unknown : (ps : List Patch) → readSet ed set ≡ patches ps → (i j : ℕ) → FirstLacking (targetKnown (s .catalogue)) ps i j → Says (unknownTarget (absentTargets (s .catalogue) (operationsOf ps)) i j)
     -- step 8: there are patches, the cursor does not take the number, and what it takes is just the number told
-    notTaken : (e .patches ≡ 0 → ⊥) → takesNumber (s .cursor) (e .sequence) ≡ false → ((n : ℕ) → (takesNumber (s .cursor) n ≡ true) ↔ (numberAfter (s .cursor) ≡ some n))
-        → Says (cursorMismatch (numberAfter (s .cursor)))
+    notTaken : (e .patches ≡ 0 → ⊥) → takesNumber (s .cursor) (e .sequence) ≡ false → ((n : ℕ) → (takesNumber (s .cursor) n ≡ true) ↔ (nextNumber (s .cursor) ≡ some n))
+        → Says (cursorMismatch (nextNumber (s .cursor)))
     -- step 9
     fails : (ps : List Patch) → readSet ed set ≡ patches ps → (i j : ℕ) (rule : OperationRule) → FirstFailing (s .projection) ps i j rule → Says (operationFails i j rule)
 

@@ -40,9 +40,9 @@ abbrev pub _>>_ : {B : Type 0} → Explained (Unit {0}) → Explained B → Expl
 fine u >> c = c
 because r >> c = because r
 
-unfoldable pub require : Bool → Reason → Explained (Unit {0})
-require true r = fine tt
-require false r = because r
+unfoldable pub requireOr : Bool → Reason → Explained (Unit {0})
+requireOr true r = fine tt
+requireOr false r = because r
 
 -- ---- the reasons with figures of their own
 
@@ -58,13 +58,13 @@ overDeclared s e =
     (e .patches) (s .limits .patches) (e .stimulusBytes) (s .limits .stimulusBytes)
 
 -- step 4: the patches that were read; there are none where reading stopped
-unfoldable pub patchesOf : SetReading → List Patch
-patchesOf (patches ps) = ps
-patchesOf (fault f) = []
+unfoldable pub patchesRead : SetReading → List Patch
+patchesRead (patches ps) = ps
+patchesRead (fault f) = []
 
-unfoldable pub readable : Option Unread → List Patch → Explained (List Patch)
-readable none ps = fine ps
-readable (some u) ps = because (unreadable u)
+unfoldable pub patchesReadable : Option Unread → List Patch → Explained (List Patch)
+patchesReadable none ps = fine ps
+patchesReadable (some u) ps = because (unreadable u)
 
 -- the first of the findings, which are sorted
 unfoldable pub noFindings : Place → List Finding → Explained (Unit {0})
@@ -75,22 +75,22 @@ noFindings place (f ∷ fs) = because (hasFindings place (length (f ∷ fs)) f)
 unfoldable pub targetKnown : Catalogue → Operation → Bool
 targetKnown c o = inCatalogue c (targetOf o)
 
-unfoldable pub knownTargets : ℕ → Walk (Unit {0}) → Explained (Unit {0})
-knownTargets absent (through u) = fine tt
-knownTargets absent (halted h) = because (unknownTarget absent (h .patch) (h .operation))
+unfoldable pub targetsKnown : ℕ → Walk (Unit {0}) → Explained (Unit {0})
+targetsKnown absent (through u) = fine tt
+targetsKnown absent (halted h) = because (unknownTarget absent (h .patch) (h .operation))
 
 -- step 8: the one number that the cursor takes; Uninitialized asks for none, and after 2^64−1 there is none
-unfoldable pub numberAfter : Cursor → Option ℕ
-numberAfter uninitialized = none
-numberAfter (at n) = if ltb n largestU64 then some (n + 1) else none
+unfoldable pub nextNumber : Cursor → Option ℕ
+nextNumber uninitialized = none
+nextNumber (at n) = if ltb n largestU64 then some (n + 1) else none
 
 -- step 9: an operation that applies lets the walk go on
-unfoldable pub kept : Outcome → Option Projection
-kept (done p) = some p
-kept (stopped f) = none
+unfoldable pub keptProjection : Outcome → Option Projection
+keptProjection (done p) = some p
+keptProjection (stopped f) = none
 
-unfoldable pub applyStep : Projection → ℕ → Operation → Option Projection
-applyStep p id o = kept (applyOperation p id o)
+unfoldable pub stepKept : Projection → ℕ → Operation → Option Projection
+stepKept p id o = keptProjection (applyOperation p id o)
 
 unfoldable pub applies : Walk Projection → Explained (Unit {0})
 applies (through p) = fine tt
@@ -100,16 +100,16 @@ applies (halted h) = because (operationFails (h .patch) (h .operation) (ruleOf (
 
 unfoldable pub explainSteps : Edition → Session → BatchEnvelope → ℕ → List ℕ → Explained (Unit {0})
 explainSteps ed s e references set = do
-  require (eqb (e .session) (s .id)) (foreignSession (e .session) (s .id))
-  require (not (isClosed (s .lifecycle))) sessionClosed
-  require (leb (e .patches) (s .limits .patches) && leb (e .stimulusBytes) (s .limits .stimulusBytes)) (overDeclared s e)
-  ps ← readable (locate ed set) (patchesOf (readSet ed set))
+  requireOr (eqb (e .session) (s .id)) (foreignSession (e .session) (s .id))
+  requireOr (not (isClosed (s .lifecycle))) sessionClosed
+  requireOr (leb (e .patches) (s .limits .patches) && leb (e .stimulusBytes) (s .limits .stimulusBytes)) (overDeclared s e)
+  ps ← patchesReadable (locate ed set) (patchesRead (readSet ed set))
   noFindings (findings ps .place) (findings ps .found)
-  require (eqb (e .patches) (length ps) && eqb references (length (operationsOf ps))) (countsDiffer (e .patches) (length ps) references (length (operationsOf ps)))
-  require (leb (length (operationsOf ps)) (s .limits .references)) (referencesOver (length (operationsOf ps)) (s .limits .references))
-  knownTargets (absentTargets (s .catalogue) (operationsOf ps)) (walkPatches (tested (targetKnown (s .catalogue))) 0 tt ps)
-  require (eqb (e .patches) 0 || takesNumber (s .cursor) (e .sequence)) (cursorMismatch (numberAfter (s .cursor)))
-  applies (walkPatches applyStep 0 (s .projection) ps)
+  requireOr (eqb (e .patches) (length ps) && eqb references (length (operationsOf ps))) (countsDiffer (e .patches) (length ps) references (length (operationsOf ps)))
+  requireOr (leb (length (operationsOf ps)) (s .limits .references)) (referencesOver (length (operationsOf ps)) (s .limits .references))
+  targetsKnown (absentTargets (s .catalogue) (operationsOf ps)) (walkPatches (tested (targetKnown (s .catalogue))) 0 tt ps)
+  requireOr (eqb (e .patches) 0 || takesNumber (s .cursor) (e .sequence)) (cursorMismatch (nextNumber (s .cursor)))
+  applies (walkPatches stepKept 0 (s .projection) ps)
 
 unfoldable pub reasonOf : Explained (Unit {0}) → Option Reason
 reasonOf (fine u) = none

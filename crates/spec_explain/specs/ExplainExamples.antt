@@ -18,7 +18,7 @@ use Rattle.spec_explain.specs.ReadingRule.{ReadingRule, setTooLong, wron
 use Rattle.spec_explain.specs.OperationRule.{OperationRule, keyPresent, keyAbsent, neighbourAbsent, bindingsFull, availabilitiesFull, entriesFull, operationWord}
 use Rattle.spec_explain.specs.Reason.{patchLimit, byteLimit, bothLimits, Reason, foreignSession, sessionClosed, declaredLimits, unreadable, hasFindings, countsDiffer, referencesOver, unknownTarget, cursorMismatch, operationFails, reasonNumber, limitWord, reasonWord}
 use Rattle.spec_explain.specs.Explain.{explainBatch, withheld, given, underCap}
-use Rattle.spec_explain.specs.Opened.{opened}
+use Rattle.spec_explain.specs.Opened.{openedReasons}
 
 -- ---- what the examples are made of
 
@@ -41,11 +41,11 @@ abbrev declaring : ℕ → ℕ → BatchEnvelope
 declaring patches bytes = record { session = 5; sequence = 3; patches = patches; stimulusBytes = bytes }
 
 -- a patch of an id and a sequence, which continues the one before it
-abbrev pub numbered : ℕ → List Operation → Patch
-numbered n os = record { envelope = record { id = n; stream = 1; document = 1; surface = none; previous = n; revision = suc n; epoch = 1; sequence = n }; operations = os }
+abbrev pub numberedPatch : ℕ → List Operation → Patch
+numberedPatch n os = record { envelope = record { id = n; stream = 1; document = 1; surface = none; previous = n; revision = suc n; epoch = 1; sequence = n }; operations = os }
 
 abbrev one : List Operation → List Patch
-one os = numbered 1 os ∷ []
+one os = numberedPatch 1 os ∷ []
 
 -- collection 9 with these keys
 abbrev keyed : List ℕ → List Entry
@@ -55,31 +55,31 @@ abbrev holding : List ℕ → Projection
 holding ks = record { bindings = []; availabilities = []; entries = keyed ks }
 
 -- n numbers from i on
-unfoldable pub numbers : ℕ → ℕ → List ℕ
-numbers i zero = []
-numbers i (suc n) = i ∷ numbers (suc i) n
+unfoldable pub reasonNumbers : ℕ → ℕ → List ℕ
+reasonNumbers i zero = []
+reasonNumbers i (suc n) = i ∷ reasonNumbers (suc i) n
 
 -- 64 bindings, 64 availabilities and 128 entries, none of an anchor
 abbrev full : Projection
 full = record {
-  bindings = map (λ (i : ℕ). record { node = i; slot = 1; mark = 0; value = unsigned 0 }) (numbers 100 64);
-  availabilities = map (λ (i : ℕ). record { node = i; mark = 0; availability = pending }) (numbers 100 64);
-  entries = keyed (numbers 100 128);
+  bindings = map (λ (i : ℕ). record { node = i; slot = 1; mark = 0; value = unsigned 0 }) (reasonNumbers 100 64);
+  availabilities = map (λ (i : ℕ). record { node = i; mark = 0; availability = pending }) (reasonNumbers 100 64);
+  entries = keyed (reasonNumbers 100 128);
 }
 
 -- a batch, and why it is refused
-pub record Example : Type 0 where
+pub record ReasonExample : Type 0 where
   pub session : Session
   pub envelope : BatchEnvelope
   pub references : ℕ
   pub set : List ℕ
   pub reason : Option Reason
 
-abbrev example : Session → BatchEnvelope → ℕ → List Patch → Option Reason → Example
+abbrev example : Session → BatchEnvelope → ℕ → List Patch → Option Reason → ReasonExample
 example s e references ps r = record { session = s; envelope = e; references = references; set = encode v1 ps; reason = r }
 
 -- a batch of one patch with true counts
-abbrev sent : Session → List Operation → ℕ → Option Reason → Example
+abbrev sent : Session → List Operation → ℕ → Option Reason → ReasonExample
 sent s os n r = example s (declaring 1 10) n (one os) r
 
 -- number and word of a reason
@@ -89,7 +89,7 @@ named (some r) = (reasonNumber r, reasonWord r)
 
 -- ---- the table
 
-abbrev declared : List Example
+abbrev declared : List ReasonExample
 declared =
     example fresh (record { session = 6; sequence = 3; patches = 9; stimulusBytes = 10 }) 0 [] (some (foreignSession 6 5))
     ∷ example (session closed uninitialized empty) (declaring 9 10) 0 [] (some sessionClosed)
@@ -98,12 +98,12 @@ declared =
     ∷ example fresh (declaring 3 1001) 0 [] (some (declaredLimits bothLimits 3 2 1001 1000))
     ∷ []
 
-abbrev ofTheSet : List Example
+abbrev ofTheSet : List ReasonExample
 ofTheSet =
     record { session = fresh; envelope = declaring 2 10; references = 0; set = encode v1 [] ++ (7 ∷ []); reason = some (unreadable (record { rule = bytesLeft; inside = outside; position = 35 })) }
     -- a patch without operations, and a move before itself: the first record and how many there are
     ∷ example fresh (declaring 1 10) 0 (one []) (some (hasFindings (places.inPatch 0) 1 (record { kind = 6; domain = 1; secondary = 0 })))
-    ∷ example fresh (declaring 2 10) 0 (numbered 1 (remove 9 1 ∷ []) ∷ numbered 1 (remove 9 1 ∷ []) ∷ []) (some (hasFindings places.inSet 2 (record { kind = 4; domain = 1; secondary = 1 })))
+    ∷ example fresh (declaring 2 10) 0 (numberedPatch 1 (remove 9 1 ∷ []) ∷ numberedPatch 1 (remove 9 1 ∷ []) ∷ []) (some (hasFindings places.inSet 2 (record { kind = 4; domain = 1; secondary = 1 })))
     ∷ example fresh (declaring 2 10) 1 (one (remove 9 1 ∷ [])) (some (countsDiffer 2 1 1 1))
     ∷ example fresh (declaring 1 10) 2 (one (remove 9 1 ∷ [])) (some (countsDiffer 1 1 2 1))
     ∷ sent fresh (remove 9 1 ∷ remove 9 2 ∷ remove 9 3 ∷ remove 9 4 ∷ []) 4 (some (referencesOver 4 3))
@@ -115,7 +115,7 @@ ofTheSet =
     ∷ sent (session created (at 18446744073709551615) empty) (remove 9 1 ∷ []) 1 (some (cursorMismatch none))
     ∷ []
 
-abbrev ofOperations : List Example
+abbrev ofOperations : List ReasonExample
 ofOperations =
     sent (session created (at 2) (holding (1 ∷ 2 ∷ []))) (insert 9 2 none (unsigned 0) ∷ []) 1 (some (operationFails 0 0 keyPresent))
     ∷ sent (session created (at 2) (holding (1 ∷ 2 ∷ []))) (update 9 1 (unsigned 0) ∷ remove 9 3 ∷ update 9 4 (unsigned 0) ∷ []) 3 (some (operationFails 0 1 keyAbsent))
@@ -129,34 +129,34 @@ ofOperations =
     -- a full panel is told after keys and neighbours
     ∷ sent (session created (at 2) full) (insert 9 1 (some 2) (unsigned 0) ∷ []) 1 (some (operationFails 0 0 neighbourAbsent))
     -- the second operation of the second patch, which the first patch made fail
-    ∷ example fresh (declaring 2 10) 3 (numbered 1 (insert 9 1 none (unsigned 0) ∷ []) ∷ numbered 2 (setAvailability 5 pending ∷ insert 9 1 none (unsigned 0) ∷ []) ∷ []) (some (operationFails 1 1 keyPresent))
+    ∷ example fresh (declaring 2 10) 3 (numberedPatch 1 (insert 9 1 none (unsigned 0) ∷ []) ∷ numberedPatch 2 (setAvailability 5 pending ∷ insert 9 1 none (unsigned 0) ∷ []) ∷ []) (some (operationFails 1 1 keyPresent))
     ∷ []
 
 -- one that applies, and one that changes nothing whatever its number
-abbrev notRefused : List Example
+abbrev notRefused : List ReasonExample
 notRefused =
     sent fresh (insert 9 1 none (unsigned 0) ∷ setAvailability 5 pending ∷ []) 2 none
     ∷ example (session created (at 18446744073709551615) empty) (declaring 0 10) 0 [] none
     ∷ []
 
-abbrev pub examples : List Example
-examples = declared ++ (ofTheSet ++ (ofOperations ++ notRefused))
+abbrev pub reasonExamples : List ReasonExample
+reasonExamples = declared ++ (ofTheSet ++ (ofOperations ++ notRefused))
 
-pub examples-explained : map (λ (x : Example). explainBatch v1 (x .session) (x .envelope) (x .references) (x .set)) examples ≡ map (λ (x : Example). x .reason) examples
-unfolding opened numbers
+pub examples-explained : map (λ (x : ReasonExample). explainBatch v1 (x .session) (x .envelope) (x .references) (x .set)) reasonExamples ≡ map (λ (x : ReasonExample). x .reason) reasonExamples
+unfolding openedReasons reasonNumbers
 examples-explained = refl
 
 -- ---- the numbers and words
 
 -- the reasons above, by number and word, in their order
-pub examples-named : map (λ (x : Example). named (x .reason)) examples ≡
+pub reasons-named : map (λ (x : ReasonExample). named (x .reason)) reasonExamples ≡
     (1, ascii "foreign-session") ∷ (2, ascii "closed") ∷ (4, ascii "declared-patches") ∷ (4, ascii "declared-bytes") ∷ (4, ascii "declared-patches-and-bytes")
     ∷ (10, ascii "bytes-left") ∷ (11, ascii "findings") ∷ (11, ascii "findings") ∷ (5, ascii "counts-differ") ∷ (5, ascii "counts-differ") ∷ (4, ascii "references")
     ∷ (6, ascii "unknown-target") ∷ (6, ascii "unknown-target") ∷ (7, ascii "cursor") ∷ (7, ascii "cursor")
     ∷ (8, ascii "key-present") ∷ (8, ascii "key-absent") ∷ (8, ascii "neighbour-absent") ∷ (8, ascii "key-absent") ∷ (8, ascii "neighbour-absent")
     ∷ (9, ascii "bindings-full") ∷ (9, ascii "availabilities-full") ∷ (9, ascii "entries-full") ∷ (8, ascii "neighbour-absent") ∷ (8, ascii "key-present")
     ∷ (0, []) ∷ (0, []) ∷ []
-examples-named = refl
+reasons-named = refl
 
 -- ---- the cap
 
@@ -183,9 +183,9 @@ words =
     ++ (map limitWord (patchLimit ∷ byteLimit ∷ bothLimits ∷ [])
     ++ map reasonWord (foreignSession 0 0 ∷ sessionClosed ∷ hasFindings places.inSet 0 (record { kind = 0; domain = 0; secondary = 0 }) ∷ countsDiffer 0 0 0 0 ∷ referencesOver 0 0 ∷ unknownTarget 0 0 0 ∷ cursorMismatch none ∷ [])))
 
-abbrev pub distinct : List (List ℕ) → Bool
-distinct [] = true
-distinct (w ∷ ws) = not (any (equalLists eqb w) ws) && distinct ws
+abbrev pub distinctReasons : List (List ℕ) → Bool
+distinctReasons [] = true
+distinctReasons (w ∷ ws) = not (any (equalLists eqb w) ws) && distinctReasons ws
 
-pub words-distinct : distinct words ≡ true
+pub words-distinct : distinctReasons words ≡ true
 words-distinct = refl

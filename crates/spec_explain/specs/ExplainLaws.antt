@@ -38,8 +38,8 @@ use Rattle.spec_explain.specs.OperationRule.{OperationRule, operationFau
 use Rattle.spec_explain.specs.OperationRuleLaws.{rule-told}
 use Rattle.spec_explain.specs.Walk.{Halt, Walk, through, halted, walkPatches, onward, tested, patchId, stepsBefore, operationsBefore, runs, FirstLacking}
 use Rattle.spec_explain.specs.WalkLaws.{walk-through, walk-first, steps-parted, operations-parted, test-through, test-first}
-use Rattle.spec_explain.specs.Reason.{Reason, foreignSession, sessionClosed, unreadable, hasFindings, countsDiffer, referencesOver, unknownTarget, cursorMismatch, operationFails, refusalOf, logicalOf}
-use Rattle.spec_explain.specs.Explain.{Explained, fine, because, _>>=_, _>>_, require, whichLimit, overDeclared, patchesOf, readable, noFindings, targetKnown, knownTargets, numberAfter, kept, applyStep, applies, explainSteps, reasonOf, explainBatch}
+use Rattle.spec_explain.specs.Reason.{Reason, foreignSession, sessionClosed, unreadable, hasFindings, countsDiffer, referencesOver, unknownTarget, cursorMismatch, operationFails, refusalFor, logicalOf}
+use Rattle.spec_explain.specs.Explain.{Explained, fine, because, _>>=_, _>>_, requireOr, whichLimit, overDeclared, patchesRead, patchesReadable, noFindings, targetKnown, targetsKnown, nextNumber, keptProjection, stepKept, applies, explainSteps, reasonOf, explainBatch}
 use Rattle.spec_explain.specs.Claim.{FirstFailing, Says}
 
 -- ---- targets
@@ -61,33 +61,33 @@ module _ (c : Catalogue) where
 
 -- ---- operations
 
-kept-some : (x : Outcome) (p : Projection) → kept x ≡ some p → x ≡ done p
-unfolding kept
+kept-some : (x : Outcome) (p : Projection) → keptProjection x ≡ some p → x ≡ done p
+unfolding keptProjection
 kept-some (done q) p e = let same : q ≡ p = cc in ap done same
 kept-some (stopped f) p e = absurd (let z : _≡_ {A = ℕ} 0 1 = cc in omega arith)
 
-kept-none : (x : Outcome) → kept x ≡ none → (f : OperationFault) × (x ≡ stopped f)
-unfolding kept
+kept-none : (x : Outcome) → keptProjection x ≡ none → (f : OperationFault) × (x ≡ stopped f)
+unfolding keptProjection
 kept-none (done q) e = absurd (let z : _≡_ {A = ℕ} 0 1 = cc in omega arith)
 kept-none (stopped f) e = (f, refl)
 
 -- the steps that go through are those that apply
-runs-applied : (p : Projection) (ss : List ReplayStep) → runs applyStep p ss ≡ kept (applySteps p ss)
-unfolding runs applyStep applySteps applying.applyStep kept
+runs-applied : (p : Projection) (ss : List ReplayStep) → runs stepKept p ss ≡ keptProjection (applySteps p ss)
+unfolding runs stepKept applySteps applying.applyStep keptProjection
 runs-applied p [] = refl
 runs-applied p (r ∷ ss) = go (applyOperation p (r .patch) (r .operation)) (λ q. runs-applied q ss)
   where
-    go : (x : Outcome) → ((q : Projection) → runs applyStep q ss ≡ kept (applySteps q ss)) → onward (kept x) (λ q. runs applyStep q ss) ≡ kept (andThen x (λ q. applySteps q ss))
+    go : (x : Outcome) → ((q : Projection) → runs stepKept q ss ≡ keptProjection (applySteps q ss)) → onward (keptProjection x) (λ q. runs stepKept q ss) ≡ keptProjection (andThen x (λ q. applySteps q ss))
     go (done q) later = later q
     go (stopped f) later = refl
 
-pub all-applied : (p : Projection) (ps : List Patch) (q : Projection) → walkPatches applyStep 0 p ps ≡ through q → applySteps p (replaySteps ps) ≡ done q
-all-applied p ps q e = kept-some _ q (sym (runs-applied p (replaySteps ps)) ∙ walk-through applyStep 0 p ps q e)
+pub all-applied : (p : Projection) (ps : List Patch) (q : Projection) → walkPatches stepKept 0 p ps ≡ through q → applySteps p (replaySteps ps) ≡ done q
+all-applied p ps q e = kept-some _ q (sym (runs-applied p (replaySteps ps)) ∙ walk-through stepKept 0 p ps q e)
 
-pub first-failing : (p : Projection) (ps : List Patch) (h : Halt Projection) → walkPatches applyStep 0 p ps ≡ halted h → FirstFailing p ps (h .patch) (h .operation) (ruleOf (h .left) (h .refused))
-unfolding applyStep
+pub first-failing : (p : Projection) (ps : List Patch) (h : Halt Projection) → walkPatches stepKept 0 p ps ≡ halted h → FirstFailing p ps (h .patch) (h .operation) (ruleOf (h .left) (h .refused))
+unfolding stepKept
 first-failing p ps h e =
-    let f = walk-first applyStep p ps h e in
+    let f = walk-first stepKept p ps h e in
     let fails = kept-none _ (f .ends) in
     let told = rule-told (h .left) (patchId (f .there)) (h .refused) (fails .0) (fails .1) in
     record {
@@ -116,8 +116,8 @@ stopped-there p ps i j rule f =
 -- ---- the cursor
 
 -- a cursor that refuses some number takes just the one after its own
-number-taken : (c : Cursor) (k : ℕ) → takesNumber c k ≡ false → (n : ℕ) → (takesNumber c n ≡ true) ↔ (numberAfter c ≡ some n)
-unfolding takesNumber numberAfter
+number-taken : (c : Cursor) (k : ℕ) → takesNumber c k ≡ false → (n : ℕ) → (takesNumber c n ≡ true) ↔ (nextNumber c ≡ some n)
+unfolding takesNumber nextNumber
 number-taken uninitialized k t n = absurd (let z : _≡_ {A = ℕ} 0 1 = cc in omega arith)
 number-taken (at m) k t n = test-cases (ltb m largestU64)
     (λ b. rw b (λ h. ap some (sym (eqb-true n (m + 1) h)), λ h. let same : m + 1 ≡ n = cc in eq-eqb n (m + 1) (sym same)))
@@ -128,20 +128,20 @@ number-taken (at m) k t n = test-cases (ltb m largestU64)
 module _ (ed : Edition) (s : Session) (e : BatchEnvelope) (references : ℕ) (set : List ℕ) where
   -- a reason is that of the rejection, and says what holds; without one there is no rejection
   data Explains : Explained (Unit {0}) → BatchStep → Type 0 where
-    explains : (r : Reason) → Says ed s e references set r → (logicalOf r ≡ 0 → ⊥) → Explains (because r) (rejectBatch s (refusalOf r) (logicalOf r))
+    explains : (r : Reason) → Says ed s e references set r → (logicalOf r ≡ 0 → ⊥) → Explains (because r) (rejectBatch s (refusalFor r) (logicalOf r))
     accepts : (b : BatchStep) → (b .answer .disposition ≡ rejected → ⊥) → b .answer .diagnostics ≡ noDiagnostics → Explains (fine tt) b
 
   -- one step
-  step : (t : Bool) (r : Reason) (k : SessionRefusal) (c : Explained (Unit {0})) (d : Check (List Patch)) → refusalOf r ≡ k → logicalOf r ≡ 1
-      → (t ≡ false → Says ed s e references set r) → (t ≡ true → Explains c (concludeBatch s e d)) → Explains (require t r >> c) (concludeBatch s e (batching._>>_ (batching.require t k) d))
-  unfolding require batching.require concludeBatch
+  step : (t : Bool) (r : Reason) (k : SessionRefusal) (c : Explained (Unit {0})) (d : Check (List Patch)) → refusalFor r ≡ k → logicalOf r ≡ 1
+      → (t ≡ false → Says ed s e references set r) → (t ≡ true → Explains c (concludeBatch s e d)) → Explains (requireOr t r >> c) (concludeBatch s e (batching._>>_ (batching.require t k) d))
+  unfolding requireOr batching.require concludeBatch
   step true r k c d is one says on = on refl
   step false r k c d is one says on = rw (← is, ← one) (explains r (says refl) (λ z. omega (arith, one)))
 
   -- step 4: the bytes are read, or reading stops by a rule of the same number
   reading-step : (o : Option Unread) (x : SetReading) → locate ed set ≡ o → readSet ed set ≡ x → Agrees ed o x → (c : List Patch → Explained (Unit {0})) (d : List Patch → Check (List Patch))
-      → ((ps : List Patch) → readSet ed set ≡ patches ps → Explains (c ps) (concludeBatch s e (d ps))) → Explains (readable o (patchesOf x) >>= c) (concludeBatch s e (batching._>>=_ (batching.readable x) d))
-  unfolding readable patchesOf batching.readable concludeBatch
+      → ((ps : List Patch) → readSet ed set ≡ patches ps → Explains (c ps) (concludeBatch s e (d ps))) → Explains (patchesReadable o (patchesRead x) >>= c) (concludeBatch s e (batching._>>=_ (batching.readable x) d))
+  unfolding patchesReadable patchesRead batching.readable concludeBatch
   reading-step none (patches ps) l r (reads qs) c d on = on ps r
   reading-step (some u) (fault f) l r (stops v g is) c d on = rw (← is) (explains (unreadable u) (Says.notRead u l (first-byte ed set u l) (named-place ed set u l)) (λ z. omega arith))
 
@@ -155,8 +155,8 @@ module _ (ed : Edition) (s : Session) (e : BatchEnvelope) (references : ℕ) (se
   -- step 7
   targets-step : (ps : List Patch) → readSet ed set ≡ patches ps → (w : Walk (Unit {0})) → walkPatches (tested (targetKnown (s .catalogue))) 0 tt ps ≡ w → (c : Explained (Unit {0})) (d : Check (List Patch))
       → Explains c (concludeBatch s e d)
-      → Explains (knownTargets (absentTargets (s .catalogue) (operationsOf ps)) w >> c) (concludeBatch s e (batching._>>_ (batching.knownTargets (absentTargets (s .catalogue) (operationsOf ps))) d))
-  unfolding knownTargets batching.knownTargets concludeBatch
+      → Explains (targetsKnown (absentTargets (s .catalogue) (operationsOf ps)) w >> c) (concludeBatch s e (batching._>>_ (batching.knownTargets (absentTargets (s .catalogue) (operationsOf ps))) d))
+  unfolding targetsKnown batching.knownTargets concludeBatch
   targets-step ps r (through u) is c d on = rw (none-absent (s .catalogue) (operationsOf ps) (test-through (targetKnown (s .catalogue)) ps u is)) on
   targets-step ps r (halted h) is c d on =
       let f = test-first (targetKnown (s .catalogue)) ps h is in
@@ -165,7 +165,7 @@ module _ (ed : Edition) (s : Session) (e : BatchEnvelope) (references : ℕ) (se
       (explains (unknownTarget (absentTargets (s .catalogue) (operationsOf ps)) (h .patch) (h .operation)) (Says.unknown ps r (h .patch) (h .operation) f) present)
 
   -- step 9
-  apply-step : (ps : List Patch) → readSet ed set ≡ patches ps → (w : Walk Projection) → walkPatches applyStep 0 (s .projection) ps ≡ w → Explains (applies w) (concludeBatch s e (pass ps))
+  apply-step : (ps : List Patch) → readSet ed set ≡ patches ps → (w : Walk Projection) → walkPatches stepKept 0 (s .projection) ps ≡ w → Explains (applies w) (concludeBatch s e (pass ps))
   unfolding applies concludeBatch candidate commit keepSession applyBatch
   apply-step ps r (through q) is = rw (all-applied (s .projection) ps q is) (accepted (eqb (e .patches) 0))
     where
@@ -198,7 +198,7 @@ module _ (ed : Edition) (s : Session) (e : BatchEnvelope) (references : ℕ) (se
       → Says ed s e references set (countsDiffer (e .patches) (length ps) references (length (operationsOf ps)))
   counts-say ps r t = Says.differ ps r (λ a b. let z : true ≡ false = rw (eq-eqb _ _ a, eq-eqb _ _ b) at t in let w : _≡_ {A = ℕ} 0 1 = cc in omega arith)
 
-  cursor-says : (eqb (e .patches) 0 || takesNumber (s .cursor) (e .sequence)) ≡ false → Says ed s e references set (cursorMismatch (numberAfter (s .cursor)))
+  cursor-says : (eqb (e .patches) 0 || takesNumber (s .cursor) (e .sequence)) ≡ false → Says ed s e references set (cursorMismatch (nextNumber (s .cursor)))
   cursor-says t = let refused = or-right (eqb (e .patches) 0) _ t in Says.notTaken (eqb-false (e .patches) 0 (or-left _ _ t)) refused (number-taken (s .cursor) (e .sequence) refused)
 
   -- ---- all of them
@@ -214,8 +214,8 @@ module _ (ed : Edition) (s : Session) (e : BatchEnvelope) (references : ℕ) (se
       (step (eqb (e .patches) (length ps) && eqb references (length (operationsOf ps))) (countsDiffer (e .patches) (length ps) references (length (operationsOf ps))) session.countsDiffer _ _ refl refl (counts-say ps r) (λ _.
       step (leb (length (operationsOf ps)) (s .limits .references)) (referencesOver (length (operationsOf ps)) (s .limits .references)) session.limitExceeded _ _ refl refl (λ t. Says.manyReferences ps r (leb-false _ _ t)) (λ _.
       targets-step ps r (walkPatches (tested (targetKnown (s .catalogue))) 0 tt ps) refl _ _
-      (step (eqb (e .patches) 0 || takesNumber (s .cursor) (e .sequence)) (cursorMismatch (numberAfter (s .cursor))) session.cursorMismatch _ _ refl refl cursor-says (λ _.
-      apply-step ps r (walkPatches applyStep 0 (s .projection) ps) refl)))))))))
+      (step (eqb (e .patches) 0 || takesNumber (s .cursor) (e .sequence)) (cursorMismatch (nextNumber (s .cursor))) session.cursorMismatch _ _ refl refl cursor-says (λ _.
+      apply-step ps r (walkPatches stepKept 0 (s .projection) ps) refl)))))))))
 
   -- ---- the theorems
 
@@ -226,12 +226,12 @@ module _ (ed : Edition) (s : Session) (e : BatchEnvelope) (references : ℕ) (se
   apart q = absurd (let z : _≡_ {A = ℕ} 0 1 = cc in omega arith)
 
   -- a batch that is explained is rejected with the refusal of the reason, and with its count of diagnostics, both before the cap
-  pub rejected-by : (r : Reason) → explainBatch ed s e references set ≡ some r → batch ed s e references set ≡ rejectBatch s (refusalOf r) (logicalOf r)
+  pub rejected-by : (r : Reason) → explainBatch ed s e references set ≡ some r → batch ed s e references set ≡ rejectBatch s (refusalFor r) (logicalOf r)
   unfolding explainBatch reasonOf
   rejected-by r q = go (explainSteps ed s e references set) (batch ed s e references set) explains-batch q
     where
-      go : (x : Explained (Unit {0})) (b : BatchStep) → Explains x b → reasonOf x ≡ some r → b ≡ rejectBatch s (refusalOf r) (logicalOf r)
-      go (because t) b (explains t′ says n) q = ap (λ (u : Reason). rejectBatch s (refusalOf u) (logicalOf u)) (because-is q)
+      go : (x : Explained (Unit {0})) (b : BatchStep) → Explains x b → reasonOf x ≡ some r → b ≡ rejectBatch s (refusalFor r) (logicalOf r)
+      go (because t) b (explains t′ says n) q = ap (λ (u : Reason). rejectBatch s (refusalFor u) (logicalOf u)) (because-is q)
       go (fine u) b (accepts b′ n d) q = apart q
 
   -- what a reason says holds

@@ -10,9 +10,9 @@ use Rattle.spec_explain.specs.ReadingRule.{tooFewBytes, bytesLeft, Unrea
 use Rattle.spec_explain.specs.Locate.{locate}
 
 -- the beginning before the named byte lacks the field that begins there, in the same patch and operation; or it is a whole set, where bytes are left
-pub data Reached (u : Unread) : Option Unread → Type 0 where
-  lacksField : Reached u (some (record { rule = tooFewBytes; inside = u .inside; position = u .position }))
-  wholeSet : u .rule ≡ bytesLeft → Reached u none
+pub data FieldReached (u : Unread) : Option Unread → Type 0 where
+  lacksField : FieldReached u (some (record { rule = tooFewBytes; inside = u .inside; position = u .position }))
+  wholeSet : u .rule ≡ bytesLeft → FieldReached u none
 
 -- a beginning has too few bytes, and no other fault
 pub data BreaksOff : Option Unread → Type 0 where
@@ -27,6 +27,6 @@ pub data NoOther (u : Unread) : Option Unread → Type 0 where
 -- the named byte is the first; a set over its bytes is not read at all, so its beginnings are not asked
 pub record FirstByte (ed : Edition) (set : List ℕ) (u : Unread) : Type 0 where
   pub within : u .position ≤ length set
-  pub reached : Reached u (locate ed (take (u .position) set))
+  pub reached : FieldReached u (locate ed (take (u .position) set))
   pub before : (n : ℕ) → n < u .position → BreaksOff (locate ed (take n set))
   pub others : length set ≤ setBytes → (n : ℕ) → NoOther u (locate ed (take n set))

@@ -15,9 +15,9 @@ use Rattle.spec_patch.specs.Edition.{Edition}
 use Rattle.spec_patch.specs.Encode.{heading}
 use Rattle.spec_explain.specs.ReadingRule.{setTooLong, tooFewBytes, bytesLeft, Inside, outside, Unread}
 use Rattle.spec_explain.specs.Locate.{Stop, Located, past, stop, locateLetters, locatePatches, atEnd, stopOf, fromStart, locate}
-use Rattle.spec_explain.specs.SteadyLaws.{further, brokenOff, Decided, short, fixed, Passed, Stopped, past-is, stop-is, not-both}
+use Rattle.spec_explain.specs.SteadyLaws.{stopFurther, brokenOff, Decided, short, fixed, Passed, StoppedReading, past-is, stop-is, not-both}
 use Rattle.spec_explain.specs.SteadySetLaws.{steady-patches}
-use Rattle.spec_explain.specs.FirstByte.{Reached, lacksField, wholeSet, BreaksOff, breaksOff, NoOther, isRead, tooFew, sameFault, FirstByte}
+use Rattle.spec_explain.specs.FirstByte.{FieldReached, lacksField, wholeSet, BreaksOff, breaksOff, NoOther, isRead, tooFew, sameFault, FirstByte}
 
 some-is : {u v : Unread} → some u ≡ some v → u ≡ v
 some-is e = cc
@@ -75,7 +75,7 @@ module _ (ed : Edition) where
   unfolding atEnd
   seen-from f g u e = by (locatePatches ed f) refl
     where
-      the-same : (s : Stop) → atEnd (locatePatches ed (f ++ g)) ≡ some (further s (length g)) → NoOther u (fromStart f (some s))
+      the-same : (s : Stop) → atEnd (locatePatches ed (f ++ g)) ≡ some (stopFurther s (length g)) → NoOther u (fromStart f (some s))
       the-same s q =
           let place : length (f ++ g) - (s .left + length g) ≡ length f - s .left = omega (arith, length-append f g) in
           rw (alike s place (ap (fromStart (f ++ g)) (sym q) ∙ e)) sameFault
@@ -121,10 +121,10 @@ module _ (ed : Edition) where
           let same : take n set ≡ f = ap (take n) (parts ∙ ap (λ (l : List ℕ). l ++ back) (sym whole) ∙ append-assoc f g back) ∙ take-at f (g ++ back) n long in
           rw (begun n, same) (breaks f g front whole (omega (arith, ap length whole, length-append f g)) cut)
 
-      first-byte-of : (u : Unread) → locate ed set ≡ some u → u .position ≡ length front → Cut front → Reached u (fromStart front (atEnd (locatePatches ed front))) → FirstByte ed set u
+      first-byte-of : (u : Unread) → locate ed set ≡ some u → u .position ≡ length front → Cut front → FieldReached u (fromStart front (atEnd (locatePatches ed front))) → FirstByte ed set u
       first-byte-of u e p cut reached = record {
         within = omega (arith, ap length parts, length-append front back, p);
-        reached = subst (Reached u) (sym (ap (λ (n : ℕ). locate ed (take n set)) p ∙ ap (locate ed) front-is ∙ located front front-fits)) reached;
+        reached = subst (FieldReached u) (sym (ap (λ (n : ℕ). locate ed (take n set)) p ∙ ap (locate ed) front-is ∙ located front front-fits)) reached;
         before = λ n h. before-of cut n (omega (arith, p));
         others = λ k n. others-of u e n;
       }
@@ -136,7 +136,7 @@ module _ (ed : Edition) where
       let start : u .position ≡ 0 = sym (ap (λ (v : Unread). v .position) same) ∙ omega arith in
       record {
         within = omega (arith, start);
-        reached = subst (Reached u) (ap (λ (v : Unread). some (record { rule = tooFewBytes; inside = v .inside; position = v .position })) (sym same) ∙ ap (λ (n : ℕ). some (record { rule = tooFewBytes; inside = outside; position = n })) (omega arith) ∙ sym (ap (λ (n : ℕ). locate ed (take n set)) start)) lacksField;
+        reached = subst (FieldReached u) (ap (λ (v : Unread). some (record { rule = tooFewBytes; inside = v .inside; position = v .position })) (sym same) ∙ ap (λ (n : ℕ). some (record { rule = tooFewBytes; inside = outside; position = n })) (omega arith) ∙ sym (ap (λ (n : ℕ). locate ed (take n set)) start)) lacksField;
         before = λ n h. absurd (omega (arith, start));
         others = λ k n. absurd (omega arith);
       }
@@ -156,14 +156,14 @@ module _ (ed : Edition) where
           first-byte-of set fits (p .taken) (b ∷ rest) (p .parts) u e (sym (ap (λ (v : Unread). v .position) same) ∙ place) (all whole)
           (rw whole (wholeSet (sym (ap (λ (v : Unread). v .rule) same))))
 
-      stopped-at : (fits : length set ≤ setBytes) (s : Stop) → Stopped (locatePatches ed) set s → fromStart set (some s) ≡ some u → FirstByte ed set u
+      stopped-at : (fits : length set ≤ setBytes) (s : Stop) → StoppedReading (locatePatches ed) set s → fromStart set (some s) ≡ some u → FirstByte ed set u
       stopped-at fits s p q =
           let same = some-is q in
           let place : length set - s .left ≡ length (p .front) = omega (arith, ap length (p .parts), length-append (p .front) (p .back), p .behind) in
           let named : u .position ≡ length (p .front) = sym (ap (λ (v : Unread). v .position) same) ∙ place in
           let left : length (p .front) - 0 ≡ length (p .front) = omega arith in
           first-byte-of set fits (p .front) (p .back) (p .parts) u e named (atField (brokenOff (s .inside)) refl (p .ends))
-          (rw (p .ends) (subst (λ (v : Unread). Reached u (some v)) (lacking (ap (λ (v : Unread). v .inside) (sym same)) (named ∙ sym left)) lacksField))
+          (rw (p .ends) (subst (λ (v : Unread). FieldReached u (some v)) (lacking (ap (λ (v : Unread). v .inside) (sym same)) (named ∙ sym left)) lacksField))
 
       by-way : (fits : length set ≤ setBytes) (x : Located) → locatePatches ed set ≡ x → fromStart set (atEnd x) ≡ some u → FirstByte ed set u
       by-way fits (past []) is q = none-not q

@@ -58,21 +58,21 @@ abbrev pub field : {A : Type 0} → Reader A → Locator
 field p = fieldThen p (λ a rest. past rest)
 
 -- a tag, and what follows it
-pub record Row : Type 0 where
+pub record TagRow : Type 0 where
   pub tag : ℕ
   pub follows : Locator
 
 infix 90 _⇒_
-abbrev pub _⇒_ : ℕ → Locator → Row
+abbrev pub _⇒_ : ℕ → Locator → TagRow
 t ⇒ l = record { tag = t; follows = l }
 
 -- what follows the tag t; where no row has it, reading stops at the tag
-unfoldable pub byRow : ReadingRule → List Row → (field : List ℕ) → ℕ → Locator
+unfoldable pub byRow : ReadingRule → List TagRow → (field : List ℕ) → ℕ → Locator
 byRow rule [] field t rest = stopAt rule field
 byRow rule (row ∷ rows) field t rest = if eqb t (row .tag) then row .follows rest else byRow rule rows field t rest
 
 -- a byte that tells what follows
-abbrev pub tagged : ReadingRule → List Row → Locator
+abbrev pub tagged : ReadingRule → List TagRow → Locator
 tagged rule rows field = fieldThen byte (byRow rule rows field) field
 
 -- n times, counted from i on
@@ -122,7 +122,7 @@ unfoldable pub locateScore : Locator
 locateScore field = fieldThen byte (λ n rest. if leb n highestScore then past rest else stopAt scoreRange field) field
 
 -- a score, where the edition has them
-unfoldable pub scoreRow : Edition → List Row
+unfoldable pub scoreRow : Edition → List TagRow
 scoreRow v1 = []
 scoreRow v2 = 5 ⇒ locateScore ∷ []
 

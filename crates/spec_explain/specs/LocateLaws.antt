@@ -16,8 +16,8 @@ use Rattle.spec_patch.specs.Edition.{Edition, v1, v2, addedKinds, kinds, hasKin
 use Rattle.spec_patch.specs.Encode.{heading}
 use Rattle.spec_patch.specs.Reader.{Fault, malformed, overCapacity, Result, read, refused, Reader, onward, followed, mapped, pair, orTag, noTag, many, nothing, byte, bytes, number, literal}
 use Rattle.spec_patch.specs.Read.{readU32, readU64, readScore, readCounted, optionalAfter, readOptional, quadAfter, readQuad, availabilityAfter, readAvailability, readTextBy, readText, valueAfterWith, valueAfter, inEdition, readValueBy, readValue, operationAfter, readOperationBy, readOperation, toSetBinding, toSetAvailability, toInsert, toUpdate, toRemove, toMove, readEnvelope, toEnvelope, readPatch, toPatch, readPatches, SetReading, patches, fault, ended, readSet}
-use Rattle.spec_explain.specs.ReadingRule.{ReadingRule, setTooLong, wrongHeading, operationTag, valueKind, optionalTag, availabilityTag, quadTag, scoreRange, notUtf8, patchCount, operationCount, textLength, characterCount, faultOf, Inside, outside, Unread}
-use Rattle.spec_explain.specs.Locate.{Located, past, stop, Locator, stopAt, goOn, _⨟_, behind, fieldThen, field, Row, _⇒_, byRow, tagged, repeated, counted, placedStop, within, ends, locateOptional, locateQuad, locateAvailability, locateText, locateScore, scoreRow, locateValue, locateOperation, locateEnvelope, locatePatch, locateLetters, locatePatches, atEnd, stopOf, fromStart, locate}
+use Rattle.spec_explain.specs.ReadingRule.{ReadingRule, setTooLong, wrongHeading, operationTag, valueKind, optionalTag, availabilityTag, quadTag, scoreRange, notUtf8, patchCount, operationCount, textLength, characterCount, ruleFault, Inside, outside, Unread}
+use Rattle.spec_explain.specs.Locate.{Located, past, stop, Locator, stopAt, goOn, _⨟_, behind, fieldThen, field, TagRow, _⇒_, byRow, tagged, repeated, counted, placedStop, within, ends, locateOptional, locateQuad, locateAvailability, locateText, locateScore, scoreRow, locateValue, locateOperation, locateEnvelope, locatePatch, locateLetters, locatePatches, atEnd, stopOf, fromStart, locate}
 
 -- ---- what becomes of bytes: some are left, or there is a fault
 
@@ -27,7 +27,7 @@ pub data Fate : Type 0 where
 
 abbrev pub fate : Located → Fate
 fate (past rest) = went rest
-fate (stop s) = failed (faultOf (s .rule))
+fate (stop s) = failed (ruleFault (s .rule))
 
 abbrev pub fateOf : {A : Type 0} → Result A → Fate
 fateOf (read a rest) = went rest
@@ -123,14 +123,14 @@ tells-u32 = tells-field (short-number 4)
 
 module _ {A : Type 0} where
   -- what follows a tag
-  record TellsAfter (rule : ReadingRule) (rows : List Row) (f : ℕ → Reader A) : Type 0 where
+  record TellsAfter (rule : ReadingRule) (rows : List TagRow) (f : ℕ → Reader A) : Type 0 where
     after : (bs : List ℕ) (t : ℕ) (rest : List ℕ) → fate (byRow rule rows bs t rest) ≡ fateOf (f t rest)
 
-  tells-none : (rule : ReadingRule) → faultOf rule ≡ malformed → TellsAfter rule [] noTag
+  tells-none : (rule : ReadingRule) → ruleFault rule ≡ malformed → TellsAfter rule [] noTag
   unfolding byRow
   tells-none rule e = record { after = λ bs t rest. ap failed e }
 
-  tells-row : {rule : ReadingRule} {rows : List Row} {f : ℕ → Reader A} (k : ℕ) {l : Locator} {p : Reader A} → Tells l p → TellsAfter rule rows f → TellsAfter rule (k ⇒ l ∷ rows) (orTag k p f)
+  tells-row : {rule : ReadingRule} {rows : List TagRow} {f : ℕ → Reader A} (k : ℕ) {l : Locator} {p : Reader A} → Tells l p → TellsAfter rule rows f → TellsAfter rule (k ⇒ l ∷ rows) (orTag k p f)
   unfolding byRow
   tells-row {rule} {rows} {f} k {l} {p} one others = record { after = λ bs t rest. go bs t rest (eqb t k) }
     where
@@ -138,7 +138,7 @@ module _ {A : Type 0} where
       go bs t rest true = one .tells rest
       go bs t rest false = others .after bs t rest
 
-  tells-tagged : {rule : ReadingRule} {rows : List Row} {f : ℕ → Reader A} → TellsAfter rule rows f → Tells (tagged rule rows) (followed byte f)
+  tells-tagged : {rule : ReadingRule} {rows : List TagRow} {f : ℕ → Reader A} → TellsAfter rule rows f → Tells (tagged rule rows) (followed byte f)
   tells-tagged {rule} {rows} {f} each = record { tells = λ bs. tells-behind short-byte (byRow rule rows bs) f bs (each .after bs) }
 
 -- a tag that ends
@@ -153,7 +153,7 @@ module _ {A : Type 0} {l : ℕ → Locator} {p : Reader A} (each : (i : ℕ) →
   tells-many zero i = record { tells = λ bs. refl }
   tells-many (suc n) i = tells-then (each i) (λ a. tells-mapped (λ more. a ∷ more) (tells-many n (suc i)))
 
-  tells-counted : (rule : ReadingRule) (capacity : ℕ) → faultOf rule ≡ overCapacity → Tells (counted rule capacity l) (readCounted capacity p)
+  tells-counted : (rule : ReadingRule) (capacity : ℕ) → ruleFault rule ≡ overCapacity → Tells (counted rule capacity l) (readCounted capacity p)
   tells-counted rule capacity e = record { tells = λ bs. go bs (readU32 bs) refl }
     where
       by-count : (bs : List ℕ) (n : ℕ) (rest : List ℕ) (t : Bool)
@@ -230,14 +230,14 @@ tells-score = record { tells = λ bs. tells-behind short-byte _ _ bs (λ n rest.
     go bs n rest false = refl
 
 -- the rows of an edition are the kinds that it has
-record TellsKinds (rows : List Row) (known : List ℕ) (f : ℕ → Reader Value) : Type 0 where
+record TellsKinds (rows : List TagRow) (known : List ℕ) (f : ℕ → Reader Value) : Type 0 where
   after : (bs : List ℕ) (t : ℕ) (rest : List ℕ) → fate (byRow valueKind rows bs t rest) ≡ fateOf (if any (eqb t) known then f t rest else refused malformed)
 
 tells-no-kind : (f : ℕ → Reader Value) → TellsKinds [] [] f
 unfolding byRow
 tells-no-kind f = record { after = λ bs t rest. refl }
 
-tells-kind : (k : ℕ) {l : Locator} {p : Reader Value} {rows : List Row} {known : List ℕ} {f : ℕ → Reader Value} → Tells l p → TellsKinds rows known f → TellsKinds (k ⇒ l ∷ rows) (k ∷ known) (orTag k p f)
+tells-kind : (k : ℕ) {l : Locator} {p : Reader Value} {rows : List TagRow} {known : List ℕ} {f : ℕ → Reader Value} → Tells l p → TellsKinds rows known f → TellsKinds (k ⇒ l ∷ rows) (k ∷ known) (orTag k p f)
 unfolding byRow
 tells-kind k {l} {p} {rows} {known} {f} one others = record { after = λ bs t rest. go bs t rest (eqb t k) (others .after bs t rest) }
   where
@@ -304,7 +304,7 @@ module _ (ed : Edition) where
   -- a set that is read stops nowhere; one that is not stops by a rule of the fault
   pub data Agrees : Option Unread → SetReading → Type 0 where
     reads : (ps : List Patch) → Agrees none (patches ps)
-    stops : (u : Unread) (f : Fault) → faultOf (u .rule) ≡ f → Agrees (some u) (fault f)
+    stops : (u : Unread) (f : Fault) → ruleFault (u .rule) ≡ f → Agrees (some u) (fault f)
 
   pub locate-agrees : (set : List ℕ) → Agrees (locate ed set) (readSet ed set)
   unfolding locate stopOf readSet atEnd ended

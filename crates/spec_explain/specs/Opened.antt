@@ -22,7 +22,7 @@ use Rattle.spec_explain.specs.OperationRule
 use Rattle.spec_explain.specs.Walk
 use Rattle.spec_explain.specs.Explain
 
-unfoldable pub opened : Unit {0}
+unfoldable pub openedReasons : Unit {0}
 unfolding
     mathlib.Core.List.flatMap
     Rattle.spec_lists.specs.Bytes.littleEndian
@@ -30,7 +30,7 @@ unfolding
     Rattle.spec_lists.specs.Order.lexLess
     Rattle.spec_lists.specs.Order.upsert
     Rattle.spec_lists.specs.Order.sortUnique
-    Rattle.spec_patch.specs.Edition.digit
+    Rattle.spec_patch.specs.Edition.editionDigit
     Rattle.spec_patch.specs.Edition.letters
     Rattle.spec_patch.specs.Edition.addedKinds
     Rattle.spec_patch.specs.Edition.kinds
@@ -145,19 +145,19 @@ unfolding
     Rattle.spec_explain.specs.Walk.walkOperations
     Rattle.spec_explain.specs.Walk.walkPatches
     Rattle.spec_explain.specs.Walk.tested
-    Rattle.spec_explain.specs.Explain.require
+    Rattle.spec_explain.specs.Explain.requireOr
     Rattle.spec_explain.specs.Explain.whichLimit
     Rattle.spec_explain.specs.Explain.overDeclared
-    Rattle.spec_explain.specs.Explain.patchesOf
-    Rattle.spec_explain.specs.Explain.readable
+    Rattle.spec_explain.specs.Explain.patchesRead
+    Rattle.spec_explain.specs.Explain.patchesReadable
     Rattle.spec_explain.specs.Explain.noFindings
     Rattle.spec_explain.specs.Explain.targetKnown
-    Rattle.spec_explain.specs.Explain.knownTargets
-    Rattle.spec_explain.specs.Explain.numberAfter
-    Rattle.spec_explain.specs.Explain.kept
-    Rattle.spec_explain.specs.Explain.applyStep
+    Rattle.spec_explain.specs.Explain.targetsKnown
+    Rattle.spec_explain.specs.Explain.nextNumber
+    Rattle.spec_explain.specs.Explain.keptProjection
+    Rattle.spec_explain.specs.Explain.stepKept
     Rattle.spec_explain.specs.Explain.applies
     Rattle.spec_explain.specs.Explain.explainSteps
     Rattle.spec_explain.specs.Explain.reasonOf
     Rattle.spec_explain.specs.Explain.explainBatch
-opened = tt
+openedReasons = tt

@@ -20,7 +20,7 @@ use Rattle.spec_projection.specs.ApplyLaws.{stopped-not-done}
 use Rattle.spec_explain.specs.OperationRule.{operationFault, ruleOf, Breaks, addsBinding, addsAvailability, insertsPresent, insertsBeforeAbsent, insertsIntoFull, updatesAbsent, removesAbsent, movesAbsent, movesBeforeAbsent}
 
 -- the rule that is told is broken, and has the number of the fault
-pub record Told (p : Projection) (o : Operation) (f : OperationFault) : Type 0 where
+pub record ToldRule (p : Projection) (o : Operation) (f : OperationFault) : Type 0 where
   pub breaks : Breaks p o (ruleOf p o)
   pub number : operationFault (ruleOf p o) ≡ f
 
@@ -31,7 +31,7 @@ ran : {C : Type 0} {q : Projection} {f : OperationFault} → done q ≡ stopped 
 ran e = absurd (stopped-not-done (sym e))
 
 -- a move of an entry that is there
-move-told : (p : Projection) (c k : ℕ) (before : Option ℕ) (f : OperationFault) (o : Option Entry) → findFirst (isEntry c k) (p .entries) ≡ o → applyMove p before o ≡ stopped f → Told p (move c k before) f
+move-told : (p : Projection) (c k : ℕ) (before : Option ℕ) (f : OperationFault) (o : Option Entry) → findFirst (isEntry c k) (p .entries) ≡ o → applyMove p before o ≡ stopped f → ToldRule p (move c k before) f
 unfolding applyMove ruleOf contains
 move-told p c k before f none is e =
     let absent = findFirst-none (isEntry c k) (p .entries) is in
@@ -44,7 +44,7 @@ move-told p c k before f (some x) is e =
     (λ t. ran (rw t at e′))
     (λ t. record { breaks = rw there (movesBeforeAbsent there t); number = rw there (stopped-is (rw t at e′)) })
 
-pub rule-told : (p : Projection) (id : ℕ) (o : Operation) (f : OperationFault) → applyOperation p id o ≡ stopped f → Told p o f
+pub rule-told : (p : Projection) (id : ℕ) (o : Operation) (f : OperationFault) → applyOperation p id o ≡ stopped f → ToldRule p o f
 unfolding applyOperation ruleOf applyBinding applyAvailability applyInsert applyUpdate applyRemove applyMove
 rule-told p id (setBinding n s v) f e = test-cases (leb (length (upsert bindingKey (record { node = n; slot = s; mark = id; value = v }) (p .bindings))) projectionBindings)
     (λ t. ran (rw t at e))

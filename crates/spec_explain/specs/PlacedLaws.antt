@@ -16,7 +16,7 @@ use Rattle.spec_patch.specs.Encode.{heading}
 use Rattle.spec_patch.specs.Reader.{Fault, Result, read, refused, Reader, pair, byte, bytes}
 use Rattle.spec_patch.specs.Read.{readU32, readU64, readCount}
 use Rattle.spec_explain.specs.ReadingRule.{ReadingRule, notUtf8, patchCount, operationCount, textLength, characterCount, Inside, outside, inPatch, inOperation, Unread}
-use Rattle.spec_explain.specs.Locate.{Stop, Located, past, stop, Locator, stopAt, goOn, _⨟_, behind, fieldThen, field, Row, byRow, tagged, repeated, counted, placed, placedStop, ends, locateOptional, locateQuad, locateAvailability, locateText, locateScore, scoreRow, locateValue, locateOperation, locateEnvelope, locatePatch, locateLetters, locatePatches, atEnd, stopOf, fromStart, locate}
+use Rattle.spec_explain.specs.Locate.{Stop, Located, past, stop, Locator, stopAt, goOn, _⨟_, behind, fieldThen, field, TagRow, byRow, tagged, repeated, counted, placed, placedStop, ends, locateOptional, locateQuad, locateAvailability, locateText, locateScore, scoreRow, locateValue, locateOperation, locateEnvelope, locatePatch, locateLetters, locatePatches, atEnd, stopOf, fromStart, locate}
 use Rattle.spec_explain.specs.LocateLaws.{fate, fateOf, Tells, tells-within, tells-many, tells-letters, tells-envelope, tells-operation, tells-patch}
 use Rattle.spec_explain.specs.SteadyLaws.{stop-is, not-both}
 use Rattle.spec_explain.specs.Placed.{FirstUnread, PatchAt, PlacedAt}
@@ -56,10 +56,10 @@ unplaced-test : (rule : ReadingRule) {l : Locator} → Unplaced l → (t : Bool)
 unplaced-test rule one true bs rest s e = one .none-named rest s e
 unplaced-test rule one false bs rest s e = at-field rule bs s e
 
-abbrev UnplacedRow : Row → Type 0
+abbrev UnplacedRow : TagRow → Type 0
 UnplacedRow row = Unplaced (row .follows)
 
-unplaced-row : (rule : ReadingRule) (rows : List Row) → All UnplacedRow rows → (bs : List ℕ) (t : ℕ) (rest : List ℕ) (s : Stop) → byRow rule rows bs t rest ≡ stop s → s .inside ≡ outside
+unplaced-row : (rule : ReadingRule) (rows : List TagRow) → All UnplacedRow rows → (bs : List ℕ) (t : ℕ) (rest : List ℕ) (s : Stop) → byRow rule rows bs t rest ≡ stop s → s .inside ≡ outside
 unfolding byRow
 unplaced-row rule [] h bs t rest s e = at-field rule bs s e
 unplaced-row rule (row ∷ rows) h bs t rest s e = go (eqb t (row .tag)) (unplaced-row rule rows (h .1) bs t rest s) e
@@ -68,7 +68,7 @@ unplaced-row rule (row ∷ rows) h bs t rest s e = go (eqb t (row .tag)) (unplac
     go true others e = h .0 .none-named rest s e
     go false others e = others e
 
-unplaced-tagged : (rule : ReadingRule) (rows : List Row) → All UnplacedRow rows → Unplaced (tagged rule rows)
+unplaced-tagged : (rule : ReadingRule) (rows : List TagRow) → All UnplacedRow rows → Unplaced (tagged rule rows)
 unplaced-tagged rule rows h = unplaced-field byte (byRow rule rows) (unplaced-row rule rows h)
 
 -- ---- the fields

@@ -10,9 +10,9 @@ use Rattle.spec_patch.specs.Edition.{Edition, v1, v2}
 use Rattle.spec_patch.specs.Encode.{u32, u64, encodeEnvelope, heading, encode}
 use Rattle.spec_patch.specs.Reader.{faultNumber}
 use Rattle.spec_listing.specs.Ascii.{ascii}
-use Rattle.spec_explain.specs.ReadingRule.{ReadingRule, setTooLong, wrongHeading, tooFewBytes, operationTag, valueKind, optionalTag, availabilityTag, quadTag, scoreRange, notUtf8, patchCount, operationCount, textLength, characterCount, bytesLeft, faultOf, readingWord, Inside, outside, inPatch, inOperation, Unread}
+use Rattle.spec_explain.specs.ReadingRule.{ReadingRule, setTooLong, wrongHeading, tooFewBytes, operationTag, valueKind, optionalTag, availabilityTag, quadTag, scoreRange, notUtf8, patchCount, operationCount, textLength, characterCount, bytesLeft, ruleFault, readingWord, Inside, outside, inPatch, inOperation, Unread}
 use Rattle.spec_explain.specs.Locate.{locate}
-use Rattle.spec_explain.specs.Opened.{opened}
+use Rattle.spec_explain.specs.Opened.{openedReasons}
 
 -- a set in an edition, and where its reading stops
 pub record ReadingExample : Type 0 where
@@ -104,17 +104,17 @@ readingExamples = outsidePatches ++ (insidePatches ++ insideOperations)
 
 -- reading stops there
 pub examples-stop : map (λ (x : ReadingExample). locate (x .edition) (x .set)) readingExamples ≡ map (λ (x : ReadingExample). x .stops) readingExamples
-unfolding opened
+unfolding openedReasons
 examples-stop = refl
 
 -- ---- the numbers and words
 
-abbrev pub named : Option Unread → ℕ × List ℕ
-named none = (0, [])
-named (some u) = (faultNumber (faultOf (u .rule)), readingWord (u .rule))
+abbrev pub namedReading : Option Unread → ℕ × List ℕ
+namedReading none = (0, [])
+namedReading (some u) = (faultNumber (ruleFault (u .rule)), readingWord (u .rule))
 
 -- of the examples above, in their order
-pub examples-named : map (λ (x : ReadingExample). named (x .stops)) readingExamples ≡
+pub readings-named : map (λ (x : ReadingExample). namedReading (x .stops)) readingExamples ≡
     (12, ascii "set-too-long") ∷ (10, ascii "heading") ∷ (10, ascii "heading") ∷ (10, ascii "heading")
     ∷ (10, ascii "too-few-bytes") ∷ (10, ascii "too-few-bytes") ∷ (10, ascii "too-few-bytes") ∷ (12, ascii "patch-count") ∷ (10, ascii "bytes-left") ∷ (10, ascii "bytes-left")
     ∷ (10, ascii "too-few-bytes") ∷ (10, ascii "too-few-bytes") ∷ (10, ascii "optional") ∷ (12, ascii "operation-count") ∷ (12, ascii "operation-count")
@@ -123,4 +123,4 @@ pub examples-named : map (λ (x : ReadingExample). named (x .stops)) readingExam
     ∷ (10, ascii "too-few-bytes") ∷ (10, ascii "too-few-bytes") ∷ (12, ascii "text-length") ∷ (10, ascii "text-not-utf8") ∷ (12, ascii "text-characters")
     ∷ (10, ascii "operation-tag") ∷ (10, ascii "operation-tag") ∷ (10, ascii "operation-tag") ∷ []
 unfolding faultNumber
-examples-named = refl
+readings-named = refl

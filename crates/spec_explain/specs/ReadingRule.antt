@@ -9,22 +9,22 @@ pub data ReadingRule : Type 0 where
   notUtf8 patchCount operationCount textLength characterCount bytesLeft : ReadingRule
 
 -- 12 for what is over a capacity, 10 for the rest
-abbrev pub faultOf : ReadingRule → Fault
-faultOf setTooLong = overCapacity
-faultOf wrongHeading = malformed
-faultOf tooFewBytes = malformed
-faultOf operationTag = malformed
-faultOf valueKind = malformed
-faultOf optionalTag = malformed
-faultOf availabilityTag = malformed
-faultOf quadTag = malformed
-faultOf scoreRange = malformed
-faultOf notUtf8 = malformed
-faultOf patchCount = overCapacity
-faultOf operationCount = overCapacity
-faultOf textLength = overCapacity
-faultOf characterCount = overCapacity
-faultOf bytesLeft = malformed
+abbrev pub ruleFault : ReadingRule → Fault
+ruleFault setTooLong = overCapacity
+ruleFault wrongHeading = malformed
+ruleFault tooFewBytes = malformed
+ruleFault operationTag = malformed
+ruleFault valueKind = malformed
+ruleFault optionalTag = malformed
+ruleFault availabilityTag = malformed
+ruleFault quadTag = malformed
+ruleFault scoreRange = malformed
+ruleFault notUtf8 = malformed
+ruleFault patchCount = overCapacity
+ruleFault operationCount = overCapacity
+ruleFault textLength = overCapacity
+ruleFault characterCount = overCapacity
+ruleFault bytesLeft = malformed
 
 -- the word of each rule
 abbrev pub readingWord : ReadingRule → List ℕ

@@ -7,7 +7,7 @@ use Rattle.spec_checks.specs.Finding.{Finding}
 use Rattle.spec_checks.specs.Findings.{Place}
 use Rattle.spec_session.specs.Diagnostics as session
 use Rattle.spec_session.specs.Diagnostics.{SessionRefusal, sessionNumber, ofReading, ofOperation}
-use Rattle.spec_explain.specs.ReadingRule.{faultOf, readingWord, Unread}
+use Rattle.spec_explain.specs.ReadingRule.{ruleFault, readingWord, Unread}
 use Rattle.spec_explain.specs.OperationRule.{OperationRule, operationFault, operationWord}
 
 -- which of the declared figures is over its limit
@@ -28,21 +28,21 @@ pub data Reason : Type 0 where
   operationFails : (patch operation : ℕ) → OperationRule → Reason
 
 -- the refusal that a reason is behind
-abbrev pub refusalOf : Reason → SessionRefusal
-refusalOf (foreignSession named own) = session.sessionMismatch
-refusalOf sessionClosed = session.sessionClosed
-refusalOf (declaredLimits w a b c d) = session.limitExceeded
-refusalOf (unreadable u) = ofReading (faultOf (u .rule))
-refusalOf (hasFindings place n f) = session.checksFailed
-refusalOf (countsDiffer a b c d) = session.countsDiffer
-refusalOf (referencesOver a b) = session.limitExceeded
-refusalOf (unknownTarget n i j) = session.unknownTarget
-refusalOf (cursorMismatch t) = session.cursorMismatch
-refusalOf (operationFails i j r) = ofOperation (operationFault r)
+abbrev pub refusalFor : Reason → SessionRefusal
+refusalFor (foreignSession named own) = session.sessionMismatch
+refusalFor sessionClosed = session.sessionClosed
+refusalFor (declaredLimits w a b c d) = session.limitExceeded
+refusalFor (unreadable u) = ofReading (ruleFault (u .rule))
+refusalFor (hasFindings place n f) = session.checksFailed
+refusalFor (countsDiffer a b c d) = session.countsDiffer
+refusalFor (referencesOver a b) = session.limitExceeded
+refusalFor (unknownTarget n i j) = session.unknownTarget
+refusalFor (cursorMismatch t) = session.cursorMismatch
+refusalFor (operationFails i j r) = ofOperation (operationFault r)
 
 -- 01's number
 abbrev pub reasonNumber : Reason → ℕ
-reasonNumber r = sessionNumber (refusalOf r)
+reasonNumber r = sessionNumber (refusalFor r)
 
 -- how many diagnostics there are before the cap: as many as targets are unknown, else one
 abbrev pub logicalOf : Reason → ℕ

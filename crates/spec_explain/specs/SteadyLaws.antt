@@ -16,8 +16,8 @@ use Rattle.spec_explain.specs.ReadingRule.{ReadingRule, tooFewBytes, Ins
 use Rattle.spec_explain.specs.Locate.{Stop, Located, past, stop, Locator, stopAt, goOn, _⨟_, behind, fieldThen, field, placedStop, within, ends}
 
 -- the same stop, with so many bytes more behind the field
-abbrev pub further : Stop → ℕ → Stop
-further s n = record { rule = s .rule; inside = s .inside; left = s .left + n }
+abbrev pub stopFurther : Stop → ℕ → Stop
+stopFurther s n = record { rule = s .rule; inside = s .inside; left = s .left + n }
 
 -- the bytes end at the field
 abbrev pub brokenOff : Inside → Stop
@@ -26,7 +26,7 @@ brokenOff here = record { rule = tooFewBytes; inside = here; left = 0 }
 -- too few bytes, or decided whatever follows
 pub data Decided (l : Locator) (bs : List ℕ) (s : Stop) : Type 0 where
   short : s .rule ≡ tooFewBytes → Decided l bs s
-  fixed : ((more : List ℕ) → l (bs ++ more) ≡ stop (further s (length more))) → Decided l bs s
+  fixed : ((more : List ℕ) → l (bs ++ more) ≡ stop (stopFurther s (length more))) → Decided l bs s
 
 -- what was passed is passed whatever follows
 pub record Passed (l : Locator) (bs rest : List ℕ) : Type 0 where
@@ -35,7 +35,7 @@ pub record Passed (l : Locator) (bs rest : List ℕ) : Type 0 where
   pub again : (other : List ℕ) → l (taken ++ other) ≡ past other
 
 -- the bytes before the field that is stopped at, and those from it on: without these, reading breaks off at the field
-pub record Stopped (l : Locator) (bs : List ℕ) (s : Stop) : Type 0 where
+pub record StoppedReading (l : Locator) (bs : List ℕ) (s : Stop) : Type 0 where
   pub front : List ℕ
   pub back : List ℕ
   pub parts : bs ≡ front ++ back
@@ -45,7 +45,7 @@ pub record Stopped (l : Locator) (bs : List ℕ) (s : Stop) : Type 0 where
 
 pub record Steady (l : Locator) : Type 0 where
   pub passes : (bs rest : List ℕ) → l bs ≡ past rest → Passed l bs rest
-  pub stops : (bs : List ℕ) (s : Stop) → l bs ≡ stop s → Stopped l bs s
+  pub stops : (bs : List ℕ) (s : Stop) → l bs ≡ stop s → StoppedReading l bs s
 
 -- ---- located or not
 
@@ -93,7 +93,7 @@ module _ {l m : Locator} (first : Steady l) (second : Steady m) where
   first-decided bs s (short e) = short e
   first-decided bs s (fixed f) = fixed (λ more. ap (λ (x : Located). goOn x m) (f more))
 
-  then-stops : (bs : List ℕ) (s : Stop) (x : Located) → l bs ≡ x → goOn x m ≡ stop s → Stopped (l ⨟ m) bs s
+  then-stops : (bs : List ℕ) (s : Stop) (x : Located) → l bs ≡ x → goOn x m ≡ stop s → StoppedReading (l ⨟ m) bs s
   then-stops bs s (stop r) is e =
       let a = first .stops bs s (is ∙ e) in
       record {
@@ -130,9 +130,9 @@ module _ (here : Inside) {l : Locator} (one : Steady l) where
 
   within-decided : (bs : List ℕ) (s t : Stop) → s .rule ≡ t .rule → placedStop here (stop s) ≡ stop t → Decided l bs s → Decided (within here l) bs t
   within-decided bs s t r e (short q) = short (sym r ∙ q)
-  within-decided bs s t r e (fixed f) = fixed (λ more. ap (placedStop here) (f more) ∙ ap (λ (u : Stop). stop (further u (length more))) (stop-is e))
+  within-decided bs s t r e (fixed f) = fixed (λ more. ap (placedStop here) (f more) ∙ ap (λ (u : Stop). stop (stopFurther u (length more))) (stop-is e))
 
-  within-stops : (bs : List ℕ) (t : Stop) (x : Located) → l bs ≡ x → placedStop here x ≡ stop t → Stopped (within here l) bs t
+  within-stops : (bs : List ℕ) (t : Stop) (x : Located) → l bs ≡ x → placedStop here x ≡ stop t → StoppedReading (within here l) bs t
   within-stops bs t (past mid) is e = not-both e
   within-stops bs t (stop s) is e =
       let a = one .stops bs s is in
@@ -152,11 +152,11 @@ module _ (here : Inside) {l : Locator} (one : Steady l) where
 -- ---- fields
 
 -- a reader of so many bytes, at least one: what follows them changes nothing, and from no bytes it reads nothing
-pub record Wide {A : Type 0} (p : Reader A) : Type 0 where
+pub record WideField {A : Type 0} (p : Reader A) : Type 0 where
   pub reads : (bs : List ℕ) (a : A) (rest : List ℕ) → p bs ≡ read a rest → (taken : List ℕ) × (bs ≡ taken ++ rest) × ((other : List ℕ) → p (taken ++ other) ≡ read a other)
   pub lacking : (bs : List ℕ) (f : Fault) → p bs ≡ refused f → (g : Fault) × (p [] ≡ refused g)
 
-pub wide-byte : Wide byte
+pub wide-byte : WideField byte
 wide-byte = record { reads = reads-byte; lacking = λ bs f e. (malformed, refl) }
   where
     reads-byte : (bs : List ℕ) (a : ℕ) (rest : List ℕ) → byte bs ≡ read a rest → (taken : List ℕ) × (bs ≡ taken ++ rest) × ((other : List ℕ) → byte (taken ++ other) ≡ read a other)
@@ -186,21 +186,21 @@ module _ {A : Type 0} (n : ℕ) (make : List ℕ → A) where
   taking-lacking bs f true t e = absurd (let z : _≡_ {A = ℕ} 0 1 = cc in omega arith)
   taking-lacking bs f false t e = (malformed, rw (lt-leb n 0 (omega (arith, leb-false n (length bs) t))))
 
-  wide-taking : Wide taking
+  wide-taking : WideField taking
   wide-taking = record { reads = λ bs a rest e. taking-reads bs a rest (leb n (length bs)) refl e; lacking = λ bs f e. taking-lacking bs f (leb n (length bs)) refl e }
 
-pub wide-number : (n : ℕ) → Wide (number n)
+pub wide-number : (n : ℕ) → WideField (number n)
 wide-number n = wide-taking n numberOf
 
-pub wide-bytes : (n : ℕ) → Wide (bytes n)
+pub wide-bytes : (n : ℕ) → WideField (bytes n)
 wide-bytes n = wide-taking n (λ l. l)
 
 -- what follows a field: reading stops at the field, or goes on
-pub data Follows (next : (field rest : List ℕ) → Located) : Type 0 where
-  refuses : (rule : ReadingRule) → ((field rest : List ℕ) → next field rest ≡ stopAt rule field) → Follows next
-  goesOn : (l : Locator) → Steady l → ((field rest : List ℕ) → next field rest ≡ l rest) → Follows next
+pub data FieldFollows (next : (field rest : List ℕ) → Located) : Type 0 where
+  refuses : (rule : ReadingRule) → ((field rest : List ℕ) → next field rest ≡ stopAt rule field) → FieldFollows next
+  goesOn : (l : Locator) → Steady l → ((field rest : List ℕ) → next field rest ≡ l rest) → FieldFollows next
 
-module _ {A : Type 0} {p : Reader A} (wide : Wide p) (lacks : (f : Fault) × (p [] ≡ refused f)) (next : List ℕ → A → Locator) (each : (a : A) → Follows (λ bs rest. next bs a rest)) where
+module _ {A : Type 0} {p : Reader A} (wide : WideField p) (lacks : (f : Fault) × (p [] ≡ refused f)) (next : List ℕ → A → Locator) (each : (a : A) → FieldFollows (λ bs rest. next bs a rest)) where
   abbrev whole : Locator
   whole bs = fieldThen p (next bs) bs
 
@@ -211,7 +211,7 @@ module _ {A : Type 0} {p : Reader A} (wide : Wide p) (lacks : (f : Fault) × (p 
   reads-on : (taken other : List ℕ) (a : A) → p (taken ++ other) ≡ read a other → whole (taken ++ other) ≡ next (taken ++ other) a other
   reads-on taken other a e = rw e
 
-  field-passes : (bs rest mid : List ℕ) (a : A) → p bs ≡ read a mid → Follows (λ b r. next b a r) → next bs a mid ≡ past rest → Passed whole bs rest
+  field-passes : (bs rest mid : List ℕ) (a : A) → p bs ≡ read a mid → FieldFollows (λ b r. next b a r) → next bs a mid ≡ past rest → Passed whole bs rest
   field-passes bs rest mid a is (refuses rule at) e = not-both (sym e ∙ at bs mid)
   field-passes bs rest mid a is (goesOn l steady on) e =
       let w = wide .reads bs a mid is in
@@ -226,7 +226,7 @@ module _ {A : Type 0} {p : Reader A} (wide : Wide p) (lacks : (f : Fault) × (p 
             ∙ b .again other;
       }
 
-  field-stops : (bs mid : List ℕ) (s : Stop) (a : A) → p bs ≡ read a mid → Follows (λ b r. next b a r) → next bs a mid ≡ stop s → Stopped whole bs s
+  field-stops : (bs mid : List ℕ) (s : Stop) (a : A) → p bs ≡ read a mid → FieldFollows (λ b r. next b a r) → next bs a mid ≡ stop s → StoppedReading whole bs s
   field-stops bs mid s a is (refuses rule at) e =
       let w = wide .reads bs a mid is in
       let same : record { rule = rule; inside = outside; left = length bs } ≡ s = stop-is (sym (at bs mid) ∙ e) in
@@ -243,7 +243,7 @@ module _ {A : Type 0} {p : Reader A} (wide : Wide p) (lacks : (f : Fault) × (p 
             ∙ at (w .0 ++ (mid ++ more)) (mid ++ more)
             ∙ ap (stopAt rule) (sym (append-assoc (w .0) mid more) ∙ ap (λ (b : List ℕ). b ++ more) (sym (w .1)))
             ∙ ap (λ (n : ℕ). stop (record { rule = rule; inside = outside; left = n })) (length-append bs more)
-            ∙ ap (λ (u : Stop). stop (further u (length more))) same);
+            ∙ ap (λ (u : Stop). stop (stopFurther u (length more))) same);
       }
   field-stops bs mid s a is (goesOn l steady on) e =
       let w = wide .reads bs a mid is in
@@ -266,7 +266,7 @@ module _ {A : Type 0} {p : Reader A} (wide : Wide p) (lacks : (f : Fault) × (p 
           ∙ on (taken ++ (mid ++ more)) (mid ++ more)
           ∙ f more)
 
-  lacking-stops : (bs : List ℕ) (s : Stop) → stopAt tooFewBytes bs ≡ stop s → Stopped whole bs s
+  lacking-stops : (bs : List ℕ) (s : Stop) → stopAt tooFewBytes bs ≡ stop s → StoppedReading whole bs s
   lacking-stops bs s e =
       let same = stop-is e in
       record {
@@ -285,6 +285,6 @@ module _ {A : Type 0} {p : Reader A} (wide : Wide p) (lacks : (f : Fault) × (p 
       by-passing bs rest (read a mid) is e = field-passes bs rest mid a is (each a) e
       by-passing bs rest (refused f) is e = not-both (sym e)
 
-      by-stopping : (bs : List ℕ) (s : Stop) (r : Result A) → p bs ≡ r → behind bs r (next bs) ≡ stop s → Stopped whole bs s
+      by-stopping : (bs : List ℕ) (s : Stop) (r : Result A) → p bs ≡ r → behind bs r (next bs) ≡ stop s → StoppedReading whole bs s
       by-stopping bs s (read a mid) is e = field-stops bs mid s a is (each a) e
       by-stopping bs s (refused f) is e = lacking-stops bs s e

@@ -17,12 +17,12 @@ use Rattle.spec_patch.specs.Reader.{Fault, malformed, Result, read, refused, by
 use Rattle.spec_patch.specs.Read.{readU32, readU64}
 use Rattle.spec_patch.specs.Codec.{bytes-long}
 use Rattle.spec_explain.specs.ReadingRule.{ReadingRule, tooFewBytes, operationTag, valueKind, optionalTag, availabilityTag, quadTag, scoreRange, wrongHeading, notUtf8, patchCount, operationCount, textLength, characterCount, outside}
-use Rattle.spec_explain.specs.Locate.{Stop, Located, past, stop, Locator, stopAt, behind, field, Row, byRow, tagged, repeated, counted, ends, locateOptional, locateQuad, locateAvailability, locateText, locateScore, scoreRow, locateValue, locateOperation, locateEnvelope, locatePatch, locateLetters, locatePatches}
-use Rattle.spec_explain.specs.SteadyLaws.{short, fixed, Passed, Stopped, Steady, stop-is, past-is, not-both, steady-ends, steady-then, steady-within, wide-byte, wide-bytes, wide-number, Follows, refuses, goesOn, steady-field}
+use Rattle.spec_explain.specs.Locate.{Stop, Located, past, stop, Locator, stopAt, behind, field, TagRow, byRow, tagged, repeated, counted, ends, locateOptional, locateQuad, locateAvailability, locateText, locateScore, scoreRow, locateValue, locateOperation, locateEnvelope, locatePatch, locateLetters, locatePatches}
+use Rattle.spec_explain.specs.SteadyLaws.{short, fixed, Passed, StoppedReading, Steady, stop-is, past-is, not-both, steady-ends, steady-then, steady-within, wide-byte, wide-bytes, wide-number, FieldFollows, refuses, goesOn, steady-field}
 
 -- ---- numbers
 
-ends-there : {A : Type 0} (a : A) → Follows (λ bs rest. past rest)
+ends-there : {A : Type 0} (a : A) → FieldFollows (λ bs rest. past rest)
 ends-there a = goesOn ends steady-ends (λ bs rest. refl)
 
 pub steady-u64 : Steady (field readU64)
@@ -34,25 +34,25 @@ steady-u32 = steady-field (wide-number 4) (malformed, refl) (λ bs a rest. past 
 -- ---- a test of what was read
 
 module _ (rule : ReadingRule) {l : Locator} (one : Steady l) where
-  follows-test : (t : Bool) → Follows (λ bs rest. if t then l rest else stopAt rule bs)
+  follows-test : (t : Bool) → FieldFollows (λ bs rest. if t then l rest else stopAt rule bs)
   follows-test true = goesOn l one (λ bs rest. refl)
   follows-test false = refuses rule (λ bs rest. refl)
 
 -- ---- tags
 
-abbrev SteadyRow : Row → Type 0
+abbrev SteadyRow : TagRow → Type 0
 SteadyRow row = Steady (row .follows)
 
-follows-row : (rule : ReadingRule) (rows : List Row) → All SteadyRow rows → (t : ℕ) → Follows (λ bs rest. byRow rule rows bs t rest)
+follows-row : (rule : ReadingRule) (rows : List TagRow) → All SteadyRow rows → (t : ℕ) → FieldFollows (λ bs rest. byRow rule rows bs t rest)
 unfolding byRow
 follows-row rule [] h t = refuses rule (λ bs rest. refl)
 follows-row rule (row ∷ rows) h t = go (eqb t (row .tag)) (follows-row rule rows (h .1) t)
   where
-    go : (b : Bool) → Follows (λ bs rest. byRow rule rows bs t rest) → Follows (λ bs rest. if b then row .follows rest else byRow rule rows bs t rest)
+    go : (b : Bool) → FieldFollows (λ bs rest. byRow rule rows bs t rest) → FieldFollows (λ bs rest. if b then row .follows rest else byRow rule rows bs t rest)
     go true others = goesOn (row .follows) (h .0) (λ bs rest. refl)
     go false others = others
 
-steady-tagged : (rule : ReadingRule) (rows : List Row) → All SteadyRow rows → Steady (tagged rule rows)
+steady-tagged : (rule : ReadingRule) (rows : List TagRow) → All SteadyRow rows → Steady (tagged rule rows)
 steady-tagged rule rows h = steady-field wide-byte (malformed, refl) (byRow rule rows) (follows-row rule rows h)
 
 -- ---- so many times
@@ -199,7 +199,7 @@ module _ (bs mid t rest : List ℕ) (n : ℕ) (is : readU32 bs ≡ read n mid) (
     again = λ other. ap locateText (append-assoc (width .0) (body .0) other) ∙ followed-by other ∙ v (width .0 ++ (body .0 ++ other)) (body .0 ++ other) other;
   }
 
-  at-length : (rule : ReadingRule) → ((bs text rest : List ℕ) → tests t bs text rest ≡ stopAt rule bs) → Stopped locateText bs (record { rule = rule; inside = outside; left = length bs })
+  at-length : (rule : ReadingRule) → ((bs text rest : List ℕ) → tests t bs text rest ≡ stopAt rule bs) → StoppedReading locateText bs (record { rule = rule; inside = outside; left = length bs })
   at-length rule v = record {
     front = [];
     back = bs;
@@ -212,7 +212,7 @@ module _ (bs mid t rest : List ℕ) (n : ℕ) (is : readU32 bs ≡ read n mid) (
         ∙ ap (λ (k : ℕ). stop (record { rule = rule; inside = outside; left = k })) (length-append bs more));
   }
 
-  at-text : (rule : ReadingRule) → (t ≡ [] → ⊥) → ((bs text rest : List ℕ) → tests t bs text rest ≡ stopAt rule text) → Stopped locateText bs (record { rule = rule; inside = outside; left = length mid })
+  at-text : (rule : ReadingRule) → (t ≡ [] → ⊥) → ((bs text rest : List ℕ) → tests t bs text rest ≡ stopAt rule text) → StoppedReading locateText bs (record { rule = rule; inside = outside; left = length mid })
   at-text rule there v =
       let lacks = bytes-missing n mid t rest are there in
       record {
@@ -238,10 +238,10 @@ steady-text = record { passes = λ bs rest e. by-passing bs rest (way bs) e; sto
     by-passing bs rest (withText n mid t left is are (atText rule there v)) e = not-both (sym e ∙ text-there n bs mid t left is are ∙ v bs mid left)
     by-passing bs rest (withText n mid t left is are (atLength rule v)) e = not-both (sym e ∙ text-there n bs mid t left is are ∙ v bs mid left)
 
-    stopped-by : (bs : List ℕ) (s u : Stop) → locateText bs ≡ stop s → locateText bs ≡ stop u → Stopped locateText bs u → Stopped locateText bs s
+    stopped-by : (bs : List ℕ) (s u : Stop) → locateText bs ≡ stop s → locateText bs ≡ stop u → StoppedReading locateText bs u → StoppedReading locateText bs s
     stopped-by bs s u e q h = rw (stop-is (sym e ∙ q)) h
 
-    by-stopping : (bs : List ℕ) (s : Stop) → Way bs → locateText bs ≡ stop s → Stopped locateText bs s
+    by-stopping : (bs : List ℕ) (s : Stop) → Way bs → locateText bs ≡ stop s → StoppedReading locateText bs s
     by-stopping bs s (noLength f is) e =
         stopped-by bs s _ e (length-lacking bs f is)
         (record { front = []; back = bs; parts = refl; behind = refl; ends = length-lacking [] malformed refl; decided = short refl })

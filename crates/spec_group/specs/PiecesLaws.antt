@@ -18,7 +18,7 @@ use Rattle.spec_session.specs.Session.{Session}
 use Rattle.spec_session.specs.Lifecycle.{Disposition, applied, rejected}
 use Rattle.spec_session.specs.Batch.{BatchEnvelope, BatchAnswer, BatchStep, Check, pass, refuse, rejectBatch, keepSession, advanced, applyBatch, candidate, commit, concludeBatch, batchChecks, batch}
 use Rattle.spec_session.specs.BatchLaws.{batch-unchanged, batch-applied}
-use Rattle.spec_splitting.specs.Splitting.{Piece, envelopeOf, references, send, Run, isRejected, continue, sendAll, patchesOf, Given, Applies, AllApply, AlikeBeside, FailsAtOperation, StopsAtPiece}
+use Rattle.spec_splitting.specs.Splitting.{Piece, pieceEnvelope, references, send, Run, isRejected, continue, sendAll, patchesOf, Given, Applies, AllApply, AlikeBeside, FailsAtOperation, StopsAtPiece}
 use Rattle.spec_splitting.specs.Theorem.{whole-and-pieces}
 use Rattle.spec_group.specs.Group.{groupBatches, GroupBatch, totalBytes, isGroup, sendFirst, taken, GroupStep}
 use Rattle.spec_group.specs.Singly.{singly, WasTaken, EndsRefused, pieceBatch, pieceBatches, pieceSets, sendGroup, TakenAsWhole, RefusedAsWhole, GroupAsWhole}
@@ -47,7 +47,7 @@ batch-id ed s e references set = by-checks (batchChecks ed s e references set)
 module _ (ed : Edition) where
   -- batches made for a session are those of any that has its id
   batches-by-id : (s t : Session) → s .id ≡ t .id → (n : ℕ) (ps : List Piece) → pieceBatches ed s n ps ≡ pieceBatches ed t n ps
-  unfolding pieceBatches pieceBatch envelopeOf
+  unfolding pieceBatches pieceBatch pieceEnvelope
   batches-by-id s t e n [] = refl
   batches-by-id s t e n (p ∷ ps) =
       ap₂ (λ (i : ℕ) (bs : List GroupBatch). record { edition = ed; envelope = record { session = i; sequence = n; patches = length (p .patches); stimulusBytes = p .stimulusBytes }; references = references p; bytes = length (encode ed (p .patches)) } ∷ bs) e (batches-by-id s t e (n + 1) ps)
@@ -58,7 +58,7 @@ module _ (ed : Edition) where
 
   next-id : (s : Session) (n : ℕ) (p : Piece) → send ed s n p .next .id ≡ s .id
   unfolding send
-  next-id s n p = batch-id ed s (envelopeOf s n p) (references p) (encode ed (p .patches))
+  next-id s n p = batch-id ed s (pieceEnvelope s n p) (references p) (encode ed (p .patches))
 
   behind-first : (s : Session) (n : ℕ) (p : Piece) (rest : List ℕ) → drop (pieceBatch ed s n p .bytes) (encode ed (p .patches) ++ rest) ≡ rest
   unfolding pieceBatch
@@ -104,11 +104,11 @@ module _ (ed : Edition) (s : Session) (n : ℕ) (whole : Piece) (pieces : List P
 
   -- a list without patches is not applied, so there is a piece
   some-applied : Applies (send ed s n whole .answer) → 0 < length pieces
-  unfolding send envelopeOf patchesOf flatMap
+  unfolding send pieceEnvelope patchesOf flatMap
   some-applied a = by-pieces pieces (given .cut)
     where
       by-pieces : (ps : List Piece) → patchesOf ps ≡ whole .patches → 0 < length ps
-      by-pieces [] e = absurd (batch-applied ed s (envelopeOf s n whole) (references whole) (encode ed (whole .patches)) a .nonEmpty (ap length (sym e)))
+      by-pieces [] e = absurd (batch-applied ed s (pieceEnvelope s n whole) (references whole) (encode ed (whole .patches)) a .nonEmpty (ap length (sym e)))
       by-pieces (p ∷ ps) e = omega arith
 
   taken-as-whole : Applies (send ed s n whole .answer) → TakenAsWhole ed s n whole pieces
@@ -150,7 +150,7 @@ module _ (ed : Edition) (s : Session) (n : ℕ) (whole : Piece) (pieces : List P
 
   whole-unchanged : FailsAtOperation ed s n whole → send ed s n whole .next ≡ s
   unfolding send
-  whole-unchanged f = batch-unchanged ed s (envelopeOf s n whole) (references whole) (encode ed (whole .patches)) (not-applied f)
+  whole-unchanged f = batch-unchanged ed s (pieceEnvelope s n whole) (references whole) (encode ed (whole .patches)) (not-applied f)
 
   refused-as-whole : FailsAtOperation ed s n whole → RefusedAsWhole ed s n whole pieces
   unfolding sendGroup ends-refused

@@ -9,7 +9,7 @@ use Rattle.spec_patch.specs.Edition.{Edition}
 use Rattle.spec_patch.specs.Encode.{encode}
 use Rattle.spec_session.specs.Session.{at, Session}
 use Rattle.spec_session.specs.Batch.{BatchAnswer}
-use Rattle.spec_splitting.specs.Splitting.{Piece, envelopeOf, references, send, Run, isRejected, continue, Applies, AlikeBeside, FailsAtOperation}
+use Rattle.spec_splitting.specs.Splitting.{Piece, pieceEnvelope, references, send, Run, isRejected, continue, Applies, AlikeBeside, FailsAtOperation}
 use Rattle.spec_group.specs.Group.{groupBatches, GroupBatch, sendFirst, taken, refusedAt, withCursor, GroupStep, group}
 
 -- one call after the other, each on the session just handed back; a refused one ends the sending
@@ -37,7 +37,7 @@ pub record AllOrNone (s : Session) (bs : List GroupBatch) (sets : List ℕ) : Ty
 
 -- the batch of a piece, as whole and pieces sends it
 unfoldable pub pieceBatch : Edition → Session → ℕ → Piece → GroupBatch
-pieceBatch ed s n p = record { edition = ed; envelope = envelopeOf s n p; references = references p; bytes = length (encode ed (p .patches)) }
+pieceBatch ed s n p = record { edition = ed; envelope = pieceEnvelope s n p; references = references p; bytes = length (encode ed (p .patches)) }
 
 -- piece i, from 0, carries the number n + i
 unfoldable pub pieceBatches : Edition → Session → ℕ → List Piece → List GroupBatch

@@ -26,11 +26,11 @@ use Rattle.spec_checks.specs.SetChecks
 use Rattle.spec_checks.specs.Findings
 use Rattle.spec_import.specs.Import
 use Rattle.spec_import.specs.Import.{Term, importNumber, lines, Terms, terms, faulty, readTerms, Imported, imported, refused, importTerms, printTerms}
-use Rattle.spec_import.specs.LineLaws.{Printable, Kept}
+use Rattle.spec_import.specs.LineLaws.{PrintableTerm, KeptTerm}
 use Rattle.spec_import.specs.ImportLaws.{Importable, imports-exactly}
 
 -- every definition that the tests compute through
-unfoldable pub opened : Unit {0}
+unfoldable pub openedImport : Unit {0}
 unfolding
     mathlib.Core.List.flatMap
     Rattle.spec_lists.specs.Bytes.littleEndian
@@ -44,7 +44,7 @@ unfolding
     Rattle.spec_decimal.specs.Decimal.readDecimal
     Rattle.spec_listing.specs.Split.prepend
     Rattle.spec_listing.specs.Split.split
-    Rattle.spec_patch.specs.Edition.digit
+    Rattle.spec_patch.specs.Edition.editionDigit
     Rattle.spec_patch.specs.Edition.letters
     Rattle.spec_patch.specs.Encode.encodeOptional
     Rattle.spec_patch.specs.Encode.encodeText
@@ -92,7 +92,7 @@ unfolding
     Rattle.spec_import.specs.Import.importTerms
     Rattle.spec_import.specs.Import.printTerm
     Rattle.spec_import.specs.Import.printTerms
-opened = tt
+openedImport = tt
 
 -- ---- what the instances are made of
 
@@ -196,13 +196,13 @@ checkedLast =
     && (refuses 1 (49 ∷ tab ∷ []) 118 14 && gives v1 (49 ∷ tab ∷ []) 119 (encode v1 (record { envelope = withId 1; operations = insert 9 1 none (text []) ∷ [] } ∷ [])))))
 
 pub imports-hold : T (all (λ (b : Bool). b) (listsGiven ∷ otherForms ∷ textLimits ∷ firstFaults ∷ checkedLast ∷ []))
-unfolding listsGiven otherForms textLimits firstFaults checkedLast twoLines withId linesRefuse linesHold gives refuses long opened
+unfolding listsGiven otherForms textLimits firstFaults checkedLast twoLines withId linesRefuse linesHold gives refuses long openedImport
 imports-hold = tt
 
 -- ---- the theorems, met by a list
 
 someImported : (ed : Edition) → (bs : List ℕ) × (importTerms ed 9 (withId 1) twoLines 1000 ≡ imported bs)
-unfolding twoLines withId opened
+unfolding twoLines withId openedImport
 someImported v1 = (_, refl)
 someImported v2 = (_, refl)
 
@@ -213,21 +213,21 @@ someImportable ed = imports-exactly ed 9 (withId 1) twoLines 1000 .0 (someImport
 pub someTerms : List Term
 someTerms = record { key = 7; words = 97 ∷ carriageReturn ∷ [] } ∷ record { key = 0; words = [] } ∷ []
 
-pub someTerms-printable : All Printable someTerms
-unfolding someTerms opened
+pub someTerms-printable : All PrintableTerm someTerms
+unfolding someTerms openedImport
 someTerms-printable =
     (record { formed = record { key = omega arith; utf8 = refl; no-tab = refl }; no-newline = refl }, (record { formed = record { key = omega arith; utf8 = refl; no-tab = refl }; no-newline = refl }, tt))
 
-pub someTerms-kept : All Kept someTerms
-unfolding someTerms opened
+pub someTerms-kept : All KeptTerm someTerms
+unfolding someTerms openedImport
 someTerms-kept = (refl, (refl, tt))
 
 -- which gives the list with its last newline
 pub someTerms-printed : printTerms someTerms ≡ twoLines ++ (newline ∷ [])
-unfolding someTerms twoLines opened
+unfolding someTerms twoLines openedImport
 someTerms-printed = refl
 
 pub someTerms-imported : (ed : Edition) → (bs : List ℕ) × (importTerms ed 9 (withId 1) (printTerms someTerms) 1000 ≡ imported bs)
-unfolding someTerms withId opened
+unfolding someTerms withId openedImport
 someTerms-imported v1 = (_, refl)
 someTerms-imported v2 = (_, refl)

@@ -22,7 +22,7 @@ use Rattle.spec_patch.specs.Read.{patches, readSet}
 use Rattle.spec_patch.specs.SetLaws.{reads-back}
 use Rattle.spec_checks.specs.Findings.{findings}
 use Rattle.spec_import.specs.Import.{Term, ImportRefusal, patchInvalid, outputTooShort, overCapacity, lines, readTerm, keepsText, Terms, terms, faulty, readTerms, insertOf, patchOf, imported, refused, importPatch, afterLines, importTerms, printTerms}
-use Rattle.spec_import.specs.LineLaws.{Formed, Printable, Kept, reads-lines, lines-read, printed-reads}
+use Rattle.spec_import.specs.LineLaws.{Formed, PrintableTerm, KeptTerm, reads-lines, lines-read, printed-reads}
 use Rattle.spec_import.specs.FormLaws.{form-exactly}
 
 -- terms that lines were read as have the form
@@ -53,7 +53,7 @@ module _ (ed : Edition) (collection : ℕ) (e : Envelope) where
   pub record Importable (list : List ℕ) (room : ℕ) : Type 0 where
     pub held : List Term
     pub formed : map readTerm (lines list) ≡ map some held
-    pub kept : All Kept held
+    pub kept : All KeptTerm held
     pub few : length held ≤ patchOperations
     pub short : length (encode ed (setOf held)) ≤ setBytes
     pub clean : findings (setOf held) .found ≡ []
@@ -111,7 +111,7 @@ module _ (ed : Edition) (collection : ℕ) (e : Envelope) where
   -- ---- reading back
 
   module _ (collection-fits : U64 collection) (envelope-fits : InRangeEnvelope e) where
-    insert-fits : (t : Term) → Formed t → Kept t → FitsOperation ed (insertOf collection t)
+    insert-fits : (t : Term) → Formed t → KeptTerm t → FitsOperation ed (insertOf collection t)
     unfolding OperationHolds insertOf OptionalU64 StorableBy kindOf kinds hasKind keepsText
     insert-fits t f k = (
       collection-fits,
@@ -127,7 +127,7 @@ module _ (ed : Edition) (collection : ℕ) (e : Envelope) where
       ),
     )
 
-    inserts-fit : (ts : List Term) → All Formed ts → All Kept ts → All (FitsOperation ed) (map (insertOf collection) ts)
+    inserts-fit : (ts : List Term) → All Formed ts → All KeptTerm ts → All (FitsOperation ed) (map (insertOf collection) ts)
     inserts-fit [] f k = tt
     inserts-fit (t ∷ ts) f k = (insert-fits t (f .0) (k .0), inserts-fit ts (f .1) (k .1))
 
@@ -155,7 +155,7 @@ module _ (ed : Edition) (collection : ℕ) (e : Envelope) where
         (i .held, i .formed, ap (readSet ed) (w .bytes) ∙ reads-back ed (setOf (i .held)) (set-fits list room i))
 
     -- and what is brought in of a printed list is read as the terms that were printed
-    pub printed-back : (ts : List Term) → All Printable ts → All Kept ts → length ts ≤ patchOperations → (room : ℕ) (bs : List ℕ) → importTerms ed collection e (printTerms ts) room ≡ imported bs
+    pub printed-back : (ts : List Term) → All PrintableTerm ts → All KeptTerm ts → length ts ≤ patchOperations → (room : ℕ) (bs : List ℕ) → importTerms ed collection e (printTerms ts) room ≡ imported bs
         → (bs ≡ encode ed (setOf ts)) × (readSet ed bs ≡ patches (setOf ts))
     printed-back ts p k few room bs h =
         let w = was-importable (printTerms ts) room bs h in
@@ -167,6 +167,6 @@ module _ (ed : Edition) (collection : ℕ) (e : Envelope) where
   -- ---- printed lists
 
   -- a list that is printed of terms is brought in as these terms
-  pub printed-imports : (ts : List Term) → All Printable ts → All Kept ts → length ts ≤ patchOperations → (room : ℕ) → importTerms ed collection e (printTerms ts) room ≡ importPatch ed (patchOf collection e ts) room
+  pub printed-imports : (ts : List Term) → All PrintableTerm ts → All KeptTerm ts → length ts ≤ patchOperations → (room : ℕ) → importTerms ed collection e (printTerms ts) room ≡ importPatch ed (patchOf collection e ts) room
   unfolding importTerms afterLines
   printed-imports ts p k few room = rw (printed-reads ts p k few)

@@ -66,7 +66,7 @@ pub record Formed (t : Term) : Type 0 where
   pub no-tab : lacks tab (t .words) ≡ true
 
 -- and no newline
-pub record Printable (t : Term) : Type 0 where
+pub record PrintableTerm (t : Term) : Type 0 where
   pub formed : Formed t
   pub no-newline : lacks newline (t .words) ≡ true
 
@@ -80,7 +80,7 @@ line-read t f =
     ap termOfFields (split-part tab (decimal (t .key)) (t .words) (decimal-lacks tab (omega arith) (t .key)) ∙ ap (λ (r : List (List ℕ)). decimal (t .key) ∷ r) (split-whole tab (t .words) (f .no-tab)))
     ∙ rw (readDecimal-decimal (t .key) (f .key), f .utf8)
 
-module _ (t : Term) (p : Printable t) where
+module _ (t : Term) (p : PrintableTerm t) where
   line-lacks : lacks newline (lineOf t) ≡ true
   line-lacks = lacks-append newline (decimal (t .key)) (tab ∷ t .words) (decimal-lacks newline (omega arith) (t .key)) (p .no-newline)
 
@@ -93,7 +93,7 @@ module _ (t : Term) (p : Printable t) where
       ∙ lines-part (lineOf t) rest line-lacks
 
 -- the lines of what is printed are those of its terms
-pub lines-printed : (ts : List Term) → All Printable ts → lines (printTerms ts) ≡ map lineOf ts
+pub lines-printed : (ts : List Term) → All PrintableTerm ts → lines (printTerms ts) ≡ map lineOf ts
 unfolding printTerms flatMap lines
 lines-printed [] h = refl
 lines-printed (t ∷ ts) h = line-first t (h .0) (printTerms ts) ∙ ap (λ (r : List (List ℕ)). lineOf t ∷ r) (lines-printed ts (h .1))
@@ -101,11 +101,11 @@ lines-printed (t ∷ ts) h = line-first t (h .0) (printTerms ts) ∙ ap (λ (r :
 -- ---- lines that are read
 
 -- what is kept of a term: its text within its limits
-abbrev pub Kept : Term → Type 0
-Kept t = keepsText t ≡ true
+abbrev pub KeptTerm : Term → Type 0
+KeptTerm t = keepsText t ≡ true
 
 -- lines of the form, with texts within their limits and no more than a patch holds, are read one for one
-pub reads-lines : (n : ℕ) (ls : List (List ℕ)) (ts : List Term) → map readTerm ls ≡ map some ts → All Kept ts → n + length ts ≤ patchOperations → readTerms n ls ≡ terms ts
+pub reads-lines : (n : ℕ) (ls : List (List ℕ)) (ts : List Term) → map readTerm ls ≡ map some ts → All KeptTerm ts → n + length ts ≤ patchOperations → readTerms n ls ≡ terms ts
 unfolding readTerms lineThen also
 reads-lines n [] [] e k few = refl
 reads-lines n [] (t ∷ ts) e k few = absurd (let z : _≡_ {A = ℕ} 0 1 = cc in omega arith)
@@ -118,7 +118,7 @@ reads-lines n (l ∷ ls) (t ∷ ts) e k few =
 -- what was read of lines: each gave a term, in their order
 pub record LinesRead (n : ℕ) (ls : List (List ℕ)) (ts : List Term) : Type 0 where
   pub formed : map readTerm ls ≡ map some ts
-  pub kept : All Kept ts
+  pub kept : All KeptTerm ts
   pub few : n + length ts ≤ patchOperations
 
 pub terms-inj : (a b : List Term) → terms a ≡ terms b → a ≡ b
@@ -136,7 +136,7 @@ lines-read n (l ∷ ls) ts h e = by-line (λ us small r. lines-read (suc n) ls u
     never : {C : Type 0} (r : ImportRefusal) → faulty r ≡ terms ts → C
     never r e = absurd (let z : _≡_ {A = ℕ} 0 1 = cc in omega arith)
 
-    by-rest : Later → (t : Term) → readTerm l ≡ some t → Kept t → n < patchOperations → (rest : Terms) → readTerms (suc n) ls ≡ rest → also t rest ≡ terms ts → LinesRead n (l ∷ ls) ts
+    by-rest : Later → (t : Term) → readTerm l ≡ some t → KeptTerm t → n < patchOperations → (rest : Terms) → readTerms (suc n) ls ≡ rest → also t rest ≡ terms ts → LinesRead n (l ∷ ls) ts
     by-rest ih t q k small (terms us) r e =
         let later = ih us (omega arith) r in
         rw (← terms-inj (t ∷ us) ts e) (record { formed = ap₂ (λ (a : Option Term) (b : List (Option Term)). a ∷ b) q (later .formed); kept = (k, later .kept); few = omega (arith, later .few) })
@@ -150,9 +150,9 @@ lines-read n (l ∷ ls) ts h e = by-line (λ us small r. lines-read (suc n) ls u
         (λ not-both. never overCapacity (rw not-both at e))
 
 -- what is printed is read back as the same terms
-pub printed-reads : (ts : List Term) → All Printable ts → All Kept ts → length ts ≤ patchOperations → readTerms 0 (lines (printTerms ts)) ≡ terms ts
+pub printed-reads : (ts : List Term) → All PrintableTerm ts → All KeptTerm ts → length ts ≤ patchOperations → readTerms 0 (lines (printTerms ts)) ≡ terms ts
 printed-reads ts p k few = ap (readTerms 0) (lines-printed ts p) ∙ reads-lines 0 (map lineOf ts) ts (formed ts p) k (omega arith)
   where
-    formed : (us : List Term) → All Printable us → map readTerm (map lineOf us) ≡ map some us
+    formed : (us : List Term) → All PrintableTerm us → map readTerm (map lineOf us) ≡ map some us
     formed [] h = refl
     formed (u ∷ us) h = rw (line-read u (h .0 .formed), formed us (h .1))

@@ -1,10 +1,10 @@
 -- Each collection's length, kept with the collection: 02, Job 3. A collection without entries has no row, and reads 0.
 use Prim.Native.Nat.{ℕ, zero, suc, _+_, _-_, _≤_}
 use mathlib.Core.List.{List, [], _∷_, map}
-use mathlib.Core.Option.{Option, none, some, Option·map}
+use mathlib.Core.Option.{Option, some, Option·map}
 use lib.Dec.{eqb}
 use lib.ListN.{length}
-use Rattle.spec_lists.specs.Lists.{if_then_else_}
+use Rattle.spec_lists.specs.Lists.{if_then_else_, orZero}
 use Rattle.spec_lists.specs.Order.{upsert, sortUnique, lookup}
 use Rattle.spec_patch.specs.Fits.{U64}
 use Rattle.spec_patch.specs.Patch.{Operation, setBinding, setAvailability, insert, update, remove, move}
@@ -41,10 +41,6 @@ collectionLengths p = lengthsIn (p .entries)
 -- a collection's stored length, or none
 unfoldable pub lengthFound : ℕ → List CollectionLength → Option ℕ
 lengthFound c l = Option·map (λ (x : CollectionLength). x .length) (lookup lengthKey (c ∷ []) l)
-
-abbrev pub orZero : Option ℕ → ℕ
-orZero none = 0
-orZero (some n) = n
 
 -- a collection's length: 0 where none is stored
 unfoldable pub lengthOf : ℕ → List CollectionLength → ℕ

@@ -11,7 +11,7 @@ use native.Mathlib.Omega.{arith}
 use borrow.Author.Tests.{eqb-true, eqb-false, eq-eqb}
 use lib.Dec.{eqb}
 use lib.ListN.{length, length-map}
-use Rattle.spec_lists.specs.Lists.{if_then_else_, any, All}
+use Rattle.spec_lists.specs.Lists.{if_then_else_, any, All, orZero}
 use Rattle.spec_lists.specs.ListLaws.{or-second, all-member, any-member, member-any, test-cases}
 use Rattle.spec_lists.specs.Order.{lookup, sortUnique, Ascending}
 use Rattle.spec_lists.specs.OrderLaws.{sortUnique-ascending, sortUnique-member, sortUnique-length, member-sortUnique}
@@ -21,7 +21,7 @@ use Rattle.spec_patch.specs.Sizes.{projectionEntries}
 use Rattle.spec_projection.specs.Projection.{Entry, Projection}
 use Rattle.spec_projection.specs.Lookups.{entriesIn, entriesOf, entryCount}
 use Rattle.spec_projection.specs.MapLaws.{all-image, ascending-map}
-use Rattle.spec_lengths.specs.Lengths.{CollectionLength, lengthRecord, lengthKey, collectionsIn, lengthsIn, collectionLengths, lengthFound, orZero, lengthOf, FitsLength}
+use Rattle.spec_lengths.specs.Lengths.{CollectionLength, lengthRecord, lengthKey, collectionsIn, lengthsIn, collectionLengths, lengthFound, lengthOf, FitsLength}
 use Rattle.spec_projection.specs.Valid.{FitsEntry, Valid}
 
 -- ---- a collection's row

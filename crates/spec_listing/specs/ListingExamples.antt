@@ -66,8 +66,8 @@ alike a b = record {
   entries = record { collection = 9; key = 1; mark = 0; value = text a } ∷ record { collection = 9; key = 3; mark = 0; value = text b } ∷ [];
 }
 
-pub examples : List Bool
-examples =
+pub listingExamples : List Bool
+listingExamples =
     prints "" ""
     ∷ prints "plain text" "plain text"
     ∷ prints "\\" "\\\\"
@@ -96,8 +96,8 @@ examples =
     ∷ []
 
 -- all rows hold
-pub listing-examples : T (all (λ (b : Bool). b) examples)
-unfolding examples same prints readsBack readsNot panel alike
+pub listing-examples : T (all (λ (b : Bool). b) listingExamples)
+unfolding listingExamples same prints readsBack readsNot panel alike
     flatMap empty quadByte availabilityByte quadAfter availabilityAfter digits decimal signedDecimal isNumeral numberWith readDecimal positive negative readSignedDecimal
     escapedByte escaped byteOf unescaped prepend split cons
     fields valueFields bindingLine availabilityLine entryLine recordCount projectionLines

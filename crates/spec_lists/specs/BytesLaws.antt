@@ -1,16 +1,12 @@
 -- `littleEndian` and `numberOf` undo each other, once for every width; and parts of bytes are bytes.
 use Prim.Native.Nat.{ℕ, zero, suc, _+_, _*_, _/_, _%_, _^_, _≤_, _<_}
-use mathlib.Core.Path.{_≡_, refl, sym, ap, _∙_}
+use mathlib.Core.Path.{_≡_, refl, ap}
 use mathlib.Core.List.{List, [], _∷_, _++_}
 use native.Mathlib.Nat.{mod-lt, pow-suc}
 use native.Mathlib.Omega.{arith}
 use lib.ListN.{length, getD, take, drop}
 use lib.Dec.{lit<}
-use lib.IntN.{ℤ}
-use mir.Syntax.{w64}
-use mir.Val.{SFits, toZ, ofZ}
-use mir.Facts.{toZ-ofZ, ofZ-toZ, fits-ofZ}
-use Rattle.spec_lists.specs.ListLaws.{all-right, all-append}
+use Rattle.spec_lists.specs.ListLaws.{all-right}
 use Rattle.spec_lists.specs.Bytes.{Bytes, littleEndian, numberOf}
 
 -- ---- bytes
@@ -69,22 +65,6 @@ littleEndian-numberOf (b ∷ bs) h =
     let low : (b + 256 * numberOf bs) % 256 ≡ b = omega arith in
     let high : (b + 256 * numberOf bs) / 256 ≡ numberOf bs = omega arith in
     rw (low, high) (ap (λ (l : List ℕ). b ∷ l) (littleEndian-numberOf bs (h .1)))
-
--- ---- two runs of bytes
-
-pub bytes-append : (a b : List ℕ) → Bytes a → Bytes b → Bytes (a ++ b)
-bytes-append = all-append (λ (x : ℕ). x < 256)
-
--- ---- eight bytes in two's complement
-
-pub signed-littleEndian : (z : ℤ) → SFits w64 z → toZ w64 (numberOf (littleEndian 8 (ofZ w64 z))) ≡ z
-signed-littleEndian z h = ap (toZ w64) (numberOf-littleEndian 8 (ofZ w64 z) (fits-ofZ h .fits)) ∙ toZ-ofZ h
-
-pub littleEndian-signed : (bs : List ℕ) → Bytes bs → length bs ≡ 8 → littleEndian 8 (ofZ w64 (toZ w64 (numberOf bs))) ≡ bs
-littleEndian-signed bs h e =
-    ap (littleEndian 8) (ofZ-toZ {w = w64} (record { fits = numberOf-lt 8 bs h (omega arith) }))
-    ∙ ap (λ (n : ℕ). littleEndian n (numberOf bs)) (sym e)
-    ∙ littleEndian-numberOf bs h
 
 -- ---- the number of two runs of bytes
 

@@ -1,6 +1,7 @@
 -- Tests that compute, and lists of them: the few words that the definitions of every other crate use.
 use mathlib.Core.Bool.{Bool, true, false, _&&_, _||_}
 use mathlib.Core.List.{List, [], _∷_}
+use mathlib.Core.Option.{Option, none, some}
 use lib.Dec.{leb}
 use Prim.Native.Nat.{ℕ}
 
@@ -40,3 +41,8 @@ isEmpty (x ∷ xs) = false
 abbrev pub All : {A : Type 0} → (A → Type 0) → List A → Type 0
 All P [] = Unit {0}
 All P (x ∷ xs) = P x × All P xs
+
+-- a number, and 0 for none
+abbrev pub orZero : Option ℕ → ℕ
+orZero none = 0
+orZero (some n) = n

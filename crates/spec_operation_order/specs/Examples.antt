@@ -15,7 +15,7 @@ use Rattle.spec_projection.specs.FirstMatch.{findFirst, insertBeforeFirst, repl
 use Rattle.spec_projection.specs.Entries.{isEntry, isLater, contains, containsNeighbour, insertLast, insertBefore, insertEntry, replaceEntry, removeEntry}
 use Rattle.spec_projection.specs.Apply.{Outcome, done, stopped, projectionFull, withBindings, withAvailabilities, withEntries, applyBinding, applyAvailability, applyInsert, applyUpdate, applyRemove, applyMove, applyOperation}
 use Rattle.spec_projection.specs.Effects.{Target, bindingTarget, nodeTarget, collectionTarget, targetOf}
-use Rattle.spec_operation_order.specs.FreeOrder.{sameTarget, operationsOn, OrderKept, applyOperations, OrderIsFree, AlikeOrFull, inserted, insertCount, HasRoom}
+use Rattle.spec_operation_order.specs.FreeOrder.{isSameTarget, operationsOn, OrderKept, applyOperations, OrderIsFree, AlikeOrFull, inserted, insertCount, HasRoom}
 use Rattle.spec_operation_order.specs.Grouping.{groupedBy, isAmong, distinct, covers}
 
 -- ---- the lists
@@ -68,8 +68,8 @@ interleaved =
 abbrev pub targets : List Target
 targets = collectionTarget 9 ∷ collectionTarget 8 ∷ nodeTarget 6 ∷ nodeTarget 5 ∷ bindingTarget 5 1 ∷ bindingTarget 5 0 ∷ []
 
-abbrev pub grouped : List Operation
-grouped =
+abbrev pub groupedExamples : List Operation
+groupedExamples =
     insert 9 1 none (unsigned 20) ∷ update 9 1 (unsigned 21) ∷ insert 9 2 none (unsigned 22)
     ∷ insert 8 1 none (unsigned 10) ∷ insert 8 2 (some 1) (unsigned 11) ∷ move 8 1 (some 2) ∷ remove 8 2
     ∷ setAvailability 6 hidden
@@ -88,31 +88,31 @@ afterwards = record {
 
 -- ---- what each list does
 
-pub record Run : Type 0 where
+pub record ExampleRun : Type 0 where
   pub from : Projection
   pub operations : List Operation
   pub leaves : Outcome
 
-abbrev pub runs : List Run
-runs =
+abbrev pub exampleRuns : List ExampleRun
+exampleRuns =
     record { from = full; operations = removeThenInsert; leaves = done (holding (entry 8 1 0 ∷ entriesFrom 9 2 127)) }
     ∷ record { from = full; operations = insertThenRemove; leaves = stopped projectionFull }
     ∷ record { from = empty; operations = oneThenTwo; leaves = done (holding (entry 9 1 0 ∷ entry 9 2 0 ∷ [])) }
     ∷ record { from = empty; operations = twoThenOne; leaves = done (holding (entry 9 2 0 ∷ entry 9 1 0 ∷ [])) }
     ∷ record { from = empty; operations = interleaved; leaves = done afterwards }
-    ∷ record { from = empty; operations = grouped; leaves = done afterwards }
+    ∷ record { from = empty; operations = groupedExamples; leaves = done afterwards }
     ∷ []
 
 -- what applying operations computes through
-unfoldable pub opened : Unit {0}
+unfoldable pub openedOrders : Unit {0}
 unfolding
     applyOperations applyOperation applyBinding applyAvailability applyInsert applyUpdate applyRemove applyMove withBindings withAvailabilities withEntries
     isEntry isLater contains containsNeighbour insertLast insertBefore insertEntry replaceEntry removeEntry findFirst insertBeforeFirst replaceFirst removeFirst
     lexLess upsert bindingKey availabilityKey empty
-opened = tt
+openedOrders = tt
 
-pub runs-hold : All (λ (r : Run). applyOperations (r .from) (r .operations) ≡ r .leaves) runs
-unfolding opened full entriesFrom
+pub runs-hold : All (λ (r : ExampleRun). applyOperations (r .from) (r .operations) ≡ r .leaves) exampleRuns
+unfolding openedOrders full entriesFrom
 runs-hold = (refl, (refl, (refl, (refl, (refl, (refl, tt))))))
 
 -- ---- which operations of a list are on a target: all of a collection, whatever their keys; one slot, one node
@@ -132,23 +132,23 @@ shares =
     ∷ []
 
 pub shares-hold : All (λ (s : Share). operationsOn (s .target) (s .operations) ≡ s .own) shares
-unfolding operationsOn sameTarget targetOf
+unfolding operationsOn isSameTarget targetOf
 shares-hold = (refl, (refl, (refl, (refl, (refl, tt)))))
 
 -- ---- grouping
 
-pub grouped-is : groupedBy targets interleaved ≡ grouped
-unfolding groupedBy flatMap operationsOn sameTarget targetOf
+pub grouped-is : groupedBy targets interleaved ≡ groupedExamples
+unfolding groupedBy flatMap operationsOn isSameTarget targetOf
 grouped-is = refl
 
 -- the two collections of the full panel's list, the later one first
 pub full-grouped-is : groupedBy (collectionTarget 8 ∷ collectionTarget 9 ∷ []) removeThenInsert ≡ insertThenRemove
-unfolding groupedBy flatMap operationsOn sameTarget targetOf
+unfolding groupedBy flatMap operationsOn isSameTarget targetOf
 full-grouped-is = refl
 
 -- a target that is named twice, and one that is left out
 pub grouping-needs : (distinct targets ≡ true) × (distinct (nodeTarget 5 ∷ nodeTarget 5 ∷ []) ≡ false) × (covers targets interleaved ≡ true) × (covers (collectionTarget 9 ∷ []) interleaved ≡ false)
-unfolding distinct covers isAmong sameTarget targetOf
+unfolding distinct covers isAmong isSameTarget targetOf
 grouping-needs = (refl, refl, refl, refl)
 
 -- ---- the claims at these lists, by computing
@@ -168,5 +168,5 @@ full-no-room h = omega arith
 
 -- an order that is not kept: both lists run and end differently
 pub not-kept : OrderKept oneThenTwo twoThenOne → ⊥
-unfolding operationsOn sameTarget targetOf
+unfolding operationsOn isSameTarget targetOf
 not-kept k = let keys : _≡_ {A = ℕ} 1 2 = cc (k (collectionTarget 9)) in omega arith

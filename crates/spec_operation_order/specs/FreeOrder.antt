@@ -19,21 +19,21 @@ use Rattle.spec_projection.specs.Effects.{Target, bindingTarget, nodeTarget, co
 -- ---- which rearrangements are meant
 
 -- the same binding, the same node's availability, the same collection
-unfoldable pub sameTarget : Target → Target → Bool
-sameTarget (bindingTarget n s) (bindingTarget m t) = eqb n m && eqb s t
-sameTarget (bindingTarget n s) (nodeTarget m) = false
-sameTarget (bindingTarget n s) (collectionTarget d) = false
-sameTarget (nodeTarget n) (bindingTarget m t) = false
-sameTarget (nodeTarget n) (nodeTarget m) = eqb n m
-sameTarget (nodeTarget n) (collectionTarget d) = false
-sameTarget (collectionTarget c) (bindingTarget m t) = false
-sameTarget (collectionTarget c) (nodeTarget m) = false
-sameTarget (collectionTarget c) (collectionTarget d) = eqb c d
+unfoldable pub isSameTarget : Target → Target → Bool
+isSameTarget (bindingTarget n s) (bindingTarget m t) = eqb n m && eqb s t
+isSameTarget (bindingTarget n s) (nodeTarget m) = false
+isSameTarget (bindingTarget n s) (collectionTarget d) = false
+isSameTarget (nodeTarget n) (bindingTarget m t) = false
+isSameTarget (nodeTarget n) (nodeTarget m) = eqb n m
+isSameTarget (nodeTarget n) (collectionTarget d) = false
+isSameTarget (collectionTarget c) (bindingTarget m t) = false
+isSameTarget (collectionTarget c) (nodeTarget m) = false
+isSameTarget (collectionTarget c) (collectionTarget d) = eqb c d
 
 -- the operations on one target, in the order of the list
 unfoldable pub operationsOn : Target → List Operation → List Operation
 operationsOn t [] = []
-operationsOn t (o ∷ os) = if sameTarget (targetOf o) t then o ∷ operationsOn t os else operationsOn t os
+operationsOn t (o ∷ os) = if isSameTarget (targetOf o) t then o ∷ operationsOn t os else operationsOn t os
 
 -- Every target has the same operations in the same order in both lists. An operation is on one target, so none is lost, added or repeated:
 -- the lists are rearrangements of each other (`kept-permutation`), and just those that keep the order on each target (`kept-exactly`).

@@ -10,34 +10,34 @@ use Rattle.spec_lists.specs.Lists.{if_then_else_, All}
 use Rattle.spec_lists.specs.ListLaws.{and-left, and-right, test-cases}
 use Rattle.spec_patch.specs.Patch.{Operation}
 use Rattle.spec_projection.specs.Effects.{Target, bindingTarget, nodeTarget, collectionTarget, targetOf}
-use Rattle.spec_operation_order.specs.FreeOrder.{sameTarget, operationsOn, OrderKept, Exchanges, unchanged, exchange, behind, further}
+use Rattle.spec_operation_order.specs.FreeOrder.{isSameTarget, operationsOn, OrderKept, Exchanges, unchanged, exchange, behind, further}
 
 -- ---- targets
 
-pub sameTarget-true : (t u : Target) → sameTarget t u ≡ true → t ≡ u
-unfolding sameTarget
-sameTarget-true (bindingTarget n s) (bindingTarget m t) e =
+pub isSameTarget-true : (t u : Target) → isSameTarget t u ≡ true → t ≡ u
+unfolding isSameTarget
+isSameTarget-true (bindingTarget n s) (bindingTarget m t) e =
     λ i. bindingTarget (eqb-true n m (and-left (eqb n m) (eqb s t) e) i) (eqb-true s t (and-right (eqb n m) (eqb s t) e) i)
-sameTarget-true (bindingTarget n s) (nodeTarget m) e = cc
-sameTarget-true (bindingTarget n s) (collectionTarget d) e = cc
-sameTarget-true (nodeTarget n) (bindingTarget m t) e = cc
-sameTarget-true (nodeTarget n) (nodeTarget m) e = ap nodeTarget (eqb-true n m e)
-sameTarget-true (nodeTarget n) (collectionTarget d) e = cc
-sameTarget-true (collectionTarget c) (bindingTarget m t) e = cc
-sameTarget-true (collectionTarget c) (nodeTarget m) e = cc
-sameTarget-true (collectionTarget c) (collectionTarget d) e = ap collectionTarget (eqb-true c d e)
+isSameTarget-true (bindingTarget n s) (nodeTarget m) e = cc
+isSameTarget-true (bindingTarget n s) (collectionTarget d) e = cc
+isSameTarget-true (nodeTarget n) (bindingTarget m t) e = cc
+isSameTarget-true (nodeTarget n) (nodeTarget m) e = ap nodeTarget (eqb-true n m e)
+isSameTarget-true (nodeTarget n) (collectionTarget d) e = cc
+isSameTarget-true (collectionTarget c) (bindingTarget m t) e = cc
+isSameTarget-true (collectionTarget c) (nodeTarget m) e = cc
+isSameTarget-true (collectionTarget c) (collectionTarget d) e = ap collectionTarget (eqb-true c d e)
 
-sameTarget-self : (t : Target) → sameTarget t t ≡ true
-unfolding sameTarget
+sameTarget-self : (t : Target) → isSameTarget t t ≡ true
+unfolding isSameTarget
 sameTarget-self (bindingTarget n s) = rw (eq-eqb n n refl) (eq-eqb s s refl)
 sameTarget-self (nodeTarget n) = eq-eqb n n refl
 sameTarget-self (collectionTarget c) = eq-eqb c c refl
 
-pub sameTarget-false : (t u : Target) → sameTarget t u ≡ false → t ≢ u
-sameTarget-false t u e s = false≢true (sym e ∙ rw s (sameTarget-self u))
+pub isSameTarget-false : (t u : Target) → isSameTarget t u ≡ false → t ≢ u
+isSameTarget-false t u e s = false≢true (sym e ∙ rw s (sameTarget-self u))
 
 pub target-cases : {G : Type 0} (t u : Target) → (t ≡ u → G) → (t ≢ u → G) → G
-target-cases t u same other = test-cases (sameTarget t u) (λ e. same (sameTarget-true t u e)) (λ e. other (sameTarget-false t u e))
+target-cases t u same other = test-cases (isSameTarget t u) (λ e. same (isSameTarget-true t u e)) (λ e. other (isSameTarget-false t u e))
 
 -- ---- the operations on one target
 
@@ -47,12 +47,12 @@ on-own t o os e = rw (e, sameTarget-self t)
 
 pub on-other : (t : Target) (o : Operation) (os : List Operation) → targetOf o ≢ t → operationsOn t (o ∷ os) ≡ operationsOn t os
 unfolding operationsOn
-on-other t o os n = test-cases (sameTarget (targetOf o) t) (λ e. absurd (n (sameTarget-true (targetOf o) t e))) (λ e. rw e)
+on-other t o os n = test-cases (isSameTarget (targetOf o) t) (λ e. absurd (n (isSameTarget-true (targetOf o) t e))) (λ e. rw e)
 
 -- one more operation in front of both lists
 on-behind : (t : Target) (o : Operation) (left right : List Operation) → operationsOn t left ≡ operationsOn t right → operationsOn t (o ∷ left) ≡ operationsOn t (o ∷ right)
 unfolding operationsOn
-on-behind t o left right e = ap (λ (l : List Operation). if sameTarget (targetOf o) t then o ∷ l else l) e
+on-behind t o left right e = ap (λ (l : List Operation). if isSameTarget (targetOf o) t then o ∷ l else l) e
 
 -- ---- exchanges keep the order
 

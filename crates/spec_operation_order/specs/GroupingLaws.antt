@@ -8,8 +8,8 @@ use Rattle.spec_lists.specs.Lists.{if_then_else_}
 use Rattle.spec_lists.specs.ListLaws.{and-left, and-right, test-cases}
 use Rattle.spec_patch.specs.Patch.{Operation}
 use Rattle.spec_projection.specs.Effects.{Target, targetOf}
-use Rattle.spec_operation_order.specs.FreeOrder.{sameTarget, operationsOn, OrderKept}
-use Rattle.spec_operation_order.specs.FreeOrderLaws.{sameTarget-true, sameTarget-false, target-cases, on-own, on-other}
+use Rattle.spec_operation_order.specs.FreeOrder.{isSameTarget, operationsOn, OrderKept}
+use Rattle.spec_operation_order.specs.FreeOrderLaws.{isSameTarget-true, isSameTarget-false, target-cases, on-own, on-other}
 use Rattle.spec_operation_order.specs.Grouping.{groupedBy, isAmong, distinct, covers}
 
 -- ---- one target's operations, of lists put together and of another target's
@@ -42,11 +42,11 @@ grouped-on t [] os d = refl
 grouped-on t (u ∷ ts) os d =
     let rest = grouped-on t ts os (and-right (not (isAmong ts u)) (distinct ts) d) in
     on-append t (operationsOn u os) (groupedBy ts os)
-    ∙ test-cases (sameTarget t u)
-    (λ s. let e = sameTarget-true t u s in
+    ∙ test-cases (isSameTarget t u)
+    (λ s. let e = isSameTarget-true t u s in
     let absent : isAmong ts t ≡ false = rw e (not-true (isAmong ts u) (and-left (not (isAmong ts u)) (distinct ts) d)) in
     ap (λ l. operationsOn t (operationsOn u os) ++ l) rest ∙ rw (s, absent) (append-nil (operationsOn t (operationsOn u os)) ∙ rw e (on-same u os)))
-    (λ s. ap (λ l. l ++ operationsOn t (groupedBy ts os)) (on-different t u os (λ e. sameTarget-false t u s (sym e))) ∙ rest ∙ rw s)
+    (λ s. ap (λ l. l ++ operationsOn t (groupedBy ts os)) (on-different t u os (λ e. isSameTarget-false t u s (sym e))) ∙ rest ∙ rw s)
 
 -- a target that is no group has no operations, if the groups cover the list
 uncovered : (t : Target) (ts : List Target) (os : List Operation) → isAmong ts t ≡ false → covers ts os ≡ true → operationsOn t os ≡ []

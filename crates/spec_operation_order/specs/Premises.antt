@@ -14,10 +14,10 @@ use Rattle.spec_projection.specs.Marks.{withoutMarks}
 use Rattle.spec_projection.specs.Valid.{Behind, Grouped, FitsEntry, Valid}
 use Rattle.spec_projection.specs.ValidLaws.{empty-valid}
 use Rattle.spec_projection.specs.Effects.{collectionTarget, targetOf}
-use Rattle.spec_operation_order.specs.FreeOrder.{sameTarget, OrderKept, applyOperations, inserted, insertCount, HasRoom}
+use Rattle.spec_operation_order.specs.FreeOrder.{isSameTarget, OrderKept, applyOperations, inserted, insertCount, HasRoom}
 use Rattle.spec_operation_order.specs.Grouping.{isAmong, distinct, covers}
 use Rattle.spec_operation_order.specs.GroupingLaws.{grouping-keeps}
-use Rattle.spec_operation_order.specs.Examples.{entry, entriesFrom, full, removeThenInsert, insertThenRemove, oneThenTwo, twoThenOne, interleaved, targets, grouped, afterwards, opened, runs-hold, grouped-is, full-grouped-is, grouping-needs}
+use Rattle.spec_operation_order.specs.Examples.{entry, entriesFrom, full, removeThenInsert, insertThenRemove, oneThenTwo, twoThenOne, interleaved, targets, groupedExamples, afterwards, openedOrders, runs-hold, grouped-is, full-grouped-is, grouping-needs}
 use Rattle.spec_operation_order.specs.Theorem.{order-is-free, step-order-is-free, runs-with-room}
 
 -- ---- the full panel is one that a session can hold
@@ -55,7 +55,7 @@ full-valid = record {
 -- ---- both must run: a removal in one collection makes the place for an insert in another
 
 pub full-kept : OrderKept removeThenInsert insertThenRemove
-unfolding distinct covers isAmong sameTarget targetOf
+unfolding distinct covers isAmong isSameTarget targetOf
 full-kept = rw (← full-grouped-is) (grouping-keeps (collectionTarget 8 ∷ collectionTarget 9 ∷ []) removeThenInsert refl refl)
 
 pub second-run-needed : ((p : Projection) (left right : List Operation) (q : Projection) → Valid p → OrderKept left right → applyOperations p left ≡ done q → applyOperations p right ≡ done q) → ⊥
@@ -71,19 +71,19 @@ order-needed claim =
 
 -- ---- the interleaved list and the grouped one meet all premises
 
-pub grouped-kept : OrderKept interleaved grouped
+pub grouped-kept : OrderKept interleaved groupedExamples
 grouped-kept = rw (← grouped-is) (grouping-keeps targets interleaved (grouping-needs .0) (grouping-needs .2))
 
-pub ends-alike : (q r : Projection) → applyOperations empty interleaved ≡ done q → applyOperations empty grouped ≡ done r → q ≡ r
-ends-alike q r g h = order-is-free empty interleaved grouped q r empty-valid grouped-kept g h
+pub ends-alike : (q r : Projection) → applyOperations empty interleaved ≡ done q → applyOperations empty groupedExamples ≡ done r → q ≡ r
+ends-alike q r g h = order-is-free empty interleaved groupedExamples q r empty-valid grouped-kept g h
 
 -- there is room for the four inserts, so that the one runs because the other does
 empty-room : HasRoom empty interleaved
 unfolding empty insertCount inserted
 empty-room = omega arith
 
-pub runs-alike : applyOperations empty grouped ≡ done afterwards
-runs-alike = runs-with-room empty interleaved grouped afterwards empty-valid grouped-kept empty-room (runs-hold .1 .1 .1 .1 .0)
+pub runs-alike : applyOperations empty groupedExamples ≡ done afterwards
+runs-alike = runs-with-room empty interleaved groupedExamples afterwards empty-valid grouped-kept empty-room (runs-hold .1 .1 .1 .1 .0)
 
 -- ---- marks must be dropped: the same operation of two patches leaves two marks
 
@@ -94,7 +94,7 @@ abbrev availableBy : ℕ → Projection
 availableBy id = record { bindings = []; availabilities = record { node = 5; mark = id; availability = pending } ∷ []; entries = [] }
 
 set-leaves : (id : ℕ) → applySteps empty (setBy id) ≡ done (availableBy id)
-unfolding opened applySteps applyStep
+unfolding openedOrders applySteps applyStep
 set-leaves id = refl
 
 pub marks-dropped : ((p : Projection) (left right : List ReplayStep) (q r : Projection) → Valid p → OrderKept (stepOperations left) (stepOperations right) → applySteps p left ≡ done q → applySteps p right ≡ done r → q ≡ r) → ⊥

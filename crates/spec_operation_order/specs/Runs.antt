@@ -18,7 +18,7 @@ use Rattle.spec_projection.specs.Effects.{Target, bindingTarget, nodeTarget, co
 use Rattle.spec_projection.specs.EffectsLaws.{own-collection, other-collections}
 use Rattle.spec_operation_order.specs.FreeOrder.{operationsOn, applyOperations}
 use Rattle.spec_operation_order.specs.FreeOrderLaws.{target-cases, on-own, on-other}
-use Rattle.spec_operation_order.specs.Verdict.{keysFit, listOf, setsBinding, setsAvailability, Fits, Leaves, Verdict, verdict}
+use Rattle.spec_operation_order.specs.Verdict.{keysFit, valuesAt, setsBinding, setsAvailability, FitsCapacities, Leaves, Verdict, verdict}
 use Rattle.spec_operation_order.specs.Rows.{putAll}
 
 -- a collection's list after its operations, or none where a key or a neighbour does not fit
@@ -27,7 +27,7 @@ listAfter l [] = some l
 listAfter l (o ∷ os) = if keysFit l o then listAfter (collectionAfter 0 o l) os else none
 
 -- what an operation leaves at its own target, and at others
-pub own-list : (p : Projection) (o : Operation) (q : Projection) → Ordered p → applyOperation p 0 o ≡ done q → listOf q (targetOf o) ≡ collectionAfter 0 o (listOf p (targetOf o))
+pub own-list : (p : Projection) (o : Operation) (q : Projection) → Ordered p → applyOperation p 0 o ≡ done q → valuesAt q (targetOf o) ≡ collectionAfter 0 o (valuesAt p (targetOf o))
 unfolding targetOf collectionAfter
 own-list p (setBinding n s v) q w h = refl
 own-list p (setAvailability n a) q w h = refl
@@ -36,27 +36,27 @@ own-list p (update c k v) q w h = own-collection p 0 (update c k v) q c (w .entr
 own-list p (remove c k) q w h = own-collection p 0 (remove c k) q c (w .entries) h refl
 own-list p (move c k before) q w h = own-collection p 0 (move c k before) q c (w .entries) h refl
 
-pub other-list : (p : Projection) (o : Operation) (q : Projection) (t : Target) → applyOperation p 0 o ≡ done q → targetOf o ≢ t → listOf q t ≡ listOf p t
+pub other-list : (p : Projection) (o : Operation) (q : Projection) (t : Target) → applyOperation p 0 o ≡ done q → targetOf o ≢ t → valuesAt q t ≡ valuesAt p t
 other-list p o q (bindingTarget node slot) h n = refl
 other-list p o q (nodeTarget node) h n = refl
 other-list p o q (collectionTarget c) h n = other-collections p 0 o q h c n
 
 -- the lists before the rest of a run, from those before the whole
 pub rest-after : (p : Projection) (o : Operation) (os : List Operation) (q : Projection) (t : Target) → Ordered p → applyOperation p 0 o ≡ done q
-    → listAfter (listOf p t) (operationsOn t (o ∷ os)) ≡ listAfter (listOf q t) (operationsOn t os)
+    → listAfter (valuesAt p t) (operationsOn t (o ∷ os)) ≡ listAfter (valuesAt q t) (operationsOn t os)
 unfolding listAfter
 rest-after p o os q t w h = target-cases (targetOf o) t
-    (λ e. let fit : keysFit (listOf p t) o ≡ true = rw e at (subst (Verdict p o) h (verdict p o) .fit) in
-    let own : listOf q t ≡ collectionAfter 0 o (listOf p t) = rw e at (own-list p o q w h) in
+    (λ e. let fit : keysFit (valuesAt p t) o ≡ true = rw e at (subst (Verdict p o) h (verdict p o) .fit) in
+    let own : valuesAt q t ≡ collectionAfter 0 o (valuesAt p t) = rw e at (own-list p o q w h) in
     rw (on-own t o os e, fit, own))
     (λ n. rw (on-other t o os n, other-list p o q t h n))
 
 pub record Ran (p : Projection) (os : List Operation) (q : Projection) : Type 0 where
   pub ordered : Ordered q
-  pub lists : (t : Target) → listAfter (listOf p t) (operationsOn t os) ≡ some (listOf q t)
+  pub lists : (t : Target) → listAfter (valuesAt p t) (operationsOn t os) ≡ some (valuesAt q t)
   pub bindings : q .bindings ≡ putAll bindingKey setsBinding (p .bindings) os
   pub availabilities : q .availabilities ≡ putAll availabilityKey setsAvailability (p .availabilities) os
-  pub fits : Fits p → Fits q
+  pub fits : FitsCapacities p → FitsCapacities q
 
 pub ran : (p : Projection) (os : List Operation) (q : Projection) → Ordered p → applyOperations p os ≡ done q → Ran p os q
 unfolding applyOperations operationsOn listAfter putAll

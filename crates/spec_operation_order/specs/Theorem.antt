@@ -21,7 +21,7 @@ use Rattle.spec_operation_order.specs.FreeOrder.{operationsOn, OrderKept
 use Rattle.spec_operation_order.specs.FreeOrderLaws.{on-own, kept-exactly}
 use Rattle.spec_operation_order.specs.Grouping.{groupedBy, distinct, covers}
 use Rattle.spec_operation_order.specs.GroupingLaws.{grouping-keeps}
-use Rattle.spec_operation_order.specs.Verdict.{listOf, put, setsBinding, setsAvailability, Within, Place, Leaves, Verdict, verdict}
+use Rattle.spec_operation_order.specs.Verdict.{valuesAt, put, setsBinding, setsAvailability, WithinCapacities, VerdictPlace, Leaves, Verdict, verdict}
 use Rattle.spec_operation_order.specs.Rows.{putAll, putAll-grows, bindings-exchange, availabilities-exchange}
 use Rattle.spec_operation_order.specs.Runs.{listAfter, rest-after, ran}
 
@@ -35,7 +35,7 @@ order-is-free p left right q r v k g h =
     determined q r (a .ordered) (b .ordered)
     (a .bindings ∙ bindings-exchange x (p .bindings) (v .bindings) ∙ sym (b .bindings))
     (a .availabilities ∙ availabilities-exchange x (p .availabilities) (v .availabilities) ∙ sym (b .availabilities))
-    (λ c. let t = collectionTarget c in Option·some-injective _ _ (sym (a .lists t) ∙ ap (listAfter (listOf p t)) (k t) ∙ b .lists t))
+    (λ c. let t = collectionTarget c in Option·some-injective _ _ (sym (a .lists t) ∙ ap (listAfter (valuesAt p t)) (k t) ∙ b .lists t))
 
 -- steps of patch 0 run as their operations do
 steps-run : (p : Projection) (os : List Operation) → applySteps p (map (stepOf 0) os) ≡ applyOperations p os
@@ -67,7 +67,7 @@ patch-order-is-free p left right q r v k g h =
 
 -- at every target the keys fit all the way
 abbrev KeysFit : Projection → List Operation → Type 0
-KeysFit p os = (t : Target) → listAfter (listOf p t) (operationsOn t os) ≢ none
+KeysFit p os = (t : Target) → listAfter (valuesAt p t) (operationsOn t os) ≢ none
 
 keys-fit-full : (p : Projection) (os : List Operation) (f : OperationFault) → Ordered p → KeysFit p os → applyOperations p os ≡ stopped f → f ≡ projectionFull
 unfolding applyOperations listAfter
@@ -84,7 +84,7 @@ pub alike-or-full : (p : Projection) (left right : List Operation) → AlikeOrFu
 alike-or-full p left right q v k g = go (applyOperations p right) refl
   where
     keys-fit : KeysFit p right
-    keys-fit t n = Option·some-ne-none _ (sym (ran p left q (valid-ordered p v) g .lists t) ∙ ap (listAfter (listOf p t)) (k t) ∙ n)
+    keys-fit t n = Option·some-ne-none _ (sym (ran p left q (valid-ordered p v) g .lists t) ∙ ap (listAfter (valuesAt p t)) (k t) ∙ n)
 
     go : (x : Outcome) → applyOperations p right ≡ x → (applyOperations p right ≡ done q) ⊎ (applyOperations p right ≡ stopped projectionFull)
     go (done r) h = inl (h ∙ ap done (sym (order-is-free p left right q r v k g h)))
@@ -94,9 +94,9 @@ alike-or-full p left right q v k g = go (applyOperations p right) refl
 
 -- a place for all that a list sets and inserts
 abbrev Room : Projection → List Operation → Type 0
-Room p os = Within (length (putAll bindingKey setsBinding (p .bindings) os)) (length (putAll availabilityKey setsAvailability (p .availabilities) os)) (length (p .entries) + insertCount os)
+Room p os = WithinCapacities (length (putAll bindingKey setsBinding (p .bindings) os)) (length (putAll availabilityKey setsAvailability (p .availabilities) os)) (length (p .entries) + insertCount os)
 
-room-first : (p : Projection) (o : Operation) (os : List Operation) → Room p (o ∷ os) → Place p o
+room-first : (p : Projection) (o : Operation) (os : List Operation) → Room p (o ∷ os) → VerdictPlace p o
 unfolding putAll insertCount
 room-first p o os w = record {
   bindings = omega (arith, putAll-grows bindingKey setsBinding (put bindingKey (setsBinding o) (p .bindings)) os, w .bindings);

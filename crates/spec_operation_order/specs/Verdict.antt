@@ -40,10 +40,10 @@ keysFit l (remove c k) = any (hasKey k) l
 keysFit l (move c k before) = any (hasKey k) l && hasNeighbour before (removeFirst (hasKey k) l)
 
 -- the list that is looked at
-abbrev pub listOf : Projection → Target → List KeyedValue
-listOf p (bindingTarget node slot) = []
-listOf p (nodeTarget node) = []
-listOf p (collectionTarget c) = entriesOf p c
+abbrev pub valuesAt : Projection → Target → List KeyedValue
+valuesAt p (bindingTarget node slot) = []
+valuesAt p (nodeTarget node) = []
+valuesAt p (collectionTarget c) = entriesOf p c
 
 -- ---- the places
 
@@ -69,23 +69,23 @@ setsAvailability (remove c k) = none
 setsAvailability (move c k before) = none
 
 -- so many rows are within the capacities
-pub record Within (b a e : ℕ) : Type 0 where
+pub record WithinCapacities (b a e : ℕ) : Type 0 where
   pub bindings : b ≤ projectionBindings
   pub availabilities : a ≤ projectionAvailabilities
   pub entries : e ≤ projectionEntries
 
-abbrev pub Fits : Projection → Type 0
-Fits p = Within (length (p .bindings)) (length (p .availabilities)) (length (p .entries))
+abbrev pub FitsCapacities : Projection → Type 0
+FitsCapacities p = WithinCapacities (length (p .bindings)) (length (p .availabilities)) (length (p .entries))
 
 -- with what the operation sets and inserts
-abbrev pub Place : Projection → Operation → Type 0
-Place p o = Within (length (put bindingKey (setsBinding o) (p .bindings))) (length (put availabilityKey (setsAvailability o) (p .availabilities))) (length (p .entries) + inserted o)
+abbrev pub VerdictPlace : Projection → Operation → Type 0
+VerdictPlace p o = WithinCapacities (length (put bindingKey (setsBinding o) (p .bindings))) (length (put availabilityKey (setsAvailability o) (p .availabilities))) (length (p .entries) + inserted o)
 
 -- ---- the verdict
 
 pub record Leaves (p : Projection) (o : Operation) (q : Projection) : Type 0 where
-  pub fit : keysFit (listOf p (targetOf o)) o ≡ true
-  pub place : Fits p → Place p o
+  pub fit : keysFit (valuesAt p (targetOf o)) o ≡ true
+  pub place : FitsCapacities p → VerdictPlace p o
   pub bindings : q .bindings ≡ put bindingKey (setsBinding o) (p .bindings)
   pub availabilities : q .availabilities ≡ put availabilityKey (setsAvailability o) (p .availabilities)
   pub entries : length (q .entries) ≤ length (p .entries) + inserted o
@@ -93,8 +93,8 @@ pub record Leaves (p : Projection) (o : Operation) (q : Projection) : Type 0 whe
 -- 8 where the keys do not fit, 9 where they do and there is no place
 abbrev pub Verdict : Projection → Operation → Outcome → Type 0
 Verdict p o (done q) = Leaves p o q
-Verdict p o (stopped keyRule) = keysFit (listOf p (targetOf o)) o ≡ false
-Verdict p o (stopped projectionFull) = (keysFit (listOf p (targetOf o)) o ≡ true) × (Place p o → ⊥)
+Verdict p o (stopped keyRule) = keysFit (valuesAt p (targetOf o)) o ≡ false
+Verdict p o (stopped projectionFull) = (keysFit (valuesAt p (targetOf o)) o ≡ true) × (VerdictPlace p o → ⊥)
 
 neighbour-own : (c : ℕ) (before : Option ℕ) (es : List Entry) → containsNeighbour c before es ≡ hasNeighbour before (entriesIn c es)
 unfolding containsNeighbour hasNeighbour
@@ -102,8 +102,8 @@ neighbour-own c none es = refl
 neighbour-own c (some k) es = contains-own c k es
 
 -- an operation on a collection leaves the other rows
-entries-leave : (p : Projection) (o : Operation) (es : List Entry) → setsBinding o ≡ none → setsAvailability o ≡ none → keysFit (listOf p (targetOf o)) o ≡ true
-    → (Fits p → length (p .entries) + inserted o ≤ projectionEntries) → length es ≤ length (p .entries) + inserted o → Leaves p o (withEntries p es)
+entries-leave : (p : Projection) (o : Operation) (es : List Entry) → setsBinding o ≡ none → setsAvailability o ≡ none → keysFit (valuesAt p (targetOf o)) o ≡ true
+    → (FitsCapacities p → length (p .entries) + inserted o ≤ projectionEntries) → length es ≤ length (p .entries) + inserted o → Leaves p o (withEntries p es)
 unfolding put withEntries
 entries-leave p o es b a fit place grows = record {
   fit = fit;
@@ -129,7 +129,7 @@ move-verdict p c k before (some x) e =
     (λ h. rw there (sym next ∙ h))
 
 -- where the keys fit, a number of rows is held to its capacity
-places-decide : (p : Projection) (o : Operation) (rows capacity : ℕ) (q : Projection) → keysFit (listOf p (targetOf o)) o ≡ true → (rows ≤ capacity → Leaves p o q) → (Place p o → rows ≤ capacity)
+places-decide : (p : Projection) (o : Operation) (rows capacity : ℕ) (q : Projection) → keysFit (valuesAt p (targetOf o)) o ≡ true → (rows ≤ capacity → Leaves p o q) → (VerdictPlace p o → rows ≤ capacity)
     → Verdict p o (if leb rows capacity then done q else stopped projectionFull)
 places-decide p o rows capacity q fit leaves place =
     if-cases (Verdict p o) (leb rows capacity) _ _ (λ e. leaves (leb-true rows capacity e)) (λ e. (fit, λ w. omega (arith, leb-false rows capacity e, place w)))

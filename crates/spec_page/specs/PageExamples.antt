@@ -60,11 +60,11 @@ pageRuns =
     ∷ []
 
 -- a proof that computes pages opens this
-unfoldable pub opened : Unit {0}
+unfoldable pub openedPages : Unit {0}
 unfolding entriesIn entriesOf findFrom pageEntry pageRows pageRefusal tableLeft page
-opened = tt
+openedPages = tt
 
 page-runs-hold : All (λ (r : PageRun). (Option·map pageNumber (page twoCollections (r .collection) (r .keys) (replicate (r .room) stood) .refusal) ≡ r .number)
     × (page twoCollections (r .collection) (r .keys) (replicate (r .room) stood) .places ≡ r .left)) pageRuns
-unfolding opened
+unfolding openedPages
 page-runs-hold = ((refl, refl), ((refl, refl), ((refl, refl), ((refl, refl), ((refl, refl), ((refl, refl), tt))))))

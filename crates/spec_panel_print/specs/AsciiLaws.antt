@@ -9,7 +9,7 @@ use lib.ListN.{length, replicate}
 use borrow.Author.Tests.{lt-ltb}
 use Rattle.spec_lists.specs.Lists.{All, all}
 use Rattle.spec_lists.specs.ListLaws.{and-left, and-right, flatMap-append, all-append}
-use Rattle.spec_text.specs.Scalars.{encodeScalar, encode}
+use Rattle.spec_text.specs.Scalars.{encodeScalar, encodeScalars}
 use Rattle.spec_patch.specs.Patch.{Quad, N, F, T, S}
 use Rattle.spec_decimal.specs.Decimal.{digits, decimal, signedDecimal, isDigit}
 use Rattle.spec_decimal.specs.DecimalLaws.{all-digits, isDigit-range}
@@ -19,12 +19,12 @@ use Rattle.spec_panel_print.specs.PrintLaws.{keyLead-length}
 unfoldable pub Ascii : ℕ → Type 0
 Ascii c = c < 0x80
 
-pub encode-append : (a b : List ℕ) → encode (a ++ b) ≡ encode a ++ encode b
-unfolding encode
+pub encode-append : (a b : List ℕ) → encodeScalars (a ++ b) ≡ encodeScalars a ++ encodeScalars b
+unfolding encodeScalars
 encode-append a b = flatMap-append encodeScalar a b
 
-pub ascii-encode : (l : List ℕ) → All Ascii l → encode l ≡ l
-unfolding encode flatMap encodeScalar Ascii
+pub ascii-encode : (l : List ℕ) → All Ascii l → encodeScalars l ≡ l
+unfolding encodeScalars flatMap encodeScalar Ascii
 ascii-encode [] h = refl
 ascii-encode (c ∷ l) h = rw (lt-ltb c 0x80 (h .0), ascii-encode l (h .1))
 
@@ -63,5 +63,5 @@ keyLead-ascii k =
     all-append Ascii (blanks ++ decimal k) (blank ∷ blank ∷ []) (all-append Ascii blanks (decimal k) (spaces-ascii (keyWidth - length (decimal k))) (decimal-ascii k))
     (omega arith, (omega arith, tt))
 
-pub keyLead-octets : (k : ℕ) → length (encode (keyLead k)) ≡ leadWidth
+pub keyLead-octets : (k : ℕ) → length (encodeScalars (keyLead k)) ≡ leadWidth
 keyLead-octets k = ap length (ascii-encode (keyLead k) (keyLead-ascii k)) ∙ keyLead-length k

@@ -7,7 +7,7 @@ use mathlib.Core.Option.{Option}
 use lib.Dec.{ltb, eqb}
 use lib.ListN.{length, take, drop, replicate}
 use Rattle.spec_lists.specs.Lists.{if_then_else_, isEmpty}
-use Rattle.spec_text.specs.Scalars.{encode}
+use Rattle.spec_text.specs.Scalars.{encodeScalars}
 use Rattle.spec_patch.specs.Patch.{Quad, N, F, T, S, Value, quad, signed, text, unsigned, score}
 use Rattle.spec_projection.specs.Projection.{Projection}
 use Rattle.spec_projection.specs.Lookups.{KeyedValue, entriesOf}
@@ -108,7 +108,7 @@ collectionLines p c = flatMap entryLines (entriesOf p c)
 
 -- the bytes of a line, and the newline
 unfoldable pub lineOctets : List ℕ → List ℕ
-lineOctets line = encode line ++ (lineEnd ∷ [])
+lineOctets line = encodeScalars line ++ (lineEnd ∷ [])
 
 -- the bytes of the print; a collection without entries has none
 unfoldable pub collectionPrint : Projection → ℕ → List ℕ

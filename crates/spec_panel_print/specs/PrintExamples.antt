@@ -8,7 +8,7 @@ use lib.Dec.{T as T′, eqb}
 use lib.IntN.{negsuc}
 use lib.ListN.{length, replicate}
 use Rattle.spec_lists.specs.Lists.{all, equalLists}
-use Rattle.spec_text.specs.Scalars.{encodeScalar, encode}
+use Rattle.spec_text.specs.Scalars.{encodeScalar, encodeScalars}
 use Rattle.spec_patch.specs.Patch.{Value, N, F, T, S, quad, signed, text, unsigned, score}
 use Rattle.spec_projection.specs.Projection.{Projection, Entry}
 use Rattle.spec_projection.specs.Lookups.{KeyedValue, entriesIn, entriesOf}
@@ -43,7 +43,7 @@ unfoldable pub latin : ℕ → List ℕ
 latin n = replicate n 120
 
 greek : ℕ → List ℕ
-greek n = encode (replicate n 0x3bb)
+greek n = encodeScalars (replicate n 0x3bb)
 
 takes : ℕ → ℕ → Bool
 takes n lines = eqb (length (entryLines (withKey 1 (text (latin n))))) lines
@@ -57,8 +57,8 @@ inCollection c k v = record { collection = c; key = k; mark = 1; value = v }
 unfoldable pub printedPanel : Projection
 printedPanel = record { bindings = []; availabilities = []; entries = inCollection 3 7 (unsigned 5) ∷ inCollection 9 2 (text (codes "b")) ∷ inCollection 9 1 (text (latin 59)) ∷ [] }
 
-pub examples : List Bool
-examples =
+pub printExamples : List Bool
+printExamples =
     oneLine 0 "                   0  " (quad N) "N"
     ∷ oneLine 18446744073709551615 "18446744073709551615  " (quad F) "F"
     ∷ oneLine 7 "                   7  " (quad T) "T"
@@ -83,12 +83,12 @@ examples =
     (codes "                   2  b" ++ (blanks 57 ++ (codes "\n                   1  " ++ (latin 58 ++ (codes "\n" ++ (blanks 22 ++ (codes "x" ++ (blanks 57 ++ codes "\n"))))))))
     ∷ equal (collectionPrint printedPanel 8) []
     -- the longest print of an entry: 117 characters in all the bytes that a text may have
-    ∷ eqb (length (flatMap lineOctets (entryLines (withKey 1 (text (encode (replicate 6 0x20ac) ++ greek 111)))))) entryPrintBytes
+    ∷ eqb (length (flatMap lineOctets (entryLines (withKey 1 (text (encodeScalars (replicate 6 0x20ac) ++ greek 111)))))) entryPrintBytes
     ∷ []
 
 -- all rows hold
-pub print-examples : T′ (all (λ (b : Bool). b) examples)
-unfolding examples equal equalLines withKey blanks oneLine latin greek takes takesGreek inCollection printedPanel
-    flatMap encodeScalar encode entriesIn entriesOf digits decimal signedDecimal scalarsFrom scalarsOf isControl printedCharacter quadLetter printedValue
+pub print-examples : T′ (all (λ (b : Bool). b) printExamples)
+unfolding printExamples equal equalLines withKey blanks oneLine latin greek takes takesGreek inCollection printedPanel
+    flatMap encodeScalar encodeScalars entriesIn entriesOf digits decimal signedDecimal scalarsFrom scalarsOf isControl printedCharacter quadLetter printedValue
     lineCount textPieces columnOf keyLead laidOut printedLines entryLines collectionLines lineOctets collectionPrint textColumns withoutEndSpaces
 print-examples = tt

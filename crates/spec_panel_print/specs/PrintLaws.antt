@@ -12,7 +12,7 @@ use lib.ListN.{length, drop, replicate, length-append, length-take, length-repli
 use borrow.Author.Tests.{ltb-false, ne-eqb, le-ltb}
 use Rattle.spec_lists.specs.Lists.{All, all}
 use Rattle.spec_lists.specs.ListLaws.{and-left, and-right, or-left, test-cases, if-cases, flatMap-append, all-append, all-take, all-drop, all-map}
-use Rattle.spec_text.specs.Scalars.{Scalar, encodeScalar, encode}
+use Rattle.spec_text.specs.Scalars.{Scalar, encodeScalar, encodeScalars}
 use Rattle.spec_text.specs.Syntax.{isUtf8, characters}
 use Rattle.spec_text.specs.Rfc3629Laws.{encoding-is-utf8}
 use Rattle.spec_patch.specs.Patch.{N, F, T, S, Value, quad, signed, text, unsigned, score}
@@ -180,8 +180,8 @@ printable-scalar = all-map Printable Scalar (λ c h. h .scalar)
 
 -- Each line is UTF-8 of 80 characters.
 pub record LineOfCharacters (line : List ℕ) : Type 0 where
-  pub utf8 : isUtf8 (encode line) ≡ true
-  pub count : characters (encode line) ≡ lineWidth
+  pub utf8 : isUtf8 (encodeScalars line) ≡ true
+  pub count : characters (encodeScalars line) ≡ lineWidth
 
 line-characters : (line : List ℕ) → WideLine line → All Printable line → LineOfCharacters line
 unfolding WideLine
@@ -214,21 +214,21 @@ character-no-newline c h =
     octet : (mark bits : ℕ) → 32 ≤ mark → eqb (mark + bits) 10 ≡ false
     octet mark bits g = other (mark + bits) (omega arith)
 
-pub line-no-newline : (line : List ℕ) → All Printable line → All NoNewline (encode line)
-unfolding encode
+pub line-no-newline : (line : List ℕ) → All Printable line → All NoNewline (encodeScalars line)
+unfolding encodeScalars
 line-no-newline line h = all-flatMap Printable NoNewline encodeScalar character-no-newline line h
 
 -- the print as characters
 withNewlines : List (List ℕ) → List ℕ
 withNewlines lines = flatMap (λ (l : List ℕ). l ++ (10 ∷ [])) lines
 
-encode-newlines : (lines : List (List ℕ)) → encode (withNewlines lines) ≡ flatMap lineOctets lines
-unfolding encode encodeScalar lineOctets withNewlines flatMap
+encode-newlines : (lines : List (List ℕ)) → encodeScalars (withNewlines lines) ≡ flatMap lineOctets lines
+unfolding encodeScalars encodeScalar lineOctets withNewlines flatMap
 encode-newlines [] = refl
 encode-newlines (l ∷ lines) =
     flatMap-append encodeScalar (l ++ (10 ∷ [])) (withNewlines lines)
-    ∙ ap (λ (m : List ℕ). m ++ encode (withNewlines lines)) (flatMap-append encodeScalar l (10 ∷ []))
-    ∙ ap (λ (m : List ℕ). (encode l ++ (10 ∷ [])) ++ m) (encode-newlines lines)
+    ∙ ap (λ (m : List ℕ). m ++ encodeScalars (withNewlines lines)) (flatMap-append encodeScalar l (10 ∷ []))
+    ∙ ap (λ (m : List ℕ). (encodeScalars l ++ (10 ∷ [])) ++ m) (encode-newlines lines)
 
 newlines-scalar : (lines : List (List ℕ)) → All (All Printable) lines → All Scalar (withNewlines lines)
 unfolding withNewlines flatMap

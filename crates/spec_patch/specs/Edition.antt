@@ -10,15 +10,15 @@ pub data Edition : Type 0 where
   v1 v2 : Edition
 
 -- the digit that the heading ends in
-unfoldable pub digit : Edition → ℕ
-digit v1 = 49
-digit v2 = 50
+unfoldable pub editionDigit : Edition → ℕ
+editionDigit v1 = 49
+editionDigit v2 = 50
 
 -- the 27 letters UI_DNA2_PROJECTION_PATCH_V, and the digit
 unfoldable pub letters : Edition → List ℕ
 letters ed =
     85 ∷ 73 ∷ 95 ∷ 68 ∷ 78 ∷ 65 ∷ 50 ∷ 95 ∷ 80 ∷ 82 ∷ 79 ∷ 74 ∷ 69 ∷ 67 ∷ 84 ∷ 73 ∷ 79 ∷ 78 ∷ 95 ∷ 80 ∷ 65 ∷ 84 ∷ 67 ∷ 72 ∷ 95 ∷ 86
-    ∷ digit ed ∷ []
+    ∷ editionDigit ed ∷ []
 
 -- the kinds that an edition has beside those of 01: 5 is a score
 unfoldable pub addedKinds : Edition → List ℕ

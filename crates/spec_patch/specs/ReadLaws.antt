@@ -74,8 +74,8 @@ optional-codec = tag-codec optionalAfter encodeOptional OptionalU64 optional-bac
 abbrev pub quadBytes : Quad → List ℕ
 quadBytes q = quadByte q ∷ []
 
-abbrev pub availabilityBytes : Availability → List ℕ
-availabilityBytes a = availabilityByte a ∷ []
+abbrev pub availabilityOctets : Availability → List ℕ
+availabilityOctets a = availabilityByte a ∷ []
 
 -- every state may be encoded
 abbrev pub Any : {A : Type 0} → A → Type 0
@@ -101,7 +101,7 @@ pub quad-codec : Codec quadBytes Any readQuad
 unfolding readQuad
 quad-codec = tag-codec quadAfter quadBytes Any quad-back quad-only
 
-availability-back : (a : Availability) → Any a → (rest : List ℕ) → readAvailability (availabilityBytes a ++ rest) ≡ read a rest
+availability-back : (a : Availability) → Any a → (rest : List ℕ) → readAvailability (availabilityOctets a ++ rest) ≡ read a rest
 unfolding readAvailability availabilityByte availabilityAfter
 availability-back available g rest = refl
 availability-back unavailable g rest = refl
@@ -109,19 +109,19 @@ availability-back hidden g rest = refl
 availability-back pending g rest = refl
 availability-back stale g rest = refl
 
-availability-only : OnlyAfter availabilityBytes Any availabilityAfter
+availability-only : OnlyAfter availabilityOctets Any availabilityAfter
 unfolding availabilityByte availabilityAfter
 availability-only =
-    only-tag nothing-codec 0 (λ u. available) availabilityBytes Any _ (λ u g. g) (λ u. refl)
-    (only-tag nothing-codec 1 (λ u. unavailable) availabilityBytes Any _ (λ u g. g) (λ u. refl)
-    (only-tag nothing-codec 2 (λ u. hidden) availabilityBytes Any _ (λ u g. g) (λ u. refl)
-    (only-tag nothing-codec 3 (λ u. pending) availabilityBytes Any _ (λ u g. g) (λ u. refl)
-    (only-tag nothing-codec 4 (λ u. stale) availabilityBytes Any _ (λ u g. g) (λ u. refl)
-    (only-none availabilityBytes Any)))))
+    only-tag nothing-codec 0 (λ u. available) availabilityOctets Any _ (λ u g. g) (λ u. refl)
+    (only-tag nothing-codec 1 (λ u. unavailable) availabilityOctets Any _ (λ u g. g) (λ u. refl)
+    (only-tag nothing-codec 2 (λ u. hidden) availabilityOctets Any _ (λ u g. g) (λ u. refl)
+    (only-tag nothing-codec 3 (λ u. pending) availabilityOctets Any _ (λ u g. g) (λ u. refl)
+    (only-tag nothing-codec 4 (λ u. stale) availabilityOctets Any _ (λ u g. g) (λ u. refl)
+    (only-none availabilityOctets Any)))))
 
-pub availability-codec : Codec availabilityBytes Any readAvailability
+pub availability-codec : Codec availabilityOctets Any readAvailability
 unfolding readAvailability
-availability-codec = tag-codec availabilityAfter availabilityBytes Any availability-back availability-only
+availability-codec = tag-codec availabilityAfter availabilityOctets Any availability-back availability-only
 
 pub score-codec : Codec (λ (n : ℕ). n ∷ []) (λ (n : ℕ). n ≤ highestScore) readScore
 score-codec =

@@ -168,8 +168,8 @@ steps =
     ∷ equalLists eqb (map (λ (s : ReplayStep). s .patch) (replaySteps (patch 7 (remove 9 1 ∷ remove 9 2 ∷ []) ∷ patch 8 (remove 9 1 ∷ []) ∷ []))) (7 ∷ 7 ∷ 8 ∷ [])
     ∷ []
 
-pub examples : List Bool
-examples = places ++ keyRules ++ capacities ++ storedOrder ++ lookups ++ steps
+pub applyExamples : List Bool
+applyExamples = places ++ keyRules ++ capacities ++ storedOrder ++ lookups ++ steps
 
 -- the places of the rows that fail, from 0
 pub failing : ℕ → List Bool → List ℕ
@@ -178,8 +178,8 @@ failing i (true ∷ rows) = failing (suc i) rows
 failing i (false ∷ rows) = i ∷ failing (suc i) rows
 
 -- no row fails
-pub projection-examples : failing 0 examples ≡ []
-unfolding examples places keyRules capacities storedOrder lookups steps failing patch numbers keyed stored three full numberOf ask gives shows keys plain number byte availabilityByte
+pub projection-examples : failing 0 applyExamples ≡ []
+unfolding applyExamples places keyRules capacities storedOrder lookups steps failing patch numbers keyed stored three full numberOf ask gives shows keys plain number byte availabilityByte
     flatMap lexLess upsert lookup
     empty bindingKey availabilityKey findFirst insertBeforeFirst replaceFirst removeFirst
     isEntry isLater contains containsNeighbour insertLast insertBefore insertEntry replaceEntry removeEntry

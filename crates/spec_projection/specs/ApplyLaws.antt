@@ -3,7 +3,6 @@ use Prim.Native.Nat.{ℕ}
 use mathlib.Core.Path.{_≡_, refl, sym, ap, _∙_}
 use mathlib.Core.List.{List, [], _∷_, _++_, map, flatMap}
 use native.Mathlib.Omega.{arith}
-use lib.ListN.{length, length-map}
 use Rattle.spec_lists.specs.ListLaws.{flatMap-append}
 use Rattle.spec_patch.specs.Patch.{Operation, Patch}
 use Rattle.spec_projection.specs.Projection.{Projection}
@@ -54,9 +53,6 @@ replaySteps-operations (p ∷ ps) = map-steps (p .operations) (replaySteps ps) �
         → stepOperations (map (stepOf (p .envelope .id)) os ++ rest) ≡ os ++ stepOperations rest
     map-steps [] rest = refl
     map-steps (o ∷ os) rest = ap (λ l. o ∷ l) (map-steps os rest)
-
-pub replaySteps-length : (ps : List Patch) → length (replaySteps ps) ≡ length (operationsOf ps)
-replaySteps-length ps = sym (length-map (replaySteps ps) (λ (s : ReplayStep). s .operation)) ∙ ap length (replaySteps-operations ps)
 
 -- ---- the first step that fails
 

@@ -10,11 +10,11 @@ use borrow.Author.Tests.{eq-eqb, ne-eqb}
 use lib.Dec.{eqb}
 use Rattle.spec_lists.specs.Lists.{any, All}
 use Rattle.spec_lists.specs.ListLaws.{test-cases}
-use Rattle.spec_projection.specs.Projection.{Entry, Projection}
+use Rattle.spec_projection.specs.Projection.{Entry}
 use Rattle.spec_projection.specs.FirstMatch.{findFirst, insertBeforeFirst, replaceFirst, removeFirst}
 use Rattle.spec_projection.specs.Entries.{isEntry, isLater, contains, insertLast, insertBefore, insertEntry, replaceEntry, removeEntry}
 use Rattle.spec_projection.specs.EntriesLaws.{entry-collection, later-above}
-use Rattle.spec_projection.specs.Lookups.{entryOf, KeyedValue, keyedValue, entriesIn, entriesOf}
+use Rattle.spec_projection.specs.Lookups.{keyedValue, entriesIn}
 use Rattle.spec_projection.specs.Effects.{hasKey, insertKeyed}
 use Rattle.spec_projection.specs.Valid.{Behind, Grouped}
 
@@ -115,12 +115,3 @@ pub contains-own : (c k : ℕ) (l : List Entry) → contains c k l ≡ any (hasK
 unfolding contains isEntry hasKey entriesIn
 contains-own c k [] = refl
 contains-own c k (x ∷ l) = test-cases (eqb (x .collection) c) (λ f. rw (f, contains-own c k l)) (λ f. rw f (contains-own c k l))
-
--- a lookup in all entries is a lookup in the collection's list
-pub entryOf-own : (p : Projection) (c k : ℕ) → entryOf p c k ≡ Option·map (λ (i : KeyedValue). i .value) (findFirst (hasKey k) (entriesOf p c))
-unfolding entryOf entriesOf
-entryOf-own p c k = through (findFirst (isEntry c k) (p .entries)) ∙ ap (Option·map (λ (i : KeyedValue). i .value)) (findFirst-own c k (p .entries))
-  where
-    through : (found : Option Entry) → Option·map (λ (e : Entry). e .value) found ≡ Option·map (λ (i : KeyedValue). i .value) (Option·map keyedValue found)
-    through none = refl
-    through (some e) = refl

@@ -97,9 +97,9 @@ valueLine none = 86 ∷ fields (dash ∷ [])
 valueLine (some v) = 86 ∷ fields (valueFields v)
 
 -- value node: V, A, the byte, or V and -
-unfoldable pub availabilityLine : Option Availability → List ℕ
-availabilityLine none = 86 ∷ fields (dash ∷ [])
-availabilityLine (some a) = 86 ∷ fields ((65 ∷ []) ∷ decimal (availabilityByte a) ∷ [])
+unfoldable pub availabilityAnswerLine : Option Availability → List ℕ
+availabilityAnswerLine none = 86 ∷ fields (dash ∷ [])
+availabilityAnswerLine (some a) = 86 ∷ fields ((65 ∷ []) ∷ decimal (availabilityByte a) ∷ [])
 
 -- senders: J and 0, or J and 21
 unfoldable pub setUpLine : SetUp → List ℕ

@@ -27,7 +27,7 @@ use Rattle.spec_turns.specs.Turns.{Turns, SetUp, RegisterStep, TurnStep}
 use Rattle.spec_listing.specs.Listing.{projectionLines, listing}
 use Rattle.spec_replay.specs.Lines.{newline, split}
 use Rattle.spec_replay.specs.Script.{Command, nothing, session, node, binding, collection, create, apply, batch, check, list, show, valueBinding, valueNode, valueEntry, senders, wait, turn, edition, convert, markBinding, markNode, markEntry, depends, print, group, collectionLength, page, importList, explainBatch, other, command}
-use Rattle.spec_replay.specs.Answers.{creationLine, lifecycleLine, batchLine, checkLines, valueLine, availabilityLine, setUpLine, registerLine, turnLine, conversionLine, markLine, dependencyLines, printLines, groupLines, lengthLine, pageLines, importLine, noSessionLine, otherLine}
+use Rattle.spec_replay.specs.Answers.{creationLine, lifecycleLine, batchLine, checkLines, valueLine, availabilityAnswerLine, setUpLine, registerLine, turnLine, conversionLine, markLine, dependencyLines, printLines, groupLines, lengthLine, pageLines, importLine, noSessionLine, otherLine}
 use Rattle.spec_replay.specs.Reasons.{reasonLine}
 
 -- what a creation takes
@@ -144,7 +144,7 @@ replayLine n s (check set) = onward s (checkLines (readSet (s .edition) set))
 replayLine n s (list set) = onward s (listing (s .edition) set)
 replayLine n s show = asked s (λ x. onward s (projectionLines (x .projection)))
 replayLine n s (valueBinding i slot) = asked s (λ x. onward s (valueLine (bindingOf (x .projection) i slot)))
-replayLine n s (valueNode i) = asked s (λ x. onward s (availabilityLine (availabilityOf (x .projection) i)))
+replayLine n s (valueNode i) = asked s (λ x. onward s (availabilityAnswerLine (availabilityOf (x .projection) i)))
 replayLine n s (valueEntry c k) = asked s (λ x. onward s (valueLine (entryOf (x .projection) c k)))
 replayLine n s (senders k) = settled s (turns.setUp k)
 replayLine n s (wait i) = askedTurns s (λ t. registered s (turns.register t i))
@@ -166,14 +166,14 @@ replayLine n s other = stops (otherLine n)
 -- ---- the whole script
 
 -- goes on with the state, unless stopped
-abbrev pub andThen : Step → (State → List ℕ) → List ℕ
-andThen (onward s printed) f = printed ++ f s
-andThen (stops printed) f = printed
+abbrev pub thenReplay : Step → (State → List ℕ) → List ℕ
+thenReplay (onward s printed) f = printed ++ f s
+thenReplay (stops printed) f = printed
 
 -- the lines from a number on
 unfoldable pub replayLines : ℕ → State → List Command → List ℕ
 replayLines n s [] = []
-replayLines n s (c ∷ cs) = andThen (replayLine n s c) (λ t. replayLines (n + 1) t cs)
+replayLines n s (c ∷ cs) = thenReplay (replayLine n s c) (λ t. replayLines (n + 1) t cs)
 
 -- the parts that LF ends are lines; behind the last LF there is nothing, or any other line
 unfoldable pub commandsOf : List (List ℕ) → List Command

@@ -9,9 +9,9 @@ use lib.ListN.{replicate, take, drop, getD}
 use Rattle.spec_lists.specs.Lists.{all, equalLists}
 use Rattle.spec_lists.specs.Bytes.{littleEndian, numberOf}
 use Rattle.spec_decimal.specs.Decimal.{digits, decimal, isNumeral, numberWith, readDecimal}
-use Rattle.spec_text.specs.Scalars.{encodeScalar, encode as octets}
+use Rattle.spec_text.specs.Scalars.{encodeScalar, encodeScalars as octets}
 use Rattle.spec_patch.specs.Patch.{pending, quad, T as true-quad}
-use Rattle.spec_patch.specs.Edition.{v1, digit, letters}
+use Rattle.spec_patch.specs.Edition.{v1, editionDigit, letters}
 use Rattle.spec_patch.specs.Encode.{quadByte, heading, encodeCounted, encode}
 use Rattle.spec_patch.specs.Reader.{faultNumber, many, literal}
 use Rattle.spec_patch.specs.Read.{readPatch, readPatches, ended, readSet}
@@ -33,8 +33,8 @@ use Rattle.spec_conversion.specs.Conversion.{otherEdition, conversionNumber, un
 use Rattle.spec_dependencies.specs.Dependencies.{walkPatches, keysAtStart, dependenciesBy, dependencies}
 use Rattle.spec_dependencies.specs.Answer.{allWords, hasFindings, refused, answerNever, answerNeeds, refusalNumber, wordsWritten, answerBy, answerReading, dependenciesOf}
 use Rattle.spec_panel_print.specs.Print.{quadLetter, printedValue, lineCount, textPieces, columnOf, keyLead, laidOut, printedLines, entryLines, collectionLines, lineOctets, collectionPrint}
-use Rattle.spec_import.specs.ImportInstances.{opened}
-use Rattle.spec_explain.specs.Opened.{opened as explaining}
+use Rattle.spec_import.specs.ImportInstances.{openedImport}
+use Rattle.spec_explain.specs.Opened.{openedReasons as explaining}
 use Rattle.spec_explain.specs.Explain.{underCap, explain}
 use Rattle.spec_page.specs.Page.{findFrom, pageEntry, pageRows, pageRefusal, tableLeft, page}
 use Rattle.spec_splitting.specs.Splitting.{isRejected}
@@ -43,8 +43,8 @@ use Rattle.spec_turns.specs.Turns.{newTurns, setUp, refuseRegister, startWaitin
 use Rattle.spec_listing.specs.Listing.{fields, valueFields, recordCount, projectionLines, refusalLine, outcomeLines, readingLines, listing}
 use Rattle.spec_replay.specs.Lines.{prepend, split}
 use Rattle.spec_replay.specs.Hex.{hexDigit, hexByte, cons, hexPairs, readHex, hexCharacter, bytePair, hexField}
-use Rattle.spec_replay.specs.Script.{ascii, end, given, readBy, atMost, numberedEdition, readOptional, byWord, stimuli, sessionArguments, bindingArguments, applyArguments, batchArguments, convertArguments, importArguments, dependsArguments, printArguments, beforeLast, memberParts, memberField, groupLast, groupArguments, upToEnd, pageArguments, boundArguments, keyedArguments, values, marks, markArguments, valueArguments, commands, fieldsCommand, isRemark, command}
-use Rattle.spec_replay.specs.Answers.{dispositionField, lifecycleField, cursorField, placeField, sessionFields, creationLine, lifecycleLine, batchLine, checkedLine, checkLines, availabilityLine, setUpLine, registerLine, turnLine, conversionLine, markLine, keyLine, firstKeys, verdictLines, dependencyLines, printLines, groupLines, lengthLine, rowLine, answeredLines, pageLines, importLine, noSessionLine, otherLine}
+use Rattle.spec_replay.specs.Script.{ascii, end, given, readBy, atMost, numberedEdition, optionalNumber, byWord, stimuli, sessionArguments, bindingArguments, applyArguments, batchArguments, convertArguments, importArguments, dependsArguments, printArguments, beforeLast, memberParts, memberField, groupLast, groupArguments, upToEnd, pageArguments, boundArguments, keyedArguments, values, marks, markArguments, valueArguments, commands, fieldsCommand, isRemark, command}
+use Rattle.spec_replay.specs.Answers.{dispositionField, lifecycleField, cursorField, placeField, sessionFields, creationLine, lifecycleLine, batchLine, checkedLine, checkLines, availabilityAnswerLine, setUpLine, registerLine, turnLine, conversionLine, markLine, keyLine, firstKeys, verdictLines, dependencyLines, printLines, groupLines, lengthLine, rowLine, answeredLines, pageLines, importLine, noSessionLine, otherLine}
 use Rattle.spec_replay.specs.Reasons.{insideFields, takesField, figureFields, reasonLine}
 use Rattle.spec_replay.specs.Replay.{State, noAnchors, start, keep, withSetup, withAnchors, withNode, withBinding, withSession, withTurns, withEdition, asked, askedTurns, created, applied, batched, grouped, settled, registered, turned, replayLine, replayLines, commandsOf, replayFrom, replay}
 
@@ -75,8 +75,8 @@ shows : List ℕ → String → Bool
 shows lines answers = equalLists eqb lines (ascii answers)
 
 -- a script prints nothing of remarks, an answer of each call, and stops at the first other line
-pub examples : List Bool
-examples =
+pub replayExamples : List Bool
+replayExamples =
     -- comments and empty lines print nothing, but count
     prints "" ""
     ∷ prints "# a comment\n\n" ""
@@ -154,9 +154,9 @@ examples =
     ∷ []
 
 -- all rows hold
-pub replay-examples : T (all (λ (b : Bool). b) examples)
-unfolding examples prints closedWith printsAt marked printsMarked shows
-    flatMap littleEndian numberOf digits decimal isNumeral numberWith readDecimal digit letters heading faultNumber many literal readPatch readPatches ended readSet
+pub replay-examples : T (all (λ (b : Bool). b) replayExamples)
+unfolding replayExamples prints closedWith printsAt marked printsMarked shows
+    flatMap littleEndian numberOf digits decimal isNumeral numberWith readDecimal editionDigit letters heading faultNumber many literal readPatch readPatches ended readSet
     afterFindings rawSetFindings setFindings firstFindings findings checkEach sortUnique lookup empty replaySteps applySteps operationsOf availabilityOf bindingMark availabilityMark entryMark findFirst availabilityKey
     newSession anchorsFit create diagnosticsOf
     transition dispositionOf stateOf withLifecycle rejectLifecycle enterLifecycle lifecycleStep
@@ -168,9 +168,9 @@ unfolding examples prints closedWith printsAt marked printsMarked shows
     isRejected totalBytes isGroup sendFirst runGroup withCursor concludeGroup group
     findFrom pageEntry pageRows pageRefusal tableLeft page quadByte
     fields valueFields recordCount projectionLines refusalLine outcomeLines readingLines listing
-    prepend split hexDigit hexByte cons hexPairs readHex hexCharacter bytePair hexField end given readBy atMost numberedEdition readOptional byWord stimuli sessionArguments bindingArguments applyArguments batchArguments convertArguments importArguments dependsArguments printArguments beforeLast memberParts memberField groupLast groupArguments upToEnd pageArguments
+    prepend split hexDigit hexByte cons hexPairs readHex hexCharacter bytePair hexField end given readBy atMost numberedEdition optionalNumber byWord stimuli sessionArguments bindingArguments applyArguments batchArguments convertArguments importArguments dependsArguments printArguments beforeLast memberParts memberField groupLast groupArguments upToEnd pageArguments
     boundArguments keyedArguments values marks markArguments valueArguments commands fieldsCommand isRemark command
-    dispositionField lifecycleField cursorField placeField sessionFields creationLine lifecycleLine batchLine checkedLine checkLines availabilityLine setUpLine registerLine turnLine conversionLine markLine keyLine firstKeys verdictLines dependencyLines printLines groupLines lengthLine rowLine answeredLines pageLines importLine noSessionLine otherLine
+    dispositionField lifecycleField cursorField placeField sessionFields creationLine lifecycleLine batchLine checkedLine checkLines availabilityAnswerLine setUpLine registerLine turnLine conversionLine markLine keyLine firstKeys verdictLines dependencyLines printLines groupLines lengthLine rowLine answeredLines pageLines importLine noSessionLine otherLine
     noAnchors start keep withSetup withAnchors withNode withBinding withSession withTurns withEdition asked askedTurns created applied batched grouped settled registered turned replayLine replayLines commandsOf replayFrom replay
 replay-examples = tt
 
@@ -189,8 +189,8 @@ importExamples =
     ∷ []
 
 pub import-examples : T (all (λ (b : Bool). b) importExamples)
-unfolding opened importExamples prints
-    faultNumber hexDigit hexByte cons hexPairs readHex hexCharacter bytePair hexField end given readBy atMost numberedEdition readOptional byWord importArguments commands fieldsCommand isRemark command
+unfolding openedImport importExamples prints
+    faultNumber hexDigit hexByte cons hexPairs readHex hexCharacter bytePair hexField end given readBy atMost numberedEdition optionalNumber byWord importArguments commands fieldsCommand isRemark command
     fields importLine otherLine start withEdition replayLine replayLines commandsOf replayFrom replay
 import-examples = tt
 

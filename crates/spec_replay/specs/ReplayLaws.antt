@@ -10,7 +10,7 @@ use Rattle.spec_listing.specs.SplitLaws.{split-whole, split-part}
 use Rattle.spec_replay.specs.Lines.{newline, prepend, split}
 use Rattle.spec_replay.specs.Script.{command}
 use Rattle.spec_replay.specs.Answers.{otherLine}
-use Rattle.spec_replay.specs.Replay.{State, replayLine, andThen, replayLines, commandsOf, replayFrom}
+use Rattle.spec_replay.specs.Replay.{State, replayLine, thenReplay, replayLines, commandsOf, replayFrom}
 
 -- ---- splitting
 
@@ -34,7 +34,7 @@ module _ (separator : ℕ) where
 module _ (n : ℕ) (s : State) where
   -- a line and its LF
   pub replay-line : (line rest : List ℕ) → lacks newline line ≡ true
-      → replayFrom n s (line ++ newline ∷ rest) ≡ andThen (replayLine n s (command line)) (λ t. replayFrom (n + 1) t rest)
+      → replayFrom n s (line ++ newline ∷ rest) ≡ thenReplay (replayLine n s (command line)) (λ t. replayFrom (n + 1) t rest)
   unfolding replayFrom replayLines commandsOf
   replay-line line rest h = let p = parts newline rest in rw (split-part newline line rest h, p .are)
 

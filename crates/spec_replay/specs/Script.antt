@@ -89,8 +89,8 @@ readBy read next [] = other
 readBy read next (f ∷ fs) = given (read f) (λ a. next a fs)
 
 -- a u64 in decimal, without sign or leading zeros
-abbrev pub number : Field ℕ
-number = readBy readDecimal
+abbrev pub numberField : Field ℕ
+numberField = readBy readDecimal
 
 -- a number up to a bound
 unfoldable pub atMost : ℕ → Option ℕ → Option ℕ
@@ -117,11 +117,11 @@ abbrev pub editionField : Field Edition
 editionField = readBy (λ f. numberedEdition (readDecimal f))
 
 -- a number, or - for none
-unfoldable pub readOptional : List ℕ → Option (Option ℕ)
-readOptional f = if equalLists eqb (ascii "-") f then some none else Option·map some (readDecimal f)
+unfoldable pub optionalNumber : List ℕ → Option (Option ℕ)
+optionalNumber f = if equalLists eqb (ascii "-") f then some none else Option·map some (readDecimal f)
 
 abbrev pub optional : Field (Option ℕ)
-optional = readBy readOptional
+optional = readBy optionalNumber
 
 -- bytes in lower-case hex
 abbrev pub hex : Field (List ℕ)
@@ -161,17 +161,17 @@ stimulus = readBy (byWord stimuli)
 -- session ID BYTES DIAGNOSTICS PATCHES REFERENCES
 unfoldable pub sessionArguments : Arguments
 sessionArguments = do
-  id ← number
-  bytes ← number
-  diagnostics ← number
-  patches ← number
-  references ← number
+  id ← numberField
+  bytes ← numberField
+  diagnostics ← numberField
+  patches ← numberField
+  references ← numberField
   end (session id (record { stimulusBytes = bytes; diagnostics = diagnostics; patches = patches; references = references }))
 
 -- binding N SLOT
 unfoldable pub bindingArguments : Arguments
 bindingArguments = do
-  n ← number
+  n ← numberField
   s ← slot
   end (binding (record { node = n; slot = s }))
 
@@ -179,17 +179,17 @@ bindingArguments = do
 unfoldable pub applyArguments : Arguments
 applyArguments = do
   s ← stimulus
-  bytes ← number
+  bytes ← numberField
   end (apply s bytes)
 
 -- ID SEQUENCE PATCHES BYTES REFERENCES HEX, a batch that is sent or asked about
 unfoldable pub batchArguments : (BatchEnvelope → ℕ → List ℕ → Command) → Arguments
 batchArguments asks = do
-  id ← number
-  sequence ← number
-  patches ← number
-  bytes ← number
-  references ← number
+  id ← numberField
+  sequence ← numberField
+  patches ← numberField
+  bytes ← numberField
+  references ← numberField
   set ← hex
   end (asks (record { session = id; sequence = sequence; patches = patches; stimulusBytes = bytes }) references set)
 
@@ -204,15 +204,15 @@ convertArguments = do
 unfoldable pub importArguments : Arguments
 importArguments = do
   room ← roomUpTo setBytes
-  c ← number
-  id ← number
-  stream ← number
-  document ← number
+  c ← numberField
+  id ← numberField
+  stream ← numberField
+  document ← numberField
   surface ← optional
-  previous ← number
-  revision ← number
-  epoch ← number
-  sequence ← number
+  previous ← numberField
+  revision ← numberField
+  epoch ← numberField
+  sequence ← numberField
   content ← hex
   end (importList room c (record { id = id; stream = stream; document = document; surface = surface; previous = previous; revision = revision; epoch = epoch; sequence = sequence }) content)
 
@@ -234,7 +234,7 @@ bytesLent = 131072
 -- print COLLECTION ROOM
 unfoldable pub printArguments : Arguments
 printArguments = do
-  c ← number
+  c ← numberField
   room ← roomUpTo bytesLent
   end (print c room)
 
@@ -258,13 +258,13 @@ comma = 44
 -- ID,SEQUENCE,PATCHES,BYTES,REFERENCES,EDITION,LENGTH
 unfoldable pub memberParts : (GroupBatch → Command) → Arguments
 memberParts next = do
-  id ← number
-  sequence ← number
-  patches ← number
-  bytes ← number
-  references ← number
+  id ← numberField
+  sequence ← numberField
+  patches ← numberField
+  bytes ← numberField
+  references ← numberField
   ed ← editionField
-  len ← number
+  len ← numberField
   end (next (record { edition = ed; envelope = record { session = id; sequence = sequence; patches = patches; stimulusBytes = bytes }; references = references; bytes = len }))
 
 unfoldable pub memberField : Single GroupBatch
@@ -299,29 +299,29 @@ lineKeys = 128
 -- page COLLECTION ROOM [KEY ...]
 unfoldable pub pageArguments : Arguments
 pageArguments = do
-  c ← number
+  c ← numberField
   room ← roomUpTo placesOfPage
   upToEnd lineKeys (page c room)
 
 -- N SLOT, a binding that is asked for
 unfoldable pub boundArguments : (ℕ → ℕ → Command) → Arguments
 boundArguments asks = do
-  n ← number
+  n ← numberField
   s ← slot
   end (asks n s)
 
 -- COLLECTION KEY, an entry that is asked for
 unfoldable pub keyedArguments : (ℕ → ℕ → Command) → Arguments
 keyedArguments asks = do
-  c ← number
-  k ← number
+  c ← numberField
+  k ← numberField
   end (asks c k)
 
 -- value binding .. | value node N | value entry ..
 unfoldable pub values : List (Row Arguments)
 values =
     (ascii "binding" ⇒ boundArguments valueBinding)
-    ∷ (ascii "node" ⇒ number (λ n. end (valueNode n)))
+    ∷ (ascii "node" ⇒ numberField (λ n. end (valueNode n)))
     ∷ (ascii "entry" ⇒ keyedArguments valueEntry)
     ∷ []
 
@@ -329,7 +329,7 @@ values =
 unfoldable pub marks : List (Row Arguments)
 marks =
     (ascii "binding" ⇒ boundArguments markBinding)
-    ∷ (ascii "node" ⇒ number (λ n. end (markNode n)))
+    ∷ (ascii "node" ⇒ numberField (λ n. end (markNode n)))
     ∷ (ascii "entry" ⇒ keyedArguments markEntry)
     ∷ []
 
@@ -343,9 +343,9 @@ valueArguments = readBy (byWord values) (λ a. a)
 unfoldable pub commands : List (Row Arguments)
 commands =
     (ascii "session" ⇒ sessionArguments)
-    ∷ (ascii "node" ⇒ number (λ n. end (node n)))
+    ∷ (ascii "node" ⇒ numberField (λ n. end (node n)))
     ∷ (ascii "binding" ⇒ bindingArguments)
-    ∷ (ascii "collection" ⇒ number (λ n. end (collection n)))
+    ∷ (ascii "collection" ⇒ numberField (λ n. end (collection n)))
     ∷ (ascii "create" ⇒ end create)
     ∷ (ascii "apply" ⇒ applyArguments)
     ∷ (ascii "batch" ⇒ batchArguments batch)
@@ -353,8 +353,8 @@ commands =
     ∷ (ascii "list" ⇒ hex (λ set. end (list set)))
     ∷ (ascii "show" ⇒ end show)
     ∷ (ascii "value" ⇒ valueArguments)
-    ∷ (ascii "senders" ⇒ number (λ n. end (senders n)))
-    ∷ (ascii "wait" ⇒ number (λ n. end (wait n)))
+    ∷ (ascii "senders" ⇒ numberField (λ n. end (senders n)))
+    ∷ (ascii "wait" ⇒ numberField (λ n. end (wait n)))
     ∷ (ascii "turn" ⇒ end turn)
     ∷ (ascii "edition" ⇒ editionField (λ ed. end (edition ed)))
     ∷ (ascii "convert" ⇒ convertArguments)
@@ -362,7 +362,7 @@ commands =
     ∷ (ascii "depends" ⇒ dependsArguments)
     ∷ (ascii "print" ⇒ printArguments)
     ∷ (ascii "group" ⇒ groupArguments)
-    ∷ (ascii "length" ⇒ number (λ n. end (collectionLength n)))
+    ∷ (ascii "length" ⇒ numberField (λ n. end (collectionLength n)))
     ∷ (ascii "page" ⇒ pageArguments)
     ∷ (ascii "import" ⇒ importArguments)
     ∷ (ascii "explain" ⇒ batchArguments explainBatch)

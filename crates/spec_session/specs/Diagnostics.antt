@@ -1,10 +1,10 @@
 -- Refusals in session answers, their numbers and stages, and diagnostics under the cap: 01, 'Rejections' and 'Diagnostics under the cap'.
 use Prim.Native.Nat.{ℕ, zero, suc, min}
 use mathlib.Core.List.{List, [], _∷_}
-use mathlib.Core.Option.{Option, none, some}
+use mathlib.Core.Option.{Option, none}
 use lib.Dec.{eqb}
 use lib.ListN.{getElem?}
-use Rattle.spec_lists.specs.Lists.{if_then_else_}
+use Rattle.spec_lists.specs.Lists.{if_then_else_, orZero}
 use Rattle.spec_patch.specs.Reader.{Fault}
 use Rattle.spec_patch.specs.Reader as reading
 use Rattle.spec_projection.specs.Apply.{OperationFault}
@@ -47,11 +47,6 @@ stages = 1 ∷ 2 ∷ 2 ∷ 4 ∷ 4 ∷ 5 ∷ 6 ∷ 8 ∷ 8 ∷ 4 ∷ 4 ∷ 4 ∷
 abbrev pub stageOf : ℕ → Option ℕ
 stageOf zero = none
 stageOf (suc n) = getElem? stages n
-
--- a number, and 0 for none
-abbrev pub orZero : Option ℕ → ℕ
-orZero none = 0
-orZero (some n) = n
 
 -- code, stage, logical count and emitted count
 pub record Diagnostics : Type 0 where

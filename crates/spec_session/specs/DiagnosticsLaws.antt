@@ -8,12 +8,12 @@ use mathlib.Core.Option.{none, some}
 use native.Mathlib.Omega.{arith}
 use lib.Dec.{eqb}
 use lib.ListN.{length, getElem?}
-use Rattle.spec_lists.specs.Lists.{if_then_else_}
+use Rattle.spec_lists.specs.Lists.{if_then_else_, orZero}
 use Rattle.spec_patch.specs.Reader.{Fault, faultNumber}
 use Rattle.spec_patch.specs.Reader as reading
 use Rattle.spec_projection.specs.Apply.{OperationFault, operationFaultNumber}
 use Rattle.spec_projection.specs.Apply as applying
-use Rattle.spec_session.specs.Diagnostics.{SessionRefusal, sessionMismatch, sessionClosed, wrongLifecycle, limitExceeded, countsDiffer, unknownTarget, cursorMismatch, keyRule, projectionFull, malformed, checksFailed, overCapacity, sessionNumber, ofReading, ofOperation, stages, stageOf, orZero, Diagnostics, diagnosticsOf}
+use Rattle.spec_session.specs.Diagnostics.{SessionRefusal, sessionMismatch, sessionClosed, wrongLifecycle, limitExceeded, countsDiffer, unknownTarget, cursorMismatch, keyRule, projectionFull, malformed, checksFailed, overCapacity, sessionNumber, ofReading, ofOperation, stages, stageOf, Diagnostics, diagnosticsOf}
 
 pub reading-number : (f : Fault) → sessionNumber (ofReading f) ≡ faultNumber f
 unfolding faultNumber

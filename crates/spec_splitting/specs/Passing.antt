@@ -24,7 +24,7 @@ use Rattle.spec_session.specs.Session.{Limits, Catalogue, Session}
 use Rattle.spec_session.specs.Lifecycle.{isClosed}
 use Rattle.spec_session.specs.Batch.{pass, require, readable, absentTargets, knownTargets, takesNumber, batchChecks}
 use Rattle.spec_session.specs.BatchLaws.{checks-passed, absent-append}
-use Rattle.spec_splitting.specs.Splitting.{Piece, envelopeOf, references}
+use Rattle.spec_splitting.specs.Splitting.{Piece, pieceEnvelope, references}
 
 -- ---- a patch list that a session with these limits and this catalogue takes
 
@@ -73,8 +73,8 @@ pub record Passes (ed : Edition) (s : Session) (n : ℕ) (p : Piece) : Type 0 wh
   pub figure : p .stimulusBytes ≤ s .limits .stimulusBytes
   pub number : (eqb (length (p .patches)) 0 || takesNumber (s .cursor) n) ≡ true
 
-pub checks-pass : (ed : Edition) (s : Session) (n : ℕ) (p : Piece) → Passes ed s n p → batchChecks ed s (envelopeOf s n p) (references p) (encode ed (p .patches)) ≡ pass (p .patches)
-unfolding batchChecks envelopeOf references require readable knownTargets
+pub checks-pass : (ed : Edition) (s : Session) (n : ℕ) (p : Piece) → Passes ed s n p → batchChecks ed s (pieceEnvelope s n p) (references p) (encode ed (p .patches)) ≡ pass (p .patches)
+unfolding batchChecks pieceEnvelope references require readable knownTargets
 checks-pass ed s n p h =
     let ps = p .patches in
     rw (
@@ -93,10 +93,10 @@ checks-pass ed s n p h =
 
 -- the other way: a batch that passes steps 1 to 8 had all that, and its patches are those that were read
 pub passes-of-checks : (ed : Edition) (s : Session) (n : ℕ) (p : Piece) (ps : List Patch) → InRange (p .patches)
-    → batchChecks ed s (envelopeOf s n p) (references p) (encode ed (p .patches)) ≡ pass ps → Passes ed s n p × (ps ≡ p .patches)
-unfolding envelopeOf references
+    → batchChecks ed s (pieceEnvelope s n p) (references p) (encode ed (p .patches)) ≡ pass ps → Passes ed s n p × (ps ≡ p .patches)
+unfolding pieceEnvelope references
 passes-of-checks ed s n p ps r h =
-    let c = checks-passed ed s (envelopeOf s n p) (references p) (encode ed (p .patches)) ps h in
+    let c = checks-passed ed s (pieceEnvelope s n p) (references p) (encode ed (p .patches)) ps h in
     let f : Fits ed (p .patches) = fits-if-read ed (p .patches) ps r (c .reads) in
     let same : ps ≡ p .patches = patches-inj ps (p .patches) (sym (c .reads) ∙ reads-back ed (p .patches) f) in
     let limits = c .limits in (

@@ -19,7 +19,7 @@ use Rattle.spec_session.specs.Session.{Cursor, at, Session}
 use Rattle.spec_session.specs.Diagnostics.{ofOperation}
 use Rattle.spec_session.specs.Lifecycle.{isClosed}
 use Rattle.spec_session.specs.Batch.{takesNumber, rejectBatch, advanced, applyBatch, candidate, commit, concludeBatch, batch}
-use Rattle.spec_splitting.specs.Splitting.{Piece, envelopeOf, send, Run, isRejected, continue, sendAll, patchesOf, Applies, AlikeBeside, cursorAfter}
+use Rattle.spec_splitting.specs.Splitting.{Piece, pieceEnvelope, send, Run, isRejected, continue, sendAll, patchesOf, Applies, AlikeBeside, cursorAfter}
 use Rattle.spec_splitting.specs.Passing.{Acceptable, acceptable-left, acceptable-right, Passes, checks-pass}
 
 -- ---- a list of pieces that a session is ready for, from number n on
@@ -100,7 +100,7 @@ cursor-next c n (suc k) = ap at (omega arith)
 
 pub send-done : (ed : Edition) (s : Session) (n : ℕ) (p : Piece) (q : Projection) → Passes ed s n p → 0 < length (p .patches)
     → applySteps (s .projection) (replaySteps (p .patches)) ≡ done q → send ed s n p ≡ applyBatch s n q
-unfolding send batch concludeBatch candidate commit envelopeOf
+unfolding send batch concludeBatch candidate commit pieceEnvelope
 send-done ed s n p q h k e =
     rw (checks-pass ed s n p h, e, ne-eqb (length (p .patches)) 0 (λ z. omega arith))
 

@@ -25,8 +25,8 @@ pub record Piece : Type 0 where
   pub stimulusBytes : ℕ
 
 -- the session's id, a sequence number, the true patch count
-unfoldable pub envelopeOf : Session → ℕ → Piece → BatchEnvelope
-envelopeOf s n p = record { session = s .id; sequence = n; patches = length (p .patches); stimulusBytes = p .stimulusBytes }
+unfoldable pub pieceEnvelope : Session → ℕ → Piece → BatchEnvelope
+pieceEnvelope s n p = record { session = s .id; sequence = n; patches = length (p .patches); stimulusBytes = p .stimulusBytes }
 
 -- the true count of target references
 unfoldable pub references : Piece → ℕ
@@ -34,7 +34,7 @@ references p = length (operationsOf (p .patches))
 
 -- a batch call with that envelope, the true counts and the canonical bytes
 unfoldable pub send : Edition → Session → ℕ → Piece → BatchStep
-send ed s n p = batch ed s (envelopeOf s n p) (references p) (encode ed (p .patches))
+send ed s n p = batch ed s (pieceEnvelope s n p) (references p) (encode ed (p .patches))
 
 -- what sending a list of pieces gives: the answers in order, and the session that was handed back last
 pub record Run : Type 0 where
@@ -100,7 +100,7 @@ pub record AllApply (n : ℕ) (whole : BatchStep) (pieces : List Piece) (r : Run
 -- to fail only at an operation is to pass steps 1 to 8 and to fail in step 9
 pub record FailsAtOperation (ed : Edition) (s : Session) (n : ℕ) (whole : Piece) : Type 0 where
   pub patches : List Patch
-  pub passes : batchChecks ed s (envelopeOf s n whole) (references whole) (encode ed (whole .patches)) ≡ pass patches
+  pub passes : batchChecks ed s (pieceEnvelope s n whole) (references whole) (encode ed (whole .patches)) ≡ pass patches
   pub fault : OperationFault
   pub fails : applySteps (s .projection) (replaySteps patches) ≡ stopped fault
 

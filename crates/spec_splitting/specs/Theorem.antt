@@ -16,7 +16,7 @@ use Rattle.spec_session.specs.Session.{Cursor, at, Session}
 use Rattle.spec_session.specs.Diagnostics.{ofOperation, diagnosticsOf}
 use Rattle.spec_session.specs.Batch.{rejectBatch, advanced, applyBatch, candidate, commit, concludeBatch, batch}
 use Rattle.spec_session.specs.BatchLaws.{Applied, batch-applied}
-use Rattle.spec_splitting.specs.Splitting.{Piece, envelopeOf, references, send, sendAll, patchesOf, Given, Applies, AllApply, FailsAtOperation, cursorAfter, StopsAtPiece, WholeAndPieces}
+use Rattle.spec_splitting.specs.Splitting.{Piece, pieceEnvelope, references, send, sendAll, patchesOf, Given, Applies, AllApply, FailsAtOperation, cursorAfter, StopsAtPiece, WholeAndPieces}
 use Rattle.spec_splitting.specs.Passing.{Passes, passes-of-checks}
 use Rattle.spec_splitting.specs.Runs.{Ready, ready-passes, ready-next, goes-on, stops, ran-on, first-place, later-place, cursor-next, send-done, send-stopped, sendAll-done, sendAll-stopped, beside-refl, beside-advanced, run-applies}
 
@@ -150,9 +150,9 @@ ready ed s n whole pieces g h = record {
 }
 
 -- a piece that applied is a batch that was applied
-send-applied : (ed : Edition) (s : Session) (n : ℕ) (p : Piece) → Applies (send ed s n p .answer) → Applied ed s (envelopeOf s n p) (references p) (encode ed (p .patches))
+send-applied : (ed : Edition) (s : Session) (n : ℕ) (p : Piece) → Applies (send ed s n p .answer) → Applied ed s (pieceEnvelope s n p) (references p) (encode ed (p .patches))
 unfolding send
-send-applied ed s n p a = batch-applied ed s (envelopeOf s n p) (references p) (encode ed (p .patches)) a
+send-applied ed s n p a = batch-applied ed s (pieceEnvelope s n p) (references p) (encode ed (p .patches)) a
 
 pos-of-ne : {k : ℕ} → (k ≡ 0 → ⊥) → 0 < k
 pos-of-ne {k = zero} h = absurd (h refl)
@@ -160,7 +160,7 @@ pos-of-ne {k = suc k} h = omega arith
 
 all-apply : (ed : Edition) (s : Session) (n : ℕ) (whole : Piece) (pieces : List Piece) → Given s n whole pieces
     → Applies (send ed s n whole .answer) → AllApply n (send ed s n whole) pieces (sendAll ed s n pieces)
-unfolding applyBatch advanced send envelopeOf
+unfolding applyBatch advanced send pieceEnvelope
 all-apply ed s n whole pieces g a =
     let i = send-applied ed s n whole a in
     let h = passes-of-checks ed s n whole (i .patches) (g .inRange) (i .passes) in

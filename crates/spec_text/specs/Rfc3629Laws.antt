@@ -8,18 +8,18 @@ use mathlib.Core.List.{List, [], _∷_, flatMap}
 use native.Mathlib.Numerals.{one-add}
 use lib.ListN.{length}
 use Rattle.spec_lists.specs.Lists.{All}
-use Rattle.spec_text.specs.Scalars.{Scalar, encodeScalar, encode, Encoded}
+use Rattle.spec_text.specs.Scalars.{Scalar, encodeScalar, encodeScalars, Encoded}
 use Rattle.spec_text.specs.Syntax.{isUtf8, characters}
 use Rattle.spec_text.specs.SequenceLaws.{character-first}
 use Rattle.spec_text.specs.ScalarLaws.{octets-match}
 use Rattle.spec_text.specs.SplitLaws.{utf8-encoded}
 
 -- The encoding of scalar values is in the syntax, with one character for each value.
-pub encoding-is-utf8 : (cs : List ℕ) → All Scalar cs → (isUtf8 (encode cs) ≡ true) × (characters (encode cs) ≡ length cs)
-unfolding encode flatMap
+pub encoding-is-utf8 : (cs : List ℕ) → All Scalar cs → (isUtf8 (encodeScalars cs) ≡ true) × (characters (encodeScalars cs) ≡ length cs)
+unfolding encodeScalars flatMap
 encoding-is-utf8 [] s = (refl, refl)
 encoding-is-utf8 (c ∷ cs) s =
-    let first = character-first (encodeScalar c) (encode cs) (octets-match c (s .0)) in
+    let first = character-first (encodeScalar c) (encodeScalars cs) (octets-match c (s .0)) in
     let rest = encoding-is-utf8 cs (s .1) in
     (first .0 ∙ rest .0, first .1 ∙ one-add _ ∙ ap suc (rest .1))
 

@@ -18,11 +18,11 @@ encodeScalar c =
     (0xf0 + c / 0x40000) ∷ (0x80 + c / 0x1000 % 0x40) ∷ (0x80 + c / 0x40 % 0x40) ∷ (0x80 + c % 0x40) ∷ []
 
 -- The octets of one scalar value after the other.
-unfoldable pub encode : List ℕ → List ℕ
-encode = flatMap encodeScalar
+unfoldable pub encodeScalars : List ℕ → List ℕ
+encodeScalars = flatMap encodeScalar
 
 -- A text that is the encoding of some scalar values.
 pub record Encoded (text : List ℕ) : Type 0 where
   pub scalars : List ℕ
   pub all-scalar : All Scalar scalars
-  pub is-encoding : encode scalars ≡ text
+  pub is-encoding : encodeScalars scalars ≡ text

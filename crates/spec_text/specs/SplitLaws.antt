@@ -5,7 +5,7 @@ use mathlib.Core.Logic.{inl, inr, ⊎-elim}
 use mathlib.Core.Bool.{Bool, true, false, false≢true}
 use mathlib.Core.List.{List, [], _∷_, _++_, flatMap}
 use Rattle.spec_lists.specs.Lists.{if_then_else_}
-use Rattle.spec_text.specs.Scalars.{encode, Encoded}
+use Rattle.spec_text.specs.Scalars.{encodeScalars, Encoded}
 use Rattle.spec_text.specs.Syntax.{Range, inside, sequences, After, expects, refused, lead, isUtf8After, isUtf8}
 use Rattle.spec_text.specs.SyntaxLaws.{inside-true, refused-stays}
 use Rattle.spec_text.specs.SequenceLaws.{Matches, AnyMatches}
@@ -48,7 +48,7 @@ first-of ((r ∷ rs) ∷ rows) b bs s = go (inside r b) refl (first-of rows b bs
 
 -- a character, and then an encoding
 split-character : (b : ℕ) (bs : List ℕ) → First sequences b bs → Split [] (b ∷ bs)
-unfolding encode flatMap
+unfolding encodeScalars flatMap
 split-character b bs f =
     let d : Decoded (b ∷ f .front) = decode (b ∷ f .front) (f .matches) in
     record {
@@ -70,7 +70,7 @@ split-part r rs b bs f =
     record { front = b ∷ f .front; rest = f .rest; matches = ⊎-elim (λ m. m) absurd (f .matches); joined = ap (λ (l : List ℕ). b ∷ l) (f .joined); encoded = f .encoded }
 
 split : (text : List ℕ) (a : After) → isUtf8After a text ≡ true → SplitAfter a text
-unfolding encode flatMap
+unfolding encodeScalars flatMap
 split [] (expects []) e =
     record { front = []; rest = []; matches = tt; joined = refl; encoded = record { scalars = []; all-scalar = tt; is-encoding = refl } }
 split [] (expects (r ∷ rs)) e = absurd (false≢true e)

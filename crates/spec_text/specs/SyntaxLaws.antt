@@ -12,9 +12,6 @@ use Rattle.spec_lists.specs.ListLaws.{and-left, and-right}
 use Rattle.spec_lists.specs.Bytes.{Bytes}
 use Rattle.spec_text.specs.Syntax.{Range, inside, sequences, After, expects, refused, lead, advance, whole, isUtf8After, charactersAfter, isUtf8, characters}
 
-pub isUtf8-empty : isUtf8 [] ≡ true
-isUtf8-empty = refl
-
 pub inside-true : (r : Range) (b : ℕ) → inside r b ≡ true → (r .low ≤ b) × (b ≤ r .high)
 inside-true r b e =
     (leb-true (r .low) b (and-left (leb (r .low) b) (leb b (r .high)) e), leb-true b (r .high) (and-right (leb (r .low) b) (leb b (r .high)) e))

@@ -17,7 +17,7 @@ use Rattle.spec_session.specs.Batch.{BatchEnvelope, pass, refuse, _>>_, require
 use Rattle.spec_session.specs.BatchLaws.{checks-passed}
 use Rattle.spec_session.specs.ValidSession.{CursorFits}
 use Rattle.spec_turns.specs.Turns.{numberAfter}
-use Rattle.spec_turns.specs.Numbers.{atEnd, withoutCursor}
+use Rattle.spec_turns.specs.Numbers.{atLastNumber, withoutCursor}
 
 -- it is a u64 and not 0
 pub number-fits : (c : Cursor) → (1 ≤ numberAfter c) × (numberAfter c ≤ largestU64)
@@ -30,8 +30,8 @@ number-fits (at m) = go (ltb m largestU64) refl
     go false e = omega arith
 
 -- before its end the cursor takes that number
-pub number-taken : (c : Cursor) → CursorFits c → atEnd c ≡ false → takesNumber c (numberAfter c) ≡ true
-unfolding takesNumber numberAfter atEnd
+pub number-taken : (c : Cursor) → CursorFits c → atLastNumber c ≡ false → takesNumber c (numberAfter c) ≡ true
+unfolding takesNumber numberAfter atLastNumber
 number-taken uninitialized h e = refl
 number-taken (at m) h e =
     let below : m < largestU64 = below-end (eqb m largestU64) refl e in
@@ -47,8 +47,8 @@ unfolding takesNumber numberAfter
 number-only m n e = rw (and-left (ltb m largestU64) (eqb n (m + 1)) e) (eqb-true n (m + 1) (and-right (ltb m largestU64) (eqb n (m + 1)) e))
 
 -- at its end the number is the largest again, and the cursor takes none
-pub number-at-end : (c : Cursor) → atEnd c ≡ true → (numberAfter c ≡ largestU64) × ((n : ℕ) → takesNumber c n ≡ false)
-unfolding takesNumber numberAfter atEnd
+pub number-at-end : (c : Cursor) → atLastNumber c ≡ true → (numberAfter c ≡ largestU64) × ((n : ℕ) → takesNumber c n ≡ false)
+unfolding takesNumber numberAfter atLastNumber
 number-at-end uninitialized e = let z : _≡_ {A = ℕ} 0 1 = cc in absurd (omega arith)
 number-at-end (at m) e =
     let all-used = le-ltb m largestU64 (omega (arith, eqb-true m largestU64 e)) in
@@ -65,14 +65,14 @@ step-8 ed s e references set ps h =
     rw (c .session, c .isOpen, c .limits, c .reads, c .clean, c .counts, c .fewReferences, c .targets)
 
 -- before the cursor's end a batch of the turn's number passes
-pub turn-number-passes : (ed : Edition) (s : Session) (e : BatchEnvelope) (references : ℕ) (set : List ℕ) (ps : List Patch) → CursorFits (s .cursor) → atEnd (s .cursor) ≡ false
+pub turn-number-passes : (ed : Edition) (s : Session) (e : BatchEnvelope) (references : ℕ) (set : List ℕ) (ps : List Patch) → CursorFits (s .cursor) → atLastNumber (s .cursor) ≡ false
     → e .sequence ≡ numberAfter (s .cursor) → batchChecks ed (withoutCursor s) e references set ≡ pass ps → batchChecks ed s e references set ≡ pass ps
 unfolding require
 turn-number-passes ed s e references set ps holds below number h =
     step-8 ed s e references set ps h ∙ ap (λ t. require t cursorMismatch >> pass ps) (or-true (eqb (e .patches) 0) _ (rw number (number-taken (s .cursor) holds below)))
 
 -- at its end one with patches gives 7, whatever its number
-pub turn-number-at-end : (ed : Edition) (s : Session) (e : BatchEnvelope) (references : ℕ) (set : List ℕ) (ps : List Patch) → atEnd (s .cursor) ≡ true → (e .patches ≡ 0 → ⊥)
+pub turn-number-at-end : (ed : Edition) (s : Session) (e : BatchEnvelope) (references : ℕ) (set : List ℕ) (ps : List Patch) → atLastNumber (s .cursor) ≡ true → (e .patches ≡ 0 → ⊥)
     → batchChecks ed (withoutCursor s) e references set ≡ pass ps → batchChecks ed s e references set ≡ refuse cursorMismatch 1
 unfolding require
 turn-number-at-end ed s e references set ps end more h =

@@ -5,9 +5,9 @@ use Rattle.spec_patch.specs.Sizes.{largestU64}
 use Rattle.spec_session.specs.Session.{Cursor, uninitialized, at, Session}
 
 -- the cursor is at the largest number
-unfoldable pub atEnd : Cursor → Bool
-atEnd uninitialized = false
-atEnd (at m) = eqb m largestU64
+unfoldable pub atLastNumber : Cursor → Bool
+atLastNumber uninitialized = false
+atLastNumber (at m) = eqb m largestU64
 
 -- the same session while Uninitialized, when any number passes: what it takes has passed all steps but the cursor's
 unfoldable pub withoutCursor : Session → Session

@@ -9,9 +9,9 @@ use Rattle.spec_turns.specs.Turns.{Turns, SetUp, made, refused, setUpNum
 use Rattle.spec_turns.specs.Calls.{Call, registers, turnCall}
 
 -- a proof that computes turns opens this
-unfoldable pub opened : Unit {0}
+unfoldable pub openedTurns : Unit {0}
 unfolding setUp newTurns refuseRegister startWaiting register after firstAsked firstWaiting nextSender numberAfter spendTurn turnFor turn
-opened = tt
+openedTurns = tt
 
 -- ---- answers as numbers
 
@@ -66,5 +66,5 @@ examples =
     ∷ []
 
 turn-examples : T (all (λ (b : Bool). b) examples)
-unfolding opened
+unfolding openedTurns
 turn-examples = tt

@@ -1,12 +1,12 @@
 -- `bytes_decimal::digits_of` meets its contract. The invariant: the digits of what is left stand before those that are stored.
 use native.Mathlib.Omega.{arith}
 use borrow.Author.Needs.{needs}
-use Rattle.bytes_decimal.proofs.Printing.{Stored, stored-start, place-left, inside, stored-turn, stored-end}
+use Rattle.bytes_decimal.proofs.Printing.{StoredDigits, stored-start, place-left, inside, stored-turn, stored-end}
 use Rattle.bytes_decimal.proofs.digits_of.Statement.{statement}
 use Rattle.bytes_decimal.proofs.digits_of.Tie as tie
 
 abbrev Inv-loop : tie.InvT-loop
-Inv-loop n bytes₀ rest₀ start₀ bytes rest start = Stored n start rest bytes
+Inv-loop n bytes₀ rest₀ start₀ bytes rest start = StoredDigits n start rest bytes
 
 abbrev μ-loop : tie.MeasureT-loop
 μ-loop n bytes₀ rest₀ start₀ bytes rest start = rest

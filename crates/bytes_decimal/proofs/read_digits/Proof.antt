@@ -4,7 +4,7 @@ use mathlib.Core.Path.{_≡_, refl, sym, ap, _∙_}
 use native.Mathlib.Omega.{arith}
 use lib.ListN.{length, drop}
 use borrow.Author.Needs.{needs}
-use Rattle.bytes_decimal.specs.Read.{readDigits, numberU64}
+use Rattle.bytes_decimal.specs.Read.{readDigits, decimalU64}
 use Rattle.bytes_decimal.proofs.Reading.{next-digit, no-digit, last-digit}
 use Rattle.bytes_decimal.proofs.read_digits.Statement.{statement}
 use Rattle.bytes_decimal.proofs.read_digits.Tie as tie
@@ -34,7 +34,7 @@ returns : tie.Need-returns Inv-loop μ-loop
 returns c =
     let called = c .before .before in
     let at-loop = called .before .before .before .loop in
-    let off = no-digit _ _ _ (called .before .before .loop-test .taken) (sym (ap numberU64 (c .enum-told .given .1)) ∙ called .with-digit .ensures) in
+    let off = no-digit _ _ _ (called .before .before .loop-test .taken) (sym (ap decimalU64 (c .enum-told .given .1)) ∙ called .with-digit .ensures) in
     sym off ∙ at-loop .inv .1
 
 add-i : tie.Need-add-i Inv-loop μ-loop
@@ -47,7 +47,7 @@ loop-again : tie.Need-loop-again Inv-loop μ-loop
 loop-again c =
     let called = c .before .before .before in
     let at-loop = called .before .before .before .loop in
-    let on = next-digit _ _ _ _ (called .before .before .loop-test .taken) (sym (ap numberU64 (c .before .more .given .1)) ∙ called .with-digit .ensures) in
+    let on = next-digit _ _ _ _ (called .before .before .loop-test .taken) (sym (ap decimalU64 (c .before .more .given .1)) ∙ called .with-digit .ensures) in
     (on .1, on .0 ∙ at-loop .inv .1)
 
 returns-2 : tie.Need-returns-2 Inv-loop μ-loop

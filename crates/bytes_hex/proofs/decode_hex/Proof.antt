@@ -5,7 +5,7 @@ use native.Mathlib.Omega.{arith}
 use borrow.Author.Needs.{needs}
 use lib.ListN.{length}
 use Rattle.bytes_hex.specs.Decoding.{decoding, decodedInto}
-use Rattle.bytes_hex.proofs.Answers.{no-text, dash, no-dash}
+use Rattle.bytes_hex.proofs.Answers.{no-text, dash-decoded, no-dash}
 use Rattle.bytes_hex.proofs.decode_hex.Statement.{statement}
 use Rattle.bytes_hex.proofs.decode_hex.Tie as tie
 
@@ -20,7 +20,7 @@ shared-slice-read-if3 c = search needs
 returns-2 : tie.Need-returns-2
 returns-2 c =
     let args = c .before .before .before .before .before .before .args in
-    dash (args .out .now) (args .text .now) (omega arith) (c .if3 .taken)
+    dash-decoded (args .out .now) (args .text .now) (omega arith) (c .if3 .taken)
 
 decode-pairs-requires : tie.Need-decode-pairs-requires
 decode-pairs-requires c κs = search needs

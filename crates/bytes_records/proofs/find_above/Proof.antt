@@ -9,9 +9,9 @@ use borrow.Author.Tests.{lt-ltb}
 use Rattle.spec_lists.specs.Bytes.{numberOf}
 use Rattle.bytes_records.specs.Positions.{firstIndex}
 use Rattle.bytes_records.specs.PositionsLaws.{firstIndex-le, first-le}
-use Rattle.bytes_records.specs.Table.{Holds}
+use Rattle.bytes_records.specs.Table.{HoldsRows}
 use Rattle.bytes_records.specs.TableLaws.{fitting}
-use Rattle.bytes_records.specs.Search.{firstNumber, isAbove, Rising}
+use Rattle.bytes_records.specs.Search.{firstRowNumber, isAbove, Rising}
 use Rattle.bytes_records.specs.SearchLaws.{above-later}
 use Rattle.bytes_records.proofs.Offsets.{end-le, fits, fits-not}
 use Rattle.bytes_records.proofs.Searches.{head-is}
@@ -20,7 +20,7 @@ use Rattle.bytes_records.proofs.find_above.Tie as tie
 
 abbrev Inv-loop : tie.InvT-loop
 Inv-loop table width count id low₀ high₀ low high =
-    (low ≤ high) × (high ≤ count) × ((m : List (List ℕ)) → Holds width count table m → Rising m → (low ≤ firstIndex (isAbove id) m) × (firstIndex (isAbove id) m ≤ high))
+    (low ≤ high) × (high ≤ count) × ((m : List (List ℕ)) → HoldsRows width count table m → Rising m → (low ≤ firstIndex (isAbove id) m) × (firstIndex (isAbove id) m ≤ high))
 
 abbrev μ-loop : tie.MeasureT-loop
 μ-loop table width count id low₀ high₀ low high = high - low
@@ -73,7 +73,7 @@ number-of-requires c κs = search needs
 -- the number that was read is that of the row in the middle
 read-row : (c : tie.After-number-of Inv-loop μ-loop) (m : List (List ℕ)) → let at-loop = c .before .before .before in
     let args = at-loop .before .before .before .args in
-    Holds (args .width) (args .count) (args .table .now) m → c .number-of .result ≡ firstNumber (getD m (middle at-loop) [])
+    HoldsRows (args .width) (args .count) (args .table .now) m → c .number-of .result ≡ firstRowNumber (getD m (middle at-loop) [])
 read-row c m t =
     let in-loop = c .before .before in
     c .number-of .ensures ∙ ap numberOf (head-is m t (middle (in-loop .before)) (search needs) (search needs))

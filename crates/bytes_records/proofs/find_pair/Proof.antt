@@ -11,9 +11,9 @@ use borrow.Author.Tests.{eq-eqb, ne-eqb}
 use Rattle.spec_lists.specs.Bytes.{numberOf}
 use Rattle.bytes_records.specs.Positions.{firstIndex}
 use Rattle.bytes_records.specs.PositionsLaws.{firstIndex-le, first-here, first-more}
-use Rattle.bytes_records.specs.Table.{Holds}
+use Rattle.bytes_records.specs.Table.{HoldsRows}
 use Rattle.bytes_records.specs.TableLaws.{fitting}
-use Rattle.bytes_records.specs.Search.{firstNumber, secondNumber, isPair, Rising, Starts, Within}
+use Rattle.bytes_records.specs.Search.{firstRowNumber, secondNumber, isPair, Rising, Starts, WithinRows}
 use Rattle.bytes_records.specs.SearchLaws.{find-stopped, find-ended}
 use Rattle.bytes_records.proofs.Offsets.{end-le, fits, fits-not}
 use Rattle.bytes_records.proofs.Searches.{head-is, second-is, pair-start, pair-gone}
@@ -22,7 +22,7 @@ use Rattle.bytes_records.proofs.find_pair.Tie as tie
 
 abbrev Inv-loop : tie.InvT-loop
 Inv-loop table width count id second at₀ at =
-    (at₀ ≤ at) × (at ≤ count) × ((m : List (List ℕ)) → Holds width count table m → Rising m → Starts id at₀ m × (at ≤ firstIndex (isPair id second) m))
+    (at₀ ≤ at) × (at ≤ count) × ((m : List (List ℕ)) → HoldsRows width count table m → Rising m → Starts id at₀ m × (at ≤ firstIndex (isPair id second) m))
 
 abbrev μ-loop : tie.MeasureT-loop
 μ-loop table width count id second at₀ at = count - at
@@ -31,7 +31,7 @@ div-if1 : tie.Need-div-if1 Inv-loop μ-loop
 div-if1 c = search needs
 
 returns : tie.Need-returns Inv-loop μ-loop
-unfolding Within
+unfolding WithinRows
 returns c =
     ((λ m t rising. absurd (omega (arith, fitting t, fits-not _ _ _ (search needs) (c .if1 .taken)))), tt)
 
@@ -81,13 +81,13 @@ number-of-requires c κs = search needs
 -- the number that was read first is the row's first
 read-first : (c : tie.After-number-of Inv-loop μ-loop) (m : List (List ℕ)) → let at-loop = c .before .before .before in
     let args = at-loop .before .before .before .before .args in
-    Holds (args .width) (args .count) (args .table .now) m → c .number-of .result ≡ firstNumber (getD m (at-loop .loop .at) [])
+    HoldsRows (args .width) (args .count) (args .table .now) m → c .number-of .result ≡ firstRowNumber (getD m (at-loop .loop .at) [])
 read-first c m t =
     let in-loop = c .before .before in
     c .number-of .ensures ∙ ap numberOf (head-is m t (in-loop .before .loop .at) (search needs) (search needs))
 
 returns-2 : tie.Need-returns-2 Inv-loop μ-loop
-unfolding Within
+unfolding WithinRows
 returns-2 c =
     let read = c .before in
     let at-loop = read .before .before .before in
@@ -114,8 +114,8 @@ number-of-requires-2 c κs = search needs
 -- the row's two numbers: the first is the id, and the second was read
 read-both : (c : tie.After-number-of2 Inv-loop μ-loop) (m : List (List ℕ)) → let at-loop = c .before .before .before .before .before .before in
     let args = at-loop .before .before .before .before .args in
-    Holds (args .width) (args .count) (args .table .now) m
-    → (firstNumber (getD m (at-loop .loop .at) []) ≡ args .id) × (c .number-of2 .result ≡ secondNumber (getD m (at-loop .loop .at) []))
+    HoldsRows (args .width) (args .count) (args .table .now) m
+    → (firstRowNumber (getD m (at-loop .loop .at) []) ≡ args .id) × (c .number-of2 .result ≡ secondNumber (getD m (at-loop .loop .at) []))
 read-both c m t =
     let first = c .before .before in
     let in-loop = first .before .before .before in (
@@ -124,7 +124,7 @@ read-both c m t =
     )
 
 returns-3 : tie.Need-returns-3 Inv-loop μ-loop
-unfolding Within
+unfolding WithinRows
 returns-3 c =
     let read = c .before in
     let at-loop = read .before .before .before .before .before .before in
@@ -161,7 +161,7 @@ loop-again c =
     )
 
 returns-4 : tie.Need-returns-4 Inv-loop μ-loop
-unfolding Within
+unfolding WithinRows
 returns-4 c =
     let at-loop = c .before in
     let args = at-loop .before .before .before .before .args in (

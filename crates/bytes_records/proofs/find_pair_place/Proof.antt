@@ -5,7 +5,7 @@ use Prim.Native.Nat.{ℕ, _+_, _-_, _*_, _≤_}
 use native.Mathlib.Omega.{arith}
 use lib.ListN.{length, getD}
 use borrow.Author.Needs.{needs}
-use Rattle.bytes_records.specs.Table.{Holds}
+use Rattle.bytes_records.specs.Table.{HoldsRows}
 use Rattle.bytes_records.specs.TableLaws.{fitting}
 use Rattle.bytes_records.specs.Keys.{leadingNumbers, orderOf}
 use Rattle.bytes_records.specs.Search.{PlaceWithin}
@@ -17,7 +17,7 @@ use Rattle.bytes_records.proofs.find_pair_place.Tie as tie
 
 abbrev Inv-loop : tie.InvT-loop
 Inv-loop table width count id size second place₀ place =
-    (place ≤ count) × ((m : List (List ℕ)) → Holds width count table m → Placed (leadingNumbers (8 ∷ size ∷ [])) (id ∷ second ∷ []) place m)
+    (place ≤ count) × ((m : List (List ℕ)) → HoldsRows width count table m → Placed (leadingNumbers (8 ∷ size ∷ [])) (id ∷ second ∷ []) place m)
 
 abbrev μ-loop : tie.MeasureT-loop
 μ-loop table width count id size second place₀ place = count - place
@@ -61,7 +61,7 @@ compare-requires c κs = search needs
 -- what the call answered is how the row at position `place` stands to the two numbers
 compared-row : (c : tie.After-compare Inv-loop μ-loop) (m : List (List ℕ)) → let at-loop = c .before .before .before in
     let args = at-loop .before .before .before .args in
-    Holds (args .width) (args .count) (args .table .now) m
+    HoldsRows (args .width) (args .count) (args .table .now) m
     → orderOf (leadingNumbers (8 ∷ args .size ∷ []) (getD m (at-loop .loop .place) [])) (args .id ∷ args .second ∷ []) ≡ c .compare .result
 compared-row c m t =
     let in-loop = c .before .before in

@@ -3,7 +3,7 @@ use mathlib.Core.Path.{_≡_, sym, ap, _∙_}
 use Prim.Native.Nat.{ℕ, _<_}
 use native.Mathlib.Omega.{arith}
 use lib.ListN.{length, getD, take}
-use Rattle.check_targets.specs.Targets.{targetOf}
+use Rattle.check_targets.specs.Targets.{checkTargetOf}
 use Rattle.check_targets.specs.Marks.{markOf}
 use Rattle.check_targets.specs.MarksLaws.{mark-within, unmarked-unseen, marked-more}
 use borrow.Author.Needs.{needs}
@@ -15,7 +15,7 @@ within : (c : tie.After-slice-known3) → c .before .mark-of .result < length (c
 within c =
     let a = c .before .before .before .before .args in
     let long = c .before .before .before .before .pre .1 .long in
-    rw (c .before .mark-of .ensures) (omega (arith, mark-within (targetOf (a .target)), long))
+    rw (c .before .mark-of .ensures) (omega (arith, mark-within (checkTargetOf (a .target)), long))
 
 mark-of-requires : tie.Need-mark-of-requires
 mark-of-requires c κs = search needs
@@ -41,9 +41,9 @@ returns c =
     let first = known .before .before .before .before in
     let a = first .args in
     let marked = first .pre .1 in
-    let place : known .before .mark-of .result ≡ markOf (targetOf (a .target)) = known .before .mark-of .ensures in (
-      sym (unmarked-unseen (a .marks .now) (take (a .used) (a .targets .now)) (targetOf (a .target)) marked (ap (λ (i : ℕ). getD (a .marks .now) i 0) (sym place) ∙ c .before .before .before .before .if1 .taken)),
-      (c .before .before .put-target .ensures, rw place (marked-more (a .marks .now) (take (a .used) (a .targets .now)) (targetOf (a .target)) marked)),
+    let place : known .before .mark-of .result ≡ markOf (checkTargetOf (a .target)) = known .before .mark-of .ensures in (
+      sym (unmarked-unseen (a .marks .now) (take (a .used) (a .targets .now)) (checkTargetOf (a .target)) marked (ap (λ (i : ℕ). getD (a .marks .now) i 0) (sym place) ∙ c .before .before .before .before .if1 .taken)),
+      (c .before .before .put-target .ensures, rw place (marked-more (a .marks .now) (take (a .used) (a .targets .now)) (checkTargetOf (a .target)) marked)),
     )
 
 seen-before-requires : tie.Need-seen-before-requires
@@ -60,9 +60,9 @@ returns-2 c =
     let known = c .before .before .before .before .before in
     let first = known .before .before .before .before in
     let a = first .args in
-    let place : known .before .mark-of .result ≡ markOf (targetOf (a .target)) = known .before .mark-of .ensures in
+    let place : known .before .mark-of .result ≡ markOf (checkTargetOf (a .target)) = known .before .mark-of .ensures in
     let told = c .before .before .seen-before .ensures in
-    (told .0, (told .1, rw place (marked-more (a .marks .now) (take (a .used) (a .targets .now)) (targetOf (a .target)) (first .pre .1))))
+    (told .0, (told .1, rw place (marked-more (a .marks .now) (take (a .used) (a .targets .now)) (checkTargetOf (a .target)) (first .pre .1))))
 
 pub seen-by-mark-spec : {M : Type 1} → statement M
 seen-by-mark-spec =

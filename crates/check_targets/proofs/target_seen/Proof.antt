@@ -3,13 +3,13 @@ use mathlib.Core.Path.{_≡_, sym, _∙_}
 use borrow.Author.Needs.{needs}
 use Prim.Native.Nat.{_-_, _≤_}
 use lib.ListN.{length, drop, length-drop}
-use Rattle.check_targets.specs.Targets.{targetOf, targetSeen}
-use Rattle.check_targets.specs.TargetsLaws.{seen-here, seen-on, seen-end}
+use Rattle.check_targets.specs.Targets.{checkTargetOf, targetSeen}
+use Rattle.check_targets.specs.TargetsLaws.{seen-here, seen-on, target-seen-end}
 use Rattle.check_targets.proofs.target_seen.Statement.{statement}
 use Rattle.check_targets.proofs.target_seen.Tie as tie
 
 abbrev Inv-loop : tie.InvT-loop
-Inv-loop targets target at₀ at = (at ≤ length targets) × (targetSeen (targetOf target) targets ≡ targetSeen (targetOf target) (drop at targets))
+Inv-loop targets target at₀ at = (at ≤ length targets) × (targetSeen (checkTargetOf target) targets ≡ targetSeen (checkTargetOf target) (drop at targets))
 
 abbrev μ-loop : tie.MeasureT-loop
 μ-loop targets target at₀ at = length targets - at
@@ -64,7 +64,7 @@ loop-again c =
     (search needs, at-loop .loop .inv .1 ∙ seen-on _ _ (at-loop .loop .at) (search needs) (sym (c .before .same-target .ensures) ∙ c .if1 .left))
 
 returns-2 : tie.Need-returns-2 Inv-loop μ-loop
-returns-2 c = sym (c .before .loop .inv .1 ∙ seen-end _ _ (simp length-drop (search needs)))
+returns-2 c = sym (c .before .loop .inv .1 ∙ target-seen-end _ _ (simp length-drop (search needs)))
 
 pub target-seen-spec : {M : Type 1} → statement M
 target-seen-spec =

@@ -6,7 +6,7 @@ use Rattle.bytes_records.specs.Moves.{zeros}
 use Rattle.panel_rows.specs.Rows.{bindingBytes, availabilityBytes, entryBytes, lengthBytes}
 use Rattle.local_projection_state.specs.declared.LocalProjectionState.{LocalProjectionState}
 use Rattle.local_projection_state.specs.declared.ProjectionCounts.{ProjectionCounts}
-use Rattle.panel_changes.specs.SetChanges.{Ready}
+use Rattle.panel_changes.specs.SetChanges.{ReadyTables}
 use Rattle.panel_changes.specs.SetChangesLaws.{zeros-ready}
 use Rattle.panel_application.specs.Application.{StepsBecame}
 use Rattle.panel_application.specs.declared.ProjectionOutcome.the-variants.{Applied}
@@ -48,8 +48,8 @@ enum-told : tie.Need-enum-told
 enum-told c = search needs
 
 -- nothing is used of the new tables
-ready : (c : tie.After-apply-set) → Ready (c .before .before .before .before .before .before .before .before .before .before .before .before .before .none-used .result) (zeros bindingBytes) (zeros availabilityBytes) (zeros entryBytes) (zeros lengthBytes)
-ready c = subst (λ (u : ProjectionCounts). Ready u (zeros bindingBytes) (zeros availabilityBytes) (zeros entryBytes) (zeros lengthBytes)) (sym (c .before .before .before .before .before .before .before .before .before .before .before .before .before .none-used .ensures)) zeros-ready
+ready : (c : tie.After-apply-set) → ReadyTables (c .before .before .before .before .before .before .before .before .before .before .before .before .before .none-used .result) (zeros bindingBytes) (zeros availabilityBytes) (zeros entryBytes) (zeros lengthBytes)
+ready c = subst (λ (u : ProjectionCounts). ReadyTables u (zeros bindingBytes) (zeros availabilityBytes) (zeros entryBytes) (zeros lengthBytes)) (sym (c .before .before .before .before .before .before .before .before .before .before .before .before .before .none-used .ensures)) zeros-ready
 
 returns : tie.Need-returns
 returns c =

@@ -5,8 +5,8 @@ use lib.ListN.{length}
 use Rattle.spec_lists.specs.BytesLaws.{bytes-of}
 use Rattle.spec_patch.specs.SetLaws.{was-encoded}
 use Rattle.projection_patch.specs.Meaning.{editionOf}
-use Rattle.panel_changes.specs.SetChanges.{tablesFit, countsFit}
-use Rattle.panel_changes.specs.SetChangesLaws.{fit-lengths, lengths-fit, stored-lengths, stored-counts, fit-arguments, opened-short, opened-at, never-unopened}
+use Rattle.panel_changes.specs.SetChanges.{tablesFit, changeCountsFit}
+use Rattle.panel_changes.specs.SetChangesLaws.{fit-lengths, tableLengths-fit, stored-lengths, stored-counts, fit-arguments, opened-short, opened-at, never-unopened}
 use borrow.Author.Needs.{needs}
 use Rattle.panel_changes.proofs.apply_set.Statement.{statement}
 use Rattle.panel_changes.proofs.apply_set.Tie as tie
@@ -26,7 +26,7 @@ enum-known-cursor c = search needs
 apply-from-requires : tie.Need-apply-from-requires
 apply-from-requires c κs =
     let a = c .before .before .before .before .before .before .before .before .before .before .before .before .before .before .before .before .before .before .before .args in
-    let fit = fit-arguments (tablesFit (length (a .from-bindings .now)) (length (a .from-availability .now)) (length (a .from-entries .now))) (tablesFit (length (a .to-bindings .now)) (length (a .to-availability .now)) (length (a .to-entries .now))) (countsFit (a .counts)) (countsFit (a .used)) (c .before .before .before .before .before .before .before .before .before .arguments-fit .ensures) (c .before .before .before .before .before .before .before .before .if2 .taken) in
+    let fit = fit-arguments (tablesFit (length (a .from-bindings .now)) (length (a .from-availability .now)) (length (a .from-entries .now))) (tablesFit (length (a .to-bindings .now)) (length (a .to-availability .now)) (length (a .to-entries .now))) (changeCountsFit (a .counts)) (changeCountsFit (a .used)) (c .before .before .before .before .before .before .before .before .before .arguments-fit .ensures) (c .before .before .before .before .before .before .before .before .if2 .taken) in
     let bound = c .before .before .before .before .before .cursor .given in
     (opened-short (editionOf (a .edition)) (a .set .now) (bound .0 .0) (sym (c .before .before .before .before .before .before .before .open-set .ensures) ∙ bound .1), (fit-lengths (a .from-bindings .now) (a .from-availability .now) (a .from-entries .now) (fit .0) .availability, (fit-lengths (a .to-bindings .now) (a .to-availability .now) (a .to-entries .now) (fit .1 .0), (search needs, fit .1 .1 .1))))
 
@@ -67,8 +67,8 @@ returns-4 : tie.Need-returns-4
 returns-4 c =
     let a = c .before .before .before .before .before .before .before .before .before .before .before .args in (
       λ p ps st readable ready.
-          let whole : (tablesFit (length (a .from-bindings .now)) (length (a .from-availability .now)) (length (a .from-entries .now)) && (tablesFit (length (a .to-bindings .now)) (length (a .to-availability .now)) (length (a .to-entries .now)) && (countsFit (a .counts) && countsFit (a .used)))) ≡ true =
-          rw (lengths-fit (a .from-bindings .now) (a .from-availability .now) (a .from-entries .now) (stored-lengths st), lengths-fit (a .to-bindings .now) (a .to-availability .now) (a .to-entries .now) (ready .lengths), stored-counts st, ready .few) in
+          let whole : (tablesFit (length (a .from-bindings .now)) (length (a .from-availability .now)) (length (a .from-entries .now)) && (tablesFit (length (a .to-bindings .now)) (length (a .to-availability .now)) (length (a .to-entries .now)) && (changeCountsFit (a .counts) && changeCountsFit (a .used)))) ≡ true =
+          rw (tableLengths-fit (a .from-bindings .now) (a .from-availability .now) (a .from-entries .now) (stored-lengths st), tableLengths-fit (a .to-bindings .now) (a .to-availability .now) (a .to-entries .now) (ready .lengths), stored-counts st, ready .few) in
           false≢true (sym (c .if2 .left) ∙ c .before .arguments-fit .ensures ∙ whole),
       (refl, (refl, (refl, refl))),
     )

@@ -14,7 +14,7 @@ use Rattle.panel_plan.specs.Plan.{resolution}
 use Rattle.panel_plan.specs.SetValues.{valueIn}
 use Rattle.panel_writing.specs.WritingLaws.{can-write}
 use Rattle.panel_lengths.specs.WrittenLaws.{can-write as can-write-lengths}
-use Rattle.panel_changes.specs.SetChanges.{countsFit}
+use Rattle.panel_changes.specs.SetChanges.{changeCountsFit}
 use Rattle.panel_changes.specs.SetChangesLaws.{fit-few, written-stored}
 use borrow.Author.Needs.{needs}
 use Rattle.panel_changes.proofs.write_tables.Statement.{statement}
@@ -59,7 +59,7 @@ returns c =
     let start = c .before .before .before .before .before .before .before .before .before .before .before .before .before .before .before .before .before .before .before .before .before .before .before .before .before .before .before .before in
     let a = start .args in
     let ed = editionOf (a .edition) in
-    let told : true ≡ countsFit (a .counts) = sym (c .before .before .before .before .before .before .before .before .before .before .before .before .before .before .before .before .if1 .taken) ∙ c .before .before .before .before .before .before .before .before .before .before .before .before .before .before .before .before .before .counts-fit .ensures in
+    let told : true ≡ changeCountsFit (a .counts) = sym (c .before .before .before .before .before .before .before .before .before .before .before .before .before .before .before .before .if1 .taken) ∙ c .before .before .before .before .before .before .before .before .before .before .before .before .before .before .before .before .before .counts-fit .ensures in
     let few = fit-few (a .counts) (sym told) in
     let before = fit-few (a .used) (start .pre .1 .1 .1) in (
       told,

@@ -2,7 +2,7 @@
 use mathlib.Core.Path.{_∙_, subst}
 use denote.Ref.{now}
 use lib.ListN.{length}
-use Rattle.bytes_records.specs.Table.{Holds}
+use Rattle.bytes_records.specs.Table.{HoldsRows}
 use Rattle.panel_page.specs.PageTable.{pageWidth}
 use Rattle.panel_page.specs.PageTableLaws.{holds-all, page-bytes}
 use Rattle.panel_page.specs.ShownLaws.{placesOf, places-held, shows-nothing}
@@ -50,7 +50,7 @@ returns c =
     λ p s v.
     let nothing = shows-nothing (a .collection) keys (at-empty .empty-places .last .0) places (held .wide) (held .counted) (at-empty .empty-places .ensures places held) in
     let all = at-rows .answer-rows .ensures (p .entries) (v .fitEntries) (v .entries) (s .rows) nothing in
-    let cleared = subst (Holds pageWidth (length keys) _) (all .stand) (at-clear .clear-empty-places .ensures (all .places) (all .held)) in
+    let cleared = subst (HoldsRows pageWidth (length keys) _) (all .stand) (at-clear .clear-empty-places .ensures (all .places) (all .held)) in
     holds-all cleared (search needs) ∙ page-bytes p (a .collection) keys
 
 pub fill-page-spec : {M : Type 1} → statement M

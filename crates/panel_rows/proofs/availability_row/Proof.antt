@@ -8,7 +8,7 @@ use Rattle.spec_patch.specs.Patch.{Availability, available, unavailable, hidden
 use Rattle.spec_patch.specs.Encode.{u64, availabilityByte}
 use Rattle.bytes_records.specs.MovesLaws.{length-zeros}
 use Rattle.bytes_wire.specs.Write.{overwrite}
-use Rattle.projection_patch.specs.Meaning.{availabilityOf}
+use Rattle.projection_patch.specs.Meaning.{availabilityValueOf}
 use Rattle.panel_rows.specs.Rows.{idWidth, markWidth, availabilityAt, availabilityWidth, availabilityRow}
 use Rattle.panel_rows.proofs.Filling.{three-fields}
 use Rattle.panel_rows.proofs.availability_row.Statement.{statement}
@@ -50,7 +50,7 @@ returns c =
     let second = third .before .before .before .before in
     let first = second .before .before .before in
     let a = first .before .before .args in
-    let state = availabilityOf (a .availability) in
+    let state = availabilityValueOf (a .availability) in
     let byte = ap (littleEndian 1) (third .before .availability-byte .ensures) ∙ one-byte state in
     three-fields _ (u64 (a .node)) (u64 (a .mark)) (availabilityByte state ∷ []) idWidth markWidth 1 (length-littleEndian idWidth _) (length-littleEndian markWidth _) refl
     (first .write-u64-at .ensures .1) (second .write-u64-at2 .ensures .1) (third .write-u8-at .ensures .1 ∙ ap (overwrite _ availabilityAt) byte) (length-zeros availabilityWidth)

@@ -7,13 +7,13 @@ use denote.Ref.{now}
 use Rattle.spec_patch.specs.Sizes.{projectionEntries}
 use Rattle.panel_rows.specs.Rows.{entryValueAt, entryWidth}
 use Rattle.panel_plan.specs.PlanRows.{sourceWidth}
-use Rattle.panel_writing.specs.Writing.{Run}
+use Rattle.panel_writing.specs.Writing.{RowRun}
 use Rattle.panel_writing.proofs.Bytes.{run-of-one, run-and-next}
 use Rattle.panel_writing.proofs.run_length.Statement.{statement}
 use Rattle.panel_writing.proofs.run_length.Tie as tie
 
 abbrev Inv-loop : tie.InvT-loop
-Inv-loop key plan count i source width most n₀ n = (1 ≤ n) × ((n ≤ most) × Run key plan i source n)
+Inv-loop key plan count i source width most n₀ n = (1 ≤ n) × ((n ≤ most) × RowRun key plan i source n)
 
 abbrev μ-loop : tie.MeasureT-loop
 μ-loop key plan count i source width most n₀ n = most - n

@@ -7,7 +7,7 @@ use borrow.Author.Needs.{needs}
 use denote.Ref.{now}
 use lib.ListN.{length, take, drop, length-take}
 use Rattle.spec_patch.specs.Sizes.{projectionEntries}
-use Rattle.bytes_records.specs.Moves.{overwrite}
+use Rattle.bytes_records.specs.Moves.{overwriteRows}
 use Rattle.projection_patch.specs.Meaning.{editionOf}
 use Rattle.panel_rows.specs.Rows.{valueWidth, entryWidth, writtenRow}
 use Rattle.panel_writing.specs.WritingLaws.{source-old, source-new}
@@ -66,7 +66,7 @@ returns c =
     let a = number .before .before .before .before .before .args in
     let ed = editionOf (a .edition) in
     planned-written ed (a .key) (now (a .row)) (now (a .from)) (now (a .set)) (now (a .to)) (number .number-at .ensures)
-    (copy .copy .ensures ∙ ap (λ rows. overwrite rows (now (a .to))) (copied part) ∙ sym (source-old ed (a .key) (take (a .key) (now (a .row))) (now (a .from)) (now (a .set)) _ (now (a .to)) (part .before .before .if1 .taken)))
+    (copy .copy .ensures ∙ ap (λ rows. overwriteRows rows (now (a .to))) (copied part) ∙ sym (source-old ed (a .key) (take (a .key) (now (a .row))) (now (a .from)) (now (a .set)) _ (now (a .to)) (part .before .before .if1 .taken)))
 
 same-length-2 : tie.Need-same-length-2
 same-length-2 c = search needs

@@ -10,7 +10,7 @@ use Rattle.projection_patch.specs.Meaning.{editionOf}
 use Rattle.bytes_records.proofs.Offsets.{start-le}
 use Rattle.panel_rows.specs.Rows.{valueWidth, fieldAt}
 use Rattle.panel_plan.specs.PlanRows.{sourceWidth}
-use Rattle.panel_writing.specs.Writing.{rowAt, Run, newRow}
+use Rattle.panel_writing.specs.Writing.{rowAt, RowRun, newRow}
 use Rattle.panel_writing.proofs.Bytes.{planned, planned-keeps, planned-splits, planned-by}
 use Rattle.panel_writing.proofs.Turns.{RowsWritten, none-written, same-size, run-written, rest-cleared}
 use Rattle.panel_writing.proofs.write_rows.Statement.{statement}
@@ -34,10 +34,10 @@ room c =
 -- the run that was found is that of the i-th row's source
 run : (c : tie.After-run-length Inv-loop μ-loop) → let a = c .before .before .before .before .before .before .before .before .before .args in
     let i = c .before .before .before .before .loop .i in
-    Run (a .key) (now (a .plan)) i (fieldAt (a .key) sourceWidth (rowAt (a .key + sourceWidth) i (now (a .plan)))) (c .run-length .result)
+    RowRun (a .key) (now (a .plan)) i (fieldAt (a .key) sourceWidth (rowAt (a .key + sourceWidth) i (now (a .plan)))) (c .run-length .result)
 run c =
     let a = c .before .before .before .before .before .before .before .before .before .args in
-    subst (λ source. Run (a .key) (now (a .plan)) (c .before .before .before .before .loop .i) source (c .run-length .result)) (c .before .number-at .ensures ∙ ap (fieldAt (a .key) sourceWidth) (c .before .before .row-at .ensures)) (c .run-length .ensures .1 .1)
+    subst (λ source. RowRun (a .key) (now (a .plan)) (c .before .before .before .before .loop .i) source (c .run-length .result)) (c .before .number-at .ensures ∙ ap (fieldAt (a .key) sourceWidth) (c .before .before .row-at .ensures)) (c .run-length .ensures .1 .1)
 
 fits : (c : tie.At-loop Inv-loop μ-loop) → let a = c .before .before .before .before .before .args in c .loop .i * (a .key + valueWidth) ≤ length (now (a .to))
 fits c =

@@ -8,7 +8,7 @@ use denote.Ref.{now}
 use lib.ListN.{length, take, drop}
 use Rattle.spec_lists.specs.Bytes.{Bytes}
 use Rattle.spec_lists.specs.BytesLaws.{bytes-of}
-use Rattle.spec_patch.specs.Edition.{Edition, digit}
+use Rattle.spec_patch.specs.Edition.{Edition, editionDigit}
 use Rattle.spec_patch.specs.Read.{readSet}
 use Rattle.spec_conversion.specs.Conversion as model
 use Rattle.spec_conversion.specs.Conversion.{otherEdition, allKinds, convert}
@@ -16,7 +16,7 @@ use Rattle.spec_conversion.specs.ConversionLaws.{heading-within}
 use Rattle.bytes_wire.specs.Write.{overwrite}
 use Rattle.projection_patch.specs.Meaning.{editionOf}
 use Rattle.projection_patch.specs.ReadAnswers.{faultOf}
-use Rattle.patch_part_writer.proofs.Flags.{fails, holds}
+use Rattle.patch_part_writer.proofs.Flags.{fails, not-false-holds}
 use Rattle.patch_converter.specs.declared.ConversionAnswer.{ConversionAnswer}
 use Rattle.patch_converter.specs.declared.ConversionAnswer.the-variants.{Converted, Refused}
 use Rattle.patch_converter.specs.Answers.{conversionAnswer, conversionOutput}
@@ -57,7 +57,7 @@ asked k = sym (k .has-every-kind .ensures (listed k .list) (listed k .reads) ∙
 
 -- the set with the letter of the other edition
 abbrev after : tie.After-read-set → Edition → List ℕ
-after k ed = take 30 (set k) ++ (digit ed ∷ drop 31 (set k))
+after k ed = take 30 (set k) ++ (editionDigit ed ∷ drop 31 (set k))
 
 long : (k : tie.After-has-every-kind) → 31 ≤ length (set (read k))
 long k = heading-within (from (read k)) (set (read k)) (listed k .list) (all-bytes (read k)) (listed k .reads)
@@ -88,7 +88,7 @@ returns c =
 returns-2 : tie.Need-returns-2
 returns-2 c =
     let k = c .before .before in
-    also-read (read k) _ _ (left-refused (out (read k)) model.outputTooShort (is-short (from (read k)) (set (read k)) (length (out (read k))) (listed k .list) (listed k .reads) (all-bytes (read k)) (asked k ∙ holds (k .has-every-kind .result) (c .before .if1 .left)) (omega (arith, c .if2 .taken))))
+    also-read (read k) _ _ (left-refused (out (read k)) model.outputTooShort (is-short (from (read k)) (set (read k)) (length (out (read k))) (listed k .list) (listed k .reads) (all-bytes (read k)) (asked k ∙ not-false-holds (k .has-every-kind .result) (c .before .if1 .left)) (omega (arith, c .if2 .taken))))
 
 store-with-letter-requires : tie.Need-store-with-letter-requires
 store-with-letter-requires c κs = (long (c .before .before .before), omega (arith, c .before .if2 .left))
@@ -112,7 +112,7 @@ returns-4 c =
     let o = out (read k) in
     let other = k .before .other-edition .ensures in
     let room : length (set (read k)) ≤ length o = omega (arith, test .if2 .left) in
-    let done = is-converted (from (read k)) (set (read k)) (length o) (listed k .list) (listed k .reads) (all-bytes (read k)) (asked k ∙ holds (k .has-every-kind .result) (test .before .if1 .left)) room in
+    let done = is-converted (from (read k)) (set (read k)) (length o) (listed k .list) (listed k .reads) (all-bytes (read k)) (asked k ∙ not-false-holds (k .has-every-kind .result) (test .before .if1 .left)) room in
     let written = call .store-with-letter .ensures ∙ ap (λ (ed : Edition). overwrite o 0 (after (read k) ed)) other in
     also-read (read k) _ _ (left-converted o (after (read k) (otherEdition (from (read k)))) done (length (set (read k))) (letter-length (set (read k)) _ (long k)) room _ written)
 

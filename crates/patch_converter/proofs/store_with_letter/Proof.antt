@@ -8,7 +8,7 @@ use denote.Ref.{now}
 use lib.ListN.{length, take, drop, length-append, length-drop}
 use lib.Seq.{length-take-le}
 use Rattle.spec_lists.specs.Bytes.{littleEndian}
-use Rattle.spec_patch.specs.Edition.{digit}
+use Rattle.spec_patch.specs.Edition.{editionDigit}
 use Rattle.bytes_wire.specs.Write.{overwrite}
 use Rattle.bytes_wire.specs.WriteLaws.{overwrite-append}
 use Rattle.projection_patch.specs.Meaning.{editionOf}
@@ -67,7 +67,7 @@ returns c =
     let args = c .before .before .before .before .before .before .before .before .before .before .before .before .before .before .before .before .before .args in
     let set = now (args .set) in
     let out = now (args .out) in
-    let letter = digit (editionOf (args .to)) ∷ [] in
+    let letter = editionDigit (editionOf (args .to)) ∷ [] in
     let told = c .before .before .before .before .before .before .before .before .edition-digit in
     let byte : littleEndian 1 (told .result) ≡ letter = alone (told .result) (told .ok) ∙ ap (λ (d : ℕ). d ∷ []) (told .ensures) in
     let front : length (take 30 set) ≡ 30 = length-take-le 30 set (omega arith) in

@@ -3,7 +3,7 @@ use Prim.Native.Nat.{ℕ}
 use mathlib.Core.Path.{sym, ap, _∙_}
 use mathlib.Core.List.{List}
 use lib.ListN.{drop}
-use Rattle.spec_patch.specs.Edition.{digit, letters}
+use Rattle.spec_patch.specs.Edition.{editionDigit, letters}
 use Rattle.bytes_wire.specs.Prefix.{startsWith}
 use Rattle.projection_patch.specs.Meaning.{editionOf}
 use Rattle.projection_patch.specs.declared.patch.ProjectionPatchEdition.{ProjectionPatchEdition}
@@ -30,14 +30,14 @@ starts-with-requires-2 : tie.Need-starts-with-requires-2
 starts-with-requires-2 c κs = search needs
 
 returns : tie.Need-returns
-unfolding digit letters
+unfolding editionDigit letters
 returns c =
     let told = c .before .before in
     let set = told .before .before .before .args .set .now in
     c .starts-with .ensures ∙ sym (ap (λ (e : ProjectionPatchEdition). startsWith (letters (editionOf e)) (drop 4 set)) (told .enum-told .given .1))
 
 returns-2 : tie.Need-returns-2
-unfolding digit letters
+unfolding editionDigit letters
 returns-2 c =
     let told = c .before .before in
     let set = told .before .before .before .args .set .now in

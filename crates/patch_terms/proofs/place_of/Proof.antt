@@ -4,13 +4,13 @@ use mathlib.Core.Path.{_≡_, sym, _∙_}
 use native.Mathlib.Omega.{arith}
 use lib.ListN.{length, drop}
 use borrow.Author.Needs.{needs}
-use Rattle.patch_terms.specs.Places.{placeOf}
+use Rattle.patch_terms.specs.Places.{bytePlaceOf}
 use Rattle.patch_terms.specs.PlacesLaws.{place-turn, place-here, place-end}
 use Rattle.patch_terms.proofs.place_of.Statement.{statement}
 use Rattle.patch_terms.proofs.place_of.Tie as tie
 
 abbrev Inv-loop : tie.InvT-loop
-Inv-loop bytes byte i₀ i = i + placeOf byte (drop i bytes) ≡ placeOf byte bytes
+Inv-loop bytes byte i₀ i = i + bytePlaceOf byte (drop i bytes) ≡ bytePlaceOf byte bytes
 
 abbrev μ-loop : tie.MeasureT-loop
 μ-loop bytes byte i₀ i = length bytes - i

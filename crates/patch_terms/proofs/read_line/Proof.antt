@@ -10,7 +10,7 @@ use Rattle.spec_listing.specs.Escapes.{newline}
 use Rattle.spec_import.specs.Import.{readTerm}
 use Rattle.projection_patch.specs.TextLaws.{lent-from}
 use Rattle.patch_terms.specs.declared.TermRead.{TermRead}
-use Rattle.patch_terms.specs.Places.{placeOf, firstLine}
+use Rattle.patch_terms.specs.Places.{bytePlaceOf, firstTermLine}
 use Rattle.patch_terms.specs.PlacesLaws.{place-within}
 use Rattle.patch_terms.specs.Answers.{lineTo, termAnswer, lineAnswer}
 use Rattle.patch_terms.specs.AnswersLaws.{starts-within}
@@ -27,24 +27,24 @@ at k = start k .args .at
 abbrev bytes : tie.After-place-of → List ℕ
 bytes k = drop (at k) (start k .args .list .now)
 
-place : (k : tie.After-place-of) → k .place-of .result ≡ placeOf newline (bytes k)
-place k = k .place-of .ensures ∙ ap (placeOf newline) (lent-from (start k .args .list .now) (at k))
+place : (k : tie.After-place-of) → k .place-of .result ≡ bytePlaceOf newline (bytes k)
+place k = k .place-of .ensures ∙ ap (bytePlaceOf newline) (lent-from (start k .args .list .now) (at k))
 
 within : (k : tie.After-place-of) → at k + k .place-of .result ≤ length (start k .args .list .now)
 within k = omega (arith, place k, place-within newline (bytes k), length-drop (at k) (start k .args .list .now), start k .pre)
 
-ends : (k : tie.After-place-of) → at k + k .place-of .result ≡ at k + length (firstLine (bytes k))
-ends k = ap (λ (n : ℕ). at k + n) (place k ∙ sym (length-take-le (placeOf newline (bytes k)) (bytes k) (place-within newline (bytes k))))
+ends : (k : tie.After-place-of) → at k + k .place-of .result ≡ at k + length (firstTermLine (bytes k))
+ends k = ap (λ (n : ℕ). at k + n) (place k ∙ sym (length-take-le (bytePlaceOf newline (bytes k)) (bytes k) (place-within newline (bytes k))))
 
 -- ---- where the line has been read
 
 abbrev placed : tie.After-read-term → tie.After-place-of
 placed k = k .before .before
 
-told : (k : tie.After-read-term) (r : TermRead) → k .read-term .result ≡ r → termAnswer (firstLine (bytes (placed k))) ≡ r
+told : (k : tie.After-read-term) (r : TermRead) → k .read-term .result ≡ r → termAnswer (firstTermLine (bytes (placed k))) ≡ r
 told k r e =
     let p = placed k in
-    let size : at p + p .place-of .result - at p ≡ placeOf newline (bytes p) = omega (arith, place p) in
+    let size : at p + p .place-of .result - at p ≡ bytePlaceOf newline (bytes p) = omega (arith, place p) in
     sym (k .read-term .ensures ∙ ap (λ (n : ℕ). termAnswer (take n (bytes p))) size) ∙ e
 
 answers : (k : tie.After-read-term) (r : TermRead) → k .read-term .result ≡ r → lineTo (at (placed k)) (at (placed k) + placed k .place-of .result) r ≡ lineAnswer (at (placed k)) (bytes (placed k))
@@ -55,7 +55,7 @@ short : (c : tie.After-known-told) → let p = placed (c .before .before .before
 short c =
     let k = c .before .before .before in
     let p = placed k in
-    omega (arith, starts-within (length (firstLine (bytes p))) (readTerm (firstLine (bytes p))) _ (c .before .key .given .0 .1 .0) (told k _ (c .before .key .given .1)), ends p)
+    omega (arith, starts-within (length (firstTermLine (bytes p))) (readTerm (firstTermLine (bytes p))) _ (c .before .key .given .0 .1 .0) (told k _ (c .before .key .given .1)), ends p)
 
 sub-place-of : tie.Need-sub-place-of
 sub-place-of c = search needs

@@ -8,9 +8,9 @@ use lib.Seq.{length-take-le}
 use borrow.Author.Needs.{needs}
 use Rattle.spec_listing.specs.Escapes.{tab}
 use Rattle.spec_decimal.specs.Decimal.{readDecimal}
-use Rattle.bytes_decimal.specs.Read.{numberU64}
+use Rattle.bytes_decimal.specs.Read.{decimalU64}
 use Rattle.projection_patch.specs.TextLaws.{lent-from}
-use Rattle.patch_terms.specs.Places.{placeOf}
+use Rattle.patch_terms.specs.Places.{bytePlaceOf}
 use Rattle.patch_terms.specs.PlacesLaws.{place-within}
 use Rattle.patch_terms.specs.Answers.{judgedTerm}
 use Rattle.patch_terms.specs.AnswersLaws.{line-whole, line-more, line-unspelled, line-judged}
@@ -31,31 +31,31 @@ head c = c .before
 abbrev start : tie.Else1 → ℕ
 start c = head c .place-of .result + 1
 
-found : (c : tie.Else1) → placeOf tab (line (head c)) < length (line (head c))
+found : (c : tie.Else1) → bytePlaceOf tab (line (head c)) < length (line (head c))
 found c = omega (arith, within (head c), head c .place-of .ensures, c .if1 .left)
 
-started : (c : tie.Else1) → start c ≡ suc (placeOf tab (line (head c)))
+started : (c : tie.Else1) → start c ≡ suc (bytePlaceOf tab (line (head c)))
 started c = omega (arith, head c .place-of .ensures)
 
 inside : (c : tie.Else1) → start c ≤ length (line (head c))
 inside c = omega (arith, found c, started c)
 
 abbrev behind : tie.Else1 → List ℕ
-behind c = drop (suc (placeOf tab (line (head c)))) (line (head c))
+behind c = drop (suc (bytePlaceOf tab (line (head c)))) (line (head c))
 
 lent : (c : tie.Else1) → take (length (line (head c)) - start c) (drop (start c) (line (head c))) ≡ behind c
 lent c = lent-from (line (head c)) (start c) ∙ ap (λ (n : ℕ). drop n (line (head c))) (started c)
 
 -- ---- where it is the only one
 
-only : (c : tie.Else2) → let e = c .before .before .before in placeOf tab (behind e) ≡ length (behind e)
+only : (c : tie.Else2) → let e = c .before .before .before in bytePlaceOf tab (behind e) ≡ length (behind e)
 only c =
     let k = c .before in
     let e = k .before .before in
-    omega (arith, place-within tab (behind e), sym (k .place-of2 .ensures ∙ ap (placeOf tab) (lent e)), c .if2 .left, length-drop (suc (placeOf tab (line (head e)))) (line (head e)), started e)
+    omega (arith, place-within tab (behind e), sym (k .place-of2 .ensures ∙ ap (bytePlaceOf tab) (lent e)), c .if2 .left, length-drop (suc (bytePlaceOf tab (line (head e)))) (line (head e)), started e)
 
 -- what the bytes before it spell
-spelled : (k : tie.After-read-u64) → let l = line (head (k .before .before .before .before .before)) in readDecimal (take (placeOf tab l) l) ≡ numberU64 (k .read-u64 .result)
+spelled : (k : tie.After-read-u64) → let l = line (head (k .before .before .before .before .before)) in readDecimal (take (bytePlaceOf tab l) l) ≡ decimalU64 (k .read-u64 .result)
 spelled k =
     let h = head (k .before .before .before .before .before) in
     sym (k .read-u64 .ensures ∙ ap (λ (n : ℕ). readDecimal (take n (line h))) (h .place-of .ensures))
@@ -88,7 +88,7 @@ returns-2 : tie.Need-returns-2
 returns-2 c =
     let k = c .before in
     let e = k .before .before in
-    line-more (line (head e)) (found e) (omega (arith, sym (k .place-of2 .ensures ∙ ap (placeOf tab) (lent e)), c .if2 .taken, length-drop (suc (placeOf tab (line (head e)))) (line (head e)), started e))
+    line-more (line (head e)) (found e) (omega (arith, sym (k .place-of2 .ensures ∙ ap (bytePlaceOf tab) (lent e)), c .if2 .taken, length-drop (suc (bytePlaceOf tab (line (head e)))) (line (head e)), started e))
 
 slice-aggregate-read-u64 : tie.Need-slice-aggregate-read-u64
 slice-aggregate-read-u64 c = sym (length-take-le _ _ (within (head (c .before .before .before .before))))
@@ -121,14 +121,14 @@ returns-3 c =
     let one = read .before .before in
     let e = one .before .before .before in
     c .judge-term .ensures ∙ ap (judgedTerm _ (start e)) (lent e)
-    ∙ line-judged (line (head e)) (found e) (only one) _ (spelled read ∙ ap numberU64 (told .before .key .given .1)) (start e) (started e)
+    ∙ line-judged (line (head e)) (found e) (only one) _ (spelled read ∙ ap decimalU64 (told .before .key .given .1)) (start e) (started e)
 
 returns-4 : tie.Need-returns-4
 returns-4 c =
     let read = c .before .before in
     let one = read .before .before in
     let e = one .before .before .before in
-    line-unspelled (line (head e)) (found e) (only one) (spelled read ∙ ap numberU64 (c .enum-told .given .1))
+    line-unspelled (line (head e)) (found e) (only one) (spelled read ∙ ap decimalU64 (c .enum-told .given .1))
 
 pub read-term-spec : {M : Type 1} → statement M
 read-term-spec =

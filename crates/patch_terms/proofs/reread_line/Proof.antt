@@ -9,10 +9,10 @@ use lib.ListN.{length, take, drop, length-drop}
 use lib.Seq.{length-take-le, take-take}
 use Rattle.spec_decimal.specs.Decimal.{readDecimal}
 use Rattle.spec_listing.specs.Escapes.{tab, newline}
-use Rattle.bytes_decimal.specs.Read.{numberU64}
+use Rattle.bytes_decimal.specs.Read.{decimalU64}
 use Rattle.projection_patch.specs.TextLaws.{lent-from}
 use Rattle.patch_terms.specs.declared.LineRead.the-variants as line-read
-use Rattle.patch_terms.specs.Places.{placeOf, firstLine}
+use Rattle.patch_terms.specs.Places.{bytePlaceOf, firstTermLine}
 use Rattle.patch_terms.specs.PlacesLaws.{place-within}
 use Rattle.patch_terms.specs.Answers.{lineTo, termAnswer, HoldsTerm}
 use Rattle.patch_terms.specs.AnswersLaws.{known-tab, known-key}
@@ -30,16 +30,16 @@ abbrev bytes : tie.After-place-of → List ℕ
 bytes k = drop (at k) (start k .args .list .now)
 
 abbrev line : tie.After-place-of → List ℕ
-line k = firstLine (bytes k)
+line k = firstTermLine (bytes k)
 
-place : (k : tie.After-place-of) → k .place-of .result ≡ placeOf newline (bytes k)
-place k = k .place-of .ensures ∙ ap (placeOf newline) (lent-from (start k .args .list .now) (at k))
+place : (k : tie.After-place-of) → k .place-of .result ≡ bytePlaceOf newline (bytes k)
+place k = k .place-of .ensures ∙ ap (bytePlaceOf newline) (lent-from (start k .args .list .now) (at k))
 
 within : (k : tie.After-place-of) → at k + k .place-of .result ≤ length (start k .args .list .now)
 within k = omega (arith, place k, place-within newline (bytes k), length-drop (at k) (start k .args .list .now), start k .pre .0)
 
 long : (k : tie.After-place-of) → length (line k) ≡ k .place-of .result
-long k = length-take-le (placeOf newline (bytes k)) (bytes k) (place-within newline (bytes k)) ∙ sym (place k)
+long k = length-take-le (bytePlaceOf newline (bytes k)) (bytes k) (place-within newline (bytes k)) ∙ sym (place k)
 
 abbrev holds : (k : tie.After-place-of) → HoldsTerm (bytes k)
 holds k = start k .pre .1
@@ -49,11 +49,11 @@ holds k = start k .pre .1
 abbrev placed : tie.After-place-of2 → tie.After-place-of
 placed k = k .before .before
 
-tab-at : (k : tie.After-place-of2) → k .place-of2 .result ≡ placeOf tab (line (placed k))
+tab-at : (k : tie.After-place-of2) → k .place-of2 .result ≡ bytePlaceOf tab (line (placed k))
 tab-at k =
     let p = placed k in
-    let size : at p + p .place-of .result - at p ≡ placeOf newline (bytes p) = omega (arith, place p) in
-    k .place-of2 .ensures ∙ ap (λ (n : ℕ). placeOf tab (take n (bytes p))) size
+    let size : at p + p .place-of .result - at p ≡ bytePlaceOf newline (bytes p) = omega (arith, place p) in
+    k .place-of2 .ensures ∙ ap (λ (n : ℕ). bytePlaceOf tab (take n (bytes p))) size
 
 before-end : (k : tie.After-place-of2) → k .place-of2 .result < placed k .place-of .result
 before-end k =
@@ -65,12 +65,12 @@ before-end k =
 abbrev parted : tie.After-read-u64 → tie.After-place-of2
 parted k = k .before .before
 
-spelled : (k : tie.After-read-u64) → numberU64 (k .read-u64 .result) ≡ some (holds (placed (parted k)) .key)
+spelled : (k : tie.After-read-u64) → decimalU64 (k .read-u64 .result) ≡ some (holds (placed (parted k)) .key)
 spelled k =
     let t = parted k in
     let p = placed t in
-    let size : at p + t .place-of2 .result - at p ≡ placeOf tab (line p) = omega (arith, tab-at t) in
-    let same = sym (take-take (placeOf tab (line p)) (placeOf newline (bytes p)) (bytes p) (omega (arith, tab-at t, before-end t, place p))) in
+    let size : at p + t .place-of2 .result - at p ≡ bytePlaceOf tab (line p) = omega (arith, tab-at t) in
+    let same = sym (take-take (bytePlaceOf tab (line p)) (bytePlaceOf newline (bytes p)) (bytes p) (omega (arith, tab-at t, before-end t, place p))) in
     k .read-u64 .ensures ∙ ap (λ (n : ℕ). readDecimal (take n (bytes p))) size ∙ ap readDecimal same ∙ known-key (line p) (holds p .key) (holds p .start) (holds p .is) .0
 
 sub-place-of : tie.Need-sub-place-of
@@ -144,7 +144,7 @@ returns c =
     let p = placed t in
     let h = holds p in
     let read = c .before .key .given .0 .0 in
-    let told : some read ≡ some (h .key) = sym (ap numberU64 (c .before .key .given .1)) ∙ spelled k in
+    let told : some read ≡ some (h .key) = sym (ap decimalU64 (c .before .key .given .1)) ∙ spelled k in
     let key : read ≡ h .key = cc in
     let starts : at p + t .place-of2 .result + 1 ≡ at p + h .start = omega (arith, tab-at t, known-key (line p) (h .key) (h .start) (h .is) .1) in
     let ends : at p + p .place-of .result ≡ at p + length (line p) = ap (λ (n : ℕ). at p + n) (sym (long p)) in
@@ -154,7 +154,7 @@ returns c =
 returns-2 : tie.Need-returns-2
 returns-2 c =
     let k = c .before .before in
-    let told = sym (ap numberU64 (c .enum-told .given .1)) ∙ spelled k in
+    let told = sym (ap decimalU64 (c .enum-told .given .1)) ∙ spelled k in
     absurd (let z : _≡_ {A = ℕ} 0 1 = cc in omega arith)
 
 pub reread-line-spec : {M : Type 1} → statement M

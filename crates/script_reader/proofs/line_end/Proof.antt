@@ -4,13 +4,13 @@ use mathlib.Core.Path.{_≡_, refl}
 use native.Mathlib.Omega.{arith}
 use borrow.Author.Needs.{needs}
 use lib.ListN.{length, drop}
-use Rattle.script_reader.specs.Lines.{firstLine}
+use Rattle.script_reader.specs.Lines.{firstScriptLine}
 use Rattle.script_reader.specs.LineLaws.{at-newline, past-byte, at-end}
 use Rattle.script_reader.proofs.line_end.Statement.{statement}
 use Rattle.script_reader.proofs.line_end.Tie as tie
 
 abbrev Inv-loop : tie.InvT-loop
-Inv-loop bytes from i₀ i = (i + length (firstLine (drop i bytes)) ≡ from + length (firstLine (drop from bytes))) × (i ≤ from + (length bytes - from))
+Inv-loop bytes from i₀ i = (i + length (firstScriptLine (drop i bytes)) ≡ from + length (firstScriptLine (drop from bytes))) × (i ≤ from + (length bytes - from))
 
 abbrev μ-loop : tie.MeasureT-loop
 μ-loop bytes from i₀ i = length bytes - i

@@ -7,7 +7,7 @@ use Rattle.spec_explain.specs.Reason.{reasonWord}
 use Rattle.spec_listing.specs.Listing.{fields}
 use Rattle.spec_replay.specs.Reasons.{figureFields, reasonLine}
 use Rattle.bytes_printer.specs.PrintsLaws.{_⨾_, same-bytes}
-use Rattle.script_reasons.specs.Meaning.{reasonOf}
+use Rattle.script_reasons.specs.Meaning.{printedReasonOf}
 use Rattle.script_reasons.specs.Numbers.{number-is}
 use borrow.Author.Needs.{needs}
 use Rattle.script_reasons.proofs.print_given.Statement.{statement}
@@ -35,7 +35,7 @@ returns : tie.Need-returns
 unfolding fields reasonLine
 returns c =
     let r = c .before .before .before .before .before .before .before .before .before .before .before .before .before .before .before .before .before .before .args .reason in
-    same-bytes (ap (λ (n : ℕ). 87 ∷ fields (decimal n ∷ reasonWord (reasonOf r) ∷ figureFields (reasonOf r))) (c .before .before .before .before .before .before .before .before .before .before .before .number-of .ensures ∙ number-is r)) (c .before .before .before .before .before .before .before .before .before .before .before .before .before .before .before .print-byte .ensures ⨾ c .before .before .before .before .before .before .before .before .before .before .print-field-u64 .ensures ⨾ c .before .before .before .before .before .before .print-word .ensures ⨾ c .before .before .print-figures .ensures)
+    same-bytes (ap (λ (n : ℕ). 87 ∷ fields (decimal n ∷ reasonWord (printedReasonOf r) ∷ figureFields (printedReasonOf r))) (c .before .before .before .before .before .before .before .before .before .before .before .number-of .ensures ∙ number-is r)) (c .before .before .before .before .before .before .before .before .before .before .before .before .before .before .before .print-byte .ensures ⨾ c .before .before .before .before .before .before .before .before .before .before .print-field-u64 .ensures ⨾ c .before .before .before .before .before .before .print-word .ensures ⨾ c .before .before .print-figures .ensures)
 
 pub print-given-spec : {M : Type 1} → statement M
 print-given-spec =

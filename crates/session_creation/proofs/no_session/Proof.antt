@@ -1,8 +1,8 @@
 -- `no_session` meets its contract.
 use Rattle.spec_projection.specs.Projection.{empty}
 use Rattle.spec_projection.specs.ValidLaws.{empty-valid}
-use Rattle.active_projection_target_catalog.specs.Catalog.{padded, catalogWith}
-use Rattle.local_projection_state.specs.Stores.{stateOf}
+use Rattle.active_projection_target_catalog.specs.Catalog.{paddedPairs, catalogWith}
+use Rattle.local_projection_state.specs.Stores.{storedState}
 use Rattle.local_projection_state.specs.StoresLaws.{one-state, some-state}
 use Rattle.session_creation.specs.Creation.{noSession}
 use borrow.Author.Needs.{needs}
@@ -22,8 +22,8 @@ empty-requires : tie.Need-empty-requires
 empty-requires c κs = search needs
 
 returns : tie.Need-returns
-unfolding noSession padded catalogWith
-returns c = rw (c .before .from-snapshot .ensures, one-state empty (c .empty .result) (stateOf empty) (c .empty .ensures) (some-state empty empty-valid))
+unfolding noSession paddedPairs catalogWith
+returns c = rw (c .before .from-snapshot .ensures, one-state empty (c .empty .result) (storedState empty) (c .empty .ensures) (some-state empty empty-valid))
 
 pub no-session-spec : {M : Type 1} → statement M
 no-session-spec =

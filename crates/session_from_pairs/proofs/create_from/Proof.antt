@@ -49,7 +49,7 @@ use Rattle.active_projection_target_catalog.specs.declared.catalog.BindingPair.
 use Rattle.session_creation.specs.declared.ShellSessionCreation.{ShellSessionCreation}
 use Rattle.session_from_pairs.specs.CreatesFrom.{CreatesFrom}
 use Rattle.hand_proof_steps.proofs.Walk.{calls-plain, calls-lent}
-use Rattle.session_from_pairs.proofs.Parts.{Row, Front, Back, cut-row, join-row}
+use Rattle.session_from_pairs.proofs.Parts.{PairRow, Front, Back, cut-row, join-row}
 use Rattle.active_projection_target_catalog.proofs.catalog.BindingPair as Bp
 use Rattle.active_projection_target_catalog.proofs.catalog.BindingPair.Laws as Bp′
 use Rattle.session_lifecycle.proofs.state.ShellLifecycleLimits as Li
@@ -115,17 +115,17 @@ module _ {M : Type 1} (𝓤 : URA M) (H : Heap 𝓤) (A : Atoms 𝓤) (at-mem : 
 
   module _ (W : Given 𝓤 H A) (b : ℕ) (ps : List BindingPair) where
     -- a local that holds ps is its elements in memory, and back
-    apart : Is Ar ps (ar-vals ps) → ent 𝓤 (H .at fullShare ar-mir b 0 (only (ar-vals ps))) (sem 𝓤 H A (Row Bp.the-row lent fullShare ps b 0))
+    apart : Is Ar ps (ar-vals ps) → ent 𝓤 (H .at fullShare ar-mir b 0 (only (ar-vals ps))) (sem 𝓤 H A (PairRow Bp.the-row lent fullShare ps b 0))
     unfolding partOf
     apart is =
         qed W (‵ (fat fullShare ar-mir b 0 (only (ar-vals ps))) ∷ []) ∵ use1 W (‵ (cellAt fullShare (Ar .mir) (ar-vals ps) b 0)) (W .laws .at-raw fullShare ar-mir b 0 (only (ar-vals ps))) $
         owned ! Ar (Is Ar) (array-makes 𝓤 H A W Bp.the-row (LL.makes Bp.the-type Bp′.the-plain 𝓤 H A) lent) ps _ is $ move ! (1 ∷ 0 ∷ []) $ fjoin ! $
         fpack ! (List Val) (λ us. fsep (cellAt fullShare (Ar .mir) us b 0) (Ar .own ps us)) (ar-vals ps) $ by ! (array-apart 𝓤 H A W Bp.the-row fullShare tt lent ps b 0)
 
-    whole : ent 𝓤 (sem 𝓤 H A (Row Bp.the-row lent fullShare ps b 0)) (H .at fullShare ar-mir b 0 (only (ar-vals ps)))
+    whole : ent 𝓤 (sem 𝓤 H A (PairRow Bp.the-row lent fullShare ps b 0)) (H .at fullShare ar-mir b 0 (only (ar-vals ps)))
     unfolding partOf
     whole =
-        qed W (‵ (Row Bp.the-row lent fullShare ps b 0) ∷ []) ∵ use1 W (‵ (partAt Ar fullShare ps b 0)) (array-whole 𝓤 H A W Bp.the-row fullShare lent ps b 0) $ fpick ! (λ vs. fsplit ! $
+        qed W (‵ (PairRow Bp.the-row lent fullShare ps b 0) ∷ []) ∵ use1 W (‵ (partAt Ar fullShare ps b 0)) (array-whole 𝓤 H A W Bp.the-row fullShare lent ps b 0) $ fpick ! (λ vs. fsplit ! $
         spelt ! Ar (Is Ar) (shows 𝓤 H A Ar) ar-vals (array-tells Bp.the-row bp-vals (LL.tells Bp.the-type Bp′.the-laws) lent) fullShare ps vs b 0 $
         move ! (1 ∷ []) $ drop ! $ by ! (W .laws .raw-at fullShare ar-mir b 0 (only (ar-vals ps))))
 
@@ -244,7 +244,7 @@ module _ {M : Type 1} (𝓤 : URA M) (H : Heap 𝓤) (A : Atoms 𝓤) (W : Given
         lends : Sq W (Late (‵ (fat fullShare ar-mir l₇ 0 (only (ar-vals ps))) ∷ ‵ (fdies ar-mir l₇) ∷ Early (‵ (froom Cr′.mir l₀ 0) ∷ ‵ (fdies Cr′.mir l₀) ∷ ‵ (flft κ q) ∷ ‵ (flft κ″ q″) ∷ ‵ Own-s ∷ ‵ Own-t ∷ ‵ Own-s ∷ ‵ Own-t ∷ []))) (runs C Λ En mir.t-5 (atRet En Post))
         lends =
             -- the first part of the array is lent, for a new lifetime
-            move ! (6 ∷ []) $ use1 W (‵ (Row Bp.the-row lent fullShare ps l₇ 0)) (apart 𝓤 H A at-mem run W l₇ ps is-ps) $
+            move ! (6 ∷ []) $ use1 W (‵ (PairRow Bp.the-row lent fullShare ps l₇ 0)) (apart 𝓤 H A at-mem run W l₇ ps is-ps) $
             use1 W (‵ (Front 𝓤 H A W Bp.the-row fullShare lent g ps l₇ 0) ⊛ ‵ (Back 𝓤 H A W Bp.the-row fullShare lent g ps l₇ 0)) (cut-row 𝓤 H A W Bp.the-row fullShare lent g ps l₇ 0) $ split ! $
             lft-new ! tt (λ α. move ! (1 ∷ []) $ use1 W (later (some (λ (γ : GName). ‵ (Own l₇ α γ) ⊛ ‵ (flent (α ∷ []) (Front 𝓤 H A W Bp.the-row fullShare lent g ps l₇ 0))))) (lends-shr-slice 𝓤 H A W Bp.the-row (named 0) (α ∷ []) fullShare ys l₇ 0 room) $ await ! tt $ pick ! (λ γ. split ! $
             -- [the slice; the lender's part; α's token; the rest of the array; _10 at 4; …; _0 at 23; κ's token at 25; κ″'s; what s and t own, twice]
@@ -256,7 +256,7 @@ module _ {M : Type 1} (𝓤 : URA M) (H : Heap 𝓤) (A : Atoms 𝓤) (W : Given
             Cr.the-row cr-vals (LL.tells Cr.the-type Cr′.the-laws) (ensured 𝓤 H A creates.ended (creates.clauses 𝓤 H A at-mem run) (κ, (α ∷ [], (κ″, tt))) (n, (l, (s, (p l₇ α γ, (t, tt))))) tt) (CreatesFrom n l (s .now) ys (t .now)) (creates-of l₇ α γ) (λ v. id⊢ 𝓤 _) (λ r e is-r.
             -- the lifetime ends, and the array is had back
             split ! $ move ! (1 ∷ []) $ split ! $ lft-end ! tt $ move ! (0 ∷ 3 ∷ []) $ lent-back ! tt $ move ! (0 ∷ 3 ∷ []) $
-            use2 W (‵ (Row Bp.the-row lent fullShare ps l₇ 0)) (join-row 𝓤 H A W Bp.the-row fullShare lent g ps l₇ 0 long) $ use1 W (‵ (fat fullShare ar-mir l₇ 0 (only (ar-vals ps)))) (whole 𝓤 H A at-mem run W l₇ ps) $
+            use2 W (‵ (PairRow Bp.the-row lent fullShare ps l₇ 0)) (join-row 𝓤 H A W Bp.the-row fullShare lent g ps l₇ 0 long) $ use1 W (‵ (fat fullShare ar-mir l₇ 0 (only (ar-vals ps)))) (whole 𝓤 H A at-mem run W l₇ ps) $
             move ! (1 ∷ []) $ split ! $ move ! (1 ∷ []) $ drop ! $ move ! (1 ∷ 2 ∷ 0 ∷ []) $
             land ! {rest = mir.t-6} {sp = (Cr′.mir, l₀, 0)} (from ! {i = 0} (stop !)) (init ! 22 {τ = Cr′.mir} {b = l₀} {o = 0} refl (LL.lawful Cr.the-type Cr′.the-laws 𝓤 H A W .typed r _ is-r .0)) $
             leaves r e is-r)))

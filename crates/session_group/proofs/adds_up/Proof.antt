@@ -6,14 +6,14 @@ use borrow.Author.Needs.{needs}
 use lib.ListN.{length}
 use Rattle.spec_lists.specs.ListLaws.{unmapped}
 use Rattle.spec_group.specs.Group.{groupBatches}
-use Rattle.session_group.specs.Groups.{named}
+use Rattle.session_group.specs.Groups.{namedBatch}
 use Rattle.session_group.specs.GroupsLaws.{named-cons, named-none, CountedDown, counted-start, counted-next, counted-over, counted-end}
 use Rattle.session_group.proofs.adds_up.Statement.{statement}
 use Rattle.session_group.proofs.adds_up.Tie as tie
 
 abbrev Inv-loop : tie.InvT-loop
 Inv-loop count bytes batches left₀ place₀ left place =
-    (place ≤ count) × CountedDown (named count batches) bytes left place
+    (place ≤ count) × CountedDown (namedBatch count batches) bytes left place
 
 abbrev μ-loop : tie.MeasureT-loop
 μ-loop count bytes batches left₀ place₀ left place = count - place
@@ -22,7 +22,7 @@ within : (c : tie.Start Inv-loop μ-loop) → c .args .count ≤ length (c .args
 within c = let long : length (c .args .t1) ≡ groupBatches = search (needs, unmapped) in omega arith
 
 loop-holds : tie.Need-loop-holds Inv-loop μ-loop
-loop-holds c = (omega arith, counted-start (named (c .args .count) (c .args .t1)) (c .args .bytes))
+loop-holds c = (omega arith, counted-start (namedBatch (c .args .count) (c .args .t1)) (c .args .bytes))
 
 mul-batch : tie.Need-mul-batch Inv-loop μ-loop
 mul-batch c = search needs

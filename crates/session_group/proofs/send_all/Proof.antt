@@ -16,7 +16,7 @@ use Rattle.shell_player.specs.Holds.{Holds}
 use Rattle.shell_player.specs.Batches.{BatchCall}
 use Rattle.session_group.specs.declared.GroupBatch.{GroupBatch}
 use Rattle.session_group.specs.declared.ProjectionPatchGroup.{ProjectionPatchGroup}
-use Rattle.session_group.specs.Groups.{batchMeans, named, answerNumber, GroupBecame, AnswerFits}
+use Rattle.session_group.specs.Groups.{batchMeans, namedBatch, answerNumber, GroupBecame, AnswerFits}
 use Rattle.session_group.specs.GroupsLaws.{noBatch, named-cons, named-none}
 use Rattle.session_group.specs.SendingLaws.{Sending, sending-start, sending-fits, sending-next, sending-refused, sending-end}
 use Rattle.session_group.proofs.send_all.Statement.{statement}
@@ -24,7 +24,7 @@ use Rattle.session_group.proofs.send_all.Tie as tie
 
 abbrev Inv-loop : tie.InvT-loop
 Inv-loop session count sets batches next₀ at₀ place₀ next at place =
-    (place ≤ count) × Sending session next (named count batches) sets at place
+    (place ≤ count) × Sending session next (namedBatch count batches) sets at place
 
 abbrev μ-loop : tie.MeasureT-loop
 μ-loop session count sets batches next₀ at₀ place₀ next at place = count - place
@@ -36,7 +36,7 @@ within c = let long : length (c .args .t2) ≡ groupBatches = search (needs, unm
 abbrev batchIn : tie.In-loop Inv-loop μ-loop → GroupBatch
 batchIn k = getD (k .before .before .before .args .t2) (k .before .loop .place) noBatch
 
-parted : (k : tie.In-loop Inv-loop μ-loop) → let args = k .before .before .before .args in let place = k .before .loop .place in drop place (named (args .count) (args .t2)) ≡ batchMeans (batchIn k) ∷ drop (place + 1) (named (args .count) (args .t2))
+parted : (k : tie.In-loop Inv-loop μ-loop) → let args = k .before .before .before .args in let place = k .before .loop .place in drop place (namedBatch (args .count) (args .t2)) ≡ batchMeans (batchIn k) ∷ drop (place + 1) (namedBatch (args .count) (args .t2))
 parted k = named-cons (k .before .before .before .args .count) (k .before .before .before .args .t2) (within (k .before .before .before)) (k .before .loop .place) (k .loop-test .taken)
 
 fits : (k : tie.In-loop Inv-loop μ-loop) → k .before .loop .at + batchIn k .bytes ≤ length (now (k .before .before .before .args .sets))
@@ -62,7 +62,7 @@ Sent s count bs sets r =
     × (AnswerFits count s (r .session) (r .answer) × (answerNumber (r .answer) ≡ 0))
 
 loop-holds : tie.Need-loop-holds Inv-loop μ-loop
-loop-holds c = (omega arith, sending-start (c .before .args .session) (named (c .before .args .count) (c .before .args .t2)) (now (c .before .args .sets)) (c .before .pre .1))
+loop-holds c = (omega arith, sending-start (c .before .args .session) (namedBatch (c .before .args .count) (c .before .args .t2)) (now (c .before .args .sets)) (c .before .pre .1))
 
 mul-batch : tie.Need-mul-batch Inv-loop μ-loop
 mul-batch c = search needs
@@ -101,7 +101,7 @@ returns c =
     let start = turn .before .before .before in
     let loop = turn .before .loop in
     let refused = sym (c .before .before .is-rejected .ensures) ∙ c .before .if1 .taken in
-    subst (λ (r : ProjectionPatchGroup). Sent (start .args .session) (start .args .count) (named (start .args .count) (start .args .t2)) (now (start .args .sets)) r) (sym (c .refused-at .ensures)) (
+    subst (λ (r : ProjectionPatchGroup). Sent (start .args .session) (start .args .count) (namedBatch (start .args .count) (start .args .t2)) (now (start .args .sets)) r) (sym (c .refused-at .ensures)) (
       sending-refused (loop .inv .1) (batchIn turn) (parted turn) (k .apply-projection-patch-batch .result) (called k) (start .args .count) refused,
       ((turn .loop-test .taken, (refl, refl)), refl),
     )
@@ -127,7 +127,7 @@ returns-2 c =
     let loop = c .before .before .loop in
     let start = c .before .before .before .before in
     let none = named-none (start .args .count) (start .args .t2) (within start) (loop .place) (c .before .loop-test .left) in
-    subst (λ (r : ProjectionPatchGroup). Sent (start .args .session) (start .args .count) (named (start .args .count) (start .args .t2)) (now (start .args .sets)) r) (sym (c .all-taken .ensures)) (
+    subst (λ (r : ProjectionPatchGroup). Sent (start .args .session) (start .args .count) (namedBatch (start .args .count) (start .args .t2)) (now (start .args .sets)) r) (sym (c .all-taken .ensures)) (
       sending-end (loop .inv .1) (start .args .count) none,
       ((refl, refl), refl),
     )

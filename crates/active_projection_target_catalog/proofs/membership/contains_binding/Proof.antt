@@ -2,7 +2,7 @@ use Prim.Native.Nat.{_-_, _≤_}
 use mathlib.Core.Path.{_≡_, sym, _∙_}
 use lib.ListN.{length, drop, length-drop}
 use Rattle.active_projection_target_catalog.specs.Catalog.{pairSeen}
-use Rattle.active_projection_target_catalog.specs.CatalogLaws.{seen-here, seen-on, seen-end}
+use Rattle.active_projection_target_catalog.specs.CatalogLaws.{seen-here, seen-on, pair-seen-end}
 use borrow.Author.Needs.{needs}
 use Rattle.active_projection_target_catalog.proofs.membership.contains_binding.Statement.{
   statement,
@@ -56,7 +56,7 @@ loop-again c =
     (search needs, at-loop .loop .inv .1 ∙ seen-on _ _ _ (at-loop .loop .i) (search needs) (sym (c .before .same-pair .ensures) ∙ c .if1 .left))
 
 returns-2 : tie.Need-returns-2 Inv-loop μ-loop
-returns-2 c = sym (c .before .loop .inv .1 ∙ seen-end _ _ _ (simp length-drop (search needs)))
+returns-2 c = sym (c .before .loop .inv .1 ∙ pair-seen-end _ _ _ (simp length-drop (search needs)))
 
 pub contains-binding-spec : {M : Type 1} → statement M
 contains-binding-spec =

@@ -3,12 +3,12 @@ use mathlib.Core.Path.{_≡_}
 use Prim.Native.Nat.{_≤_, _-_}
 use lib.ListN.{length, length-set}
 use borrow.Author.Needs.{needs}
-use Rattle.bytes_records.proofs.Turns.{copied, copied-turn, copied-end}
+use Rattle.bytes_records.proofs.Turns.{copiedTurn, copied-turn, copied-end}
 use Rattle.bytes_records.proofs.moves.copy.Statement.{statement}
 use Rattle.bytes_records.proofs.moves.copy.Tie as tie
 
 abbrev Inv-loop : tie.InvT-loop
-Inv-loop source target₀ i₀ target i = (i ≤ length source) × (length target ≡ length target₀) × (target ≡ copied i source target₀)
+Inv-loop source target₀ i₀ target i = (i ≤ length source) × (length target ≡ length target₀) × (target ≡ copiedTurn i source target₀)
 
 abbrev μ-loop : tie.MeasureT-loop
 μ-loop source target₀ i₀ target i = length source - i

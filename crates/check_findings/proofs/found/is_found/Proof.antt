@@ -1,5 +1,5 @@
 -- `check_findings::found::is_found` meets its contract.
-use Rattle.check_findings.specs.EnvelopeChecks.{optionalOf}
+use Rattle.check_findings.specs.EnvelopeChecks.{surfaceIdOf}
 use Rattle.check_findings.specs.Found.{isFound}
 use borrow.Author.Needs.{needs}
 use Rattle.check_findings.proofs.found.is_found.Statement.{statement}
@@ -12,11 +12,11 @@ enum-told-2 : tie.Need-enum-told-2
 enum-told-2 c = search needs
 
 returns : tie.Need-returns
-unfolding isFound optionalOf
+unfolding isFound surfaceIdOf
 returns c = rw (c .enum-told .given .1)
 
 returns-2 : tie.Need-returns-2
-unfolding isFound optionalOf
+unfolding isFound surfaceIdOf
 returns-2 c = rw (c .enum-told2 .given .1)
 
 pub is-found-spec : {M : Type 1} → statement M

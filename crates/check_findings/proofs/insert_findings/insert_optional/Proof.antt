@@ -1,6 +1,6 @@
 -- `check_findings::insert_findings::insert_optional` meets its contract: nothing, or one finding.
 use mathlib.Core.Path.{_∙_}
-use Rattle.check_findings.specs.EnvelopeChecks.{optionalOf}
+use Rattle.check_findings.specs.EnvelopeChecks.{surfaceIdOf}
 use Rattle.check_findings.specs.InsertFindings.{insertedAll}
 use borrow.Author.Needs.{needs}
 use Rattle.check_findings.proofs.insert_findings.insert_optional.Statement.{statement}
@@ -16,14 +16,14 @@ insert-finding-requires : tie.Need-insert-finding-requires
 insert-finding-requires c κs = search needs
 
 returns : tie.Need-returns
-unfolding insertedAll optionalOf
+unfolding insertedAll surfaceIdOf
 returns c = (rw (c .enum-told .given .1), rw (c .enum-told .given .1))
 
 same-length : tie.Need-same-length
 same-length c = search needs
 
 returns-2 : tie.Need-returns-2
-unfolding insertedAll optionalOf
+unfolding insertedAll surfaceIdOf
 returns-2 c =
     let call = c .before .before in
     let known = call .before .before .before in

@@ -19,9 +19,9 @@ use Rattle.projection_patch.proofs.Answers.{Got}
 use Rattle.patch_sets.proofs.Runs.{few}
 use Rattle.check_quick.specs.Anchors.{anchored}
 use Rattle.check_quick.specs.Quick.{AtMost, leastPatch}
-use Rattle.check_quick.specs.QuickAnswers.{previousOf, checkedTo, inspectionAnswer}
+use Rattle.check_quick.specs.QuickAnswers.{previousOf, quickCheckedTo, inspectionAnswer}
 use Rattle.check_quick.specs.declared.quick_patches.PatchChecked.{PatchChecked}
-use Rattle.check_quick.proofs.QuickSets.{Passed, passed, patch-got, no-patch, least-taken, patchesLeft, none-passed, patch-refused, count-is, few-absent, at-most-still, turn, end-is}
+use Rattle.check_quick.proofs.QuickSets.{PassedPatches, passed-patches, patch-got, no-patch, least-taken, patchesLeft, none-passed, patch-refused, count-is, few-absent, at-most-still, turn, end-is}
 use mir.Val.{Fits}
 use mir.Syntax.{w64}
 use borrow.Author.Needs.{needs}
@@ -32,7 +32,7 @@ abbrev Inv-loop : tie.InvT-loop
 Inv-loop set edition from count nodes bindings collections ids₀ highest₀ previous₀ at₀ left₀ done₀ operations₀ absent₀ found₀ ids highest previous at left done operations absent found =
     (at ≤ length set) × ((done + left ≡ count) × ((operations + left * patchOperations ≤ count * patchOperations) × ((absent ≤ operations)
     × (((length ids ≡ length ids₀) × (done * leastPatch ≤ at)) × (AtMost highest (take done ids)
-    × (patchesLeft (editionOf edition) (anchored nodes bindings collections) set at left (passed done operations absent found) (take done ids) (previousOf previous) ≡ inspectionAnswer nodes bindings collections (ended (many count (readPatch (editionOf edition)) (drop from set)))))))))
+    × (patchesLeft (editionOf edition) (anchored nodes bindings collections) set at left (passed-patches done operations absent found) (take done ids) (previousOf previous) ≡ inspectionAnswer nodes bindings collections (ended (many count (readPatch (editionOf edition)) (drop from set)))))))))
 
 abbrev μ-loop : tie.MeasureT-loop
 μ-loop set edition from count nodes bindings collections ids₀ highest₀ previous₀ at₀ left₀ done₀ operations₀ absent₀ found₀ ids highest previous at left done operations absent found = left
@@ -49,8 +49,8 @@ edition c = editionOf (start c .args .edition)
 abbrev known : tie.At-loop Inv-loop μ-loop → MutationTarget → Bool
 known c = let a = start c .args in anchored (a .nodes .now) (a .bindings .now) (a .collections .now)
 
-abbrev before : tie.At-loop Inv-loop μ-loop → Passed
-before c = let l = c .loop in passed (l .done) (l .operations) (l .absent) (l .found)
+abbrev before : tie.At-loop Inv-loop μ-loop → PassedPatches
+before c = let l = c .loop in passed-patches (l .done) (l .operations) (l .absent) (l .found)
 
 -- what the loop has in hand where a patch has been read
 abbrev head : tie.After-known-told Inv-loop μ-loop → tie.At-loop Inv-loop μ-loop
@@ -65,7 +65,7 @@ patch c = c .before .patch .given .0 .0
 abbrev end : tie.After-known-told Inv-loop μ-loop → ℕ
 end c = c .before .patch .given .0 .1 .0
 
-one : (c : tie.After-known-told Inv-loop μ-loop) → let h = head c in Got (readPatch (edition h)) (anywhere (checkedTo (known h))) (set h) (h .loop .at) (patch c) (end c)
+one : (c : tie.After-known-told Inv-loop μ-loop) → let h = head c in Got (readPatch (edition h)) (anywhere (quickCheckedTo (known h))) (set h) (h .loop .at) (patch c) (end c)
 one c = let h = head c in patch-got (edition h) (known h) (set h) (h .loop .at) (c .before .before .before .check-patch .ensures) (all-bytes h) (c .before .patch .given .1)
 
 -- a patch has no more operations than it may, and no more absent targets than operations

@@ -9,7 +9,7 @@ use Rattle.spec_patch.specs.Edition.{Edition}
 use Rattle.spec_checks.specs.Target.{MutationTarget}
 use Rattle.projection_patch.specs.Meaning.{editionOf}
 use Rattle.patch_sets.proofs.ReadAt.{OperationAt, operation-at, no-operation-at}
-use Rattle.check_targets.specs.Targets.{targetOf, numbersOf, targetSeen}
+use Rattle.check_targets.specs.Targets.{checkTargetOf, numbersOf, targetSeen}
 use Rattle.check_quick.specs.Anchors.{anchored, absentAmong}
 use Rattle.check_quick.proofs.QuickRuns.{none-left, refusal, turn}
 use borrow.Author.Needs.{needs}
@@ -74,8 +74,8 @@ returns c =
     let at = start k .args .at in
     let target = c .before .before .mutation-target .result in
     let self = c .before .before-self in
-    none-left (edition k) (known k) (set k) (at + taken told) 0 (self .result) (numbersOf (targetOf target)) (one told .within) refl (c .one-if-absent .result) (omega (arith, c .one-if-absent .ensures))
-    ∙ turn (edition k) (known k) (set k) at 1 false [] (omega arith) _ (taken told) (one told .got) (targetOf target) (self .result) (numbersOf (targetOf target)) (c .before .before .mutation-target .ensures []) (self .ensures []) refl
+    none-left (edition k) (known k) (set k) (at + taken told) 0 (self .result) (numbersOf (checkTargetOf target)) (one told .within) refl (c .one-if-absent .result) (omega (arith, c .one-if-absent .ensures))
+    ∙ turn (edition k) (known k) (set k) at 1 false [] (omega arith) _ (taken told) (one told .got) (checkTargetOf target) (self .result) (numbersOf (checkTargetOf target)) (c .before .before .mutation-target .ensures []) (self .ensures []) refl
 
 returns-2 : tie.Need-returns-2
 returns-2 c =

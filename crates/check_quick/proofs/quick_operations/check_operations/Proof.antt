@@ -8,7 +8,7 @@ use lib.Seq.{length-take-le}
 use Rattle.spec_checks.specs.Target.{MutationTarget}
 use Rattle.projection_patch.specs.Meaning.{editionOf}
 use Rattle.check_quick.specs.Anchors.{anchored}
-use Rattle.check_quick.proofs.QuickRuns.{leftAnswer}
+use Rattle.check_quick.proofs.QuickRuns.{quickLeftAnswer}
 use borrow.Author.Needs.{needs}
 use Rattle.check_quick.proofs.quick_operations.check_operations.Statement.{statement}
 use Rattle.check_quick.proofs.quick_operations.check_operations.Tie as tie
@@ -22,7 +22,7 @@ check-one-requires c κs = search needs
 returns : tie.Need-returns
 returns c =
     let start = c .before .before .before .before .before .before in
-    c .check-one .ensures ∙ sym (ap (λ (n : ℕ). leftAnswer (editionOf (start .args .edition)) (known start) (start .args .set .now) (start .args .from) n false []) (c .before .if1 .taken))
+    c .check-one .ensures ∙ sym (ap (λ (n : ℕ). quickLeftAnswer (editionOf (start .args .edition)) (known start) (start .args .set .now) (start .args .from) n false []) (c .before .if1 .taken))
 
 mul-used : tie.Need-mul-used
 mul-used c = omega arith

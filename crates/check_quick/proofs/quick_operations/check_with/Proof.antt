@@ -10,12 +10,12 @@ use Rattle.spec_patch.specs.Edition.{Edition}
 use Rattle.spec_checks.specs.Target.{MutationTarget}
 use Rattle.projection_patch.specs.Meaning.{editionOf}
 use Rattle.patch_sets.proofs.ReadAt.{OperationAt, operation-at, no-operation-at}
-use Rattle.check_targets.specs.Targets.{targetOf, targetSeen}
+use Rattle.check_targets.specs.Targets.{checkTargetOf, targetSeen}
 use Rattle.check_targets.specs.TargetsLaws.{with-target-front, with-target-length}
 use Rattle.check_targets.specs.Marks.{Marked}
 use Rattle.check_targets.specs.MarksLaws.{marked-none}
 use Rattle.check_quick.specs.Anchors.{absentAmong}
-use Rattle.check_quick.proofs.QuickRuns.{leftAnswer, none-left, refusal, turn}
+use Rattle.check_quick.proofs.QuickRuns.{quickLeftAnswer, none-left, refusal, turn}
 use mir.Val.{Fits}
 use mir.Syntax.{w64}
 use borrow.Author.Needs.{needs}
@@ -25,7 +25,7 @@ use Rattle.check_quick.proofs.quick_operations.check_with.Tie as tie
 abbrev Inv-loop : tie.InvT-loop
 Inv-loop set edition from count targets₀ marks₀ at₀ left₀ used₀ found₀ targets marks at left used found =
     (at ≤ length set) × ((used + 3 * left ≡ 3 * count) × ((length targets ≡ length targets₀) × (Marked marks (take used targets)
-    × ((known : MutationTarget → Bool) → leftAnswer (editionOf edition) known set at left found (take used targets) ≡ leftAnswer (editionOf edition) known set from count false []))))
+    × ((known : MutationTarget → Bool) → quickLeftAnswer (editionOf edition) known set at left found (take used targets) ≡ quickLeftAnswer (editionOf edition) known set from count false []))))
 
 abbrev μ-loop : tie.MeasureT-loop
 μ-loop set edition from count targets₀ marks₀ at₀ left₀ used₀ found₀ targets marks at left used found = left
@@ -112,10 +112,10 @@ loop-again c =
     let found = call .operation-found .ensures in
     let more : l .used + 3 ≤ length (l .targets) = omega (arith, room (head r)) in
     let same = ap length (found .1 .0) ∙ with-target-length (l .used) _ (l .targets) more in
-    let front = ap (take (l .used + 3)) (found .1 .0) ∙ with-target-front (l .used) (targetOf (target .result)) (l .targets) more in
-    let told = found .0 ∙ ap (λ (b : Bool). l .found || (targetSeen (targetOf (target .result)) (take (l .used) (l .targets)) || b)) (self .ensures []) in (
+    let front = ap (take (l .used + 3)) (found .1 .0) ∙ with-target-front (l .used) (checkTargetOf (target .result)) (l .targets) more in
+    let told = found .0 ∙ ap (λ (b : Bool). l .found || (targetSeen (checkTargetOf (target .result)) (take (l .used) (l .targets)) || b)) (self .ensures []) in (
       one k .within,
-      (omega arith, (omega (arith, same), (rw front (found .1 .1), λ known. turn (edition r) known (set r) (l .at) (l .left) (l .found) (take (l .used) (l .targets)) (omega arith) _ (taken k) (one k .got) (targetOf (target .result)) _ _ (target .ensures []) told front ∙ l .inv .1 .1 .1 .1 known))),
+      (omega arith, (omega (arith, same), (rw front (found .1 .1), λ known. turn (edition r) known (set r) (l .at) (l .left) (l .found) (take (l .used) (l .targets)) (omega arith) _ (taken k) (one k .got) (checkTargetOf (target .result)) _ _ (target .ensures []) told front ∙ l .inv .1 .1 .1 .1 known))),
     )
 
 enum-known-fault : tie.Need-enum-known-fault Inv-loop μ-loop

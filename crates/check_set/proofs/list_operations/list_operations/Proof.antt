@@ -13,7 +13,7 @@ use Rattle.patch_walk.specs.Steps.{AtSteps}
 use Rattle.patch_walk.specs.CountLaws.{StepCounts, step-counts}
 use Rattle.patch_walk.specs.declared.SetStep.{SetStep}
 use Rattle.patch_walk.proofs.Matches.{operation-matches}
-use Rattle.check_targets.specs.Targets.{targetOf}
+use Rattle.check_targets.specs.Targets.{checkTargetOf}
 use Rattle.check_targets.specs.TargetsLaws.{with-target-front, with-target-length}
 use Rattle.check_targets.specs.Marks.{Marked}
 use Rattle.check_targets.specs.MarksLaws.{marked-none}
@@ -128,7 +128,7 @@ loop-again c =
     let room : l .used + 3 ≤ length (l .targets) = omega (arith, some-left r) in
     let seen = scan .seen-by-mark .ensures in
     let long = ap length (seen .1 .0) ∙ with-target-length (l .used) _ (l .targets) room in
-    let front = ap (take (l .used + 3)) (seen .1 .0) ∙ with-target-front (l .used) (targetOf (told .mutation-target .result)) (l .targets) room in
+    let front = ap (take (l .used + 3)) (seen .1 .0) ∙ with-target-front (l .used) (checkTargetOf (told .mutation-target .result)) (l .targets) room in
     let n = counts r _ q in (
       omega (arith, long, n .0),
       (

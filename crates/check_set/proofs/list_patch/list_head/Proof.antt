@@ -4,7 +4,7 @@ use Prim.Native.Nat.{ℕ}
 use mathlib.Core.List.{List, _++_}
 use lib.Dec.{eqb}
 use Rattle.spec_checks.specs.Finding.{Finding, kindNumber, report}
-use Rattle.check_findings.specs.EnvelopeChecks.{row}
+use Rattle.check_findings.specs.EnvelopeChecks.{envelopeRow}
 use Rattle.check_findings.specs.InsertFindings.{insertedAll}
 use Rattle.check_findings.specs.InsertFindingsLaws.{inserted-then}
 use Rattle.check_set.specs.Listed.{headFindings}
@@ -38,7 +38,7 @@ returns c =
     let both = inserted-then _ _ _ _ _ _ _ _ (first .insert-optional .ensures) (second .insert-envelope-findings .ensures) in
     let told = first .before .before .before in
     let a = told .before .before .before .before .before .args in
-    let one = told .report-if .ensures ∙ ap (λ (n : ℕ). report (eqb (a .head .«operation_count») 0) (row 6 n 0)) (told .before .before .raw .ensures) in
+    let one = told .report-if .ensures ∙ ap (λ (n : ℕ). report (eqb (a .head .«operation_count») 0) (envelopeRow 6 n 0)) (told .before .before .raw .ensures) in
     let lists = ap₂ _++_ one (first .before .before .envelope-findings .ensures) in
     (both .0 ∙ ap (λ (l : List Finding). insertedAll l 0 (a .records .now) .0) lists, both .1 ∙ ap (λ (l : List Finding). insertedAll l 0 (a .records .now) .1) lists)
 

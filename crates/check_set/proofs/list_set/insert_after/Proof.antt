@@ -6,7 +6,7 @@ use mathlib.Core.List.{List, _++_}
 use lib.ListN.{take, set}
 use Rattle.spec_checks.specs.Finding.{Finding, kindNumber, report}
 use Rattle.projection_patch.specs.Meaning.{envelopeOf}
-use Rattle.check_findings.specs.EnvelopeChecks.{row}
+use Rattle.check_findings.specs.EnvelopeChecks.{envelopeRow}
 use Rattle.check_findings.specs.Ids.{idSeen}
 use Rattle.check_findings.specs.InsertFindings.{insertedAll}
 use Rattle.check_findings.specs.InsertFindingsLaws.{inserted-then}
@@ -53,8 +53,8 @@ returns c =
     let e = envelopeOf (a .envelope) in
     let both = inserted-then _ _ _ _ _ _ _ _ (first .insert-optional .ensures) (second .insert-previous .ensures) in
     let seen = scan .id-before .ensures .0 ∙ ap (λ (n : ℕ). idSeen n (take (a .used) (a .ids .now))) (ids .raw .ensures) in
-    let rows = ap₂ (λ (n q : ℕ). report (idSeen (e .id) (take (a .used) (a .ids .now))) (row 4 n q)) (ids .raw .ensures) (sequences .raw2 .ensures) in
-    let list = ap (λ (l : List Finding). l ++ previousListed (previousOf (a .previous)) e) (told .report-if .ensures ∙ ap (λ (t : Bool). report t (row 4 (ids .raw .result) (sequences .raw2 .result))) seen ∙ rows) in (
+    let rows = ap₂ (λ (n q : ℕ). report (idSeen (e .id) (take (a .used) (a .ids .now))) (envelopeRow 4 n q)) (ids .raw .ensures) (sequences .raw2 .ensures) in
+    let list = ap (λ (l : List Finding). l ++ previousListed (previousOf (a .previous)) e) (told .report-if .ensures ∙ ap (λ (t : Bool). report t (envelopeRow 4 (ids .raw .result) (sequences .raw2 .result))) seen ∙ rows) in (
       both .0 ∙ ap (λ (l : List Finding). insertedAll l (a .kept) (a .records .now) .0) list,
       (both .1 ∙ ap (λ (l : List Finding). insertedAll l (a .kept) (a .records .now) .1) list, scan .id-before .ensures .1 ∙ ap (λ (n : ℕ). set (a .ids .now) (a .used) n) (ids .raw .ensures)),
     )

@@ -2,7 +2,7 @@
 use mathlib.Core.Path.{sym, ap}
 use borrow.Author.Needs.{needs}
 use Rattle.spec_projection.specs.Apply.{operationFaultNumber}
-use Rattle.panel_bindings.specs.Change.{faultOf}
+use Rattle.panel_bindings.specs.Change.{applicationFaultOf}
 use Rattle.panel_bindings.specs.declared.LocalProjectionApplicationError.{LocalProjectionApplicationError}
 use Rattle.panel_bindings.proofs.LocalProjectionApplicationError.number.Statement.{
   statement,
@@ -17,11 +17,11 @@ enum-told-2 c = search needs
 
 returns : tie.Need-returns
 unfolding operationFaultNumber
-returns c = sym (ap (λ (e : LocalProjectionApplicationError). operationFaultNumber (faultOf e)) (c .enum-told .given .1))
+returns c = sym (ap (λ (e : LocalProjectionApplicationError). operationFaultNumber (applicationFaultOf e)) (c .enum-told .given .1))
 
 returns-2 : tie.Need-returns-2
 unfolding operationFaultNumber
-returns-2 c = sym (ap (λ (e : LocalProjectionApplicationError). operationFaultNumber (faultOf e)) (c .enum-told2 .given .1))
+returns-2 c = sym (ap (λ (e : LocalProjectionApplicationError). operationFaultNumber (applicationFaultOf e)) (c .enum-told2 .given .1))
 
 pub number-spec : {M : Type 1} → statement M
 number-spec = tie.close (tie.spec enum-told enum-told-2 returns returns-2)

@@ -6,7 +6,7 @@ use Rattle.spec_lists.specs.ListLaws.{all-map}
 use Rattle.spec_projection.specs.Entries.{isEntry, isLater}
 use Rattle.spec_projection.specs.Valid.{FitsEntry}
 use Rattle.bytes_records.specs.PositionsLaws.{firstIndex-map}
-use Rattle.bytes_records.specs.Search.{isAbove, findFirst}
+use Rattle.bytes_records.specs.Search.{isAbove, findFirstRow}
 use Rattle.bytes_records.specs.declared.Found.the-variants.{At}
 use Rattle.projection_patch.specs.Meaning.{beforeOf}
 use Rattle.panel_plan.specs.PlanRows.{plannedEntryRow}
@@ -47,7 +47,7 @@ returns-2 c =
     let a = c .before .before .before .before .before .before .args in (
       (λ es fit grouped t.
           c .find-entry .ensures .0 plannedEntryRow planned-keyed es fit grouped t
-          ∙ ap (λ n. findFirst (isEntry (a .collection) n) es) (c .before .raw .ensures)
+          ∙ ap (λ n. findFirstRow (isEntry (a .collection) n) es) (c .before .raw .ensures)
           ∙ sym (ap (λ b. placeBefore (a .collection) (beforeOf b) es) (c .before .before .before .before2 .given .1))),
       within-position (a .count) _ (c .find-entry .ensures .1),
     )

@@ -10,7 +10,7 @@ use lib.ListN.{length, getD}
 use Rattle.spec_lists.specs.Lists.{All}
 use Rattle.spec_projection.specs.Projection.{Entry}
 use Rattle.spec_projection.specs.Valid.{FitsEntry}
-use Rattle.bytes_records.specs.Table.{Holds}
+use Rattle.bytes_records.specs.Table.{HoldsRows}
 use Rattle.panel_rows.specs.Rows.{entryWidth, entryRow, collectionIn}
 use Rattle.panel_rows.specs.RowsLaws.{entry-collection}
 use Rattle.panel_lookups.specs.NthLaws.{counts-test, fits-at, row-at-entry}
@@ -26,7 +26,7 @@ entry-collection-requires c κs = search needs
 
 -- the row's collection is that of its entry
 own : (c : tie.After-entry-collection) (es : List Entry) (d : Entry) → All FitsEntry es
-    → let a = c .before .before .before .args in Holds entryWidth (a .count) (now (a .table)) (map entryRow es) → a .at < a .count → c .entry-collection .result ≡ getD es (a .at) d .collection
+    → let a = c .before .before .before .args in HoldsRows entryWidth (a .count) (now (a .table)) (map entryRow es) → a .at < a .count → c .entry-collection .result ≡ getD es (a .at) d .collection
 own c es d fit t below =
     let a = c .before .before .before .args in
     let inside : a .at < length es = omega (arith, holds-length es t) in

@@ -9,7 +9,7 @@ use Rattle.spec_lists.specs.Lists.{All}
 use Rattle.spec_projection.specs.Projection.{Entry}
 use Rattle.spec_projection.specs.Lookups.{entriesIn, entriesOf, entryCount}
 use Rattle.spec_projection.specs.Valid.{FitsEntry}
-use Rattle.bytes_records.specs.Table.{Holds}
+use Rattle.bytes_records.specs.Table.{HoldsRows}
 use Rattle.panel_rows.specs.Rows.{entryWidth, entryRow}
 use Rattle.panel_lookups.specs.NthLaws.{counts-turn, counts-end}
 use Rattle.panel_lookups.proofs.Counted.{noEntry, holds-length, not-too-many}
@@ -18,7 +18,7 @@ use Rattle.panel_lookups.proofs.positions.entry_count.Tie as tie
 
 abbrev Inv-loop : tie.InvT-loop
 Inv-loop table count collection n₀ i₀ n i =
-    (n ≤ i) × ((i ≤ count) × ((es : List Entry) → All FitsEntry es → Holds entryWidth count table (map entryRow es) → n + length (entriesIn collection (drop i es)) ≡ length (entriesIn collection es)))
+    (n ≤ i) × ((i ≤ count) × ((es : List Entry) → All FitsEntry es → HoldsRows entryWidth count table (map entryRow es) → n + length (entriesIn collection (drop i es)) ≡ length (entriesIn collection es)))
 
 abbrev μ-loop : tie.MeasureT-loop
 μ-loop table count collection n₀ i₀ n i = count - i

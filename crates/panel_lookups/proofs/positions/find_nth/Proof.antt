@@ -9,7 +9,7 @@ use Rattle.spec_lists.specs.Lists.{All}
 use Rattle.spec_projection.specs.Projection.{Entry}
 use Rattle.spec_projection.specs.Lookups.{entriesIn}
 use Rattle.spec_projection.specs.Valid.{FitsEntry}
-use Rattle.bytes_records.specs.Table.{Holds}
+use Rattle.bytes_records.specs.Table.{HoldsRows}
 use Rattle.panel_rows.specs.Rows.{entryWidth, entryRow}
 use Rattle.panel_lookups.specs.NthLaws.{nth-turn, nth-found, nth-end, fits-at, row-at-entry}
 use Rattle.panel_lookups.proofs.Counted.{noEntry, holds-length, not-too-many}
@@ -18,7 +18,7 @@ use Rattle.panel_lookups.proofs.positions.find_nth.Tie as tie
 
 abbrev Inv-loop : tie.InvT-loop
 Inv-loop table count collection position left₀ i₀ left i =
-    (i ≤ count) × ((es : List Entry) → All FitsEntry es → Holds entryWidth count table (map entryRow es) → getElem? (entriesIn collection (drop i es)) left ≡ getElem? (entriesIn collection es) position)
+    (i ≤ count) × ((es : List Entry) → All FitsEntry es → HoldsRows entryWidth count table (map entryRow es) → getElem? (entriesIn collection (drop i es)) left ≡ getElem? (entriesIn collection es) position)
 
 abbrev μ-loop : tie.MeasureT-loop
 μ-loop table count collection position left₀ i₀ left i = count - i

@@ -8,7 +8,7 @@ use denote.Ref.{now}
 use lib.ListN.{length}
 use Rattle.panel_rows.specs.Rows.{filledRow}
 use Rattle.panel_page.specs.PageTable.{pageWidth}
-use Rattle.panel_page.specs.Index.{placeOf, OnChain}
+use Rattle.panel_page.specs.Index.{indexPlaceOf, OnChain}
 use Rattle.panel_page.specs.IndexLaws.{last-le, on-chain, chain-start, chain-next}
 use Rattle.panel_page.specs.Answering.{answering, mixed}
 use Rattle.panel_page.specs.AnsweringLaws.{mixed-start, mixed-end, chain-passed}
@@ -64,7 +64,7 @@ loop-less c =
     let at-loop = c .before .before .before .before .before .before .loop in
     let start = c .before .before .before .before .before .before .before .before .before .before .before .before .before .before .before in
     let a = start .args in
-    omega (arith, chain-next (start .pre .0) (a .key) (at-loop .next) (at-loop .inv .0) (omega arith), last-le (placeOf (a .key)) (a .keys .now) (at-loop .next - 1))
+    omega (arith, chain-next (start .pre .0) (a .key) (at-loop .next) (at-loop .inv .0) (omega arith), last-le (indexPlaceOf (a .key)) (a .keys .now) (at-loop .next - 1))
 
 loop-again : tie.Need-loop-again Inv-loop μ-loop
 loop-again c =

@@ -10,7 +10,7 @@ use Rattle.spec_projection.specs.Lookups.{keyedValue, entriesIn}
 use Rattle.spec_projection.specs.Valid.{FitsEntry}
 use Rattle.panel_rows.specs.Rows.{collectionIn, entryRow}
 use Rattle.panel_rows.specs.RowsLaws.{entry-collection}
-use Rattle.panel_page.specs.Answering.{answering, answerOf, answersIn}
+use Rattle.panel_page.specs.Answering.{answering, pageAnswerOf, answersIn}
 use Rattle.panel_page.specs.AnsweringLaws.{entries-own, entries-other, answers-own, answers-other}
 use borrow.Author.Needs.{needs}
 use Rattle.panel_page.specs.Shown.{Shows}
@@ -55,7 +55,7 @@ returns-2 c =
           let same = sym (own (test .before) e fits is) ∙ test .if1 .left in
           let more = answers-own (a .collection) l e same (absent same) in
           let long : length (entriesIn (a .collection) (l ++ e ∷ [])) ≡ a .position + 1 = ap length (entries-own (a .collection) l e same) ∙ length-append (entriesIn (a .collection) l) (keyedValue e ∷ []) ∙ omega arith in (
-            subst (Shows (length keys) _) (ap (λ (f : ℕ → List ℕ). map f keys) (ap (λ (n : ℕ). answering (e .key) (answerOf n e) (answersIn (a .collection) l)) at ∙ sym more))
+            subst (Shows (length keys) _) (ap (λ (f : ℕ → List ℕ). map f keys) (ap (λ (n : ℕ). answering (e .key) (pageAnswerOf n e) (answersIn (a .collection) l)) at ∙ sym more))
                 (at-entry .answer-entry .ensures e fits is (answersIn (a .collection) l) t),
             sym long,
           )),

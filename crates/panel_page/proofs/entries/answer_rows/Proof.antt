@@ -12,7 +12,7 @@ use Rattle.spec_lists.specs.Lists.{All}
 use Rattle.spec_projection.specs.Projection.{Entry}
 use Rattle.spec_projection.specs.Lookups.{entriesIn}
 use Rattle.spec_projection.specs.Valid.{FitsEntry, Grouped}
-use Rattle.bytes_records.specs.Table.{Holds}
+use Rattle.bytes_records.specs.Table.{HoldsRows}
 use Rattle.panel_rows.specs.Rows.{entryWidth, entryRow}
 use Rattle.panel_lookups.specs.NthLaws.{fits-at, row-at-entry}
 use Rattle.panel_lookups.proofs.Counted.{noEntry, holds-length}
@@ -24,7 +24,7 @@ use Rattle.panel_page.proofs.entries.answer_rows.Tie as tie
 
 abbrev Inv-loop : tie.InvT-loop
 Inv-loop table count collection keys heads earlier answers₀ width position₀ i₀ answers position i =
-    (i ≤ count) × ((position ≤ i) × ((length answers ≡ length answers₀) × ((es : List Entry) → All FitsEntry es → Grouped es → Holds entryWidth count table (map entryRow es)
+    (i ≤ count) × ((position ≤ i) × ((length answers ≡ length answers₀) × ((es : List Entry) → All FitsEntry es → Grouped es → HoldsRows entryWidth count table (map entryRow es)
     → Shows (length keys) answers₀ (map (answersIn collection []) keys)
     → Shows (length keys) answers (map (answersIn collection (take i es)) keys) × (position ≡ length (entriesIn collection (take i es))))))
 

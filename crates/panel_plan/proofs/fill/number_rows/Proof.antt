@@ -5,7 +5,7 @@ use mathlib.Core.List.{List, []}
 use native.Mathlib.Omega.{arith}
 use borrow.Author.Needs.{needs}
 use lib.ListN.{length}
-use Rattle.bytes_records.specs.Table.{Holds}
+use Rattle.bytes_records.specs.Table.{HoldsRows}
 use Rattle.bytes_records.specs.TableLaws.{row-width}
 use Rattle.panel_plan.specs.PlanRows.{sourceWidth}
 use Rattle.panel_plan.proofs.Numbered.{Numbering, numbering-start, numbering-more, numbering-end}
@@ -14,7 +14,7 @@ use Rattle.panel_plan.proofs.fill.number_rows.Tie as tie
 
 abbrev Inv-loop : tie.InvT-loop
 Inv-loop from width count front row₀ to₀ size i₀ row to i =
-    (i ≤ count) × (length row ≡ front + sourceWidth) × (length to ≡ length to₀) × ((rows : List (List ℕ)) → front ≤ width → Holds width count from rows → Holds (front + sourceWidth) 0 to₀ []
+    (i ≤ count) × (length row ≡ front + sourceWidth) × (length to ≡ length to₀) × ((rows : List (List ℕ)) → front ≤ width → HoldsRows width count from rows → HoldsRows (front + sourceWidth) 0 to₀ []
     → count * (front + sourceWidth) ≤ length to₀ → Numbering front i to rows)
 
 abbrev μ-loop : tie.MeasureT-loop

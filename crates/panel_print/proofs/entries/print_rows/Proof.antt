@@ -8,7 +8,7 @@ use lib.ListN.{length, take, getD}
 use Rattle.spec_lists.specs.Lists.{All}
 use Rattle.spec_projection.specs.Projection.{Entry}
 use Rattle.spec_projection.specs.Valid.{FitsEntry}
-use Rattle.bytes_records.specs.Table.{Holds}
+use Rattle.bytes_records.specs.Table.{HoldsRows}
 use Rattle.bytes_printer.specs.Prints.{Prints, Within}
 use Rattle.bytes_printer.specs.PrintsLaws.{lines-start, lines-turn, lines-end, ends-within}
 use Rattle.panel_rows.specs.Rows.{entryWidth, entryRow}
@@ -20,7 +20,7 @@ use Rattle.panel_print.proofs.entries.print_rows.Tie as tie
 
 abbrev Inv-loop : tie.InvT-loop
 Inv-loop out₀ table count collection width at₀ i₀ out at i =
-    (i ≤ count) × ((length out ≡ length out₀) × ((es : List Entry) → All FitsEntry es → Holds entryWidth count table (map entryRow es) → Within out₀ at₀ → Prints out₀ at₀ (flatMap (rowPrint collection) (take i es)) out at))
+    (i ≤ count) × ((length out ≡ length out₀) × ((es : List Entry) → All FitsEntry es → HoldsRows entryWidth count table (map entryRow es) → Within out₀ at₀ → Prints out₀ at₀ (flatMap (rowPrint collection) (take i es)) out at))
 
 abbrev μ-loop : tie.MeasureT-loop
 μ-loop out₀ table count collection width at₀ i₀ out at i = count - i

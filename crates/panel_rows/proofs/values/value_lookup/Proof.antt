@@ -6,7 +6,7 @@ use mir.Syntax.{w64}
 use mir.Facts.{toZ-ofZ}
 use Rattle.spec_patch.specs.Patch.{signed}
 use Rattle.projection_patch.specs.Meaning.{valueOf}
-use Rattle.patch_part_writer.specs.Extent.{valueText, Within}
+use Rattle.patch_part_writer.specs.Extent.{valueText, WithinTexts}
 use Rattle.panel_rows.specs.Lookup.{foundQuad, foundValue}
 use Rattle.panel_rows.proofs.StoredValues.{quad-number}
 use Rattle.panel_rows.proofs.values.value_lookup.Statement.{statement}
@@ -68,7 +68,7 @@ returns-4 c =
     let value = c .before .before in
     let a = value .before .before .before .args in
     λ w.
-    let there = subst (λ v. Within (now (a .row)) (valueText v)) (value .value4 .given .1) w in
+    let there = subst (λ v. WithinTexts (now (a .row)) (valueText v)) (value .value4 .given .1) w in
     c .text-value .ensures (there .inside) (there .short) ∙ sym (ap (λ v. foundValue (a .mark) (valueOf (now (a .row)) v)) (value .value4 .given .1))
 
 returns-5 : tie.Need-returns-5

@@ -12,7 +12,7 @@ use Rattle.spec_patch.specs.Write.{valuePasses}
 use Rattle.spec_conversion.specs.Conversion.{kindIn, allKinds}
 use Rattle.projection_patch.specs.Meaning.{editionOf}
 use Rattle.projection_patch.specs.ReadAnswers.{lentFrom}
-use Rattle.patch_part_writer.proofs.Flags.{fails, holds}
+use Rattle.patch_part_writer.proofs.Flags.{fails, not-false-holds}
 use Rattle.patch_walk.specs.Steps.{StepWithin, AtSteps}
 use Rattle.patch_walk.specs.StepsLaws.{Visited, visited, opened, done, never-refused}
 use Rattle.patch_walk.specs.declared.SetStep.{SetStep}
@@ -89,7 +89,7 @@ loop-less-2 c = let k = c .before in let on = within (step k) _ (k .before .befo
 loop-again-2 : tie.Need-loop-again-2 Inv-loop μ-loop
 loop-again-2 c =
     let k = c .before in
-    λ ps h. let l = head (step k) .loop .inv ps h in kinds-next l (seen k _ l) (asked k _ l ∙ holds (k .has-kind-of .result) (c .if1 .left))
+    λ ps h. let l = head (step k) .loop .inv ps h in kinds-next l (seen k _ l) (asked k _ l ∙ not-false-holds (k .has-kind-of .result) (c .if1 .left))
 
 enum-told : tie.Need-enum-told Inv-loop μ-loop
 enum-told c = search needs

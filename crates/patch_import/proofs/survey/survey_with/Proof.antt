@@ -12,7 +12,7 @@ use Rattle.spec_import.specs.Import.{lines, readTerms}
 use Rattle.projection_patch.specs.declared.patch.ProjectionPatchOperation.{ProjectionPatchOperation}
 use Rattle.projection_patch.specs.Meaning.{operationOf}
 use Rattle.patch_part_writer.specs.Parts.{sizeWithin}
-use Rattle.check_targets.specs.Targets.{targetOf, numbersOf, targetSeen}
+use Rattle.check_targets.specs.Targets.{checkTargetOf, numbersOf, targetSeen}
 use Rattle.check_targets.specs.TargetsLaws.{with-target-front, with-target-length}
 use Rattle.check_targets.specs.Marks.{Marked}
 use Rattle.check_targets.specs.MarksLaws.{marked-none}
@@ -153,8 +153,8 @@ loop-again c =
     let before = take (3 * l .count) (l .targets) in
     let three : 3 * (l .count + 1) ≡ 3 * l .count + 3 = omega arith in
     let after = call .repeats .last .1 .0 in
-    let same = ap length (found .1 .0) ∙ with-target-length (3 * l .count) (targetOf (target .result)) (l .targets) (room e .1) in
-    let front = ap (λ (n : ℕ). take n after) three ∙ ap (take (3 * l .count + 3)) (found .1 .0) ∙ with-target-front (3 * l .count) (targetOf (target .result)) (l .targets) (room e .1) in
+    let same = ap length (found .1 .0) ∙ with-target-length (3 * l .count) (checkTargetOf (target .result)) (l .targets) (room e .1) in
+    let front = ap (λ (n : ℕ). take n after) three ∙ ap (take (3 * l .count + 3)) (found .1 .0) ∙ with-target-front (3 * l .count) (checkTargetOf (target .result)) (l .targets) (room e .1) in
     let is = target .ensures (list r) ∙ ap (λ (o : ProjectionPatchOperation). mutationTarget (operationOf (list r) o)) (made c .insertion .ensures) ∙ target-is (collection r) (list r) (l .at) (key k) (from k) (len k) (next k) (one k) in
     let told = found .0 ∙ ap (λ (t : MutationTarget). l .repeated || targetSeen t before) is in
     let are = front ∙ ap (λ (t : MutationTarget). before ++ numbersOf t) is in (

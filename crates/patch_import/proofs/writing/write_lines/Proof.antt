@@ -11,7 +11,7 @@ use Rattle.spec_patch.specs.Encode.{encodeOperation}
 use Rattle.bytes_wire.specs.Write.{overwrite}
 use Rattle.projection_patch.specs.Meaning.{operationOf}
 use Rattle.projection_patch.specs.declared.patch.ProjectionPatchOperation.{ProjectionPatchOperation}
-use Rattle.patch_part_writer.specs.Extent.{operationSize, operationText, Within}
+use Rattle.patch_part_writer.specs.Extent.{operationSize, operationText, WithinTexts}
 use Rattle.patch_part_writer.specs.Parts.{sizeWithin}
 use Rattle.patch_writer.proofs.Progress.{Progress, Next, progress-start, progress-end, progress-fits, progress-next, next-sized}
 use Rattle.patch_terms.specs.LinesLaws.{termOf, TermAt, term-at}
@@ -112,7 +112,7 @@ store-operation-requires c κs =
     let r = read k in
     let l = head r .loop in
     let own : l .next + operationSize (insertionOf (collection r) (key k) (from k) (len k)) ≤ length (l .out) = omega (arith, fits k) in
-    subst (λ (o : ProjectionPatchOperation). (l .next + operationSize o ≤ length (l .out)) × Within (list r) (operationText o)) (sym (made .insertion .ensures))
+    subst (λ (o : ProjectionPatchOperation). (l .next + operationSize o ≤ length (l .out)) × WithinTexts (list r) (operationText o)) (sym (made .insertion .ensures))
     (own, record { inside = one k .inside; short = text-short (collection r) (list r) (l .at) (key k) (from k) (len k) (behind k) (one k) })
 
 operation-size-requires : tie.Need-operation-size-requires Inv-loop μ-loop

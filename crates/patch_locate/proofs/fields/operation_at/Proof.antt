@@ -8,7 +8,7 @@ use lib.ListN.{length, getD, drop}
 use Rattle.spec_patch.specs.Edition.{Edition}
 use Rattle.spec_patch.specs.Read.{readU32, readU64}
 use Rattle.spec_explain.specs.ReadingRule.{operationTag}
-use Rattle.spec_explain.specs.Locate.{stopAt, _⨟_, field, Row, _⇒_, byRow, locateOptional, locateAvailability, locateValue, locateOperation}
+use Rattle.spec_explain.specs.Locate.{stopAt, _⨟_, field, TagRow, _⇒_, byRow, locateOptional, locateAvailability, locateValue, locateOperation}
 use Rattle.projection_patch.specs.Meaning.{editionOf}
 use Rattle.patch_locate.specs.Answers.{locatedAnswer}
 use Rattle.patch_locate.specs.FieldsLaws.{letters-1, letters-2, letters-3, letters-4, letters-5, letters-6}
@@ -27,7 +27,7 @@ at c = c .before .before .before .args .at
 abbrev edition : tie.After-shared-slice-known2 → Edition
 edition c = editionOf (c .before .before .before .args .edition)
 
-abbrev rows : Edition → List Row
+abbrev rows : Edition → List TagRow
 rows ed =
     1 ⇒ field readU64 ⨟ field readU32 ⨟ locateValue ed
     ∷ 2 ⇒ field readU64 ⨟ locateAvailability

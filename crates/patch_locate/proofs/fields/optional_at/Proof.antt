@@ -7,7 +7,7 @@ use borrow.Author.Tests.{ne-eqb}
 use lib.ListN.{length, getD, drop}
 use Rattle.spec_patch.specs.Read.{readU64}
 use Rattle.spec_explain.specs.ReadingRule.{optionalTag}
-use Rattle.spec_explain.specs.Locate.{stopAt, field, Row, _⇒_, byRow, ends, locateOptional}
+use Rattle.spec_explain.specs.Locate.{stopAt, field, TagRow, _⇒_, byRow, ends, locateOptional}
 use Rattle.patch_locate.specs.Answers.{locatedAnswer}
 use Rattle.patch_locate.specs.Positions.{stop-here, past-here, tag-lacking, tag-there}
 use Rattle.patch_locate.specs.declared.rules.ReadingRule.the-variants as rules
@@ -21,7 +21,7 @@ part c = c .before .before .before .args .part .now
 abbrev at : tie.After-shared-slice-known2 → ℕ
 at c = c .before .before .before .args .at
 
-abbrev rows : List Row
+abbrev rows : List TagRow
 rows = 0 ⇒ ends ∷ 1 ⇒ field readU64 ∷ []
 
 -- what follows the tag t is the whole's

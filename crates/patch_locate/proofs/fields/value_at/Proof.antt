@@ -8,7 +8,7 @@ use lib.ListN.{length, getD, drop}
 use Rattle.spec_patch.specs.Edition.{Edition, v1, v2}
 use Rattle.spec_patch.specs.Read.{readU64}
 use Rattle.spec_explain.specs.ReadingRule.{valueKind}
-use Rattle.spec_explain.specs.Locate.{stopAt, field, Row, _⇒_, byRow, locateQuad, locateText, scoreRow, locateValue}
+use Rattle.spec_explain.specs.Locate.{stopAt, field, TagRow, _⇒_, byRow, locateQuad, locateText, scoreRow, locateValue}
 use Rattle.projection_patch.specs.Meaning.{editionOf}
 use Rattle.patch_locate.specs.Answers.{locatedAnswer}
 use Rattle.patch_locate.specs.FieldsLaws.{quad-is}
@@ -27,7 +27,7 @@ at c = c .before .before .before .args .at
 abbrev edition : tie.After-shared-slice-known2 → Edition
 edition c = editionOf (c .before .before .before .args .edition)
 
-abbrev rows : Edition → List Row
+abbrev rows : Edition → List TagRow
 rows ed = 1 ⇒ locateQuad ∷ 2 ⇒ field readU64 ∷ 3 ⇒ locateText ∷ 4 ⇒ field readU64 ∷ scoreRow ed
 
 -- what follows the kind t is the whole's

@@ -4,7 +4,7 @@ use mathlib.Core.Path.{_≡_, refl, sym, ap, _∙_}
 use mathlib.Core.List.{List, [], _∷_}
 use lib.ListN.{length}
 use Rattle.spec_lists.specs.Bytes.{littleEndian}
-use Rattle.spec_patch.specs.Edition.{v1, v2, digit, letters}
+use Rattle.spec_patch.specs.Edition.{v1, v2, editionDigit, letters}
 use Rattle.spec_patch.specs.Encode.{heading}
 use Rattle.spec_explain.specs.Locate.{locateLetters}
 use Rattle.projection_patch.specs.Meaning.{editionOf}
@@ -14,11 +14,11 @@ use Rattle.patch_locate.proofs.set.heading_at.Statement.{statement}
 use Rattle.patch_locate.proofs.set.heading_at.Tie as tie
 
 spelled-1 : 27 ∷ 0 ∷ 0 ∷ 0 ∷ 85 ∷ 73 ∷ 95 ∷ 68 ∷ 78 ∷ 65 ∷ 50 ∷ 95 ∷ 80 ∷ 82 ∷ 79 ∷ 74 ∷ 69 ∷ 67 ∷ 84 ∷ 73 ∷ 79 ∷ 78 ∷ 95 ∷ 80 ∷ 65 ∷ 84 ∷ 67 ∷ 72 ∷ 95 ∷ 86 ∷ 49 ∷ [] ≡ heading v1
-unfolding heading littleEndian letters digit
+unfolding heading littleEndian letters editionDigit
 spelled-1 = refl
 
 spelled-2 : 27 ∷ 0 ∷ 0 ∷ 0 ∷ 85 ∷ 73 ∷ 95 ∷ 68 ∷ 78 ∷ 65 ∷ 50 ∷ 95 ∷ 80 ∷ 82 ∷ 79 ∷ 74 ∷ 69 ∷ 67 ∷ 84 ∷ 73 ∷ 79 ∷ 78 ∷ 95 ∷ 80 ∷ 65 ∷ 84 ∷ 67 ∷ 72 ∷ 95 ∷ 86 ∷ 50 ∷ [] ≡ heading v2
-unfolding heading littleEndian letters digit
+unfolding heading littleEndian letters editionDigit
 spelled-2 = refl
 
 enum-told : tie.Need-enum-told

@@ -4,7 +4,7 @@ use native.Mathlib.Omega.{arith}
 use lib.ListN.{length}
 use Rattle.projection_patch.specs.Meaning.{editionOf}
 use Rattle.patch_locate.specs.Answers.{endTo}
-use Rattle.patch_locate.specs.SetPositions.{end-is, too-long}
+use Rattle.patch_locate.specs.SetPositions.{end-is, set-too-long}
 use borrow.Author.Needs.{needs}
 use Rattle.patch_locate.proofs.set.locate_set.Statement.{statement}
 use Rattle.patch_locate.proofs.set.locate_set.Tie as tie
@@ -12,7 +12,7 @@ use Rattle.patch_locate.proofs.set.locate_set.Tie as tie
 returns : tie.Need-returns
 returns c =
     let a = c .before .before .args in
-    too-long (editionOf (a .edition)) (a .set .now) (omega arith)
+    set-too-long (editionOf (a .edition)) (a .set .now) (omega arith)
 
 way-requires : tie.Need-way-requires
 way-requires c κs = search needs

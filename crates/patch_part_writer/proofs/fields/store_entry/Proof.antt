@@ -5,7 +5,7 @@ use mathlib.Core.Path.{ap}
 use native.Mathlib.Omega.{arith}
 use borrow.Author.Needs.{needs}
 use denote.Ref.{now}
-use Rattle.patch_part_writer.proofs.Stored.{first, next-number}
+use Rattle.patch_part_writer.proofs.Stored.{stored-first, next-number}
 use Rattle.spec_patch.specs.Encode.{u64}
 use Rattle.spec_lists.specs.BytesLaws.{length-littleEndian}
 use Rattle.patch_part_writer.proofs.fields.store_entry.Statement.{statement}
@@ -26,7 +26,7 @@ same-length c = search needs
 returns : tie.Need-returns
 returns c =
     let args = c .before .before .before .before .before .before .before .before .before .args in
-    next-number (first (now (args .out)) (args .at) 9 (args .tag ∷ u64 (args .collection)) (ap suc (length-littleEndian 8 (args .collection))) (c .before .before .before .before .before .before .store-tagged .ensures)) 8 (args .key) (omega arith) (c .before .before .write-u64-at .ensures .1) .is
+    next-number (stored-first (now (args .out)) (args .at) 9 (args .tag ∷ u64 (args .collection)) (ap suc (length-littleEndian 8 (args .collection))) (c .before .before .before .before .before .before .store-tagged .ensures)) 8 (args .key) (omega arith) (c .before .before .write-u64-at .ensures .1) .is
 
 pub store-entry-spec : {M : Type 1} → statement M
 store-entry-spec =

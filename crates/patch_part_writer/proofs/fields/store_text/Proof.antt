@@ -7,7 +7,7 @@ use borrow.Author.Needs.{needs}
 use denote.Ref.{now}
 use lib.ListN.{length, take, drop, length-drop}
 use lib.Seq.{length-take-le}
-use Rattle.patch_part_writer.proofs.Stored.{first, next, next-number, one-byte}
+use Rattle.patch_part_writer.proofs.Stored.{stored-first, next, next-number, one-byte}
 use Rattle.bytes_wire.specs.Write.{overwrite}
 use Rattle.patch_part_writer.proofs.fields.store_text.Statement.{statement}
 use Rattle.patch_part_writer.proofs.fields.store_text.Tie as tie
@@ -50,7 +50,7 @@ returns c =
     let args = c .before .before .before .before .before .before .before .before .before .before .before .before .before .before .before .args in
     let l = now (args .out) in
     let texts = now (args .texts) in
-    let tag = first l (args .at) 1 (3 ∷ []) refl (c .before .before .before .before .before .before .before .before .before .before .before .write-u8-at .ensures .1 ∙ ap (overwrite l (args .at)) (one-byte 3 (omega arith))) in
+    let tag = stored-first l (args .at) 1 (3 ∷ []) refl (c .before .before .before .before .before .before .before .before .before .before .before .write-u8-at .ensures .1 ∙ ap (overwrite l (args .at)) (one-byte 3 (omega arith))) in
     let counted = next-number tag 4 (args .len) (omega arith) (c .before .before .before .before .before .before .before .write-u32-at .ensures .1) in
     let part : args .start + args .len - args .start ≡ args .len = omega arith in
     let bytes = take (args .len) (drop (args .start) texts) in

@@ -13,7 +13,7 @@ use Rattle.bytes_wire.specs.Write.{overwrite}
 use Rattle.spec_patch.specs.Encode.{u32, u64, kindOf, valueBody, encodeText, encodeValue}
 use Rattle.projection_patch.specs.declared.patch.ProjectionPatchValue.{ProjectionPatchValue}
 use Rattle.projection_patch.specs.Meaning.{valueOf}
-use Rattle.patch_part_writer.specs.Extent.{valueSize, valueText, Within}
+use Rattle.patch_part_writer.specs.Extent.{valueSize, valueText, WithinTexts}
 use Rattle.patch_part_writer.specs.ExtentLaws.{length-text}
 use Rattle.patch_part_writer.proofs.fields.store_value.Statement.{statement}
 use Rattle.patch_part_writer.proofs.fields.store_value.Tie as tie
@@ -28,7 +28,7 @@ store-two-requires : tie.Need-store-two-requires
 store-two-requires c κs =
     let start = c .before .before .before .before .before .before .before in
     let args = start .args in
-    let known = subst (λ (w : ProjectionPatchValue). (args .at + valueSize w ≤ length (now (args .out))) × Within (now (args .texts)) (valueText w)) (c .before .before .before .value .given .1) (start .pre) in
+    let known = subst (λ (w : ProjectionPatchValue). (args .at + valueSize w ≤ length (now (args .out))) × WithinTexts (now (args .texts)) (valueText w)) (c .before .before .before .value .given .1) (start .pre) in
     known .0
 
 enum-known-value-2 : tie.Need-enum-known-value-2
@@ -38,7 +38,7 @@ store-signed-requires : tie.Need-store-signed-requires
 store-signed-requires c κs =
     let start = c .before .before .before .before .before .before in
     let args = start .args in
-    let known = subst (λ (w : ProjectionPatchValue). (args .at + valueSize w ≤ length (now (args .out))) × Within (now (args .texts)) (valueText w)) (c .before .before .value2 .given .1) (start .pre) in
+    let known = subst (λ (w : ProjectionPatchValue). (args .at + valueSize w ≤ length (now (args .out))) × WithinTexts (now (args .texts)) (valueText w)) (c .before .before .value2 .given .1) (start .pre) in
     known .0
 
 enum-known-value-3 : tie.Need-enum-known-value-3
@@ -48,7 +48,7 @@ store-tagged-requires : tie.Need-store-tagged-requires
 store-tagged-requires c κs =
     let start = c .before .before .before .before .before .before in
     let args = start .args in
-    let known = subst (λ (w : ProjectionPatchValue). (args .at + valueSize w ≤ length (now (args .out))) × Within (now (args .texts)) (valueText w)) (c .before .before .value3 .given .1) (start .pre) in
+    let known = subst (λ (w : ProjectionPatchValue). (args .at + valueSize w ≤ length (now (args .out))) × WithinTexts (now (args .texts)) (valueText w)) (c .before .before .value3 .given .1) (start .pre) in
     known .0
 
 enum-known-value-4 : tie.Need-enum-known-value-4
@@ -58,7 +58,7 @@ store-text-requires : tie.Need-store-text-requires
 store-text-requires c κs =
     let start = c .before .before .before .before .before .before in
     let args = start .args in
-    let known = subst (λ (w : ProjectionPatchValue). (args .at + valueSize w ≤ length (now (args .out))) × Within (now (args .texts)) (valueText w)) (c .before .before .value4 .given .1) (start .pre) in
+    let known = subst (λ (w : ProjectionPatchValue). (args .at + valueSize w ≤ length (now (args .out))) × WithinTexts (now (args .texts)) (valueText w)) (c .before .before .value4 .given .1) (start .pre) in
     (known .0, known .1 .inside, known .1 .short)
 
 enum-known-value-5 : tie.Need-enum-known-value-5
@@ -68,7 +68,7 @@ store-two-requires-2 : tie.Need-store-two-requires-2
 store-two-requires-2 c κs =
     let start = c .before .before .before .before .before .before in
     let args = start .args in
-    let known = subst (λ (w : ProjectionPatchValue). (args .at + valueSize w ≤ length (now (args .out))) × Within (now (args .texts)) (valueText w)) (c .before .before .value5 .given .1) (start .pre) in
+    let known = subst (λ (w : ProjectionPatchValue). (args .at + valueSize w ≤ length (now (args .out))) × WithinTexts (now (args .texts)) (valueText w)) (c .before .before .value5 .given .1) (start .pre) in
     known .0
 
 same-length : tie.Need-same-length
@@ -120,7 +120,7 @@ returns-4 c =
     let l = now (args .out) in
     let texts = now (args .texts) in
     let given = c .before .before .before .before .before .value4 .given in
-    let known = subst (λ (w : ProjectionPatchValue). Within texts (valueText w)) (given .1) (start .pre .1) in
+    let known = subst (λ (w : ProjectionPatchValue). WithinTexts texts (valueText w)) (given .1) (start .pre .1) in
     let bytes = take (given .0 .1 .0) (drop (given .0 .0) texts) in
     c .before .before .store-text .ensures
     ∙ ap (λ (n : ℕ). overwrite l (args .at) (3 ∷ u32 n ++ bytes)) (sym (length-text texts (given .0 .0) (given .0 .1 .0) (known .inside)))

@@ -1,7 +1,7 @@
 -- `head::edition_digit` meets its contract: each edition's digit.
 use mathlib.Core.Path.{sym, ap}
 use borrow.Author.Needs.{needs}
-use Rattle.spec_patch.specs.Edition.{digit}
+use Rattle.spec_patch.specs.Edition.{editionDigit}
 use Rattle.projection_patch.specs.Meaning.{editionOf}
 use Rattle.projection_patch.specs.declared.patch.ProjectionPatchEdition.{ProjectionPatchEdition}
 use Rattle.patch_part_writer.proofs.head.edition_digit.Statement.{statement}
@@ -14,12 +14,12 @@ enum-told-2 : tie.Need-enum-told-2
 enum-told-2 c = search needs
 
 returns : tie.Need-returns
-unfolding digit
-returns c = sym (ap (λ (e : ProjectionPatchEdition). digit (editionOf e)) (c .enum-told .given .1))
+unfolding editionDigit
+returns c = sym (ap (λ (e : ProjectionPatchEdition). editionDigit (editionOf e)) (c .enum-told .given .1))
 
 returns-2 : tie.Need-returns-2
-unfolding digit
-returns-2 c = sym (ap (λ (e : ProjectionPatchEdition). digit (editionOf e)) (c .enum-told2 .given .1))
+unfolding editionDigit
+returns-2 c = sym (ap (λ (e : ProjectionPatchEdition). editionDigit (editionOf e)) (c .enum-told2 .given .1))
 
 pub edition-digit-spec : {M : Type 1} → statement M
 edition-digit-spec = tie.close (tie.spec enum-told enum-told-2 returns returns-2)

@@ -9,7 +9,7 @@ use lib.ListN.{length, length-append}
 use Rattle.bytes_wire.specs.Write.{overwrite}
 use Rattle.spec_patch.specs.Encode.{u64}
 use Rattle.spec_lists.specs.BytesLaws.{length-littleEndian}
-use Rattle.patch_part_writer.proofs.Stored.{first, next-number}
+use Rattle.patch_part_writer.proofs.Stored.{stored-first, next-number}
 use Rattle.patch_part_writer.proofs.head.store_behind_surface.Statement.{statement}
 use Rattle.patch_part_writer.proofs.head.store_behind_surface.Tie as tie
 
@@ -59,7 +59,7 @@ returns c =
     let previous = args .envelope .«previous_projection_revision» .0 in
     let revision = args .envelope .«projection_revision» .0 in
     let epoch = args .envelope .epoch .0 in
-    let three = first l (args .at) 24 (u64 previous ++ (u64 revision ++ u64 epoch)) (long previous revision epoch) (c .before .before .before .before .before .before .before .before .before .before .before .store-three .ensures ∙ same l (args .at) (c .before .before .before .before .before .before .before .before .before .before .before .before .before .before .raw .ensures) (c .before .before .before .before .before .before .before .before .before .before .before .before .before .raw2 .ensures) (c .before .before .before .before .before .before .before .before .before .before .before .before .raw3 .ensures)) in
+    let three = stored-first l (args .at) 24 (u64 previous ++ (u64 revision ++ u64 epoch)) (long previous revision epoch) (c .before .before .before .before .before .before .before .before .before .before .before .store-three .ensures ∙ same l (args .at) (c .before .before .before .before .before .before .before .before .before .before .before .before .before .before .raw .ensures) (c .before .before .before .before .before .before .before .before .before .before .before .before .before .raw2 .ensures) (c .before .before .before .before .before .before .before .before .before .before .before .before .raw3 .ensures)) in
     let four = next-number three 8 (args .envelope .sequence .0) (omega arith) (c .before .before .before .before .before .before .write-u64-at .ensures .1 ∙ ap (λ (x : ℕ). overwrite (c .before .before .before .before .before .before .before .before .before .before .before .store-three .last .0) (args .at + 24) (u64 x)) (c .before .before .before .before .before .before .before .raw4 .ensures)) in
     next-number four 4 (args .operation-count) (omega arith) (c .before .before .write-u32-at .ensures .1) .is
 

@@ -12,7 +12,7 @@ use Rattle.spec_lists.specs.BytesLaws.{length-littleEndian}
 use Rattle.projection_patch.specs.Meaning.{surfaceOf}
 use Rattle.patch_part_writer.specs.Extent.{surfaceSize}
 use Rattle.patch_part_writer.specs.ExtentLaws.{length-surface}
-use Rattle.patch_part_writer.proofs.Stored.{first, next}
+use Rattle.patch_part_writer.proofs.Stored.{stored-first, next}
 use Rattle.patch_part_writer.proofs.head.store_head.Statement.{statement}
 use Rattle.patch_part_writer.proofs.head.store_head.Tie as tie
 
@@ -75,7 +75,7 @@ returns c =
     let stream = e .«stream_id» .0 in
     let document = e .«document_id» .0 in
     let surface = e .«surface_id» in
-    let three = first l (args .at) 24 (u64 id ++ (u64 stream ++ u64 document)) (long id stream document) (c .before .before .before .before .before .before .before .before .before .before .before .store-three .ensures ∙ same l (args .at) (c .before .before .before .before .before .before .before .before .before .before .before .before .before .before .raw .ensures) (c .before .before .before .before .before .before .before .before .before .before .before .before .before .raw2 .ensures) (c .before .before .before .before .before .before .before .before .before .before .before .before .raw3 .ensures)) in
+    let three = stored-first l (args .at) 24 (u64 id ++ (u64 stream ++ u64 document)) (long id stream document) (c .before .before .before .before .before .before .before .before .before .before .before .store-three .ensures ∙ same l (args .at) (c .before .before .before .before .before .before .before .before .before .before .before .before .before .before .raw .ensures) (c .before .before .before .before .before .before .before .before .before .before .before .before .before .raw2 .ensures) (c .before .before .before .before .before .before .before .before .before .before .before .before .raw3 .ensures)) in
     let placed = next three (surfaceSize surface) (encodeOptional (surfaceOf surface)) (length-surface surface) (omega arith) (c .before .before .before .before .before .before .before .store-surface .ensures) in
     let position : args .at + 24 + c .before .before .before .surface-size .result ≡ args .at + (24 + surfaceSize surface) = omega (arith, c .before .before .before .surface-size .ensures) in
     let rest = course (e .«previous_projection_revision» .0) (e .«projection_revision» .0) (e .epoch .0) (e .sequence .0) (args .patch .«operation_count») in

@@ -7,7 +7,7 @@ use borrow.Author.Needs.{needs}
 use denote.Ref.{now}
 use lib.ListN.{take}
 use Rattle.bytes_wire.specs.Write.{overwrite}
-use Rattle.spec_patch.specs.Edition.{digit, letters}
+use Rattle.spec_patch.specs.Edition.{editionDigit, letters}
 use Rattle.spec_patch.specs.Encode.{u32, heading}
 use Rattle.projection_patch.specs.Meaning.{editionOf}
 use Rattle.patch_part_writer.proofs.Stored.{first-number, next, next-number, one-byte}
@@ -56,9 +56,9 @@ returns c =
     let told = c .before .before .before .before .before .before .before .edition-digit in
     let length-then-letters = next (first-number (now (args .out)) (args .at) 4 27 (c .before .before .before .before .before .before .before .before .before .before .before .before .before .before .before .before .write-u32-at .ensures .1)) 26 front refl (omega arith) (c .before .before .before .before .before .before .before .before .before .before .before .write-bytes-at .ensures .1) in
     let last = one-byte (told .result) (told .ok) ∙ ap (λ (d : ℕ). d ∷ []) (told .ensures) in
-    let all = next length-then-letters 1 (digit ed ∷ []) refl (omega arith) (c .before .before .before .before .before .before .write-u8-at .ensures .1 ∙ ap (overwrite _ (args .at + 30)) last) in
+    let all = next length-then-letters 1 (editionDigit ed ∷ []) refl (omega arith) (c .before .before .before .before .before .before .write-u8-at .ensures .1 ∙ ap (overwrite _ (args .at + 30)) last) in
     next-number all 4 (args .patch-count) (omega arith) (c .before .before .write-u32-at2 .ensures .1) .is
-    ∙ ap (λ (l : List ℕ). overwrite (now (args .out)) (args .at) (l ++ u32 (args .patch-count))) (append-assoc (u32 27) front (digit ed ∷ []))
+    ∙ ap (λ (l : List ℕ). overwrite (now (args .out)) (args .at) (l ++ u32 (args .patch-count))) (append-assoc (u32 27) front (editionDigit ed ∷ []))
 
 pub store-heading-spec : {M : Type 1} → statement M
 store-heading-spec =

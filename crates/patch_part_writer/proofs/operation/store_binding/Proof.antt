@@ -11,7 +11,7 @@ use Rattle.spec_lists.specs.BytesLaws.{length-littleEndian}
 use Rattle.projection_patch.specs.Meaning.{valueOf}
 use Rattle.patch_part_writer.specs.Extent.{valueSize}
 use Rattle.patch_part_writer.specs.ExtentLaws.{length-value}
-use Rattle.patch_part_writer.proofs.Stored.{first, next, next-number}
+use Rattle.patch_part_writer.proofs.Stored.{stored-first, next, next-number}
 use Rattle.patch_part_writer.proofs.operation.store_binding.Statement.{statement}
 use Rattle.patch_part_writer.proofs.operation.store_binding.Tie as tie
 
@@ -43,7 +43,7 @@ returns c =
     let l = now (args .out) in
     let node = args .target .node .0 in
     let value = encodeValue (valueOf (now (args .texts)) (args .value)) in
-    let tagged = first l (args .at) 9 (1 ∷ u64 node) (ap suc (length-littleEndian 8 node)) (c .before .before .before .before .before .before .before .before .before .before .store-tagged .ensures ∙ ap (λ (x : ℕ). overwrite l (args .at) (1 ∷ u64 x)) (c .before .before .before .before .before .before .before .before .before .before .before .raw .ensures)) in
+    let tagged = stored-first l (args .at) 9 (1 ∷ u64 node) (ap suc (length-littleEndian 8 node)) (c .before .before .before .before .before .before .before .before .before .before .store-tagged .ensures ∙ ap (λ (x : ℕ). overwrite l (args .at) (1 ∷ u64 x)) (c .before .before .before .before .before .before .before .before .before .before .before .raw .ensures)) in
     let slot = next-number tagged 4 (args .target .slot .0) (omega arith) (c .before .before .before .before .before .before .write-u32-at .ensures .1) in
     next slot (valueSize (args .value)) value (length-value (now (args .texts)) (args .value) (start .pre .1 .inside)) (omega arith) (c .before .before .store-value .ensures) .is
     ∙ ap (λ (b : List ℕ). overwrite l (args .at) (1 ∷ b)) (append-assoc (u64 node) (u32 (args .target .slot .0)) value)

@@ -10,7 +10,7 @@ use Rattle.spec_patch.specs.Encode.{u64, encodeOptional}
 use Rattle.projection_patch.specs.Meaning.{beforeOf}
 use Rattle.patch_part_writer.specs.Extent.{beforeSize}
 use Rattle.patch_part_writer.specs.ExtentLaws.{length-before}
-use Rattle.patch_part_writer.proofs.Stored.{first, next, length-entry}
+use Rattle.patch_part_writer.proofs.Stored.{stored-first, next, length-entry}
 use Rattle.patch_part_writer.proofs.operation.store_move.Statement.{statement}
 use Rattle.patch_part_writer.proofs.operation.store_move.Tie as tie
 
@@ -31,7 +31,7 @@ returns c =
     let args = c .before .before .before .before .before .before .before .before .before .args in
     let l = now (args .out) in
     let neighbour = encodeOptional (beforeOf (args .before)) in
-    let entry = first l (args .at) 17 (6 ∷ u64 (args .collection) ++ u64 (args .key)) (length-entry 6 (args .collection) (args .key)) (c .before .before .before .before .before .before .store-entry .ensures) in
+    let entry = stored-first l (args .at) 17 (6 ∷ u64 (args .collection) ++ u64 (args .key)) (length-entry 6 (args .collection) (args .key)) (c .before .before .before .before .before .before .store-entry .ensures) in
     next entry (beforeSize (args .before)) neighbour (length-before (args .before)) (omega arith) (c .before .before .store-before .ensures) .is
     ∙ ap (λ (b : List ℕ). overwrite l (args .at) (6 ∷ b)) (append-assoc (u64 (args .collection)) (u64 (args .key)) neighbour)
 

@@ -9,7 +9,7 @@ use Rattle.bytes_wire.specs.Write.{overwrite}
 use Rattle.spec_patch.specs.Encode.{u64, encodeOptional, encodeValue, encodeOperation}
 use Rattle.projection_patch.specs.declared.patch.ProjectionPatchOperation.{ProjectionPatchOperation}
 use Rattle.projection_patch.specs.Meaning.{beforeOf, valueOf, operationOf}
-use Rattle.patch_part_writer.specs.Extent.{operationSize, operationText, Within}
+use Rattle.patch_part_writer.specs.Extent.{operationSize, operationText, WithinTexts}
 use Rattle.patch_part_writer.proofs.operation.store_operation.Statement.{statement}
 use Rattle.patch_part_writer.proofs.operation.store_operation.Tie as tie
 
@@ -20,7 +20,7 @@ store-binding-requires : tie.Need-store-binding-requires
 store-binding-requires c κs =
     let start = c .before .before .before .before .before .before in
     let args = start .args in
-    let known = subst (λ (w : ProjectionPatchOperation). (args .at + operationSize w ≤ length (now (args .out))) × Within (now (args .texts)) (operationText w)) (c .before .before .operation .given .1) (start .pre) in
+    let known = subst (λ (w : ProjectionPatchOperation). (args .at + operationSize w ≤ length (now (args .out))) × WithinTexts (now (args .texts)) (operationText w)) (c .before .before .operation .given .1) (start .pre) in
     known
 
 enum-known-operation-2 : tie.Need-enum-known-operation-2
@@ -33,7 +33,7 @@ store-availability-requires : tie.Need-store-availability-requires
 store-availability-requires c κs =
     let start = c .before .before .before .before .before .before .before in
     let args = start .args in
-    let known = subst (λ (w : ProjectionPatchOperation). (args .at + operationSize w ≤ length (now (args .out))) × Within (now (args .texts)) (operationText w)) (c .before .before .before .operation2 .given .1) (start .pre) in
+    let known = subst (λ (w : ProjectionPatchOperation). (args .at + operationSize w ≤ length (now (args .out))) × WithinTexts (now (args .texts)) (operationText w)) (c .before .before .before .operation2 .given .1) (start .pre) in
     known .0
 
 enum-known-operation-3 : tie.Need-enum-known-operation-3
@@ -49,7 +49,7 @@ store-insert-requires : tie.Need-store-insert-requires
 store-insert-requires c κs =
     let start = c .before .before .before .before .before .before .before .before in
     let args = start .args in
-    let known = subst (λ (w : ProjectionPatchOperation). (args .at + operationSize w ≤ length (now (args .out))) × Within (now (args .texts)) (operationText w)) (c .before .before .before .before .operation3 .given .1) (start .pre) in
+    let known = subst (λ (w : ProjectionPatchOperation). (args .at + operationSize w ≤ length (now (args .out))) × WithinTexts (now (args .texts)) (operationText w)) (c .before .before .before .before .operation3 .given .1) (start .pre) in
     known
 
 enum-known-operation-4 : tie.Need-enum-known-operation-4
@@ -65,7 +65,7 @@ store-update-requires : tie.Need-store-update-requires
 store-update-requires c κs =
     let start = c .before .before .before .before .before .before .before .before in
     let args = start .args in
-    let known = subst (λ (w : ProjectionPatchOperation). (args .at + operationSize w ≤ length (now (args .out))) × Within (now (args .texts)) (operationText w)) (c .before .before .before .before .operation4 .given .1) (start .pre) in
+    let known = subst (λ (w : ProjectionPatchOperation). (args .at + operationSize w ≤ length (now (args .out))) × WithinTexts (now (args .texts)) (operationText w)) (c .before .before .before .before .operation4 .given .1) (start .pre) in
     known
 
 enum-known-operation-5 : tie.Need-enum-known-operation-5
@@ -81,7 +81,7 @@ store-entry-requires : tie.Need-store-entry-requires
 store-entry-requires c κs =
     let start = c .before .before .before .before .before .before .before .before in
     let args = start .args in
-    let known = subst (λ (w : ProjectionPatchOperation). (args .at + operationSize w ≤ length (now (args .out))) × Within (now (args .texts)) (operationText w)) (c .before .before .before .before .operation5 .given .1) (start .pre) in
+    let known = subst (λ (w : ProjectionPatchOperation). (args .at + operationSize w ≤ length (now (args .out))) × WithinTexts (now (args .texts)) (operationText w)) (c .before .before .before .before .operation5 .given .1) (start .pre) in
     known .0
 
 enum-known-operation-6 : tie.Need-enum-known-operation-6
@@ -97,7 +97,7 @@ store-move-requires : tie.Need-store-move-requires
 store-move-requires c κs =
     let start = c .before .before .before .before .before .before .before .before in
     let args = start .args in
-    let known = subst (λ (w : ProjectionPatchOperation). (args .at + operationSize w ≤ length (now (args .out))) × Within (now (args .texts)) (operationText w)) (c .before .before .before .before .operation6 .given .1) (start .pre) in
+    let known = subst (λ (w : ProjectionPatchOperation). (args .at + operationSize w ≤ length (now (args .out))) × WithinTexts (now (args .texts)) (operationText w)) (c .before .before .before .before .operation6 .given .1) (start .pre) in
     known .0
 
 same-length : tie.Need-same-length

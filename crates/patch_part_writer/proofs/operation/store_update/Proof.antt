@@ -10,7 +10,7 @@ use Rattle.spec_patch.specs.Encode.{u64, encodeValue}
 use Rattle.projection_patch.specs.Meaning.{valueOf}
 use Rattle.patch_part_writer.specs.Extent.{valueSize}
 use Rattle.patch_part_writer.specs.ExtentLaws.{length-value}
-use Rattle.patch_part_writer.proofs.Stored.{first, next, length-entry}
+use Rattle.patch_part_writer.proofs.Stored.{stored-first, next, length-entry}
 use Rattle.patch_part_writer.proofs.operation.store_update.Statement.{statement}
 use Rattle.patch_part_writer.proofs.operation.store_update.Tie as tie
 
@@ -32,7 +32,7 @@ returns c =
     let args = start .args in
     let l = now (args .out) in
     let value = encodeValue (valueOf (now (args .texts)) (args .value)) in
-    let entry = first l (args .at) 17 (4 ∷ u64 (args .collection) ++ u64 (args .key)) (length-entry 4 (args .collection) (args .key)) (c .before .before .before .before .before .before .store-entry .ensures) in
+    let entry = stored-first l (args .at) 17 (4 ∷ u64 (args .collection) ++ u64 (args .key)) (length-entry 4 (args .collection) (args .key)) (c .before .before .before .before .before .before .store-entry .ensures) in
     next entry (valueSize (args .value)) value (length-value (now (args .texts)) (args .value) (start .pre .1 .inside)) (omega arith) (c .before .before .store-value .ensures) .is
     ∙ ap (λ (b : List ℕ). overwrite l (args .at) (4 ∷ b)) (append-assoc (u64 (args .collection)) (u64 (args .key)) value)
 

@@ -8,7 +8,7 @@ use denote.Ref.{now}
 use lib.ListN.{length, take, drop}
 use Rattle.projection_patch.specs.TextRule.{judgement}
 use Rattle.patch_writer.specs.Survey.{judgedText}
-use Rattle.patch_part_writer.proofs.Flags.{fails, holds}
+use Rattle.patch_part_writer.proofs.Flags.{fails, not-false-holds}
 use Rattle.patch_writer.proofs.judgement.judge_place.Statement.{statement}
 use Rattle.patch_writer.proofs.judgement.judge_place.Tie as tie
 
@@ -20,7 +20,7 @@ unfolding judgedText
 returns c = sym (rw (sym (c .before .has-room .ensures) ∙ fails (c .before .has-room .result) (c .if1 .taken)))
 
 add-judge-text : tie.Need-add-judge-text
-add-judge-text c = let args = c .before .before .before .args in omega (arith, leb-true (args .text .start + args .text .len) (length (now (args .texts))) (sym (c .before .has-room .ensures) ∙ holds (c .before .has-room .result) (c .if1 .left)))
+add-judge-text c = let args = c .before .before .before .args in omega (arith, leb-true (args .text .start + args .text .len) (length (now (args .texts))) (sym (c .before .has-room .ensures) ∙ not-false-holds (c .before .has-room .result) (c .if1 .left)))
 
 sub-judge-text : tie.Need-sub-judge-text
 sub-judge-text c = search needs
@@ -29,7 +29,7 @@ part-judge-text-start : tie.Need-part-judge-text-start
 part-judge-text-start c = search needs
 
 part-judge-text-end : tie.Need-part-judge-text-end
-part-judge-text-end c = let args = c .before .before .before .args in omega (arith, leb-true (args .text .start + args .text .len) (length (now (args .texts))) (sym (c .before .has-room .ensures) ∙ holds (c .before .has-room .result) (c .if1 .left)))
+part-judge-text-end c = let args = c .before .before .before .args in omega (arith, leb-true (args .text .start + args .text .len) (length (now (args .texts))) (sym (c .before .has-room .ensures) ∙ not-false-holds (c .before .has-room .result) (c .if1 .left)))
 
 judge-text-requires : tie.Need-judge-text-requires
 judge-text-requires c κs = search needs
@@ -43,7 +43,7 @@ returns-2 c =
     let bytes = drop (args .text .start) (now (args .texts)) in
     c .judge-text .ensures
     ∙ ap (λ (n : ℕ). judgement (take n bytes)) part
-    ∙ sym (rw (sym (room .has-room .ensures) ∙ holds (room .has-room .result) (c .before .before .if1 .left)))
+    ∙ sym (rw (sym (room .has-room .ensures) ∙ not-false-holds (room .has-room .result) (c .before .before .if1 .left)))
 
 pub judge-place-spec : {M : Type 1} → statement M
 judge-place-spec =

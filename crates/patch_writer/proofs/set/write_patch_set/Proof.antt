@@ -17,7 +17,7 @@ use Rattle.projection_patch.specs.Meaning.{editionOf}
 use Rattle.projection_patch.specs.declared.patch.ProjectionPatchSet.{ProjectionPatchSet}
 use Rattle.patch_part_writer.specs.declared.written.Written.{Written}
 use Rattle.patch_part_writer.specs.declared.written.Written.the-variants.{Wrote}
-use Rattle.patch_part_writer.specs.Answer.{answerAt, outputAt}
+use Rattle.patch_part_writer.specs.Answer.{writtenAt, outputAt}
 use Rattle.patch_part_writer.specs.ExtentLaws.{length-heading}
 use Rattle.patch_part_writer.specs.PartsLaws.{answers-refusal, answers-short, answers-wrote}
 use Rattle.patch_writer.specs.Set.{listOf, patchSetBytes}
@@ -32,8 +32,8 @@ arrays c = record { patches = search (needs, unmapped); operations = search (nee
 -- with what both clauses say of an answer and an output, what was written is read back
 also-read : (c : tie.Start) (r : Written) (o : List ℕ)
     → let out = now (c .args .out) in let w = patchSetBytes (editionOf (c .args .edition)) (now (c .args .texts)) (c .args .set) in
-    (r ≡ answerAt out 0 w) × (o ≡ outputAt out 0 w)
-    → (r ≡ answerAt out 0 w) × ((o ≡ outputAt out 0 w) × ((n : ℕ) → r ≡ Wrote n → readSet (editionOf (c .args .edition)) (take n o) ≡ patches (listOf (now (c .args .texts)) (c .args .set))))
+    (r ≡ writtenAt out 0 w) × (o ≡ outputAt out 0 w)
+    → (r ≡ writtenAt out 0 w) × ((o ≡ outputAt out 0 w) × ((n : ℕ) → r ≡ Wrote n → readSet (editionOf (c .args .edition)) (take n o) ≡ patches (listOf (now (c .args .texts)) (c .args .set))))
 also-read c r o h = (h .0, (h .1, written-read (editionOf (c .args .edition)) (now (c .args .texts)) (c .args .set) (record { machine = _; known = c .good .0 }) (now (c .args .out)) r o (h .0) (h .1)))
 
 -- ---- where the survey passes

@@ -16,7 +16,7 @@ use Rattle.patch_part_writer.specs.declared.extent.TextPlace.{TextPlace}
 use Rattle.patch_part_writer.specs.ExtentLaws.{operation-small}
 use Rattle.patch_part_writer.specs.PartsLaws.{size-kept}
 use Rattle.patch_writer.specs.Survey.{worse}
-use Rattle.patch_writer.proofs.Elements.{noPlace, left-cons, left-none}
+use Rattle.patch_writer.proofs.Elements.{no-text-place, left-cons, left-none}
 use Rattle.patch_writer.proofs.Surveyed.{OperationsSeen, operations-start, operations-next, operations-over, operations-end}
 use Rattle.patch_writer.proofs.survey.survey_operations.Statement.{statement}
 use Rattle.patch_writer.proofs.survey.survey_operations.Tie as tie
@@ -54,8 +54,8 @@ returns c =
     let loop = c .before .before .before .before .before .loop in
     let ps = args .t1 .operations in
     let many = long (c .before .before .before .before .before .before .before) in
-    let place = getD ps (loop .i) noPlace in
-    let parted = left-cons (args .operations) ps (loop .i) noPlace (c .before .before .before .before .loop-test .taken) (omega arith) in
+    let place = getD ps (loop .i) no-text-place in
+    let parted = left-cons (args .operations) ps (loop .i) no-text-place (c .before .before .before .before .loop-test .taken) (omega arith) in
     sym (operations-over (loop .inv .1) place parted (subst (λ (t : TextPlace). textBytes < t .len) (c .before .before .operation-text .ensures) (c .if1 .taken)))
 
 operation-size-requires : tie.Need-operation-size-requires Inv-loop μ-loop
@@ -64,7 +64,7 @@ operation-size-requires c κs = search needs
 add-bytes : tie.Need-add-bytes Inv-loop μ-loop
 add-bytes c =
     let loop = c .before .before .before .before .before .before .loop in
-    let place = getD (c .before .before .before .before .before .before .before .before .args .t1 .operations) (loop .i) noPlace in
+    let place = getD (c .before .before .before .before .before .before .before .before .args .t1 .operations) (loop .i) no-text-place in
     let short = subst (λ (t : TextPlace). t .len ≤ textBytes) (c .before .before .before .operation-text .ensures) (c .before .if1 .left) in
     omega (arith, loop .inv .1 .small, c .operation-size .ensures ∙ size-kept (place .operation) short, operation-small (place .operation) short)
 
@@ -86,8 +86,8 @@ loop-again c =
     let loop = c .before .before .before .before .before .before .before .before .loop in
     let ps = args .t1 .operations in
     let many = long (c .before .before .before .before .before .before .before .before .before .before) in
-    let place = getD ps (loop .i) noPlace in
-    let parted = left-cons (args .operations) ps (loop .i) noPlace (c .before .before .before .before .before .before .before .loop-test .taken) (omega arith) in
+    let place = getD ps (loop .i) no-text-place in
+    let parted = left-cons (args .operations) ps (loop .i) no-text-place (c .before .before .before .before .before .before .before .loop-test .taken) (omega arith) in
     let short = subst (λ (t : TextPlace). t .len ≤ textBytes) (c .before .before .before .before .before .operation-text .ensures) (c .before .before .before .if1 .left) in
     let next = operations-next (loop .inv .1) place parted short in
     let verdict = c .worse-of .ensures ∙ ap (worse (loop .judgement)) (c .before .judge-operation .ensures) in

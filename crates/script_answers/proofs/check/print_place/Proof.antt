@@ -3,7 +3,7 @@ use mathlib.Core.Path.{sym, ap, _∙_}
 use borrow.Author.Needs.{needs}
 use Rattle.spec_checks.specs.Findings.{Place}
 use Rattle.spec_replay.specs.Answers.{placeField}
-use Rattle.bytes_printer.specs.Prints.{field}
+use Rattle.bytes_printer.specs.Prints.{spacedField}
 use Rattle.bytes_printer.specs.PrintsLaws.{same-bytes}
 use Rattle.script_answers.proofs.Checks.{patch-place, set-place}
 use Rattle.script_answers.proofs.check.print_place.Statement.{statement}
@@ -39,7 +39,7 @@ returns-2 : tie.Need-returns-2
 unfolding placeField
 returns-2 c =
     let call = c .before .before in
-    λ p is. same-bytes (sym (ap (λ (x : Place). field (placeField x)) (set-place p (sym (call .before .before .before .enum-told .given .1) ∙ is)))) (call .print-field-bytes .ensures)
+    λ p is. same-bytes (sym (ap (λ (x : Place). spacedField (placeField x)) (set-place p (sym (call .before .before .before .enum-told .given .1) ∙ is)))) (call .print-field-bytes .ensures)
 
 pub print-place-spec : {M : Type 1} → statement M
 print-place-spec =

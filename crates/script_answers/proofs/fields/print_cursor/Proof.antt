@@ -4,7 +4,7 @@ use mathlib.Core.Path.{sym, ap}
 use mathlib.Core.List.{List}
 use borrow.Author.Needs.{needs}
 use Rattle.spec_replay.specs.Answers.{cursorField}
-use Rattle.bytes_printer.specs.Prints.{field}
+use Rattle.bytes_printer.specs.Prints.{spacedField}
 use Rattle.bytes_printer.specs.PrintsLaws.{same-bytes}
 use Rattle.session_lifecycle.specs.Meaning.{cursorOf}
 use Rattle.session_lifecycle.specs.declared.state.ProjectionReplayCursor.{ProjectionReplayCursor}
@@ -12,7 +12,7 @@ use Rattle.script_answers.proofs.fields.print_cursor.Statement.{stateme
 use Rattle.script_answers.proofs.fields.print_cursor.Tie as tie
 
 abbrev place : ProjectionReplayCursor → List ℕ
-place x = field (cursorField (cursorOf x))
+place x = spacedField (cursorField (cursorOf x))
 
 enum-told : tie.Need-enum-told
 enum-told c = search needs

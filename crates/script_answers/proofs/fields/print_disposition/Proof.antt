@@ -4,7 +4,7 @@ use mathlib.Core.Path.{sym, ap}
 use mathlib.Core.List.{List}
 use borrow.Author.Needs.{needs}
 use Rattle.spec_replay.specs.Answers.{dispositionField}
-use Rattle.bytes_printer.specs.Prints.{field}
+use Rattle.bytes_printer.specs.Prints.{spacedField}
 use Rattle.bytes_printer.specs.PrintsLaws.{same-bytes}
 use Rattle.session_lifecycle.specs.Meaning.{dispositionMeans}
 use Rattle.session_lifecycle.specs.declared.lifecycle.ShellTransitionDisposition.{ShellTransitionDisposition}
@@ -12,7 +12,7 @@ use Rattle.script_answers.proofs.fields.print_disposition.Statement.{st
 use Rattle.script_answers.proofs.fields.print_disposition.Tie as tie
 
 abbrev word : ShellTransitionDisposition → List ℕ
-word x = field (dispositionField (dispositionMeans x))
+word x = spacedField (dispositionField (dispositionMeans x))
 
 enum-told : tie.Need-enum-told
 enum-told c = search needs

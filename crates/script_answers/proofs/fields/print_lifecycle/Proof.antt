@@ -4,7 +4,7 @@ use mathlib.Core.Path.{sym, ap}
 use mathlib.Core.List.{List}
 use borrow.Author.Needs.{needs}
 use Rattle.spec_replay.specs.Answers.{lifecycleField}
-use Rattle.bytes_printer.specs.Prints.{field}
+use Rattle.bytes_printer.specs.Prints.{spacedField}
 use Rattle.bytes_printer.specs.PrintsLaws.{same-bytes}
 use Rattle.session_lifecycle.specs.Meaning.{lifecycleOf}
 use Rattle.session_lifecycle.specs.declared.state.ShellLifecycle.{ShellLifecycle}
@@ -12,7 +12,7 @@ use Rattle.script_answers.proofs.fields.print_lifecycle.Statement.{stat
 use Rattle.script_answers.proofs.fields.print_lifecycle.Tie as tie
 
 abbrev word : ShellLifecycle → List ℕ
-word x = field (lifecycleField (lifecycleOf x))
+word x = spacedField (lifecycleField (lifecycleOf x))
 
 enum-told : tie.Need-enum-told
 enum-told c = search needs

@@ -6,7 +6,7 @@ use borrow.Author.Needs.{needs}
 use Rattle.spec_decimal.specs.Decimal.{decimal}
 use Rattle.spec_listing.specs.Listing.{fields}
 use Rattle.bytes_printer.specs.PrintsLaws.{same-bytes}
-use Rattle.script_answers.proofs.Creations.{made-line, refused-line}
+use Rattle.script_answers.proofs.Creations.{made-line, creation-refused}
 use Rattle.script_answers.proofs.session.print_creation.Statement.{statement}
 use Rattle.script_answers.proofs.session.print_creation.Tie as tie
 
@@ -40,7 +40,7 @@ returns-2 : tie.Need-returns-2
 returns-2 c =
     let call = c .before .before in
     let number = ap (λ (n : ℕ). 83 ∷ fields (decimal n ∷ [])) (call .before .number .ensures) in
-    λ made is. same-bytes (number ∙ refused-line made _ (sym (call .before .before .before .before .answer .given .1) ∙ is)) (call .print-number-line2 .ensures)
+    λ made is. same-bytes (number ∙ creation-refused made _ (sym (call .before .before .before .before .answer .given .1) ∙ is)) (call .print-number-line2 .ensures)
 
 pub print-creation-spec : {M : Type 1} → statement M
 print-creation-spec =

@@ -5,7 +5,7 @@ use native.Mathlib.Omega.{arith}
 use borrow.Author.Needs.{needs}
 use lib.ListN.{drop, length-drop}
 use Rattle.spec_decimal.specs.Decimal.{readDecimal}
-use Rattle.bytes_decimal.specs.Read.{numberU64}
+use Rattle.bytes_decimal.specs.Read.{decimalU64}
 use Rattle.script_parser.specs.FieldsLaws.{length-firstField, missing, read-here, not-read}
 use Rattle.script_parser.proofs.fields.number_after.Statement.{statement}
 use Rattle.script_parser.proofs.fields.number_after.Tie as tie
@@ -42,14 +42,14 @@ returns c next =
     let called = c .before .before .before in
     let found = called .before .before in
     let args = found .before .before .before .args in
-    read-here (args .separator) readDecimal (args .line .now) (args .end) next (found .field-end .result) _ (found .field-end .ensures) (found .before .if1 .taken) (sym (called .read-u64 .ensures) ∙ ap numberU64 (c .before .n .given .1))
+    read-here (args .separator) readDecimal (args .line .now) (args .end) next (found .field-end .result) _ (found .field-end .ensures) (found .before .if1 .taken) (sym (called .read-u64 .ensures) ∙ ap decimalU64 (c .before .n .given .1))
 
 returns-2 : tie.Need-returns-2
 returns-2 c next =
     let called = c .before .before in
     let found = called .before .before in
     let args = found .before .before .before .args in
-    not-read (args .separator) readDecimal (args .line .now) (args .end) next (found .field-end .result) (found .field-end .ensures) (found .before .if1 .taken) (sym (called .read-u64 .ensures) ∙ ap numberU64 (c .enum-told .given .1))
+    not-read (args .separator) readDecimal (args .line .now) (args .end) next (found .field-end .result) (found .field-end .ensures) (found .before .if1 .taken) (sym (called .read-u64 .ensures) ∙ ap decimalU64 (c .enum-told .given .1))
 
 returns-3 : tie.Need-returns-3
 returns-3 c next =

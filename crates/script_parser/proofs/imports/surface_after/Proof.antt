@@ -5,8 +5,8 @@ use mathlib.Core.Option.{none, some}
 use native.Mathlib.Omega.{arith}
 use lib.ListN.{drop, length-drop}
 use Rattle.spec_replay.specs.Lines.{space}
-use Rattle.spec_replay.specs.Script.{readOptional}
-use Rattle.bytes_decimal.specs.Read.{numberU64}
+use Rattle.spec_replay.specs.Script.{optionalNumber}
+use Rattle.bytes_decimal.specs.Read.{decimalU64}
 use Rattle.script_parser.specs.Fields.{fieldsAfter}
 use Rattle.script_parser.specs.FieldsLaws.{length-firstField, missing, read-here, not-read}
 use Rattle.script_parser.specs.ImportsLaws.{no-surface, a-surface, other-surface}
@@ -17,7 +17,7 @@ use Rattle.script_parser.proofs.imports.surface_after.Tie as tie
 returns : tie.Need-returns
 returns c next =
     let args = c .before .before .args in
-    missing space readOptional (args .line .now) (args .end) next (c .if1 .taken)
+    missing space optionalNumber (args .line .now) (args .end) next (c .if1 .taken)
 
 add-from : tie.Need-add-from
 add-from c = search needs
@@ -47,7 +47,7 @@ returns-2 c next =
     let word = c .before in
     let found = word .before .before .before in
     let args = found .before .before .before .args in
-    read-here space readOptional (args .line .now) (args .end) next (found .field-end .result) none (found .field-end .ensures) (found .before .if1 .left) (no-surface _ (sym (word .is-word .ensures) ∙ c .if2 .taken))
+    read-here space optionalNumber (args .line .now) (args .end) next (found .field-end .result) none (found .field-end .ensures) (found .before .if1 .left) (no-surface _ (sym (word .is-word .ensures) ∙ c .if2 .taken))
 
 sub-read-u64 : tie.Need-sub-read-u64
 sub-read-u64 c = search needs
@@ -81,8 +81,8 @@ returns-3 c next =
     let word = test .before in
     let found = word .before .before .before in
     let args = found .before .before .before .args in
-    read-here space readOptional (args .line .now) (args .end) next (found .field-end .result) _ (found .field-end .ensures) (found .before .if1 .left)
-    (a-surface _ (sym (word .is-word .ensures) ∙ test .if2 .left) _ (sym (called .read-u64 .ensures) ∙ ap numberU64 (told .n .given .1)))
+    read-here space optionalNumber (args .line .now) (args .end) next (found .field-end .result) _ (found .field-end .ensures) (found .before .if1 .left)
+    (a-surface _ (sym (word .is-word .ensures) ∙ test .if2 .left) _ (sym (called .read-u64 .ensures) ∙ ap decimalU64 (told .n .given .1)))
     ∙ ap (λ (n : ℕ). next (some n) (fieldsAfter space (args .line .now) (found .field-end .result))) (sym (c .new .ensures))
 
 returns-4 : tie.Need-returns-4
@@ -92,8 +92,8 @@ returns-4 c next =
     let word = test .before in
     let found = word .before .before .before in
     let args = found .before .before .before .args in
-    not-read space readOptional (args .line .now) (args .end) next (found .field-end .result) (found .field-end .ensures) (found .before .if1 .left)
-    (other-surface _ (sym (word .is-word .ensures) ∙ test .if2 .left) (sym (called .read-u64 .ensures) ∙ ap numberU64 (c .enum-told .given .1)))
+    not-read space optionalNumber (args .line .now) (args .end) next (found .field-end .result) (found .field-end .ensures) (found .before .if1 .left)
+    (other-surface _ (sym (word .is-word .ensures) ∙ test .if2 .left) (sym (called .read-u64 .ensures) ∙ ap decimalU64 (c .enum-told .given .1)))
 
 pub surface-after-spec : {M : Type 1} → statement M
 surface-after-spec =

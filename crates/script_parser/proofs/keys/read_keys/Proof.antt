@@ -3,12 +3,12 @@ use Prim.Native.Nat.{_-_}
 use mathlib.Core.Path.{refl}
 use borrow.Author.Needs.{needs}
 use Rattle.spec_replay.specs.Script.{lineKeys}
-use Rattle.script_parser.specs.KeysLaws.{Keyed, keyed-start, keyed-end, keyed-many, keyed-off, keyed-turn}
+use Rattle.script_parser.specs.KeysLaws.{KeyedLine, keyed-start, keyed-end, keyed-many, keyed-off, keyed-turn}
 use Rattle.script_parser.proofs.keys.read_keys.Statement.{statement}
 use Rattle.script_parser.proofs.keys.read_keys.Tie as tie
 
 abbrev Inv-loop : tie.InvT-loop
-Inv-loop line end keys₀ count₀ at₀ keys count at = Keyed line end keys count at
+Inv-loop line end keys₀ count₀ at₀ keys count at = KeyedLine line end keys count at
 
 abbrev μ-loop : tie.MeasureT-loop
 μ-loop line end keys₀ count₀ at₀ keys count at = lineKeys - count

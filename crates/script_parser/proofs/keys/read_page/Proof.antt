@@ -11,7 +11,7 @@ use Rattle.spec_replay.specs.Script.{Command, page, other, upToEnd, placesOfPag
 use Rattle.script_parser.specs.Fields.{fieldsAfter}
 use Rattle.script_parser.specs.Forms.{at}
 use Rattle.script_parser.specs.Keys.{pageThen}
-use Rattle.script_parser.specs.KeysLaws.{behindRoom, page-numbers, no-page-then}
+use Rattle.script_parser.specs.KeysLaws.{keysBehindRoom, page-numbers, no-page-then}
 use Rattle.script_parser.specs.FormsLaws.{fits-bound, exceeds-bound}
 use Rattle.script_parser.specs.declared.keys.KeyFields.{KeyFields}
 use Rattle.script_parser.specs.declared.keys.PageFields.{PageFields}
@@ -19,8 +19,8 @@ use Rattle.script_parser.proofs.keys.read_page.Statement.{statement}
 use Rattle.script_parser.proofs.keys.read_page.Tie as tie
 
 by-numbers : (c : tie.After-read-numbers) → pageArguments (fieldsAfter space (c .before .before .args .line .now) (c .before .before .args .end))
-    ≡ (if c .read-numbers .result .read then behindRoom (c .read-numbers .result .values) (fieldsAfter space (c .before .before .args .line .now) (c .read-numbers .result .end)) else other)
-by-numbers c = page-numbers (fieldsAfter space (c .before .before .args .line .now) (c .before .before .args .end)) ∙ c .read-numbers .ensures behindRoom
+    ≡ (if c .read-numbers .result .read then keysBehindRoom (c .read-numbers .result .values) (fieldsAfter space (c .before .before .args .line .now) (c .read-numbers .result .end)) else other)
+by-numbers c = page-numbers (fieldsAfter space (c .before .before .args .line .now) (c .before .before .args .end)) ∙ c .read-numbers .ensures keysBehindRoom
 
 -- what was not read as a page
 no-page : (r : PageFields) (keys : KeyFields) → (keys .count ≤ lineKeys) × (length (keys .keys) ≡ lineKeys) → (r .read ≡ false) × ((r .count ≡ keys .count) × (r .keys ≡ keys .keys))
@@ -49,7 +49,7 @@ returns c =
     let line = read .before .before .args .line .now in
     let numbers = read .read-numbers .result in (
       by-numbers read
-          ∙ ap (λ (t : Bool). if t then behindRoom (numbers .values) (fieldsAfter space line (numbers .end)) else other) (c .before .if1 .taken)
+          ∙ ap (λ (t : Bool). if t then keysBehindRoom (numbers .values) (fieldsAfter space line (numbers .end)) else other) (c .before .if1 .taken)
           ∙ sym (fits-bound placesOfPage (at (numbers .values) 1) (λ room. upToEnd lineKeys (page (at (numbers .values) 0) room) (fieldsAfter space line (numbers .end))) (c .if2 .taken))
           ∙ keys .read-keys .ensures .0 (page (at (numbers .values) 0) (at (numbers .values) 1)),
       keys .read-keys .ensures .1,
@@ -67,7 +67,7 @@ returns-2 c =
     let numbers = read .read-numbers .result in
     no-page (c .no-page .result) (keys .read-keys .result) (keys .read-keys .ensures .1) (c .no-page .ensures)
     (by-numbers read
-    ∙ ap (λ (t : Bool). if t then behindRoom (numbers .values) (fieldsAfter space line (numbers .end)) else other) (test .before .if1 .taken)
+    ∙ ap (λ (t : Bool). if t then keysBehindRoom (numbers .values) (fieldsAfter space line (numbers .end)) else other) (test .before .if1 .taken)
     ∙ sym (exceeds-bound placesOfPage (at (numbers .values) 1) (λ room. upToEnd lineKeys (page (at (numbers .values) 0) room) (fieldsAfter space line (numbers .end))) (test .if2 .left)))
 
 no-page-requires-2 : tie.Need-no-page-requires-2
@@ -81,7 +81,7 @@ returns-3 c =
     let line = read .before .before .args .line .now in
     let numbers = read .read-numbers .result in
     no-page (c .no-page2 .result) (keys .read-keys .result) (keys .read-keys .ensures .1) (c .no-page2 .ensures)
-    (by-numbers read ∙ ap (λ (t : Bool). if t then behindRoom (numbers .values) (fieldsAfter space line (numbers .end)) else other) (test .if1 .left))
+    (by-numbers read ∙ ap (λ (t : Bool). if t then keysBehindRoom (numbers .values) (fieldsAfter space line (numbers .end)) else other) (test .if1 .left))
 
 pub read-page-spec : {M : Type 1} → statement M
 read-page-spec =

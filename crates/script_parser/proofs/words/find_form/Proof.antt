@@ -6,10 +6,10 @@ use native.Mathlib.Omega.{arith}
 use borrow.Author.Needs.{needs}
 use lib.ListN.{take, drop}
 use Rattle.spec_replay.specs.Lines.{space, split, prepend}
-use Rattle.spec_replay.specs.Script.{ascii, apply, end, number, stimuli, applyArguments, values, valueArguments, marks, markArguments, commands, fieldsCommand}
+use Rattle.spec_replay.specs.Script.{ascii, apply, end, numberField, stimuli, applyArguments, values, valueArguments, marks, markArguments, commands, fieldsCommand}
 use Rattle.script_parser.specs.Fields.{fieldsAfter}
 use Rattle.script_parser.specs.FieldsLaws.{field-within}
-use Rattle.script_parser.specs.Words.{rowAt, indexOf-most}
+use Rattle.script_parser.specs.Words.{wordRowAt, indexOf-most}
 use Rattle.script_parser.specs.Forms.{stimulusBase, valueBase, markBase, firstWords}
 use Rattle.script_parser.specs.FormsLaws.{first-form, stimulus-form, value-form, mark-form}
 use Rattle.script_parser.proofs.Searching.{first-word, second-numbered, second-asks}
@@ -31,7 +31,7 @@ unfolding split prepend
 few c = rw (c .word-index .ensures .0) (indexOf-most (take (c .before .before .before .field-end .result - 0) (drop 0 (c .before .before .before .before .before .args .line .now))) (split space firstTable))
 
 by-first : (c : tie.After-word-index) → fieldsCommand (split space (c .before .before .before .before .before .args .line .now))
-    ≡ rowAt (λ a. a) commands (c .word-index .result) (fieldsAfter space (c .before .before .before .before .before .args .line .now) (c .before .before .before .field-end .result))
+    ≡ wordRowAt (λ a. a) commands (c .word-index .result) (fieldsAfter space (c .before .before .before .before .before .args .line .now) (c .before .before .before .field-end .result))
 unfolding split prepend commands
 by-first c =
     let ended = c .before .before .before in
@@ -70,10 +70,10 @@ returns c =
     let word = test .before in
     let args = word .before .before .before .before .before .args in
     record {
-      numbered = second-numbered (λ s. number (λ n. end (apply s n))) stimuli stimulusBase 5 refl (omega arith) stimulus-form (args .line .now) _ stimulusTable refl (c .second-form .result) (c .second-form .ensures);
+      numbered = second-numbered (λ s. numberField (λ n. end (apply s n))) stimuli stimulusBase 5 refl (omega arith) stimulus-form (args .line .now) _ stimulusTable refl (c .second-form .result) (c .second-form .ensures);
       asks =
-          by-first word ∙ ap (λ (k : ℕ). rowAt (λ a. a) commands k (fieldsAfter space (args .line .now) (word .before .before .before .field-end .result))) (test .if1 .taken)
-          ∙ second-asks (λ s. number (λ n. end (apply s n))) stimuli stimulusBase 5 refl (omega arith) stimulus-form (args .line .now) _ stimulusTable refl (c .second-form .result) (c .second-form .ensures);
+          by-first word ∙ ap (λ (k : ℕ). wordRowAt (λ a. a) commands k (fieldsAfter space (args .line .now) (word .before .before .before .field-end .result))) (test .if1 .taken)
+          ∙ second-asks (λ s. numberField (λ n. end (apply s n))) stimuli stimulusBase 5 refl (omega arith) stimulus-form (args .line .now) _ stimulusTable refl (c .second-form .result) (c .second-form .ensures);
     }
 
 slice-aggregate-second-form-2 : tie.Need-slice-aggregate-second-form-2
@@ -91,7 +91,7 @@ returns-2 c =
     record {
       numbered = second-numbered (λ a. a) values valueBase 3 refl (omega arith) value-form (args .line .now) _ valueTable refl (c .second-form2 .result) (c .second-form2 .ensures);
       asks =
-          by-first word ∙ ap (λ (k : ℕ). rowAt (λ a. a) commands k (fieldsAfter space (args .line .now) (word .before .before .before .field-end .result))) (test .if2 .taken)
+          by-first word ∙ ap (λ (k : ℕ). wordRowAt (λ a. a) commands k (fieldsAfter space (args .line .now) (word .before .before .before .field-end .result))) (test .if2 .taken)
           ∙ second-asks (λ a. a) values valueBase 3 refl (omega arith) value-form (args .line .now) _ valueTable refl (c .second-form2 .result) (c .second-form2 .ensures);
     }
 
@@ -110,7 +110,7 @@ returns-3 c =
     record {
       numbered = second-numbered (λ a. a) marks markBase 3 refl (omega arith) mark-form (args .line .now) _ valueTable refl (c .second-form3 .result) (c .second-form3 .ensures);
       asks =
-          by-first word ∙ ap (λ (k : ℕ). rowAt (λ a. a) commands k (fieldsAfter space (args .line .now) (word .before .before .before .field-end .result))) (test .if3 .taken)
+          by-first word ∙ ap (λ (k : ℕ). wordRowAt (λ a. a) commands k (fieldsAfter space (args .line .now) (word .before .before .before .field-end .result))) (test .if3 .taken)
           ∙ second-asks (λ a. a) marks markBase 3 refl (omega arith) mark-form (args .line .now) _ valueTable refl (c .second-form3 .result) (c .second-form3 .ensures);
     }
 

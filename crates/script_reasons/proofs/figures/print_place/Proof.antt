@@ -3,16 +3,16 @@ use Prim.Native.Nat.{ℕ}
 use mathlib.Core.Path.{sym, ap}
 use mathlib.Core.List.{List}
 use Rattle.spec_replay.specs.Answers.{placeField}
-use Rattle.bytes_printer.specs.Prints.{field}
+use Rattle.bytes_printer.specs.Prints.{spacedField}
 use Rattle.bytes_printer.specs.PrintsLaws.{same-bytes}
 use Rattle.check_set.specs.declared.check_set.CheckPlace.{CheckPlace}
-use Rattle.script_reasons.specs.Meaning.{placeOf}
+use Rattle.script_reasons.specs.Meaning.{findingPlaceOf}
 use borrow.Author.Needs.{needs}
 use Rattle.script_reasons.proofs.figures.print_place.Statement.{statement}
 use Rattle.script_reasons.proofs.figures.print_place.Tie as tie
 
 abbrev word : CheckPlace → List ℕ
-word x = field (placeField (placeOf x))
+word x = spacedField (placeField (findingPlaceOf x))
 
 enum-known-place : tie.Need-enum-known-place
 enum-known-place c = search needs

@@ -3,7 +3,7 @@ use Prim.Native.Nat.{ℕ}
 use mathlib.Core.Path.{sym, ap}
 use mathlib.Core.List.{List}
 use Rattle.spec_explain.specs.Reason.{limitWord}
-use Rattle.bytes_printer.specs.Prints.{field}
+use Rattle.bytes_printer.specs.Prints.{spacedField}
 use Rattle.bytes_printer.specs.PrintsLaws.{same-bytes}
 use Rattle.session_explain.specs.declared.reasons.DeclaredLimit.{DeclaredLimit}
 use Rattle.script_reasons.specs.Meaning.{limitOf}
@@ -12,7 +12,7 @@ use Rattle.script_reasons.proofs.words.print_limit.Statement.{statement
 use Rattle.script_reasons.proofs.words.print_limit.Tie as tie
 
 abbrev word : DeclaredLimit → List ℕ
-word x = field (limitWord (limitOf x))
+word x = spacedField (limitWord (limitOf x))
 
 enum-told : tie.Need-enum-told
 enum-told c = search needs

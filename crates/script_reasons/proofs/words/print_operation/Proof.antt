@@ -3,7 +3,7 @@ use Prim.Native.Nat.{ℕ}
 use mathlib.Core.Path.{sym, ap}
 use mathlib.Core.List.{List}
 use Rattle.spec_explain.specs.OperationRule.{operationWord}
-use Rattle.bytes_printer.specs.Prints.{field}
+use Rattle.bytes_printer.specs.Prints.{spacedField}
 use Rattle.bytes_printer.specs.PrintsLaws.{same-bytes}
 use Rattle.session_explain.specs.declared.reasons.OperationRule.{OperationRule}
 use Rattle.script_reasons.specs.Meaning.{operationRuleOf}
@@ -12,7 +12,7 @@ use Rattle.script_reasons.proofs.words.print_operation.Statement.{state
 use Rattle.script_reasons.proofs.words.print_operation.Tie as tie
 
 abbrev word : OperationRule → List ℕ
-word x = field (operationWord (operationRuleOf x))
+word x = spacedField (operationWord (operationRuleOf x))
 
 enum-told : tie.Need-enum-told
 enum-told c = search needs

@@ -3,16 +3,16 @@ use Prim.Native.Nat.{ℕ}
 use mathlib.Core.Path.{sym, ap}
 use mathlib.Core.List.{List}
 use Rattle.spec_explain.specs.ReadingRule.{readingWord}
-use Rattle.bytes_printer.specs.Prints.{field}
+use Rattle.bytes_printer.specs.Prints.{spacedField}
 use Rattle.bytes_printer.specs.PrintsLaws.{same-bytes}
-use Rattle.patch_locate.specs.Answers.{ruleOf}
+use Rattle.patch_locate.specs.Answers.{readingRuleOf}
 use Rattle.patch_locate.specs.declared.rules.ReadingRule.{ReadingRule}
 use borrow.Author.Needs.{needs}
 use Rattle.script_reasons.proofs.words.print_reading.Statement.{statement}
 use Rattle.script_reasons.proofs.words.print_reading.Tie as tie
 
 abbrev word : ReadingRule → List ℕ
-word x = field (readingWord (ruleOf x))
+word x = spacedField (readingWord (readingRuleOf x))
 
 enum-told : tie.Need-enum-told
 enum-told c = search needs

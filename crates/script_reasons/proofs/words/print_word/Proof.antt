@@ -3,16 +3,16 @@ use Prim.Native.Nat.{ℕ}
 use mathlib.Core.Path.{sym, ap}
 use mathlib.Core.List.{List}
 use Rattle.spec_explain.specs.Reason.{reasonWord}
-use Rattle.bytes_printer.specs.Prints.{field}
+use Rattle.bytes_printer.specs.Prints.{spacedField}
 use Rattle.bytes_printer.specs.PrintsLaws.{same-bytes}
 use Rattle.session_explain.specs.declared.reasons.BatchReason.{BatchReason}
-use Rattle.script_reasons.specs.Meaning.{reasonOf}
+use Rattle.script_reasons.specs.Meaning.{printedReasonOf}
 use borrow.Author.Needs.{needs}
 use Rattle.script_reasons.proofs.words.print_word.Statement.{statement}
 use Rattle.script_reasons.proofs.words.print_word.Tie as tie
 
 abbrev word : BatchReason → List ℕ
-word x = field (reasonWord (reasonOf x))
+word x = spacedField (reasonWord (printedReasonOf x))
 
 enum-told : tie.Need-enum-told
 enum-told c = search needs

@@ -1,7 +1,7 @@
 -- `session_explain::gates::number_after` meets its contract, case by case.
 use borrow.Author.Tests.{lt-ltb}
 use Rattle.spec_patch.specs.Sizes.{largestU64}
-use Rattle.spec_explain.specs.Explain.{numberAfter}
+use Rattle.spec_explain.specs.Explain.{nextNumber}
 use Rattle.session_lifecycle.specs.Meaning.{cursorOf}
 use borrow.Author.Needs.{needs}
 use Rattle.session_explain.proofs.gates.number_after.Statement.{statement}
@@ -14,18 +14,18 @@ enum-known-cursor : tie.Need-enum-known-cursor
 enum-known-cursor c = search needs
 
 returns : tie.Need-returns
-unfolding numberAfter cursorOf
+unfolding nextNumber cursorOf
 returns c = rw (c .before .before .cursor .given .1, c .if1 .taken)
 
 add-t5 : tie.Need-add-t5
 add-t5 c = search needs
 
 returns-2 : tie.Need-returns-2
-unfolding numberAfter cursorOf
+unfolding nextNumber cursorOf
 returns-2 c = rw (c .enum-told .given .1)
 
 returns-3 : tie.Need-returns-3
-unfolding numberAfter cursorOf
+unfolding nextNumber cursorOf
 returns-3 c = rw (c .before .before .cursor .given .1, lt-ltb (c .before .before .cursor .given .0 .0) largestU64 (search needs))
 
 pub number-after-spec : {M : Type 1} → statement M

@@ -11,7 +11,7 @@ use Rattle.spec_patch.specs.Patch.{Patch}
 use Rattle.spec_projection.specs.Projection.{Projection}
 use Rattle.spec_projection.specs.Apply.{applyOperation}
 use Rattle.spec_explain.specs.Walk.{Walk, walkPatches}
-use Rattle.spec_explain.specs.Explain.{applyStep}
+use Rattle.spec_explain.specs.Explain.{stepKept}
 use Rattle.projection_patch.specs.Meaning.{editionOf}
 use Rattle.projection_patch.specs.ReadAnswers.{lentFrom}
 use Rattle.patch_walk.specs.Steps.{StepWithin, AtSteps}
@@ -30,7 +30,7 @@ Inv-loop bindings₀ availability₀ entries₀ set edition held₀ cursor₀ op
     (length bindings ≡ length bindings₀) × (length availability ≡ length availability₀) × (length entries ≡ length entries₀)
     × (opened ≤ cursor .at) × (index ≤ cursor .at)
     × ((p : Projection) (ps : List Patch) → StandsFor held₀ bindings₀ availability₀ entries₀ p → AtSteps (editionOf edition) set cursor₀ [] ps
-    → Replaying (editionOf edition) set (walkPatches applyStep 0 p ps) cursor opened patch index held bindings availability entries)
+    → Replaying (editionOf edition) set (walkPatches stepKept 0 p ps) cursor opened patch index held bindings availability entries)
 
 abbrev μ-loop : tie.MeasureT-loop
 μ-loop bindings₀ availability₀ entries₀ set edition held₀ cursor₀ opened₀ patch₀ index₀ bindings availability entries held cursor opened patch index = length set - cursor .at

@@ -51,8 +51,8 @@ use denote.Exit.{yes}
 use Rattle.active_projection_target_catalog.specs.declared.catalog.BindingPair.{BindingPair}
 use Rattle.active_projection_target_catalog.specs.Catalog.{noPair}
 use Rattle.session_from_pairs.specs.declared.pairs.BindingAnchors.{BindingAnchors}
-use Rattle.session_from_pairs.specs.Pairs.{noAnchors, withPair, anchorsOf}
-use Rattle.session_from_pairs.specs.PairsLaws.{upTo, starts, steps, all-copied}
+use Rattle.session_from_pairs.specs.Pairs.{noPairs, withPair, anchorsOf}
+use Rattle.session_from_pairs.specs.PairsLaws.{upToPair, starts, steps, all-copied}
 use Rattle.spec_patch.specs.Sizes.{anchors}
 use Rattle.hand_proof_steps.proofs.Walk.{calls-plain}
 use Rattle.active_projection_target_catalog.proofs.catalog.BindingPair as Bp
@@ -112,8 +112,8 @@ module _ {M : Type 1} (𝓤 : URA M) (H : Heap 𝓤) (A : Atoms 𝓤) (at-mem : 
   Put = tripleOf 𝓤 H A put.signature (put.spec 𝓤 H A at-mem run)
 
   -- of each callee's `ensured`, the clause alone
-  none-of : (n : ℕ) (r : BindingAnchors) → ent 𝓤 (ensured 𝓤 H A none.ended (none.clauses 𝓤 H A at-mem run) tt (n, tt) tt r) (fact 𝓤 (r ≡ noAnchors n))
-  none-of n r = exE 𝓤 _ (λ ws. snd∗ 𝓤 (sem 𝓤 H A (lasts none.ended tt (n, tt) ws)) (fact 𝓤 (r ≡ noAnchors n)))
+  none-of : (n : ℕ) (r : BindingAnchors) → ent 𝓤 (ensured 𝓤 H A none.ended (none.clauses 𝓤 H A at-mem run) tt (n, tt) tt r) (fact 𝓤 (r ≡ noPairs n))
+  none-of n r = exE 𝓤 _ (λ ws. snd∗ 𝓤 (sem 𝓤 H A (lasts none.ended tt (n, tt) ws)) (fact 𝓤 (r ≡ noPairs n)))
 
   counts-of : (n : ℕ) (r : ℕ) → ent 𝓤 (ensured 𝓤 H A counts.ended (counts.clauses 𝓤 H A at-mem run) tt (n, tt) tt r) (fact 𝓤 (r ≡ min n anchors))
   counts-of n r = exE 𝓤 _ (λ ws. snd∗ 𝓤 (sem 𝓤 H A (lasts counts.ended tt (n, tt) ws)) (fact 𝓤 (r ≡ min n anchors)))
@@ -168,7 +168,7 @@ module _ {M : Type 1} (𝓤 : URA M) (H : Heap 𝓤) (A : Atoms 𝓤) (W : Given
 
   -- the loop's variant: i turns are done, and what they made is well formed
   abbrev Upto : Type 0
-  Upto = (i : ℕ) × ((i ≤ count) × Is Cp.the-row (upTo ys i) (cp-vals (upTo ys i)))
+  Upto = (i : ℕ) × ((i ≤ count) × Is Cp.the-row (upToPair ys i) (cp-vals (upToPair ys i)))
 
   abbrev Nearer : Upto → Upto → Type 0
   Nearer j i = count - j .0 < count - i .0
@@ -202,7 +202,7 @@ module _ {M : Type 1} (𝓤 : URA M) (H : Heap 𝓤) (A : Atoms 𝓤) (W : Given
           ∷ ‵ (fres γ (codedHoleys Bp.the-row .code (heres Bp.the-row ys))) ∷ ‵ (at-slice Bp.the-row (x .0) (at .0)) ∷ ‵ ftrue
           ∷ ‵ (froom Bp′.mir l₁₀ 0) ∷ ‵ (fdies Bp′.mir l₁₀) ∷ ‵ (froom tyPtr l₉ 0) ∷ ‵ (fdies tyPtr l₉) ∷ ‵ (froom word l₈ 0) ∷ ‵ (fdies word l₈) ∷ ‵ (froom tyBool l₇ 0) ∷ ‵ (fdies tyBool l₇)
           ∷ ‵ (froom Bp′.mir l₆ 0) ∷ ‵ (fdies Bp′.mir l₆) ∷ ‵ (fat fullShare word l₅ 0 (vint w64 (i .0))) ∷ ‵ (fdies word l₅)
-          ∷ ‵ (fat fullShare Cp′.mir l₄ 0 (only (cp-vals (upTo ys (i .0))))) ∷ ‵ (fdies Cp′.mir l₄) ∷ ‵ (fat fullShare word l₃ 0 (vint w64 count)) ∷ ‵ (fdies word l₃)
+          ∷ ‵ (fat fullShare Cp′.mir l₄ 0 (only (cp-vals (upToPair ys (i .0))))) ∷ ‵ (fdies Cp′.mir l₄) ∷ ‵ (fat fullShare word l₃ 0 (vint w64 count)) ∷ ‵ (fdies word l₃)
           ∷ ‵ (fat fullShare word l₂ 0 (vint w64 n)) ∷ ‵ (fdies word l₂) ∷ ‵ (fat fullShare slice l₁ 0 (sliceVal (b, o) n)) ∷ ‵ (fdies slice l₁) ∷ ‵ (froom Cp′.mir l₀ 0) ∷ ‵ (fdies Cp′.mir l₀) ∷ []
 
       -- a turn's postcondition: it ends nearer to the count, or the loop is left and the rest of the body runs
@@ -223,19 +223,19 @@ module _ {M : Type 1} (𝓤 : URA M) (H : Heap 𝓤) (A : Atoms 𝓤) (W : Given
           assigns ! (of-opd ! (load ! (from ! (hop ! (look ! 11 refl) (stop !))) (look-raw ! 0 refl))) (from ! (stop !)) (init ! 9 refl (LL.lawful Bp.the-type Bp′.the-laws 𝓤 H A W .typed pair _ is-p .0)) $
           assigns ! (of-opd ! (load ! (from ! (stop !)) (look ! 9 refl))) (from ! (stop !)) (init ! 17 refl (LL.lawful Bp.the-type Bp′.the-laws 𝓤 H A W .typed pair _ is-p .0)) $
           elem-back ! Bp.the-row q′ ys (i .0) noPair (bp-vals pair) b o within $
-          calls-plain ! (fmOf 𝓤 H (W .laws) 𝓣) (Put 𝓤 H A at-mem run) known-put to (goes-put 𝓤 H A at-mem run W (upTo ys (i .0)) (i .0) pair (i .1 .1) fits is-p) (and-then ! (load ! (from ! (stop !)) (look ! 19 refl)) (and-then ! (load ! (from ! (stop !)) (look ! 17 refl)) (and-then ! (load ! (from ! (stop !)) (look ! 15 refl)) (no-more !))))
-          Cp.the-row cp-vals (LL.tells Cp.the-type Cp′.the-laws) (ensured 𝓤 H A put.ended (put.clauses 𝓤 H A at-mem run) tt (upTo ys (i .0), (i .0, (pair, tt))) tt) (λ r. r ≡ withPair (upTo ys (i .0)) (i .0) pair) (put-of 𝓤 H A at-mem run (upTo ys (i .0)) (i .0) pair) (λ v. id⊢ 𝓤 _) (λ r e is-r.
+          calls-plain ! (fmOf 𝓤 H (W .laws) 𝓣) (Put 𝓤 H A at-mem run) known-put to (goes-put 𝓤 H A at-mem run W (upToPair ys (i .0)) (i .0) pair (i .1 .1) fits is-p) (and-then ! (load ! (from ! (stop !)) (look ! 19 refl)) (and-then ! (load ! (from ! (stop !)) (look ! 17 refl)) (and-then ! (load ! (from ! (stop !)) (look ! 15 refl)) (no-more !))))
+          Cp.the-row cp-vals (LL.tells Cp.the-type Cp′.the-laws) (ensured 𝓤 H A put.ended (put.clauses 𝓤 H A at-mem run) tt (upToPair ys (i .0), (i .0, (pair, tt))) tt) (λ r. r ≡ withPair (upToPair ys (i .0)) (i .0) pair) (put-of 𝓤 H A at-mem run (upToPair ys (i .0)) (i .0) pair) (λ v. id⊢ 𝓤 _) (λ r e is-r.
           land ! (from ! (stop !)) (store ! 19 refl (LL.lawful Cp.the-type Cp′.the-laws 𝓤 H A W .typed r _ is-r .0)) $
           rewrite ! 19 (λ (c : BindingAnchors). ‵ (fat fullShare Cp′.mir l₄ 0 (only (cp-vals c)))) (e ∙ steps ys (i .0) within below) refl $
           assigns-last ! (bin ! (load ! (from ! (stop !)) (look ! 17 refl)) (lit ! tt) (record { fits = next-fits })) (from ! (stop !)) (store ! 17 refl (tt, record { fits = next-fits })) $
           forget ! 7 refl $ forget ! 9 refl $ forget ! 11 refl $ forget ! 13 refl $ forget ! 15 refl $
-          again ! Nearer At i (i .0 + 1, (add-one-le less, is-at r (upTo ys (i .0 + 1)) is-r (e ∙ steps ys (i .0) within below))) (add-one-dec count (i .0) less)))
+          again ! Nearer At i (i .0 + 1, (add-one-le less, is-at r (upToPair ys (i .0 + 1)) is-r (e ∙ steps ys (i .0) within below))) (add-one-dec count (i .0) less)))
         where
           pair : BindingPair
           pair = getD ys (i .0) noPair
 
           to : Put 𝓤 H A at-mem run .Ghost
-          to = to-put 𝓤 H A at-mem run (upTo ys (i .0)) (i .0) pair
+          to = to-put 𝓤 H A at-mem run (upToPair ys (i .0)) (i .0) pair
 
           within : i .0 < length ys
           within = omega (arith, less)
@@ -259,13 +259,13 @@ module _ {M : Type 1} (𝓤 : URA M) (H : Heap 𝓤) (A : Atoms 𝓤) (W : Given
           assigns ! (bin ! (load ! (from ! (stop !)) (look ! 17 refl)) (load ! (from ! (stop !)) (look ! 21 refl)) tt) (from ! (stop !)) (init ! 13 refl (tt, tt)) $
           rewrite ! 13 (λ (t : Bool). ‵ (fat fullShare tyBool l₇ 0 (vbool t))) (fails (ltb (i .0) count) (λ z. lt-irrefl count (subst (λ (k : ℕ). k < count) all (ltb→lt (i .0) count z)))) refl $
           leaves-loop ! (load ! (from ! (stop !)) (look ! 13 refl)) $ exec ! C Λ En mir.t-6 (atRet En Post) $
-          assigns ! (of-opd ! (load ! (from ! (stop !)) (look ! 19 refl))) (from ! (stop !)) (init ! 27 refl (LL.lawful Cp.the-type Cp′.the-laws 𝓤 H A W .typed (upTo ys (i .0)) _ (i .1 .1) .0)) $
+          assigns ! (of-opd ! (load ! (from ! (stop !)) (look ! 19 refl))) (from ! (stop !)) (init ! 27 refl (LL.lawful Cp.the-type Cp′.the-laws 𝓤 H A W .typed (upToPair ys (i .0)) _ (i .1 .1) .0)) $
           shuts-slice ! tt Bp.the-row q′ ys b o $
           -- [the token; the fractured borrow; true; res; the slice's fact; true; _10 at 6; …; _0 at 26]
           returns ! (look ! 26 refl) $ forget ! 12 refl $ forget ! 16 refl $ forget ! 18 refl $ forget ! 20 refl $ forget ! 22 refl $ forget ! 24 refl $ forget ! 26 refl $
           move ! (26 ∷ 27 ∷ []) $ free1 ! $ move ! (24 ∷ 25 ∷ []) $ free1 ! $ move ! (22 ∷ 23 ∷ []) $ free1 ! $ move ! (20 ∷ 21 ∷ []) $ free1 ! $ move ! (18 ∷ 19 ∷ []) $ free1 ! $ move ! (16 ∷ 17 ∷ []) $ free1 ! $
           move ! (14 ∷ 15 ∷ []) $ free1 ! $ move ! (12 ∷ 13 ∷ []) $ free1 ! $ move ! (10 ∷ 11 ∷ []) $ free1 ! $ move ! (8 ∷ 9 ∷ []) $ free1 ! $ move ! (6 ∷ 7 ∷ []) $ free1 ! $ free0 ! $
-          move ! (3 ∷ 1 ∷ []) $ fjoin ! $ move ! (3 ∷ 0 ∷ []) $ fjoin ! $ keep ! (1 ∷ 0 ∷ []) $ by ! (exits (upTo ys (i .0)) (all-copied ys (i .0) all) (i .1 .1))
+          move ! (3 ∷ 1 ∷ []) $ fjoin ! $ move ! (3 ∷ 0 ∷ []) $ fjoin ! $ keep ! (1 ∷ 0 ∷ []) $ by ! (exits (upToPair ys (i .0)) (all-copied ys (i .0) all) (i .1 .1))
 
       turns : (i : Upto) → Sq W (At i) (runs C Λ En mir.turn-1 (anyQ (Turned i)))
       turns i = elim (eq-or-lt-of-le (i .1 .0)) [ inl e ↦ ends i e | inr l ↦ more i l ]
@@ -275,10 +275,10 @@ module _ {M : Type 1} (𝓤 : URA M) (H : Heap 𝓤) (A : Atoms 𝓤) (W : Given
     Passed = (‵ (flft κ q) ⊛ ‵ ftrue) ∷ ‵ (owns (ShrSlice (named 0) κ Bp.the-row ∷ []) x at) ∷ []
 
     -- before the loop: _10 at 0; _9 at 2; _8 at 4; _7 at 6; _6 at 8; _5 at 10; _4 at 12; _3 at 14; _2 at 16; _1 at 18; _0 at 20; the tokens; the slice. It is looked into, once for the whole loop
-    runs-loop : Is Cp.the-row (upTo ys 0) (cp-vals (upTo ys 0)) → (l₀ l₁ l₂ l₃ l₄ l₅ l₆ l₇ l₈ l₉ l₁₀ : ℕ)
+    runs-loop : Is Cp.the-row (upToPair ys 0) (cp-vals (upToPair ys 0)) → (l₀ l₁ l₂ l₃ l₄ l₅ l₆ l₇ l₈ l₉ l₁₀ : ℕ)
         → Sq W (‵ (froom Bp′.mir l₁₀ 0) ∷ ‵ (fdies Bp′.mir l₁₀) ∷ ‵ (froom tyPtr l₉ 0) ∷ ‵ (fdies tyPtr l₉) ∷ ‵ (froom word l₈ 0) ∷ ‵ (fdies word l₈) ∷ ‵ (froom tyBool l₇ 0) ∷ ‵ (fdies tyBool l₇)
         ∷ ‵ (froom Bp′.mir l₆ 0) ∷ ‵ (fdies Bp′.mir l₆) ∷ ‵ (fat fullShare word l₅ 0 (vint w64 0)) ∷ ‵ (fdies word l₅)
-        ∷ ‵ (fat fullShare Cp′.mir l₄ 0 (only (cp-vals (upTo ys 0)))) ∷ ‵ (fdies Cp′.mir l₄) ∷ ‵ (fat fullShare word l₃ 0 (vint w64 count)) ∷ ‵ (fdies word l₃) ∷ ‵ (fat fullShare word l₂ 0 (vint w64 n)) ∷ ‵ (fdies word l₂)
+        ∷ ‵ (fat fullShare Cp′.mir l₄ 0 (only (cp-vals (upToPair ys 0)))) ∷ ‵ (fdies Cp′.mir l₄) ∷ ‵ (fat fullShare word l₃ 0 (vint w64 count)) ∷ ‵ (fdies word l₃) ∷ ‵ (fat fullShare word l₂ 0 (vint w64 n)) ∷ ‵ (fdies word l₂)
         ∷ ‵ (fat fullShare slice l₁ 0 (sliceVal (b, o) n)) ∷ ‵ (fdies slice l₁) ∷ ‵ (froom Cp′.mir l₀ 0) ∷ ‵ (fdies Cp′.mir l₀) ∷ Passed)
         (runs C Λ (Env-at l₀ l₁ l₂ l₃ l₄ l₅ l₆ l₇ l₈ l₉ l₁₀) mir.t-5 (atRet (Env-at l₀ l₁ l₂ l₃ l₄ l₅ l₆ l₇ l₈ l₉ l₁₀) Post))
     runs-loop is-c l₀ l₁ l₂ l₃ l₄ l₅ l₆ l₇ l₈ l₉ l₁₀ =
@@ -298,11 +298,11 @@ module _ {M : Type 1} (𝓤 : URA M) (H : Heap 𝓤) (A : Atoms 𝓤) (W : Given
         land ! (from ! (stop !)) (init ! 14 refl (tt, record { fits = is-k .1 })) $
         rewrite ! 14 (λ (m : ℕ). ‵ (fat fullShare word l₃ 0 (vint w64 m))) e-k refl $
         calls-plain ! (fmOf 𝓤 H (W .laws) 𝓣) (None 𝓤 H A at-mem run) known-none (to-none 𝓤 H A at-mem run n) (goes-none-at 𝓤 H A at-mem run W n (room .0)) (and-then ! (load ! (from ! (stop !)) (look ! 16 refl)) (no-more !))
-        Cp.the-row cp-vals (LL.tells Cp.the-type Cp′.the-laws) (ensured 𝓤 H A none.ended (none.clauses 𝓤 H A at-mem run) tt (n, tt) tt) (λ r. r ≡ noAnchors n) (none-of 𝓤 H A at-mem run n) (λ v. id⊢ 𝓤 _) (λ r e is-r.
+        Cp.the-row cp-vals (LL.tells Cp.the-type Cp′.the-laws) (ensured 𝓤 H A none.ended (none.clauses 𝓤 H A at-mem run) tt (n, tt) tt) (λ r. r ≡ noPairs n) (none-of 𝓤 H A at-mem run n) (λ v. id⊢ 𝓤 _) (λ r e is-r.
         land ! (from ! (stop !)) (init ! 12 refl (LL.lawful Cp.the-type Cp′.the-laws 𝓤 H A W .typed r _ is-r .0)) $
         rewrite ! 12 (λ (c : BindingAnchors). ‵ (fat fullShare Cp′.mir l₄ 0 (only (cp-vals c)))) (e ∙ starts ys) refl $
         assigns ! (of-opd ! (lit ! tt)) (from ! (stop !)) (init ! 10 refl (tt, record { fits = lit< tt })) $
-        runs-loop (is-at r (upTo ys 0) is-r (e ∙ starts ys)) l₀ l₁ l₂ l₃ l₄ l₅ l₆ l₇ l₈ l₉ l₁₀)))))))))))))
+        runs-loop (is-at r (upToPair ys 0) is-r (e ∙ starts ys)) l₀ l₁ l₂ l₃ l₄ l₅ l₆ l₇ l₈ l₉ l₁₀)))))))))))))
 
 module _ {M : Type 1} (𝓤 : URA M) (H : Heap 𝓤) (A : Atoms 𝓤) (W : Given 𝓤 H A) (at-mem : Memory → SProp 𝓤) (run : Routine → Fun 𝓤) (𝓣 : Tables 𝓤 H) where
   copies-walks : Triple 𝓤 (𝓣 .C #counts) (Counts 𝓤 H A at-mem run) → Triple 𝓤 (𝓣 .C #none) (None 𝓤 H A at-mem run) → Triple 𝓤 (𝓣 .C #put) (Put 𝓤 H A at-mem run)

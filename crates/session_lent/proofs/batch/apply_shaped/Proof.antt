@@ -4,7 +4,7 @@ use mathlib.Core.Bool.{false≢true}
 use borrow.Author.Tests.{eq-eqb, eqb-true}
 use Rattle.spec_session.specs.Batch.{candidate}
 use Rattle.spec_session.specs.BatchLaws.{never-passes}
-use Rattle.session_gates.specs.Gates.{gateOf, counted}
+use Rattle.session_gates.specs.Gates.{gateOf, checkCounted}
 use Rattle.session_steps.specs.Answers.{rejectedRow, unchangedRow}
 use Rattle.session_steps.specs.AnswersLaws.{same-rejection, change-row}
 use Rattle.session_lent.specs.BatchesLaws.{held-tables, kept-change, row-told, preflight-told, seen, commits-none, commits, batch-rejects, batch-commits}
@@ -38,7 +38,7 @@ rejected-requires : tie.Need-rejected-requires
 rejected-requires c κs = search needs
 
 returns : tie.Need-returns
-unfolding gateOf counted
+unfolding gateOf checkCounted
 returns c =
     let a = c .before .before .before .before .before .before .before .before .before .before .before .before .before .before .before .before .before .before .before .before .before .args in
     let limits = c .before .before .before .before .before .before .before .limits-in in
@@ -49,7 +49,7 @@ returns c =
     record {
       became = λ m l h room. batch-rejects (a .head .now) (a .nodes .now) (a .pairs .now) (a .collections .now) (a .bindings .now) (a .availability .now) (a .entries .now) (limits .result) (state .result) (limits .ensures) (state .ensures) m l h _ _ _ _ _ _ _ _ _ _ _ _ (gate ∙ checked .0 m (seen (a .head .now) (a .nodes .now) (a .pairs .now) (a .collections .now) (a .bindings .now) (a .availability .now) (a .entries .now) (limits .result) (state .result) (limits .ensures) (state .ensures) m l h)) answer;
       kept = λ n. (refl, (refl, (refl, (refl, refl))));
-      row = row-told (a .head .now) (a .nodes .now) (a .pairs .now) (a .collections .now) (a .bindings .now) (a .availability .now) (a .entries .now) (limits .result) (state .result) (limits .ensures) (state .ensures) _ _ (rejectedRow _ _ (ap counted gate ∙ checked .1 .0) answer);
+      row = row-told (a .head .now) (a .nodes .now) (a .pairs .now) (a .collections .now) (a .bindings .now) (a .availability .now) (a .entries .now) (limits .result) (state .result) (limits .ensures) (state .ensures) _ _ (rejectedRow _ _ (ap checkCounted gate ∙ checked .1 .0) answer);
       preflight = preflight-told (a .head .now) (a .nodes .now) (a .pairs .now) (a .collections .now) (a .bindings .now) (a .availability .now) (a .entries .now) (limits .result) (state .result) (limits .ensures) (state .ensures) _ _ (λ f n h. answer ∙ same-rejection _ _ (gate ∙ checked .1 .1 f n h));
     }
 

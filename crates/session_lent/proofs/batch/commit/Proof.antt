@@ -12,7 +12,7 @@ use Rattle.session_lent.specs.Head.{movedHead}
 use Rattle.local_projection_state.specs.Stores.{StoredTables}
 use Rattle.local_projection_state.specs.declared.ProjectionCounts.{ProjectionCounts}
 use Rattle.panel_changes.proofs.SetChange as set-change
-use Rattle.panel_changes.specs.SetChanges.{Ready, StoredAfter}
+use Rattle.panel_changes.specs.SetChanges.{ReadyTables, StoredAfter}
 use Rattle.panel_changes.specs.declared.SetChange.{SetChange}
 use Rattle.panel_changes.specs.declared.SetChange.the-variants.{Applied, Refused, Unreadable, BadTables}
 use Rattle.session_steps.specs.Answers.{Stopped}
@@ -38,8 +38,8 @@ other BadTables k = tt
 stored : {b a e : List ℕ} {p : Projection} {k : ProjectionCounts} (n : ProjectionCounts) → n ≡ k → StoredTables k b a e p → StoredTables n b a e p
 stored {b = b} {a = a} {e = e} {p = p} n is = subst (λ (x : ProjectionCounts). StoredTables x b a e p) (sym is)
 
-ready : {b a e l : List ℕ} {k : ProjectionCounts} (n : ProjectionCounts) → n ≡ k → Ready k b a e l → Ready n b a e l
-ready {b = b} {a = a} {e = e} {l = l} n is = subst (λ (x : ProjectionCounts). Ready x b a e l) (sym is)
+ready : {b a e l : List ℕ} {k : ProjectionCounts} (n : ProjectionCounts) → n ≡ k → ReadyTables k b a e l → ReadyTables n b a e l
+ready {b = b} {a = a} {e = e} {l = l} n is = subst (λ (x : ProjectionCounts). ReadyTables x b a e l) (sym is)
 
 counts-in-requires : tie.Need-counts-in-requires
 counts-in-requires c κs = search needs

@@ -1,7 +1,7 @@
 -- `half_shaped` meets its contract: the head, then the tables, then the counts.
 use mathlib.Core.Path.{refl, sym, ap, _∙_}
 use borrow.Author.Tests.{eq-eqb, ne-eqb}
-use Rattle.panel_changes.specs.SetChanges.{countsFit}
+use Rattle.panel_changes.specs.SetChanges.{changeCountsFit}
 use Rattle.session_lent.specs.Head.{headNumbers}
 use Rattle.session_lent.specs.LentSession.{halfShaped}
 use borrow.Author.Needs.{needs}
@@ -28,7 +28,7 @@ counts-fit-requires c κs = search needs
 
 returns-2 : tie.Need-returns-2
 unfolding halfShaped
-returns-2 c = c .counts-fit .ensures ∙ ap countsFit (c .before .counts-in .ensures) ∙ sym (rw (eq-eqb _ headNumbers (c .before .before .before .before .if1 .left), sym (c .before .before .before .tables-fit .ensures) ∙ c .before .before .if2 .taken) refl)
+returns-2 c = c .counts-fit .ensures ∙ ap changeCountsFit (c .before .counts-in .ensures) ∙ sym (rw (eq-eqb _ headNumbers (c .before .before .before .before .if1 .left), sym (c .before .before .before .tables-fit .ensures) ∙ c .before .before .if2 .taken) refl)
 
 returns-3 : tie.Need-returns-3
 unfolding halfShaped

@@ -11,7 +11,7 @@ use Rattle.spec_patch.specs.Patch.{Patch}
 use Rattle.spec_patch.specs.Edition.{Edition}
 use Rattle.spec_patch.specs.Read.{patches, readSet}
 use Rattle.spec_patch.specs.SetLaws.{was-encoded}
-use Rattle.spec_dependencies.specs.Dependencies.{Walk, settles, contradicts, walkPatches, dependenciesBy, dependencies}
+use Rattle.spec_dependencies.specs.Dependencies.{SettlingWalk, settles, contradicts, walkPatches, dependenciesBy, dependencies}
 use Rattle.spec_dependencies.specs.Settled.{Settled}
 use Rattle.spec_dependencies.specs.Answer.{answerBy}
 use Rattle.projection_patch.specs.Meaning.{editionOf}
@@ -19,7 +19,7 @@ use Rattle.patch_walk.specs.StepsLaws.{opened-at, never-unopened}
 use Rattle.set_dependencies.specs.SettledRows.{SettledTable, SettledIn}
 use Rattle.set_dependencies.specs.SettledRowsLaws.{start-within, settled-rows, none-settled}
 use Rattle.set_dependencies.specs.SetSettling.{SetSettlesTo}
-use Rattle.set_dependencies.specs.DependsAnswers.{answerTo}
+use Rattle.set_dependencies.specs.DependsAnswers.{dependsAnswerTo}
 use Rattle.set_dependencies.specs.DependsLaws.{settled-walk, contradicted-walk, readable-walk}
 use Rattle.set_dependencies.specs.declared.walk_set.SetSettling.{SetSettling}
 use Rattle.set_dependencies.proofs.depends.depends_clean.Statement.{statement}
@@ -108,8 +108,8 @@ returns c =
     let rows = call .before .before in
     let places = rows .before .before .before in
     let o = opening (places .before .before .before) in (
-      λ ps e. call .list-keys .ensures .0 (settled places ps e .0) (listed rows _ (settled places ps e .2)) ∙ ap (λ (w : Walk). answerTo (answerBy (dependenciesBy w) (lent o) .answer)) (sym (settled places ps e .1)),
-      λ ps e. call .list-keys .ensures .1 (settled places ps e .0) (listed rows _ (settled places ps e .2)) ∙ ap (λ (w : Walk). answerBy (dependenciesBy w) (lent o) .output) (sym (settled places ps e .1)),
+      λ ps e. call .list-keys .ensures .0 (settled places ps e .0) (listed rows _ (settled places ps e .2)) ∙ ap (λ (w : SettlingWalk). dependsAnswerTo (answerBy (dependenciesBy w) (lent o) .answer)) (sym (settled places ps e .1)),
+      λ ps e. call .list-keys .ensures .1 (settled places ps e .0) (listed rows _ (settled places ps e .2)) ∙ ap (λ (w : SettlingWalk). answerBy (dependenciesBy w) (lent o) .output) (sym (settled places ps e .1)),
     )
 
 -- where one contradicts
@@ -121,8 +121,8 @@ returns-2 : tie.Need-returns-2
 unfolding dependencies dependenciesBy answerBy
 returns-2 c =
     let o = opening (c .before .before .before .before) in (
-      λ ps e. sym (ap (λ (w : Walk). answerTo (answerBy (dependenciesBy w) (lent o) .answer)) (contradicted (c .before) ps e)),
-      λ ps e. sym (ap (λ (w : Walk). answerBy (dependenciesBy w) (lent o) .output) (contradicted (c .before) ps e)),
+      λ ps e. sym (ap (λ (w : SettlingWalk). dependsAnswerTo (answerBy (dependenciesBy w) (lent o) .answer)) (contradicted (c .before) ps e)),
+      λ ps e. sym (ap (λ (w : SettlingWalk). answerBy (dependenciesBy w) (lent o) .output) (contradicted (c .before) ps e)),
     )
 
 -- a readable set is read to its end

@@ -16,7 +16,7 @@ use Rattle.spec_dependencies.specs.AnswerLaws.{allWords-length}
 use Rattle.spec_dependencies.specs.CountLaws.{keys-length}
 use Rattle.set_dependencies.specs.SettledRows.{SettledTable}
 use Rattle.set_dependencies.specs.SettlingLaws.{table-length}
-use Rattle.set_dependencies.specs.DependsAnswers.{answerTo}
+use Rattle.set_dependencies.specs.DependsAnswers.{dependsAnswerTo}
 use Rattle.set_dependencies.specs.DependsLaws.{heldWords, lackedWords, words-length, short-answer, listed-answer}
 use Rattle.set_dependencies.specs.declared.depends.DependenciesAnswer.the-variants as answer
 use Rattle.set_dependencies.proofs.Lists.{second-part, second-written}
@@ -29,7 +29,7 @@ refused : (c : tie.Then1) (t : List Settled) → let a = c .before .before .befo
 refused c t s = short-answer t (now (c .before .before .before .args .out)) (omega (arith, table-length t s, c .if1 .taken))
 
 returns : tie.Need-returns
-returns c = (λ t s. sym (ap (λ (a : Answered). answerTo (a .answer)) (refused c t s)), λ t s. sym (ap (λ (a : Answered). a .output) (refused c t s)))
+returns c = (λ t s. sym (ap (λ (a : Answered). dependsAnswerTo (a .answer)) (refused c t s)), λ t s. sym (ap (λ (a : Answered). a .output) (refused c t s)))
 
 write-keys-requires : tie.Need-write-keys-requires
 write-keys-requires c κs = search needs
@@ -63,7 +63,7 @@ same-length c = search needs
 
 -- what both calls wrote
 both : (c : tie.After-write-keys2) (t : List Settled) → let k = c .before .before .before .before in (s : SettledTable (start k .args .count) (now (start k .args .table)) t)
-    → (answer.Needs (k .write-keys .result) (c .write-keys2 .result) ≡ answerTo (answerBy (dependenciesBy (settles t)) (lent k) .answer))
+    → (answer.Needs (k .write-keys .result) (c .write-keys2 .result) ≡ dependsAnswerTo (answerBy (dependenciesBy (settles t)) (lent k) .answer))
     × (putMid (pairLength * k .write-keys .result) (length (k .write-keys .last .1 .1 .1 .0) - pairLength * k .write-keys .result) (k .write-keys .last .1 .1 .1 .0) (c .write-keys2 .last .1 .1 .1 .0) ≡ answerBy (dependenciesBy (settles t)) (lent k) .output)
 both c t s =
     let k = c .before .before .before .before in
@@ -74,7 +74,7 @@ both c t s =
     let part = second-part (heldWords t (lent k)) (lackedWords t (lent k)) (lent k) _ front space (held .1) in
     let lacked = c .write-keys2 .ensures .0 t s (omega (arith, ap length part, length-drop (pairLength * k .write-keys .result) (lent k), space, allWords-length (keysAtStart false t))) in
     let whole = listed-answer t (lent k) room in (
-      (λ i. answer.Needs (held .0 i) (lacked .0 i)) ∙ sym (ap (λ (a : Answered). answerTo (a .answer)) whole),
+      (λ i. answer.Needs (held .0 i) (lacked .0 i)) ∙ sym (ap (λ (a : Answered). dependsAnswerTo (a .answer)) whole),
       second-written (heldWords t (lent k)) (lackedWords t (lent k)) (lent k) _ front space (held .1) (lacked .1) ∙ sym (ap (λ (a : Answered). a .output) whole),
     )
 

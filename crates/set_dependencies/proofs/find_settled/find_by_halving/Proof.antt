@@ -6,7 +6,7 @@ use native.Mathlib.Omega.{arith}
 use lib.ListN.{length, getD}
 use borrow.Author.Needs.{needs}
 use Rattle.spec_lists.specs.Order.{Ascending}
-use Rattle.bytes_records.specs.Table.{Holds}
+use Rattle.bytes_records.specs.Table.{HoldsRows}
 use Rattle.bytes_records.specs.TableLaws.{fitting}
 use Rattle.bytes_records.specs.Keys.{leadingNumbers, orderOf}
 use Rattle.bytes_records.specs.Search.{PlaceWithin}
@@ -19,7 +19,7 @@ use Rattle.set_dependencies.proofs.find_settled.find_by_halving.Tie as 
 
 abbrev Inv-loop : tie.InvT-loop
 Inv-loop table width count id second low₀ high₀ low high =
-    (low ≤ high) × (high ≤ count) × ((m : List (List ℕ)) → Holds width count table m → Ascending (leadingNumbers rowFields) m → Between (leadingNumbers rowFields) [] (id ∷ second ∷ []) low high m)
+    (low ≤ high) × (high ≤ count) × ((m : List (List ℕ)) → HoldsRows width count table m → Ascending (leadingNumbers rowFields) m → Between (leadingNumbers rowFields) [] (id ∷ second ∷ []) low high m)
 
 abbrev μ-loop : tie.MeasureT-loop
 μ-loop table width count id second low₀ high₀ low high = high - low
@@ -72,7 +72,7 @@ compare-requires c κs = search needs
 -- what the call answered is how the row in the middle stands to the two numbers
 compared-row : (c : tie.After-compare Inv-loop μ-loop) (m : List (List ℕ)) → let at-loop = c .before .before .before in
     let args = at-loop .before .before .before .args in
-    Holds (args .width) (args .count) (args .table .now) m → orderOf (leadingNumbers rowFields (getD m (middle at-loop) [])) (args .id ∷ args .second ∷ []) ≡ c .compare .result
+    HoldsRows (args .width) (args .count) (args .table .now) m → orderOf (leadingNumbers rowFields (getD m (middle at-loop) [])) (args .id ∷ args .second ∷ []) ≡ c .compare .result
 compared-row c m t = sym (c .compare .ensures ∙ rw (row-is m t (middle (c .before .before .before)) (search needs)))
 
 enum-told : tie.Need-enum-told Inv-loop μ-loop

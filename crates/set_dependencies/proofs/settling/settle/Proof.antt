@@ -9,7 +9,7 @@ use denote.Ref.{now}
 use Prim.Native.Nat.{ℕ}
 use Rattle.spec_dependencies.specs.Settled.{Settled, settledKey, judge}
 use Rattle.bytes_records.specs.Search.{placeOf}
-use Rattle.bytes_records.specs.Table.{Holds}
+use Rattle.bytes_records.specs.Table.{HoldsRows}
 use Rattle.set_dependencies.specs.SettledRows.{settledRow, rowWidth, SettledIn}
 use Rattle.set_dependencies.specs.SettledRowsLaws.{rows-place, rows-ascending, start-within}
 use Rattle.set_dependencies.specs.Settling.{expectationOf, SettlesAgain}
@@ -32,7 +32,7 @@ start k = k .before .before .before .before
 placed : (k : tie.After-find-by-halving) (t : List Settled) → let a = start k .args in SettledIn (a .places) (now (a .table)) t
     → placeOf settledKey (a .collection ∷ a .key ∷ []) t ≡ k .find-by-halving .result
 placed k t s =
-    let held = subst (λ (l : List ℕ). Holds rowWidth (start k .args .places .count) l (map settledRow t)) (sym (k .before .rows-from .ensures (start-within (s .rows)))) (s .rows .held) in
+    let held = subst (λ (l : List ℕ). HoldsRows rowWidth (start k .args .places .count) l (map settledRow t)) (sym (k .before .rows-from .ensures (start-within (s .rows)))) (s .rows .held) in
     sym (k .find-by-halving .ensures .0 (map settledRow t) held (rows-ascending t (s .fit) (s .ascending)) ∙ rows-place t (s .fit) _)
 
 same-length : tie.Need-same-length

@@ -14,7 +14,7 @@ use Rattle.set_dependencies.specs.SettledRows.{settledRow, settledOf, Se
 use Rattle.set_dependencies.specs.SettledRowsLaws.{noKey, row-of, row-fits}
 use Rattle.set_dependencies.specs.SettlingLaws.{table-length}
 use Rattle.set_dependencies.specs.WrittenKeys.{KeysLeft}
-use Rattle.set_dependencies.specs.WrittenKeysLaws.{left-start, left-none}
+use Rattle.set_dependencies.specs.WrittenKeysLaws.{keysLeft-start, left-none}
 use Rattle.set_dependencies.proofs.write_keys.write_keys.Statement.{statement}
 use Rattle.set_dependencies.proofs.write_keys.write_keys.Tie as tie
 
@@ -28,7 +28,7 @@ abbrev μ-loop : tie.MeasureT-loop
 μ-loop table count at-start out₀ i₀ written₀ out i written = count - i
 
 loop-holds : tie.Need-loop-holds Inv-loop μ-loop
-loop-holds c = (refl, search needs, omega arith, λ t s few. left-start _ t _)
+loop-holds c = (refl, search needs, omega arith, λ t s few. keysLeft-start _ t _)
 
 record-at-requires : tie.Need-record-at-requires Inv-loop μ-loop
 record-at-requires c κs = search needs

@@ -20,11 +20,11 @@ use Rattle.bytes_records.specs.Moves.{zeros}
 use Rattle.panel_rows.specs.Rows.{bindingBytes, availabilityBytes, entryBytes, lengthBytes}
 use Rattle.local_projection_state.specs.declared.ProjectionCounts.{ProjectionCounts}
 use Rattle.panel_changes.proofs.SetChange as set-change
-use Rattle.panel_changes.specs.SetChanges.{Ready, StoredAfter, ChangeBecame}
+use Rattle.panel_changes.specs.SetChanges.{ReadyTables, StoredAfter, ChangeBecame}
 use Rattle.panel_changes.specs.SetChangesLaws.{zeros-ready}
 use Rattle.panel_changes.specs.declared.SetChange.{SetChange}
 use Rattle.panel_changes.specs.declared.SetChange.the-variants.{Applied, Refused, Unreadable, BadTables}
-use Rattle.session_gates.specs.Gates.{gateOf, counted, envelopeMeans}
+use Rattle.session_gates.specs.Gates.{gateOf, checkCounted, envelopeMeans}
 use Rattle.session_gates.specs.declared.gates.OrderedProjectionPatchBatchEnvelope.{OrderedProjectionPatchBatchEnvelope}
 use Rattle.session_steps.specs.declared.answers.ProjectionPatchApplicationResult.{ProjectionPatchApplicationResult}
 use Rattle.session_steps.specs.Answers.{batchAnswerOf, answerAt, changeAnswer, Stopped, rejectedRow, unchangedRow, appliedRow}
@@ -57,7 +57,7 @@ Tables c r m ps = ChangeBecame (λ n q. StoredAfter n (c .apply-set .last .1 .1 
 -- what came of the operations
 became : (c : tie.After-apply-set) → let a = c .before .before .before .before .before .before .before .before .before .before .before .before .before .before .before .before .before .before .before .before .before .before .args in (m : Session) (ps : List Patch) → Holds (a .t1) m → readSet (editionOf (a .edition)) (now (a .set)) ≡ patches ps → Tables c (c .apply-set .result) m ps
 unfolding candidate
-became c m ps h reads = c .apply-set .ensures .0 (m .projection) ps (h .projection .tables) reads (subst (λ (u : ProjectionCounts). Ready u (zeros bindingBytes) (zeros availabilityBytes) (zeros entryBytes) (zeros lengthBytes)) (sym (c .before .before .before .before .before .before .before .before .before .before .before .before .before .none-used .ensures)) zeros-ready)
+became c m ps h reads = c .apply-set .ensures .0 (m .projection) ps (h .projection .tables) reads (subst (λ (u : ProjectionCounts). ReadyTables u (zeros bindingBytes) (zeros availabilityBytes) (zeros entryBytes) (zeros lengthBytes)) (sym (c .before .before .before .before .before .before .before .before .before .before .before .before .before .none-used .ensures)) zeros-ready)
 
 -- what is told of a session and an answer is told of the batch that is made of them
 told : {s : ShellSession} {e : OrderedProjectionPatchBatchEnvelope} {declared : ℕ} {set : List ℕ} {ed : Edition} (session : ShellSession) (result : ProjectionPatchApplicationResult) {r : ProjectionPatchBatch} → r ≡ batchOf session result
@@ -77,7 +77,7 @@ batch-of-requires : tie.Need-batch-of-requires
 batch-of-requires c κs = search needs
 
 returns : tie.Need-returns
-unfolding gateOf counted
+unfolding gateOf checkCounted
 returns c =
     let gate = ap gateOf (sym (c .before .before .before .gate .given .1)) in
     let checked = c .before .before .before .before .before .check-session .ensures in
@@ -86,7 +86,7 @@ returns c =
       record { became = λ m h. batch-rejects _ m h _ _ _ _ _ _ _ (gate ∙ checked .0 m (seen _ m h)) answer },
       record {
         kept = λ n. refl;
-        row = rejectedRow _ _ (ap counted gate ∙ checked .1 .0) answer;
+        row = rejectedRow _ _ (ap checkCounted gate ∙ checked .1 .0) answer;
         preflight = λ f n h. answer ∙ same-rejection _ _ (gate ∙ checked .1 .1 f n h);
       },
     )
