@@ -172,7 +172,7 @@ pub applyExamples : List Bool
 applyExamples = places ++ keyRules ++ capacities ++ storedOrder ++ lookups ++ steps
 
 -- the places of the rows that fail, from 0
-pub failing : ℕ → List Bool → List ℕ
+unfoldable pub failing : ℕ → List Bool → List ℕ
 failing i [] = []
 failing i (true ∷ rows) = failing (suc i) rows
 failing i (false ∷ rows) = i ∷ failing (suc i) rows
