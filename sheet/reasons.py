@@ -40,12 +40,15 @@ def read_reason(line):
     return Reason(number, rest[0], rest[1:])
 
 
-def labelled_figures(reason):
-    """The figures in words, as far as they are known."""
+def labelled_figures(reason, without_place=False):
+    """The figures in words, as far as they are known; the place is left out where it is told beside them."""
     labels = FIGURES.get(reason.name, ())
     if len(labels) != len(reason.figures):
         return reason.figures
-    return ["%s %s" % pair for pair in zip(labels, reason.figures)]
+    pairs = list(zip(labels, reason.figures))
+    if without_place and labels[-2:] == PLACE:
+        pairs = pairs[:-2]
+    return ["%s %s" % pair for pair in pairs]
 
 
 def place_in(reason, patches):

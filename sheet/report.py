@@ -93,7 +93,9 @@ def reason_words(row, rules):
     """What explain says, with the sentence of the rule that it names."""
     if row.reason is None:
         return []
-    words, told = "Rule `%s`" % row.reason.name, labelled_figures(row.reason)
+    # the place is told from 1 by break_words, as a reader counts; explain counts from 0
+    placed = row.breaks is not None and row.breaks.operation is not None
+    words, told = "Rule `%s`" % row.reason.name, labelled_figures(row.reason, without_place=placed)
     if rules.names.get(row.reason.name):
         words += ": " + rules.names[row.reason.name]
     return [words + (" (%s)" % ", ".join(told) if told else "")]

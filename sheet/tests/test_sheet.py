@@ -98,7 +98,8 @@ class Refusals(unittest.TestCase):
         row = trial.rows[-1]
         self.assertEqual(row.reason, Reason("8", "key-absent", ["0", "1"]))
         self.assertEqual((row.breaks.patch, row.breaks.operation), (0, 1))
-        self.assertIn("Rule key-absent: The key to update, remove or move is not in the list. (patch 0, operation 1)", text(trial, "x", Rules()))
+        self.assertIn("Rule key-absent: The key to update, remove or move is not in the list.\n", text(trial, "x", Rules()))
+        self.assertIn("Broke off at operation 2 of patch", text(trial, "x", Rules()))
         self.assertIn("Rule <code>key-absent</code>", page(trial, "x", Rules()))
         self.assertIsNone(trial.rows[4].reason)
 
@@ -107,6 +108,8 @@ class Refusals(unittest.TestCase):
                              ("W\t2\tclosed", Reason("2", "closed", [])), ("?\t4", None), ("N", None)):
             self.assertEqual(read_reason(line), reason)
         self.assertEqual(labelled_figures(Reason("4", "references", ["17", "16"])), ["there 17", "at most 16"])
+        self.assertEqual(labelled_figures(Reason("8", "key-absent", ["0", "1"])), ["patch 0", "operation 1"])
+        self.assertEqual(labelled_figures(Reason("5", "unknown-target", ["2", "0", "1"]), without_place=True), ["count 2"])
         self.assertEqual(labelled_figures(Reason("4", "references", ["17"])), ["17"])
         self.assertEqual(labelled_figures(Reason("10", "of-tomorrow", ["1", "2"])), ["1", "2"])
         self.assertIsNone(place_in(Reason("8", "key-absent", ["0", "9"]), []))
