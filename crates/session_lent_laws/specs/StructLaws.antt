@@ -12,7 +12,7 @@ use Rattle.active_projection_target_catalog.specs.Catalog.{pairTo, noPair, padd
 use Rattle.active_projection_target_catalog.specs.CatalogLaws.{catalogue-back}
 use Rattle.active_projection_target_catalog.specs.declared.catalog.BindingPair.{BindingPair}
 use Rattle.bytes_records.specs.Table.{HoldsRows}
-use Rattle.bytes_records.specs.TableLaws.{used, paddedPairs as padded-rows}
+use Rattle.bytes_records.specs.TableLaws.{used, padded as padded-rows}
 use Rattle.panel_changes.specs.SetChangesLaws.{stored-lengths, stored-counts}
 use Rattle.panel_writing.specs.Writing.{ClearBehind}
 use Rattle.session_gates.specs.Lent.{Lent}
