@@ -13,3 +13,4 @@ pub mod AnswerLaws
 pub mod CountLaws
 pub mod KindLaws
 pub mod CheckExamples
+pub mod Opened

@@ -2,70 +2,25 @@
 use Prim.Native.Nat.{ℕ, _≤_}
 use mathlib.Core.Path.{_≡_, refl}
 use mathlib.Core.Bool.{Bool, true, false, not, _&&_}
-use mathlib.Core.List
 use mathlib.Core.List.{List, [], _∷_, _++_}
 use mathlib.Core.Option.{none}
 use native.Mathlib.Omega.{arith}
 use borrow.Author.Tests.{leb-true}
 use lib.Dec.{T, leb, eqb}
+use Rattle.spec_patch.specs.Opened.{openedSets}
 use Rattle.spec_lists.specs.Lists.{all, equalLists}
 use Rattle.spec_lists.specs.ListLaws.{and-left, and-right}
-use Rattle.spec_lists.specs.Bytes
 use Rattle.spec_lists.specs.Bytes.{Bytes}
 use Rattle.spec_patch.specs.Patch.{Value, quad, N, text, score, setBinding, insert, update, Patch}
-use Rattle.spec_patch.specs.Edition
 use Rattle.spec_patch.specs.Edition.{Edition, v1, v2}
-use Rattle.spec_patch.specs.Encode
 use Rattle.spec_patch.specs.Encode.{u32, heading, encode}
-use Rattle.spec_patch.specs.Reader
-use Rattle.spec_patch.specs.Read
-use Rattle.spec_patch.specs.Write
 use Rattle.spec_conversion.specs.Conversion
 use Rattle.spec_conversion.specs.Conversion.{Converted, converted, refused, conversionNumber, convert, withoutScores}
 use Rattle.spec_conversion.specs.ConversionLaws.{Convertible, converts-exactly}
 
 -- every definition that the tests compute through
 unfoldable opened : Unit {0}
-unfolding
-    mathlib.Core.List.flatMap
-    Rattle.spec_lists.specs.Bytes.littleEndian
-    Rattle.spec_lists.specs.Bytes.numberOf
-    Rattle.spec_patch.specs.Edition.editionDigit
-    Rattle.spec_patch.specs.Edition.letters
-    Rattle.spec_patch.specs.Edition.addedKinds
-    Rattle.spec_patch.specs.Edition.kinds
-    Rattle.spec_patch.specs.Edition.hasKind
-    Rattle.spec_patch.specs.Encode.encodeOptional
-    Rattle.spec_patch.specs.Encode.quadByte
-    Rattle.spec_patch.specs.Encode.encodeText
-    Rattle.spec_patch.specs.Encode.kindOf
-    Rattle.spec_patch.specs.Encode.valueBody
-    Rattle.spec_patch.specs.Encode.encodeValue
-    Rattle.spec_patch.specs.Encode.encodeOperation
-    Rattle.spec_patch.specs.Encode.encodeEnvelope
-    Rattle.spec_patch.specs.Encode.encodeCounted
-    Rattle.spec_patch.specs.Encode.encodePatch
-    Rattle.spec_patch.specs.Encode.heading
-    Rattle.spec_patch.specs.Encode.encode
-    Rattle.spec_patch.specs.Reader.many
-    Rattle.spec_patch.specs.Reader.literal
-    Rattle.spec_patch.specs.Read.optionalAfter
-    Rattle.spec_patch.specs.Read.readOptional
-    Rattle.spec_patch.specs.Read.quadAfter
-    Rattle.spec_patch.specs.Read.readQuad
-    Rattle.spec_patch.specs.Read.readTextBy
-    Rattle.spec_patch.specs.Read.valueAfter
-    Rattle.spec_patch.specs.Read.inEdition
-    Rattle.spec_patch.specs.Read.readValueBy
-    Rattle.spec_patch.specs.Read.operationAfter
-    Rattle.spec_patch.specs.Read.readOperationBy
-    Rattle.spec_patch.specs.Read.readEnvelope
-    Rattle.spec_patch.specs.Read.readPatch
-    Rattle.spec_patch.specs.Read.readPatches
-    Rattle.spec_patch.specs.Read.ended
-    Rattle.spec_patch.specs.Read.readSet
-    Rattle.spec_patch.specs.Write.valuePasses
-    Rattle.spec_patch.specs.Write.allValues
+unfolding openedSets
     Rattle.spec_conversion.specs.Conversion.otherEdition
     Rattle.spec_conversion.specs.Conversion.conversionNumber
     Rattle.spec_conversion.specs.Conversion.unread

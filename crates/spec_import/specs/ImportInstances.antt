@@ -2,28 +2,20 @@
 use Prim.Native.Nat.{ℕ, _+_}
 use mathlib.Core.Path.{_≡_, refl}
 use mathlib.Core.Bool.{Bool, false, _&&_}
-use mathlib.Core.List
 use mathlib.Core.List.{List, [], _∷_, _++_, flatMap}
 use mathlib.Core.Option.{none}
 use native.Mathlib.Omega.{arith}
 use lib.Dec.{T, eqb}
 use lib.ListN.{replicate}
+use Rattle.spec_patch.specs.Opened.{openedSets}
+use Rattle.spec_checks.specs.Opened.{openedChecks}
 use Rattle.spec_lists.specs.Lists.{all, equalLists, All}
-use Rattle.spec_lists.specs.Bytes
-use Rattle.spec_lists.specs.Order
 use Rattle.spec_decimal.specs.Decimal
 use Rattle.spec_listing.specs.Escapes.{tab, newline, carriageReturn}
 use Rattle.spec_listing.specs.Split
 use Rattle.spec_patch.specs.Patch.{Envelope, insert, text}
-use Rattle.spec_patch.specs.Edition
 use Rattle.spec_patch.specs.Edition.{Edition, v1, v2}
-use Rattle.spec_patch.specs.Encode
 use Rattle.spec_patch.specs.Encode.{encode}
-use Rattle.spec_checks.specs.Finding
-use Rattle.spec_checks.specs.Target
-use Rattle.spec_checks.specs.PatchChecks
-use Rattle.spec_checks.specs.SetChecks
-use Rattle.spec_checks.specs.Findings
 use Rattle.spec_import.specs.Import
 use Rattle.spec_import.specs.Import.{Term, importNumber, lines, Terms, terms, faulty, readTerms, Imported, imported, refused, importTerms, printTerms}
 use Rattle.spec_import.specs.LineLaws.{PrintableTerm, KeptTerm}
@@ -31,12 +23,7 @@ use Rattle.spec_import.specs.ImportLaws.{Importable, imports-exactly}
 
 -- every definition that the tests compute through
 unfoldable pub openedImport : Unit {0}
-unfolding
-    mathlib.Core.List.flatMap
-    Rattle.spec_lists.specs.Bytes.littleEndian
-    Rattle.spec_lists.specs.Order.lexLess
-    Rattle.spec_lists.specs.Order.upsert
-    Rattle.spec_lists.specs.Order.sortUnique
+unfolding openedSets openedChecks
     Rattle.spec_decimal.specs.Decimal.digits
     Rattle.spec_decimal.specs.Decimal.decimal
     Rattle.spec_decimal.specs.Decimal.isNumeral
@@ -44,38 +31,6 @@ unfolding
     Rattle.spec_decimal.specs.Decimal.readDecimal
     Rattle.spec_listing.specs.Split.prepend
     Rattle.spec_listing.specs.Split.split
-    Rattle.spec_patch.specs.Edition.editionDigit
-    Rattle.spec_patch.specs.Edition.letters
-    Rattle.spec_patch.specs.Encode.encodeOptional
-    Rattle.spec_patch.specs.Encode.encodeText
-    Rattle.spec_patch.specs.Encode.kindOf
-    Rattle.spec_patch.specs.Encode.valueBody
-    Rattle.spec_patch.specs.Encode.encodeValue
-    Rattle.spec_patch.specs.Encode.encodeOperation
-    Rattle.spec_patch.specs.Encode.encodeEnvelope
-    Rattle.spec_patch.specs.Encode.encodeCounted
-    Rattle.spec_patch.specs.Encode.encodePatch
-    Rattle.spec_patch.specs.Encode.heading
-    Rattle.spec_patch.specs.Encode.encode
-    Rattle.spec_checks.specs.Finding.kindNumber
-    Rattle.spec_checks.specs.Finding.findingKey
-    Rattle.spec_checks.specs.Finding.report
-    Rattle.spec_checks.specs.Finding.checkEach
-    Rattle.spec_checks.specs.Target.mutationTarget
-    Rattle.spec_checks.specs.Target.sameTarget
-    Rattle.spec_checks.specs.PatchChecks.isSelf
-    Rattle.spec_checks.specs.PatchChecks.beforeSelf
-    Rattle.spec_checks.specs.PatchChecks.operationFindings
-    Rattle.spec_checks.specs.PatchChecks.envelopeFindings
-    Rattle.spec_checks.specs.PatchChecks.rawPatchFindings
-    Rattle.spec_checks.specs.PatchChecks.patchFindings
-    Rattle.spec_checks.specs.SetChecks.duplicateIdFindings
-    Rattle.spec_checks.specs.SetChecks.previousFindings
-    Rattle.spec_checks.specs.SetChecks.afterFindings
-    Rattle.spec_checks.specs.SetChecks.rawSetFindings
-    Rattle.spec_checks.specs.SetChecks.setFindings
-    Rattle.spec_checks.specs.Findings.firstFindings
-    Rattle.spec_checks.specs.Findings.findings
     Rattle.spec_import.specs.Import.importNumber
     Rattle.spec_import.specs.Import.lines
     Rattle.spec_import.specs.Import.termWith

@@ -19,3 +19,4 @@ pub mod TextLaws
 pub mod LengthFirst
 pub mod CutOff
 pub mod CutLaws
+pub mod Opened

@@ -23,3 +23,4 @@ pub mod UnmarkedLaws
 pub mod FoundLaws
 pub mod MarksLaws
 pub mod MarkPremises
+pub mod Opened
