@@ -165,24 +165,24 @@ returns-3 c =
 advanced-requires : tie.Need-advanced-requires
 advanced-requires c κs = search needs
 
-session-of-requires : tie.Need-session-of-requires
-session-of-requires c κs = search needs
+with-tables-requires : tie.Need-with-tables-requires
+with-tables-requires c κs = search needs
 
 -- the answer where the set was applied
-answered : (c : tie.After-session-of) → batchAnswerOf (c .before .before .before .before .before .concluded .result) ≡ answerAt applied (at (c .before .before .before .before .before .before .before .before .before .before .before .before .before .before .before .before .before .before .before .before .before .before .before .before .before .before .before .before .before .before .before .before .args .envelope .«sequence_no»))
+answered : (c : tie.After-with-tables) → batchAnswerOf (c .before .before .before .before .before .concluded .result) ≡ answerAt applied (at (c .before .before .before .before .before .before .before .before .before .before .before .before .before .before .before .before .before .before .before .before .before .before .before .before .before .before .before .before .before .before .before .before .args .envelope .«sequence_no»))
 unfolding changeAnswer
 answered c = c .before .before .before .before .before .concluded .ensures ∙ ap (changeAnswer _ _ _) (c .before .before .before .change .given .1)
 
 -- the session that was made of the tables
-handed : (c : tie.After-session-of) → let a = c .before .before .before .before .before .before .before .before .before .before .before .before .before .before .before .before .before .before .before .before .before .before .before .before .before .before .before .before .before .before .before .before .args in (m : Session) (ps : List Patch) → Holds (a .t1) m → readSet (editionOf (a .edition)) (now (a .set)) ≡ patches ps → (a .envelope .«patch_count» ≡ 0 → ⊥)
-    → BatchBecame (batchOf (c .session-of .result) (c .before .before .before .before .before .concluded .result)) (commit m (envelopeMeans (a .envelope)) (candidate m ps))
+handed : (c : tie.After-with-tables) → let a = c .before .before .before .before .before .before .before .before .before .before .before .before .before .before .before .before .before .before .before .before .before .before .before .before .before .before .before .before .before .before .before .before .args in (m : Session) (ps : List Patch) → Holds (a .t1) m → readSet (editionOf (a .edition)) (now (a .set)) ≡ patches ps → (a .envelope .«patch_count» ≡ 0 → ⊥)
+    → BatchBecame (batchOf (c .with-tables .result) (c .before .before .before .before .before .concluded .result)) (commit m (envelopeMeans (a .envelope)) (candidate m ps))
 handed c m ps h reads some =
     let a = c .before .before .before .before .before .before .before .before .before .before .before .before .before .before .before .before .before .before .before .before .before .before .before .before .before .before .before .before .before .before .before .before .args in
     let call = c .before .before .before .before .before .before .before .before .before .before in
     let result = c .before .before .before .before .before .concluded .result in
     let ended = c .before .before .before .change .given in
     let stored : Tables call (Applied (ended .0 .0)) m ps = subst (λ r. Tables call r m ps) (ended .1) (became call m ps h reads) in
-    subst (λ (s : ShellSession). BatchBecame (batchOf s result) (commit m (envelopeMeans (a .envelope)) (candidate m ps))) (sym (c .session-of .ensures))
+    subst (λ (s : ShellSession). BatchBecame (batchOf s result) (commit m (envelopeMeans (a .envelope)) (candidate m ps))) (sym (c .with-tables .ensures))
     (commits-applied (a .t1) m h (envelopeMeans (a .envelope)) ps (ended .0 .0) _ _ _ _ (c .before .advanced .result) result some stored (c .before .advanced .ensures) (answered c))
 
 batch-of-requires-4 : tie.Need-batch-of-requires-4
@@ -230,6 +230,6 @@ apply-projection-patch-batch-spec =
     batch-of-requires-3
     returns-3
     advanced-requires
-    session-of-requires
+    with-tables-requires
     batch-of-requires-4
     returns-4)
