@@ -1,12 +1,13 @@
 -- Laws of places: what they stand for once they are emptied, and that any bytes of the right number are places.
 use Prim.Native.Nat.{ℕ, zero, suc, _*_, _≤_, _<_}
 use mathlib.Core.Path.{_≡_, refl, sym, ap, ap₂, _∙_}
+use mathlib.Core.Bool.{Bool, true, false}
 use mathlib.Core.List.{List, [], _∷_, _++_, map, flatten, append-nil}
 use native.Mathlib.Nat.{suc-mul}
 use native.Mathlib.Omega.{arith}
 use borrow.Author.Tests.{eq-eqb, ne-eqb}
 use lib.Dec.{eqb}
-use lib.ListN.{length, take, drop, getD, length-take, length-drop, take-append-drop}
+use lib.ListN.{length, take, drop, getD, length-take, length-drop, length-set, take-append-drop}
 use Rattle.spec_lists.specs.Lists.{All}
 use Rattle.spec_lists.specs.ListLaws.{if-cases}
 use Rattle.bytes_records.specs.Moves.{zeros}
@@ -16,13 +17,17 @@ use Rattle.bytes_records.specs.TableLaws.{holds}
 use Rattle.panel_page.specs.PageTable.{pageWidth}
 use Rattle.panel_page.specs.PageTableLaws.{nothing-found}
 use Rattle.panel_page.specs.Answering.{answersIn}
-use Rattle.panel_page.specs.Shown.{emptied, shown, Shows}
+use Rattle.panel_page.specs.Shown.{emptied, shown, placeAfter, Shows}
 
 -- ---- places
 
 pub length-shown : (row : List ℕ) → length (shown row) ≡ length row
 unfolding shown
 length-shown row = if-cases (λ (l : List ℕ). length l ≡ length row) (eqb (getD row 0 0) 0) (zeros (length row)) row (λ t. length-zeros (length row)) (λ t. refl)
+
+pub length-after : (ending : Bool) (row : List ℕ) → length (placeAfter ending row) ≡ length row
+length-after true row = length-shown row
+length-after false row = length-set row 0 0
 
 -- one whose first byte is not 0 stands for itself
 pub shown-itself : (row : List ℕ) → 0 < getD row 0 0 → shown row ≡ row

@@ -48,9 +48,9 @@ fn fill_page(table: &[u8], count: usize, collection: u64, keys: &[u64], answers:
     let mut heads = [0usize; index::KEY_PLACES];
     let mut earlier = [0usize; PageLookup::KEYS];
     index::index_keys(keys, &mut heads, &mut earlier);
-    places::empty_places(answers, keys.len());
+    places::change_places(answers, keys.len(), false);
     entries::answer_rows(table, count, collection, keys, &heads, &earlier, answers);
-    places::clear_empty_places(answers, keys.len());
+    places::change_places(answers, keys.len(), true);
 }
 
 // Looks the keys of a collection up in a table of entries, and writes one row for each into the answers, in their order. Places behind the

@@ -6,7 +6,7 @@ ghost use Prim.Native.Nat.{ℕ, _*_};
 ghost use lib.ListN.{length};
 ghost use Rattle.bytes_records.specs.Table.{HoldsRows};
 ghost use Rattle.panel_page.specs.PageTable.{pageWidth};
-ghost use Rattle.panel_page.specs.Shown.{emptied, shown};
+ghost use Rattle.panel_page.specs.Shown.{emptied, shown, placeAfter};
 use crate::rows::PageLookup;
 
 fn empty_place(place: &mut [u8])
@@ -16,20 +16,6 @@ fn empty_place(place: &mut [u8])
         return;
     }
     place[0] = 0;
-}
-
-// Lets every place stand for a row of zeros.
-pub(crate) fn empty_places(answers: &mut [u8], count: usize)
-    requires { ⌜ length (now answers) ≡ count * pageWidth ⌝ }
-    ensures { λ _. ⌜ ((m : List (List ℕ)) → HoldsRows pageWidth count (now (answers .entry)) m → HoldsRows pageWidth count (now (answers .exit)) (map emptied m)) ⌝ }
-{
-    let mut i: usize = 0;
-    while i < count {
-        let from = i * PageLookup::WIDTH;
-        let end = from + PageLookup::WIDTH;
-        empty_place(&mut answers[from..end]);
-        i += 1;
-    }
 }
 
 fn clear_empty(place: &mut [u8])
@@ -43,16 +29,27 @@ fn clear_empty(place: &mut [u8])
     }
 }
 
-// Makes every place the row that it stands for.
-pub(crate) fn clear_empty_places(answers: &mut [u8], count: usize)
+// At the end a place becomes the row that it stands for, and before that it stands for a row of zeros.
+fn change_place(place: &mut [u8], ending: bool)
+    ensures { λ _. ⌜ now (place .exit) ≡ placeAfter ending (now (place .entry)) ⌝ }
+{
+    if ending {
+        clear_empty(place);
+    } else {
+        empty_place(place);
+    }
+}
+
+// Changes every place so.
+pub(crate) fn change_places(answers: &mut [u8], count: usize, ending: bool)
     requires { ⌜ length (now answers) ≡ count * pageWidth ⌝ }
-    ensures { λ _. ⌜ ((m : List (List ℕ)) → HoldsRows pageWidth count (now (answers .entry)) m → HoldsRows pageWidth count (now (answers .exit)) (map shown m)) ⌝ }
+    ensures { λ _. ⌜ ((m : List (List ℕ)) → HoldsRows pageWidth count (now (answers .entry)) m → HoldsRows pageWidth count (now (answers .exit)) (map (placeAfter ending) m)) ⌝ }
 {
     let mut i: usize = 0;
     while i < count {
         let from = i * PageLookup::WIDTH;
         let end = from + PageLookup::WIDTH;
-        clear_empty(&mut answers[from..end]);
+        change_place(&mut answers[from..end], ending);
         i += 1;
     }
 }

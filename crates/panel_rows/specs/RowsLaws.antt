@@ -2,7 +2,7 @@
 use Prim.Native.Nat.{ℕ, _+_, _-_, _^_, _≤_, _<_}
 use mathlib.Core.Path.{_≡_, refl, sym, ap, ap₂, _∙_}
 use mathlib.Core.Bool.{Bool, true}
-use mathlib.Core.List.{List, [], _∷_, _++_, append-assoc, append-nil}
+use mathlib.Core.List.{List, [], _∷_, _++_, append-assoc}
 use native.Mathlib.Omega.{arith}
 use borrow.Author.Tests.{leb-true, leb-false, le-leb, lt-leb}
 use lib.Dec.{leb}
@@ -214,17 +214,10 @@ module _ (key value row : List ℕ) where
       ap length (written-filled room) ∙ simp (length-append, length-replicate) (omega arith))
       (λ t. ap length (written-left (leb-false (length key + length value) (length row) t)))
 
--- a value's canonical bytes, and a stored value's bytes, make the same row
+-- a value's canonical bytes make its row
 module _ (key row : List ℕ) (room : length key + valueWidth ≡ length row) (v : Value) (h : Storable v) where
   pub written-encoded : writtenRow key (encodeValue v) row ≡ key ++ padded v
   unfolding filledRow padded
   written-encoded =
       let rest : length row - (length key + length (encodeValue v)) ≡ valueWidth - length (encodeValue v) = omega arith in
       written-filled key (encodeValue v) row (omega (arith, value-fits v h)) ∙ ap (λ (n : ℕ). key ++ (encodeValue v ++ zeros n)) rest
-
-  pub written-padded : writtenRow key (padded v) row ≡ key ++ padded v
-  unfolding filledRow
-  written-padded =
-      let none : length row - (length key + length (padded v)) ≡ 0 = omega (arith, length-padded v h) in
-      written-filled key (padded v) row (omega (arith, length-padded v h)) ∙ ap (λ (n : ℕ). key ++ (padded v ++ zeros n)) none
-      ∙ ap (λ (l : List ℕ). key ++ l) (append-nil (padded v))

@@ -1,6 +1,6 @@
 -- What a batch hands back is what the batch of the model hands back.
 use Prim.Native.Nat.{ℕ}
-use mathlib.Core.Path.{_≡_, refl, sym, ap, ap₂, subst, _∙_}
+use mathlib.Core.Path.{_≡_, sym, ap, ap₂, subst, _∙_}
 use mathlib.Core.List.{List, [], _∷_, flatMap}
 use native.Mathlib.Omega.{arith}
 use borrow.Author.Tests.{eq-eqb, ne-eqb, eqb-true}
@@ -26,6 +26,7 @@ use Rattle.panel_changes.specs.SetChanges.{StoredAfter, ChangeBecame}
 use Rattle.panel_changes.specs.declared.SetChange.{SetChange}
 use Rattle.panel_changes.specs.declared.SetChange.the-variants as change
 use Rattle.session_gates.specs.Gates.{erased}
+use Rattle.session_gates.specs.ErasedLaws.{erased-refused, erased-passed}
 use Rattle.shell_player.specs.declared.session.ShellSession.{ShellSession}
 use Rattle.session_steps.specs.declared.answers.ProjectionPatchApplicationResult.{ProjectionPatchApplicationResult}
 use Rattle.shell_player.specs.declared.batch.ProjectionPatchBatch.{ProjectionPatchBatch}
@@ -41,18 +42,7 @@ use Rattle.shell_player.specs.Batches.{sessionOf, BatchBecame, KeptUnles
 pub kept-applied : (s : ShellSession) (r : ProjectionPatchBatch) (c : Cursor) → batchAnswerOf (r .result) ≡ answerAt applied c → KeptUnlessApplied s r
 kept-applied s r c e not = absurd (not (applied-told (r .result .disposition) (ap (λ (a : BatchAnswer). a .disposition) e)))
 
--- ---- what passed and what was refused
-
-erased-refused : (c : Check (List Patch)) (f : SessionRefusal) (n : ℕ) → refuse f n ≡ erased c → c ≡ refuse f n
-erased-refused (pass ps) f n e = absurd (let z : _≡_ {A = ℕ} 0 1 = cc in omega arith)
-erased-refused (refuse g k) f n e =
-    let same : f ≡ g = cc e in
-    let count : n ≡ k = cc e in
-    ap₂ (λ a b. refuse a b) (sym same) (sym count)
-
-erased-passed : (c : Check (List Patch)) → pass tt ≡ erased c → (ps : List Patch) × (c ≡ pass ps)
-erased-passed (pass ps) e = (ps, refl)
-erased-passed (refuse g k) e = absurd (let z : _≡_ {A = ℕ} 0 1 = cc in omega arith)
+-- ---- what the batch of the model hands back
 
 module _ (s : ShellSession) (m : Session) (holds : Holds s m) where
   -- a batch sees the session that the struct stores

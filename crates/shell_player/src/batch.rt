@@ -1,20 +1,18 @@
 // One batch of patches: steps 1 to 8 on what the session tells, then step 9 from its tables to those of the next session.
 use crate::session::ShellSession;
+use crate::tables;
 use local_projection_state::LocalProjectionState;
-use local_projection_state::ProjectionCounts;
 use panel_changes::SetChange;
 use projection_patch::patch::ProjectionPatchEdition;
 use session_gates::gates::BatchGate;
 use session_gates::gates::OrderedProjectionPatchBatchEnvelope;
-use session_lifecycle::state::ShellLocalState;
 use session_steps::answers;
 use session_steps::answers::ProjectionPatchApplicationResult;
 use session_steps::checks;
-use session_steps::checks::ActivatedShellSessionContext;
 use session_steps::states;
 ghost use mathlib.Core.Path.{_≡_};
 ghost use Rattle.projection_patch.specs.Meaning.{editionOf};
-ghost use Rattle.shell_player.specs.Batches.{sessionOf, batchOf, BatchCall, AnyBatchCall};
+ghost use Rattle.shell_player.specs.Batches.{batchOf, BatchCall, AnyBatchCall};
 
 // The session after a batch, and the batch's answer.
 pub struct ProjectionPatchBatch {
@@ -22,32 +20,7 @@ pub struct ProjectionPatchBatch {
     pub result: ProjectionPatchApplicationResult,
 }
 
-// The session of these parts. It is made by a call, since a struct that is made in place is put together beside it first.
-fn session_of(
-    context: ActivatedShellSessionContext,
-    state: ShellLocalState,
-    counts: ProjectionCounts,
-    bindings: [u8; LocalProjectionState::BINDING_BYTES],
-    availability: [u8; LocalProjectionState::AVAILABILITY_BYTES],
-    entries: [u8; LocalProjectionState::ENTRY_BYTES],
-    lengths: [u8; LocalProjectionState::LENGTH_BYTES],
-) -> ShellSession
-    ensures { λ r. ⌜ r ≡ sessionOf context state counts bindings availability entries lengths ⌝ }
-{
-    ShellSession {
-        context,
-        state,
-        local_projection: LocalProjectionState {
-            counts,
-            bindings,
-            availability,
-            entries,
-            lengths,
-        },
-    }
-}
-
-// A batch's session and answer, made by a call for the same reason.
+// A batch's session and answer. They are put together by a call, since a struct that is made in place is put together beside it first.
 fn batch_of(session: ShellSession, result: ProjectionPatchApplicationResult) -> ProjectionPatchBatch
     ensures { λ r. ⌜ r ≡ batchOf session result ⌝ }
 {
@@ -101,7 +74,7 @@ impl ShellSession {
             return batch_of(self, result);
         };
         let moved = states::advanced(state, envelope.sequence_no);
-        let session = session_of(context, moved, n, bindings, availability, entries, lengths);
+        let session = tables::with_tables(self, moved, n, bindings, availability, entries, lengths);
         batch_of(session, result)
     }
 }

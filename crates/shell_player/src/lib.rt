@@ -2,3 +2,4 @@
 pub mod batch;
 pub mod lookups;
 pub mod session;
+mod tables;

@@ -19,8 +19,8 @@ slice-aggregate-index-keys-2 c = search needs
 index-keys-requires : tie.Need-index-keys-requires
 index-keys-requires c κs = search needs
 
-empty-places-requires : tie.Need-empty-places-requires
-empty-places-requires c κs = search needs
+change-places-requires : tie.Need-change-places-requires
+change-places-requires c κs = search needs
 
 slice-aggregate-answer-rows : tie.Need-slice-aggregate-answer-rows
 slice-aggregate-answer-rows c = search needs
@@ -31,8 +31,8 @@ slice-aggregate-answer-rows-2 c = search needs
 answer-rows-requires : tie.Need-answer-rows-requires
 answer-rows-requires c κs = search needs
 
-clear-empty-places-requires : tie.Need-clear-empty-places-requires
-clear-empty-places-requires c κs = search needs
+change-places-requires-2 : tie.Need-change-places-requires-2
+change-places-requires-2 c κs = search needs
 
 same-length : tie.Need-same-length
 same-length c = search needs
@@ -48,9 +48,9 @@ returns c =
     let places = placesOf pageWidth (length keys) (now (a .answers)) in
     let held = places-held pageWidth (length keys) (now (a .answers)) (start .pre .1) in
     λ p s v.
-    let nothing = shows-nothing (a .collection) keys (at-empty .empty-places .last .0) places (held .wide) (held .counted) (at-empty .empty-places .ensures places held) in
+    let nothing = shows-nothing (a .collection) keys (at-empty .change-places .last .0) places (held .wide) (held .counted) (at-empty .change-places .ensures places held) in
     let all = at-rows .answer-rows .ensures (p .entries) (v .fitEntries) (v .entries) (s .rows) nothing in
-    let cleared = subst (HoldsRows pageWidth (length keys) _) (all .stand) (at-clear .clear-empty-places .ensures (all .places) (all .held)) in
+    let cleared = subst (HoldsRows pageWidth (length keys) _) (all .stand) (at-clear .change-places2 .ensures (all .places) (all .held)) in
     holds-all cleared (search needs) ∙ page-bytes p (a .collection) keys
 
 pub fill-page-spec : {M : Type 1} → statement M
@@ -60,10 +60,10 @@ fill-page-spec =
     slice-aggregate-index-keys
     slice-aggregate-index-keys-2
     index-keys-requires
-    empty-places-requires
+    change-places-requires
     slice-aggregate-answer-rows
     slice-aggregate-answer-rows-2
     answer-rows-requires
-    clear-empty-places-requires
+    change-places-requires-2
     same-length
     returns)

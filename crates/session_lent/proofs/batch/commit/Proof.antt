@@ -1,21 +1,14 @@
 -- `commit` meets its contract: the head is written where the tables were.
 use Prim.Native.Nat.{ℕ}
 use mathlib.Core.Path.{_≡_, sym, subst}
-use mathlib.Core.List.{List, [], _∷_}
-use mathlib.Core.Logic.{inl, inr}
-use denote.Enum.Declared.{tagOf}
-use types.Run.{OneOf}
-use native.Mathlib.Omega.{arith}
+use mathlib.Core.List.{List}
 use Rattle.spec_projection.specs.Projection.{Projection}
 use Rattle.spec_projection.specs.Apply.{replaySteps, applySteps}
 use Rattle.session_lent.specs.Head.{movedHead}
 use Rattle.local_projection_state.specs.Stores.{StoredTables}
 use Rattle.local_projection_state.specs.declared.ProjectionCounts.{ProjectionCounts}
-use Rattle.panel_changes.proofs.SetChange as set-change
 use Rattle.panel_changes.specs.SetChanges.{ReadyTables, StoredAfter}
-use Rattle.panel_changes.specs.declared.SetChange.{SetChange}
-use Rattle.panel_changes.specs.declared.SetChange.the-variants.{Applied, Refused, Unreadable, BadTables}
-use Rattle.session_steps.specs.Answers.{Stopped}
+use Rattle.session_steps.proofs.Stops.{other-stopped}
 use Rattle.session_lent.specs.BatchesLaws.{stopped-became, stopped-kept, applied-became}
 use borrow.Author.Needs.{needs}
 use Rattle.session_lent.proofs.batch.commit.Statement.{statement}
@@ -25,15 +18,6 @@ use Rattle.session_lent.proofs.batch.commit.Lts as lts
 use Rattle.panel_changes.proofs.apply_set.Reads as apply-set-reads
 use Rattle.session_lent.proofs.head.counts_in.Reads as counts-in-reads
 use Rattle.session_lent.proofs.head.store_moved.Reads as store-moved-reads
-
--- a change of another variant than Applied
-other : (r : SetChange) → OneOf (1 ∷ 2 ∷ 3 ∷ []) (tagOf set-change.the-type r) → Stopped r
-other (Applied n) (inl e) = absurd (omega arith)
-other (Applied n) (inr (inl e)) = absurd (omega arith)
-other (Applied n) (inr (inr e)) = absurd (omega arith)
-other (Refused e) k = tt
-other (Unreadable f) k = tt
-other BadTables k = tt
 
 stored : {b a e : List ℕ} {p : Projection} {k : ProjectionCounts} (n : ProjectionCounts) → n ≡ k → StoredTables k b a e p → StoredTables n b a e p
 stored {b = b} {a = a} {e = e} {p = p} n is = subst (λ (x : ProjectionCounts). StoredTables x b a e p) (sym is)
@@ -76,7 +60,7 @@ returns c =
     let v = call .last .1 .1 .1 .1 .1 .1 .1 .0 in
     let e = call .last .1 .1 .1 .1 .1 .1 .1 .1 .0 in
     let l = call .last .1 .1 .1 .1 .1 .1 .1 .1 .1 .0 in
-    let stop = other (call .result) (c .match .keys2) in (
+    let stop = other-stopped (call .result) (c .match .keys2) in (
       λ p ps st reads room.
           stopped-became (λ n q. StoredAfter n b v e l q) (λ n q. (a .to-head .now ≡ movedHead (a .head .now) (a .sequence-no) n) × StoredAfter n b v e l q) (call .result) (applySteps p (replaySteps ps)) stop
           (call .ensures .0 p ps (stored _ (c .before .before .before .before .before .before .before .before .before .before .before .before .before .before .before .before .counts-in .ensures) st) reads (ready _ (c .before .before .before .before .before .before .before .before .before .before .before .before .before .before .counts-in2 .ensures) (room .tables))),

@@ -2,12 +2,8 @@
 use Prim.Native.Nat.{ℕ}
 use mathlib.Core.Path.{_≡_, refl, sym, ap, subst, _∙_}
 use mathlib.Core.Bool.{false≢true}
-use mathlib.Core.List.{List, [], _∷_}
-use mathlib.Core.Logic.{inl, inr}
-use denote.Enum.Declared.{tagOf}
+use mathlib.Core.List.{List}
 use denote.Ref.{now}
-use types.Run.{OneOf}
-use native.Mathlib.Omega.{arith}
 use borrow.Author.Needs.{needs}
 use borrow.Author.Tests.{eq-eqb, eqb-true}
 use Rattle.spec_patch.specs.Patch.{Patch}
@@ -19,15 +15,15 @@ use Rattle.spec_session.specs.BatchLaws.{never-passes}
 use Rattle.bytes_records.specs.Moves.{zeros}
 use Rattle.panel_rows.specs.Rows.{bindingBytes, availabilityBytes, entryBytes, lengthBytes}
 use Rattle.local_projection_state.specs.declared.ProjectionCounts.{ProjectionCounts}
-use Rattle.panel_changes.proofs.SetChange as set-change
 use Rattle.panel_changes.specs.SetChanges.{ReadyTables, StoredAfter, ChangeBecame}
 use Rattle.panel_changes.specs.SetChangesLaws.{zeros-ready}
 use Rattle.panel_changes.specs.declared.SetChange.{SetChange}
-use Rattle.panel_changes.specs.declared.SetChange.the-variants.{Applied, Refused, Unreadable, BadTables}
+use Rattle.panel_changes.specs.declared.SetChange.the-variants.{Applied}
 use Rattle.session_gates.specs.Gates.{gateOf, checkCounted, envelopeMeans}
 use Rattle.session_gates.specs.declared.gates.OrderedProjectionPatchBatchEnvelope.{OrderedProjectionPatchBatchEnvelope}
 use Rattle.session_steps.specs.declared.answers.ProjectionPatchApplicationResult.{ProjectionPatchApplicationResult}
-use Rattle.session_steps.specs.Answers.{batchAnswerOf, answerAt, changeAnswer, Stopped, rejectedRow, unchangedRow, appliedRow}
+use Rattle.session_steps.specs.Answers.{batchAnswerOf, answerAt, changeAnswer, rejectedRow, unchangedRow, appliedRow}
+use Rattle.session_steps.proofs.Stops.{other-stopped}
 use Rattle.session_steps.specs.AnswersLaws.{same-rejection, change-row}
 use Rattle.spec_patch.specs.Edition.{Edition}
 use Rattle.projection_patch.specs.Meaning.{editionOf}
@@ -40,15 +36,6 @@ use Rattle.shell_player.proofs.session.ShellSession.apply_projection_pa
   statement,
 }
 use Rattle.shell_player.proofs.session.ShellSession.apply_projection_patch_batch.Tie as tie
-
--- a change of another variant than Applied
-other : (r : SetChange) → OneOf (1 ∷ 2 ∷ 3 ∷ []) (tagOf set-change.the-type r) → Stopped r
-other (Applied n) (inl e) = absurd (omega arith)
-other (Applied n) (inr (inl e)) = absurd (omega arith)
-other (Applied n) (inr (inr e)) = absurd (omega arith)
-other (Refused e) k = tt
-other (Unreadable f) k = tt
-other BadTables k = tt
 
 -- the tables that the call wrote
 abbrev Tables : tie.After-apply-set → SetChange → (m : Session) (ps : List Patch) → Type 0
@@ -154,7 +141,7 @@ returns-3 c =
     let change = call .apply-set .result in
     let answer = c .before .before .concluded .ensures in
     told _ _ (c .batch-of3 .ensures) (
-      record { became = λ m h. batch-commits _ m h _ _ _ _ _ (gate ∙ checked .0 m (seen _ m h)) (λ ps reads count. commits-stopped _ m h _ ps change _ _ (other change (c .before .match2 .keys2)) (became call m ps h reads) answer) },
+      record { became = λ m h. batch-commits _ m h _ _ _ _ _ (gate ∙ checked .0 m (seen _ m h)) (λ ps reads count. commits-stopped _ m h _ ps change _ _ (other-stopped change (c .before .match2 .keys2)) (became call m ps h reads) answer) },
       record {
         kept = λ n. refl;
         row = change-row _ _ _ _ change answer;
@@ -165,24 +152,24 @@ returns-3 c =
 advanced-requires : tie.Need-advanced-requires
 advanced-requires c κs = search needs
 
-session-of-requires : tie.Need-session-of-requires
-session-of-requires c κs = search needs
+with-tables-requires : tie.Need-with-tables-requires
+with-tables-requires c κs = search needs
 
 -- the answer where the set was applied
-answered : (c : tie.After-session-of) → batchAnswerOf (c .before .before .before .before .before .concluded .result) ≡ answerAt applied (at (c .before .before .before .before .before .before .before .before .before .before .before .before .before .before .before .before .before .before .before .before .before .before .before .before .before .before .before .before .before .before .before .before .args .envelope .«sequence_no»))
+answered : (c : tie.After-with-tables) → batchAnswerOf (c .before .before .before .before .before .concluded .result) ≡ answerAt applied (at (c .before .before .before .before .before .before .before .before .before .before .before .before .before .before .before .before .before .before .before .before .before .before .before .before .before .before .before .before .before .before .before .before .args .envelope .«sequence_no»))
 unfolding changeAnswer
 answered c = c .before .before .before .before .before .concluded .ensures ∙ ap (changeAnswer _ _ _) (c .before .before .before .change .given .1)
 
 -- the session that was made of the tables
-handed : (c : tie.After-session-of) → let a = c .before .before .before .before .before .before .before .before .before .before .before .before .before .before .before .before .before .before .before .before .before .before .before .before .before .before .before .before .before .before .before .before .args in (m : Session) (ps : List Patch) → Holds (a .t1) m → readSet (editionOf (a .edition)) (now (a .set)) ≡ patches ps → (a .envelope .«patch_count» ≡ 0 → ⊥)
-    → BatchBecame (batchOf (c .session-of .result) (c .before .before .before .before .before .concluded .result)) (commit m (envelopeMeans (a .envelope)) (candidate m ps))
+handed : (c : tie.After-with-tables) → let a = c .before .before .before .before .before .before .before .before .before .before .before .before .before .before .before .before .before .before .before .before .before .before .before .before .before .before .before .before .before .before .before .before .args in (m : Session) (ps : List Patch) → Holds (a .t1) m → readSet (editionOf (a .edition)) (now (a .set)) ≡ patches ps → (a .envelope .«patch_count» ≡ 0 → ⊥)
+    → BatchBecame (batchOf (c .with-tables .result) (c .before .before .before .before .before .concluded .result)) (commit m (envelopeMeans (a .envelope)) (candidate m ps))
 handed c m ps h reads some =
     let a = c .before .before .before .before .before .before .before .before .before .before .before .before .before .before .before .before .before .before .before .before .before .before .before .before .before .before .before .before .before .before .before .before .args in
     let call = c .before .before .before .before .before .before .before .before .before .before in
     let result = c .before .before .before .before .before .concluded .result in
     let ended = c .before .before .before .change .given in
     let stored : Tables call (Applied (ended .0 .0)) m ps = subst (λ r. Tables call r m ps) (ended .1) (became call m ps h reads) in
-    subst (λ (s : ShellSession). BatchBecame (batchOf s result) (commit m (envelopeMeans (a .envelope)) (candidate m ps))) (sym (c .session-of .ensures))
+    subst (λ (s : ShellSession). BatchBecame (batchOf s result) (commit m (envelopeMeans (a .envelope)) (candidate m ps))) (sym (c .with-tables .ensures))
     (commits-applied (a .t1) m h (envelopeMeans (a .envelope)) ps (ended .0 .0) _ _ _ _ (c .before .advanced .result) result some stored (c .before .advanced .ensures) (answered c))
 
 batch-of-requires-4 : tie.Need-batch-of-requires-4
@@ -230,6 +217,6 @@ apply-projection-patch-batch-spec =
     batch-of-requires-3
     returns-3
     advanced-requires
-    session-of-requires
+    with-tables-requires
     batch-of-requires-4
     returns-4)
