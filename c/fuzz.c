@@ -109,6 +109,7 @@ static const uint8_t *take_slice(size_t *length)
 /* ---- the calls */
 
 static geysertray_panel panel, before;
+static int sound = 1;
 
 static void must(int holds, const char *what)
 {
@@ -131,14 +132,36 @@ static void open_panel(void)
 static void batch(void)
 {
     geysertray_answer answer;
+    geysertray_explanation told;
     const geysertray_half *half = geysertray_current(&panel);
     uint64_t sequence = half->head[2] ? half->head[3] + 1 : 1, edition = take(1), patches = take(1), references = take(1);
     size_t length;
     const uint8_t *set = take_slice(&length);
+    told = geysertray_panel_explain(&panel, 1, sequence, patches, length, references, set, length, edition);
     before = panel;
     answer = geysertray_send(&panel, 1, sequence, patches, length, references, set, length, edition);
     if (answer.disposition != GEYSERTRAY_APPLIED)
         must(memcmp(&panel, &before, sizeof panel) == 0, "a refused batch wrote something");
+    if (sound)
+        must(told.number == answer.number, "the rule has another number than the batch's answer");
+}
+
+static uint64_t turns[GEYSERTRAY_TURNS_NUMBERS];
+
+/* A sender that is named waited, and waits no more; what is refused leaves the turns. */
+static void take_turns(void)
+{
+    uint64_t what = take(1), number = take(1), had[GEYSERTRAY_TURNS_NUMBERS];
+    geysertray_turn turn;
+    memcpy(had, turns, sizeof turns);
+    if (what % 4 == 0)
+        must(geysertray_turns_set_up(turns, number) == 0 || memcmp(had, turns, sizeof turns) == 0, "a refused set-up wrote something");
+    else if (what % 4 < 3)
+        must(geysertray_turns_register(turns, number) == 0 || memcmp(had, turns, sizeof turns) == 0, "a refused sender wrote something");
+    else {
+        turn = geysertray_panel_turn(&panel, turns);
+        must(turn.named ? had[1 + turn.sender] == 1 && turns[1 + turn.sender] == 0 : memcmp(had, turns, sizeof turns) == 0, "a sender was named that did not wait");
+    }
 }
 
 static void step(void)
@@ -172,8 +195,6 @@ static void on_bytes(void)
         must(geysertray_check(out, made.count, edition, words, 2 * GEYSERTRAY_DEPENDS_KEYS).logical == 0, "a term list became a set with findings");
 }
 
-static int sound = 1;
-
 static void look(void)
 {
     uint64_t collection = take(1), key = take(1), position = take(1), keys[3] = {key, position, key};
@@ -202,12 +223,13 @@ static void spoil(void)
     sound = 0;
 }
 
-static void (*const calls[])(void) = {batch, step, on_bytes, look, spoil};
+static void (*const calls[])(void) = {batch, step, on_bytes, look, spoil, take_turns};
 
 int LLVMFuzzerTestOneInput(const uint8_t *data, size_t size)
 {
     rest = data, left = size, sound = 1;
     memset(&panel, 0, sizeof panel);
+    memset(turns, 0, sizeof turns);
     open_panel();
     while (left)
         calls[take(1) % (sizeof calls / sizeof *calls)]();

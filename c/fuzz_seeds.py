@@ -7,7 +7,7 @@ from pathlib import Path
 ROOT = Path(__file__).resolve().parent.parent
 DATA = ROOT / "crates" / "test_conformance" / "data"
 # the places of c/fuzz.c's calls
-BATCH, STEP, ON_BYTES, LOOK = range(4)
+BATCH, STEP, ON_BYTES, LOOK, SPOIL, TURNS = range(6)
 STEPS = ("activate", "suspend", "resume", "close", "noop")
 # limits that let most batches pass
 OPEN = bytes([255, 8, 64, 255])
@@ -25,12 +25,14 @@ def small(field):
 
 def record(words, edition):
     """The bytes of one line, or none."""
-    if words[0] == "batch" and len(words) == 7:
+    if words[0] in ("batch", "explain") and len(words) == 7:
         return bytes([BATCH, edition, small(words[3]), small(words[5])]) + lent(words[6])
     if words[0] == "apply" and words[1] in STEPS:
         return bytes([STEP, STEPS.index(words[1]), 0])
     if words[0] in ("check", "list", "convert", "depends", "import"):
         return bytes([ON_BYTES, edition, 255, 255]) + lent(words[-1])
+    if words[0] in ("senders", "wait", "turn"):
+        return bytes([TURNS, {"senders": 0, "wait": 1, "turn": 3}[words[0]], small(words[1]) if words[1:] else 0])
     if words[0] in ("show", "print", "value"):
         return bytes([LOOK, small(words[2]) if words[2:] and words[2].isdigit() else 9, 1, 0])
     return b""

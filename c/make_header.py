@@ -1,8 +1,8 @@
 #!/usr/bin/env python3
-"""The declarations of include/geysertray.h, made from the Rattle source of the exported calls.
+"""The declarations of include/geysertray.h and the names of rules in the bindings, made from the Rattle source of the exported calls.
 
-    c/make_header.py --check    whether the header has just these declarations
-    c/make_header.py --write    writes them into the header
+    c/make_header.py --check    whether the files have just these
+    c/make_header.py --write    writes them into the files
 """
 
 import re
@@ -10,10 +10,14 @@ import sys
 from pathlib import Path
 
 ROOT = Path(__file__).resolve().parent.parent
-ANSWERS = [ROOT / "crates" / "c_answers" / "src" / name for name in ("answers.rt", "counts.rt", "values.rt", "sets.rt")] + [ROOT / "crates" / "c_exports" / "src" / "turns.rt"]
-CALLS = [ROOT / "crates" / "c_exports" / "src" / name for name in ("lib.rt", "session.rt", "views.rt", "bytes.rt", "turns.rt")]
+ANSWERS = [ROOT / "crates" / "c_answers" / "src" / name for name in ("answers.rt", "counts.rt", "values.rt", "sets.rt", "figures.rt", "explanations.rt")] + [ROOT / "crates" / "c_exports" / "src" / "turns.rt"]
+CALLS = [ROOT / "crates" / "c_exports" / "src" / name for name in ("lib.rt", "session.rt", "views.rt", "bytes.rt", "turns.rt", "explain.rt")]
+RULES = ROOT / "crates" / "c_answers" / "specs" / "Explanations.antt"
 HEADER = ROOT / "include" / "geysertray.h"
+PYTHON = ROOT / "bindings" / "python" / "geysertray.py"
+JAVA = ROOT / "bindings" / "java" / "geysertray" / "Explanation.java"
 BEGIN, END = "/* ---- made from crates/c_answers and crates/c_exports by c/make_header.py */\n", "/* ---- end of what is made */\n"
+NAMES_BEGIN, NAMES_END = "made from crates/c_answers by c/make_header.py\n", "end of what is made\n"
 
 SIZES = {
     "head::NUMBERS": "GEYSERTRAY_HEAD_NUMBERS",
@@ -112,26 +116,57 @@ def functions_of(text):
         yield "\n%s%s %s(%s);\n" % (comment_before(text, row.start()), kind, row.group(1), listed)
 
 
+def rule_names():
+    """The names of the rules 1 to 31, in the order that the law `word-at` is about."""
+    table = re.search(r"^ruleWords =\n(.*?)\[\]$", RULES.read_text(encoding="utf-8"), re.M | re.S).group(1)
+    return re.findall(r'ascii "([^"]+)"', table)
+
+
+def rule_constants():
+    rows = ["    GEYSERTRAY_RULE_%s = %d" % (name.upper().replace("-", "_"), number) for number, name in enumerate(rule_names(), 1)]
+    yield "\n/* the rules behind a number: docs/RULES.md has a sentence and the figures of each */\nenum {\n%s\n};\n" % ",\n".join(rows)
+    names = ",\n".join('        "%s"' % name for name in ["", *rule_names()])
+    yield "\n/* The name of a rule as in docs/RULES.md, or no letters. */\nstatic inline const char *geysertray_rule_name(uint64_t rule)\n{\n"
+    yield "    static const char *const names[] = {\n%s\n    };\n" % names
+    yield "    return names[rule < sizeof names / sizeof *names ? rule : 0];\n}\n"
+
+
 def declarations():
     found = constants()
     out = ["#define %s %d\n" % (word, value(name, found)) for name, word in {**SIZES, **CAPACITIES}.items()]
+    out += rule_constants()
     out += [declared for path in ANSWERS for declared in structs_of(path.read_text(encoding="utf-8"))]
     out += [declared for path in CALLS for declared in functions_of(path.read_text(encoding="utf-8"))]
     return "".join(out)
 
 
+def with_made(text, begin, made, end):
+    """The text with what is made between the two marks; the line of the second stays."""
+    before, rest = text.split(begin)
+    at = rest.index(end)
+    return before + begin + made + rest[rest.rfind("\n", 0, at) + 1 :]
+
+
+def names_listed(indent):
+    return "".join('%s"%s",\n' % (indent, name) for name in rule_names())
+
+
+def files_made():
+    """Each file as it should be."""
+    yield HEADER, with_made(HEADER.read_text(encoding="utf-8"), BEGIN, declarations(), END)
+    for path, indent in ((PYTHON, " " * 4), (JAVA, " " * 8)):
+        yield path, with_made(path.read_text(encoding="utf-8"), NAMES_BEGIN, names_listed(indent), NAMES_END)
+
+
 def main(argument):
-    text = HEADER.read_text(encoding="utf-8")
-    before, rest = text.split(BEGIN)
-    after = rest.split(END)[1]
-    made = before + BEGIN + declarations() + END + after
-    if argument == "--write":
-        HEADER.write_text(made, encoding="utf-8")
-        return 0
-    if made != text:
-        print("include/geysertray.h is not what the crates declare; run c/make_header.py --write", file=sys.stderr)
-        return 1
-    return 0
+    fault = 0
+    for path, made in files_made():
+        if argument == "--write":
+            path.write_text(made, encoding="utf-8")
+        elif made != path.read_text(encoding="utf-8"):
+            print("%s is not what the crates declare; run c/make_header.py --write" % path.relative_to(ROOT), file=sys.stderr)
+            fault = 1
+    return fault
 
 
 if __name__ == "__main__":

@@ -337,6 +337,33 @@ static void test_editions(void)
     EXPECT(counted(geysertray_set_listing(back, size, 2, output, sizeof output), 5) && memcmp(output, "E\t10\n", 5) == 0);
 }
 
+/* ---- the rule behind a refusal */
+
+static void test_explain(void)
+{
+    uint8_t set[256];
+    size_t size = listing_set(set);
+    geysertray_explanation told;
+    geysertray_panel before;
+    open_listed();
+    before = panel;
+    told = geysertray_panel_explain(&panel, 7, 2, 1, 0, 4, set, size, 1);
+    EXPECT(told.disposition == GEYSERTRAY_REJECTED && told.number == GEYSERTRAY_KEY_RULE && told.rule == GEYSERTRAY_RULE_KEY_PRESENT);
+    EXPECT(told.place.has_patch == 1 && told.place.patch == 0 && told.place.has_operation == 1 && told.place.operation == 1 && told.figures.count == 0);
+    told = geysertray_panel_explain(&panel, 8, 2, 1, 0, 4, set, size, 1);
+    EXPECT(told.rule == GEYSERTRAY_RULE_FOREIGN_SESSION && told.figures.count == 2 && told.figures.first == 8 && told.figures.second == 7);
+    EXPECT(told.place.has_patch == 0 && strcmp(geysertray_rule_name(told.rule), "foreign-session") == 0);
+    told = geysertray_panel_explain(&panel, 7, 2, 1, 0, 4, set, 10, 1);
+    EXPECT(told.number == GEYSERTRAY_MALFORMED && told.rule == GEYSERTRAY_RULE_TOO_FEW_BYTES && told.figures.count == 1 && told.figures.first == 10);
+    EXPECT(geysertray_panel_explain(&panel, 7, 2, 1, 0, 4, set, size, 3).disposition == GEYSERTRAY_NO_SUCH);
+    EXPECT(memcmp(&panel, &before, sizeof panel) == 0);
+    EXPECT(geysertray_open(&panel, 7, 4096, 8, 4, 16) == 0);
+    EXPECT(geysertray_panel_explain(&panel, 7, 1, 1, 0, 4, set, size, 1).disposition == GEYSERTRAY_ANSWERED);
+    panel.halves[0].head[10] = 129;
+    EXPECT(geysertray_panel_explain(&panel, 7, 1, 1, 0, 4, set, size, 1).disposition == GEYSERTRAY_NO_SESSION);
+    EXPECT(geysertray_rule_name(0)[0] == 0 && geysertray_rule_name(32)[0] == 0);
+}
+
 /* document 02, Job 14: in a circle after the one last named, at the start from sender 0 on */
 static void test_turns(void)
 {
@@ -374,6 +401,7 @@ int main(void)
     test_depends();
     test_editions();
     test_turns();
+    test_explain();
     printf(failures ? "%d failed\n" : "a panel in C: ok\n", failures);
     return failures != 0;
 }

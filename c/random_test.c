@@ -31,7 +31,7 @@ static uint64_t number(void)
 
 /* ---- slices between pages that may not be touched */
 
-enum { HEAD, BINDINGS, AVAILABILITY, ENTRIES, LENGTHS, TO_HEAD, TO_BINDINGS, TO_AVAILABILITY, TO_ENTRIES, TO_LENGTHS, NODES, PAIRS, COLLECTIONS, SET, OUT, FENCES };
+enum { HEAD, BINDINGS, AVAILABILITY, ENTRIES, LENGTHS, TO_HEAD, TO_BINDINGS, TO_AVAILABILITY, TO_ENTRIES, TO_LENGTHS, NODES, PAIRS, COLLECTIONS, SET, OUT, TURNS, FENCES };
 enum { PAGE = 4096, ROOM = 32 * PAGE, GUARD = 0xa5 };
 
 static struct fence {
@@ -302,27 +302,68 @@ static void step(void)
 
 static uint64_t applied_batches;
 
+/* The rule of a batch has the number that the batch is answered with, and there is one just where the batch is rejected. */
+static void same_number(geysertray_explanation told, geysertray_answer answer)
+{
+    uint64_t expected = answer.disposition == GEYSERTRAY_NO_CHANGE ? GEYSERTRAY_ANSWERED : answer.disposition;
+    if (told.disposition != expected || told.number != answer.number)
+        faults++, printf("explain: %" PRIu64 " for a batch with %" PRIu64 "\n", told.number, answer.number);
+}
+
 static void batch(void)
 {
     geysertray_answer answer;
+    geysertray_explanation told;
     int sound;
     uint8_t *bytes = lend_set();
-    uint64_t edition = chance(30) ? set_edition : number(), sequence;
+    uint64_t edition = chance(30) ? set_edition : number(), sequence, id, patches, stimulus, references;
     lend_session();
     lend_half(TO_HEAD, &panel.halves[1 - panel.current]);
     lend_anchors(panel.node_count, 2 * panel.pair_count, panel.collection_count);
     sound = memcmp(&half, &panel.halves[panel.current], sizeof half) == 0;
-    sequence = half.head[2] ? half.head[3] + 1 : 1;
+    sequence = chance(30) ? (half.head[2] ? half.head[3] + 1 : 1) : number();
+    id = chance(30) ? half.head[0] : number(), patches = chance(30) ? set_patches : number(), stimulus = number();
+    references = chance(30) ? set_operations : number();
+    told = geysertray_explain(
+        AT64(HEAD), AT64(NODES), panel.node_count, AT64(PAIRS), 2 * panel.pair_count, AT64(COLLECTIONS), panel.collection_count, AT8(BINDINGS),
+        AT8(AVAILABILITY), AT8(ENTRIES), id, sequence, patches, stimulus, references, bytes, SET_COUNT, edition);
     answer = geysertray_batch(
         AT64(HEAD), AT64(NODES), panel.node_count, AT64(PAIRS), 2 * panel.pair_count, AT64(COLLECTIONS), panel.collection_count, AT8(BINDINGS),
-        AT8(AVAILABILITY), AT8(ENTRIES), chance(30) ? half.head[0] : number(), chance(30) ? sequence : number(), chance(30) ? set_patches : number(), number(),
-        chance(30) ? set_operations : number(), bytes, SET_COUNT, edition, AT64(TO_HEAD), AT8(TO_BINDINGS), AT8(TO_AVAILABILITY), AT8(TO_ENTRIES), AT8(TO_LENGTHS));
+        AT8(AVAILABILITY), AT8(ENTRIES), id, sequence, patches, stimulus, references, bytes, SET_COUNT, edition, AT64(TO_HEAD), AT8(TO_BINDINGS),
+        AT8(TO_AVAILABILITY), AT8(TO_ENTRIES), AT8(TO_LENGTHS));
+    if (sound)
+        same_number(told, answer);
     if (answer.disposition == GEYSERTRAY_APPLIED && sound) {
         panel.current = 1 - panel.current;
         keep_half(TO_HEAD, &panel.halves[panel.current]);
         applied_batches++;
     }
     look_at_slices(answer.disposition == GEYSERTRAY_APPLIED ? HALF_BITS << TO_HEAD : 0, "batch");
+}
+
+/* Turns that have come to be, sometimes with wrong numbers. A sender that is named waited, and waits no more. */
+static void take_turns(void)
+{
+    static uint64_t turns[GEYSERTRAY_TURNS_NUMBERS];
+    uint64_t *lent_turns, refusal, kind = chance(8);
+    int sound = chance(20) != 0;
+    geysertray_turn turn = {0, 0, 0, 0};
+    lent_turns = lend(TURNS, turns, sizeof turns);
+    if (!sound)
+        spoil(lent_turns, sizeof turns), memcpy(fences[TURNS].before, lent_turns, sizeof turns);
+    if (kind == 0)
+        refusal = geysertray_turns_set_up(lent_turns, chance(11));
+    else if (kind < 5)
+        refusal = geysertray_turns_register(lent_turns, chance(10));
+    else {
+        turn = geysertray_turns_next(lent_turns, chance(2), number());
+        refusal = !turn.named;
+        if (sound && turn.named && (turn.sender >= turns[0] || turns[1 + turn.sender] != 1 || lent_turns[1 + turn.sender] != 0))
+            faults++, printf("turns: sender %" PRIu64 " was named\n", turn.sender);
+    }
+    if (sound)
+        memcpy(turns, lent_turns, sizeof turns);
+    look_at_slices(refusal ? 0 : 1u << TURNS, "turns");
 }
 
 static void look_up(void)
@@ -443,7 +484,7 @@ static void check_set(void)
 }
 
 static void (*const calls[])(void) = {
-    step, batch, batch, batch, batch, batch, batch, create_refused, look_up, look_up, list_panel, print_collection, page, on_set, import, check_set,
+    step, batch, batch, batch, batch, batch, batch, create_refused, take_turns, look_up, look_up, list_panel, print_collection, page, on_set, import, check_set,
 };
 
 int main(int count, char **words)

@@ -31,10 +31,10 @@ static const char *const lifecycles[] = {"created", "active", "suspended", "clos
 
 /* ---- lines of answers */
 
-static void print_cursor(uint64_t has_cursor, uint64_t cursor)
+static void print_optional(uint64_t has, uint64_t number)
 {
-    if (has_cursor)
-        printf("\t%" PRIu64, cursor);
+    if (has)
+        printf("\t%" PRIu64, number);
     else
         printf("\t-");
 }
@@ -145,7 +145,7 @@ static void apply(void)
 {
     geysertray_lifecycle step = geysertray_step(&panel, numbers[0], numbers[1]);
     printf("L\t%s\t%" PRIu64 "\t%" PRIu64 "\t%" PRIu64 "\t%" PRIu64 "\t%s", dispositions[step.disposition], step.number, step.stage, step.logical, step.emitted, lifecycles[step.lifecycle]);
-    print_cursor(step.has_cursor, step.cursor);
+    print_optional(step.has_cursor, step.cursor);
     printf("\t%" PRIu64 "\n", step.stimulus_bytes);
 }
 
@@ -153,7 +153,42 @@ static void batch(void)
 {
     geysertray_answer answer = geysertray_send(&panel, numbers[0], numbers[1], numbers[2], numbers[3], numbers[4], set, set_count, edition);
     printf("R\t%s\t%" PRIu64 "\t%" PRIu64 "\t%" PRIu64 "\t%" PRIu64, dispositions[answer.disposition], answer.number, answer.stage, answer.logical, answer.emitted);
-    print_cursor(answer.has_cursor, answer.cursor);
+    print_optional(answer.has_cursor, answer.cursor);
+    putchar('\n');
+}
+
+/* The figures of a rule, in the order of docs/RULES.md. */
+static void print_figures(const geysertray_explanation *told)
+{
+    const geysertray_figures *figures = &told->figures;
+    const geysertray_rule_place *place = &told->place;
+    const uint64_t all[] = {figures->first, figures->second, figures->third, figures->fourth};
+    int reading = told->rule >= GEYSERTRAY_RULE_SET_TOO_LONG && told->rule <= GEYSERTRAY_RULE_BYTES_LEFT;
+    uint64_t i;
+    if (told->rule == GEYSERTRAY_RULE_FINDINGS && !place->has_patch)
+        printf("\tset");
+    else if (told->rule == GEYSERTRAY_RULE_FINDINGS)
+        print_optional(1, place->patch);
+    for (i = 0; i < figures->count; i++)
+        print_optional(1, all[i]);
+    if (told->rule == GEYSERTRAY_RULE_CURSOR && figures->count == 0)
+        print_optional(0, 0);
+    if (reading || place->has_operation) {
+        print_optional(place->has_patch, place->patch);
+        print_optional(place->has_operation, place->operation);
+    }
+}
+
+static void explain(void)
+{
+    geysertray_explanation told =
+        geysertray_panel_explain(&panel, numbers[0], numbers[1], numbers[2], numbers[3], numbers[4], set, set_count, edition);
+    printf("W\t%" PRIu64, told.number);
+    if (told.rule) {
+        printf("\t%s", geysertray_rule_name(told.rule));
+        print_figures(&told);
+    } else if (told.disposition == GEYSERTRAY_REJECTED)
+        printf("\twithheld");
     putchar('\n');
 }
 
@@ -349,6 +384,7 @@ static const struct command {
     {"create", "", 0, create},
     {"apply", "an", 1, apply},
     {"batch", "nnnnnh", 1, batch},
+    {"explain", "nnnnnh", 1, explain},
     {"check", "h", 0, check},
     {"list", "h", 0, list},
     {"show", "", 1, show},

@@ -120,6 +120,81 @@ enum {
 #define GEYSERTRAY_FINDING_NUMBERS 945
 #define GEYSERTRAY_DEPENDS_KEYS 2520
 
+/* the rules behind a number: docs/RULES.md has a sentence and the figures of each */
+enum {
+    GEYSERTRAY_RULE_FOREIGN_SESSION = 1,
+    GEYSERTRAY_RULE_CLOSED = 2,
+    GEYSERTRAY_RULE_DECLARED_PATCHES = 3,
+    GEYSERTRAY_RULE_DECLARED_BYTES = 4,
+    GEYSERTRAY_RULE_DECLARED_PATCHES_AND_BYTES = 5,
+    GEYSERTRAY_RULE_SET_TOO_LONG = 6,
+    GEYSERTRAY_RULE_HEADING = 7,
+    GEYSERTRAY_RULE_TOO_FEW_BYTES = 8,
+    GEYSERTRAY_RULE_OPERATION_TAG = 9,
+    GEYSERTRAY_RULE_VALUE_KIND = 10,
+    GEYSERTRAY_RULE_OPTIONAL = 11,
+    GEYSERTRAY_RULE_AVAILABILITY = 12,
+    GEYSERTRAY_RULE_QUAD = 13,
+    GEYSERTRAY_RULE_SCORE = 14,
+    GEYSERTRAY_RULE_TEXT_NOT_UTF8 = 15,
+    GEYSERTRAY_RULE_PATCH_COUNT = 16,
+    GEYSERTRAY_RULE_OPERATION_COUNT = 17,
+    GEYSERTRAY_RULE_TEXT_LENGTH = 18,
+    GEYSERTRAY_RULE_TEXT_CHARACTERS = 19,
+    GEYSERTRAY_RULE_BYTES_LEFT = 20,
+    GEYSERTRAY_RULE_FINDINGS = 21,
+    GEYSERTRAY_RULE_COUNTS_DIFFER = 22,
+    GEYSERTRAY_RULE_REFERENCES = 23,
+    GEYSERTRAY_RULE_UNKNOWN_TARGET = 24,
+    GEYSERTRAY_RULE_CURSOR = 25,
+    GEYSERTRAY_RULE_KEY_PRESENT = 26,
+    GEYSERTRAY_RULE_KEY_ABSENT = 27,
+    GEYSERTRAY_RULE_NEIGHBOUR_ABSENT = 28,
+    GEYSERTRAY_RULE_BINDINGS_FULL = 29,
+    GEYSERTRAY_RULE_AVAILABILITIES_FULL = 30,
+    GEYSERTRAY_RULE_ENTRIES_FULL = 31
+};
+
+/* The name of a rule as in docs/RULES.md, or no letters. */
+static inline const char *geysertray_rule_name(uint64_t rule)
+{
+    static const char *const names[] = {
+        "",
+        "foreign-session",
+        "closed",
+        "declared-patches",
+        "declared-bytes",
+        "declared-patches-and-bytes",
+        "set-too-long",
+        "heading",
+        "too-few-bytes",
+        "operation-tag",
+        "value-kind",
+        "optional",
+        "availability",
+        "quad",
+        "score",
+        "text-not-utf8",
+        "patch-count",
+        "operation-count",
+        "text-length",
+        "text-characters",
+        "bytes-left",
+        "findings",
+        "counts-differ",
+        "references",
+        "unknown-target",
+        "cursor",
+        "key-present",
+        "key-absent",
+        "neighbour-absent",
+        "bindings-full",
+        "availabilities-full",
+        "entries-full"
+    };
+    return names[rule < sizeof names / sizeof *names ? rule : 0];
+}
+
 /* 0 Applied, 1 NoChange, 2 Rejected, 3 no session in the memory, 4 no such edition; the diagnostics; the cursor after the call, if there is one. */
 typedef struct {
     uint64_t disposition;
@@ -207,6 +282,33 @@ typedef struct {
     uint64_t held;
     uint64_t lacked;
 } geysertray_dependencies;
+
+/* The patch and the operation that a rule tells, by their indices from 0: 1 where it tells one. */
+typedef struct {
+    uint64_t has_patch;
+    uint64_t patch;
+    uint64_t has_operation;
+    uint64_t operation;
+} geysertray_rule_place;
+
+/* So many figures of a rule, in the order of docs/RULES.md without patch and operation; the others are 0. */
+typedef struct {
+    uint64_t count;
+    uint64_t first;
+    uint64_t second;
+    uint64_t third;
+    uint64_t fourth;
+} geysertray_figures;
+
+/* 0 the batch would be taken; 2 it would be refused, with this number and by this rule, GEYSERTRAY_RULE_ and its name, or both are 0 where the
+   session's limit of 0 diagnostics withholds them; 3 no session in the memory; 4 no such edition. */
+typedef struct {
+    uint64_t disposition;
+    uint64_t number;
+    uint64_t rule;
+    geysertray_rule_place place;
+    geysertray_figures figures;
+} geysertray_explanation;
 
 /* Whether a sender was named (1), and then which, and the number for its batch. */
 typedef struct {
@@ -410,6 +512,27 @@ geysertray_turn geysertray_turns_next(
     uint64_t turns[GEYSERTRAY_TURNS_NUMBERS],
     uint64_t has_cursor,
     uint64_t cursor);
+
+/* By which rule geysertray_batch would refuse a batch with these arguments, and with which figures. It takes longer than the batch. */
+geysertray_explanation geysertray_explain(
+    const uint64_t head[GEYSERTRAY_HEAD_NUMBERS],
+    const uint64_t *nodes,
+    size_t nodes_count,
+    const uint64_t *pairs,
+    size_t pairs_count,
+    const uint64_t *collections,
+    size_t collections_count,
+    const uint8_t bindings[GEYSERTRAY_BINDING_BYTES],
+    const uint8_t availability[GEYSERTRAY_AVAILABILITY_BYTES],
+    const uint8_t entries[GEYSERTRAY_ENTRY_BYTES],
+    uint64_t session_id,
+    uint64_t sequence_no,
+    uint64_t patch_count,
+    uint64_t stimulus_bytes,
+    uint64_t target_references,
+    const uint8_t *set,
+    size_t set_count,
+    uint64_t edition);
 /* ---- end of what is made */
 
 /* ---- a panel in one block */
@@ -470,6 +593,17 @@ static inline geysertray_answer geysertray_send(
     if (answer.disposition == GEYSERTRAY_APPLIED)
         panel->current = 1 - panel->current;
     return answer;
+}
+
+/* By which rule geysertray_send would refuse a batch with these arguments; nothing is sent. */
+static inline geysertray_explanation geysertray_panel_explain(
+    const geysertray_panel *panel, uint64_t session_id, uint64_t sequence_no, uint64_t patch_count, uint64_t stimulus_bytes, uint64_t target_references,
+    const uint8_t *set, size_t set_count, uint64_t edition)
+{
+    const geysertray_half *half = &panel->halves[panel->current];
+    return geysertray_explain(
+        half->head, panel->nodes, panel->node_count, panel->pairs, 2 * panel->pair_count, panel->collections, panel->collection_count, half->bindings,
+        half->availability, half->entries, session_id, sequence_no, patch_count, stimulus_bytes, target_references, set, set_count, edition);
 }
 
 /* The next turn, with the number for a batch to this panel. */

@@ -89,6 +89,15 @@ struct declared {
     std::uint64_t session, sequence, patches, stimulus_bytes, references;
 };
 
+// Why a batch is refused: the number, the rule's name as in docs/RULES.md, the patch and the operation that it tells, and its other figures. Where the
+// session's limit of 0 diagnostics withholds it, the number is 0 and the rule has no letters.
+struct explanation {
+    std::uint64_t number;
+    std::string rule;
+    std::optional<std::uint64_t> patch, operation;
+    std::vector<std::uint64_t> figures;
+};
+
 struct page_entry {
     std::uint64_t position;
     struct value value;
@@ -128,6 +137,19 @@ inline std::optional<value> value_of(const geysertray_value &told)
     const auto what = static_cast<enum kind>(told.kind);
     const std::uint64_t number = what == kind::quad ? told.quad : told.unsigned_number;
     return value{what, number, told.signed_number, std::string(told.text, told.text + told.text_length), told.mark};
+}
+
+inline std::optional<explanation> explanation_of(const geysertray_explanation &told)
+{
+    look(told.disposition);
+    if (told.disposition != GEYSERTRAY_REJECTED)
+        return std::nullopt;
+    const auto &place = told.place;
+    const auto &figures = told.figures;
+    const std::uint64_t all[] = {figures.first, figures.second, figures.third, figures.fourth};
+    return explanation{
+        told.number, geysertray_rule_name(told.rule), place.has_patch ? std::make_optional(place.patch) : std::nullopt,
+        place.has_operation ? std::make_optional(place.operation) : std::nullopt, std::vector<std::uint64_t>(all, all + figures.count)};
 }
 
 // What a call writes into room for so many bytes.
@@ -183,6 +205,21 @@ public:
         if (told.disposition == GEYSERTRAY_APPLIED)
             current_ = 1 - current_;
         return told;
+    }
+
+    // By which rule send would refuse this batch; none where it would be taken. Nothing is sent.
+    std::optional<explanation> explain(const declared &batch, const bytes &set, number edition = 1) const
+    {
+        return detail::explanation_of(geysertray_explain(
+            here().head, detail::at(nodes_), nodes_.size(), detail::at(pairs_), pairs_.size(), detail::at(collections_), collections_.size(), here().bindings,
+            here().availability, here().entries, batch.session, batch.sequence, batch.patches, batch.stimulus_bytes, batch.references, detail::at(set),
+            set.size(), edition));
+    }
+
+    // The number of the last batch that was applied.
+    std::optional<number> cursor() const
+    {
+        return here().head[2] ? std::make_optional(here().head[3]) : std::nullopt;
     }
 
     std::optional<value> binding(number node, std::uint32_t slot) const
@@ -265,6 +302,37 @@ private:
     std::vector<number> nodes_, pairs_, collections_;
     std::unique_ptr<geysertray_half[]> halves_;
     int current_ = 0;
+};
+
+// Turns among one to eight senders to one panel, numbered from 0. A refused call throws `refused` and leaves the turns as they were.
+class turns {
+public:
+    // Whose turn it is, and the number for its batch.
+    struct turn {
+        std::uint64_t sender, number;
+    };
+
+    explicit turns(std::size_t senders) { done(geysertray_turns_set_up(numbers_, senders)); }
+
+    // The sender waits for its turn from now on.
+    void wait(std::size_t sender) { done(geysertray_turns_register(numbers_, sender)); }
+
+    // Whose turn it is now, with the panel's cursor; it waits no more. None where nobody waits.
+    std::optional<turn> next(std::optional<std::uint64_t> cursor)
+    {
+        const auto told = geysertray_turns_next(numbers_, cursor.has_value(), cursor.value_or(0));
+        detail::look(told.disposition);
+        return told.named ? std::make_optional(turn{told.sender, told.number}) : std::nullopt;
+    }
+
+private:
+    static void done(std::uint64_t refusal)
+    {
+        if (refusal != 0)
+            throw refused(refusal);
+    }
+
+    std::uint64_t numbers_[GEYSERTRAY_TURNS_NUMBERS] = {};
 };
 
 // ---- calls on bytes, which need no panel

@@ -47,6 +47,32 @@ static void look_at(const geysertray::panel &panel)
     EXPECT(panel.print(9).substr(0, 24) == "                   1  Ok");
 }
 
+static void explain(const geysertray::panel &panel, const geysertray::bytes &set)
+{
+    const auto key = panel.explain({7, 4, 1, 0, 4}, set);
+    EXPECT(key->number == GEYSERTRAY_KEY_RULE && key->rule == "key-present" && key->patch == 0 && key->operation == 1 && key->figures.empty());
+    const auto cursor = panel.explain({7, 9, 1, 0, 4}, set);
+    EXPECT(cursor->rule == "cursor" && !cursor->patch && cursor->figures == std::vector<std::uint64_t>{4});
+    const auto counts = panel.explain({7, 4, 2, 0, 4}, set);
+    EXPECT(counts->rule == "counts-differ" && counts->figures == (std::vector<std::uint64_t>{2, 1, 4, 4}));
+    EXPECT(panel.explain({7, 4, 0, 0, 0}, {})->rule == "too-few-bytes");
+    const geysertray::panel fresh(7, {4096, 8, 4, 16}, {5}, {{5, 0}}, {9}), silent(7, {4096, 0, 4, 16}, {}, {}, {});
+    EXPECT(!fresh.explain({7, 1, 1, 0, 4}, set) && silent.explain({8, 1, 1, 0, 4}, set)->rule.empty());
+    EXPECT(panel.cursor() == 3 && !fresh.cursor());
+}
+
+static void take_turns()
+{
+    geysertray::turns turns(3);
+    EXPECT(!turns.next(std::nullopt));
+    turns.wait(2);
+    turns.wait(0);
+    EXPECT(refusal([&] { turns.wait(2); }) == GEYSERTRAY_ALREADY_WAITING && refusal([&] { turns.wait(3); }) == GEYSERTRAY_UNKNOWN_SENDER);
+    const auto first = turns.next(std::nullopt), second = turns.next(6);
+    EXPECT(first->sender == 0 && second->sender == 2 && second->number == 7 && !turns.next(6));
+    EXPECT(refusal([] { geysertray::turns(0); }) == GEYSERTRAY_WRONG_SENDER_COUNT && refusal([] { geysertray::turns(9); }) == GEYSERTRAY_WRONG_SENDER_COUNT);
+}
+
 static void send(const geysertray::bytes &set)
 {
     geysertray::panel panel(7, {4096, 8, 4, 16}, {5}, {{5, 0}}, {9});
@@ -64,6 +90,7 @@ static void send(const geysertray::bytes &set)
     }
     look_at(panel);
     EXPECT(refusal([&] { panel.send({7, 4, 0, 0, 0}, {}); }) == GEYSERTRAY_MALFORMED);
+    explain(panel, set);
     geysertray::panel moved = std::move(panel);
     look_at(moved);
 }
@@ -91,6 +118,7 @@ int main()
     const geysertray::bytes set{std::istreambuf_iterator<char>(std::cin), {}};
     send(set);
     on_bytes(set);
+    take_turns();
     EXPECT(refusal([] { geysertray::panel(1, {0, 0, 0, 0}, std::vector<std::uint64_t>(129), {}, {}); }) == GEYSERTRAY_TOO_MANY_ANCHORS);
     std::printf(failures ? "%d failed\n" : "a panel in C++: ok\n", failures);
     return failures != 0;

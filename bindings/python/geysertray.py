@@ -51,6 +51,42 @@ RULES = {
     20: "The sender waits already; it keeps its place.",
     21: "Turns were to be set up for no senders, or for more than eight.",
 }
+# the names of the rules behind a number, from 1
+RULE_NAMES = (
+    # made from crates/c_answers by c/make_header.py
+    "foreign-session",
+    "closed",
+    "declared-patches",
+    "declared-bytes",
+    "declared-patches-and-bytes",
+    "set-too-long",
+    "heading",
+    "too-few-bytes",
+    "operation-tag",
+    "value-kind",
+    "optional",
+    "availability",
+    "quad",
+    "score",
+    "text-not-utf8",
+    "patch-count",
+    "operation-count",
+    "text-length",
+    "text-characters",
+    "bytes-left",
+    "findings",
+    "counts-differ",
+    "references",
+    "unknown-target",
+    "cursor",
+    "key-present",
+    "key-absent",
+    "neighbour-absent",
+    "bindings-full",
+    "availabilities-full",
+    "entries-full",
+    # end of what is made
+)
 HIDDEN = "The session's limit of diagnostics is 0, so the number is hidden; the logical count still tells how many there were."
 
 
@@ -103,6 +139,17 @@ class Answer(NamedTuple):
     logical: int
     emitted: int
     cursor: Optional[int]
+
+
+class Explanation(NamedTuple):
+    """Why a batch is refused: 01's number, the rule's name as in docs/RULES.md, the patch and the operation that it tells, and its other figures.
+    Where the session's limit of 0 diagnostics withholds it the number is 0 and the rule none."""
+
+    number: int
+    rule: Optional[str]
+    patch: Optional[int]
+    operation: Optional[int]
+    figures: tuple[int, ...]
 
 
 class Step(NamedTuple):
@@ -189,13 +236,16 @@ class Envelope(NamedTuple):
 
 
 class Refused(Exception):
-    """A call was refused, and nothing was changed. `answer` has the rest where a session refused it."""
+    """A call was refused, and nothing was changed. `answer` has the rest where a session refused it, and `explanation` the rule behind the number
+    where it refused a batch."""
 
-    def __init__(self, number: int, answer: Union[Answer, Step, None] = None):
+    def __init__(self, number: int, answer: Union[Answer, Step, None] = None, explanation: Optional[Explanation] = None):
         self.number = number
         self.sentence = RULES.get(number, HIDDEN)
         self.answer = answer
-        super().__init__("%d: %s" % (number, self.sentence))
+        self.explanation = explanation
+        named = " (%s)" % explanation.rule if explanation and explanation.rule else ""
+        super().__init__("%d: %s%s" % (number, self.sentence, named))
 
 
 class NoSession(Exception):
@@ -230,7 +280,13 @@ _Count = _numbers_struct("_Count", "disposition", "number", "count")
 _Availability = _numbers_struct("_Availability", "disposition", "found", "mark", "availability")
 _Turn = _numbers_struct("_Turn", "disposition", "named", "sender", "number")
 _Checked = _numbers_struct("_Checked", "disposition", "number", "in_patch", "patch", "logical", "written")
+_RulePlace = _numbers_struct("_RulePlace", "has_patch", "patch", "has_operation", "operation")
+_Figures = _numbers_struct("_Figures", "count", "first", "second", "third", "fourth")
 _Dependencies = _numbers_struct("_Dependencies", "disposition", "number", "never", "patch", "operation", "held", "lacked")
+
+
+class _Explanation(ctypes.Structure):
+    _fields_ = [(field, ctypes.c_uint64) for field in ("disposition", "number", "rule")] + [("place", _RulePlace), ("figures", _Figures)]
 
 
 class _Value(ctypes.Structure):
@@ -258,6 +314,7 @@ _CALLS = {
     "create": (ctypes.c_uint64, *[_U64] * 5, *_SLICE * 3, *[_AT] * 5),
     "lifecycle_step": (_Lifecycle, _AT, _U64, _U64),
     "batch": (_Answer, _AT, *_SLICE * 3, *[_AT] * 3, *[_U64] * 5, *_SLICE, _U64, *[_AT] * 5),
+    "explain": (_Explanation, _AT, *_SLICE * 3, *[_AT] * 3, *[_U64] * 5, *_SLICE, _U64),
     "binding_value": (_Value, _AT, _AT, _U64, _U32),
     "node_availability": (_Availability, _AT, _AT, _U64),
     "entry_value": (_Value, _AT, _AT, _U64, _U64),
@@ -304,7 +361,7 @@ def _call(name, *arguments):
         raise NoSession
     if disposition == Disposition.NO_SUCH:
         raise ValueError("no such edition or command")
-    if disposition == Disposition.REJECTED and not isinstance(answer, (_Answer, _Lifecycle)):
+    if disposition == Disposition.REJECTED and not isinstance(answer, (_Answer, _Lifecycle, _Explanation)):
         raise Refused(answer.number)
     return answer
 
@@ -334,6 +391,15 @@ def _written(name, *arguments, room: int) -> bytes:
 
 def _cursor(answer) -> Optional[int]:
     return answer.cursor if answer.has_cursor else None
+
+
+def _explanation(told: _Explanation) -> Optional[Explanation]:
+    if told.disposition != Disposition.REJECTED:
+        return None
+    place, figures = told.place, told.figures
+    where = (place.patch if place.has_patch else None, place.operation if place.has_operation else None)
+    numbers = (figures.first, figures.second, figures.third, figures.fourth)[: figures.count]
+    return Explanation(told.number, RULE_NAMES[told.rule - 1] if told.rule else None, *where, numbers)
 
 
 def _value(value: _Value) -> Optional[Value]:
@@ -377,17 +443,26 @@ class Panel:
     ) -> Answer:
         """One batch: a set's bytes, and what its sender declares of them. Without a session the batch names this one."""
         half, to = self._half, self._next
-        declared = (self.id if session is None else session, sequence, patches, stimulus_bytes, references)
-        told = _call(
-            "batch", half.head, *self._anchors, half.bindings, half.availability, half.entries, *declared, *_lent(data), edition,
-            to.head, to.bindings, to.availability, to.entries, to.lengths,
-        )
+        sent = self._batch(session, sequence, patches, stimulus_bytes, references, data, edition)
+        told = _call("batch", *sent, to.head, to.bindings, to.availability, to.entries, to.lengths)
         answer = Answer(Disposition(told.disposition), told.number, told.stage, told.logical, told.emitted, _cursor(told))
         if answer.disposition is Disposition.REJECTED:
-            raise Refused(answer.number, answer)
+            raise Refused(answer.number, answer, _explanation(_call("explain", *sent)))
         if answer.disposition is Disposition.APPLIED:
             self._half, self._next = to, half
         return answer
+
+    def explain(
+        self, data: bytes, *, sequence: int, patches: int, references: int, stimulus_bytes: int = 0, session: Optional[int] = None, edition: int = 1
+    ) -> Optional[Explanation]:
+        """By which rule send would refuse this batch; none where it would be taken. Nothing is sent."""
+        return _explanation(_call("explain", *self._batch(session, sequence, patches, stimulus_bytes, references, data, edition)))
+
+    def _batch(self, session, sequence, patches, stimulus_bytes, references, data, edition):
+        """The session and a batch, as the calls take them."""
+        half = self._half
+        declared = (self.id if session is None else session, sequence, patches, stimulus_bytes, references)
+        return half.head, *self._anchors, half.bindings, half.availability, half.entries, *declared, *_lent(data), edition
 
     @property
     def cursor(self) -> Optional[int]:

@@ -130,6 +130,16 @@ public final class Panel implements AutoCloseable {
         }
     }
 
+    /** By which rule send would refuse this batch; none where it would be taken. Nothing is sent. */
+    public Optional<Explanation> explain(Batch batch) {
+        try (Arena arena = Arena.ofConfined()) {
+            return Explanation.of(Library.answer(
+                    arena, "explain", Library.struct(12, 0), 0, half.head(), nodes, nodeCount, pairs, pairNumbers, collections,
+                    collectionCount, half.bindings(), half.availability(), half.entries(), batch.session(), batch.sequence(), batch.patches(),
+                    batch.stimulusBytes(), batch.references(), Library.lend(arena, batch.set()), (long) batch.set().length, batch.edition()));
+        }
+    }
+
     private static Answer answered(MemorySegment told, int hasCursor, Lifecycle lifecycle) {
         Disposition disposition = Disposition.values()[(int) at(told, 0)];
         OptionalLong cursor = at(told, hasCursor) == 0 ? OptionalLong.empty() : OptionalLong.of(at(told, hasCursor + 1));

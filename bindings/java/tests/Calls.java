@@ -1,3 +1,4 @@
+import geysertray.Explanation;
 import geysertray.Geysertray;
 import geysertray.Panel;
 import geysertray.Refused;
@@ -49,6 +50,8 @@ final class Calls {
             expect(OptionalLong.of(1), panel.send(new Panel.Batch(7, 1, 1, 0, 4, set, 1)).cursor());
             look(panel);
             refused(8, () -> panel.send(new Panel.Batch(7, 2, 1, 0, 4, set, 1)));
+            Explanation present = new Explanation(8, Optional.of("key-present"), OptionalLong.of(0), OptionalLong.of(1), List.of());
+            expect(Optional.of(present), panel.explain(new Panel.Batch(7, 2, 1, 0, 4, set, 1)));
             look(panel);
             panel.send(new Panel.Batch(7, 2, 1, 0, 4, set, 3));
             expect("a refusal", "none");

@@ -1,3 +1,4 @@
+import geysertray.Explanation;
 import geysertray.Geysertray;
 import geysertray.Panel;
 import geysertray.Refused;
@@ -25,13 +26,15 @@ final class Replay implements AutoCloseable {
     /** The form of a command's fields: n a number, s a slot, o a number or none, h bytes in hex, e an edition, a a step; c, d, p and k are rooms. */
     private static final Map<String, String> FORMS = Map.ofEntries(
             Map.entry("session", "nnnnn"), Map.entry("node", "n"), Map.entry("binding", "ns"), Map.entry("collection", "n"), Map.entry("create", ""),
-            Map.entry("apply", "an"), Map.entry("batch", "nnnnnh"), Map.entry("check", "h"), Map.entry("list", "h"), Map.entry("show", ""),
+            Map.entry("apply", "an"), Map.entry("batch", "nnnnnh"), Map.entry("explain", "nnnnnh"), Map.entry("check", "h"), Map.entry("list", "h"), Map.entry("show", ""),
             Map.entry("value binding", "ns"), Map.entry("value node", "n"), Map.entry("value entry", "nn"), Map.entry("mark binding", "ns"),
             Map.entry("mark node", "n"), Map.entry("mark entry", "nn"), Map.entry("edition", "e"), Map.entry("convert", "ch"), Map.entry("depends", "dh"),
             Map.entry("print", "np"), Map.entry("length", "n"), Map.entry("senders", "n"), Map.entry("wait", "n"), Map.entry("turn", ""), Map.entry("import", "cnnnnonnnnh"));
     private static final Map<Character, Long> LAST = Map.of('n', -1L, 'o', -1L, 'k', 128L, 's', 0xffffffffL, 'c', 32768L, 'd', 16384L, 'p', 131072L);
-    private static final List<String> NOT_BOUND = List.of("group", "explain");
-    private static final List<String> NEED_A_SESSION = List.of("apply", "batch", "show", "value", "mark", "print", "length", "page", "turn");
+    private static final List<String> READING_RULES =
+            Explanation.RULE_NAMES.subList(Explanation.RULE_NAMES.indexOf("set-too-long"), Explanation.RULE_NAMES.indexOf("findings"));
+    private static final List<String> NOT_BOUND = List.of("group");
+    private static final List<String> NEED_A_SESSION = List.of("apply", "batch", "explain", "show", "value", "mark", "print", "length", "page", "turn");
 
     /** A line that is no command. */
     static final class BadLine extends Exception {
@@ -161,6 +164,7 @@ final class Replay implements AutoCloseable {
             case "create" -> create();
             case "apply" -> apply(numbers);
             case "batch" -> batch(numbers, set);
+            case "explain" -> explain(numbers, set);
             case "edition" -> edition(numbers[0]);
             case "senders" -> told("J", () -> turns = new Turns(numbers[0]), it -> line("J", 0));
             case "wait", "turn" -> turns == null ? line("N") : onTurns(command, numbers);
@@ -260,6 +264,10 @@ final class Replay implements AutoCloseable {
         return line("R", word(answer), answer.number(), answer.stage(), answer.logical(), answer.emitted(), cursor(answer));
     }
 
+    private String explain(long[] n, byte[] set) {
+        return panel.explain(new Panel.Batch(n[0], n[1], n[2], n[3], n[4], set, edition)).map(Replay::reason).orElse(line("W", 0));
+    }
+
     private static Panel.Answer answered(Supplier<Panel.Answer> call) {
         try {
             return call.get();
@@ -269,6 +277,33 @@ final class Replay implements AutoCloseable {
     }
 
     // ---- lines of answers
+
+    private static String reason(Explanation it) {
+        if (it.rule().isEmpty()) {
+            return line("W", 0, "withheld");
+        }
+        List<Object> fields = new ArrayList<>(List.of("W", it.number(), it.rule().get()));
+        fields.addAll(figures(it, it.rule().get()));
+        return line(fields.toArray());
+    }
+
+    /** The figures of a rule, in the order of docs/RULES.md. */
+    private static List<Object> figures(Explanation it, String rule) {
+        List<Object> fields = new ArrayList<>(it.figures());
+        if (rule.equals("findings")) {
+            fields.add(0, it.patch().isEmpty() ? "set" : (Object) it.patch().getAsLong());
+        } else if (rule.equals("cursor") && fields.isEmpty()) {
+            fields.add("-");
+        } else if (it.operation().isPresent() || READING_RULES.contains(rule)) {
+            fields.add(orNone(it.patch()));
+            fields.add(orNone(it.operation()));
+        }
+        return fields;
+    }
+
+    private static Object orNone(OptionalLong number) {
+        return number.isPresent() ? (Object) number.getAsLong() : "-";
+    }
 
     private static String line(Object... fields) {
         StringBuilder out = new StringBuilder();

@@ -8,7 +8,7 @@ ROOT = Path(__file__).resolve().parent.parent.parent.parent
 sys.path.insert(0, str(ROOT / "bindings" / "python"))
 
 import geysertray
-from geysertray import Entry, Envelope, Kind, Limits, PageEntry, Panel, Refused, Value
+from geysertray import Entry, Envelope, Explanation, Kind, Limits, PageEntry, Panel, Refused, Value
 
 SET = (ROOT / "examples" / "panel.set").read_bytes()
 OK, MINUS_4 = Value(Kind.TEXT, "Ok", 1), Value(Kind.SIGNED, -4, 1)
@@ -41,8 +41,16 @@ class PanelTest(unittest.TestCase):
         with self.assertRaises(Refused) as caught:
             self.panel.send(SET, sequence=2, patches=1, references=4)
         self.assertEqual((caught.exception.number, caught.exception.answer.stage, caught.exception.answer.cursor), (8, 8, 1))
-        self.assertEqual(str(caught.exception), "8: " + geysertray.RULES[8])
+        self.assertEqual(str(caught.exception), "8: %s (key-present)" % geysertray.RULES[8])
+        self.assertEqual(caught.exception.explanation, Explanation(8, "key-present", 0, 1, ()))
         self.assertEqual(self.panel.listing(), before)
+
+    def test_explain(self):
+        self.assertEqual(self.panel.explain(SET, sequence=9, patches=1, references=4), Explanation(7, "cursor", None, None, (2,)))
+        self.assertEqual(self.panel.explain(SET, sequence=2, patches=2, references=4), Explanation(5, "counts-differ", None, None, (2, 1, 4, 4)))
+        self.assertIsNone(panel().explain(SET, sequence=1, patches=1, references=4))
+        silent = Panel(7, Limits(4096, 0, 4, 16))
+        self.assertEqual(silent.explain(SET, sequence=1, patches=1, references=4, session=8), Explanation(0, None, None, None, ()))
 
     def test_wrong_arguments(self):
         with self.assertRaises(ValueError):

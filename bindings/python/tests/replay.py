@@ -7,7 +7,7 @@ from pathlib import Path
 sys.path.insert(0, str(Path(__file__).resolve().parent.parent))
 
 import geysertray
-from geysertray import Command, Disposition, Envelope, Kind, Lifecycle, Limits, Never, Panel, Refused, Turns
+from geysertray import RULE_NAMES, Command, Disposition, Envelope, Kind, Lifecycle, Limits, Never, Panel, Refused, Turns
 
 LINE_BYTES = 131072
 KEPT_ANCHORS = 129
@@ -17,6 +17,7 @@ HEX = re.compile(r"(?:[0-9a-f]{2})+")
 STEPS = {"activate": Command.ACTIVATE, "suspend": Command.SUSPEND, "resume": Command.RESUME, "close": Command.CLOSE, "noop": Command.NO_OP}
 DISPOSITIONS = {Disposition.APPLIED: "applied", Disposition.NO_CHANGE: "no-change", Disposition.REJECTED: "rejected"}
 LIFECYCLES = {Lifecycle.CREATED: "created", Lifecycle.ACTIVE: "active", Lifecycle.SUSPENDED: "suspended", Lifecycle.CLOSED: "closed"}
+READING_RULES = RULE_NAMES[RULE_NAMES.index("set-too-long") : RULE_NAMES.index("findings")]
 ESCAPES = str.maketrans({"\\": "\\\\", "\t": "\\t", "\n": "\\n", "\r": "\\r"})
 
 
@@ -67,6 +68,7 @@ FIELDS = {
     "create": (),
     "apply": (STEP, NUMBER),
     "batch": (NUMBER,) * 5 + (set_bytes,),
+    "explain": (NUMBER,) * 5 + (set_bytes,),
     "check": (set_bytes,),
     "list": (set_bytes,),
     "show": (),
@@ -87,8 +89,8 @@ FIELDS = {
     "import": (up_to(32768), *[NUMBER] * 4, optional, *[NUMBER] * 4, set_bytes),
 }
 METHODS = {"edition": "edition_", "import": "import_"}
-NOT_BOUND = ("group", "explain")
-NEED_A_SESSION = ("apply", "batch", "show", "value", "mark", "print", "length", "page", "turn")
+NOT_BOUND = ("group",)
+NEED_A_SESSION = ("apply", "batch", "explain", "show", "value", "mark", "print", "length", "page", "turn")
 NEED_TURNS = ("wait", "turn")
 
 
@@ -117,6 +119,23 @@ def answer_line(answer):
 
 def step_line(step):
     return line("L", DISPOSITIONS[step.disposition], *step[1:5], LIFECYCLES[step.lifecycle], or_none(step.cursor), step.stimulus_bytes)
+
+
+def figure_fields(reason):
+    """The figures of a rule, in the order of docs/RULES.md."""
+    if reason.rule == "findings":
+        return "set" if reason.patch is None else reason.patch, *reason.figures
+    if reason.rule == "cursor":
+        return reason.figures or ("-",)
+    if reason.rule in READING_RULES:
+        return *reason.figures, or_none(reason.patch), or_none(reason.operation)
+    return *reason.figures, *(index for index in (reason.patch, reason.operation) if index is not None)
+
+
+def reason_line(reason):
+    if reason is None:
+        return line("W", 0)
+    return line("W", 0, "withheld") if reason.rule is None else line("W", reason.number, reason.rule, *figure_fields(reason))
 
 
 def told(letter, call, lines):
@@ -175,6 +194,13 @@ class Replay:
             )
         except Refused as refusal:
             return answer_line(refusal.answer)
+
+    def explain(self, session, sequence, patches, stimulus_bytes, references, data):
+        return reason_line(
+            self.panel.explain(
+                data, session=session, sequence=sequence, patches=patches, stimulus_bytes=stimulus_bytes, references=references, edition=self.edition
+            )
+        )
 
     def show(self):
         return self.panel.listing()

@@ -3,3 +3,4 @@ pub mod Asked
 pub mod Counts
 pub mod Sets
 pub mod Values
+pub mod Explanations

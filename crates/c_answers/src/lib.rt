@@ -2,5 +2,8 @@
 pub mod answers;
 pub mod asked;
 pub mod counts;
+pub mod explanations;
+pub mod figures;
+pub mod rules;
 pub mod sets;
 pub mod values;

@@ -7,7 +7,7 @@ ghost use Rattle.spec_replay.specs.Reasons.{insideFields, takesField, figureFie
 ghost use Rattle.bytes_printer.specs.Prints.{spacedField, Prints};
 ghost use Rattle.projection_patch.specs.ReadAnswers.{optionalOf};
 ghost use Rattle.patch_locate.specs.Answers.{insideOf};
-ghost use Rattle.script_reasons.specs.Meaning.{findingPlaceOf, printedReasonOf};
+ghost use Rattle.session_explain.specs.Meaning.{findingPlaceOf, printedReasonOf};
 use bytes_printer::Printed;
 use check_set::check_set::CheckPlace;
 use patch_locate::rules::Inside;

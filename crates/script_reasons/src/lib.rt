@@ -1,13 +1,13 @@
 // The line that a replay prints of the rule behind a refusal, printed into a lent slice.
 pub mod figures;
-pub mod numbers;
 pub mod words;
 
 ghost use Rattle.spec_explain.specs.Explain.{given};
 ghost use Rattle.spec_replay.specs.Reasons.{reasonLine};
 ghost use Rattle.bytes_printer.specs.Prints.{Prints};
-ghost use Rattle.script_reasons.specs.Meaning.{printedReasonOf, explanationOf};
+ghost use Rattle.session_explain.specs.Meaning.{printedReasonOf, explanationOf};
 use bytes_printer::Printed;
+use session_explain::numbers;
 use session_explain::reasons::BatchExplanation;
 use session_explain::reasons::BatchReason;
 

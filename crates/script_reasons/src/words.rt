@@ -5,7 +5,7 @@ ghost use Rattle.spec_explain.specs.OperationRule.{operationWord};
 ghost use Rattle.spec_explain.specs.Reason.{limitWord, reasonWord};
 ghost use Rattle.bytes_printer.specs.Prints.{spacedField, Prints};
 ghost use Rattle.patch_locate.specs.Answers.{readingRuleOf};
-ghost use Rattle.script_reasons.specs.Meaning.{limitOf, operationRuleOf, printedReasonOf};
+ghost use Rattle.session_explain.specs.Meaning.{limitOf, operationRuleOf, printedReasonOf};
 use bytes_printer::Printed;
 use patch_locate::rules::ReadingRule;
 use session_explain::reasons::BatchReason;

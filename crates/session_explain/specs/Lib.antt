@@ -10,3 +10,6 @@ pub mod Steps
 pub mod StepsLaws
 pub mod BatchLaws
 pub mod ListingLaws
+pub mod Meaning
+pub mod Numbers
+pub mod MeaningLaws

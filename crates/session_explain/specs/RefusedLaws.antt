@@ -23,12 +23,13 @@ use Rattle.local_projection_state.specs.declared.ProjectionCounts.{ProjectionCo
 use Rattle.panel_plan.specs.Resolved.{resolvedBinding, resolvedEntry, resolving, resolved, resolvedOperation, resolvedOutcome}
 use Rattle.panel_plan.specs.ResolvedLaws.{operation-resolved}
 use Rattle.panel_plan.specs.Plan.{numbered, bindingWith, entryWith, planOf, withSource}
-use Rattle.panel_plan.specs.PlanValid.{plan-valid, planned-fits}
+use Rattle.panel_plan.specs.PlanValid.{planned-fits}
 use Rattle.panel_plan.specs.PlanRows.{PlannedBindings, PlannedEntries, StoredPlan}
 use Rattle.panel_operations.specs.OperationChange.{plannedOperation, OperationBecame}
 use Rattle.panel_operations.specs.OperationLaws.{planned-is}
 use Rattle.panel_operations.specs.declared.OperationChange.{OperationChange}
 use Rattle.panel_operations.specs.declared.OperationChange.the-variants as operation
+use Rattle.panel_changes.specs.SetChangesLaws.{plan-starts}
 use Rattle.session_explain.specs.Refused.{blankReason, StandsFor}
 
 same-done : {q t : Projection} → done q ≡ done t → q ≡ t
@@ -89,13 +90,8 @@ plan-blank p = λ i. record { bindings = bindings 0 (p .bindings) i; availabilit
     entries n (e ∷ es) = ap (λ l. resolvedEntry blankReason e ∷ l) (entries (suc n) es)
 
 module _ {n : ProjectionCounts} {b a e : List ℕ} {p : Projection} where
-  pub starts-for : {pb pe : List ℕ} → StoredTables n b a e p → PlannedBindings (n .bindings) pb (numbered bindingWith 0 (p .bindings)) → PlannedEntries (n .entries) pe (numbered entryWith 0 (p .entries)) → StandsFor n pb a pe p
-  unfolding planOf
-  starts-for s bs es = record {
-    plan = planOf p;
-    stored = record { bindings = bs; availabilities = s .availabilities; entries = es; valid = plan-valid p (s .valid) };
-    alike = plan-blank p;
-  }
+  pub starts-for : {pb pa pe : List ℕ} → StoredTables n b a e p → pa ≡ a → PlannedBindings (n .bindings) pb (numbered bindingWith 0 (p .bindings)) → PlannedEntries (n .entries) pe (numbered entryWith 0 (p .entries)) → StandsFor n pb pa pe p
+  starts-for s same bs es = record { plan = planOf p; stored = plan-starts s same bs es; alike = plan-blank p }
 
   -- ---- one operation
 

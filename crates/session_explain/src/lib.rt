@@ -3,6 +3,7 @@ pub mod batch;
 pub mod checks;
 pub mod gates;
 pub mod listing;
+pub mod numbers;
 pub mod operations;
 pub mod reading;
 pub mod reasons;

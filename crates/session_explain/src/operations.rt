@@ -3,6 +3,7 @@ use crate::reasons::BatchReason;
 use crate::reasons::OperationRule;
 use crate::reasons::StepReason;
 use crate::rules;
+use bytes_records::moves;
 use local_projection_state::LocalProjectionState;
 use local_projection_state::ProjectionCounts;
 use panel_operations::OperationChange;
@@ -86,28 +87,32 @@ fn refused_from(
     }
 }
 
-// Of a set that is known to be readable, on what the tables store.
+// Of a set that is known to be readable, on what the tables store. Tables that store nothing are told as if all applied.
 pub fn first_refused(
-    panel: LocalProjectionState,
+    bindings: &[u8],
+    availability: &[u8],
+    entries: &[u8],
+    counts: ProjectionCounts,
     set: &[u8],
     edition: ProjectionPatchEdition,
 ) -> FirstRefused
-    ensures { λ r. ⌜ ((p : Projection) (ps : List Patch) → StoredTables (panel .counts) (panel .bindings) (panel .availability) (panel .entries) p → readSet (editionOf edition) (now (set .entry)) ≡ patches ps
+    ensures { λ r. ⌜ ((p : Projection) (ps : List Patch) → StoredTables counts (now (bindings .entry)) (now (availability .entry)) (now (entries .entry)) p → readSet (editionOf edition) (now (set .entry)) ≡ patches ps
         → r ≡ reasonRefusedTo (walkPatches stepKept 0 p ps)) ⌝ }
 {
-    let counts = panel.counts;
-    let old_bindings = panel.bindings;
-    let old_entries = panel.entries;
-    let mut bindings = [0u8; panel_plan::BINDING_BYTES];
-    let mut availability = panel.availability;
-    let mut entries = [0u8; panel_plan::ENTRY_BYTES];
-    fill::plan_bindings(&old_bindings, counts.bindings, &mut bindings);
-    fill::plan_entries(&old_entries, counts.entries, &mut entries);
+    if availability.len() != LocalProjectionState::AVAILABILITY_BYTES {
+        return FirstRefused::AllApply;
+    }
+    let mut plan_bindings = [0u8; panel_plan::BINDING_BYTES];
+    let mut plan_availability = [0u8; LocalProjectionState::AVAILABILITY_BYTES];
+    let mut plan_entries = [0u8; panel_plan::ENTRY_BYTES];
+    fill::plan_bindings(bindings, counts.bindings, &mut plan_bindings);
+    moves::copy(availability, &mut plan_availability);
+    fill::plan_entries(entries, counts.entries, &mut plan_entries);
     match patch_walk::open_set(set, edition) {
         SetOpening::At(start) => refused_from(
-            &mut bindings,
-            &mut availability,
-            &mut entries,
+            &mut plan_bindings,
+            &mut plan_availability,
+            &mut plan_entries,
             counts,
             set,
             edition,
@@ -117,7 +122,27 @@ pub fn first_refused(
     }
 }
 
-// Step 9 with its reason.
+// Step 9 with its reason, on lent tables.
+pub fn explain_tables(
+    bindings: &[u8],
+    availability: &[u8],
+    entries: &[u8],
+    counts: ProjectionCounts,
+    set: &[u8],
+    edition: ProjectionPatchEdition,
+) -> StepReason
+    ensures { λ r. ⌜ ((p : Projection) (ps : List Patch) → StoredTables counts (now (bindings .entry)) (now (availability .entry)) (now (entries .entry)) p → readSet (editionOf edition) (now (set .entry)) ≡ patches ps
+        → r ≡ stepTo (applies (walkPatches stepKept 0 p ps))) ⌝ }
+{
+    match first_refused(bindings, availability, entries, counts, set, edition) {
+        FirstRefused::AllApply => StepReason::Fine,
+        FirstRefused::Refused(patch, operation, rule) =>
+            StepReason::Because(BatchReason::OperationFails(patch, operation, rule)),
+        FirstRefused::Unreadable(_) => StepReason::Fine,
+    }
+}
+
+// The same on a panel by value.
 pub fn explain_operations(
     panel: LocalProjectionState,
     set: &[u8],
@@ -126,10 +151,15 @@ pub fn explain_operations(
     ensures { λ r. ⌜ ((p : Projection) (ps : List Patch) → StoredTables (panel .counts) (panel .bindings) (panel .availability) (panel .entries) p → readSet (editionOf edition) (now (set .entry)) ≡ patches ps
         → r ≡ stepTo (applies (walkPatches stepKept 0 p ps))) ⌝ }
 {
-    match first_refused(panel, set, edition) {
-        FirstRefused::AllApply => StepReason::Fine,
-        FirstRefused::Refused(patch, operation, rule) =>
-            StepReason::Because(BatchReason::OperationFails(patch, operation, rule)),
-        FirstRefused::Unreadable(_) => StepReason::Fine,
-    }
+    let bindings = panel.bindings;
+    let availability = panel.availability;
+    let entries = panel.entries;
+    explain_tables(
+        &bindings,
+        &availability,
+        &entries,
+        panel.counts,
+        set,
+        edition,
+    )
 }

@@ -9,7 +9,7 @@ ghost use Rattle.panel_rows.specs.Rows.{lengthBytes};
 ghost use Rattle.session_lent.specs.LentSession.{anchorsShaped, halfShaped};
 
 // Whether lists of so many numbers are anchors: at most 128 of each kind, and two numbers for each binding.
-pub(crate) fn anchors_shaped(nodes: usize, pairs: usize, collections: usize) -> bool
+pub fn anchors_shaped(nodes: usize, pairs: usize, collections: usize) -> bool
     ensures { λ r. ⌜ r ≡ anchorsShaped nodes pairs collections ⌝ }
 {
     if ActiveProjectionTargetCatalog::ANCHORS < nodes {

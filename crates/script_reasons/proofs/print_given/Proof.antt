@@ -7,8 +7,8 @@ use Rattle.spec_explain.specs.Reason.{reasonWord}
 use Rattle.spec_listing.specs.Listing.{fields}
 use Rattle.spec_replay.specs.Reasons.{figureFields, reasonLine}
 use Rattle.bytes_printer.specs.PrintsLaws.{_⨾_, same-bytes}
-use Rattle.script_reasons.specs.Meaning.{printedReasonOf}
-use Rattle.script_reasons.specs.Numbers.{number-is}
+use Rattle.session_explain.specs.Meaning.{printedReasonOf}
+use Rattle.session_explain.specs.Numbers.{number-is}
 use borrow.Author.Needs.{needs}
 use Rattle.script_reasons.proofs.print_given.Statement.{statement}
 use Rattle.script_reasons.proofs.print_given.Tie as tie

@@ -6,7 +6,7 @@ use Rattle.spec_listing.specs.Listing.{fields}
 use Rattle.spec_replay.specs.Reasons.{reasonLine}
 use Rattle.bytes_printer.specs.PrintsLaws.{_⨾_, same-bytes}
 use Rattle.session_explain.specs.declared.reasons.BatchExplanation.{BatchExplanation}
-use Rattle.script_reasons.specs.Meaning.{explanationOf}
+use Rattle.session_explain.specs.Meaning.{explanationOf}
 use borrow.Author.Needs.{needs}
 use Rattle.script_reasons.proofs.print_reason.Statement.{statement}
 use Rattle.script_reasons.proofs.print_reason.Tie as tie

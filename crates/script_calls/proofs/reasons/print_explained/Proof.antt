@@ -3,8 +3,8 @@ use mathlib.Core.Path.{ap, _∙_}
 use Rattle.spec_explain.specs.Explain.{Explanation}
 use Rattle.spec_replay.specs.Reasons.{reasonLine}
 use Rattle.bytes_printer.specs.PrintsLaws.{same-bytes}
-use Rattle.script_reasons.specs.Meaning.{explanationOf}
-use Rattle.script_reasons.specs.MeaningLaws.{explanation-back}
+use Rattle.session_explain.specs.Meaning.{explanationOf}
+use Rattle.session_explain.specs.MeaningLaws.{explanation-back}
 use borrow.Author.Needs.{needs}
 use Rattle.script_calls.proofs.reasons.print_explained.Statement.{statement}
 use Rattle.script_calls.proofs.reasons.print_explained.Tie as tie

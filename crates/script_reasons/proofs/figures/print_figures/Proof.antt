@@ -6,7 +6,7 @@ use Rattle.spec_listing.specs.Listing.{fields}
 use Rattle.spec_replay.specs.Reasons.{figureFields}
 use Rattle.bytes_printer.specs.PrintsLaws.{_⨾_, same-bytes}
 use Rattle.session_explain.specs.declared.reasons.BatchReason.{BatchReason}
-use Rattle.script_reasons.specs.Meaning.{printedReasonOf}
+use Rattle.session_explain.specs.Meaning.{printedReasonOf}
 use borrow.Author.Needs.{needs}
 use Rattle.script_reasons.proofs.figures.print_figures.Statement.{statement}
 use Rattle.script_reasons.proofs.figures.print_figures.Tie as tie

@@ -6,7 +6,7 @@ use Rattle.spec_replay.specs.Answers.{placeField}
 use Rattle.bytes_printer.specs.Prints.{spacedField}
 use Rattle.bytes_printer.specs.PrintsLaws.{same-bytes}
 use Rattle.check_set.specs.declared.check_set.CheckPlace.{CheckPlace}
-use Rattle.script_reasons.specs.Meaning.{findingPlaceOf}
+use Rattle.session_explain.specs.Meaning.{findingPlaceOf}
 use borrow.Author.Needs.{needs}
 use Rattle.script_reasons.proofs.figures.print_place.Statement.{statement}
 use Rattle.script_reasons.proofs.figures.print_place.Tie as tie

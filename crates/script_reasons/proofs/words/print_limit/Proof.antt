@@ -6,7 +6,7 @@ use Rattle.spec_explain.specs.Reason.{limitWord}
 use Rattle.bytes_printer.specs.Prints.{spacedField}
 use Rattle.bytes_printer.specs.PrintsLaws.{same-bytes}
 use Rattle.session_explain.specs.declared.reasons.DeclaredLimit.{DeclaredLimit}
-use Rattle.script_reasons.specs.Meaning.{limitOf}
+use Rattle.session_explain.specs.Meaning.{limitOf}
 use borrow.Author.Needs.{needs}
 use Rattle.script_reasons.proofs.words.print_limit.Statement.{statement}
 use Rattle.script_reasons.proofs.words.print_limit.Tie as tie

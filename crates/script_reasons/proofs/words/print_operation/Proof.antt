@@ -6,7 +6,7 @@ use Rattle.spec_explain.specs.OperationRule.{operationWord}
 use Rattle.bytes_printer.specs.Prints.{spacedField}
 use Rattle.bytes_printer.specs.PrintsLaws.{same-bytes}
 use Rattle.session_explain.specs.declared.reasons.OperationRule.{OperationRule}
-use Rattle.script_reasons.specs.Meaning.{operationRuleOf}
+use Rattle.session_explain.specs.Meaning.{operationRuleOf}
 use borrow.Author.Needs.{needs}
 use Rattle.script_reasons.proofs.words.print_operation.Statement.{statement}
 use Rattle.script_reasons.proofs.words.print_operation.Tie as tie

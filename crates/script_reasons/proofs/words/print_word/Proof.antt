@@ -6,7 +6,7 @@ use Rattle.spec_explain.specs.Reason.{reasonWord}
 use Rattle.bytes_printer.specs.Prints.{spacedField}
 use Rattle.bytes_printer.specs.PrintsLaws.{same-bytes}
 use Rattle.session_explain.specs.declared.reasons.BatchReason.{BatchReason}
-use Rattle.script_reasons.specs.Meaning.{printedReasonOf}
+use Rattle.session_explain.specs.Meaning.{printedReasonOf}
 use borrow.Author.Needs.{needs}
 use Rattle.script_reasons.proofs.words.print_word.Statement.{statement}
 use Rattle.script_reasons.proofs.words.print_word.Tie as tie

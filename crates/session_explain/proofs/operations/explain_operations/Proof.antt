@@ -1,40 +1,29 @@
--- `session_explain::operations::explain_operations` meets its contract: the search gives the reason.
-use mathlib.Core.Path.{sym, ap, _∙_}
-use Rattle.session_explain.specs.Reasons.{operationsTo}
-use Rattle.session_explain.specs.StepsLaws.{operations-are}
+-- `session_explain::operations::explain_operations` meets its contract: the panel's tables are lent.
 use borrow.Author.Needs.{needs}
 use Rattle.session_explain.proofs.operations.explain_operations.Statement.{statement}
 use Rattle.session_explain.proofs.operations.explain_operations.Tie as tie
 
-first-refused-requires : tie.Need-first-refused-requires
-first-refused-requires c κs = search needs
+slice-aggregate-explain-tables : tie.Need-slice-aggregate-explain-tables
+slice-aggregate-explain-tables c = search needs
 
-enum-told : tie.Need-enum-told
-enum-told c = search needs
+slice-aggregate-explain-tables-2 : tie.Need-slice-aggregate-explain-tables-2
+slice-aggregate-explain-tables-2 c = search needs
 
-enum-known-patch : tie.Need-enum-known-patch
-enum-known-patch c = search needs
+slice-aggregate-explain-tables-3 : tie.Need-slice-aggregate-explain-tables-3
+slice-aggregate-explain-tables-3 c = search needs
 
-enum-told-2 : tie.Need-enum-told-2
-enum-told-2 c = search needs
+explain-tables-requires : tie.Need-explain-tables-requires
+explain-tables-requires c κs = search needs
 
 returns : tie.Need-returns
-returns c = λ p ps st r. sym (ap operationsTo (c .enum-told .given .1)) ∙ ap operationsTo (c .before .before .first-refused .ensures p ps st r) ∙ operations-are _
-
-returns-2 : tie.Need-returns-2
-returns-2 c = λ p ps st r. sym (ap operationsTo (c .before .patch .given .1)) ∙ ap operationsTo (c .before .before .before .first-refused .ensures p ps st r) ∙ operations-are _
-
-returns-3 : tie.Need-returns-3
-returns-3 c = λ p ps st r. sym (ap operationsTo (c .enum-told2 .given .1)) ∙ ap operationsTo (c .before .before .first-refused .ensures p ps st r) ∙ operations-are _
+returns c = c .explain-tables .ensures
 
 pub explain-operations-spec : {M : Type 1} → statement M
 explain-operations-spec =
     tie.close
     (tie.spec
-    first-refused-requires
-    enum-told
-    enum-known-patch
-    enum-told-2
-    returns
-    returns-2
-    returns-3)
+    slice-aggregate-explain-tables
+    slice-aggregate-explain-tables-2
+    slice-aggregate-explain-tables-3
+    explain-tables-requires
+    returns)

@@ -1,8 +1,8 @@
 -- `session_explain::operations::first_refused` meets its contract: the keys of what is stored, and then the walk.
 use Prim.Native.Nat.{ℕ, _*_}
-use mathlib.Core.Path.{_≡_, sym}
+use mathlib.Core.Path.{_≡_, sym, _∙_}
 use mathlib.Core.List.{List, []}
-use lib.ListN.{length}
+use lib.ListN.{length, length-replicate}
 use Rattle.spec_lists.specs.Bytes.{Bytes}
 use Rattle.spec_lists.specs.BytesLaws.{bytes-of}
 use Rattle.spec_patch.specs.Sizes.{projectionBindings, projectionEntries}
@@ -12,7 +12,7 @@ use Rattle.patch_walk.specs.StepsLaws.{opened-at, never-unopened}
 use Rattle.bytes_records.specs.Moves.{zeros}
 use Rattle.panel_rows.specs.Rows.{availabilityBytes}
 use Rattle.panel_plan.specs.PlanRows.{plannedBindingRow, plannedBindingWidth, plannedEntryRow, plannedEntryWidth, PlannedBindings, PlannedEntries}
-use Rattle.panel_changes.specs.SetChangesLaws.{none-stored}
+use Rattle.panel_changes.specs.SetChangesLaws.{none-stored, whole-copy}
 use Rattle.session_explain.specs.RefusedLaws.{starts-for}
 use borrow.Author.Needs.{needs}
 use Rattle.session_explain.proofs.operations.first_refused.Statement.{statement}
@@ -25,32 +25,39 @@ no-bindings = none-stored plannedBindingRow plannedBindingWidth projectionBindin
 no-entries : PlannedEntries 0 (zeros (projectionEntries * plannedEntryWidth)) []
 no-entries = none-stored plannedEntryRow plannedEntryWidth projectionEntries
 
-long : (c : tie.Start) → length (c .args .panel .availability) ≡ availabilityBytes
-long c = search needs
+abbrev start : tie.After-open-set → tie.Start
+start o = o .before .before .before .before .before .before .before .before .before .before .before .before .before .before .before
 
 abbrev set : tie.After-open-set → List ℕ
-set o = o .before .before .before .before .before .before .before .before .before .before .before .before .before .before .args .set .now
+set o = start o .args .set .now
 
 abbrev edition : tie.After-open-set → Edition
-edition o = editionOf (o .before .before .before .before .before .before .before .before .before .before .before .before .before .before .args .edition)
+edition o = editionOf (start o .args .edition)
 
 all-bytes : (o : tie.After-open-set) → Bytes (set o)
-all-bytes o = bytes-of (set o) (λ j. o .before .before .before .before .before .before .before .before .before .before .before .before .before .shared-slice-known .given j .fits)
+all-bytes o = bytes-of (set o) (λ j. o .before .before .before .before .before .before .before .before .before .before .before .shared-slice-known4 .given j .fits)
+
+-- a table of just these bytes takes a whole one
+room : (a : List ℕ) → length a ≡ availabilityBytes → length a ≡ length (zeros availabilityBytes)
+room a is = is ∙ sym (length-replicate {A = ℕ} availabilityBytes 0)
+
+returns : tie.Need-returns
+returns c = λ p ps st e. absurd (c .if1 .taken (st .availabilities .size))
 
 slice-aggregate-plan-bindings : tie.Need-slice-aggregate-plan-bindings
 slice-aggregate-plan-bindings c = search needs
 
-slice-aggregate-plan-bindings-2 : tie.Need-slice-aggregate-plan-bindings-2
-slice-aggregate-plan-bindings-2 c = search needs
-
 plan-bindings-requires : tie.Need-plan-bindings-requires
 plan-bindings-requires c κs = search needs
 
+slice-aggregate-copy : tie.Need-slice-aggregate-copy
+slice-aggregate-copy c = search needs
+
+copy-requires : tie.Need-copy-requires
+copy-requires c κs = search needs
+
 slice-aggregate-plan-entries : tie.Need-slice-aggregate-plan-entries
 slice-aggregate-plan-entries c = search needs
-
-slice-aggregate-plan-entries-2 : tie.Need-slice-aggregate-plan-entries-2
-slice-aggregate-plan-entries-2 c = search needs
 
 plan-entries-requires : tie.Need-plan-entries-requires
 plan-entries-requires c κs = search needs
@@ -65,7 +72,7 @@ slice-aggregate-refused-from : tie.Need-slice-aggregate-refused-from
 slice-aggregate-refused-from c = search needs
 
 slice-aggregate-refused-from-2 : tie.Need-slice-aggregate-refused-from-2
-slice-aggregate-refused-from-2 c = sym (long (c .before .before .before .before .before .before .before .before .before .before .before .before .before .before .before .before .before .before .before))
+slice-aggregate-refused-from-2 c = search needs
 
 slice-aggregate-refused-from-3 : tie.Need-slice-aggregate-refused-from-3
 slice-aggregate-refused-from-3 c = search needs
@@ -76,15 +83,17 @@ refused-from-requires c κs = search needs
 enum-known-fault : tie.Need-enum-known-fault
 enum-known-fault c = search needs
 
-returns : tie.Need-returns
-returns c =
-    let o = c .before .before .before .before .before .before .before .before .before .before in
-    λ p ps st e. c .before .before .before .refused-from .ensures p ps
-    (starts-for st (c .before .before .before .before .before .before .before .before .before .before .before .before .before .before .before .before .plan-bindings .ensures (p .bindings) (st .bindings) no-bindings) (c .before .before .before .before .before .before .before .before .before .before .before .before .plan-entries .ensures (p .entries) (st .entries) no-entries))
-    (opened-at (edition o) (set o) (all-bytes o) ps e (o .open-set .ensures) _ (c .before .before .before .before .before .before .before .before .start .given .1))
-
 returns-2 : tie.Need-returns-2
 returns-2 c =
+    let o = c .before .before .before .before .before .before .before .before .before .before in
+    let a = start o .args in
+    let copied = o .before .before .before .before .before .copy .ensures ∙ whole-copy (a .availability .now) (zeros availabilityBytes) (room (a .availability .now) (o .before .before .before .before .before .before .before .before .before .before .if1 .left)) in
+    λ p ps st e. c .before .before .before .refused-from .ensures p ps
+    (starts-for st copied (o .before .before .before .before .before .before .before .before .plan-bindings2 .ensures (p .bindings) (st .bindings) no-bindings) (o .before .before .plan-entries2 .ensures (p .entries) (st .entries) no-entries))
+    (opened-at (edition o) (set o) (all-bytes o) ps e (o .open-set .ensures) _ (c .before .before .before .before .before .before .before .before .start .given .1))
+
+returns-3 : tie.Need-returns-3
+returns-3 c =
     let o = c .before .before .before in
     λ p ps st e. absurd (never-unopened (edition o) (set o) (all-bytes o) ps e (o .open-set .ensures) _ (c .before .fault .given .1))
 
@@ -92,11 +101,12 @@ pub first-refused-spec : {M : Type 1} → statement M
 first-refused-spec =
     tie.close
     (tie.spec
+    returns
     slice-aggregate-plan-bindings
-    slice-aggregate-plan-bindings-2
     plan-bindings-requires
+    slice-aggregate-copy
+    copy-requires
     slice-aggregate-plan-entries
-    slice-aggregate-plan-entries-2
     plan-entries-requires
     open-set-requires
     enum-known-start
@@ -105,5 +115,5 @@ first-refused-spec =
     slice-aggregate-refused-from-3
     refused-from-requires
     enum-known-fault
-    returns
-    returns-2)
+    returns-2
+    returns-3)

@@ -1,9 +1,9 @@
--- `script_reasons::numbers::number_of` meets its contract, reason by reason.
+-- `session_explain::numbers::number_of` meets its contract, reason by reason.
 use mathlib.Core.Path.{sym, ap, _∙_}
-use Rattle.script_reasons.specs.Numbers.{numberTold}
+use Rattle.session_explain.specs.Numbers.{numberTold}
 use borrow.Author.Needs.{needs}
-use Rattle.script_reasons.proofs.numbers.number_of.Statement.{statement}
-use Rattle.script_reasons.proofs.numbers.number_of.Tie as tie
+use Rattle.session_explain.proofs.numbers.number_of.Statement.{statement}
+use Rattle.session_explain.proofs.numbers.number_of.Tie as tie
 
 enum-told : tie.Need-enum-told
 enum-told c = search needs

@@ -10,8 +10,8 @@ use Rattle.spec_explain.specs.Explain.{Explanation, noReason, withheld, given}
 use Rattle.projection_patch.specs.ReadAnswers.{optionalTo, optionalOf}
 use Rattle.patch_locate.specs.Answers.{ruleTo, readingRuleOf, insideTo, insideOf}
 use Rattle.check_set.specs.CheckAnswers.{placeTo}
 use Rattle.session_explain.specs.Reasons.{limitTo, operationRuleTo, reasonTo, explanationTo}
-use Rattle.script_reasons.specs.Meaning.{findingPlaceOf, limitOf, operationRuleOf, printedReasonOf, explanationOf}
+use Rattle.session_explain.specs.Meaning.{findingPlaceOf, limitOf, operationRuleOf, printedReasonOf, explanationOf}
 
 rule-back : (r : readings.ReadingRule) → readingRuleOf (ruleTo r) ≡ r
 rule-back readings.setTooLong = refl

@@ -1,9 +1,9 @@
 // 01's number of each reason.
 ghost use mathlib.Core.Path.{_≡_};
-ghost use Rattle.script_reasons.specs.Numbers.{readingNumberTold, operationNumberTold, numberTold};
+ghost use Rattle.session_explain.specs.Numbers.{readingNumberTold, operationNumberTold, numberTold};
+use crate::reasons::BatchReason;
+use crate::reasons::OperationRule;
 use patch_locate::rules::ReadingRule;
-use session_explain::reasons::BatchReason;
-use session_explain::reasons::OperationRule;
 
 fn reading_number(rule: ReadingRule) -> u64
     ensures { λ r. ⌜ r ≡ readingNumberTold rule ⌝ }

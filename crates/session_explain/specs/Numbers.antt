@@ -4,12 +4,12 @@ use mathlib.Core.Path.{_≡_, refl}
 use Rattle.spec_explain.specs.Reason.{reasonNumber}
 use Rattle.patch_locate.specs.declared.rules.ReadingRule.{ReadingRule}
 use Rattle.patch_locate.specs.declared.rules.ReadingRule.the-variants as readings
 use Rattle.session_explain.specs.declared.reasons.OperationRule.{OperationRule}
 use Rattle.session_explain.specs.declared.reasons.OperationRule.the-variants as rules
 use Rattle.session_explain.specs.declared.reasons.BatchReason.{BatchReason}
 use Rattle.session_explain.specs.declared.reasons.BatchReason.the-variants as reasons
 use Rattle.spec_session.specs.Diagnostics.{sessionNumber}
-use Rattle.script_reasons.specs.Meaning.{printedReasonOf}
+use Rattle.session_explain.specs.Meaning.{printedReasonOf}
 
 abbrev pub readingNumberTold : ReadingRule → ℕ
 readingNumberTold readings.SetTooLong = 12

@@ -1,0 +1,105 @@
+-- `c_answers::rules::rule_number` meets its contract, case by case.
+use mathlib.Core.Path.{sym, ap, _∙_}
+use Rattle.session_explain.specs.declared.reasons.BatchReason.{BatchReason}
+use Rattle.session_explain.specs.Meaning.{printedReasonOf}
+use Rattle.c_answers.specs.Explanations.{ruleNumber}
+use borrow.Author.Needs.{needs}
+use Rattle.c_answers.proofs.rules.rule_number.Statement.{statement}
+use Rattle.c_answers.proofs.rules.rule_number.Tie as tie
+
+enum-told : tie.Need-enum-told
+enum-told c = search needs
+
+enum-told-2 : tie.Need-enum-told-2
+enum-told-2 c = search needs
+
+enum-known-reason : tie.Need-enum-known-reason
+enum-known-reason c = search needs
+
+limit-rule-requires : tie.Need-limit-rule-requires
+limit-rule-requires c κs = search needs
+
+enum-known-reason-2 : tie.Need-enum-known-reason-2
+enum-known-reason-2 c = search needs
+
+reading-rule-requires : tie.Need-reading-rule-requires
+reading-rule-requires c κs = search needs
+
+enum-told-3 : tie.Need-enum-told-3
+enum-told-3 c = search needs
+
+enum-told-4 : tie.Need-enum-told-4
+enum-told-4 c = search needs
+
+enum-told-5 : tie.Need-enum-told-5
+enum-told-5 c = search needs
+
+enum-told-6 : tie.Need-enum-told-6
+enum-told-6 c = search needs
+
+enum-told-7 : tie.Need-enum-told-7
+enum-told-7 c = search needs
+
+enum-known-reason-3 : tie.Need-enum-known-reason-3
+enum-known-reason-3 c = search needs
+
+operation-rule-requires : tie.Need-operation-rule-requires
+operation-rule-requires c κs = search needs
+
+returns : tie.Need-returns
+returns c = sym (ap (λ (x : BatchReason). ruleNumber (printedReasonOf x)) (c .enum-told .given .1))
+
+returns-2 : tie.Need-returns-2
+returns-2 c = sym (ap (λ (x : BatchReason). ruleNumber (printedReasonOf x)) (c .enum-told2 .given .1))
+
+returns-3 : tie.Need-returns-3
+returns-3 c = c .limit-rule .ensures ∙ sym (ap (λ (x : BatchReason). ruleNumber (printedReasonOf x)) (c .before .before .reason .given .1))
+
+returns-4 : tie.Need-returns-4
+returns-4 c = c .reading-rule .ensures ∙ sym (ap (λ (x : BatchReason). ruleNumber (printedReasonOf x)) (c .before .before .reason2 .given .1))
+
+returns-5 : tie.Need-returns-5
+returns-5 c = sym (ap (λ (x : BatchReason). ruleNumber (printedReasonOf x)) (c .enum-told3 .given .1))
+
+returns-6 : tie.Need-returns-6
+returns-6 c = sym (ap (λ (x : BatchReason). ruleNumber (printedReasonOf x)) (c .enum-told4 .given .1))
+
+returns-7 : tie.Need-returns-7
+returns-7 c = sym (ap (λ (x : BatchReason). ruleNumber (printedReasonOf x)) (c .enum-told5 .given .1))
+
+returns-8 : tie.Need-returns-8
+returns-8 c = sym (ap (λ (x : BatchReason). ruleNumber (printedReasonOf x)) (c .enum-told6 .given .1))
+
+returns-9 : tie.Need-returns-9
+returns-9 c = sym (ap (λ (x : BatchReason). ruleNumber (printedReasonOf x)) (c .enum-told7 .given .1))
+
+returns-10 : tie.Need-returns-10
+returns-10 c = c .operation-rule .ensures ∙ sym (ap (λ (x : BatchReason). ruleNumber (printedReasonOf x)) (c .before .before .reason3 .given .1))
+
+pub rule-number-spec : {M : Type 1} → statement M
+rule-number-spec =
+    tie.close
+    (tie.spec
+    enum-told
+    enum-told-2
+    enum-known-reason
+    limit-rule-requires
+    enum-known-reason-2
+    reading-rule-requires
+    enum-told-3
+    enum-told-4
+    enum-told-5
+    enum-told-6
+    enum-told-7
+    enum-known-reason-3
+    operation-rule-requires
+    returns
+    returns-2
+    returns-3
+    returns-4
+    returns-5
+    returns-6
+    returns-7
+    returns-8
+    returns-9
+    returns-10)

@@ -1,3 +1,0 @@
-pub mod Meaning
-pub mod Numbers
-pub mod MeaningLaws

@@ -1,0 +1,2 @@
+pub mod LentExplain
+pub mod LentExplainLaws
