@@ -1,4 +1,4 @@
--- Bytes below 0x80 from one position to another: none, fewer, a group more, and one more.
+-- Bytes below 0x80 from one position to another: none, fewer, those of two rows, a group more, and one more.
 use Prim.Native.Nat.{ℕ, _+_, _-_, _≤_, _<_}
 use mathlib.Core.Path.{_≡_}
 use mathlib.Core.List.{List}
@@ -13,6 +13,14 @@ ascii-none h = record { ascends = omega arith; within = h; ascii = λ k l g. abs
 
 pub ascii-fewer : {text : List ℕ} {from i : ℕ} (to : ℕ) → AsciiBetween text from i → from ≤ to → to ≤ i → AsciiBetween text from to
 ascii-fewer to a l h = record { ascends = l; within = omega (arith, a .within); ascii = λ k f u. a .ascii k f (omega arith) }
+
+pub ascii-joined : {text : List ℕ} {from i to : ℕ} → AsciiBetween text from i → AsciiBetween text i to → AsciiBetween text from to
+ascii-joined {text} {from} {i} {to} a b =
+    record { ascends = omega (arith, a .ascends, b .ascends); within = b .within; ascii = λ k l u. go k l u (decLt k i) }
+  where
+    go : (k : ℕ) → from ≤ k → k < to → Dec (k < i) → getD text k 0 < 0x80
+    go k l u (yes v) = a .ascii k l v
+    go k l u (no v) = b .ascii k (omega arith) u
 
 -- a part of the text that is all such bytes
 pub ascii-group : {text : List ℕ} {from i : ℕ} (to : ℕ) → AsciiBetween text from i → i ≤ to → to ≤ length text

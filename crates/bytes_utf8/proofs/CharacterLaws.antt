@@ -3,11 +3,11 @@ use Prim.Native.Nat.{ℕ, zero, suc, _+_, _≤_, _<_, zero-le}
 use mathlib.Core.Path.{_≡_, refl, sym, ap, _∙_}
 use mathlib.Core.Bool.{Bool, true, false, _&&_, and-true, false≢true}
 use mathlib.Core.List.{List, [], _∷_}
-use native.Mathlib.Nat.{zero-add}
+use native.Mathlib.Nat.{zero-add, add-zero}
 use native.Mathlib.Omega.{arith}
 use lib.Dec.{leb}
-use lib.ListN.{length, drop, getD}
-use lib.Seq.{drop-cons, drop-nil, drop-drop}
+use lib.ListN.{length, drop, getD, length-drop}
+use lib.Seq.{drop-cons, drop-nil, drop-drop, getD-drop}
 use borrow.Author.Tests.{le-leb}
 use Rattle.spec_lists.specs.Lists.{if_then_else_}
 use Rattle.spec_lists.specs.ListLaws.{and-left, and-right, test-cases}
@@ -151,3 +151,20 @@ pub character-class : (text : List ℕ) (class : ℕ) → 0 < length text → ge
 unfolding characterLength
 character-class [] class h l e = absurd (omega arith)
 character-class (b ∷ bs) class h l e = rw (e, lead-class b l)
+
+-- A byte of class 4 and a tail, and one of class 6 and two tails, at a position.
+pub character-2 : (text : List ℕ) (at : ℕ) → at < length text → getD text at 0 < 256 → 4 ≡ classOf (getD text at 0) → hasAt text (tails 1 3) (at + 1) ≡ true
+    → characterLength (drop at text) ≡ 2
+unfolding afterClass lengthAfter
+character-2 text at h l e t =
+    character-class (drop at text) 4 (rw (length-drop at text) (omega arith)) (rw (getD-drop at text 0 0, add-zero) l) (rw (getD-drop at text 0 0, add-zero) e)
+    ∙ rw (drop-drop 1 at text, t)
+
+pub character-3 : (text : List ℕ) (at : ℕ) → at < length text → getD text at 0 < 256 → 6 ≡ classOf (getD text at 0) → hasAt text (tails 1 3) (at + 1) ≡ true
+    → hasAt text (tails 1 3) (at + 2) ≡ true → characterLength (drop at text) ≡ 3
+unfolding afterClass lengthAfter
+character-3 text at h l e t u =
+    let next : at + 1 + 1 ≡ at + 2 = omega arith in
+    let second : hasAt text (tails 1 3) (at + 1 + 1) ≡ true = rw next u in
+    character-class (drop at text) 6 (rw (length-drop at text) (omega arith)) (rw (getD-drop at text 0 0, add-zero) l) (rw (getD-drop at text 0 0, add-zero) e)
+    ∙ rw (drop-drop 1 at text, matches-at (tails 1 3) (tails 1 3 ∷ []) text (at + 1), t, second)

@@ -2,5 +2,6 @@ pub mod Below
 pub mod TableLaws
 pub mod CharacterLaws
 pub mod AsciiLaws
+pub mod RowLaws
 pub mod Reached
 pub mod Answers

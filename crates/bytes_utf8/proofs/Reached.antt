@@ -1,16 +1,17 @@
 -- What holds of the check after i bytes of a text and with a count of characters: at the start, after one character more, after bytes below
 -- 0x80 in a row, and at the end.
-use Prim.Native.Nat.{ℕ, zero, suc, _+_, _-_, _≤_, _<_, zero-le}
+use Prim.Native.Nat.{ℕ, zero, suc, _+_, _-_, _*_, _≤_, _<_, zero-le}
 use mathlib.Core.Path.{_≡_, refl, sym, _∙_, subst}
 use mathlib.Core.List.{List, []}
-use native.Mathlib.Nat.{zero-add, add-zero, add-assoc, le-refl, le-antisymm}
+use native.Mathlib.Nat.{zero-add, add-zero, add-assoc, mul-zero, mul-suc, le-refl, le-antisymm}
 use native.Mathlib.Omega.{arith}
 use lib.ListN.{length, getD, take, drop, length-drop}
 use lib.Seq.{take-all, drop-length, drop-drop, getD-drop}
 use Rattle.spec_text.specs.Syntax.{isUtf8, characters}
-use Rattle.bytes_utf8.specs.Characters.{characterLength, AsciiBetween}
+use Rattle.bytes_utf8.specs.Characters.{characterLength, AsciiBetween, CharactersFrom}
 use Rattle.bytes_utf8.specs.Answer.{answer}
 use Rattle.bytes_utf8.specs.declared.Utf8Check.the-variants.{Valid, Invalid}
+use Rattle.bytes_utf8.proofs.RowLaws.{characters-fewer}
 use Rattle.bytes_utf8.proofs.CharacterLaws.{character-read, character-refused, character-ascii}
 
 -- The bytes from i on decide the text, and have the characters that are not counted yet.
@@ -66,6 +67,17 @@ pub reached-front : {text : List ℕ} {to : ℕ} → AsciiBetween text 0 to → 
 reached-front {text} {to} a =
     let n : 0 + (to - 0) ≡ to = omega arith in
     subst (λ (j : ℕ). Reached text j to) n (reached-ascii (reached-start text) a)
+
+-- ---- characters of one length
+
+pub reached-characters : {text : List ℕ} {count i : ℕ} (n k : ℕ) → 0 < n → Reached text count i → CharactersFrom text n i k → Reached text (count + k) (i + n * k)
+reached-characters {text} {count} {i} n zero l r h = rw (add-zero count, mul-zero, add-zero i) r
+reached-characters {text} {count} {i} n (suc k) l r h =
+    let s = reached-characters n k l r (characters-fewer h) in
+    let t : Reached text (count + k + 1) (i + n * k + n) = reached-character n s (sym (h .characters k (omega arith))) (λ e. omega arith) in
+    let c : count + k + 1 ≡ count + suc k = omega arith in
+    let j : i + n * k + n ≡ i + n * suc k = rw (mul-suc n k) (add-assoc i (n * k) n) in
+    subst (λ (m : ℕ). Reached text (count + suc k) m) j (subst (λ (m : ℕ). Reached text m (i + n * k + n)) c t)
 
 -- ---- the end
 

@@ -1,8 +1,9 @@
--- The character that a text begins with, and the bytes below 0x80 in a row.
-use Prim.Native.Nat.{ℕ, suc, _≤_, _<_}
+-- The character that a text begins with, and rows of bytes below 0x80 and of characters of one length.
+use Prim.Native.Nat.{ℕ, suc, _+_, _*_, _≤_, _<_}
+use mathlib.Core.Path.{_≡_}
 use mathlib.Core.Bool.{Bool, true, false, _&&_}
 use mathlib.Core.List.{List, [], _∷_}
-use lib.ListN.{length, getD}
+use lib.ListN.{length, getD, drop}
 use Rattle.spec_lists.specs.Lists.{if_then_else_}
 use Rattle.spec_text.specs.Syntax.{Range, inside, sequences, After, expects, refused, lead}
 
@@ -27,3 +28,8 @@ pub record AsciiBetween (text : List ℕ) (from to : ℕ) : Type 0 where
   pub ascends : from ≤ to
   pub within : to ≤ length text
   pub ascii : (k : ℕ) → from ≤ k → k < to → getD text k 0 < 0x80
+
+-- So many characters of n bytes each stand from a position on.
+pub record CharactersFrom (text : List ℕ) (n from count : ℕ) : Type 0 where
+  pub within : from + n * count ≤ length text
+  pub characters : (k : ℕ) → k < count → characterLength (drop (from + n * k) text) ≡ n

@@ -7,7 +7,7 @@ ghost use mathlib.Core.List.{[], _∷_};
 ghost use lib.ListN.{length, drop};
 ghost use Rattle.spec_text.specs.Syntax.{tail, expects};
 ghost use Rattle.bytes_utf8.specs.Classes.{classOf, IsClassTable, IsTailClass, tails};
-ghost use Rattle.bytes_utf8.specs.Characters.{matches, lengthAfter, characterLength, AsciiBetween};
+ghost use Rattle.bytes_utf8.specs.Characters.{matches, lengthAfter, characterLength, AsciiBetween, CharactersFrom};
 ghost use Rattle.bytes_utf8.specs.Answer.{answer};
 
 mod tables;
@@ -112,30 +112,40 @@ fn is_ascii(group: &[u8]) -> bool
     largest < 0x80
 }
 
-// The position behind the groups of 16 bytes below 0x80 that stand there.
-fn groups_end(text: &[u8], from: usize) -> usize
-    requires { ⌜ from ≤ length (now text) ⌝ }
+// The position behind the groups of so many bytes below 0x80 that stand there.
+fn groups_end(text: &[u8], from: usize, size: usize) -> usize
+    requires { ⌜ (from ≤ length (now text)) × (0 < size) ⌝ }
     ensures { λ r. ⌜ AsciiBetween (now (text .entry)) from r ⌝ }
 {
     let mut i = from;
-    while 16 <= text.len() - i {
-        if !is_ascii(&text[i..i + 16]) {
+    while size <= text.len() - i {
+        if !is_ascii(&text[i..i + size]) {
             return i;
         }
-        i += 16;
+        i += size;
     }
     i
 }
 
-// The position behind the bytes of class 0 that stand there. Groups are tried only where one stands, not at a lone space between words.
+// The position behind the bytes of class 0 that stand there. Groups are tried only behind two of them, not at a lone space between words.
 fn ascii_end(classes: &[u8; 256], text: &[u8], from: usize) -> usize
     requires { ⌜ IsClassTable (now classes) × (from ≤ length (now text)) ⌝ }
     ensures { λ r. ⌜ AsciiBetween (now (text .entry)) from r ⌝ }
 {
-    if from == text.len() || class_of(classes, text[from]) != 0 {
+    if from == text.len() {
         return from;
     }
-    let mut i = groups_end(text, from);
+    if class_of(classes, text[from]) != 0 {
+        return from;
+    }
+    let next = from + 1;
+    if next == text.len() {
+        return next;
+    }
+    if class_of(classes, text[next]) != 0 {
+        return next;
+    }
+    let mut i = groups_end(text, next, 16);
     while i < text.len() {
         if class_of(classes, text[i]) != 0 {
             return i;
@@ -145,7 +155,51 @@ fn ascii_end(classes: &[u8; 256], text: &[u8], from: usize) -> usize
     i
 }
 
-// The check of a text whose bytes before the position are below 0x80. Those that follow a character of one byte are passed in a row.
+// How many characters of two bytes stand from the position on, one behind the other.
+fn two_byte_characters(classes: &[u8; 256], text: &[u8], from: usize) -> usize
+    requires { ⌜ IsClassTable (now classes) × (from ≤ length (now text)) ⌝ }
+    ensures { λ r. ⌜ CharactersFrom (now (text .entry)) 2 from r ⌝ }
+{
+    let mut count: usize = 0;
+    let mut i = from;
+    while i < text.len() {
+        if class_of(classes, text[i]) != 4 {
+            return count;
+        }
+        if !is_tail(classes, text, i + 1, 1, 3) {
+            return count;
+        }
+        count += 1;
+        i += 2;
+    }
+    count
+}
+
+// How many characters of three bytes, the first of them of class 6, likewise.
+fn three_byte_characters(classes: &[u8; 256], text: &[u8], from: usize) -> usize
+    requires { ⌜ IsClassTable (now classes) × (from ≤ length (now text)) ⌝ }
+    ensures { λ r. ⌜ CharactersFrom (now (text .entry)) 3 from r ⌝ }
+{
+    let mut count: usize = 0;
+    let mut i = from;
+    while i < text.len() {
+        if class_of(classes, text[i]) != 6 {
+            return count;
+        }
+        if !is_tail(classes, text, i + 1, 1, 3) {
+            return count;
+        }
+        if !is_tail(classes, text, i + 2, 1, 3) {
+            return count;
+        }
+        count += 1;
+        i += 3;
+    }
+    count
+}
+
+// The check of a text whose bytes before the position are below 0x80. Characters of one, two and three bytes are passed in rows, and where none
+// stands one character is taken by its class.
 fn check_from(classes: &[u8; 256], text: &[u8], from: usize) -> Utf8Check
     requires { ⌜ IsClassTable (now classes) × AsciiBetween (now text) 0 from ⌝ }
     ensures { λ r. ⌜ r ≡ answer (now (text .entry)) ⌝ }
@@ -153,16 +207,21 @@ fn check_from(classes: &[u8; 256], text: &[u8], from: usize) -> Utf8Check
     let mut characters = from;
     let mut i = from;
     while i < text.len() {
-        let length = character_length(classes, &text[i..]);
-        if length == 0 {
-            return Utf8Check::Invalid;
-        }
-        characters += 1;
-        i += length;
-        if length == 1 {
-            let end = ascii_end(classes, text, i);
-            characters += end - i;
-            i = end;
+        let end = ascii_end(classes, text, i);
+        let twos = two_byte_characters(classes, text, end);
+        let middle = end + 2 * twos;
+        let threes = three_byte_characters(classes, text, middle);
+        let next = middle + 3 * threes;
+        if i < next {
+            characters += (end - i) + twos + threes;
+            i = next;
+        } else {
+            let length = character_length(classes, &text[i..]);
+            if length == 0 {
+                return Utf8Check::Invalid;
+            }
+            characters += 1;
+            i += length;
         }
     }
     Utf8Check::Valid { characters }
@@ -172,7 +231,7 @@ fn check_from(classes: &[u8; 256], text: &[u8], from: usize) -> Utf8Check
 fn front_end(text: &[u8]) -> usize
     ensures { λ r. ⌜ AsciiBetween (now (text .entry)) 0 r ⌝ }
 {
-    let passed = groups_end(text, 0);
+    let passed = groups_end(text, groups_end(text, 0, 64), 16);
     let len = text.len();
     if passed == len {
         return passed;

@@ -9,6 +9,7 @@ ghost use Rattle.spec_lists.specs.Lists.{if_then_else_, All};
 ghost use Rattle.spec_patch.specs.Sizes.{projectionBindings, projectionEntries};
 ghost use Rattle.spec_projection.specs.Projection.{Projection};
 ghost use Rattle.spec_projection.specs.Valid.{Valid};
+ghost use Rattle.bytes_records.specs.Moves.{overwriteRows};
 ghost use Rattle.bytes_records.specs.Table.{tableBytes};
 ghost use Rattle.projection_patch.specs.Meaning.{editionOf};
 ghost use Rattle.panel_rows.specs.Rows.{fieldAt, valueWidth, bindingValueAt, bindingWidth, bindingRow, entryValueAt, entryWidth, entryRow};
@@ -45,6 +46,22 @@ fn value_bytes(set: &[u8], edition: ProjectionPatchEdition, at: usize) -> &[u8]
     }
 }
 
+// Copies rows of a table over the first bytes of another. They go through a block as large as a table: no two of the three overlap, so the compiler
+// makes one move of both copies, wider than a loop's.
+fn copy_rows(rows: &[u8], to: &mut [u8])
+    requires { ⌜ length (now rows) ≤ length (now to) ⌝ }
+    ensures { λ _. ⌜ now (to .exit) ≡ overwriteRows (now (rows .entry)) (now (to .entry)) ⌝ }
+{
+    let n = rows.len();
+    if LocalProjectionState::ENTRY_BYTES < n {
+        bytes_records::moves::copy(rows, to);
+        return;
+    }
+    let mut block = [0u8; LocalProjectionState::ENTRY_BYTES];
+    bytes_records::moves::copy(rows, &mut block);
+    bytes_records::moves::copy(&block[..n], to);
+}
+
 // Writes one row of the plan, or some that have old rows for their sources, one after the other: the bytes of the old rows, or the ids and the
 // mark of the plan's row with the value that stands in the set.
 fn write_planned(
@@ -62,7 +79,7 @@ fn write_planned(
     if source < LocalProjectionState::ENTRIES {
         let start = source * (key + panel_rows::VALUE_WIDTH);
         let old = fields::key_part(fields::value_part(from, start), to.len());
-        bytes_records::moves::copy(old, to);
+        copy_rows(old, to);
     } else {
         let front = fields::key_part(row, key);
         let at = source - LocalProjectionState::ENTRIES;

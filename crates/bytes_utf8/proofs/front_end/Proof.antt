@@ -1,6 +1,7 @@
 -- `bytes_utf8::front_end` meets its contract: the last 16 bytes begin among those that were passed.
 use native.Mathlib.Omega.{arith}
-use Rattle.bytes_utf8.proofs.AsciiLaws.{ascii-fewer, ascii-group}
+use Rattle.bytes_utf8.specs.Characters.{AsciiBetween}
+use Rattle.bytes_utf8.proofs.AsciiLaws.{ascii-fewer, ascii-joined, ascii-group}
 use borrow.Author.Needs.{needs}
 use Rattle.bytes_utf8.proofs.front_end.Statement.{statement}
 use Rattle.bytes_utf8.proofs.front_end.Tie as tie
@@ -8,17 +9,24 @@ use Rattle.bytes_utf8.proofs.front_end.Tie as tie
 groups-end-requires : tie.Need-groups-end-requires
 groups-end-requires c κs = search needs
 
+groups-end-requires-2 : tie.Need-groups-end-requires-2
+groups-end-requires-2 c κs = search needs
+
+-- the wide groups, and those behind them
+passed : (c : tie.After-groups-end2) → AsciiBetween (c .before .before .before .args .text .now) 0 (c .groups-end2 .result)
+passed c = ascii-joined (c .before .groups-end .ensures) (c .groups-end2 .ensures)
+
 returns : tie.Need-returns
-returns c = search needs
+returns c = passed (c .before)
 
 returns-2 : tie.Need-returns-2
-returns-2 c = search needs
+returns-2 c = passed (c .before .before)
 
 sub-if3 : tie.Need-sub-if3
 sub-if3 c = search needs
 
 returns-3 : tie.Need-returns-3
-returns-3 c = search needs
+returns-3 c = passed (c .before .before .before)
 
 sub-is-ascii : tie.Need-sub-is-ascii
 sub-is-ascii c = search needs
@@ -34,17 +42,17 @@ is-ascii-requires c κs = search needs
 
 returns-4 : tie.Need-returns-4
 returns-4 c =
-    let passed = c .before .before .before .before .before .before .groups-end .ensures in
-    ascii-group _ (ascii-fewer _ passed (omega arith) (omega arith)) (omega arith) (omega arith) (c .before .is-ascii .ensures (c .if4 .taken))
+    ascii-group _ (ascii-fewer _ (passed (c .before .before .before .before .before .before)) (omega arith) (omega arith)) (omega arith) (omega arith) (c .before .is-ascii .ensures (c .if4 .taken))
 
 returns-5 : tie.Need-returns-5
-returns-5 c = search needs
+returns-5 c = passed (c .before .before .before .before .before .before)
 
 pub front-end-spec : {M : Type 1} → statement M
 front-end-spec =
     tie.close
     (tie.spec
     groups-end-requires
+    groups-end-requires-2
     returns
     returns-2
     sub-if3

@@ -10,13 +10,13 @@ use Rattle.bytes_utf8.proofs.groups_end.Statement.{statement}
 use Rattle.bytes_utf8.proofs.groups_end.Tie as tie
 
 abbrev Inv-loop : tie.InvT-loop
-Inv-loop text from i₀ i = AsciiBetween text from i
+Inv-loop text from size i₀ i = AsciiBetween text from i
 
 abbrev μ-loop : tie.MeasureT-loop
-μ-loop text from i₀ i = length text - i
+μ-loop text from size i₀ i = length text - i
 
 loop-holds : tie.Need-loop-holds Inv-loop μ-loop
-loop-holds c = ascii-none (c .before .pre)
+loop-holds c = ascii-none (c .before .pre .0)
 
 sub-loop : tie.Need-sub-loop Inv-loop μ-loop
 sub-loop c = search needs

@@ -38,8 +38,8 @@ key-part-requires c κs = search needs
 copied : (c : tie.After-key-part) → now (c .key-part .result) ≡ take (length (now (c .before .before .before .before .before .before .before .before .args .to))) (drop (c .before .before .before .number-at .result * (c .before .before .before .before .before .before .before .before .args .key + valueWidth)) (now (c .before .before .before .before .before .before .before .before .args .from)))
 copied c = c .key-part .ensures ∙ ap (take (length (now (c .before .before .before .before .before .before .before .before .args .to)))) (c .before .value-part .ensures)
 
-copy-requires : tie.Need-copy-requires
-copy-requires c κs =
+copy-rows-requires : tie.Need-copy-rows-requires
+copy-rows-requires c κs =
     let part = c .before in
     let a = part .before .before .before .before .before .before .before .before .args in
     let rows = drop (part .before .before .before .number-at .result * (a .key + valueWidth)) (now (a .from)) in
@@ -66,7 +66,7 @@ returns c =
     let a = number .before .before .before .before .before .args in
     let ed = editionOf (a .edition) in
     planned-written ed (a .key) (now (a .row)) (now (a .from)) (now (a .set)) (now (a .to)) (number .number-at .ensures)
-    (copy .copy .ensures ∙ ap (λ rows. overwriteRows rows (now (a .to))) (copied part) ∙ sym (source-old ed (a .key) (take (a .key) (now (a .row))) (now (a .from)) (now (a .set)) _ (now (a .to)) (part .before .before .if1 .taken)))
+    (copy .copy-rows .ensures ∙ ap (λ rows. overwriteRows rows (now (a .to))) (copied part) ∙ sym (source-old ed (a .key) (take (a .key) (now (a .row))) (now (a .from)) (now (a .set)) _ (now (a .to)) (part .before .before .if1 .taken)))
 
 same-length-2 : tie.Need-same-length-2
 same-length-2 c = search needs
@@ -92,7 +92,7 @@ write-planned-spec =
     mul-start
     value-part-requires
     key-part-requires
-    copy-requires
+    copy-rows-requires
     key-part-requires-2
     value-bytes-requires
     write-row-requires
