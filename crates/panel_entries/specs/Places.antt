@@ -1,6 +1,6 @@
 -- Positions among the stored entries: where an entry goes before its neighbour, or last of its collection.
 use Prim.Native.Nat.{ℕ, _-_, _≤_}
-use mathlib.Core.Bool.{Bool, false}
+use mathlib.Core.Bool.{Bool, true, false}
 use mathlib.Core.List.{List}
 use mathlib.Core.Option.{Option, none, some}
 use lib.Dec.{eqb, ltb}
@@ -11,6 +11,18 @@ use Rattle.bytes_records.specs.Positions.{firstIndex}
 use Rattle.bytes_records.specs.Search.{findFirstRow}
 use Rattle.bytes_records.specs.declared.Found.{Found}
 use Rattle.bytes_records.specs.declared.Found.the-variants.{At, Absent}
+
+-- a neighbour by a test and a number: whether one is named, and its key
+unfoldable pub neighbourOf : Bool → ℕ → Option ℕ
+neighbourOf placed k = if placed then some k else none
+
+unfoldable pub isPlaced : Option ℕ → Bool
+isPlaced none = false
+isPlaced (some k) = true
+
+unfoldable pub neighbourKey : Option ℕ → ℕ
+neighbourKey none = 0
+neighbourKey (some k) = k
 
 -- before the neighbour, if it is there; or before the first entry of a later collection
 unfoldable pub placeBefore : ℕ → Option ℕ → List Entry → Found

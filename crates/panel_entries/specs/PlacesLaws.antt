@@ -25,7 +25,16 @@ use Rattle.bytes_records.specs.Search.{findFirstRow}
 use Rattle.bytes_records.specs.SearchLaws.{find-at, find-absent, find-stopped}
 use Rattle.bytes_records.specs.declared.Found.the-variants.{At, Absent}
 use Rattle.panel_plan.specs.PlanRows.{plannedEntryRow}
-use Rattle.panel_entries.specs.Places.{placeBefore, isItself, placeBeforeOther, withoutAt}
+use Rattle.panel_entries.specs.Places.{neighbourOf, isPlaced, neighbourKey, placeBefore, isItself, placeBeforeOther, withoutAt}
+
+-- a test and a number tell the neighbour
+neighbour-told : (b : Option ℕ) → neighbourOf (isPlaced b) (neighbourKey b) ≡ b
+unfolding neighbourOf isPlaced neighbourKey
+neighbour-told none = refl
+neighbour-told (some k) = refl
+
+pub neighbour-is : {b : Option ℕ} {placed : Bool} {k : ℕ} → placed ≡ isPlaced b → k ≡ neighbourKey b → neighbourOf placed k ≡ b
+neighbour-is {b} e f = ap₂ neighbourOf e f ∙ neighbour-told b
 
 -- ---- edits at the first match are edits at its position
 

@@ -79,7 +79,13 @@ pub fn insert_entry(
     if let Found::At(_) = find::find_entry(table, panel_plan::ENTRY_WIDTH, count, collection, key) {
         return TableChange::Refused(LocalProjectionApplicationError::KeyRule);
     }
-    match find::place_before(table, count, collection, before) {
+    match find::seek_place(
+        table,
+        count,
+        collection,
+        find::has_neighbour(before),
+        find::neighbour_key(before),
+    ) {
         Found::At(at) => {
             let row = panel_plan::entry_row(collection, key, mark, source);
             if bytes_records::insert_record(table, panel_plan::ENTRY_WIDTH, count, at, &row) {

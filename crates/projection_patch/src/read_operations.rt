@@ -14,6 +14,7 @@ use crate::contract_primitives::StaticNodeId;
 use crate::patch::OptionalKey;
 use crate::patch::ProjectionPatchEdition;
 use crate::patch::ProjectionPatchOperation;
+use crate::patch::ProjectionPatchValue;
 use crate::read_values;
 use crate::read_values::AvailabilityRead;
 use crate::read_values::NumbersRead;
@@ -58,6 +59,19 @@ pub fn key_of(number: OptionalNumber) -> OptionalKey
     }
 }
 
+// The same value, made anew from its fields: a copy of all its bytes loads them wider than they were stored, and the processor waits for that.
+fn same_value(value: ProjectionPatchValue) -> ProjectionPatchValue
+    ensures { λ r. ⌜ r ≡ value ⌝ }
+{
+    match value {
+        ProjectionPatchValue::Quad(state) => ProjectionPatchValue::Quad(state),
+        ProjectionPatchValue::SignedScalar(z) => ProjectionPatchValue::SignedScalar(z),
+        ProjectionPatchValue::UnsignedScalar(n) => ProjectionPatchValue::UnsignedScalar(n),
+        ProjectionPatchValue::Text { start, len } => ProjectionPatchValue::Text { start, len },
+        ProjectionPatchValue::Score(score) => ProjectionPatchValue::Score(score),
+    }
+}
+
 fn set_binding_value(part: &[u8], strict: bool, edition: ProjectionPatchEdition) -> OperationRead
     ensures { λ r. ⌜ r ≡ operationAnswer (length (now (part .entry))) (operationAfter strict (editionOf edition) 1 (drop 1 (now (part .entry)))) ⌝ }
 {
@@ -73,7 +87,10 @@ fn set_binding_value(part: &[u8], strict: bool, edition: ProjectionPatchEdition)
     };
     match read_values::value_at(part, 13, strict, edition) {
         ValueRead::Read(value, end) => OperationRead::Read(
-            ProjectionPatchOperation::SetBindingValue { target, value },
+            ProjectionPatchOperation::SetBindingValue {
+                target,
+                value: same_value(value),
+            },
             end,
         ),
         ValueRead::Refused(fault) => OperationRead::Refused(fault),
@@ -114,7 +131,7 @@ fn collection_insert(part: &[u8], strict: bool, edition: ProjectionPatchEdition)
                     collection,
                     key,
                     before: key_of(neighbour),
-                    value,
+                    value: same_value(value),
                 },
                 end,
             ),
@@ -135,7 +152,7 @@ fn collection_update(part: &[u8], strict: bool, edition: ProjectionPatchEdition)
             ProjectionPatchOperation::CollectionUpdate {
                 collection,
                 key,
-                value,
+                value: same_value(value),
             },
             end,
         ),

@@ -1,12 +1,19 @@
 -- `insert_entry` meets its contract: the key is there, the neighbour is not, there is no room, or the row is inserted.
-use mathlib.Core.Path.{refl, sym, _∙_}
+use mathlib.Core.Path.{_≡_, refl, sym, ap, _∙_}
+use mathlib.Core.List.{List, map}
 use native.Mathlib.Omega.{arith}
 use denote.Ref.{now}
 use borrow.Author.Needs.{needs}
-use Rattle.bytes_records.specs.Table.{Wide}
+use Rattle.spec_lists.specs.Lists.{All}
+use Rattle.spec_projection.specs.Projection.{Entry}
+use Rattle.spec_projection.specs.Valid.{FitsEntry, Grouped}
+use Rattle.bytes_records.specs.Table.{HoldsRows, Wide}
+use Rattle.projection_patch.specs.Meaning.{beforeOf}
 use Rattle.panel_plan.specs.PlanRows.{plannedEntryWidth, plannedEntryRow}
 use Rattle.panel_bindings.specs.RowChanges.{insert-room}
 use Rattle.panel_entries.specs.EntryRowsLaws.{planned-keyed}
+use Rattle.panel_entries.specs.Places.{placeBefore}
+use Rattle.panel_entries.specs.PlacesLaws.{neighbour-is}
 use Rattle.panel_entries.proofs.Entries.{position-at, inserted-there, insert-full, key-present, neighbour-missing}
 use Rattle.panel_entries.proofs.insert_entry.Statement.{statement}
 use Rattle.panel_entries.proofs.insert_entry.Tie as tie
@@ -31,8 +38,21 @@ returns c =
 enum-told-2 : tie.Need-enum-told-2
 enum-told-2 c = search needs
 
-place-before-requires : tie.Need-place-before-requires
-place-before-requires c κs = search needs
+has-neighbour-requires : tie.Need-has-neighbour-requires
+has-neighbour-requires c κs = search needs
+
+neighbour-key-requires : tie.Need-neighbour-key-requires
+neighbour-key-requires c κs = search needs
+
+seek-place-requires : tie.Need-seek-place-requires
+seek-place-requires c κs = search needs
+
+-- the place that was sought is the neighbour's
+placed : (c : tie.After-seek-place) → let a = c .before .before .before .before .before .before .before .before .before .args in (es : List Entry) → All FitsEntry es → Grouped es
+    → HoldsRows plannedEntryWidth (a .count) (now (a .table)) (map plannedEntryRow es) → c .seek-place .result ≡ placeBefore (a .collection) (beforeOf (a .before)) es
+placed c es fit grouped t =
+    c .seek-place .ensures .0 es fit grouped t
+    ∙ ap (λ b. placeBefore (c .before .before .before .before .before .before .before .before .before .args .collection) b es) (neighbour-is (c .before .before .has-neighbour .ensures) (c .before .neighbour-key .ensures))
 
 enum-known-at : tie.Need-enum-known-at
 enum-known-at c = search needs
@@ -46,8 +66,8 @@ slice-aggregate-insert-record c = search needs
 insert-record-requires : tie.Need-insert-record-requires
 insert-record-requires c κs = search needs
 
-add-t24 : tie.Need-add-t24
-add-t24 c = omega (arith, insert-room _ _ _ _ _ (search needs) (sym (c .before .before .before .insert-record .ensures .told) ∙ c .if1 .taken))
+add-t26 : tie.Need-add-t26
+add-t26 c = omega (arith, insert-room _ _ _ _ _ (search needs) (sym (c .before .before .before .insert-record .ensures .told) ∙ c .if1 .taken))
 
 same-length-2 : tie.Need-same-length-2
 same-length-2 c = search needs
@@ -60,11 +80,11 @@ returns-2 : tie.Need-returns-2
 returns-2 c =
     let call = c .before .before .before in
     let place = c .before .before .before .before .before .before .before .before .before .before in
-    let find = c .before .before .before .before .before .before .before .before .before .before .before .before .before .before in (
+    let find = c .before .before .before .before .before .before .before .before .before .before .before .before .before .before .before .before in (
       (λ p s v.
           inserted-there (call .insert-record .last .0) (search needs) p s _ (c .before .before .before .before .before .before .entry-row .result) (c .before .before .before .before .before .before .entry-row .ensures) (row-wide (c .before .before .before .before .before .before)) _ _
-          (sym (find .find-entry .ensures .0 plannedEntryRow planned-keyed (p .entries) (v .fitEntries) (v .entries) (s .rows)) ∙ c .before .before .before .before .before .before .before .before .before .before .before .before .enum-told2 .given .1)
-          (sym (place .place-before .ensures .0 (p .entries) (v .fitEntries) (v .entries) (s .rows)) ∙ c .before .before .before .before .before .before .before .before .at .given .1) (call .insert-record .ensures) (c .if1 .taken)),
+          (sym (find .find-entry .ensures .0 plannedEntryRow planned-keyed (p .entries) (v .fitEntries) (v .entries) (s .rows)) ∙ c .before .before .before .before .before .before .before .before .before .before .before .before .before .before .enum-told2 .given .1)
+          (sym (placed place (p .entries) (v .fitEntries) (v .entries) (s .rows)) ∙ c .before .before .before .before .before .before .before .before .at .given .1) (call .insert-record .ensures) (c .if1 .taken)),
       tt,
     )
 
@@ -78,12 +98,12 @@ returns-3 : tie.Need-returns-3
 returns-3 c =
     let call = c .before .before .before in
     let place = c .before .before .before .before .before .before .before .before .before .before in
-    let find = c .before .before .before .before .before .before .before .before .before .before .before .before .before .before in (
+    let find = c .before .before .before .before .before .before .before .before .before .before .before .before .before .before .before .before in (
       (λ p s v.
           insert-full (call .insert-record .last .0) (search needs) p s _ (c .before .before .before .before .before .before .entry-row .result) (c .before .before .before .before .before .before .entry-row .ensures) (row-wide (c .before .before .before .before .before .before)) _ _
-          (sym (find .find-entry .ensures .0 plannedEntryRow planned-keyed (p .entries) (v .fitEntries) (v .entries) (s .rows)) ∙ c .before .before .before .before .before .before .before .before .before .before .before .before .enum-told2 .given .1)
-          (sym (place .place-before .ensures .0 (p .entries) (v .fitEntries) (v .entries) (s .rows)) ∙ c .before .before .before .before .before .before .before .before .at .given .1) (call .insert-record .ensures)
-          (position-at _ _ (c .before .before .before .before .before .before .before .before .at .given .1) (place .place-before .ensures .1)) (c .if1 .left)),
+          (sym (find .find-entry .ensures .0 plannedEntryRow planned-keyed (p .entries) (v .fitEntries) (v .entries) (s .rows)) ∙ c .before .before .before .before .before .before .before .before .before .before .before .before .before .before .enum-told2 .given .1)
+          (sym (placed place (p .entries) (v .fitEntries) (v .entries) (s .rows)) ∙ c .before .before .before .before .before .before .before .before .at .given .1) (call .insert-record .ensures)
+          (position-at _ _ (c .before .before .before .before .before .before .before .before .at .given .1) (place .seek-place .ensures .1)) (c .if1 .left)),
       call .insert-record .ensures .kept (c .if1 .left),
     )
 
@@ -93,11 +113,11 @@ same-length-4 c = search needs
 returns-4 : tie.Need-returns-4
 returns-4 c =
     let place = c .before .before in
-    let find = c .before .before .before .before .before .before in (
+    let find = c .before .before .before .before .before .before .before .before in (
       (λ p s v.
-          neighbour-missing (now (c .before .before .before .before .before .before .before .before .before .args .table)) p _ _
-          (sym (find .find-entry .ensures .0 plannedEntryRow planned-keyed (p .entries) (v .fitEntries) (v .entries) (s .rows)) ∙ c .before .before .before .before .enum-told2 .given .1)
-          (sym (place .place-before .ensures .0 (p .entries) (v .fitEntries) (v .entries) (s .rows)) ∙ c .enum-told3 .given .1)),
+          neighbour-missing (now (c .before .before .before .before .before .before .before .before .before .before .before .args .table)) p _ _
+          (sym (find .find-entry .ensures .0 plannedEntryRow planned-keyed (p .entries) (v .fitEntries) (v .entries) (s .rows)) ∙ c .before .before .before .before .before .before .enum-told2 .given .1)
+          (sym (placed place (p .entries) (v .fitEntries) (v .entries) (s .rows)) ∙ c .enum-told3 .given .1)),
       refl,
     )
 
@@ -110,12 +130,14 @@ insert-entry-spec =
     same-length
     returns
     enum-told-2
-    place-before-requires
+    has-neighbour-requires
+    neighbour-key-requires
+    seek-place-requires
     enum-known-at
     entry-row-requires
     slice-aggregate-insert-record
     insert-record-requires
-    add-t24
+    add-t26
     same-length-2
     returns-2
     enum-told-3

@@ -1,7 +1,8 @@
 -- `find::place_before_other` meets its contract: the entry itself is no neighbour.
-use mathlib.Core.Path.{sym, _∙_}
+use mathlib.Core.Path.{sym, ap, _∙_}
 use borrow.Author.Needs.{needs}
-use Rattle.panel_entries.specs.Places.{PositionWithin, placeBeforeOther}
+use Rattle.panel_entries.specs.Places.{placeBefore, PositionWithin, placeBeforeOther}
+use Rattle.panel_entries.specs.PlacesLaws.{neighbour-is}
 use Rattle.panel_entries.proofs.find.place_before_other.Statement.{statement}
 use Rattle.panel_entries.proofs.find.place_before_other.Tie as tie
 
@@ -12,13 +13,33 @@ returns : tie.Need-returns
 unfolding placeBeforeOther PositionWithin
 returns c = ((λ es fit grouped t. rw (sym (c .before .is-itself .ensures) ∙ c .if1 .taken)), tt)
 
-place-before-requires : tie.Need-place-before-requires
-place-before-requires c κs = search needs
+has-neighbour-requires : tie.Need-has-neighbour-requires
+has-neighbour-requires c κs = search needs
+
+neighbour-key-requires : tie.Need-neighbour-key-requires
+neighbour-key-requires c κs = search needs
+
+seek-place-requires : tie.Need-seek-place-requires
+seek-place-requires c κs = search needs
 
 returns-2 : tie.Need-returns-2
 unfolding placeBeforeOther
-returns-2 c = ((λ es fit grouped t. rw (sym (c .before .before .is-itself .ensures) ∙ c .before .if1 .left) (c .place-before .ensures .0 es fit grouped t)), c .place-before .ensures .1)
+returns-2 c =
+    let test = c .before .before .before in
+    let a = test .before .before .before .args in
+    let named = neighbour-is (c .before .before .has-neighbour .ensures) (c .before .neighbour-key .ensures) in (
+      (λ es fit grouped t.
+          rw (sym (test .before .is-itself .ensures) ∙ test .if1 .left) (c .seek-place .ensures .0 es fit grouped t ∙ ap (λ b. placeBefore (a .collection) b es) named)),
+      c .seek-place .ensures .1,
+    )
 
 pub place-before-other-spec : {M : Type 1} → statement M
 place-before-other-spec =
-    tie.close (tie.spec is-itself-requires returns place-before-requires returns-2)
+    tie.close
+    (tie.spec
+    is-itself-requires
+    returns
+    has-neighbour-requires
+    neighbour-key-requires
+    seek-place-requires
+    returns-2)

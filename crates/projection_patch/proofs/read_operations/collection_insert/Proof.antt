@@ -78,6 +78,9 @@ enum-known-value c = search needs
 key-of-requires : tie.Need-key-of-requires
 key-of-requires c κs = search needs
 
+same-value-requires : tie.Need-same-value-requires
+same-value-requires c κs = search needs
+
 enum-known-fault : tie.Need-enum-known-fault
 enum-known-fault c = search needs
 
@@ -87,13 +90,13 @@ enum-known-fault-2 c = search needs
 returns-2 : tie.Need-returns-2
 unfolding operationAfter
 returns-2 c =
-    let bound = c .before .before .value .given in
-    let call = c .before .before .before .before in
+    let bound = c .before .before .before .value .given in
+    let call = c .before .before .before .before .before in
     let k = call .before in
     let p = here (k .before .before .before .before) in
     let b = neighbour k in
     let v = value-got (part (start k)) (body k) (strict (start k)) (edition (start k)) (call .value-at .result) (call .value-at .ensures) (all-bytes (start k)) (bound .0 .0) (bound .0 .1 .0) (bound .1) in
-    rw (p .numbers .first, p .numbers .second, b .is, v .is, v .there, v .same, p .node, p .in-it, before-is (k .before .neighbour .given .0 .0) (b .a) (b .same) (c .key-of .result) (c .key-of .ensures))
+    rw (c .same-value .ensures, p .numbers .first, p .numbers .second, b .is, v .is, v .there, v .same, p .node, p .in-it, before-is (k .before .neighbour .given .0 .0) (b .a) (b .same) (c .before .key-of .result) (c .before .key-of .ensures))
 
 returns-3 : tie.Need-returns-3
 unfolding operationAfter
@@ -128,6 +131,7 @@ collection-insert-spec =
     value-at-requires
     enum-known-value
     key-of-requires
+    same-value-requires
     enum-known-fault
     enum-known-fault-2
     returns-2

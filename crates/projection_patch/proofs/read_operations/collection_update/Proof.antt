@@ -55,19 +55,22 @@ value-at-requires c κs = search needs
 enum-known-value : tie.Need-enum-known-value
 enum-known-value c = search needs
 
+same-value-requires : tie.Need-same-value-requires
+same-value-requires c κs = search needs
+
 enum-known-fault : tie.Need-enum-known-fault
 enum-known-fault c = search needs
 
 returns-2 : tie.Need-returns-2
 unfolding operationAfter
 returns-2 c =
-    let call = c .before .before .before in
+    let call = c .before .before .before .before in
     let k = call .before in
     let start = k .before .before .before in
     let p = here k in
-    let bound = c .before .value .given in
+    let bound = c .before .before .value .given in
     let v = value-got (part start) 17 (strict start) (edition start) (call .value-at .result) (call .value-at .ensures) (all-bytes start) (bound .0 .0) (bound .0 .1 .0) (bound .1) in
-    rw (p .numbers .first, p .numbers .second, v .is, v .there, v .same, p .node, p .in-it)
+    rw (c .same-value .ensures, p .numbers .first, p .numbers .second, v .is, v .there, v .same, p .node, p .in-it)
 
 returns-3 : tie.Need-returns-3
 unfolding operationAfter
@@ -89,6 +92,7 @@ collection-update-spec =
     returns
     value-at-requires
     enum-known-value
+    same-value-requires
     enum-known-fault
     returns-2
     returns-3)

@@ -79,19 +79,22 @@ value-at-requires c κs = search needs
 enum-known-value : tie.Need-enum-known-value
 enum-known-value c = search needs
 
+same-value-requires : tie.Need-same-value-requires
+same-value-requires c κs = search needs
+
 enum-known-fault : tie.Need-enum-known-fault
 enum-known-fault c = search needs
 
 returns-3 : tie.Need-returns-3
 unfolding operationAfter
 returns-3 c =
-    let call = c .before .before .before in
+    let call = c .before .before .before .before in
     let made = call .before in
     let k = made .before in
     let first = k .before .before .before .before in
-    let bound = c .before .value .given in
+    let bound = c .before .before .value .given in
     let v = value-got (part (start k)) 13 (strict (start k)) (edition (start k)) (call .value-at .result) (call .value-at .ensures) (all-bytes (start k)) (bound .0 .0) (bound .0 .1 .0) (bound .1) in
-    rw (node first .is, slot k .is, v .is, v .there, v .same, node-is (made .new .result) (first .before .node .given .0 .0) (made .new .ensures))
+    rw (c .same-value .ensures, node first .is, slot k .is, v .is, v .there, v .same, node-is (made .new .result) (first .before .node .given .0 .0) (made .new .ensures))
 
 returns-4 : tie.Need-returns-4
 unfolding operationAfter
@@ -117,6 +120,7 @@ set-binding-value-spec =
     new-requires
     value-at-requires
     enum-known-value
+    same-value-requires
     enum-known-fault
     returns-3
     returns-4)
