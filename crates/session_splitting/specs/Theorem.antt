@@ -10,7 +10,7 @@ use Rattle.spec_projection.specs.Projection.{Projection}
 use Rattle.spec_session.specs.Session.{Cursor, Session}
 use Rattle.spec_session.specs.Lifecycle as step
 use Rattle.spec_session.specs.Lifecycle.{Disposition}
-use Rattle.spec_session.specs.Lifecycle.{storedState as stateOfSession}
+use Rattle.spec_session.specs.Lifecycle.{stateOf}
 use Rattle.spec_session.specs.Diagnostics.{Diagnostics}
 use Rattle.spec_session.specs.Batch.{BatchAnswer}
 use Rattle.spec_splitting.specs.Splitting.{Piece, Run, send, sendAll, Given, Applies, AlikeBeside, FailsAtOperation, cursorAfter}
@@ -133,7 +133,7 @@ module _ (ed : Edition) (s : ShellSession) (m : Session) (holds : Holds s m) (n 
   counted = sym (length-map bs (λ (b : ProjectionPatchBatch). batchAnswerOf (b .result))) ∙ ap length (follows .answers)
 
   applied : WasApplied w → AllApplied s n pieces w bs
-  unfolding dispositionTold stateOfSession cursorTo
+  unfolding dispositionTold stateOf cursorTo
   applied e =
       let all = whole-and-pieces ed m n whole pieces given .applies (sym (ap (λ (a : BatchAnswer). a .disposition) (whole-is .answer)) ∙ ap dispositionTold e) in
       record {
@@ -143,7 +143,7 @@ module _ (ed : Edition) (s : ShellSession) (m : Session) (holds : Holds s m) (n 
       }
 
   stopped-at : (f : FailsAtOperation ed m n whole) → StopsAtRefusal s m n whole (f .fault) pieces w bs
-  unfolding stateOfSession
+  unfolding stateOf
   stopped-at f =
       let stop = whole-and-pieces ed m n whole pieces given .fails f in
       let r = ending bs (stop .firsts) (stop .refusal) (follows .answers ∙ stop .answers) in
