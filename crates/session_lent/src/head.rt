@@ -46,7 +46,7 @@ fn cursor_of(kind: u64, number: u64) -> ProjectionReplayCursor
 }
 
 // The state that a head tells.
-pub(crate) fn state_in(head: &[u64]) -> ShellLocalState
+pub fn state_in(head: &[u64]) -> ShellLocalState
     requires { ⌜ length (now head) ≡ headNumbers ⌝ }
     ensures { λ r. ⌜ stateTold r ≡ stateAt (now (head .entry)) ⌝ }
 {
