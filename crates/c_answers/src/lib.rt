@@ -2,5 +2,6 @@
 pub mod answers;
 pub mod asked;
 pub mod counts;
+pub mod groups;
 pub mod sets;
 pub mod values;
