@@ -74,7 +74,7 @@ fn lifecycle_number(lifecycle: ShellLifecycle) -> u64
 }
 
 // 1 where there is a cursor.
-fn cursor_kind(cursor: ProjectionReplayCursor) -> u64
+pub(crate) fn cursor_kind(cursor: ProjectionReplayCursor) -> u64
     ensures { λ r. ⌜ r ≡ cursorKind (cursorOf cursor) ⌝ }
 {
     match cursor {
@@ -83,7 +83,7 @@ fn cursor_kind(cursor: ProjectionReplayCursor) -> u64
     }
 }
 
-fn cursor_number(cursor: ProjectionReplayCursor) -> u64
+pub(crate) fn cursor_number(cursor: ProjectionReplayCursor) -> u64
     ensures { λ r. ⌜ r ≡ cursorNumber (cursorOf cursor) ⌝ }
 {
     match cursor {
@@ -92,7 +92,7 @@ fn cursor_number(cursor: ProjectionReplayCursor) -> u64
     }
 }
 
-fn answer_of(result: ProjectionPatchApplicationResult) -> GeysertrayAnswer
+pub(crate) fn answer_of(result: ProjectionPatchApplicationResult) -> GeysertrayAnswer
     ensures { λ r. ⌜ r ≡ answerTo (batchAnswerOf result) ⌝ }
 {
     let disposition = result.disposition;

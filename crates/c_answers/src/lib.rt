@@ -4,6 +4,7 @@ pub mod asked;
 pub mod counts;
 pub mod explanations;
 pub mod figures;
+pub mod groups;
 pub mod rules;
 pub mod sets;
 pub mod values;

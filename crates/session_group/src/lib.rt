@@ -143,7 +143,7 @@ fn adds_up(batches: [GroupBatch; GroupBatch::MOST], count: usize, bytes: usize) 
 }
 
 // One to eight batches whose lengths add up to the lent bytes.
-fn is_group(batches: [GroupBatch; GroupBatch::MOST], count: usize, bytes: usize) -> bool
+pub fn is_group(batches: [GroupBatch; GroupBatch::MOST], count: usize, bytes: usize) -> bool
     ensures { λ r. ⌜ r ≡ namesGroup count batches bytes ⌝ }
 {
     if count < 1 {

@@ -6,3 +6,5 @@ pub mod LifecycleLaws
 pub mod CreationLaws
 pub mod Batches
 pub mod BatchesLaws
+pub mod Halves
+pub mod HalvesLaws

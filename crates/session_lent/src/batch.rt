@@ -76,7 +76,7 @@ fn commit<'a>(
 }
 
 // One batch on memory of the right shape.
-fn apply_shaped<'a>(
+pub fn apply_shaped<'a>(
     head: &[u64],
     nodes: &[u64],
     pairs: &[u64],

@@ -38,7 +38,7 @@ pub fn half_shaped(head: &[u64], bindings: usize, availability: usize, entries: 
 }
 
 // Whether anchors of so many numbers, the half that is read and the half that is written are a session's memory.
-pub(crate) fn memory_shaped(
+pub fn memory_shaped(
     nodes: usize,
     pairs: usize,
     collections: usize,

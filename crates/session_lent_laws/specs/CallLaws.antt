@@ -37,9 +37,11 @@ use Rattle.session_lent.specs.declared.lifecycle.LentTransition.{LentTransition
 use Rattle.session_lent.specs.declared.lifecycle.LentTransition.the-variants as transition
 use Rattle.session_lent.specs.declared.batch.LentBatch.{LentBatch}
 use Rattle.session_lent.specs.declared.batch.LentBatch.the-variants as answer
-use Rattle.session_lent_laws.specs.Memory.{Anchors, Half, Memory, HeldIn, RoomIn, Panel, LentBatchCall, exchanged, structIn}
+use Rattle.session_lent.specs.HalvesLaws.{held-room}
+use Rattle.session_lent.specs.Halves.{Anchors, Half, HeldIn, RoomIn}
+use Rattle.session_lent_laws.specs.Memory.{Memory, Panel, LentBatchCall, exchanged, structIn}
 use Rattle.session_lent_laws.specs.Claim.{CreationAlike, withHead, TransitionAlike, BatchAlike}
-use Rattle.session_lent_laws.specs.StructLaws.{one-session, struct-holds, same-bytes, held-room}
+use Rattle.session_lent_laws.specs.StructLaws.{one-session, struct-holds, same-bytes}
 use Rattle.session_lent_laws.specs.AnswerLaws.{batch-answer-same, step-answer-same}
 
 -- ---- creation

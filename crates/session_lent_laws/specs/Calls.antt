@@ -17,7 +17,8 @@ use Rattle.shell_player.specs.declared.batch.ProjectionPatchBatch.{ProjectionPa
 use Rattle.session_splitting.specs.Calls.{refused}
 use Rattle.session_lent.specs.Head.{stateAt}
 use Rattle.session_lent.specs.declared.batch.LentBatch.the-variants.{Answered}
-use Rattle.session_lent_laws.specs.Memory.{Anchors, Half, Memory, LentBatchCall, exchanged, structIn}
+use Rattle.session_lent.specs.Halves.{Anchors, Half}
+use Rattle.session_lent_laws.specs.Memory.{Memory, LentBatchCall, exchanged, structIn}
 
 -- what a call answers, and what it leaves in the other half
 pub record LentCall : Type 0 where

@@ -16,7 +16,8 @@ use Rattle.session_lent.specs.declared.lifecycle.LentTransition.{LentTransition
 use Rattle.session_lent.specs.declared.lifecycle.LentTransition.the-variants as transition
 use Rattle.session_lent.specs.declared.batch.LentBatch.{LentBatch}
 use Rattle.session_lent.specs.declared.batch.LentBatch.the-variants as batch
-use Rattle.session_lent_laws.specs.Memory.{Anchors, Half, Memory, HeldIn, Panel, structIn}
+use Rattle.session_lent.specs.Halves.{Anchors, Half, HeldIn}
+use Rattle.session_lent_laws.specs.Memory.{Memory, Panel, structIn}
 
 -- creation in slices that a session can be made in: both make it, or both tell 13
 abbrev pub CreationAlike : LentCreation → Anchors → Half → ShellSessionCreation → Type 0

@@ -22,8 +22,10 @@ use Rattle.session_lent.specs.Head.{headNumbers, lentHeadOf}
 use Rattle.session_lent.specs.HeadLaws.{long}
 use Rattle.session_lent.specs.Steps.{roomShaped}
 use Rattle.session_lent.specs.CreationLaws.{pairs-apart}
-use Rattle.session_lent_laws.specs.Memory.{Anchors, Half, HeldIn, Panel, structIn}
-use Rattle.session_lent_laws.specs.StructLaws.{same-bytes, held-room}
+use Rattle.session_lent.specs.HalvesLaws.{held-room}
+use Rattle.session_lent.specs.Halves.{Anchors, Half, HeldIn}
+use Rattle.session_lent_laws.specs.Memory.{Panel, structIn}
+use Rattle.session_lent_laws.specs.StructLaws.{same-bytes}
 
 -- ---- a session as lent slices
 

@@ -13,38 +13,16 @@ use Rattle.session_steps.specs.declared.answers.ProjectionPatchApplicationDispo
 use Rattle.shell_player.specs.HoldsLaws.{stateTo, limitsTo}
 use Rattle.shell_player.specs.declared.session.ShellSession.{ShellSession}
 use Rattle.session_lent.specs.Head.{stateAt, limitsAt, countsAt}
-use Rattle.session_lent.specs.LentSession.{LentSession, LentRoom}
+use Rattle.session_lent.specs.Halves.{Anchors, Half, HeldIn, RoomIn}
 use Rattle.session_lent.specs.Batches.{BatchCall}
 use Rattle.session_lent.specs.declared.batch.LentBatch.{LentBatch}
 
 -- ---- lent slices
 
--- the anchors, as they are lent at each call
-pub record Anchors : Type 0 where
-  pub nodes : List ℕ
-  pub pairs : List ℕ
-  pub collections : List ℕ
-
--- a head and tables
-pub record Half : Type 0 where
-  pub head : List ℕ
-  pub bindings : List ℕ
-  pub availability : List ℕ
-  pub entries : List ℕ
-  pub lengths : List ℕ
-
 -- the half that holds the session, and the other, which a batch writes to
 pub record Memory : Type 0 where
   pub held : Half
   pub other : Half
-
--- the half with these anchors holds the session
-abbrev pub HeldIn : Anchors → Half → Session → Type 0
-HeldIn k h m = LentSession (h .head) (k .nodes) (k .pairs) (k .collections) (h .bindings) (h .availability) (h .entries) (h .lengths) m
-
--- a batch can write to the half
-abbrev pub RoomIn : Half → Type 0
-RoomIn h = LentRoom (h .head) (h .bindings) (h .availability) (h .entries) (h .lengths)
 
 -- the memory holds the session, and has room for the next
 pub record Panel (k : Anchors) (p : Memory) (m : Session) : Type 0 where

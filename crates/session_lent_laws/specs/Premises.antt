@@ -39,7 +39,8 @@ use Rattle.session_lent.specs.HeadLaws.{state-told, limits-told, counts-told}
 use Rattle.session_lent.specs.LentSession.{LentSession}
 use Rattle.session_lent.specs.Batches.{LentStep}
 use Rattle.session_lent.specs.declared.batch.LentBatch.the-variants.{Answered}
-use Rattle.session_lent_laws.specs.Memory.{Anchors, Half, Memory, HeldIn, Panel, LentBatchCall, pairsIn}
+use Rattle.session_lent.specs.Halves.{Anchors, Half, HeldIn}
+use Rattle.session_lent_laws.specs.Memory.{Memory, Panel, LentBatchCall, pairsIn}
 use Rattle.session_lent_laws.specs.Calls.{LentCall, LentSent, AllAppliedIn}
 use Rattle.session_lent_laws.specs.StructLaws.{pairs-told}
 use Rattle.session_lent_laws.specs.CallLaws.{memory-fits, lent-goes-on}

@@ -1,9 +1,7 @@
--- A half that holds a session has the numbers and bytes of the one struct that stores it; and it is room for a later session.
-use Prim.Native.Nat.{ℕ, _-_, _*_}
+-- A half that holds a session has the numbers and bytes of the one struct that stores it.
 use mathlib.Core.Path.{_≡_, refl, sym, ap, _∙_}
-use mathlib.Core.List.{List, [], _∷_, flatten, flatMap, map}
-use lib.ListN.{length, drop, length-map}
-use lib.Seq.{drop-at}
+use mathlib.Core.List.{List, [], _∷_, flatMap, map}
+use lib.ListN.{length, length-map}
 use Rattle.spec_session.specs.Session as model
 use Rattle.spec_session.specs.Session.{Lifecycle, Cursor, Catalogue, Session}
 use Rattle.spec_session.specs.Lifecycle.{LocalState}
@@ -11,10 +9,6 @@ use Rattle.spec_session.specs.Lifecycle as step
 use Rattle.active_projection_target_catalog.specs.Catalog.{pairTo, noPair, paddedPairs, catalogWith, catalogueOf, catalogTo, pairNumbers}
 use Rattle.active_projection_target_catalog.specs.CatalogLaws.{catalogue-back}
 use Rattle.active_projection_target_catalog.specs.declared.catalog.BindingPair.{BindingPair}
-use Rattle.bytes_records.specs.Table.{HoldsRows}
-use Rattle.bytes_records.specs.TableLaws.{used, padded as padded-rows}
-use Rattle.panel_changes.specs.SetChangesLaws.{stored-lengths, stored-counts}
-use Rattle.panel_writing.specs.Writing.{ClearBehind}
 use Rattle.session_gates.specs.Lent.{Lent}
 use Rattle.session_lifecycle.specs.Meaning.{lifecycleOf, cursorOf, stateTold}
 use Rattle.local_projection_state.specs.StoresLaws.{one-projection}
@@ -22,9 +16,10 @@ use Rattle.shell_player.specs.Holds as struct
 use Rattle.shell_player.specs.HoldsLaws.{lifecycleTo, cursorTo, stateTo, one-struct}
 use Rattle.shell_player.specs.declared.session.ShellSession.{ShellSession}
 use Rattle.session_lent.specs.Head.{stateAt}
-use Rattle.session_lent.specs.HeadLaws.{state-told, limits-told, long}
+use Rattle.session_lent.specs.HeadLaws.{state-told, limits-told}
 use Rattle.session_lent.specs.BatchesLaws.{held-tables}
-use Rattle.session_lent_laws.specs.Memory.{Anchors, Half, HeldIn, RoomIn, pairsIn, catalogIn, structIn}
+use Rattle.session_lent.specs.Halves.{Anchors, Half, HeldIn}
+use Rattle.session_lent_laws.specs.Memory.{pairsIn, catalogIn, structIn}
 
 -- ---- a struct stores one session
 
@@ -92,22 +87,3 @@ module _ (k : Anchors) (h : Half) (m : Session) (held : HeldIn k h m) where
   -- the session by value has the same numbers and the same bytes
   pub same-bytes : (s : ShellSession) → struct.Holds s m → s ≡ structIn k h
   same-bytes s by-value = one-struct s m by-value ∙ sym (one-struct (structIn k h) m struct-holds)
-
--- ---- a half that holds a session is room for a later one
-
-clear : {w n : ℕ} {l : List ℕ} {rows : List (List ℕ)} → HoldsRows w n l rows → ClearBehind n w l
-clear {w} {n} {l} {rows} h = ap (drop (n * w)) (padded-rows h) ∙ drop-at (flatten rows) _ (n * w) (used h)
-
-pub held-room : (k : Anchors) (h : Half) (m : Session) → HeldIn k h m → RoomIn h
-held-room k h m held =
-    let tables = held-tables m held in
-    record {
-      head-long = long (h .head) m (held .head-is);
-      tables = record {
-        lengths = stored-lengths tables;
-        collections = held .collections-told .size;
-        few = stored-counts tables;
-        bindings = clear (tables .bindings .rows);
-        entries = clear (tables .entries .rows);
-      };
-    }

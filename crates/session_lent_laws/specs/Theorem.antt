@@ -16,7 +16,8 @@ use Rattle.session_splitting.specs.Calls.{envelopeFor, Sent, refused, Onward, C
 use Rattle.session_splitting.specs.Claim.{WasApplied, CallsInPieces}
 use Rattle.session_splitting.specs.Theorem.{session-whole-and-pieces}
 use Rattle.session_lent.specs.Head.{stateAt}
-use Rattle.session_lent_laws.specs.Memory.{Anchors, Half, Memory, Panel, exchanged, structIn}
+use Rattle.session_lent.specs.Halves.{Anchors, Half}
+use Rattle.session_lent_laws.specs.Memory.{Memory, Panel, exchanged, structIn}
 use Rattle.session_lent_laws.specs.Calls.{LentCall, afterCall, LentSent, Further, LentCalls, lastMemory, asBatch, asBatches, CallApplied, AllAppliedIn}
 use Rattle.session_lent_laws.specs.StructLaws.{struct-holds, cursor-told}
 use Rattle.session_lent_laws.specs.CallLaws.{lent-is-call, lent-goes-on}

@@ -1,0 +1,4 @@
+pub mod Sendings
+pub mod LentGroups
+pub mod SendingsLaws
+pub mod LentGroupsLaws
