@@ -9,19 +9,10 @@ use Rattle.bytes_decimal.proofs.read_from.Tie as tie
 returns : tie.Need-returns
 returns c = sym (none-empty _ _ (c .if1 .taken))
 
-shared-slice-read-if2 : tie.Need-shared-slice-read-if2
-shared-slice-read-if2 c = search needs
-
-sub-if3 : tie.Need-sub-if3
-sub-if3 c = search needs
-
 returns-2 : tie.Need-returns-2
 returns-2 c =
     let args = c .before .before .before .before .before .args in
     sym (zero-leads (args .text .now) (args .from) (c .if3 .taken) (c .before .if2 .taken))
-
-read-digits-requires : tie.Need-read-digits-requires
-read-digits-requires c κs = search needs
 
 returns-3 : tie.Need-returns-3
 returns-3 c =
@@ -30,5 +21,4 @@ returns-3 c =
 
 pub read-from-spec : {M : Type 1} → statement M
 read-from-spec =
-    tie.close
-    (tie.spec returns shared-slice-read-if2 sub-if3 returns-2 read-digits-requires returns-3)
+    tie.close (tie.spec returns (λ c. search needs) (λ c. search needs) returns-2 (λ c κs. search needs) returns-3)

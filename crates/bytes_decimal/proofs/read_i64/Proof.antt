@@ -10,33 +10,6 @@ use Rattle.bytes_decimal.proofs.read_i64.Tie as tie
 returns : tie.Need-returns
 returns c = sym (signed-empty _ (c .if1 .taken))
 
-shared-slice-read-if2 : tie.Need-shared-slice-read-if2
-shared-slice-read-if2 c = search needs
-
-read-from-requires : tie.Need-read-from-requires
-read-from-requires c κs = search needs
-
-enum-known-n : tie.Need-enum-known-n
-enum-known-n c = search needs
-
-to-negative-requires : tie.Need-to-negative-requires
-to-negative-requires c κs = search needs
-
-enum-told : tie.Need-enum-told
-enum-told c = search needs
-
-read-from-requires-2 : tie.Need-read-from-requires-2
-read-from-requires-2 c κs = search needs
-
-enum-known-n-2 : tie.Need-enum-known-n-2
-enum-known-n-2 c = search needs
-
-to-positive-requires : tie.Need-to-positive-requires
-to-positive-requires c κs = search needs
-
-enum-told-2 : tie.Need-enum-told-2
-enum-told-2 c = search needs
-
 returns-2 : tie.Need-returns-2
 returns-2 c =
     let read = c .before .before .before .before in
@@ -68,18 +41,6 @@ returns-5 c =
 pub read-i64-spec : {M : Type 1} → statement M
 read-i64-spec =
     tie.close
-    (tie.spec
-    returns
-    shared-slice-read-if2
-    read-from-requires
-    enum-known-n
-    to-negative-requires
-    enum-told
-    read-from-requires-2
-    enum-known-n-2
-    to-positive-requires
-    enum-told-2
-    returns-2
-    returns-3
-    returns-4
+    (tie.spec returns (λ c. search needs) (λ c κs. search needs) (λ c. search needs) (λ c κs. search needs) (λ c. search needs)
+    (λ c κs. search needs) (λ c. search needs) (λ c κs. search needs) (λ c. search needs) returns-2 returns-3 returns-4
     returns-5)

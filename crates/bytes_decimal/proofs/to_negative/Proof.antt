@@ -19,15 +19,6 @@ flipped c = ap flip (toZ-pos w64 (c .if2 .taken)) ∙ flip-pos (c .before .befor
 returns : tie.Need-returns
 returns c = sym (negative-zero _ (c .if1 .taken))
 
-sub-if2 : tie.Need-sub-if2
-sub-if2 c = search needs
-
-sub-t5 : tie.Need-sub-t5
-sub-t5 c = search needs
-
-cast-t6 : tie.Need-cast-t6
-cast-t6 c = search needs
-
 sub-t7 : tie.Need-sub-t7
 sub-t7 c = rw (flipped c) (record { sfits = c .if2 .taken })
 
@@ -41,4 +32,5 @@ returns-3 : tie.Need-returns-3
 returns-3 c = sym (negative-exceeds _ (omega arith) (c .if2 .left))
 
 pub to-negative-spec : {M : Type 1} → statement M
-to-negative-spec = tie.close (tie.spec returns sub-if2 sub-t5 cast-t6 sub-t7 returns-2 returns-3)
+to-negative-spec =
+    tie.close (tie.spec returns (λ c. search needs) (λ c. search needs) (λ c. search needs) sub-t7 returns-2 returns-3)

@@ -9,9 +9,6 @@ use Rattle.bytes_decimal.proofs.Signs.{positive-fits, positive-exceeds}
 use Rattle.bytes_decimal.proofs.to_positive.Statement.{statement}
 use Rattle.bytes_decimal.proofs.to_positive.Tie as tie
 
-cast-t4 : tie.Need-cast-t4
-cast-t4 c = search needs
-
 returns : tie.Need-returns
 returns c = ap (λ (z : ℤ). some z) (toZ-pos w64 (c .if1 .taken)) ∙ sym (positive-fits _ (c .if1 .taken))
 
@@ -19,4 +16,5 @@ returns-2 : tie.Need-returns-2
 returns-2 c = sym (positive-exceeds _ (c .if1 .left))
 
 pub to-positive-spec : {M : Type 1} → statement M
-to-positive-spec = tie.close (tie.spec cast-t4 returns returns-2)
+to-positive-spec =
+    tie.close (tie.spec (λ c. search needs) returns returns-2)

@@ -12,24 +12,14 @@ returns c = sym (below-digits _ _ (omega arith))
 returns-2 : tie.Need-returns-2
 returns-2 c = sym (above-digits _ _ (omega arith))
 
-cast-digit : tie.Need-cast-digit
-cast-digit c = search needs
-
-sub-if3 : tie.Need-sub-if3
-sub-if3 c = search needs
-
 returns-3 : tie.Need-returns-3
 returns-3 c = sym (digit-exceeds _ _ (omega arith) (omega arith) (omega arith))
-
-mul-t6 : tie.Need-mul-t6
-mul-t6 c = search needs
-
-add-t7 : tie.Need-add-t7
-add-t7 c = search needs
 
 returns-4 : tie.Need-returns-4
 returns-4 c = sym (digit-fits _ _ (omega arith) (omega arith) (omega arith))
 
 pub with-digit-spec : {M : Type 1} → statement M
 with-digit-spec =
-    tie.close (tie.spec returns returns-2 cast-digit sub-if3 returns-3 mul-t6 add-t7 returns-4)
+    tie.close
+    (tie.spec returns returns-2 (λ c. search needs) (λ c. search needs) returns-3 (λ c. search needs) (λ c. search needs)
+    returns-4)

@@ -14,19 +14,10 @@ returns c =
     let args = c .before .before .before .args in
     no-text (args .out .now) (args .text .now) (c .if1 .taken)
 
-shared-slice-read-if3 : tie.Need-shared-slice-read-if3
-shared-slice-read-if3 c = search needs
-
 returns-2 : tie.Need-returns-2
 returns-2 c =
     let args = c .before .before .before .before .before .before .args in
     dash-decoded (args .out .now) (args .text .now) (omega arith) (c .if3 .taken)
-
-decode-pairs-requires : tie.Need-decode-pairs-requires
-decode-pairs-requires c κs = search needs
-
-same-length : tie.Need-same-length
-same-length c = search needs
 
 returns-3 : tie.Need-returns-3
 returns-3 c =
@@ -40,5 +31,4 @@ returns-3 c =
 
 pub decode-hex-spec : {M : Type 1} → statement M
 decode-hex-spec =
-    tie.close
-    (tie.spec returns shared-slice-read-if3 returns-2 decode-pairs-requires same-length returns-3)
+    tie.close (tie.spec returns (λ c. search needs) returns-2 (λ c κs. search needs) (λ c. search needs) returns-3)

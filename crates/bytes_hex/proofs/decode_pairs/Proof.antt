@@ -11,16 +11,10 @@ use Rattle.bytes_hex.proofs.decode_pairs.Tie as tie
 is-pairs : (c : tie.Then1) → isPairs (c .before .before .before .before .args .text .now) ≡ true
 is-pairs c = sym (c .before .is-hex-pairs .ensures) ∙ c .if1 .taken
 
-is-hex-pairs-requires : tie.Need-is-hex-pairs-requires
-is-hex-pairs-requires c κs = search needs
-
 store-pairs-requires : tie.Need-store-pairs-requires
 store-pairs-requires c κs =
     let args = c .before .before .before .before .before .before .args in
     (even (args .out .now) (args .text .now) (is-pairs (c .before .before)), search needs)
-
-same-length : tie.Need-same-length
-same-length c = search needs
 
 returns : tie.Need-returns
 returns c =
@@ -43,5 +37,4 @@ returns-3 c =
 
 pub decode-pairs-spec : {M : Type 1} → statement M
 decode-pairs-spec =
-    tie.close
-    (tie.spec is-hex-pairs-requires store-pairs-requires same-length returns returns-2 returns-3)
+    tie.close (tie.spec (λ c κs. search needs) store-pairs-requires (λ c. search needs) returns returns-2 returns-3)

@@ -4,15 +4,6 @@ use Rattle.bytes_printer.specs.PrintsLaws.{_⨾_}
 use Rattle.bytes_printer.proofs.print_field_bytes.Statement.{statement}
 use Rattle.bytes_printer.proofs.print_field_bytes.Tie as tie
 
-print-byte-requires : tie.Need-print-byte-requires
-print-byte-requires c κs = search needs
-
-print-bytes-requires : tie.Need-print-bytes-requires
-print-bytes-requires c κs = search needs
-
-same-length : tie.Need-same-length
-same-length c = search needs
-
 returns : tie.Need-returns
 returns c =
     let field = c .before .before in
@@ -20,4 +11,4 @@ returns c =
 
 pub print-field-bytes-spec : {M : Type 1} → statement M
 print-field-bytes-spec =
-    tie.close (tie.spec print-byte-requires print-bytes-requires same-length returns)
+    tie.close (tie.spec (λ c κs. search needs) (λ c κs. search needs) (λ c. search needs) returns)

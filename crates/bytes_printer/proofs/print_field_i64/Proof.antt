@@ -7,15 +7,6 @@ use Rattle.bytes_printer.specs.PrintsLaws.{_⨾_, same-bytes}
 use Rattle.bytes_printer.proofs.print_field_i64.Statement.{statement}
 use Rattle.bytes_printer.proofs.print_field_i64.Tie as tie
 
-print-byte-requires : tie.Need-print-byte-requires
-print-byte-requires c κs = search needs
-
-print-i64-requires : tie.Need-print-i64-requires
-print-i64-requires c κs = search needs
-
-same-length : tie.Need-same-length
-same-length c = search needs
-
 returns : tie.Need-returns
 returns c =
     let field = c .before .before in
@@ -25,4 +16,4 @@ returns c =
 
 pub print-field-i64-spec : {M : Type 1} → statement M
 print-field-i64-spec =
-    tie.close (tie.spec print-byte-requires print-i64-requires same-length returns)
+    tie.close (tie.spec (λ c κs. search needs) (λ c κs. search needs) (λ c. search needs) returns)

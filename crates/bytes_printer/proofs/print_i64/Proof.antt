@@ -20,9 +20,6 @@ is-at-least c = at-least (c .before .before .args .z) (c .before .before .fits .
 signed-by : (c : tie.After-print-u64-arg) → Below (c .before .before .before .before .before .before .before .args .z)
 signed-by c = is-below (c .before .before .before .before .before)
 
-print-byte-requires : tie.Need-print-byte-requires
-print-byte-requires c κs = search needs
-
 sub-print-u64 : tie.Need-sub-print-u64
 sub-print-u64 c = rw (signed-by c .flipped) (record { sfits = signed-by c .small })
 
@@ -32,26 +29,14 @@ cast-print-u64 c = rw (signed-by c .stored) (tt, omega (arith, signed-by c .smal
 add-print-u64 : tie.Need-add-print-u64
 add-print-u64 c = rw (signed-by c .stored) (omega (arith, signed-by c .small))
 
-print-u64-requires : tie.Need-print-u64-requires
-print-u64-requires c κs = search needs
-
 cast-print-u64-2 : tie.Need-cast-print-u64-2
 cast-print-u64-2 c = rw (toZ-ofZ (c .before .before .before .fits .z), is-at-least (c .before) .is) (tt, omega (arith, is-at-least (c .before) .small))
-
-print-u64-requires-2 : tie.Need-print-u64-requires-2
-print-u64-requires-2 c κs = search needs
-
-same-length : tie.Need-same-length
-same-length c = search needs
 
 returns : tie.Need-returns
 returns c =
     let digits = c .before .before in
     let sign = digits .before .before .before .before in
     same-bytes (sym (signed-below _ (signed-by (digits .before)))) (sign .print-byte .ensures ⨾ digits .print-u64 .ensures)
-
-same-length-2 : tie.Need-same-length-2
-same-length-2 c = search needs
 
 returns-2 : tie.Need-returns-2
 returns-2 c =
@@ -62,15 +47,5 @@ returns-2 c =
 pub print-i64-spec : {M : Type 1} → statement M
 print-i64-spec =
     tie.close
-    (tie.spec
-    print-byte-requires
-    sub-print-u64
-    cast-print-u64
-    add-print-u64
-    print-u64-requires
-    cast-print-u64-2
-    print-u64-requires-2
-    same-length
-    returns
-    same-length-2
-    returns-2)
+    (tie.spec (λ c κs. search needs) sub-print-u64 cast-print-u64 add-print-u64 (λ c κs. search needs) cast-print-u64-2
+    (λ c κs. search needs) (λ c. search needs) returns (λ c. search needs) returns-2)

@@ -6,25 +6,10 @@ use Rattle.bytes_printer.specs.PrintsLaws.{same-bytes}
 use Rattle.bytes_printer.proofs.print_u64.Statement.{statement}
 use Rattle.bytes_printer.proofs.print_u64.Tie as tie
 
-digits-of-requires : tie.Need-digits-of-requires
-digits-of-requires c κs = search needs
-
-sub-print-bytes : tie.Need-sub-print-bytes
-sub-print-bytes c = search needs
-
-part-print-bytes-start : tie.Need-part-print-bytes-start
-part-print-bytes-start c = search needs
-
 part-print-bytes-end : tie.Need-part-print-bytes-end
 part-print-bytes-end c =
     let made = c .before .before .before in
     omega (arith, digits-long _ (made .digits-of .result) (made .digits-of .ensures))
-
-print-bytes-requires : tie.Need-print-bytes-requires
-print-bytes-requires c κs = search needs
-
-same-length : tie.Need-same-length
-same-length c = search needs
 
 returns : tie.Need-returns
 returns c =
@@ -35,11 +20,5 @@ returns c =
 pub print-u64-spec : {M : Type 1} → statement M
 print-u64-spec =
     tie.close
-    (tie.spec
-    digits-of-requires
-    sub-print-bytes
-    part-print-bytes-start
-    part-print-bytes-end
-    print-bytes-requires
-    same-length
-    returns)
+    (tie.spec (λ c κs. search needs) (λ c. search needs) (λ c. search needs) part-print-bytes-end (λ c κs. search needs)
+    (λ c. search needs) returns)

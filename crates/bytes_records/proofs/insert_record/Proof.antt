@@ -14,9 +14,6 @@ returns c = refused (insert-past _ _ _ _ _ (search needs))
 returns-2 : tie.Need-returns-2
 returns-2 c = refused (insert-other _ _ _ _ _ (search needs) (c .if2 .taken))
 
-div-if3 : tie.Need-div-if3
-div-if3 c = search needs
-
 returns-3 : tie.Need-returns-3
 returns-3 c =
     let args = c .before .before .before .before .before .args in
@@ -51,9 +48,6 @@ part-push-front-end c = omega (arith, placed c)
 push-front-requires : tie.Need-push-front-requires
 push-front-requires c κs = simp (length-take, length-drop) (omega (arith, placed (c .before)))
 
-same-length : tie.Need-same-length
-same-length c = search needs
-
 returns-4 : tie.Need-returns-4
 returns-4 c =
     let at-call = c .before .before in
@@ -66,17 +60,5 @@ returns-4 c =
 pub insert-record-spec : {M : Type 1} → statement M
 insert-record-spec =
     tie.close
-    (tie.spec
-    returns
-    returns-2
-    div-if3
-    returns-3
-    mul-from
-    mul-end
-    add-end
-    sub-push-front
-    part-push-front-start
-    part-push-front-end
-    push-front-requires
-    same-length
-    returns-4)
+    (tie.spec returns returns-2 (λ c. search needs) returns-3 mul-from mul-end add-end sub-push-front part-push-front-start
+    part-push-front-end push-front-requires (λ c. search needs) returns-4)

@@ -18,9 +18,6 @@ returns-2 c = refused (move-to-past _ _ _ _ _ _ (search needs) (search needs))
 returns-3 : tie.Need-returns-3
 returns-3 c = refused (move-other _ _ _ _ _ _ (search needs) (search needs) (c .if3 .taken))
 
-div-if4 : tie.Need-div-if4
-div-if4 c = search needs
-
 returns-4 : tie.Need-returns-4
 returns-4 c =
     let args = c .before .before .before .before .before .before .args in
@@ -91,9 +88,6 @@ part-push-front-end c = omega (arith, placed (c .before))
 push-front-requires : tie.Need-push-front-requires
 push-front-requires c κs = simp (length-take, length-drop) (omega (arith, earlier (c .before), placed (c .before .before)))
 
-same-length : tie.Need-same-length
-same-length c = search needs
-
 returns-5 : tie.Need-returns-5
 returns-5 c =
     let at-call = c .before .before in
@@ -102,9 +96,6 @@ returns-5 c =
     changed
     (move-can _ _ _ _ _ _ (search needs) (search needs) (search needs) (placed (branch .before) .2))
     (λ m t. moved-later m t (args .from) (args .to) (args .row .now) (search needs) (search needs) (search needs) _ (at-call .push-back .ensures))
-
-same-length-2 : tie.Need-same-length-2
-same-length-2 c = search needs
 
 returns-6 : tie.Need-returns-6
 returns-6 c =
@@ -118,27 +109,6 @@ returns-6 c =
 pub move-record-spec : {M : Type 1} → statement M
 move-record-spec =
     tie.close
-    (tie.spec
-    returns
-    returns-2
-    returns-3
-    div-if4
-    returns-4
-    mul-start
-    mul-end
-    add-end
-    sub-push-back
-    part-push-back-start
-    part-push-back-end
-    push-back-requires
-    mul-start-2
-    mul-end-2
-    add-end-2
-    sub-push-front
-    part-push-front-start
-    part-push-front-end
-    push-front-requires
-    same-length
-    returns-5
-    same-length-2
-    returns-6)
+    (tie.spec returns returns-2 returns-3 (λ c. search needs) returns-4 mul-start mul-end add-end sub-push-back
+    part-push-back-start part-push-back-end push-back-requires mul-start-2 mul-end-2 add-end-2 sub-push-front
+    part-push-front-start part-push-front-end push-front-requires (λ c. search needs) returns-5 (λ c. search needs) returns-6)

@@ -10,17 +10,8 @@ use Rattle.bytes_records.proofs.Changes.{row-is}
 use Rattle.bytes_records.proofs.record_at.Statement.{statement}
 use Rattle.bytes_records.proofs.record_at.Tie as tie
 
-slice-aggregate-result : tie.Need-slice-aggregate-result
-slice-aggregate-result c = search needs
-
 returns : tie.Need-returns
 returns c = ((λ m t. sym (row-past t _ (search needs))), search needs)
-
-div-if2 : tie.Need-div-if2
-div-if2 c = search needs
-
-slice-aggregate-result-2 : tie.Need-slice-aggregate-result-2
-slice-aggregate-result-2 c = search needs
 
 returns-2 : tie.Need-returns-2
 returns-2 c =
@@ -40,12 +31,6 @@ mul-start c = omega (arith, placed c)
 add-stop : tie.Need-add-stop
 add-stop c = omega (arith, placed c)
 
-sub-result : tie.Need-sub-result
-sub-result c = search needs
-
-part-result-start : tie.Need-part-result-start
-part-result-start c = search needs
-
 part-result-end : tie.Need-part-result-end
 part-result-end c = omega (arith, placed c)
 
@@ -55,15 +40,5 @@ returns-3 c = ((λ m t. row-is m t _ (search needs)), simp length-take (omega ar
 pub record-at-spec : {M : Type 1} → statement M
 record-at-spec =
     tie.close
-    (tie.spec
-    slice-aggregate-result
-    returns
-    div-if2
-    slice-aggregate-result-2
-    returns-2
-    mul-start
-    add-stop
-    sub-result
-    part-result-start
-    part-result-end
-    returns-3)
+    (tie.spec (λ c. search needs) returns (λ c. search needs) (λ c. search needs) returns-2 mul-start add-stop
+    (λ c. search needs) (λ c. search needs) part-result-end returns-3)

@@ -11,9 +11,6 @@ use Rattle.bytes_records.proofs.remove_record.Tie as tie
 returns : tie.Need-returns
 returns c = refused (remove-past _ _ _ _ (search needs))
 
-div-if2 : tie.Need-div-if2
-div-if2 c = search needs
-
 returns-2 : tie.Need-returns-2
 returns-2 c =
     let args = c .before .before .before .args in
@@ -44,9 +41,6 @@ part-pop-front-end c = omega (arith, placed c)
 pop-front-requires : tie.Need-pop-front-requires
 pop-front-requires c κs = simp (length-take, length-drop) (omega (arith, placed (c .before)))
 
-same-length : tie.Need-same-length
-same-length c = search needs
-
 returns-3 : tie.Need-returns-3
 returns-3 c =
     let at-call = c .before .before in
@@ -59,15 +53,5 @@ returns-3 c =
 pub remove-record-spec : {M : Type 1} → statement M
 remove-record-spec =
     tie.close
-    (tie.spec
-    returns
-    div-if2
-    returns-2
-    mul-from
-    mul-end
-    sub-pop-front
-    part-pop-front-start
-    part-pop-front-end
-    pop-front-requires
-    same-length
-    returns-3)
+    (tie.spec returns (λ c. search needs) returns-2 mul-from mul-end sub-pop-front part-pop-front-start part-pop-front-end
+    pop-front-requires (λ c. search needs) returns-3)

@@ -14,9 +14,6 @@ returns c = refused (replace-past _ _ _ _ _ (search needs))
 returns-2 : tie.Need-returns-2
 returns-2 c = refused (replace-other _ _ _ _ _ (search needs) (c .if2 .taken))
 
-div-if3 : tie.Need-div-if3
-div-if3 c = search needs
-
 returns-3 : tie.Need-returns-3
 returns-3 c =
     let args = c .before .before .before .before .before .args in
@@ -36,20 +33,8 @@ mul-from c = omega (arith, placed c)
 add-end : tie.Need-add-end
 add-end c = omega (arith, placed c)
 
-sub-copy : tie.Need-sub-copy
-sub-copy c = search needs
-
-part-copy-start : tie.Need-part-copy-start
-part-copy-start c = search needs
-
 part-copy-end : tie.Need-part-copy-end
 part-copy-end c = omega (arith, placed c)
-
-copy-requires : tie.Need-copy-requires
-copy-requires c κs = search needs
-
-same-length : tie.Need-same-length
-same-length c = search needs
 
 returns-4 : tie.Need-returns-4
 returns-4 c =
@@ -63,16 +48,5 @@ returns-4 c =
 pub replace-record-spec : {M : Type 1} → statement M
 replace-record-spec =
     tie.close
-    (tie.spec
-    returns
-    returns-2
-    div-if3
-    returns-3
-    mul-from
-    add-end
-    sub-copy
-    part-copy-start
-    part-copy-end
-    copy-requires
-    same-length
-    returns-4)
+    (tie.spec returns returns-2 (λ c. search needs) returns-3 mul-from add-end (λ c. search needs) (λ c. search needs)
+    part-copy-end (λ c κs. search needs) (λ c. search needs) returns-4)

@@ -25,33 +25,6 @@ unfolding afterClass
 other n a b d e f g h i =
     rw (ne-eqb n 0 a, ne-eqb n 4 b, ne-eqb n 5 d, ne-eqb n 6 e, ne-eqb n 7 f, ne-eqb n 8 g, ne-eqb n 9 h, ne-eqb n 10 i)
 
-shared-slice-read-class-of : tie.Need-shared-slice-read-class-of
-shared-slice-read-class-of c = search needs
-
-class-of-requires : tie.Need-class-of-requires
-class-of-requires c κs = search needs
-
-two-bytes-requires : tie.Need-two-bytes-requires
-two-bytes-requires c κs = search needs
-
-three-bytes-requires : tie.Need-three-bytes-requires
-three-bytes-requires c κs = search needs
-
-three-bytes-requires-2 : tie.Need-three-bytes-requires-2
-three-bytes-requires-2 c κs = search needs
-
-three-bytes-requires-3 : tie.Need-three-bytes-requires-3
-three-bytes-requires-3 c κs = search needs
-
-four-bytes-requires : tie.Need-four-bytes-requires
-four-bytes-requires c κs = search needs
-
-four-bytes-requires-2 : tie.Need-four-bytes-requires-2
-four-bytes-requires-2 c κs = search needs
-
-four-bytes-requires-3 : tie.Need-four-bytes-requires-3
-four-bytes-requires-3 c κs = search needs
-
 returns : tie.Need-returns
 unfolding afterClass lengthAfter matches
 returns c = sym (of-class (c .before) 0 (c .match .keys1))
@@ -96,22 +69,6 @@ returns-9 c =
 pub character-length-spec : {M : Type 1} → statement M
 character-length-spec =
     tie.close
-    (tie.spec
-    shared-slice-read-class-of
-    class-of-requires
-    two-bytes-requires
-    three-bytes-requires
-    three-bytes-requires-2
-    three-bytes-requires-3
-    four-bytes-requires
-    four-bytes-requires-2
-    four-bytes-requires-3
-    returns
-    returns-2
-    returns-3
-    returns-4
-    returns-5
-    returns-6
-    returns-7
-    returns-8
-    returns-9)
+    (tie.spec (λ c. search needs) (λ c κs. search needs) (λ c κs. search needs) (λ c κs. search needs) (λ c κs. search needs)
+    (λ c κs. search needs) (λ c κs. search needs) (λ c κs. search needs) (λ c κs. search needs) returns returns-2 returns-3
+    returns-4 returns-5 returns-6 returns-7 returns-8 returns-9)

@@ -8,9 +8,6 @@ use Rattle.bytes_utf8.proofs.Reached.{reached-front, reached-end}
 use Rattle.bytes_utf8.proofs.check.Statement.{statement}
 use Rattle.bytes_utf8.proofs.check.Tie as tie
 
-front-end-requires : tie.Need-front-end-requires
-front-end-requires c κs = search needs
-
 returns : tie.Need-returns
 returns c = sym (reached-end (reached-front (c .before .front-end .ensures)) (omega arith))
 
@@ -18,8 +15,6 @@ check-from-requires : tie.Need-check-from-requires
 unfolding classOf
 check-from-requires c κs = (class-table _ refl, c .before .before .front-end .ensures)
 
-returns-2 : tie.Need-returns-2
-returns-2 c = search needs
-
 pub check-spec : {M : Type 1} → statement M
-check-spec = tie.close (tie.spec front-end-requires returns check-from-requires returns-2)
+check-spec =
+    tie.close (tie.spec (λ c κs. search needs) returns check-from-requires (λ c. search needs))

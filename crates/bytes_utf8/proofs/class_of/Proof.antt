@@ -3,11 +3,9 @@ use borrow.Author.Needs.{needs}
 use Rattle.bytes_utf8.proofs.class_of.Statement.{statement}
 use Rattle.bytes_utf8.proofs.class_of.Tie as tie
 
-element-copy-out-result : tie.Need-element-copy-out-result
-element-copy-out-result c = search needs
-
 returns : tie.Need-returns
 returns c = c .before .pre .class-at (c .before .args .byte) (c .before .fits .byte .fits)
 
 pub class-of-spec : {M : Type 1} → statement M
-class-of-spec = tie.close (tie.spec element-copy-out-result returns)
+class-of-spec =
+    tie.close (tie.spec (λ c. search needs) returns)

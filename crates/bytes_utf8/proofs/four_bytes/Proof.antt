@@ -6,15 +6,6 @@ use Rattle.bytes_utf8.proofs.CharacterLaws.{length-4}
 use Rattle.bytes_utf8.proofs.four_bytes.Statement.{statement}
 use Rattle.bytes_utf8.proofs.four_bytes.Tie as tie
 
-is-tail-requires : tie.Need-is-tail-requires
-is-tail-requires c κs = search needs
-
-is-tail-requires-2 : tie.Need-is-tail-requires-2
-is-tail-requires-2 c κs = search needs
-
-is-tail-requires-3 : tie.Need-is-tail-requires-3
-is-tail-requires-3 c κs = search needs
-
 returns : tie.Need-returns
 returns c =
     let second = c .before .before .before in
@@ -39,4 +30,6 @@ returns-4 : tie.Need-returns-4
 returns-4 c = length-4 (c .before .before .before .args .text .now) _ _ _ false _ _ (c .before .is-tail .ensures) (c .if1 .left) refl refl refl refl
 
 pub four-bytes-spec : {M : Type 1} → statement M
-four-bytes-spec = tie.close (tie.spec is-tail-requires is-tail-requires-2 is-tail-requires-3 returns returns-2 returns-3 returns-4)
+four-bytes-spec =
+    tie.close
+    (tie.spec (λ c κs. search needs) (λ c κs. search needs) (λ c κs. search needs) returns returns-2 returns-3 returns-4)

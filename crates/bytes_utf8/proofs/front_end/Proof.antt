@@ -6,12 +6,6 @@ use borrow.Author.Needs.{needs}
 use Rattle.bytes_utf8.proofs.front_end.Statement.{statement}
 use Rattle.bytes_utf8.proofs.front_end.Tie as tie
 
-groups-end-requires : tie.Need-groups-end-requires
-groups-end-requires c κs = search needs
-
-groups-end-requires-2 : tie.Need-groups-end-requires-2
-groups-end-requires-2 c κs = search needs
-
 -- the wide groups, and those behind them
 passed : (c : tie.After-groups-end2) → AsciiBetween (c .before .before .before .args .text .now) 0 (c .groups-end2 .result)
 passed c = ascii-joined (c .before .groups-end .ensures) (c .groups-end2 .ensures)
@@ -22,23 +16,8 @@ returns c = passed (c .before)
 returns-2 : tie.Need-returns-2
 returns-2 c = passed (c .before .before)
 
-sub-if3 : tie.Need-sub-if3
-sub-if3 c = search needs
-
 returns-3 : tie.Need-returns-3
 returns-3 c = passed (c .before .before .before)
-
-sub-is-ascii : tie.Need-sub-is-ascii
-sub-is-ascii c = search needs
-
-part-is-ascii-start : tie.Need-part-is-ascii-start
-part-is-ascii-start c = search needs
-
-part-is-ascii-end : tie.Need-part-is-ascii-end
-part-is-ascii-end c = search needs
-
-is-ascii-requires : tie.Need-is-ascii-requires
-is-ascii-requires c κs = search needs
 
 returns-4 : tie.Need-returns-4
 returns-4 c =
@@ -50,16 +29,5 @@ returns-5 c = passed (c .before .before .before .before .before .before)
 pub front-end-spec : {M : Type 1} → statement M
 front-end-spec =
     tie.close
-    (tie.spec
-    groups-end-requires
-    groups-end-requires-2
-    returns
-    returns-2
-    sub-if3
-    returns-3
-    sub-is-ascii
-    part-is-ascii-start
-    part-is-ascii-end
-    is-ascii-requires
-    returns-4
-    returns-5)
+    (tie.spec (λ c κs. search needs) (λ c κs. search needs) returns returns-2 (λ c. search needs) returns-3 (λ c. search needs)
+    (λ c. search needs) (λ c. search needs) (λ c κs. search needs) returns-4 returns-5)

@@ -6,12 +6,6 @@ use Rattle.bytes_utf8.proofs.CharacterLaws.{matches-past, tail-at}
 use Rattle.bytes_utf8.proofs.is_tail.Statement.{statement}
 use Rattle.bytes_utf8.proofs.is_tail.Tie as tie
 
-shared-slice-read-class-of : tie.Need-shared-slice-read-class-of
-shared-slice-read-class-of c = search needs
-
-class-of-requires : tie.Need-class-of-requires
-class-of-requires c κs = search needs
-
 returns : tie.Need-returns
 returns c =
     let byte = c .before .before in
@@ -34,4 +28,5 @@ returns-3 : tie.Need-returns-3
 returns-3 c = sym (matches-past _ _ (c .before .before .args .text .now) (c .before .before .args .at) (c .if1 .left))
 
 pub is-tail-spec : {M : Type 1} → statement M
-is-tail-spec = tie.close (tie.spec shared-slice-read-class-of class-of-requires returns returns-2 returns-3)
+is-tail-spec =
+    tie.close (tie.spec (λ c. search needs) (λ c κs. search needs) returns returns-2 returns-3)

@@ -6,12 +6,6 @@ use Rattle.bytes_utf8.proofs.CharacterLaws.{length-3}
 use Rattle.bytes_utf8.proofs.three_bytes.Statement.{statement}
 use Rattle.bytes_utf8.proofs.three_bytes.Tie as tie
 
-is-tail-requires : tie.Need-is-tail-requires
-is-tail-requires c κs = search needs
-
-is-tail-requires-2 : tie.Need-is-tail-requires-2
-is-tail-requires-2 c κs = search needs
-
 returns : tie.Need-returns
 returns c =
     let first = c .before .before .before in
@@ -26,4 +20,5 @@ returns-3 : tie.Need-returns-3
 returns-3 c = length-3 (c .before .before .before .args .text .now) _ _ false _ (c .before .is-tail .ensures) (c .if1 .left) refl refl
 
 pub three-bytes-spec : {M : Type 1} → statement M
-three-bytes-spec = tie.close (tie.spec is-tail-requires is-tail-requires-2 returns returns-2 returns-3)
+three-bytes-spec =
+    tie.close (tie.spec (λ c κs. search needs) (λ c κs. search needs) returns returns-2 returns-3)

@@ -5,9 +5,6 @@ use Rattle.bytes_utf8.proofs.CharacterLaws.{length-2}
 use Rattle.bytes_utf8.proofs.two_bytes.Statement.{statement}
 use Rattle.bytes_utf8.proofs.two_bytes.Tie as tie
 
-is-tail-requires : tie.Need-is-tail-requires
-is-tail-requires c κs = search needs
-
 returns : tie.Need-returns
 returns c = length-2 (c .before .before .before .args .text .now) _ true (c .before .is-tail .ensures) (c .if1 .taken)
 
@@ -15,4 +12,5 @@ returns-2 : tie.Need-returns-2
 returns-2 c = length-2 (c .before .before .before .args .text .now) _ false (c .before .is-tail .ensures) (c .if1 .left)
 
 pub two-bytes-spec : {M : Type 1} → statement M
-two-bytes-spec = tie.close (tie.spec is-tail-requires returns returns-2)
+two-bytes-spec =
+    tie.close (tie.spec (λ c κs. search needs) returns returns-2)

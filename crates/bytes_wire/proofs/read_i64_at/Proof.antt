@@ -9,18 +9,6 @@ use Rattle.bytes_wire.specs.Read.{firstSigned, numberU64}
 use Rattle.bytes_wire.proofs.read_i64_at.Statement.{statement}
 use Rattle.bytes_wire.proofs.read_i64_at.Tie as tie
 
-read-number-at-requires : tie.Need-read-number-at-requires
-read-number-at-requires c κs = search needs
-
-enum-known-x : tie.Need-enum-known-x
-enum-known-x c = search needs
-
-to-signed-requires : tie.Need-to-signed-requires
-to-signed-requires c κs = search needs
-
-enum-told : tie.Need-enum-told
-enum-told c = search needs
-
 returns : tie.Need-returns
 unfolding firstSigned
 returns c =
@@ -36,4 +24,4 @@ returns-2 c =
 pub read-i64-at-spec : {M : Type 1} → statement M
 read-i64-at-spec =
     tie.close
-    (tie.spec read-number-at-requires enum-known-x to-signed-requires enum-told returns returns-2)
+    (tie.spec (λ c κs. search needs) (λ c. search needs) (λ c κs. search needs) (λ c. search needs) returns returns-2)

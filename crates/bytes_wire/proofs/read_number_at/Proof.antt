@@ -21,12 +21,6 @@ module _ (l : List ℕ) (at n : ℕ) where
   unfolding firstNumber
   short h = rw (lt-leb n (length (drop at l)) (omega (arith, length-drop at l)))
 
-remaining-requires : tie.Need-remaining-requires
-remaining-requires c κs = search needs
-
-number-at-requires : tie.Need-number-at-requires
-number-at-requires c κs = search needs
-
 returns : tie.Need-returns
 returns c =
     let args = c .before .before .before .before .args in
@@ -38,4 +32,5 @@ returns-2 c =
     sym (short (args .part .now) (args .at) (args .n) (omega arith))
 
 pub read-number-at-spec : {M : Type 1} → statement M
-read-number-at-spec = tie.close (tie.spec remaining-requires number-at-requires returns returns-2)
+read-number-at-spec =
+    tie.close (tie.spec (λ c κs. search needs) (λ c κs. search needs) returns returns-2)

@@ -8,12 +8,6 @@ use Rattle.bytes_wire.specs.ReadLaws.{number-at, number-small}
 use Rattle.bytes_wire.proofs.read_u8_at.Statement.{statement}
 use Rattle.bytes_wire.proofs.read_u8_at.Tie as tie
 
-read-number-at-requires : tie.Need-read-number-at-requires
-read-number-at-requires c κs = search needs
-
-enum-known-x : tie.Need-enum-known-x
-enum-known-x c = search needs
-
 small : (c : tie.After-known-told) → c .before .x .given .0 .0 < 256 ^ 1
 small c =
     let call = c .before .before .before in
@@ -25,9 +19,6 @@ small c =
 cast-t6 : tie.Need-cast-t6
 cast-t6 c = record { fits = small c }
 
-enum-told : tie.Need-enum-told
-enum-told c = search needs
-
 returns : tie.Need-returns
 returns c = sym (ap numberU64 (c .before .x .given .1)) ∙ c .before .before .before .read-number-at .ensures
 
@@ -36,4 +27,4 @@ returns-2 c = sym (ap numberU64 (c .enum-told .given .1)) ∙ c .before .before 
 
 pub read-u8-at-spec : {M : Type 1} → statement M
 read-u8-at-spec =
-    tie.close (tie.spec read-number-at-requires enum-known-x cast-t6 enum-told returns returns-2)
+    tie.close (tie.spec (λ c κs. search needs) (λ c. search needs) cast-t6 (λ c. search needs) returns returns-2)

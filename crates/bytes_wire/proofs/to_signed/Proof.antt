@@ -20,20 +20,8 @@ lack-small c = omega arith
 flipped : (c : tie.Else1) → flip (toZ w64 (lack c)) ≡ negsuc (lack c)
 flipped c = ap flip (toZ-pos w64 (lack-small c)) ∙ flip-pos (lack c)
 
-cast-result : tie.Need-cast-result
-cast-result c = search needs
-
-sub-result : tie.Need-sub-result
-sub-result c = search needs
-
-cast-result-2 : tie.Need-cast-result-2
-cast-result-2 c = search needs
-
 sub-result-2 : tie.Need-sub-result-2
 sub-result-2 c = rw (flipped c) (record { sfits = lack-small c })
-
-returns : tie.Need-returns
-returns c = search needs
 
 returns-2 : tie.Need-returns-2
 returns-2 c =
@@ -43,4 +31,4 @@ returns-2 c =
 
 pub to-signed-spec : {M : Type 1} → statement M
 to-signed-spec =
-    tie.close (tie.spec cast-result sub-result cast-result-2 sub-result-2 returns returns-2)
+    tie.close (tie.spec (λ c. search needs) (λ c. search needs) (λ c. search needs) sub-result-2 (λ c. search needs) returns-2)

@@ -7,17 +7,11 @@ use Rattle.bytes_wire.specs.WriteLaws.{room-true, overwrite-refused}
 use Rattle.bytes_wire.proofs.write_bytes_at.Statement.{statement}
 use Rattle.bytes_wire.proofs.write_bytes_at.Tie as tie
 
-has-room-requires : tie.Need-has-room-requires
-has-room-requires c κs = search needs
-
 store-bytes-requires : tie.Need-store-bytes-requires
 unfolding hasRoom
 store-bytes-requires c κs =
     let args = c .before .before .before .before .before .args in
     room-true (args .out .now) (args .at) (length (args .bytes .now)) (sym (c .before .before .has-room .ensures) ∙ c .before .if1 .taken)
-
-same-length : tie.Need-same-length
-same-length c = search needs
 
 returns : tie.Need-returns
 unfolding hasRoom
@@ -34,4 +28,4 @@ returns-2 c =
 
 pub write-bytes-at-spec : {M : Type 1} → statement M
 write-bytes-at-spec =
-    tie.close (tie.spec has-room-requires store-bytes-requires same-length returns returns-2)
+    tie.close (tie.spec (λ c κs. search needs) store-bytes-requires (λ c. search needs) returns returns-2)

@@ -11,15 +11,6 @@ use Rattle.bytes_wire.specs.Write.{overwrite}
 use Rattle.bytes_wire.proofs.write_i64_at.Statement.{statement}
 use Rattle.bytes_wire.proofs.write_i64_at.Tie as tie
 
-to-unsigned-requires : tie.Need-to-unsigned-requires
-to-unsigned-requires c κs = search needs
-
-write-number-at-requires : tie.Need-write-number-at-requires
-write-number-at-requires c κs = search needs
-
-same-length : tie.Need-same-length
-same-length c = search needs
-
 returns : tie.Need-returns
 returns c =
     let call = c .before .before in
@@ -33,4 +24,4 @@ returns c =
 
 pub write-i64-at-spec : {M : Type 1} → statement M
 write-i64-at-spec =
-    tie.close (tie.spec to-unsigned-requires write-number-at-requires same-length returns)
+    tie.close (tie.spec (λ c κs. search needs) (λ c κs. search needs) (λ c. search needs) returns)

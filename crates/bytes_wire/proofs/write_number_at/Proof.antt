@@ -8,17 +8,11 @@ use Rattle.bytes_wire.specs.WriteLaws.{room-true, overwrite-refused}
 use Rattle.bytes_wire.proofs.write_number_at.Statement.{statement}
 use Rattle.bytes_wire.proofs.write_number_at.Tie as tie
 
-has-room-requires : tie.Need-has-room-requires
-has-room-requires c κs = search needs
-
 store-number-requires : tie.Need-store-number-requires
 unfolding hasRoom
 store-number-requires c κs =
     let args = c .before .before .before .before .args in
     room-true (args .out .now) (args .at) (args .n) (sym (c .before .before .has-room .ensures) ∙ c .before .if1 .taken)
-
-same-length : tie.Need-same-length
-same-length c = search needs
 
 returns : tie.Need-returns
 unfolding hasRoom
@@ -35,4 +29,4 @@ returns-2 c =
 
 pub write-number-at-spec : {M : Type 1} → statement M
 write-number-at-spec =
-    tie.close (tie.spec has-room-requires store-number-requires same-length returns returns-2)
+    tie.close (tie.spec (λ c κs. search needs) store-number-requires (λ c. search needs) returns returns-2)

@@ -6,20 +6,8 @@ use borrow.Author.Needs.{needs}
 use Rattle.check_table.proofs.push_finding.Statement.{statement}
 use Rattle.check_table.proofs.push_finding.Tie as tie
 
-shift-up-requires : tie.Need-shift-up-requires
-shift-up-requires c κs = search needs
-
-slice-write-s : tie.Need-slice-write-s
-slice-write-s c = search needs
-
 slice-write-s-2 : tie.Need-slice-write-s-2
 slice-write-s-2 c = simp length-set (search needs)
-
-slice-write-s-3 : tie.Need-slice-write-s-3
-slice-write-s-3 c = search needs
-
-same-length : tie.Need-same-length
-same-length c = search needs
 
 returns : tie.Need-returns
 unfolding findingKey
@@ -28,4 +16,4 @@ returns c = pushed-three (c .before .before .before .before .before .args .s .no
 pub push-finding-spec : {M : Type 1} → statement M
 push-finding-spec =
     tie.close
-    (tie.spec shift-up-requires slice-write-s slice-write-s-2 slice-write-s-3 same-length returns)
+    (tie.spec (λ c κs. search needs) (λ c. search needs) slice-write-s-2 (λ c. search needs) (λ c. search needs) returns)

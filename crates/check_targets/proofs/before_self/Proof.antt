@@ -5,30 +5,6 @@ use borrow.Author.Needs.{needs}
 use Rattle.check_targets.proofs.before_self.Statement.{statement}
 use Rattle.check_targets.proofs.before_self.Tie as tie
 
-enum-told : tie.Need-enum-told
-enum-told c = search needs
-
-enum-told-2 : tie.Need-enum-told-2
-enum-told-2 c = search needs
-
-enum-known-operation : tie.Need-enum-known-operation
-enum-known-operation c = search needs
-
-is-self-requires : tie.Need-is-self-requires
-is-self-requires c κs = search needs
-
-enum-told-3 : tie.Need-enum-told-3
-enum-told-3 c = search needs
-
-enum-told-4 : tie.Need-enum-told-4
-enum-told-4 c = search needs
-
-enum-known-operation-2 : tie.Need-enum-known-operation-2
-enum-known-operation-2 c = search needs
-
-is-self-requires-2 : tie.Need-is-self-requires-2
-is-self-requires-2 c κs = search needs
-
 returns : tie.Need-returns
 unfolding beforeSelf
 returns c = λ texts. rw (c .enum-told .given .1)
@@ -56,18 +32,5 @@ returns-6 c = λ texts. c .is-self2 .ensures ∙ rw (c .before .before .operatio
 pub before-self-spec : {M : Type 1} → statement M
 before-self-spec =
     tie.close
-    (tie.spec
-    enum-told
-    enum-told-2
-    enum-known-operation
-    is-self-requires
-    enum-told-3
-    enum-told-4
-    enum-known-operation-2
-    is-self-requires-2
-    returns
-    returns-2
-    returns-3
-    returns-4
-    returns-5
-    returns-6)
+    (tie.spec (λ c. search needs) (λ c. search needs) (λ c. search needs) (λ c κs. search needs) (λ c. search needs)
+    (λ c. search needs) (λ c. search needs) (λ c κs. search needs) returns returns-2 returns-3 returns-4 returns-5 returns-6)

@@ -4,18 +4,6 @@ use borrow.Author.Needs.{needs}
 use Rattle.check_targets.proofs.is_self.Statement.{statement}
 use Rattle.check_targets.proofs.is_self.Tie as tie
 
-enum-told : tie.Need-enum-told
-enum-told c = search needs
-
-enum-known-before : tie.Need-enum-known-before
-enum-known-before c = search needs
-
-raw-requires : tie.Need-raw-requires
-raw-requires c κs = search needs
-
-raw-requires-2 : tie.Need-raw-requires-2
-raw-requires-2 c κs = search needs
-
 returns : tie.Need-returns
 unfolding isSelf
 returns c = rw (c .enum-told .given .1)
@@ -26,4 +14,5 @@ returns-2 c = rw (c .before .raw .ensures, c .raw2 .ensures, c .before .before .
 
 pub is-self-spec : {M : Type 1} → statement M
 is-self-spec =
-    tie.close (tie.spec enum-told enum-known-before raw-requires raw-requires-2 returns returns-2)
+    tie.close
+    (tie.spec (λ c. search needs) (λ c. search needs) (λ c κs. search needs) (λ c κs. search needs) returns returns-2)

@@ -8,24 +8,6 @@ use borrow.Author.Needs.{needs}
 use Rattle.check_targets.proofs.seen_before.Statement.{statement}
 use Rattle.check_targets.proofs.seen_before.Tie as tie
 
-sub-target-seen : tie.Need-sub-target-seen
-sub-target-seen c = search needs
-
-part-target-seen-start : tie.Need-part-target-seen-start
-part-target-seen-start c = search needs
-
-part-target-seen-end : tie.Need-part-target-seen-end
-part-target-seen-end c = search needs
-
-target-seen-requires : tie.Need-target-seen-requires
-target-seen-requires c κs = search needs
-
-put-target-requires : tie.Need-put-target-requires
-put-target-requires c κs = search needs
-
-same-length : tie.Need-same-length
-same-length c = search needs
-
 returns : tie.Need-returns
 returns c =
     let seen = c .before .before .before .before in
@@ -36,11 +18,5 @@ returns c =
 pub seen-before-spec : {M : Type 1} → statement M
 seen-before-spec =
     tie.close
-    (tie.spec
-    sub-target-seen
-    part-target-seen-start
-    part-target-seen-end
-    target-seen-requires
-    put-target-requires
-    same-length
-    returns)
+    (tie.spec (λ c. search needs) (λ c. search needs) (λ c. search needs) (λ c κs. search needs) (λ c κs. search needs)
+    (λ c. search needs) returns)

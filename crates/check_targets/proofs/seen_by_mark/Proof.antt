@@ -17,23 +17,11 @@ within c =
     let long = c .before .before .before .before .pre .1 .long in
     rw (c .before .mark-of .ensures) (omega (arith, mark-within (checkTargetOf (a .target)), long))
 
-mark-of-requires : tie.Need-mark-of-requires
-mark-of-requires c κs = search needs
-
 slice-read-mark : tie.Need-slice-read-mark
 slice-read-mark c = within c
 
 slice-write-marks : tie.Need-slice-write-marks
 slice-write-marks c = within c
-
-put-target-requires : tie.Need-put-target-requires
-put-target-requires c κs = search needs
-
-same-length : tie.Need-same-length
-same-length c = search needs
-
-same-length-2 : tie.Need-same-length-2
-same-length-2 c = search needs
 
 returns : tie.Need-returns
 returns c =
@@ -45,15 +33,6 @@ returns c =
       sym (unmarked-unseen (a .marks .now) (take (a .used) (a .targets .now)) (checkTargetOf (a .target)) marked (ap (λ (i : ℕ). getD (a .marks .now) i 0) (sym place) ∙ c .before .before .before .before .if1 .taken)),
       (c .before .before .put-target .ensures, rw place (marked-more (a .marks .now) (take (a .used) (a .targets .now)) (checkTargetOf (a .target)) marked)),
     )
-
-seen-before-requires : tie.Need-seen-before-requires
-seen-before-requires c κs = search needs
-
-same-length-3 : tie.Need-same-length-3
-same-length-3 c = search needs
-
-same-length-4 : tie.Need-same-length-4
-same-length-4 c = search needs
 
 returns-2 : tie.Need-returns-2
 returns-2 c =
@@ -67,15 +46,5 @@ returns-2 c =
 pub seen-by-mark-spec : {M : Type 1} → statement M
 seen-by-mark-spec =
     tie.close
-    (tie.spec
-    mark-of-requires
-    slice-read-mark
-    slice-write-marks
-    put-target-requires
-    same-length
-    same-length-2
-    returns
-    seen-before-requires
-    same-length-3
-    same-length-4
-    returns-2)
+    (tie.spec (λ c κs. search needs) slice-read-mark slice-write-marks (λ c κs. search needs) (λ c. search needs)
+    (λ c. search needs) returns (λ c κs. search needs) (λ c. search needs) (λ c. search needs) returns-2)

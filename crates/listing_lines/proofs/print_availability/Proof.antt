@@ -9,30 +9,6 @@ use Rattle.listing_lines.proofs.Rows.{same-record, none-more}
 use Rattle.listing_lines.proofs.print_availability.Statement.{statement}
 use Rattle.listing_lines.proofs.print_availability.Tie as tie
 
-availability-node-requires : tie.Need-availability-node-requires
-availability-node-requires c κs = search needs
-
-availability-byte-requires : tie.Need-availability-byte-requires
-availability-byte-requires c κs = search needs
-
-print-byte-requires : tie.Need-print-byte-requires
-print-byte-requires c κs = search needs
-
-print-field-u64-requires : tie.Need-print-field-u64-requires
-print-field-u64-requires c κs = search needs
-
-cast-print-field-u64 : tie.Need-cast-print-field-u64
-cast-print-field-u64 c = search needs
-
-print-field-u64-requires-2 : tie.Need-print-field-u64-requires-2
-print-field-u64-requires-2 c κs = search needs
-
-print-newline-requires : tie.Need-print-newline-requires
-print-newline-requires c κs = search needs
-
-same-length : tie.Need-same-length
-same-length c = search needs
-
 returns : tie.Need-returns
 unfolding fields availabilityLine
 returns c =
@@ -49,13 +25,5 @@ returns c =
 pub print-availability-spec : {M : Type 1} → statement M
 print-availability-spec =
     tie.close
-    (tie.spec
-    availability-node-requires
-    availability-byte-requires
-    print-byte-requires
-    print-field-u64-requires
-    cast-print-field-u64
-    print-field-u64-requires-2
-    print-newline-requires
-    same-length
-    returns)
+    (tie.spec (λ c κs. search needs) (λ c κs. search needs) (λ c κs. search needs) (λ c κs. search needs) (λ c. search needs)
+    (λ c κs. search needs) (λ c κs. search needs) (λ c. search needs) returns)

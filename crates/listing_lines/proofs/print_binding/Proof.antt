@@ -11,21 +11,6 @@ use Rattle.listing_lines.proofs.Rows.{same-record}
 use Rattle.listing_lines.proofs.print_binding.Statement.{statement}
 use Rattle.listing_lines.proofs.print_binding.Tie as tie
 
-binding-node-requires : tie.Need-binding-node-requires
-binding-node-requires c κs = search needs
-
-binding-slot-requires : tie.Need-binding-slot-requires
-binding-slot-requires c κs = search needs
-
-stored-value-requires : tie.Need-stored-value-requires
-stored-value-requires c κs = search needs
-
-print-record-requires : tie.Need-print-record-requires
-print-record-requires c κs = search needs
-
-same-length : tie.Need-same-length
-same-length c = search needs
-
 returns : tie.Need-returns
 unfolding bindingLine
 returns c =
@@ -40,10 +25,5 @@ returns c =
 pub print-binding-spec : {M : Type 1} → statement M
 print-binding-spec =
     tie.close
-    (tie.spec
-    binding-node-requires
-    binding-slot-requires
-    stored-value-requires
-    print-record-requires
-    same-length
+    (tie.spec (λ c κs. search needs) (λ c κs. search needs) (λ c κs. search needs) (λ c κs. search needs) (λ c. search needs)
     returns)

@@ -11,21 +11,6 @@ use Rattle.listing_lines.proofs.Rows.{same-record}
 use Rattle.listing_lines.proofs.print_entry.Statement.{statement}
 use Rattle.listing_lines.proofs.print_entry.Tie as tie
 
-entry-collection-requires : tie.Need-entry-collection-requires
-entry-collection-requires c κs = search needs
-
-entry-key-requires : tie.Need-entry-key-requires
-entry-key-requires c κs = search needs
-
-stored-value-requires : tie.Need-stored-value-requires
-stored-value-requires c κs = search needs
-
-print-record-requires : tie.Need-print-record-requires
-print-record-requires c κs = search needs
-
-same-length : tie.Need-same-length
-same-length c = search needs
-
 returns : tie.Need-returns
 unfolding entryLine
 returns c =
@@ -40,10 +25,5 @@ returns c =
 pub print-entry-spec : {M : Type 1} → statement M
 print-entry-spec =
     tie.close
-    (tie.spec
-    entry-collection-requires
-    entry-key-requires
-    stored-value-requires
-    print-record-requires
-    same-length
+    (tie.spec (λ c κs. search needs) (λ c κs. search needs) (λ c κs. search needs) (λ c κs. search needs) (λ c. search needs)
     returns)

@@ -5,18 +5,6 @@ use Rattle.bytes_printer.specs.PrintsLaws.{_⨾_}
 use Rattle.listing_lines.proofs.print_kind_number.Statement.{statement}
 use Rattle.listing_lines.proofs.print_kind_number.Tie as tie
 
-print-letter-requires : tie.Need-print-letter-requires
-print-letter-requires c κs = search needs
-
-print-field-u64-requires : tie.Need-print-field-u64-requires
-print-field-u64-requires c κs = search needs
-
-print-newline-requires : tie.Need-print-newline-requires
-print-newline-requires c κs = search needs
-
-same-length : tie.Need-same-length
-same-length c = search needs
-
 returns : tie.Need-returns
 unfolding fields
 returns c =
@@ -27,10 +15,4 @@ returns c =
 
 pub print-kind-number-spec : {M : Type 1} → statement M
 print-kind-number-spec =
-    tie.close
-    (tie.spec
-    print-letter-requires
-    print-field-u64-requires
-    print-newline-requires
-    same-length
-    returns)
+    tie.close (tie.spec (λ c κs. search needs) (λ c κs. search needs) (λ c κs. search needs) (λ c. search needs) returns)

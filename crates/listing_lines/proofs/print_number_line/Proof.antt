@@ -5,18 +5,6 @@ use Rattle.bytes_printer.specs.PrintsLaws.{_⨾_}
 use Rattle.listing_lines.proofs.print_number_line.Statement.{statement}
 use Rattle.listing_lines.proofs.print_number_line.Tie as tie
 
-print-byte-requires : tie.Need-print-byte-requires
-print-byte-requires c κs = search needs
-
-print-field-u64-requires : tie.Need-print-field-u64-requires
-print-field-u64-requires c κs = search needs
-
-print-newline-requires : tie.Need-print-newline-requires
-print-newline-requires c κs = search needs
-
-same-length : tie.Need-same-length
-same-length c = search needs
-
 returns : tie.Need-returns
 unfolding fields
 returns c =
@@ -27,10 +15,4 @@ returns c =
 
 pub print-number-line-spec : {M : Type 1} → statement M
 print-number-line-spec =
-    tie.close
-    (tie.spec
-    print-byte-requires
-    print-field-u64-requires
-    print-newline-requires
-    same-length
-    returns)
+    tie.close (tie.spec (λ c κs. search needs) (λ c κs. search needs) (λ c κs. search needs) (λ c. search needs) returns)

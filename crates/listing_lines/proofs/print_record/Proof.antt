@@ -5,21 +5,6 @@ use borrow.Author.Needs.{needs}
 use Rattle.listing_lines.proofs.print_record.Statement.{statement}
 use Rattle.listing_lines.proofs.print_record.Tie as tie
 
-print-byte-requires : tie.Need-print-byte-requires
-print-byte-requires c κs = search needs
-
-print-field-u64-requires : tie.Need-print-field-u64-requires
-print-field-u64-requires c κs = search needs
-
-print-field-u64-requires-2 : tie.Need-print-field-u64-requires-2
-print-field-u64-requires-2 c κs = search needs
-
-print-value-requires : tie.Need-print-value-requires
-print-value-requires c κs = search needs
-
-same-length : tie.Need-same-length
-same-length c = search needs
-
 returns : tie.Need-returns
 unfolding fields
 returns c =
@@ -32,10 +17,5 @@ returns c =
 pub print-record-spec : {M : Type 1} → statement M
 print-record-spec =
     tie.close
-    (tie.spec
-    print-byte-requires
-    print-field-u64-requires
-    print-field-u64-requires-2
-    print-value-requires
-    same-length
+    (tie.spec (λ c κs. search needs) (λ c κs. search needs) (λ c κs. search needs) (λ c κs. search needs) (λ c. search needs)
     returns)

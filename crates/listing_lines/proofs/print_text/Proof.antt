@@ -15,34 +15,10 @@ use Rattle.listing_lines.proofs.print_text.Tie as tie
 long : (c : tie.Start) → length (c .args .value .text) ≡ textBytes
 long c = search needs
 
-at-most-requires : tie.Need-at-most-requires
-at-most-requires c κs = search needs
-
-print-letter-requires : tie.Need-print-letter-requires
-print-letter-requires c κs = search needs
-
-print-byte-requires : tie.Need-print-byte-requires
-print-byte-requires c κs = search needs
-
-sub-print-escaped : tie.Need-sub-print-escaped
-sub-print-escaped c = search needs
-
-part-print-escaped-start : tie.Need-part-print-escaped-start
-part-print-escaped-start c = search needs
-
 part-print-escaped-end : tie.Need-part-print-escaped-end
 part-print-escaped-end c =
     let len = c .before .before .before .before .before .before .before .before .before .before in
     omega (arith, long (len .before .before .before), len .at-most .ensures)
-
-print-escaped-requires : tie.Need-print-escaped-requires
-print-escaped-requires c κs = search needs
-
-print-newline-requires : tie.Need-print-newline-requires
-print-newline-requires c κs = search needs
-
-same-length : tie.Need-same-length
-same-length c = search needs
 
 returns : tie.Need-returns
 unfolding fields
@@ -61,14 +37,5 @@ returns c =
 pub print-text-spec : {M : Type 1} → statement M
 print-text-spec =
     tie.close
-    (tie.spec
-    at-most-requires
-    print-letter-requires
-    print-byte-requires
-    sub-print-escaped
-    part-print-escaped-start
-    part-print-escaped-end
-    print-escaped-requires
-    print-newline-requires
-    same-length
-    returns)
+    (tie.spec (λ c κs. search needs) (λ c κs. search needs) (λ c κs. search needs) (λ c. search needs) (λ c. search needs)
+    part-print-escaped-end (λ c κs. search needs) (λ c κs. search needs) (λ c. search needs) returns)

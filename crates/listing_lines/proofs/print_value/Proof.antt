@@ -13,31 +13,10 @@ use borrow.Author.Needs.{needs}
 use Rattle.listing_lines.proofs.print_value.Statement.{statement}
 use Rattle.listing_lines.proofs.print_value.Tie as tie
 
-cast-print-kind-number : tie.Need-cast-print-kind-number
-cast-print-kind-number c = search needs
-
-print-kind-number-requires : tie.Need-print-kind-number-requires
-print-kind-number-requires c κs = search needs
-
-same-length : tie.Need-same-length
-same-length c = search needs
-
 returns : tie.Need-returns
 returns c =
     let line = c .before .before in
     same-bytes (ap fields (sym (quad-fields _ (line .before .before .before .if1 .taken)))) (line .print-kind-number .ensures)
-
-print-letter-requires : tie.Need-print-letter-requires
-print-letter-requires c κs = search needs
-
-print-field-i64-requires : tie.Need-print-field-i64-requires
-print-field-i64-requires c κs = search needs
-
-print-newline-requires : tie.Need-print-newline-requires
-print-newline-requires c κs = search needs
-
-same-length-2 : tie.Need-same-length-2
-same-length-2 c = search needs
 
 returns-2 : tie.Need-returns-2
 unfolding fields
@@ -48,33 +27,15 @@ returns-2 c =
     let same = toZ-ofZ (sfits-of {w = w64} (number .before .struct-told .given .1 .1 .1 .1 .0 .1)) in
     same-bytes (ap (λ (y : ℤ). fields ((83 ∷ []) ∷ signedDecimal y ∷ [])) same ∙ ap fields (sym (signed-fields _ (letter .before .before .if2 .taken)))) (letter .print-letter .ensures ⨾ number .print-field-i64 .ensures ⨾ end .print-newline .ensures)
 
-print-kind-number-requires-2 : tie.Need-print-kind-number-requires-2
-print-kind-number-requires-2 c κs = search needs
-
-same-length-3 : tie.Need-same-length-3
-same-length-3 c = search needs
-
 returns-3 : tie.Need-returns-3
 returns-3 c =
     let line = c .before .before in
     same-bytes (ap fields (sym (unsigned-fields _ (line .before .before .if3 .taken)))) (line .print-kind-number2 .ensures)
 
-print-kind-number-requires-3 : tie.Need-print-kind-number-requires-3
-print-kind-number-requires-3 c κs = search needs
-
-same-length-4 : tie.Need-same-length-4
-same-length-4 c = search needs
-
 returns-4 : tie.Need-returns-4
 returns-4 c =
     let line = c .before .before in
     same-bytes (ap fields (sym (score-fields _ (line .before .before .if4 .taken)))) (line .print-kind-number3 .ensures)
-
-print-text-requires : tie.Need-print-text-requires
-print-text-requires c κs = search needs
-
-same-length-5 : tie.Need-same-length-5
-same-length-5 c = search needs
 
 returns-5 : tie.Need-returns-5
 returns-5 c =
@@ -85,22 +46,6 @@ returns-5 c =
 pub print-value-spec : {M : Type 1} → statement M
 print-value-spec =
     tie.close
-    (tie.spec
-    cast-print-kind-number
-    print-kind-number-requires
-    same-length
-    returns
-    print-letter-requires
-    print-field-i64-requires
-    print-newline-requires
-    same-length-2
-    returns-2
-    print-kind-number-requires-2
-    same-length-3
-    returns-3
-    print-kind-number-requires-3
-    same-length-4
-    returns-4
-    print-text-requires
-    same-length-5
-    returns-5)
+    (tie.spec (λ c. search needs) (λ c κs. search needs) (λ c. search needs) returns (λ c κs. search needs)
+    (λ c κs. search needs) (λ c κs. search needs) (λ c. search needs) returns-2 (λ c κs. search needs) (λ c. search needs)
+    returns-3 (λ c κs. search needs) (λ c. search needs) returns-4 (λ c κs. search needs) (λ c. search needs) returns-5)

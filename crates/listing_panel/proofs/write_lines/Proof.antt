@@ -12,12 +12,6 @@ use Rattle.listing_panel.specs.WrittenLaws.{ended, ended-at, within-text
 use Rattle.listing_panel.proofs.write_lines.Statement.{statement}
 use Rattle.listing_panel.proofs.write_lines.Tie as tie
 
-enum-known-end : tie.Need-enum-known-end
-enum-known-end c = search needs
-
-enum-told : tie.Need-enum-told
-enum-told c = search needs
-
 returns : tie.Need-returns
 returns c =
     let args = c .before .before .before .before .args in
@@ -28,21 +22,6 @@ returns-2 c =
     let place = c .before .before .end .given in
     let args = c .before .before .before .before .before .before .args in
     ((λ lines h. absurd (omega (arith, within-text (now (args .text)) (args .end) lines h (place .0 .0) (place .1)))), refl)
-
-sub-write-bytes-at : tie.Need-sub-write-bytes-at
-sub-write-bytes-at c = search needs
-
-part-write-bytes-at-start : tie.Need-part-write-bytes-at-start
-part-write-bytes-at-start c = search needs
-
-part-write-bytes-at-end : tie.Need-part-write-bytes-at-end
-part-write-bytes-at-end c = search needs
-
-write-bytes-at-requires : tie.Need-write-bytes-at-requires
-write-bytes-at-requires c κs = search needs
-
-same-length : tie.Need-same-length
-same-length c = search needs
 
 returns-3 : tie.Need-returns-3
 returns-3 c =
@@ -60,9 +39,6 @@ returns-3 c =
           (ap (λ (l : List ℕ). hasRoom (now (args .out)) 0 (length l)) (sym same) ∙ room)),
       kept-behind (now (args .out)) part _ (write .write-bytes-at .ensures .1) n (length-take-le (n - 0) (now (args .text)) (omega arith) ∙ whole) room,
     )
-
-same-length-2 : tie.Need-same-length-2
-same-length-2 c = search needs
 
 returns-4 : tie.Need-returns-4
 returns-4 c =
@@ -83,16 +59,5 @@ returns-4 c =
 pub write-lines-spec : {M : Type 1} → statement M
 write-lines-spec =
     tie.close
-    (tie.spec
-    enum-known-end
-    enum-told
-    returns
-    returns-2
-    sub-write-bytes-at
-    part-write-bytes-at-start
-    part-write-bytes-at-end
-    write-bytes-at-requires
-    same-length
-    returns-3
-    same-length-2
-    returns-4)
+    (tie.spec (λ c. search needs) (λ c. search needs) returns returns-2 (λ c. search needs) (λ c. search needs)
+    (λ c. search needs) (λ c κs. search needs) (λ c. search needs) returns-3 (λ c. search needs) returns-4)

@@ -13,21 +13,6 @@ use Rattle.listing_panel.specs.WrittenLaws.{printed-holds}
 use Rattle.listing_panel.proofs.write_listing.Statement.{statement}
 use Rattle.listing_panel.proofs.write_listing.Tie as tie
 
-slice-aggregate-print-listing : tie.Need-slice-aggregate-print-listing
-slice-aggregate-print-listing c = search needs
-
-print-listing-requires : tie.Need-print-listing-requires
-print-listing-requires c κs = search needs
-
-slice-aggregate-write-lines : tie.Need-slice-aggregate-write-lines
-slice-aggregate-write-lines c = search needs
-
-write-lines-requires : tie.Need-write-lines-requires
-write-lines-requires c κs = search needs
-
-same-length : tie.Need-same-length
-same-length c = search needs
-
 returns : tie.Need-returns
 returns c =
     let write = c .before .before in
@@ -41,10 +26,4 @@ returns c =
 pub write-listing-spec : {M : Type 1} → statement M
 write-listing-spec =
     tie.close
-    (tie.spec
-    slice-aggregate-print-listing
-    print-listing-requires
-    slice-aggregate-write-lines
-    write-lines-requires
-    same-length
-    returns)
+    (tie.spec (λ c. search needs) (λ c κs. search needs) (λ c. search needs) (λ c κs. search needs) (λ c. search needs) returns)

@@ -10,21 +10,6 @@ use Rattle.listing_panel.specs.WrittenLaws.{printed-holds}
 use Rattle.listing_panel.proofs.write_tables.Statement.{statement}
 use Rattle.listing_panel.proofs.write_tables.Tie as tie
 
-slice-aggregate-print-tables : tie.Need-slice-aggregate-print-tables
-slice-aggregate-print-tables c = search needs
-
-print-tables-requires : tie.Need-print-tables-requires
-print-tables-requires c κs = search needs
-
-slice-aggregate-write-lines : tie.Need-slice-aggregate-write-lines
-slice-aggregate-write-lines c = search needs
-
-write-lines-requires : tie.Need-write-lines-requires
-write-lines-requires c κs = search needs
-
-same-length : tie.Need-same-length
-same-length c = search needs
-
 returns : tie.Need-returns
 returns c =
     let write = c .before .before in
@@ -36,10 +21,4 @@ returns c =
 pub write-tables-spec : {M : Type 1} → statement M
 write-tables-spec =
     tie.close
-    (tie.spec
-    slice-aggregate-print-tables
-    print-tables-requires
-    slice-aggregate-write-lines
-    write-lines-requires
-    same-length
-    returns)
+    (tie.spec (λ c. search needs) (λ c κs. search needs) (λ c. search needs) (λ c κs. search needs) (λ c. search needs) returns)

@@ -7,21 +7,6 @@ use Rattle.panel_application.specs.ApplicationLaws.{clean-became, found-
 use Rattle.panel_application.proofs.apply_projection_patch_set.Statement.{statement}
 use Rattle.panel_application.proofs.apply_projection_patch_set.Tie as tie
 
-quick-check-requires : tie.Need-quick-check-requires
-quick-check-requires c κs = search needs
-
-enum-told : tie.Need-enum-told
-enum-told c = search needs
-
-apply-readable-requires : tie.Need-apply-readable-requires
-apply-readable-requires c κs = search needs
-
-enum-told-2 : tie.Need-enum-told-2
-enum-told-2 c = search needs
-
-enum-known-fault : tie.Need-enum-known-fault
-enum-known-fault c = search needs
-
 returns : tie.Need-returns
 returns c =
     let check = c .before .before .before in
@@ -47,12 +32,5 @@ returns-3 c =
 pub apply-projection-patch-set-spec : {M : Type 1} → statement M
 apply-projection-patch-set-spec =
     tie.close
-    (tie.spec
-    quick-check-requires
-    enum-told
-    apply-readable-requires
-    enum-told-2
-    enum-known-fault
-    returns
-    returns-2
-    returns-3)
+    (tie.spec (λ c κs. search needs) (λ c. search needs) (λ c κs. search needs) (λ c. search needs) (λ c. search needs) returns
+    returns-2 returns-3)

@@ -14,39 +14,6 @@ use Rattle.panel_application.proofs.Steps.{set-applied, set-refused, se
 use Rattle.panel_application.proofs.apply_readable.Statement.{statement}
 use Rattle.panel_application.proofs.apply_readable.Tie as tie
 
-none-used-requires : tie.Need-none-used-requires
-none-used-requires c κs = search needs
-
-slice-aggregate-apply-set : tie.Need-slice-aggregate-apply-set
-slice-aggregate-apply-set c = search needs
-
-slice-aggregate-apply-set-2 : tie.Need-slice-aggregate-apply-set-2
-slice-aggregate-apply-set-2 c = search needs
-
-slice-aggregate-apply-set-3 : tie.Need-slice-aggregate-apply-set-3
-slice-aggregate-apply-set-3 c = search needs
-
-slice-aggregate-apply-set-4 : tie.Need-slice-aggregate-apply-set-4
-slice-aggregate-apply-set-4 c = search needs
-
-apply-set-requires : tie.Need-apply-set-requires
-apply-set-requires c κs = search needs
-
-enum-known-counts : tie.Need-enum-known-counts
-enum-known-counts c = search needs
-
-state-of-requires : tie.Need-state-of-requires
-state-of-requires c κs = search needs
-
-enum-known-error : tie.Need-enum-known-error
-enum-known-error c = search needs
-
-enum-known-fault : tie.Need-enum-known-fault
-enum-known-fault c = search needs
-
-enum-told : tie.Need-enum-told
-enum-told c = search needs
-
 -- nothing is used of the new tables
 ready : (c : tie.After-apply-set) → ReadyTables (c .before .before .before .before .before .before .before .before .before .before .before .before .before .none-used .result) (zeros bindingBytes) (zeros availabilityBytes) (zeros entryBytes) (zeros lengthBytes)
 ready c = subst (λ (u : ProjectionCounts). ReadyTables u (zeros bindingBytes) (zeros availabilityBytes) (zeros entryBytes) (zeros lengthBytes)) (sym (c .before .before .before .before .before .before .before .before .before .before .before .before .before .none-used .ensures)) zeros-ready
@@ -82,19 +49,6 @@ returns-4 c =
 pub apply-readable-spec : {M : Type 1} → statement M
 apply-readable-spec =
     tie.close
-    (tie.spec
-    none-used-requires
-    slice-aggregate-apply-set
-    slice-aggregate-apply-set-2
-    slice-aggregate-apply-set-3
-    slice-aggregate-apply-set-4
-    apply-set-requires
-    enum-known-counts
-    state-of-requires
-    enum-known-error
-    enum-known-fault
-    enum-told
-    returns
-    returns-2
-    returns-3
-    returns-4)
+    (tie.spec (λ c κs. search needs) (λ c. search needs) (λ c. search needs) (λ c. search needs) (λ c. search needs)
+    (λ c κs. search needs) (λ c. search needs) (λ c κs. search needs) (λ c. search needs) (λ c. search needs)
+    (λ c. search needs) returns returns-2 returns-3 returns-4)

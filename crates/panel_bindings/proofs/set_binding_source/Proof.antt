@@ -8,21 +8,6 @@ use Rattle.panel_bindings.proofs.Settings.{binding-set}
 use Rattle.panel_bindings.proofs.set_binding_source.Statement.{statement}
 use Rattle.panel_bindings.proofs.set_binding_source.Tie as tie
 
-binding-row-requires : tie.Need-binding-row-requires
-binding-row-requires c κs = search needs
-
-find-pair-place-requires : tie.Need-find-pair-place-requires
-find-pair-place-requires c κs = search needs
-
-slice-aggregate-upsert-row : tie.Need-slice-aggregate-upsert-row
-slice-aggregate-upsert-row c = search needs
-
-upsert-row-requires : tie.Need-upsert-row-requires
-upsert-row-requires c κs = search needs
-
-same-length : tie.Need-same-length
-same-length c = search needs
-
 returns : tie.Need-returns
 unfolding bindingKey
 returns c =
@@ -45,10 +30,5 @@ returns c =
 pub set-binding-source-spec : {M : Type 1} → statement M
 set-binding-source-spec =
     tie.close
-    (tie.spec
-    binding-row-requires
-    find-pair-place-requires
-    slice-aggregate-upsert-row
-    upsert-row-requires
-    same-length
+    (tie.spec (λ c κs. search needs) (λ c κs. search needs) (λ c. search needs) (λ c κs. search needs) (λ c. search needs)
     returns)

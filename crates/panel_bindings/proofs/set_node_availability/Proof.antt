@@ -6,21 +6,6 @@ use Rattle.panel_bindings.proofs.Settings.{availability-set}
 use Rattle.panel_bindings.proofs.set_node_availability.Statement.{statement}
 use Rattle.panel_bindings.proofs.set_node_availability.Tie as tie
 
-availability-row-requires : tie.Need-availability-row-requires
-availability-row-requires c κs = search needs
-
-find-place-requires : tie.Need-find-place-requires
-find-place-requires c κs = search needs
-
-slice-aggregate-upsert-row : tie.Need-slice-aggregate-upsert-row
-slice-aggregate-upsert-row c = search needs
-
-upsert-row-requires : tie.Need-upsert-row-requires
-upsert-row-requires c κs = search needs
-
-same-length : tie.Need-same-length
-same-length c = search needs
-
 returns : tie.Need-returns
 unfolding availabilityKey
 returns c =
@@ -43,10 +28,5 @@ returns c =
 pub set-node-availability-spec : {M : Type 1} → statement M
 set-node-availability-spec =
     tie.close
-    (tie.spec
-    availability-row-requires
-    find-place-requires
-    slice-aggregate-upsert-row
-    upsert-row-requires
-    same-length
+    (tie.spec (λ c κs. search needs) (λ c κs. search needs) (λ c. search needs) (λ c κs. search needs) (λ c. search needs)
     returns)

@@ -7,25 +7,10 @@ use Rattle.panel_bindings.proofs.Upserts.{upsert-taken, upsert-inserted
 use Rattle.panel_bindings.proofs.upsert_row.Statement.{statement}
 use Rattle.panel_bindings.proofs.upsert_row.Tie as tie
 
-enum-known-place : tie.Need-enum-known-place
-enum-known-place c = search needs
-
-replace-record-requires : tie.Need-replace-record-requires
-replace-record-requires c κs = search needs
-
-enum-known-place-2 : tie.Need-enum-known-place-2
-enum-known-place-2 c = search needs
-
-insert-record-requires : tie.Need-insert-record-requires
-insert-record-requires c κs = search needs
-
 add-t15 : tie.Need-add-t15
 add-t15 c =
     let call = c .before .before .before in
     omega (arith, insert-room _ _ _ _ _ (search needs) (sym (call .insert-record .ensures .told) ∙ c .if1 .taken))
-
-same-length : tie.Need-same-length
-same-length c = search needs
 
 returns : tie.Need-returns
 returns c =
@@ -33,17 +18,11 @@ returns c =
     let known = call .before .before .before in
     (upsert-inserted (search needs) (search needs) _ _ _ (known .place2 .given .1) (c .if1 .taken) (call .insert-record .ensures), tt)
 
-same-length-2 : tie.Need-same-length-2
-same-length-2 c = search needs
-
 returns-2 : tie.Need-returns-2
 returns-2 c =
     let call = c .before .before in
     let known = call .before .before .before in
     (upsert-taken (search needs) (search needs) _ _ _ (known .place .given .1) (call .replace-record .ensures), tt)
-
-same-length-3 : tie.Need-same-length-3
-same-length-3 c = search needs
 
 returns-3 : tie.Need-returns-3
 returns-3 c =
@@ -54,15 +33,5 @@ returns-3 c =
 pub upsert-row-spec : {M : Type 1} → statement M
 upsert-row-spec =
     tie.close
-    (tie.spec
-    enum-known-place
-    replace-record-requires
-    enum-known-place-2
-    insert-record-requires
-    add-t15
-    same-length
-    returns
-    same-length-2
-    returns-2
-    same-length-3
-    returns-3)
+    (tie.spec (λ c. search needs) (λ c κs. search needs) (λ c. search needs) (λ c κs. search needs) add-t15 (λ c. search needs)
+    returns (λ c. search needs) returns-2 (λ c. search needs) returns-3)

@@ -21,50 +21,8 @@ no-bindings = none-stored plannedBindingRow plannedBindingWidth projectionBindin
 no-entries : PlannedEntries 0 (zeros (projectionEntries * plannedEntryWidth)) []
 no-entries = none-stored plannedEntryRow plannedEntryWidth projectionEntries
 
-slice-aggregate-plan-set : tie.Need-slice-aggregate-plan-set
-slice-aggregate-plan-set c = search needs
-
-slice-aggregate-plan-set-2 : tie.Need-slice-aggregate-plan-set-2
-slice-aggregate-plan-set-2 c = search needs
-
-slice-aggregate-plan-set-3 : tie.Need-slice-aggregate-plan-set-3
-slice-aggregate-plan-set-3 c = search needs
-
-plan-set-requires : tie.Need-plan-set-requires
-plan-set-requires c κs = search needs
-
-enum-known-n : tie.Need-enum-known-n
-enum-known-n c = search needs
-
-slice-aggregate-write-tables : tie.Need-slice-aggregate-write-tables
-slice-aggregate-write-tables c = search needs
-
-slice-aggregate-write-tables-2 : tie.Need-slice-aggregate-write-tables-2
-slice-aggregate-write-tables-2 c = search needs
-
-slice-aggregate-write-tables-3 : tie.Need-slice-aggregate-write-tables-3
-slice-aggregate-write-tables-3 c = search needs
-
 write-tables-requires : tie.Need-write-tables-requires
 write-tables-requires c κs = let start = c .before .before .before .before .before .before .before .before .before .before .before .before .before .before .before .before .before .before .before .before .before .before .before .before .before in (start .pre .1 .1 .0, (start .pre .1 .1 .1 .0, (search needs, start .pre .1 .1 .1 .1)))
-
-enum-known-error : tie.Need-enum-known-error
-enum-known-error c = search needs
-
-enum-known-fault : tie.Need-enum-known-fault
-enum-known-fault c = search needs
-
-same-length : tie.Need-same-length
-same-length c = search needs
-
-same-length-2 : tie.Need-same-length-2
-same-length-2 c = search needs
-
-same-length-3 : tie.Need-same-length-3
-same-length-3 c = search needs
-
-same-length-4 : tie.Need-same-length-4
-same-length-4 c = search needs
 
 returns : tie.Need-returns
 returns c =
@@ -79,18 +37,6 @@ returns c =
           (λ q is pl. written .ensures .1 .1 (c .if1 .taken) ready p q (a .counts) (a .from-availability .now) st pl (applySteps-valid ed p (replaySteps ps) q (replaySteps-fit ed ps fit) (st .valid) is)),
       tt,
     )
-
-same-length-5 : tie.Need-same-length-5
-same-length-5 c = search needs
-
-same-length-6 : tie.Need-same-length-6
-same-length-6 c = search needs
-
-same-length-7 : tie.Need-same-length-7
-same-length-7 c = search needs
-
-same-length-8 : tie.Need-same-length-8
-same-length-8 c = search needs
 
 returns-2 : tie.Need-returns-2
 returns-2 c =
@@ -118,27 +64,7 @@ returns-4 c =
 pub apply-from-spec : {M : Type 1} → statement M
 apply-from-spec =
     tie.close
-    (tie.spec
-    slice-aggregate-plan-set
-    slice-aggregate-plan-set-2
-    slice-aggregate-plan-set-3
-    plan-set-requires
-    enum-known-n
-    slice-aggregate-write-tables
-    slice-aggregate-write-tables-2
-    slice-aggregate-write-tables-3
-    write-tables-requires
-    enum-known-error
-    enum-known-fault
-    same-length
-    same-length-2
-    same-length-3
-    same-length-4
-    returns
-    same-length-5
-    same-length-6
-    same-length-7
-    same-length-8
-    returns-2
-    returns-3
-    returns-4)
+    (tie.spec (λ c. search needs) (λ c. search needs) (λ c. search needs) (λ c κs. search needs) (λ c. search needs)
+    (λ c. search needs) (λ c. search needs) (λ c. search needs) write-tables-requires (λ c. search needs) (λ c. search needs)
+    (λ c. search needs) (λ c. search needs) (λ c. search needs) (λ c. search needs) returns (λ c. search needs)
+    (λ c. search needs) (λ c. search needs) (λ c. search needs) returns-2 returns-3 returns-4)

@@ -14,36 +14,12 @@ use Rattle.panel_changes.proofs.apply_set.Tie as tie
 returns : tie.Need-returns
 returns c = (λ p ps st readable ready. c .if1 .taken (ready .collections), (refl, (refl, (refl, refl))))
 
-arguments-fit-requires : tie.Need-arguments-fit-requires
-arguments-fit-requires c κs = search needs
-
-open-set-requires : tie.Need-open-set-requires
-open-set-requires c κs = search needs
-
-enum-known-cursor : tie.Need-enum-known-cursor
-enum-known-cursor c = search needs
-
 apply-from-requires : tie.Need-apply-from-requires
 apply-from-requires c κs =
     let a = c .before .before .before .before .before .before .before .before .before .before .before .before .before .before .before .before .before .before .before .args in
     let fit = fit-arguments (tablesFit (length (a .from-bindings .now)) (length (a .from-availability .now)) (length (a .from-entries .now))) (tablesFit (length (a .to-bindings .now)) (length (a .to-availability .now)) (length (a .to-entries .now))) (changeCountsFit (a .counts)) (changeCountsFit (a .used)) (c .before .before .before .before .before .before .before .before .before .arguments-fit .ensures) (c .before .before .before .before .before .before .before .before .if2 .taken) in
     let bound = c .before .before .before .before .before .cursor .given in
     (opened-short (editionOf (a .edition)) (a .set .now) (bound .0 .0) (sym (c .before .before .before .before .before .before .before .open-set .ensures) ∙ bound .1), (fit-lengths (a .from-bindings .now) (a .from-availability .now) (a .from-entries .now) (fit .0) .availability, (fit-lengths (a .to-bindings .now) (a .to-availability .now) (a .to-entries .now) (fit .1 .0), (search needs, fit .1 .1 .1))))
-
-enum-known-fault : tie.Need-enum-known-fault
-enum-known-fault c = search needs
-
-same-length : tie.Need-same-length
-same-length c = search needs
-
-same-length-2 : tie.Need-same-length-2
-same-length-2 c = search needs
-
-same-length-3 : tie.Need-same-length-3
-same-length-3 c = search needs
-
-same-length-4 : tie.Need-same-length-4
-same-length-4 c = search needs
 
 returns-2 : tie.Need-returns-2
 returns-2 c =
@@ -76,17 +52,5 @@ returns-4 c =
 pub apply-set-spec : {M : Type 1} → statement M
 apply-set-spec =
     tie.close
-    (tie.spec
-    returns
-    arguments-fit-requires
-    open-set-requires
-    enum-known-cursor
-    apply-from-requires
-    enum-known-fault
-    same-length
-    same-length-2
-    same-length-3
-    same-length-4
-    returns-2
-    returns-3
-    returns-4)
+    (tie.spec returns (λ c κs. search needs) (λ c κs. search needs) (λ c. search needs) apply-from-requires (λ c. search needs)
+    (λ c. search needs) (λ c. search needs) (λ c. search needs) (λ c. search needs) returns-2 returns-3 returns-4)

@@ -4,18 +4,6 @@ use borrow.Author.Needs.{needs}
 use Rattle.panel_changes.proofs.arguments_fit.Statement.{statement}
 use Rattle.panel_changes.proofs.arguments_fit.Tie as tie
 
-tables-fit-requires : tie.Need-tables-fit-requires
-tables-fit-requires c κs = search needs
-
-tables-fit-requires-2 : tie.Need-tables-fit-requires-2
-tables-fit-requires-2 c κs = search needs
-
-counts-fit-requires : tie.Need-counts-fit-requires
-counts-fit-requires c κs = search needs
-
-counts-fit-requires-2 : tie.Need-counts-fit-requires-2
-counts-fit-requires-2 c κs = search needs
-
 returns : tie.Need-returns
 returns c =
     c .counts-fit2 .ensures
@@ -34,12 +22,5 @@ returns-4 c = rw (sym (c .before .tables-fit .ensures) ∙ c .if1 .left)
 pub arguments-fit-spec : {M : Type 1} → statement M
 arguments-fit-spec =
     tie.close
-    (tie.spec
-    tables-fit-requires
-    tables-fit-requires-2
-    counts-fit-requires
-    counts-fit-requires-2
-    returns
-    returns-2
-    returns-3
-    returns-4)
+    (tie.spec (λ c κs. search needs) (λ c κs. search needs) (λ c κs. search needs) (λ c κs. search needs) returns returns-2
+    returns-3 returns-4)

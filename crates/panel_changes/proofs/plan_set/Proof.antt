@@ -5,27 +5,6 @@ use borrow.Author.Needs.{needs}
 use Rattle.panel_changes.proofs.plan_set.Statement.{statement}
 use Rattle.panel_changes.proofs.plan_set.Tie as tie
 
-plan-bindings-requires : tie.Need-plan-bindings-requires
-plan-bindings-requires c κs = search needs
-
-copy-requires : tie.Need-copy-requires
-copy-requires c κs = search needs
-
-plan-entries-requires : tie.Need-plan-entries-requires
-plan-entries-requires c κs = search needs
-
-plan-steps-requires : tie.Need-plan-steps-requires
-plan-steps-requires c κs = search needs
-
-same-length : tie.Need-same-length
-same-length c = search needs
-
-same-length-2 : tie.Need-same-length-2
-same-length-2 c = search needs
-
-same-length-3 : tie.Need-same-length-3
-same-length-3 c = search needs
-
 returns : tie.Need-returns
 returns c =
     let start = c .before .before .before .before .before .before .before .before .before .before .before .before .before .before .before .before .before .before .before .before .before .before .before .before .before .before .before .before .before in
@@ -39,12 +18,5 @@ returns c =
 pub plan-set-spec : {M : Type 1} → statement M
 plan-set-spec =
     tie.close
-    (tie.spec
-    plan-bindings-requires
-    copy-requires
-    plan-entries-requires
-    plan-steps-requires
-    same-length
-    same-length-2
-    same-length-3
-    returns)
+    (tie.spec (λ c κs. search needs) (λ c κs. search needs) (λ c κs. search needs) (λ c κs. search needs) (λ c. search needs)
+    (λ c. search needs) (λ c. search needs) returns)

@@ -18,15 +18,6 @@ use Rattle.panel_entries.proofs.Entries.{position-at, inserted-there, i
 use Rattle.panel_entries.proofs.insert_entry.Statement.{statement}
 use Rattle.panel_entries.proofs.insert_entry.Tie as tie
 
-find-entry-requires : tie.Need-find-entry-requires
-find-entry-requires c κs = search needs
-
-enum-told : tie.Need-enum-told
-enum-told c = search needs
-
-same-length : tie.Need-same-length
-same-length c = search needs
-
 returns : tie.Need-returns
 returns c =
     let find = c .before .before in (
@@ -35,18 +26,6 @@ returns c =
       refl,
     )
 
-enum-told-2 : tie.Need-enum-told-2
-enum-told-2 c = search needs
-
-has-neighbour-requires : tie.Need-has-neighbour-requires
-has-neighbour-requires c κs = search needs
-
-neighbour-key-requires : tie.Need-neighbour-key-requires
-neighbour-key-requires c κs = search needs
-
-seek-place-requires : tie.Need-seek-place-requires
-seek-place-requires c κs = search needs
-
 -- the place that was sought is the neighbour's
 placed : (c : tie.After-seek-place) → let a = c .before .before .before .before .before .before .before .before .before .args in (es : List Entry) → All FitsEntry es → Grouped es
     → HoldsRows plannedEntryWidth (a .count) (now (a .table)) (map plannedEntryRow es) → c .seek-place .result ≡ placeBefore (a .collection) (beforeOf (a .before)) es
@@ -54,23 +33,8 @@ placed c es fit grouped t =
     c .seek-place .ensures .0 es fit grouped t
     ∙ ap (λ b. placeBefore (c .before .before .before .before .before .before .before .before .before .args .collection) b es) (neighbour-is (c .before .before .has-neighbour .ensures) (c .before .neighbour-key .ensures))
 
-enum-known-at : tie.Need-enum-known-at
-enum-known-at c = search needs
-
-entry-row-requires : tie.Need-entry-row-requires
-entry-row-requires c κs = search needs
-
-slice-aggregate-insert-record : tie.Need-slice-aggregate-insert-record
-slice-aggregate-insert-record c = search needs
-
-insert-record-requires : tie.Need-insert-record-requires
-insert-record-requires c κs = search needs
-
 add-t26 : tie.Need-add-t26
 add-t26 c = omega (arith, insert-room _ _ _ _ _ (search needs) (sym (c .before .before .before .insert-record .ensures .told) ∙ c .if1 .taken))
-
-same-length-2 : tie.Need-same-length-2
-same-length-2 c = search needs
 
 -- the row is as wide as the table's
 row-wide : (c : tie.After-entry-row) → Wide plannedEntryWidth (c .entry-row .result)
@@ -88,12 +52,6 @@ returns-2 c =
       tt,
     )
 
-enum-told-3 : tie.Need-enum-told-3
-enum-told-3 c = search needs
-
-same-length-3 : tie.Need-same-length-3
-same-length-3 c = search needs
-
 returns-3 : tie.Need-returns-3
 returns-3 c =
     let call = c .before .before .before in
@@ -106,9 +64,6 @@ returns-3 c =
           (position-at _ _ (c .before .before .before .before .before .before .before .before .at .given .1) (place .seek-place .ensures .1)) (c .if1 .left)),
       call .insert-record .ensures .kept (c .if1 .left),
     )
-
-same-length-4 : tie.Need-same-length-4
-same-length-4 c = search needs
 
 returns-4 : tie.Need-returns-4
 returns-4 c =
@@ -124,24 +79,7 @@ returns-4 c =
 pub insert-entry-spec : {M : Type 1} → statement M
 insert-entry-spec =
     tie.close
-    (tie.spec
-    find-entry-requires
-    enum-told
-    same-length
-    returns
-    enum-told-2
-    has-neighbour-requires
-    neighbour-key-requires
-    seek-place-requires
-    enum-known-at
-    entry-row-requires
-    slice-aggregate-insert-record
-    insert-record-requires
-    add-t26
-    same-length-2
-    returns-2
-    enum-told-3
-    same-length-3
-    returns-3
-    same-length-4
-    returns-4)
+    (tie.spec (λ c κs. search needs) (λ c. search needs) (λ c. search needs) returns (λ c. search needs) (λ c κs. search needs)
+    (λ c κs. search needs) (λ c κs. search needs) (λ c. search needs) (λ c κs. search needs) (λ c. search needs)
+    (λ c κs. search needs) add-t26 (λ c. search needs) returns-2 (λ c. search needs) (λ c. search needs) returns-3
+    (λ c. search needs) returns-4)

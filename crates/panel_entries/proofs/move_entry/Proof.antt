@@ -8,29 +8,8 @@ use Rattle.panel_entries.proofs.Entries.{within-at, position-at, not-mo
 use Rattle.panel_entries.proofs.move_entry.Statement.{statement}
 use Rattle.panel_entries.proofs.move_entry.Tie as tie
 
-find-entry-requires : tie.Need-find-entry-requires
-find-entry-requires c κs = search needs
-
-enum-known-from : tie.Need-enum-known-from
-enum-known-from c = search needs
-
-place-before-other-requires : tie.Need-place-before-other-requires
-place-before-other-requires c κs = search needs
-
-enum-known-to : tie.Need-enum-known-to
-enum-known-to c = search needs
-
 move-row-requires : tie.Need-move-row-requires
 move-row-requires c κs = (within-at _ _ (c .before .before .before .before .before .before .before .from .given .1) (c .before .before .before .before .before .before .before .before .before .find-entry .ensures .1), position-at _ _ (c .before .before .to .given .1) (c .before .before .before .before .place-before-other .ensures .1))
-
-enum-told : tie.Need-enum-told
-enum-told c = search needs
-
-enum-told-2 : tie.Need-enum-told-2
-enum-told-2 c = search needs
-
-same-length : tie.Need-same-length
-same-length c = search needs
 
 returns : tie.Need-returns
 returns c =
@@ -44,9 +23,6 @@ returns c =
       tt,
     )
 
-same-length-2 : tie.Need-same-length-2
-same-length-2 c = search needs
-
 returns-2 : tie.Need-returns-2
 returns-2 c =
     let place = c .before .before in
@@ -57,9 +33,6 @@ returns-2 c =
           (sym (place .place-before-other .ensures .0 (p .entries) (v .fitEntries) (v .entries) (s .rows)) ∙ c .enum-told .given .1)),
       refl,
     )
-
-same-length-3 : tie.Need-same-length-3
-same-length-3 c = search needs
 
 returns-3 : tie.Need-returns-3
 returns-3 c =
@@ -72,17 +45,6 @@ returns-3 c =
 pub move-entry-spec : {M : Type 1} → statement M
 move-entry-spec =
     tie.close
-    (tie.spec
-    find-entry-requires
-    enum-known-from
-    place-before-other-requires
-    enum-known-to
-    move-row-requires
-    enum-told
-    enum-told-2
-    same-length
-    returns
-    same-length-2
-    returns-2
-    same-length-3
+    (tie.spec (λ c κs. search needs) (λ c. search needs) (λ c κs. search needs) (λ c. search needs) move-row-requires
+    (λ c. search needs) (λ c. search needs) (λ c. search needs) returns (λ c. search needs) returns-2 (λ c. search needs)
     returns-3)

@@ -9,23 +9,8 @@ use Rattle.panel_entries.proofs.Entries.{within-at, removed-there, not-
 use Rattle.panel_entries.proofs.remove_entry.Statement.{statement}
 use Rattle.panel_entries.proofs.remove_entry.Tie as tie
 
-find-entry-requires : tie.Need-find-entry-requires
-find-entry-requires c κs = search needs
-
-enum-known-at : tie.Need-enum-known-at
-enum-known-at c = search needs
-
-remove-record-requires : tie.Need-remove-record-requires
-remove-record-requires c κs = search needs
-
 sub-t13 : tie.Need-sub-t13
 sub-t13 c = omega (arith, within-at _ _ (c .before .before .before .before .before .at .given .1) (c .before .before .before .before .before .before .before .find-entry .ensures .1))
-
-enum-told : tie.Need-enum-told
-enum-told c = search needs
-
-same-length : tie.Need-same-length
-same-length c = search needs
 
 returns : tie.Need-returns
 returns c =
@@ -36,9 +21,6 @@ returns c =
           (sym (find .find-entry .ensures .0 plannedEntryRow planned-keyed (p .entries) (v .fitEntries) (v .entries) (s .rows)) ∙ c .before .before .before .before .before .at .given .1) (call .remove-record .ensures)),
       tt,
     )
-
-same-length-2 : tie.Need-same-length-2
-same-length-2 c = search needs
 
 returns-2 : tie.Need-returns-2
 returns-2 c =
@@ -51,13 +33,5 @@ returns-2 c =
 pub remove-entry-spec : {M : Type 1} → statement M
 remove-entry-spec =
     tie.close
-    (tie.spec
-    find-entry-requires
-    enum-known-at
-    remove-record-requires
-    sub-t13
-    enum-told
-    same-length
-    returns
-    same-length-2
-    returns-2)
+    (tie.spec (λ c κs. search needs) (λ c. search needs) (λ c κs. search needs) sub-t13 (λ c. search needs) (λ c. search needs)
+    returns (λ c. search needs) returns-2)

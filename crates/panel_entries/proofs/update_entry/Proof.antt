@@ -8,27 +8,6 @@ use Rattle.panel_entries.proofs.Entries.{updated, not-updated}
 use Rattle.panel_entries.proofs.update_entry.Statement.{statement}
 use Rattle.panel_entries.proofs.update_entry.Tie as tie
 
-find-entry-requires : tie.Need-find-entry-requires
-find-entry-requires c κs = search needs
-
-enum-known-at : tie.Need-enum-known-at
-enum-known-at c = search needs
-
-entry-row-requires : tie.Need-entry-row-requires
-entry-row-requires c κs = search needs
-
-slice-aggregate-replace-record : tie.Need-slice-aggregate-replace-record
-slice-aggregate-replace-record c = search needs
-
-replace-record-requires : tie.Need-replace-record-requires
-replace-record-requires c κs = search needs
-
-enum-told : tie.Need-enum-told
-enum-told c = search needs
-
-same-length : tie.Need-same-length
-same-length c = search needs
-
 returns : tie.Need-returns
 returns c =
     let call = c .before .before in
@@ -39,9 +18,6 @@ returns c =
           (sym (find .find-entry .ensures .0 plannedEntryRow planned-keyed (p .entries) (v .fitEntries) (v .entries) (s .rows)) ∙ c .before .before .before .before .before .before .before .at .given .1) (call .replace-record .ensures)),
       tt,
     )
-
-same-length-2 : tie.Need-same-length-2
-same-length-2 c = search needs
 
 returns-2 : tie.Need-returns-2
 returns-2 c =
@@ -54,14 +30,5 @@ returns-2 c =
 pub update-entry-spec : {M : Type 1} → statement M
 update-entry-spec =
     tie.close
-    (tie.spec
-    find-entry-requires
-    enum-known-at
-    entry-row-requires
-    slice-aggregate-replace-record
-    replace-record-requires
-    enum-told
-    same-length
-    returns
-    same-length-2
-    returns-2)
+    (tie.spec (λ c κs. search needs) (λ c. search needs) (λ c κs. search needs) (λ c. search needs) (λ c κs. search needs)
+    (λ c. search needs) (λ c. search needs) returns (λ c. search needs) returns-2)

@@ -7,27 +7,6 @@ use Rattle.panel_lookups.proofs.Found.{binding-found, binding-absent}
 use Rattle.panel_lookups.proofs.binding_value.Statement.{statement}
 use Rattle.panel_lookups.proofs.binding_value.Tie as tie
 
-find-pair-place-requires : tie.Need-find-pair-place-requires
-find-pair-place-requires c κs = search needs
-
-enum-known-at : tie.Need-enum-known-at
-enum-known-at c = search needs
-
-record-at-requires : tie.Need-record-at-requires
-record-at-requires c κs = search needs
-
-binding-mark-requires : tie.Need-binding-mark-requires
-binding-mark-requires c κs = search needs
-
-stored-value-requires : tie.Need-stored-value-requires
-stored-value-requires c κs = search needs
-
-enum-told : tie.Need-enum-told
-enum-told c = search needs
-
-no-value-requires : tie.Need-no-value-requires
-no-value-requires c κs = search needs
-
 returns : tie.Need-returns
 returns c =
     let read = c .before .before in
@@ -49,13 +28,5 @@ returns-2 c =
 pub binding-value-spec : {M : Type 1} → statement M
 binding-value-spec =
     tie.close
-    (tie.spec
-    find-pair-place-requires
-    enum-known-at
-    record-at-requires
-    binding-mark-requires
-    stored-value-requires
-    enum-told
-    no-value-requires
-    returns
-    returns-2)
+    (tie.spec (λ c κs. search needs) (λ c. search needs) (λ c κs. search needs) (λ c κs. search needs) (λ c κs. search needs)
+    (λ c. search needs) (λ c κs. search needs) returns returns-2)

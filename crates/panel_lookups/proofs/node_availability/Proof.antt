@@ -7,24 +7,6 @@ use Rattle.panel_lookups.proofs.Found.{availability-found, availability
 use Rattle.panel_lookups.proofs.node_availability.Statement.{statement}
 use Rattle.panel_lookups.proofs.node_availability.Tie as tie
 
-find-place-requires : tie.Need-find-place-requires
-find-place-requires c κs = search needs
-
-enum-known-at : tie.Need-enum-known-at
-enum-known-at c = search needs
-
-record-at-requires : tie.Need-record-at-requires
-record-at-requires c κs = search needs
-
-stored-availability-requires : tie.Need-stored-availability-requires
-stored-availability-requires c κs = search needs
-
-enum-told : tie.Need-enum-told
-enum-told c = search needs
-
-no-availability-requires : tie.Need-no-availability-requires
-no-availability-requires c κs = search needs
-
 returns : tie.Need-returns
 returns c =
     let find = c .before .before .before .before .before in
@@ -42,12 +24,5 @@ returns-2 c =
 pub node-availability-spec : {M : Type 1} → statement M
 node-availability-spec =
     tie.close
-    (tie.spec
-    find-place-requires
-    enum-known-at
-    record-at-requires
-    stored-availability-requires
-    enum-told
-    no-availability-requires
-    returns
-    returns-2)
+    (tie.spec (λ c κs. search needs) (λ c. search needs) (λ c κs. search needs) (λ c κs. search needs) (λ c. search needs)
+    (λ c κs. search needs) returns returns-2)

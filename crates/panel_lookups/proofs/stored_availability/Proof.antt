@@ -8,12 +8,6 @@ use Rattle.panel_rows.specs.Lookup.{availabilityLookup}
 use Rattle.panel_lookups.proofs.stored_availability.Statement.{statement}
 use Rattle.panel_lookups.proofs.stored_availability.Tie as tie
 
-availability-mark-requires : tie.Need-availability-mark-requires
-availability-mark-requires c κs = search needs
-
-availability-byte-requires : tie.Need-availability-byte-requires
-availability-byte-requires c κs = search needs
-
 returns : tie.Need-returns
 unfolding availabilityLookup
 returns c = λ a fits e.
@@ -22,4 +16,5 @@ returns c = λ a fits e.
     λ i. record { found = true; mark = mark i; availability = byte i }
 
 pub stored-availability-spec : {M : Type 1} → statement M
-stored-availability-spec = tie.close (tie.spec availability-mark-requires availability-byte-requires returns)
+stored-availability-spec =
+    tie.close (tie.spec (λ c κs. search needs) (λ c κs. search needs) returns)

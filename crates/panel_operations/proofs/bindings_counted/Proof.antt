@@ -5,12 +5,6 @@ use Rattle.panel_operations.specs.OperationChange.{countedChange, bindin
 use Rattle.panel_operations.proofs.bindings_counted.Statement.{statement}
 use Rattle.panel_operations.proofs.bindings_counted.Tie as tie
 
-enum-known-change : tie.Need-enum-known-change
-enum-known-change c = search needs
-
-enum-known-change-2 : tie.Need-enum-known-change-2
-enum-known-change-2 c = search needs
-
 returns : tie.Need-returns
 returns c = sym (ap (countedChange (bindingsNow (c .before .before .before .args .counts))) (c .before .change .given .1))
 
@@ -19,4 +13,4 @@ returns-2 c = sym (ap (countedChange (bindingsNow (c .before .before .before .ar
 
 pub bindings-counted-spec : {M : Type 1} → statement M
 bindings-counted-spec =
-    tie.close (tie.spec enum-known-change enum-known-change-2 returns returns-2)
+    tie.close (tie.spec (λ c. search needs) (λ c. search needs) returns returns-2)

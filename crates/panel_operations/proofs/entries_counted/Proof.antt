@@ -5,12 +5,6 @@ use Rattle.panel_operations.specs.OperationChange.{countedChange, entrie
 use Rattle.panel_operations.proofs.entries_counted.Statement.{statement}
 use Rattle.panel_operations.proofs.entries_counted.Tie as tie
 
-enum-known-change : tie.Need-enum-known-change
-enum-known-change c = search needs
-
-enum-known-change-2 : tie.Need-enum-known-change-2
-enum-known-change-2 c = search needs
-
 returns : tie.Need-returns
 returns c = sym (ap (countedChange (entriesNow (c .before .before .before .args .counts))) (c .before .change .given .1))
 
@@ -18,4 +12,5 @@ returns-2 : tie.Need-returns-2
 returns-2 c = sym (ap (countedChange (entriesNow (c .before .before .before .args .counts))) (c .before .change2 .given .1))
 
 pub entries-counted-spec : {M : Type 1} → statement M
-entries-counted-spec = tie.close (tie.spec enum-known-change enum-known-change-2 returns returns-2)
+entries-counted-spec =
+    tie.close (tie.spec (λ c. search needs) (λ c. search needs) returns returns-2)

@@ -4,18 +4,6 @@ use borrow.Author.Needs.{needs}
 use Rattle.panel_operations.proofs.set_availability.Statement.{statement}
 use Rattle.panel_operations.proofs.set_availability.Tie as tie
 
-raw-requires : tie.Need-raw-requires
-raw-requires c κs = search needs
-
-set-node-availability-requires : tie.Need-set-node-availability-requires
-set-node-availability-requires c κs = search needs
-
-availabilities-counted-requires : tie.Need-availabilities-counted-requires
-availabilities-counted-requires c κs = search needs
-
-same-length : tie.Need-same-length
-same-length c = search needs
-
 returns : tie.Need-returns
 returns c =
     let call = c .before .before .before in
@@ -23,10 +11,4 @@ returns c =
 
 pub set-availability-spec : {M : Type 1} → statement M
 set-availability-spec =
-    tie.close
-    (tie.spec
-    raw-requires
-    set-node-availability-requires
-    availabilities-counted-requires
-    same-length
-    returns)
+    tie.close (tie.spec (λ c κs. search needs) (λ c κs. search needs) (λ c κs. search needs) (λ c. search needs) returns)

@@ -4,18 +4,6 @@ use borrow.Author.Needs.{needs}
 use Rattle.panel_operations.proofs.set_binding.Statement.{statement}
 use Rattle.panel_operations.proofs.set_binding.Tie as tie
 
-raw-requires : tie.Need-raw-requires
-raw-requires c κs = search needs
-
-set-binding-source-requires : tie.Need-set-binding-source-requires
-set-binding-source-requires c κs = search needs
-
-bindings-counted-requires : tie.Need-bindings-counted-requires
-bindings-counted-requires c κs = search needs
-
-same-length : tie.Need-same-length
-same-length c = search needs
-
 returns : tie.Need-returns
 returns c =
     let call = c .before .before .before in
@@ -23,10 +11,4 @@ returns c =
 
 pub set-binding-spec : {M : Type 1} → statement M
 set-binding-spec =
-    tie.close
-    (tie.spec
-    raw-requires
-    set-binding-source-requires
-    bindings-counted-requires
-    same-length
-    returns)
+    tie.close (tie.spec (λ c κs. search needs) (λ c κs. search needs) (λ c κs. search needs) (λ c. search needs) returns)

@@ -39,20 +39,11 @@ returns-2 c =
 within : (c : tie.Else2) → let a = c .before .before .before .before .before .args in length (now (a .keys)) * pageWidth ≤ length (now (a .answers))
 within c = let a = c .before .before .before .before .before .args in fits (length (now (a .answers))) pageWidth (length (now (a .keys))) (omega arith) (omega arith)
 
-mul-end : tie.Need-mul-end
-mul-end c = search needs
-
-slice-relend-prefix-fill-page : tie.Need-slice-relend-prefix-fill-page
-slice-relend-prefix-fill-page c = search needs
-
 slice-aggregate-fill-page : tie.Need-slice-aggregate-fill-page
 slice-aggregate-fill-page c = let a = c .before .before .before .before .before .before .args in sym (length-take-le (length (now (a .keys)) * pageWidth) (now (a .answers)) (within (c .before)))
 
 fill-page-requires : tie.Need-fill-page-requires
 fill-page-requires c κs = let a = c .before .before .before .before .before .before .args in (omega arith, length-take-le (length (now (a .keys)) * pageWidth) (now (a .answers)) (within (c .before)))
-
-same-length : tie.Need-same-length
-same-length c = search needs
 
 returns-3 : tie.Need-returns-3
 unfolding tableLeft
@@ -78,12 +69,5 @@ returns-3 c =
 pub collection-page-spec : {M : Type 1} → statement M
 collection-page-spec =
     tie.close
-    (tie.spec
-    returns
-    returns-2
-    mul-end
-    slice-relend-prefix-fill-page
-    slice-aggregate-fill-page
-    fill-page-requires
-    same-length
-    returns-3)
+    (tie.spec returns returns-2 (λ c. search needs) (λ c. search needs) slice-aggregate-fill-page fill-page-requires
+    (λ c. search needs) returns-3)

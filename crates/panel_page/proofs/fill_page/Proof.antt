@@ -10,33 +10,6 @@ use borrow.Author.Needs.{needs}
 use Rattle.panel_page.proofs.fill_page.Statement.{statement}
 use Rattle.panel_page.proofs.fill_page.Tie as tie
 
-slice-aggregate-index-keys : tie.Need-slice-aggregate-index-keys
-slice-aggregate-index-keys c = search needs
-
-slice-aggregate-index-keys-2 : tie.Need-slice-aggregate-index-keys-2
-slice-aggregate-index-keys-2 c = search needs
-
-index-keys-requires : tie.Need-index-keys-requires
-index-keys-requires c κs = search needs
-
-change-places-requires : tie.Need-change-places-requires
-change-places-requires c κs = search needs
-
-slice-aggregate-answer-rows : tie.Need-slice-aggregate-answer-rows
-slice-aggregate-answer-rows c = search needs
-
-slice-aggregate-answer-rows-2 : tie.Need-slice-aggregate-answer-rows-2
-slice-aggregate-answer-rows-2 c = search needs
-
-answer-rows-requires : tie.Need-answer-rows-requires
-answer-rows-requires c κs = search needs
-
-change-places-requires-2 : tie.Need-change-places-requires-2
-change-places-requires-2 c κs = search needs
-
-same-length : tie.Need-same-length
-same-length c = search needs
-
 returns : tie.Need-returns
 returns c =
     let at-clear = c .before .before in
@@ -56,14 +29,5 @@ returns c =
 pub fill-page-spec : {M : Type 1} → statement M
 fill-page-spec =
     tie.close
-    (tie.spec
-    slice-aggregate-index-keys
-    slice-aggregate-index-keys-2
-    index-keys-requires
-    change-places-requires
-    slice-aggregate-answer-rows
-    slice-aggregate-answer-rows-2
-    answer-rows-requires
-    change-places-requires-2
-    same-length
-    returns)
+    (tie.spec (λ c. search needs) (λ c. search needs) (λ c κs. search needs) (λ c κs. search needs) (λ c. search needs)
+    (λ c. search needs) (λ c κs. search needs) (λ c κs. search needs) (λ c. search needs) returns)

@@ -8,30 +8,6 @@ use Rattle.panel_plan.specs.PlanRows.{sourceWidth, plannedEntryWidth, pl
 use Rattle.panel_plan.proofs.entry_row.Statement.{statement}
 use Rattle.panel_plan.proofs.entry_row.Tie as tie
 
-slice-aggregate-write-u64-at : tie.Need-slice-aggregate-write-u64-at
-slice-aggregate-write-u64-at c = search needs
-
-write-u64-at-requires : tie.Need-write-u64-at-requires
-write-u64-at-requires c κs = search needs
-
-slice-aggregate-write-u64-at-2 : tie.Need-slice-aggregate-write-u64-at-2
-slice-aggregate-write-u64-at-2 c = search needs
-
-write-u64-at-requires-2 : tie.Need-write-u64-at-requires-2
-write-u64-at-requires-2 c κs = search needs
-
-slice-aggregate-write-u64-at-3 : tie.Need-slice-aggregate-write-u64-at-3
-slice-aggregate-write-u64-at-3 c = search needs
-
-write-u64-at-requires-3 : tie.Need-write-u64-at-requires-3
-write-u64-at-requires-3 c κs = search needs
-
-slice-aggregate-write-u64-at-4 : tie.Need-slice-aggregate-write-u64-at-4
-slice-aggregate-write-u64-at-4 c = search needs
-
-write-u64-at-requires-4 : tie.Need-write-u64-at-requires-4
-write-u64-at-requires-4 c κs = search needs
-
 returns : tie.Need-returns
 unfolding plannedEntryRow
 returns c =
@@ -46,13 +22,5 @@ returns c =
 pub entry-row-spec : {M : Type 1} → statement M
 entry-row-spec =
     tie.close
-    (tie.spec
-    slice-aggregate-write-u64-at
-    write-u64-at-requires
-    slice-aggregate-write-u64-at-2
-    write-u64-at-requires-2
-    slice-aggregate-write-u64-at-3
-    write-u64-at-requires-3
-    slice-aggregate-write-u64-at-4
-    write-u64-at-requires-4
-    returns)
+    (tie.spec (λ c. search needs) (λ c κs. search needs) (λ c. search needs) (λ c κs. search needs) (λ c. search needs)
+    (λ c κs. search needs) (λ c. search needs) (λ c κs. search needs) returns)

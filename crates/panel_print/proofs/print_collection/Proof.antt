@@ -12,21 +12,6 @@ use Rattle.panel_print.specs.AnswersLaws.{printed-whole}
 use Rattle.panel_print.proofs.print_collection.Statement.{statement}
 use Rattle.panel_print.proofs.print_collection.Tie as tie
 
-slice-aggregate-print-rows : tie.Need-slice-aggregate-print-rows
-slice-aggregate-print-rows c = search needs
-
-print-rows-requires : tie.Need-print-rows-requires
-print-rows-requires c κs = search needs
-
-slice-aggregate-write-print : tie.Need-slice-aggregate-write-print
-slice-aggregate-write-print c = search needs
-
-write-print-requires : tie.Need-write-print-requires
-write-print-requires c κs = search needs
-
-same-length : tie.Need-same-length
-same-length c = search needs
-
 returns : tie.Need-returns
 returns c =
     let write = c .before .before in
@@ -41,10 +26,4 @@ returns c =
 pub print-collection-spec : {M : Type 1} → statement M
 print-collection-spec =
     tie.close
-    (tie.spec
-    slice-aggregate-print-rows
-    print-rows-requires
-    slice-aggregate-write-print
-    write-print-requires
-    same-length
-    returns)
+    (tie.spec (λ c. search needs) (λ c κs. search needs) (λ c. search needs) (λ c κs. search needs) (λ c. search needs) returns)

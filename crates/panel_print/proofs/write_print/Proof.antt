@@ -10,12 +10,6 @@ use Rattle.panel_print.specs.AnswersLaws.{some-end, ends-at, ends-in-tex
 use Rattle.panel_print.proofs.write_print.Statement.{statement}
 use Rattle.panel_print.proofs.write_print.Tie as tie
 
-enum-known-end : tie.Need-enum-known-end
-enum-known-end c = search needs
-
-enum-told : tie.Need-enum-told
-enum-told c = search needs
-
 returns : tie.Need-returns
 returns c = ((λ print h. absurd (some-end h (c .enum-told .given .1))), refl)
 
@@ -23,21 +17,6 @@ returns-2 : tie.Need-returns-2
 returns-2 c =
     let place = c .before .before .end .given in
     ((λ print h. absurd (omega (arith, ends-in-text h (place .0 .0) (place .1)))), refl)
-
-sub-write-bytes-at : tie.Need-sub-write-bytes-at
-sub-write-bytes-at c = search needs
-
-part-write-bytes-at-start : tie.Need-part-write-bytes-at-start
-part-write-bytes-at-start c = search needs
-
-part-write-bytes-at-end : tie.Need-part-write-bytes-at-end
-part-write-bytes-at-end c = search needs
-
-write-bytes-at-requires : tie.Need-write-bytes-at-requires
-write-bytes-at-requires c κs = search needs
-
-same-length : tie.Need-same-length
-same-length c = search needs
 
 returns-3 : tie.Need-returns-3
 returns-3 c =
@@ -51,9 +30,6 @@ returns-3 c =
       (λ print h. print-written (now (args .out)) part _ (write .write-bytes-at .ensures .1) room print (whole-part h n (place .1) (n - 0) whole) n (ends-at h n (place .1))),
       behind-stays (now (args .out)) part _ (write .write-bytes-at .ensures .1) n (length-take-le (n - 0) (now (args .text)) (omega arith) ∙ whole) room,
     )
-
-same-length-2 : tie.Need-same-length-2
-same-length-2 c = search needs
 
 returns-4 : tie.Need-returns-4
 returns-4 c =
@@ -71,16 +47,5 @@ returns-4 c =
 pub write-print-spec : {M : Type 1} → statement M
 write-print-spec =
     tie.close
-    (tie.spec
-    enum-known-end
-    enum-told
-    returns
-    returns-2
-    sub-write-bytes-at
-    part-write-bytes-at-start
-    part-write-bytes-at-end
-    write-bytes-at-requires
-    same-length
-    returns-3
-    same-length-2
-    returns-4)
+    (tie.spec (λ c. search needs) (λ c. search needs) returns returns-2 (λ c. search needs) (λ c. search needs)
+    (λ c. search needs) (λ c κs. search needs) (λ c. search needs) returns-3 (λ c. search needs) returns-4)

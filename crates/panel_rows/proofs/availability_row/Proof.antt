@@ -14,27 +14,6 @@ use Rattle.panel_rows.proofs.Filling.{three-fields}
 use Rattle.panel_rows.proofs.availability_row.Statement.{statement}
 use Rattle.panel_rows.proofs.availability_row.Tie as tie
 
-slice-aggregate-write-u64-at : tie.Need-slice-aggregate-write-u64-at
-slice-aggregate-write-u64-at c = search needs
-
-write-u64-at-requires : tie.Need-write-u64-at-requires
-write-u64-at-requires c κs = search needs
-
-slice-aggregate-write-u64-at-2 : tie.Need-slice-aggregate-write-u64-at-2
-slice-aggregate-write-u64-at-2 c = search needs
-
-write-u64-at-requires-2 : tie.Need-write-u64-at-requires-2
-write-u64-at-requires-2 c κs = search needs
-
-slice-aggregate-write-u8-at : tie.Need-slice-aggregate-write-u8-at
-slice-aggregate-write-u8-at c = search needs
-
-availability-byte-requires : tie.Need-availability-byte-requires
-availability-byte-requires c κs = search needs
-
-write-u8-at-requires : tie.Need-write-u8-at-requires
-write-u8-at-requires c κs = search needs
-
 one-byte : (a : Availability) → littleEndian 1 (availabilityByte a) ≡ availabilityByte a ∷ []
 unfolding littleEndian availabilityByte
 one-byte available = refl
@@ -58,12 +37,5 @@ returns c =
 pub availability-row-spec : {M : Type 1} → statement M
 availability-row-spec =
     tie.close
-    (tie.spec
-    slice-aggregate-write-u64-at
-    write-u64-at-requires
-    slice-aggregate-write-u64-at-2
-    write-u64-at-requires-2
-    slice-aggregate-write-u8-at
-    availability-byte-requires
-    write-u8-at-requires
-    returns)
+    (tie.spec (λ c. search needs) (λ c κs. search needs) (λ c. search needs) (λ c κs. search needs) (λ c. search needs)
+    (λ c κs. search needs) (λ c κs. search needs) returns)

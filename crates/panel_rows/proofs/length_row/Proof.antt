@@ -8,18 +8,6 @@ use Rattle.panel_rows.proofs.Filling.{two-fields}
 use Rattle.panel_rows.proofs.length_row.Statement.{statement}
 use Rattle.panel_rows.proofs.length_row.Tie as tie
 
-slice-aggregate-write-u64-at : tie.Need-slice-aggregate-write-u64-at
-slice-aggregate-write-u64-at c = search needs
-
-write-u64-at-requires : tie.Need-write-u64-at-requires
-write-u64-at-requires c κs = search needs
-
-slice-aggregate-write-u64-at-2 : tie.Need-slice-aggregate-write-u64-at-2
-slice-aggregate-write-u64-at-2 c = search needs
-
-write-u64-at-requires-2 : tie.Need-write-u64-at-requires-2
-write-u64-at-requires-2 c κs = search needs
-
 returns : tie.Need-returns
 unfolding lengthRow
 returns c =
@@ -30,10 +18,4 @@ returns c =
 
 pub length-row-spec : {M : Type 1} → statement M
 length-row-spec =
-    tie.close
-    (tie.spec
-    slice-aggregate-write-u64-at
-    write-u64-at-requires
-    slice-aggregate-write-u64-at-2
-    write-u64-at-requires-2
-    returns)
+    tie.close (tie.spec (λ c. search needs) (λ c κs. search needs) (λ c. search needs) (λ c κs. search needs) returns)

@@ -8,21 +8,6 @@ use Rattle.panel_steps.specs.Runs.{runHead}
 use Rattle.panel_steps.proofs.next_head.Statement.{statement}
 use Rattle.panel_steps.proofs.next_head.Tie as tie
 
-next-step-requires : tie.Need-next-step-requires
-next-step-requires c κs = search needs
-
-enum-known-next : tie.Need-enum-known-next
-enum-known-next c = search needs
-
-enum-told : tie.Need-enum-told
-enum-told c = search needs
-
-enum-told-2 : tie.Need-enum-told-2
-enum-told-2 c = search needs
-
-enum-known-fault : tie.Need-enum-known-fault
-enum-known-fault c = search needs
-
 returns : tie.Need-returns
 returns c =
     let step = c .before .before .before in
@@ -50,13 +35,5 @@ returns-4 c =
 pub next-head-spec : {M : Type 1} → statement M
 next-head-spec =
     tie.close
-    (tie.spec
-    next-step-requires
-    enum-known-next
-    enum-told
-    enum-told-2
-    enum-known-fault
-    returns
-    returns-2
-    returns-3
-    returns-4)
+    (tie.spec (λ c κs. search needs) (λ c. search needs) (λ c. search needs) (λ c. search needs) (λ c. search needs) returns
+    returns-2 returns-3 returns-4)

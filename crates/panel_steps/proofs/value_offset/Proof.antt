@@ -25,30 +25,6 @@ neighbour : (k : ℕ) → 17 + length (encodeOptional (some k)) ≡ 26
 unfolding encodeOptional
 neighbour k = omega (arith, length-littleEndian 8 k)
 
-enum-told : tie.Need-enum-told
-enum-told c = search needs
-
-enum-told-2 : tie.Need-enum-told-2
-enum-told-2 c = search needs
-
-enum-known-operation : tie.Need-enum-known-operation
-enum-known-operation c = search needs
-
-enum-told-3 : tie.Need-enum-told-3
-enum-told-3 c = search needs
-
-enum-told-4 : tie.Need-enum-told-4
-enum-told-4 c = search needs
-
-enum-told-5 : tie.Need-enum-told-5
-enum-told-5 c = search needs
-
-enum-told-6 : tie.Need-enum-told-6
-enum-told-6 c = search needs
-
-enum-told-7 : tie.Need-enum-told-7
-enum-told-7 c = search needs
-
 returns : tie.Need-returns
 unfolding valueOffset
 returns c = sym (ap offset (c .enum-told .given .1))
@@ -80,19 +56,6 @@ returns-7 c = sym (ap offset (c .enum-told7 .given .1))
 pub value-offset-spec : {M : Type 1} → statement M
 value-offset-spec =
     tie.close
-    (tie.spec
-    enum-told
-    enum-told-2
-    enum-known-operation
-    enum-told-3
-    enum-told-4
-    enum-told-5
-    enum-told-6
-    enum-told-7
-    returns
-    returns-2
-    returns-3
-    returns-4
-    returns-5
-    returns-6
+    (tie.spec (λ c. search needs) (λ c. search needs) (λ c. search needs) (λ c. search needs) (λ c. search needs)
+    (λ c. search needs) (λ c. search needs) (λ c. search needs) returns returns-2 returns-3 returns-4 returns-5 returns-6
     returns-7)

@@ -14,32 +14,11 @@ front c =
     let rows = c .before .before .before .before .before .args .rows .now in
     ap (take (length rows)) (c .copy2 .ensures) ∙ take-at rows (drop (length rows) _) (length rows) refl
 
-copy-requires : tie.Need-copy-requires
-copy-requires c κs = search needs
-
-same-length : tie.Need-same-length
-same-length c = search needs
-
-returns : tie.Need-returns
-returns c = search needs
-
-slice-aggregate-copy : tie.Need-slice-aggregate-copy
-slice-aggregate-copy c = search needs
-
-copy-requires-2 : tie.Need-copy-requires-2
-copy-requires-2 c κs = search needs
-
-array-share-prefix-block : tie.Need-array-share-prefix-block
-array-share-prefix-block c = search needs
-
 slice-aggregate-copy-2 : tie.Need-slice-aggregate-copy-2
 slice-aggregate-copy-2 c = sym (ap length (front (c .before .before)))
 
 copy-requires-3 : tie.Need-copy-requires-3
 copy-requires-3 c κs = omega (arith, ap length (front (c .before .before .before)), c .before .before .before .before .before .before .before .before .pre)
-
-same-length-2 : tie.Need-same-length-2
-same-length-2 c = search needs
 
 returns-2 : tie.Need-returns-2
 returns-2 c =
@@ -50,14 +29,5 @@ returns-2 c =
 pub copy-rows-spec : {M : Type 1} → statement M
 copy-rows-spec =
     tie.close
-    (tie.spec
-    copy-requires
-    same-length
-    returns
-    slice-aggregate-copy
-    copy-requires-2
-    array-share-prefix-block
-    slice-aggregate-copy-2
-    copy-requires-3
-    same-length-2
-    returns-2)
+    (tie.spec (λ c κs. search needs) (λ c. search needs) (λ c. search needs) (λ c. search needs) (λ c κs. search needs)
+    (λ c. search needs) slice-aggregate-copy-2 copy-requires-3 (λ c. search needs) returns-2)

@@ -12,23 +12,8 @@ use Rattle.panel_plan.specs.PlanRows.{sourceWidth}
 use Rattle.panel_writing.proofs.has_source.Statement.{statement}
 use Rattle.panel_writing.proofs.has_source.Tie as tie
 
-add-end : tie.Need-add-end
-add-end c = search needs
-
 returns : tie.Need-returns
 returns c = λ e. absurd (false≢true e)
-
-sub-number-of : tie.Need-sub-number-of
-sub-number-of c = search needs
-
-part-number-of-start : tie.Need-part-number-of-start
-part-number-of-start c = search needs
-
-part-number-of-end : tie.Need-part-number-of-end
-part-number-of-end c = search needs
-
-number-of-requires : tie.Need-number-of-requires
-number-of-requires c κs = search needs
 
 returns-2 : tie.Need-returns-2
 returns-2 c = λ e.
@@ -39,11 +24,5 @@ returns-2 c = λ e.
 pub has-source-spec : {M : Type 1} → statement M
 has-source-spec =
     tie.close
-    (tie.spec
-    add-end
-    returns
-    sub-number-of
-    part-number-of-start
-    part-number-of-end
-    number-of-requires
+    (tie.spec (λ c. search needs) returns (λ c. search needs) (λ c. search needs) (λ c. search needs) (λ c κs. search needs)
     returns-2)

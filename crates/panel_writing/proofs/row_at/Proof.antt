@@ -17,14 +17,9 @@ mul-value-part c =
     let few : a .i * a .width ≤ projectionEntries * entryWidth = mul-le-mul (start .pre .1) (start .pre .0) in
     omega arith
 
-value-part-requires : tie.Need-value-part-requires
-value-part-requires c κs = search needs
-
-key-part-requires : tie.Need-key-part-requires
-key-part-requires c κs = search needs
-
 returns : tie.Need-returns
 returns c = c .key-part .ensures ∙ ap (take (c .before .before .before .args .width)) (c .before .value-part .ensures)
 
 pub row-at-spec : {M : Type 1} → statement M
-row-at-spec = tie.close (tie.spec mul-value-part value-part-requires key-part-requires returns)
+row-at-spec =
+    tie.close (tie.spec mul-value-part (λ c κs. search needs) (λ c κs. search needs) returns)

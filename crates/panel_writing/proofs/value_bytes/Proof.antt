@@ -11,24 +11,6 @@ use Rattle.panel_writing.proofs.Bytes.{bytes-of-read, bytes-of-refused}
 use Rattle.panel_writing.proofs.value_bytes.Statement.{statement}
 use Rattle.panel_writing.proofs.value_bytes.Tie as tie
 
-value-at-requires : tie.Need-value-at-requires
-value-at-requires c κs = search needs
-
-enum-known-end : tie.Need-enum-known-end
-enum-known-end c = search needs
-
-key-part-requires : tie.Need-key-part-requires
-key-part-requires c κs = search needs
-
-value-part-requires : tie.Need-value-part-requires
-value-part-requires c κs = search needs
-
-enum-told : tie.Need-enum-told
-enum-told c = search needs
-
-slice-aggregate-result : tie.Need-slice-aggregate-result
-slice-aggregate-result c = search needs
-
 returns : tie.Need-returns
 unfolding valueBytes
 returns c =
@@ -51,12 +33,5 @@ returns-2 c =
 pub value-bytes-spec : {M : Type 1} → statement M
 value-bytes-spec =
     tie.close
-    (tie.spec
-    value-at-requires
-    enum-known-end
-    key-part-requires
-    value-part-requires
-    enum-told
-    slice-aggregate-result
-    returns
-    returns-2)
+    (tie.spec (λ c κs. search needs) (λ c. search needs) (λ c κs. search needs) (λ c κs. search needs) (λ c. search needs)
+    (λ c. search needs) returns returns-2)

@@ -15,12 +15,6 @@ returns c =
     let a = c .before .before .before .args in
     (sym (ne-eqb (length (now (a .plan))) (length (now (a .to))) (c .if1 .taken)), refl)
 
-copy-requires : tie.Need-copy-requires
-copy-requires c κs = search needs
-
-same-length : tie.Need-same-length
-same-length c = search needs
-
 returns-2 : tie.Need-returns-2
 returns-2 c =
     let copy = c .before .before in
@@ -31,4 +25,5 @@ returns-2 c =
     )
 
 pub write-availabilities-spec : {M : Type 1} → statement M
-write-availabilities-spec = tie.close (tie.spec returns copy-requires same-length returns-2)
+write-availabilities-spec =
+    tie.close (tie.spec returns (λ c κs. search needs) (λ c. search needs) returns-2)

@@ -12,12 +12,6 @@ use Rattle.panel_writing.specs.StoredLaws.{sources, bindings-stored}
 use Rattle.panel_writing.proofs.write_bindings.Statement.{statement}
 use Rattle.panel_writing.proofs.write_bindings.Tie as tie
 
-write-table-requires : tie.Need-write-table-requires
-write-table-requires c κs = search needs
-
-same-length : tie.Need-same-length
-same-length c = search needs
-
 returns : tie.Need-returns
 returns c =
     let call = c .before .before in
@@ -36,4 +30,5 @@ returns c =
     )
 
 pub write-bindings-spec : {M : Type 1} → statement M
-write-bindings-spec = tie.close (tie.spec write-table-requires same-length returns)
+write-bindings-spec =
+    tie.close (tie.spec (λ c κs. search needs) (λ c. search needs) returns)

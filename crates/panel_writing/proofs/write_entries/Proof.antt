@@ -12,12 +12,6 @@ use Rattle.panel_writing.specs.StoredLaws.{sources, entries-stored}
 use Rattle.panel_writing.proofs.write_entries.Statement.{statement}
 use Rattle.panel_writing.proofs.write_entries.Tie as tie
 
-write-table-requires : tie.Need-write-table-requires
-write-table-requires c κs = search needs
-
-same-length : tie.Need-same-length
-same-length c = search needs
-
 returns : tie.Need-returns
 returns c =
     let call = c .before .before in
@@ -36,4 +30,5 @@ returns c =
     )
 
 pub write-entries-spec : {M : Type 1} → statement M
-write-entries-spec = tie.close (tie.spec write-table-requires same-length returns)
+write-entries-spec =
+    tie.close (tie.spec (λ c κs. search needs) (λ c. search needs) returns)

@@ -19,20 +19,8 @@ use Rattle.panel_writing.proofs.write_planned.Tie as tie
 place : (c : tie.Then1) → let a = c .before .before .before .before .before .before .args in c .before .number-at .result * (a .key + valueWidth) ≤ projectionEntries * entryWidth
 place c = mul-le-mul {n₂ = projectionEntries} {m₂ = entryWidth} (omega (arith, c .if1 .taken)) (omega (arith, c .before .before .before .before .before .before .pre))
 
-number-at-requires : tie.Need-number-at-requires
-number-at-requires c κs = search needs
-
-add-start : tie.Need-add-start
-add-start c = search needs
-
 mul-start : tie.Need-mul-start
 mul-start c = omega (arith, place c)
-
-value-part-requires : tie.Need-value-part-requires
-value-part-requires c κs = search needs
-
-key-part-requires : tie.Need-key-part-requires
-key-part-requires c κs = search needs
 
 -- no more bytes than there is room for
 copied : (c : tie.After-key-part) → now (c .key-part .result) ≡ take (length (now (c .before .before .before .before .before .before .before .before .args .to))) (drop (c .before .before .before .number-at .result * (c .before .before .before .before .before .before .before .before .args .key + valueWidth)) (now (c .before .before .before .before .before .before .before .before .args .from)))
@@ -46,18 +34,6 @@ copy-rows-requires c κs =
     let few : length (take (length (now (a .to))) rows) ≤ length (now (a .to)) = rw (length-take (length (now (a .to))) rows) (min-le-left (length (now (a .to))) (length rows)) in
     omega (arith, few, ap length (copied part))
 
-key-part-requires-2 : tie.Need-key-part-requires-2
-key-part-requires-2 c κs = search needs
-
-value-bytes-requires : tie.Need-value-bytes-requires
-value-bytes-requires c κs = search needs
-
-write-row-requires : tie.Need-write-row-requires
-write-row-requires c κs = search needs
-
-same-length : tie.Need-same-length
-same-length c = search needs
-
 returns : tie.Need-returns
 returns c =
     let copy = c .before .before in
@@ -67,9 +43,6 @@ returns c =
     let ed = editionOf (a .edition) in
     planned-written ed (a .key) (now (a .row)) (now (a .from)) (now (a .set)) (now (a .to)) (number .number-at .ensures)
     (copy .copy-rows .ensures ∙ ap (λ rows. overwriteRows rows (now (a .to))) (copied part) ∙ sym (source-old ed (a .key) (take (a .key) (now (a .row))) (now (a .from)) (now (a .set)) _ (now (a .to)) (part .before .before .if1 .taken)))
-
-same-length-2 : tie.Need-same-length-2
-same-length-2 c = search needs
 
 returns-2 : tie.Need-returns-2
 returns-2 c =
@@ -86,17 +59,6 @@ returns-2 c =
 pub write-planned-spec : {M : Type 1} → statement M
 write-planned-spec =
     tie.close
-    (tie.spec
-    number-at-requires
-    add-start
-    mul-start
-    value-part-requires
-    key-part-requires
-    copy-rows-requires
-    key-part-requires-2
-    value-bytes-requires
-    write-row-requires
-    same-length
-    returns
-    same-length-2
-    returns-2)
+    (tie.spec (λ c κs. search needs) (λ c. search needs) mul-start (λ c κs. search needs) (λ c κs. search needs)
+    copy-rows-requires (λ c κs. search needs) (λ c κs. search needs) (λ c κs. search needs) (λ c. search needs) returns
+    (λ c. search needs) returns-2)

@@ -41,9 +41,6 @@ returns-2 c =
     let not-written = too-many-used (a .key) (a .capacity) (a .count) (a .used) (now (a .to)) (c .before .if1 .left) (c .if2 .taken) in
     (sym not-written, sym (table-left (a .key) (a .capacity) (a .count) (a .used) (now (a .to)) ed (now (a .plan)) (now (a .from)) (now (a .set)) not-written))
 
-add-width : tie.Need-add-width
-add-width c = search needs
-
 mul-if3 : tie.Need-mul-if3
 mul-if3 c =
     let start = c .before .before .before .before .before .before in
@@ -57,17 +54,8 @@ returns-3 c =
     let not-written = other-table (a .key) (a .capacity) (a .count) (a .used) (now (a .to)) (c .before .before .if1 .left) (c .before .if2 .left) (c .if3 .taken) in
     (sym not-written, sym (table-left (a .key) (a .capacity) (a .count) (a .used) (now (a .to)) ed (now (a .plan)) (now (a .from)) (now (a .set)) not-written))
 
-greater-requires : tie.Need-greater-requires
-greater-requires c κs = search needs
-
 mul-size : tie.Need-mul-size
 mul-size c = omega (arith, size-is c, fits c)
-
-sub-write-rows : tie.Need-sub-write-rows
-sub-write-rows c = search needs
-
-part-write-rows-start : tie.Need-part-write-rows-start
-part-write-rows-start c = search needs
 
 part-write-rows-end : tie.Need-part-write-rows-end
 part-write-rows-end c = omega (arith, size-is c, fits c)
@@ -84,9 +72,6 @@ write-rows-requires c κs =
     let lent-size = g .greater .result * (a .key + valueWidth) - 0 in
     let long : length (take lent-size (now (a .to))) ≡ lent-size = length-take-le lent-size (now (a .to)) (omega (arith, size-is g, fits g)) in
     (start .pre .0, omega (arith, g .before .before .before .if1 .left, start .pre .1), omega (arith, long, size-is g, mul-le-mul-right {m = a .count} {n = max (a .count) (a .used)} (a .key + valueWidth) (le-max-left (a .count) (a .used))))
-
-same-length : tie.Need-same-length
-same-length c = search needs
 
 returns-4 : tie.Need-returns-4
 returns-4 c =
@@ -105,17 +90,5 @@ returns-4 c =
 pub write-table-spec : {M : Type 1} → statement M
 write-table-spec =
     tie.close
-    (tie.spec
-    returns
-    returns-2
-    add-width
-    mul-if3
-    returns-3
-    greater-requires
-    mul-size
-    sub-write-rows
-    part-write-rows-start
-    part-write-rows-end
-    write-rows-requires
-    same-length
-    returns-4)
+    (tie.spec returns returns-2 (λ c. search needs) mul-if3 returns-3 (λ c κs. search needs) mul-size (λ c. search needs)
+    (λ c. search needs) part-write-rows-end write-rows-requires (λ c. search needs) returns-4)

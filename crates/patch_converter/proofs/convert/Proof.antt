@@ -62,24 +62,6 @@ after k ed = take 30 (set k) ++ (editionDigit ed ∷ drop 31 (set k))
 long : (k : tie.After-has-every-kind) → 31 ≤ length (set (read k))
 long k = heading-within (from (read k)) (set (read k)) (listed k .list) (all-bytes (read k)) (listed k .reads)
 
-read-set-requires : tie.Need-read-set-requires
-read-set-requires c κs = search needs
-
-enum-known-fault : tie.Need-enum-known-fault
-enum-known-fault c = search needs
-
-unread-requires : tie.Need-unread-requires
-unread-requires c κs = search needs
-
-enum-told : tie.Need-enum-told
-enum-told c = search needs
-
-other-edition-requires : tie.Need-other-edition-requires
-other-edition-requires c κs = search needs
-
-has-every-kind-requires : tie.Need-has-every-kind-requires
-has-every-kind-requires c κs = search needs
-
 returns : tie.Need-returns
 returns c =
     let k = c .before in
@@ -101,9 +83,6 @@ returns-3 c =
     let left = left-refused (out k) (model.unread (faultOf fault)) told in
     also-read k _ _ (ap Refused (c .unread .ensures) ∙ left .0, left .1)
 
-same-length : tie.Need-same-length
-same-length c = search needs
-
 returns-4 : tie.Need-returns-4
 returns-4 c =
     let call = c .before .before in
@@ -119,16 +98,5 @@ returns-4 c =
 pub convert-spec : {M : Type 1} → statement M
 convert-spec =
     tie.close
-    (tie.spec
-    read-set-requires
-    enum-known-fault
-    unread-requires
-    enum-told
-    other-edition-requires
-    has-every-kind-requires
-    returns
-    returns-2
-    store-with-letter-requires
-    returns-3
-    same-length
-    returns-4)
+    (tie.spec (λ c κs. search needs) (λ c. search needs) (λ c κs. search needs) (λ c. search needs) (λ c κs. search needs)
+    (λ c κs. search needs) returns returns-2 store-with-letter-requires returns-3 (λ c. search needs) returns-4)

@@ -7,12 +7,6 @@ use Rattle.projection_patch.specs.declared.patch.ProjectionPatchEdition.{Projec
 use Rattle.patch_converter.proofs.other_edition.Statement.{statement}
 use Rattle.patch_converter.proofs.other_edition.Tie as tie
 
-enum-told : tie.Need-enum-told
-enum-told c = search needs
-
-enum-told-2 : tie.Need-enum-told-2
-enum-told-2 c = search needs
-
 returns : tie.Need-returns
 unfolding otherEdition
 returns c = sym (ap (λ (e : ProjectionPatchEdition). otherEdition (editionOf e)) (c .enum-told .given .1))
@@ -23,9 +17,4 @@ returns-2 c = sym (ap (λ (e : ProjectionPatchEdition). otherEdition (editionOf 
 
 pub other-edition-spec : {M : Type 1} → statement M
 other-edition-spec =
-    tie.close
-    (tie.spec
-    enum-told
-    enum-told-2
-    returns
-    returns-2)
+    tie.close (tie.spec (λ c. search needs) (λ c. search needs) returns returns-2)

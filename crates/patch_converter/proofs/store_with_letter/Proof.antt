@@ -23,45 +23,6 @@ alone x small =
     let same : x % 256 ≡ x = omega arith in
     ap (λ (b : ℕ). b ∷ []) same
 
-sub-write-bytes-at : tie.Need-sub-write-bytes-at
-sub-write-bytes-at c = search needs
-
-part-write-bytes-at-start : tie.Need-part-write-bytes-at-start
-part-write-bytes-at-start c = search needs
-
-part-write-bytes-at-end : tie.Need-part-write-bytes-at-end
-part-write-bytes-at-end c = search needs
-
-write-bytes-at-requires : tie.Need-write-bytes-at-requires
-write-bytes-at-requires c κs = search needs
-
-edition-digit-requires : tie.Need-edition-digit-requires
-edition-digit-requires c κs = search needs
-
-write-u8-at-requires : tie.Need-write-u8-at-requires
-write-u8-at-requires c κs = search needs
-
-add-write-bytes-at : tie.Need-add-write-bytes-at
-add-write-bytes-at c = search needs
-
-add-write-bytes-at-2 : tie.Need-add-write-bytes-at-2
-add-write-bytes-at-2 c = search needs
-
-sub-write-bytes-at-2 : tie.Need-sub-write-bytes-at-2
-sub-write-bytes-at-2 c = search needs
-
-part-write-bytes-at-start-2 : tie.Need-part-write-bytes-at-start-2
-part-write-bytes-at-start-2 c = search needs
-
-part-write-bytes-at-end-2 : tie.Need-part-write-bytes-at-end-2
-part-write-bytes-at-end-2 c = search needs
-
-write-bytes-at-requires-2 : tie.Need-write-bytes-at-requires-2
-write-bytes-at-requires-2 c κs = search needs
-
-same-length : tie.Need-same-length
-same-length c = search needs
-
 returns : tie.Need-returns
 returns c =
     let args = c .before .before .before .before .before .before .before .before .before .before .before .before .before .before .before .before .before .args in
@@ -82,18 +43,6 @@ returns c =
 pub store-with-letter-spec : {M : Type 1} → statement M
 store-with-letter-spec =
     tie.close
-    (tie.spec
-    sub-write-bytes-at
-    part-write-bytes-at-start
-    part-write-bytes-at-end
-    write-bytes-at-requires
-    edition-digit-requires
-    write-u8-at-requires
-    add-write-bytes-at
-    add-write-bytes-at-2
-    sub-write-bytes-at-2
-    part-write-bytes-at-start-2
-    part-write-bytes-at-end-2
-    write-bytes-at-requires-2
-    same-length
-    returns)
+    (tie.spec (λ c. search needs) (λ c. search needs) (λ c. search needs) (λ c κs. search needs) (λ c κs. search needs)
+    (λ c κs. search needs) (λ c. search needs) (λ c. search needs) (λ c. search needs) (λ c. search needs) (λ c. search needs)
+    (λ c κs. search needs) (λ c. search needs) returns)

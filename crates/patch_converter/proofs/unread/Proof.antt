@@ -6,12 +6,6 @@ use Rattle.patch_converter.specs.Answers.{unreadTo}
 use Rattle.patch_converter.proofs.unread.Statement.{statement}
 use Rattle.patch_converter.proofs.unread.Tie as tie
 
-enum-told : tie.Need-enum-told
-enum-told c = search needs
-
-enum-told-2 : tie.Need-enum-told-2
-enum-told-2 c = search needs
-
 returns : tie.Need-returns
 unfolding unread
 returns c = sym (ap unreadTo (c .enum-told .given .1))
@@ -22,9 +16,4 @@ returns-2 c = sym (ap unreadTo (c .enum-told2 .given .1))
 
 pub unread-spec : {M : Type 1} → statement M
 unread-spec =
-    tie.close
-    (tie.spec
-    enum-told
-    enum-told-2
-    returns
-    returns-2)
+    tie.close (tie.spec (λ c. search needs) (λ c. search needs) returns returns-2)

@@ -101,23 +101,8 @@ fits k =
     let s = told t in
     fits-told (ed s) (s .args .collection) (patch t) (heldOf (list s)) (held t .counted) (size t) (sized t) (found t) (finds t) (length (out s)) (length-told k) (sym (judged k .judge-patch .ensures) ∙ k .before .size .given .1)
 
-survey-lines-requires : tie.Need-survey-lines-requires
-survey-lines-requires c κs = search needs
-
-enum-known-refusal : tie.Need-enum-known-refusal
-enum-known-refusal c = search needs
-
-enum-known-count : tie.Need-enum-known-count
-enum-known-count c = search needs
-
 judge-patch-requires : tie.Need-judge-patch-requires
 judge-patch-requires c κs = omega (arith, held c .sized, bytes-few (told c .args .collection) (heldOf (list (told c))) (read c .kept), read c .few)
-
-enum-known-refusal-2 : tie.Need-enum-known-refusal-2
-enum-known-refusal-2 c = search needs
-
-enum-known-size : tie.Need-enum-known-size
-enum-known-size c = search needs
 
 write-patch-requires : tie.Need-write-patch-requires
 write-patch-requires c κs =
@@ -143,9 +128,6 @@ returns-2 c =
     let refused = judged-refused (ed s) (s .args .collection) (patch t) (heldOf (list s)) (held t .counted) (size t) (sized t) (found t) (finds t) (length (out s)) refusal (sym (k .judge-patch .ensures) ∙ c .before .refusal2 .given .1) in
     also-read s _ _ (left-refused (out s) refusal (given t ∙ refused))
 
-same-length : tie.Need-same-length
-same-length c = search needs
-
 returns-3 : tie.Need-returns-3
 returns-3 c =
     let call = c .before .before in
@@ -158,15 +140,5 @@ returns-3 c =
 pub import-terms-spec : {M : Type 1} → statement M
 import-terms-spec =
     tie.close
-    (tie.spec
-    survey-lines-requires
-    enum-known-refusal
-    enum-known-count
-    judge-patch-requires
-    enum-known-refusal-2
-    enum-known-size
-    write-patch-requires
-    returns
-    returns-2
-    same-length
-    returns-3)
+    (tie.spec (λ c κs. search needs) (λ c. search needs) (λ c. search needs) judge-patch-requires (λ c. search needs)
+    (λ c. search needs) write-patch-requires returns returns-2 (λ c. search needs) returns-3)

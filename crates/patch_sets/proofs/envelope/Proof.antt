@@ -80,15 +80,6 @@ epoch c =
 abbrev rest : Reader (ℕ × (Option ℕ × (ℕ × (ℕ × (ℕ × ℕ)))))
 rest = pair readU64 (pair readOptional (pair readU64 (pair readU64 (pair readU64 readU64))))
 
-numbers-at-requires : tie.Need-numbers-at-requires
-numbers-at-requires c κs = search needs
-
-enum-known-patch : tie.Need-enum-known-patch
-enum-known-patch c = search needs
-
-enum-told : tie.Need-enum-told
-enum-told c = search needs
-
 returns : tie.Need-returns
 unfolding readEnvelope
 returns c =
@@ -96,30 +87,12 @@ returns c =
     let l = part (call .before) in
     ap (envelopeAnswer (length l)) (sym (mapped-refused toEnvelope (pair readU64 (pair readU64 rest) l) (numbers-missing l 0 (call .numbers-at .result) (call .numbers-at .ensures) rest (c .enum-told .given .1))))
 
-read-u64-at-requires : tie.Need-read-u64-at-requires
-read-u64-at-requires c κs = search needs
-
-enum-known-document : tie.Need-enum-known-document
-enum-known-document c = search needs
-
-enum-told-2 : tie.Need-enum-told-2
-enum-told-2 c = search needs
-
 returns-2 : tie.Need-returns-2
 unfolding readEnvelope
 returns-2 c =
     let call = c .before .before in
     let one = patch (call .before) in
     rw (one .first, one .second, u64-short (part (start1 (call .before))) 16 (call .read-u64-at .result) (call .read-u64-at .ensures) (c .enum-told2 .given .1))
-
-optional-at-requires : tie.Need-optional-at-requires
-optional-at-requires c κs = search needs
-
-enum-known-surface : tie.Need-enum-known-surface
-enum-known-surface c = search needs
-
-enum-told-3 : tie.Need-enum-told-3
-enum-told-3 c = search needs
 
 returns-3 : tie.Need-returns-3
 unfolding readEnvelope
@@ -130,15 +103,6 @@ returns-3 c =
     let l = part (start2 k) in
     let g = no-optional l 24 (call .optional-at .result) (call .optional-at .ensures) (c .enum-told3 .given .0 .0) (c .enum-told3 .given .1) in
     rw (one .first, one .second, document k .is, g .is, optional-malformed (drop 24 l) (g .fault) (g .is))
-
-numbers-at-requires-2 : tie.Need-numbers-at-requires-2
-numbers-at-requires-2 c κs = search needs
-
-enum-known-previous : tie.Need-enum-known-previous
-enum-known-previous c = search needs
-
-enum-told-4 : tie.Need-enum-told-4
-enum-told-4 c = search needs
 
 returns-4 : tie.Need-returns-4
 unfolding readEnvelope
@@ -152,15 +116,6 @@ returns-4 c =
 add-next : tie.Need-add-next
 add-next c = omega (arith, previous c .room)
 
-numbers-at-requires-3 : tie.Need-numbers-at-requires-3
-numbers-at-requires-3 c κs = search needs
-
-enum-known-epoch : tie.Need-enum-known-epoch
-enum-known-epoch c = search needs
-
-enum-told-5 : tie.Need-enum-told-5
-enum-told-5 c = search needs
-
 returns-5 : tie.Need-returns-5
 unfolding readEnvelope
 returns-5 c =
@@ -173,9 +128,6 @@ returns-5 c =
 
 add-end : tie.Need-add-end
 add-end c = omega (arith, epoch c .room)
-
-envelope-of-requires : tie.Need-envelope-of-requires
-envelope-of-requires c κs = search needs
 
 returns-6 : tie.Need-returns-6
 unfolding readEnvelope
@@ -198,28 +150,7 @@ returns-6 c =
 pub envelope-spec : {M : Type 1} → statement M
 envelope-spec =
     tie.close
-    (tie.spec
-    numbers-at-requires
-    enum-known-patch
-    enum-told
-    returns
-    read-u64-at-requires
-    enum-known-document
-    enum-told-2
-    returns-2
-    optional-at-requires
-    enum-known-surface
-    enum-told-3
-    returns-3
-    numbers-at-requires-2
-    enum-known-previous
-    enum-told-4
-    returns-4
-    add-next
-    numbers-at-requires-3
-    enum-known-epoch
-    enum-told-5
-    returns-5
-    add-end
-    envelope-of-requires
-    returns-6)
+    (tie.spec (λ c κs. search needs) (λ c. search needs) (λ c. search needs) returns (λ c κs. search needs) (λ c. search needs)
+    (λ c. search needs) returns-2 (λ c κs. search needs) (λ c. search needs) (λ c. search needs) returns-3
+    (λ c κs. search needs) (λ c. search needs) (λ c. search needs) returns-4 add-next (λ c κs. search needs)
+    (λ c. search needs) (λ c. search needs) returns-5 add-end (λ c κs. search needs) returns-6)

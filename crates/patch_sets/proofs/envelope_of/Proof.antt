@@ -29,30 +29,6 @@ epoch-is r n e = ap (λ (k : ℕ). record { 0 = k }) e
 sequence-is : (r : ProjectionPatchSequence) (n : ℕ) → r .0 ≡ n → r ≡ record { 0 = n }
 sequence-is r n e = ap (λ (k : ℕ). record { 0 = k }) e
 
-new-requires : tie.Need-new-requires
-new-requires c κs = search needs
-
-new-requires-2 : tie.Need-new-requires-2
-new-requires-2 c κs = search needs
-
-new-requires-3 : tie.Need-new-requires-3
-new-requires-3 c κs = search needs
-
-surface-of-requires : tie.Need-surface-of-requires
-surface-of-requires c κs = search needs
-
-new-requires-4 : tie.Need-new-requires-4
-new-requires-4 c κs = search needs
-
-new-requires-5 : tie.Need-new-requires-5
-new-requires-5 c κs = search needs
-
-new-requires-6 : tie.Need-new-requires-6
-new-requires-6 c κs = search needs
-
-new-requires-7 : tie.Need-new-requires-7
-new-requires-7 c κs = search needs
-
 returns : tie.Need-returns
 returns c =
     let c6 = c .before in
@@ -77,13 +53,5 @@ returns c =
 pub envelope-of-spec : {M : Type 1} → statement M
 envelope-of-spec =
     tie.close
-    (tie.spec
-    new-requires
-    new-requires-2
-    new-requires-3
-    surface-of-requires
-    new-requires-4
-    new-requires-5
-    new-requires-6
-    new-requires-7
-    returns)
+    (tie.spec (λ c κs. search needs) (λ c κs. search needs) (λ c κs. search needs) (λ c κs. search needs)
+    (λ c κs. search needs) (λ c κs. search needs) (λ c κs. search needs) (λ c κs. search needs) returns)

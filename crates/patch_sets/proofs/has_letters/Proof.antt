@@ -11,24 +11,6 @@ use borrow.Author.Needs.{needs}
 use Rattle.patch_sets.proofs.has_letters.Statement.{statement}
 use Rattle.patch_sets.proofs.has_letters.Tie as tie
 
-enum-told : tie.Need-enum-told
-enum-told c = search needs
-
-slice-aggregate-starts-with : tie.Need-slice-aggregate-starts-with
-slice-aggregate-starts-with c = search needs
-
-starts-with-requires : tie.Need-starts-with-requires
-starts-with-requires c κs = search needs
-
-enum-told-2 : tie.Need-enum-told-2
-enum-told-2 c = search needs
-
-slice-aggregate-starts-with-2 : tie.Need-slice-aggregate-starts-with-2
-slice-aggregate-starts-with-2 c = search needs
-
-starts-with-requires-2 : tie.Need-starts-with-requires-2
-starts-with-requires-2 c κs = search needs
-
 returns : tie.Need-returns
 unfolding editionDigit letters
 returns c =
@@ -46,12 +28,5 @@ returns-2 c =
 pub has-letters-spec : {M : Type 1} → statement M
 has-letters-spec =
     tie.close
-    (tie.spec
-    enum-told
-    slice-aggregate-starts-with
-    starts-with-requires
-    enum-told-2
-    slice-aggregate-starts-with-2
-    starts-with-requires-2
-    returns
-    returns-2)
+    (tie.spec (λ c. search needs) (λ c. search needs) (λ c κs. search needs) (λ c. search needs) (λ c. search needs)
+    (λ c κs. search needs) returns returns-2)

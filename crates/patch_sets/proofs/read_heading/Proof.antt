@@ -33,15 +33,6 @@ start c = c .before .before .before .before
 number : (c : tie.After-known-told) → some (c .before .letters .given .0 .0) ≡ firstNumber 4 (set (start c))
 number c = let call = c .before .before .before in sym (ap numberU32 (c .before .letters .given .1)) ∙ call .read-u32-at .ensures
 
-read-u32-at-requires : tie.Need-read-u32-at-requires
-read-u32-at-requires c κs = search needs
-
-enum-known-letters : tie.Need-enum-known-letters
-enum-known-letters c = search needs
-
-enum-told : tie.Need-enum-told
-enum-told c = search needs
-
 returns : tie.Need-returns
 returns c =
     let call = c .before .before in
@@ -56,12 +47,6 @@ returns-2 c =
     let l = set (start k) in
     let refusal = other-number (edition (start k)) l (all-bytes (start k)) (k .before .letters .given .0 .0) (number k) (λ e. omega (arith, e)) in
     rw (heading-refused (edition (start k)) l malformed refusal)
-
-has-letters-requires : tie.Need-has-letters-requires
-has-letters-requires c κs = search needs
-
-count-at-requires : tie.Need-count-at-requires
-count-at-requires c κs = search needs
 
 returns-3 : tie.Need-returns-3
 unfolding letters
@@ -83,13 +68,5 @@ returns-4 c =
 pub read-heading-spec : {M : Type 1} → statement M
 read-heading-spec =
     tie.close
-    (tie.spec
-    read-u32-at-requires
-    enum-known-letters
-    enum-told
-    returns
-    returns-2
-    has-letters-requires
-    count-at-requires
-    returns-3
-    returns-4)
+    (tie.spec (λ c κs. search needs) (λ c. search needs) (λ c. search needs) returns returns-2 (λ c κs. search needs)
+    (λ c κs. search needs) returns-3 returns-4)

@@ -28,24 +28,6 @@ front c =
     let bound = c .before .envelope2 .given in
     envelope-got (part call) 0 (call .envelope .result) (call .envelope .ensures) (all-bytes call) (bound .0 .0) (at c) (bound .1)
 
-envelope-requires : tie.Need-envelope-requires
-envelope-requires c κs = search needs
-
-enum-known-envelope : tie.Need-enum-known-envelope
-enum-known-envelope c = search needs
-
-count-at-requires : tie.Need-count-at-requires
-count-at-requires c κs = search needs
-
-enum-known-count : tie.Need-enum-known-count
-enum-known-count c = search needs
-
-enum-known-fault : tie.Need-enum-known-fault
-enum-known-fault c = search needs
-
-enum-known-fault-2 : tie.Need-enum-known-fault-2
-enum-known-fault-2 c = search needs
-
 returns : tie.Need-returns
 unfolding readHead
 returns c =
@@ -77,13 +59,5 @@ returns-3 c =
 pub read-patch-head-spec : {M : Type 1} → statement M
 read-patch-head-spec =
     tie.close
-    (tie.spec
-    envelope-requires
-    enum-known-envelope
-    count-at-requires
-    enum-known-count
-    enum-known-fault
-    enum-known-fault-2
-    returns
-    returns-2
-    returns-3)
+    (tie.spec (λ c κs. search needs) (λ c. search needs) (λ c κs. search needs) (λ c. search needs) (λ c. search needs)
+    (λ c. search needs) returns returns-2 returns-3)

@@ -13,18 +13,6 @@ use Rattle.patch_sets.proofs.surface_of.Tie as tie
 surface-is : (r : StaticSurfaceId) (n : ℕ) → r .0 ≡ n → r ≡ record { 0 = n }
 surface-is r n e = ap (λ (k : ℕ). record { 0 = k }) e
 
-enum-told : tie.Need-enum-told
-enum-told c = search needs
-
-enum-known-number : tie.Need-enum-known-number
-enum-known-number c = search needs
-
-new-requires : tie.Need-new-requires
-new-requires c κs = search needs
-
-returns : tie.Need-returns
-returns c = search needs
-
 returns-2 : tie.Need-returns-2
 returns-2 c =
     let bound = c .before .before .number .given in
@@ -33,10 +21,4 @@ returns-2 c =
 
 pub surface-of-spec : {M : Type 1} → statement M
 surface-of-spec =
-    tie.close
-    (tie.spec
-    enum-told
-    enum-known-number
-    new-requires
-    returns
-    returns-2)
+    tie.close (tie.spec (λ c. search needs) (λ c. search needs) (λ c κs. search needs) (λ c. search needs) returns-2)

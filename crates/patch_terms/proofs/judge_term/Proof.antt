@@ -10,18 +10,6 @@ use Rattle.patch_terms.proofs.judge_term.Tie as tie
 abbrev text : tie.After-judge-text → List ℕ
 text k = k .before .before .args .text .now
 
-judge-text-requires : tie.Need-judge-text-requires
-judge-text-requires c κs = search needs
-
-enum-told : tie.Need-enum-told
-enum-told c = search needs
-
-enum-told-2 : tie.Need-enum-told-2
-enum-told-2 c = search needs
-
-enum-told-3 : tie.Need-enum-told-3
-enum-told-3 c = search needs
-
 returns : tie.Need-returns
 returns c =
     let k = c .before .before .before in
@@ -45,12 +33,5 @@ returns-4 c =
 pub judge-term-spec : {M : Type 1} → statement M
 judge-term-spec =
     tie.close
-    (tie.spec
-    judge-text-requires
-    enum-told
-    enum-told-2
-    enum-told-3
-    returns
-    returns-2
-    returns-3
+    (tie.spec (λ c κs. search needs) (λ c. search needs) (λ c. search needs) (λ c. search needs) returns returns-2 returns-3
     returns-4)

@@ -57,35 +57,11 @@ short c =
     let p = placed k in
     omega (arith, starts-within (length (firstTermLine (bytes p))) (readTerm (firstTermLine (bytes p))) _ (c .before .key .given .0 .1 .0) (told k _ (c .before .key .given .1)), ends p)
 
-sub-place-of : tie.Need-sub-place-of
-sub-place-of c = search needs
-
-part-place-of-start : tie.Need-part-place-of-start
-part-place-of-start c = search needs
-
-part-place-of-end : tie.Need-part-place-of-end
-part-place-of-end c = search needs
-
-place-of-requires : tie.Need-place-of-requires
-place-of-requires c κs = search needs
-
 add-end : tie.Need-add-end
 add-end c = omega (arith, within c)
 
-sub-read-term : tie.Need-sub-read-term
-sub-read-term c = search needs
-
-part-read-term-start : tie.Need-part-read-term-start
-part-read-term-start c = search needs
-
 part-read-term-end : tie.Need-part-read-term-end
 part-read-term-end c = within c
-
-read-term-requires : tie.Need-read-term-requires
-read-term-requires c κs = search needs
-
-enum-known-key : tie.Need-enum-known-key
-enum-known-key c = search needs
 
 add-t16 : tie.Need-add-t16
 add-t16 c = let k = c .before .before .before in omega (arith, short c, within (placed k))
@@ -99,12 +75,6 @@ sub-t18 c = short c
 add-t19 : tie.Need-add-t19
 add-t19 c = let k = c .before .before .before in omega (arith, short c, within (placed k))
 
-enum-told : tie.Need-enum-told
-enum-told c = search needs
-
-enum-told-2 : tie.Need-enum-told-2
-enum-told-2 c = search needs
-
 returns : tie.Need-returns
 returns c = let k = c .before .before .before in answers k _ (c .before .key .given .1)
 
@@ -117,23 +87,6 @@ returns-3 c = let k = c .before .before in answers k _ (c .enum-told2 .given .1)
 pub read-line-spec : {M : Type 1} → statement M
 read-line-spec =
     tie.close
-    (tie.spec
-    sub-place-of
-    part-place-of-start
-    part-place-of-end
-    place-of-requires
-    add-end
-    sub-read-term
-    part-read-term-start
-    part-read-term-end
-    read-term-requires
-    enum-known-key
-    add-t16
-    add-t17
-    sub-t18
-    add-t19
-    enum-told
-    enum-told-2
-    returns
-    returns-2
-    returns-3)
+    (tie.spec (λ c. search needs) (λ c. search needs) (λ c. search needs) (λ c κs. search needs) add-end (λ c. search needs)
+    (λ c. search needs) part-read-term-end (λ c κs. search needs) (λ c. search needs) add-t16 add-t17 sub-t18 add-t19
+    (λ c. search needs) (λ c. search needs) returns returns-2 returns-3)

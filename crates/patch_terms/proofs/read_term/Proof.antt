@@ -60,9 +60,6 @@ spelled k =
     let h = head (k .before .before .before .before .before) in
     sym (k .read-u64 .ensures ∙ ap (λ (n : ℕ). readDecimal (take n (line h))) (h .place-of .ensures))
 
-place-of-requires : tie.Need-place-of-requires
-place-of-requires c κs = search needs
-
 returns : tie.Need-returns
 returns c = line-whole (line (c .before)) (sym (c .before .place-of .ensures) ∙ c .if1 .taken)
 
@@ -74,12 +71,6 @@ sub-place-of c = inside c
 
 part-place-of-start : tie.Need-part-place-of-start
 part-place-of-start c = inside c
-
-part-place-of-end : tie.Need-part-place-of-end
-part-place-of-end c = search needs
-
-place-of-requires-2 : tie.Need-place-of-requires-2
-place-of-requires-2 c κs = search needs
 
 sub-if2 : tie.Need-sub-if2
 sub-if2 c = inside (c .before .before)
@@ -93,26 +84,11 @@ returns-2 c =
 slice-aggregate-read-u64 : tie.Need-slice-aggregate-read-u64
 slice-aggregate-read-u64 c = sym (length-take-le _ _ (within (head (c .before .before .before .before))))
 
-read-u64-requires : tie.Need-read-u64-requires
-read-u64-requires c κs = search needs
-
-enum-known-key : tie.Need-enum-known-key
-enum-known-key c = search needs
-
 sub-judge-term : tie.Need-sub-judge-term
 sub-judge-term c = inside (c .before .before .before .before .before .before .before .before)
 
 part-judge-term-start : tie.Need-part-judge-term-start
 part-judge-term-start c = inside (c .before .before .before .before .before .before .before .before)
-
-part-judge-term-end : tie.Need-part-judge-term-end
-part-judge-term-end c = search needs
-
-judge-term-requires : tie.Need-judge-term-requires
-judge-term-requires c κs = search needs
-
-enum-told : tie.Need-enum-told
-enum-told c = search needs
 
 returns-3 : tie.Need-returns-3
 returns-3 c =
@@ -133,23 +109,6 @@ returns-4 c =
 pub read-term-spec : {M : Type 1} → statement M
 read-term-spec =
     tie.close
-    (tie.spec
-    place-of-requires
-    returns
-    add-start
-    sub-place-of
-    part-place-of-start
-    part-place-of-end
-    place-of-requires-2
-    sub-if2
-    returns-2
-    slice-aggregate-read-u64
-    read-u64-requires
-    enum-known-key
-    sub-judge-term
-    part-judge-term-start
-    part-judge-term-end
-    judge-term-requires
-    enum-told
-    returns-3
-    returns-4)
+    (tie.spec (λ c κs. search needs) returns add-start sub-place-of part-place-of-start (λ c. search needs)
+    (λ c κs. search needs) sub-if2 returns-2 slice-aggregate-read-u64 (λ c κs. search needs) (λ c. search needs) sub-judge-term
+    part-judge-term-start (λ c. search needs) (λ c κs. search needs) (λ c. search needs) returns-3 returns-4)

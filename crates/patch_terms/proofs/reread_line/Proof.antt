@@ -73,50 +73,17 @@ spelled k =
     let same = sym (take-take (bytePlaceOf tab (line p)) (bytePlaceOf newline (bytes p)) (bytes p) (omega (arith, tab-at t, before-end t, place p))) in
     k .read-u64 .ensures ∙ ap (λ (n : ℕ). readDecimal (take n (bytes p))) size ∙ ap readDecimal same ∙ known-key (line p) (holds p .key) (holds p .start) (holds p .is) .0
 
-sub-place-of : tie.Need-sub-place-of
-sub-place-of c = search needs
-
-part-place-of-start : tie.Need-part-place-of-start
-part-place-of-start c = search needs
-
-part-place-of-end : tie.Need-part-place-of-end
-part-place-of-end c = search needs
-
-place-of-requires : tie.Need-place-of-requires
-place-of-requires c κs = search needs
-
 add-end : tie.Need-add-end
 add-end c = omega (arith, within c)
-
-sub-place-of-2 : tie.Need-sub-place-of-2
-sub-place-of-2 c = search needs
-
-part-place-of-start-2 : tie.Need-part-place-of-start-2
-part-place-of-start-2 c = search needs
 
 part-place-of-end-2 : tie.Need-part-place-of-end-2
 part-place-of-end-2 c = within c
 
-place-of-requires-2 : tie.Need-place-of-requires-2
-place-of-requires-2 c κs = search needs
-
 add-tab : tie.Need-add-tab
 add-tab c = omega (arith, before-end c, within (placed c))
 
-sub-read-u64 : tie.Need-sub-read-u64
-sub-read-u64 c = search needs
-
-part-read-u64-start : tie.Need-part-read-u64-start
-part-read-u64-start c = search needs
-
 part-read-u64-end : tie.Need-part-read-u64-end
 part-read-u64-end c = omega (arith, before-end c, within (placed c))
-
-read-u64-requires : tie.Need-read-u64-requires
-read-u64-requires c κs = search needs
-
-enum-known-key : tie.Need-enum-known-key
-enum-known-key c = search needs
 
 -- the text starts within the line
 short : (c : tie.After-known-told) → let t = parted (c .before .before .before) in at (placed t) + t .place-of2 .result + 1 ≤ at (placed t) + placed t .place-of .result
@@ -133,9 +100,6 @@ sub-t21 c = short c
 
 add-t22 : tie.Need-add-t22
 add-t22 c = omega (arith, within (placed (parted (c .before .before .before))))
-
-enum-told : tie.Need-enum-told
-enum-told c = search needs
 
 returns : tie.Need-returns
 returns c =
@@ -160,26 +124,7 @@ returns-2 c =
 pub reread-line-spec : {M : Type 1} → statement M
 reread-line-spec =
     tie.close
-    (tie.spec
-    sub-place-of
-    part-place-of-start
-    part-place-of-end
-    place-of-requires
-    add-end
-    sub-place-of-2
-    part-place-of-start-2
-    part-place-of-end-2
-    place-of-requires-2
-    add-tab
-    sub-read-u64
-    part-read-u64-start
-    part-read-u64-end
-    read-u64-requires
-    enum-known-key
-    add-t19
-    add-t20
-    sub-t21
-    add-t22
-    enum-told
-    returns
+    (tie.spec (λ c. search needs) (λ c. search needs) (λ c. search needs) (λ c κs. search needs) add-end (λ c. search needs)
+    (λ c. search needs) part-place-of-end-2 (λ c κs. search needs) add-tab (λ c. search needs) (λ c. search needs)
+    part-read-u64-end (λ c κs. search needs) (λ c. search needs) add-t19 add-t20 sub-t21 add-t22 (λ c. search needs) returns
     returns-2)

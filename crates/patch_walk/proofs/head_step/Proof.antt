@@ -14,21 +14,6 @@ use Rattle.patch_walk.proofs.head_step.Tie as tie
 returns : tie.Need-returns
 returns c = let a = c .before .before .args in (no-head-past (a .set .now) (a .cursor) (c .if1 .taken), tt)
 
-sub-read-patch-head : tie.Need-sub-read-patch-head
-sub-read-patch-head c = search needs
-
-part-read-patch-head-start : tie.Need-part-read-patch-head-start
-part-read-patch-head-start c = search needs
-
-part-read-patch-head-end : tie.Need-part-read-patch-head-end
-part-read-patch-head-end c = search needs
-
-read-patch-head-requires : tie.Need-read-patch-head-requires
-read-patch-head-requires c κs = search needs
-
-enum-known-head : tie.Need-enum-known-head
-enum-known-head c = search needs
-
 -- the head ends within the set
 on : (c : tie.After-known-told) → let a = c .before .before .before .before .before .before .before .args in (a .cursor .at < a .cursor .at + c .before .head .given .0 .1 .0) × (a .cursor .at + c .before .head .given .0 .1 .0 ≤ length (a .set .now))
 on c =
@@ -39,15 +24,6 @@ on c =
 
 add-t16 : tie.Need-add-t16
 add-t16 c = omega (arith, on (c .before) .1)
-
-sub-t17 : tie.Need-sub-t17
-sub-t17 c = search needs
-
-raw-requires : tie.Need-raw-requires
-raw-requires c κs = search needs
-
-enum-known-fault : tie.Need-enum-known-fault
-enum-known-fault c = search needs
 
 returns-2 : tie.Need-returns-2
 returns-2 c =
@@ -68,16 +44,5 @@ returns-3 c =
 pub head-step-spec : {M : Type 1} → statement M
 head-step-spec =
     tie.close
-    (tie.spec
-    returns
-    sub-read-patch-head
-    part-read-patch-head-start
-    part-read-patch-head-end
-    read-patch-head-requires
-    enum-known-head
-    add-t16
-    sub-t17
-    raw-requires
-    enum-known-fault
-    returns-2
-    returns-3)
+    (tie.spec returns (λ c. search needs) (λ c. search needs) (λ c. search needs) (λ c κs. search needs) (λ c. search needs)
+    add-t16 (λ c. search needs) (λ c κs. search needs) (λ c. search needs) returns-2 returns-3)

@@ -6,15 +6,9 @@ use borrow.Author.Needs.{needs}
 use Rattle.patch_walk.proofs.next_step.Statement.{statement}
 use Rattle.patch_walk.proofs.next_step.Tie as tie
 
-operation-step-requires : tie.Need-operation-step-requires
-operation-step-requires c κs = search needs
-
 returns : tie.Need-returns
 unfolding stepAnswer
 returns c = (c .operation-step .ensures .0 ∙ rw (lt-ltb 0 _ (c .before .if1 .taken)), c .operation-step .ensures .1)
-
-head-step-requires : tie.Need-head-step-requires
-head-step-requires c κs = search needs
 
 returns-2 : tie.Need-returns-2
 unfolding stepAnswer
@@ -26,4 +20,4 @@ returns-3 c = (rw (le-ltb 0 _ (c .before .before .if1 .left), le-ltb 0 _ (c .if2
 
 pub next-step-spec : {M : Type 1} → statement M
 next-step-spec =
-    tie.close (tie.spec operation-step-requires returns head-step-requires returns-2 returns-3)
+    tie.close (tie.spec (λ c κs. search needs) returns (λ c κs. search needs) returns-2 returns-3)

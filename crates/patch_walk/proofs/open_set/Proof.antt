@@ -16,15 +16,6 @@ use Rattle.patch_walk.proofs.open_set.Tie as tie
 returns : tie.Need-returns
 returns c = rw (lt-leb (length (c .before .before .args .set .now)) setBytes (c .if1 .taken))
 
-read-heading-requires : tie.Need-read-heading-requires
-read-heading-requires c κs = search needs
-
-enum-known-count : tie.Need-enum-known-count
-enum-known-count c = search needs
-
-enum-known-fault : tie.Need-enum-known-fault
-enum-known-fault c = search needs
-
 returns-2 : tie.Need-returns-2
 returns-2 c =
     let call = c .before .before .before in
@@ -43,5 +34,4 @@ returns-3 c =
 
 pub open-set-spec : {M : Type 1} → statement M
 open-set-spec =
-    tie.close
-    (tie.spec returns read-heading-requires enum-known-count enum-known-fault returns-2 returns-3)
+    tie.close (tie.spec returns (λ c κs. search needs) (λ c. search needs) (λ c. search needs) returns-2 returns-3)

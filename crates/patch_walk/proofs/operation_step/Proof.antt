@@ -14,21 +14,6 @@ returns c =
     let a = c .before .before .args in
     (no-operation-past (a .set .now) (a .cursor) (a .strict) (editionOf (a .edition)) (c .if1 .taken), tt)
 
-sub-operation-from : tie.Need-sub-operation-from
-sub-operation-from c = search needs
-
-part-operation-from-start : tie.Need-part-operation-from-start
-part-operation-from-start c = search needs
-
-part-operation-from-end : tie.Need-part-operation-from-end
-part-operation-from-end c = search needs
-
-operation-from-requires : tie.Need-operation-from-requires
-operation-from-requires c κs = search needs
-
-enum-known-operation : tie.Need-enum-known-operation
-enum-known-operation c = search needs
-
 -- the operation ends within the set
 on : (c : tie.After-known-told) → let a = c .before .before .before .before .before .before .before .args in (a .cursor .at < a .cursor .at + c .before .operation .given .0 .1 .0) × (a .cursor .at + c .before .operation .given .0 .1 .0 ≤ length (a .set .now))
 on c =
@@ -39,12 +24,6 @@ on c =
 
 add-t17 : tie.Need-add-t17
 add-t17 c = omega (arith, on c .1)
-
-sub-t18 : tie.Need-sub-t18
-sub-t18 c = search needs
-
-enum-known-fault : tie.Need-enum-known-fault
-enum-known-fault c = search needs
 
 returns-2 : tie.Need-returns-2
 returns-2 c =
@@ -64,15 +43,5 @@ returns-3 c =
 pub operation-step-spec : {M : Type 1} → statement M
 operation-step-spec =
     tie.close
-    (tie.spec
-    returns
-    sub-operation-from
-    part-operation-from-start
-    part-operation-from-end
-    operation-from-requires
-    enum-known-operation
-    add-t17
-    sub-t18
-    enum-known-fault
-    returns-2
-    returns-3)
+    (tie.spec returns (λ c. search needs) (λ c. search needs) (λ c. search needs) (λ c κs. search needs) (λ c. search needs)
+    add-t17 (λ c. search needs) (λ c. search needs) returns-2 returns-3)

@@ -11,18 +11,6 @@ use borrow.Author.Needs.{needs}
 use Rattle.patch_walk.proofs.read_set.Statement.{statement}
 use Rattle.patch_walk.proofs.read_set.Tie as tie
 
-open-set-requires : tie.Need-open-set-requires
-open-set-requires c κs = search needs
-
-enum-known-first : tie.Need-enum-known-first
-enum-known-first c = search needs
-
-read-steps-requires : tie.Need-read-steps-requires
-read-steps-requires c κs = search needs
-
-enum-known-fault : tie.Need-enum-known-fault
-enum-known-fault c = search needs
-
 abbrev set : tie.After-open-set → List ℕ
 set c = c .before .before .args .set .now
 
@@ -41,10 +29,4 @@ returns-2 c = left (c .before .before .before) _ (c .before .fault .given .1)
 pub read-set-spec : {M : Type 1} → statement M
 read-set-spec =
     tie.close
-    (tie.spec
-    open-set-requires
-    enum-known-first
-    read-steps-requires
-    enum-known-fault
-    returns
-    returns-2)
+    (tie.spec (λ c κs. search needs) (λ c. search needs) (λ c κs. search needs) (λ c. search needs) returns returns-2)

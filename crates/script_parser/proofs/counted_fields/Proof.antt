@@ -19,15 +19,6 @@ by-numbers c =
     ap (λ (k : ℕ). numbers k (λ ns. lastArguments form (filled k ns)) (fieldsAfter space (args .line .now) (args .end))) (sym (c .before .number-count .ensures .0))
     ∙ c .read-numbers .ensures (lastArguments form)
 
-number-count-requires : tie.Need-number-count-requires
-number-count-requires c κs = search needs
-
-read-numbers-requires : tie.Need-read-numbers-requires
-read-numbers-requires c κs = search needs
-
-last-fields-requires : tie.Need-last-fields-requires
-last-fields-requires c κs = search needs
-
 returns : tie.Need-returns
 returns c =
     let read = c .before .before .before in
@@ -42,10 +33,4 @@ returns-2 c =
 
 pub counted-fields-spec : {M : Type 1} → statement M
 counted-fields-spec =
-    tie.close
-    (tie.spec
-    number-count-requires
-    read-numbers-requires
-    last-fields-requires
-    returns
-    returns-2)
+    tie.close (tie.spec (λ c κs. search needs) (λ c κs. search needs) (λ c κs. search needs) returns returns-2)

@@ -15,21 +15,6 @@ nothing-there : (line out : List ℕ) (from : ℕ) → length line ≤ from → 
 unfolding readHex decoding decodedInto
 nothing-there line out from h = (rw (drop-of-length-le line h), rw (drop-of-length-le line h))
 
-sub-decode-hex : tie.Need-sub-decode-hex
-sub-decode-hex c = search needs
-
-part-decode-hex-start : tie.Need-part-decode-hex-start
-part-decode-hex-start c = search needs
-
-part-decode-hex-end : tie.Need-part-decode-hex-end
-part-decode-hex-end c = search needs
-
-decode-hex-requires : tie.Need-decode-hex-requires
-decode-hex-requires c κs = search needs
-
-same-length : tie.Need-same-length
-same-length c = search needs
-
 returns : tie.Need-returns
 returns c =
     let called = c .before .before in
@@ -47,11 +32,5 @@ returns-2 c =
 pub decode-set-spec : {M : Type 1} → statement M
 decode-set-spec =
     tie.close
-    (tie.spec
-    sub-decode-hex
-    part-decode-hex-start
-    part-decode-hex-end
-    decode-hex-requires
-    same-length
-    returns
+    (tie.spec (λ c. search needs) (λ c. search needs) (λ c. search needs) (λ c κs. search needs) (λ c. search needs) returns
     returns-2)

@@ -20,22 +20,10 @@ with-set f ns fs e = ap (λ (t : Bool). (if t then hex (λ set. end (f .makes ns
 without-set : (f : Form) (ns : List ℕ) (fs : List (List ℕ)) → f .withSet ≡ false → lastArguments f ns fs ≡ end (f .makes ns []) fs
 without-set f ns fs e = ap (λ (t : Bool). (if t then hex (λ set. end (f .makes ns set)) else end (f .makes ns [])) fs) e
 
-has-set-requires : tie.Need-has-set-requires
-has-set-requires c κs = search needs
-
-last-hex-requires : tie.Need-last-hex-requires
-last-hex-requires c κs = search needs
-
-enum-known-from : tie.Need-enum-known-from
-enum-known-from c = search needs
-
 set-command-requires : tie.Need-set-command-requires
 set-command-requires c κs =
     let test = c .before .before .before .before in
     (test .before .before .before .pre, sym (test .before .has-set .ensures) ∙ test .if1 .taken)
-
-enum-told : tie.Need-enum-told
-enum-told c = search needs
 
 returns : tie.Need-returns
 returns c =
@@ -75,14 +63,5 @@ returns-4 c =
 pub last-fields-spec : {M : Type 1} → statement M
 last-fields-spec =
     tie.close
-    (tie.spec
-    has-set-requires
-    last-hex-requires
-    enum-known-from
-    set-command-requires
-    enum-told
-    returns
-    returns-2
-    returns-3
-    command-of-requires
-    returns-4)
+    (tie.spec (λ c κs. search needs) (λ c κs. search needs) (λ c. search needs) set-command-requires (λ c. search needs)
+    returns returns-2 returns-3 command-of-requires returns-4)

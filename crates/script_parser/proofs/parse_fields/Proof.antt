@@ -5,9 +5,6 @@ use borrow.Author.Needs.{needs}
 use Rattle.script_parser.proofs.parse_fields.Statement.{statement}
 use Rattle.script_parser.proofs.parse_fields.Tie as tie
 
-find-form-requires : tie.Need-find-form-requires
-find-form-requires c κs = search needs
-
 returns : tie.Need-returns
 returns c =
     let found = c .before .before in
@@ -18,17 +15,11 @@ returns-2 c =
     let found = c .before .before .before .before in
     sym (found .find-form .ensures .asks ∙ page-asked (found .find-form .result .form) _ (c .if2 .taken))
 
-read-import-requires : tie.Need-read-import-requires
-read-import-requires c κs = search needs
-
 returns-3 : tie.Need-returns-3
 returns-3 c =
     let brought = c .before in
     let found = brought .before .before .before .before .before .before in
     c .read-import .ensures ∙ sym (found .find-form .ensures .asks ∙ import-asked (found .find-form .result .form) _ (brought .if3 .taken))
-
-counted-fields-requires : tie.Need-counted-fields-requires
-counted-fields-requires c κs = search needs
 
 returns-4 : tie.Need-returns-4
 returns-4 c =
@@ -41,4 +32,4 @@ returns-4 c =
 pub parse-fields-spec : {M : Type 1} → statement M
 parse-fields-spec =
     tie.close
-    (tie.spec find-form-requires returns returns-2 read-import-requires returns-3 counted-fields-requires returns-4)
+    (tie.spec (λ c κs. search needs) returns returns-2 (λ c κs. search needs) returns-3 (λ c κs. search needs) returns-4)

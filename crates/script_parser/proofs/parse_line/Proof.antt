@@ -11,16 +11,10 @@ returns c = sym (line-too-long (c .before .before .args .line .now) (c .if1 .tak
 returns-2 : tie.Need-returns-2
 returns-2 c = sym (no-byte (c .before .before .before .args .line .now) (c .if2 .taken))
 
-shared-slice-read-if3 : tie.Need-shared-slice-read-if3
-shared-slice-read-if3 c = search needs
-
 returns-3 : tie.Need-returns-3
 returns-3 c =
     let tested = c .before .before in
     sym (comment (tested .before .before .before .args .line .now) (tested .before .if1 .left) (tested .if2 .left) (c .if3 .taken))
-
-parse-fields-requires : tie.Need-parse-fields-requires
-parse-fields-requires c κs = search needs
 
 returns-4 : tie.Need-returns-4
 returns-4 c =
@@ -30,5 +24,4 @@ returns-4 c =
 
 pub parse-line-spec : {M : Type 1} → statement M
 parse-line-spec =
-    tie.close
-    (tie.spec returns returns-2 shared-slice-read-if3 returns-3 parse-fields-requires returns-4)
+    tie.close (tie.spec returns returns-2 (λ c. search needs) returns-3 (λ c κs. search needs) returns-4)

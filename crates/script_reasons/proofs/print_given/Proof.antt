@@ -13,24 +13,6 @@ use borrow.Author.Needs.{needs}
 use Rattle.script_reasons.proofs.print_given.Statement.{statement}
 use Rattle.script_reasons.proofs.print_given.Tie as tie
 
-print-byte-requires : tie.Need-print-byte-requires
-print-byte-requires c κs = search needs
-
-number-of-requires : tie.Need-number-of-requires
-number-of-requires c κs = search needs
-
-print-field-u64-requires : tie.Need-print-field-u64-requires
-print-field-u64-requires c κs = search needs
-
-print-word-requires : tie.Need-print-word-requires
-print-word-requires c κs = search needs
-
-print-figures-requires : tie.Need-print-figures-requires
-print-figures-requires c κs = search needs
-
-same-length : tie.Need-same-length
-same-length c = search needs
-
 returns : tie.Need-returns
 unfolding fields reasonLine
 returns c =
@@ -40,11 +22,5 @@ returns c =
 pub print-given-spec : {M : Type 1} → statement M
 print-given-spec =
     tie.close
-    (tie.spec
-    print-byte-requires
-    number-of-requires
-    print-field-u64-requires
-    print-word-requires
-    print-figures-requires
-    same-length
-    returns)
+    (tie.spec (λ c κs. search needs) (λ c κs. search needs) (λ c κs. search needs) (λ c κs. search needs)
+    (λ c κs. search needs) (λ c. search needs) returns)

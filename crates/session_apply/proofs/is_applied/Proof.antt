@@ -5,15 +5,6 @@ use borrow.Author.Needs.{needs}
 use Rattle.session_apply.proofs.is_applied.Statement.{statement}
 use Rattle.session_apply.proofs.is_applied.Tie as tie
 
-enum-told : tie.Need-enum-told
-enum-told c = search needs
-
-enum-told-2 : tie.Need-enum-told-2
-enum-told-2 c = search needs
-
-enum-told-3 : tie.Need-enum-told-3
-enum-told-3 c = search needs
-
 returns : tie.Need-returns
 unfolding isApplied
 returns c = sym (ap isApplied (c .enum-told .given .1))
@@ -27,4 +18,5 @@ unfolding isApplied
 returns-3 c = sym (ap isApplied (c .enum-told3 .given .1))
 
 pub is-applied-spec : {M : Type 1} → statement M
-is-applied-spec = tie.close (tie.spec enum-told enum-told-2 enum-told-3 returns returns-2 returns-3)
+is-applied-spec =
+    tie.close (tie.spec (λ c. search needs) (λ c. search needs) (λ c. search needs) returns returns-2 returns-3)

@@ -8,23 +8,11 @@ use borrow.Author.Needs.{needs}
 use Rattle.session_creation.proofs.create_shell_session.Statement.{statement}
 use Rattle.session_creation.proofs.create_shell_session.Tie as tie
 
-anchors-within-requires : tie.Need-anchors-within-requires
-anchors-within-requires c κs = search needs
-
-from-snapshot-requires : tie.Need-from-snapshot-requires
-from-snapshot-requires c κs = search needs
-
-new-requires : tie.Need-new-requires
-new-requires c κs = search needs
-
 returns : tie.Need-returns
 returns c =
     let a = c .before .before .before .before .before .before .args in
     created-is (a .id) (a .limits) (now (a .nodes)) (a .pairs) (a .given) (now (a .collections)) _ (sym (c .before .before .before .anchors-within .ensures) ∙ c .before .before .if1 .taken)
     (c .new .ensures ∙ ap (λ (k : ActiveProjectionTargetCatalog). newState (record { «session_id» = record { 0 = a .id }; limits = a .limits; catalog = k })) (c .before .from-snapshot .ensures))
-
-no-session-requires : tie.Need-no-session-requires
-no-session-requires c κs = search needs
 
 returns-2 : tie.Need-returns-2
 returns-2 c =
@@ -32,4 +20,6 @@ returns-2 c =
     refused-is (a .id) (a .limits) (now (a .nodes)) (a .pairs) (a .given) (now (a .collections)) _ (sym (c .before .before .anchors-within .ensures) ∙ c .before .if1 .left) (c .no-session .ensures)
 
 pub create-shell-session-spec : {M : Type 1} → statement M
-create-shell-session-spec = tie.close (tie.spec anchors-within-requires from-snapshot-requires new-requires returns no-session-requires returns-2)
+create-shell-session-spec =
+    tie.close
+    (tie.spec (λ c κs. search needs) (λ c κs. search needs) (λ c κs. search needs) returns (λ c κs. search needs) returns-2)

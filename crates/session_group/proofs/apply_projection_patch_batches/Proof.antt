@@ -24,9 +24,6 @@ refused s places count sets e = (
   record { kept = refl; number = λ bs names. ap (λ (t : Bool). if t then 0 else groupNumber) (sym (names-group names sets ∙ e)) },
 )
 
-is-group-requires : tie.Need-is-group-requires
-is-group-requires c κs = search needs
-
 send-all-requires : tie.Need-send-all-requires
 send-all-requires c κs =
     let args = c .before .before .before .args in
@@ -42,9 +39,6 @@ returns c =
       record { kept = sent .1 .0; number = λ bs names. sent .1 .1 ∙ ap (λ (t : Bool). if t then 0 else groupNumber) (sym (names-group names sets ∙ is)) },
     )
 
-not-a-group-requires : tie.Need-not-a-group-requires
-not-a-group-requires c κs = search needs
-
 returns-2 : tie.Need-returns-2
 returns-2 c =
     let args = c .before .before .before .before .args in
@@ -53,4 +47,4 @@ returns-2 c =
 
 pub apply-projection-patch-batches-spec : {M : Type 1} → statement M
 apply-projection-patch-batches-spec =
-    tie.close (tie.spec is-group-requires send-all-requires returns not-a-group-requires returns-2)
+    tie.close (tie.spec (λ c κs. search needs) send-all-requires returns (λ c κs. search needs) returns-2)

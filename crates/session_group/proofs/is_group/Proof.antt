@@ -11,13 +11,11 @@ returns c = let args = c .before .args in sym (none-named (args .count) (args .b
 returns-2 : tie.Need-returns-2
 returns-2 c = let args = c .before .before .args in sym (many-named (args .count) (args .batches) (args .bytes) (c .if2 .taken))
 
-adds-up-requires : tie.Need-adds-up-requires
-adds-up-requires c κs = search needs
-
 returns-3 : tie.Need-returns-3
 returns-3 c =
     let args = c .before .before .before .args in
     c .adds-up .ensures ∙ sym (some-named (args .count) (args .batches) (args .bytes) (c .before .before .if1 .left) (c .before .if2 .left))
 
 pub is-group-spec : {M : Type 1} → statement M
-is-group-spec = tie.close (tie.spec returns returns-2 adds-up-requires returns-3)
+is-group-spec =
+    tie.close (tie.spec returns returns-2 (λ c κs. search needs) returns-3)

@@ -5,15 +5,6 @@ use Rattle.session_steps.specs.Answers.{dispositionTold}
 use Rattle.session_group.proofs.is_rejected.Statement.{statement}
 use Rattle.session_group.proofs.is_rejected.Tie as tie
 
-enum-told : tie.Need-enum-told
-enum-told c = search needs
-
-enum-told-2 : tie.Need-enum-told-2
-enum-told-2 c = search needs
-
-enum-told-3 : tie.Need-enum-told-3
-enum-told-3 c = search needs
-
 returns : tie.Need-returns
 unfolding isRejected dispositionTold
 returns c = search needs
@@ -27,4 +18,5 @@ unfolding isRejected dispositionTold
 returns-3 c = search needs
 
 pub is-rejected-spec : {M : Type 1} → statement M
-is-rejected-spec = tie.close (tie.spec enum-told enum-told-2 enum-told-3 returns returns-2 returns-3)
+is-rejected-spec =
+    tie.close (tie.spec (λ c. search needs) (λ c. search needs) (λ c. search needs) returns returns-2 returns-3)

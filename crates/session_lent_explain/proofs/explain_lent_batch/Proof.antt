@@ -7,12 +7,6 @@ use borrow.Author.Needs.{needs}
 use Rattle.session_lent_explain.proofs.explain_lent_batch.Statement.{statement}
 use Rattle.session_lent_explain.proofs.explain_lent_batch.Tie as tie
 
-anchors-shaped-requires : tie.Need-anchors-shaped-requires
-anchors-shaped-requires c κs = search needs
-
-half-shaped-requires : tie.Need-half-shaped-requires
-half-shaped-requires c κs = search needs
-
 explain-shaped-requires : tie.Need-explain-shaped-requires
 explain-shaped-requires c κs = half-head _ _ _ _ (sym (c .before .half-shaped .ensures) ∙ c .if2 .taken)
 
@@ -32,11 +26,4 @@ returns-3 c = viewed-refused _ refl (anchors-unshaped _ _ _ _ _ _ _ (sym (c .bef
 
 pub explain-lent-batch-spec : {M : Type 1} → statement M
 explain-lent-batch-spec =
-    tie.close
-    (tie.spec
-    anchors-shaped-requires
-    half-shaped-requires
-    explain-shaped-requires
-    returns
-    returns-2
-    returns-3)
+    tie.close (tie.spec (λ c κs. search needs) (λ c κs. search needs) explain-shaped-requires returns returns-2 returns-3)

@@ -9,21 +9,6 @@ use Rattle.session_lent_turns.proofs.keep_turn.Reads as reads
 use Rattle.session_lent_turns.proofs.keep_turn.Lts as lts
 use Rattle.session_lent_turns.proofs.store_turns.Reads as store-turns-reads
 
-enum-told : tie.Need-enum-told
-enum-told c = search needs
-
-enum-told-2 : tie.Need-enum-told-2
-enum-told-2 c = search needs
-
-store-turns-requires : tie.Need-store-turns-requires
-store-turns-requires c κs = search needs
-
-returns : tie.Need-returns
-returns c = search needs
-
-same-length : tie.Need-same-length
-same-length c = search needs
-
 returns-2 : tie.Need-returns-2
 returns-2 c =
     let a = c .before .before .before .before .before .before .before .args in
@@ -31,4 +16,5 @@ returns-2 c =
 
 pub keep-turn-spec : {M : Type 1} → statement M
 keep-turn-spec =
-    tie.close (tie.spec enum-told enum-told-2 store-turns-requires returns same-length returns-2)
+    tie.close
+    (tie.spec (λ c. search needs) (λ c. search needs) (λ c κs. search needs) (λ c. search needs) (λ c. search needs) returns-2)

@@ -18,18 +18,6 @@ use Rattle.session_turns.proofs.SenderTurns.register.Reads as register-reads
 returns : tie.Need-returns
 returns c = record { other = λ no. (refl, refl); eleven = λ yes. absurd (c .if1 .taken yes) }
 
-turns-in-requires : tie.Need-turns-in-requires
-turns-in-requires c κs = search needs
-
-register-requires : tie.Need-register-requires
-register-requires c κs = search needs
-
-keep-registration-requires : tie.Need-keep-registration-requires
-keep-registration-requires c κs = search needs
-
-same-length : tie.Need-same-length
-same-length c = search needs
-
 returns-2 : tie.Need-returns-2
 returns-2 c =
     let a = c .before .before .before .before .before .before .before .before .before .before .args in
@@ -42,10 +30,4 @@ returns-2 c =
 pub register-spec : {M : Type 1} → statement M
 register-spec =
     tie.close
-    (tie.spec
-    returns
-    turns-in-requires
-    register-requires
-    keep-registration-requires
-    same-length
-    returns-2)
+    (tie.spec returns (λ c κs. search needs) (λ c κs. search needs) (λ c κs. search needs) (λ c. search needs) returns-2)

@@ -14,15 +14,6 @@ use Rattle.session_turns.proofs.SenderTurns.new.Reads as new-reads
 returns : tie.Need-returns
 returns c = record { other = λ no. (refl, refl); eleven = λ yes. absurd (c .if1 .taken yes) }
 
-new-requires : tie.Need-new-requires
-new-requires c κs = search needs
-
-keep-set-up-requires : tie.Need-keep-set-up-requires
-keep-set-up-requires c κs = search needs
-
-same-length : tie.Need-same-length
-same-length c = search needs
-
 returns-2 : tie.Need-returns-2
 returns-2 c =
     let a = c .before .before .before .before .before .before .before .before .args in
@@ -33,4 +24,5 @@ returns-2 c =
     }
 
 pub set-up-spec : {M : Type 1} → statement M
-set-up-spec = tie.close (tie.spec returns new-requires keep-set-up-requires same-length returns-2)
+set-up-spec =
+    tie.close (tie.spec returns (λ c κs. search needs) (λ c κs. search needs) (λ c. search needs) returns-2)

@@ -19,18 +19,6 @@ use Rattle.session_turns.proofs.SenderTurns.turn.Reads as turn-reads
 returns : tie.Need-returns
 returns c = record { other = λ no. (refl, refl); eleven = λ yes. absurd (c .if1 .taken yes) }
 
-turns-in-requires : tie.Need-turns-in-requires
-turns-in-requires c κs = search needs
-
-turn-requires : tie.Need-turn-requires
-turn-requires c κs = search needs
-
-keep-turn-requires : tie.Need-keep-turn-requires
-keep-turn-requires c κs = search needs
-
-same-length : tie.Need-same-length
-same-length c = search needs
-
 returns-2 : tie.Need-returns-2
 returns-2 c =
     let a = c .before .before .before .before .before .before .before .before .before .before .args in
@@ -43,4 +31,4 @@ returns-2 c =
 pub turn-spec : {M : Type 1} → statement M
 turn-spec =
     tie.close
-    (tie.spec returns turns-in-requires turn-requires keep-turn-requires same-length returns-2)
+    (tie.spec returns (λ c κs. search needs) (λ c κs. search needs) (λ c κs. search needs) (λ c. search needs) returns-2)

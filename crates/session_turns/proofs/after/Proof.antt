@@ -9,9 +9,6 @@ use Rattle.session_turns.proofs.after.Tie as tie
 returns : tie.Need-returns
 returns c = sym (after-last _ _ (omega arith))
 
-add-next : tie.Need-add-next
-add-next c = search needs
-
 returns-2 : tie.Need-returns-2
 returns-2 c = sym (after-next _ _ (omega arith))
 
@@ -19,4 +16,5 @@ returns-3 : tie.Need-returns-3
 returns-3 c = sym (after-last _ _ (omega arith))
 
 pub after-spec : {M : Type 1} → statement M
-after-spec = tie.close (tie.spec returns add-next returns-2 returns-3)
+after-spec =
+    tie.close (tie.spec returns (λ c. search needs) returns-2 returns-3)

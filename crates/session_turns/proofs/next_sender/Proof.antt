@@ -9,12 +9,6 @@ use Rattle.session_turns.specs.MeaningLaws.{searched}
 use Rattle.session_turns.proofs.next_sender.Statement.{statement}
 use Rattle.session_turns.proofs.next_sender.Tie as tie
 
-with-flags-requires : tie.Need-with-flags-requires
-with-flags-requires c κs = search needs
-
-first-asked-requires : tie.Need-first-asked-requires
-first-asked-requires c κs = search needs
-
 array-share-prefix-waiting : tie.Need-array-share-prefix-waiting
 array-share-prefix-waiting c = let whole : length (c .before .before .before .args .turns .waiting) ≡ mostSenders = search needs in omega arith
 
@@ -22,9 +16,6 @@ slice-aggregate-first-waiting : tie.Need-slice-aggregate-first-waiting
 slice-aggregate-first-waiting c =
     let whole : length (c .before .before .before .before .args .turns .waiting) ≡ mostSenders = search needs in
     sym (length-take-le _ _ (omega arith))
-
-first-waiting-requires : tie.Need-first-waiting-requires
-first-waiting-requires c κs = search needs
 
 returns : tie.Need-returns
 returns c =
@@ -34,10 +25,5 @@ returns c =
 pub next-sender-spec : {M : Type 1} → statement M
 next-sender-spec =
     tie.close
-    (tie.spec
-    with-flags-requires
-    first-asked-requires
-    array-share-prefix-waiting
-    slice-aggregate-first-waiting
-    first-waiting-requires
-    returns)
+    (tie.spec (λ c κs. search needs) (λ c κs. search needs) array-share-prefix-waiting slice-aggregate-first-waiting
+    (λ c κs. search needs) returns)

@@ -7,15 +7,6 @@ use Rattle.session_lifecycle.specs.Meaning.{cursorOf}
 use Rattle.session_turns.proofs.number_after.Statement.{statement}
 use Rattle.session_turns.proofs.number_after.Tie as tie
 
-enum-told : tie.Need-enum-told
-enum-told c = search needs
-
-enum-known-cursor : tie.Need-enum-known-cursor
-enum-known-cursor c = search needs
-
-add-result : tie.Need-add-result
-add-result c = search needs
-
 returns : tie.Need-returns
 unfolding numberAfter cursorOf
 returns c = rw (c .before .before .cursor .given .1, lt-ltb (c .before .before .cursor .given .0 .0) largestU64 (c .if1 .taken))
@@ -30,4 +21,4 @@ returns-3 c = rw (c .before .before .cursor .given .1, le-ltb (c .before .before
 
 pub number-after-spec : {M : Type 1} → statement M
 number-after-spec =
-    tie.close (tie.spec enum-told enum-known-cursor add-result returns returns-2 returns-3)
+    tie.close (tie.spec (λ c. search needs) (λ c. search needs) (λ c. search needs) returns returns-2 returns-3)

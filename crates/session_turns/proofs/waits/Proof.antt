@@ -6,14 +6,9 @@ use lib.ListN.{List·getD-eq-default}
 use Rattle.session_turns.proofs.waits.Statement.{statement}
 use Rattle.session_turns.proofs.waits.Tie as tie
 
-shared-slice-read-result : tie.Need-shared-slice-read-result
-shared-slice-read-result c = search needs
-
-returns : tie.Need-returns
-returns c = search needs
-
 returns-2 : tie.Need-returns-2
 returns-2 c = sym (List·getD-eq-default (c .before .args .waiting .now) false (c .if1 .left))
 
 pub waits-spec : {M : Type 1} → statement M
-waits-spec = tie.close (tie.spec shared-slice-read-result returns returns-2)
+waits-spec =
+    tie.close (tie.spec (λ c. search needs) (λ c. search needs) returns-2)

@@ -12,11 +12,6 @@ slice-aggregate-run-both c = sym (length-replicate {0} {A = ℕ} 1048576 0)
 slice-aggregate-run-both-2 : tie.Need-slice-aggregate-run-both-2
 slice-aggregate-run-both-2 c = sym (length-replicate {0} {A = ℕ} 262144 0)
 
-run-both-requires : tie.Need-run-both-requires
-run-both-requires c κs = search needs
-
-returns : tie.Need-returns
-returns c = search needs
-
 pub main-spec : {M : Type 1} → statement M
-main-spec = tie.close (tie.spec slice-aggregate-run-both slice-aggregate-run-both-2 run-both-requires returns)
+main-spec =
+    tie.close (tie.spec slice-aggregate-run-both slice-aggregate-run-both-2 (λ c κs. search needs) (λ c. search needs))

@@ -9,11 +9,6 @@ use Rattle.test_rewriter.proofs.main.Tie as tie
 slice-aggregate-run : tie.Need-slice-aggregate-run
 slice-aggregate-run c = sym (length-replicate {0} {A = ℕ} 1048576 0)
 
-run-requires : tie.Need-run-requires
-run-requires c κs = search needs
-
-returns : tie.Need-returns
-returns c = search needs
-
 pub main-spec : {M : Type 1} → statement M
-main-spec = tie.close (tie.spec slice-aggregate-run run-requires returns)
+main-spec =
+    tie.close (tie.spec slice-aggregate-run (λ c κs. search needs) (λ c. search needs))

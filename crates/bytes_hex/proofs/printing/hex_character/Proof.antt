@@ -5,19 +5,14 @@ use Rattle.spec_replay.specs.Hex.{hexCharacter}
 use Rattle.bytes_hex.proofs.printing.hex_character.Statement.{statement}
 use Rattle.bytes_hex.proofs.printing.hex_character.Tie as tie
 
-add-result : tie.Need-add-result
-add-result c = search needs
-
 returns : tie.Need-returns
 unfolding hexCharacter
 returns c = rw (lt-ltb (c .before .args .digit) 10 (c .if1 .taken))
-
-add-result-2 : tie.Need-add-result-2
-add-result-2 c = search needs
 
 returns-2 : tie.Need-returns-2
 unfolding hexCharacter
 returns-2 c = rw (le-ltb (c .before .args .digit) 10 (c .if1 .left))
 
 pub hex-character-spec : {M : Type 1} → statement M
-hex-character-spec = tie.close (tie.spec add-result returns add-result-2 returns-2)
+hex-character-spec =
+    tie.close (tie.spec (λ c. search needs) returns (λ c. search needs) returns-2)

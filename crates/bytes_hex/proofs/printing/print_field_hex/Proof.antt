@@ -20,27 +20,12 @@ unfolding hexField
 some-bytes [] h = absurd (h refl)
 some-bytes (b ∷ bs) h = refl
 
-print-byte-requires : tie.Need-print-byte-requires
-print-byte-requires c κs = search needs
-
-print-byte-requires-2 : tie.Need-print-byte-requires-2
-print-byte-requires-2 c κs = search needs
-
-same-length : tie.Need-same-length
-same-length c = search needs
-
 returns : tie.Need-returns
 returns c =
     let dash = c .before .before in
     let test = dash .before .before in
     let tab = test .before .before .before in
     tab .print-byte .ensures ⨾ same-bytes (no-bytes _ (test .if1 .taken)) (dash .print-byte2 .ensures)
-
-print-pairs-requires : tie.Need-print-pairs-requires
-print-pairs-requires c κs = search needs
-
-same-length-2 : tie.Need-same-length-2
-same-length-2 c = search needs
 
 returns-2 : tie.Need-returns-2
 returns-2 c =
@@ -52,11 +37,5 @@ returns-2 c =
 pub print-field-hex-spec : {M : Type 1} → statement M
 print-field-hex-spec =
     tie.close
-    (tie.spec
-    print-byte-requires
-    print-byte-requires-2
-    same-length
-    returns
-    print-pairs-requires
-    same-length-2
-    returns-2)
+    (tie.spec (λ c κs. search needs) (λ c κs. search needs) (λ c. search needs) returns (λ c κs. search needs)
+    (λ c. search needs) returns-2)

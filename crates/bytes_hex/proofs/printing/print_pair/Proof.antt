@@ -8,21 +8,6 @@ use Rattle.bytes_printer.specs.PrintsLaws.{_⨾_, same-bytes}
 use Rattle.bytes_hex.proofs.printing.print_pair.Statement.{statement}
 use Rattle.bytes_hex.proofs.printing.print_pair.Tie as tie
 
-hex-character-requires : tie.Need-hex-character-requires
-hex-character-requires c κs = search needs
-
-print-byte-requires : tie.Need-print-byte-requires
-print-byte-requires c κs = search needs
-
-hex-character-requires-2 : tie.Need-hex-character-requires-2
-hex-character-requires-2 c κs = search needs
-
-print-byte-requires-2 : tie.Need-print-byte-requires-2
-print-byte-requires-2 c κs = search needs
-
-same-length : tie.Need-same-length
-same-length c = search needs
-
 returns : tie.Need-returns
 unfolding bytePair
 returns c =
@@ -35,10 +20,5 @@ returns c =
 pub print-pair-spec : {M : Type 1} → statement M
 print-pair-spec =
     tie.close
-    (tie.spec
-    hex-character-requires
-    print-byte-requires
-    hex-character-requires-2
-    print-byte-requires-2
-    same-length
+    (tie.spec (λ c κs. search needs) (λ c κs. search needs) (λ c κs. search needs) (λ c κs. search needs) (λ c. search needs)
     returns)

@@ -18,21 +18,6 @@ returns c = row-below _ _ _ _ _ (c .before .number-of .ensures) (search needs)
 returns-2 : tie.Need-returns-2
 returns-2 c = row-above _ _ _ _ _ (c .before .before .number-of .ensures) (search needs)
 
-add-end : tie.Need-add-end
-add-end c = search needs
-
-sub-number-of : tie.Need-sub-number-of
-sub-number-of c = search needs
-
-part-number-of-start : tie.Need-part-number-of-start
-part-number-of-start c = search needs
-
-part-number-of-end : tie.Need-part-number-of-end
-part-number-of-end c = search needs
-
-number-of-requires-2 : tie.Need-number-of-requires-2
-number-of-requires-2 c κs = search needs
-
 returns-3 : tie.Need-returns-3
 returns-3 c =
     let read = c .before in
@@ -54,16 +39,5 @@ returns-5 c =
 pub compare-spec : {M : Type 1} → statement M
 compare-spec =
     tie.close
-    (tie.spec
-    slice-aggregate-number-of
-    number-of-requires
-    returns
-    returns-2
-    add-end
-    sub-number-of
-    part-number-of-start
-    part-number-of-end
-    number-of-requires-2
-    returns-3
-    returns-4
-    returns-5)
+    (tie.spec slice-aggregate-number-of number-of-requires returns returns-2 (λ c. search needs) (λ c. search needs)
+    (λ c. search needs) (λ c. search needs) (λ c κs. search needs) returns-3 returns-4 returns-5)

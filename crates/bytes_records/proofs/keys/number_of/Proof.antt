@@ -9,29 +9,11 @@ use Rattle.bytes_records.proofs.Numbers.{number-halves, number-fits}
 use Rattle.bytes_records.proofs.keys.number_of.Statement.{statement}
 use Rattle.bytes_records.proofs.keys.number_of.Tie as tie
 
-half-number-requires : tie.Need-half-number-requires
-half-number-requires c κs = search needs
-
-returns : tie.Need-returns
-returns c = search needs
-
 slice-aggregate-half-number : tie.Need-slice-aggregate-half-number
 slice-aggregate-half-number c = simp length-take (omega arith)
 
 half-number-requires-2 : tie.Need-half-number-requires-2
 half-number-requires-2 c κs = simp length-take (omega arith)
-
-sub-half-number : tie.Need-sub-half-number
-sub-half-number c = search needs
-
-part-half-number-start : tie.Need-part-half-number-start
-part-half-number-start c = search needs
-
-part-half-number-end : tie.Need-part-half-number-end
-part-half-number-end c = search needs
-
-half-number-requires-3 : tie.Need-half-number-requires-3
-half-number-requires-3 c κs = search needs
 
 fits : (c : tie.After-half-number3) → c .before .before .half-number2 .result + c .half-number3 .result * 0x1_0000_0000 < 2 ^ 64
 fits c =
@@ -55,15 +37,5 @@ returns-2 c =
 pub number-of-spec : {M : Type 1} → statement M
 number-of-spec =
     tie.close
-    (tie.spec
-    half-number-requires
-    returns
-    slice-aggregate-half-number
-    half-number-requires-2
-    sub-half-number
-    part-half-number-start
-    part-half-number-end
-    half-number-requires-3
-    mul-result
-    add-result
-    returns-2)
+    (tie.spec (λ c κs. search needs) (λ c. search needs) slice-aggregate-half-number half-number-requires-2 (λ c. search needs)
+    (λ c. search needs) (λ c. search needs) (λ c κs. search needs) mul-result add-result returns-2)

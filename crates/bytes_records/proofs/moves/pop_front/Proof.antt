@@ -4,27 +4,6 @@ use Rattle.bytes_records.proofs.Turns.{popped}
 use Rattle.bytes_records.proofs.moves.pop_front.Statement.{statement}
 use Rattle.bytes_records.proofs.moves.pop_front.Tie as tie
 
-shift-down-requires : tie.Need-shift-down-requires
-shift-down-requires c κs = search needs
-
-sub-end : tie.Need-sub-end
-sub-end c = search needs
-
-sub-clear : tie.Need-sub-clear
-sub-clear c = search needs
-
-part-clear-start : tie.Need-part-clear-start
-part-clear-start c = search needs
-
-part-clear-end : tie.Need-part-clear-end
-part-clear-end c = search needs
-
-clear-requires : tie.Need-clear-requires
-clear-requires c κs = search needs
-
-same-length : tie.Need-same-length
-same-length c = search needs
-
 returns : tie.Need-returns
 returns c =
     let at-clear = c .before .before in
@@ -35,4 +14,5 @@ returns c =
 pub pop-front-spec : {M : Type 1} → statement M
 pop-front-spec =
     tie.close
-    (tie.spec shift-down-requires sub-end sub-clear part-clear-start part-clear-end clear-requires same-length returns)
+    (tie.spec (λ c κs. search needs) (λ c. search needs) (λ c. search needs) (λ c. search needs) (λ c. search needs)
+    (λ c κs. search needs) (λ c. search needs) returns)

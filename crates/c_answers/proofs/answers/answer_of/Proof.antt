@@ -8,15 +8,6 @@ use Rattle.c_answers.proofs.answers.cursor_kind.Reads as cursor-kind-re
 use Rattle.c_answers.proofs.answers.cursor_number.Reads as cursor-number-reads
 use Rattle.c_answers.proofs.answers.disposition_number.Reads as disposition-number-reads
 
-disposition-number-requires : tie.Need-disposition-number-requires
-disposition-number-requires c κs = search needs
-
-cursor-kind-requires : tie.Need-cursor-kind-requires
-cursor-kind-requires c κs = search needs
-
-cursor-number-requires : tie.Need-cursor-number-requires
-cursor-number-requires c κs = search needs
-
 returns : tie.Need-returns
 returns c =
     let a = c .before .before .before .before .args in
@@ -24,5 +15,4 @@ returns c =
 
 pub answer-of-spec : {M : Type 1} → statement M
 answer-of-spec =
-    tie.close
-    (tie.spec disposition-number-requires cursor-kind-requires cursor-number-requires returns)
+    tie.close (tie.spec (λ c κs. search needs) (λ c κs. search needs) (λ c κs. search needs) returns)

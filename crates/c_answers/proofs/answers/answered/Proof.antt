@@ -9,18 +9,6 @@ use Rattle.c_answers.proofs.answers.answered.Lts as lts
 use Rattle.c_answers.proofs.answers.answer_of.Reads as answer-of-reads
 use Rattle.c_answers.proofs.answers.unanswered.Reads as unanswered-reads
 
-enum-known-answer : tie.Need-enum-known-answer
-enum-known-answer c = search needs
-
-answer-of-requires : tie.Need-answer-of-requires
-answer-of-requires c κs = search needs
-
-enum-told : tie.Need-enum-told
-enum-told c = search needs
-
-unanswered-requires : tie.Need-unanswered-requires
-unanswered-requires c κs = search needs
-
 returns : tie.Need-returns
 returns c = c .answer-of .ensures ∙ ap batchTold (sym (c .before .before .answer .given .1))
 
@@ -30,4 +18,4 @@ returns-2 c = c .unanswered .ensures ∙ ap batchTold (sym (c .before .enum-told
 pub answered-spec : {M : Type 1} → statement M
 answered-spec =
     tie.close
-    (tie.spec enum-known-answer answer-of-requires enum-told unanswered-requires returns returns-2)
+    (tie.spec (λ c. search needs) (λ c κs. search needs) (λ c. search needs) (λ c κs. search needs) returns returns-2)

@@ -8,12 +8,6 @@ use Rattle.c_answers.proofs.answers.cursor_kind.Tie as tie
 use Rattle.c_answers.proofs.answers.cursor_kind.Reads as reads
 use Rattle.c_answers.proofs.answers.cursor_kind.Lts as lts
 
-enum-told : tie.Need-enum-told
-enum-told c = search needs
-
-enum-told-2 : tie.Need-enum-told-2
-enum-told-2 c = search needs
-
 returns : tie.Need-returns
 unfolding cursorOf
 returns c = ap (λ k. cursorKind (cursorOf k)) (sym (c .enum-told .given .1))
@@ -23,4 +17,5 @@ unfolding cursorOf
 returns-2 c = ap (λ k. cursorKind (cursorOf k)) (sym (c .enum-told2 .given .1))
 
 pub cursor-kind-spec : {M : Type 1} → statement M
-cursor-kind-spec = tie.close (tie.spec enum-told enum-told-2 returns returns-2)
+cursor-kind-spec =
+    tie.close (tie.spec (λ c. search needs) (λ c. search needs) returns returns-2)

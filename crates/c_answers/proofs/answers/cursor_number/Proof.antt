@@ -8,12 +8,6 @@ use Rattle.c_answers.proofs.answers.cursor_number.Tie as tie
 use Rattle.c_answers.proofs.answers.cursor_number.Reads as reads
 use Rattle.c_answers.proofs.answers.cursor_number.Lts as lts
 
-enum-told : tie.Need-enum-told
-enum-told c = search needs
-
-enum-known-cursor : tie.Need-enum-known-cursor
-enum-known-cursor c = search needs
-
 returns : tie.Need-returns
 unfolding cursorOf
 returns c = ap (λ k. cursorNumber (cursorOf k)) (sym (c .enum-told .given .1))
@@ -23,4 +17,5 @@ unfolding cursorOf
 returns-2 c = ap (λ k. cursorNumber (cursorOf k)) (sym (c .before .cursor .given .1))
 
 pub cursor-number-spec : {M : Type 1} → statement M
-cursor-number-spec = tie.close (tie.spec enum-told enum-known-cursor returns returns-2)
+cursor-number-spec =
+    tie.close (tie.spec (λ c. search needs) (λ c. search needs) returns returns-2)

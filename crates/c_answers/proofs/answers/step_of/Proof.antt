@@ -9,18 +9,6 @@ use Rattle.c_answers.proofs.answers.cursor_number.Reads as cursor-numbe
 use Rattle.c_answers.proofs.answers.lifecycle_number.Reads as lifecycle-number-reads
 use Rattle.c_answers.proofs.answers.step_number.Reads as step-number-reads
 
-step-number-requires : tie.Need-step-number-requires
-step-number-requires c κs = search needs
-
-lifecycle-number-requires : tie.Need-lifecycle-number-requires
-lifecycle-number-requires c κs = search needs
-
-cursor-kind-requires : tie.Need-cursor-kind-requires
-cursor-kind-requires c κs = search needs
-
-cursor-number-requires : tie.Need-cursor-number-requires
-cursor-number-requires c κs = search needs
-
 returns : tie.Need-returns
 returns c =
     let a = c .before .before .before .before .before .before .args in
@@ -28,10 +16,4 @@ returns c =
 
 pub step-of-spec : {M : Type 1} → statement M
 step-of-spec =
-    tie.close
-    (tie.spec
-    step-number-requires
-    lifecycle-number-requires
-    cursor-kind-requires
-    cursor-number-requires
-    returns)
+    tie.close (tie.spec (λ c κs. search needs) (λ c κs. search needs) (λ c κs. search needs) (λ c κs. search needs) returns)

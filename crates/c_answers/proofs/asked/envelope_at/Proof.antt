@@ -13,30 +13,6 @@ use Rattle.projection_patch.proofs.patch.ProjectionPatchId.new.Reads as patch-P
 use Rattle.projection_patch.proofs.patch.ProjectionPatchSequence.new.Reads as patch-ProjectionPatchSequence-new-reads
 use Rattle.projection_patch.proofs.patch.ProjectionPatchStreamId.new.Reads as patch-ProjectionPatchStreamId-new-reads
 
-new-requires : tie.Need-new-requires
-new-requires c κs = search needs
-
-new-requires-2 : tie.Need-new-requires-2
-new-requires-2 c κs = search needs
-
-new-requires-3 : tie.Need-new-requires-3
-new-requires-3 c κs = search needs
-
-surface-at-requires : tie.Need-surface-at-requires
-surface-at-requires c κs = search needs
-
-new-requires-4 : tie.Need-new-requires-4
-new-requires-4 c κs = search needs
-
-new-requires-5 : tie.Need-new-requires-5
-new-requires-5 c κs = search needs
-
-new-requires-6 : tie.Need-new-requires-6
-new-requires-6 c κs = search needs
-
-new-requires-7 : tie.Need-new-requires-7
-new-requires-7 c κs = search needs
-
 returns : tie.Need-returns
 unfolding envelopeAt
 returns c =
@@ -45,13 +21,5 @@ returns c =
 pub envelope-at-spec : {M : Type 1} → statement M
 envelope-at-spec =
     tie.close
-    (tie.spec
-    new-requires
-    new-requires-2
-    new-requires-3
-    surface-at-requires
-    new-requires-4
-    new-requires-5
-    new-requires-6
-    new-requires-7
-    returns)
+    (tie.spec (λ c κs. search needs) (λ c κs. search needs) (λ c κs. search needs) (λ c κs. search needs)
+    (λ c κs. search needs) (λ c κs. search needs) (λ c κs. search needs) (λ c κs. search needs) returns)

@@ -14,12 +14,10 @@ returns : tie.Need-returns
 unfolding surfaceAt
 returns c = rw (eq-eqb _ 0 (c .if1 .taken)) refl
 
-new-requires : tie.Need-new-requires
-new-requires c κs = search needs
-
 returns-2 : tie.Need-returns-2
 unfolding surfaceAt
 returns-2 c = rw (ne-eqb _ 0 (c .before .if1 .left)) (ap some (c .new .ensures))
 
 pub surface-at-spec : {M : Type 1} → statement M
-surface-at-spec = tie.close (tie.spec returns new-requires returns-2)
+surface-at-spec =
+    tie.close (tie.spec returns (λ c κs. search needs) returns-2)

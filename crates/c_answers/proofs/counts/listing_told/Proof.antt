@@ -9,18 +9,6 @@ use Rattle.c_answers.proofs.counts.listing_told.Lts as lts
 use Rattle.c_answers.proofs.counts.not_counted.Reads as not-counted-reads
 use Rattle.c_answers.proofs.counts.written_to.Reads as written-to-reads
 
-enum-known-answer : tie.Need-enum-known-answer
-enum-known-answer c = search needs
-
-written-to-requires : tie.Need-written-to-requires
-written-to-requires c κs = search needs
-
-enum-told : tie.Need-enum-told
-enum-told c = search needs
-
-not-counted-requires : tie.Need-not-counted-requires
-not-counted-requires c κs = search needs
-
 returns : tie.Need-returns
 returns c = c .written-to .ensures ∙ ap listingTold (sym (c .before .before .answer .given .1))
 
@@ -30,10 +18,4 @@ returns-2 c = c .not-counted .ensures ∙ ap listingTold (sym (c .before .enum-t
 pub listing-told-spec : {M : Type 1} → statement M
 listing-told-spec =
     tie.close
-    (tie.spec
-    enum-known-answer
-    written-to-requires
-    enum-told
-    not-counted-requires
-    returns
-    returns-2)
+    (tie.spec (λ c. search needs) (λ c κs. search needs) (λ c. search needs) (λ c κs. search needs) returns returns-2)

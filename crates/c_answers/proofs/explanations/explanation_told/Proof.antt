@@ -7,24 +7,6 @@ use borrow.Author.Needs.{needs}
 use Rattle.c_answers.proofs.explanations.explanation_told.Statement.{statement}
 use Rattle.c_answers.proofs.explanations.explanation_told.Tie as tie
 
-enum-told : tie.Need-enum-told
-enum-told c = search needs
-
-not-explained-requires : tie.Need-not-explained-requires
-not-explained-requires c κs = search needs
-
-enum-told-2 : tie.Need-enum-told-2
-enum-told-2 c = search needs
-
-not-explained-requires-2 : tie.Need-not-explained-requires-2
-not-explained-requires-2 c κs = search needs
-
-enum-known-explanation : tie.Need-enum-known-explanation
-enum-known-explanation c = search needs
-
-reason-told-requires : tie.Need-reason-told-requires
-reason-told-requires c κs = search needs
-
 returns : tie.Need-returns
 returns c = c .not-explained .ensures ∙ sym (ap (λ (x : BatchExplanation). explanationTold (explanationOf x)) (c .before .enum-told .given .1))
 
@@ -37,13 +19,5 @@ returns-3 c = c .reason-told .ensures ∙ sym (ap (λ (x : BatchExplanation). ex
 pub explanation-told-spec : {M : Type 1} → statement M
 explanation-told-spec =
     tie.close
-    (tie.spec
-    enum-told
-    not-explained-requires
-    enum-told-2
-    not-explained-requires-2
-    enum-known-explanation
-    reason-told-requires
-    returns
-    returns-2
-    returns-3)
+    (tie.spec (λ c. search needs) (λ c κs. search needs) (λ c. search needs) (λ c κs. search needs) (λ c. search needs)
+    (λ c κs. search needs) returns returns-2 returns-3)

@@ -5,18 +5,6 @@ use borrow.Author.Needs.{needs}
 use Rattle.c_answers.proofs.explanations.lent_explanation_told.Statement.{statement}
 use Rattle.c_answers.proofs.explanations.lent_explanation_told.Tie as tie
 
-enum-known-answer : tie.Need-enum-known-answer
-enum-known-answer c = search needs
-
-explanation-told-requires : tie.Need-explanation-told-requires
-explanation-told-requires c κs = search needs
-
-enum-told : tie.Need-enum-told
-enum-told c = search needs
-
-not-explained-requires : tie.Need-not-explained-requires
-not-explained-requires c κs = search needs
-
 returns : tie.Need-returns
 returns c = c .explanation-told .ensures ∙ sym (ap lentExplanationTold (c .before .before .answer .given .1))
 
@@ -26,10 +14,4 @@ returns-2 c = c .not-explained .ensures ∙ sym (ap lentExplanationTold (c .befo
 pub lent-explanation-told-spec : {M : Type 1} → statement M
 lent-explanation-told-spec =
     tie.close
-    (tie.spec
-    enum-known-answer
-    explanation-told-requires
-    enum-told
-    not-explained-requires
-    returns
-    returns-2)
+    (tie.spec (λ c. search needs) (λ c κs. search needs) (λ c. search needs) (λ c κs. search needs) returns returns-2)

@@ -3,12 +3,6 @@ use borrow.Author.Needs.{needs}
 use Rattle.c_answers.proofs.explanations.not_explained.Statement.{statement}
 use Rattle.c_answers.proofs.explanations.not_explained.Tie as tie
 
-no-place-requires : tie.Need-no-place-requires
-no-place-requires c κs = search needs
-
-figures-requires : tie.Need-figures-requires
-figures-requires c κs = search needs
-
 returns : tie.Need-returns
 returns c = λ i. record {
   disposition = c .before .before .args .disposition;
@@ -19,4 +13,5 @@ returns c = λ i. record {
 }
 
 pub not-explained-spec : {M : Type 1} → statement M
-not-explained-spec = tie.close (tie.spec no-place-requires figures-requires returns)
+not-explained-spec =
+    tie.close (tie.spec (λ c κs. search needs) (λ c κs. search needs) returns)

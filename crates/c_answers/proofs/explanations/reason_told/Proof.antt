@@ -5,18 +5,6 @@ use borrow.Author.Needs.{needs}
 use Rattle.c_answers.proofs.explanations.reason_told.Statement.{statement}
 use Rattle.c_answers.proofs.explanations.reason_told.Tie as tie
 
-number-of-requires : tie.Need-number-of-requires
-number-of-requires c κs = search needs
-
-rule-number-requires : tie.Need-rule-number-requires
-rule-number-requires c κs = search needs
-
-rule-place-requires : tie.Need-rule-place-requires
-rule-place-requires c κs = search needs
-
-rule-figures-requires : tie.Need-rule-figures-requires
-rule-figures-requires c κs = search needs
-
 returns : tie.Need-returns
 returns c = λ i. record {
   disposition = 2;
@@ -28,10 +16,4 @@ returns c = λ i. record {
 
 pub reason-told-spec : {M : Type 1} → statement M
 reason-told-spec =
-    tie.close
-    (tie.spec
-    number-of-requires
-    rule-number-requires
-    rule-place-requires
-    rule-figures-requires
-    returns)
+    tie.close (tie.spec (λ c κs. search needs) (λ c κs. search needs) (λ c κs. search needs) (λ c κs. search needs) returns)

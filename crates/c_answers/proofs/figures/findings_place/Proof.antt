@@ -7,18 +7,6 @@ use borrow.Author.Needs.{needs}
 use Rattle.c_answers.proofs.figures.findings_place.Statement.{statement}
 use Rattle.c_answers.proofs.figures.findings_place.Tie as tie
 
-enum-known-place : tie.Need-enum-known-place
-enum-known-place c = search needs
-
-patch-place-requires : tie.Need-patch-place-requires
-patch-place-requires c κs = search needs
-
-enum-told : tie.Need-enum-told
-enum-told c = search needs
-
-no-place-requires : tie.Need-no-place-requires
-no-place-requires c κs = search needs
-
 returns : tie.Need-returns
 returns c = c .patch-place .ensures ∙ sym (ap (λ (x : CheckPlace). findingsPlace (findingPlaceOf x)) (c .before .before .place .given .1))
 
@@ -28,10 +16,4 @@ returns-2 c = c .no-place .ensures ∙ sym (ap (λ (x : CheckPlace). findingsPla
 pub findings-place-spec : {M : Type 1} → statement M
 findings-place-spec =
     tie.close
-    (tie.spec
-    enum-known-place
-    patch-place-requires
-    enum-told
-    no-place-requires
-    returns
-    returns-2)
+    (tie.spec (λ c. search needs) (λ c κs. search needs) (λ c. search needs) (λ c κs. search needs) returns returns-2)

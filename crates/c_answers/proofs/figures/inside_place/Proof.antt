@@ -7,24 +7,6 @@ use borrow.Author.Needs.{needs}
 use Rattle.c_answers.proofs.figures.inside_place.Statement.{statement}
 use Rattle.c_answers.proofs.figures.inside_place.Tie as tie
 
-enum-told : tie.Need-enum-told
-enum-told c = search needs
-
-no-place-requires : tie.Need-no-place-requires
-no-place-requires c κs = search needs
-
-enum-known-inside : tie.Need-enum-known-inside
-enum-known-inside c = search needs
-
-patch-place-requires : tie.Need-patch-place-requires
-patch-place-requires c κs = search needs
-
-enum-known-inside-2 : tie.Need-enum-known-inside-2
-enum-known-inside-2 c = search needs
-
-operation-place-requires : tie.Need-operation-place-requires
-operation-place-requires c κs = search needs
-
 returns : tie.Need-returns
 returns c = c .no-place .ensures ∙ sym (ap (λ (x : Inside). insidePlace (insideOf x)) (c .before .enum-told .given .1))
 
@@ -37,13 +19,5 @@ returns-3 c = c .operation-place .ensures ∙ sym (ap (λ (x : Inside). insidePl
 pub inside-place-spec : {M : Type 1} → statement M
 inside-place-spec =
     tie.close
-    (tie.spec
-    enum-told
-    no-place-requires
-    enum-known-inside
-    patch-place-requires
-    enum-known-inside-2
-    operation-place-requires
-    returns
-    returns-2
-    returns-3)
+    (tie.spec (λ c. search needs) (λ c κs. search needs) (λ c. search needs) (λ c κs. search needs) (λ c. search needs)
+    (λ c κs. search needs) returns returns-2 returns-3)

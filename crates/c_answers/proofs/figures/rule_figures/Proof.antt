@@ -7,66 +7,6 @@ use borrow.Author.Needs.{needs}
 use Rattle.c_answers.proofs.figures.rule_figures.Statement.{statement}
 use Rattle.c_answers.proofs.figures.rule_figures.Tie as tie
 
-enum-known-reason : tie.Need-enum-known-reason
-enum-known-reason c = search needs
-
-figures-requires : tie.Need-figures-requires
-figures-requires c κs = search needs
-
-enum-told : tie.Need-enum-told
-enum-told c = search needs
-
-figures-requires-2 : tie.Need-figures-requires-2
-figures-requires-2 c κs = search needs
-
-enum-known-reason-2 : tie.Need-enum-known-reason-2
-enum-known-reason-2 c = search needs
-
-figures-requires-3 : tie.Need-figures-requires-3
-figures-requires-3 c κs = search needs
-
-enum-known-reason-3 : tie.Need-enum-known-reason-3
-enum-known-reason-3 c = search needs
-
-figures-requires-4 : tie.Need-figures-requires-4
-figures-requires-4 c κs = search needs
-
-enum-known-reason-4 : tie.Need-enum-known-reason-4
-enum-known-reason-4 c = search needs
-
-figures-requires-5 : tie.Need-figures-requires-5
-figures-requires-5 c κs = search needs
-
-enum-known-reason-5 : tie.Need-enum-known-reason-5
-enum-known-reason-5 c = search needs
-
-figures-requires-6 : tie.Need-figures-requires-6
-figures-requires-6 c κs = search needs
-
-enum-known-reason-6 : tie.Need-enum-known-reason-6
-enum-known-reason-6 c = search needs
-
-figures-requires-7 : tie.Need-figures-requires-7
-figures-requires-7 c κs = search needs
-
-enum-known-reason-7 : tie.Need-enum-known-reason-7
-enum-known-reason-7 c = search needs
-
-figures-requires-8 : tie.Need-figures-requires-8
-figures-requires-8 c κs = search needs
-
-enum-known-reason-8 : tie.Need-enum-known-reason-8
-enum-known-reason-8 c = search needs
-
-taken-figure-requires : tie.Need-taken-figure-requires
-taken-figure-requires c κs = search needs
-
-enum-told-2 : tie.Need-enum-told-2
-enum-told-2 c = search needs
-
-figures-requires-9 : tie.Need-figures-requires-9
-figures-requires-9 c κs = search needs
-
 returns : tie.Need-returns
 returns c = c .figures .ensures ∙ sym (ap (λ (x : BatchReason). ruleFigures (printedReasonOf x)) (c .before .before .reason .given .1))
 
@@ -100,34 +40,8 @@ returns-10 c = c .figures9 .ensures ∙ sym (ap (λ (x : BatchReason). ruleFigur
 pub rule-figures-spec : {M : Type 1} → statement M
 rule-figures-spec =
     tie.close
-    (tie.spec
-    enum-known-reason
-    figures-requires
-    enum-told
-    figures-requires-2
-    enum-known-reason-2
-    figures-requires-3
-    enum-known-reason-3
-    figures-requires-4
-    enum-known-reason-4
-    figures-requires-5
-    enum-known-reason-5
-    figures-requires-6
-    enum-known-reason-6
-    figures-requires-7
-    enum-known-reason-7
-    figures-requires-8
-    enum-known-reason-8
-    taken-figure-requires
-    enum-told-2
-    figures-requires-9
-    returns
-    returns-2
-    returns-3
-    returns-4
-    returns-5
-    returns-6
-    returns-7
-    returns-8
-    returns-9
-    returns-10)
+    (tie.spec (λ c. search needs) (λ c κs. search needs) (λ c. search needs) (λ c κs. search needs) (λ c. search needs)
+    (λ c κs. search needs) (λ c. search needs) (λ c κs. search needs) (λ c. search needs) (λ c κs. search needs)
+    (λ c. search needs) (λ c κs. search needs) (λ c. search needs) (λ c κs. search needs) (λ c. search needs)
+    (λ c κs. search needs) (λ c. search needs) (λ c κs. search needs) (λ c. search needs) (λ c κs. search needs) returns
+    returns-2 returns-3 returns-4 returns-5 returns-6 returns-7 returns-8 returns-9 returns-10)

@@ -5,30 +5,6 @@ use borrow.Author.Needs.{needs}
 use Rattle.c_answers.proofs.groups.batch_of.Statement.{statement}
 use Rattle.c_answers.proofs.groups.batch_of.Tie as tie
 
-shared-slice-read-edition-of : tie.Need-shared-slice-read-edition-of
-shared-slice-read-edition-of c = search needs
-
-shared-slice-read-t8 : tie.Need-shared-slice-read-t8
-shared-slice-read-t8 c = search needs
-
-shared-slice-read-t10 : tie.Need-shared-slice-read-t10
-shared-slice-read-t10 c = search needs
-
-shared-slice-read-t12 : tie.Need-shared-slice-read-t12
-shared-slice-read-t12 c = search needs
-
-shared-slice-read-edition-of-2 : tie.Need-shared-slice-read-edition-of-2
-shared-slice-read-edition-of-2 c = search needs
-
-edition-of-requires : tie.Need-edition-of-requires
-edition-of-requires c κs = search needs
-
-shared-slice-read-t12-2 : tie.Need-shared-slice-read-t12-2
-shared-slice-read-t12-2 c = search needs
-
-shared-slice-read-t5 : tie.Need-shared-slice-read-t5
-shared-slice-read-t5 c = search needs
-
 returns : tie.Need-returns
 unfolding batchOfNumbers
 returns c =
@@ -43,13 +19,5 @@ returns c =
 pub batch-of-spec : {M : Type 1} → statement M
 batch-of-spec =
     tie.close
-    (tie.spec
-    shared-slice-read-edition-of
-    shared-slice-read-t8
-    shared-slice-read-t10
-    shared-slice-read-t12
-    shared-slice-read-edition-of-2
-    edition-of-requires
-    shared-slice-read-t12-2
-    shared-slice-read-t5
-    returns)
+    (tie.spec (λ c. search needs) (λ c. search needs) (λ c. search needs) (λ c. search needs) (λ c. search needs)
+    (λ c κs. search needs) (λ c. search needs) (λ c. search needs) returns)

@@ -5,33 +5,6 @@ use borrow.Author.Needs.{needs}
 use Rattle.c_answers.proofs.groups.group_to.Statement.{statement}
 use Rattle.c_answers.proofs.groups.group_to.Tie as tie
 
-enum-told : tie.Need-enum-told
-enum-told c = search needs
-
-not-a-group-requires : tie.Need-not-a-group-requires
-not-a-group-requires c κs = search needs
-
-group-of-requires : tie.Need-group-of-requires
-group-of-requires c κs = search needs
-
-enum-known-answer : tie.Need-enum-known-answer
-enum-known-answer c = search needs
-
-taken-to-requires : tie.Need-taken-to-requires
-taken-to-requires c κs = search needs
-
-group-of-requires-2 : tie.Need-group-of-requires-2
-group-of-requires-2 c κs = search needs
-
-enum-known-answer-2 : tie.Need-enum-known-answer-2
-enum-known-answer-2 c = search needs
-
-answer-of-requires : tie.Need-answer-of-requires
-answer-of-requires c κs = search needs
-
-group-of-requires-3 : tie.Need-group-of-requires-3
-group-of-requires-3 c κs = search needs
-
 returns : tie.Need-returns
 returns c = let a = c .before .before .before .before .args in c .group-of .ensures ∙ ap (groupWith 0 0 (a .half)) (c .before .not-a-group .ensures) ∙ ap (groupTo (a .half)) (sym (c .before .before .enum-told .given .1))
 
@@ -44,16 +17,5 @@ returns-3 c = let a = c .before .before .before .before .before .args in c .grou
 pub group-to-spec : {M : Type 1} → statement M
 group-to-spec =
     tie.close
-    (tie.spec
-    enum-told
-    not-a-group-requires
-    group-of-requires
-    enum-known-answer
-    taken-to-requires
-    group-of-requires-2
-    enum-known-answer-2
-    answer-of-requires
-    group-of-requires-3
-    returns
-    returns-2
-    returns-3)
+    (tie.spec (λ c. search needs) (λ c κs. search needs) (λ c κs. search needs) (λ c. search needs) (λ c κs. search needs)
+    (λ c κs. search needs) (λ c. search needs) (λ c κs. search needs) (λ c κs. search needs) returns returns-2 returns-3)

@@ -6,21 +6,6 @@ use borrow.Author.Needs.{needs}
 use Rattle.c_answers.proofs.groups.group_told.Statement.{statement}
 use Rattle.c_answers.proofs.groups.group_told.Tie as tie
 
-enum-known-answer : tie.Need-enum-known-answer
-enum-known-answer c = search needs
-
-half-number-requires : tie.Need-half-number-requires
-half-number-requires c κs = search needs
-
-group-to-requires : tie.Need-group-to-requires
-group-to-requires c κs = search needs
-
-enum-told : tie.Need-enum-told
-enum-told c = search needs
-
-no-group-requires : tie.Need-no-group-requires
-no-group-requires c κs = search needs
-
 returns : tie.Need-returns
 returns c = c .group-to .ensures ∙ ap (λ (n : ℕ). groupTo n (c .before .before .before .answer .given .0 .0)) (c .before .half-number .ensures) ∙ ap groupTold (sym (c .before .before .before .answer .given .1))
 
@@ -30,11 +15,5 @@ returns-2 c = c .no-group .ensures ∙ ap groupTold (sym (c .before .enum-told .
 pub group-told-spec : {M : Type 1} → statement M
 group-told-spec =
     tie.close
-    (tie.spec
-    enum-known-answer
-    half-number-requires
-    group-to-requires
-    enum-told
-    no-group-requires
-    returns
-    returns-2)
+    (tie.spec (λ c. search needs) (λ c κs. search needs) (λ c κs. search needs) (λ c. search needs) (λ c κs. search needs)
+    returns returns-2)

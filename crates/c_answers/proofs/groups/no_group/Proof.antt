@@ -5,11 +5,9 @@ use borrow.Author.Needs.{needs}
 use Rattle.c_answers.proofs.groups.no_group.Statement.{statement}
 use Rattle.c_answers.proofs.groups.no_group.Tie as tie
 
-unanswered-requires : tie.Need-unanswered-requires
-unanswered-requires c κs = search needs
-
 returns : tie.Need-returns
 returns c = ap (groupWith 0 0 0) (c .unanswered .ensures)
 
 pub no-group-spec : {M : Type 1} → statement M
-no-group-spec = tie.close (tie.spec unanswered-requires returns)
+no-group-spec =
+    tie.close (tie.spec (λ c κs. search needs) returns)

@@ -7,45 +7,6 @@ use borrow.Author.Needs.{needs}
 use Rattle.c_answers.proofs.rules.rule_number.Statement.{statement}
 use Rattle.c_answers.proofs.rules.rule_number.Tie as tie
 
-enum-told : tie.Need-enum-told
-enum-told c = search needs
-
-enum-told-2 : tie.Need-enum-told-2
-enum-told-2 c = search needs
-
-enum-known-reason : tie.Need-enum-known-reason
-enum-known-reason c = search needs
-
-limit-rule-requires : tie.Need-limit-rule-requires
-limit-rule-requires c κs = search needs
-
-enum-known-reason-2 : tie.Need-enum-known-reason-2
-enum-known-reason-2 c = search needs
-
-reading-rule-requires : tie.Need-reading-rule-requires
-reading-rule-requires c κs = search needs
-
-enum-told-3 : tie.Need-enum-told-3
-enum-told-3 c = search needs
-
-enum-told-4 : tie.Need-enum-told-4
-enum-told-4 c = search needs
-
-enum-told-5 : tie.Need-enum-told-5
-enum-told-5 c = search needs
-
-enum-told-6 : tie.Need-enum-told-6
-enum-told-6 c = search needs
-
-enum-told-7 : tie.Need-enum-told-7
-enum-told-7 c = search needs
-
-enum-known-reason-3 : tie.Need-enum-known-reason-3
-enum-known-reason-3 c = search needs
-
-operation-rule-requires : tie.Need-operation-rule-requires
-operation-rule-requires c κs = search needs
-
 returns : tie.Need-returns
 returns c = sym (ap (λ (x : BatchReason). ruleNumber (printedReasonOf x)) (c .enum-told .given .1))
 
@@ -79,27 +40,7 @@ returns-10 c = c .operation-rule .ensures ∙ sym (ap (λ (x : BatchReason). rul
 pub rule-number-spec : {M : Type 1} → statement M
 rule-number-spec =
     tie.close
-    (tie.spec
-    enum-told
-    enum-told-2
-    enum-known-reason
-    limit-rule-requires
-    enum-known-reason-2
-    reading-rule-requires
-    enum-told-3
-    enum-told-4
-    enum-told-5
-    enum-told-6
-    enum-told-7
-    enum-known-reason-3
-    operation-rule-requires
-    returns
-    returns-2
-    returns-3
-    returns-4
-    returns-5
-    returns-6
-    returns-7
-    returns-8
-    returns-9
-    returns-10)
+    (tie.spec (λ c. search needs) (λ c. search needs) (λ c. search needs) (λ c κs. search needs) (λ c. search needs)
+    (λ c κs. search needs) (λ c. search needs) (λ c. search needs) (λ c. search needs) (λ c. search needs) (λ c. search needs)
+    (λ c. search needs) (λ c κs. search needs) returns returns-2 returns-3 returns-4 returns-5 returns-6 returns-7 returns-8
+    returns-9 returns-10)

@@ -10,21 +10,6 @@ use Rattle.c_answers.proofs.sets.checked_at.Reads as checked-at-reads
 use Rattle.c_answers.proofs.sets.unchecked.Reads as unchecked-reads
 use Rattle.projection_patch.proofs.read_values.ProjectionPatchReadFault.number.Reads as number-reads
 
-enum-known-answer : tie.Need-enum-known-answer
-enum-known-answer c = search needs
-
-checked-at-requires : tie.Need-checked-at-requires
-checked-at-requires c κs = search needs
-
-enum-known-answer-2 : tie.Need-enum-known-answer-2
-enum-known-answer-2 c = search needs
-
-number-requires : tie.Need-number-requires
-number-requires c κs = search needs
-
-unchecked-requires : tie.Need-unchecked-requires
-unchecked-requires c κs = search needs
-
 returns : tie.Need-returns
 returns c = c .checked-at .ensures ∙ ap checkTold (sym (c .before .before .answer .given .1))
 
@@ -34,11 +19,5 @@ returns-2 c = c .unchecked .ensures ∙ ap (uncheckedSet 2) (c .before .number .
 pub check-told-spec : {M : Type 1} → statement M
 check-told-spec =
     tie.close
-    (tie.spec
-    enum-known-answer
-    checked-at-requires
-    enum-known-answer-2
-    number-requires
-    unchecked-requires
-    returns
-    returns-2)
+    (tie.spec (λ c. search needs) (λ c κs. search needs) (λ c. search needs) (λ c κs. search needs) (λ c κs. search needs)
+    returns returns-2)

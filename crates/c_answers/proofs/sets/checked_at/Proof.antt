@@ -9,18 +9,6 @@ use Rattle.c_answers.proofs.sets.checked_at.Reads as reads
 use Rattle.c_answers.proofs.sets.checked_at.Lts as lts
 use Rattle.c_answers.proofs.sets.checked_in.Reads as checked-in-reads
 
-enum-known-place : tie.Need-enum-known-place
-enum-known-place c = search needs
-
-checked-in-requires : tie.Need-checked-in-requires
-checked-in-requires c κs = search needs
-
-enum-told : tie.Need-enum-told
-enum-told c = search needs
-
-checked-in-requires-2 : tie.Need-checked-in-requires-2
-checked-in-requires-2 c κs = search needs
-
 returns : tie.Need-returns
 returns c =
     let a = c .before .before .before .before .args in
@@ -34,10 +22,4 @@ returns-2 c =
 pub checked-at-spec : {M : Type 1} → statement M
 checked-at-spec =
     tie.close
-    (tie.spec
-    enum-known-place
-    checked-in-requires
-    enum-told
-    checked-in-requires-2
-    returns
-    returns-2)
+    (tie.spec (λ c. search needs) (λ c κs. search needs) (λ c. search needs) (λ c κs. search needs) returns returns-2)

@@ -11,27 +11,6 @@ use Rattle.c_answers.proofs.sets.never_by.Reads as never-by-reads
 use Rattle.c_answers.proofs.sets.not_told.Reads as not-told-reads
 use Rattle.set_dependencies.proofs.depends.DependenciesRefusal.number.Reads as number-reads
 
-enum-known-answer : tie.Need-enum-known-answer
-enum-known-answer c = search needs
-
-never-by-requires : tie.Need-never-by-requires
-never-by-requires c κs = search needs
-
-enum-known-answer-2 : tie.Need-enum-known-answer-2
-enum-known-answer-2 c = search needs
-
-needs-keys-requires : tie.Need-needs-keys-requires
-needs-keys-requires c κs = search needs
-
-enum-known-answer-3 : tie.Need-enum-known-answer-3
-enum-known-answer-3 c = search needs
-
-number-requires : tie.Need-number-requires
-number-requires c κs = search needs
-
-not-told-requires : tie.Need-not-told-requires
-not-told-requires c κs = search needs
-
 returns : tie.Need-returns
 returns c = c .never-by .ensures ∙ ap dependenciesTold (sym (c .before .before .answer .given .1))
 
@@ -44,14 +23,5 @@ returns-3 c = c .not-told .ensures ∙ ap (notTold 2) (c .before .number .ensure
 pub dependencies-told-spec : {M : Type 1} → statement M
 dependencies-told-spec =
     tie.close
-    (tie.spec
-    enum-known-answer
-    never-by-requires
-    enum-known-answer-2
-    needs-keys-requires
-    enum-known-answer-3
-    number-requires
-    not-told-requires
-    returns
-    returns-2
-    returns-3)
+    (tie.spec (λ c. search needs) (λ c κs. search needs) (λ c. search needs) (λ c κs. search needs) (λ c. search needs)
+    (λ c κs. search needs) (λ c κs. search needs) returns returns-2 returns-3)

@@ -6,11 +6,9 @@ use Rattle.c_answers.proofs.values.place_told.Reads as reads
 use Rattle.c_answers.proofs.values.place_told.Lts as lts
 use Rattle.c_answers.proofs.values.value_to.Reads as value-to-reads
 
-value-to-requires : tie.Need-value-to-requires
-value-to-requires c κs = search needs
-
 returns : tie.Need-returns
 returns c = λ i. record { position = c .before .before .args .place .position; value = c .value-to .ensures i }
 
 pub place-told-spec : {M : Type 1} → statement M
-place-told-spec = tie.close (tie.spec value-to-requires returns)
+place-told-spec =
+    tie.close (tie.spec (λ c κs. search needs) returns)

@@ -10,18 +10,6 @@ use Rattle.c_answers.proofs.values.value_to.Lts as lts
 use Rattle.c_answers.proofs.values.bit.Reads as bit-reads
 use Rattle.c_answers.proofs.values.view_number.Reads as view-number-reads
 
-view-number-requires : tie.Need-view-number-requires
-view-number-requires c κs = search needs
-
-bit-requires : tie.Need-bit-requires
-bit-requires c κs = search needs
-
-cast-t6 : tie.Need-cast-t6
-cast-t6 c = search needs
-
-cast-t7 : tie.Need-cast-t7
-cast-t7 c = search needs
-
 returns : tie.Need-returns
 returns c =
     let v = c .before .before .before .before .before .before .args .value in
@@ -29,4 +17,5 @@ returns c =
     λ i. record { disposition = c .before .before .before .before .view-number .ensures i; found = c .before .before .before .bit .ensures i; mark = v .mark; kind = v .kind; quad = v .quad; «signed_number» = number i; «unsigned_number» = v .unsigned; «text_length» = v .«text_len»; text = v .text }
 
 pub value-to-spec : {M : Type 1} → statement M
-value-to-spec = tie.close (tie.spec view-number-requires bit-requires cast-t6 cast-t7 returns)
+value-to-spec =
+    tie.close (tie.spec (λ c κs. search needs) (λ c κs. search needs) (λ c. search needs) (λ c. search needs) returns)

@@ -13,29 +13,11 @@ use Rattle.c_answers.proofs.sets.check_told.Reads as check-told-reads
 use Rattle.c_answers.proofs.sets.unchecked.Reads as unchecked-reads
 use Rattle.check_set.proofs.check_set.check.Reads as check-reads
 
-is-edition-requires : tie.Need-is-edition-requires
-is-edition-requires c κs = search needs
-
-edition-of-requires : tie.Need-edition-of-requires
-edition-of-requires c κs = search needs
-
-check-requires : tie.Need-check-requires
-check-requires c κs = search needs
-
-check-told-requires : tie.Need-check-told-requires
-check-told-requires c κs = search needs
-
-same-length : tie.Need-same-length
-same-length c = search needs
-
 returns : tie.Need-returns
 unfolding byEdition
 returns c =
     let call = c .before .before .before .check in
     rw (sym (c .before .before .before .before .before .before .before .is-edition .ensures) ∙ c .before .before .before .before .before .before .if1 .taken, sym (c .before .before .before .before .before .edition-of .ensures)) (c .check-told .ensures ∙ ap checkTold (call .ensures .0), call .ensures .1)
-
-unchecked-requires : tie.Need-unchecked-requires
-unchecked-requires c κs = search needs
 
 returns-2 : tie.Need-returns-2
 unfolding byEdition
@@ -44,12 +26,5 @@ returns-2 c = rw (sym (c .before .before .is-edition .ensures) ∙ c .before .if
 pub geysertray-check-spec : {M : Type 1} → statement M
 geysertray-check-spec =
     tie.close
-    (tie.spec
-    is-edition-requires
-    edition-of-requires
-    check-requires
-    check-told-requires
-    same-length
-    returns
-    unchecked-requires
-    returns-2)
+    (tie.spec (λ c κs. search needs) (λ c κs. search needs) (λ c κs. search needs) (λ c κs. search needs) (λ c. search needs)
+    returns (λ c κs. search needs) returns-2)

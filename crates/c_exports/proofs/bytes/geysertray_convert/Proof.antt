@@ -13,29 +13,11 @@ use Rattle.c_answers.proofs.counts.conversion_told.Reads as conversion-told-rea
 use Rattle.c_answers.proofs.counts.not_counted.Reads as not-counted-reads
 use Rattle.patch_converter.proofs.convert.Reads as convert-reads
 
-is-edition-requires : tie.Need-is-edition-requires
-is-edition-requires c κs = search needs
-
-edition-of-requires : tie.Need-edition-of-requires
-edition-of-requires c κs = search needs
-
-convert-requires : tie.Need-convert-requires
-convert-requires c κs = search needs
-
-conversion-told-requires : tie.Need-conversion-told-requires
-conversion-told-requires c κs = search needs
-
-same-length : tie.Need-same-length
-same-length c = search needs
-
 returns : tie.Need-returns
 unfolding byEdition
 returns c =
     let call = c .before .before .before .convert in
     rw (sym (c .before .before .before .before .before .before .before .is-edition .ensures) ∙ c .before .before .before .before .before .before .if1 .taken, sym (c .before .before .before .before .before .edition-of .ensures)) (c .conversion-told .ensures ∙ ap conversionTold (call .ensures .0), call .ensures .1 .0)
-
-not-counted-requires : tie.Need-not-counted-requires
-not-counted-requires c κs = search needs
 
 returns-2 : tie.Need-returns-2
 unfolding byEdition
@@ -44,12 +26,5 @@ returns-2 c = rw (sym (c .before .before .is-edition .ensures) ∙ c .before .if
 pub geysertray-convert-spec : {M : Type 1} → statement M
 geysertray-convert-spec =
     tie.close
-    (tie.spec
-    is-edition-requires
-    edition-of-requires
-    convert-requires
-    conversion-told-requires
-    same-length
-    returns
-    not-counted-requires
-    returns-2)
+    (tie.spec (λ c κs. search needs) (λ c κs. search needs) (λ c κs. search needs) (λ c κs. search needs) (λ c. search needs)
+    returns (λ c κs. search needs) returns-2)

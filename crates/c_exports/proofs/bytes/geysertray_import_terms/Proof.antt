@@ -14,32 +14,11 @@ use Rattle.c_answers.proofs.counts.import_told.Reads as import-told-reads
 use Rattle.c_answers.proofs.counts.not_counted.Reads as not-counted-reads
 use Rattle.patch_import.proofs.import_terms.Reads as import-terms-reads
 
-is-edition-requires : tie.Need-is-edition-requires
-is-edition-requires c κs = search needs
-
-envelope-at-requires : tie.Need-envelope-at-requires
-envelope-at-requires c κs = search needs
-
-edition-of-requires : tie.Need-edition-of-requires
-edition-of-requires c κs = search needs
-
-import-terms-requires : tie.Need-import-terms-requires
-import-terms-requires c κs = search needs
-
-import-told-requires : tie.Need-import-told-requires
-import-told-requires c κs = search needs
-
-same-length : tie.Need-same-length
-same-length c = search needs
-
 returns : tie.Need-returns
 unfolding byEdition
 returns c =
     let call = c .before .before .before .import-terms in
     rw (sym (c .before .before .before .before .before .before .before .before .is-edition .ensures) ∙ c .before .before .before .before .before .before .before .if1 .taken, sym (c .before .before .before .before .before .edition-of .ensures), sym (c .before .before .before .before .before .before .envelope-at .ensures)) (c .import-told .ensures ∙ ap importTold (call .ensures .0), call .ensures .1 .0)
-
-not-counted-requires : tie.Need-not-counted-requires
-not-counted-requires c κs = search needs
 
 returns-2 : tie.Need-returns-2
 unfolding byEdition
@@ -48,13 +27,5 @@ returns-2 c = rw (sym (c .before .before .is-edition .ensures) ∙ c .before .if
 pub geysertray-import-terms-spec : {M : Type 1} → statement M
 geysertray-import-terms-spec =
     tie.close
-    (tie.spec
-    is-edition-requires
-    envelope-at-requires
-    edition-of-requires
-    import-terms-requires
-    import-told-requires
-    same-length
-    returns
-    not-counted-requires
-    returns-2)
+    (tie.spec (λ c κs. search needs) (λ c κs. search needs) (λ c κs. search needs) (λ c κs. search needs)
+    (λ c κs. search needs) (λ c. search needs) returns (λ c κs. search needs) returns-2)

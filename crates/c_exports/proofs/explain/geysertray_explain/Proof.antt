@@ -6,18 +6,6 @@ use borrow.Author.Needs.{needs}
 use Rattle.c_exports.proofs.explain.geysertray_explain.Statement.{statement}
 use Rattle.c_exports.proofs.explain.geysertray_explain.Tie as tie
 
-is-edition-requires : tie.Need-is-edition-requires
-is-edition-requires c κs = search needs
-
-edition-of-requires : tie.Need-edition-of-requires
-edition-of-requires c κs = search needs
-
-explain-lent-batch-requires : tie.Need-explain-lent-batch-requires
-explain-lent-batch-requires c κs = search needs
-
-lent-explanation-told-requires : tie.Need-lent-explanation-told-requires
-lent-explanation-told-requires c κs = search needs
-
 returns : tie.Need-returns
 returns c =
     let call = c .before .explain-lent-batch in
@@ -26,9 +14,6 @@ returns c =
       known = λ yes. explained-as _ _ _ _ _ _ _ _ _ _ _ (asked .edition-of .ensures) (call .result) _ (call .ensures) (c .lent-explanation-told .ensures);
       unknown = λ no. absurd (false≢true (sym no ∙ sym (asked .before .before .is-edition .ensures) ∙ asked .before .if1 .taken));
     }
-
-not-explained-requires : tie.Need-not-explained-requires
-not-explained-requires c κs = search needs
 
 returns-2 : tie.Need-returns-2
 returns-2 c = record {
@@ -39,11 +24,5 @@ returns-2 c = record {
 pub geysertray-explain-spec : {M : Type 1} → statement M
 geysertray-explain-spec =
     tie.close
-    (tie.spec
-    is-edition-requires
-    edition-of-requires
-    explain-lent-batch-requires
-    lent-explanation-told-requires
-    returns
-    not-explained-requires
-    returns-2)
+    (tie.spec (λ c κs. search needs) (λ c κs. search needs) (λ c κs. search needs) (λ c κs. search needs) returns
+    (λ c κs. search needs) returns-2)

@@ -12,26 +12,11 @@ use Rattle.c_answers.proofs.answers.answered.Reads as answered-reads
 use Rattle.c_answers.proofs.asked.edition_of.Reads as edition-of-reads
 use Rattle.session_lent.proofs.batch.apply_projection_patch_batch.Reads as apply-projection-patch-batch-reads
 
-unanswered-requires : tie.Need-unanswered-requires
-unanswered-requires c κs = search needs
-
 returns : tie.Need-returns
 returns c = record { known = λ lo hi. absurd (omega (arith, c .before .if1 .taken)); low = λ h. (c .unanswered .ensures, (refl, (refl, (refl, (refl, refl))))); high = λ h. absurd (omega (arith, c .before .if1 .taken)) }
 
-unanswered-requires-2 : tie.Need-unanswered-requires-2
-unanswered-requires-2 c κs = search needs
-
 returns-2 : tie.Need-returns-2
 returns-2 c = record { known = λ lo hi. absurd (omega (arith, c .before .if2 .taken)); low = λ h. absurd (omega (arith, c .before .if2 .taken)); high = λ h. (c .unanswered2 .ensures, (refl, (refl, (refl, (refl, refl))))) }
-
-edition-of-requires : tie.Need-edition-of-requires
-edition-of-requires c κs = search needs
-
-apply-projection-patch-batch-requires : tie.Need-apply-projection-patch-batch-requires
-apply-projection-patch-batch-requires c κs = search needs
-
-answered-requires : tie.Need-answered-requires
-answered-requires c κs = search needs
 
 returns-3 : tie.Need-returns-3
 returns-3 c =
@@ -45,12 +30,5 @@ returns-3 c =
 pub geysertray-batch-spec : {M : Type 1} → statement M
 geysertray-batch-spec =
     tie.close
-    (tie.spec
-    unanswered-requires
-    returns
-    unanswered-requires-2
-    returns-2
-    edition-of-requires
-    apply-projection-patch-batch-requires
-    answered-requires
-    returns-3)
+    (tie.spec (λ c κs. search needs) returns (λ c κs. search needs) returns-2 (λ c κs. search needs) (λ c κs. search needs)
+    (λ c κs. search needs) returns-3)

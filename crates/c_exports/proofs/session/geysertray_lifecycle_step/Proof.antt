@@ -12,20 +12,8 @@ use Rattle.c_answers.proofs.asked.stimulus_of.Reads as stimulus-of-reads
 use Rattle.c_answers.proofs.answers.stepped.Reads as stepped-reads
 use Rattle.session_lent.proofs.lifecycle.transition.Reads as transition-reads
 
-no-step-requires : tie.Need-no-step-requires
-no-step-requires c κs = search needs
-
 returns : tie.Need-returns
 returns c = record { known = λ k. absurd (omega (arith, c .before .if1 .taken)); unknown = λ k. (c .no-step .ensures, refl) }
-
-stimulus-of-requires : tie.Need-stimulus-of-requires
-stimulus-of-requires c κs = search needs
-
-transition-requires : tie.Need-transition-requires
-transition-requires c κs = search needs
-
-stepped-requires : tie.Need-stepped-requires
-stepped-requires c κs = search needs
 
 returns-2 : tie.Need-returns-2
 returns-2 c =
@@ -38,10 +26,4 @@ returns-2 c =
 pub geysertray-lifecycle-step-spec : {M : Type 1} → statement M
 geysertray-lifecycle-step-spec =
     tie.close
-    (tie.spec
-    no-step-requires
-    returns
-    stimulus-of-requires
-    transition-requires
-    stepped-requires
-    returns-2)
+    (tie.spec (λ c κs. search needs) returns (λ c κs. search needs) (λ c κs. search needs) (λ c κs. search needs) returns-2)

@@ -9,15 +9,6 @@ use Rattle.c_exports.proofs.turns.cursor_at.Reads as cursor-at-reads
 use Rattle.c_exports.proofs.turns.lent_turn_told.Reads as lent-turn-told-reads
 use Rattle.session_lent_turns.proofs.turn.Reads as turn-reads
 
-cursor-at-requires : tie.Need-cursor-at-requires
-cursor-at-requires c κs = search needs
-
-turn-requires : tie.Need-turn-requires
-turn-requires c κs = search needs
-
-lent-turn-told-requires : tie.Need-lent-turn-told-requires
-lent-turn-told-requires c κs = search needs
-
 returns : tie.Need-returns
 returns c =
     let call = c .before .turn in
@@ -25,4 +16,4 @@ returns c =
 
 pub geysertray-turns-next-spec : {M : Type 1} → statement M
 geysertray-turns-next-spec =
-    tie.close (tie.spec cursor-at-requires turn-requires lent-turn-told-requires returns)
+    tie.close (tie.spec (λ c κs. search needs) (λ c κs. search needs) (λ c κs. search needs) returns)

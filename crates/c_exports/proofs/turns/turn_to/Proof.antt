@@ -7,12 +7,6 @@ use Rattle.c_exports.proofs.turns.turn_to.Tie as tie
 use Rattle.c_exports.proofs.turns.turn_to.Reads as reads
 use Rattle.c_exports.proofs.turns.turn_to.Lts as lts
 
-enum-told : tie.Need-enum-told
-enum-told c = search needs
-
-enum-known-answer : tie.Need-enum-known-answer
-enum-known-answer c = search needs
-
 returns : tie.Need-returns
 returns c = ap turnTo (sym (c .enum-told .given .1))
 
@@ -20,4 +14,5 @@ returns-2 : tie.Need-returns-2
 returns-2 c = ap turnTo (sym (c .before .answer .given .1))
 
 pub turn-to-spec : {M : Type 1} → statement M
-turn-to-spec = tie.close (tie.spec enum-told enum-known-answer returns returns-2)
+turn-to-spec =
+    tie.close (tie.spec (λ c. search needs) (λ c. search needs) returns returns-2)

@@ -9,14 +9,9 @@ use Rattle.c_exports.proofs.views.geysertray_page_row.Lts as lts
 use Rattle.c_answers.proofs.values.place_told.Reads as place-told-reads
 use Rattle.panel_page.proofs.rows.PageLookup.read.Reads as read-reads
 
-read-requires : tie.Need-read-requires
-read-requires c κs = search needs
-
-place-told-requires : tie.Need-place-told-requires
-place-told-requires c κs = search needs
-
 returns : tie.Need-returns
 returns c = λ a fits row. c .place-told .ensures ∙ ap placeTold (c .before .read .ensures a fits row)
 
 pub geysertray-page-row-spec : {M : Type 1} → statement M
-geysertray-page-row-spec = tie.close (tie.spec read-requires place-told-requires returns)
+geysertray-page-row-spec =
+    tie.close (tie.spec (λ c κs. search needs) (λ c κs. search needs) returns)

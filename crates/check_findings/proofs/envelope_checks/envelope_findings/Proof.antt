@@ -6,27 +6,6 @@ use borrow.Author.Needs.{needs}
 use Rattle.check_findings.proofs.envelope_checks.envelope_findings.Statement.{statement}
 use Rattle.check_findings.proofs.envelope_checks.envelope_findings.Tie as tie
 
-raw-requires : tie.Need-raw-requires
-raw-requires c κs = search needs
-
-raw-requires-2 : tie.Need-raw-requires-2
-raw-requires-2 c κs = search needs
-
-raw-requires-3 : tie.Need-raw-requires-3
-raw-requires-3 c κs = search needs
-
-raw-requires-4 : tie.Need-raw-requires-4
-raw-requires-4 c κs = search needs
-
-report-if-requires : tie.Need-report-if-requires
-report-if-requires c κs = search needs
-
-report-if-requires-2 : tie.Need-report-if-requires-2
-report-if-requires-2 c κs = search needs
-
-report-if-requires-3 : tie.Need-report-if-requires-3
-report-if-requires-3 c κs = search needs
-
 returns : tie.Need-returns
 unfolding envelopeListed envelopeFindings kindNumber
 returns c =
@@ -36,12 +15,5 @@ returns c =
 pub envelope-findings-spec : {M : Type 1} → statement M
 envelope-findings-spec =
     tie.close
-    (tie.spec
-    raw-requires
-    raw-requires-2
-    raw-requires-3
-    raw-requires-4
-    report-if-requires
-    report-if-requires-2
-    report-if-requires-3
-    returns)
+    (tie.spec (λ c κs. search needs) (λ c κs. search needs) (λ c κs. search needs) (λ c κs. search needs)
+    (λ c κs. search needs) (λ c κs. search needs) (λ c κs. search needs) returns)

@@ -6,24 +6,15 @@ use borrow.Author.Needs.{needs}
 use Rattle.check_findings.proofs.found.envelope_found.Statement.{statement}
 use Rattle.check_findings.proofs.found.envelope_found.Tie as tie
 
-is-found-requires : tie.Need-is-found-requires
-is-found-requires c κs = search needs
-
 returns : tie.Need-returns
 unfolding envelopeListed
 returns c = sym (found-first _ _ (sym (c .before .is-found .ensures) ∙ c .if1 .taken))
-
-is-found-requires-2 : tie.Need-is-found-requires-2
-is-found-requires-2 c κs = search needs
 
 returns-2 : tie.Need-returns-2
 unfolding envelopeListed
 returns-2 c =
     let one = c .before .before in
     sym (found-second _ _ (sym (one .before .is-found .ensures) ∙ one .if1 .left) ∙ found-first _ _ (sym (c .before .is-found2 .ensures) ∙ c .if2 .taken))
-
-is-found-requires-3 : tie.Need-is-found-requires-3
-is-found-requires-3 c κs = search needs
 
 returns-3 : tie.Need-returns-3
 unfolding envelopeListed
@@ -34,11 +25,4 @@ returns-3 c =
 
 pub envelope-found-spec : {M : Type 1} → statement M
 envelope-found-spec =
-    tie.close
-    (tie.spec
-    is-found-requires
-    returns
-    is-found-requires-2
-    returns-2
-    is-found-requires-3
-    returns-3)
+    tie.close (tie.spec (λ c κs. search needs) returns (λ c κs. search needs) returns-2 (λ c κs. search needs) returns-3)

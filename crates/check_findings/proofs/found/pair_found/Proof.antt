@@ -6,24 +6,15 @@ use borrow.Author.Needs.{needs}
 use Rattle.check_findings.proofs.found.pair_found.Statement.{statement}
 use Rattle.check_findings.proofs.found.pair_found.Tie as tie
 
-is-found-requires : tie.Need-is-found-requires
-is-found-requires c κs = search needs
-
 returns : tie.Need-returns
 unfolding pairListed
 returns c = sym (found-first _ _ (sym (c .before .is-found .ensures) ∙ c .if1 .taken))
-
-is-found-requires-2 : tie.Need-is-found-requires-2
-is-found-requires-2 c κs = search needs
 
 returns-2 : tie.Need-returns-2
 unfolding pairListed
 returns-2 c =
     let one = c .before .before in
     sym (found-second _ _ (sym (one .before .is-found .ensures) ∙ one .if1 .left) ∙ found-first _ _ (sym (c .before .is-found2 .ensures) ∙ c .if2 .taken))
-
-is-found-requires-3 : tie.Need-is-found-requires-3
-is-found-requires-3 c κs = search needs
 
 returns-3 : tie.Need-returns-3
 unfolding pairListed
@@ -32,9 +23,6 @@ returns-3 c =
     let one = two .before .before in
     sym (found-second _ _ (sym (one .before .is-found .ensures) ∙ one .if1 .left) ∙ found-second _ _ (sym (two .before .is-found2 .ensures) ∙ two .if2 .left)
     ∙ found-first _ _ (sym (c .before .is-found3 .ensures) ∙ c .if3 .taken))
-
-is-found-requires-4 : tie.Need-is-found-requires-4
-is-found-requires-4 c κs = search needs
 
 returns-4 : tie.Need-returns-4
 unfolding pairListed
@@ -48,12 +36,5 @@ returns-4 c =
 pub pair-found-spec : {M : Type 1} → statement M
 pair-found-spec =
     tie.close
-    (tie.spec
-    is-found-requires
-    returns
-    is-found-requires-2
-    returns-2
-    is-found-requires-3
-    returns-3
-    is-found-requires-4
-    returns-4)
+    (tie.spec (λ c κs. search needs) returns (λ c κs. search needs) returns-2 (λ c κs. search needs) returns-3
+    (λ c κs. search needs) returns-4)

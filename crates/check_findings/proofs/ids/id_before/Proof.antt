@@ -8,27 +8,6 @@ use borrow.Author.Needs.{needs}
 use Rattle.check_findings.proofs.ids.id_before.Statement.{statement}
 use Rattle.check_findings.proofs.ids.id_before.Tie as tie
 
-sub-id-seen : tie.Need-sub-id-seen
-sub-id-seen c = search needs
-
-part-id-seen-start : tie.Need-part-id-seen-start
-part-id-seen-start c = search needs
-
-part-id-seen-end : tie.Need-part-id-seen-end
-part-id-seen-end c = search needs
-
-id-seen-requires : tie.Need-id-seen-requires
-id-seen-requires c κs = search needs
-
-mul-ids : tie.Need-mul-ids
-mul-ids c = search needs
-
-slice-write-ids : tie.Need-slice-write-ids
-slice-write-ids c = search needs
-
-same-length : tie.Need-same-length
-same-length c = search needs
-
 returns : tie.Need-returns
 returns c =
     let a = c .before .before .before .before .args in
@@ -38,12 +17,5 @@ returns c =
 pub id-before-spec : {M : Type 1} → statement M
 id-before-spec =
     tie.close
-    (tie.spec
-    sub-id-seen
-    part-id-seen-start
-    part-id-seen-end
-    id-seen-requires
-    mul-ids
-    slice-write-ids
-    same-length
-    returns)
+    (tie.spec (λ c. search needs) (λ c. search needs) (λ c. search needs) (λ c κs. search needs) (λ c. search needs)
+    (λ c. search needs) (λ c. search needs) returns)

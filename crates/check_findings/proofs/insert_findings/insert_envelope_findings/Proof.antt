@@ -5,18 +5,6 @@ use borrow.Author.Needs.{needs}
 use Rattle.check_findings.proofs.insert_findings.insert_envelope_findings.Statement.{statement}
 use Rattle.check_findings.proofs.insert_findings.insert_envelope_findings.Tie as tie
 
-insert-optional-requires : tie.Need-insert-optional-requires
-insert-optional-requires c κs = search needs
-
-insert-optional-requires-2 : tie.Need-insert-optional-requires-2
-insert-optional-requires-2 c κs = search needs
-
-insert-optional-requires-3 : tie.Need-insert-optional-requires-3
-insert-optional-requires-3 c κs = search needs
-
-same-length : tie.Need-same-length
-same-length c = search needs
-
 returns : tie.Need-returns
 unfolding envelopeListed
 returns c =
@@ -27,10 +15,4 @@ returns c =
 
 pub insert-envelope-findings-spec : {M : Type 1} → statement M
 insert-envelope-findings-spec =
-    tie.close
-    (tie.spec
-    insert-optional-requires
-    insert-optional-requires-2
-    insert-optional-requires-3
-    same-length
-    returns)
+    tie.close (tie.spec (λ c κs. search needs) (λ c κs. search needs) (λ c κs. search needs) (λ c. search needs) returns)

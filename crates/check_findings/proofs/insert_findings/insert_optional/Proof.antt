@@ -6,21 +6,9 @@ use borrow.Author.Needs.{needs}
 use Rattle.check_findings.proofs.insert_findings.insert_optional.Statement.{statement}
 use Rattle.check_findings.proofs.insert_findings.insert_optional.Tie as tie
 
-enum-told : tie.Need-enum-told
-enum-told c = search needs
-
-enum-known-optional : tie.Need-enum-known-optional
-enum-known-optional c = search needs
-
-insert-finding-requires : tie.Need-insert-finding-requires
-insert-finding-requires c κs = search needs
-
 returns : tie.Need-returns
 unfolding insertedAll surfaceIdOf
 returns c = (rw (c .enum-told .given .1), rw (c .enum-told .given .1))
-
-same-length : tie.Need-same-length
-same-length c = search needs
 
 returns-2 : tie.Need-returns-2
 unfolding insertedAll surfaceIdOf
@@ -31,5 +19,4 @@ returns-2 c =
 
 pub insert-optional-spec : {M : Type 1} → statement M
 insert-optional-spec =
-    tie.close
-    (tie.spec enum-told enum-known-optional insert-finding-requires returns same-length returns-2)
+    tie.close (tie.spec (λ c. search needs) (λ c. search needs) (λ c κs. search needs) returns (λ c. search needs) returns-2)

@@ -5,21 +5,6 @@ use borrow.Author.Needs.{needs}
 use Rattle.check_findings.proofs.insert_findings.insert_pair_findings.Statement.{statement}
 use Rattle.check_findings.proofs.insert_findings.insert_pair_findings.Tie as tie
 
-insert-optional-requires : tie.Need-insert-optional-requires
-insert-optional-requires c κs = search needs
-
-insert-optional-requires-2 : tie.Need-insert-optional-requires-2
-insert-optional-requires-2 c κs = search needs
-
-insert-optional-requires-3 : tie.Need-insert-optional-requires-3
-insert-optional-requires-3 c κs = search needs
-
-insert-optional-requires-4 : tie.Need-insert-optional-requires-4
-insert-optional-requires-4 c κs = search needs
-
-same-length : tie.Need-same-length
-same-length c = search needs
-
 returns : tie.Need-returns
 unfolding pairListed
 returns c =
@@ -32,10 +17,5 @@ returns c =
 pub insert-pair-findings-spec : {M : Type 1} → statement M
 insert-pair-findings-spec =
     tie.close
-    (tie.spec
-    insert-optional-requires
-    insert-optional-requires-2
-    insert-optional-requires-3
-    insert-optional-requires-4
-    same-length
+    (tie.spec (λ c κs. search needs) (λ c κs. search needs) (λ c κs. search needs) (λ c κs. search needs) (λ c. search needs)
     returns)

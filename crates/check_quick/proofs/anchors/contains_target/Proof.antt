@@ -6,22 +6,13 @@ use Rattle.check_quick.specs.Anchors.{anchored}
 use Rattle.check_quick.proofs.anchors.contains_target.Statement.{statement}
 use Rattle.check_quick.proofs.anchors.contains_target.Tie as tie
 
-contains-binding-requires : tie.Need-contains-binding-requires
-contains-binding-requires c κs = search needs
-
 returns : tie.Need-returns
 unfolding anchored
 returns c = c .contains-binding .ensures ∙ rw (eq-eqb _ _ (c .before .if1 .taken))
 
-contains-id-requires : tie.Need-contains-id-requires
-contains-id-requires c κs = search needs
-
 returns-2 : tie.Need-returns-2
 unfolding anchored
 returns-2 c = c .contains-id .ensures ∙ rw (ne-eqb _ _ (c .before .before .before .if1 .left), eq-eqb _ _ (c .before .if2 .taken))
-
-contains-id-requires-2 : tie.Need-contains-id-requires-2
-contains-id-requires-2 c κs = search needs
 
 returns-3 : tie.Need-returns-3
 unfolding anchored
@@ -29,11 +20,4 @@ returns-3 c = c .contains-id2 .ensures ∙ rw (ne-eqb _ _ (c .before .before .be
 
 pub contains-target-spec : {M : Type 1} → statement M
 contains-target-spec =
-    tie.close
-    (tie.spec
-    contains-binding-requires
-    returns
-    contains-id-requires
-    returns-2
-    contains-id-requires-2
-    returns-3)
+    tie.close (tie.spec (λ c κs. search needs) returns (λ c κs. search needs) returns-2 (λ c κs. search needs) returns-3)

@@ -42,20 +42,8 @@ returns : tie.Need-returns
 unfolding readSet inspectedBy
 returns c = let l = c .before .before .before .before .before .before .args .set .now in rw (lt-leb (length l) setBytes (c .if1 .taken))
 
-read-heading-requires : tie.Need-read-heading-requires
-read-heading-requires c κs = search needs
-
-enum-known-count : tie.Need-enum-known-count
-enum-known-count c = search needs
-
 inspect-patches-requires : tie.Need-inspect-patches-requires
 inspect-patches-requires c κs = let k = c .before in (front k .within, (front k .few, start (k .before .before .before) .pre))
-
-enum-known-fault : tie.Need-enum-known-fault
-enum-known-fault c = search needs
-
-same-length : tie.Need-same-length
-same-length c = search needs
 
 returns-2 : tie.Need-returns-2
 returns-2 c =
@@ -76,12 +64,5 @@ returns-3 c =
 pub inspect-with-spec : {M : Type 1} → statement M
 inspect-with-spec =
     tie.close
-    (tie.spec
-    returns
-    read-heading-requires
-    enum-known-count
-    inspect-patches-requires
-    enum-known-fault
-    same-length
-    returns-2
-    returns-3)
+    (tie.spec returns (λ c κs. search needs) (λ c. search needs) inspect-patches-requires (λ c. search needs)
+    (λ c. search needs) returns-2 returns-3)

@@ -36,35 +36,8 @@ one c =
     let k = c .before .before .before in
     operation-at (edition k) (set k) (start k .args .at) (k .operation-from .ensures) (bytes-of (set k) (λ j. k .before .before .before .before .before .shared-slice-known .given j .fits)) (omega arith) (c .before .operation .given .1)
 
-sub-operation-from : tie.Need-sub-operation-from
-sub-operation-from c = search needs
-
-part-operation-from-start : tie.Need-part-operation-from-start
-part-operation-from-start c = search needs
-
-part-operation-from-end : tie.Need-part-operation-from-end
-part-operation-from-end c = search needs
-
-operation-from-requires : tie.Need-operation-from-requires
-operation-from-requires c κs = search needs
-
-enum-known-operation : tie.Need-enum-known-operation
-enum-known-operation c = search needs
-
-mutation-target-requires : tie.Need-mutation-target-requires
-mutation-target-requires c κs = search needs
-
-before-self-requires : tie.Need-before-self-requires
-before-self-requires c κs = search needs
-
-one-if-absent-requires : tie.Need-one-if-absent-requires
-one-if-absent-requires c κs = search needs
-
 add-t20 : tie.Need-add-t20
 add-t20 c = omega (arith, one (c .before .before .before) .within)
-
-enum-known-fault : tie.Need-enum-known-fault
-enum-known-fault c = search needs
 
 returns : tie.Need-returns
 unfolding targetSeen absentAmong
@@ -86,16 +59,5 @@ returns-2 c =
 pub check-one-spec : {M : Type 1} → statement M
 check-one-spec =
     tie.close
-    (tie.spec
-    sub-operation-from
-    part-operation-from-start
-    part-operation-from-end
-    operation-from-requires
-    enum-known-operation
-    mutation-target-requires
-    before-self-requires
-    one-if-absent-requires
-    add-t20
-    enum-known-fault
-    returns
-    returns-2)
+    (tie.spec (λ c. search needs) (λ c. search needs) (λ c. search needs) (λ c κs. search needs) (λ c. search needs)
+    (λ c κs. search needs) (λ c κs. search needs) (λ c κs. search needs) add-t20 (λ c. search needs) returns returns-2)

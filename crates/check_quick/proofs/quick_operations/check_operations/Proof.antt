@@ -16,9 +16,6 @@ use Rattle.check_quick.proofs.quick_operations.check_operations.Tie as 
 abbrev known : tie.Start → MutationTarget → Bool
 known c = let a = c .args in anchored (a .nodes .now) (a .bindings .now) (a .collections .now)
 
-check-one-requires : tie.Need-check-one-requires
-check-one-requires c κs = search needs
-
 returns : tie.Need-returns
 returns c =
     let start = c .before .before .before .before .before .before in
@@ -27,46 +24,16 @@ returns c =
 mul-used : tie.Need-mul-used
 mul-used c = omega arith
 
-slice-aggregate-check-with : tie.Need-slice-aggregate-check-with
-slice-aggregate-check-with c = search needs
-
-slice-aggregate-check-with-2 : tie.Need-slice-aggregate-check-with-2
-slice-aggregate-check-with-2 c = search needs
-
-check-with-requires : tie.Need-check-with-requires
-check-with-requires c κs = search needs
-
-array-share-prefix-few : tie.Need-array-share-prefix-few
-array-share-prefix-few c = search needs
-
 slice-aggregate-tallied : tie.Need-slice-aggregate-tallied
 slice-aggregate-tallied c = sym (length-take-le _ _ (omega arith))
-
-tallied-requires : tie.Need-tallied-requires
-tallied-requires c κs = search needs
 
 returns-2 : tie.Need-returns-2
 returns-2 c =
     let call = c .before .before .before .before in
     c .tallied .ensures ∙ call .check-with .ensures (known (call .before .before .before .before .before .before .before .before .before))
 
-slice-aggregate-check-with-3 : tie.Need-slice-aggregate-check-with-3
-slice-aggregate-check-with-3 c = search needs
-
-slice-aggregate-check-with-4 : tie.Need-slice-aggregate-check-with-4
-slice-aggregate-check-with-4 c = search needs
-
-check-with-requires-2 : tie.Need-check-with-requires-2
-check-with-requires-2 c κs = search needs
-
-array-share-prefix-targets : tie.Need-array-share-prefix-targets
-array-share-prefix-targets c = search needs
-
 slice-aggregate-tallied-2 : tie.Need-slice-aggregate-tallied-2
 slice-aggregate-tallied-2 c = sym (length-take-le _ _ (omega arith))
-
-tallied-requires-2 : tie.Need-tallied-requires-2
-tallied-requires-2 c κs = search needs
 
 returns-3 : tie.Need-returns-3
 returns-3 c =
@@ -76,21 +43,6 @@ returns-3 c =
 pub check-operations-spec : {M : Type 1} → statement M
 check-operations-spec =
     tie.close
-    (tie.spec
-    check-one-requires
-    returns
-    mul-used
-    slice-aggregate-check-with
-    slice-aggregate-check-with-2
-    check-with-requires
-    array-share-prefix-few
-    slice-aggregate-tallied
-    tallied-requires
-    returns-2
-    slice-aggregate-check-with-3
-    slice-aggregate-check-with-4
-    check-with-requires-2
-    array-share-prefix-targets
-    slice-aggregate-tallied-2
-    tallied-requires-2
-    returns-3)
+    (tie.spec (λ c κs. search needs) returns mul-used (λ c. search needs) (λ c. search needs) (λ c κs. search needs)
+    (λ c. search needs) slice-aggregate-tallied (λ c κs. search needs) returns-2 (λ c. search needs) (λ c. search needs)
+    (λ c κs. search needs) (λ c. search needs) slice-aggregate-tallied-2 (λ c κs. search needs) returns-3)

@@ -7,38 +7,17 @@ use borrow.Author.Needs.{needs}
 use Rattle.check_quick.proofs.quick_operations.operation_found.Statement.{statement}
 use Rattle.check_quick.proofs.quick_operations.operation_found.Tie as tie
 
-seen-by-mark-requires : tie.Need-seen-by-mark-requires
-seen-by-mark-requires c κs = search needs
-
-same-length : tie.Need-same-length
-same-length c = search needs
-
-same-length-2 : tie.Need-same-length-2
-same-length-2 c = search needs
-
 returns : tie.Need-returns
 returns c =
     let call = c .before .before .before .before .before in
     let found = call .before .before .before .before .before .args .found in
     (rw (sym (call .seen-by-mark .ensures .0) ∙ c .if1 .taken) (sym (or-true found true refl)), call .seen-by-mark .ensures .1)
 
-same-length-3 : tie.Need-same-length-3
-same-length-3 c = search needs
-
-same-length-4 : tie.Need-same-length-4
-same-length-4 c = search needs
-
 returns-2 : tie.Need-returns-2
 returns-2 c =
     let call = c .before .before .before .before .before .before in
     let found = call .before .before .before .before .before .args .found in
     (rw (sym (call .seen-by-mark .ensures .0) ∙ c .before .if1 .left, c .if2 .taken) (sym (or-true found true refl)), call .seen-by-mark .ensures .1)
-
-same-length-5 : tie.Need-same-length-5
-same-length-5 c = search needs
-
-same-length-6 : tie.Need-same-length-6
-same-length-6 c = search needs
 
 returns-3 : tie.Need-returns-3
 returns-3 c =
@@ -49,14 +28,5 @@ returns-3 c =
 pub operation-found-spec : {M : Type 1} → statement M
 operation-found-spec =
     tie.close
-    (tie.spec
-    seen-by-mark-requires
-    same-length
-    same-length-2
-    returns
-    same-length-3
-    same-length-4
-    returns-2
-    same-length-5
-    same-length-6
-    returns-3)
+    (tie.spec (λ c κs. search needs) (λ c. search needs) (λ c. search needs) returns (λ c. search needs) (λ c. search needs)
+    returns-2 (λ c. search needs) (λ c. search needs) returns-3)

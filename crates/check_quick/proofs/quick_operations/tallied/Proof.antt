@@ -13,15 +13,6 @@ use Rattle.check_quick.proofs.quick_operations.tallied.Tie as tie
 abbrev known : tie.Start → MutationTarget → Bool
 known c = let a = c .args in anchored (a .nodes .now) (a .bindings .now) (a .collections .now)
 
-enum-known-run : tie.Need-enum-known-run
-enum-known-run c = search needs
-
-absent-among-requires : tie.Need-absent-among-requires
-absent-among-requires c κs = search needs
-
-enum-known-run-2 : tie.Need-enum-known-run-2
-enum-known-run-2 c = search needs
-
 returns : tie.Need-returns
 returns c =
     let start = c .before .before .before .before .before .before .before .before in
@@ -36,4 +27,5 @@ returns-2 c =
     sym (ap (talliedBy (known start) (start .args .targets .now)) (run .1))
 
 pub tallied-spec : {M : Type 1} → statement M
-tallied-spec = tie.close (tie.spec enum-known-run absent-among-requires enum-known-run-2 returns returns-2)
+tallied-spec =
+    tie.close (tie.spec (λ c. search needs) (λ c κs. search needs) (λ c. search needs) returns returns-2)

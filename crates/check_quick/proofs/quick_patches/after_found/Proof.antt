@@ -8,23 +8,11 @@ use borrow.Author.Needs.{needs}
 use Rattle.check_quick.proofs.quick_patches.after_found.Statement.{statement}
 use Rattle.check_quick.proofs.quick_patches.after_found.Tie as tie
 
-raw-requires : tie.Need-raw-requires
-raw-requires c κs = search needs
-
-id-repeats-requires : tie.Need-id-repeats-requires
-id-repeats-requires c κs = search needs
-
-same-length : tie.Need-same-length
-same-length c = search needs
-
 returns : tie.Need-returns
 returns c =
     let call = c .before .before .before in
     let a = call .before .before .before .before .args in
     (rw (c .if1 .taken), call .id-repeats .ensures .1 ∙ ap (λ (n : ℕ). set (a .ids .now) (a .used) n) (call .before .raw .ensures))
-
-same-length-2 : tie.Need-same-length-2
-same-length-2 c = search needs
 
 returns-2 : tie.Need-returns-2
 returns-2 c =
@@ -32,21 +20,12 @@ returns-2 c =
     let a = call .before .before .before .before .args in
     (rw (c .before .if1 .left, c .if2 .taken), call .id-repeats .ensures .1 ∙ ap (λ (n : ℕ). set (a .ids .now) (a .used) n) (call .before .raw .ensures))
 
-same-length-3 : tie.Need-same-length-3
-same-length-3 c = search needs
-
 returns-3 : tie.Need-returns-3
 unfolding afterFound
 returns-3 c =
     let call = c .before .before .before .before .before in
     let a = call .before .before .before .before .args in
     (rw (c .before .before .if1 .left, c .before .if2 .left, sym (call .id-repeats .ensures .0 ∙ ap (λ (n : ℕ). idSeen n (take (a .used) (a .ids .now))) (call .before .raw .ensures)) ∙ c .if3 .taken), call .id-repeats .ensures .1 ∙ ap (λ (n : ℕ). set (a .ids .now) (a .used) n) (call .before .raw .ensures))
-
-previous-found-requires : tie.Need-previous-found-requires
-previous-found-requires c κs = search needs
-
-same-length-4 : tie.Need-same-length-4
-same-length-4 c = search needs
 
 returns-4 : tie.Need-returns-4
 unfolding afterFound
@@ -58,15 +37,5 @@ returns-4 c =
 pub after-found-spec : {M : Type 1} → statement M
 after-found-spec =
     tie.close
-    (tie.spec
-    raw-requires
-    id-repeats-requires
-    same-length
-    returns
-    same-length-2
-    returns-2
-    same-length-3
-    returns-3
-    previous-found-requires
-    same-length-4
-    returns-4)
+    (tie.spec (λ c κs. search needs) (λ c κs. search needs) (λ c. search needs) returns (λ c. search needs) returns-2
+    (λ c. search needs) returns-3 (λ c κs. search needs) (λ c. search needs) returns-4)

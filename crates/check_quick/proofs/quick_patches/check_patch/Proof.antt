@@ -49,38 +49,11 @@ taken c = c .before .head .given .0 .1 .0
 front : (c : tie.After-known-told) → let k = c .before .before .before in HeadAt (set k) (at k) (head c) (taken c)
 front c = let k = c .before .before .before in head-at (set k) (at k) (k .read-patch-head .ensures) (all-bytes k) (omega arith) (c .before .head .given .1)
 
-sub-read-patch-head : tie.Need-sub-read-patch-head
-sub-read-patch-head c = search needs
-
-part-read-patch-head-start : tie.Need-part-read-patch-head-start
-part-read-patch-head-start c = search needs
-
-part-read-patch-head-end : tie.Need-part-read-patch-head-end
-part-read-patch-head-end c = search needs
-
-read-patch-head-requires : tie.Need-read-patch-head-requires
-read-patch-head-requires c κs = search needs
-
-enum-known-head : tie.Need-enum-known-head
-enum-known-head c = search needs
-
 add-check-operations : tie.Need-add-check-operations
 add-check-operations c = omega (arith, front c .within)
 
 check-operations-requires : tie.Need-check-operations-requires
 check-operations-requires c κs = (front c .within, front c .few)
-
-enum-known-tally : tie.Need-enum-known-tally
-enum-known-tally c = search needs
-
-patch-found-requires : tie.Need-patch-found-requires
-patch-found-requires c κs = search needs
-
-enum-known-fault : tie.Need-enum-known-fault
-enum-known-fault c = search needs
-
-enum-known-fault-2 : tie.Need-enum-known-fault-2
-enum-known-fault-2 c = search needs
 
 returns : tie.Need-returns
 returns c =
@@ -113,18 +86,6 @@ returns-3 c =
 pub check-patch-spec : {M : Type 1} → statement M
 check-patch-spec =
     tie.close
-    (tie.spec
-    sub-read-patch-head
-    part-read-patch-head-start
-    part-read-patch-head-end
-    read-patch-head-requires
-    enum-known-head
-    add-check-operations
-    check-operations-requires
-    enum-known-tally
-    patch-found-requires
-    enum-known-fault
-    enum-known-fault-2
-    returns
-    returns-2
-    returns-3)
+    (tie.spec (λ c. search needs) (λ c. search needs) (λ c. search needs) (λ c κs. search needs) (λ c. search needs)
+    add-check-operations check-operations-requires (λ c. search needs) (λ c κs. search needs) (λ c. search needs)
+    (λ c. search needs) returns returns-2 returns-3)

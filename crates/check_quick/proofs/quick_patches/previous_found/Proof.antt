@@ -6,18 +6,6 @@ use borrow.Author.Needs.{needs}
 use Rattle.check_quick.proofs.quick_patches.previous_found.Statement.{statement}
 use Rattle.check_quick.proofs.quick_patches.previous_found.Tie as tie
 
-enum-told : tie.Need-enum-told
-enum-told c = search needs
-
-enum-known-previous : tie.Need-enum-known-previous
-enum-known-previous c = search needs
-
-pair-findings-requires : tie.Need-pair-findings-requires
-pair-findings-requires c κs = search needs
-
-pair-found-requires : tie.Need-pair-found-requires
-pair-found-requires c κs = search needs
-
 returns : tie.Need-returns
 unfolding previousFound
 returns c = rw (c .enum-told .given .1)
@@ -29,10 +17,4 @@ returns-2 c = c .pair-found .ensures ∙ ap isFound (c .before .pair-findings .e
 pub previous-found-spec : {M : Type 1} → statement M
 previous-found-spec =
     tie.close
-    (tie.spec
-    enum-told
-    enum-known-previous
-    pair-findings-requires
-    pair-found-requires
-    returns
-    returns-2)
+    (tie.spec (λ c. search needs) (λ c. search needs) (λ c κs. search needs) (λ c κs. search needs) returns returns-2)

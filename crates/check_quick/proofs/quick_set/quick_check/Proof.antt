@@ -12,27 +12,6 @@ use Rattle.check_quick.proofs.quick_set.quick_check.Tie as tie
 told : (c : tie.After-inspect-set) (i : SetInspection) → c .inspect-set .result ≡ i → let a = c .before .before .before .before .before .args in quickOf i ≡ quickAnswer (readSet (editionOf (a .edition)) (a .set .now))
 told c i e = ap quickOf (sym e ∙ c .inspect-set .ensures) ∙ quick-is _ _
 
-slice-aggregate-inspect-set : tie.Need-slice-aggregate-inspect-set
-slice-aggregate-inspect-set c = search needs
-
-slice-aggregate-inspect-set-2 : tie.Need-slice-aggregate-inspect-set-2
-slice-aggregate-inspect-set-2 c = search needs
-
-slice-aggregate-inspect-set-3 : tie.Need-slice-aggregate-inspect-set-3
-slice-aggregate-inspect-set-3 c = search needs
-
-inspect-set-requires : tie.Need-inspect-set-requires
-inspect-set-requires c κs = search needs
-
-enum-known-patch-count : tie.Need-enum-known-patch-count
-enum-known-patch-count c = search needs
-
-enum-told : tie.Need-enum-told
-enum-told c = search needs
-
-enum-known-fault : tie.Need-enum-known-fault
-enum-known-fault c = search needs
-
 returns : tie.Need-returns
 returns c = told (c .before .before .before) _ (c .before .patch-count .given .1)
 
@@ -45,14 +24,5 @@ returns-3 c = told (c .before .before .before) _ (c .before .fault .given .1)
 pub quick-check-spec : {M : Type 1} → statement M
 quick-check-spec =
     tie.close
-    (tie.spec
-    slice-aggregate-inspect-set
-    slice-aggregate-inspect-set-2
-    slice-aggregate-inspect-set-3
-    inspect-set-requires
-    enum-known-patch-count
-    enum-told
-    enum-known-fault
-    returns
-    returns-2
-    returns-3)
+    (tie.spec (λ c. search needs) (λ c. search needs) (λ c. search needs) (λ c κs. search needs) (λ c. search needs)
+    (λ c. search needs) (λ c. search needs) returns returns-2 returns-3)

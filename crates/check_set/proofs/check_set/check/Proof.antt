@@ -7,29 +7,11 @@ use borrow.Author.Needs.{needs}
 use Rattle.check_set.proofs.check_set.check.Statement.{statement}
 use Rattle.check_set.proofs.check_set.check.Tie as tie
 
-quick-check-requires : tie.Need-quick-check-requires
-quick-check-requires c κs = search needs
-
-enum-told : tie.Need-enum-told
-enum-told c = search needs
-
-enum-told-2 : tie.Need-enum-told-2
-enum-told-2 c = search needs
-
-find-requires : tie.Need-find-requires
-find-requires c κs = search needs
-
-enum-known-fault : tie.Need-enum-known-fault
-enum-known-fault c = search needs
-
 returns : tie.Need-returns
 returns c =
     let q = c .before .before in
     let a = q .before .before .before .args in
     clean-is (a .findings .now) (readSet (editionOf (a .edition)) (a .set .now)) _ _ (sym (q .quick-check .ensures) ∙ c .enum-told .given .1)
-
-same-length : tie.Need-same-length
-same-length c = search needs
 
 returns-2 : tie.Need-returns-2
 returns-2 c =
@@ -48,13 +30,5 @@ returns-3 c =
 pub check-spec : {M : Type 1} → statement M
 check-spec =
     tie.close
-    (tie.spec
-    quick-check-requires
-    enum-told
-    enum-told-2
-    find-requires
-    enum-known-fault
-    returns
-    same-length
-    returns-2
-    returns-3)
+    (tie.spec (λ c κs. search needs) (λ c. search needs) (λ c. search needs) (λ c κs. search needs) (λ c. search needs) returns
+    (λ c. search needs) returns-2 returns-3)

@@ -26,44 +26,11 @@ edition c = editionOf (c .before .before .before .args .edition)
 all-bytes : (c : tie.After-open-set) → Bytes (set c)
 all-bytes c = bytes-of (set c) (λ j. c .before .before .shared-slice-known .given j .fits)
 
-open-set-requires : tie.Need-open-set-requires
-open-set-requires c κs = search needs
-
-enum-known-start : tie.Need-enum-known-start
-enum-known-start c = search needs
-
-slice-aggregate-list-patches : tie.Need-slice-aggregate-list-patches
-slice-aggregate-list-patches c = search needs
-
 list-patches-requires : tie.Need-list-patches-requires
 list-patches-requires c κs =
     let k = c .before in
     let call = k .before .before .before in
     (subst OpeningCounts (sym (call .open-set .ensures) ∙ k .before .start .given .1) (opening-counts (edition call) (set call) (all-bytes call)), search needs)
-
-enum-known-index : tie.Need-enum-known-index
-enum-known-index c = search needs
-
-slice-aggregate-write-answer : tie.Need-slice-aggregate-write-answer
-slice-aggregate-write-answer c = search needs
-
-write-answer-requires : tie.Need-write-answer-requires
-write-answer-requires c κs = search needs
-
-enum-known-logical : tie.Need-enum-known-logical
-enum-known-logical c = search needs
-
-slice-aggregate-write-answer-2 : tie.Need-slice-aggregate-write-answer-2
-slice-aggregate-write-answer-2 c = search needs
-
-write-answer-requires-2 : tie.Need-write-answer-requires-2
-write-answer-requires-2 c κs = search needs
-
-enum-known-fault : tie.Need-enum-known-fault
-enum-known-fault c = search needs
-
-same-length : tie.Need-same-length
-same-length c = search needs
 
 listed-findings : (c : tie.After-list-patches) (ps : List Patch) → let k = c .before .before .before .before .before in readSet (edition k) (set k) ≡ patches ps → FindingsListedAs (findings ps) (c .list-patches .result) (c .list-patches .last .1 .1 .1 .0)
 listed-findings c ps e =
@@ -80,9 +47,6 @@ returns c =
       λ ps e. w .write-answer .ensures .0 ∙ answer-is ps (call .list-patches .result) _ (listed-findings call ps e) (inPatch (bound .0 .0)) _ _ (bound .1) lent refl,
       λ ps e. w .write-answer .ensures .1 ∙ numbers-are ps (call .list-patches .result) _ (listed-findings call ps e) (inPatch (bound .0 .0)) _ _ (bound .1) lent refl,
     )
-
-same-length-2 : tie.Need-same-length-2
-same-length-2 c = search needs
 
 returns-2 : tie.Need-returns-2
 returns-2 c =
@@ -104,20 +68,6 @@ returns-3 c = (λ ps e. absurd (never c ps e), λ ps e. absurd (never c ps e))
 pub find-spec : {M : Type 1} → statement M
 find-spec =
     tie.close
-    (tie.spec
-    open-set-requires
-    enum-known-start
-    slice-aggregate-list-patches
-    list-patches-requires
-    enum-known-index
-    slice-aggregate-write-answer
-    write-answer-requires
-    enum-known-logical
-    slice-aggregate-write-answer-2
-    write-answer-requires-2
-    enum-known-fault
-    same-length
-    returns
-    same-length-2
-    returns-2
-    returns-3)
+    (tie.spec (λ c κs. search needs) (λ c. search needs) (λ c. search needs) list-patches-requires (λ c. search needs)
+    (λ c. search needs) (λ c κs. search needs) (λ c. search needs) (λ c. search needs) (λ c κs. search needs)
+    (λ c. search needs) (λ c. search needs) returns (λ c. search needs) returns-2 returns-3)

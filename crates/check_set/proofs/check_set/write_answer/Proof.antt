@@ -9,12 +9,6 @@ use borrow.Author.Needs.{needs}
 use Rattle.check_set.proofs.check_set.write_answer.Statement.{statement}
 use Rattle.check_set.proofs.check_set.write_answer.Tie as tie
 
-write-findings-requires : tie.Need-write-findings-requires
-write-findings-requires c κs = search needs
-
-same-length : tie.Need-same-length
-same-length c = search needs
-
 returns : tie.Need-returns
 returns c =
     let w = c .before .before in
@@ -23,4 +17,5 @@ returns c =
     (ap (set-check.Checked (a .place) (a .logical)) (told .0), told .1 ∙ ap (λ (n : ℕ). take (recordLength * n) (a .records .now) ++ drop (recordLength * n) (a .out .now)) (told .0))
 
 pub write-answer-spec : {M : Type 1} → statement M
-write-answer-spec = tie.close (tie.spec write-findings-requires same-length returns)
+write-answer-spec =
+    tie.close (tie.spec (λ c κs. search needs) (λ c. search needs) returns)

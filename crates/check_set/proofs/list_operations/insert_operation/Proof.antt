@@ -8,21 +8,6 @@ use borrow.Author.Needs.{needs}
 use Rattle.check_set.proofs.list_operations.insert_operation.Statement.{statement}
 use Rattle.check_set.proofs.list_operations.insert_operation.Tie as tie
 
-report-if-requires : tie.Need-report-if-requires
-report-if-requires c κs = search needs
-
-report-if-requires-2 : tie.Need-report-if-requires-2
-report-if-requires-2 c κs = search needs
-
-insert-optional-requires : tie.Need-insert-optional-requires
-insert-optional-requires c κs = search needs
-
-insert-optional-requires-2 : tie.Need-insert-optional-requires-2
-insert-optional-requires-2 c κs = search needs
-
-same-length : tie.Need-same-length
-same-length c = search needs
-
 returns : tie.Need-returns
 returns c =
     let second = c .before .before in
@@ -35,10 +20,5 @@ returns c =
 pub insert-operation-spec : {M : Type 1} → statement M
 insert-operation-spec =
     tie.close
-    (tie.spec
-    report-if-requires
-    report-if-requires-2
-    insert-optional-requires
-    insert-optional-requires-2
-    same-length
+    (tie.spec (λ c κs. search needs) (λ c κs. search needs) (λ c κs. search needs) (λ c κs. search needs) (λ c. search needs)
     returns)

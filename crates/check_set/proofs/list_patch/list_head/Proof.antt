@@ -12,24 +12,6 @@ use borrow.Author.Needs.{needs}
 use Rattle.check_set.proofs.list_patch.list_head.Statement.{statement}
 use Rattle.check_set.proofs.list_patch.list_head.Tie as tie
 
-raw-requires : tie.Need-raw-requires
-raw-requires c κs = search needs
-
-report-if-requires : tie.Need-report-if-requires
-report-if-requires c κs = search needs
-
-envelope-findings-requires : tie.Need-envelope-findings-requires
-envelope-findings-requires c κs = search needs
-
-insert-optional-requires : tie.Need-insert-optional-requires
-insert-optional-requires c κs = search needs
-
-insert-envelope-findings-requires : tie.Need-insert-envelope-findings-requires
-insert-envelope-findings-requires c κs = search needs
-
-same-length : tie.Need-same-length
-same-length c = search needs
-
 returns : tie.Need-returns
 unfolding headFindings kindNumber
 returns c =
@@ -45,11 +27,5 @@ returns c =
 pub list-head-spec : {M : Type 1} → statement M
 list-head-spec =
     tie.close
-    (tie.spec
-    raw-requires
-    report-if-requires
-    envelope-findings-requires
-    insert-optional-requires
-    insert-envelope-findings-requires
-    same-length
-    returns)
+    (tie.spec (λ c κs. search needs) (λ c κs. search needs) (λ c κs. search needs) (λ c κs. search needs)
+    (λ c κs. search needs) (λ c. search needs) returns)

@@ -19,9 +19,6 @@ use borrow.Author.Needs.{needs}
 use Rattle.check_set.proofs.list_patch.list_patch.Statement.{statement}
 use Rattle.check_set.proofs.list_patch.list_patch.Tie as tie
 
-list-head-requires : tie.Need-list-head-requires
-list-head-requires c κs = search needs
-
 -- both lists are the patch's
 list-is : (p : Patch) (head : ProjectionPatch) (id : ℕ) → head ≡ headTo (headOf p) → id ≡ p .envelope .id
     → headFindings (envelopeOf (head .envelope)) (head .«operation_count») ++ checkEach (operationFindings id) [] (p .operations) ≡ rawPatchFindings p
@@ -40,18 +37,6 @@ findings-of p head id placed same before middle after first last heads operation
     let list = list-is p head id placed same in
     (both .0 ∙ ap (λ (l : List Finding). insertedAll l 0 before .0) list, both .1 ∙ ap (λ (l : List Finding). insertedAll l 0 before .1) list)
 
-slice-aggregate-list-operations : tie.Need-slice-aggregate-list-operations
-slice-aggregate-list-operations c = search needs
-
-slice-aggregate-list-operations-2 : tie.Need-slice-aggregate-list-operations-2
-slice-aggregate-list-operations-2 c = search needs
-
-list-operations-requires : tie.Need-list-operations-requires
-list-operations-requires c κs = search needs
-
-same-length : tie.Need-same-length
-same-length c = search needs
-
 returns : tie.Need-returns
 returns c =
     let call = c .before .before .before .before in
@@ -62,18 +47,6 @@ returns c =
           (findings-of p (a .head) (a .start .«patch_id») placed same _ _ _ _ _ (first .list-head .ensures) (told .0), told .1),
       call .list-operations .ensures .1,
     )
-
-slice-aggregate-list-operations-3 : tie.Need-slice-aggregate-list-operations-3
-slice-aggregate-list-operations-3 c = search needs
-
-slice-aggregate-list-operations-4 : tie.Need-slice-aggregate-list-operations-4
-slice-aggregate-list-operations-4 c = search needs
-
-list-operations-requires-2 : tie.Need-list-operations-requires-2
-list-operations-requires-2 c κs = search needs
-
-same-length-2 : tie.Need-same-length-2
-same-length-2 c = search needs
 
 returns-2 : tie.Need-returns-2
 returns-2 c =
@@ -89,15 +62,5 @@ returns-2 c =
 pub list-patch-spec : {M : Type 1} → statement M
 list-patch-spec =
     tie.close
-    (tie.spec
-    list-head-requires
-    slice-aggregate-list-operations
-    slice-aggregate-list-operations-2
-    list-operations-requires
-    same-length
-    returns
-    slice-aggregate-list-operations-3
-    slice-aggregate-list-operations-4
-    list-operations-requires-2
-    same-length-2
-    returns-2)
+    (tie.spec (λ c κs. search needs) (λ c. search needs) (λ c. search needs) (λ c κs. search needs) (λ c. search needs) returns
+    (λ c. search needs) (λ c. search needs) (λ c κs. search needs) (λ c. search needs) returns-2)

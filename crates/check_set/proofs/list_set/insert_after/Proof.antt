@@ -16,30 +16,6 @@ use borrow.Author.Needs.{needs}
 use Rattle.check_set.proofs.list_set.insert_after.Statement.{statement}
 use Rattle.check_set.proofs.list_set.insert_after.Tie as tie
 
-raw-requires : tie.Need-raw-requires
-raw-requires c κs = search needs
-
-raw-requires-2 : tie.Need-raw-requires-2
-raw-requires-2 c κs = search needs
-
-id-before-requires : tie.Need-id-before-requires
-id-before-requires c κs = search needs
-
-report-if-requires : tie.Need-report-if-requires
-report-if-requires c κs = search needs
-
-insert-optional-requires : tie.Need-insert-optional-requires
-insert-optional-requires c κs = search needs
-
-insert-previous-requires : tie.Need-insert-previous-requires
-insert-previous-requires c κs = search needs
-
-same-length : tie.Need-same-length
-same-length c = search needs
-
-same-length-2 : tie.Need-same-length-2
-same-length-2 c = search needs
-
 returns : tie.Need-returns
 unfolding afterListed kindNumber
 returns c =
@@ -62,13 +38,5 @@ returns c =
 pub insert-after-spec : {M : Type 1} → statement M
 insert-after-spec =
     tie.close
-    (tie.spec
-    raw-requires
-    raw-requires-2
-    id-before-requires
-    report-if-requires
-    insert-optional-requires
-    insert-previous-requires
-    same-length
-    same-length-2
-    returns)
+    (tie.spec (λ c κs. search needs) (λ c κs. search needs) (λ c κs. search needs) (λ c κs. search needs)
+    (λ c κs. search needs) (λ c κs. search needs) (λ c. search needs) (λ c. search needs) returns)

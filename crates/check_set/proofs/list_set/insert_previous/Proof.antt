@@ -8,24 +8,9 @@ use borrow.Author.Needs.{needs}
 use Rattle.check_set.proofs.list_set.insert_previous.Statement.{statement}
 use Rattle.check_set.proofs.list_set.insert_previous.Tie as tie
 
-enum-told : tie.Need-enum-told
-enum-told c = search needs
-
-enum-known-previous : tie.Need-enum-known-previous
-enum-known-previous c = search needs
-
-pair-findings-requires : tie.Need-pair-findings-requires
-pair-findings-requires c κs = search needs
-
-insert-pair-findings-requires : tie.Need-insert-pair-findings-requires
-insert-pair-findings-requires c κs = search needs
-
 returns : tie.Need-returns
 unfolding insertedAll previousListed
 returns c = (rw (c .enum-told .given .1), rw (c .enum-told .given .1))
-
-same-length : tie.Need-same-length
-same-length c = search needs
 
 returns-2 : tie.Need-returns-2
 unfolding previousListed
@@ -41,11 +26,5 @@ returns-2 c =
 pub insert-previous-spec : {M : Type 1} → statement M
 insert-previous-spec =
     tie.close
-    (tie.spec
-    enum-told
-    enum-known-previous
-    pair-findings-requires
-    insert-pair-findings-requires
-    returns
-    same-length
+    (tie.spec (λ c. search needs) (λ c. search needs) (λ c κs. search needs) (λ c κs. search needs) returns (λ c. search needs)
     returns-2)

@@ -9,30 +9,6 @@ use borrow.Author.Needs.{needs}
 use Rattle.check_set.proofs.write_findings.write_findings.Statement.{statement}
 use Rattle.check_set.proofs.write_findings.write_findings.Tie as tie
 
-fitting-requires : tie.Need-fitting-requires
-fitting-requires c κs = search needs
-
-fitting-requires-2 : tie.Need-fitting-requires-2
-fitting-requires-2 c κs = search needs
-
-mul-end : tie.Need-mul-end
-mul-end c = search needs
-
-sub-copy-front : tie.Need-sub-copy-front
-sub-copy-front c = search needs
-
-part-copy-front-start : tie.Need-part-copy-front-start
-part-copy-front-start c = search needs
-
-part-copy-front-end : tie.Need-part-copy-front-end
-part-copy-front-end c = search needs
-
-copy-front-requires : tie.Need-copy-front-requires
-copy-front-requires c κs = search needs
-
-same-length : tie.Need-same-length
-same-length c = search needs
-
 returns : tie.Need-returns
 returns c =
     let call = c .before .before in
@@ -51,13 +27,5 @@ returns c =
 pub write-findings-spec : {M : Type 1} → statement M
 write-findings-spec =
     tie.close
-    (tie.spec
-    fitting-requires
-    fitting-requires-2
-    mul-end
-    sub-copy-front
-    part-copy-front-start
-    part-copy-front-end
-    copy-front-requires
-    same-length
-    returns)
+    (tie.spec (λ c κs. search needs) (λ c κs. search needs) (λ c. search needs) (λ c. search needs) (λ c. search needs)
+    (λ c. search needs) (λ c κs. search needs) (λ c. search needs) returns)

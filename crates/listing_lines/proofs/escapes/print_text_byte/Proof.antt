@@ -5,23 +5,11 @@ use Rattle.listing_lines.proofs.TextBytes.{a-backslash, a-tab, a-newlin
 use Rattle.listing_lines.proofs.escapes.print_text_byte.Statement.{statement}
 use Rattle.listing_lines.proofs.escapes.print_text_byte.Tie as tie
 
-print-escape-requires : tie.Need-print-escape-requires
-print-escape-requires c κs = search needs
-
-same-length : tie.Need-same-length
-same-length c = search needs
-
 returns : tie.Need-returns
 returns c =
     let printed = c .before .before in
     let test = printed .before .before in
     same-bytes (a-backslash _ (test .if1 .taken)) (printed .print-escape .ensures)
-
-print-escape-requires-2 : tie.Need-print-escape-requires-2
-print-escape-requires-2 c κs = search needs
-
-same-length-2 : tie.Need-same-length-2
-same-length-2 c = search needs
 
 returns-2 : tie.Need-returns-2
 returns-2 c =
@@ -29,35 +17,17 @@ returns-2 c =
     let test = printed .before .before in
     same-bytes (a-tab _ (test .before .if1 .left) (test .if2 .taken)) (printed .print-escape2 .ensures)
 
-print-escape-requires-3 : tie.Need-print-escape-requires-3
-print-escape-requires-3 c κs = search needs
-
-same-length-3 : tie.Need-same-length-3
-same-length-3 c = search needs
-
 returns-3 : tie.Need-returns-3
 returns-3 c =
     let printed = c .before .before in
     let test = printed .before .before in
     same-bytes (a-newline _ (test .before .before .if1 .left) (test .before .if2 .left) (test .if3 .taken)) (printed .print-escape3 .ensures)
 
-print-escape-requires-4 : tie.Need-print-escape-requires-4
-print-escape-requires-4 c κs = search needs
-
-same-length-4 : tie.Need-same-length-4
-same-length-4 c = search needs
-
 returns-4 : tie.Need-returns-4
 returns-4 c =
     let printed = c .before .before in
     let test = printed .before .before in
     same-bytes (a-return _ (test .before .before .before .if1 .left) (test .before .before .if2 .left) (test .before .if3 .left) (test .if4 .taken)) (printed .print-escape4 .ensures)
-
-print-byte-requires : tie.Need-print-byte-requires
-print-byte-requires c κs = search needs
-
-same-length-5 : tie.Need-same-length-5
-same-length-5 c = search needs
 
 returns-5 : tie.Need-returns-5
 returns-5 c =
@@ -68,19 +38,6 @@ returns-5 c =
 pub print-text-byte-spec : {M : Type 1} → statement M
 print-text-byte-spec =
     tie.close
-    (tie.spec
-    print-escape-requires
-    same-length
-    returns
-    print-escape-requires-2
-    same-length-2
-    returns-2
-    print-escape-requires-3
-    same-length-3
-    returns-3
-    print-escape-requires-4
-    same-length-4
-    returns-4
-    print-byte-requires
-    same-length-5
-    returns-5)
+    (tie.spec (λ c κs. search needs) (λ c. search needs) returns (λ c κs. search needs) (λ c. search needs) returns-2
+    (λ c κs. search needs) (λ c. search needs) returns-3 (λ c κs. search needs) (λ c. search needs) returns-4
+    (λ c κs. search needs) (λ c. search needs) returns-5)

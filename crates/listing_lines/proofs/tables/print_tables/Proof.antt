@@ -13,24 +13,6 @@ use Rattle.listing_lines.proofs.Lines.{holds-length}
 use Rattle.listing_lines.proofs.tables.print_tables.Statement.{statement}
 use Rattle.listing_lines.proofs.tables.print_tables.Tie as tie
 
-record-count-requires : tie.Need-record-count-requires
-record-count-requires c κs = search needs
-
-print-number-line-requires : tie.Need-print-number-line-requires
-print-number-line-requires c κs = search needs
-
-print-rows-requires : tie.Need-print-rows-requires
-print-rows-requires c κs = search needs
-
-print-rows-requires-2 : tie.Need-print-rows-requires-2
-print-rows-requires-2 c κs = search needs
-
-print-rows-requires-3 : tie.Need-print-rows-requires-3
-print-rows-requires-3 c κs = search needs
-
-same-length : tie.Need-same-length
-same-length c = search needs
-
 returns : tie.Need-returns
 unfolding recordCount projectionLines
 returns c =
@@ -52,11 +34,5 @@ returns c =
 pub print-tables-spec : {M : Type 1} → statement M
 print-tables-spec =
     tie.close
-    (tie.spec
-    record-count-requires
-    print-number-line-requires
-    print-rows-requires
-    print-rows-requires-2
-    print-rows-requires-3
-    same-length
-    returns)
+    (tie.spec (λ c κs. search needs) (λ c κs. search needs) (λ c κs. search needs) (λ c κs. search needs)
+    (λ c κs. search needs) (λ c. search needs) returns)

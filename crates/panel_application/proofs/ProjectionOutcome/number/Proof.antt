@@ -5,24 +5,6 @@ use Rattle.panel_application.specs.Application.{outcomeNumber}
 use Rattle.panel_application.proofs.ProjectionOutcome.number.Statement.{statement}
 use Rattle.panel_application.proofs.ProjectionOutcome.number.Tie as tie
 
-enum-told : tie.Need-enum-told
-enum-told c = search needs
-
-enum-known-self : tie.Need-enum-known-self
-enum-known-self c = search needs
-
-number-requires : tie.Need-number-requires
-number-requires c κs = search needs
-
-enum-told-2 : tie.Need-enum-told-2
-enum-told-2 c = search needs
-
-enum-known-self-2 : tie.Need-enum-known-self-2
-enum-known-self-2 c = search needs
-
-number-requires-2 : tie.Need-number-requires-2
-number-requires-2 c κs = search needs
-
 returns : tie.Need-returns
 unfolding outcomeNumber
 returns c = sym (ap outcomeNumber (c .enum-told .given .1))
@@ -42,14 +24,5 @@ returns-4 c = c .number2 .ensures ∙ sym (ap outcomeNumber (c .before .before .
 pub number-spec : {M : Type 1} → statement M
 number-spec =
     tie.close
-    (tie.spec
-    enum-told
-    enum-known-self
-    number-requires
-    enum-told-2
-    enum-known-self-2
-    number-requires-2
-    returns
-    returns-2
-    returns-3
-    returns-4)
+    (tie.spec (λ c. search needs) (λ c. search needs) (λ c κs. search needs) (λ c. search needs) (λ c. search needs)
+    (λ c κs. search needs) returns returns-2 returns-3 returns-4)

@@ -9,12 +9,6 @@ use Rattle.panel_bindings.proofs.LocalProjectionApplicationError.number
 }
 use Rattle.panel_bindings.proofs.LocalProjectionApplicationError.number.Tie as tie
 
-enum-told : tie.Need-enum-told
-enum-told c = search needs
-
-enum-told-2 : tie.Need-enum-told-2
-enum-told-2 c = search needs
-
 returns : tie.Need-returns
 unfolding operationFaultNumber
 returns c = sym (ap (λ (e : LocalProjectionApplicationError). operationFaultNumber (applicationFaultOf e)) (c .enum-told .given .1))
@@ -24,4 +18,5 @@ unfolding operationFaultNumber
 returns-2 c = sym (ap (λ (e : LocalProjectionApplicationError). operationFaultNumber (applicationFaultOf e)) (c .enum-told2 .given .1))
 
 pub number-spec : {M : Type 1} → statement M
-number-spec = tie.close (tie.spec enum-told enum-told-2 returns returns-2)
+number-spec =
+    tie.close (tie.spec (λ c. search needs) (λ c. search needs) returns returns-2)

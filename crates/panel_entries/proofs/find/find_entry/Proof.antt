@@ -11,9 +11,6 @@ use Rattle.panel_entries.specs.EntryRowsLaws.{entry-pair, entries-rising
 use Rattle.panel_entries.proofs.find.find_entry.Statement.{statement}
 use Rattle.panel_entries.proofs.find.find_entry.Tie as tie
 
-find-pair-requires : tie.Need-find-pair-requires
-find-pair-requires c κs = search needs
-
 returns : tie.Need-returns
 returns c =
     let a = c .before .before .args in (
@@ -25,4 +22,5 @@ returns c =
     )
 
 pub find-entry-spec : {M : Type 1} → statement M
-find-entry-spec = tie.close (tie.spec find-pair-requires returns)
+find-entry-spec =
+    tie.close (tie.spec (λ c κs. search needs) returns)

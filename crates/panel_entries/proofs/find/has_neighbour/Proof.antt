@@ -6,12 +6,6 @@ use Rattle.panel_entries.specs.Places.{isPlaced}
 use Rattle.panel_entries.proofs.find.has_neighbour.Statement.{statement}
 use Rattle.panel_entries.proofs.find.has_neighbour.Tie as tie
 
-enum-told : tie.Need-enum-told
-enum-told c = search needs
-
-enum-told-2 : tie.Need-enum-told-2
-enum-told-2 c = search needs
-
 returns : tie.Need-returns
 unfolding isPlaced
 returns c = sym (ap (λ b. isPlaced (beforeOf b)) (c .enum-told .given .1))
@@ -21,4 +15,5 @@ unfolding isPlaced
 returns-2 c = sym (ap (λ b. isPlaced (beforeOf b)) (c .enum-told2 .given .1))
 
 pub has-neighbour-spec : {M : Type 1} → statement M
-has-neighbour-spec = tie.close (tie.spec enum-told enum-told-2 returns returns-2)
+has-neighbour-spec =
+    tie.close (tie.spec (λ c. search needs) (λ c. search needs) returns returns-2)

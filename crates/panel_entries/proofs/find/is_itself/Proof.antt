@@ -7,15 +7,6 @@ use Rattle.panel_entries.specs.Places.{isItself}
 use Rattle.panel_entries.proofs.find.is_itself.Statement.{statement}
 use Rattle.panel_entries.proofs.find.is_itself.Tie as tie
 
-enum-told : tie.Need-enum-told
-enum-told c = search needs
-
-enum-known-before : tie.Need-enum-known-before
-enum-known-before c = search needs
-
-raw-requires : tie.Need-raw-requires
-raw-requires c κs = search needs
-
 returns : tie.Need-returns
 unfolding isItself
 returns c = sym (ap (λ b. isItself (c .before .before .args .key) (beforeOf b)) (c .enum-told .given .1))
@@ -27,4 +18,5 @@ returns-2 c =
     ap (λ n. eqb n (a .key)) (c .raw .ensures) ∙ sym (ap (λ b. isItself (a .key) (beforeOf b)) (c .before .before .before2 .given .1))
 
 pub is-itself-spec : {M : Type 1} → statement M
-is-itself-spec = tie.close (tie.spec enum-told enum-known-before raw-requires returns returns-2)
+is-itself-spec =
+    tie.close (tie.spec (λ c. search needs) (λ c. search needs) (λ c κs. search needs) returns returns-2)

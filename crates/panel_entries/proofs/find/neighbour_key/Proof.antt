@@ -6,15 +6,6 @@ use Rattle.panel_entries.specs.Places.{neighbourKey}
 use Rattle.panel_entries.proofs.find.neighbour_key.Statement.{statement}
 use Rattle.panel_entries.proofs.find.neighbour_key.Tie as tie
 
-enum-told : tie.Need-enum-told
-enum-told c = search needs
-
-enum-known-before : tie.Need-enum-known-before
-enum-known-before c = search needs
-
-raw-requires : tie.Need-raw-requires
-raw-requires c κs = search needs
-
 returns : tie.Need-returns
 unfolding neighbourKey
 returns c = sym (ap (λ b. neighbourKey (beforeOf b)) (c .enum-told .given .1))
@@ -25,4 +16,4 @@ returns-2 c = c .raw .ensures ∙ sym (ap (λ b. neighbourKey (beforeOf b)) (c .
 
 pub neighbour-key-spec : {M : Type 1} → statement M
 neighbour-key-spec =
-    tie.close (tie.spec enum-told enum-known-before raw-requires returns returns-2)
+    tie.close (tie.spec (λ c. search needs) (λ c. search needs) (λ c κs. search needs) returns returns-2)

@@ -6,15 +6,6 @@ use Rattle.panel_entries.specs.PlacesLaws.{neighbour-is}
 use Rattle.panel_entries.proofs.find.place_before.Statement.{statement}
 use Rattle.panel_entries.proofs.find.place_before.Tie as tie
 
-has-neighbour-requires : tie.Need-has-neighbour-requires
-has-neighbour-requires c κs = search needs
-
-neighbour-key-requires : tie.Need-neighbour-key-requires
-neighbour-key-requires c κs = search needs
-
-seek-place-requires : tie.Need-seek-place-requires
-seek-place-requires c κs = search needs
-
 returns : tie.Need-returns
 returns c =
     let a = c .before .before .before .before .args in (
@@ -23,4 +14,5 @@ returns c =
     )
 
 pub place-before-spec : {M : Type 1} → statement M
-place-before-spec = tie.close (tie.spec has-neighbour-requires neighbour-key-requires seek-place-requires returns)
+place-before-spec =
+    tie.close (tie.spec (λ c κs. search needs) (λ c κs. search needs) (λ c κs. search needs) returns)

@@ -6,21 +6,9 @@ use Rattle.panel_entries.specs.PlacesLaws.{neighbour-is}
 use Rattle.panel_entries.proofs.find.place_before_other.Statement.{statement}
 use Rattle.panel_entries.proofs.find.place_before_other.Tie as tie
 
-is-itself-requires : tie.Need-is-itself-requires
-is-itself-requires c κs = search needs
-
 returns : tie.Need-returns
 unfolding placeBeforeOther PositionWithin
 returns c = ((λ es fit grouped t. rw (sym (c .before .is-itself .ensures) ∙ c .if1 .taken)), tt)
-
-has-neighbour-requires : tie.Need-has-neighbour-requires
-has-neighbour-requires c κs = search needs
-
-neighbour-key-requires : tie.Need-neighbour-key-requires
-neighbour-key-requires c κs = search needs
-
-seek-place-requires : tie.Need-seek-place-requires
-seek-place-requires c κs = search needs
 
 returns-2 : tie.Need-returns-2
 unfolding placeBeforeOther
@@ -36,10 +24,4 @@ returns-2 c =
 pub place-before-other-spec : {M : Type 1} → statement M
 place-before-other-spec =
     tie.close
-    (tie.spec
-    is-itself-requires
-    returns
-    has-neighbour-requires
-    neighbour-key-requires
-    seek-place-requires
-    returns-2)
+    (tie.spec (λ c κs. search needs) returns (λ c κs. search needs) (λ c κs. search needs) (λ c κs. search needs) returns-2)

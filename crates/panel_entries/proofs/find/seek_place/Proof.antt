@@ -15,9 +15,6 @@ use Rattle.panel_entries.proofs.Entries.{within-position}
 use Rattle.panel_entries.proofs.find.seek_place.Statement.{statement}
 use Rattle.panel_entries.proofs.find.seek_place.Tie as tie
 
-find-entry-requires : tie.Need-find-entry-requires
-find-entry-requires c κs = search needs
-
 returns : tie.Need-returns
 unfolding placeBefore neighbourOf
 returns c =
@@ -25,9 +22,6 @@ returns c =
       (λ es fit grouped t. rw (c .before .if1 .taken) (c .find-entry .ensures .0 plannedEntryRow planned-keyed es fit grouped t)),
       within-position (a .count) _ (c .find-entry .ensures .1),
     )
-
-find-above-requires : tie.Need-find-above-requires
-find-above-requires c κs = search needs
 
 returns-2 : tie.Need-returns-2
 unfolding placeBefore neighbourOf PositionWithin
@@ -41,9 +35,4 @@ returns-2 c =
 
 pub seek-place-spec : {M : Type 1} → statement M
 seek-place-spec =
-    tie.close
-    (tie.spec
-    find-entry-requires
-    returns
-    find-above-requires
-    returns-2)
+    tie.close (tie.spec (λ c κs. search needs) returns (λ c κs. search needs) returns-2)

@@ -21,12 +21,6 @@ returns-2 c =
     let refused = other-table (a .count) (now (a .to)) (search needs) (c .if2 .taken) in
     (sym refused, (sym (left (a .count) (now (a .plan)) (now (a .to)) refused), λ e. absurd (false≢true e)))
 
-write-runs-requires : tie.Need-write-runs-requires
-write-runs-requires c κs = search needs
-
-same-length : tie.Need-same-length
-same-length c = search needs
-
 returns-3 : tie.Need-returns-3
 returns-3 c =
     let call = c .before .before in
@@ -36,4 +30,4 @@ returns-3 c =
 
 pub write-lengths-spec : {M : Type 1} → statement M
 write-lengths-spec =
-    tie.close (tie.spec returns returns-2 write-runs-requires same-length returns-3)
+    tie.close (tie.spec returns returns-2 (λ c κs. search needs) (λ c. search needs) returns-3)

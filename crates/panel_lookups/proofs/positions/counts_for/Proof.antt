@@ -18,12 +18,6 @@ use Rattle.panel_lookups.proofs.Counted.{holds-length}
 use Rattle.panel_lookups.proofs.positions.counts_for.Statement.{statement}
 use Rattle.panel_lookups.proofs.positions.counts_for.Tie as tie
 
-record-at-requires : tie.Need-record-at-requires
-record-at-requires c κs = search needs
-
-entry-collection-requires : tie.Need-entry-collection-requires
-entry-collection-requires c κs = search needs
-
 -- the row's collection is that of its entry
 own : (c : tie.After-entry-collection) (es : List Entry) (d : Entry) → All FitsEntry es
     → let a = c .before .before .before .args in HoldsRows entryWidth (a .count) (now (a .table)) (map entryRow es) → a .at < a .count → c .entry-collection .result ≡ getD es (a .at) d .collection
@@ -49,4 +43,4 @@ returns-2 c =
 
 pub counts-for-spec : {M : Type 1} → statement M
 counts-for-spec =
-    tie.close (tie.spec record-at-requires entry-collection-requires returns returns-2)
+    tie.close (tie.spec (λ c κs. search needs) (λ c κs. search needs) returns returns-2)

@@ -8,24 +8,6 @@ use Rattle.panel_lookups.specs.Nth.{Nth, entryLookup}
 use Rattle.panel_lookups.proofs.positions.entry_at.Statement.{statement}
 use Rattle.panel_lookups.proofs.positions.entry_at.Tie as tie
 
-find-nth-requires : tie.Need-find-nth-requires
-find-nth-requires c κs = search needs
-
-enum-known-i : tie.Need-enum-known-i
-enum-known-i c = search needs
-
-record-at-requires : tie.Need-record-at-requires
-record-at-requires c κs = search needs
-
-stored-entry-requires : tie.Need-stored-entry-requires
-stored-entry-requires c κs = search needs
-
-enum-told : tie.Need-enum-told
-enum-told c = search needs
-
-no-entry-requires : tie.Need-no-entry-requires
-no-entry-requires c κs = search needs
-
 returns : tie.Need-returns
 unfolding entryAt entriesOf
 returns c =
@@ -44,12 +26,5 @@ returns-2 c =
 pub entry-at-spec : {M : Type 1} → statement M
 entry-at-spec =
     tie.close
-    (tie.spec
-    find-nth-requires
-    enum-known-i
-    record-at-requires
-    stored-entry-requires
-    enum-told
-    no-entry-requires
-    returns
-    returns-2)
+    (tie.spec (λ c κs. search needs) (λ c. search needs) (λ c κs. search needs) (λ c κs. search needs) (λ c. search needs)
+    (λ c κs. search needs) returns returns-2)

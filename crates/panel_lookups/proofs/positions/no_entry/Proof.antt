@@ -4,12 +4,10 @@ use Rattle.panel_lookups.specs.Nth.{entryLookup}
 use Rattle.panel_lookups.proofs.positions.no_entry.Statement.{statement}
 use Rattle.panel_lookups.proofs.positions.no_entry.Tie as tie
 
-no-value-requires : tie.Need-no-value-requires
-no-value-requires c κs = search needs
-
 returns : tie.Need-returns
 unfolding entryLookup
 returns c = λ i. record { key = 0; value = c .no-value .ensures i }
 
 pub no-entry-spec : {M : Type 1} → statement M
-no-entry-spec = tie.close (tie.spec no-value-requires returns)
+no-entry-spec =
+    tie.close (tie.spec (λ c κs. search needs) returns)

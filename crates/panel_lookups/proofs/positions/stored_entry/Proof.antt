@@ -10,15 +10,6 @@ use Rattle.panel_lookups.specs.Nth.{entryLookup}
 use Rattle.panel_lookups.proofs.positions.stored_entry.Statement.{statement}
 use Rattle.panel_lookups.proofs.positions.stored_entry.Tie as tie
 
-entry-key-requires : tie.Need-entry-key-requires
-entry-key-requires c κs = search needs
-
-entry-mark-requires : tie.Need-entry-mark-requires
-entry-mark-requires c κs = search needs
-
-stored-value-requires : tie.Need-stored-value-requires
-stored-value-requires c κs = search needs
-
 returns : tie.Need-returns
 unfolding entryLookup
 returns c = λ e fits is.
@@ -28,4 +19,5 @@ returns c = λ e fits is.
     λ i. record { key = key i; value = value i }
 
 pub stored-entry-spec : {M : Type 1} → statement M
-stored-entry-spec = tie.close (tie.spec entry-key-requires entry-mark-requires stored-value-requires returns)
+stored-entry-spec =
+    tie.close (tie.spec (λ c κs. search needs) (λ c κs. search needs) (λ c κs. search needs) returns)

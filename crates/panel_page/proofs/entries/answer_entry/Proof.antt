@@ -16,27 +16,12 @@ use Rattle.panel_page.specs.Shown.{Shows}
 use Rattle.panel_page.proofs.entries.answer_entry.Statement.{statement}
 use Rattle.panel_page.proofs.entries.answer_entry.Tie as tie
 
-entry-key-requires : tie.Need-entry-key-requires
-entry-key-requires c κs = search needs
-
-answer-head-requires : tie.Need-answer-head-requires
-answer-head-requires c κs = search needs
-
-value-part-requires : tie.Need-value-part-requires
-value-part-requires c κs = search needs
-
-slice-aggregate-answer-key : tie.Need-slice-aggregate-answer-key
-slice-aggregate-answer-key c = search needs
-
 answer-key-requires : tie.Need-answer-key-requires
 answer-key-requires c κs =
     let start = c .before .before .before .before .before .before .before .before .before .before in
     let head : length (c .before .before .before .answer-head .result) ≡ pageMarkAt = ap length (c .before .before .before .answer-head .ensures) ∙ simp length-littleEndian in
     let rest = ap length (c .before .before .value-part .ensures) ∙ length-drop entryMarkAt (now (start .args .row)) in
     (start .pre .0, ((ap (λ (l : List ℕ). getD l 0 0) (c .before .before .before .answer-head .ensures), omega arith), search needs))
-
-same-length : tie.Need-same-length
-same-length c = search needs
 
 returns : tie.Need-returns
 returns c =
@@ -52,11 +37,5 @@ returns c =
 pub answer-entry-spec : {M : Type 1} → statement M
 answer-entry-spec =
     tie.close
-    (tie.spec
-    entry-key-requires
-    answer-head-requires
-    value-part-requires
-    slice-aggregate-answer-key
-    answer-key-requires
-    same-length
-    returns)
+    (tie.spec (λ c κs. search needs) (λ c κs. search needs) (λ c κs. search needs) (λ c. search needs) answer-key-requires
+    (λ c. search needs) returns)

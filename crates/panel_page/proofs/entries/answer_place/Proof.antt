@@ -13,12 +13,6 @@ use Rattle.panel_page.specs.Shown.{Shows}
 use Rattle.panel_page.proofs.entries.answer_place.Statement.{statement}
 use Rattle.panel_page.proofs.entries.answer_place.Tie as tie
 
-mul-if1 : tie.Need-mul-if1
-mul-if1 c = search needs
-
-shared-slice-read-if1 : tie.Need-shared-slice-read-if1
-shared-slice-read-if1 c = search needs
-
 returns : tie.Need-returns
 returns c =
     let a = c .before .before .before .before .before .before .args in
@@ -26,27 +20,6 @@ returns c =
     let row = filledRow pageWidth (now (a .head)) (now (a .rest)) in
     λ f t. subst (Shows (length keys) (now (a .answers)))
     (mixed-same f (answering (a .key) row f) keys (a .i) (omega arith) (answering-other (a .key) row f (getD keys (a .i) 0) (c .if1 .taken))) t
-
-mul-from : tie.Need-mul-from
-mul-from c = search needs
-
-add-end : tie.Need-add-end
-add-end c = search needs
-
-sub-write-row : tie.Need-sub-write-row
-sub-write-row c = search needs
-
-part-write-row-start : tie.Need-part-write-row-start
-part-write-row-start c = search needs
-
-part-write-row-end : tie.Need-part-write-row-end
-part-write-row-end c = search needs
-
-write-row-requires : tie.Need-write-row-requires
-write-row-requires c κs = search needs
-
-same-length : tie.Need-same-length
-same-length c = search needs
 
 returns-2 : tie.Need-returns-2
 returns-2 c =
@@ -62,15 +35,5 @@ returns-2 c =
 pub answer-place-spec : {M : Type 1} → statement M
 answer-place-spec =
     tie.close
-    (tie.spec
-    mul-if1
-    shared-slice-read-if1
-    returns
-    mul-from
-    add-end
-    sub-write-row
-    part-write-row-start
-    part-write-row-end
-    write-row-requires
-    same-length
-    returns-2)
+    (tie.spec (λ c. search needs) (λ c. search needs) returns (λ c. search needs) (λ c. search needs) (λ c. search needs)
+    (λ c. search needs) (λ c. search needs) (λ c κs. search needs) (λ c. search needs) returns-2)

@@ -17,9 +17,6 @@ use Rattle.panel_page.specs.Shown.{Shows}
 use Rattle.panel_page.proofs.entries.answer_row.Statement.{statement}
 use Rattle.panel_page.proofs.entries.answer_row.Tie as tie
 
-entry-collection-requires : tie.Need-entry-collection-requires
-entry-collection-requires c κs = search needs
-
 -- the row's collection is that of its entry
 own : (c : tie.After-entry-collection) (e : Entry) → FitsEntry e → now (c .before .before .before .before .before .before .args .row) ≡ entryRow e → c .entry-collection .result ≡ e .collection
 own c e fits is = c .entry-collection .ensures ∙ ap collectionIn is ∙ entry-collection e fits
@@ -35,15 +32,6 @@ returns c =
           )),
       search needs,
     )
-
-answer-entry-requires : tie.Need-answer-entry-requires
-answer-entry-requires c κs = search needs
-
-add-result : tie.Need-add-result
-add-result c = search needs
-
-same-length : tie.Need-same-length
-same-length c = search needs
 
 returns-2 : tie.Need-returns-2
 returns-2 c =
@@ -65,10 +53,4 @@ returns-2 c =
 pub answer-row-spec : {M : Type 1} → statement M
 answer-row-spec =
     tie.close
-    (tie.spec
-    entry-collection-requires
-    returns
-    answer-entry-requires
-    add-result
-    same-length
-    returns-2)
+    (tie.spec (λ c κs. search needs) returns (λ c κs. search needs) (λ c. search needs) (λ c. search needs) returns-2)

@@ -11,15 +11,6 @@ use Rattle.panel_page.proofs.places.clear_empty.Tie as tie
 returns : tie.Need-returns
 returns c = shown-nothing (now (c .before .before .args .place)) (search needs)
 
-slice-read-if2 : tie.Need-slice-read-if2
-slice-read-if2 c = search needs
-
-clear-requires : tie.Need-clear-requires
-clear-requires c κs = search needs
-
-same-length : tie.Need-same-length
-same-length c = search needs
-
 returns-2 : tie.Need-returns-2
 returns-2 c =
     let place = now (c .before .before .before .before .before .before .before .before .args .place) in
@@ -35,4 +26,4 @@ returns-3 c = sym (shown-itself (now (c .before .before .before .before .args .p
 
 pub clear-empty-spec : {M : Type 1} → statement M
 clear-empty-spec =
-    tie.close (tie.spec returns slice-read-if2 clear-requires same-length returns-2 returns-3)
+    tie.close (tie.spec returns (λ c. search needs) (λ c κs. search needs) (λ c. search needs) returns-2 returns-3)

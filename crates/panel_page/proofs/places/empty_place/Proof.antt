@@ -10,14 +10,6 @@ use Rattle.panel_page.proofs.places.empty_place.Tie as tie
 returns : tie.Need-returns
 returns c = sym (set-out (now (c .before .args .place)) 0 0 (omega arith))
 
-slice-write-place : tie.Need-slice-write-place
-slice-write-place c = search needs
-
-same-length : tie.Need-same-length
-same-length c = search needs
-
-returns-2 : tie.Need-returns-2
-returns-2 c = search needs
-
 pub empty-place-spec : {M : Type 1} → statement M
-empty-place-spec = tie.close (tie.spec returns slice-write-place same-length returns-2)
+empty-place-spec =
+    tie.close (tie.spec returns (λ c. search needs) (λ c. search needs) (λ c. search needs))

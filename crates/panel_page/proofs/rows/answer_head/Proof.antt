@@ -12,15 +12,6 @@ use borrow.Author.Needs.{needs}
 use Rattle.panel_page.proofs.rows.answer_head.Statement.{statement}
 use Rattle.panel_page.proofs.rows.answer_head.Tie as tie
 
-array-write-head : tie.Need-array-write-head
-array-write-head c = search needs
-
-slice-aggregate-write-u64-at : tie.Need-slice-aggregate-write-u64-at
-slice-aggregate-write-u64-at c = search needs
-
-write-u64-at-requires : tie.Need-write-u64-at-requires
-write-u64-at-requires c κs = search needs
-
 returns : tie.Need-returns
 returns c =
     let position = c .before .before .before .args .position in
@@ -31,5 +22,4 @@ returns c =
 
 pub answer-head-spec : {M : Type 1} → statement M
 answer-head-spec =
-    tie.close
-    (tie.spec array-write-head slice-aggregate-write-u64-at write-u64-at-requires returns)
+    tie.close (tie.spec (λ c. search needs) (λ c. search needs) (λ c κs. search needs) returns)

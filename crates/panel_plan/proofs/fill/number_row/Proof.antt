@@ -22,12 +22,6 @@ copy-requires c κs =
     let a = c .before .before .before .before .before .before .args in
     omega (arith, length-take-le (a .front) (now (a .old)) (omega arith))
 
-write-u64-at-requires : tie.Need-write-u64-at-requires
-write-u64-at-requires c κs = search needs
-
-same-length : tie.Need-same-length
-same-length c = search needs
-
 returns-3 : tie.Need-returns-3
 returns-3 c =
     let written = c .before .before in
@@ -36,11 +30,4 @@ returns-3 c =
 pub number-row-spec : {M : Type 1} → statement M
 number-row-spec =
     tie.close
-    (tie.spec
-    returns
-    returns-2
-    slice-aggregate-copy
-    copy-requires
-    write-u64-at-requires
-    same-length
-    returns-3)
+    (tie.spec returns returns-2 slice-aggregate-copy copy-requires (λ c κs. search needs) (λ c. search needs) returns-3)

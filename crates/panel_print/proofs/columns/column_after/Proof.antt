@@ -6,14 +6,8 @@ use Rattle.panel_print.specs.ByteFlowLaws.{column-first, column-next, co
 use Rattle.panel_print.proofs.columns.column_after.Statement.{statement}
 use Rattle.panel_print.proofs.columns.column_after.Tie as tie
 
-begins-character-requires : tie.Need-begins-character-requires
-begins-character-requires c κs = search needs
-
 returns : tie.Need-returns
 returns c = (sym (column-first _ _ (sym (c .before .before .begins-character .ensures) ∙ c .before .if1 .taken) (c .if2 .taken)), omega arith)
-
-add-result : tie.Need-add-result
-add-result c = search needs
 
 returns-2 : tie.Need-returns-2
 returns-2 c = (sym (column-next _ _ (sym (c .before .before .begins-character .ensures) ∙ c .before .if1 .taken) (c .if2 .left)), omega arith)
@@ -23,4 +17,4 @@ returns-3 c = (sym (column-stays _ _ (sym (c .before .begins-character .ensures)
 
 pub column-after-spec : {M : Type 1} → statement M
 column-after-spec =
-    tie.close (tie.spec begins-character-requires returns add-result returns-2 returns-3)
+    tie.close (tie.spec (λ c κs. search needs) returns (λ c. search needs) returns-2 returns-3)

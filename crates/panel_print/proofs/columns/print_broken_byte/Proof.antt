@@ -9,33 +9,12 @@ use Rattle.panel_print.specs.ByteFlowLaws.{broken-first, broken-next, br
 use Rattle.panel_print.proofs.columns.print_broken_byte.Statement.{statement}
 use Rattle.panel_print.proofs.columns.print_broken_byte.Tie as tie
 
-shown-byte-requires : tie.Need-shown-byte-requires
-shown-byte-requires c κs = search needs
-
-print-byte-requires : tie.Need-print-byte-requires
-print-byte-requires c κs = search needs
-
-same-length : tie.Need-same-length
-same-length c = search needs
-
 returns : tie.Need-returns
 returns c =
     let printed = c .before .before in
     let test = printed .before .before in
     let shown = ap (λ (b : ℕ). b ∷ []) (test .before .shown-byte .ensures) in
     same-bytes (shown ∙ sym (broken-next _ _ (test .if1 .taken))) (printed .print-byte .ensures)
-
-begins-character-requires : tie.Need-begins-character-requires
-begins-character-requires c κs = search needs
-
-print-line-break-requires : tie.Need-print-line-break-requires
-print-line-break-requires c κs = search needs
-
-print-byte-requires-2 : tie.Need-print-byte-requires-2
-print-byte-requires-2 c κs = search needs
-
-same-length-2 : tie.Need-same-length-2
-same-length-2 c = search needs
 
 returns-2 : tie.Need-returns-2
 returns-2 c =
@@ -45,12 +24,6 @@ returns-2 c =
     let full = begins .before .before in
     let shown = ap (λ (b : ℕ). (lineEnd ∷ blankLead) ++ (b ∷ [])) (full .before .shown-byte .ensures) in
     same-bytes (shown ∙ sym (broken-first _ _ (sym (begins .before .begins-character .ensures) ∙ begins .if2 .taken) (full .if1 .left))) (line .print-line-break .ensures ⨾ printed .print-byte2 .ensures)
-
-print-byte-requires-3 : tie.Need-print-byte-requires-3
-print-byte-requires-3 c κs = search needs
-
-same-length-3 : tie.Need-same-length-3
-same-length-3 c = search needs
 
 returns-3 : tie.Need-returns-3
 returns-3 c =
@@ -62,16 +35,6 @@ returns-3 c =
 pub print-broken-byte-spec : {M : Type 1} → statement M
 print-broken-byte-spec =
     tie.close
-    (tie.spec
-    shown-byte-requires
-    print-byte-requires
-    same-length
-    returns
-    begins-character-requires
-    print-line-break-requires
-    print-byte-requires-2
-    same-length-2
-    returns-2
-    print-byte-requires-3
-    same-length-3
+    (tie.spec (λ c κs. search needs) (λ c κs. search needs) (λ c. search needs) returns (λ c κs. search needs)
+    (λ c κs. search needs) (λ c κs. search needs) (λ c. search needs) returns-2 (λ c κs. search needs) (λ c. search needs)
     returns-3)

@@ -4,15 +4,6 @@ use Rattle.bytes_printer.specs.PrintsLaws.{_⨾_}
 use Rattle.panel_print.proofs.columns.print_line_break.Statement.{statement}
 use Rattle.panel_print.proofs.columns.print_line_break.Tie as tie
 
-print-newline-requires : tie.Need-print-newline-requires
-print-newline-requires c κs = search needs
-
-print-spaces-requires : tie.Need-print-spaces-requires
-print-spaces-requires c κs = search needs
-
-same-length : tie.Need-same-length
-same-length c = search needs
-
 returns : tie.Need-returns
 returns c =
     let spaces = c .before .before in
@@ -20,4 +11,4 @@ returns c =
 
 pub print-line-break-spec : {M : Type 1} → statement M
 print-line-break-spec =
-    tie.close (tie.spec print-newline-requires print-spaces-requires same-length returns)
+    tie.close (tie.spec (λ c κs. search needs) (λ c κs. search needs) (λ c. search needs) returns)

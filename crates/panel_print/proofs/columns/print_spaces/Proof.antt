@@ -10,21 +10,6 @@ use Rattle.panel_print.specs.ByteFlowLaws.{some-blanks}
 use Rattle.panel_print.proofs.columns.print_spaces.Statement.{statement}
 use Rattle.panel_print.proofs.columns.print_spaces.Tie as tie
 
-sub-print-bytes : tie.Need-sub-print-bytes
-sub-print-bytes c = search needs
-
-part-print-bytes-start : tie.Need-part-print-bytes-start
-part-print-bytes-start c = search needs
-
-part-print-bytes-end : tie.Need-part-print-bytes-end
-part-print-bytes-end c = search needs
-
-print-bytes-requires : tie.Need-print-bytes-requires
-print-bytes-requires c κs = search needs
-
-same-length : tie.Need-same-length
-same-length c = search needs
-
 returns : tie.Need-returns
 returns c =
     let printed = c .before .before in
@@ -36,10 +21,4 @@ returns c =
 pub print-spaces-spec : {M : Type 1} → statement M
 print-spaces-spec =
     tie.close
-    (tie.spec
-    sub-print-bytes
-    part-print-bytes-start
-    part-print-bytes-end
-    print-bytes-requires
-    same-length
-    returns)
+    (tie.spec (λ c. search needs) (λ c. search needs) (λ c. search needs) (λ c κs. search needs) (λ c. search needs) returns)

@@ -15,21 +15,6 @@ use Rattle.panel_print.specs.EntriesPrint.{entryPrint}
 use Rattle.panel_print.proofs.entries.print_entry.Statement.{statement}
 use Rattle.panel_print.proofs.entries.print_entry.Tie as tie
 
-entry-key-requires : tie.Need-entry-key-requires
-entry-key-requires c κs = search needs
-
-stored-value-requires : tie.Need-stored-value-requires
-stored-value-requires c κs = search needs
-
-print-key-requires : tie.Need-print-key-requires
-print-key-requires c κs = search needs
-
-print-value-requires : tie.Need-print-value-requires
-print-value-requires c κs = search needs
-
-same-length : tie.Need-same-length
-same-length c = search needs
-
 returns : tie.Need-returns
 unfolding entryPrint
 returns c =
@@ -46,10 +31,5 @@ returns c =
 pub print-entry-spec : {M : Type 1} → statement M
 print-entry-spec =
     tie.close
-    (tie.spec
-    entry-key-requires
-    stored-value-requires
-    print-key-requires
-    print-value-requires
-    same-length
+    (tie.spec (λ c κs. search needs) (λ c κs. search needs) (λ c κs. search needs) (λ c κs. search needs) (λ c. search needs)
     returns)

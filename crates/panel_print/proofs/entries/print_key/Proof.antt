@@ -11,31 +11,13 @@ use Rattle.bytes_printer.specs.PrintsLaws.{_⨾_, same-bytes}
 use Rattle.panel_print.proofs.entries.print_key.Statement.{statement}
 use Rattle.panel_print.proofs.entries.print_key.Tie as tie
 
-digits-of-requires : tie.Need-digits-of-requires
-digits-of-requires c κs = search needs
-
 print-spaces-requires : tie.Need-print-spaces-requires
 print-spaces-requires c κs = omega (arith, c .before .before .digits-of .ensures .place)
-
-sub-print-bytes : tie.Need-sub-print-bytes
-sub-print-bytes c = search needs
-
-part-print-bytes-start : tie.Need-part-print-bytes-start
-part-print-bytes-start c = search needs
 
 part-print-bytes-end : tie.Need-part-print-bytes-end
 part-print-bytes-end c =
     let made = c .before .before .before .before .before .before .before in
     omega (arith, digits-long _ (made .digits-of .result) (made .digits-of .ensures))
-
-print-bytes-requires : tie.Need-print-bytes-requires
-print-bytes-requires c κs = search needs
-
-print-spaces-requires-2 : tie.Need-print-spaces-requires-2
-print-spaces-requires-2 c κs = search needs
-
-same-length : tie.Need-same-length
-same-length c = search needs
 
 returns : tie.Need-returns
 unfolding keyLead
@@ -53,13 +35,5 @@ returns c =
 pub print-key-spec : {M : Type 1} → statement M
 print-key-spec =
     tie.close
-    (tie.spec
-    digits-of-requires
-    print-spaces-requires
-    sub-print-bytes
-    part-print-bytes-start
-    part-print-bytes-end
-    print-bytes-requires
-    print-spaces-requires-2
-    same-length
-    returns)
+    (tie.spec (λ c κs. search needs) print-spaces-requires (λ c. search needs) (λ c. search needs) part-print-bytes-end
+    (λ c κs. search needs) (λ c κs. search needs) (λ c. search needs) returns)

@@ -16,20 +16,11 @@ use Rattle.panel_print.proofs.entries.print_row.Tie as tie
 own : (c : tie.After-entry-collection) (e : Entry) → FitsEntry e → now (c .before .before .before .args .row) ≡ entryRow e → c .entry-collection .result ≡ e .collection
 own c e fits is = c .entry-collection .ensures ∙ ap collectionIn is ∙ entry-collection e fits
 
-entry-collection-requires : tie.Need-entry-collection-requires
-entry-collection-requires c κs = search needs
-
 returns : tie.Need-returns
 returns c =
     let args = c .before .before .before .before .args in
     λ e fits is within.
     same-bytes (other-row (args .collection) e (ne-eqb (e .collection) (args .collection) (λ same. c .if1 .taken (own (c .before) e fits is ∙ same)))) (nothing-printed (now (args .out)) (args .at) within)
-
-print-entry-requires : tie.Need-print-entry-requires
-print-entry-requires c κs = search needs
-
-same-length : tie.Need-same-length
-same-length c = search needs
 
 returns-2 : tie.Need-returns-2
 returns-2 c =
@@ -42,5 +33,4 @@ returns-2 c =
 
 pub print-row-spec : {M : Type 1} → statement M
 print-row-spec =
-    tie.close
-    (tie.spec entry-collection-requires returns print-entry-requires same-length returns-2)
+    tie.close (tie.spec (λ c κs. search needs) returns (λ c κs. search needs) (λ c. search needs) returns-2)

@@ -11,27 +11,12 @@ use Rattle.panel_print.specs.LookupBytesLaws.{quad-bytes, signed-bytes, 
 use Rattle.panel_print.proofs.entries.print_scalar.Statement.{statement}
 use Rattle.panel_print.proofs.entries.print_scalar.Tie as tie
 
-quad-letter-requires : tie.Need-quad-letter-requires
-quad-letter-requires c κs = search needs
-
-print-byte-requires : tie.Need-print-byte-requires
-print-byte-requires c κs = search needs
-
-same-length : tie.Need-same-length
-same-length c = search needs
-
 returns : tie.Need-returns
 returns c =
     let printed = c .before .before in
     let letter = printed .before in
     let test = letter .before .before in
     same-bytes (ap (λ (b : ℕ). b ∷ []) (letter .quad-letter .ensures) ∙ sym (quad-bytes (test .before .before .before .args .value) (test .if1 .taken))) (printed .print-byte .ensures)
-
-print-i64-requires : tie.Need-print-i64-requires
-print-i64-requires c κs = search needs
-
-same-length-2 : tie.Need-same-length-2
-same-length-2 c = search needs
 
 returns-2 : tie.Need-returns-2
 returns-2 c =
@@ -40,12 +25,6 @@ returns-2 c =
     let other = test .before .before in
     let same = toZ-ofZ (sfits-of {w = w64} (printed .before .struct-told .given .1 .1 .1 .1 .0 .1)) in
     same-bytes (ap signedDecimal same ∙ sym (signed-bytes (other .before .before .before .args .value) (other .if1 .left) (test .if2 .taken))) (printed .print-i64 .ensures)
-
-print-u64-requires : tie.Need-print-u64-requires
-print-u64-requires c κs = search needs
-
-same-length-3 : tie.Need-same-length-3
-same-length-3 c = search needs
 
 returns-3 : tie.Need-returns-3
 returns-3 c =
@@ -57,14 +36,5 @@ returns-3 c =
 pub print-scalar-spec : {M : Type 1} → statement M
 print-scalar-spec =
     tie.close
-    (tie.spec
-    quad-letter-requires
-    print-byte-requires
-    same-length
-    returns
-    print-i64-requires
-    same-length-2
-    returns-2
-    print-u64-requires
-    same-length-3
-    returns-3)
+    (tie.spec (λ c κs. search needs) (λ c κs. search needs) (λ c. search needs) returns (λ c κs. search needs)
+    (λ c. search needs) returns-2 (λ c κs. search needs) (λ c. search needs) returns-3)

@@ -12,18 +12,6 @@ use Rattle.panel_print.specs.AnswersLaws.{printed-whole, some-end, whole
 use Rattle.panel_print.proofs.entries.print_value.Statement.{statement}
 use Rattle.panel_print.proofs.entries.print_value.Tie as tie
 
-slice-aggregate-key-part : tie.Need-slice-aggregate-key-part
-slice-aggregate-key-part c = search needs
-
-key-part-requires : tie.Need-key-part-requires
-key-part-requires c κs = search needs
-
-print-columns-requires : tie.Need-print-columns-requires
-print-columns-requires c κs = search needs
-
-same-length : tie.Need-same-length
-same-length c = search needs
-
 returns : tie.Need-returns
 returns c =
     let printed = c .before .before in
@@ -31,35 +19,11 @@ returns c =
     let test = part .before .before .before .before in
     same-bytes (ap (flowedBytes 0) (part .key-part .ensures ∙ sym (text-bytes (test .before .before .before .args .value) (test .if1 .taken)))) (printed .print-columns .ensures)
 
-slice-aggregate-print-scalar : tie.Need-slice-aggregate-print-scalar
-slice-aggregate-print-scalar c = search needs
-
-print-scalar-requires : tie.Need-print-scalar-requires
-print-scalar-requires c κs = search needs
-
-enum-known-len : tie.Need-enum-known-len
-enum-known-len c = search needs
-
-enum-told : tie.Need-enum-told
-enum-told c = search needs
-
 returns-2 : tie.Need-returns-2
 returns-2 c =
     let scalar = c .before .before .before in
     let value = scalar .before .before .before .before .before .args .value in
     absurd (some-end (printed-whole (scalar .print-scalar .ensures) (omega (arith, scalar-few value, length-replicate {A = ℕ} scalarMost 0))) (c .enum-told .given .1))
-
-slice-aggregate-key-part-2 : tie.Need-slice-aggregate-key-part-2
-slice-aggregate-key-part-2 c = search needs
-
-key-part-requires-2 : tie.Need-key-part-requires-2
-key-part-requires-2 c κs = search needs
-
-print-columns-requires-2 : tie.Need-print-columns-requires-2
-print-columns-requires-2 c κs = search needs
-
-same-length-2 : tie.Need-same-length-2
-same-length-2 c = search needs
 
 returns-3 : tie.Need-returns-3
 returns-3 c =
@@ -75,19 +39,6 @@ returns-3 c =
 pub print-value-spec : {M : Type 1} → statement M
 print-value-spec =
     tie.close
-    (tie.spec
-    slice-aggregate-key-part
-    key-part-requires
-    print-columns-requires
-    same-length
-    returns
-    slice-aggregate-print-scalar
-    print-scalar-requires
-    enum-known-len
-    enum-told
-    returns-2
-    slice-aggregate-key-part-2
-    key-part-requires-2
-    print-columns-requires-2
-    same-length-2
-    returns-3)
+    (tie.spec (λ c. search needs) (λ c κs. search needs) (λ c κs. search needs) (λ c. search needs) returns (λ c. search needs)
+    (λ c κs. search needs) (λ c. search needs) (λ c. search needs) returns-2 (λ c. search needs) (λ c κs. search needs)
+    (λ c κs. search needs) (λ c. search needs) returns-3)

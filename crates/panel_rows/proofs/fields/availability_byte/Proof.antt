@@ -9,11 +9,6 @@ use Rattle.panel_rows.proofs.fields.availability_byte.Tie as tie
 returns : tie.Need-returns
 returns c = sym (List·getD-eq-default (c .before .args .row .now) 0 (omega arith))
 
-shared-slice-read-result : tie.Need-shared-slice-read-result
-shared-slice-read-result c = search needs
-
-returns-2 : tie.Need-returns-2
-returns-2 c = search needs
-
 pub availability-byte-spec : {M : Type 1} → statement M
-availability-byte-spec = tie.close (tie.spec returns shared-slice-read-result returns-2)
+availability-byte-spec =
+    tie.close (tie.spec returns (λ c. search needs) (λ c. search needs))

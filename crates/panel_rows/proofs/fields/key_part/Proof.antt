@@ -12,15 +12,6 @@ use Rattle.panel_rows.proofs.fields.key_part.Tie as tie
 returns : tie.Need-returns
 returns c = sym (take-all (c .before .args .at) (now (c .before .args .row)) (omega arith))
 
-sub-result : tie.Need-sub-result
-sub-result c = search needs
-
-part-result-start : tie.Need-part-result-start
-part-result-start c = search needs
-
-part-result-end : tie.Need-part-result-end
-part-result-end c = search needs
-
 returns-2 : tie.Need-returns-2
 returns-2 c =
     let a = c .before .before .args in
@@ -28,4 +19,5 @@ returns-2 c =
     ap (λ (n : ℕ). take n (now (a .row))) same
 
 pub key-part-spec : {M : Type 1} → statement M
-key-part-spec = tie.close (tie.spec returns sub-result part-result-start part-result-end returns-2)
+key-part-spec =
+    tie.close (tie.spec returns (λ c. search needs) (λ c. search needs) (λ c. search needs) returns-2)

@@ -8,12 +8,6 @@ use Rattle.spec_lists.specs.Bytes.{numberOf}
 use Rattle.panel_rows.proofs.fields.number_at.Statement.{statement}
 use Rattle.panel_rows.proofs.fields.number_at.Tie as tie
 
-value-part-requires : tie.Need-value-part-requires
-value-part-requires c κs = search needs
-
-key-part-requires : tie.Need-key-part-requires
-key-part-requires c κs = search needs
-
 -- the part that is read
 part : (c : tie.After-key-part) → let a = c .before .before .before .args in now (c .key-part .result) ≡ take (a .size) (drop (a .at) (now (a .row)))
 part c = c .key-part .ensures ∙ ap (take (c .before .before .before .args .size)) (c .before .value-part .ensures)
@@ -26,4 +20,4 @@ returns c = c .number-of .ensures ∙ ap numberOf (part (c .before))
 
 pub number-at-spec : {M : Type 1} → statement M
 number-at-spec =
-    tie.close (tie.spec value-part-requires key-part-requires number-of-requires returns)
+    tie.close (tie.spec (λ c κs. search needs) (λ c κs. search needs) number-of-requires returns)

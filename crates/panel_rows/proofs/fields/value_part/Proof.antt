@@ -8,31 +8,12 @@ use Rattle.projection_patch.specs.TextLaws.{lent-from}
 use Rattle.panel_rows.proofs.fields.value_part.Statement.{statement}
 use Rattle.panel_rows.proofs.fields.value_part.Tie as tie
 
-slice-aggregate-result : tie.Need-slice-aggregate-result
-slice-aggregate-result c = search needs
-
 returns : tie.Need-returns
 returns c = sym (drop-of-length-le (now (c .before .before .args .row)) {i = c .before .before .args .at} (omega arith))
-
-sub-result : tie.Need-sub-result
-sub-result c = search needs
-
-part-result-start : tie.Need-part-result-start
-part-result-start c = search needs
-
-part-result-end : tie.Need-part-result-end
-part-result-end c = search needs
 
 returns-2 : tie.Need-returns-2
 returns-2 c = lent-from (now (c .before .before .args .row)) (c .before .before .args .at)
 
 pub value-part-spec : {M : Type 1} → statement M
 value-part-spec =
-    tie.close
-    (tie.spec
-    slice-aggregate-result
-    returns
-    sub-result
-    part-result-start
-    part-result-end
-    returns-2)
+    tie.close (tie.spec (λ c. search needs) returns (λ c. search needs) (λ c. search needs) (λ c. search needs) returns-2)

@@ -7,21 +7,6 @@ use Rattle.panel_rows.proofs.StoredValues.{value-read-back, value-not-r
 use Rattle.panel_rows.proofs.values.stored_value.Statement.{statement}
 use Rattle.panel_rows.proofs.values.stored_value.Tie as tie
 
-value-at-requires : tie.Need-value-at-requires
-value-at-requires c κs = search needs
-
-enum-known-value : tie.Need-enum-known-value
-enum-known-value c = search needs
-
-value-lookup-requires : tie.Need-value-lookup-requires
-value-lookup-requires c κs = search needs
-
-enum-told : tie.Need-enum-told
-enum-told c = search needs
-
-no-value-requires : tie.Need-no-value-requires
-no-value-requires c κs = search needs
-
 returns : tie.Need-returns
 returns c =
     let a = c .before .before .before .before .before .before .args in
@@ -37,11 +22,5 @@ returns-2 c =
 pub stored-value-spec : {M : Type 1} → statement M
 stored-value-spec =
     tie.close
-    (tie.spec
-    value-at-requires
-    enum-known-value
-    value-lookup-requires
-    enum-told
-    no-value-requires
-    returns
-    returns-2)
+    (tie.spec (λ c κs. search needs) (λ c. search needs) (λ c κs. search needs) (λ c. search needs) (λ c κs. search needs)
+    returns returns-2)

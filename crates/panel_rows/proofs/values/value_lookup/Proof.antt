@@ -12,39 +12,6 @@ use Rattle.panel_rows.proofs.StoredValues.{quad-number}
 use Rattle.panel_rows.proofs.values.value_lookup.Statement.{statement}
 use Rattle.panel_rows.proofs.values.value_lookup.Tie as tie
 
-enum-known-value : tie.Need-enum-known-value
-enum-known-value c = search needs
-
-quad-number-requires : tie.Need-quad-number-requires
-quad-number-requires c κs = search needs
-
-quad-value-requires : tie.Need-quad-value-requires
-quad-value-requires c κs = search needs
-
-enum-known-value-2 : tie.Need-enum-known-value-2
-enum-known-value-2 c = search needs
-
-signed-value-requires : tie.Need-signed-value-requires
-signed-value-requires c κs = search needs
-
-enum-known-value-3 : tie.Need-enum-known-value-3
-enum-known-value-3 c = search needs
-
-unsigned-value-requires : tie.Need-unsigned-value-requires
-unsigned-value-requires c κs = search needs
-
-enum-known-value-4 : tie.Need-enum-known-value-4
-enum-known-value-4 c = search needs
-
-text-value-requires : tie.Need-text-value-requires
-text-value-requires c κs = search needs
-
-enum-known-value-5 : tie.Need-enum-known-value-5
-enum-known-value-5 c = search needs
-
-score-value-requires : tie.Need-score-value-requires
-score-value-requires c κs = search needs
-
 returns : tie.Need-returns
 returns c =
     let value = c .before .before .before in
@@ -80,20 +47,6 @@ returns-5 c =
 pub value-lookup-spec : {M : Type 1} → statement M
 value-lookup-spec =
     tie.close
-    (tie.spec
-    enum-known-value
-    quad-number-requires
-    quad-value-requires
-    enum-known-value-2
-    signed-value-requires
-    enum-known-value-3
-    unsigned-value-requires
-    enum-known-value-4
-    text-value-requires
-    enum-known-value-5
-    score-value-requires
-    returns
-    returns-2
-    returns-3
-    returns-4
-    returns-5)
+    (tie.spec (λ c. search needs) (λ c κs. search needs) (λ c κs. search needs) (λ c. search needs) (λ c κs. search needs)
+    (λ c. search needs) (λ c κs. search needs) (λ c. search needs) (λ c κs. search needs) (λ c. search needs)
+    (λ c κs. search needs) returns returns-2 returns-3 returns-4 returns-5)

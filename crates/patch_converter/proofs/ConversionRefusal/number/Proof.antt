@@ -7,18 +7,6 @@ use Rattle.patch_converter.specs.Answers.{conversionRefusalOf}
 use Rattle.patch_converter.proofs.ConversionRefusal.number.Statement.{statement}
 use Rattle.patch_converter.proofs.ConversionRefusal.number.Tie as tie
 
-enum-told : tie.Need-enum-told
-enum-told c = search needs
-
-enum-told-2 : tie.Need-enum-told-2
-enum-told-2 c = search needs
-
-enum-told-3 : tie.Need-enum-told-3
-enum-told-3 c = search needs
-
-enum-told-4 : tie.Need-enum-told-4
-enum-told-4 c = search needs
-
 returns : tie.Need-returns
 unfolding conversionNumber
 returns c = sym (ap (λ (s : ConversionRefusal). conversionNumber (conversionRefusalOf s)) (c .enum-told .given .1))
@@ -38,12 +26,5 @@ returns-4 c = sym (ap (λ (s : ConversionRefusal). conversionNumber (conversionR
 pub number-spec : {M : Type 1} → statement M
 number-spec =
     tie.close
-    (tie.spec
-    enum-told
-    enum-told-2
-    enum-told-3
-    enum-told-4
-    returns
-    returns-2
-    returns-3
+    (tie.spec (λ c. search needs) (λ c. search needs) (λ c. search needs) (λ c. search needs) returns returns-2 returns-3
     returns-4)

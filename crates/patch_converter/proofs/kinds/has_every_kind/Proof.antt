@@ -24,25 +24,10 @@ from k = editionOf (begun k .before .before .args .from)
 all-bytes : (k : tie.After-open-set) → Bytes (set k)
 all-bytes k = bytes-of (set k) (λ j. begun k .before .shared-slice-known .given j .fits)
 
-has-scores-requires : tie.Need-has-scores-requires
-has-scores-requires c κs = search needs
-
 returns : tie.Need-returns
 returns c =
     let k = c .before in
     λ ps reads. sym (every-list (editionOf (k .before .before .args .to)) (sym (k .has-scores .ensures) ∙ c .if1 .taken) ps)
-
-open-set-requires : tie.Need-open-set-requires
-open-set-requires c κs = search needs
-
-enum-known-cursor : tie.Need-enum-known-cursor
-enum-known-cursor c = search needs
-
-has-kinds-left-requires : tie.Need-has-kinds-left-requires
-has-kinds-left-requires c κs = search needs
-
-enum-told : tie.Need-enum-told
-enum-told c = search needs
 
 returns-2 : tie.Need-returns-2
 returns-2 c =
@@ -57,12 +42,5 @@ returns-3 c =
 pub has-every-kind-spec : {M : Type 1} → statement M
 has-every-kind-spec =
     tie.close
-    (tie.spec
-    has-scores-requires
-    returns
-    open-set-requires
-    enum-known-cursor
-    has-kinds-left-requires
-    enum-told
-    returns-2
-    returns-3)
+    (tie.spec (λ c κs. search needs) returns (λ c κs. search needs) (λ c. search needs) (λ c κs. search needs)
+    (λ c. search needs) returns-2 returns-3)

@@ -9,24 +9,6 @@ use Rattle.projection_patch.specs.declared.patch.ProjectionPatchValue.{Projecti
 use Rattle.patch_converter.proofs.kinds.has_kind.Statement.{statement}
 use Rattle.patch_converter.proofs.kinds.has_kind.Tie as tie
 
-enum-told : tie.Need-enum-told
-enum-told c = search needs
-
-enum-told-2 : tie.Need-enum-told-2
-enum-told-2 c = search needs
-
-enum-told-3 : tie.Need-enum-told-3
-enum-told-3 c = search needs
-
-enum-told-4 : tie.Need-enum-told-4
-enum-told-4 c = search needs
-
-enum-told-5 : tie.Need-enum-told-5
-enum-told-5 c = search needs
-
-has-scores-requires : tie.Need-has-scores-requires
-has-scores-requires c κs = search needs
-
 returns : tie.Need-returns
 unfolding kindOf kinds hasKind
 returns c = λ texts. sym (ap (λ (v : ProjectionPatchValue). kindIn (editionOf (c .before .before .args .edition)) (valueOf texts v)) (c .enum-told .given .1))
@@ -50,15 +32,5 @@ returns-5 c = λ texts. c .has-scores .ensures ∙ sym (ap (λ (v : ProjectionPa
 pub has-kind-spec : {M : Type 1} → statement M
 has-kind-spec =
     tie.close
-    (tie.spec
-    enum-told
-    enum-told-2
-    enum-told-3
-    enum-told-4
-    enum-told-5
-    has-scores-requires
-    returns
-    returns-2
-    returns-3
-    returns-4
-    returns-5)
+    (tie.spec (λ c. search needs) (λ c. search needs) (λ c. search needs) (λ c. search needs) (λ c. search needs)
+    (λ c κs. search needs) returns returns-2 returns-3 returns-4 returns-5)

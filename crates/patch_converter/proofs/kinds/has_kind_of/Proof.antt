@@ -14,33 +14,6 @@ use Rattle.patch_converter.proofs.kinds.has_kind_of.Tie as tie
 abbrev passes : tie.Start → List ℕ → ProjectionPatchOperation → Bool
 passes c texts o = valuePasses (kindIn (editionOf (c .args .edition))) (operationOf texts o)
 
-enum-known-operation : tie.Need-enum-known-operation
-enum-known-operation c = search needs
-
-has-kind-requires : tie.Need-has-kind-requires
-has-kind-requires c κs = search needs
-
-enum-told : tie.Need-enum-told
-enum-told c = search needs
-
-enum-known-operation-2 : tie.Need-enum-known-operation-2
-enum-known-operation-2 c = search needs
-
-has-kind-requires-2 : tie.Need-has-kind-requires-2
-has-kind-requires-2 c κs = search needs
-
-enum-known-operation-3 : tie.Need-enum-known-operation-3
-enum-known-operation-3 c = search needs
-
-has-kind-requires-3 : tie.Need-has-kind-requires-3
-has-kind-requires-3 c κs = search needs
-
-enum-told-2 : tie.Need-enum-told-2
-enum-told-2 c = search needs
-
-enum-told-3 : tie.Need-enum-told-3
-enum-told-3 c = search needs
-
 returns : tie.Need-returns
 unfolding valuePasses
 returns c = λ texts. c .has-kind .ensures texts ∙ sym (ap (passes (c .before .before .before .before) texts) (c .before .before .operation .given .1))
@@ -68,19 +41,6 @@ returns-6 c = λ texts. sym (ap (passes (c .before .before) texts) (c .enum-told
 pub has-kind-of-spec : {M : Type 1} → statement M
 has-kind-of-spec =
     tie.close
-    (tie.spec
-    enum-known-operation
-    has-kind-requires
-    enum-told
-    enum-known-operation-2
-    has-kind-requires-2
-    enum-known-operation-3
-    has-kind-requires-3
-    enum-told-2
-    enum-told-3
-    returns
-    returns-2
-    returns-3
-    returns-4
-    returns-5
-    returns-6)
+    (tie.spec (λ c. search needs) (λ c κs. search needs) (λ c. search needs) (λ c. search needs) (λ c κs. search needs)
+    (λ c. search needs) (λ c κs. search needs) (λ c. search needs) (λ c. search needs) returns returns-2 returns-3 returns-4
+    returns-5 returns-6)

@@ -6,12 +6,6 @@ use Rattle.projection_patch.specs.declared.patch.ProjectionPatchOperation.the-v
 use Rattle.patch_import.proofs.insertion.insertion.Statement.{statement}
 use Rattle.patch_import.proofs.insertion.insertion.Tie as tie
 
-new-requires : tie.Need-new-requires
-new-requires c κs = search needs
-
-new-requires-2 : tie.Need-new-requires-2
-new-requires-2 c κs = search needs
-
 returns : tie.Need-returns
 returns c =
     let node = c .new2 .ensures in
@@ -20,4 +14,5 @@ returns c =
     λ i. CollectionInsert (record { 0 = node i }) (record { 0 = key i }) None (Text (args .start) (args .len))
 
 pub insertion-spec : {M : Type 1} → statement M
-insertion-spec = tie.close (tie.spec new-requires new-requires-2 returns)
+insertion-spec =
+    tie.close (tie.spec (λ c κs. search needs) (λ c κs. search needs) returns)

@@ -17,9 +17,6 @@ size k = 35 + (k .head-size .result + k .before .args .bytes)
 sized : (k : tie.After-head-size) → 35 + (headSize (k .before .args .patch) + k .before .args .bytes) ≡ size k
 sized k = ap (λ (n : ℕ). 35 + (n + k .before .args .bytes)) (sym (k .head-size .ensures))
 
-head-size-requires : tie.Need-head-size-requires
-head-size-requires c κs = search needs
-
 add-size : tie.Need-add-size
 add-size c = omega (arith, c .head-size .ensures, surface-small (c .before .args .patch .envelope .«surface_id»))
 
@@ -31,9 +28,6 @@ unfolding judgedPatch
 returns c =
     let k = c .before in
     sym (rw (sized k, lt-leb (size k) setBytes (c .if1 .taken)))
-
-is-found-requires : tie.Need-is-found-requires
-is-found-requires c κs = search needs
 
 returns-2 : tie.Need-returns-2
 unfolding judgedPatch
@@ -59,12 +53,4 @@ returns-4 c =
 pub judge-patch-spec : {M : Type 1} → statement M
 judge-patch-spec =
     tie.close
-    (tie.spec
-    head-size-requires
-    add-size
-    add-size-2
-    returns
-    is-found-requires
-    returns-2
-    returns-3
-    returns-4)
+    (tie.spec (λ c κs. search needs) add-size add-size-2 returns (λ c κs. search needs) returns-2 returns-3 returns-4)

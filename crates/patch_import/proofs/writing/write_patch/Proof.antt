@@ -50,9 +50,6 @@ store-head-requires c κs =
     let k = c .before .before .before in
     (omega (arith, long k, begun k .pre .0 .enough), omega (arith, begun k .pre .1, held-few (begun k .pre .0)))
 
-head-size-requires : tie.Need-head-size-requires
-head-size-requires c κs = search needs
-
 add-write-lines : tie.Need-add-write-lines
 add-write-lines c =
     let k = c .before .before .before .before in
@@ -63,9 +60,6 @@ write-lines-requires c κs =
     let k = c .before .before .before .before in
     let w = begun (headed k) .pre .0 in
     record { held = w .held; enough = omega (arith, c .head-size .ensures, long-2 k, w .enough) }
-
-same-length : tie.Need-same-length
-same-length c = search needs
 
 returns : tie.Need-returns
 returns c =
@@ -84,11 +78,5 @@ returns c =
 pub write-patch-spec : {M : Type 1} → statement M
 write-patch-spec =
     tie.close
-    (tie.spec
-    store-heading-requires
-    store-head-requires
-    head-size-requires
-    add-write-lines
-    write-lines-requires
-    same-length
-    returns)
+    (tie.spec store-heading-requires store-head-requires (λ c κs. search needs) add-write-lines write-lines-requires
+    (λ c. search needs) returns)

@@ -6,19 +6,10 @@ use borrow.Author.Needs.{needs}
 use Rattle.patch_locate.proofs.fields.byte_at_most.Statement.{statement}
 use Rattle.patch_locate.proofs.fields.byte_at_most.Tie as tie
 
-stop-at-requires : tie.Need-stop-at-requires
-stop-at-requires c κs = search needs
-
 returns : tie.Need-returns
 returns c =
     let a = c .before .before .before .args in
     c .stop-at .ensures ∙ at-most-lacking (a .part .now) (a .at) (a .rule) (a .highest) (omega arith)
-
-shared-slice-read-if2 : tie.Need-shared-slice-read-if2
-shared-slice-read-if2 c = search needs
-
-add-t11 : tie.Need-add-t11
-add-t11 c = search needs
 
 returns-2 : tie.Need-returns-2
 returns-2 c =
@@ -32,4 +23,4 @@ returns-3 c =
 
 pub byte-at-most-spec : {M : Type 1} → statement M
 byte-at-most-spec =
-    tie.close (tie.spec stop-at-requires returns shared-slice-read-if2 add-t11 returns-2 returns-3)
+    tie.close (tie.spec (λ c κs. search needs) returns (λ c. search needs) (λ c. search needs) returns-2 returns-3)

@@ -36,21 +36,6 @@ module _ (ed : Edition) (l : ℕ) (bs : List ℕ) where
   unfolding fieldOf
   is-value a b c d = rw (ne-eqb l 78 a, ne-eqb l 83 b, ne-eqb l 79 c, ne-eqb l 65 d)
 
-number-at-requires : tie.Need-number-at-requires
-number-at-requires c κs = search needs
-
-number-at-requires-2 : tie.Need-number-at-requires-2
-number-at-requires-2 c κs = search needs
-
-optional-at-requires : tie.Need-optional-at-requires
-optional-at-requires c κs = search needs
-
-byte-at-most-requires : tie.Need-byte-at-most-requires
-byte-at-most-requires c κs = search needs
-
-value-at-requires : tie.Need-value-at-requires
-value-at-requires c κs = search needs
-
 returns : tie.Need-returns
 returns c =
     let a = c .before .before .before .args in
@@ -82,14 +67,5 @@ returns-5 c =
 pub field-at-spec : {M : Type 1} → statement M
 field-at-spec =
     tie.close
-    (tie.spec
-    number-at-requires
-    number-at-requires-2
-    optional-at-requires
-    byte-at-most-requires
-    value-at-requires
-    returns
-    returns-2
-    returns-3
-    returns-4
-    returns-5)
+    (tie.spec (λ c κs. search needs) (λ c κs. search needs) (λ c κs. search needs) (λ c κs. search needs)
+    (λ c κs. search needs) returns returns-2 returns-3 returns-4 returns-5)

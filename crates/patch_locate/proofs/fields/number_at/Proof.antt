@@ -9,9 +9,6 @@ use borrow.Author.Needs.{needs}
 use Rattle.patch_locate.proofs.fields.number_at.Statement.{statement}
 use Rattle.patch_locate.proofs.fields.number_at.Tie as tie
 
-has-room-requires : tie.Need-has-room-requires
-has-room-requires c κs = search needs
-
 add-t6 : tie.Need-add-t6
 add-t6 c =
     let a = c .before .before .before .args in
@@ -22,9 +19,6 @@ returns c =
     let a = c .before .before .before .args in
     number-past (a .part .now) (a .at) (a .width) (leb-true _ _ (sym (c .before .has-room .ensures) ∙ c .if1 .taken))
 
-stop-at-requires : tie.Need-stop-at-requires
-stop-at-requires c κs = search needs
-
 returns-2 : tie.Need-returns-2
 returns-2 c =
     let k = c .before in
@@ -32,4 +26,5 @@ returns-2 c =
     c .stop-at .ensures ∙ number-stop (a .part .now) (a .at) (a .width) (leb-false _ _ (sym (k .before .has-room .ensures) ∙ k .if1 .left)) (omega arith)
 
 pub number-at-spec : {M : Type 1} → statement M
-number-at-spec = tie.close (tie.spec has-room-requires add-t6 returns stop-at-requires returns-2)
+number-at-spec =
+    tie.close (tie.spec (λ c κs. search needs) add-t6 returns (λ c κs. search needs) returns-2)

@@ -47,56 +47,11 @@ other : (ed : Edition) (bs : List ℕ) (t : ℕ) (rest : List ℕ) → (t ≡ 1 
 unfolding byRow
 other ed bs t rest a b c d e f = rw (ne-eqb t 1 a, ne-eqb t 2 b, ne-eqb t 3 c, ne-eqb t 4 d, ne-eqb t 5 e, ne-eqb t 6 f)
 
-stop-at-requires : tie.Need-stop-at-requires
-stop-at-requires c κs = search needs
-
 returns : tie.Need-returns
 unfolding locateOperation
 returns c =
     let a = c .before .before .before .args in
     c .stop-at .ensures ∙ tag-lacking (a .part .now) (a .at) (byRow operationTag (rows (editionOf (a .edition))) (drop (a .at) (a .part .now))) (omega arith)
-
-shared-slice-read-tag : tie.Need-shared-slice-read-tag
-shared-slice-read-tag c = search needs
-
-add-body : tie.Need-add-body
-add-body c = search needs
-
-slice-aggregate-fields-at : tie.Need-slice-aggregate-fields-at
-slice-aggregate-fields-at c = search needs
-
-fields-at-requires : tie.Need-fields-at-requires
-fields-at-requires c κs = search needs
-
-slice-aggregate-fields-at-2 : tie.Need-slice-aggregate-fields-at-2
-slice-aggregate-fields-at-2 c = search needs
-
-fields-at-requires-2 : tie.Need-fields-at-requires-2
-fields-at-requires-2 c κs = search needs
-
-slice-aggregate-fields-at-3 : tie.Need-slice-aggregate-fields-at-3
-slice-aggregate-fields-at-3 c = search needs
-
-fields-at-requires-3 : tie.Need-fields-at-requires-3
-fields-at-requires-3 c κs = search needs
-
-slice-aggregate-fields-at-4 : tie.Need-slice-aggregate-fields-at-4
-slice-aggregate-fields-at-4 c = search needs
-
-fields-at-requires-4 : tie.Need-fields-at-requires-4
-fields-at-requires-4 c κs = search needs
-
-slice-aggregate-fields-at-5 : tie.Need-slice-aggregate-fields-at-5
-slice-aggregate-fields-at-5 c = search needs
-
-fields-at-requires-5 : tie.Need-fields-at-requires-5
-fields-at-requires-5 c κs = search needs
-
-slice-aggregate-fields-at-6 : tie.Need-slice-aggregate-fields-at-6
-slice-aggregate-fields-at-6 c = search needs
-
-fields-at-requires-6 : tie.Need-fields-at-requires-6
-fields-at-requires-6 c κs = search needs
 
 returns-2 : tie.Need-returns-2
 unfolding byRow
@@ -145,27 +100,7 @@ returns-8 c =
 pub operation-at-spec : {M : Type 1} → statement M
 operation-at-spec =
     tie.close
-    (tie.spec
-    stop-at-requires
-    returns
-    shared-slice-read-tag
-    add-body
-    slice-aggregate-fields-at
-    fields-at-requires
-    slice-aggregate-fields-at-2
-    fields-at-requires-2
-    slice-aggregate-fields-at-3
-    fields-at-requires-3
-    slice-aggregate-fields-at-4
-    fields-at-requires-4
-    slice-aggregate-fields-at-5
-    fields-at-requires-5
-    slice-aggregate-fields-at-6
-    fields-at-requires-6
-    returns-2
-    returns-3
-    returns-4
-    returns-5
-    returns-6
-    returns-7
-    returns-8)
+    (tie.spec (λ c κs. search needs) returns (λ c. search needs) (λ c. search needs) (λ c. search needs) (λ c κs. search needs)
+    (λ c. search needs) (λ c κs. search needs) (λ c. search needs) (λ c κs. search needs) (λ c. search needs)
+    (λ c κs. search needs) (λ c. search needs) (λ c κs. search needs) (λ c. search needs) (λ c κs. search needs) returns-2
+    returns-3 returns-4 returns-5 returns-6 returns-7 returns-8)

@@ -33,26 +33,11 @@ other : (bs : List ℕ) (t : ℕ) (rest : List ℕ) → (t ≡ 0 → ⊥) → (t
 unfolding byRow
 other bs t rest a b = rw (ne-eqb t 0 a, ne-eqb t 1 b)
 
-stop-at-requires : tie.Need-stop-at-requires
-stop-at-requires c κs = search needs
-
 returns : tie.Need-returns
 unfolding locateOptional
 returns c =
     let a = c .before .before .before .args in
     c .stop-at .ensures ∙ tag-lacking (a .part .now) (a .at) (byRow optionalTag rows (drop (a .at) (a .part .now))) (omega arith)
-
-shared-slice-read-tag : tie.Need-shared-slice-read-tag
-shared-slice-read-tag c = search needs
-
-add-t11 : tie.Need-add-t11
-add-t11 c = search needs
-
-add-number-at : tie.Need-add-number-at
-add-number-at c = search needs
-
-number-at-requires : tie.Need-number-at-requires
-number-at-requires c κs = search needs
 
 returns-2 : tie.Need-returns-2
 unfolding byRow
@@ -77,13 +62,5 @@ returns-4 c =
 pub optional-at-spec : {M : Type 1} → statement M
 optional-at-spec =
     tie.close
-    (tie.spec
-    stop-at-requires
-    returns
-    shared-slice-read-tag
-    add-t11
-    add-number-at
-    number-at-requires
-    returns-2
-    returns-3
-    returns-4)
+    (tie.spec (λ c κs. search needs) returns (λ c. search needs) (λ c. search needs) (λ c. search needs) (λ c κs. search needs)
+    returns-2 returns-3 returns-4)

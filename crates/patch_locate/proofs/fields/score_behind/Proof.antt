@@ -27,15 +27,6 @@ unfolding byRow scoreRow hasKind kinds addedKinds
 without-scores v1 bs rest e = refl
 without-scores v2 bs rest e = absurd (let z : _≡_ {A = ℕ} 0 1 = cc in omega arith)
 
-has-scores-requires : tie.Need-has-scores-requires
-has-scores-requires c κs = search needs
-
-add-byte-at-most : tie.Need-add-byte-at-most
-add-byte-at-most c = search needs
-
-byte-at-most-requires : tie.Need-byte-at-most-requires
-byte-at-most-requires c κs = search needs
-
 returns : tie.Need-returns
 returns c =
     let k = c .before .before in
@@ -52,5 +43,4 @@ returns-2 c =
 
 pub score-behind-spec : {M : Type 1} → statement M
 score-behind-spec =
-    tie.close
-    (tie.spec has-scores-requires add-byte-at-most byte-at-most-requires returns returns-2)
+    tie.close (tie.spec (λ c κs. search needs) (λ c. search needs) (λ c κs. search needs) returns returns-2)

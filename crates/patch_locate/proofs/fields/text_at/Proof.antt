@@ -13,23 +13,8 @@ got c =
     let a = call .before .before .args in
     u32-at (a .part .now) (a .at) (c .before .len .given .0 .0) (call .read-u32-at .result) (call .read-u32-at .ensures) (c .before .len .given .1)
 
-read-u32-at-requires : tie.Need-read-u32-at-requires
-read-u32-at-requires c κs = search needs
-
-enum-known-len : tie.Need-enum-known-len
-enum-known-len c = search needs
-
-cast-text-from : tie.Need-cast-text-from
-cast-text-from c = search needs
-
 text-from-requires : tie.Need-text-from-requires
 text-from-requires c κs = omega (arith, got c .room)
-
-enum-told : tie.Need-enum-told
-enum-told c = search needs
-
-stop-at-requires : tie.Need-stop-at-requires
-stop-at-requires c κs = search needs
 
 returns : tie.Need-returns
 returns c =
@@ -46,12 +31,5 @@ returns-2 c =
 pub text-at-spec : {M : Type 1} → statement M
 text-at-spec =
     tie.close
-    (tie.spec
-    read-u32-at-requires
-    enum-known-len
-    cast-text-from
-    text-from-requires
-    enum-told
-    stop-at-requires
-    returns
-    returns-2)
+    (tie.spec (λ c κs. search needs) (λ c. search needs) (λ c. search needs) text-from-requires (λ c. search needs)
+    (λ c κs. search needs) returns returns-2)

@@ -27,12 +27,6 @@ asked k =
     k .judge-text .ensures
     ∙ ap judgement (k .before .text-of .ensures ∙ sym (just-there (a .part .now) (a .at + 4) _ (omega arith)) ∙ ap (λ (m : ℕ). take m (drop (a .at + 4) (a .part .now))) (add-sub-cancel-left (a .at + 4) (a .len)))
 
-add-start : tie.Need-add-start
-add-start c = search needs
-
-sub-if1 : tie.Need-sub-if1
-sub-if1 c = search needs
-
 returns : tie.Need-returns
 returns c =
     let a = c .before .before .args in
@@ -42,24 +36,6 @@ returns-2 : tie.Need-returns-2
 returns-2 c =
     let a = c .before .before .before .args in
     text-over (a .part .now) (a .at) (a .len) (omega arith) (omega arith) (omega arith)
-
-add-end : tie.Need-add-end
-add-end c = search needs
-
-text-of-requires : tie.Need-text-of-requires
-text-of-requires c κs = search needs
-
-judge-text-requires : tie.Need-judge-text-requires
-judge-text-requires c κs = search needs
-
-enum-told : tie.Need-enum-told
-enum-told c = search needs
-
-enum-told-2 : tie.Need-enum-told-2
-enum-told-2 c = search needs
-
-enum-told-3 : tie.Need-enum-told-3
-enum-told-3 c = search needs
 
 returns-3 : tie.Need-returns-3
 returns-3 c =
@@ -84,17 +60,5 @@ returns-5 c =
 pub text-from-spec : {M : Type 1} → statement M
 text-from-spec =
     tie.close
-    (tie.spec
-    add-start
-    sub-if1
-    returns
-    returns-2
-    add-end
-    text-of-requires
-    judge-text-requires
-    enum-told
-    enum-told-2
-    enum-told-3
-    returns-3
-    returns-4
-    returns-5)
+    (tie.spec (λ c. search needs) (λ c. search needs) returns returns-2 (λ c. search needs) (λ c κs. search needs)
+    (λ c κs. search needs) (λ c. search needs) (λ c. search needs) (λ c. search needs) returns-3 returns-4 returns-5)

@@ -45,44 +45,11 @@ other : (ed : Edition) (bs : List ℕ) (t : ℕ) (rest : List ℕ) → (t ≡ 1 
 unfolding byRow
 other ed bs t rest a b c d e = rw (ne-eqb t 1 a, ne-eqb t 2 b, ne-eqb t 3 c, ne-eqb t 4 d) (no-row ed bs t rest e)
 
-stop-at-requires : tie.Need-stop-at-requires
-stop-at-requires c κs = search needs
-
 returns : tie.Need-returns
 unfolding locateValue
 returns c =
     let a = c .before .before .before .args in
     c .stop-at .ensures ∙ tag-lacking (a .part .now) (a .at) (byRow valueKind (rows (editionOf (a .edition))) (drop (a .at) (a .part .now))) (omega arith)
-
-shared-slice-read-kind : tie.Need-shared-slice-read-kind
-shared-slice-read-kind c = search needs
-
-add-byte-at-most : tie.Need-add-byte-at-most
-add-byte-at-most c = search needs
-
-byte-at-most-requires : tie.Need-byte-at-most-requires
-byte-at-most-requires c κs = search needs
-
-add-number-at : tie.Need-add-number-at
-add-number-at c = search needs
-
-number-at-requires : tie.Need-number-at-requires
-number-at-requires c κs = search needs
-
-add-text-at : tie.Need-add-text-at
-add-text-at c = search needs
-
-text-at-requires : tie.Need-text-at-requires
-text-at-requires c κs = search needs
-
-add-number-at-2 : tie.Need-add-number-at-2
-add-number-at-2 c = search needs
-
-number-at-requires-2 : tie.Need-number-at-requires-2
-number-at-requires-2 c κs = search needs
-
-score-behind-requires : tie.Need-score-behind-requires
-score-behind-requires c κs = search needs
 
 returns-2 : tie.Need-returns-2
 unfolding byRow
@@ -125,22 +92,6 @@ returns-7 c =
 pub value-at-spec : {M : Type 1} → statement M
 value-at-spec =
     tie.close
-    (tie.spec
-    stop-at-requires
-    returns
-    shared-slice-read-kind
-    add-byte-at-most
-    byte-at-most-requires
-    add-number-at
-    number-at-requires
-    add-text-at
-    text-at-requires
-    add-number-at-2
-    number-at-requires-2
-    score-behind-requires
-    returns-2
-    returns-3
-    returns-4
-    returns-5
-    returns-6
-    returns-7)
+    (tie.spec (λ c κs. search needs) returns (λ c. search needs) (λ c. search needs) (λ c κs. search needs) (λ c. search needs)
+    (λ c κs. search needs) (λ c. search needs) (λ c κs. search needs) (λ c. search needs) (λ c κs. search needs)
+    (λ c κs. search needs) returns-2 returns-3 returns-4 returns-5 returns-6 returns-7)

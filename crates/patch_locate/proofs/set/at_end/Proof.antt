@@ -5,14 +5,8 @@ use borrow.Author.Needs.{needs}
 use Rattle.patch_locate.proofs.set.at_end.Statement.{statement}
 use Rattle.patch_locate.proofs.set.at_end.Tie as tie
 
-enum-known-located : tie.Need-enum-known-located
-enum-known-located c = search needs
-
 returns : tie.Need-returns
 returns c = let a = c .before .before .before .before .args in end-left (a .bytes) (a .located) _ (c .before .before .located .given .1) (omega arith)
-
-enum-known-located-2 : tie.Need-enum-known-located-2
-enum-known-located-2 c = search needs
 
 returns-2 : tie.Need-returns-2
 returns-2 c = let a = c .before .before .before .before .args in end-read (a .bytes) (a .located) _ (c .before .before .located .given .1) (omega arith)
@@ -22,4 +16,4 @@ returns-3 c = let a = c .before .before .before .args in end-stop (a .bytes) (a 
 
 pub at-end-spec : {M : Type 1} → statement M
 at-end-spec =
-    tie.close (tie.spec enum-known-located returns enum-known-located-2 returns-2 returns-3)
+    tie.close (tie.spec (λ c. search needs) returns (λ c. search needs) returns-2 returns-3)

@@ -21,24 +21,6 @@ spelled-2 : 27 ∷ 0 ∷ 0 ∷ 0 ∷ 85 ∷ 73 ∷ 95 ∷ 68 ∷ 78 ∷ 65 ∷ 5
 unfolding heading littleEndian letters editionDigit
 spelled-2 = refl
 
-enum-told : tie.Need-enum-told
-enum-told c = search needs
-
-slice-aggregate-letters-at : tie.Need-slice-aggregate-letters-at
-slice-aggregate-letters-at c = search needs
-
-letters-at-requires : tie.Need-letters-at-requires
-letters-at-requires c κs = search needs
-
-enum-told-2 : tie.Need-enum-told-2
-enum-told-2 c = search needs
-
-slice-aggregate-letters-at-2 : tie.Need-slice-aggregate-letters-at-2
-slice-aggregate-letters-at-2 c = search needs
-
-letters-at-requires-2 : tie.Need-letters-at-requires-2
-letters-at-requires-2 c κs = search needs
-
 returns : tie.Need-returns
 returns c =
     let a = c .before .before .before .before .before .args in
@@ -54,12 +36,5 @@ returns-2 c =
 pub heading-at-spec : {M : Type 1} → statement M
 heading-at-spec =
     tie.close
-    (tie.spec
-    enum-told
-    slice-aggregate-letters-at
-    letters-at-requires
-    enum-told-2
-    slice-aggregate-letters-at-2
-    letters-at-requires-2
-    returns
-    returns-2)
+    (tie.spec (λ c. search needs) (λ c. search needs) (λ c κs. search needs) (λ c. search needs) (λ c. search needs)
+    (λ c κs. search needs) returns returns-2)

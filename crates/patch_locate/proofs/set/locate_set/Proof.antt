@@ -14,16 +14,11 @@ returns c =
     let a = c .before .before .args in
     set-too-long (editionOf (a .edition)) (a .set .now) (omega arith)
 
-way-requires : tie.Need-way-requires
-way-requires c κs = search needs
-
-at-end-requires : tie.Need-at-end-requires
-at-end-requires c κs = search needs
-
 returns-2 : tie.Need-returns-2
 returns-2 c =
     let a = c .before .before .before .before .args in
     c .at-end .ensures ∙ ap (endTo (length (a .set .now))) (c .before .way .ensures) ∙ end-is (editionOf (a .edition)) (a .set .now) (omega arith)
 
 pub locate-set-spec : {M : Type 1} → statement M
-locate-set-spec = tie.close (tie.spec returns way-requires at-end-requires returns-2)
+locate-set-spec =
+    tie.close (tie.spec returns (λ c κs. search needs) (λ c κs. search needs) returns-2)

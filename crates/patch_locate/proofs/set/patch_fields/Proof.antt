@@ -19,21 +19,6 @@ told k =
     let a = k .before .before .before .args in
     k .fields-at .ensures ∙ ap (locatedAnswer (length (a .set .now))) (letters-envelope (editionOf (a .edition)) (drop (a .at) (a .set .now)))
 
-slice-aggregate-fields-at : tie.Need-slice-aggregate-fields-at
-slice-aggregate-fields-at c = search needs
-
-fields-at-requires : tie.Need-fields-at-requires
-fields-at-requires c κs = search needs
-
-enum-known-end : tie.Need-enum-known-end
-enum-known-end c = search needs
-
-operations-counted-requires : tie.Need-operations-counted-requires
-operations-counted-requires c κs = search needs
-
-enum-known-rule : tie.Need-enum-known-rule
-enum-known-rule c = search needs
-
 returns : tie.Need-returns
 unfolding patchFields
 returns c =
@@ -54,11 +39,5 @@ returns-2 c =
 pub patch-fields-spec : {M : Type 1} → statement M
 patch-fields-spec =
     tie.close
-    (tie.spec
-    slice-aggregate-fields-at
-    fields-at-requires
-    enum-known-end
-    operations-counted-requires
-    enum-known-rule
-    returns
+    (tie.spec (λ c. search needs) (λ c κs. search needs) (λ c. search needs) (λ c κs. search needs) (λ c. search needs) returns
     returns-2)

@@ -11,18 +11,6 @@ use borrow.Author.Needs.{needs}
 use Rattle.patch_locate.proofs.set.way.Statement.{statement}
 use Rattle.patch_locate.proofs.set.way.Tie as tie
 
-heading-at-requires : tie.Need-heading-at-requires
-heading-at-requires c κs = search needs
-
-enum-known-at : tie.Need-enum-known-at
-enum-known-at c = search needs
-
-patches-counted-requires : tie.Need-patches-counted-requires
-patches-counted-requires c κs = search needs
-
-enum-known-rule : tie.Need-enum-known-rule
-enum-known-rule c = search needs
-
 returns : tie.Need-returns
 unfolding locatePatches
 returns c =
@@ -43,10 +31,4 @@ returns-2 c =
 pub way-spec : {M : Type 1} → statement M
 way-spec =
     tie.close
-    (tie.spec
-    heading-at-requires
-    enum-known-at
-    patches-counted-requires
-    enum-known-rule
-    returns
-    returns-2)
+    (tie.spec (λ c κs. search needs) (λ c. search needs) (λ c κs. search needs) (λ c. search needs) returns returns-2)

@@ -4,21 +4,6 @@ use borrow.Author.Needs.{needs}
 use Rattle.patch_locate.proofs.set.within.Statement.{statement}
 use Rattle.patch_locate.proofs.set.within.Tie as tie
 
-enum-known-located : tie.Need-enum-known-located
-enum-known-located c = search needs
-
-enum-known-located-2 : tie.Need-enum-known-located-2
-enum-known-located-2 c = search needs
-
-enum-told : tie.Need-enum-told
-enum-told c = search needs
-
-enum-known-inside : tie.Need-enum-known-inside
-enum-known-inside c = search needs
-
-enum-known-inside-2 : tie.Need-enum-known-inside-2
-enum-known-inside-2 c = search needs
-
 returns : tie.Need-returns
 returns c = let a = c .before .before .before .args in within-past (a .here) (a .located) _ (c .before .located .given .1)
 
@@ -40,13 +25,5 @@ returns-4 c =
 pub within-spec : {M : Type 1} → statement M
 within-spec =
     tie.close
-    (tie.spec
-    enum-known-located
-    enum-known-located-2
-    enum-told
-    enum-known-inside
-    enum-known-inside-2
-    returns
-    returns-2
-    returns-3
-    returns-4)
+    (tie.spec (λ c. search needs) (λ c. search needs) (λ c. search needs) (λ c. search needs) (λ c. search needs) returns
+    returns-2 returns-3 returns-4)

@@ -5,14 +5,9 @@ use Rattle.patch_part_writer.specs.ExtentLaws.{surface-small}
 use Rattle.patch_part_writer.proofs.extent.head_size.Statement.{statement}
 use Rattle.patch_part_writer.proofs.extent.head_size.Tie as tie
 
-surface-size-requires : tie.Need-surface-size-requires
-surface-size-requires c κs = search needs
-
 add-result : tie.Need-add-result
 add-result c = omega (arith, c .surface-size .ensures, surface-small (c .before .before .args .patch .envelope .«surface_id»))
 
-returns : tie.Need-returns
-returns c = search needs
-
 pub head-size-spec : {M : Type 1} → statement M
-head-size-spec = tie.close (tie.spec surface-size-requires add-result returns)
+head-size-spec =
+    tie.close (tie.spec (λ c κs. search needs) add-result (λ c. search needs))

@@ -10,23 +10,11 @@ use Rattle.patch_part_writer.specs.ExtentLaws.{before-small, value-small
 use Rattle.patch_part_writer.proofs.extent.kept_size.Statement.{statement}
 use Rattle.patch_part_writer.proofs.extent.kept_size.Tie as tie
 
-enum-known-operation : tie.Need-enum-known-operation
-enum-known-operation c = search needs
-
 value-size-requires : tie.Need-value-size-requires
 value-size-requires c κs = subst (λ (w : ProjectionPatchOperation). operationText w .len ≤ textBytes) (c .before .operation .given .1) (c .before .before .before .pre)
 
 add-result : tie.Need-add-result
 add-result c = omega (arith, value-small (c .before .before .operation .given .0 .1 .0) (subst (λ (w : ProjectionPatchOperation). operationText w .len ≤ textBytes) (c .before .before .operation .given .1) (c .before .before .before .before .pre)))
-
-enum-told : tie.Need-enum-told
-enum-told c = search needs
-
-enum-known-operation-2 : tie.Need-enum-known-operation-2
-enum-known-operation-2 c = search needs
-
-before-size-requires : tie.Need-before-size-requires
-before-size-requires c κs = search needs
 
 value-size-requires-2 : tie.Need-value-size-requires-2
 value-size-requires-2 c κs = subst (λ (w : ProjectionPatchOperation). operationText w .len ≤ textBytes) (c .before .before .operation2 .given .1) (c .before .before .before .before .pre)
@@ -37,23 +25,11 @@ add-result-2 c = omega (arith, before-small (c .before .before .before .operatio
 add-result-3 : tie.Need-add-result-3
 add-result-3 c = omega (arith, before-small (c .before .before .before .operation2 .given .0 .1 .1 .0), value-small (c .before .before .before .operation2 .given .0 .1 .1 .1 .0) (subst (λ (w : ProjectionPatchOperation). operationText w .len ≤ textBytes) (c .before .before .before .operation2 .given .1) (c .before .before .before .before .before .pre)))
 
-enum-known-operation-3 : tie.Need-enum-known-operation-3
-enum-known-operation-3 c = search needs
-
 value-size-requires-3 : tie.Need-value-size-requires-3
 value-size-requires-3 c κs = subst (λ (w : ProjectionPatchOperation). operationText w .len ≤ textBytes) (c .before .operation3 .given .1) (c .before .before .before .pre)
 
 add-result-4 : tie.Need-add-result-4
 add-result-4 c = omega (arith, value-small (c .before .before .operation3 .given .0 .1 .1 .0) (subst (λ (w : ProjectionPatchOperation). operationText w .len ≤ textBytes) (c .before .before .operation3 .given .1) (c .before .before .before .before .pre)))
-
-enum-told-2 : tie.Need-enum-told-2
-enum-told-2 c = search needs
-
-enum-known-operation-4 : tie.Need-enum-known-operation-4
-enum-known-operation-4 c = search needs
-
-before-size-requires-2 : tie.Need-before-size-requires-2
-before-size-requires-2 c κs = search needs
 
 add-result-5 : tie.Need-add-result-5
 add-result-5 c = omega (arith, before-small (c .before .before .operation4 .given .0 .1 .1 .0))
@@ -61,17 +37,11 @@ add-result-5 c = omega (arith, before-small (c .before .before .operation4 .give
 returns : tie.Need-returns
 returns c = ap (λ (n : ℕ). 13 + n) (c .value-size .ensures) ∙ sym (ap operationSize (c .before .before .operation .given .1))
 
-returns-2 : tie.Need-returns-2
-returns-2 c = search needs
-
 returns-3 : tie.Need-returns-3
 returns-3 c = ap₂ (λ (m n : ℕ). 17 + (m + n)) (c .before .before-size .ensures) (c .value-size2 .ensures) ∙ sym (ap operationSize (c .before .before .before .operation2 .given .1))
 
 returns-4 : tie.Need-returns-4
 returns-4 c = ap (λ (n : ℕ). 17 + n) (c .value-size3 .ensures) ∙ sym (ap operationSize (c .before .before .operation3 .given .1))
-
-returns-5 : tie.Need-returns-5
-returns-5 c = search needs
 
 returns-6 : tie.Need-returns-6
 returns-6 c = ap (λ (n : ℕ). 17 + n) (c .before-size2 .ensures) ∙ sym (ap operationSize (c .before .before .operation4 .given .1))
@@ -79,26 +49,7 @@ returns-6 c = ap (λ (n : ℕ). 17 + n) (c .before-size2 .ensures) ∙ sym (ap o
 pub kept-size-spec : {M : Type 1} → statement M
 kept-size-spec =
     tie.close
-    (tie.spec
-    enum-known-operation
-    value-size-requires
-    add-result
-    enum-told
-    enum-known-operation-2
-    before-size-requires
-    value-size-requires-2
-    add-result-2
-    add-result-3
-    enum-known-operation-3
-    value-size-requires-3
-    add-result-4
-    enum-told-2
-    enum-known-operation-4
-    before-size-requires-2
-    add-result-5
-    returns
-    returns-2
-    returns-3
-    returns-4
-    returns-5
+    (tie.spec (λ c. search needs) value-size-requires add-result (λ c. search needs) (λ c. search needs) (λ c κs. search needs)
+    value-size-requires-2 add-result-2 add-result-3 (λ c. search needs) value-size-requires-3 add-result-4 (λ c. search needs)
+    (λ c. search needs) (λ c κs. search needs) add-result-5 returns (λ c. search needs) returns-3 returns-4 (λ c. search needs)
     returns-6)

@@ -8,9 +8,6 @@ use Rattle.patch_part_writer.specs.PartsLaws.{size-kept, size-over}
 use Rattle.patch_part_writer.proofs.extent.operation_size.Statement.{statement}
 use Rattle.patch_part_writer.proofs.extent.operation_size.Tie as tie
 
-operation-text-requires : tie.Need-operation-text-requires
-operation-text-requires c κs = search needs
-
 returns : tie.Need-returns
 returns c = sym (size-over (c .before .before .before .args .operation) (subst (λ (t : TextPlace). textBytes < t .len) (c .before .before .operation-text .ensures) (c .if1 .taken)))
 
@@ -22,4 +19,5 @@ returns-2 c =
     c .kept-size .ensures ∙ sym (size-kept (c .before .before .before .before .args .operation) (subst (λ (t : TextPlace). t .len ≤ textBytes) (c .before .before .before .operation-text .ensures) (c .before .if1 .left)))
 
 pub operation-size-spec : {M : Type 1} → statement M
-operation-size-spec = tie.close (tie.spec operation-text-requires returns kept-size-requires returns-2)
+operation-size-spec =
+    tie.close (tie.spec (λ c κs. search needs) returns kept-size-requires returns-2)

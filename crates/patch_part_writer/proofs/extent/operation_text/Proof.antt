@@ -5,36 +5,6 @@ use Rattle.patch_part_writer.specs.Extent.{operationText}
 use Rattle.patch_part_writer.proofs.extent.operation_text.Statement.{statement}
 use Rattle.patch_part_writer.proofs.extent.operation_text.Tie as tie
 
-enum-known-operation : tie.Need-enum-known-operation
-enum-known-operation c = search needs
-
-value-text-requires : tie.Need-value-text-requires
-value-text-requires c κs = search needs
-
-enum-told : tie.Need-enum-told
-enum-told c = search needs
-
-enum-known-operation-2 : tie.Need-enum-known-operation-2
-enum-known-operation-2 c = search needs
-
-value-text-requires-2 : tie.Need-value-text-requires-2
-value-text-requires-2 c κs = search needs
-
-enum-known-operation-3 : tie.Need-enum-known-operation-3
-enum-known-operation-3 c = search needs
-
-value-text-requires-3 : tie.Need-value-text-requires-3
-value-text-requires-3 c κs = search needs
-
-enum-told-2 : tie.Need-enum-told-2
-enum-told-2 c = search needs
-
-enum-told-3 : tie.Need-enum-told-3
-enum-told-3 c = search needs
-
-returns : tie.Need-returns
-returns c = search needs
-
 returns-2 : tie.Need-returns-2
 returns-2 c = sym (ap operationText (c .enum-told .given .1))
 
@@ -53,19 +23,6 @@ returns-6 c = sym (ap operationText (c .enum-told3 .given .1))
 pub operation-text-spec : {M : Type 1} → statement M
 operation-text-spec =
     tie.close
-    (tie.spec
-    enum-known-operation
-    value-text-requires
-    enum-told
-    enum-known-operation-2
-    value-text-requires-2
-    enum-known-operation-3
-    value-text-requires-3
-    enum-told-2
-    enum-told-3
-    returns
-    returns-2
-    returns-3
-    returns-4
-    returns-5
-    returns-6)
+    (tie.spec (λ c. search needs) (λ c κs. search needs) (λ c. search needs) (λ c. search needs) (λ c κs. search needs)
+    (λ c. search needs) (λ c κs. search needs) (λ c. search needs) (λ c. search needs) (λ c. search needs) returns-2 returns-3
+    returns-4 returns-5 returns-6)

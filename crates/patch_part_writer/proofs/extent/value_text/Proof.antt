@@ -5,21 +5,6 @@ use Rattle.patch_part_writer.specs.Extent.{valueText}
 use Rattle.patch_part_writer.proofs.extent.value_text.Statement.{statement}
 use Rattle.patch_part_writer.proofs.extent.value_text.Tie as tie
 
-enum-told : tie.Need-enum-told
-enum-told c = search needs
-
-enum-told-2 : tie.Need-enum-told-2
-enum-told-2 c = search needs
-
-enum-told-3 : tie.Need-enum-told-3
-enum-told-3 c = search needs
-
-enum-known-value : tie.Need-enum-known-value
-enum-known-value c = search needs
-
-enum-told-4 : tie.Need-enum-told-4
-enum-told-4 c = search needs
-
 returns : tie.Need-returns
 returns c = sym (ap valueText (c .enum-told .given .1))
 
@@ -38,14 +23,5 @@ returns-5 c = sym (ap valueText (c .enum-told4 .given .1))
 pub value-text-spec : {M : Type 1} → statement M
 value-text-spec =
     tie.close
-    (tie.spec
-    enum-told
-    enum-told-2
-    enum-told-3
-    enum-known-value
-    enum-told-4
-    returns
-    returns-2
-    returns-3
-    returns-4
-    returns-5)
+    (tie.spec (λ c. search needs) (λ c. search needs) (λ c. search needs) (λ c. search needs) (λ c. search needs) returns
+    returns-2 returns-3 returns-4 returns-5)

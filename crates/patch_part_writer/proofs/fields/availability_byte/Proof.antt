@@ -7,21 +7,6 @@ use Rattle.projection_patch.specs.Meaning.{availabilityValueOf}
 use Rattle.patch_part_writer.proofs.fields.availability_byte.Statement.{statement}
 use Rattle.patch_part_writer.proofs.fields.availability_byte.Tie as tie
 
-enum-told : tie.Need-enum-told
-enum-told c = search needs
-
-enum-told-2 : tie.Need-enum-told-2
-enum-told-2 c = search needs
-
-enum-told-3 : tie.Need-enum-told-3
-enum-told-3 c = search needs
-
-enum-told-4 : tie.Need-enum-told-4
-enum-told-4 c = search needs
-
-enum-told-5 : tie.Need-enum-told-5
-enum-told-5 c = search needs
-
 returns : tie.Need-returns
 unfolding availabilityByte
 returns c = sym (ap (λ (s : ProjectionNodeAvailability). availabilityByte (availabilityValueOf s)) (c .enum-told .given .1))
@@ -45,14 +30,5 @@ returns-5 c = sym (ap (λ (s : ProjectionNodeAvailability). availabilityByte (av
 pub availability-byte-spec : {M : Type 1} → statement M
 availability-byte-spec =
     tie.close
-    (tie.spec
-    enum-told
-    enum-told-2
-    enum-told-3
-    enum-told-4
-    enum-told-5
-    returns
-    returns-2
-    returns-3
-    returns-4
-    returns-5)
+    (tie.spec (λ c. search needs) (λ c. search needs) (λ c. search needs) (λ c. search needs) (λ c. search needs) returns
+    returns-2 returns-3 returns-4 returns-5)

@@ -11,18 +11,6 @@ use Rattle.spec_lists.specs.BytesLaws.{length-littleEndian}
 use Rattle.patch_part_writer.proofs.fields.store_entry.Statement.{statement}
 use Rattle.patch_part_writer.proofs.fields.store_entry.Tie as tie
 
-store-tagged-requires : tie.Need-store-tagged-requires
-store-tagged-requires c κs = search needs
-
-add-write-u64-at : tie.Need-add-write-u64-at
-add-write-u64-at c = search needs
-
-write-u64-at-requires : tie.Need-write-u64-at-requires
-write-u64-at-requires c κs = search needs
-
-same-length : tie.Need-same-length
-same-length c = search needs
-
 returns : tie.Need-returns
 returns c =
     let args = c .before .before .before .before .before .before .before .before .before .args in
@@ -30,5 +18,4 @@ returns c =
 
 pub store-entry-spec : {M : Type 1} → statement M
 store-entry-spec =
-    tie.close
-    (tie.spec store-tagged-requires add-write-u64-at write-u64-at-requires same-length returns)
+    tie.close (tie.spec (λ c κs. search needs) (λ c. search needs) (λ c κs. search needs) (λ c. search needs) returns)

@@ -15,18 +15,6 @@ use Rattle.spec_patch.specs.Encode.{u64}
 use Rattle.patch_part_writer.proofs.fields.store_signed.Statement.{statement}
 use Rattle.patch_part_writer.proofs.fields.store_signed.Tie as tie
 
-write-u8-at-requires : tie.Need-write-u8-at-requires
-write-u8-at-requires c κs = search needs
-
-add-write-i64-at : tie.Need-add-write-i64-at
-add-write-i64-at c = search needs
-
-write-i64-at-requires : tie.Need-write-i64-at-requires
-write-i64-at-requires c κs = search needs
-
-same-length : tie.Need-same-length
-same-length c = search needs
-
 returns : tie.Need-returns
 returns c =
     let start = c .before .before .before .before .before .before .before .before .before in
@@ -37,5 +25,4 @@ returns c =
 
 pub store-signed-spec : {M : Type 1} → statement M
 store-signed-spec =
-    tie.close
-    (tie.spec write-u8-at-requires add-write-i64-at write-i64-at-requires same-length returns)
+    tie.close (tie.spec (λ c κs. search needs) (λ c. search needs) (λ c κs. search needs) (λ c. search needs) returns)

@@ -11,18 +11,6 @@ use Rattle.spec_patch.specs.Encode.{u64}
 use Rattle.patch_part_writer.proofs.fields.store_tagged.Statement.{statement}
 use Rattle.patch_part_writer.proofs.fields.store_tagged.Tie as tie
 
-write-u8-at-requires : tie.Need-write-u8-at-requires
-write-u8-at-requires c κs = search needs
-
-add-write-u64-at : tie.Need-add-write-u64-at
-add-write-u64-at c = search needs
-
-write-u64-at-requires : tie.Need-write-u64-at-requires
-write-u64-at-requires c κs = search needs
-
-same-length : tie.Need-same-length
-same-length c = search needs
-
 returns : tie.Need-returns
 returns c =
     let start = c .before .before .before .before .before .before .before .before .before in
@@ -33,5 +21,4 @@ returns c =
 
 pub store-tagged-spec : {M : Type 1} → statement M
 store-tagged-spec =
-    tie.close
-    (tie.spec write-u8-at-requires add-write-u64-at write-u64-at-requires same-length returns)
+    tie.close (tie.spec (λ c κs. search needs) (λ c. search needs) (λ c κs. search needs) (λ c. search needs) returns)

@@ -12,39 +12,6 @@ use Rattle.bytes_wire.specs.Write.{overwrite}
 use Rattle.patch_part_writer.proofs.fields.store_text.Statement.{statement}
 use Rattle.patch_part_writer.proofs.fields.store_text.Tie as tie
 
-write-u8-at-requires : tie.Need-write-u8-at-requires
-write-u8-at-requires c κs = search needs
-
-add-write-u32-at : tie.Need-add-write-u32-at
-add-write-u32-at c = search needs
-
-cast-write-u32-at : tie.Need-cast-write-u32-at
-cast-write-u32-at c = search needs
-
-write-u32-at-requires : tie.Need-write-u32-at-requires
-write-u32-at-requires c κs = search needs
-
-add-write-bytes-at : tie.Need-add-write-bytes-at
-add-write-bytes-at c = search needs
-
-add-write-bytes-at-2 : tie.Need-add-write-bytes-at-2
-add-write-bytes-at-2 c = search needs
-
-sub-write-bytes-at : tie.Need-sub-write-bytes-at
-sub-write-bytes-at c = search needs
-
-part-write-bytes-at-start : tie.Need-part-write-bytes-at-start
-part-write-bytes-at-start c = search needs
-
-part-write-bytes-at-end : tie.Need-part-write-bytes-at-end
-part-write-bytes-at-end c = search needs
-
-write-bytes-at-requires : tie.Need-write-bytes-at-requires
-write-bytes-at-requires c κs = search needs
-
-same-length : tie.Need-same-length
-same-length c = search needs
-
 returns : tie.Need-returns
 returns c =
     let args = c .before .before .before .before .before .before .before .before .before .before .before .before .before .before .before .args in
@@ -60,16 +27,6 @@ returns c =
 pub store-text-spec : {M : Type 1} → statement M
 store-text-spec =
     tie.close
-    (tie.spec
-    write-u8-at-requires
-    add-write-u32-at
-    cast-write-u32-at
-    write-u32-at-requires
-    add-write-bytes-at
-    add-write-bytes-at-2
-    sub-write-bytes-at
-    part-write-bytes-at-start
-    part-write-bytes-at-end
-    write-bytes-at-requires
-    same-length
+    (tie.spec (λ c κs. search needs) (λ c. search needs) (λ c. search needs) (λ c κs. search needs) (λ c. search needs)
+    (λ c. search needs) (λ c. search needs) (λ c. search needs) (λ c. search needs) (λ c κs. search needs) (λ c. search needs)
     returns)

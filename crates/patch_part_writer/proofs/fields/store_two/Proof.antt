@@ -10,18 +10,6 @@ use Rattle.bytes_wire.specs.Write.{overwrite}
 use Rattle.patch_part_writer.proofs.fields.store_two.Statement.{statement}
 use Rattle.patch_part_writer.proofs.fields.store_two.Tie as tie
 
-write-u8-at-requires : tie.Need-write-u8-at-requires
-write-u8-at-requires c κs = search needs
-
-add-write-u8-at : tie.Need-add-write-u8-at
-add-write-u8-at c = search needs
-
-write-u8-at-requires-2 : tie.Need-write-u8-at-requires-2
-write-u8-at-requires-2 c κs = search needs
-
-same-length : tie.Need-same-length
-same-length c = search needs
-
 returns : tie.Need-returns
 returns c =
     let start = c .before .before .before .before .before .before .before .before .before in
@@ -32,5 +20,4 @@ returns c =
 
 pub store-two-spec : {M : Type 1} → statement M
 store-two-spec =
-    tie.close
-    (tie.spec write-u8-at-requires add-write-u8-at write-u8-at-requires-2 same-length returns)
+    tie.close (tie.spec (λ c κs. search needs) (λ c. search needs) (λ c κs. search needs) (λ c. search needs) returns)

@@ -7,12 +7,6 @@ use Rattle.projection_patch.specs.declared.patch.ProjectionPatchEdition.{Projec
 use Rattle.patch_part_writer.proofs.head.edition_digit.Statement.{statement}
 use Rattle.patch_part_writer.proofs.head.edition_digit.Tie as tie
 
-enum-told : tie.Need-enum-told
-enum-told c = search needs
-
-enum-told-2 : tie.Need-enum-told-2
-enum-told-2 c = search needs
-
 returns : tie.Need-returns
 unfolding editionDigit
 returns c = sym (ap (λ (e : ProjectionPatchEdition). editionDigit (editionOf e)) (c .enum-told .given .1))
@@ -22,4 +16,5 @@ unfolding editionDigit
 returns-2 c = sym (ap (λ (e : ProjectionPatchEdition). editionDigit (editionOf e)) (c .enum-told2 .given .1))
 
 pub edition-digit-spec : {M : Type 1} → statement M
-edition-digit-spec = tie.close (tie.spec enum-told enum-told-2 returns returns-2)
+edition-digit-spec =
+    tie.close (tie.spec (λ c. search needs) (λ c. search needs) returns returns-2)

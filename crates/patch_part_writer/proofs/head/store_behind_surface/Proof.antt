@@ -19,39 +19,6 @@ long a b c = simp (length-append, length-littleEndian)
 same : (l : List ℕ) (at : ℕ) {a b c a′ b′ c′ : ℕ} → a ≡ a′ → b ≡ b′ → c ≡ c′ → overwrite l at (u64 a ++ (u64 b ++ u64 c)) ≡ overwrite l at (u64 a′ ++ (u64 b′ ++ u64 c′))
 same l at p q r = cc
 
-raw-requires : tie.Need-raw-requires
-raw-requires c κs = search needs
-
-raw-requires-2 : tie.Need-raw-requires-2
-raw-requires-2 c κs = search needs
-
-raw-requires-3 : tie.Need-raw-requires-3
-raw-requires-3 c κs = search needs
-
-store-three-requires : tie.Need-store-three-requires
-store-three-requires c κs = search needs
-
-add-write-u64-at : tie.Need-add-write-u64-at
-add-write-u64-at c = search needs
-
-raw-requires-4 : tie.Need-raw-requires-4
-raw-requires-4 c κs = search needs
-
-write-u64-at-requires : tie.Need-write-u64-at-requires
-write-u64-at-requires c κs = search needs
-
-add-write-u32-at : tie.Need-add-write-u32-at
-add-write-u32-at c = search needs
-
-cast-write-u32-at : tie.Need-cast-write-u32-at
-cast-write-u32-at c = search needs
-
-write-u32-at-requires : tie.Need-write-u32-at-requires
-write-u32-at-requires c κs = search needs
-
-same-length : tie.Need-same-length
-same-length c = search needs
-
 returns : tie.Need-returns
 returns c =
     let args = c .before .before .before .before .before .before .before .before .before .before .before .before .before .before .before .before .before .before .before .before .before .args in
@@ -66,16 +33,6 @@ returns c =
 pub store-behind-surface-spec : {M : Type 1} → statement M
 store-behind-surface-spec =
     tie.close
-    (tie.spec
-    raw-requires
-    raw-requires-2
-    raw-requires-3
-    store-three-requires
-    add-write-u64-at
-    raw-requires-4
-    write-u64-at-requires
-    add-write-u32-at
-    cast-write-u32-at
-    write-u32-at-requires
-    same-length
-    returns)
+    (tie.spec (λ c κs. search needs) (λ c κs. search needs) (λ c κs. search needs) (λ c κs. search needs) (λ c. search needs)
+    (λ c κs. search needs) (λ c κs. search needs) (λ c. search needs) (λ c. search needs) (λ c κs. search needs)
+    (λ c. search needs) returns)

@@ -32,39 +32,6 @@ course-long previous revision epoch sequence count = simp (length-append, length
 regroup : (a b c s d e f g n : List ℕ) → (a ++ (b ++ c)) ++ s ++ (d ++ (e ++ f) ++ g ++ n) ≡ (a ++ (b ++ (c ++ (s ++ (d ++ (e ++ (f ++ g))))))) ++ n
 regroup a b c s d e f g n = simp append-assoc
 
-raw-requires : tie.Need-raw-requires
-raw-requires c κs = search needs
-
-raw-requires-2 : tie.Need-raw-requires-2
-raw-requires-2 c κs = search needs
-
-raw-requires-3 : tie.Need-raw-requires-3
-raw-requires-3 c κs = search needs
-
-store-three-requires : tie.Need-store-three-requires
-store-three-requires c κs = search needs
-
-add-store-surface : tie.Need-add-store-surface
-add-store-surface c = search needs
-
-store-surface-requires : tie.Need-store-surface-requires
-store-surface-requires c κs = search needs
-
-add-store-behind-surface : tie.Need-add-store-behind-surface
-add-store-behind-surface c = search needs
-
-surface-size-requires : tie.Need-surface-size-requires
-surface-size-requires c κs = search needs
-
-add-store-behind-surface-2 : tie.Need-add-store-behind-surface-2
-add-store-behind-surface-2 c = search needs
-
-store-behind-surface-requires : tie.Need-store-behind-surface-requires
-store-behind-surface-requires c κs = search needs
-
-same-length : tie.Need-same-length
-same-length c = search needs
-
 returns : tie.Need-returns
 unfolding encodeEnvelope
 returns c =
@@ -85,16 +52,6 @@ returns c =
 pub store-head-spec : {M : Type 1} → statement M
 store-head-spec =
     tie.close
-    (tie.spec
-    raw-requires
-    raw-requires-2
-    raw-requires-3
-    store-three-requires
-    add-store-surface
-    store-surface-requires
-    add-store-behind-surface
-    surface-size-requires
-    add-store-behind-surface-2
-    store-behind-surface-requires
-    same-length
-    returns)
+    (tie.spec (λ c κs. search needs) (λ c κs. search needs) (λ c κs. search needs) (λ c κs. search needs) (λ c. search needs)
+    (λ c κs. search needs) (λ c. search needs) (λ c κs. search needs) (λ c. search needs) (λ c κs. search needs)
+    (λ c. search needs) returns)

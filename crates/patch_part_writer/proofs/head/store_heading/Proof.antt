@@ -14,39 +14,6 @@ use Rattle.patch_part_writer.proofs.Stored.{first-number, next, next-nu
 use Rattle.patch_part_writer.proofs.head.store_heading.Statement.{statement}
 use Rattle.patch_part_writer.proofs.head.store_heading.Tie as tie
 
-write-u32-at-requires : tie.Need-write-u32-at-requires
-write-u32-at-requires c κs = search needs
-
-add-write-bytes-at : tie.Need-add-write-bytes-at
-add-write-bytes-at c = search needs
-
-slice-aggregate-write-bytes-at : tie.Need-slice-aggregate-write-bytes-at
-slice-aggregate-write-bytes-at c = search needs
-
-write-bytes-at-requires : tie.Need-write-bytes-at-requires
-write-bytes-at-requires c κs = search needs
-
-add-write-u8-at : tie.Need-add-write-u8-at
-add-write-u8-at c = search needs
-
-edition-digit-requires : tie.Need-edition-digit-requires
-edition-digit-requires c κs = search needs
-
-write-u8-at-requires : tie.Need-write-u8-at-requires
-write-u8-at-requires c κs = search needs
-
-add-write-u32-at : tie.Need-add-write-u32-at
-add-write-u32-at c = search needs
-
-cast-write-u32-at : tie.Need-cast-write-u32-at
-cast-write-u32-at c = search needs
-
-write-u32-at-requires-2 : tie.Need-write-u32-at-requires-2
-write-u32-at-requires-2 c κs = search needs
-
-same-length : tie.Need-same-length
-same-length c = search needs
-
 returns : tie.Need-returns
 unfolding heading letters
 returns c =
@@ -63,16 +30,6 @@ returns c =
 pub store-heading-spec : {M : Type 1} → statement M
 store-heading-spec =
     tie.close
-    (tie.spec
-    write-u32-at-requires
-    add-write-bytes-at
-    slice-aggregate-write-bytes-at
-    write-bytes-at-requires
-    add-write-u8-at
-    edition-digit-requires
-    write-u8-at-requires
-    add-write-u32-at
-    cast-write-u32-at
-    write-u32-at-requires-2
-    same-length
-    returns)
+    (tie.spec (λ c κs. search needs) (λ c. search needs) (λ c. search needs) (λ c κs. search needs) (λ c. search needs)
+    (λ c κs. search needs) (λ c κs. search needs) (λ c. search needs) (λ c. search needs) (λ c κs. search needs)
+    (λ c. search needs) returns)

@@ -10,24 +10,6 @@ use Rattle.patch_part_writer.proofs.Stored.{first-number, next-number}
 use Rattle.patch_part_writer.proofs.head.store_three.Statement.{statement}
 use Rattle.patch_part_writer.proofs.head.store_three.Tie as tie
 
-write-u64-at-requires : tie.Need-write-u64-at-requires
-write-u64-at-requires c κs = search needs
-
-add-write-u64-at : tie.Need-add-write-u64-at
-add-write-u64-at c = search needs
-
-write-u64-at-requires-2 : tie.Need-write-u64-at-requires-2
-write-u64-at-requires-2 c κs = search needs
-
-add-write-u64-at-2 : tie.Need-add-write-u64-at-2
-add-write-u64-at-2 c = search needs
-
-write-u64-at-requires-3 : tie.Need-write-u64-at-requires-3
-write-u64-at-requires-3 c κs = search needs
-
-same-length : tie.Need-same-length
-same-length c = search needs
-
 returns : tie.Need-returns
 returns c =
     let args = c .before .before .before .before .before .before .before .before .before .before .before .before .before .args in
@@ -38,11 +20,5 @@ returns c =
 pub store-three-spec : {M : Type 1} → statement M
 store-three-spec =
     tie.close
-    (tie.spec
-    write-u64-at-requires
-    add-write-u64-at
-    write-u64-at-requires-2
-    add-write-u64-at-2
-    write-u64-at-requires-3
-    same-length
-    returns)
+    (tie.spec (λ c κs. search needs) (λ c. search needs) (λ c κs. search needs) (λ c. search needs) (λ c κs. search needs)
+    (λ c. search needs) returns)

@@ -12,21 +12,6 @@ use Rattle.patch_part_writer.proofs.Stored.{stored-first, next, one-byt
 use Rattle.patch_part_writer.proofs.operation.store_availability.Statement.{statement}
 use Rattle.patch_part_writer.proofs.operation.store_availability.Tie as tie
 
-raw-requires : tie.Need-raw-requires
-raw-requires c κs = search needs
-
-store-tagged-requires : tie.Need-store-tagged-requires
-store-tagged-requires c κs = search needs
-
-add-write-u8-at : tie.Need-add-write-u8-at
-add-write-u8-at c = search needs
-
-write-u8-at-requires : tie.Need-write-u8-at-requires
-write-u8-at-requires c κs = search needs
-
-same-length : tie.Need-same-length
-same-length c = search needs
-
 returns : tie.Need-returns
 returns c =
     let start = c .before .before .before .before .before .before .before .before .before .before in
@@ -38,10 +23,5 @@ returns c =
 pub store-availability-spec : {M : Type 1} → statement M
 store-availability-spec =
     tie.close
-    (tie.spec
-    raw-requires
-    store-tagged-requires
-    add-write-u8-at
-    write-u8-at-requires
-    same-length
+    (tie.spec (λ c κs. search needs) (λ c κs. search needs) (λ c. search needs) (λ c κs. search needs) (λ c. search needs)
     returns)

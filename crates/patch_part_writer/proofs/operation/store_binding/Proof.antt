@@ -15,27 +15,6 @@ use Rattle.patch_part_writer.proofs.Stored.{stored-first, next, next-nu
 use Rattle.patch_part_writer.proofs.operation.store_binding.Statement.{statement}
 use Rattle.patch_part_writer.proofs.operation.store_binding.Tie as tie
 
-raw-requires : tie.Need-raw-requires
-raw-requires c κs = search needs
-
-store-tagged-requires : tie.Need-store-tagged-requires
-store-tagged-requires c κs = search needs
-
-add-write-u32-at : tie.Need-add-write-u32-at
-add-write-u32-at c = search needs
-
-write-u32-at-requires : tie.Need-write-u32-at-requires
-write-u32-at-requires c κs = search needs
-
-add-store-value : tie.Need-add-store-value
-add-store-value c = search needs
-
-store-value-requires : tie.Need-store-value-requires
-store-value-requires c κs = search needs
-
-same-length : tie.Need-same-length
-same-length c = search needs
-
 returns : tie.Need-returns
 returns c =
     let start = c .before .before .before .before .before .before .before .before .before .before .before .before .before .before .before .before .before in
@@ -51,12 +30,5 @@ returns c =
 pub store-binding-spec : {M : Type 1} → statement M
 store-binding-spec =
     tie.close
-    (tie.spec
-    raw-requires
-    store-tagged-requires
-    add-write-u32-at
-    write-u32-at-requires
-    add-store-value
-    store-value-requires
-    same-length
-    returns)
+    (tie.spec (λ c κs. search needs) (λ c κs. search needs) (λ c. search needs) (λ c κs. search needs) (λ c. search needs)
+    (λ c κs. search needs) (λ c. search needs) returns)

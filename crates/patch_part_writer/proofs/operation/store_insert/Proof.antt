@@ -17,30 +17,6 @@ use Rattle.patch_part_writer.proofs.operation.store_insert.Tie as tie
 regroup : (a b c d : List ℕ) → a ++ b ++ c ++ d ≡ a ++ (b ++ (c ++ d))
 regroup a b c d = simp append-assoc
 
-store-entry-requires : tie.Need-store-entry-requires
-store-entry-requires c κs = search needs
-
-add-store-before : tie.Need-add-store-before
-add-store-before c = search needs
-
-store-before-requires : tie.Need-store-before-requires
-store-before-requires c κs = search needs
-
-add-store-value : tie.Need-add-store-value
-add-store-value c = search needs
-
-before-size-requires : tie.Need-before-size-requires
-before-size-requires c κs = search needs
-
-add-store-value-2 : tie.Need-add-store-value-2
-add-store-value-2 c = search needs
-
-store-value-requires : tie.Need-store-value-requires
-store-value-requires c κs = search needs
-
-same-length : tie.Need-same-length
-same-length c = search needs
-
 returns : tie.Need-returns
 returns c =
     let start = c .before .before .before .before .before .before .before .before .before .before .before .before .before .before .before in
@@ -59,13 +35,5 @@ returns c =
 pub store-insert-spec : {M : Type 1} → statement M
 store-insert-spec =
     tie.close
-    (tie.spec
-    store-entry-requires
-    add-store-before
-    store-before-requires
-    add-store-value
-    before-size-requires
-    add-store-value-2
-    store-value-requires
-    same-length
-    returns)
+    (tie.spec (λ c κs. search needs) (λ c. search needs) (λ c κs. search needs) (λ c. search needs) (λ c κs. search needs)
+    (λ c. search needs) (λ c κs. search needs) (λ c. search needs) returns)

@@ -14,18 +14,6 @@ use Rattle.patch_part_writer.proofs.Stored.{stored-first, next, length-
 use Rattle.patch_part_writer.proofs.operation.store_move.Statement.{statement}
 use Rattle.patch_part_writer.proofs.operation.store_move.Tie as tie
 
-store-entry-requires : tie.Need-store-entry-requires
-store-entry-requires c κs = search needs
-
-add-store-before : tie.Need-add-store-before
-add-store-before c = search needs
-
-store-before-requires : tie.Need-store-before-requires
-store-before-requires c κs = search needs
-
-same-length : tie.Need-same-length
-same-length c = search needs
-
 returns : tie.Need-returns
 returns c =
     let args = c .before .before .before .before .before .before .before .before .before .args in
@@ -37,5 +25,4 @@ returns c =
 
 pub store-move-spec : {M : Type 1} → statement M
 store-move-spec =
-    tie.close
-    (tie.spec store-entry-requires add-store-before store-before-requires same-length returns)
+    tie.close (tie.spec (λ c κs. search needs) (λ c. search needs) (λ c κs. search needs) (λ c. search needs) returns)

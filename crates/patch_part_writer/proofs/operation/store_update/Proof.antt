@@ -14,18 +14,6 @@ use Rattle.patch_part_writer.proofs.Stored.{stored-first, next, length-
 use Rattle.patch_part_writer.proofs.operation.store_update.Statement.{statement}
 use Rattle.patch_part_writer.proofs.operation.store_update.Tie as tie
 
-store-entry-requires : tie.Need-store-entry-requires
-store-entry-requires c κs = search needs
-
-add-store-value : tie.Need-add-store-value
-add-store-value c = search needs
-
-store-value-requires : tie.Need-store-value-requires
-store-value-requires c κs = search needs
-
-same-length : tie.Need-same-length
-same-length c = search needs
-
 returns : tie.Need-returns
 returns c =
     let start = c .before .before .before .before .before .before .before .before .before .before in
@@ -38,5 +26,4 @@ returns c =
 
 pub store-update-spec : {M : Type 1} → statement M
 store-update-spec =
-    tie.close
-    (tie.spec store-entry-requires add-store-value store-value-requires same-length returns)
+    tie.close (tie.spec (λ c κs. search needs) (λ c. search needs) (λ c κs. search needs) (λ c. search needs) returns)

@@ -14,33 +14,6 @@ use Rattle.patch_writer.proofs.judgement.judge_operation.Tie as tie
 abbrev judgement : tie.Start → ProjectionPatchOperation → TextJudgement
 judgement c o = judgedOperation (editionOf (c .args .edition)) (now (c .args .texts)) o
 
-enum-known-operation : tie.Need-enum-known-operation
-enum-known-operation c = search needs
-
-judge-value-requires : tie.Need-judge-value-requires
-judge-value-requires c κs = search needs
-
-enum-told : tie.Need-enum-told
-enum-told c = search needs
-
-enum-known-operation-2 : tie.Need-enum-known-operation-2
-enum-known-operation-2 c = search needs
-
-judge-value-requires-2 : tie.Need-judge-value-requires-2
-judge-value-requires-2 c κs = search needs
-
-enum-known-operation-3 : tie.Need-enum-known-operation-3
-enum-known-operation-3 c = search needs
-
-judge-value-requires-3 : tie.Need-judge-value-requires-3
-judge-value-requires-3 c κs = search needs
-
-enum-told-2 : tie.Need-enum-told-2
-enum-told-2 c = search needs
-
-enum-told-3 : tie.Need-enum-told-3
-enum-told-3 c = search needs
-
 returns : tie.Need-returns
 unfolding judgedValue judgedOperation valuePasses
 returns c = let start = c .before .before .before .before .before in c .judge-value .ensures ∙ sym (ap (judgement start) (c .before .before .operation .given .1))
@@ -71,19 +44,6 @@ returns-6 c =
 pub judge-operation-spec : {M : Type 1} → statement M
 judge-operation-spec =
     tie.close
-    (tie.spec
-    enum-known-operation
-    judge-value-requires
-    enum-told
-    enum-known-operation-2
-    judge-value-requires-2
-    enum-known-operation-3
-    judge-value-requires-3
-    enum-told-2
-    enum-told-3
-    returns
-    returns-2
-    returns-3
-    returns-4
-    returns-5
-    returns-6)
+    (tie.spec (λ c. search needs) (λ c κs. search needs) (λ c. search needs) (λ c. search needs) (λ c κs. search needs)
+    (λ c. search needs) (λ c κs. search needs) (λ c. search needs) (λ c. search needs) returns returns-2 returns-3 returns-4
+    returns-5 returns-6)

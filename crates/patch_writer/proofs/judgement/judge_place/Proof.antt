@@ -12,9 +12,6 @@ use Rattle.patch_part_writer.proofs.Flags.{fails, not-false-holds}
 use Rattle.patch_writer.proofs.judgement.judge_place.Statement.{statement}
 use Rattle.patch_writer.proofs.judgement.judge_place.Tie as tie
 
-has-room-requires : tie.Need-has-room-requires
-has-room-requires c κs = search needs
-
 returns : tie.Need-returns
 unfolding judgedText
 returns c = sym (rw (sym (c .before .has-room .ensures) ∙ fails (c .before .has-room .result) (c .if1 .taken)))
@@ -22,17 +19,8 @@ returns c = sym (rw (sym (c .before .has-room .ensures) ∙ fails (c .before .ha
 add-judge-text : tie.Need-add-judge-text
 add-judge-text c = let args = c .before .before .before .args in omega (arith, leb-true (args .text .start + args .text .len) (length (now (args .texts))) (sym (c .before .has-room .ensures) ∙ not-false-holds (c .before .has-room .result) (c .if1 .left)))
 
-sub-judge-text : tie.Need-sub-judge-text
-sub-judge-text c = search needs
-
-part-judge-text-start : tie.Need-part-judge-text-start
-part-judge-text-start c = search needs
-
 part-judge-text-end : tie.Need-part-judge-text-end
 part-judge-text-end c = let args = c .before .before .before .args in omega (arith, leb-true (args .text .start + args .text .len) (length (now (args .texts))) (sym (c .before .has-room .ensures) ∙ not-false-holds (c .before .has-room .result) (c .if1 .left)))
-
-judge-text-requires : tie.Need-judge-text-requires
-judge-text-requires c κs = search needs
 
 returns-2 : tie.Need-returns-2
 unfolding judgedText
@@ -48,12 +36,5 @@ returns-2 c =
 pub judge-place-spec : {M : Type 1} → statement M
 judge-place-spec =
     tie.close
-    (tie.spec
-    has-room-requires
-    returns
-    add-judge-text
-    sub-judge-text
-    part-judge-text-start
-    part-judge-text-end
-    judge-text-requires
-    returns-2)
+    (tie.spec (λ c κs. search needs) returns add-judge-text (λ c. search needs) (λ c. search needs) part-judge-text-end
+    (λ c κs. search needs) returns-2)

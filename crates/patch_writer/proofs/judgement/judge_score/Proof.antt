@@ -8,9 +8,6 @@ use Rattle.patch_writer.specs.Survey.{judgedScore}
 use Rattle.patch_writer.proofs.judgement.judge_score.Statement.{statement}
 use Rattle.patch_writer.proofs.judgement.judge_score.Tie as tie
 
-has-scores-requires : tie.Need-has-scores-requires
-has-scores-requires c κs = search needs
-
 returns : tie.Need-returns
 unfolding judgedScore
 returns c = let call = c .before .has-scores in sym (rw (sym (call .ensures) ∙ fails (call .result) (c .if1 .taken)))
@@ -28,4 +25,5 @@ returns-3 c =
     sym (rw (sym (call .ensures) ∙ not-false-holds (call .result) (c .before .if1 .left), le-leb (c .before .before .before .args .score) highestScore (c .if2 .left)))
 
 pub judge-score-spec : {M : Type 1} → statement M
-judge-score-spec = tie.close (tie.spec has-scores-requires returns returns-2 returns-3)
+judge-score-spec =
+    tie.close (tie.spec (λ c κs. search needs) returns returns-2 returns-3)

@@ -13,27 +13,6 @@ use Rattle.patch_writer.proofs.judgement.judge_value.Tie as tie
 abbrev judgement : tie.Start → ProjectionPatchValue → TextJudgement
 judgement c v = judgedValue (editionOf (c .args .edition)) (now (c .args .texts)) v
 
-enum-told : tie.Need-enum-told
-enum-told c = search needs
-
-enum-told-2 : tie.Need-enum-told-2
-enum-told-2 c = search needs
-
-enum-told-3 : tie.Need-enum-told-3
-enum-told-3 c = search needs
-
-enum-known-value : tie.Need-enum-known-value
-enum-known-value c = search needs
-
-judge-place-requires : tie.Need-judge-place-requires
-judge-place-requires c κs = search needs
-
-enum-known-value-2 : tie.Need-enum-known-value-2
-enum-known-value-2 c = search needs
-
-judge-score-requires : tie.Need-judge-score-requires
-judge-score-requires c κs = search needs
-
 returns : tie.Need-returns
 returns c =
     let start = c .before .before .before in
@@ -62,16 +41,5 @@ returns-5 c =
 pub judge-value-spec : {M : Type 1} → statement M
 judge-value-spec =
     tie.close
-    (tie.spec
-    enum-told
-    enum-told-2
-    enum-told-3
-    enum-known-value
-    judge-place-requires
-    enum-known-value-2
-    judge-score-requires
-    returns
-    returns-2
-    returns-3
-    returns-4
-    returns-5)
+    (tie.spec (λ c. search needs) (λ c. search needs) (λ c. search needs) (λ c. search needs) (λ c κs. search needs)
+    (λ c. search needs) (λ c κs. search needs) returns returns-2 returns-3 returns-4 returns-5)

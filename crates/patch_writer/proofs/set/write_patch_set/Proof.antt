@@ -66,15 +66,6 @@ sized e = patches-fit (texts e) (set e) (arrays (begun e)) (surveyed e .fit) (su
 encoded-size : (e : tie.After-operations) → length (encode (ed e) (listOf (texts e) (set e))) ≡ bytes e
 encoded-size e = encode-size (texts e) (set e) (arrays (begun e)) (surveyed e .fit) (ed e) (surveyed e .inside) ∙ sym (surveyed e .sized)
 
-survey-set-requires : tie.Need-survey-set-requires
-survey-set-requires c κs = search needs
-
-enum-known-refusal : tie.Need-enum-known-refusal
-enum-known-refusal c = search needs
-
-enum-known-operations : tie.Need-enum-known-operations
-enum-known-operations c = search needs
-
 returns : tie.Need-returns
 returns c =
     let e = c .before .before in
@@ -104,9 +95,6 @@ returns-2 c =
     let args = start .args in
     also-read start _ _ (answers-refusal (now (args .out)) 0 (c .before .refusal .given .0 .0) (survey-refused (editionOf (args .edition)) (now (args .texts)) (args .set) (c .before .refusal .given .0 .0) (sym (c .before .before .before .survey-set .ensures) ∙ c .before .refusal .given .1)))
 
-same-length : tie.Need-same-length
-same-length c = search needs
-
 returns-3 : tie.Need-returns-3
 returns-3 c =
     let call = c .before .before in
@@ -125,13 +113,5 @@ returns-3 c =
 pub write-patch-set-spec : {M : Type 1} → statement M
 write-patch-set-spec =
     tie.close
-    (tie.spec
-    survey-set-requires
-    enum-known-refusal
-    enum-known-operations
-    returns
-    store-heading-requires
-    write-patches-requires
-    returns-2
-    same-length
-    returns-3)
+    (tie.spec (λ c κs. search needs) (λ c. search needs) (λ c. search needs) returns store-heading-requires
+    write-patches-requires returns-2 (λ c. search needs) returns-3)

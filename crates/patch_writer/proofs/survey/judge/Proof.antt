@@ -11,15 +11,6 @@ returns : tie.Need-returns
 unfolding surveyed
 returns c = let args = c .before .args in sym (rw (lt-leb (args .bytes) setBytes (c .if1 .taken)))
 
-enum-told : tie.Need-enum-told
-enum-told c = search needs
-
-enum-told-2 : tie.Need-enum-told-2
-enum-told-2 c = search needs
-
-enum-told-3 : tie.Need-enum-told-3
-enum-told-3 c = search needs
-
 returns-2 : tie.Need-returns-2
 unfolding surveyed
 returns-2 c = let k = c .before .before in sym (rw (le-leb (k .before .args .bytes) setBytes (k .if1 .left), c .enum-told .given .1))
@@ -34,4 +25,4 @@ returns-4 c = let k = c .before .before in sym (rw (le-leb (k .before .args .byt
 
 pub judge-spec : {M : Type 1} → statement M
 judge-spec =
-    tie.close (tie.spec returns enum-told enum-told-2 enum-told-3 returns-2 returns-3 returns-4)
+    tie.close (tie.spec returns (λ c. search needs) (λ c. search needs) (λ c. search needs) returns-2 returns-3 returns-4)

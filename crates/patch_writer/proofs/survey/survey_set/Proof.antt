@@ -42,29 +42,11 @@ few k = k .before .before .before .before .if1 .left
 returns : tie.Need-returns
 returns c = let args = c .before .before .args in sym (many-patches (editionOf (args .edition)) (now (args .texts)) (args .set) (c .if1 .taken))
 
-survey-heads-requires : tie.Need-survey-heads-requires
-survey-heads-requires c κs = search needs
-
-enum-told : tie.Need-enum-told
-enum-told c = search needs
-
-enum-known-operations : tie.Need-enum-known-operations
-enum-known-operations c = search needs
-
 returns-2 : tie.Need-returns-2
 returns-2 c =
     let k = c .before .before in
     let args = start k .args in
     sym (many-places (ed k) (now (args .texts)) (args .set) (count k) (counted k .counted) (c .if2 .taken))
-
-survey-operations-requires : tie.Need-survey-operations-requires
-survey-operations-requires c κs = search needs
-
-enum-told-2 : tie.Need-enum-told-2
-enum-told-2 c = search needs
-
-enum-known-rest : tie.Need-enum-known-rest
-enum-known-rest c = search needs
 
 small : (k : tie.After-rest) → front k .operations .given .0 .1 .0 + k .rest .given .0 .0 ≤ 69 * setPatches + (31 + textBytes) * setPlaces
 small k =
@@ -76,9 +58,6 @@ add-judge c = omega (arith, small (c .before))
 
 add-judge-2 : tie.Need-add-judge-2
 add-judge-2 c = omega (arith, small (c .before))
-
-judge-requires : tie.Need-judge-requires
-judge-requires c κs = search needs
 
 returns-3 : tie.Need-returns-3
 returns-3 c =
@@ -100,18 +79,5 @@ returns-5 c =
 pub survey-set-spec : {M : Type 1} → statement M
 survey-set-spec =
     tie.close
-    (tie.spec
-    returns
-    survey-heads-requires
-    enum-told
-    enum-known-operations
-    returns-2
-    survey-operations-requires
-    enum-told-2
-    enum-known-rest
-    add-judge
-    add-judge-2
-    judge-requires
-    returns-3
-    returns-4
-    returns-5)
+    (tie.spec returns (λ c κs. search needs) (λ c. search needs) (λ c. search needs) returns-2 (λ c κs. search needs)
+    (λ c. search needs) (λ c. search needs) add-judge add-judge-2 (λ c κs. search needs) returns-3 returns-4 returns-5)

@@ -48,44 +48,11 @@ neighbour c =
     let bound = c .before .neighbour .given in
     optional-got (part (start c)) 17 (call .optional-at .result) (call .optional-at .ensures) (all-bytes (start c)) (bound .0 .0) (body c) (bound .1)
 
-place-requires : tie.Need-place-requires
-place-requires c κs = search needs
-
-enum-known-collection : tie.Need-enum-known-collection
-enum-known-collection c = search needs
-
-enum-told : tie.Need-enum-told
-enum-told c = search needs
-
 returns : tie.Need-returns
 unfolding operationAfter
 returns c =
     let call = c .before .before in
     ap (operationAnswer (length (part call))) (sym (no-place (part call) (call .place .result) (call .place .ensures) (pair readOptional (readValueBy (strict call) (edition call))) toInsert (c .enum-told .given .1)))
-
-optional-at-requires : tie.Need-optional-at-requires
-optional-at-requires c κs = search needs
-
-enum-known-neighbour : tie.Need-enum-known-neighbour
-enum-known-neighbour c = search needs
-
-value-at-requires : tie.Need-value-at-requires
-value-at-requires c κs = search needs
-
-enum-known-value : tie.Need-enum-known-value
-enum-known-value c = search needs
-
-key-of-requires : tie.Need-key-of-requires
-key-of-requires c κs = search needs
-
-same-value-requires : tie.Need-same-value-requires
-same-value-requires c κs = search needs
-
-enum-known-fault : tie.Need-enum-known-fault
-enum-known-fault c = search needs
-
-enum-known-fault-2 : tie.Need-enum-known-fault-2
-enum-known-fault-2 c = search needs
 
 returns-2 : tie.Need-returns-2
 unfolding operationAfter
@@ -121,19 +88,6 @@ returns-4 c =
 pub collection-insert-spec : {M : Type 1} → statement M
 collection-insert-spec =
     tie.close
-    (tie.spec
-    place-requires
-    enum-known-collection
-    enum-told
-    returns
-    optional-at-requires
-    enum-known-neighbour
-    value-at-requires
-    enum-known-value
-    key-of-requires
-    same-value-requires
-    enum-known-fault
-    enum-known-fault-2
-    returns-2
-    returns-3
-    returns-4)
+    (tie.spec (λ c κs. search needs) (λ c. search needs) (λ c. search needs) returns (λ c κs. search needs) (λ c. search needs)
+    (λ c κs. search needs) (λ c. search needs) (λ c κs. search needs) (λ c κs. search needs) (λ c. search needs)
+    (λ c. search needs) returns-2 returns-3 returns-4)

@@ -25,32 +25,11 @@ here c =
     let bound = c .before .collection .given in
     place-at (part call) (call .place .result) (call .place .ensures) (bound .0 .0) (bound .0 .1 .0) (bound .1)
 
-place-requires : tie.Need-place-requires
-place-requires c κs = search needs
-
-enum-known-collection : tie.Need-enum-known-collection
-enum-known-collection c = search needs
-
-enum-told : tie.Need-enum-told
-enum-told c = search needs
-
 returns : tie.Need-returns
 unfolding operationAfter
 returns c strict ed =
     let call = c .before .before in
     ap (operationAnswer (length (part call))) (sym (no-place (part call) (call .place .result) (call .place .ensures) readOptional toMove (c .enum-told .given .1)))
-
-optional-at-requires : tie.Need-optional-at-requires
-optional-at-requires c κs = search needs
-
-enum-known-neighbour : tie.Need-enum-known-neighbour
-enum-known-neighbour c = search needs
-
-key-of-requires : tie.Need-key-of-requires
-key-of-requires c κs = search needs
-
-enum-known-fault : tie.Need-enum-known-fault
-enum-known-fault c = search needs
 
 returns-2 : tie.Need-returns-2
 unfolding operationAfter
@@ -76,14 +55,5 @@ returns-3 c strict ed =
 pub collection-move-spec : {M : Type 1} → statement M
 collection-move-spec =
     tie.close
-    (tie.spec
-    place-requires
-    enum-known-collection
-    enum-told
-    returns
-    optional-at-requires
-    enum-known-neighbour
-    key-of-requires
-    enum-known-fault
-    returns-2
-    returns-3)
+    (tie.spec (λ c κs. search needs) (λ c. search needs) (λ c. search needs) returns (λ c κs. search needs) (λ c. search needs)
+    (λ c κs. search needs) (λ c. search needs) returns-2 returns-3)

@@ -20,15 +20,6 @@ here c =
     let bound = c .before .collection .given in
     place-at (part call) (call .place .result) (call .place .ensures) (bound .0 .0) (bound .0 .1 .0) (bound .1)
 
-place-requires : tie.Need-place-requires
-place-requires c κs = search needs
-
-enum-known-collection : tie.Need-enum-known-collection
-enum-known-collection c = search needs
-
-enum-told : tie.Need-enum-told
-enum-told c = search needs
-
 returns : tie.Need-returns
 unfolding operationAfter
 returns c strict ed =
@@ -43,10 +34,4 @@ returns-2 c strict ed =
 
 pub collection-remove-spec : {M : Type 1} → statement M
 collection-remove-spec =
-    tie.close
-    (tie.spec
-    place-requires
-    enum-known-collection
-    enum-told
-    returns
-    returns-2)
+    tie.close (tie.spec (λ c κs. search needs) (λ c. search needs) (λ c. search needs) returns returns-2)

@@ -34,32 +34,11 @@ here c =
     let bound = c .before .collection .given in
     place-at (part call) (call .place .result) (call .place .ensures) (bound .0 .0) (bound .0 .1 .0) (bound .1)
 
-place-requires : tie.Need-place-requires
-place-requires c κs = search needs
-
-enum-known-collection : tie.Need-enum-known-collection
-enum-known-collection c = search needs
-
-enum-told : tie.Need-enum-told
-enum-told c = search needs
-
 returns : tie.Need-returns
 unfolding operationAfter
 returns c =
     let call = c .before .before in
     ap (operationAnswer (length (part call))) (sym (no-place (part call) (call .place .result) (call .place .ensures) (readValueBy (strict call) (edition call)) toUpdate (c .enum-told .given .1)))
-
-value-at-requires : tie.Need-value-at-requires
-value-at-requires c κs = search needs
-
-enum-known-value : tie.Need-enum-known-value
-enum-known-value c = search needs
-
-same-value-requires : tie.Need-same-value-requires
-same-value-requires c κs = search needs
-
-enum-known-fault : tie.Need-enum-known-fault
-enum-known-fault c = search needs
 
 returns-2 : tie.Need-returns-2
 unfolding operationAfter
@@ -85,14 +64,5 @@ returns-3 c =
 pub collection-update-spec : {M : Type 1} → statement M
 collection-update-spec =
     tie.close
-    (tie.spec
-    place-requires
-    enum-known-collection
-    enum-told
-    returns
-    value-at-requires
-    enum-known-value
-    same-value-requires
-    enum-known-fault
-    returns-2
-    returns-3)
+    (tie.spec (λ c κs. search needs) (λ c. search needs) (λ c. search needs) returns (λ c κs. search needs) (λ c. search needs)
+    (λ c κs. search needs) (λ c. search needs) returns-2 returns-3)

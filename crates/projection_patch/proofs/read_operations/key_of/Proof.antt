@@ -9,18 +9,6 @@ use borrow.Author.Needs.{needs}
 use Rattle.projection_patch.proofs.read_operations.key_of.Statement.{statement}
 use Rattle.projection_patch.proofs.read_operations.key_of.Tie as tie
 
-enum-told : tie.Need-enum-told
-enum-told c = search needs
-
-enum-known-number : tie.Need-enum-known-number
-enum-known-number c = search needs
-
-new-requires : tie.Need-new-requires
-new-requires c κs = search needs
-
-returns : tie.Need-returns
-returns c = search needs
-
 returns-2 : tie.Need-returns-2
 returns-2 c =
     let bound = c .before .before .number .given in
@@ -29,10 +17,4 @@ returns-2 c =
 
 pub key-of-spec : {M : Type 1} → statement M
 key-of-spec =
-    tie.close
-    (tie.spec
-    enum-told
-    enum-known-number
-    new-requires
-    returns
-    returns-2)
+    tie.close (tie.spec (λ c. search needs) (λ c. search needs) (λ c κs. search needs) (λ c. search needs) returns-2)

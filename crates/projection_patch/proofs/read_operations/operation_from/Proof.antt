@@ -40,27 +40,6 @@ returns c =
     let a = c .before .before .args in
     rw (no-tag (operationAfter (a .strict) (editionOf (a .edition))) (a .part .now) 0 (omega arith))
 
-shared-slice-read-tag : tie.Need-shared-slice-read-tag
-shared-slice-read-tag c = search needs
-
-set-binding-value-requires : tie.Need-set-binding-value-requires
-set-binding-value-requires c κs = search needs
-
-set-node-availability-requires : tie.Need-set-node-availability-requires
-set-node-availability-requires c κs = search needs
-
-collection-insert-requires : tie.Need-collection-insert-requires
-collection-insert-requires c κs = search needs
-
-collection-update-requires : tie.Need-collection-update-requires
-collection-update-requires c κs = search needs
-
-collection-remove-requires : tie.Need-collection-remove-requires
-collection-remove-requires c κs = search needs
-
-collection-move-requires : tie.Need-collection-move-requires
-collection-move-requires c κs = search needs
-
 returns-2 : tie.Need-returns-2
 returns-2 c = c .set-binding-value .ensures ∙ tagged (c .before .before) 1 (c .before .match .keys1)
 
@@ -89,19 +68,6 @@ returns-8 c =
 pub operation-from-spec : {M : Type 1} → statement M
 operation-from-spec =
     tie.close
-    (tie.spec
-    returns
-    shared-slice-read-tag
-    set-binding-value-requires
-    set-node-availability-requires
-    collection-insert-requires
-    collection-update-requires
-    collection-remove-requires
-    collection-move-requires
-    returns-2
-    returns-3
-    returns-4
-    returns-5
-    returns-6
-    returns-7
-    returns-8)
+    (tie.spec returns (λ c. search needs) (λ c κs. search needs) (λ c κs. search needs) (λ c κs. search needs)
+    (λ c κs. search needs) (λ c κs. search needs) (λ c κs. search needs) returns-2 returns-3 returns-4 returns-5 returns-6
+    returns-7 returns-8)

@@ -7,21 +7,6 @@ use borrow.Author.Needs.{needs}
 use Rattle.projection_patch.proofs.read_operations.place.Statement.{statement}
 use Rattle.projection_patch.proofs.read_operations.place.Tie as tie
 
-numbers-at-requires : tie.Need-numbers-at-requires
-numbers-at-requires c κs = search needs
-
-enum-known-collection : tie.Need-enum-known-collection
-enum-known-collection c = search needs
-
-new-requires : tie.Need-new-requires
-new-requires c κs = search needs
-
-new-requires-2 : tie.Need-new-requires-2
-new-requires-2 c κs = search needs
-
-enum-told : tie.Need-enum-told
-enum-told c = search needs
-
 returns : tie.Need-returns
 returns c =
     let node = c .before in
@@ -36,11 +21,5 @@ returns-2 c = ap textPlaceTo (sym (c .enum-told .given .1) ∙ c .before .before
 pub place-spec : {M : Type 1} → statement M
 place-spec =
     tie.close
-    (tie.spec
-    numbers-at-requires
-    enum-known-collection
-    new-requires
-    new-requires-2
-    enum-told
-    returns
-    returns-2)
+    (tie.spec (λ c κs. search needs) (λ c. search needs) (λ c κs. search needs) (λ c κs. search needs) (λ c. search needs)
+    returns returns-2)

@@ -7,21 +7,6 @@ use Rattle.projection_patch.specs.declared.patch.ProjectionPatchValue.th
 use Rattle.projection_patch.proofs.read_operations.same_value.Statement.{statement}
 use Rattle.projection_patch.proofs.read_operations.same_value.Tie as tie
 
-enum-known-value : tie.Need-enum-known-value
-enum-known-value c = search needs
-
-enum-known-value-2 : tie.Need-enum-known-value-2
-enum-known-value-2 c = search needs
-
-enum-known-value-3 : tie.Need-enum-known-value-3
-enum-known-value-3 c = search needs
-
-enum-known-value-4 : tie.Need-enum-known-value-4
-enum-known-value-4 c = search needs
-
-enum-known-value-5 : tie.Need-enum-known-value-5
-enum-known-value-5 c = search needs
-
 returns : tie.Need-returns
 returns c = sym (c .before .value .given .1)
 
@@ -40,14 +25,5 @@ returns-5 c = sym (c .before .value5 .given .1)
 pub same-value-spec : {M : Type 1} → statement M
 same-value-spec =
     tie.close
-    (tie.spec
-    enum-known-value
-    enum-known-value-2
-    enum-known-value-3
-    enum-known-value-4
-    enum-known-value-5
-    returns
-    returns-2
-    returns-3
-    returns-4
-    returns-5)
+    (tie.spec (λ c. search needs) (λ c. search needs) (λ c. search needs) (λ c. search needs) (λ c. search needs) returns
+    returns-2 returns-3 returns-4 returns-5)

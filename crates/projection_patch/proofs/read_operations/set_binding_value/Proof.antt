@@ -39,29 +39,11 @@ slot c =
     let call = c .before .before .before in
     u32-at (part (start c)) 9 (c .before .slot .given .0 .0) (call .read-u32-at .result) (call .read-u32-at .ensures) (c .before .slot .given .1)
 
-read-u64-at-requires : tie.Need-read-u64-at-requires
-read-u64-at-requires c κs = search needs
-
-enum-known-node : tie.Need-enum-known-node
-enum-known-node c = search needs
-
-enum-told : tie.Need-enum-told
-enum-told c = search needs
-
 returns : tie.Need-returns
 unfolding operationAfter
 returns c =
     let call = c .before .before in
     rw (u64-short (part (call .before)) 1 (call .read-u64-at .result) (call .read-u64-at .ensures) (c .enum-told .given .1))
-
-read-u32-at-requires : tie.Need-read-u32-at-requires
-read-u32-at-requires c κs = search needs
-
-enum-known-slot : tie.Need-enum-known-slot
-enum-known-slot c = search needs
-
-enum-told-2 : tie.Need-enum-told-2
-enum-told-2 c = search needs
 
 returns-2 : tie.Need-returns-2
 unfolding operationAfter
@@ -69,21 +51,6 @@ returns-2 c =
     let call = c .before .before in
     let l = part (call .before .before .before .before .before) in
     rw (node (call .before) .is, u32-short l 9 (call .read-u32-at .result) (call .read-u32-at .ensures) (c .enum-told2 .given .1))
-
-new-requires : tie.Need-new-requires
-new-requires c κs = search needs
-
-value-at-requires : tie.Need-value-at-requires
-value-at-requires c κs = search needs
-
-enum-known-value : tie.Need-enum-known-value
-enum-known-value c = search needs
-
-same-value-requires : tie.Need-same-value-requires
-same-value-requires c κs = search needs
-
-enum-known-fault : tie.Need-enum-known-fault
-enum-known-fault c = search needs
 
 returns-3 : tie.Need-returns-3
 unfolding operationAfter
@@ -108,19 +75,6 @@ returns-4 c =
 pub set-binding-value-spec : {M : Type 1} → statement M
 set-binding-value-spec =
     tie.close
-    (tie.spec
-    read-u64-at-requires
-    enum-known-node
-    enum-told
-    returns
-    read-u32-at-requires
-    enum-known-slot
-    enum-told-2
-    returns-2
-    new-requires
-    value-at-requires
-    enum-known-value
-    same-value-requires
-    enum-known-fault
-    returns-3
-    returns-4)
+    (tie.spec (λ c κs. search needs) (λ c. search needs) (λ c. search needs) returns (λ c κs. search needs) (λ c. search needs)
+    (λ c. search needs) returns-2 (λ c κs. search needs) (λ c κs. search needs) (λ c. search needs) (λ c κs. search needs)
+    (λ c. search needs) returns-3 returns-4)

@@ -22,32 +22,11 @@ node c =
     let call = c .before .before .before in
     u64-at (part (call .before)) 1 (c .before .number .given .0 .0) (call .read-u64-at .result) (call .read-u64-at .ensures) (c .before .number .given .1)
 
-read-u64-at-requires : tie.Need-read-u64-at-requires
-read-u64-at-requires c κs = search needs
-
-enum-known-number : tie.Need-enum-known-number
-enum-known-number c = search needs
-
-enum-told : tie.Need-enum-told
-enum-told c = search needs
-
 returns : tie.Need-returns
 unfolding operationAfter
 returns c strict ed =
     let call = c .before .before in
     rw (u64-short (part (call .before)) 1 (call .read-u64-at .result) (call .read-u64-at .ensures) (c .enum-told .given .1))
-
-new-requires : tie.Need-new-requires
-new-requires c κs = search needs
-
-availability-at-requires : tie.Need-availability-at-requires
-availability-at-requires c κs = search needs
-
-enum-known-availability : tie.Need-enum-known-availability
-enum-known-availability c = search needs
-
-enum-known-fault : tie.Need-enum-known-fault
-enum-known-fault c = search needs
 
 returns-2 : tie.Need-returns-2
 unfolding operationAfter
@@ -73,14 +52,5 @@ returns-3 c strict ed =
 pub set-node-availability-spec : {M : Type 1} → statement M
 set-node-availability-spec =
     tie.close
-    (tie.spec
-    read-u64-at-requires
-    enum-known-number
-    enum-told
-    returns
-    new-requires
-    availability-at-requires
-    enum-known-availability
-    enum-known-fault
-    returns-2
-    returns-3)
+    (tie.spec (λ c κs. search needs) (λ c. search needs) (λ c. search needs) returns (λ c κs. search needs)
+    (λ c κs. search needs) (λ c. search needs) (λ c. search needs) returns-2 returns-3)

@@ -35,12 +35,6 @@ returns c =
     let a = c .before .args in
     rw (no-tag availabilityAfter (a .part .now) (a .at) (c .if1 .taken))
 
-shared-slice-read-tag : tie.Need-shared-slice-read-tag
-shared-slice-read-tag c = search needs
-
-add-end : tie.Need-add-end
-add-end c = search needs
-
 returns-2 : tie.Need-returns-2
 unfolding availabilityAfter
 returns-2 c = rw (← tagged (c .before) 0 (c .match .keys1), position (part (c .before)) (at (c .before) + 1) (omega arith))
@@ -71,13 +65,4 @@ returns-7 c =
 pub availability-at-spec : {M : Type 1} → statement M
 availability-at-spec =
     tie.close
-    (tie.spec
-    returns
-    shared-slice-read-tag
-    add-end
-    returns-2
-    returns-3
-    returns-4
-    returns-5
-    returns-6
-    returns-7)
+    (tie.spec returns (λ c. search needs) (λ c. search needs) returns-2 returns-3 returns-4 returns-5 returns-6 returns-7)

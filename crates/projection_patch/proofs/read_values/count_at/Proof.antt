@@ -22,23 +22,11 @@ got c =
     let call = c .before .before .before in
     u32-at (part c) (at c) (count c) (call .read-u32-at .result) (call .read-u32-at .ensures) (c .before .n .given .1)
 
-read-u32-at-requires : tie.Need-read-u32-at-requires
-read-u32-at-requires c κs = search needs
-
-enum-known-n : tie.Need-enum-known-n
-enum-known-n c = search needs
-
-enum-told : tie.Need-enum-told
-enum-told c = search needs
-
 returns : tie.Need-returns
 returns c =
     let call = c .before .before in
     let a = call .before .before .args in
     rw (u32-short (a .part .now) (a .at) (call .read-u32-at .result) (call .read-u32-at .ensures) (c .enum-told .given .1))
-
-cast-count : tie.Need-cast-count
-cast-count c = search needs
 
 add-end : tie.Need-add-end
 add-end c = omega (arith, got c .room)
@@ -58,4 +46,5 @@ returns-3 c =
 pub count-at-spec : {M : Type 1} → statement M
 count-at-spec =
     tie.close
-    (tie.spec read-u32-at-requires enum-known-n enum-told returns cast-count add-end returns-2 returns-3)
+    (tie.spec (λ c κs. search needs) (λ c. search needs) (λ c. search needs) returns (λ c. search needs) add-end returns-2
+    returns-3)

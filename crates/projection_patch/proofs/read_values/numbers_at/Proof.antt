@@ -24,15 +24,6 @@ first c = let call = c .before .before .before in sym (ap numberU64 (c .before .
 second : (c : tie.After-known-told2) → let k = c .before .before .before .before .before .before .before .before in some (c .before .second .given .0 .0) ≡ firstNumber 8 (drop (at k + 8) (part k))
 second c = let call = c .before .before .before in sym (ap numberU64 (c .before .second .given .1)) ∙ call .read-u64-at2 .ensures
 
-read-u64-at-requires : tie.Need-read-u64-at-requires
-read-u64-at-requires c κs = search needs
-
-enum-known-first : tie.Need-enum-known-first
-enum-known-first c = search needs
-
-enum-told : tie.Need-enum-told
-enum-told c = search needs
-
 returns : tie.Need-returns
 returns c =
     let call = c .before .before in
@@ -45,15 +36,6 @@ add-read-u64-at c =
     let k = call .before in
     omega (arith, u64-at (part k) (at k) (c .before .first .given .0 .0) (call .read-u64-at .result) (call .read-u64-at .ensures) (c .before .first .given .1) .room)
 
-read-u64-at-requires-2 : tie.Need-read-u64-at-requires-2
-read-u64-at-requires-2 c κs = search needs
-
-enum-known-second : tie.Need-enum-known-second
-enum-known-second c = search needs
-
-enum-told-2 : tie.Need-enum-told-2
-enum-told-2 c = search needs
-
 returns-2 : tie.Need-returns-2
 returns-2 c =
     let call = c .before .before in
@@ -65,14 +47,5 @@ returns-3 c = ap₂ numbersAnswer (first (c .before .before .before .before)) (s
 pub numbers-at-spec : {M : Type 1} → statement M
 numbers-at-spec =
     tie.close
-    (tie.spec
-    read-u64-at-requires
-    enum-known-first
-    enum-told
-    returns
-    add-read-u64-at
-    read-u64-at-requires-2
-    enum-known-second
-    enum-told-2
-    returns-2
-    returns-3)
+    (tie.spec (λ c κs. search needs) (λ c. search needs) (λ c. search needs) returns add-read-u64-at (λ c κs. search needs)
+    (λ c. search needs) (λ c. search needs) returns-2 returns-3)

@@ -35,15 +35,6 @@ returns c =
     let a = c .before .before .args in
     rw (no-tag optionalAfter (a .part .now) (a .at) (c .if1 .taken))
 
-shared-slice-read-tag : tie.Need-shared-slice-read-tag
-shared-slice-read-tag c = search needs
-
-add-body : tie.Need-add-body
-add-body c = search needs
-
-some-at-requires : tie.Need-some-at-requires
-some-at-requires c κs = search needs
-
 returns-2 : tie.Need-returns-2
 unfolding optionalAfter
 returns-2 c = rw (← tagged (c .before) 0 (c .match .keys1), position (part (c .before)) (at (c .before) + 1) (omega arith))
@@ -61,12 +52,4 @@ returns-4 c =
 
 pub optional-at-spec : {M : Type 1} → statement M
 optional-at-spec =
-    tie.close
-    (tie.spec
-    returns
-    shared-slice-read-tag
-    add-body
-    some-at-requires
-    returns-2
-    returns-3
-    returns-4)
+    tie.close (tie.spec returns (λ c. search needs) (λ c. search needs) (λ c κs. search needs) returns-2 returns-3 returns-4)

@@ -41,12 +41,6 @@ returns c =
     let a = c .before .args in
     rw (no-tag quadAfter (a .part .now) (a .at) (c .if1 .taken))
 
-shared-slice-read-tag : tie.Need-shared-slice-read-tag
-shared-slice-read-tag c = search needs
-
-add-end : tie.Need-add-end
-add-end c = search needs
-
 returns-2 : tie.Need-returns-2
 unfolding quadAfter
 returns-2 c = rw (← tagged (c .before) 0 (c .match .keys1), position (part (c .before)) (at (c .before) + 1) (omega arith))
@@ -72,13 +66,4 @@ returns-6 c =
 
 pub quad-at-spec : {M : Type 1} → statement M
 quad-at-spec =
-    tie.close
-    (tie.spec
-    returns
-    shared-slice-read-tag
-    add-end
-    returns-2
-    returns-3
-    returns-4
-    returns-5
-    returns-6)
+    tie.close (tie.spec returns (λ c. search needs) (λ c. search needs) returns-2 returns-3 returns-4 returns-5 returns-6)

@@ -4,12 +4,6 @@ use borrow.Author.Needs.{needs}
 use Rattle.projection_patch.proofs.read_values.score_at.Statement.{statement}
 use Rattle.projection_patch.proofs.read_values.score_at.Tie as tie
 
-has-scores-requires : tie.Need-has-scores-requires
-has-scores-requires c κs = search needs
-
-score-byte-at-requires : tie.Need-score-byte-at-requires
-score-byte-at-requires c κs = search needs
-
 returns : tie.Need-returns
 returns c =
     let tested = c .before in
@@ -19,4 +13,5 @@ returns-2 : tie.Need-returns-2
 returns-2 c = rw (sym (c .before .has-scores .ensures) ∙ c .if1 .left)
 
 pub score-at-spec : {M : Type 1} → statement M
-score-at-spec = tie.close (tie.spec has-scores-requires score-byte-at-requires returns returns-2)
+score-at-spec =
+    tie.close (tie.spec (λ c κs. search needs) (λ c κs. search needs) returns returns-2)

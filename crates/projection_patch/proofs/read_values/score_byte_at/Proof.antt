@@ -13,12 +13,6 @@ returns c =
     let a = c .before .args in
     rw (no-byte (a .part .now) (a .at) (c .if1 .taken))
 
-shared-slice-read-score : tie.Need-shared-slice-read-score
-shared-slice-read-score c = search needs
-
-add-end : tie.Need-add-end
-add-end c = search needs
-
 returns-2 : tie.Need-returns-2
 returns-2 c =
     let a = c .before .before .before .args in
@@ -30,4 +24,5 @@ returns-3 c =
     rw (byte-at (a .part .now) (a .at) (c .before .before .if1 .left), lt-leb _ highestScore (c .if2 .left))
 
 pub score-byte-at-spec : {M : Type 1} → statement M
-score-byte-at-spec = tie.close (tie.spec returns shared-slice-read-score add-end returns-2 returns-3)
+score-byte-at-spec =
+    tie.close (tie.spec returns (λ c. search needs) (λ c. search needs) returns-2 returns-3)

@@ -15,17 +15,8 @@ got c =
     let a = call .before .before .args in
     i64-at (a .part .now) (a .at) (c .before .z .given .0 .0) (call .read-i64-at .result) (call .read-i64-at .ensures) (c .before .z .given .1)
 
-read-i64-at-requires : tie.Need-read-i64-at-requires
-read-i64-at-requires c κs = search needs
-
-enum-known-z : tie.Need-enum-known-z
-enum-known-z c = search needs
-
 add-t7 : tie.Need-add-t7
 add-t7 c = omega (arith, got c .room)
-
-enum-told : tie.Need-enum-told
-enum-told c = search needs
 
 returns : tie.Need-returns
 returns c =
@@ -41,4 +32,4 @@ returns-2 c =
 
 pub signed-at-spec : {M : Type 1} → statement M
 signed-at-spec =
-    tie.close (tie.spec read-i64-at-requires enum-known-z add-t7 enum-told returns returns-2)
+    tie.close (tie.spec (λ c κs. search needs) (λ c. search needs) add-t7 (λ c. search needs) returns returns-2)

@@ -13,23 +13,11 @@ got c =
     let a = call .before .before .args in
     u32-at (a .part .now) (a .at) (c .before .len .given .0 .0) (call .read-u32-at .result) (call .read-u32-at .ensures) (c .before .len .given .1)
 
-read-u32-at-requires : tie.Need-read-u32-at-requires
-read-u32-at-requires c κs = search needs
-
-enum-known-len : tie.Need-enum-known-len
-enum-known-len c = search needs
-
 add-text-from : tie.Need-add-text-from
 add-text-from c = omega (arith, got c .room)
 
-cast-text-from : tie.Need-cast-text-from
-cast-text-from c = search needs
-
 text-from-requires : tie.Need-text-from-requires
 text-from-requires c κs = omega (arith, got c .room)
-
-enum-told : tie.Need-enum-told
-enum-told c = search needs
 
 returns : tie.Need-returns
 unfolding readTextBy
@@ -45,12 +33,5 @@ returns-2 c =
 pub text-at-spec : {M : Type 1} → statement M
 text-at-spec =
     tie.close
-    (tie.spec
-    read-u32-at-requires
-    enum-known-len
-    add-text-from
-    cast-text-from
-    text-from-requires
-    enum-told
-    returns
-    returns-2)
+    (tie.spec (λ c κs. search needs) (λ c. search needs) add-text-from (λ c. search needs) text-from-requires
+    (λ c. search needs) returns returns-2)

@@ -11,37 +11,16 @@ use Rattle.projection_patch.proofs.Texts.{judged-fits, judged-malformed
 use Rattle.projection_patch.proofs.read_values.text_from.Statement.{statement}
 use Rattle.projection_patch.proofs.read_values.text_from.Tie as tie
 
-sub-if1 : tie.Need-sub-if1
-sub-if1 c = search needs
-
 returns : tie.Need-returns
 returns c = let a = c .before .before .args in rw (short (a .strict) (a .part .now) (a .start) (a .len) (omega arith))
 
 returns-2 : tie.Need-returns-2
 returns-2 c = let a = c .before .before .before .args in rw (long (a .strict) (a .part .now) (a .start) (a .len) (omega arith) (omega arith))
 
-add-end : tie.Need-add-end
-add-end c = search needs
-
 returns-3 : tie.Need-returns-3
 returns-3 c =
     let a = c .before .before .before .before .args in
     placed (a .strict) (a .part .now) (a .start) (a .len) (omega arith) (omega arith) (omega arith) (unchecked (a .strict) _ (c .if3 .taken))
-
-text-of-requires : tie.Need-text-of-requires
-text-of-requires c κs = search needs
-
-judge-text-requires : tie.Need-judge-text-requires
-judge-text-requires c κs = search needs
-
-enum-told : tie.Need-enum-told
-enum-told c = search needs
-
-enum-told-2 : tie.Need-enum-told-2
-enum-told-2 c = search needs
-
-enum-told-3 : tie.Need-enum-told-3
-enum-told-3 c = search needs
 
 abbrev begun : tie.After-judge-text → tie.Start
 begun k = k .before .before .before .before .before .before
@@ -79,17 +58,5 @@ returns-6 c =
 pub text-from-spec : {M : Type 1} → statement M
 text-from-spec =
     tie.close
-    (tie.spec
-    sub-if1
-    returns
-    returns-2
-    add-end
-    returns-3
-    text-of-requires
-    judge-text-requires
-    enum-told
-    enum-told-2
-    enum-told-3
-    returns-4
-    returns-5
-    returns-6)
+    (tie.spec (λ c. search needs) returns returns-2 (λ c. search needs) returns-3 (λ c κs. search needs) (λ c κs. search needs)
+    (λ c. search needs) (λ c. search needs) (λ c. search needs) returns-4 returns-5 returns-6)

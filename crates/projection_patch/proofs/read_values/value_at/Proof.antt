@@ -53,27 +53,6 @@ returns c =
     let a = c .before .before .args in
     rw (no-tag (after (a .strict) (editionOf (a .edition))) (a .part .now) (a .at) (c .if1 .taken))
 
-shared-slice-read-tag : tie.Need-shared-slice-read-tag
-shared-slice-read-tag c = search needs
-
-add-body : tie.Need-add-body
-add-body c = search needs
-
-quad-at-requires : tie.Need-quad-at-requires
-quad-at-requires c κs = search needs
-
-signed-at-requires : tie.Need-signed-at-requires
-signed-at-requires c κs = search needs
-
-text-at-requires : tie.Need-text-at-requires
-text-at-requires c κs = search needs
-
-unsigned-at-requires : tie.Need-unsigned-at-requires
-unsigned-at-requires c κs = search needs
-
-score-at-requires : tie.Need-score-at-requires
-score-at-requires c κs = search needs
-
 returns-2 : tie.Need-returns-2
 unfolding valueAfter inEdition hasKind kinds
 returns-2 c = c .quad-at .ensures ∙ tagged (c .before .before) 1 (c .before .match .keys1)
@@ -104,18 +83,6 @@ returns-7 c =
 pub value-at-spec : {M : Type 1} → statement M
 value-at-spec =
     tie.close
-    (tie.spec
-    returns
-    shared-slice-read-tag
-    add-body
-    quad-at-requires
-    signed-at-requires
-    text-at-requires
-    unsigned-at-requires
-    score-at-requires
-    returns-2
-    returns-3
-    returns-4
-    returns-5
-    returns-6
+    (tie.spec returns (λ c. search needs) (λ c. search needs) (λ c κs. search needs) (λ c κs. search needs)
+    (λ c κs. search needs) (λ c κs. search needs) (λ c κs. search needs) returns-2 returns-3 returns-4 returns-5 returns-6
     returns-7)

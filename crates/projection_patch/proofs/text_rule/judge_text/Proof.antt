@@ -18,15 +18,6 @@ text k = k .before .before .args .text .now
 valid : (k : tie.After-characters) → let t = text (k .before .before) in (isUtf8 t ≡ true) × (characters t ≡ k .characters .given .0 .0)
 valid k = answer-valid (text (k .before .before)) _ (sym (k .before .before .check .ensures) ∙ k .characters .given .1)
 
-check-requires : tie.Need-check-requires
-check-requires c κs = search needs
-
-enum-known-characters : tie.Need-enum-known-characters
-enum-known-characters c = search needs
-
-enum-told : tie.Need-enum-told
-enum-told c = search needs
-
 returns : tie.Need-returns
 returns c =
     let v = valid (c .before .before) in
@@ -45,4 +36,4 @@ returns-3 c =
 
 pub judge-text-spec : {M : Type 1} → statement M
 judge-text-spec =
-    tie.close (tie.spec check-requires enum-known-characters enum-told returns returns-2 returns-3)
+    tie.close (tie.spec (λ c κs. search needs) (λ c. search needs) (λ c. search needs) returns returns-2 returns-3)

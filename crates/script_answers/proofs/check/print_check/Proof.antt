@@ -11,27 +11,6 @@ use Rattle.script_answers.proofs.Checks.{refused-lines, checked-lines}
 use Rattle.script_answers.proofs.check.print_check.Statement.{statement}
 use Rattle.script_answers.proofs.check.print_check.Tie as tie
 
-enum-known-answer : tie.Need-enum-known-answer
-enum-known-answer c = search needs
-
-print-checked-requires : tie.Need-print-checked-requires
-print-checked-requires c κs = search needs
-
-print-findings-requires : tie.Need-print-findings-requires
-print-findings-requires c κs = search needs
-
-enum-known-answer-2 : tie.Need-enum-known-answer-2
-enum-known-answer-2 c = search needs
-
-number-requires : tie.Need-number-requires
-number-requires c κs = search needs
-
-print-number-line-requires : tie.Need-print-number-line-requires
-print-number-line-requires c κs = search needs
-
-same-length : tie.Need-same-length
-same-length c = search needs
-
 returns : tie.Need-returns
 returns c =
     let records = c .before .before in
@@ -39,9 +18,6 @@ returns c =
     let told = head .before .before .before in
     let args = told .before .before .before .before .args in
     λ ed set h. checked-lines ed set (args .answer) (now (args .records)) h _ _ _ (told .answer .given .1) (head .print-checked .ensures) (records .print-findings .ensures)
-
-same-length-2 : tie.Need-same-length-2
-same-length-2 c = search needs
 
 returns-2 : tie.Need-returns-2
 returns-2 c =
@@ -54,14 +30,5 @@ returns-2 c =
 pub print-check-spec : {M : Type 1} → statement M
 print-check-spec =
     tie.close
-    (tie.spec
-    enum-known-answer
-    print-checked-requires
-    print-findings-requires
-    enum-known-answer-2
-    number-requires
-    print-number-line-requires
-    same-length
-    returns
-    same-length-2
-    returns-2)
+    (tie.spec (λ c. search needs) (λ c κs. search needs) (λ c κs. search needs) (λ c. search needs) (λ c κs. search needs)
+    (λ c κs. search needs) (λ c. search needs) returns (λ c. search needs) returns-2)

@@ -9,31 +9,10 @@ use Rattle.script_answers.proofs.Checks.{patch-place, set-place}
 use Rattle.script_answers.proofs.check.print_place.Statement.{statement}
 use Rattle.script_answers.proofs.check.print_place.Tie as tie
 
-enum-known-place : tie.Need-enum-known-place
-enum-known-place c = search needs
-
-print-field-u64-requires : tie.Need-print-field-u64-requires
-print-field-u64-requires c κs = search needs
-
-enum-told : tie.Need-enum-told
-enum-told c = search needs
-
-slice-aggregate-print-field-bytes : tie.Need-slice-aggregate-print-field-bytes
-slice-aggregate-print-field-bytes c = search needs
-
-print-field-bytes-requires : tie.Need-print-field-bytes-requires
-print-field-bytes-requires c κs = search needs
-
-same-length : tie.Need-same-length
-same-length c = search needs
-
 returns : tie.Need-returns
 returns c =
     let call = c .before .before in
     λ p is. same-bytes (patch-place p _ (sym (call .before .before .before .place .given .1) ∙ is)) (call .print-field-u64 .ensures)
-
-same-length-2 : tie.Need-same-length-2
-same-length-2 c = search needs
 
 returns-2 : tie.Need-returns-2
 unfolding placeField
@@ -44,13 +23,5 @@ returns-2 c =
 pub print-place-spec : {M : Type 1} → statement M
 print-place-spec =
     tie.close
-    (tie.spec
-    enum-known-place
-    print-field-u64-requires
-    enum-told
-    slice-aggregate-print-field-bytes
-    print-field-bytes-requires
-    same-length
-    returns
-    same-length-2
-    returns-2)
+    (tie.spec (λ c. search needs) (λ c κs. search needs) (λ c. search needs) (λ c. search needs) (λ c κs. search needs)
+    (λ c. search needs) returns (λ c. search needs) returns-2)

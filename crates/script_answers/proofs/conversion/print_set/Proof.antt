@@ -5,21 +5,6 @@ use borrow.Author.Needs.{needs}
 use Rattle.script_answers.proofs.conversion.print_set.Statement.{statement}
 use Rattle.script_answers.proofs.conversion.print_set.Tie as tie
 
-print-byte-requires : tie.Need-print-byte-requires
-print-byte-requires c κs = search needs
-
-print-field-u64-requires : tie.Need-print-field-u64-requires
-print-field-u64-requires c κs = search needs
-
-print-field-hex-requires : tie.Need-print-field-hex-requires
-print-field-hex-requires c κs = search needs
-
-print-newline-requires : tie.Need-print-newline-requires
-print-newline-requires c κs = search needs
-
-same-length : tie.Need-same-length
-same-length c = search needs
-
 returns : tie.Need-returns
 unfolding fields
 returns c =
@@ -32,10 +17,5 @@ returns c =
 pub print-set-spec : {M : Type 1} → statement M
 print-set-spec =
     tie.close
-    (tie.spec
-    print-byte-requires
-    print-field-u64-requires
-    print-field-hex-requires
-    print-newline-requires
-    same-length
+    (tie.spec (λ c κs. search needs) (λ c κs. search needs) (λ c κs. search needs) (λ c κs. search needs) (λ c. search needs)
     returns)

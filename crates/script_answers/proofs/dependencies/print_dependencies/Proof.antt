@@ -11,39 +11,12 @@ use Rattle.script_answers.proofs.DependencyLines.{never-lines, needs-co
 use Rattle.script_answers.proofs.dependencies.print_dependencies.Statement.{statement}
 use Rattle.script_answers.proofs.dependencies.print_dependencies.Tie as tie
 
-enum-known-answer : tie.Need-enum-known-answer
-enum-known-answer c = search needs
-
-print-never-requires : tie.Need-print-never-requires
-print-never-requires c κs = search needs
-
-enum-known-answer-2 : tie.Need-enum-known-answer-2
-enum-known-answer-2 c = search needs
-
-print-needs-requires : tie.Need-print-needs-requires
-print-needs-requires c κs = search needs
-
-enum-known-answer-3 : tie.Need-enum-known-answer-3
-enum-known-answer-3 c = search needs
-
-number-requires : tie.Need-number-requires
-number-requires c κs = search needs
-
-print-number-line-requires : tie.Need-print-number-line-requires
-print-number-line-requires c κs = search needs
-
-same-length : tie.Need-same-length
-same-length c = search needs
-
 returns : tie.Need-returns
 returns c =
     let call = c .before .before in
     let told = call .before .before .before in
     let args = told .before .before .before .before .args in
     λ a h. same-bytes (never-lines a (args .answer) (now (args .written)) h _ _ (told .answer .given .1)) (call .print-never .ensures _)
-
-same-length-2 : tie.Need-same-length-2
-same-length-2 c = search needs
 
 returns-2 : tie.Need-returns-2
 returns-2 c =
@@ -53,9 +26,6 @@ returns-2 c =
     λ a h.
     let is = told .answer2 .given .1 in
     same-bytes (needs-lines a (args .answer) (now (args .written)) h _ _ is) (call .print-needs .ensures (needs-counted a (args .answer) (now (args .written)) h _ _ is))
-
-same-length-3 : tie.Need-same-length-3
-same-length-3 c = search needs
 
 returns-3 : tie.Need-returns-3
 returns-3 c =
@@ -68,17 +38,6 @@ returns-3 c =
 pub print-dependencies-spec : {M : Type 1} → statement M
 print-dependencies-spec =
     tie.close
-    (tie.spec
-    enum-known-answer
-    print-never-requires
-    enum-known-answer-2
-    print-needs-requires
-    enum-known-answer-3
-    number-requires
-    print-number-line-requires
-    same-length
-    returns
-    same-length-2
-    returns-2
-    same-length-3
+    (tie.spec (λ c. search needs) (λ c κs. search needs) (λ c. search needs) (λ c κs. search needs) (λ c. search needs)
+    (λ c κs. search needs) (λ c κs. search needs) (λ c. search needs) returns (λ c. search needs) returns-2 (λ c. search needs)
     returns-3)

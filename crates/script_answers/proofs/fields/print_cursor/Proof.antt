@@ -14,32 +14,11 @@ use Rattle.script_answers.proofs.fields.print_cursor.Tie as tie
 abbrev place : ProjectionReplayCursor → List ℕ
 place x = spacedField (cursorField (cursorOf x))
 
-enum-told : tie.Need-enum-told
-enum-told c = search needs
-
-slice-aggregate-print-field-bytes : tie.Need-slice-aggregate-print-field-bytes
-slice-aggregate-print-field-bytes c = search needs
-
-print-field-bytes-requires : tie.Need-print-field-bytes-requires
-print-field-bytes-requires c κs = search needs
-
-enum-known-cursor : tie.Need-enum-known-cursor
-enum-known-cursor c = search needs
-
-print-field-u64-requires : tie.Need-print-field-u64-requires
-print-field-u64-requires c κs = search needs
-
-same-length : tie.Need-same-length
-same-length c = search needs
-
 returns : tie.Need-returns
 unfolding cursorField cursorOf
 returns c =
     let call = c .before .before in
     same-bytes (sym (ap place (call .before .before .before .enum-told .given .1))) (call .print-field-bytes .ensures)
-
-same-length-2 : tie.Need-same-length-2
-same-length-2 c = search needs
 
 returns-2 : tie.Need-returns-2
 unfolding cursorField cursorOf
@@ -50,13 +29,5 @@ returns-2 c =
 pub print-cursor-spec : {M : Type 1} → statement M
 print-cursor-spec =
     tie.close
-    (tie.spec
-    enum-told
-    slice-aggregate-print-field-bytes
-    print-field-bytes-requires
-    enum-known-cursor
-    print-field-u64-requires
-    same-length
-    returns
-    same-length-2
-    returns-2)
+    (tie.spec (λ c. search needs) (λ c. search needs) (λ c κs. search needs) (λ c. search needs) (λ c κs. search needs)
+    (λ c. search needs) returns (λ c. search needs) returns-2)

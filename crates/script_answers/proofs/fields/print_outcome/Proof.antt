@@ -7,24 +7,6 @@ use Rattle.script_answers.specs.OpenFieldsLaws.{last-open}
 use Rattle.script_answers.proofs.fields.print_outcome.Statement.{statement}
 use Rattle.script_answers.proofs.fields.print_outcome.Tie as tie
 
-print-disposition-requires : tie.Need-print-disposition-requires
-print-disposition-requires c κs = search needs
-
-print-field-u64-requires : tie.Need-print-field-u64-requires
-print-field-u64-requires c κs = search needs
-
-print-field-u64-requires-2 : tie.Need-print-field-u64-requires-2
-print-field-u64-requires-2 c κs = search needs
-
-print-field-u64-requires-3 : tie.Need-print-field-u64-requires-3
-print-field-u64-requires-3 c κs = search needs
-
-print-field-u64-requires-4 : tie.Need-print-field-u64-requires-4
-print-field-u64-requires-4 c κs = search needs
-
-same-length : tie.Need-same-length
-same-length c = search needs
-
 returns : tie.Need-returns
 unfolding openFields sessionFields
 returns c =
@@ -38,11 +20,5 @@ returns c =
 pub print-outcome-spec : {M : Type 1} → statement M
 print-outcome-spec =
     tie.close
-    (tie.spec
-    print-disposition-requires
-    print-field-u64-requires
-    print-field-u64-requires-2
-    print-field-u64-requires-3
-    print-field-u64-requires-4
-    same-length
-    returns)
+    (tie.spec (λ c κs. search needs) (λ c κs. search needs) (λ c κs. search needs) (λ c κs. search needs)
+    (λ c κs. search needs) (λ c. search needs) returns)

@@ -13,44 +13,17 @@ use Rattle.script_answers.proofs.group.print_group.Tie as tie
 abbrev lines : GroupAnswer → List ℕ
 lines x = groupLines (groupAnswerOf x)
 
-enum-told : tie.Need-enum-told
-enum-told c = search needs
-
-print-number-line-requires : tie.Need-print-number-line-requires
-print-number-line-requires c κs = search needs
-
-enum-known-answer : tie.Need-enum-known-answer
-enum-known-answer c = search needs
-
-print-taken-requires : tie.Need-print-taken-requires
-print-taken-requires c κs = search needs
-
-enum-known-answer-2 : tie.Need-enum-known-answer-2
-enum-known-answer-2 c = search needs
-
-print-refused-requires : tie.Need-print-refused-requires
-print-refused-requires c κs = search needs
-
-same-length : tie.Need-same-length
-same-length c = search needs
-
 returns : tie.Need-returns
 unfolding groupLines groupAnswerOf
 returns c =
     let call = c .before .before in
     same-bytes (sym (ap lines (call .before .before .enum-told .given .1))) (call .print-number-line .ensures)
 
-same-length-2 : tie.Need-same-length-2
-same-length-2 c = search needs
-
 returns-2 : tie.Need-returns-2
 unfolding groupAnswerOf
 returns-2 c =
     let call = c .before .before in
     same-bytes (sym (ap lines (call .before .before .before .answer .given .1))) (call .print-taken .ensures)
-
-same-length-3 : tie.Need-same-length-3
-same-length-3 c = search needs
 
 returns-3 : tie.Need-returns-3
 unfolding groupAnswerOf
@@ -61,16 +34,5 @@ returns-3 c =
 pub print-group-spec : {M : Type 1} → statement M
 print-group-spec =
     tie.close
-    (tie.spec
-    enum-told
-    print-number-line-requires
-    enum-known-answer
-    print-taken-requires
-    enum-known-answer-2
-    print-refused-requires
-    same-length
-    returns
-    same-length-2
-    returns-2
-    same-length-3
-    returns-3)
+    (tie.spec (λ c. search needs) (λ c κs. search needs) (λ c. search needs) (λ c κs. search needs) (λ c. search needs)
+    (λ c κs. search needs) (λ c. search needs) returns (λ c. search needs) returns-2 (λ c. search needs) returns-3)

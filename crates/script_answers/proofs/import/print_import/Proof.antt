@@ -12,38 +12,11 @@ use borrow.Author.Needs.{needs}
 use Rattle.script_answers.proofs.import.print_import.Statement.{statement}
 use Rattle.script_answers.proofs.import.print_import.Tie as tie
 
-enum-known-answer : tie.Need-enum-known-answer
-enum-known-answer c = search needs
-
 returns : tie.Need-returns
 returns c =
     let told = c .before .before in
     let args = told .before .before .before .before .args in
     λ imported h. absurd (omega (arith, imported-within imported (args .answer) (now (args .written)) h _ (told .answer .given .1), c .if1 .taken))
-
-sub-print-set : tie.Need-sub-print-set
-sub-print-set c = search needs
-
-part-print-set-start : tie.Need-part-print-set-start
-part-print-set-start c = search needs
-
-part-print-set-end : tie.Need-part-print-set-end
-part-print-set-end c = search needs
-
-print-set-requires : tie.Need-print-set-requires
-print-set-requires c κs = search needs
-
-enum-known-answer-2 : tie.Need-enum-known-answer-2
-enum-known-answer-2 c = search needs
-
-number-requires : tie.Need-number-requires
-number-requires c κs = search needs
-
-print-number-line-requires : tie.Need-print-number-line-requires
-print-number-line-requires c κs = search needs
-
-same-length : tie.Need-same-length
-same-length c = search needs
 
 returns-2 : tie.Need-returns-2
 returns-2 c =
@@ -51,9 +24,6 @@ returns-2 c =
     let told = set .before .before .before .before .before in
     let args = told .before .before .before .before .args in
     λ imported h. same-bytes (imported-line imported (args .answer) (now (args .written)) h _ (told .answer .given .1)) (set .print-set .ensures)
-
-same-length-2 : tie.Need-same-length-2
-same-length-2 c = search needs
 
 returns-3 : tie.Need-returns-3
 returns-3 c =
@@ -66,17 +36,6 @@ returns-3 c =
 pub print-import-spec : {M : Type 1} → statement M
 print-import-spec =
     tie.close
-    (tie.spec
-    enum-known-answer
-    returns
-    sub-print-set
-    part-print-set-start
-    part-print-set-end
-    print-set-requires
-    enum-known-answer-2
-    number-requires
-    print-number-line-requires
-    same-length
-    returns-2
-    same-length-2
+    (tie.spec (λ c. search needs) returns (λ c. search needs) (λ c. search needs) (λ c. search needs) (λ c κs. search needs)
+    (λ c. search needs) (λ c κs. search needs) (λ c κs. search needs) (λ c. search needs) returns-2 (λ c. search needs)
     returns-3)

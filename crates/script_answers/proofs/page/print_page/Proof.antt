@@ -11,24 +11,6 @@ use Rattle.script_answers.specs.PageToldLaws.{keys-counted, keys-table, 
 use Rattle.script_answers.proofs.page.print_page.Statement.{statement}
 use Rattle.script_answers.proofs.page.print_page.Tie as tie
 
-enum-known-answer : tie.Need-enum-known-answer
-enum-known-answer c = search needs
-
-print-answered-requires : tie.Need-print-answered-requires
-print-answered-requires c κs = search needs
-
-enum-known-answer-2 : tie.Need-enum-known-answer-2
-enum-known-answer-2 c = search needs
-
-number-requires : tie.Need-number-requires
-number-requires c κs = search needs
-
-print-number-line-requires : tie.Need-print-number-line-requires
-print-number-line-requires c κs = search needs
-
-same-length : tie.Need-same-length
-same-length c = search needs
-
 returns : tie.Need-returns
 returns c =
     let call = c .before .before in
@@ -38,9 +20,6 @@ returns c =
     let is = told .answer .given .1 in
     same-bytes (answered-lines p k keys places (args .answer) (now (args .table)) h _ is)
     (call .print-answered .ensures p k keys _ (h .valid) (keys-counted p k keys places (args .answer) (now (args .table)) h _ is) (keys-table p k keys places (args .answer) (now (args .table)) h _ is))
-
-same-length-2 : tie.Need-same-length-2
-same-length-2 c = search needs
 
 returns-2 : tie.Need-returns-2
 returns-2 c =
@@ -53,13 +32,5 @@ returns-2 c =
 pub print-page-spec : {M : Type 1} → statement M
 print-page-spec =
     tie.close
-    (tie.spec
-    enum-known-answer
-    print-answered-requires
-    enum-known-answer-2
-    number-requires
-    print-number-line-requires
-    same-length
-    returns
-    same-length-2
-    returns-2)
+    (tie.spec (λ c. search needs) (λ c κs. search needs) (λ c. search needs) (λ c κs. search needs) (λ c κs. search needs)
+    (λ c. search needs) returns (λ c. search needs) returns-2)

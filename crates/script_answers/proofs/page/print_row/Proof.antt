@@ -6,18 +6,6 @@ use Rattle.script_answers.specs.PageToldLaws.{row-found, row-not-found}
 use Rattle.script_answers.proofs.page.print_row.Statement.{statement}
 use Rattle.script_answers.proofs.page.print_row.Tie as tie
 
-print-byte-requires : tie.Need-print-byte-requires
-print-byte-requires c κs = search needs
-
-print-field-u64-requires : tie.Need-print-field-u64-requires
-print-field-u64-requires c κs = search needs
-
-print-value-requires : tie.Need-print-value-requires
-print-value-requires c κs = search needs
-
-same-length : tie.Need-same-length
-same-length c = search needs
-
 returns : tie.Need-returns
 unfolding fields
 returns c =
@@ -26,12 +14,6 @@ returns c =
     let test = position .before .before in
     let letter = test .before .before .before .before in
     same-bytes (row-found (letter .before .before .before .args .lookup) (test .if1 .taken)) (letter .print-byte .ensures ⨾ position .print-field-u64 .ensures ⨾ value .print-value .ensures)
-
-print-none-requires : tie.Need-print-none-requires
-print-none-requires c κs = search needs
-
-same-length-2 : tie.Need-same-length-2
-same-length-2 c = search needs
 
 returns-2 : tie.Need-returns-2
 returns-2 c =
@@ -43,12 +25,5 @@ returns-2 c =
 pub print-row-spec : {M : Type 1} → statement M
 print-row-spec =
     tie.close
-    (tie.spec
-    print-byte-requires
-    print-field-u64-requires
-    print-value-requires
-    same-length
-    returns
-    print-none-requires
-    same-length-2
-    returns-2)
+    (tie.spec (λ c κs. search needs) (λ c κs. search needs) (λ c κs. search needs) (λ c. search needs) returns
+    (λ c κs. search needs) (λ c. search needs) returns-2)

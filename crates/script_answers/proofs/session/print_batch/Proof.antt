@@ -11,24 +11,6 @@ use Rattle.script_answers.specs.OpenFieldsLaws.{line}
 use Rattle.script_answers.proofs.session.print_batch.Statement.{statement}
 use Rattle.script_answers.proofs.session.print_batch.Tie as tie
 
-transition-disposition-requires : tie.Need-transition-disposition-requires
-transition-disposition-requires c κs = search needs
-
-print-byte-requires : tie.Need-print-byte-requires
-print-byte-requires c κs = search needs
-
-print-outcome-requires : tie.Need-print-outcome-requires
-print-outcome-requires c κs = search needs
-
-print-cursor-requires : tie.Need-print-cursor-requires
-print-cursor-requires c κs = search needs
-
-print-newline-requires : tie.Need-print-newline-requires
-print-newline-requires c κs = search needs
-
-same-length : tie.Need-same-length
-same-length c = search needs
-
 returns : tie.Need-returns
 unfolding batchLine fields sessionFields
 returns c =
@@ -47,11 +29,5 @@ returns c =
 pub print-batch-spec : {M : Type 1} → statement M
 print-batch-spec =
     tie.close
-    (tie.spec
-    transition-disposition-requires
-    print-byte-requires
-    print-outcome-requires
-    print-cursor-requires
-    print-newline-requires
-    same-length
-    returns)
+    (tie.spec (λ c κs. search needs) (λ c κs. search needs) (λ c κs. search needs) (λ c κs. search needs)
+    (λ c κs. search needs) (λ c. search needs) returns)

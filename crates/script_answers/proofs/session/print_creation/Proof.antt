@@ -10,31 +10,10 @@ use Rattle.script_answers.proofs.Creations.{made-line, creation-refused
 use Rattle.script_answers.proofs.session.print_creation.Statement.{statement}
 use Rattle.script_answers.proofs.session.print_creation.Tie as tie
 
-enum-told : tie.Need-enum-told
-enum-told c = search needs
-
-print-number-line-requires : tie.Need-print-number-line-requires
-print-number-line-requires c κs = search needs
-
-enum-known-answer : tie.Need-enum-known-answer
-enum-known-answer c = search needs
-
-number-requires : tie.Need-number-requires
-number-requires c κs = search needs
-
-print-number-line-requires-2 : tie.Need-print-number-line-requires-2
-print-number-line-requires-2 c κs = search needs
-
-same-length : tie.Need-same-length
-same-length c = search needs
-
 returns : tie.Need-returns
 returns c =
     let call = c .before .before in
     λ made is. same-bytes (made-line made (sym (call .before .before .enum-told .given .1) ∙ is)) (call .print-number-line .ensures)
-
-same-length-2 : tie.Need-same-length-2
-same-length-2 c = search needs
 
 returns-2 : tie.Need-returns-2
 returns-2 c =
@@ -45,13 +24,5 @@ returns-2 c =
 pub print-creation-spec : {M : Type 1} → statement M
 print-creation-spec =
     tie.close
-    (tie.spec
-    enum-told
-    print-number-line-requires
-    enum-known-answer
-    number-requires
-    print-number-line-requires-2
-    same-length
-    returns
-    same-length-2
-    returns-2)
+    (tie.spec (λ c. search needs) (λ c κs. search needs) (λ c. search needs) (λ c κs. search needs) (λ c κs. search needs)
+    (λ c. search needs) returns (λ c. search needs) returns-2)

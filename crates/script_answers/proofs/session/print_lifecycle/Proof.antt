@@ -10,27 +10,6 @@ use Rattle.script_answers.specs.OpenFieldsLaws.{line}
 use Rattle.script_answers.proofs.session.print_lifecycle.Statement.{statement}
 use Rattle.script_answers.proofs.session.print_lifecycle.Tie as tie
 
-print-byte-requires : tie.Need-print-byte-requires
-print-byte-requires c κs = search needs
-
-print-outcome-requires : tie.Need-print-outcome-requires
-print-outcome-requires c κs = search needs
-
-print-lifecycle-requires : tie.Need-print-lifecycle-requires
-print-lifecycle-requires c κs = search needs
-
-print-cursor-requires : tie.Need-print-cursor-requires
-print-cursor-requires c κs = search needs
-
-print-field-u64-requires : tie.Need-print-field-u64-requires
-print-field-u64-requires c κs = search needs
-
-print-newline-requires : tie.Need-print-newline-requires
-print-newline-requires c κs = search needs
-
-same-length : tie.Need-same-length
-same-length c = search needs
-
 returns : tie.Need-returns
 unfolding lifecycleLine fields sessionFields
 returns c =
@@ -49,12 +28,5 @@ returns c =
 pub print-lifecycle-spec : {M : Type 1} → statement M
 print-lifecycle-spec =
     tie.close
-    (tie.spec
-    print-byte-requires
-    print-outcome-requires
-    print-lifecycle-requires
-    print-cursor-requires
-    print-field-u64-requires
-    print-newline-requires
-    same-length
-    returns)
+    (tie.spec (λ c κs. search needs) (λ c κs. search needs) (λ c κs. search needs) (λ c κs. search needs)
+    (λ c κs. search needs) (λ c κs. search needs) (λ c. search needs) returns)

@@ -6,15 +6,6 @@ use Rattle.bytes_printer.specs.PrintsLaws.{_⨾_}
 use Rattle.script_answers.proofs.session.print_no_session.Statement.{statement}
 use Rattle.script_answers.proofs.session.print_no_session.Tie as tie
 
-print-byte-requires : tie.Need-print-byte-requires
-print-byte-requires c κs = search needs
-
-print-newline-requires : tie.Need-print-newline-requires
-print-newline-requires c κs = search needs
-
-same-length : tie.Need-same-length
-same-length c = search needs
-
 returns : tie.Need-returns
 unfolding noSessionLine fields
 returns c =
@@ -23,4 +14,4 @@ returns c =
 
 pub print-no-session-spec : {M : Type 1} → statement M
 print-no-session-spec =
-    tie.close (tie.spec print-byte-requires print-newline-requires same-length returns)
+    tie.close (tie.spec (λ c κs. search needs) (λ c κs. search needs) (λ c. search needs) returns)

@@ -4,15 +4,10 @@ use Rattle.spec_replay.specs.Answers.{otherLine}
 use Rattle.script_answers.proofs.session.print_other.Statement.{statement}
 use Rattle.script_answers.proofs.session.print_other.Tie as tie
 
-print-number-line-requires : tie.Need-print-number-line-requires
-print-number-line-requires c κs = search needs
-
-same-length : tie.Need-same-length
-same-length c = search needs
-
 returns : tie.Need-returns
 unfolding otherLine
 returns c = c .before .before .print-number-line .ensures
 
 pub print-other-spec : {M : Type 1} → statement M
-print-other-spec = tie.close (tie.spec print-number-line-requires same-length returns)
+print-other-spec =
+    tie.close (tie.spec (λ c κs. search needs) (λ c. search needs) returns)

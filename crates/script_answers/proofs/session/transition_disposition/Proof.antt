@@ -6,15 +6,6 @@ use Rattle.session_steps.specs.Answers.{dispositionTold}
 use Rattle.script_answers.proofs.session.transition_disposition.Statement.{statement}
 use Rattle.script_answers.proofs.session.transition_disposition.Tie as tie
 
-enum-told : tie.Need-enum-told
-enum-told c = search needs
-
-enum-told-2 : tie.Need-enum-told-2
-enum-told-2 c = search needs
-
-enum-told-3 : tie.Need-enum-told-3
-enum-told-3 c = search needs
-
 returns : tie.Need-returns
 unfolding dispositionMeans dispositionTold
 returns c = sym (ap dispositionTold (c .enum-told .given .1))
@@ -29,4 +20,4 @@ returns-3 c = sym (ap dispositionTold (c .enum-told3 .given .1))
 
 pub transition-disposition-spec : {M : Type 1} → statement M
 transition-disposition-spec =
-    tie.close (tie.spec enum-told enum-told-2 enum-told-3 returns returns-2 returns-3)
+    tie.close (tie.spec (λ c. search needs) (λ c. search needs) (λ c. search needs) returns returns-2 returns-3)

@@ -14,36 +14,6 @@ use Rattle.script_answers.proofs.turns.print_turn.Tie as tie
 abbrev line : TurnAnswer → List ℕ
 line x = turnLine (turnAnswerOf x)
 
-print-byte-requires : tie.Need-print-byte-requires
-print-byte-requires c κs = search needs
-
-enum-told : tie.Need-enum-told
-enum-told c = search needs
-
-slice-aggregate-print-field-bytes : tie.Need-slice-aggregate-print-field-bytes
-slice-aggregate-print-field-bytes c = search needs
-
-print-field-bytes-requires : tie.Need-print-field-bytes-requires
-print-field-bytes-requires c κs = search needs
-
-print-newline-requires : tie.Need-print-newline-requires
-print-newline-requires c κs = search needs
-
-enum-known-answer : tie.Need-enum-known-answer
-enum-known-answer c = search needs
-
-print-field-u64-requires : tie.Need-print-field-u64-requires
-print-field-u64-requires c κs = search needs
-
-print-field-u64-requires-2 : tie.Need-print-field-u64-requires-2
-print-field-u64-requires-2 c κs = search needs
-
-print-newline-requires-2 : tie.Need-print-newline-requires-2
-print-newline-requires-2 c κs = search needs
-
-same-length : tie.Need-same-length
-same-length c = search needs
-
 returns : tie.Need-returns
 unfolding turnLine fields
 returns c =
@@ -52,9 +22,6 @@ returns c =
     let told = word .before .before .before in
     let letter = told .before .before .before .before in
     same-bytes (sym (ap line (told .enum-told .given .1))) (letter .print-byte .ensures ⨾ word .print-field-bytes .ensures ⨾ end .print-newline .ensures)
-
-same-length-2 : tie.Need-same-length-2
-same-length-2 c = search needs
 
 returns-2 : tie.Need-returns-2
 unfolding turnLine fields
@@ -69,17 +36,6 @@ returns-2 c =
 pub print-turn-spec : {M : Type 1} → statement M
 print-turn-spec =
     tie.close
-    (tie.spec
-    print-byte-requires
-    enum-told
-    slice-aggregate-print-field-bytes
-    print-field-bytes-requires
-    print-newline-requires
-    enum-known-answer
-    print-field-u64-requires
-    print-field-u64-requires-2
-    print-newline-requires-2
-    same-length
-    returns
-    same-length-2
-    returns-2)
+    (tie.spec (λ c κs. search needs) (λ c. search needs) (λ c. search needs) (λ c κs. search needs) (λ c κs. search needs)
+    (λ c. search needs) (λ c κs. search needs) (λ c κs. search needs) (λ c κs. search needs) (λ c. search needs) returns
+    (λ c. search needs) returns-2)

@@ -6,18 +6,6 @@ use Rattle.script_answers.specs.LookupLines.{mark-found, mark-not-found}
 use Rattle.script_answers.proofs.value.print_mark.Statement.{statement}
 use Rattle.script_answers.proofs.value.print_mark.Tie as tie
 
-print-byte-requires : tie.Need-print-byte-requires
-print-byte-requires c κs = search needs
-
-print-field-u64-requires : tie.Need-print-field-u64-requires
-print-field-u64-requires c κs = search needs
-
-print-newline-requires : tie.Need-print-newline-requires
-print-newline-requires c κs = search needs
-
-same-length : tie.Need-same-length
-same-length c = search needs
-
 returns : tie.Need-returns
 unfolding fields
 returns c =
@@ -26,12 +14,6 @@ returns c =
     let test = number .before .before in
     let letter = test .before .before .before in
     same-bytes (mark-found _ (letter .before .before .before .args .mark) (test .if1 .taken)) (letter .print-byte .ensures ⨾ number .print-field-u64 .ensures ⨾ end .print-newline .ensures)
-
-print-none-requires : tie.Need-print-none-requires
-print-none-requires c κs = search needs
-
-same-length-2 : tie.Need-same-length-2
-same-length-2 c = search needs
 
 returns-2 : tie.Need-returns-2
 returns-2 c =
@@ -43,12 +25,5 @@ returns-2 c =
 pub print-mark-spec : {M : Type 1} → statement M
 print-mark-spec =
     tie.close
-    (tie.spec
-    print-byte-requires
-    print-field-u64-requires
-    print-newline-requires
-    same-length
-    returns
-    print-none-requires
-    same-length-2
-    returns-2)
+    (tie.spec (λ c κs. search needs) (λ c κs. search needs) (λ c κs. search needs) (λ c. search needs) returns
+    (λ c κs. search needs) (λ c. search needs) returns-2)

@@ -5,18 +5,6 @@ use Rattle.bytes_printer.specs.PrintsLaws.{_⨾_}
 use Rattle.script_answers.proofs.value.print_none.Statement.{statement}
 use Rattle.script_answers.proofs.value.print_none.Tie as tie
 
-slice-aggregate-print-field-bytes : tie.Need-slice-aggregate-print-field-bytes
-slice-aggregate-print-field-bytes c = search needs
-
-print-field-bytes-requires : tie.Need-print-field-bytes-requires
-print-field-bytes-requires c κs = search needs
-
-print-newline-requires : tie.Need-print-newline-requires
-print-newline-requires c κs = search needs
-
-same-length : tie.Need-same-length
-same-length c = search needs
-
 returns : tie.Need-returns
 unfolding fields
 returns c =
@@ -25,10 +13,4 @@ returns c =
 
 pub print-none-spec : {M : Type 1} → statement M
 print-none-spec =
-    tie.close
-    (tie.spec
-    slice-aggregate-print-field-bytes
-    print-field-bytes-requires
-    print-newline-requires
-    same-length
-    returns)
+    tie.close (tie.spec (λ c. search needs) (λ c κs. search needs) (λ c κs. search needs) (λ c. search needs) returns)

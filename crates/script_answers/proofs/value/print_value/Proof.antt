@@ -6,15 +6,6 @@ use Rattle.script_answers.specs.LookupLines.{valueLookupLine, found-line
 use Rattle.script_answers.proofs.value.print_value.Statement.{statement}
 use Rattle.script_answers.proofs.value.print_value.Tie as tie
 
-print-byte-requires : tie.Need-print-byte-requires
-print-byte-requires c κs = search needs
-
-print-value-requires : tie.Need-print-value-requires
-print-value-requires c κs = search needs
-
-same-length : tie.Need-same-length
-same-length c = search needs
-
 returns : tie.Need-returns
 unfolding valueLookupLine
 returns c =
@@ -22,12 +13,6 @@ returns c =
     let test = value .before .before in
     let letter = test .before .before .before in
     same-bytes (found-line _ (lookupFields (letter .before .before .before .args .lookup)) (test .if1 .taken)) (letter .print-byte .ensures ⨾ value .print-value .ensures)
-
-print-none-requires : tie.Need-print-none-requires
-print-none-requires c κs = search needs
-
-same-length-2 : tie.Need-same-length-2
-same-length-2 c = search needs
 
 returns-2 : tie.Need-returns-2
 unfolding valueLookupLine
@@ -40,11 +25,5 @@ returns-2 c =
 pub print-value-spec : {M : Type 1} → statement M
 print-value-spec =
     tie.close
-    (tie.spec
-    print-byte-requires
-    print-value-requires
-    same-length
-    returns
-    print-none-requires
-    same-length-2
-    returns-2)
+    (tie.spec (λ c κs. search needs) (λ c κs. search needs) (λ c. search needs) returns (λ c κs. search needs)
+    (λ c. search needs) returns-2)

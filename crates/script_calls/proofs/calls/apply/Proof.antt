@@ -8,18 +8,6 @@ use borrow.Author.Needs.{needs}
 use Rattle.script_calls.proofs.calls.apply.Statement.{statement}
 use Rattle.script_calls.proofs.calls.apply.Tie as tie
 
-applied-once-requires : tie.Need-applied-once-requires
-applied-once-requires c κs = search needs
-
-print-lifecycle-requires : tie.Need-print-lifecycle-requires
-print-lifecycle-requires c κs = search needs
-
-with-latest-requires : tie.Need-with-latest-requires
-with-latest-requires c κs = search needs
-
-same-length : tie.Need-same-length
-same-length c = search needs
-
 returns : tie.Need-returns
 unfolding applied
 returns c =
@@ -29,24 +17,11 @@ returns c =
     let got = c .before .before .before .before .before .before .before .applied-once .ensures .1 .0 x held in
     goes-on refl (rw (c .with-latest .ensures) (holds-latest (a .state) m h _ _ there (got .1))) (same-bytes (ap lifecycleLine (got .0)) (c .before .before .before .before .print-lifecycle .ensures)))
 
-no-session-requires : tie.Need-no-session-requires
-no-session-requires c κs = search needs
-
-same-length-2 : tie.Need-same-length-2
-same-length-2 c = search needs
-
 returns-2 : tie.Need-returns-2
 returns-2 c = λ m h. asked-nowhere (c .before .before .before .before .before .before .args .state) m h _ _ _ _ (c .before .before .before .before .if1 .left) (c .before .before .no-session .ensures m h)
 
 pub apply-spec : {M : Type 1} → statement M
 apply-spec =
     tie.close
-    (tie.spec
-    applied-once-requires
-    print-lifecycle-requires
-    with-latest-requires
-    same-length
-    returns
-    no-session-requires
-    same-length-2
-    returns-2)
+    (tie.spec (λ c κs. search needs) (λ c κs. search needs) (λ c κs. search needs) (λ c. search needs) returns
+    (λ c κs. search needs) (λ c. search needs) returns-2)

@@ -8,18 +8,6 @@ use borrow.Author.Needs.{needs}
 use Rattle.script_calls.proofs.calls.apply_batch.Statement.{statement}
 use Rattle.script_calls.proofs.calls.apply_batch.Tie as tie
 
-apply-projection-patch-batch-requires : tie.Need-apply-projection-patch-batch-requires
-apply-projection-patch-batch-requires c κs = search needs
-
-print-batch-requires : tie.Need-print-batch-requires
-print-batch-requires c κs = search needs
-
-with-latest-requires : tie.Need-with-latest-requires
-with-latest-requires c κs = search needs
-
-same-length : tie.Need-same-length
-same-length c = search needs
-
 returns : tie.Need-returns
 unfolding batched
 returns c =
@@ -29,24 +17,11 @@ returns c =
     let got = c .before .before .before .before .before .before .before .apply-projection-patch-batch .ensures .0 .became x held in
     in-edition m (a .state .edition) (h .edition-is) x _ _ _ (goes-on refl (rw (c .with-latest .ensures) (holds-latest (a .state) m h _ _ there (got .next))) (same-bytes (ap batchLine (got .answer)) (c .before .before .before .before .print-batch .ensures))))
 
-no-session-requires : tie.Need-no-session-requires
-no-session-requires c κs = search needs
-
-same-length-2 : tie.Need-same-length-2
-same-length-2 c = search needs
-
 returns-2 : tie.Need-returns-2
 returns-2 c = λ m h. asked-nowhere (c .before .before .before .before .before .before .before .args .state) m h _ _ _ _ (c .before .before .before .before .if1 .left) (c .before .before .no-session .ensures m h)
 
 pub apply-batch-spec : {M : Type 1} → statement M
 apply-batch-spec =
     tie.close
-    (tie.spec
-    apply-projection-patch-batch-requires
-    print-batch-requires
-    with-latest-requires
-    same-length
-    returns
-    no-session-requires
-    same-length-2
-    returns-2)
+    (tie.spec (λ c κs. search needs) (λ c κs. search needs) (λ c κs. search needs) (λ c. search needs) returns
+    (λ c κs. search needs) (λ c. search needs) returns-2)

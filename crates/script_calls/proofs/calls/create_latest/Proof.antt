@@ -5,18 +5,6 @@ use borrow.Author.Needs.{needs}
 use Rattle.script_calls.proofs.calls.create_latest.Statement.{statement}
 use Rattle.script_calls.proofs.calls.create_latest.Tie as tie
 
-create-session-requires : tie.Need-create-session-requires
-create-session-requires c κs = search needs
-
-print-creation-requires : tie.Need-print-creation-requires
-print-creation-requires c κs = search needs
-
-is-created-requires : tie.Need-is-created-requires
-is-created-requires c κs = search needs
-
-same-length : tie.Need-same-length
-same-length c = search needs
-
 returns : tie.Need-returns
 returns c =
     let a = c .before .before .before .before .before .before .before .before .before .args in
@@ -27,10 +15,4 @@ returns c =
 
 pub create-latest-spec : {M : Type 1} → statement M
 create-latest-spec =
-    tie.close
-    (tie.spec
-    create-session-requires
-    print-creation-requires
-    is-created-requires
-    same-length
-    returns)
+    tie.close (tie.spec (λ c κs. search needs) (λ c κs. search needs) (λ c κs. search needs) (λ c. search needs) returns)

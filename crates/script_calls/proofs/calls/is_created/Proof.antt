@@ -4,12 +4,6 @@ use borrow.Author.Needs.{needs}
 use Rattle.script_calls.proofs.calls.is_created.Statement.{statement}
 use Rattle.script_calls.proofs.calls.is_created.Tie as tie
 
-enum-told : tie.Need-enum-told
-enum-told c = search needs
-
-enum-told-2 : tie.Need-enum-told-2
-enum-told-2 c = search needs
-
 returns : tie.Need-returns
 unfolding isCreated
 returns c = rw (c .enum-told .given .1)
@@ -19,4 +13,5 @@ unfolding isCreated
 returns-2 c = rw (c .enum-told2 .given .1)
 
 pub is-created-spec : {M : Type 1} → statement M
-is-created-spec = tie.close (tie.spec enum-told enum-told-2 returns returns-2)
+is-created-spec =
+    tie.close (tie.spec (λ c. search needs) (λ c. search needs) returns returns-2)

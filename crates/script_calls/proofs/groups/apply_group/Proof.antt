@@ -8,18 +8,6 @@ use borrow.Author.Needs.{needs}
 use Rattle.script_calls.proofs.groups.apply_group.Statement.{statement}
 use Rattle.script_calls.proofs.groups.apply_group.Tie as tie
 
-apply-projection-patch-batches-requires : tie.Need-apply-projection-patch-batches-requires
-apply-projection-patch-batches-requires c κs = search needs
-
-print-group-requires : tie.Need-print-group-requires
-print-group-requires c κs = search needs
-
-with-latest-requires : tie.Need-with-latest-requires
-with-latest-requires c κs = search needs
-
-same-length : tie.Need-same-length
-same-length c = search needs
-
 returns : tie.Need-returns
 unfolding grouped
 returns c =
@@ -29,24 +17,11 @@ returns c =
     let got = c .before .before .before .before .before .before .apply-projection-patch-batches .ensures .0 .became x held bs names in
     goes-on refl (rw (c .with-latest .ensures) (holds-latest (a .state) m h _ _ there (got .next))) (same-bytes (ap groupLines (got .answer)) (c .before .before .before .before .print-group .ensures)))
 
-no-session-requires : tie.Need-no-session-requires
-no-session-requires c κs = search needs
-
-same-length-2 : tie.Need-same-length-2
-same-length-2 c = search needs
-
 returns-2 : tie.Need-returns-2
 returns-2 c = λ m h bs names. asked-nowhere (c .before .before .before .before .before .before .before .args .state) m h _ _ _ _ (c .before .before .before .before .if1 .left) (c .before .before .no-session .ensures m h)
 
 pub apply-group-spec : {M : Type 1} → statement M
 apply-group-spec =
     tie.close
-    (tie.spec
-    apply-projection-patch-batches-requires
-    print-group-requires
-    with-latest-requires
-    same-length
-    returns
-    no-session-requires
-    same-length-2
-    returns-2)
+    (tie.spec (λ c κs. search needs) (λ c κs. search needs) (λ c κs. search needs) (λ c. search needs) returns
+    (λ c κs. search needs) (λ c. search needs) returns-2)

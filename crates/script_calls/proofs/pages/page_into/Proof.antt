@@ -22,24 +22,6 @@ lent-places n room h =
 few : (c : tie.Start) → c .args .room ≤ 255
 few c = search needs
 
-mul-end : tie.Need-mul-end
-mul-end c = search needs
-
-sub-page-lent : tie.Need-sub-page-lent
-sub-page-lent c = search needs
-
-part-lent-start : tie.Need-part-lent-start
-part-lent-start c = search needs
-
-part-lent-end : tie.Need-part-lent-end
-part-lent-end c = search needs
-
-page-lent-requires : tie.Need-page-lent-requires
-page-lent-requires c κs = search needs
-
-same-length : tie.Need-same-length
-same-length c = search needs
-
 returns : tie.Need-returns
 returns c =
     let printed = c .before .before .before in
@@ -50,11 +32,5 @@ returns c =
 pub page-into-spec : {M : Type 1} → statement M
 page-into-spec =
     tie.close
-    (tie.spec
-    mul-end
-    sub-page-lent
-    part-lent-start
-    part-lent-end
-    page-lent-requires
-    same-length
-    returns)
+    (tie.spec (λ c. search needs) (λ c. search needs) (λ c. search needs) (λ c. search needs) (λ c κs. search needs)
+    (λ c. search needs) returns)

@@ -4,18 +4,6 @@ use borrow.Author.Needs.{needs}
 use Rattle.script_calls.proofs.pages.page_lent.Statement.{statement}
 use Rattle.script_calls.proofs.pages.page_lent.Tie as tie
 
-collection-page-requires : tie.Need-collection-page-requires
-collection-page-requires c κs = search needs
-
-print-page-requires : tie.Need-print-page-requires
-print-page-requires c κs = search needs
-
-same-length : tie.Need-same-length
-same-length c = search needs
-
-same-length-2 : tie.Need-same-length-2
-same-length-2 c = search needs
-
 returns : tie.Need-returns
 returns c =
     let line = c .before .before in
@@ -27,5 +15,4 @@ returns c =
 
 pub page-lent-spec : {M : Type 1} → statement M
 page-lent-spec =
-    tie.close
-    (tie.spec collection-page-requires print-page-requires same-length same-length-2 returns)
+    tie.close (tie.spec (λ c κs. search needs) (λ c κs. search needs) (λ c. search needs) (λ c. search needs) returns)

@@ -19,23 +19,8 @@ lent-length n room h =
     let same : room - 0 ≡ room = omega arith in
     length-take-le (room - 0) (replicate n 0) (omega (arith, length-replicate {A = ℕ} n 0)) ∙ same
 
-lent-bytes-requires : tie.Need-lent-bytes-requires
-lent-bytes-requires c κs = search needs
-
-sub-print-lent : tie.Need-sub-print-lent
-sub-print-lent c = search needs
-
-part-lent-start : tie.Need-part-lent-start
-part-lent-start c = search needs
-
 part-lent-end : tie.Need-part-lent-end
 part-lent-end c = omega (arith, c .lent-bytes .ensures .1)
-
-print-lent-requires : tie.Need-print-lent-requires
-print-lent-requires c κs = search needs
-
-same-length : tie.Need-same-length
-same-length c = search needs
 
 returns : tie.Need-returns
 returns c =
@@ -49,11 +34,5 @@ returns c =
 pub print-into-spec : {M : Type 1} → statement M
 print-into-spec =
     tie.close
-    (tie.spec
-    lent-bytes-requires
-    sub-print-lent
-    part-lent-start
-    part-lent-end
-    print-lent-requires
-    same-length
-    returns)
+    (tie.spec (λ c κs. search needs) (λ c. search needs) (λ c. search needs) part-lent-end (λ c κs. search needs)
+    (λ c. search needs) returns)

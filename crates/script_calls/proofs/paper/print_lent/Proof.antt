@@ -4,18 +4,6 @@ use borrow.Author.Needs.{needs}
 use Rattle.script_calls.proofs.paper.print_lent.Statement.{statement}
 use Rattle.script_calls.proofs.paper.print_lent.Tie as tie
 
-print-collection-requires : tie.Need-print-collection-requires
-print-collection-requires c κs = search needs
-
-print-collection-requires-2 : tie.Need-print-collection-requires-2
-print-collection-requires-2 c κs = search needs
-
-same-length : tie.Need-same-length
-same-length c = search needs
-
-same-length-2 : tie.Need-same-length-2
-same-length-2 c = search needs
-
 returns : tie.Need-returns
 returns c =
     let line = c .before .before in
@@ -27,5 +15,4 @@ returns c =
 
 pub print-lent-spec : {M : Type 1} → statement M
 print-lent-spec =
-    tie.close
-    (tie.spec print-collection-requires print-collection-requires-2 same-length same-length-2 returns)
+    tie.close (tie.spec (λ c κs. search needs) (λ c κs. search needs) (λ c. search needs) (λ c. search needs) returns)

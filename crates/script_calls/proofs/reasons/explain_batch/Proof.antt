@@ -11,12 +11,6 @@ use borrow.Author.Needs.{needs}
 use Rattle.script_calls.proofs.reasons.explain_batch.Statement.{statement}
 use Rattle.script_calls.proofs.reasons.explain_batch.Tie as tie
 
-print-explained-requires : tie.Need-print-explained-requires
-print-explained-requires c κs = search needs
-
-same-length : tie.Need-same-length
-same-length c = search needs
-
 returns : tie.Need-returns
 returns c =
     let call = c .before .before in
@@ -25,22 +19,10 @@ returns c =
     λ m h. asked-there (args .state) m h _ _ _ _ (test .if1 .taken) (λ x held.
     goes-on refl h (same-bytes (ap (λ (ed : Edition). reasonLine (explain ed x (envelopeMeans (args .envelope)) (args .references) (now (args .set)))) (h .edition-is)) (call .print-explained .ensures x held)))
 
-no-session-requires : tie.Need-no-session-requires
-no-session-requires c κs = search needs
-
-same-length-2 : tie.Need-same-length-2
-same-length-2 c = search needs
-
 returns-2 : tie.Need-returns-2
 returns-2 c = λ m h. asked-nowhere (c .before .before .before .before .before .before .before .args .state) m h _ _ _ _ (c .before .before .before .before .if1 .left) (c .before .before .no-session .ensures m h)
 
 pub explain-batch-spec : {M : Type 1} → statement M
 explain-batch-spec =
     tie.close
-    (tie.spec
-    print-explained-requires
-    same-length
-    returns
-    no-session-requires
-    same-length-2
-    returns-2)
+    (tie.spec (λ c κs. search needs) (λ c. search needs) returns (λ c κs. search needs) (λ c. search needs) returns-2)

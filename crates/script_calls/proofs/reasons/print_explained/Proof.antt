@@ -9,15 +9,6 @@ use borrow.Author.Needs.{needs}
 use Rattle.script_calls.proofs.reasons.print_explained.Statement.{statement}
 use Rattle.script_calls.proofs.reasons.print_explained.Tie as tie
 
-explain-batch-requires : tie.Need-explain-batch-requires
-explain-batch-requires c κs = search needs
-
-print-reason-requires : tie.Need-print-reason-requires
-print-reason-requires c κs = search needs
-
-same-length : tie.Need-same-length
-same-length c = search needs
-
 returns : tie.Need-returns
 returns c =
     let line = c .before .before in
@@ -26,5 +17,4 @@ returns c =
 
 pub print-explained-spec : {M : Type 1} → statement M
 print-explained-spec =
-    tie.close
-    (tie.spec explain-batch-requires print-reason-requires same-length returns)
+    tie.close (tie.spec (λ c κs. search needs) (λ c κs. search needs) (λ c. search needs) returns)

@@ -6,9 +6,6 @@ use Rattle.script_calls.specs.SetsUp.{keptCount}
 use Rattle.script_calls.proofs.setup.kept_count.Statement.{statement}
 use Rattle.script_calls.proofs.setup.kept_count.Tie as tie
 
-add-result : tie.Need-add-result
-add-result c = search needs
-
 returns : tie.Need-returns
 unfolding keptCount
 returns c = rw (lt-ltb (c .before .args .count) keptAnchors (c .if1 .taken))
@@ -18,4 +15,5 @@ unfolding keptCount
 returns-2 c = rw (le-ltb (c .before .args .count) keptAnchors (search needs))
 
 pub kept-count-spec : {M : Type 1} → statement M
-kept-count-spec = tie.close (tie.spec add-result returns returns-2)
+kept-count-spec =
+    tie.close (tie.spec (λ c. search needs) returns returns-2)

@@ -7,15 +7,6 @@ use borrow.Author.Needs.{needs}
 use Rattle.script_calls.proofs.setup.kept_ids.Statement.{statement}
 use Rattle.script_calls.proofs.setup.kept_ids.Tie as tie
 
-mul-next : tie.Need-mul-next
-mul-next c = search needs
-
-array-write-next : tie.Need-array-write-next
-array-write-next c = search needs
-
-returns : tie.Need-returns
-returns c = search needs
-
 returns-2 : tie.Need-returns-2
 returns-2 c =
     let a = c .before .args in
@@ -23,4 +14,5 @@ returns-2 c =
     sym (set-out (a .ids) (a .count) _ (omega (arith, long)))
 
 pub kept-ids-spec : {M : Type 1} → statement M
-kept-ids-spec = tie.close (tie.spec mul-next array-write-next returns returns-2)
+kept-ids-spec =
+    tie.close (tie.spec (λ c. search needs) (λ c. search needs) (λ c. search needs) returns-2)

@@ -8,15 +8,6 @@ use Rattle.spec_lists.specs.ListLaws.{unmapped}
 use Rattle.script_calls.proofs.setup.kept_pairs.Statement.{statement}
 use Rattle.script_calls.proofs.setup.kept_pairs.Tie as tie
 
-mul-next : tie.Need-mul-next
-mul-next c = search needs
-
-array-set-from-next : tie.Need-array-set-from-next
-array-set-from-next c = search needs
-
-returns : tie.Need-returns
-returns c = search needs
-
 returns-2 : tie.Need-returns-2
 returns-2 c =
     let a = c .before .args in
@@ -24,4 +15,5 @@ returns-2 c =
     sym (set-out (a .pairs) (a .count) _ (omega (arith, long)))
 
 pub kept-pairs-spec : {M : Type 1} → statement M
-kept-pairs-spec = tie.close (tie.spec mul-next array-set-from-next returns returns-2)
+kept-pairs-spec =
+    tie.close (tie.spec (λ c. search needs) (λ c. search needs) (λ c. search needs) returns-2)

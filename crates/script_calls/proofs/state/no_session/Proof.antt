@@ -5,14 +5,9 @@ use borrow.Author.Needs.{needs}
 use Rattle.script_calls.proofs.state.no_session.Statement.{statement}
 use Rattle.script_calls.proofs.state.no_session.Tie as tie
 
-print-no-session-requires : tie.Need-print-no-session-requires
-print-no-session-requires c κs = search needs
-
-same-length : tie.Need-same-length
-same-length c = search needs
-
 returns : tie.Need-returns
 returns c = λ m h. goes-on refl h (c .before .before .print-no-session .ensures)
 
 pub no-session-spec : {M : Type 1} → statement M
-no-session-spec = tie.close (tie.spec print-no-session-requires same-length returns)
+no-session-spec =
+    tie.close (tie.spec (λ c κs. search needs) (λ c. search needs) returns)

@@ -9,18 +9,6 @@ use borrow.Author.Needs.{needs}
 use Rattle.script_calls.proofs.turns.register.Statement.{statement}
 use Rattle.script_calls.proofs.turns.register.Tie as tie
 
-register-requires : tie.Need-register-requires
-register-requires c κs = search needs
-
-print-registration-requires : tie.Need-print-registration-requires
-print-registration-requires c κs = search needs
-
-with-turns-requires : tie.Need-with-turns-requires
-with-turns-requires c κs = search needs
-
-same-length : tie.Need-same-length
-same-length c = search needs
-
 returns : tie.Need-returns
 unfolding registered
 returns c =
@@ -30,24 +18,11 @@ returns c =
     goes-on refl (rw (c .with-turns .ensures) (holds-turns (a .state) m h _ _ (registered-next _ t held (a .sender) (step .result) (step .ensures))))
     (same-bytes (ap registerLine (registered-answer _ t held (a .sender) (step .result) (step .ensures))) (c .before .before .before .before .print-registration .ensures)))
 
-no-session-requires : tie.Need-no-session-requires
-no-session-requires c κs = search needs
-
-same-length-2 : tie.Need-same-length-2
-same-length-2 c = search needs
-
 returns-2 : tie.Need-returns-2
 returns-2 c = λ m h. no-turns-asked (c .before .before .before .before .before .before .before .before .args .state) m h _ _ _ _ (c .before .before .before .before .if1 .left) (c .before .before .no-session .ensures m h)
 
 pub register-spec : {M : Type 1} → statement M
 register-spec =
     tie.close
-    (tie.spec
-    register-requires
-    print-registration-requires
-    with-turns-requires
-    same-length
-    returns
-    no-session-requires
-    same-length-2
-    returns-2)
+    (tie.spec (λ c κs. search needs) (λ c κs. search needs) (λ c κs. search needs) (λ c. search needs) returns
+    (λ c κs. search needs) (λ c. search needs) returns-2)

@@ -6,21 +6,6 @@ use borrow.Author.Needs.{needs}
 use Rattle.script_calls.proofs.turns.set_up.Statement.{statement}
 use Rattle.script_calls.proofs.turns.set_up.Tie as tie
 
-new-requires : tie.Need-new-requires
-new-requires c κs = search needs
-
-print-set-up-requires : tie.Need-print-set-up-requires
-print-set-up-requires c κs = search needs
-
-after-set-up-requires : tie.Need-after-set-up-requires
-after-set-up-requires c κs = search needs
-
-with-turns-requires : tie.Need-with-turns-requires
-with-turns-requires c κs = search needs
-
-same-length : tie.Need-same-length
-same-length c = search needs
-
 returns : tie.Need-returns
 returns c =
     let a = c .before .before .before .before .before .before .before .before .before .before .args in
@@ -32,10 +17,5 @@ returns c =
 pub set-up-spec : {M : Type 1} → statement M
 set-up-spec =
     tie.close
-    (tie.spec
-    new-requires
-    print-set-up-requires
-    after-set-up-requires
-    with-turns-requires
-    same-length
+    (tie.spec (λ c κs. search needs) (λ c κs. search needs) (λ c κs. search needs) (λ c κs. search needs) (λ c. search needs)
     returns)

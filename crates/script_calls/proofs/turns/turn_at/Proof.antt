@@ -9,18 +9,6 @@ use borrow.Author.Needs.{needs}
 use Rattle.script_calls.proofs.turns.turn_at.Statement.{statement}
 use Rattle.script_calls.proofs.turns.turn_at.Tie as tie
 
-turn-requires : tie.Need-turn-requires
-turn-requires c κs = search needs
-
-print-turn-requires : tie.Need-print-turn-requires
-print-turn-requires c κs = search needs
-
-with-turns-requires : tie.Need-with-turns-requires
-with-turns-requires c κs = search needs
-
-same-length : tie.Need-same-length
-same-length c = search needs
-
 returns : tie.Need-returns
 unfolding turned
 returns c =
@@ -30,24 +18,11 @@ returns c =
     goes-on refl (rw (c .with-turns .ensures) (holds-turns (a .state) m h _ _ (turned-next _ t held _ (step .result) (step .ensures))))
     (same-bytes (ap turnLine (turned-answer _ t held _ (step .result) (step .ensures))) (c .before .before .before .before .print-turn .ensures)))
 
-no-session-requires : tie.Need-no-session-requires
-no-session-requires c κs = search needs
-
-same-length-2 : tie.Need-same-length-2
-same-length-2 c = search needs
-
 returns-2 : tie.Need-returns-2
 returns-2 c = λ m h. no-turns-asked (c .before .before .before .before .before .before .before .before .args .state) m h _ _ _ _ (c .before .before .before .before .if1 .left) (c .before .before .no-session .ensures m h)
 
 pub turn-at-spec : {M : Type 1} → statement M
 turn-at-spec =
     tie.close
-    (tie.spec
-    turn-requires
-    print-turn-requires
-    with-turns-requires
-    same-length
-    returns
-    no-session-requires
-    same-length-2
-    returns-2)
+    (tie.spec (λ c κs. search needs) (λ c κs. search needs) (λ c κs. search needs) (λ c. search needs) returns
+    (λ c κs. search needs) (λ c. search needs) returns-2)

@@ -5,20 +5,8 @@ use borrow.Author.Needs.{needs}
 use Rattle.script_calls.proofs.views.show.Statement.{statement}
 use Rattle.script_calls.proofs.views.show.Tie as tie
 
-print-projection-requires : tie.Need-print-projection-requires
-print-projection-requires c κs = search needs
-
-same-length : tie.Need-same-length
-same-length c = search needs
-
 returns : tie.Need-returns
 returns c = λ m h. asked-there (c .before .before .before .before .before .before .before .before .args .state) m h _ _ _ _ (c .before .before .before .before .before .before .if1 .taken) (λ x held. goes-on refl h (c .before .before .print-projection .ensures (x .projection) (held .projection)))
-
-no-session-requires : tie.Need-no-session-requires
-no-session-requires c κs = search needs
-
-same-length-2 : tie.Need-same-length-2
-same-length-2 c = search needs
 
 returns-2 : tie.Need-returns-2
 returns-2 c = λ m h. asked-nowhere (c .before .before .before .before .before .before .args .state) m h _ _ _ _ (c .before .before .before .before .if1 .left) (c .before .before .no-session .ensures m h)
@@ -26,10 +14,4 @@ returns-2 c = λ m h. asked-nowhere (c .before .before .before .before .before .
 pub show-spec : {M : Type 1} → statement M
 show-spec =
     tie.close
-    (tie.spec
-    print-projection-requires
-    same-length
-    returns
-    no-session-requires
-    same-length-2
-    returns-2)
+    (tie.spec (λ c κs. search needs) (λ c. search needs) returns (λ c κs. search needs) (λ c. search needs) returns-2)

@@ -27,9 +27,6 @@ unlike (x ∷ xs) (y ∷ ys) h = go (eqb x y) (unlike xs ys (λ e. h (omega arit
     go true e = e
     go false e = refl
 
-starts-with-requires : tie.Need-starts-with-requires
-starts-with-requires c κs = search needs
-
 returns : tie.Need-returns
 returns c = c .starts-with .ensures ∙ whole (c .before .before .before .before .args .word .now) (c .before .before .before .before .args .field .now) (c .before .if1 .taken)
 
@@ -37,4 +34,5 @@ returns-2 : tie.Need-returns-2
 returns-2 c = sym (unlike (c .before .before .before .args .word .now) (c .before .before .before .args .field .now) (c .if1 .left))
 
 pub is-word-spec : {M : Type 1} → statement M
-is-word-spec = tie.close (tie.spec starts-with-requires returns returns-2)
+is-word-spec =
+    tie.close (tie.spec (λ c κs. search needs) returns returns-2)

@@ -7,12 +7,6 @@ use Rattle.script_parser.specs.FieldsLaws.{missing, hex-not-last, hex-la
 use Rattle.script_parser.proofs.fields.last_hex.Statement.{statement}
 use Rattle.script_parser.proofs.fields.last_hex.Tie as tie
 
-add-from : tie.Need-add-from
-add-from c = search needs
-
-field-end-requires : tie.Need-field-end-requires
-field-end-requires c κs = search needs
-
 returns : tie.Need-returns
 returns c next =
     let called = c .before in
@@ -31,4 +25,5 @@ returns-3 c next =
     missing space readHex (args .line .now) (args .end) (λ set. end (next set)) (c .if1 .left)
 
 pub last-hex-spec : {M : Type 1} → statement M
-last-hex-spec = tie.close (tie.spec add-from field-end-requires returns returns-2 returns-3)
+last-hex-spec =
+    tie.close (tie.spec (λ c. search needs) (λ c κs. search needs) returns returns-2 returns-3)

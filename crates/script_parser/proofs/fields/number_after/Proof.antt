@@ -10,32 +10,11 @@ use Rattle.script_parser.specs.FieldsLaws.{length-firstField, missing, r
 use Rattle.script_parser.proofs.fields.number_after.Statement.{statement}
 use Rattle.script_parser.proofs.fields.number_after.Tie as tie
 
-add-from : tie.Need-add-from
-add-from c = search needs
-
-field-end-requires : tie.Need-field-end-requires
-field-end-requires c κs = search needs
-
-sub-read-u64 : tie.Need-sub-read-u64
-sub-read-u64 c = search needs
-
-part-read-u64-start : tie.Need-part-read-u64-start
-part-read-u64-start c = search needs
-
 part-read-u64-end : tie.Need-part-read-u64-end
 part-read-u64-end c =
     let args = c .before .before .before .args in
     let rest = drop (args .end + 1) (args .line .now) in
     omega (arith, length-firstField (args .separator) rest, length-drop (args .end + 1) (args .line .now))
-
-read-u64-requires : tie.Need-read-u64-requires
-read-u64-requires c κs = search needs
-
-enum-known-n : tie.Need-enum-known-n
-enum-known-n c = search needs
-
-enum-told : tie.Need-enum-told
-enum-told c = search needs
 
 returns : tie.Need-returns
 returns c next =
@@ -59,15 +38,5 @@ returns-3 c next =
 pub number-after-spec : {M : Type 1} → statement M
 number-after-spec =
     tie.close
-    (tie.spec
-    add-from
-    field-end-requires
-    sub-read-u64
-    part-read-u64-start
-    part-read-u64-end
-    read-u64-requires
-    enum-known-n
-    enum-told
-    returns
-    returns-2
-    returns-3)
+    (tie.spec (λ c. search needs) (λ c κs. search needs) (λ c. search needs) (λ c. search needs) part-read-u64-end
+    (λ c κs. search needs) (λ c. search needs) (λ c. search needs) returns returns-2 returns-3)

@@ -15,30 +15,6 @@ by-form c k e = ap (λ (n : ℕ). formAt n .makes (c .args .t2) []) (sym e)
 no-set : (c : tie.At-match-rest) (k : ℕ) → formAt k .withSet ≡ true → c .before .args .form ≡ k → ⊥
 no-set c k is e = false≢true (sym (c .before .pre .1) ∙ ap (λ (n : ℕ). formAt n .withSet) e ∙ is)
 
-array-read-first : tie.Need-array-read-first
-array-read-first c = search needs
-
-array-read-second : tie.Need-array-read-second
-array-read-second c = search needs
-
-array-read-t14 : tie.Need-array-read-t14
-array-read-t14 c = search needs
-
-array-read-t17 : tie.Need-array-read-t17
-array-read-t17 c = search needs
-
-array-read-t20 : tie.Need-array-read-t20
-array-read-t20 c = search needs
-
-binding-requires : tie.Need-binding-requires
-binding-requires c κs = search needs
-
-edition-requires : tie.Need-edition-requires
-edition-requires c κs = search needs
-
-paper-requires : tie.Need-paper-requires
-paper-requires c κs = search needs
-
 returns : tie.Need-returns
 unfolding formAt
 returns c = λ line. by-form (c .before) 16 (c .match .keys1)
@@ -117,25 +93,6 @@ returns-13 c =
 pub first-command-spec : {M : Type 1} → statement M
 first-command-spec =
     tie.close
-    (tie.spec
-    array-read-first
-    array-read-second
-    array-read-t14
-    array-read-t17
-    array-read-t20
-    binding-requires
-    edition-requires
-    paper-requires
-    returns
-    returns-2
-    returns-3
-    returns-4
-    returns-5
-    returns-6
-    returns-7
-    returns-8
-    returns-9
-    returns-10
-    returns-11
-    returns-12
-    returns-13)
+    (tie.spec (λ c. search needs) (λ c. search needs) (λ c. search needs) (λ c. search needs) (λ c. search needs)
+    (λ c κs. search needs) (λ c κs. search needs) (λ c κs. search needs) returns returns-2 returns-3 returns-4 returns-5
+    returns-6 returns-7 returns-8 returns-9 returns-10 returns-11 returns-12 returns-13)

@@ -5,15 +5,10 @@ use borrow.Author.Needs.{needs}
 use Rattle.script_parser.proofs.forms.has_set.Statement.{statement}
 use Rattle.script_parser.proofs.forms.has_set.Tie as tie
 
-mul-result : tie.Need-mul-result
-mul-result c = search needs
-
-array-read-result : tie.Need-array-read-result
-array-read-result c = search needs
-
 returns : tie.Need-returns
 unfolding formAt
 returns c = set-forms (c .args .form) (c .pre)
 
 pub has-set-spec : {M : Type 1} → statement M
-has-set-spec = tie.close (tie.spec mul-result array-read-result returns)
+has-set-spec =
+    tie.close (tie.spec (λ c. search needs) (λ c. search needs) returns)

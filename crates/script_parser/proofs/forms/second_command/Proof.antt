@@ -12,30 +12,6 @@ use Rattle.script_parser.proofs.forms.second_command.Tie as tie
 by-form : (c : tie.Start) (k : ℕ) → c .args .form ≡ k → formAt k .makes (c .args .t2) [] ≡ formAt (c .args .form) .makes (c .args .t2) []
 by-form c k e = ap (λ (n : ℕ). formAt n .makes (c .args .t2) []) (sym e)
 
-array-read-first : tie.Need-array-read-first
-array-read-first c = search needs
-
-array-read-second : tie.Need-array-read-second
-array-read-second c = search needs
-
-lifecycle-step-requires : tie.Need-lifecycle-step-requires
-lifecycle-step-requires c κs = search needs
-
-lifecycle-step-requires-2 : tie.Need-lifecycle-step-requires-2
-lifecycle-step-requires-2 c κs = search needs
-
-lifecycle-step-requires-3 : tie.Need-lifecycle-step-requires-3
-lifecycle-step-requires-3 c κs = search needs
-
-lifecycle-step-requires-4 : tie.Need-lifecycle-step-requires-4
-lifecycle-step-requires-4 c κs = search needs
-
-value-binding-requires : tie.Need-value-binding-requires
-value-binding-requires c κs = search needs
-
-mark-binding-requires : tie.Need-mark-binding-requires
-mark-binding-requires c κs = search needs
-
 returns : tie.Need-returns
 unfolding formAt stimulusOf commandOf
 returns c = λ line. c .lifecycle-step .ensures line ∙ by-form (c .before .before) 0 (c .before .match .keys1)
@@ -103,24 +79,6 @@ returns-12 c =
 pub second-command-spec : {M : Type 1} → statement M
 second-command-spec =
     tie.close
-    (tie.spec
-    array-read-first
-    array-read-second
-    lifecycle-step-requires
-    lifecycle-step-requires-2
-    lifecycle-step-requires-3
-    lifecycle-step-requires-4
-    value-binding-requires
-    mark-binding-requires
-    returns
-    returns-2
-    returns-3
-    returns-4
-    returns-5
-    returns-6
-    returns-7
-    returns-8
-    returns-9
-    returns-10
-    returns-11
-    returns-12)
+    (tie.spec (λ c. search needs) (λ c. search needs) (λ c κs. search needs) (λ c κs. search needs) (λ c κs. search needs)
+    (λ c κs. search needs) (λ c κs. search needs) (λ c κs. search needs) returns returns-2 returns-3 returns-4 returns-5
+    returns-6 returns-7 returns-8 returns-9 returns-10 returns-11 returns-12)

@@ -14,27 +14,6 @@ use Rattle.script_parser.proofs.forms.set_command.Tie as tie
 by-form : (c : tie.Start) (line : List ℕ) (k : ℕ) → c .args .form ≡ k → setFrom line (c .args .from) (formAt k .makes (c .args .t2)) ≡ setFrom line (c .args .from) (formAt (c .args .form) .makes (c .args .t2))
 by-form c line k e = ap (λ (n : ℕ). setFrom line (c .args .from) (formAt n .makes (c .args .t2))) (sym e)
 
-array-read-first : tie.Need-array-read-first
-array-read-first c = search needs
-
-array-read-t9 : tie.Need-array-read-t9
-array-read-t9 c = search needs
-
-array-read-t14 : tie.Need-array-read-t14
-array-read-t14 c = search needs
-
-array-read-t17 : tie.Need-array-read-t17
-array-read-t17 c = search needs
-
-array-read-t20 : tie.Need-array-read-t20
-array-read-t20 c = search needs
-
-conversion-requires : tie.Need-conversion-requires
-conversion-requires c κs = search needs
-
-dependencies-requires : tie.Need-dependencies-requires
-dependencies-requires c κs = search needs
-
 returns : tie.Need-returns
 unfolding formAt
 returns c = λ line. by-form (c .before) line 22 (c .match .keys1)
@@ -70,18 +49,5 @@ returns-7 c =
 pub set-command-spec : {M : Type 1} → statement M
 set-command-spec =
     tie.close
-    (tie.spec
-    array-read-first
-    array-read-t9
-    array-read-t14
-    array-read-t17
-    array-read-t20
-    conversion-requires
-    dependencies-requires
-    returns
-    returns-2
-    returns-3
-    returns-4
-    returns-5
-    returns-6
-    returns-7)
+    (tie.spec (λ c. search needs) (λ c. search needs) (λ c. search needs) (λ c. search needs) (λ c. search needs)
+    (λ c κs. search needs) (λ c κs. search needs) returns returns-2 returns-3 returns-4 returns-5 returns-6 returns-7)

@@ -26,21 +26,6 @@ numbers-read : (c : tie.After-read-numbers) → c .read-numbers .result .read �
     ≡ behindNumbers c (fieldsAfter space (c .before .before .args .line .now) (c .read-numbers .result .end))
 numbers-read c t = ap (λ (b : Bool). if b then behindNumbers c (fieldsAfter space (c .before .before .args .line .now) (c .read-numbers .result .end)) else other) t
 
-read-numbers-requires : tie.Need-read-numbers-requires
-read-numbers-requires c κs = search needs
-
-last-hex-requires : tie.Need-last-hex-requires
-last-hex-requires c κs = search needs
-
-enum-known-from : tie.Need-enum-known-from
-enum-known-from c = search needs
-
-import-command-requires : tie.Need-import-command-requires
-import-command-requires c κs = search needs
-
-enum-told : tie.Need-enum-told
-enum-told c = search needs
-
 returns : tie.Need-returns
 returns c =
     let told = c .before .before in
@@ -67,12 +52,5 @@ returns-3 c =
 pub read-back-spec : {M : Type 1} → statement M
 read-back-spec =
     tie.close
-    (tie.spec
-    read-numbers-requires
-    last-hex-requires
-    enum-known-from
-    import-command-requires
-    enum-told
-    returns
-    returns-2
-    returns-3)
+    (tie.spec (λ c κs. search needs) (λ c κs. search needs) (λ c. search needs) (λ c κs. search needs) (λ c. search needs)
+    returns returns-2 returns-3)

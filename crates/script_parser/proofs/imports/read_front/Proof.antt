@@ -25,21 +25,6 @@ numbers-read : (c : tie.After-read-numbers) → c .read-numbers .result .read �
     ≡ behindNumbers c (fieldsAfter space (c .before .before .args .line .now) (c .read-numbers .result .end))
 numbers-read c t = ap (λ (b : Bool). if b then behindNumbers c (fieldsAfter space (c .before .before .args .line .now) (c .read-numbers .result .end)) else other) t
 
-read-numbers-requires : tie.Need-read-numbers-requires
-read-numbers-requires c κs = search needs
-
-surface-after-requires : tie.Need-surface-after-requires
-surface-after-requires c κs = search needs
-
-enum-known-surface : tie.Need-enum-known-surface
-enum-known-surface c = search needs
-
-read-back-requires : tie.Need-read-back-requires
-read-back-requires c κs = search needs
-
-enum-told : tie.Need-enum-told
-enum-told c = search needs
-
 returns : tie.Need-returns
 returns c =
     let told = c .before .before in
@@ -66,12 +51,5 @@ returns-3 c =
 pub read-front-spec : {M : Type 1} → statement M
 read-front-spec =
     tie.close
-    (tie.spec
-    read-numbers-requires
-    surface-after-requires
-    enum-known-surface
-    read-back-requires
-    enum-told
-    returns
-    returns-2
-    returns-3)
+    (tie.spec (λ c κs. search needs) (λ c κs. search needs) (λ c. search needs) (λ c κs. search needs) (λ c. search needs)
+    returns returns-2 returns-3)

@@ -22,18 +22,6 @@ behindNumber n fs = upTo setBytes n (λ room. behindRoom room fs)
 by-number : (c : tie.After-number-after) → importArguments (fieldsAfter space (c .before .before .args .line .now) (c .before .before .args .end)) ≡ numberThen space (c .before .before .args .line .now) (c .number-after .result) behindNumber
 by-number c = import-room (fieldsAfter space (c .before .before .args .line .now) (c .before .before .args .end)) ∙ c .number-after .ensures behindNumber
 
-number-after-requires : tie.Need-number-after-requires
-number-after-requires c κs = search needs
-
-enum-known-room : tie.Need-enum-known-room
-enum-known-room c = search needs
-
-cast-read-front : tie.Need-cast-read-front
-cast-read-front c = search needs
-
-read-front-requires : tie.Need-read-front-requires
-read-front-requires c κs = search needs
-
 returns : tie.Need-returns
 returns c =
     let test = c .before in
@@ -43,9 +31,6 @@ returns c =
     c .read-front .ensures
     ∙ fits-bound setBytes _ (λ room. behindRoom room (fieldsAfter space (args .line .now) (told .room .given .0 .1 .0))) (test .if1 .taken)
     ∙ sym (by-number called ∙ ap (λ (x : NumberField). numberThen space (args .line .now) x behindNumber) (told .room .given .1))
-
-enum-told : tie.Need-enum-told
-enum-told c = search needs
 
 returns-2 : tie.Need-returns-2
 returns-2 c =
@@ -64,12 +49,5 @@ returns-3 c =
 pub read-import-spec : {M : Type 1} → statement M
 read-import-spec =
     tie.close
-    (tie.spec
-    number-after-requires
-    enum-known-room
-    cast-read-front
-    read-front-requires
-    returns
-    enum-told
-    returns-2
-    returns-3)
+    (tie.spec (λ c κs. search needs) (λ c. search needs) (λ c. search needs) (λ c κs. search needs) returns (λ c. search needs)
+    returns-2 returns-3)

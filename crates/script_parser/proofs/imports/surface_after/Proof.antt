@@ -19,28 +19,10 @@ returns c next =
     let args = c .before .before .args in
     missing space optionalNumber (args .line .now) (args .end) next (c .if1 .taken)
 
-add-from : tie.Need-add-from
-add-from c = search needs
-
-field-end-requires : tie.Need-field-end-requires
-field-end-requires c κs = search needs
-
-sub-is-word : tie.Need-sub-is-word
-sub-is-word c = search needs
-
-part-is-word-start : tie.Need-part-is-word-start
-part-is-word-start c = search needs
-
 part-is-word-end : tie.Need-part-is-word-end
 part-is-word-end c =
     let args = c .before .before .before .args in
     omega (arith, length-firstField space (drop (args .end + 1) (args .line .now)), length-drop (args .end + 1) (args .line .now), c .field-end .ensures)
-
-slice-aggregate-is-word : tie.Need-slice-aggregate-is-word
-slice-aggregate-is-word c = search needs
-
-is-word-requires : tie.Need-is-word-requires
-is-word-requires c κs = search needs
 
 returns-2 : tie.Need-returns-2
 returns-2 c next =
@@ -49,29 +31,11 @@ returns-2 c next =
     let args = found .before .before .before .args in
     read-here space optionalNumber (args .line .now) (args .end) next (found .field-end .result) none (found .field-end .ensures) (found .before .if1 .left) (no-surface _ (sym (word .is-word .ensures) ∙ c .if2 .taken))
 
-sub-read-u64 : tie.Need-sub-read-u64
-sub-read-u64 c = search needs
-
-part-read-u64-start : tie.Need-part-read-u64-start
-part-read-u64-start c = search needs
-
 part-read-u64-end : tie.Need-part-read-u64-end
 part-read-u64-end c =
     let found = c .before .before .before .before in
     let args = found .before .before .before .args in
     omega (arith, length-firstField space (drop (args .end + 1) (args .line .now)), length-drop (args .end + 1) (args .line .now), found .field-end .ensures)
-
-read-u64-requires : tie.Need-read-u64-requires
-read-u64-requires c κs = search needs
-
-enum-known-n : tie.Need-enum-known-n
-enum-known-n c = search needs
-
-new-requires : tie.Need-new-requires
-new-requires c κs = search needs
-
-enum-told : tie.Need-enum-told
-enum-told c = search needs
 
 returns-3 : tie.Need-returns-3
 returns-3 c next =
@@ -98,22 +62,6 @@ returns-4 c next =
 pub surface-after-spec : {M : Type 1} → statement M
 surface-after-spec =
     tie.close
-    (tie.spec
-    returns
-    add-from
-    field-end-requires
-    sub-is-word
-    part-is-word-start
-    part-is-word-end
-    slice-aggregate-is-word
-    is-word-requires
-    returns-2
-    sub-read-u64
-    part-read-u64-start
-    part-read-u64-end
-    read-u64-requires
-    enum-known-n
-    new-requires
-    enum-told
-    returns-3
-    returns-4)
+    (tie.spec returns (λ c. search needs) (λ c κs. search needs) (λ c. search needs) (λ c. search needs) part-is-word-end
+    (λ c. search needs) (λ c κs. search needs) returns-2 (λ c. search needs) (λ c. search needs) part-read-u64-end
+    (λ c κs. search needs) (λ c. search needs) (λ c κs. search needs) (λ c. search needs) returns-3 returns-4)

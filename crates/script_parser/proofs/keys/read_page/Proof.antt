@@ -27,21 +27,6 @@ no-page : (r : PageFields) (keys : KeyFields) → (keys .count ≤ lineKeys) × 
     → {asked : Command} → asked ≡ other → (asked ≡ pageThen r) × ((r .count ≤ lineKeys) × (length (r .keys) ≡ lineKeys))
 no-page r keys few told e = (e ∙ sym (no-page-then r (told .0)), (omega (arith, few .0, told .1 .0), ap length (told .1 .1) ∙ few .1))
 
-read-numbers-requires : tie.Need-read-numbers-requires
-read-numbers-requires c κs = search needs
-
-array-read-collection : tie.Need-array-read-collection
-array-read-collection c = search needs
-
-array-read-room : tie.Need-array-read-room
-array-read-room c = search needs
-
-read-keys-requires : tie.Need-read-keys-requires
-read-keys-requires c κs = search needs
-
-cast-t16 : tie.Need-cast-t16
-cast-t16 c = search needs
-
 returns : tie.Need-returns
 returns c =
     let keys = c .before .before .before in
@@ -55,9 +40,6 @@ returns c =
       keys .read-keys .ensures .1,
     )
 
-no-page-requires : tie.Need-no-page-requires
-no-page-requires c κs = search needs
-
 returns-2 : tie.Need-returns-2
 returns-2 c =
     let test = c .before in
@@ -69,9 +51,6 @@ returns-2 c =
     (by-numbers read
     ∙ ap (λ (t : Bool). if t then keysBehindRoom (numbers .values) (fieldsAfter space line (numbers .end)) else other) (test .before .if1 .taken)
     ∙ sym (exceeds-bound placesOfPage (at (numbers .values) 1) (λ room. upToEnd lineKeys (page (at (numbers .values) 0) room) (fieldsAfter space line (numbers .end))) (test .if2 .left)))
-
-no-page-requires-2 : tie.Need-no-page-requires-2
-no-page-requires-2 c κs = search needs
 
 returns-3 : tie.Need-returns-3
 returns-3 c =
@@ -86,14 +65,5 @@ returns-3 c =
 pub read-page-spec : {M : Type 1} → statement M
 read-page-spec =
     tie.close
-    (tie.spec
-    read-numbers-requires
-    array-read-collection
-    array-read-room
-    read-keys-requires
-    cast-t16
-    returns
-    no-page-requires
-    returns-2
-    no-page-requires-2
-    returns-3)
+    (tie.spec (λ c κs. search needs) (λ c. search needs) (λ c. search needs) (λ c κs. search needs) (λ c. search needs) returns
+    (λ c κs. search needs) returns-2 (λ c κs. search needs) returns-3)

@@ -20,27 +20,6 @@ inEdition ns ed = record { edition = ed; envelope = record { session = at ns 0; 
 by-number : (ns : List ℕ) (next : GroupBatch → Command) (n : ℕ) → at ns 5 ≡ n → given (numberedEdition (some n)) (λ ed. next (inEdition ns ed)) ≡ memberMade ns next
 by-number ns next n e = ap (λ (k : ℕ). given (numberedEdition (some k)) (λ ed. next (inEdition ns ed))) (sym e)
 
-array-read-bytes : tie.Need-array-read-bytes
-array-read-bytes c = search needs
-
-array-read-t10 : tie.Need-array-read-t10
-array-read-t10 c = search needs
-
-array-read-t13 : tie.Need-array-read-t13
-array-read-t13 c = search needs
-
-array-read-t16 : tie.Need-array-read-t16
-array-read-t16 c = search needs
-
-array-read-match : tie.Need-array-read-match
-array-read-match c = search needs
-
-array-read-bytes-2 : tie.Need-array-read-bytes-2
-array-read-bytes-2 c = search needs
-
-array-read-match-2 : tie.Need-array-read-match-2
-array-read-match-2 c = search needs
-
 returns : tie.Need-returns
 unfolding given numberedEdition
 returns c = λ next. by-number (c .before .args .t1) next 1 (c .match .keys1)
@@ -55,14 +34,5 @@ returns-3 c = λ next. no-edition (at (c .before .args .t1) 5) (λ ed. next (inE
 pub member-of-spec : {M : Type 1} → statement M
 member-of-spec =
     tie.close
-    (tie.spec
-    array-read-bytes
-    array-read-t10
-    array-read-t13
-    array-read-t16
-    array-read-match
-    array-read-bytes-2
-    array-read-match-2
-    returns
-    returns-2
-    returns-3)
+    (tie.spec (λ c. search needs) (λ c. search needs) (λ c. search needs) (λ c. search needs) (λ c. search needs)
+    (λ c. search needs) (λ c. search needs) returns returns-2 returns-3)

@@ -18,18 +18,12 @@ by-numbers : (c : tie.After-read-numbers) (next : GroupBatch → Command) → me
     ≡ (if c .read-numbers .result .read then end (memberMade (c .read-numbers .result .values) next) (fieldsAfter comma (c .before .before .args .part .now) (c .read-numbers .result .end)) else other)
 by-numbers c next = member-numbers next (fieldsAfter comma (c .before .before .args .part .now) 0) ∙ c .read-numbers .ensures (λ ns. end (memberMade ns next))
 
-read-numbers-requires : tie.Need-read-numbers-requires
-read-numbers-requires c κs = search needs
-
 returns : tie.Need-returns
 returns c next =
     let test = c .before .before in
     let read = test .before in
     by-numbers read next ∙ ap (λ (t : Bool). if t then end (memberMade (read .read-numbers .result .values) next) (fieldsAfter comma (read .before .before .args .part .now) (read .read-numbers .result .end)) else other) (test .if1 .taken)
     ∙ not-ended comma (read .before .before .args .part .now) (read .read-numbers .result .end) _ (c .if2 .taken)
-
-member-of-requires : tie.Need-member-of-requires
-member-of-requires c κs = search needs
 
 returns-2 : tie.Need-returns-2
 returns-2 c next =
@@ -47,5 +41,4 @@ returns-3 c next =
 
 pub read-member-spec : {M : Type 1} → statement M
 read-member-spec =
-    tie.close
-    (tie.spec read-numbers-requires returns member-of-requires returns-2 returns-3)
+    tie.close (tie.spec (λ c κs. search needs) returns (λ c κs. search needs) returns-2 returns-3)

@@ -37,31 +37,10 @@ by-first c =
     let ended = c .before .before .before in
     first-word (ended .before .before .args .line .now) (ended .field-end .result) (c .word-index .result) firstTable (ended .field-end .ensures) refl (c .word-index .ensures .0)
 
-field-end-requires : tie.Need-field-end-requires
-field-end-requires c κs = search needs
-
-slice-aggregate-word-index : tie.Need-slice-aggregate-word-index
-slice-aggregate-word-index c = search needs
-
-sub-word-index : tie.Need-sub-word-index
-sub-word-index c = search needs
-
-part-word-index-start : tie.Need-part-word-index-start
-part-word-index-start c = search needs
-
 part-word-index-end : tie.Need-part-word-index-end
 part-word-index-end c =
     let ended = c .before in
     omega (arith, field-within space (ended .before .before .args .line .now) 0 (omega arith), ended .field-end .ensures)
-
-word-index-requires : tie.Need-word-index-requires
-word-index-requires c κs = search needs
-
-slice-aggregate-second-form : tie.Need-slice-aggregate-second-form
-slice-aggregate-second-form c = search needs
-
-second-form-requires : tie.Need-second-form-requires
-second-form-requires c κs = search needs
 
 returns : tie.Need-returns
 unfolding stimuli split prepend applyArguments commands
@@ -76,12 +55,6 @@ returns c =
           ∙ second-asks (λ s. numberField (λ n. end (apply s n))) stimuli stimulusBase 5 refl (omega arith) stimulus-form (args .line .now) _ stimulusTable refl (c .second-form .result) (c .second-form .ensures);
     }
 
-slice-aggregate-second-form-2 : tie.Need-slice-aggregate-second-form-2
-slice-aggregate-second-form-2 c = search needs
-
-second-form-requires-2 : tie.Need-second-form-requires-2
-second-form-requires-2 c κs = search needs
-
 returns-2 : tie.Need-returns-2
 unfolding values split prepend valueArguments commands
 returns-2 c =
@@ -94,12 +67,6 @@ returns-2 c =
           by-first word ∙ ap (λ (k : ℕ). wordRowAt (λ a. a) commands k (fieldsAfter space (args .line .now) (word .before .before .before .field-end .result))) (test .if2 .taken)
           ∙ second-asks (λ a. a) values valueBase 3 refl (omega arith) value-form (args .line .now) _ valueTable refl (c .second-form2 .result) (c .second-form2 .ensures);
     }
-
-slice-aggregate-second-form-3 : tie.Need-slice-aggregate-second-form-3
-slice-aggregate-second-form-3 c = search needs
-
-second-form-requires-3 : tie.Need-second-form-requires-3
-second-form-requires-3 c κs = search needs
 
 returns-3 : tie.Need-returns-3
 unfolding marks split prepend markArguments commands
@@ -114,9 +81,6 @@ returns-3 c =
           ∙ second-asks (λ a. a) marks markBase 3 refl (omega arith) mark-form (args .line .now) _ valueTable refl (c .second-form3 .result) (c .second-form3 .ensures);
     }
 
-add-t11 : tie.Need-add-t11
-add-t11 c = search needs
-
 returns-4 : tie.Need-returns-4
 returns-4 c =
     let word = c .before .before .before in
@@ -125,21 +89,6 @@ returns-4 c =
 pub find-form-spec : {M : Type 1} → statement M
 find-form-spec =
     tie.close
-    (tie.spec
-    field-end-requires
-    slice-aggregate-word-index
-    sub-word-index
-    part-word-index-start
-    part-word-index-end
-    word-index-requires
-    slice-aggregate-second-form
-    second-form-requires
-    returns
-    slice-aggregate-second-form-2
-    second-form-requires-2
-    returns-2
-    slice-aggregate-second-form-3
-    second-form-requires-3
-    returns-3
-    add-t11
-    returns-4)
+    (tie.spec (λ c κs. search needs) (λ c. search needs) (λ c. search needs) (λ c. search needs) part-word-index-end
+    (λ c κs. search needs) (λ c. search needs) (λ c κs. search needs) returns (λ c. search needs) (λ c κs. search needs)
+    returns-2 (λ c. search needs) (λ c κs. search needs) returns-3 (λ c. search needs) returns-4)

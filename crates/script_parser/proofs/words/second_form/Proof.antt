@@ -13,28 +13,10 @@ use Rattle.script_parser.proofs.words.second_form.Tie as tie
 returns : tie.Need-returns
 returns c = record { missing = λ h. refl; found = λ h. absurd (omega arith); ended = λ h. absurd (omega arith) }
 
-add-from : tie.Need-add-from
-add-from c = search needs
-
-field-end-requires : tie.Need-field-end-requires
-field-end-requires c κs = search needs
-
-sub-word-index : tie.Need-sub-word-index
-sub-word-index c = search needs
-
-part-word-index-start : tie.Need-part-word-index-start
-part-word-index-start c = search needs
-
 part-word-index-end : tie.Need-part-word-index-end
 part-word-index-end c =
     let args = c .before .before .before .before .args in
     omega (arith, field-within space (args .line .now) (args .end + 1) (omega arith), c .field-end .ensures)
-
-word-index-requires : tie.Need-word-index-requires
-word-index-requires c κs = search needs
-
-add-t8 : tie.Need-add-t8
-add-t8 c = search needs
 
 returns-2 : tie.Need-returns-2
 returns-2 c =
@@ -49,13 +31,5 @@ returns-2 c =
 pub second-form-spec : {M : Type 1} → statement M
 second-form-spec =
     tie.close
-    (tie.spec
-    returns
-    add-from
-    field-end-requires
-    sub-word-index
-    part-word-index-start
-    part-word-index-end
-    word-index-requires
-    add-t8
-    returns-2)
+    (tie.spec returns (λ c. search needs) (λ c κs. search needs) (λ c. search needs) (λ c. search needs) part-word-index-end
+    (λ c κs. search needs) (λ c. search needs) returns-2)

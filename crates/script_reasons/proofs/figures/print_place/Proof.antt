@@ -14,30 +14,9 @@ use Rattle.script_reasons.proofs.figures.print_place.Tie as tie
 abbrev word : CheckPlace → List ℕ
 word x = spacedField (placeField (findingPlaceOf x))
 
-enum-known-place : tie.Need-enum-known-place
-enum-known-place c = search needs
-
-print-field-u64-requires : tie.Need-print-field-u64-requires
-print-field-u64-requires c κs = search needs
-
-enum-told : tie.Need-enum-told
-enum-told c = search needs
-
-slice-aggregate-print-field-bytes : tie.Need-slice-aggregate-print-field-bytes
-slice-aggregate-print-field-bytes c = search needs
-
-print-field-bytes-requires : tie.Need-print-field-bytes-requires
-print-field-bytes-requires c κs = search needs
-
-same-length : tie.Need-same-length
-same-length c = search needs
-
 returns : tie.Need-returns
 unfolding placeField
 returns c = same-bytes (sym (ap word (c .before .before .before .before .before .place .given .1))) (c .before .before .print-field-u64 .ensures)
-
-same-length-2 : tie.Need-same-length-2
-same-length-2 c = search needs
 
 returns-2 : tie.Need-returns-2
 unfolding placeField
@@ -46,13 +25,5 @@ returns-2 c = same-bytes (sym (ap word (c .before .before .before .before .befor
 pub print-place-spec : {M : Type 1} → statement M
 print-place-spec =
     tie.close
-    (tie.spec
-    enum-known-place
-    print-field-u64-requires
-    enum-told
-    slice-aggregate-print-field-bytes
-    print-field-bytes-requires
-    same-length
-    returns
-    same-length-2
-    returns-2)
+    (tie.spec (λ c. search needs) (λ c κs. search needs) (λ c. search needs) (λ c. search needs) (λ c κs. search needs)
+    (λ c. search needs) returns (λ c. search needs) returns-2)

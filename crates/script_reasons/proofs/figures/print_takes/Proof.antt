@@ -14,30 +14,9 @@ use Rattle.script_reasons.proofs.figures.print_takes.Tie as tie
 abbrev word : OptionalNumber → List ℕ
 word x = fields (takesField (optionalOf x) ∷ [])
 
-enum-told : tie.Need-enum-told
-enum-told c = search needs
-
-print-none-requires : tie.Need-print-none-requires
-print-none-requires c κs = search needs
-
-enum-known-takes : tie.Need-enum-known-takes
-enum-known-takes c = search needs
-
-print-field-u64-requires : tie.Need-print-field-u64-requires
-print-field-u64-requires c κs = search needs
-
-print-newline-requires : tie.Need-print-newline-requires
-print-newline-requires c κs = search needs
-
-same-length : tie.Need-same-length
-same-length c = search needs
-
 returns : tie.Need-returns
 unfolding fields takesField
 returns c = same-bytes (sym (ap word (c .before .before .before .before .enum-told .given .1))) (c .before .before .print-none .ensures)
-
-same-length-2 : tie.Need-same-length-2
-same-length-2 c = search needs
 
 returns-2 : tie.Need-returns-2
 unfolding fields takesField
@@ -46,13 +25,5 @@ returns-2 c = same-bytes (sym (ap word (c .before .before .before .before .befor
 pub print-takes-spec : {M : Type 1} → statement M
 print-takes-spec =
     tie.close
-    (tie.spec
-    enum-told
-    print-none-requires
-    enum-known-takes
-    print-field-u64-requires
-    print-newline-requires
-    same-length
-    returns
-    same-length-2
-    returns-2)
+    (tie.spec (λ c. search needs) (λ c κs. search needs) (λ c. search needs) (λ c κs. search needs) (λ c κs. search needs)
+    (λ c. search needs) returns (λ c. search needs) returns-2)

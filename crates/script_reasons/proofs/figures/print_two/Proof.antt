@@ -5,28 +5,10 @@ use borrow.Author.Needs.{needs}
 use Rattle.script_reasons.proofs.figures.print_two.Statement.{statement}
 use Rattle.script_reasons.proofs.figures.print_two.Tie as tie
 
-print-field-u64-requires : tie.Need-print-field-u64-requires
-print-field-u64-requires c κs = search needs
-
-print-field-u64-requires-2 : tie.Need-print-field-u64-requires-2
-print-field-u64-requires-2 c κs = search needs
-
-print-newline-requires : tie.Need-print-newline-requires
-print-newline-requires c κs = search needs
-
-same-length : tie.Need-same-length
-same-length c = search needs
-
 returns : tie.Need-returns
 unfolding fields
 returns c = c .before .before .before .before .before .before .before .before .before .before .print-field-u64 .ensures ⨾ c .before .before .before .before .before .before .print-field-u642 .ensures ⨾ c .before .before .print-newline .ensures
 
 pub print-two-spec : {M : Type 1} → statement M
 print-two-spec =
-    tie.close
-    (tie.spec
-    print-field-u64-requires
-    print-field-u64-requires-2
-    print-newline-requires
-    same-length
-    returns)
+    tie.close (tie.spec (λ c κs. search needs) (λ c κs. search needs) (λ c κs. search needs) (λ c. search needs) returns)

@@ -10,15 +10,6 @@ use borrow.Author.Needs.{needs}
 use Rattle.script_replay.proofs.batch_lines.apply_batch.Statement.{statement}
 use Rattle.script_replay.proofs.batch_lines.apply_batch.Tie as tie
 
-envelope-of-requires : tie.Need-envelope-of-requires
-envelope-of-requires c κs = search needs
-
-apply-batch-requires : tie.Need-apply-batch-requires
-apply-batch-requires c κs = search needs
-
-same-length : tie.Need-same-length
-same-length c = search needs
-
 returns : tie.Need-returns
 unfolding replayLine
 returns c =
@@ -29,4 +20,5 @@ returns c =
     λ m h n. line-step n m _ (command (envelopeMeans (made .envelope-of .result))) (ap command (made .envelope-of .ensures)) (call .apply-batch .ensures m h)
 
 pub apply-batch-spec : {M : Type 1} → statement M
-apply-batch-spec = tie.close (tie.spec envelope-of-requires apply-batch-requires same-length returns)
+apply-batch-spec =
+    tie.close (tie.spec (λ c κs. search needs) (λ c κs. search needs) (λ c. search needs) returns)

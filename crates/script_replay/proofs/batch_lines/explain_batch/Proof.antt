@@ -10,15 +10,6 @@ use borrow.Author.Needs.{needs}
 use Rattle.script_replay.proofs.batch_lines.explain_batch.Statement.{statement}
 use Rattle.script_replay.proofs.batch_lines.explain_batch.Tie as tie
 
-envelope-of-requires : tie.Need-envelope-of-requires
-envelope-of-requires c κs = search needs
-
-explain-batch-requires : tie.Need-explain-batch-requires
-explain-batch-requires c κs = search needs
-
-same-length : tie.Need-same-length
-same-length c = search needs
-
 returns : tie.Need-returns
 unfolding replayLine
 returns c =
@@ -29,4 +20,5 @@ returns c =
     λ m h n. line-step n m _ (command (envelopeMeans (made .envelope-of .result))) (ap command (made .envelope-of .ensures)) (call .explain-batch .ensures m h)
 
 pub explain-batch-spec : {M : Type 1} → statement M
-explain-batch-spec = tie.close (tie.spec envelope-of-requires explain-batch-requires same-length returns)
+explain-batch-spec =
+    tie.close (tie.spec (λ c κs. search needs) (λ c κs. search needs) (λ c. search needs) returns)

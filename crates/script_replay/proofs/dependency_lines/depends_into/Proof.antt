@@ -24,21 +24,6 @@ lent-zeros n room h =
     let same : room - 0 ≡ room = omega arith in
     ap (λ (k : ℕ). take k (replicate {A = ℕ} n 0)) same ∙ first-zeros n room h
 
-sub-print-told : tie.Need-sub-print-told
-sub-print-told c = search needs
-
-part-lent-start : tie.Need-part-lent-start
-part-lent-start c = search needs
-
-part-lent-end : tie.Need-part-lent-end
-part-lent-end c = search needs
-
-print-told-requires : tie.Need-print-told-requires
-print-told-requires c κs = search needs
-
-same-length : tie.Need-same-length
-same-length c = search needs
-
 returns : tie.Need-returns
 returns c =
     let printed = c .before .before .before in
@@ -48,10 +33,4 @@ returns c =
 pub depends-into-spec : {M : Type 1} → statement M
 depends-into-spec =
     tie.close
-    (tie.spec
-    sub-print-told
-    part-lent-start
-    part-lent-end
-    print-told-requires
-    same-length
-    returns)
+    (tie.spec (λ c. search needs) (λ c. search needs) (λ c. search needs) (λ c κs. search needs) (λ c. search needs) returns)

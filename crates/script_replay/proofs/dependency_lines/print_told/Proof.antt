@@ -6,18 +6,6 @@ use borrow.Author.Needs.{needs}
 use Rattle.script_replay.proofs.dependency_lines.print_told.Statement.{statement}
 use Rattle.script_replay.proofs.dependency_lines.print_told.Tie as tie
 
-depends-requires : tie.Need-depends-requires
-depends-requires c κs = search needs
-
-print-dependencies-requires : tie.Need-print-dependencies-requires
-print-dependencies-requires c κs = search needs
-
-same-length : tie.Need-same-length
-same-length c = search needs
-
-same-length-2 : tie.Need-same-length-2
-same-length-2 c = search needs
-
 returns : tie.Need-returns
 returns c =
     let line = c .before .before in
@@ -31,5 +19,4 @@ returns c =
 
 pub print-told-spec : {M : Type 1} → statement M
 print-told-spec =
-    tie.close
-    (tie.spec depends-requires print-dependencies-requires same-length same-length-2 returns)
+    tie.close (tie.spec (λ c κs. search needs) (λ c κs. search needs) (λ c. search needs) (λ c. search needs) returns)

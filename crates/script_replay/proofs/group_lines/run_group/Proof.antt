@@ -7,15 +7,6 @@ use Rattle.script_replay.specs.GroupLaws.{group-read, group-not-read}
 use Rattle.script_replay.proofs.group_lines.run_group.Statement.{statement}
 use Rattle.script_replay.proofs.group_lines.run_group.Tie as tie
 
-read-group-requires : tie.Need-read-group-requires
-read-group-requires c κs = search needs
-
-send-group-requires : tie.Need-send-group-requires
-send-group-requires c κs = search needs
-
-same-length : tie.Need-same-length
-same-length c = search needs
-
 returns : tie.Need-returns
 returns c =
     let call = c .before .before in
@@ -23,12 +14,6 @@ returns c =
     let read = test .before in
     let a = read .before .before .before .args in
     λ m h short. line-step (a .number) m _ _ (sym (read .read-group .ensures .0 ∙ group-read (a .line .now) (read .read-group .result) (test .if1 .taken))) (call .send-group .ensures m h short (read .read-group .ensures .1 .0))
-
-other-requires : tie.Need-other-requires
-other-requires c κs = search needs
-
-same-length-2 : tie.Need-same-length-2
-same-length-2 c = search needs
 
 returns-2 : tie.Need-returns-2
 unfolding replayLine
@@ -42,11 +27,5 @@ returns-2 c =
 pub run-group-spec : {M : Type 1} → statement M
 run-group-spec =
     tie.close
-    (tie.spec
-    read-group-requires
-    send-group-requires
-    same-length
-    returns
-    other-requires
-    same-length-2
-    returns-2)
+    (tie.spec (λ c κs. search needs) (λ c κs. search needs) (λ c. search needs) returns (λ c κs. search needs)
+    (λ c. search needs) returns-2)

@@ -21,24 +21,6 @@ lent-length n room h =
 few : (c : tie.Start) → c .args .wanted .room ≤ 65536
 few c = search needs
 
-cast-end : tie.Need-cast-end
-cast-end c = search needs
-
-sub-print-imported : tie.Need-sub-print-imported
-sub-print-imported c = search needs
-
-part-lent-start : tie.Need-part-lent-start
-part-lent-start c = search needs
-
-part-lent-end : tie.Need-part-lent-end
-part-lent-end c = search needs
-
-print-imported-requires : tie.Need-print-imported-requires
-print-imported-requires c κs = search needs
-
-same-length : tie.Need-same-length
-same-length c = search needs
-
 returns : tie.Need-returns
 returns c =
     let printed = c .before .before .before in
@@ -49,11 +31,5 @@ returns c =
 pub import-into-spec : {M : Type 1} → statement M
 import-into-spec =
     tie.close
-    (tie.spec
-    cast-end
-    sub-print-imported
-    part-lent-start
-    part-lent-end
-    print-imported-requires
-    same-length
-    returns)
+    (tie.spec (λ c. search needs) (λ c. search needs) (λ c. search needs) (λ c. search needs) (λ c κs. search needs)
+    (λ c. search needs) returns)

@@ -4,18 +4,6 @@ use borrow.Author.Needs.{needs}
 use Rattle.script_replay.proofs.import_lines.print_imported.Statement.{statement}
 use Rattle.script_replay.proofs.import_lines.print_imported.Tie as tie
 
-import-terms-requires : tie.Need-import-terms-requires
-import-terms-requires c κs = search needs
-
-print-import-requires : tie.Need-print-import-requires
-print-import-requires c κs = search needs
-
-same-length : tie.Need-same-length
-same-length c = search needs
-
-same-length-2 : tie.Need-same-length-2
-same-length-2 c = search needs
-
 returns : tie.Need-returns
 returns c =
     let line = c .before .before in
@@ -25,5 +13,4 @@ returns c =
 
 pub print-imported-spec : {M : Type 1} → statement M
 print-imported-spec =
-    tie.close
-    (tie.spec import-terms-requires print-import-requires same-length same-length-2 returns)
+    tie.close (tie.spec (λ c κs. search needs) (λ c κs. search needs) (λ c. search needs) (λ c. search needs) returns)

@@ -23,24 +23,6 @@ page-read r e =
 page-not-read : (r : PageFields) → r .read ≡ false → other ≡ pageThen r
 page-not-read r e = sym (ap (λ (t : Bool). if t then page (r .collection) (r .room) (take (r .count) (r .keys)) else other) e)
 
-read-page-requires : tie.Need-read-page-requires
-read-page-requires c κs = search needs
-
-sub-look-up : tie.Need-sub-look-up
-sub-look-up c = search needs
-
-part-look-up-start : tie.Need-part-look-up-start
-part-look-up-start c = search needs
-
-part-look-up-end : tie.Need-part-look-up-end
-part-look-up-end c = search needs
-
-look-up-requires : tie.Need-look-up-requires
-look-up-requires c κs = search needs
-
-same-length : tie.Need-same-length
-same-length c = search needs
-
 returns : tie.Need-returns
 unfolding replayLine
 returns c =
@@ -49,12 +31,6 @@ returns c =
     let read = test .before in
     let a = read .before .before .before .args in
     λ m h. line-step (a .number) m _ _ (page-read (read .read-page .result) (test .if1 .taken) ∙ sym (read .read-page .ensures .0)) (call .look-up .ensures m h)
-
-other-requires : tie.Need-other-requires
-other-requires c κs = search needs
-
-same-length-2 : tie.Need-same-length-2
-same-length-2 c = search needs
 
 returns-2 : tie.Need-returns-2
 unfolding replayLine
@@ -68,14 +44,5 @@ returns-2 c =
 pub run-page-spec : {M : Type 1} → statement M
 run-page-spec =
     tie.close
-    (tie.spec
-    read-page-requires
-    sub-look-up
-    part-look-up-start
-    part-look-up-end
-    look-up-requires
-    same-length
-    returns
-    other-requires
-    same-length-2
-    returns-2)
+    (tie.spec (λ c κs. search needs) (λ c. search needs) (λ c. search needs) (λ c. search needs) (λ c κs. search needs)
+    (λ c. search needs) returns (λ c κs. search needs) (λ c. search needs) returns-2)

@@ -18,21 +18,6 @@ lent-length n room h =
     let same : room - 0 ≡ room = omega arith in
     length-take-le (room - 0) (replicate n 0) (omega (arith, length-replicate {A = ℕ} n 0)) ∙ same
 
-sub-print-converted : tie.Need-sub-print-converted
-sub-print-converted c = search needs
-
-part-lent-start : tie.Need-part-lent-start
-part-lent-start c = search needs
-
-part-lent-end : tie.Need-part-lent-end
-part-lent-end c = search needs
-
-print-converted-requires : tie.Need-print-converted-requires
-print-converted-requires c κs = search needs
-
-same-length : tie.Need-same-length
-same-length c = search needs
-
 returns : tie.Need-returns
 returns c =
     let printed = c .before .before .before in
@@ -42,10 +27,4 @@ returns c =
 pub convert-into-spec : {M : Type 1} → statement M
 convert-into-spec =
     tie.close
-    (tie.spec
-    sub-print-converted
-    part-lent-start
-    part-lent-end
-    print-converted-requires
-    same-length
-    returns)
+    (tie.spec (λ c. search needs) (λ c. search needs) (λ c. search needs) (λ c κs. search needs) (λ c. search needs) returns)

@@ -5,21 +5,6 @@ use borrow.Author.Needs.{needs}
 use Rattle.script_replay.proofs.set_lines.print_checked.Statement.{statement}
 use Rattle.script_replay.proofs.set_lines.print_checked.Tie as tie
 
-slice-aggregate-check : tie.Need-slice-aggregate-check
-slice-aggregate-check c = search needs
-
-check-requires : tie.Need-check-requires
-check-requires c κs = search needs
-
-slice-aggregate-print-check : tie.Need-slice-aggregate-print-check
-slice-aggregate-print-check c = search needs
-
-print-check-requires : tie.Need-print-check-requires
-print-check-requires c κs = search needs
-
-same-length : tie.Need-same-length
-same-length c = search needs
-
 returns : tie.Need-returns
 returns c =
     let args = c .before .before .before .before .before .before .before .before .before .before .args in
@@ -35,10 +20,4 @@ returns c =
 pub print-checked-spec : {M : Type 1} → statement M
 print-checked-spec =
     tie.close
-    (tie.spec
-    slice-aggregate-check
-    check-requires
-    slice-aggregate-print-check
-    print-check-requires
-    same-length
-    returns)
+    (tie.spec (λ c. search needs) (λ c κs. search needs) (λ c. search needs) (λ c κs. search needs) (λ c. search needs) returns)

@@ -7,30 +7,6 @@ use borrow.Author.Needs.{needs}
 use Rattle.script_replay.proofs.setup_lines.next_setup.Statement.{statement}
 use Rattle.script_replay.proofs.setup_lines.next_setup.Tie as tie
 
-enum-known-line : tie.Need-enum-known-line
-enum-known-line c = search needs
-
-new-requires : tie.Need-new-requires
-new-requires c κs = search needs
-
-enum-known-line-2 : tie.Need-enum-known-line-2
-enum-known-line-2 c = search needs
-
-with-node-requires : tie.Need-with-node-requires
-with-node-requires c κs = search needs
-
-enum-known-line-3 : tie.Need-enum-known-line-3
-enum-known-line-3 c = search needs
-
-with-binding-requires : tie.Need-with-binding-requires
-with-binding-requires c κs = search needs
-
-enum-known-line-4 : tie.Need-enum-known-line-4
-enum-known-line-4 c = search needs
-
-with-collection-requires : tie.Need-with-collection-requires
-with-collection-requires c κs = search needs
-
 returns : tie.Need-returns
 returns c = λ m s. subst (λ (l : SetupLine). SetsUp (c .new .result) (nextSetup m l)) (sym (c .before .before .line .given .1)) (c .new .ensures)
 
@@ -46,16 +22,5 @@ returns-4 c = λ m s. subst (λ (l : SetupLine). SetsUp (c .with-collection .res
 pub next-setup-spec : {M : Type 1} → statement M
 next-setup-spec =
     tie.close
-    (tie.spec
-    enum-known-line
-    new-requires
-    enum-known-line-2
-    with-node-requires
-    enum-known-line-3
-    with-binding-requires
-    enum-known-line-4
-    with-collection-requires
-    returns
-    returns-2
-    returns-3
-    returns-4)
+    (tie.spec (λ c. search needs) (λ c κs. search needs) (λ c. search needs) (λ c κs. search needs) (λ c. search needs)
+    (λ c κs. search needs) (λ c. search needs) (λ c κs. search needs) returns returns-2 returns-3 returns-4)

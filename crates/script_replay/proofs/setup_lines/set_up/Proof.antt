@@ -4,13 +4,11 @@ use borrow.Author.Needs.{needs}
 use Rattle.script_replay.proofs.setup_lines.set_up.Statement.{statement}
 use Rattle.script_replay.proofs.setup_lines.set_up.Tie as tie
 
-next-setup-requires : tie.Need-next-setup-requires
-next-setup-requires c κs = search needs
-
 returns : tie.Need-returns
 returns c =
     let a = c .before .before .args in
     λ m h n out. set-up-step (a .state) m h (c .next-setup .result) (a .line) (c .next-setup .ensures (m .setup) (h .setup-is)) n out
 
 pub set-up-spec : {M : Type 1} → statement M
-set-up-spec = tie.close (tie.spec next-setup-requires returns)
+set-up-spec =
+    tie.close (tie.spec (λ c κs. search needs) returns)

@@ -11,24 +11,6 @@ use borrow.Author.Needs.{needs}
 use Rattle.script_replay.proofs.setup_lines.start.Statement.{statement}
 use Rattle.script_replay.proofs.setup_lines.start.Tie as tie
 
-new-requires : tie.Need-new-requires
-new-requires c κs = search needs
-
-slice-aggregate-create-shell-session : tie.Need-slice-aggregate-create-shell-session
-slice-aggregate-create-shell-session c = search needs
-
-add-create-shell-session : tie.Need-add-create-shell-session
-add-create-shell-session c = search needs
-
-slice-aggregate-create-shell-session-2 : tie.Need-slice-aggregate-create-shell-session-2
-slice-aggregate-create-shell-session-2 c = search needs
-
-create-shell-session-requires : tie.Need-create-shell-session-requires
-create-shell-session-requires c κs = search needs
-
-new-requires-2 : tie.Need-new-requires-2
-new-requires-2 c κs = search needs
-
 returns : tie.Need-returns
 unfolding replay.start creationWith anchorsWithin setUp setUpTo heldTurns
 returns c =
@@ -44,11 +26,5 @@ returns c =
 pub start-spec : {M : Type 1} → statement M
 start-spec =
     tie.close
-    (tie.spec
-    new-requires
-    slice-aggregate-create-shell-session
-    add-create-shell-session
-    slice-aggregate-create-shell-session-2
-    create-shell-session-requires
-    new-requires-2
-    returns)
+    (tie.spec (λ c κs. search needs) (λ c. search needs) (λ c. search needs) (λ c. search needs) (λ c κs. search needs)
+    (λ c κs. search needs) returns)

@@ -5,26 +5,8 @@ use borrow.Author.Needs.{needs}
 use Rattle.session_explain.proofs.batch.explain_batch.Statement.{statement}
 use Rattle.session_explain.proofs.batch.explain_batch.Tie as tie
 
-explain-session-requires : tie.Need-explain-session-requires
-explain-session-requires c κs = search needs
-
-enum-told : tie.Need-enum-told
-enum-told c = search needs
-
-under-cap-requires : tie.Need-under-cap-requires
-under-cap-requires c κs = search needs
-
 returns : tie.Need-returns
 returns c = λ m h. checks-explain _ m _ _ _ (seen _ m h) (c .before .before .before .explain-session .ensures) (c .before .enum-told .given .1) (c .under-cap .ensures)
-
-enum-told-2 : tie.Need-enum-told-2
-enum-told-2 c = search needs
-
-explain-operations-requires : tie.Need-explain-operations-requires
-explain-operations-requires c κs = search needs
-
-under-cap-requires-2 : tie.Need-under-cap-requires-2
-under-cap-requires-2 c κs = search needs
 
 returns-2 : tie.Need-returns-2
 returns-2 c = λ m h. operations-explain _ m _ _ _ (seen _ m h) (c .before .before .before .before .explain-session .ensures) (c .before .before .enum-told2 .given .1) (λ ps r. c .before .explain-operations .ensures (m .projection) ps (h .projection .tables) r) (c .under-cap2 .ensures)
@@ -32,12 +14,5 @@ returns-2 c = λ m h. operations-explain _ m _ _ _ (seen _ m h) (c .before .befo
 pub explain-batch-spec : {M : Type 1} → statement M
 explain-batch-spec =
     tie.close
-    (tie.spec
-    explain-session-requires
-    enum-told
-    under-cap-requires
-    returns
-    enum-told-2
-    explain-operations-requires
-    under-cap-requires-2
-    returns-2)
+    (tie.spec (λ c κs. search needs) (λ c. search needs) (λ c κs. search needs) returns (λ c. search needs)
+    (λ c κs. search needs) (λ c κs. search needs) returns-2)

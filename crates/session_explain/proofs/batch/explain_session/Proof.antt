@@ -18,56 +18,17 @@ long-collections c = search needs
 long-pairs : (c : tie.Start) → length (c .args .context .catalog .«binding_anchors») ≡ 128
 long-pairs c = search (needs, unmapped)
 
-pair-numbers-requires : tie.Need-pair-numbers-requires
-pair-numbers-requires c κs = search needs
-
-held-requires : tie.Need-held-requires
-held-requires c κs = search needs
-
-held-requires-2 : tie.Need-held-requires-2
-held-requires-2 c κs = search needs
-
-held-requires-3 : tie.Need-held-requires-3
-held-requires-3 c κs = search needs
-
-sub-explain-checks : tie.Need-sub-explain-checks
-sub-explain-checks c = search needs
-
-part-explain-checks-start : tie.Need-part-explain-checks-start
-part-explain-checks-start c = search needs
-
 part-explain-checks-end : tie.Need-part-explain-checks-end
 part-explain-checks-end c =
     let start = c .before .before .before .before .before .before .before .before .before .before .before .before in
     let within : c .before .before .before .held .result ≤ length (start .args .context .catalog .«node_anchors») = omega (arith, c .before .before .before .held .ensures, long-nodes start) in
     within
 
-mul-explain-checks : tie.Need-mul-explain-checks
-mul-explain-checks c = search needs
-
-sub-explain-checks-2 : tie.Need-sub-explain-checks-2
-sub-explain-checks-2 c = search needs
-
-part-explain-checks-start-2 : tie.Need-part-explain-checks-start-2
-part-explain-checks-start-2 c = search needs
-
-part-explain-checks-end-2 : tie.Need-part-explain-checks-end-2
-part-explain-checks-end-2 c = search needs
-
-sub-explain-checks-3 : tie.Need-sub-explain-checks-3
-sub-explain-checks-3 c = search needs
-
-part-explain-checks-start-3 : tie.Need-part-explain-checks-start-3
-part-explain-checks-start-3 c = search needs
-
 part-explain-checks-end-3 : tie.Need-part-explain-checks-end-3
 part-explain-checks-end-3 c =
     let start = c .before .before .before .before .before .before .before .before .before .before .before .before .before .before .before .before in
     let within : c .before .before .before .before .before .held3 .result ≤ length (start .args .context .catalog .«collection_anchors») = omega (arith, c .before .before .before .before .before .held3 .ensures, long-collections start) in
     within
-
-explain-checks-requires : tie.Need-explain-checks-requires
-explain-checks-requires c κs = search needs
 
 returns : tie.Need-returns
 returns c =
@@ -78,20 +39,6 @@ returns c =
 pub explain-session-spec : {M : Type 1} → statement M
 explain-session-spec =
     tie.close
-    (tie.spec
-    pair-numbers-requires
-    held-requires
-    held-requires-2
-    held-requires-3
-    sub-explain-checks
-    part-explain-checks-start
-    part-explain-checks-end
-    mul-explain-checks
-    sub-explain-checks-2
-    part-explain-checks-start-2
-    part-explain-checks-end-2
-    sub-explain-checks-3
-    part-explain-checks-start-3
-    part-explain-checks-end-3
-    explain-checks-requires
-    returns)
+    (tie.spec (λ c κs. search needs) (λ c κs. search needs) (λ c κs. search needs) (λ c κs. search needs) (λ c. search needs)
+    (λ c. search needs) part-explain-checks-end (λ c. search needs) (λ c. search needs) (λ c. search needs) (λ c. search needs)
+    (λ c. search needs) (λ c. search needs) part-explain-checks-end-3 (λ c κs. search needs) returns)

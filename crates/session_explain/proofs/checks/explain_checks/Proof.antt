@@ -4,18 +4,6 @@ use borrow.Author.Needs.{needs}
 use Rattle.session_explain.proofs.checks.explain_checks.Statement.{statement}
 use Rattle.session_explain.proofs.checks.explain_checks.Tie as tie
 
-explain-preflight-requires : tie.Need-explain-preflight-requires
-explain-preflight-requires c κs = search needs
-
-enum-known-reason : tie.Need-enum-known-reason
-enum-known-reason c = search needs
-
-enum-told : tie.Need-enum-told
-enum-told c = search needs
-
-explain-set-requires : tie.Need-explain-set-requires
-explain-set-requires c κs = search needs
-
 returns : tie.Need-returns
 returns c = λ k lent. checks-because _ _ _ _ _ k _ _ _ (c .before .before .before .explain-preflight .ensures) (c .before .reason .given .1)
 
@@ -25,10 +13,4 @@ returns-2 c = λ k lent. checks-fine _ _ _ _ _ k _ _ _ (c .before .before .befor
 pub explain-checks-spec : {M : Type 1} → statement M
 explain-checks-spec =
     tie.close
-    (tie.spec
-    explain-preflight-requires
-    enum-known-reason
-    enum-told
-    explain-set-requires
-    returns
-    returns-2)
+    (tie.spec (λ c κs. search needs) (λ c. search needs) (λ c. search needs) (λ c κs. search needs) returns returns-2)

@@ -6,18 +6,6 @@ use borrow.Author.Needs.{needs}
 use Rattle.session_explain.proofs.checks.explain_targets.Statement.{statement}
 use Rattle.session_explain.proofs.checks.explain_targets.Tie as tie
 
-first-unknown-requires : tie.Need-first-unknown-requires
-first-unknown-requires c κs = search needs
-
-enum-told : tie.Need-enum-told
-enum-told c = search needs
-
-enum-known-patch : tie.Need-enum-known-patch
-enum-known-patch c = search needs
-
-enum-told-2 : tie.Need-enum-told-2
-enum-told-2 c = search needs
-
 returns : tie.Need-returns
 returns c = λ k ps lent r. sym (ap (targetsTo _) (c .enum-told .given .1)) ∙ ap (targetsTo _) (c .before .before .first-unknown .ensures k ps lent r) ∙ targets-are _ _
 
@@ -30,11 +18,4 @@ returns-3 c = λ k ps lent r. sym (ap (targetsTo _) (c .enum-told2 .given .1)) �
 pub explain-targets-spec : {M : Type 1} → statement M
 explain-targets-spec =
     tie.close
-    (tie.spec
-    first-unknown-requires
-    enum-told
-    enum-known-patch
-    enum-told-2
-    returns
-    returns-2
-    returns-3)
+    (tie.spec (λ c κs. search needs) (λ c. search needs) (λ c. search needs) (λ c. search needs) returns returns-2 returns-3)

@@ -6,9 +6,6 @@ use borrow.Author.Needs.{needs}
 use Rattle.session_explain.proofs.gates.explain_counts.Statement.{statement}
 use Rattle.session_explain.proofs.gates.explain_counts.Tie as tie
 
-explain-references-requires : tie.Need-explain-references-requires
-explain-references-requires c κs = search needs
-
 returns : tie.Need-returns
 unfolding explainCountsBy requireOr
 returns c = let a = c .before .before .before .before .args in rw (eq-eqb (a .envelope .«patch_count») (a .patches) (search needs), eq-eqb (a .declared) (a .references) (search needs)) (c .explain-references .ensures)
@@ -22,4 +19,5 @@ unfolding explainCountsBy requireOr
 returns-3 c = rw (ne-eqb _ _ (c .if1 .left))
 
 pub explain-counts-spec : {M : Type 1} → statement M
-explain-counts-spec = tie.close (tie.spec explain-references-requires returns returns-2 returns-3)
+explain-counts-spec =
+    tie.close (tie.spec (λ c κs. search needs) returns returns-2 returns-3)

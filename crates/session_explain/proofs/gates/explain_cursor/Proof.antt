@@ -4,18 +4,6 @@ use borrow.Author.Needs.{needs}
 use Rattle.session_explain.proofs.gates.explain_cursor.Statement.{statement}
 use Rattle.session_explain.proofs.gates.explain_cursor.Tie as tie
 
-evaluate-replay-compatibility-requires : tie.Need-evaluate-replay-compatibility-requires
-evaluate-replay-compatibility-requires c κs = search needs
-
-enum-told : tie.Need-enum-told
-enum-told c = search needs
-
-enum-told-2 : tie.Need-enum-told-2
-enum-told-2 c = search needs
-
-number-after-requires : tie.Need-number-after-requires
-number-after-requires c κs = search needs
-
 returns : tie.Need-returns
 returns c = replay-passed _ _ _ (c .before .before .evaluate-replay-compatibility .ensures) (c .enum-told .given .1)
 
@@ -25,10 +13,4 @@ returns-2 c = replay-refused _ _ _ (c .before .before .before .evaluate-replay-c
 pub explain-cursor-spec : {M : Type 1} → statement M
 explain-cursor-spec =
     tie.close
-    (tie.spec
-    evaluate-replay-compatibility-requires
-    enum-told
-    enum-told-2
-    number-after-requires
-    returns
-    returns-2)
+    (tie.spec (λ c κs. search needs) (λ c. search needs) (λ c. search needs) (λ c κs. search needs) returns returns-2)

@@ -6,22 +6,13 @@ use borrow.Author.Needs.{needs}
 use Rattle.session_explain.proofs.gates.explain_declared.Statement.{statement}
 use Rattle.session_explain.proofs.gates.explain_declared.Tie as tie
 
-over-declared-requires : tie.Need-over-declared-requires
-over-declared-requires c κs = search needs
-
 returns : tie.Need-returns
 unfolding declaredBy requireOr whichLimit
 returns c = let a = c .before .before .before .before .before .before .before .args in rw (lt-leb (a .envelope .«patch_count») (a .limits .«max_patches_per_transition») (c .before .before .before .before .if1 .taken), lt-leb (a .envelope .«stimulus_bytes») (a .limits .«max_transition_stimulus_bytes») (c .before .if2 .taken)) (c .over-declared .ensures)
 
-over-declared-requires-2 : tie.Need-over-declared-requires-2
-over-declared-requires-2 c κs = search needs
-
 returns-2 : tie.Need-returns-2
 unfolding declaredBy requireOr whichLimit
 returns-2 c = let a = c .before .before .before .before .before .before .before .args in rw (lt-leb (a .envelope .«patch_count») (a .limits .«max_patches_per_transition») (c .before .before .before .before .if1 .taken), le-leb (a .envelope .«stimulus_bytes») (a .limits .«max_transition_stimulus_bytes») (c .before .if2 .left)) (c .over-declared2 .ensures)
-
-over-declared-requires-3 : tie.Need-over-declared-requires-3
-over-declared-requires-3 c κs = search needs
 
 returns-3 : tie.Need-returns-3
 unfolding declaredBy requireOr whichLimit
@@ -34,11 +25,4 @@ returns-4 c = let a = c .before .before .before .before .before .before .args in
 pub explain-declared-spec : {M : Type 1} → statement M
 explain-declared-spec =
     tie.close
-    (tie.spec
-    over-declared-requires
-    returns
-    over-declared-requires-2
-    returns-2
-    over-declared-requires-3
-    returns-3
-    returns-4)
+    (tie.spec (λ c κs. search needs) returns (λ c κs. search needs) returns-2 (λ c κs. search needs) returns-3 returns-4)

@@ -11,15 +11,9 @@ returns : tie.Need-returns
 unfolding explainPreflightBy requireOr
 returns c = rw (ne-eqb _ _ (c .if1 .taken))
 
-is-closed-requires : tie.Need-is-closed-requires
-is-closed-requires c κs = search needs
-
 returns-2 : tie.Need-returns-2
 unfolding explainPreflightBy requireOr
 returns-2 c = let a = c .before .before .before .before .before .args in rw (eq-eqb (a .envelope .«session_id» .0) (a .id) (search needs), sym (c .before .is-closed .ensures) ∙ c .if2 .taken)
-
-explain-declared-requires : tie.Need-explain-declared-requires
-explain-declared-requires c κs = search needs
 
 returns-3 : tie.Need-returns-3
 unfolding explainPreflightBy requireOr
@@ -27,4 +21,4 @@ returns-3 c = let a = c .before .before .before .before .before .before .args in
 
 pub explain-preflight-spec : {M : Type 1} → statement M
 explain-preflight-spec =
-    tie.close (tie.spec returns is-closed-requires returns-2 explain-declared-requires returns-3)
+    tie.close (tie.spec returns (λ c κs. search needs) returns-2 (λ c κs. search needs) returns-3)

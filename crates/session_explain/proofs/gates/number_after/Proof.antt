@@ -7,18 +7,9 @@ use borrow.Author.Needs.{needs}
 use Rattle.session_explain.proofs.gates.number_after.Statement.{statement}
 use Rattle.session_explain.proofs.gates.number_after.Tie as tie
 
-enum-told : tie.Need-enum-told
-enum-told c = search needs
-
-enum-known-cursor : tie.Need-enum-known-cursor
-enum-known-cursor c = search needs
-
 returns : tie.Need-returns
 unfolding nextNumber cursorOf
 returns c = rw (c .before .before .cursor .given .1, c .if1 .taken)
-
-add-t5 : tie.Need-add-t5
-add-t5 c = search needs
 
 returns-2 : tie.Need-returns-2
 unfolding nextNumber cursorOf
@@ -30,4 +21,4 @@ returns-3 c = rw (c .before .before .cursor .given .1, lt-ltb (c .before .before
 
 pub number-after-spec : {M : Type 1} → statement M
 number-after-spec =
-    tie.close (tie.spec enum-told enum-known-cursor returns add-t5 returns-2 returns-3)
+    tie.close (tie.spec (λ c. search needs) (λ c. search needs) returns (λ c. search needs) returns-2 returns-3)

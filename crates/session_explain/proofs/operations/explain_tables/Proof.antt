@@ -6,18 +6,6 @@ use borrow.Author.Needs.{needs}
 use Rattle.session_explain.proofs.operations.explain_tables.Statement.{statement}
 use Rattle.session_explain.proofs.operations.explain_tables.Tie as tie
 
-first-refused-requires : tie.Need-first-refused-requires
-first-refused-requires c κs = search needs
-
-enum-told : tie.Need-enum-told
-enum-told c = search needs
-
-enum-known-patch : tie.Need-enum-known-patch
-enum-known-patch c = search needs
-
-enum-told-2 : tie.Need-enum-told-2
-enum-told-2 c = search needs
-
 returns : tie.Need-returns
 returns c = λ p ps st r. sym (ap operationsTo (c .enum-told .given .1)) ∙ ap operationsTo (c .before .before .first-refused .ensures p ps st r) ∙ operations-are _
 
@@ -30,11 +18,4 @@ returns-3 c = λ p ps st r. sym (ap operationsTo (c .enum-told2 .given .1)) ∙ 
 pub explain-tables-spec : {M : Type 1} → statement M
 explain-tables-spec =
     tie.close
-    (tie.spec
-    first-refused-requires
-    enum-told
-    enum-known-patch
-    enum-told-2
-    returns
-    returns-2
-    returns-3)
+    (tie.spec (λ c κs. search needs) (λ c. search needs) (λ c. search needs) (λ c. search needs) returns returns-2 returns-3)

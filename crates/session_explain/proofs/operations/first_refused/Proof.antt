@@ -44,45 +44,6 @@ room a is = is ∙ sym (length-replicate {A = ℕ} availabilityBytes 0)
 returns : tie.Need-returns
 returns c = λ p ps st e. absurd (c .if1 .taken (st .availabilities .size))
 
-slice-aggregate-plan-bindings : tie.Need-slice-aggregate-plan-bindings
-slice-aggregate-plan-bindings c = search needs
-
-plan-bindings-requires : tie.Need-plan-bindings-requires
-plan-bindings-requires c κs = search needs
-
-slice-aggregate-copy : tie.Need-slice-aggregate-copy
-slice-aggregate-copy c = search needs
-
-copy-requires : tie.Need-copy-requires
-copy-requires c κs = search needs
-
-slice-aggregate-plan-entries : tie.Need-slice-aggregate-plan-entries
-slice-aggregate-plan-entries c = search needs
-
-plan-entries-requires : tie.Need-plan-entries-requires
-plan-entries-requires c κs = search needs
-
-open-set-requires : tie.Need-open-set-requires
-open-set-requires c κs = search needs
-
-enum-known-start : tie.Need-enum-known-start
-enum-known-start c = search needs
-
-slice-aggregate-refused-from : tie.Need-slice-aggregate-refused-from
-slice-aggregate-refused-from c = search needs
-
-slice-aggregate-refused-from-2 : tie.Need-slice-aggregate-refused-from-2
-slice-aggregate-refused-from-2 c = search needs
-
-slice-aggregate-refused-from-3 : tie.Need-slice-aggregate-refused-from-3
-slice-aggregate-refused-from-3 c = search needs
-
-refused-from-requires : tie.Need-refused-from-requires
-refused-from-requires c κs = search needs
-
-enum-known-fault : tie.Need-enum-known-fault
-enum-known-fault c = search needs
-
 returns-2 : tie.Need-returns-2
 returns-2 c =
     let o = c .before .before .before .before .before .before .before .before .before .before in
@@ -100,20 +61,6 @@ returns-3 c =
 pub first-refused-spec : {M : Type 1} → statement M
 first-refused-spec =
     tie.close
-    (tie.spec
-    returns
-    slice-aggregate-plan-bindings
-    plan-bindings-requires
-    slice-aggregate-copy
-    copy-requires
-    slice-aggregate-plan-entries
-    plan-entries-requires
-    open-set-requires
-    enum-known-start
-    slice-aggregate-refused-from
-    slice-aggregate-refused-from-2
-    slice-aggregate-refused-from-3
-    refused-from-requires
-    enum-known-fault
-    returns-2
-    returns-3)
+    (tie.spec returns (λ c. search needs) (λ c κs. search needs) (λ c. search needs) (λ c κs. search needs) (λ c. search needs)
+    (λ c κs. search needs) (λ c κs. search needs) (λ c. search needs) (λ c. search needs) (λ c. search needs)
+    (λ c. search needs) (λ c κs. search needs) (λ c. search needs) returns-2 returns-3)

@@ -7,26 +7,8 @@ use borrow.Author.Needs.{needs}
 use Rattle.session_explain.proofs.rules.insert_rule.Statement.{statement}
 use Rattle.session_explain.proofs.rules.insert_rule.Tie as tie
 
-find-entry-requires : tie.Need-find-entry-requires
-find-entry-requires c κs = search needs
-
-enum-told : tie.Need-enum-told
-enum-told c = search needs
-
 returns : tie.Need-returns
 returns c = λ p w s v. insert-present p _ _ _ w _ (sym (c .before .before .find-entry .ensures .0 plannedEntryRow planned-keyed (p .entries) (v .fitEntries) (v .entries) (s .rows)) ∙ c .enum-told .given .1)
-
-enum-told-2 : tie.Need-enum-told-2
-enum-told-2 c = search needs
-
-place-before-requires : tie.Need-place-before-requires
-place-before-requires c κs = search needs
-
-enum-told-3 : tie.Need-enum-told-3
-enum-told-3 c = search needs
-
-enum-told-4 : tie.Need-enum-told-4
-enum-told-4 c = search needs
 
 returns-2 : tie.Need-returns-2
 returns-2 c = λ p w s v. insert-full p _ _ _ w (sym (c .before .before .before .before .before .find-entry .ensures .0 plannedEntryRow planned-keyed (p .entries) (v .fitEntries) (v .entries) (s .rows)) ∙ c .before .before .before .enum-told2 .given .1) _ (sym (c .before .before .place-before .ensures .0 (p .entries) (v .fitEntries) (v .entries) (s .rows)) ∙ c .enum-told3 .given .1)
@@ -37,13 +19,5 @@ returns-3 c = λ p w s v. insert-no-neighbour p _ _ _ w (sym (c .before .before 
 pub insert-rule-spec : {M : Type 1} → statement M
 insert-rule-spec =
     tie.close
-    (tie.spec
-    find-entry-requires
-    enum-told
-    returns
-    enum-told-2
-    place-before-requires
-    enum-told-3
-    enum-told-4
-    returns-2
-    returns-3)
+    (tie.spec (λ c κs. search needs) (λ c. search needs) returns (λ c. search needs) (λ c κs. search needs) (λ c. search needs)
+    (λ c. search needs) returns-2 returns-3)

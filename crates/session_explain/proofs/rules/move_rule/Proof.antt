@@ -7,15 +7,6 @@ use borrow.Author.Needs.{needs}
 use Rattle.session_explain.proofs.rules.move_rule.Statement.{statement}
 use Rattle.session_explain.proofs.rules.move_rule.Tie as tie
 
-find-entry-requires : tie.Need-find-entry-requires
-find-entry-requires c κs = search needs
-
-enum-told : tie.Need-enum-told
-enum-told c = search needs
-
-enum-told-2 : tie.Need-enum-told-2
-enum-told-2 c = search needs
-
 returns : tie.Need-returns
 returns c = λ p s v. move-no-neighbour p _ _ _ _ (sym (c .before .before .find-entry .ensures .0 plannedEntryRow planned-keyed (p .entries) (v .fitEntries) (v .entries) (s .rows)) ∙ c .enum-told .given .1)
 
@@ -23,4 +14,5 @@ returns-2 : tie.Need-returns-2
 returns-2 c = λ p s v. move-absent p _ _ _ (sym (c .before .before .find-entry .ensures .0 plannedEntryRow planned-keyed (p .entries) (v .fitEntries) (v .entries) (s .rows)) ∙ c .enum-told2 .given .1)
 
 pub move-rule-spec : {M : Type 1} → statement M
-move-rule-spec = tie.close (tie.spec find-entry-requires enum-told enum-told-2 returns returns-2)
+move-rule-spec =
+    tie.close (tie.spec (λ c κs. search needs) (λ c. search needs) (λ c. search needs) returns returns-2)

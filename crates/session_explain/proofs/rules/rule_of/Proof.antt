@@ -8,42 +8,6 @@ use borrow.Author.Needs.{needs}
 use Rattle.session_explain.proofs.rules.rule_of.Statement.{statement}
 use Rattle.session_explain.proofs.rules.rule_of.Tie as tie
 
-enum-told : tie.Need-enum-told
-enum-told c = search needs
-
-enum-told-2 : tie.Need-enum-told-2
-enum-told-2 c = search needs
-
-enum-known-operation : tie.Need-enum-known-operation
-enum-known-operation c = search needs
-
-raw-requires : tie.Need-raw-requires
-raw-requires c κs = search needs
-
-raw-requires-2 : tie.Need-raw-requires-2
-raw-requires-2 c κs = search needs
-
-insert-rule-requires : tie.Need-insert-rule-requires
-insert-rule-requires c κs = search needs
-
-enum-told-3 : tie.Need-enum-told-3
-enum-told-3 c = search needs
-
-enum-told-4 : tie.Need-enum-told-4
-enum-told-4 c = search needs
-
-enum-known-operation-2 : tie.Need-enum-known-operation-2
-enum-known-operation-2 c = search needs
-
-raw-requires-3 : tie.Need-raw-requires-3
-raw-requires-3 c κs = search needs
-
-raw-requires-4 : tie.Need-raw-requires-4
-raw-requires-4 c κs = search needs
-
-move-rule-requires : tie.Need-move-rule-requires
-move-rule-requires c κs = search needs
-
 returns : tie.Need-returns
 unfolding ruleOf
 returns c = λ p texts s v. sym (ap (λ o. operationRuleTo (ruleOf p (operationOf texts o))) (c .enum-told .given .1))
@@ -69,22 +33,6 @@ returns-6 c = λ p texts s v. move-told p texts (c .before .before .raw3 .ensure
 pub rule-of-spec : {M : Type 1} → statement M
 rule-of-spec =
     tie.close
-    (tie.spec
-    enum-told
-    enum-told-2
-    enum-known-operation
-    raw-requires
-    raw-requires-2
-    insert-rule-requires
-    enum-told-3
-    enum-told-4
-    enum-known-operation-2
-    raw-requires-3
-    raw-requires-4
-    move-rule-requires
-    returns
-    returns-2
-    returns-3
-    returns-4
-    returns-5
-    returns-6)
+    (tie.spec (λ c. search needs) (λ c. search needs) (λ c. search needs) (λ c κs. search needs) (λ c κs. search needs)
+    (λ c κs. search needs) (λ c. search needs) (λ c. search needs) (λ c. search needs) (λ c κs. search needs)
+    (λ c κs. search needs) (λ c κs. search needs) returns returns-2 returns-3 returns-4 returns-5 returns-6)

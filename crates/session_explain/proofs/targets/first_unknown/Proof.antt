@@ -19,18 +19,6 @@ edition o = editionOf (o .before .before .before .before .before .args .edition)
 all-bytes : (o : tie.After-open-set) → Bytes (set o)
 all-bytes o = bytes-of (set o) (λ j. o .before .before .before .before .shared-slice-known .given j .fits)
 
-open-set-requires : tie.Need-open-set-requires
-open-set-requires c κs = search needs
-
-enum-known-start : tie.Need-enum-known-start
-enum-known-start c = search needs
-
-unknown-from-requires : tie.Need-unknown-from-requires
-unknown-from-requires c κs = search needs
-
-enum-known-fault : tie.Need-enum-known-fault
-enum-known-fault c = search needs
-
 returns : tie.Need-returns
 returns c =
     let o = c .before .before .before .before in
@@ -44,10 +32,4 @@ returns-2 c =
 pub first-unknown-spec : {M : Type 1} → statement M
 first-unknown-spec =
     tie.close
-    (tie.spec
-    open-set-requires
-    enum-known-start
-    unknown-from-requires
-    enum-known-fault
-    returns
-    returns-2)
+    (tie.spec (λ c κs. search needs) (λ c. search needs) (λ c κs. search needs) (λ c. search needs) returns returns-2)

@@ -10,12 +10,6 @@ use borrow.Author.Needs.{needs}
 use Rattle.session_explain.proofs.targets.target_known.Statement.{statement}
 use Rattle.session_explain.proofs.targets.target_known.Tie as tie
 
-mutation-target-requires : tie.Need-mutation-target-requires
-mutation-target-requires c κs = search needs
-
-one-if-absent-requires : tie.Need-one-if-absent-requires
-one-if-absent-requires c κs = search needs
-
 returns : tie.Need-returns
 returns c =
     let a = c .before .before .before .before .before .args in
@@ -25,4 +19,5 @@ returns c =
     ∙ known-is k (a .nodes .now) (a .bindings .now) (a .collections .now) lent (operationOf texts (a .operation))
 
 pub target-known-spec : {M : Type 1} → statement M
-target-known-spec = tie.close (tie.spec mutation-target-requires one-if-absent-requires returns)
+target-known-spec =
+    tie.close (tie.spec (λ c κs. search needs) (λ c κs. search needs) returns)

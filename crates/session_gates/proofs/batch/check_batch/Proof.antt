@@ -6,21 +6,6 @@ use borrow.Author.Needs.{needs}
 use Rattle.session_gates.proofs.batch.check_batch.Statement.{statement}
 use Rattle.session_gates.proofs.batch.check_batch.Tie as tie
 
-evaluate-preflight-requires : tie.Need-evaluate-preflight-requires
-evaluate-preflight-requires c κs = search needs
-
-enum-known-refusal : tie.Need-enum-known-refusal
-enum-known-refusal c = search needs
-
-enum-told : tie.Need-enum-told
-enum-told c = search needs
-
-inspect-set-requires : tie.Need-inspect-set-requires
-inspect-set-requires c κs = search needs
-
-check-inspection-requires : tie.Need-check-inspection-requires
-check-inspection-requires c κs = search needs
-
 returns : tie.Need-returns
 unfolding gateOf
 returns c = preflight-refused _ _ _ _ _ _ _ _ _ _ _ _ (ap gateOf (sym (c .before .refusal .given .1)) ∙ c .before .before .before .evaluate-preflight .ensures)
@@ -33,11 +18,5 @@ returns-2 c =
 pub check-batch-spec : {M : Type 1} → statement M
 check-batch-spec =
     tie.close
-    (tie.spec
-    evaluate-preflight-requires
-    enum-known-refusal
-    enum-told
-    inspect-set-requires
-    check-inspection-requires
-    returns
-    returns-2)
+    (tie.spec (λ c κs. search needs) (λ c. search needs) (λ c. search needs) (λ c κs. search needs) (λ c κs. search needs)
+    returns returns-2)

@@ -7,30 +7,6 @@ use borrow.Author.Needs.{needs}
 use Rattle.session_gates.proofs.batch.check_inspection.Statement.{statement}
 use Rattle.session_gates.proofs.batch.check_inspection.Tie as tie
 
-enum-known-inspected : tie.Need-enum-known-inspected
-enum-known-inspected c = search needs
-
-refusal-of-requires : tie.Need-refusal-of-requires
-refusal-of-requires c κs = search needs
-
-enum-told : tie.Need-enum-told
-enum-told c = search needs
-
-enum-known-inspected-2 : tie.Need-enum-known-inspected-2
-enum-known-inspected-2 c = search needs
-
-evaluate-counts-requires : tie.Need-evaluate-counts-requires
-evaluate-counts-requires c κs = search needs
-
-enum-known-refusal : tie.Need-enum-known-refusal
-enum-known-refusal c = search needs
-
-enum-told-2 : tie.Need-enum-told-2
-enum-told-2 c = search needs
-
-check-targets-requires : tie.Need-check-targets-requires
-check-targets-requires c κs = search needs
-
 returns : tie.Need-returns
 unfolding gateOf inspectionBy
 returns c = rw (c .before .before .inspected .given .1) (ap (λ r. refuse r 1) (c .refusal-of .ensures))
@@ -54,16 +30,5 @@ returns-4 c =
 pub check-inspection-spec : {M : Type 1} → statement M
 check-inspection-spec =
     tie.close
-    (tie.spec
-    enum-known-inspected
-    refusal-of-requires
-    enum-told
-    enum-known-inspected-2
-    evaluate-counts-requires
-    enum-known-refusal
-    enum-told-2
-    check-targets-requires
-    returns
-    returns-2
-    returns-3
-    returns-4)
+    (tie.spec (λ c. search needs) (λ c κs. search needs) (λ c. search needs) (λ c. search needs) (λ c κs. search needs)
+    (λ c. search needs) (λ c. search needs) (λ c κs. search needs) returns returns-2 returns-3 returns-4)

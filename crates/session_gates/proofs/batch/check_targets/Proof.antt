@@ -12,12 +12,10 @@ returns : tie.Need-returns
 unfolding gateOf targetsBy knownTargets
 returns c = rw (ne-eqb (c .before .args .absent) 0 (λ z. omega arith))
 
-evaluate-replay-compatibility-requires : tie.Need-evaluate-replay-compatibility-requires
-evaluate-replay-compatibility-requires c κs = search needs
-
 returns-2 : tie.Need-returns-2
 unfolding targetsBy knownTargets
 returns-2 c = c .evaluate-replay-compatibility .ensures ∙ rw (eq-eqb (c .before .before .args .absent) 0 (omega arith))
 
 pub check-targets-spec : {M : Type 1} → statement M
-check-targets-spec = tie.close (tie.spec returns evaluate-replay-compatibility-requires returns-2)
+check-targets-spec =
+    tie.close (tie.spec returns (λ c κs. search needs) returns-2)

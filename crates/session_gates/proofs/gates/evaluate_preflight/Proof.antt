@@ -12,9 +12,6 @@ returns : tie.Need-returns
 unfolding gateOf preflightBy require
 returns c = rw (ne-eqb _ _ (c .if1 .taken))
 
-is-closed-requires : tie.Need-is-closed-requires
-is-closed-requires c κs = search needs
-
 returns-2 : tie.Need-returns-2
 unfolding gateOf preflightBy require
 returns-2 c = let a = c .before .before .before .before .before .args in rw (eq-eqb (a .envelope .«session_id» .0) (a .id) (search needs), sym (c .before .is-closed .ensures) ∙ c .if2 .taken)
@@ -33,4 +30,4 @@ returns-5 c = let a = c .before .before .before .before .before .before .before 
 
 pub evaluate-preflight-spec : {M : Type 1} → statement M
 evaluate-preflight-spec =
-    tie.close (tie.spec returns is-closed-requires returns-2 returns-3 returns-4 returns-5)
+    tie.close (tie.spec returns (λ c κs. search needs) returns-2 returns-3 returns-4 returns-5)

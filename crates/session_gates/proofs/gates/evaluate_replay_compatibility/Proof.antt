@@ -12,9 +12,6 @@ returns : tie.Need-returns
 unfolding gateOf replayBy require
 returns c = rw (eq-eqb _ 0 (c .if1 .taken))
 
-takes-number-requires : tie.Need-takes-number-requires
-takes-number-requires c κs = search needs
-
 returns-2 : tie.Need-returns-2
 unfolding gateOf replayBy require
 returns-2 c = rw (ne-eqb _ 0 (c .before .before .if1 .left), sym (c .before .takes-number .ensures) ∙ c .if2 .taken)
@@ -25,4 +22,4 @@ returns-3 c = rw (ne-eqb _ 0 (c .before .before .if1 .left), sym (c .before .tak
 
 pub evaluate-replay-compatibility-spec : {M : Type 1} → statement M
 evaluate-replay-compatibility-spec =
-    tie.close (tie.spec returns takes-number-requires returns-2 returns-3)
+    tie.close (tie.spec returns (λ c κs. search needs) returns-2 returns-3)

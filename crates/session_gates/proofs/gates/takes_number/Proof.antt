@@ -8,18 +8,9 @@ use borrow.Author.Needs.{needs}
 use Rattle.session_gates.proofs.gates.takes_number.Statement.{statement}
 use Rattle.session_gates.proofs.gates.takes_number.Tie as tie
 
-enum-told : tie.Need-enum-told
-enum-told c = search needs
-
-enum-known-cursor : tie.Need-enum-known-cursor
-enum-known-cursor c = search needs
-
 returns : tie.Need-returns
 unfolding takesNumber cursorOf
 returns c = rw (c .before .before .cursor .given .1, c .if1 .taken)
-
-add-result : tie.Need-add-result
-add-result c = search needs
 
 returns-2 : tie.Need-returns-2
 unfolding takesNumber cursorOf
@@ -31,4 +22,4 @@ returns-3 c = rw (c .before .before .cursor .given .1, lt-ltb (c .before .before
 
 pub takes-number-spec : {M : Type 1} → statement M
 takes-number-spec =
-    tie.close (tie.spec enum-told enum-known-cursor returns add-result returns-2 returns-3)
+    tie.close (tie.spec (λ c. search needs) (λ c. search needs) returns (λ c. search needs) returns-2 returns-3)

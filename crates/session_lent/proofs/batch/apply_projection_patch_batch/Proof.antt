@@ -17,38 +17,17 @@ second x y z w h = and-left y (z && w) (and-right x (y && (z && w)) h)
 third : (x y z w : Bool) → (x && (y && (z && w))) ≡ true → z ≡ true
 third x y z w h = and-left z w (and-right y (z && w) (and-right x (y && (z && w)) h))
 
-memory-shaped-requires : tie.Need-memory-shaped-requires
-memory-shaped-requires c κs = search needs
-
 apply-shaped-requires : tie.Need-apply-shaped-requires
 apply-shaped-requires c κs =
     let a = c .before .before .before .before .before .before .before .before .before .before .before .before .before .before .before .before .before .before .before .before .before .args in
     let shaped = sym (c .before .before .before .before .before .before .memory-shaped .ensures) ∙ c .before .before .before .before .before .if1 .taken in
     (half-head (a .head .now) _ _ _ (second (anchorsShaped (length (a .nodes .now)) (length (a .pairs .now)) (length (a .collections .now))) (halfShaped (a .head .now) (length (a .bindings .now)) (length (a .availability .now)) (length (a .entries .now))) (halfShaped (a .to-head .now) (length (a .to-bindings .now)) (length (a .to-availability .now)) (length (a .to-entries .now))) (eqb (length (a .to-lengths .now)) lengthBytes) shaped), half-head (a .to-head .now) _ _ _ (third (anchorsShaped (length (a .nodes .now)) (length (a .pairs .now)) (length (a .collections .now))) (halfShaped (a .head .now) (length (a .bindings .now)) (length (a .availability .now)) (length (a .entries .now))) (halfShaped (a .to-head .now) (length (a .to-bindings .now)) (length (a .to-availability .now)) (length (a .to-entries .now))) (eqb (length (a .to-lengths .now)) lengthBytes) shaped))
 
-same-length : tie.Need-same-length
-same-length c = search needs
-
-same-length-2 : tie.Need-same-length-2
-same-length-2 c = search needs
-
-same-length-3 : tie.Need-same-length-3
-same-length-3 c = search needs
-
-same-length-4 : tie.Need-same-length-4
-same-length-4 c = search needs
-
-same-length-5 : tie.Need-same-length-5
-same-length-5 c = search needs
-
 returns : tie.Need-returns
 returns c =
     let call = c .before .before .before .before .before .before .before .before .before .before .apply-shaped in
     let shaped = sym (c .before .before .before .before .before .before .before .before .before .before .before .before .before .before .before .before .before .memory-shaped .ensures) ∙ c .before .before .before .before .before .before .before .before .before .before .before .before .before .before .before .before .if1 .taken in
     record { answered = λ yes. (call .result, (refl, call .ensures)); refused = λ no. absurd (false≢true (sym no ∙ shaped)) }
-
-same-length-6 : tie.Need-same-length-6
-same-length-6 c = search needs
 
 returns-2 : tie.Need-returns-2
 returns-2 c =
@@ -58,14 +37,5 @@ returns-2 c =
 pub apply-projection-patch-batch-spec : {M : Type 1} → statement M
 apply-projection-patch-batch-spec =
     tie.close
-    (tie.spec
-    memory-shaped-requires
-    apply-shaped-requires
-    same-length
-    same-length-2
-    same-length-3
-    same-length-4
-    same-length-5
-    returns
-    same-length-6
-    returns-2)
+    (tie.spec (λ c κs. search needs) apply-shaped-requires (λ c. search needs) (λ c. search needs) (λ c. search needs)
+    (λ c. search needs) (λ c. search needs) returns (λ c. search needs) returns-2)

@@ -22,21 +22,6 @@ use Rattle.session_steps.proofs.answers.rejected.Reads as rejected-reads
 use Rattle.session_steps.proofs.answers.unchanged.Reads as unchanged-reads
 use Rattle.session_steps.proofs.checks.is_empty.Reads as is-empty-reads
 
-limits-in-requires : tie.Need-limits-in-requires
-limits-in-requires c κs = search needs
-
-state-in-requires : tie.Need-state-in-requires
-state-in-requires c κs = search needs
-
-check-batch-requires : tie.Need-check-batch-requires
-check-batch-requires c κs = search needs
-
-enum-known-gate : tie.Need-enum-known-gate
-enum-known-gate c = search needs
-
-rejected-requires : tie.Need-rejected-requires
-rejected-requires c κs = search needs
-
 returns : tie.Need-returns
 unfolding gateOf checkCounted
 returns c =
@@ -52,15 +37,6 @@ returns c =
       row = row-told (a .head .now) (a .nodes .now) (a .pairs .now) (a .collections .now) (a .bindings .now) (a .availability .now) (a .entries .now) (limits .result) (state .result) (limits .ensures) (state .ensures) _ _ (rejectedRow _ _ (ap checkCounted gate ∙ checked .1 .0) answer);
       preflight = preflight-told (a .head .now) (a .nodes .now) (a .pairs .now) (a .collections .now) (a .bindings .now) (a .availability .now) (a .entries .now) (limits .result) (state .result) (limits .ensures) (state .ensures) _ _ (λ f n h. answer ∙ same-rejection _ _ (gate ∙ checked .1 .1 f n h));
     }
-
-enum-told : tie.Need-enum-told
-enum-told c = search needs
-
-is-empty-requires : tie.Need-is-empty-requires
-is-empty-requires c κs = search needs
-
-unchanged-requires : tie.Need-unchanged-requires
-unchanged-requires c κs = search needs
 
 returns-2 : tie.Need-returns-2
 unfolding gateOf
@@ -81,24 +57,6 @@ returns-2 c =
 
 commit-requires : tie.Need-commit-requires
 commit-requires c κs = c .before .before .before .before .before .before .before .before .before .before .before .before .before .before .before .before .before .before .before .before .before .before .before .before .before .before .pre
-
-concluded-requires : tie.Need-concluded-requires
-concluded-requires c κs = search needs
-
-same-length : tie.Need-same-length
-same-length c = search needs
-
-same-length-2 : tie.Need-same-length-2
-same-length-2 c = search needs
-
-same-length-3 : tie.Need-same-length-3
-same-length-3 c = search needs
-
-same-length-4 : tie.Need-same-length-4
-same-length-4 c = search needs
-
-same-length-5 : tie.Need-same-length-5
-same-length-5 c = search needs
 
 returns-3 : tie.Need-returns-3
 unfolding gateOf candidate
@@ -121,22 +79,6 @@ returns-3 c =
 pub apply-shaped-spec : {M : Type 1} → statement M
 apply-shaped-spec =
     tie.close
-    (tie.spec
-    limits-in-requires
-    state-in-requires
-    check-batch-requires
-    enum-known-gate
-    rejected-requires
-    returns
-    enum-told
-    is-empty-requires
-    unchanged-requires
-    returns-2
-    commit-requires
-    concluded-requires
-    same-length
-    same-length-2
-    same-length-3
-    same-length-4
-    same-length-5
-    returns-3)
+    (tie.spec (λ c κs. search needs) (λ c κs. search needs) (λ c κs. search needs) (λ c. search needs) (λ c κs. search needs)
+    returns (λ c. search needs) (λ c κs. search needs) (λ c κs. search needs) returns-2 commit-requires (λ c κs. search needs)
+    (λ c. search needs) (λ c. search needs) (λ c. search needs) (λ c. search needs) (λ c. search needs) returns-3)

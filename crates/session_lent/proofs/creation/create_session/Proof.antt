@@ -14,41 +14,8 @@ use Rattle.session_lent.proofs.creation.room_shaped.Reads as room-shape
 use Rattle.session_lent.proofs.head.store_new.Reads as store-new-reads
 use Rattle.session_lent.proofs.shape.anchors_shaped.Reads as anchors-shaped-reads
 
-room-shaped-requires : tie.Need-room-shaped-requires
-room-shaped-requires c κs = search needs
-
-anchors-shaped-requires : tie.Need-anchors-shaped-requires
-anchors-shaped-requires c κs = search needs
-
 store-new-requires : tie.Need-store-new-requires
 store-new-requires c κs = room-head _ _ _ _ _ _ (sym (c .before .before .before .before .room-shaped .ensures) ∙ c .before .before .before .if1 .taken)
-
-clear-requires : tie.Need-clear-requires
-clear-requires c κs = search needs
-
-clear-requires-2 : tie.Need-clear-requires-2
-clear-requires-2 c κs = search needs
-
-clear-requires-3 : tie.Need-clear-requires-3
-clear-requires-3 c κs = search needs
-
-clear-requires-4 : tie.Need-clear-requires-4
-clear-requires-4 c κs = search needs
-
-same-length : tie.Need-same-length
-same-length c = search needs
-
-same-length-2 : tie.Need-same-length-2
-same-length-2 c = search needs
-
-same-length-3 : tie.Need-same-length-3
-same-length-3 c = search needs
-
-same-length-4 : tie.Need-same-length-4
-same-length-4 c = search needs
-
-same-length-5 : tie.Need-same-length-5
-same-length-5 c = search needs
 
 returns : tie.Need-returns
 returns c =
@@ -78,19 +45,6 @@ returns-3 c =
 pub create-session-spec : {M : Type 1} → statement M
 create-session-spec =
     tie.close
-    (tie.spec
-    room-shaped-requires
-    anchors-shaped-requires
-    store-new-requires
-    clear-requires
-    clear-requires-2
-    clear-requires-3
-    clear-requires-4
-    same-length
-    same-length-2
-    same-length-3
-    same-length-4
-    same-length-5
-    returns
-    returns-2
-    returns-3)
+    (tie.spec (λ c κs. search needs) (λ c κs. search needs) store-new-requires (λ c κs. search needs) (λ c κs. search needs)
+    (λ c κs. search needs) (λ c κs. search needs) (λ c. search needs) (λ c. search needs) (λ c. search needs)
+    (λ c. search needs) (λ c. search needs) returns returns-2 returns-3)

@@ -24,9 +24,6 @@ returns-3 : tie.Need-returns-3
 unfolding roomShaped
 returns-3 c = let a = c .before .before .before .args in rw (eq-eqb (a .head) headNumbers (c .before .before .if1 .left), eq-eqb (a .pairs % 2) 0 (c .before .if2 .left), ne-eqb (a .lengths) lengthBytes (c .if3 .taken)) refl
 
-tables-fit-requires : tie.Need-tables-fit-requires
-tables-fit-requires c κs = search needs
-
 returns-4 : tie.Need-returns-4
 unfolding roomShaped
 returns-4 c =
@@ -35,4 +32,5 @@ returns-4 c =
     ∙ sym (rw (eq-eqb (a .head) headNumbers (c .before .before .before .if1 .left), eq-eqb (a .pairs % 2) 0 (c .before .before .if2 .left), eq-eqb (a .lengths) lengthBytes (c .before .if3 .left)) refl)
 
 pub room-shaped-spec : {M : Type 1} → statement M
-room-shaped-spec = tie.close (tie.spec returns returns-2 returns-3 tables-fit-requires returns-4)
+room-shaped-spec =
+    tie.close (tie.spec returns returns-2 returns-3 (λ c κs. search needs) returns-4)

@@ -8,35 +8,11 @@ use Rattle.session_lent.proofs.head.state_in.Lts as lts
 use Rattle.session_lent.proofs.head.cursor_of.Reads as cursor-of-reads
 use Rattle.session_lent.proofs.head.lifecycle_of.Reads as lifecycle-of-reads
 
-shared-slice-read-id : tie.Need-shared-slice-read-id
-shared-slice-read-id c = search needs
-
-shared-slice-read-lifecycle-of : tie.Need-shared-slice-read-lifecycle-of
-shared-slice-read-lifecycle-of c = search needs
-
-lifecycle-of-requires : tie.Need-lifecycle-of-requires
-lifecycle-of-requires c κs = search needs
-
-shared-slice-read-cursor-of : tie.Need-shared-slice-read-cursor-of
-shared-slice-read-cursor-of c = search needs
-
-shared-slice-read-cursor-of-2 : tie.Need-shared-slice-read-cursor-of-2
-shared-slice-read-cursor-of-2 c = search needs
-
-cursor-of-requires : tie.Need-cursor-of-requires
-cursor-of-requires c κs = search needs
-
 returns : tie.Need-returns
 returns c = λ i. record { id = getD (c .before .before .before .before .before .before .before .args .head .now) 0 0; lifecycle = c .before .before .before .lifecycle-of .ensures i; cursor = c .cursor-of .ensures i }
 
 pub state-in-spec : {M : Type 1} → statement M
 state-in-spec =
     tie.close
-    (tie.spec
-    shared-slice-read-id
-    shared-slice-read-lifecycle-of
-    lifecycle-of-requires
-    shared-slice-read-cursor-of
-    shared-slice-read-cursor-of-2
-    cursor-of-requires
-    returns)
+    (tie.spec (λ c. search needs) (λ c. search needs) (λ c κs. search needs) (λ c. search needs) (λ c. search needs)
+    (λ c κs. search needs) returns)

@@ -8,18 +8,6 @@ use Rattle.session_lent.proofs.head.store_new.Tie as tie
 use Rattle.session_lent.proofs.head.store_new.Reads as reads
 use Rattle.session_lent.proofs.head.store_new.Lts as lts
 
-slice-write-head : tie.Need-slice-write-head
-slice-write-head c = search needs
-
-slice-write-head-2 : tie.Need-slice-write-head-2
-slice-write-head-2 c = search needs
-
-slice-write-head-3 : tie.Need-slice-write-head-3
-slice-write-head-3 c = search needs
-
-slice-write-head-4 : tie.Need-slice-write-head-4
-slice-write-head-4 c = search needs
-
 slice-write-head-5 : tie.Need-slice-write-head-5
 slice-write-head-5 c = simp length-set (omega arith)
 
@@ -41,26 +29,12 @@ slice-write-head-10 c = simp length-set (omega arith)
 slice-write-head-11 : tie.Need-slice-write-head-11
 slice-write-head-11 c = simp length-set (omega arith)
 
-same-length : tie.Need-same-length
-same-length c = search needs
-
 returns : tie.Need-returns
 returns c = all-written (c .args .head .now) _ _ _ _ _ _ _ _ _ _ _ (c .pre)
 
 pub store-new-spec : {M : Type 1} → statement M
 store-new-spec =
     tie.close
-    (tie.spec
-    slice-write-head
-    slice-write-head-2
-    slice-write-head-3
-    slice-write-head-4
-    slice-write-head-5
-    slice-write-head-6
-    slice-write-head-7
-    slice-write-head-8
-    slice-write-head-9
-    slice-write-head-10
-    slice-write-head-11
-    same-length
-    returns)
+    (tie.spec (λ c. search needs) (λ c. search needs) (λ c. search needs) (λ c. search needs) slice-write-head-5
+    slice-write-head-6 slice-write-head-7 slice-write-head-8 slice-write-head-9 slice-write-head-10 slice-write-head-11
+    (λ c. search needs) returns)

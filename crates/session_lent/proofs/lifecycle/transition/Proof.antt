@@ -34,27 +34,6 @@ other h Rejected n k = refl
 returns : tie.Need-returns
 returns c = record { answered = λ long. absurd (c .if1 .taken long); refused = λ no. (refl, refl) }
 
-limits-in-requires : tie.Need-limits-in-requires
-limits-in-requires c κs = search needs
-
-state-in-requires : tie.Need-state-in-requires
-state-in-requires c κs = search needs
-
-evaluate-lifecycle-transition-requires : tie.Need-evaluate-lifecycle-transition-requires
-evaluate-lifecycle-transition-requires c κs = search needs
-
-enum-told : tie.Need-enum-told
-enum-told c = search needs
-
-lifecycle-number-requires : tie.Need-lifecycle-number-requires
-lifecycle-number-requires c κs = search needs
-
-slice-write-head : tie.Need-slice-write-head
-slice-write-head c = search needs
-
-same-length : tie.Need-same-length
-same-length c = search needs
-
 returns-2 : tie.Need-returns-2
 returns-2 c =
     let a = c .before .before .before .before .before .before .before .before .before .before .before .args in
@@ -68,9 +47,6 @@ returns-2 c =
       };
       refused = λ no. absurd (no (c .before .before .before .before .before .before .before .before .before .if1 .left));
     }
-
-same-length-2 : tie.Need-same-length-2
-same-length-2 c = search needs
 
 returns-3 : tie.Need-returns-3
 returns-3 c =
@@ -89,15 +65,5 @@ returns-3 c =
 pub transition-spec : {M : Type 1} → statement M
 transition-spec =
     tie.close
-    (tie.spec
-    returns
-    limits-in-requires
-    state-in-requires
-    evaluate-lifecycle-transition-requires
-    enum-told
-    lifecycle-number-requires
-    slice-write-head
-    same-length
-    returns-2
-    same-length-2
-    returns-3)
+    (tie.spec returns (λ c κs. search needs) (λ c κs. search needs) (λ c κs. search needs) (λ c. search needs)
+    (λ c κs. search needs) (λ c. search needs) (λ c. search needs) returns-2 (λ c. search needs) returns-3)

@@ -14,9 +14,6 @@ returns : tie.Need-returns
 unfolding anchorsShaped
 returns c = rw (lt-leb _ anchors (c .if1 .taken)) refl
 
-mul-if2 : tie.Need-mul-if2
-mul-if2 c = search needs
-
 returns-2 : tie.Need-returns-2
 unfolding anchorsShaped
 returns-2 c = let a = c .before .before .args in rw (le-leb (a .nodes) anchors (c .before .if1 .left), lt-leb (a .pairs) (2 * anchors) (c .if2 .taken)) refl
@@ -30,4 +27,5 @@ unfolding anchorsShaped
 returns-4 c = let a = c .before .before .before .args in rw (le-leb (a .nodes) anchors (c .before .before .if1 .left), le-leb (a .pairs) (2 * anchors) (c .before .if2 .left), eq-eqb (a .pairs % 2) 0 (c .if3 .left)) refl
 
 pub anchors-shaped-spec : {M : Type 1} → statement M
-anchors-shaped-spec = tie.close (tie.spec returns mul-if2 returns-2 returns-3 returns-4)
+anchors-shaped-spec =
+    tie.close (tie.spec returns (λ c. search needs) returns-2 returns-3 returns-4)

@@ -17,15 +17,6 @@ returns : tie.Need-returns
 unfolding halfShaped
 returns c = rw (ne-eqb _ headNumbers (c .if1 .taken)) refl
 
-tables-fit-requires : tie.Need-tables-fit-requires
-tables-fit-requires c κs = search needs
-
-counts-in-requires : tie.Need-counts-in-requires
-counts-in-requires c κs = search needs
-
-counts-fit-requires : tie.Need-counts-fit-requires
-counts-fit-requires c κs = search needs
-
 returns-2 : tie.Need-returns-2
 unfolding halfShaped
 returns-2 c = c .counts-fit .ensures ∙ ap changeCountsFit (c .before .counts-in .ensures) ∙ sym (rw (eq-eqb _ headNumbers (c .before .before .before .before .if1 .left), sym (c .before .before .before .tables-fit .ensures) ∙ c .before .before .if2 .taken) refl)
@@ -36,11 +27,4 @@ returns-3 c = sym (rw (eq-eqb _ headNumbers (c .before .before .if1 .left), sym 
 
 pub half-shaped-spec : {M : Type 1} → statement M
 half-shaped-spec =
-    tie.close
-    (tie.spec
-    returns
-    tables-fit-requires
-    counts-in-requires
-    counts-fit-requires
-    returns-2
-    returns-3)
+    tie.close (tie.spec returns (λ c κs. search needs) (λ c κs. search needs) (λ c κs. search needs) returns-2 returns-3)

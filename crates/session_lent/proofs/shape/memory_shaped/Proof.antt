@@ -8,15 +8,6 @@ use Rattle.session_lent.proofs.shape.memory_shaped.Lts as lts
 use Rattle.session_lent.proofs.shape.anchors_shaped.Reads as anchors-shaped-reads
 use Rattle.session_lent.proofs.shape.half_shaped.Reads as half-shaped-reads
 
-anchors-shaped-requires : tie.Need-anchors-shaped-requires
-anchors-shaped-requires c κs = search needs
-
-half-shaped-requires : tie.Need-half-shaped-requires
-half-shaped-requires c κs = search needs
-
-half-shaped-requires-2 : tie.Need-half-shaped-requires-2
-half-shaped-requires-2 c κs = search needs
-
 returns : tie.Need-returns
 returns c = sym (rw (sym (c .before .before .before .before .before .anchors-shaped .ensures) ∙ c .before .before .before .before .if1 .taken, sym (c .before .before .before .half-shaped .ensures) ∙ c .before .before .if2 .taken, sym (c .before .half-shaped2 .ensures) ∙ c .if3 .taken) refl)
 
@@ -32,11 +23,4 @@ returns-4 c = sym (rw (sym (c .before .anchors-shaped .ensures) ∙ c .if1 .left
 pub memory-shaped-spec : {M : Type 1} → statement M
 memory-shaped-spec =
     tie.close
-    (tie.spec
-    anchors-shaped-requires
-    half-shaped-requires
-    half-shaped-requires-2
-    returns
-    returns-2
-    returns-3
-    returns-4)
+    (tie.spec (λ c κs. search needs) (λ c κs. search needs) (λ c κs. search needs) returns returns-2 returns-3 returns-4)

@@ -41,15 +41,6 @@ places c = let good = c .good .1 .1 .1 .1 .1 .1 .1 .0 in search (needs, unmapped
 heads : (c : tie.Start) → (length (c .args .head .now) ≡ headNumbers) × (length (c .args .first-head .now) ≡ headNumbers)
 heads c = own-heads (anchorsIn c) (ownIn c) (firstIn c) (c .pre)
 
-work-shaped-requires : tie.Need-work-shaped-requires
-work-shaped-requires c κs = search needs
-
-is-group-requires : tie.Need-is-group-requires
-is-group-requires c κs = search needs
-
-first-left-requires : tie.Need-first-left-requires
-first-left-requires c κs = search needs
-
 send-all-requires : tie.Need-send-all-requires
 send-all-requires c κs =
     let start = c .before .before .before .before .before .before .before .before .before .before .before .before .before .before .before .before .before .before .before .before .before .before .before .before .before .before .before .before .before .before .before .before .before .before in
@@ -70,36 +61,6 @@ concluded-requires c κs =
     let call = c .before .before .before .before .before .before .before .before .before .before .before .before .before .before .before .before .before .before .before .before .before .before .send-all in
     (own-long, (call .kept .1 .1 .1 .1 .1 .1 .1 .1 .1 .0 ∙ first-long, call .kept .1 .1 .1 .1 .1 .1 .1 .1 .1 .1 .1 .1 .1 .1 .0 ∙ second-long))
 
-same-length : tie.Need-same-length
-same-length c = search needs
-
-same-length-2 : tie.Need-same-length-2
-same-length-2 c = search needs
-
-same-length-3 : tie.Need-same-length-3
-same-length-3 c = search needs
-
-same-length-4 : tie.Need-same-length-4
-same-length-4 c = search needs
-
-same-length-5 : tie.Need-same-length-5
-same-length-5 c = search needs
-
-same-length-6 : tie.Need-same-length-6
-same-length-6 c = search needs
-
-same-length-7 : tie.Need-same-length-7
-same-length-7 c = search needs
-
-same-length-8 : tie.Need-same-length-8
-same-length-8 c = search needs
-
-same-length-9 : tie.Need-same-length-9
-same-length-9 c = search needs
-
-same-length-10 : tie.Need-same-length-10
-same-length-10 c = search needs
-
 returns : tie.Need-returns
 returns c =
     let start = c .before .before .before .before .before .before .before .before .before .before .before .before .before .before .before .before .before .before .before .before .before .before .before .before .before .before .before .before .before .before .before .before .before .before .before .before .before .before .before .before .before .before .before .before .before .before .before .before .before .before .before .before .before .before .before .before .before .before in
@@ -116,9 +77,6 @@ returns c =
       refused = λ no. absurd (false≢true (sym no ∙ shaped));
     }
 
-same-length-11 : tie.Need-same-length-11
-same-length-11 c = search needs
-
 returns-2 : tie.Need-returns-2
 returns-2 c =
     let start = c .before .before .before .before .before .before .before .before .before .before .before .before .before .before .before .before .before .before .before .before .before .before .before in
@@ -130,9 +88,6 @@ returns-2 c =
       answered = λ yes. none-sent (anchorsIn start) (a .head .now) (a .bindings .now) (a .availability .now) (a .entries .now) (a .batches) (a .count) (a .sets .now) (firstIn start) (secondIn start) is;
       refused = λ no. absurd (false≢true (sym no ∙ shaped));
     }
-
-same-length-12 : tie.Need-same-length-12
-same-length-12 c = search needs
 
 returns-3 : tie.Need-returns-3
 returns-3 c =
@@ -146,24 +101,7 @@ returns-3 c =
 pub apply-group-spec : {M : Type 1} → statement M
 apply-group-spec =
     tie.close
-    (tie.spec
-    work-shaped-requires
-    is-group-requires
-    first-left-requires
-    send-all-requires
-    concluded-requires
-    same-length
-    same-length-2
-    same-length-3
-    same-length-4
-    same-length-5
-    same-length-6
-    same-length-7
-    same-length-8
-    same-length-9
-    same-length-10
-    returns
-    same-length-11
-    returns-2
-    same-length-12
-    returns-3)
+    (tie.spec (λ c κs. search needs) (λ c κs. search needs) (λ c κs. search needs) send-all-requires concluded-requires
+    (λ c. search needs) (λ c. search needs) (λ c. search needs) (λ c. search needs) (λ c. search needs) (λ c. search needs)
+    (λ c. search needs) (λ c. search needs) (λ c. search needs) (λ c. search needs) returns (λ c. search needs) returns-2
+    (λ c. search needs) returns-3)

@@ -11,47 +11,11 @@ use Rattle.session_lent_group.proofs.group.apply_projection_patch_batch
 }
 use Rattle.session_lent_group.proofs.group.apply_projection_patch_batches.Tie as tie
 
-memory-shaped-requires : tie.Need-memory-shaped-requires
-memory-shaped-requires c κs = search needs
-
 apply-group-requires : tie.Need-apply-group-requires
 apply-group-requires c κs = sym (c .before .before .before .before .before .before .before .before .before .before .before .memory-shaped .ensures) ∙ c .before .before .before .before .before .before .before .before .before .before .if1 .taken
 
-same-length : tie.Need-same-length
-same-length c = search needs
-
-same-length-2 : tie.Need-same-length-2
-same-length-2 c = search needs
-
-same-length-3 : tie.Need-same-length-3
-same-length-3 c = search needs
-
-same-length-4 : tie.Need-same-length-4
-same-length-4 c = search needs
-
-same-length-5 : tie.Need-same-length-5
-same-length-5 c = search needs
-
-same-length-6 : tie.Need-same-length-6
-same-length-6 c = search needs
-
-same-length-7 : tie.Need-same-length-7
-same-length-7 c = search needs
-
-same-length-8 : tie.Need-same-length-8
-same-length-8 c = search needs
-
-same-length-9 : tie.Need-same-length-9
-same-length-9 c = search needs
-
-same-length-10 : tie.Need-same-length-10
-same-length-10 c = search needs
-
 returns : tie.Need-returns
 returns c = c .before .before .before .before .before .before .before .before .before .before .before .before .before .before .before .before .before .before .before .before .apply-group .ensures
-
-same-length-11 : tie.Need-same-length-11
-same-length-11 c = search needs
 
 returns-2 : tie.Need-returns-2
 returns-2 c =
@@ -69,19 +33,6 @@ returns-2 c =
 pub apply-projection-patch-batches-spec : {M : Type 1} → statement M
 apply-projection-patch-batches-spec =
     tie.close
-    (tie.spec
-    memory-shaped-requires
-    apply-group-requires
-    same-length
-    same-length-2
-    same-length-3
-    same-length-4
-    same-length-5
-    same-length-6
-    same-length-7
-    same-length-8
-    same-length-9
-    same-length-10
-    returns
-    same-length-11
-    returns-2)
+    (tie.spec (λ c κs. search needs) apply-group-requires (λ c. search needs) (λ c. search needs) (λ c. search needs)
+    (λ c. search needs) (λ c. search needs) (λ c. search needs) (λ c. search needs) (λ c. search needs) (λ c. search needs)
+    (λ c. search needs) returns (λ c. search needs) returns-2)

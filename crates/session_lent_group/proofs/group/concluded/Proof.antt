@@ -27,18 +27,6 @@ broke-as : (x : LentRun) (i : ℕ) (a : ProjectionPatchApplicationResult) (count
 broke-as x i a count own first second is c told =
     subst (λ (y : LentRun). ConcludedAs y count own first second (Answered (RefusedAt i (record { disposition = a .disposition; diagnostics = a .diagnostics; «replay_cursor» = c })) Own)) (sym is) (c, (told, refl))
 
-enum-known-run : tie.Need-enum-known-run
-enum-known-run c = search needs
-
-cursor-in-requires : tie.Need-cursor-in-requires
-cursor-in-requires c κs = search needs
-
-enum-known-run-2 : tie.Need-enum-known-run-2
-enum-known-run-2 c = search needs
-
-head-cursor-requires : tie.Need-head-cursor-requires
-head-cursor-requires c κs = search needs
-
 returns : tie.Need-returns
 returns c =
     let a = c .before .before .before .before .before .before .before .args in
@@ -52,10 +40,4 @@ returns-2 c =
 pub concluded-spec : {M : Type 1} → statement M
 concluded-spec =
     tie.close
-    (tie.spec
-    enum-known-run
-    cursor-in-requires
-    enum-known-run-2
-    head-cursor-requires
-    returns
-    returns-2)
+    (tie.spec (λ c. search needs) (λ c κs. search needs) (λ c. search needs) (λ c κs. search needs) returns returns-2)

@@ -16,24 +16,6 @@ use Rattle.session_lent_group.proofs.group.cursor_in.Tie as tie
 at-place : {c : Cursor} (half is : LentHalf) (own first second : List ℕ) → half ≡ is → c ≡ stateAt (standing is own first second) .cursor → c ≡ stateAt (standing half own first second) .cursor
 at-place half is own first second e same = same ∙ ap (λ (x : LentHalf). stateAt (standing x own first second) .cursor) (sym e)
 
-enum-told : tie.Need-enum-told
-enum-told c = search needs
-
-head-cursor-requires : tie.Need-head-cursor-requires
-head-cursor-requires c κs = search needs
-
-enum-told-2 : tie.Need-enum-told-2
-enum-told-2 c = search needs
-
-head-cursor-requires-2 : tie.Need-head-cursor-requires-2
-head-cursor-requires-2 c κs = search needs
-
-enum-told-3 : tie.Need-enum-told-3
-enum-told-3 c = search needs
-
-head-cursor-requires-3 : tie.Need-head-cursor-requires-3
-head-cursor-requires-3 c κs = search needs
-
 returns : tie.Need-returns
 returns c = let a = c .before .before .before .before .before .before .args in at-place (a .half) Own (now (a .own)) (now (a .first)) (now (a .second)) (c .before .enum-told .given .1) (c .head-cursor .ensures)
 
@@ -46,13 +28,5 @@ returns-3 c = let a = c .before .before .before .before .before .before .args in
 pub cursor-in-spec : {M : Type 1} → statement M
 cursor-in-spec =
     tie.close
-    (tie.spec
-    enum-told
-    head-cursor-requires
-    enum-told-2
-    head-cursor-requires-2
-    enum-told-3
-    head-cursor-requires-3
-    returns
-    returns-2
-    returns-3)
+    (tie.spec (λ c. search needs) (λ c κs. search needs) (λ c. search needs) (λ c κs. search needs) (λ c. search needs)
+    (λ c κs. search needs) returns returns-2 returns-3)

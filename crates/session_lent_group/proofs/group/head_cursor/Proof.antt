@@ -5,11 +5,9 @@ use borrow.Author.Needs.{needs}
 use Rattle.session_lent_group.proofs.group.head_cursor.Statement.{statement}
 use Rattle.session_lent_group.proofs.group.head_cursor.Tie as tie
 
-state-in-requires : tie.Need-state-in-requires
-state-in-requires c κs = search needs
-
 returns : tie.Need-returns
 returns c = ap (λ (t : LocalState). t .cursor) (c .state-in .ensures)
 
 pub head-cursor-spec : {M : Type 1} → statement M
-head-cursor-spec = tie.close (tie.spec state-in-requires returns)
+head-cursor-spec =
+    tie.close (tie.spec (λ c κs. search needs) returns)

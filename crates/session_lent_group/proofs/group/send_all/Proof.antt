@@ -12,18 +12,6 @@ use Rattle.session_lent_group.proofs.group.send_all.Tie as tie
 send-until-applied-requires : tie.Need-send-until-applied-requires
 send-until-applied-requires c κs = let long = c .before .before .before .before .before .before .before .before .before .before .before .before .before .before .before .before .before .before .before .before .before .before .before .pre in (long .0, (long .1 .0, long .1 .1 .0))
 
-enum-told : tie.Need-enum-told
-enum-told c = search needs
-
-enum-known-sending : tie.Need-enum-known-sending
-enum-known-sending c = search needs
-
-enum-known-sending-2 : tie.Need-enum-known-sending-2
-enum-known-sending-2 c = search needs
-
-left-from-requires : tie.Need-left-from-requires
-left-from-requires c κs = search needs
-
 send-between-requires : tie.Need-send-between-requires
 send-between-requires c κs =
     let a = c .before .before .before .before .before .before .before .before .before .before .before .before .before .before .before .before .before .before .before .before .before .before .before .before .before .before .before .before .before .before .before .before .before .before .before .before .before .before .before .before .before .before .before .before .before .before .before .before .args in
@@ -40,21 +28,6 @@ send-between-requires c κs =
     let second-long = long .1 .1 in
     (subst (λ (x : GroupLeft). LeftFits x sets) (sym (c .before .before .before .before .before .before .before .before .before .before .left-from .ensures)) (fits .1), (search (needs, first-long), search (needs, second-long)))
 
-same-length : tie.Need-same-length
-same-length c = search needs
-
-same-length-2 : tie.Need-same-length-2
-same-length-2 c = search needs
-
-same-length-3 : tie.Need-same-length-3
-same-length-3 c = search needs
-
-same-length-4 : tie.Need-same-length-4
-same-length-4 c = search needs
-
-same-length-5 : tie.Need-same-length-5
-same-length-5 c = search needs
-
 returns : tie.Need-returns
 returns c =
     let a = c .before .before .before .before .before .before .before .before .before .before .before .before .before .before .before .before .before .before .before .before .before .before .before .before .before .before .before .before .before .before .before .before .before .before .before .before .args in
@@ -65,21 +38,6 @@ returns c =
     let after = halfWith (call .last .1 .1 .1 .1 .1 .1 .1 .1 .1 .0) (call .last .1 .1 .1 .1 .1 .1 .1 .1 .1 .1 .0) (call .last .1 .1 .1 .1 .1 .1 .1 .1 .1 .1 .1 .0) (call .last .1 .1 .1 .1 .1 .1 .1 .1 .1 .1 .1 .1 .0) (call .last .1 .1 .1 .1 .1 .1 .1 .1 .1 .1 .1 .1 .1 .0) in
     let sets = a .sets .now in
     own-ended anchors (a .head .now) (a .bindings .now) (a .availability .now) (a .entries .now) first second after sets (a .left) (subst (λ (x : LentSending). SentAs anchors (a .head .now) (a .bindings .now) (a .availability .now) (a .entries .now) sets (a .left) first after x) (c .enum-told .given .1) (call .ensures))
-
-same-length-6 : tie.Need-same-length-6
-same-length-6 c = search needs
-
-same-length-7 : tie.Need-same-length-7
-same-length-7 c = search needs
-
-same-length-8 : tie.Need-same-length-8
-same-length-8 c = search needs
-
-same-length-9 : tie.Need-same-length-9
-same-length-9 c = search needs
-
-same-length-10 : tie.Need-same-length-10
-same-length-10 c = search needs
 
 returns-2 : tie.Need-returns-2
 returns-2 c =
@@ -108,21 +66,6 @@ same-length-14 c = c .before .before .before .before .before .before .before .be
 same-length-15 : tie.Need-same-length-15
 same-length-15 c = c .before .before .before .before .before .before .before .before .before .before .before .before .before .before .before .before .before .before .before .before .send-between .kept .1 .1 .1 .1 .1 .1 .1 .1 .1 .0 ∙ c .before .before .before .before .before .before .before .before .before .before .before .before .before .before .before .before .before .before .before .before .before .before .before .before .before .before .before .before .before .before .before .before .before .before .before .before .before .before .before .before .before .before .before .before .before .send-until-applied .kept .1 .1 .1 .1 .1 .1 .1 .1 .1 .1 .1 .1 .1 .0
 
-same-length-16 : tie.Need-same-length-16
-same-length-16 c = search needs
-
-same-length-17 : tie.Need-same-length-17
-same-length-17 c = search needs
-
-same-length-18 : tie.Need-same-length-18
-same-length-18 c = search needs
-
-same-length-19 : tie.Need-same-length-19
-same-length-19 c = search needs
-
-same-length-20 : tie.Need-same-length-20
-same-length-20 c = search needs
-
 returns-3 : tie.Need-returns-3
 returns-3 c =
     let a = c .before .before .before .before .before .before .before .before .before .before .before .before .before .before .before .before .before .before .before .before .before .before .before .before .before .before .before .before .before .before .before .before .before .before .before .before .before .before .before .before .before .before .before .before .before .before .before .before .before .before .before .before .before .before .before .before .before .before .before .before .before .before .before .before .before .before .before .before .before .args in
@@ -142,33 +85,8 @@ returns-3 c =
 pub send-all-spec : {M : Type 1} → statement M
 send-all-spec =
     tie.close
-    (tie.spec
-    send-until-applied-requires
-    enum-told
-    enum-known-sending
-    enum-known-sending-2
-    left-from-requires
-    send-between-requires
-    same-length
-    same-length-2
-    same-length-3
-    same-length-4
-    same-length-5
-    returns
-    same-length-6
-    same-length-7
-    same-length-8
-    same-length-9
-    same-length-10
-    returns-2
-    same-length-11
-    same-length-12
-    same-length-13
-    same-length-14
-    same-length-15
-    same-length-16
-    same-length-17
-    same-length-18
-    same-length-19
-    same-length-20
-    returns-3)
+    (tie.spec send-until-applied-requires (λ c. search needs) (λ c. search needs) (λ c. search needs) (λ c κs. search needs)
+    send-between-requires (λ c. search needs) (λ c. search needs) (λ c. search needs) (λ c. search needs) (λ c. search needs)
+    returns (λ c. search needs) (λ c. search needs) (λ c. search needs) (λ c. search needs) (λ c. search needs) returns-2
+    same-length-11 same-length-12 same-length-13 same-length-14 same-length-15 (λ c. search needs) (λ c. search needs)
+    (λ c. search needs) (λ c. search needs) (λ c. search needs) returns-3)

@@ -4,9 +4,6 @@ use borrow.Author.Needs.{needs}
 use Rattle.session_lent_group.proofs.group.work_shaped.Statement.{statement}
 use Rattle.session_lent_group.proofs.group.work_shaped.Tie as tie
 
-half-shaped-requires : tie.Need-half-shaped-requires
-half-shaped-requires c κs = search needs
-
 returns : tie.Need-returns
 returns c = sym (rw (sym (c .before .half-shaped .ensures) ∙ c .if1 .taken) refl)
 
@@ -14,4 +11,5 @@ returns-2 : tie.Need-returns-2
 returns-2 c = sym (rw (sym (c .before .half-shaped .ensures) ∙ c .if1 .left) refl)
 
 pub work-shaped-spec : {M : Type 1} → statement M
-work-shaped-spec = tie.close (tie.spec half-shaped-requires returns returns-2)
+work-shaped-spec =
+    tie.close (tie.spec (λ c κs. search needs) returns returns-2)

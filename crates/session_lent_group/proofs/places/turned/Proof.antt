@@ -12,24 +12,6 @@ use Rattle.session_lent_group.proofs.places.turned.Tie as tie
 ended-in : (r : LentRun) (half is : LentHalf) → r ≡ run.Ended half → half ≡ is → turnedTo (run.Ended is) ≡ turnedTo r
 ended-in r half is e f = sym (ap turnedTo (e ∙ ap run.Ended f))
 
-enum-known-run : tie.Need-enum-known-run
-enum-known-run c = search needs
-
-enum-told : tie.Need-enum-told
-enum-told c = search needs
-
-returns : tie.Need-returns
-returns c = search needs
-
-enum-told-2 : tie.Need-enum-told-2
-enum-told-2 c = search needs
-
-enum-told-3 : tie.Need-enum-told-3
-enum-told-3 c = search needs
-
-enum-told-4 : tie.Need-enum-told-4
-enum-told-4 c = search needs
-
 returns-2 : tie.Need-returns-2
 returns-2 c = ended-in _ _ Own (c .before .before .before .run .given .1) (c .enum-told2 .given .1)
 
@@ -42,13 +24,5 @@ returns-4 c = ended-in _ _ Second (c .before .before .before .run .given .1) (c 
 pub turned-spec : {M : Type 1} → statement M
 turned-spec =
     tie.close
-    (tie.spec
-    enum-known-run
-    enum-told
-    returns
-    enum-told-2
-    enum-told-3
-    enum-told-4
-    returns-2
-    returns-3
-    returns-4)
+    (tie.spec (λ c. search needs) (λ c. search needs) (λ c. search needs) (λ c. search needs) (λ c. search needs)
+    (λ c. search needs) returns-2 returns-3 returns-4)

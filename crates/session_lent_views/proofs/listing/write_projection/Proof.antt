@@ -6,17 +6,8 @@ use Rattle.session_lent_views.specs.ViewsLaws.{tables-counted, tables-sh
 use Rattle.session_lent_views.proofs.listing.write_projection.Statement.{statement}
 use Rattle.session_lent_views.proofs.listing.write_projection.Tie as tie
 
-half-shaped-requires : tie.Need-half-shaped-requires
-half-shaped-requires c κs = search needs
-
 counts-in-requires : tie.Need-counts-in-requires
 counts-in-requires c κs = half-head _ _ _ _ (sym (c .before .half-shaped .ensures) ∙ c .if1 .taken)
-
-write-tables-requires : tie.Need-write-tables-requires
-write-tables-requires c κs = search needs
-
-same-length : tie.Need-same-length
-same-length c = search needs
 
 returns : tie.Need-returns
 returns c =
@@ -32,11 +23,4 @@ returns-2 c = written-refused _ (sym (c .before .half-shaped .ensures) ∙ c .if
 
 pub write-projection-spec : {M : Type 1} → statement M
 write-projection-spec =
-    tie.close
-    (tie.spec
-    half-shaped-requires
-    counts-in-requires
-    write-tables-requires
-    same-length
-    returns
-    returns-2)
+    tie.close (tie.spec (λ c κs. search needs) counts-in-requires (λ c κs. search needs) (λ c. search needs) returns returns-2)

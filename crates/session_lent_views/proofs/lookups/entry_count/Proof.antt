@@ -5,22 +5,10 @@ use Rattle.session_lent_views.specs.ViewsLaws.{tables-stored, entries-st
 use Rattle.session_lent_views.proofs.lookups.entry_count.Statement.{statement}
 use Rattle.session_lent_views.proofs.lookups.entry_count.Tie as tie
 
-entry-rows-requires : tie.Need-entry-rows-requires
-entry-rows-requires c κs = search needs
-
-enum-known-count : tie.Need-enum-known-count
-enum-known-count c = search needs
-
-enum-told : tie.Need-enum-told
-enum-told c = search needs
-
 returns : tie.Need-returns
 returns c =
     let call = c .before .before .entry-rows in
     viewed-refused _ refl (rows-none _ _ (call .result) (call .ensures) (c .enum-told .given .1)) (entries-shaped _ _)
-
-entry-count-requires : tie.Need-entry-count-requires
-entry-count-requires c κs = search needs
 
 returns-2 : tie.Need-returns-2
 returns-2 c =
@@ -32,10 +20,4 @@ returns-2 c =
 pub entry-count-spec : {M : Type 1} → statement M
 entry-count-spec =
     tie.close
-    (tie.spec
-    entry-rows-requires
-    enum-known-count
-    enum-told
-    returns
-    entry-count-requires
-    returns-2)
+    (tie.spec (λ c κs. search needs) (λ c. search needs) (λ c. search needs) returns (λ c κs. search needs) returns-2)

@@ -5,25 +5,10 @@ use Rattle.session_lent_views.specs.ViewsLaws.{tables-stored, entries-st
 use Rattle.session_lent_views.proofs.lookups.entry_value.Statement.{statement}
 use Rattle.session_lent_views.proofs.lookups.entry_value.Tie as tie
 
-entry-rows-requires : tie.Need-entry-rows-requires
-entry-rows-requires c κs = search needs
-
-enum-known-count : tie.Need-enum-known-count
-enum-known-count c = search needs
-
-enum-told : tie.Need-enum-told
-enum-told c = search needs
-
-no-value-session-requires : tie.Need-no-value-session-requires
-no-value-session-requires c κs = search needs
-
 returns : tie.Need-returns
 returns c =
     let call = c .before .before .before .entry-rows in
     viewed-refused (c .no-value-session .result) (c .no-value-session .ensures) (rows-none _ _ (call .result) (call .ensures) (c .before .enum-told .given .1)) (entries-shaped _ _)
-
-entry-value-requires : tie.Need-entry-value-requires
-entry-value-requires c κs = search needs
 
 returns-2 : tie.Need-returns-2
 returns-2 c =
@@ -35,11 +20,5 @@ returns-2 c =
 pub entry-value-spec : {M : Type 1} → statement M
 entry-value-spec =
     tie.close
-    (tie.spec
-    entry-rows-requires
-    enum-known-count
-    enum-told
-    no-value-session-requires
-    returns
-    entry-value-requires
-    returns-2)
+    (tie.spec (λ c κs. search needs) (λ c. search needs) (λ c. search needs) (λ c κs. search needs) returns
+    (λ c κs. search needs) returns-2)

@@ -5,12 +5,10 @@ use Rattle.panel_lookups.specs.Nth.{entryLookup}
 use Rattle.session_lent_views.proofs.lookups.no_entry_session.Statement.{statement}
 use Rattle.session_lent_views.proofs.lookups.no_entry_session.Tie as tie
 
-no-value-requires : tie.Need-no-value-requires
-no-value-requires c κs = search needs
-
 returns : tie.Need-returns
 unfolding entryLookup
 returns c = λ i. record { «no_session» = true; entry = record { key = 0; value = c .no-value .ensures i } }
 
 pub no-entry-session-spec : {M : Type 1} → statement M
-no-entry-session-spec = tie.close (tie.spec no-value-requires returns)
+no-entry-session-spec =
+    tie.close (tie.spec (λ c κs. search needs) returns)

@@ -4,11 +4,9 @@ use borrow.Author.Needs.{needs}
 use Rattle.session_lent_views.proofs.lookups.no_value_session.Statement.{statement}
 use Rattle.session_lent_views.proofs.lookups.no_value_session.Tie as tie
 
-no-value-requires : tie.Need-no-value-requires
-no-value-requires c κs = search needs
-
 returns : tie.Need-returns
 returns c = λ i. record { «no_session» = true; value = c .no-value .ensures i }
 
 pub no-value-session-spec : {M : Type 1} → statement M
-no-value-session-spec = tie.close (tie.spec no-value-requires returns)
+no-value-session-spec =
+    tie.close (tie.spec (λ c κs. search needs) returns)

@@ -5,22 +5,10 @@ use Rattle.session_lent_views.specs.ViewsLaws.{tables-stored, availabili
 use Rattle.session_lent_views.proofs.lookups.node_availability.Statement.{statement}
 use Rattle.session_lent_views.proofs.lookups.node_availability.Tie as tie
 
-availability-rows-requires : tie.Need-availability-rows-requires
-availability-rows-requires c κs = search needs
-
-enum-known-count : tie.Need-enum-known-count
-enum-known-count c = search needs
-
-enum-told : tie.Need-enum-told
-enum-told c = search needs
-
 returns : tie.Need-returns
 returns c =
     let call = c .before .before .availability-rows in
     viewed-refused _ refl (rows-none _ _ (call .result) (call .ensures) (c .enum-told .given .1)) (availabilities-shaped _ _)
-
-node-availability-requires : tie.Need-node-availability-requires
-node-availability-requires c κs = search needs
 
 returns-2 : tie.Need-returns-2
 returns-2 c =
@@ -32,10 +20,4 @@ returns-2 c =
 pub node-availability-spec : {M : Type 1} → statement M
 node-availability-spec =
     tie.close
-    (tie.spec
-    availability-rows-requires
-    enum-known-count
-    enum-told
-    returns
-    node-availability-requires
-    returns-2)
+    (tie.spec (λ c κs. search needs) (λ c. search needs) (λ c. search needs) returns (λ c κs. search needs) returns-2)

@@ -16,12 +16,6 @@ returns-2 : tie.Need-returns-2
 unfolding tableShaped tableRows
 returns-2 c = let a = c .before .before .args in rw (eq-eqb _ headNumbers (c .before .if1 .left), ne-eqb (a .table) (a .bytes) (c .if2 .taken)) refl
 
-mul-count : tie.Need-mul-count
-mul-count c = search needs
-
-shared-slice-read-count : tie.Need-shared-slice-read-count
-shared-slice-read-count c = search needs
-
 returns-3 : tie.Need-returns-3
 unfolding tableShaped tableRows
 returns-3 c = let a = c .before .before .before .before .args in rw (eq-eqb _ headNumbers (c .before .before .before .if1 .left), eq-eqb (a .table) (a .bytes) (c .before .before .if2 .left), lt-leb _ (a .capacity) (c .if3 .taken)) refl
@@ -32,11 +26,4 @@ returns-4 c = let a = c .before .before .before .before .args in rw (eq-eqb _ he
 
 pub rows-at-spec : {M : Type 1} → statement M
 rows-at-spec =
-    tie.close
-    (tie.spec
-    returns
-    returns-2
-    mul-count
-    shared-slice-read-count
-    returns-3
-    returns-4)
+    tie.close (tie.spec returns returns-2 (λ c. search needs) (λ c. search needs) returns-3 returns-4)

@@ -4,21 +4,12 @@ use borrow.Author.Needs.{needs}
 use Rattle.session_lifecycle.proofs.diagnostics.apply_diagnostic_cap.Statement.{statement}
 use Rattle.session_lifecycle.proofs.diagnostics.apply_diagnostic_cap.Tie as tie
 
-least-requires : tie.Need-least-requires
-least-requires c κs = search needs
-
 returns : tie.Need-returns
 returns c = none-emitted _ _ _ _ (c .before .least .ensures) (c .if1 .taken)
-
-number-requires : tie.Need-number-requires
-number-requires c κs = search needs
-
-evaluation-stage-requires : tie.Need-evaluation-stage-requires
-evaluation-stage-requires c κs = search needs
 
 returns-2 : tie.Need-returns-2
 returns-2 c = rw (c .before .number .ensures, c .«evaluation-stage» .ensures) (some-emitted _ _ _ _ (c .before .before .before .least .ensures) (c .before .before .if1 .left))
 
 pub apply-diagnostic-cap-spec : {M : Type 1} → statement M
 apply-diagnostic-cap-spec =
-    tie.close (tie.spec least-requires returns number-requires evaluation-stage-requires returns-2)
+    tie.close (tie.spec (λ c κs. search needs) returns (λ c κs. search needs) (λ c κs. search needs) returns-2)

@@ -19,33 +19,6 @@ none-from-closed Suspend = refl
 none-from-closed Resume = refl
 none-from-closed Close = refl
 
-enum-told : tie.Need-enum-told
-enum-told c = search needs
-
-enum-known-stimulus : tie.Need-enum-known-stimulus
-enum-known-stimulus c = search needs
-
-enum-told-2 : tie.Need-enum-told-2
-enum-told-2 c = search needs
-
-from-created-requires : tie.Need-from-created-requires
-from-created-requires c κs = search needs
-
-enum-told-3 : tie.Need-enum-told-3
-enum-told-3 c = search needs
-
-from-active-requires : tie.Need-from-active-requires
-from-active-requires c κs = search needs
-
-enum-told-4 : tie.Need-enum-told-4
-enum-told-4 c = search needs
-
-from-suspended-requires : tie.Need-from-suspended-requires
-from-suspended-requires c κs = search needs
-
-enum-told-5 : tie.Need-enum-told-5
-enum-told-5 c = search needs
-
 returns : tie.Need-returns
 unfolding transition stimulusOf candidateOf
 returns c = rw (c .enum-told .given .1)
@@ -69,18 +42,6 @@ returns-5 c = rw (c .enum-told5 .given .1, c .before .before .before .stimulus .
 pub calculate-candidate-lifecycle-spec : {M : Type 1} → statement M
 calculate-candidate-lifecycle-spec =
     tie.close
-    (tie.spec
-    enum-told
-    enum-known-stimulus
-    enum-told-2
-    from-created-requires
-    enum-told-3
-    from-active-requires
-    enum-told-4
-    from-suspended-requires
-    enum-told-5
-    returns
-    returns-2
-    returns-3
-    returns-4
+    (tie.spec (λ c. search needs) (λ c. search needs) (λ c. search needs) (λ c κs. search needs) (λ c. search needs)
+    (λ c κs. search needs) (λ c. search needs) (λ c κs. search needs) (λ c. search needs) returns returns-2 returns-3 returns-4
     returns-5)

@@ -18,12 +18,6 @@ command-applies Suspend = refl
 command-applies Resume = refl
 command-applies Close = refl
 
-enum-told : tie.Need-enum-told
-enum-told c = search needs
-
-enum-told-2 : tie.Need-enum-told-2
-enum-told-2 c = search needs
-
 returns : tie.Need-returns
 unfolding dispositionMeans
 returns c = sym (ap (λ (f : ShellLifecycleStimulus). dispositionOf (stimulusOf f)) (c .enum-told .given .1) ∙ command-applies _)
@@ -33,4 +27,5 @@ unfolding dispositionMeans dispositionOf stimulusOf
 returns-2 c = sym (ap (λ (f : ShellLifecycleStimulus). dispositionOf (stimulusOf f)) (c .enum-told2 .given .1))
 
 pub disposition-of-spec : {M : Type 1} → statement M
-disposition-of-spec = tie.close (tie.spec enum-told enum-told-2 returns returns-2)
+disposition-of-spec =
+    tie.close (tie.spec (λ c. search needs) (λ c. search needs) returns returns-2)

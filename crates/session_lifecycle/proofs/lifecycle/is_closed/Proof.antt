@@ -7,18 +7,6 @@ use Rattle.session_lifecycle.specs.declared.state.ShellLifecycle.{ShellL
 use Rattle.session_lifecycle.proofs.lifecycle.is_closed.Statement.{statement}
 use Rattle.session_lifecycle.proofs.lifecycle.is_closed.Tie as tie
 
-enum-told : tie.Need-enum-told
-enum-told c = search needs
-
-enum-told-2 : tie.Need-enum-told-2
-enum-told-2 c = search needs
-
-enum-told-3 : tie.Need-enum-told-3
-enum-told-3 c = search needs
-
-enum-told-4 : tie.Need-enum-told-4
-enum-told-4 c = search needs
-
 returns : tie.Need-returns
 returns c = sym (ap (λ (f : ShellLifecycle). isClosed (lifecycleOf f)) (c .enum-told .given .1))
 
@@ -34,4 +22,5 @@ returns-4 c = sym (ap (λ (f : ShellLifecycle). isClosed (lifecycleOf f)) (c .en
 pub is-closed-spec : {M : Type 1} → statement M
 is-closed-spec =
     tie.close
-    (tie.spec enum-told enum-told-2 enum-told-3 enum-told-4 returns returns-2 returns-3 returns-4)
+    (tie.spec (λ c. search needs) (λ c. search needs) (λ c. search needs) (λ c. search needs) returns returns-2 returns-3
+    returns-4)

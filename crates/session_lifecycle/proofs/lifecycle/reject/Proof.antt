@@ -7,12 +7,10 @@ use borrow.Author.Needs.{needs}
 use Rattle.session_lifecycle.proofs.lifecycle.reject.Statement.{statement}
 use Rattle.session_lifecycle.proofs.lifecycle.reject.Tie as tie
 
-apply-diagnostic-cap-requires : tie.Need-apply-diagnostic-cap-requires
-apply-diagnostic-cap-requires c κs = search needs
-
 returns : tie.Need-returns
 unfolding rejectLifecycle stateOf dispositionMeans
 returns c = ap (λ (d : Diagnostics). record { disposition = rejected; state = stateTold (c .before .args .previous); stimulusBytes = c .before .args .bytes; diagnostics = d }) (c .apply-diagnostic-cap .ensures)
 
 pub reject-spec : {M : Type 1} → statement M
-reject-spec = tie.close (tie.spec apply-diagnostic-cap-requires returns)
+reject-spec =
+    tie.close (tie.spec (λ c κs. search needs) returns)

@@ -5,12 +5,10 @@ use borrow.Author.Needs.{needs}
 use Rattle.session_steps.proofs.answers.applied_at.Statement.{statement}
 use Rattle.session_steps.proofs.answers.applied_at.Tie as tie
 
-no-diagnostics-requires : tie.Need-no-diagnostics-requires
-no-diagnostics-requires c κs = search needs
-
 returns : tie.Need-returns
 unfolding dispositionTold cursorOf
 returns c = rw (c .no-diagnostics .ensures)
 
 pub applied-at-spec : {M : Type 1} → statement M
-applied-at-spec = tie.close (tie.spec no-diagnostics-requires returns)
+applied-at-spec =
+    tie.close (tie.spec (λ c κs. search needs) returns)

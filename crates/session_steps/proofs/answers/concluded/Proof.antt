@@ -6,33 +6,6 @@ use borrow.Author.Needs.{needs}
 use Rattle.session_steps.proofs.answers.concluded.Statement.{statement}
 use Rattle.session_steps.proofs.answers.concluded.Tie as tie
 
-enum-told : tie.Need-enum-told
-enum-told c = search needs
-
-applied-at-requires : tie.Need-applied-at-requires
-applied-at-requires c κs = search needs
-
-enum-known-change : tie.Need-enum-known-change
-enum-known-change c = search needs
-
-refusal-of-requires : tie.Need-refusal-of-requires
-refusal-of-requires c κs = search needs
-
-rejected-requires : tie.Need-rejected-requires
-rejected-requires c κs = search needs
-
-enum-told-2 : tie.Need-enum-told-2
-enum-told-2 c = search needs
-
-rejected-requires-2 : tie.Need-rejected-requires-2
-rejected-requires-2 c κs = search needs
-
-enum-told-3 : tie.Need-enum-told-3
-enum-told-3 c = search needs
-
-rejected-requires-3 : tie.Need-rejected-requires-3
-rejected-requires-3 c κs = search needs
-
 returns : tie.Need-returns
 unfolding changeAnswer
 returns c =
@@ -62,17 +35,5 @@ returns-4 c =
 pub concluded-spec : {M : Type 1} → statement M
 concluded-spec =
     tie.close
-    (tie.spec
-    enum-told
-    applied-at-requires
-    enum-known-change
-    refusal-of-requires
-    rejected-requires
-    enum-told-2
-    rejected-requires-2
-    enum-told-3
-    rejected-requires-3
-    returns
-    returns-2
-    returns-3
-    returns-4)
+    (tie.spec (λ c. search needs) (λ c κs. search needs) (λ c. search needs) (λ c κs. search needs) (λ c κs. search needs)
+    (λ c. search needs) (λ c κs. search needs) (λ c. search needs) (λ c κs. search needs) returns returns-2 returns-3 returns-4)

@@ -4,12 +4,10 @@ use borrow.Author.Needs.{needs}
 use Rattle.session_steps.proofs.answers.rejected.Statement.{statement}
 use Rattle.session_steps.proofs.answers.rejected.Tie as tie
 
-apply-diagnostic-cap-requires : tie.Need-apply-diagnostic-cap-requires
-apply-diagnostic-cap-requires c κs = search needs
-
 returns : tie.Need-returns
 unfolding dispositionTold
 returns c = rw (c .apply-diagnostic-cap .ensures)
 
 pub rejected-spec : {M : Type 1} → statement M
-rejected-spec = tie.close (tie.spec apply-diagnostic-cap-requires returns)
+rejected-spec =
+    tie.close (tie.spec (λ c κs. search needs) returns)

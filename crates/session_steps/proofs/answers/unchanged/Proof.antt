@@ -4,12 +4,10 @@ use borrow.Author.Needs.{needs}
 use Rattle.session_steps.proofs.answers.unchanged.Statement.{statement}
 use Rattle.session_steps.proofs.answers.unchanged.Tie as tie
 
-no-diagnostics-requires : tie.Need-no-diagnostics-requires
-no-diagnostics-requires c κs = search needs
-
 returns : tie.Need-returns
 unfolding dispositionTold
 returns c = rw (c .no-diagnostics .ensures)
 
 pub unchanged-spec : {M : Type 1} → statement M
-unchanged-spec = tie.close (tie.spec no-diagnostics-requires returns)
+unchanged-spec =
+    tie.close (tie.spec (λ c κs. search needs) returns)

@@ -18,56 +18,17 @@ long-collections c = search needs
 long-pairs : (c : tie.Start) → length (c .args .context .catalog .«binding_anchors») ≡ 128
 long-pairs c = search (needs, unmapped)
 
-pair-numbers-requires : tie.Need-pair-numbers-requires
-pair-numbers-requires c κs = search needs
-
-held-requires : tie.Need-held-requires
-held-requires c κs = search needs
-
-held-requires-2 : tie.Need-held-requires-2
-held-requires-2 c κs = search needs
-
-held-requires-3 : tie.Need-held-requires-3
-held-requires-3 c κs = search needs
-
-sub-check-batch : tie.Need-sub-check-batch
-sub-check-batch c = search needs
-
-part-check-batch-start : tie.Need-part-check-batch-start
-part-check-batch-start c = search needs
-
 part-check-batch-end : tie.Need-part-check-batch-end
 part-check-batch-end c =
     let start = c .before .before .before .before .before .before .before .before .before .before .before .before in
     let within : c .before .before .before .held .result ≤ length (start .args .context .catalog .«node_anchors») = omega (arith, c .before .before .before .held .ensures, long-nodes start) in
     within
 
-mul-check-batch : tie.Need-mul-check-batch
-mul-check-batch c = search needs
-
-sub-check-batch-2 : tie.Need-sub-check-batch-2
-sub-check-batch-2 c = search needs
-
-part-check-batch-start-2 : tie.Need-part-check-batch-start-2
-part-check-batch-start-2 c = search needs
-
-part-check-batch-end-2 : tie.Need-part-check-batch-end-2
-part-check-batch-end-2 c = search needs
-
-sub-check-batch-3 : tie.Need-sub-check-batch-3
-sub-check-batch-3 c = search needs
-
-part-check-batch-start-3 : tie.Need-part-check-batch-start-3
-part-check-batch-start-3 c = search needs
-
 part-check-batch-end-3 : tie.Need-part-check-batch-end-3
 part-check-batch-end-3 c =
     let start = c .before .before .before .before .before .before .before .before .before .before .before .before .before .before .before .before in
     let within : c .before .before .before .before .before .held3 .result ≤ length (start .args .context .catalog .«collection_anchors») = omega (arith, c .before .before .before .before .before .held3 .ensures, long-collections start) in
     within
-
-check-batch-requires : tie.Need-check-batch-requires
-check-batch-requires c κs = search needs
 
 returns : tie.Need-returns
 returns c =
@@ -88,20 +49,6 @@ returns c =
 pub check-session-spec : {M : Type 1} → statement M
 check-session-spec =
     tie.close
-    (tie.spec
-    pair-numbers-requires
-    held-requires
-    held-requires-2
-    held-requires-3
-    sub-check-batch
-    part-check-batch-start
-    part-check-batch-end
-    mul-check-batch
-    sub-check-batch-2
-    part-check-batch-start-2
-    part-check-batch-end-2
-    sub-check-batch-3
-    part-check-batch-start-3
-    part-check-batch-end-3
-    check-batch-requires
-    returns)
+    (tie.spec (λ c κs. search needs) (λ c κs. search needs) (λ c κs. search needs) (λ c κs. search needs) (λ c. search needs)
+    (λ c. search needs) part-check-batch-end (λ c. search needs) (λ c. search needs) (λ c. search needs) (λ c. search needs)
+    (λ c. search needs) (λ c. search needs) part-check-batch-end-3 (λ c κs. search needs) returns)

@@ -6,15 +6,6 @@ use Rattle.session_steps.specs.States.{nextState}
 use Rattle.session_steps.proofs.states.next_state.Statement.{statement}
 use Rattle.session_steps.proofs.states.next_state.Tie as tie
 
-enum-told : tie.Need-enum-told
-enum-told c = search needs
-
-enum-told-2 : tie.Need-enum-told-2
-enum-told-2 c = search needs
-
-enum-told-3 : tie.Need-enum-told-3
-enum-told-3 c = search needs
-
 returns : tie.Need-returns
 unfolding nextState
 returns c = let a = c .before .before .before .args in sym (ap (λ (d : ShellTransitionDisposition). nextState (a .state) d (a .result .state)) (c .enum-told .given .1))
@@ -28,4 +19,5 @@ unfolding nextState
 returns-3 c = let a = c .before .before .before .args in sym (ap (λ (d : ShellTransitionDisposition). nextState (a .state) d (a .result .state)) (c .enum-told3 .given .1))
 
 pub next-state-spec : {M : Type 1} → statement M
-next-state-spec = tie.close (tie.spec enum-told enum-told-2 enum-told-3 returns returns-2 returns-3)
+next-state-spec =
+    tie.close (tie.spec (λ c. search needs) (λ c. search needs) (λ c. search needs) returns returns-2 returns-3)

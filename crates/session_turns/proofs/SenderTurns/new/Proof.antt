@@ -7,14 +7,8 @@ use Rattle.session_turns.specs.MeaningLaws.{sets-up, refuses-none, refus
 use Rattle.session_turns.proofs.SenderTurns.new.Statement.{statement}
 use Rattle.session_turns.proofs.SenderTurns.new.Tie as tie
 
-no-turns-requires : tie.Need-no-turns-requires
-no-turns-requires c κs = search needs
-
 returns : tie.Need-returns
 returns c = c .no-turns .ensures ∙ refuses-none _ (omega arith)
-
-no-turns-requires-2 : tie.Need-no-turns-requires-2
-no-turns-requires-2 c κs = search needs
 
 returns-2 : tie.Need-returns-2
 returns-2 c = c .no-turns2 .ensures ∙ refuses-many _ (omega arith)
@@ -24,4 +18,5 @@ unfolding freshTurns
 returns-3 c = sets-up _ (omega arith) (omega arith)
 
 pub new-spec : {M : Type 1} → statement M
-new-spec = tie.close (tie.spec no-turns-requires returns no-turns-requires-2 returns-2 returns-3)
+new-spec =
+    tie.close (tie.spec (λ c κs. search needs) returns (λ c κs. search needs) returns-2 returns-3)

@@ -7,18 +7,6 @@ use Rattle.session_turns.specs.MeaningLaws.{flagged, named-within, takes
 use Rattle.session_turns.proofs.SenderTurns.turn.Statement.{statement}
 use Rattle.session_turns.proofs.SenderTurns.turn.Tie as tie
 
-next-sender-requires : tie.Need-next-sender-requires
-next-sender-requires c κs = search needs
-
-enum-told : tie.Need-enum-told
-enum-told c = search needs
-
-enum-known-found : tie.Need-enum-known-found
-enum-known-found c = search needs
-
-number-after-requires : tie.Need-number-after-requires
-number-after-requires c κs = search needs
-
 array-write-waiting : tie.Need-array-write-waiting
 unfolding senderOf
 array-write-waiting c =
@@ -42,11 +30,5 @@ returns-2 c =
 pub turn-spec : {M : Type 1} → statement M
 turn-spec =
     tie.close
-    (tie.spec
-    next-sender-requires
-    enum-told
-    enum-known-found
-    number-after-requires
-    array-write-waiting
-    returns
+    (tie.spec (λ c κs. search needs) (λ c. search needs) (λ c. search needs) (λ c κs. search needs) array-write-waiting returns
     returns-2)

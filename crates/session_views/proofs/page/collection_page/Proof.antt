@@ -12,12 +12,6 @@ long c = search needs
 slice-aggregate-collection-page : tie.Need-slice-aggregate-collection-page
 slice-aggregate-collection-page c = sym (long (c .before .before .before .before .before))
 
-collection-page-requires : tie.Need-collection-page-requires
-collection-page-requires c κs = search needs
-
-same-length : tie.Need-same-length
-same-length c = search needs
-
 returns : tie.Need-returns
 returns c =
     let page = c .before .before .collection-page in
@@ -25,5 +19,4 @@ returns c =
 
 pub collection-page-spec : {M : Type 1} → statement M
 collection-page-spec =
-    tie.close
-    (tie.spec slice-aggregate-collection-page collection-page-requires same-length returns)
+    tie.close (tie.spec slice-aggregate-collection-page (λ c κs. search needs) (λ c. search needs) returns)

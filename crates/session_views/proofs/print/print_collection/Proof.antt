@@ -12,12 +12,6 @@ long c = search needs
 slice-aggregate-print-collection : tie.Need-slice-aggregate-print-collection
 slice-aggregate-print-collection c = sym (long (c .before .before .before .before))
 
-print-collection-requires : tie.Need-print-collection-requires
-print-collection-requires c κs = search needs
-
-same-length : tie.Need-same-length
-same-length c = search needs
-
 returns : tie.Need-returns
 returns c =
     let call = c .before .before in
@@ -25,5 +19,4 @@ returns c =
 
 pub print-collection-spec : {M : Type 1} → statement M
 print-collection-spec =
-    tie.close
-    (tie.spec slice-aggregate-print-collection print-collection-requires same-length returns)
+    tie.close (tie.spec slice-aggregate-print-collection (λ c κs. search needs) (λ c. search needs) returns)

@@ -8,24 +8,6 @@ use Rattle.set_dependencies.specs.DependsLaws.{clean-depends, found-depe
 use Rattle.set_dependencies.proofs.depends.depends.Statement.{statement}
 use Rattle.set_dependencies.proofs.depends.depends.Tie as tie
 
-quick-check-requires : tie.Need-quick-check-requires
-quick-check-requires c κs = search needs
-
-enum-told : tie.Need-enum-told
-enum-told c = search needs
-
-depends-clean-requires : tie.Need-depends-clean-requires
-depends-clean-requires c κs = search needs
-
-enum-told-2 : tie.Need-enum-told-2
-enum-told-2 c = search needs
-
-enum-known-fault : tie.Need-enum-known-fault
-enum-known-fault c = search needs
-
-same-length : tie.Need-same-length
-same-length c = search needs
-
 returns : tie.Need-returns
 unfolding dependenciesOf
 returns c =
@@ -52,13 +34,5 @@ returns-3 c =
 pub depends-spec : {M : Type 1} → statement M
 depends-spec =
     tie.close
-    (tie.spec
-    quick-check-requires
-    enum-told
-    depends-clean-requires
-    enum-told-2
-    enum-known-fault
-    same-length
-    returns
-    returns-2
-    returns-3)
+    (tie.spec (λ c κs. search needs) (λ c. search needs) (λ c κs. search needs) (λ c. search needs) (λ c. search needs)
+    (λ c. search needs) returns returns-2 returns-3)

@@ -43,39 +43,6 @@ all-bytes c = bytes-of (set c) (λ j. c .before .before .shared-slice-known .giv
 short : (c : tie.After-open-set) (ps : List Patch) → readSet (edition c) (set c) ≡ patches ps → length (set c) ≤ setBytes
 short c ps e = let was = was-encoded (edition c) (set c) ps (all-bytes c) e in subst (λ (l : List ℕ). length l ≤ setBytes) (sym (was .0)) (was .1 .short)
 
-open-set-requires : tie.Need-open-set-requires
-open-set-requires c κs = search needs
-
-enum-known-start : tie.Need-enum-known-start
-enum-known-start c = search needs
-
-slice-aggregate-settle-steps : tie.Need-slice-aggregate-settle-steps
-slice-aggregate-settle-steps c = search needs
-
-settle-steps-requires : tie.Need-settle-steps-requires
-settle-steps-requires c κs = search needs
-
-enum-known-places : tie.Need-enum-known-places
-enum-known-places c = search needs
-
-slice-aggregate-rows-from : tie.Need-slice-aggregate-rows-from
-slice-aggregate-rows-from c = search needs
-
-rows-from-requires : tie.Need-rows-from-requires
-rows-from-requires c κs = search needs
-
-list-keys-requires : tie.Need-list-keys-requires
-list-keys-requires c κs = search needs
-
-enum-known-patch : tie.Need-enum-known-patch
-enum-known-patch c = search needs
-
-enum-known-fault : tie.Need-enum-known-fault
-enum-known-fault c = search needs
-
-enum-known-fault-2 : tie.Need-enum-known-fault-2
-enum-known-fault-2 c = search needs
-
 -- where the set was opened
 abbrev opening : tie.After-settle-steps → tie.After-open-set
 opening k = k .before .before .before .before .before
@@ -87,9 +54,6 @@ walked k r is ps e =
     let o = opening k in
     subst (λ x. SetSettlesTo (walkPatches 0 ps []) x (k .settle-steps .last .1 .1 .1 .0)) is
     (k .settle-steps .ensures ps (short o ps e) (opened-at (edition o) (set o) (all-bytes o) ps e (o .open-set .ensures) _ (k .before .before .before .start .given .1)) none-settled)
-
-same-length : tie.Need-same-length
-same-length c = search needs
 
 -- where all operations settle
 settled : (c : tie.After-places) (ps : List Patch) → let k = c .before .before .before in readSet (edition (opening k)) (set (opening k)) ≡ patches ps
@@ -144,20 +108,6 @@ returns-4 c = (λ ps e. absurd (opened c ps e), λ ps e. absurd (opened c ps e))
 pub depends-clean-spec : {M : Type 1} → statement M
 depends-clean-spec =
     tie.close
-    (tie.spec
-    open-set-requires
-    enum-known-start
-    slice-aggregate-settle-steps
-    settle-steps-requires
-    enum-known-places
-    slice-aggregate-rows-from
-    rows-from-requires
-    list-keys-requires
-    enum-known-patch
-    enum-known-fault
-    enum-known-fault-2
-    same-length
-    returns
-    returns-2
-    returns-3
-    returns-4)
+    (tie.spec (λ c κs. search needs) (λ c. search needs) (λ c. search needs) (λ c κs. search needs) (λ c. search needs)
+    (λ c. search needs) (λ c κs. search needs) (λ c κs. search needs) (λ c. search needs) (λ c. search needs)
+    (λ c. search needs) (λ c. search needs) returns returns-2 returns-3 returns-4)

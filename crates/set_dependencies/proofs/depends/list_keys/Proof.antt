@@ -31,35 +31,11 @@ refused c t s = short-answer t (now (c .before .before .before .args .out)) (ome
 returns : tie.Need-returns
 returns c = (λ t s. sym (ap (λ (a : Answered). dependsAnswerTo (a .answer)) (refused c t s)), λ t s. sym (ap (λ (a : Answered). a .output) (refused c t s)))
 
-write-keys-requires : tie.Need-write-keys-requires
-write-keys-requires c κs = search needs
-
-mul-from : tie.Need-mul-from
-mul-from c = search needs
-
-mul-write-keys : tie.Need-mul-write-keys
-mul-write-keys c = search needs
-
-sub-write-keys : tie.Need-sub-write-keys
-sub-write-keys c = search needs
-
-part-write-keys-start : tie.Need-part-write-keys-start
-part-write-keys-start c = search needs
-
-part-write-keys-end : tie.Need-part-write-keys-end
-part-write-keys-end c = search needs
-
-write-keys-requires-2 : tie.Need-write-keys-requires-2
-write-keys-requires-2 c κs = search needs
-
 abbrev start : tie.After-write-keys → tie.Start
 start k = k .before .before .before .before .before
 
 abbrev lent : tie.After-write-keys → List ℕ
 lent k = now (start k .args .out)
-
-same-length : tie.Need-same-length
-same-length c = search needs
 
 -- what both calls wrote
 both : (c : tie.After-write-keys2) (t : List Settled) → let k = c .before .before .before .before in (s : SettledTable (start k .args .count) (now (start k .args .table)) t)
@@ -84,14 +60,5 @@ returns-2 c = (λ t s. both (c .before .before) t s .0, λ t s. both (c .before 
 pub list-keys-spec : {M : Type 1} → statement M
 list-keys-spec =
     tie.close
-    (tie.spec
-    returns
-    write-keys-requires
-    mul-from
-    mul-write-keys
-    sub-write-keys
-    part-write-keys-start
-    part-write-keys-end
-    write-keys-requires-2
-    same-length
-    returns-2)
+    (tie.spec returns (λ c κs. search needs) (λ c. search needs) (λ c. search needs) (λ c. search needs) (λ c. search needs)
+    (λ c. search needs) (λ c κs. search needs) (λ c. search needs) returns-2)

@@ -17,24 +17,6 @@ slice-aggregate-number-of c = simp length-take (omega arith)
 number-of-requires : tie.Need-number-of-requires
 number-of-requires c κs = simp length-take (omega arith)
 
-sub-number-of : tie.Need-sub-number-of
-sub-number-of c = search needs
-
-part-number-of-start : tie.Need-part-number-of-start
-part-number-of-start c = search needs
-
-part-number-of-end : tie.Need-part-number-of-end
-part-number-of-end c = search needs
-
-number-of-requires-2 : tie.Need-number-of-requires-2
-number-of-requires-2 c κs = search needs
-
-shared-slice-read-t12 : tie.Need-shared-slice-read-t12
-shared-slice-read-t12 c = search needs
-
-shared-slice-read-t14 : tie.Need-shared-slice-read-t14
-shared-slice-read-t14 c = search needs
-
 returns-2 : tie.Need-returns-2
 returns-2 c =
     let second = c .before .before in
@@ -49,14 +31,5 @@ returns-2 c =
 pub settled-key-spec : {M : Type 1} → statement M
 settled-key-spec =
     tie.close
-    (tie.spec
-    returns
-    slice-aggregate-number-of
-    number-of-requires
-    sub-number-of
-    part-number-of-start
-    part-number-of-end
-    number-of-requires-2
-    shared-slice-read-t12
-    shared-slice-read-t14
-    returns-2)
+    (tie.spec returns slice-aggregate-number-of number-of-requires (λ c. search needs) (λ c. search needs) (λ c. search needs)
+    (λ c κs. search needs) (λ c. search needs) (λ c. search needs) returns-2)

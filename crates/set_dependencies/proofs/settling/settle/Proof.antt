@@ -17,15 +17,6 @@ use Rattle.set_dependencies.proofs.Nearer.{rows-lent, settles-in, contr
 use Rattle.set_dependencies.proofs.settling.settle.Statement.{statement}
 use Rattle.set_dependencies.proofs.settling.settle.Tie as tie
 
-rows-from-requires : tie.Need-rows-from-requires
-rows-from-requires c κs = search needs
-
-find-by-halving-requires : tie.Need-find-by-halving-requires
-find-by-halving-requires c κs = search needs
-
-enum-known-at : tie.Need-enum-known-at
-enum-known-at c = search needs
-
 abbrev start : tie.After-find-by-halving → tie.Start
 start k = k .before .before .before .before
 
@@ -35,26 +26,8 @@ placed k t s =
     let held = subst (λ (l : List ℕ). HoldsRows rowWidth (start k .args .places .count) l (map settledRow t)) (sym (k .before .rows-from .ensures (start-within (s .rows)))) (s .rows .held) in
     sym (k .find-by-halving .ensures .0 (map settledRow t) held (rows-ascending t (s .fit) (s .ascending)) ∙ rows-place t (s .fit) _)
 
-same-length : tie.Need-same-length
-same-length c = search needs
-
 returns : tie.Need-returns
 returns c = λ t s room. absurd (omega (arith, s .rows .size, s .rows .low, c .if1 .taken))
-
-mul-from : tie.Need-mul-from
-mul-from c = search needs
-
-sub-settle-again : tie.Need-sub-settle-again
-sub-settle-again c = search needs
-
-part-settle-again-start : tie.Need-part-settle-again-start
-part-settle-again-start c = search needs
-
-part-settle-again-end : tie.Need-part-settle-again-end
-part-settle-again-end c = search needs
-
-settle-again-requires : tie.Need-settle-again-requires
-settle-again-requires c κs = search needs
 
 -- where a key was found
 abbrev found : tie.After-settle-again → tie.After-at
@@ -74,26 +47,11 @@ again k b is t s =
     subst (λ (b : Bool). SettlesAgain (settled k t) (own k .args .places .count) b (k .settle-again .last .0)) is
     (k .settle-again .ensures t (rows-lent s) (placed (found k .before .before) t s ∙ found k .at .given .1))
 
-same-length-2 : tie.Need-same-length-2
-same-length-2 c = search needs
-
 returns-2 : tie.Need-returns-2
 returns-2 c = λ t s room. let k = c .before .before .before in settles-in s (settled k t) (k .settle-again .last .0) (search needs) (again k _ (c .if2 .taken) t s)
 
-enum-known-at-2 : tie.Need-enum-known-at-2
-enum-known-at-2 c = search needs
-
-settle-first-requires : tie.Need-settle-first-requires
-settle-first-requires c κs = search needs
-
-same-length-3 : tie.Need-same-length-3
-same-length-3 c = search needs
-
 returns-3 : tie.Need-returns-3
 returns-3 c = λ t s room. let k = c .before .before .before in contradicts-in (settled k t) (own k .args .places .count) (k .settle-again .last .0) _ (again k _ (c .if2 .left) t s)
-
-same-length-4 : tie.Need-same-length-4
-same-length-4 c = search needs
 
 returns-4 : tie.Need-returns-4
 returns-4 c = λ t s room.
@@ -104,22 +62,6 @@ returns-4 c = λ t s room.
 pub settle-spec : {M : Type 1} → statement M
 settle-spec =
     tie.close
-    (tie.spec
-    rows-from-requires
-    find-by-halving-requires
-    enum-known-at
-    same-length
-    returns
-    mul-from
-    sub-settle-again
-    part-settle-again-start
-    part-settle-again-end
-    settle-again-requires
-    same-length-2
-    returns-2
-    enum-known-at-2
-    settle-first-requires
-    same-length-3
-    returns-3
-    same-length-4
-    returns-4)
+    (tie.spec (λ c κs. search needs) (λ c κs. search needs) (λ c. search needs) (λ c. search needs) returns (λ c. search needs)
+    (λ c. search needs) (λ c. search needs) (λ c. search needs) (λ c κs. search needs) (λ c. search needs) returns-2
+    (λ c. search needs) (λ c κs. search needs) (λ c. search needs) returns-3 (λ c. search needs) returns-4)

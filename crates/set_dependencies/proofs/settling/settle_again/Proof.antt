@@ -17,18 +17,6 @@ use Rattle.set_dependencies.specs.SettlingLaws.{old-within, contradicts-
 use Rattle.set_dependencies.proofs.settling.settle_again.Statement.{statement}
 use Rattle.set_dependencies.proofs.settling.settle_again.Tie as tie
 
-record-at-requires : tie.Need-record-at-requires
-record-at-requires c κs = search needs
-
-settled-key-requires : tie.Need-settled-key-requires
-settled-key-requires c κs = search needs
-
-expected-requires : tie.Need-expected-requires
-expected-requires c κs = search needs
-
-same-length : tie.Need-same-length
-same-length c = search needs
-
 abbrev start : tie.After-settled-key → tie.Start
 start k = k .before .before .before .before
 
@@ -55,21 +43,6 @@ returns c = λ t s is.
     let k = test .before in
     contradicts-old (e k) (fits k) t (s .fit) (s .ascending) (start k .args .at) is (sym (tested k t s is _ (test .expected .ensures)) ∙ not-true _ (c .if1 .taken)) _ _
 
-left-requires : tie.Need-left-requires
-left-requires c κs = search needs
-
-settled-row-requires : tie.Need-settled-row-requires
-settled-row-requires c κs = search needs
-
-slice-aggregate-replace-record : tie.Need-slice-aggregate-replace-record
-slice-aggregate-replace-record c = search needs
-
-replace-record-requires : tie.Need-replace-record-requires
-replace-record-requires c κs = search needs
-
-same-length-2 : tie.Need-same-length-2
-same-length-2 c = search needs
-
 returns-2 : tie.Need-returns-2
 unfolding settledBy
 returns-2 c = λ t s is.
@@ -86,15 +59,5 @@ returns-2 c = λ t s is.
 pub settle-again-spec : {M : Type 1} → statement M
 settle-again-spec =
     tie.close
-    (tie.spec
-    record-at-requires
-    settled-key-requires
-    expected-requires
-    same-length
-    returns
-    left-requires
-    settled-row-requires
-    slice-aggregate-replace-record
-    replace-record-requires
-    same-length-2
-    returns-2)
+    (tie.spec (λ c κs. search needs) (λ c κs. search needs) (λ c κs. search needs) (λ c. search needs) returns
+    (λ c κs. search needs) (λ c κs. search needs) (λ c. search needs) (λ c κs. search needs) (λ c. search needs) returns-2)

@@ -17,33 +17,6 @@ use Rattle.set_dependencies.specs.declared.settling.KeyUse.the-variants 
 use Rattle.set_dependencies.proofs.settling.settle_beside.Statement.{statement}
 use Rattle.set_dependencies.proofs.settling.settle_beside.Tie as tie
 
-raw-requires : tie.Need-raw-requires
-raw-requires c κs = search needs
-
-raw-requires-2 : tie.Need-raw-requires-2
-raw-requires-2 c κs = search needs
-
-settle-requires : tie.Need-settle-requires
-settle-requires c κs = search needs
-
-enum-known-more : tie.Need-enum-known-more
-enum-known-more c = search needs
-
-enum-told : tie.Need-enum-told
-enum-told c = search needs
-
-enum-known-before : tie.Need-enum-known-before
-enum-known-before c = search needs
-
-raw-requires-3 : tie.Need-raw-requires-3
-raw-requires-3 c κs = search needs
-
-settle-requires-2 : tie.Need-settle-requires-2
-settle-requires-2 c κs = search needs
-
-enum-told-2 : tie.Need-enum-told-2
-enum-told-2 c = search needs
-
 abbrev start : tie.After-settle → tie.Start
 start k = k .before .before .before .before .before
 
@@ -67,9 +40,6 @@ beside : (k : tie.After-settle) {b : OptionalKey} → start k .args .before ≡ 
     → Judges (start k .args .places) (now (start k .args .table)) exit r (own k ∷ neighbour (start k .args .collection .0) (beforeOf (start k .args .before)))
 beside k is r exit = subst (λ b. Judges (start k .args .places) (now (start k .args .table)) exit r (own k ∷ neighbour (start k .args .collection .0) (beforeOf b))) (sym is)
 
-same-length : tie.Need-same-length
-same-length c = search needs
-
 returns : tie.Need-returns
 unfolding neighbour judgeAll
 returns c =
@@ -77,9 +47,6 @@ returns c =
     let known = told .before in
     let k = known .before .before .before .before in
     beside k (c .enum-told .given .1) _ _ (λ t s room. judged-on (own k) [] t (first k _ (known .more .given .1) t s (omega (arith, room))) _ _ (λ u h. h))
-
-same-length-2 : tie.Need-same-length-2
-same-length-2 c = search needs
 
 returns-2 : tie.Need-returns-2
 unfolding neighbour
@@ -96,9 +63,6 @@ returns-2 c =
     (subst (λ (e : Expectation). SettlesTo (judge e u) (call .settle2 .result) (call .settle2 .last .0)) (λ i. expectationOf (node k .raw .ensures i) (raw .raw3 .ensures i) key-use.Kept)
     (call .settle2 .ensures u h (omega (arith, room, judged-count (own k) _ t s _ settled))))))
 
-same-length-3 : tie.Need-same-length-3
-same-length-3 c = search needs
-
 returns-3 : tie.Need-returns-3
 returns-3 c = λ t s room.
     let k = c .before .before .before .before in
@@ -107,19 +71,6 @@ returns-3 c = λ t s room.
 pub settle-beside-spec : {M : Type 1} → statement M
 settle-beside-spec =
     tie.close
-    (tie.spec
-    raw-requires
-    raw-requires-2
-    settle-requires
-    enum-known-more
-    enum-told
-    enum-known-before
-    raw-requires-3
-    settle-requires-2
-    enum-told-2
-    same-length
-    returns
-    same-length-2
-    returns-2
-    same-length-3
-    returns-3)
+    (tie.spec (λ c κs. search needs) (λ c κs. search needs) (λ c κs. search needs) (λ c. search needs) (λ c. search needs)
+    (λ c. search needs) (λ c κs. search needs) (λ c κs. search needs) (λ c. search needs) (λ c. search needs) returns
+    (λ c. search needs) returns-2 (λ c. search needs) returns-3)

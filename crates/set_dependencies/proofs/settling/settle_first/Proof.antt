@@ -13,24 +13,6 @@ use Rattle.set_dependencies.specs.SettlingLaws.{places-length, first-wit
 use Rattle.set_dependencies.proofs.settling.settle_first.Statement.{statement}
 use Rattle.set_dependencies.proofs.settling.settle_first.Tie as tie
 
-expected-requires : tie.Need-expected-requires
-expected-requires c κs = search needs
-
-left-requires : tie.Need-left-requires
-left-requires c κs = search needs
-
-settled-row-requires : tie.Need-settled-row-requires
-settled-row-requires c κs = search needs
-
-slice-aggregate-insert-near : tie.Need-slice-aggregate-insert-near
-slice-aggregate-insert-near c = search needs
-
-insert-near-requires : tie.Need-insert-near-requires
-insert-near-requires c κs = search needs
-
-same-length : tie.Need-same-length
-same-length c = search needs
-
 returns : tie.Need-returns
 unfolding settledBy
 returns c = λ t s is room.
@@ -48,11 +30,5 @@ returns c = λ t s is room.
 pub settle-first-spec : {M : Type 1} → statement M
 settle-first-spec =
     tie.close
-    (tie.spec
-    expected-requires
-    left-requires
-    settled-row-requires
-    slice-aggregate-insert-near
-    insert-near-requires
-    same-length
-    returns)
+    (tie.spec (λ c κs. search needs) (λ c κs. search needs) (λ c κs. search needs) (λ c. search needs) (λ c κs. search needs)
+    (λ c. search needs) returns)

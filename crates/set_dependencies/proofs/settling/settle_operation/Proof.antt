@@ -18,36 +18,6 @@ by-case : (k : tie.Start) {o : ProjectionPatchOperation} → k .args .operation 
     → Judges (k .args .places) (now (k .args .table)) exit r (expectations (operationOf [] o)) → Judges (k .args .places) (now (k .args .table)) exit r (expectations (operationOf [] (k .args .operation)))
 by-case k is r exit = subst (λ o. Judges (k .args .places) (now (k .args .table)) exit r (expectations (operationOf [] o))) (sym is)
 
-enum-told : tie.Need-enum-told
-enum-told c = search needs
-
-enum-told-2 : tie.Need-enum-told-2
-enum-told-2 c = search needs
-
-enum-known-operation : tie.Need-enum-known-operation
-enum-known-operation c = search needs
-
-settle-beside-requires : tie.Need-settle-beside-requires
-settle-beside-requires c κs = search needs
-
-enum-known-operation-2 : tie.Need-enum-known-operation-2
-enum-known-operation-2 c = search needs
-
-settle-beside-requires-2 : tie.Need-settle-beside-requires-2
-settle-beside-requires-2 c κs = search needs
-
-enum-known-operation-3 : tie.Need-enum-known-operation-3
-enum-known-operation-3 c = search needs
-
-settle-beside-requires-3 : tie.Need-settle-beside-requires-3
-settle-beside-requires-3 c κs = search needs
-
-enum-known-operation-4 : tie.Need-enum-known-operation-4
-enum-known-operation-4 c = search needs
-
-settle-beside-requires-4 : tie.Need-settle-beside-requires-4
-settle-beside-requires-4 c κs = search needs
-
 returns : tie.Need-returns
 unfolding expectations judgeAll
 returns c = by-case (c .before .before .before) (c .enum-told .given .1) _ _ (λ t s room. s)
@@ -56,18 +26,12 @@ returns-2 : tie.Need-returns-2
 unfolding expectations judgeAll
 returns-2 c = by-case (c .before .before .before) (c .enum-told2 .given .1) _ _ (λ t s room. s)
 
-same-length : tie.Need-same-length
-same-length c = search needs
-
 returns-3 : tie.Need-returns-3
 unfolding expectations
 returns-3 c =
     let call = c .before .before in
     let bound = call .before .before .before in
     by-case (bound .before .before .before) (bound .operation .given .1) _ _ (call .settle-beside .ensures)
-
-same-length-2 : tie.Need-same-length-2
-same-length-2 c = search needs
 
 returns-4 : tie.Need-returns-4
 unfolding expectations neighbour
@@ -76,18 +40,12 @@ returns-4 c =
     let bound = call .before .before .before in
     by-case (bound .before .before .before) (bound .operation2 .given .1) _ _ (call .settle-beside2 .ensures)
 
-same-length-3 : tie.Need-same-length-3
-same-length-3 c = search needs
-
 returns-5 : tie.Need-returns-5
 unfolding expectations neighbour
 returns-5 c =
     let call = c .before .before in
     let bound = call .before .before .before in
     by-case (bound .before .before .before) (bound .operation3 .given .1) _ _ (call .settle-beside3 .ensures)
-
-same-length-4 : tie.Need-same-length-4
-same-length-4 c = search needs
 
 returns-6 : tie.Need-returns-6
 unfolding expectations
@@ -99,24 +57,7 @@ returns-6 c =
 pub settle-operation-spec : {M : Type 1} → statement M
 settle-operation-spec =
     tie.close
-    (tie.spec
-    enum-told
-    enum-told-2
-    enum-known-operation
-    settle-beside-requires
-    enum-known-operation-2
-    settle-beside-requires-2
-    enum-known-operation-3
-    settle-beside-requires-3
-    enum-known-operation-4
-    settle-beside-requires-4
-    returns
-    returns-2
-    same-length
-    returns-3
-    same-length-2
-    returns-4
-    same-length-3
-    returns-5
-    same-length-4
+    (tie.spec (λ c. search needs) (λ c. search needs) (λ c. search needs) (λ c κs. search needs) (λ c. search needs)
+    (λ c κs. search needs) (λ c. search needs) (λ c κs. search needs) (λ c. search needs) (λ c κs. search needs) returns
+    returns-2 (λ c. search needs) returns-3 (λ c. search needs) returns-4 (λ c. search needs) returns-5 (λ c. search needs)
     returns-6)

@@ -14,27 +14,9 @@ use Rattle.shell_player.proofs.tables.with_tables.Tie as tie
 same-tables : (c : ActivatedShellSessionContext) (t : ShellLocalState) (n : ProjectionCounts) {b b′ a a′ e e′ l l′ : List ℕ} → b ≡ b′ → a ≡ a′ → e ≡ e′ → l ≡ l′ → sessionOf c t n b a e l ≡ sessionOf c t n b′ a′ e′ l′
 same-tables c t n p q r s = rw (p, q, r, s) refl
 
-put-bindings-requires : tie.Need-put-bindings-requires
-put-bindings-requires c κs = search needs
-
-put-availability-requires : tie.Need-put-availability-requires
-put-availability-requires c κs = search needs
-
-put-entries-requires : tie.Need-put-entries-requires
-put-entries-requires c κs = search needs
-
-put-lengths-requires : tie.Need-put-lengths-requires
-put-lengths-requires c κs = search needs
-
 returns : tie.Need-returns
 returns c = same-tables _ _ _ (c .before .before .before .before .before .before .put-bindings .ensures) (c .before .before .before .before .put-availability .ensures) (c .before .before .put-entries .ensures) (c .put-lengths .ensures)
 
 pub with-tables-spec : {M : Type 1} → statement M
 with-tables-spec =
-    tie.close
-    (tie.spec
-    put-bindings-requires
-    put-availability-requires
-    put-entries-requires
-    put-lengths-requires
-    returns)
+    tie.close (tie.spec (λ c κs. search needs) (λ c κs. search needs) (λ c κs. search needs) (λ c κs. search needs) returns)

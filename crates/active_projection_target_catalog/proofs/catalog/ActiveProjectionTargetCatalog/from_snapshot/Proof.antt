@@ -5,16 +5,10 @@ use Rattle.active_projection_target_catalog.proofs.catalog.ActiveProjec
 }
 use Rattle.active_projection_target_catalog.proofs.catalog.ActiveProjectionTargetCatalog.from_snapshot.Tie as tie
 
-padded-ids-requires : tie.Need-padded-ids-requires
-padded-ids-requires c κs = search needs
-
-padded-ids-requires-2 : tie.Need-padded-ids-requires-2
-padded-ids-requires-2 c κs = search needs
-
 returns : tie.Need-returns
 unfolding catalogWith
 returns c = rw (c .before .«padded-ids» .ensures, c .«padded-ids2» .ensures)
 
 pub from-snapshot-spec : {M : Type 1} → statement M
 from-snapshot-spec =
-    tie.close (tie.spec padded-ids-requires padded-ids-requires-2 returns)
+    tie.close (tie.spec (λ c κs. search needs) (λ c κs. search needs) returns)

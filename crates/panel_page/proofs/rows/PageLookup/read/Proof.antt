@@ -15,27 +15,12 @@ use Rattle.panel_page.specs.declared.rows.PageLookup.{PageLookup}
 use Rattle.panel_page.proofs.rows.PageLookup.read.Statement.{statement}
 use Rattle.panel_page.proofs.rows.PageLookup.read.Tie as tie
 
-number-at-requires : tie.Need-number-at-requires
-number-at-requires c κs = search needs
-
-no-answer-requires : tie.Need-no-answer-requires
-no-answer-requires c κs = search needs
-
 returns : tie.Need-returns
 returns c = by-answer
   where
     by-answer : (a : Option PageEntry) → FitsAnswer a → now (c .before .before .before .before .args .row) ≡ answerRow a → c .no-answer .result ≡ pageLookup a
     by-answer none fits is = c .no-answer .ensures
     by-answer (some x) fits is = absurd (omega (arith, some-found x fits, ap (fieldAt 0 foundWidth) is, c .before .before .number-at .ensures))
-
-number-at-requires-2 : tie.Need-number-at-requires-2
-number-at-requires-2 c κs = search needs
-
-number-at-requires-3 : tie.Need-number-at-requires-3
-number-at-requires-3 c κs = search needs
-
-stored-value-requires : tie.Need-stored-value-requires
-stored-value-requires c κs = search needs
 
 returns-2 : tie.Need-returns-2
 unfolding pageLookup
@@ -53,11 +38,5 @@ returns-2 c = by-answer
 pub read-spec : {M : Type 1} → statement M
 read-spec =
     tie.close
-    (tie.spec
-    number-at-requires
-    no-answer-requires
-    returns
-    number-at-requires-2
-    number-at-requires-3
-    stored-value-requires
-    returns-2)
+    (tie.spec (λ c κs. search needs) (λ c κs. search needs) returns (λ c κs. search needs) (λ c κs. search needs)
+    (λ c κs. search needs) returns-2)

@@ -7,15 +7,6 @@ use Rattle.patch_part_writer.specs.Answer.{writeRefusalOf}
 use Rattle.patch_part_writer.proofs.written.WriteRefusal.number.Statement.{statement}
 use Rattle.patch_part_writer.proofs.written.WriteRefusal.number.Tie as tie
 
-enum-told : tie.Need-enum-told
-enum-told c = search needs
-
-enum-told-2 : tie.Need-enum-told-2
-enum-told-2 c = search needs
-
-enum-told-3 : tie.Need-enum-told-3
-enum-told-3 c = search needs
-
 returns : tie.Need-returns
 unfolding writeNumber
 returns c = sym (ap (λ (s : WriteRefusal). writeNumber (writeRefusalOf s)) (c .enum-told .given .1))
@@ -29,4 +20,5 @@ unfolding writeNumber
 returns-3 c = sym (ap (λ (s : WriteRefusal). writeNumber (writeRefusalOf s)) (c .enum-told3 .given .1))
 
 pub number-spec : {M : Type 1} → statement M
-number-spec = tie.close (tie.spec enum-told enum-told-2 enum-told-3 returns returns-2 returns-3)
+number-spec =
+    tie.close (tie.spec (λ c. search needs) (λ c. search needs) (λ c. search needs) returns returns-2 returns-3)

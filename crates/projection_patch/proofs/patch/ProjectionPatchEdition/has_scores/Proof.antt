@@ -7,12 +7,6 @@ use Rattle.projection_patch.specs.declared.patch.ProjectionPatchEdition.
 use Rattle.projection_patch.proofs.patch.ProjectionPatchEdition.has_scores.Statement.{statement}
 use Rattle.projection_patch.proofs.patch.ProjectionPatchEdition.has_scores.Tie as tie
 
-enum-told : tie.Need-enum-told
-enum-told c = search needs
-
-enum-told-2 : tie.Need-enum-told-2
-enum-told-2 c = search needs
-
 returns : tie.Need-returns
 unfolding addedKinds kinds hasKind
 returns c = sym (ap (λ (e : ProjectionPatchEdition). hasKind (editionOf e) 5) (c .enum-told .given .1))
@@ -22,4 +16,5 @@ unfolding addedKinds kinds hasKind
 returns-2 c = sym (ap (λ (e : ProjectionPatchEdition). hasKind (editionOf e) 5) (c .enum-told2 .given .1))
 
 pub has-scores-spec : {M : Type 1} → statement M
-has-scores-spec = tie.close (tie.spec enum-told enum-told-2 returns returns-2)
+has-scores-spec =
+    tie.close (tie.spec (λ c. search needs) (λ c. search needs) returns returns-2)

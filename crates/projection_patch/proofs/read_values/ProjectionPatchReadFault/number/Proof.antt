@@ -7,12 +7,6 @@ use Rattle.projection_patch.specs.declared.read_values.ProjectionPatchRe
 use Rattle.projection_patch.proofs.read_values.ProjectionPatchReadFault.number.Statement.{statement}
 use Rattle.projection_patch.proofs.read_values.ProjectionPatchReadFault.number.Tie as tie
 
-enum-told : tie.Need-enum-told
-enum-told c = search needs
-
-enum-told-2 : tie.Need-enum-told-2
-enum-told-2 c = search needs
-
 returns : tie.Need-returns
 unfolding faultNumber
 returns c = sym (ap (λ (f : ProjectionPatchReadFault). faultNumber (faultOf f)) (c .enum-told .given .1))
@@ -22,4 +16,5 @@ unfolding faultNumber
 returns-2 c = sym (ap (λ (f : ProjectionPatchReadFault). faultNumber (faultOf f)) (c .enum-told2 .given .1))
 
 pub number-spec : {M : Type 1} → statement M
-number-spec = tie.close (tie.spec enum-told enum-told-2 returns returns-2)
+number-spec =
+    tie.close (tie.spec (λ c. search needs) (λ c. search needs) returns returns-2)

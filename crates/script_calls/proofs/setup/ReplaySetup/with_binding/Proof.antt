@@ -8,12 +8,6 @@ use borrow.Author.Needs.{needs}
 use Rattle.script_calls.proofs.setup.ReplaySetup.with_binding.Statement.{statement}
 use Rattle.script_calls.proofs.setup.ReplaySetup.with_binding.Tie as tie
 
-kept-pairs-requires : tie.Need-kept-pairs-requires
-kept-pairs-requires c κs = search needs
-
-kept-count-requires : tie.Need-kept-count-requires
-kept-count-requires c κs = search needs
-
 returns : tie.Need-returns
 unfolding withBinding
 returns c =
@@ -27,4 +21,5 @@ returns c =
     }
 
 pub with-binding-spec : {M : Type 1} → statement M
-with-binding-spec = tie.close (tie.spec kept-pairs-requires kept-count-requires returns)
+with-binding-spec =
+    tie.close (tie.spec (λ c κs. search needs) (λ c κs. search needs) returns)

@@ -11,12 +11,6 @@ use Rattle.spec_lists.specs.ListLaws.{unmapped}
 use Rattle.session_from_pairs.proofs.pairs.BindingAnchors.put.Statement.{statement}
 use Rattle.session_from_pairs.proofs.pairs.BindingAnchors.put.Tie as tie
 
-mul-pair : tie.Need-mul-pair
-mul-pair c = search needs
-
-element-set-from-pair : tie.Need-element-set-from-pair
-element-set-from-pair c = search needs
-
 returns : tie.Need-returns
 unfolding withPair
 returns c = search needs
@@ -29,4 +23,5 @@ returns-2 c =
     ap (λ (l : List BindingPair). record { pairs = l; given = a .self .given }) (sym (set-out (a .self .pairs) (a .i) (a .pair) (omega (arith, long, c .if1 .left))))
 
 pub put-spec : {M : Type 1} → statement M
-put-spec = tie.close (tie.spec mul-pair element-set-from-pair returns returns-2)
+put-spec =
+    tie.close (tie.spec (λ c. search needs) (λ c. search needs) returns returns-2)

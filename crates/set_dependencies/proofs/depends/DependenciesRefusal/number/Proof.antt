@@ -11,18 +11,6 @@ use Rattle.set_dependencies.proofs.depends.DependenciesRefusal.number.T
 abbrev numbered : DependenciesRefusal → ℕ
 numbered r = refusalNumber (dependsRefusalOf r)
 
-enum-known-self : tie.Need-enum-known-self
-enum-known-self c = search needs
-
-number-requires : tie.Need-number-requires
-number-requires c κs = search needs
-
-enum-told : tie.Need-enum-told
-enum-told c = search needs
-
-enum-told-2 : tie.Need-enum-told-2
-enum-told-2 c = search needs
-
 returns : tie.Need-returns
 unfolding refusalNumber
 returns c = c .number .ensures ∙ sym (ap numbered (c .before .before .self .given .1))
@@ -38,4 +26,4 @@ returns-3 c = search needs
 pub number-spec : {M : Type 1} → statement M
 number-spec =
     tie.close
-    (tie.spec enum-known-self number-requires enum-told enum-told-2 returns returns-2 returns-3)
+    (tie.spec (λ c. search needs) (λ c κs. search needs) (λ c. search needs) (λ c. search needs) returns returns-2 returns-3)

@@ -51,18 +51,6 @@ told : {s : ShellSession} {e : OrderedProjectionPatchBatchEnvelope} {declared : 
     → BatchCall s e declared set ed (batchOf session result) × AnyBatchCall s e (batchOf session result) → BatchCall s e declared set ed r × AnyBatchCall s e r
 told {s = s} {e = e} {declared = declared} {set = set} {ed = ed} session result is h = subst (λ x. BatchCall s e declared set ed x × AnyBatchCall s e x) (sym is) h
 
-check-session-requires : tie.Need-check-session-requires
-check-session-requires c κs = search needs
-
-enum-known-gate : tie.Need-enum-known-gate
-enum-known-gate c = search needs
-
-rejected-requires : tie.Need-rejected-requires
-rejected-requires c κs = search needs
-
-batch-of-requires : tie.Need-batch-of-requires
-batch-of-requires c κs = search needs
-
 returns : tie.Need-returns
 unfolding gateOf checkCounted
 returns c =
@@ -78,18 +66,6 @@ returns c =
       },
     )
 
-enum-told : tie.Need-enum-told
-enum-told c = search needs
-
-is-empty-requires : tie.Need-is-empty-requires
-is-empty-requires c κs = search needs
-
-unchanged-requires : tie.Need-unchanged-requires
-unchanged-requires c κs = search needs
-
-batch-of-requires-2 : tie.Need-batch-of-requires-2
-batch-of-requires-2 c κs = search needs
-
 returns-2 : tie.Need-returns-2
 unfolding gateOf
 returns-2 c =
@@ -104,33 +80,6 @@ returns-2 c =
         preflight = λ f n h. never-passes (sym (gate ∙ checked .1 .1 f n h));
       },
     )
-
-none-used-requires : tie.Need-none-used-requires
-none-used-requires c κs = search needs
-
-slice-aggregate-apply-set : tie.Need-slice-aggregate-apply-set
-slice-aggregate-apply-set c = search needs
-
-slice-aggregate-apply-set-2 : tie.Need-slice-aggregate-apply-set-2
-slice-aggregate-apply-set-2 c = search needs
-
-slice-aggregate-apply-set-3 : tie.Need-slice-aggregate-apply-set-3
-slice-aggregate-apply-set-3 c = search needs
-
-slice-aggregate-apply-set-4 : tie.Need-slice-aggregate-apply-set-4
-slice-aggregate-apply-set-4 c = search needs
-
-apply-set-requires : tie.Need-apply-set-requires
-apply-set-requires c κs = search needs
-
-concluded-requires : tie.Need-concluded-requires
-concluded-requires c κs = search needs
-
-enum-known-change : tie.Need-enum-known-change
-enum-known-change c = search needs
-
-batch-of-requires-3 : tie.Need-batch-of-requires-3
-batch-of-requires-3 c κs = search needs
 
 returns-3 : tie.Need-returns-3
 unfolding gateOf
@@ -149,12 +98,6 @@ returns-3 c =
       },
     )
 
-advanced-requires : tie.Need-advanced-requires
-advanced-requires c κs = search needs
-
-with-tables-requires : tie.Need-with-tables-requires
-with-tables-requires c κs = search needs
-
 -- the answer where the set was applied
 answered : (c : tie.After-with-tables) → batchAnswerOf (c .before .before .before .before .before .concluded .result) ≡ answerAt applied (at (c .before .before .before .before .before .before .before .before .before .before .before .before .before .before .before .before .before .before .before .before .before .before .before .before .before .before .before .before .before .before .before .before .args .envelope .«sequence_no»))
 unfolding changeAnswer
@@ -171,9 +114,6 @@ handed c m ps h reads some =
     let stored : Tables call (Applied (ended .0 .0)) m ps = subst (λ r. Tables call r m ps) (ended .1) (became call m ps h reads) in
     subst (λ (s : ShellSession). BatchBecame (batchOf s result) (commit m (envelopeMeans (a .envelope)) (candidate m ps))) (sym (c .with-tables .ensures))
     (commits-applied (a .t1) m h (envelopeMeans (a .envelope)) ps (ended .0 .0) _ _ _ _ (c .before .advanced .result) result some stored (c .before .advanced .ensures) (answered c))
-
-batch-of-requires-4 : tie.Need-batch-of-requires-4
-batch-of-requires-4 c κs = search needs
 
 returns-4 : tie.Need-returns-4
 unfolding gateOf
@@ -195,28 +135,8 @@ returns-4 c =
 pub apply-projection-patch-batch-spec : {M : Type 1} → statement M
 apply-projection-patch-batch-spec =
     tie.close
-    (tie.spec
-    check-session-requires
-    enum-known-gate
-    rejected-requires
-    batch-of-requires
-    returns
-    enum-told
-    is-empty-requires
-    unchanged-requires
-    batch-of-requires-2
-    returns-2
-    none-used-requires
-    slice-aggregate-apply-set
-    slice-aggregate-apply-set-2
-    slice-aggregate-apply-set-3
-    slice-aggregate-apply-set-4
-    apply-set-requires
-    concluded-requires
-    enum-known-change
-    batch-of-requires-3
-    returns-3
-    advanced-requires
-    with-tables-requires
-    batch-of-requires-4
-    returns-4)
+    (tie.spec (λ c κs. search needs) (λ c. search needs) (λ c κs. search needs) (λ c κs. search needs) returns
+    (λ c. search needs) (λ c κs. search needs) (λ c κs. search needs) (λ c κs. search needs) returns-2 (λ c κs. search needs)
+    (λ c. search needs) (λ c. search needs) (λ c. search needs) (λ c. search needs) (λ c κs. search needs)
+    (λ c κs. search needs) (λ c. search needs) (λ c κs. search needs) returns-3 (λ c κs. search needs) (λ c κs. search needs)
+    (λ c κs. search needs) returns-4)

@@ -3,14 +3,9 @@ use borrow.Author.Needs.{needs}
 use Rattle.shell_player.proofs.session.ShellSession.collection_length.Statement.{statement}
 use Rattle.shell_player.proofs.session.ShellSession.collection_length.Tie as tie
 
-slice-aggregate-collection-length : tie.Need-slice-aggregate-collection-length
-slice-aggregate-collection-length c = search needs
-
-collection-length-requires : tie.Need-collection-length-requires
-collection-length-requires c κs = search needs
-
 returns : tie.Need-returns
 returns c = λ m h. c .collection-length .ensures (m .projection) (h .projection .lengths) (h .projection .tables .valid)
 
 pub collection-length-spec : {M : Type 1} → statement M
-collection-length-spec = tie.close (tie.spec slice-aggregate-collection-length collection-length-requires returns)
+collection-length-spec =
+    tie.close (tie.spec (λ c. search needs) (λ c κs. search needs) returns)

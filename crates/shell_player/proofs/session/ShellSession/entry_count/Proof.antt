@@ -3,14 +3,9 @@ use borrow.Author.Needs.{needs}
 use Rattle.shell_player.proofs.session.ShellSession.entry_count.Statement.{statement}
 use Rattle.shell_player.proofs.session.ShellSession.entry_count.Tie as tie
 
-slice-aggregate-entry-count : tie.Need-slice-aggregate-entry-count
-slice-aggregate-entry-count c = search needs
-
-entry-count-requires : tie.Need-entry-count-requires
-entry-count-requires c κs = search needs
-
 returns : tie.Need-returns
 returns c = λ m h. c .entry-count .ensures (m .projection) (h .projection .tables .entries) (h .projection .tables .valid)
 
 pub entry-count-spec : {M : Type 1} → statement M
-entry-count-spec = tie.close (tie.spec slice-aggregate-entry-count entry-count-requires returns)
+entry-count-spec =
+    tie.close (tie.spec (λ c. search needs) (λ c κs. search needs) returns)

@@ -3,14 +3,9 @@ use borrow.Author.Needs.{needs}
 use Rattle.shell_player.proofs.session.ShellSession.entry_value.Statement.{statement}
 use Rattle.shell_player.proofs.session.ShellSession.entry_value.Tie as tie
 
-slice-aggregate-entry-value : tie.Need-slice-aggregate-entry-value
-slice-aggregate-entry-value c = search needs
-
-entry-value-requires : tie.Need-entry-value-requires
-entry-value-requires c κs = search needs
-
 returns : tie.Need-returns
 returns c = λ m h. c .entry-value .ensures (m .projection) (h .projection .tables .entries) (h .projection .tables .valid)
 
 pub entry-value-spec : {M : Type 1} → statement M
-entry-value-spec = tie.close (tie.spec slice-aggregate-entry-value entry-value-requires returns)
+entry-value-spec =
+    tie.close (tie.spec (λ c. search needs) (λ c κs. search needs) returns)

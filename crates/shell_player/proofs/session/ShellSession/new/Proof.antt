@@ -8,12 +8,10 @@ use borrow.Author.Needs.{needs}
 use Rattle.shell_player.proofs.session.ShellSession.new.Statement.{statement}
 use Rattle.shell_player.proofs.session.ShellSession.new.Tie as tie
 
-empty-requires : tie.Need-empty-requires
-empty-requires c κs = search needs
-
 returns : tie.Need-returns
 unfolding newState
 returns c = rw (one-state empty (c .empty .result) (storedState empty) (c .empty .ensures) (some-state empty empty-valid))
 
 pub new-spec : {M : Type 1} → statement M
-new-spec = tie.close (tie.spec empty-requires returns)
+new-spec =
+    tie.close (tie.spec (λ c κs. search needs) returns)

@@ -10,12 +10,6 @@ use borrow.Author.Needs.{needs}
 use Rattle.shell_player.proofs.session.ShellSession.transition.Statement.{statement}
 use Rattle.shell_player.proofs.session.ShellSession.transition.Tie as tie
 
-evaluate-lifecycle-transition-requires : tie.Need-evaluate-lifecycle-transition-requires
-evaluate-lifecycle-transition-requires c κs = search needs
-
-next-state-requires : tie.Need-next-state-requires
-next-state-requires c κs = search needs
-
 returns : tie.Need-returns
 unfolding afterTransition
 returns c =
@@ -34,4 +28,5 @@ returns c =
     )
 
 pub transition-spec : {M : Type 1} → statement M
-transition-spec = tie.close (tie.spec evaluate-lifecycle-transition-requires next-state-requires returns)
+transition-spec =
+    tie.close (tie.spec (λ c κs. search needs) (λ c κs. search needs) returns)
