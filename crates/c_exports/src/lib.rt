@@ -2,6 +2,7 @@
 // Tables and heads are pointers to arrays of their length; anchors, sets and outputs are a pointer and a length. All of them stand in this
 // crate, since an archive has the exported functions of one.
 pub mod bytes;
+pub mod group;
 pub mod session;
 pub mod turns;
 pub mod views;
