@@ -10,8 +10,8 @@ import sys
 from pathlib import Path
 
 ROOT = Path(__file__).resolve().parent.parent
-ANSWERS = [ROOT / "crates" / "c_answers" / "src" / name for name in ("answers.rt", "counts.rt", "values.rt", "sets.rt", "figures.rt", "explanations.rt")] + [ROOT / "crates" / "c_exports" / "src" / "turns.rt"]
-CALLS = [ROOT / "crates" / "c_exports" / "src" / name for name in ("lib.rt", "session.rt", "views.rt", "bytes.rt", "turns.rt", "explain.rt")]
+ANSWERS = [ROOT / "crates" / "c_answers" / "src" / name for name in ("answers.rt", "groups.rt", "counts.rt", "values.rt", "sets.rt", "figures.rt", "explanations.rt")] + [ROOT / "crates" / "c_exports" / "src" / "turns.rt"]
+CALLS = [ROOT / "crates" / "c_exports" / "src" / name for name in ("lib.rt", "session.rt", "group.rt", "views.rt", "bytes.rt", "turns.rt", "explain.rt")]
 RULES = ROOT / "crates" / "c_answers" / "specs" / "Explanations.antt"
 HEADER = ROOT / "include" / "geysertray.h"
 PYTHON = ROOT / "bindings" / "python" / "geysertray.py"
@@ -38,6 +38,8 @@ CAPACITIES = {
     "ProjectionPatchSet::BYTES": "GEYSERTRAY_SET_BYTES",
     "FindingsListed::NUMBERS": "GEYSERTRAY_FINDING_NUMBERS",
     "settled_rows::ROWS": "GEYSERTRAY_DEPENDS_KEYS",
+    "GroupBatch::MOST": "GEYSERTRAY_GROUP_BATCHES",
+    "groups::BATCH_NUMBERS": "GEYSERTRAY_BATCH_NUMBERS",
 }
 SCALARS = {"u64": "uint64_t", "u32": "uint32_t", "u8": "uint8_t", "i64": "int64_t", "usize": "size_t"}
 

@@ -31,7 +31,8 @@ static uint64_t number(void)
 
 /* ---- slices between pages that may not be touched */
 
-enum { HEAD, BINDINGS, AVAILABILITY, ENTRIES, LENGTHS, TO_HEAD, TO_BINDINGS, TO_AVAILABILITY, TO_ENTRIES, TO_LENGTHS, NODES, PAIRS, COLLECTIONS, SET, OUT, TURNS, FENCES };
+enum { HEAD, BINDINGS, AVAILABILITY, ENTRIES, LENGTHS, TO_HEAD, TO_BINDINGS, TO_AVAILABILITY, TO_ENTRIES, TO_LENGTHS };
+enum { SPARE_HEAD = TO_LENGTHS + 1, SPARE_BINDINGS, SPARE_AVAILABILITY, SPARE_ENTRIES, SPARE_LENGTHS, NODES, PAIRS, COLLECTIONS, NUMBERS, SET, OUT, TURNS, FENCES };
 enum { PAGE = 4096, ROOM = 32 * PAGE, GUARD = 0xa5 };
 
 static struct fence {
@@ -194,7 +195,7 @@ static uint8_t *lend_set(void)
 
 /* ---- sessions: the one that has come to be, sometimes with wrong bytes */
 
-static geysertray_half half;
+static geysertray_half half, spare;
 
 static void spoil(void *memory, size_t size)
 {
@@ -366,6 +367,56 @@ static void take_turns(void)
     look_at_slices(refusal ? 0 : 1u << TURNS, "turns");
 }
 
+/* A group of so many random sets: its numbers and its bytes, of which mostly all are true. */
+static uint64_t batch_numbers[9 * GEYSERTRAY_BATCH_NUMBERS];
+static uint8_t sets[ROOM];
+static size_t sets_count;
+
+static void random_group(uint64_t count)
+{
+    uint64_t sequence = half.head[2] ? half.head[3] + 1 : 1, i;
+    sets_count = 0;
+    for (i = 0; i < count; i++) {
+        uint64_t *told = &batch_numbers[i * GEYSERTRAY_BATCH_NUMBERS];
+        random_set();
+        if (sets_count + SET_COUNT > sizeof sets)
+            set_end = set;
+        memcpy(sets + sets_count, set, SET_COUNT);
+        sets_count += SET_COUNT;
+        told[0] = chance(50) ? half.head[0] : number(), told[1] = chance(50) ? sequence : number(), told[2] = chance(50) ? set_patches : number(), told[3] = number();
+        told[4] = chance(50) ? set_operations : number(), told[5] = chance(50) ? set_edition : number(), told[6] = chance(50) ? SET_COUNT : number();
+        sequence += set_patches != 0;
+    }
+}
+
+static uint64_t taken_groups;
+
+static void group(void)
+{
+    geysertray_group_answer told;
+    uint64_t count = chance(10) ? 1 + chance(3) : chance(10);
+    size_t numbers = count * GEYSERTRAY_BATCH_NUMBERS - (count && chance(40) == 0);
+    int sound, nothing;
+    lend_session();
+    random_group(count);
+    lend_half(TO_HEAD, &panel.halves[1 - panel.current]), lend_half(SPARE_HEAD, &spare);
+    lend_anchors(panel.node_count, 2 * panel.pair_count, panel.collection_count);
+    lend(NUMBERS, batch_numbers, 8 * numbers), lend(SET, sets, sets_count);
+    sound = memcmp(&half, &panel.halves[panel.current], sizeof half) == 0;
+    told = geysertray_group(
+        AT64(HEAD), AT64(NODES), panel.node_count, AT64(PAIRS), 2 * panel.pair_count, AT64(COLLECTIONS), panel.collection_count, AT8(BINDINGS), AT8(AVAILABILITY),
+        AT8(ENTRIES), AT64(NUMBERS), numbers, AT8(SET), sets_count, AT64(TO_HEAD), AT8(TO_BINDINGS), AT8(TO_AVAILABILITY), AT8(TO_ENTRIES), AT8(TO_LENGTHS),
+        AT64(SPARE_HEAD), AT8(SPARE_BINDINGS), AT8(SPARE_AVAILABILITY), AT8(SPARE_ENTRIES), AT8(SPARE_LENGTHS));
+    nothing = told.answer.disposition > GEYSERTRAY_REJECTED || told.answer.number == GEYSERTRAY_NOT_A_GROUP;
+    if (sound && !nothing) {
+        keep_half(told.half == GEYSERTRAY_SECOND_HALF ? SPARE_HEAD : TO_HEAD, &panel.halves[1 - panel.current]);
+        keep_half(told.half == GEYSERTRAY_SECOND_HALF ? TO_HEAD : SPARE_HEAD, &spare);
+        panel.current = told.half == GEYSERTRAY_OWN_HALF ? panel.current : 1 - panel.current;
+        taken_groups += told.count != 0;
+    }
+    look_at_slices(nothing ? 0 : HALF_BITS << TO_HEAD | HALF_BITS << SPARE_HEAD, "group");
+}
+
 static void look_up(void)
 {
     uint64_t collection = number(), key = held_key(collection);
@@ -484,7 +535,7 @@ static void check_set(void)
 }
 
 static void (*const calls[])(void) = {
-    step, batch, batch, batch, batch, batch, batch, create_refused, take_turns, look_up, look_up, list_panel, print_collection, page, on_set, import, check_set,
+    step, batch, batch, batch, batch, batch, group, group, create_refused, take_turns, look_up, look_up, list_panel, print_collection, page, on_set, import, check_set,
 };
 
 int main(int count, char **words)
@@ -499,6 +550,6 @@ int main(int count, char **words)
             create();
         else
             calls[chance(sizeof calls / sizeof *calls)]();
-    printf("%" PRIu64 " random calls, %" PRIu64 " batches applied, %" PRIu64 " faults\n", i, applied_batches, faults);
+    printf("%" PRIu64 " random calls, %" PRIu64 " batches applied, %" PRIu64 " groups taken, %" PRIu64 " faults\n", i, applied_batches, taken_groups, faults);
     return faults != 0;
 }

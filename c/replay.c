@@ -6,13 +6,14 @@
 #include <stdio.h>
 #include <string.h>
 
-enum { LINE_BYTES = 131072, KEPT_ANCHORS = 129, PAGE_KEYS = 128, MOST_FIELDS = 2 + PAGE_KEYS };
+enum { LINE_BYTES = 131072, KEPT_ANCHORS = 129, PAGE_KEYS = 128, MOST_FIELDS = 2 + PAGE_KEYS, LINE_BATCHES = 16 };
 
 /* the set-up for the next session */
 static uint64_t id, limits[4], nodes[KEPT_ANCHORS], pairs[2 * KEPT_ANCHORS], collections[KEPT_ANCHORS];
 static size_t node_count, pair_count, collection_count;
 /* the session, if there is one */
 static geysertray_panel panel;
+static geysertray_half spare;
 static int has_session;
 static uint64_t edition = 1;
 /* the turns, if there are any */
@@ -37,6 +38,13 @@ static void print_optional(uint64_t has, uint64_t number)
         printf("\t%" PRIu64, number);
     else
         printf("\t-");
+}
+
+static void print_answer(const geysertray_answer *answer)
+{
+    printf("R\t%s\t%" PRIu64 "\t%" PRIu64 "\t%" PRIu64 "\t%" PRIu64, dispositions[answer->disposition], answer->number, answer->stage, answer->logical, answer->emitted);
+    print_optional(answer->has_cursor, answer->cursor);
+    putchar('\n');
 }
 
 static void print_escaped(const uint8_t *text, uint64_t length)
@@ -152,9 +160,7 @@ static void apply(void)
 static void batch(void)
 {
     geysertray_answer answer = geysertray_send(&panel, numbers[0], numbers[1], numbers[2], numbers[3], numbers[4], set, set_count, edition);
-    printf("R\t%s\t%" PRIu64 "\t%" PRIu64 "\t%" PRIu64 "\t%" PRIu64, dispositions[answer.disposition], answer.number, answer.stage, answer.logical, answer.emitted);
-    print_optional(answer.has_cursor, answer.cursor);
-    putchar('\n');
+    print_answer(&answer);
 }
 
 /* The figures of a rule, in the order of docs/RULES.md. */
@@ -190,6 +196,21 @@ static void explain(void)
     } else if (told.disposition == GEYSERTRAY_REJECTED)
         printf("\twithheld");
     putchar('\n');
+}
+
+static void group(void)
+{
+    geysertray_group_answer told = geysertray_send_group(&panel, &spare, numbers, number_count, set, set_count);
+    if (told.answer.number == GEYSERTRAY_NOT_A_GROUP) {
+        printf("U\t%" PRIu64 "\n", told.answer.number);
+    } else if (told.answer.disposition == GEYSERTRAY_REJECTED) {
+        printf("U\t0\t0\t%" PRIu64 "\n", told.place);
+        print_answer(&told.answer);
+    } else {
+        printf("U\t0\t%" PRIu64, told.count);
+        print_optional(told.answer.has_cursor, told.answer.cursor);
+        putchar('\n');
+    }
 }
 
 static void in_edition(void)
@@ -371,7 +392,7 @@ static void turn(void)
 /* ---- one line */
 
 /* The form has a letter for each field: n a number, s a slot, o a number or none, h bytes in hex, e an edition, a a step; c, d, p and k are rooms;
-   behind * stand up to 128 numbers. */
+   behind * stand up to 128 numbers; g is up to 16 batches and their sets. */
 static const struct command {
     const char *word, *form;
     int needs_session;
@@ -385,6 +406,7 @@ static const struct command {
     {"apply", "an", 1, apply},
     {"batch", "nnnnnh", 1, batch},
     {"explain", "nnnnnh", 1, explain},
+    {"group", "g", 1, group},
     {"check", "h", 0, check},
     {"list", "h", 0, list},
     {"show", "", 1, show},
@@ -462,9 +484,37 @@ static int read_field(char form, const char *field, size_t length, uint64_t *num
     }
 }
 
+/* A batch of a group: seven numbers with a comma between, the sixth an edition. */
+static int read_member(const char *at, const char *end)
+{
+    size_t i;
+    for (i = 0; i < GEYSERTRAY_BATCH_NUMBERS; i++) {
+        const char *comma = memchr(at, ',', (size_t)(end - at)), *stop = comma ? comma : end;
+        if ((i + 1 < GEYSERTRAY_BATCH_NUMBERS) != (comma != NULL) || !read_field(i == 5 ? 'e' : 'n', at, (size_t)(stop - at), &numbers[number_count++]))
+            return 0;
+        at = stop + 1;
+    }
+    return 1;
+}
+
+static int read_group(const char *at, const char *end)
+{
+    for (number_count = 0; at < end && *at == ' ';) {
+        const char *field = at + 1, *next = memchr(field, ' ', (size_t)(end - field));
+        if (!next)
+            return read_hex(field, (size_t)(end - field));
+        if (number_count == LINE_BATCHES * GEYSERTRAY_BATCH_NUMBERS || !read_member(field, next))
+            return 0;
+        at = next;
+    }
+    return 0;
+}
+
 /* The fields behind a command's words, each behind one space. */
 static int read_fields(const char *form, const char *at, const char *end)
 {
+    if (*form == 'g')
+        return read_group(at, end);
     for (number_count = 0; *form == '*' ? at < end && number_count < MOST_FIELDS : *form != 0; number_count++) {
         const char *field = at + 1, *next;
         if (at == end || *at != ' ')

@@ -39,6 +39,13 @@ enum {
     GEYSERTRAY_CLOSED = 3
 };
 
+/* the half in which a session stands after a group: its own, or one of the two that were lent to work in */
+enum {
+    GEYSERTRAY_OWN_HALF = 0,
+    GEYSERTRAY_FIRST_HALF = 1,
+    GEYSERTRAY_SECOND_HALF = 2
+};
+
 /* why a call was rejected: docs/RULES.md says what to do */
 enum {
     GEYSERTRAY_SESSION_MISMATCH = 1,
@@ -57,6 +64,7 @@ enum {
     GEYSERTRAY_OUTPUT_TOO_SHORT = 14,
     GEYSERTRAY_OTHER_FORM = 15,
     GEYSERTRAY_TOO_MANY_KEYS = 16,
+    GEYSERTRAY_NOT_A_GROUP = 17,
     GEYSERTRAY_KIND_MISSING = 18,
     GEYSERTRAY_UNKNOWN_SENDER = 19,
     GEYSERTRAY_ALREADY_WAITING = 20,
@@ -119,6 +127,8 @@ enum {
 #define GEYSERTRAY_SET_BYTES 32768
 #define GEYSERTRAY_FINDING_NUMBERS 945
 #define GEYSERTRAY_DEPENDS_KEYS 2520
+#define GEYSERTRAY_GROUP_BATCHES 8
+#define GEYSERTRAY_BATCH_NUMBERS 7
 
 /* the rules behind a number: docs/RULES.md has a sentence and the figures of each */
 enum {
@@ -218,6 +228,16 @@ typedef struct {
     uint64_t cursor;
     uint64_t stimulus_bytes;
 } geysertray_lifecycle;
+
+/* How many batches were taken; the place from 0 of the first that was refused; the half in which the session stands now, 0 its own, 1 the first and
+   2 the second of those to work in; and the answer: 0 with the cursor afterwards, the refused batch's own with the cursor from before the group, 2
+   and 17 for what is no group, 3 no session in the memory, 4 no such edition or numbers that are no sevens. */
+typedef struct {
+    uint64_t count;
+    uint64_t place;
+    uint64_t half;
+    geysertray_answer answer;
+} geysertray_group_answer;
 
 /* 0 and how many; 2 and the number of the rule that refuses; 3 no session in the memory; 4 no such edition. A refusal leaves every byte. */
 typedef struct {
@@ -371,6 +391,35 @@ geysertray_answer geysertray_batch(
     uint8_t to_availability[GEYSERTRAY_AVAILABILITY_BYTES],
     uint8_t to_entries[GEYSERTRAY_ENTRY_BYTES],
     uint8_t to_lengths[GEYSERTRAY_LENGTH_BYTES]);
+
+/* Several batches as if sent singly in order, or none. A batch is seven numbers: session id, sequence number, patch count, stimulus bytes, target
+   references, edition and the bytes of its set. The half that is read stays; the answer tells in which half the session stands, and the two that are
+   lent to work in can be lent to a later call, whatever came of the group. */
+geysertray_group_answer geysertray_group(
+    const uint64_t head[GEYSERTRAY_HEAD_NUMBERS],
+    const uint64_t *nodes,
+    size_t nodes_count,
+    const uint64_t *pairs,
+    size_t pairs_count,
+    const uint64_t *collections,
+    size_t collections_count,
+    const uint8_t bindings[GEYSERTRAY_BINDING_BYTES],
+    const uint8_t availability[GEYSERTRAY_AVAILABILITY_BYTES],
+    const uint8_t entries[GEYSERTRAY_ENTRY_BYTES],
+    const uint64_t *batches,
+    size_t batches_count,
+    const uint8_t *sets,
+    size_t sets_count,
+    uint64_t first_head[GEYSERTRAY_HEAD_NUMBERS],
+    uint8_t first_bindings[GEYSERTRAY_BINDING_BYTES],
+    uint8_t first_availability[GEYSERTRAY_AVAILABILITY_BYTES],
+    uint8_t first_entries[GEYSERTRAY_ENTRY_BYTES],
+    uint8_t first_lengths[GEYSERTRAY_LENGTH_BYTES],
+    uint64_t second_head[GEYSERTRAY_HEAD_NUMBERS],
+    uint8_t second_bindings[GEYSERTRAY_BINDING_BYTES],
+    uint8_t second_availability[GEYSERTRAY_AVAILABILITY_BYTES],
+    uint8_t second_entries[GEYSERTRAY_ENTRY_BYTES],
+    uint8_t second_lengths[GEYSERTRAY_LENGTH_BYTES]);
 
 /* The value of a binding. */
 geysertray_value geysertray_binding_value(
@@ -604,6 +653,24 @@ static inline geysertray_explanation geysertray_panel_explain(
     return geysertray_explain(
         half->head, panel->nodes, panel->node_count, panel->pairs, 2 * panel->pair_count, panel->collections, panel->collection_count, half->bindings,
         half->availability, half->entries, session_id, sequence_no, patch_count, stimulus_bytes, target_references, set, set_count, edition);
+}
+
+/* A group of a panel: seven numbers for each batch, and the sets end to end. The spare half is all zeros, or as an earlier call left it; one serves
+   any number of panels that are used by one thread. Where the group is taken the panel holds the session after it. */
+static inline geysertray_group_answer geysertray_send_group(
+    geysertray_panel *panel, geysertray_half *spare, const uint64_t *batches, size_t batches_count, const uint8_t *sets, size_t sets_count)
+{
+    const geysertray_half *from = &panel->halves[panel->current];
+    geysertray_half *to = &panel->halves[1 - panel->current];
+    geysertray_group_answer told = geysertray_group(
+        from->head, panel->nodes, panel->node_count, panel->pairs, 2 * panel->pair_count, panel->collections, panel->collection_count, from->bindings,
+        from->availability, from->entries, batches, batches_count, sets, sets_count, to->head, to->bindings, to->availability, to->entries, to->lengths,
+        spare->head, spare->bindings, spare->availability, spare->entries, spare->lengths);
+    if (told.half == GEYSERTRAY_SECOND_HALF)
+        *to = *spare;
+    if (told.half != GEYSERTRAY_OWN_HALF)
+        panel->current = 1 - panel->current;
+    return told;
 }
 
 /* The next turn, with the number for a batch to this panel. */

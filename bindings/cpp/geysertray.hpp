@@ -48,19 +48,22 @@ inline const char *rule(std::uint64_t number)
     return rules[number < sizeof rules / sizeof *rules ? number : 0];
 }
 
-// A call was refused, and nothing was changed. The answer has the rest where a session refused it.
+// A call was refused, and nothing was changed. The answer has the rest where a session refused it, and the place tells which batch of a group it
+// was, from 0.
 class refused : public std::runtime_error {
 public:
-    explicit refused(std::uint64_t number, std::optional<geysertray_answer> answer = std::nullopt)
-        : std::runtime_error(std::to_string(number) + ": " + rule(number)), number_(number), answer_(answer)
+    explicit refused(std::uint64_t number, std::optional<geysertray_answer> answer = std::nullopt, std::optional<std::uint64_t> place = std::nullopt)
+        : std::runtime_error(std::to_string(number) + ": " + rule(number)), number_(number), answer_(answer), place_(place)
     {
     }
     std::uint64_t number() const { return number_; }
     const std::optional<geysertray_answer> &answer() const { return answer_; }
+    const std::optional<std::uint64_t> &place() const { return place_; }
 
 private:
     std::uint64_t number_;
     std::optional<geysertray_answer> answer_;
+    std::optional<std::uint64_t> place_;
 };
 
 // The panel's memory holds no session: something else wrote to it.
@@ -96,6 +99,12 @@ struct explanation {
     std::string rule;
     std::optional<std::uint64_t> patch, operation;
     std::vector<std::uint64_t> figures;
+};
+
+// A batch of a group, with its set's edition and how many bytes the set has.
+struct group_batch {
+    declared batch;
+    std::uint64_t edition, bytes;
 };
 
 struct page_entry {
@@ -172,7 +181,7 @@ public:
     using number = std::uint64_t;
 
     panel(number id, const limits &bounds, std::vector<number> nodes, const std::vector<std::pair<number, std::uint32_t>> &bindings, std::vector<number> collections)
-        : nodes_(std::move(nodes)), collections_(std::move(collections)), halves_(new geysertray_half[2]())
+        : nodes_(std::move(nodes)), collections_(std::move(collections)), halves_(new geysertray_half[3]())
     {
         for (const auto &binding : bindings)
             pairs_.insert(pairs_.end(), {binding.first, binding.second});
@@ -194,7 +203,7 @@ public:
     geysertray_answer send(const declared &batch, const bytes &set, number edition = 1)
     {
         const auto &from = here();
-        auto &to = halves_[1 - current_];
+        auto &to = halves_[next_];
         const auto told = geysertray_batch(
             from.head, detail::at(nodes_), nodes_.size(), detail::at(pairs_), pairs_.size(), detail::at(collections_), collections_.size(), from.bindings, from.availability,
             from.entries, batch.session, batch.sequence, batch.patches, batch.stimulus_bytes, batch.references, detail::at(set), set.size(), edition, to.head,
@@ -203,7 +212,31 @@ public:
         if (told.disposition == GEYSERTRAY_REJECTED)
             throw refused(told.number, told);
         if (told.disposition == GEYSERTRAY_APPLIED)
-            current_ = 1 - current_;
+            std::swap(current_, next_);
+        return told;
+    }
+
+    // Up to eight batches as if sent singly in order, or none of them; their sets lie end to end in the bytes.
+    geysertray_group_answer send_group(const std::vector<group_batch> &batches, const bytes &sets)
+    {
+        std::vector<number> numbers;
+        for (const auto &each : batches) {
+            const auto &batch = each.batch;
+            numbers.insert(numbers.end(), {batch.session, batch.sequence, batch.patches, batch.stimulus_bytes, batch.references, each.edition, each.bytes});
+        }
+        const auto &from = here();
+        auto &first = halves_[next_], &second = halves_[spare_];
+        const auto told = geysertray_group(
+            from.head, detail::at(nodes_), nodes_.size(), detail::at(pairs_), pairs_.size(), detail::at(collections_), collections_.size(), from.bindings, from.availability,
+            from.entries, detail::at(numbers), numbers.size(), detail::at(sets), sets.size(), first.head, first.bindings, first.availability, first.entries, first.lengths,
+            second.head, second.bindings, second.availability, second.entries, second.lengths);
+        detail::look(told.answer.disposition);
+        if (told.answer.number == GEYSERTRAY_NOT_A_GROUP)
+            throw refused(told.answer.number);
+        if (told.answer.disposition == GEYSERTRAY_REJECTED)
+            throw refused(told.answer.number, told.answer, told.place);
+        if (told.half != GEYSERTRAY_OWN_HALF)
+            std::swap(current_, told.half == GEYSERTRAY_FIRST_HALF ? next_ : spare_);
         return told;
     }
 
@@ -301,7 +334,7 @@ private:
 
     std::vector<number> nodes_, pairs_, collections_;
     std::unique_ptr<geysertray_half[]> halves_;
-    int current_ = 0;
+    int current_ = 0, next_ = 1, spare_ = 2;
 };
 
 // Turns among one to eight senders to one panel, numbered from 0. A refused call throws `refused` and leaves the turns as they were.

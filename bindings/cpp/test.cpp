@@ -95,6 +95,28 @@ static void send(const geysertray::bytes &set)
     look_at(moved);
 }
 
+static void send_group(const geysertray::bytes &set)
+{
+    geysertray::panel panel(7, {4096, 8, 4, 16}, {5}, {{5, 0}}, {9});
+    const geysertray::bytes none(set.begin(), set.begin() + 31);
+    geysertray::bytes sets = none;
+    sets.insert(sets.end(), 4, 0);
+    const geysertray::group_batch empty{{7, 9, 0, 0, 0}, 1, 35};
+    EXPECT(panel.send_group({empty}, sets).half == GEYSERTRAY_OWN_HALF);
+    EXPECT(refusal([&] { panel.send_group({empty, empty}, sets); }) == GEYSERTRAY_NOT_A_GROUP);
+    sets.insert(sets.end(), set.begin(), set.end());
+    const auto told = panel.send_group({empty, {{7, 3, 1, 0, 4}, 1, set.size()}}, sets);
+    EXPECT(told.count == 2 && told.half == GEYSERTRAY_FIRST_HALF && told.answer.cursor == 3);
+    look_at(panel);
+    try {
+        panel.send_group({empty, {{7, 4, 1, 0, 4}, 1, set.size()}}, sets);
+        EXPECT(!"the keys are there already");
+    } catch (const geysertray::refused &refused) {
+        EXPECT(refused.number() == GEYSERTRAY_KEY_RULE && refused.place() == 1u && refused.answer()->cursor == 3);
+    }
+    look_at(panel);
+}
+
 static void on_bytes(const geysertray::bytes &set)
 {
     EXPECT(geysertray::set_listing(set) == listing);
@@ -117,6 +139,7 @@ int main()
 {
     const geysertray::bytes set{std::istreambuf_iterator<char>(std::cin), {}};
     send(set);
+    send_group(set);
     on_bytes(set);
     take_turns();
     EXPECT(refusal([] { geysertray::panel(1, {0, 0, 0, 0}, std::vector<std::uint64_t>(129), {}, {}); }) == GEYSERTRAY_TOO_MANY_ANCHORS);

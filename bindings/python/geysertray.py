@@ -26,6 +26,8 @@ LISTING_BYTES = 102150
 PRINT_BYTES = 46848
 DEPENDS_KEYS = 2520
 FINDING_NUMBERS = 945
+# the number of what is no group, which no batch of one is refused with
+NOT_A_GROUP = 17
 
 # what each number means, in the words of docs/RULES.md
 RULES = {
@@ -165,6 +167,25 @@ class Step(NamedTuple):
     stimulus_bytes: int
 
 
+class GroupBatch(NamedTuple):
+    """A batch of a group: what its sender declares of a set, the set's edition, and how many bytes it has."""
+
+    session: int
+    sequence: int
+    patches: int
+    stimulus_bytes: int
+    references: int
+    edition: int
+    bytes: int
+
+
+class Taken(NamedTuple):
+    """A group that was taken: how many batches, and the cursor after them."""
+
+    count: int
+    cursor: Optional[int]
+
+
 class Value(NamedTuple):
     """A text is a str, every other kind a number; mark is the patch that last gave the value."""
 
@@ -236,14 +257,17 @@ class Envelope(NamedTuple):
 
 
 class Refused(Exception):
-    """A call was refused, and nothing was changed. `answer` has the rest where a session refused it, and `explanation` the rule behind the number
-    where it refused a batch."""
+    """A call was refused, and nothing was changed. `answer` has the rest where a session refused it, `explanation` the rule behind the number
+    where it refused a batch, and `place` which batch of a group it was, from 0."""
 
-    def __init__(self, number: int, answer: Union[Answer, Step, None] = None, explanation: Optional[Explanation] = None):
+    def __init__(
+        self, number: int, answer: Union[Answer, Step, None] = None, explanation: Optional[Explanation] = None, place: Optional[int] = None
+    ):
         self.number = number
         self.sentence = RULES.get(number, HIDDEN)
         self.answer = answer
         self.explanation = explanation
+        self.place = place
         named = " (%s)" % explanation.rule if explanation and explanation.rule else ""
         super().__init__("%d: %s%s" % (number, self.sentence, named))
 
@@ -289,6 +313,10 @@ class _Explanation(ctypes.Structure):
     _fields_ = [(field, ctypes.c_uint64) for field in ("disposition", "number", "rule")] + [("place", _RulePlace), ("figures", _Figures)]
 
 
+class _GroupAnswer(ctypes.Structure):
+    _fields_ = [("count", ctypes.c_uint64), ("place", ctypes.c_uint64), ("half", ctypes.c_uint64), ("answer", _Answer)]
+
+
 class _Value(ctypes.Structure):
     _fields_ = [(field, ctypes.c_uint64) for field in ("disposition", "found", "mark", "kind", "quad")]
     _fields_ += [("signed_number", ctypes.c_int64), ("unsigned_number", ctypes.c_uint64), ("text_length", ctypes.c_uint64)]
@@ -315,6 +343,7 @@ _CALLS = {
     "lifecycle_step": (_Lifecycle, _AT, _U64, _U64),
     "batch": (_Answer, _AT, *_SLICE * 3, *[_AT] * 3, *[_U64] * 5, *_SLICE, _U64, *[_AT] * 5),
     "explain": (_Explanation, _AT, *_SLICE * 3, *[_AT] * 3, *[_U64] * 5, *_SLICE, _U64),
+    "group": (_GroupAnswer, _AT, *_SLICE * 3, *[_AT] * 3, *_SLICE * 2, *[_AT] * 10),
     "binding_value": (_Value, _AT, _AT, _U64, _U32),
     "node_availability": (_Availability, _AT, _AT, _U64),
     "entry_value": (_Value, _AT, _AT, _U64, _U64),
@@ -355,13 +384,13 @@ def _call(name, *arguments):
         answer = _function(name)(*arguments)
     except ctypes.ArgumentError as fault:
         raise ValueError(str(fault)) from fault
-    told = getattr(answer, "value", answer)
+    told = getattr(answer, "value", getattr(answer, "answer", answer))
     disposition = getattr(told, "disposition", Disposition.APPLIED)
     if disposition == Disposition.NO_SESSION:
         raise NoSession
     if disposition == Disposition.NO_SUCH:
         raise ValueError("no such edition or command")
-    if disposition == Disposition.REJECTED and not isinstance(answer, (_Answer, _Lifecycle, _Explanation)):
+    if disposition == Disposition.REJECTED and not isinstance(answer, (_Answer, _GroupAnswer, _Lifecycle, _Explanation)):
         raise Refused(answer.number)
     return answer
 
@@ -402,6 +431,15 @@ def _explanation(told: _Explanation) -> Optional[Explanation]:
     return Explanation(told.number, RULE_NAMES[told.rule - 1] if told.rule else None, *where, numbers)
 
 
+def _answer(told: _Answer) -> Answer:
+    return Answer(Disposition(told.disposition), told.number, told.stage, told.logical, told.emitted, _cursor(told))
+
+
+def _parts(half: _Half):
+    """The slices of a half that a call writes to."""
+    return half.head, half.bindings, half.availability, half.entries, half.lengths
+
+
 def _value(value: _Value) -> Optional[Value]:
     if not value.found:
         return None
@@ -423,9 +461,9 @@ class Panel:
         pairs = [number for pair in bindings for number in pair]
         self.id = id
         self._anchors = (*_numbers(nodes), *_numbers(pairs), *_numbers(collections))
-        self._half, self._next = _Half(), _Half()
+        self._half, self._next, self._spare = _Half(), _Half(), None
         for half in (self._half, self._next):
-            refusal = _call("create", id, *limits, *self._anchors, half.head, half.bindings, half.availability, half.entries, half.lengths)
+            refusal = _call("create", id, *limits, *self._anchors, *_parts(half))
             if refusal:
                 raise Refused(refusal)
 
@@ -444,8 +482,7 @@ class Panel:
         """One batch: a set's bytes, and what its sender declares of them. Without a session the batch names this one."""
         half, to = self._half, self._next
         sent = self._batch(session, sequence, patches, stimulus_bytes, references, data, edition)
-        told = _call("batch", *sent, to.head, to.bindings, to.availability, to.entries, to.lengths)
-        answer = Answer(Disposition(told.disposition), told.number, told.stage, told.logical, told.emitted, _cursor(told))
+        answer = _answer(_call("batch", *sent, *_parts(to)))
         if answer.disposition is Disposition.REJECTED:
             raise Refused(answer.number, answer, _explanation(_call("explain", *sent)))
         if answer.disposition is Disposition.APPLIED:
@@ -463,6 +500,21 @@ class Panel:
         half = self._half
         declared = (self.id if session is None else session, sequence, patches, stimulus_bytes, references)
         return half.head, *self._anchors, half.bindings, half.availability, half.entries, *declared, *_lent(data), edition
+
+    def send_group(self, batches: Sequence[GroupBatch], data: bytes) -> Taken:
+        """Up to eight batches as if sent singly in order, or none of them; their sets lie end to end in the bytes."""
+        self._spare = self._spare or _Half()
+        half, first, second = self._half, self._next, self._spare
+        numbers = _numbers(number for batch in batches for number in batch)
+        told = _call(
+            "group", half.head, *self._anchors, half.bindings, half.availability, half.entries, *numbers, *_lent(data), *_parts(first), *_parts(second)
+        )
+        if told.answer.disposition == Disposition.REJECTED:
+            not_a_group = told.answer.number == NOT_A_GROUP
+            raise Refused(told.answer.number, None if not_a_group else _answer(told.answer), place=None if not_a_group else told.place)
+        order = ((half, first, second), (first, half, second), (second, half, first))
+        self._half, self._next, self._spare = order[told.half]
+        return Taken(told.count, _cursor(told.answer))
 
     @property
     def cursor(self) -> Optional[int]:

@@ -11,6 +11,7 @@ import java.util.ArrayList;
 import java.util.List;
 import java.util.Optional;
 import java.util.OptionalLong;
+import java.util.stream.LongStream;
 
 /**
  * A session and its panel, in memory of its own, which close gives back. Numbers are unsigned, as Long.toUnsignedString prints them. A refused call
@@ -26,6 +27,7 @@ public final class Panel implements AutoCloseable {
     private static final int AVAILABILITY_BYTES = 1088;
     private static final int ENTRY_BYTES = 34432;
     private static final int LENGTH_BYTES = 2048;
+    private static final long NOT_A_GROUP = 17;
     private static final MemoryLayout VALUE = Library.struct(8, TEXT_BYTES);
     private static final MemoryLayout NUMBER_AND_VALUE = Library.struct(9, TEXT_BYTES);
 
@@ -43,6 +45,16 @@ public final class Panel implements AutoCloseable {
 
     /** A batch: what its sender declares of a set, and the set's bytes in an edition, 1 or 2. */
     public record Batch(long session, long sequence, long patches, long stimulusBytes, long references, byte[] set, long edition) {}
+
+    /** A batch of a group: what its sender declares of a set, the set's edition, and how many bytes it has. */
+    public record GroupBatch(long session, long sequence, long patches, long stimulusBytes, long references, long edition, long bytes) {
+        LongStream numbers() {
+            return LongStream.of(session, sequence, patches, stimulusBytes, references, edition, bytes);
+        }
+    }
+
+    /** A group that was taken: how many batches, and the cursor after them. */
+    public record Taken(long count, OptionalLong cursor) {}
 
     /** What became of a batch or of a step; the cursor stands as after the call, and so does the lifecycle, which a batch does not tell. */
     public record Answer(Disposition disposition, long number, long stage, long logical, long emitted, OptionalLong cursor, Lifecycle lifecycle) {}
@@ -71,6 +83,7 @@ public final class Panel implements AutoCloseable {
     private final long collectionCount;
     private Half half = new Half(memory);
     private Half next = new Half(memory);
+    private Half spare = new Half(memory);
 
     public Panel(long id, Limits limits, long[] nodes, Slot[] bindings, long[] collections) {
         long[] numbers = new long[2 * bindings.length];
@@ -122,9 +135,7 @@ public final class Panel implements AutoCloseable {
                     next.entries(), next.lengths());
             Answer answer = answered(told, 5, null);
             if (answer.disposition() == Disposition.APPLIED) {
-                Half before = half;
-                half = next;
-                next = before;
+                stand(1);
             }
             return answer;
         }
@@ -140,11 +151,49 @@ public final class Panel implements AutoCloseable {
         }
     }
 
-    private static Answer answered(MemorySegment told, int hasCursor, Lifecycle lifecycle) {
+    /** Up to eight batches as if sent singly in order, or none of them; their sets lie end to end in the bytes. */
+    public Taken sendGroup(List<GroupBatch> batches, byte[] sets) {
+        long[] numbers = batches.stream().flatMapToLong(GroupBatch::numbers).toArray();
+        try (Arena arena = Arena.ofConfined()) {
+            MemorySegment told = Library.answer(
+                    arena, "group", Library.struct(10, 0), 3, half.head(), nodes, nodeCount, pairs, pairNumbers, collections, collectionCount, half.bindings(),
+                    half.availability(), half.entries(), Library.lend(arena, numbers), (long) numbers.length, Library.lend(arena, sets), (long) sets.length,
+                    next.head(), next.bindings(), next.availability(), next.entries(), next.lengths(), spare.head(), spare.bindings(), spare.availability(),
+                    spare.entries(), spare.lengths());
+            if (at(told, 4) == NOT_A_GROUP) {
+                throw new Refused(NOT_A_GROUP, null);
+            }
+            Answer answer = told(told.asSlice(24), 5, null);
+            if (answer.disposition() == Disposition.REJECTED) {
+                throw new Refused(answer.number(), answer, at(told, 1));
+            }
+            stand((int) at(told, 2));
+            return new Taken(at(told, 0), answer.cursor());
+        }
+    }
+
+    /** The session stands in the half of this number: 0 its own, 1 the next, 2 the spare one. */
+    private void stand(int number) {
+        Half before = half;
+        if (number == 1) {
+            half = next;
+            next = before;
+        }
+        if (number == 2) {
+            half = spare;
+            spare = before;
+        }
+    }
+
+    private static Answer told(MemorySegment told, int hasCursor, Lifecycle lifecycle) {
         Disposition disposition = Disposition.values()[(int) at(told, 0)];
         OptionalLong cursor = at(told, hasCursor) == 0 ? OptionalLong.empty() : OptionalLong.of(at(told, hasCursor + 1));
-        Answer answer = new Answer(disposition, at(told, 1), at(told, 2), at(told, 3), at(told, 4), cursor, lifecycle);
-        if (disposition == Disposition.REJECTED) {
+        return new Answer(disposition, at(told, 1), at(told, 2), at(told, 3), at(told, 4), cursor, lifecycle);
+    }
+
+    private static Answer answered(MemorySegment told, int hasCursor, Lifecycle lifecycle) {
+        Answer answer = told(told, hasCursor, lifecycle);
+        if (answer.disposition() == Disposition.REJECTED) {
             throw new Refused(answer.number(), answer);
         }
         return answer;

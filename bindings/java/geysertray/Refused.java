@@ -32,11 +32,17 @@ public final class Refused extends RuntimeException {
 
     private final long number;
     private final transient Panel.Answer answer;
+    private final long place;
 
     Refused(long number, Panel.Answer answer) {
+        this(number, answer, 0);
+    }
+
+    Refused(long number, Panel.Answer answer, long place) {
         super(Long.toUnsignedString(number) + ": " + sentence(number));
         this.number = number;
         this.answer = answer;
+        this.place = place;
     }
 
     public long number() {
@@ -50,6 +56,11 @@ public final class Refused extends RuntimeException {
     /** Null where no session was asked. */
     public Panel.Answer answer() {
         return answer;
+    }
+
+    /** Which batch of a group it was, from 0. */
+    public long place() {
+        return place;
     }
 
     private static String sentence(long number) {

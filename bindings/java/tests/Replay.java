@@ -21,9 +21,10 @@ final class Replay implements AutoCloseable {
     private static final int LINE_BYTES = 131072;
     private static final int KEPT_ANCHORS = 129;
     private static final int PAGE_KEYS = 128;
+    private static final int LINE_BATCHES = 16;
     private static final List<String> STEPS = List.of("activate", "suspend", "resume", "close", "noop");
 
-    /** The form of a command's fields: n a number, s a slot, o a number or none, h bytes in hex, e an edition, a a step; c, d, p and k are rooms. */
+    /** The form of a command's fields: n a number, s a slot, o a number or none, h bytes in hex, e an edition, a a step; c, d, p and k are rooms, m a batch of a group. */
     private static final Map<String, String> FORMS = Map.ofEntries(
             Map.entry("session", "nnnnn"), Map.entry("node", "n"), Map.entry("binding", "ns"), Map.entry("collection", "n"), Map.entry("create", ""),
             Map.entry("apply", "an"), Map.entry("batch", "nnnnnh"), Map.entry("explain", "nnnnnh"), Map.entry("check", "h"), Map.entry("list", "h"), Map.entry("show", ""),
@@ -33,8 +34,8 @@ final class Replay implements AutoCloseable {
     private static final Map<Character, Long> LAST = Map.of('n', -1L, 'o', -1L, 'k', 128L, 's', 0xffffffffL, 'c', 32768L, 'd', 16384L, 'p', 131072L);
     private static final List<String> READING_RULES =
             Explanation.RULE_NAMES.subList(Explanation.RULE_NAMES.indexOf("set-too-long"), Explanation.RULE_NAMES.indexOf("findings"));
-    private static final List<String> NOT_BOUND = List.of("group");
-    private static final List<String> NEED_A_SESSION = List.of("apply", "batch", "explain", "show", "value", "mark", "print", "length", "page", "turn");
+    private static final List<String> NOT_BOUND = List.of();
+    private static final List<String> NEED_A_SESSION = List.of("apply", "batch", "explain", "group", "show", "value", "mark", "print", "length", "page", "turn");
 
     /** A line that is no command. */
     static final class BadLine extends Exception {
@@ -111,6 +112,28 @@ final class Replay implements AutoCloseable {
         return words.indexOf(field);
     }
 
+    /** A batch of a group: seven numbers with a comma between, the sixth an edition. */
+    private static Panel.GroupBatch member(String field) throws BadLine {
+        String[] parts = field.split(",", -1);
+        if (parts.length != 7) {
+            throw new BadLine();
+        }
+        long[] n = new long[7];
+        for (int i = 0; i < 7; i++) {
+            n[i] = i == 5 ? place(List.of("1", "2"), parts[i]) + 1 : number(parts[i], -1L);
+        }
+        return new Panel.GroupBatch(n[0], n[1], n[2], n[3], n[4], n[5], n[6]);
+    }
+
+    /** The form of a command that has a number of fields of its own, or null. */
+    private static String form(String command, int fields) {
+        return switch (command) {
+            case "page" -> "nk" + "n".repeat(Math.clamp(fields - 2, 0, PAGE_KEYS));
+            case "group" -> "m".repeat(Math.clamp(fields - 1, 0, LINE_BATCHES)) + "h";
+            default -> FORMS.get(command);
+        };
+    }
+
     private Object value(char kind, String field) throws BadLine {
         if (kind == 'o') {
             hasOptional = !field.equals("-");
@@ -118,6 +141,7 @@ final class Replay implements AutoCloseable {
         return switch (kind) {
             case 'o' -> hasOptional ? number(field, -1L) : 0L;
             case 'h' -> bytes(field);
+            case 'm' -> member(field);
             case 'a' -> place(STEPS, field);
             case 'e' -> place(List.of("1", "2"), field) + 1;
             default -> number(field, LAST.get(kind));
@@ -136,7 +160,7 @@ final class Replay implements AutoCloseable {
             throw new NotBound();
         }
         String command = (word.equals("value") || word.equals("mark")) && !fields.isEmpty() ? word + " " + fields.remove(0) : word;
-        String form = command.equals("page") ? "nk" + "n".repeat(Math.clamp(fields.size() - 2, 0, PAGE_KEYS)) : FORMS.get(command);
+        String form = form(command, fields.size());
         if (form == null || form.length() != fields.size()) {
             throw new BadLine();
         }
@@ -146,6 +170,9 @@ final class Replay implements AutoCloseable {
         }
         if (panel == null && NEED_A_SESSION.contains(word)) {
             return line("N");
+        }
+        if (command.equals("group")) {
+            return group(Arrays.stream(values).filter(it -> it instanceof Panel.GroupBatch).map(it -> (Panel.GroupBatch) it).toList(), setOf(values));
         }
         return run(command, Arrays.stream(values).filter(it -> it instanceof Long).mapToLong(it -> (long) it).toArray(), setOf(values));
     }
@@ -256,12 +283,24 @@ final class Replay implements AutoCloseable {
     private String apply(long[] numbers) {
         Panel.Answer answer = answered(() -> panel.step(Panel.Command.values()[(int) numbers[0]], numbers[1]));
         String lifecycle = answer.lifecycle().name().toLowerCase(Locale.ROOT);
-        return line("L", word(answer), answer.number(), answer.stage(), answer.logical(), answer.emitted(), lifecycle, cursor(answer), numbers[1]);
+        return line("L", word(answer), answer.number(), answer.stage(), answer.logical(), answer.emitted(), lifecycle, cursor(answer.cursor()), numbers[1]);
     }
 
     private String batch(long[] n, byte[] set) {
-        Panel.Answer answer = answered(() -> panel.send(new Panel.Batch(n[0], n[1], n[2], n[3], n[4], set, edition)));
-        return line("R", word(answer), answer.number(), answer.stage(), answer.logical(), answer.emitted(), cursor(answer));
+        return batchLine(answered(() -> panel.send(new Panel.Batch(n[0], n[1], n[2], n[3], n[4], set, edition))));
+    }
+
+    private static String batchLine(Panel.Answer answer) {
+        return line("R", word(answer), answer.number(), answer.stage(), answer.logical(), answer.emitted(), cursor(answer.cursor()));
+    }
+
+    private String group(List<Panel.GroupBatch> batches, byte[] sets) {
+        try {
+            Panel.Taken taken = panel.sendGroup(batches, sets);
+            return line("U", 0, taken.count(), cursor(taken.cursor()));
+        } catch (Refused refusal) {
+            return refusal.answer() == null ? line("U", refusal.number()) : line("U", 0, 0, refusal.place()) + batchLine(refusal.answer());
+        }
     }
 
     private String explain(long[] n, byte[] set) {
@@ -327,8 +366,8 @@ final class Replay implements AutoCloseable {
         return answer.disposition().name().toLowerCase(Locale.ROOT).replace('_', '-');
     }
 
-    private static Object cursor(Panel.Answer answer) {
-        return answer.cursor().isPresent() ? (Object) answer.cursor().getAsLong() : "-";
+    private static Object cursor(OptionalLong cursor) {
+        return cursor.isPresent() ? (Object) cursor.getAsLong() : "-";
     }
 
     private static String mark(Optional<Long> mark) {

@@ -8,7 +8,7 @@ ROOT = Path(__file__).resolve().parent.parent.parent.parent
 sys.path.insert(0, str(ROOT / "bindings" / "python"))
 
 import geysertray
-from geysertray import Entry, Envelope, Explanation, Kind, Limits, PageEntry, Panel, Refused, Value
+from geysertray import Entry, Envelope, Explanation, GroupBatch, Kind, Limits, PageEntry, Panel, Refused, Value
 
 SET = (ROOT / "examples" / "panel.set").read_bytes()
 OK, MINUS_4 = Value(Kind.TEXT, "Ok", 1), Value(Kind.SIGNED, -4, 1)
@@ -51,6 +51,19 @@ class PanelTest(unittest.TestCase):
         self.assertIsNone(panel().explain(SET, sequence=1, patches=1, references=4))
         silent = Panel(7, Limits(4096, 0, 4, 16))
         self.assertEqual(silent.explain(SET, sequence=1, patches=1, references=4, session=8), Explanation(0, None, None, None, ()))
+
+    def test_group(self):
+        none = GroupBatch(7, 9, 0, 0, 0, 1, 35)
+        empty = b"\x1b\0\0\0UI_DNA2_PROJECTION_PATCH_V1\0\0\0\0"
+        before = self.panel.listing()
+        with self.assertRaises(Refused) as caught:
+            self.panel.send_group([none, GroupBatch(7, 2, 1, 0, 4, 1, len(SET))], empty + SET)
+        self.assertEqual((caught.exception.number, caught.exception.place, caught.exception.answer.cursor), (8, 1, 1))
+        with self.assertRaises(Refused) as caught:
+            self.panel.send_group([none], empty + SET)
+        self.assertEqual((caught.exception.number, caught.exception.place), (17, None))
+        self.assertEqual(self.panel.send_group([none, none], empty + empty), (2, 1))
+        self.assertEqual(self.panel.listing(), before)
 
     def test_wrong_arguments(self):
         with self.assertRaises(ValueError):

@@ -7,11 +7,12 @@ from pathlib import Path
 sys.path.insert(0, str(Path(__file__).resolve().parent.parent))
 
 import geysertray
-from geysertray import RULE_NAMES, Command, Disposition, Envelope, Kind, Lifecycle, Limits, Never, Panel, Refused, Turns
+from geysertray import RULE_NAMES, Command, Disposition, Envelope, GroupBatch, Kind, Lifecycle, Limits, Never, Panel, Refused, Turns
 
 LINE_BYTES = 131072
 KEPT_ANCHORS = 129
 PAGE_KEYS = 128
+LINE_BATCHES = 16
 DECIMAL = re.compile(r"0|[1-9][0-9]{0,19}")
 HEX = re.compile(r"(?:[0-9a-f]{2})+")
 STEPS = {"activate": Command.ACTIVATE, "suspend": Command.SUSPEND, "resume": Command.RESUME, "close": Command.CLOSE, "noop": Command.NO_OP}
@@ -59,6 +60,14 @@ def optional(field):
     return None if field == "-" else NUMBER(field)
 
 
+def member(field):
+    """A batch of a group: seven numbers with a comma between, the sixth an edition."""
+    numbers = field.split(",")
+    if len(numbers) != 7:
+        raise BadLine
+    return GroupBatch(*map(NUMBER, numbers[:5]), EDITION(numbers[5]), NUMBER(numbers[6]))
+
+
 NUMBER, SLOT, STEP, EDITION = up_to(2**64 - 1), up_to(2**32 - 1), one_of(STEPS), one_of({"1": 1, "2": 2})
 FIELDS = {
     "session": (NUMBER,) * 5,
@@ -89,14 +98,22 @@ FIELDS = {
     "import": (up_to(32768), *[NUMBER] * 4, optional, *[NUMBER] * 4, set_bytes),
 }
 METHODS = {"edition": "edition_", "import": "import_"}
-NOT_BOUND = ("group",)
-NEED_A_SESSION = ("apply", "batch", "explain", "show", "value", "mark", "print", "length", "page", "turn")
+NOT_BOUND = ()
+NEED_A_SESSION = ("apply", "batch", "explain", "group", "show", "value", "mark", "print", "length", "page", "turn")
 NEED_TURNS = ("wait", "turn")
 
 
 def page_fields(count):
     """A page has any number of keys."""
     return (NUMBER, up_to(128), *[NUMBER] * min(count - 2, PAGE_KEYS))
+
+
+def group_fields(count):
+    """Up to 16 batches, and their sets."""
+    return (*[member] * min(count - 1, LINE_BATCHES), set_bytes)
+
+
+MANY_FIELDS = {"page": page_fields, "group": group_fields}
 
 
 # ---- lines of answers
@@ -202,6 +219,16 @@ class Replay:
             )
         )
 
+    def group(self, *fields):
+        *batches, data = fields
+        try:
+            taken = self.panel.send_group(batches, data)
+        except Refused as refusal:
+            if refusal.answer is None:
+                return line("U", refusal.number)
+            return line("U", 0, 0, refusal.place) + answer_line(refusal.answer)
+        return line("U", 0, taken.count, or_none(taken.cursor))
+
     def show(self):
         return self.panel.listing()
 
@@ -305,7 +332,7 @@ class Replay:
             raise NotBound(command)
         if command in ("value", "mark") and fields:
             command += " " + fields.pop(0)
-        readers = page_fields(len(fields)) if command == "page" else FIELDS.get(command)
+        readers = MANY_FIELDS[command](len(fields)) if command in MANY_FIELDS else FIELDS.get(command)
         if readers is None or len(readers) != len(fields):
             raise BadLine
         values = [read(field) for read, field in zip(readers, fields)]

@@ -3,6 +3,7 @@
 // crate, since an archive has the exported functions of one.
 pub mod bytes;
 pub mod explain;
+pub mod group;
 pub mod session;
 pub mod turns;
 pub mod views;

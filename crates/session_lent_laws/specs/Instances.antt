@@ -12,10 +12,12 @@ use Rattle.spec_session.specs.Session.{Catalogue, Session}
 use Rattle.spec_session.specs.ValidSession.{FewAnchors}
 use Rattle.spec_examples.specs.SplitInstances.{startSession}
 use Rattle.active_projection_target_catalog.specs.Catalog.{pairTo, pairNumbers}
-use Rattle.panel_rows.specs.Rows.{lengthBytes}
+use Rattle.bytes_records.specs.Moves.{zeros}
+use Rattle.bytes_records.specs.MovesLaws.{length-zeros}
+use Rattle.panel_rows.specs.Rows.{bindingBytes, availabilityBytes, entryBytes, lengthBytes}
 use Rattle.local_projection_state.specs.Stores.{storedState}
 use Rattle.local_projection_state.specs.StoresLaws.{some-state}
-use Rattle.panel_changes.specs.SetChangesLaws.{tableLengths-fit, stored-lengths}
+use Rattle.panel_changes.specs.SetChangesLaws.{tableLengths-fit, stored-lengths, zeros-ready}
 use Rattle.shell_player.specs.Holds.{Holds}
 use Rattle.shell_player.specs.declared.session.ShellSession.{ShellSession}
 use Rattle.session_lent.specs.Head.{headNumbers, lentHeadOf}
@@ -23,7 +25,7 @@ use Rattle.session_lent.specs.HeadLaws.{long}
 use Rattle.session_lent.specs.Steps.{roomShaped}
 use Rattle.session_lent.specs.CreationLaws.{pairs-apart}
 use Rattle.session_lent.specs.HalvesLaws.{held-room}
-use Rattle.session_lent.specs.Halves.{Anchors, Half, HeldIn}
+use Rattle.session_lent.specs.Halves.{Anchors, Half, halfWith, HeldIn, RoomIn}
 use Rattle.session_lent_laws.specs.Memory.{Panel, structIn}
 use Rattle.session_lent_laws.specs.StructLaws.{same-bytes}
 
@@ -74,3 +76,9 @@ held-shaped k h m held =
     let pairs : length (k .pairs) ≡ 2 * length (map pairTo (m .catalogue .bindings)) = ap length (held .anchors-are .bindings-are) ∙ pairs-apart (map pairTo (m .catalogue .bindings)) in
     let even : length (k .pairs) % 2 ≡ 0 = omega (arith, pairs) in
     rw (eq-eqb (length (h .head)) headNumbers (long (h .head) m (held .head-is)), eq-eqb (length (k .pairs) % 2) 0 even, eq-eqb (length (h .lengths)) lengthBytes (held .collections-told .size), tableLengths-fit (h .bindings) (h .availability) (h .entries) (stored-lengths (held .projection)))
+
+-- ---- memory that nothing was written to
+
+-- a half that is all zeros is room
+pub zeros-room : RoomIn (halfWith (zeros headNumbers) (zeros bindingBytes) (zeros availabilityBytes) (zeros entryBytes) (zeros lengthBytes))
+zeros-room = record { head-long = length-zeros headNumbers; tables = zeros-ready }

@@ -1,0 +1,67 @@
+-- `geysertray_group` meets its contract: the numbers are counted and read, and the call below is told the batches.
+use Prim.Native.Nat.{ℕ, _%_, min}
+use mathlib.Core.Path.{_≡_, refl, sym, _∙_}
+use mathlib.Core.Bool.{Bool, true, false, false≢true}
+use mathlib.Core.List.{List}
+use borrow.Author.Tests.{eq-eqb, ne-eqb}
+use lib.ListN.{length}
+use Rattle.spec_group.specs.Group.{groupBatches}
+use Rattle.c_answers.specs.GroupNumbers.{batchNumbers, batchCount, editionsKnown, batchesKnown}
+use borrow.Author.Needs.{needs}
+use Rattle.c_exports.proofs.group.geysertray_group.Statement.{statement}
+use Rattle.c_exports.proofs.group.geysertray_group.Tie as tie
+
+-- numbers that are no sevens, or of which an edition is none, are not known
+uneven : (numbers : List ℕ) → (length numbers % batchNumbers ≡ 0 → ⊥) → batchesKnown numbers ≡ false
+uneven numbers not = rw (ne-eqb (length numbers % batchNumbers) 0 not) refl
+
+even : (numbers : List ℕ) (known : Bool) → length numbers % batchNumbers ≡ 0 → known ≡ editionsKnown numbers (min (batchCount numbers) groupBatches) → (told : Bool) → known ≡ told → batchesKnown numbers ≡ told
+even numbers known is same told tells = rw (eq-eqb (length numbers % batchNumbers) 0 is) (sym same ∙ tells)
+
+no-group-requires : tie.Need-no-group-requires
+no-group-requires c κs = search needs
+
+returns : tie.Need-returns
+returns c =
+    let numbers = c .before .before .before .before .before .before .before .args .batches .now in
+    record { known = λ yes. absurd (false≢true (sym (uneven numbers (c .before .if1 .taken)) ∙ yes)); unknown = λ no. (c .no-group .ensures, (refl, refl)) }
+
+read-batches-requires : tie.Need-read-batches-requires
+read-batches-requires c κs = search needs
+
+apply-projection-patch-batches-requires : tie.Need-apply-projection-patch-batches-requires
+apply-projection-patch-batches-requires c κs = search needs
+
+group-told-requires : tie.Need-group-told-requires
+group-told-requires c κs = search needs
+
+returns-2 : tie.Need-returns-2
+returns-2 c =
+    let numbers = c .before .before .before .before .before .before .before .before .before .before .before .before .before .before .before .before .before .before .before .before .before .before .before .before .before .args .batches .now in
+    let read = c .before .before .before .before .before .before .before .before .before .before .before .before .before .before .before .before .before .before .read-batches in
+    let call = c .before .apply-projection-patch-batches in
+    let all = even numbers (read .result .known) (c .before .before .before .before .before .before .before .before .before .before .before .before .before .before .before .before .before .before .before .if1 .left) (read .ensures .0) true (c .before .before .before .before .before .before .before .before .before .before .before .before .before .before .before .before .before .if2 .taken) in
+    record { known = λ yes. (read .result .batches, (read .ensures .1, record { answer = call .result; call = call .ensures; told = c .group-told .ensures })); unknown = λ no. absurd (false≢true (sym no ∙ all)) }
+
+no-group-requires-2 : tie.Need-no-group-requires-2
+no-group-requires-2 c κs = search needs
+
+returns-3 : tie.Need-returns-3
+returns-3 c =
+    let numbers = c .before .before .before .before .before .before .before .before .before .args .batches .now in
+    let read = c .before .before .read-batches in
+    let other = even numbers (read .result .known) (c .before .before .before .if1 .left) (read .ensures .0) false (c .before .if2 .left) in
+    record { known = λ yes. absurd (false≢true (sym other ∙ yes)); unknown = λ no. (c .no-group2 .ensures, (refl, refl)) }
+
+pub geysertray-group-spec : {M : Type 1} → statement M
+geysertray-group-spec =
+    tie.close
+    (tie.spec
+    no-group-requires
+    returns
+    read-batches-requires
+    apply-projection-patch-batches-requires
+    group-told-requires
+    returns-2
+    no-group-requires-2
+    returns-3)
