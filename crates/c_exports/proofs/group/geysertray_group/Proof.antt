@@ -18,22 +18,10 @@ uneven numbers not = rw (ne-eqb (length numbers % batchNumbers) 0 not) refl
 even : (numbers : List ℕ) (known : Bool) → length numbers % batchNumbers ≡ 0 → known ≡ editionsKnown numbers (min (batchCount numbers) groupBatches) → (told : Bool) → known ≡ told → batchesKnown numbers ≡ told
 even numbers known is same told tells = rw (eq-eqb (length numbers % batchNumbers) 0 is) (sym same ∙ tells)
 
-no-group-requires : tie.Need-no-group-requires
-no-group-requires c κs = search needs
-
 returns : tie.Need-returns
 returns c =
     let numbers = c .before .before .before .before .before .before .before .args .batches .now in
     record { known = λ yes. absurd (false≢true (sym (uneven numbers (c .before .if1 .taken)) ∙ yes)); unknown = λ no. (c .no-group .ensures, (refl, refl)) }
-
-read-batches-requires : tie.Need-read-batches-requires
-read-batches-requires c κs = search needs
-
-apply-projection-patch-batches-requires : tie.Need-apply-projection-patch-batches-requires
-apply-projection-patch-batches-requires c κs = search needs
-
-group-told-requires : tie.Need-group-told-requires
-group-told-requires c κs = search needs
 
 returns-2 : tie.Need-returns-2
 returns-2 c =
@@ -42,9 +30,6 @@ returns-2 c =
     let call = c .before .apply-projection-patch-batches in
     let all = even numbers (read .result .known) (c .before .before .before .before .before .before .before .before .before .before .before .before .before .before .before .before .before .before .before .if1 .left) (read .ensures .0) true (c .before .before .before .before .before .before .before .before .before .before .before .before .before .before .before .before .before .if2 .taken) in
     record { known = λ yes. (read .result .batches, (read .ensures .1, record { answer = call .result; call = call .ensures; told = c .group-told .ensures })); unknown = λ no. absurd (false≢true (sym no ∙ all)) }
-
-no-group-requires-2 : tie.Need-no-group-requires-2
-no-group-requires-2 c κs = search needs
 
 returns-3 : tie.Need-returns-3
 returns-3 c =
@@ -56,12 +41,5 @@ returns-3 c =
 pub geysertray-group-spec : {M : Type 1} → statement M
 geysertray-group-spec =
     tie.close
-    (tie.spec
-    no-group-requires
-    returns
-    read-batches-requires
-    apply-projection-patch-batches-requires
-    group-told-requires
-    returns-2
-    no-group-requires-2
-    returns-3)
+    (tie.spec (λ c κs. search needs) returns (λ c κs. search needs) (λ c κs. search needs) (λ c κs. search needs) returns-2
+    (λ c κs. search needs) returns-3)
