@@ -5,9 +5,6 @@ use Rattle.session_lent_turns.specs.LentTurns.{registerLeft}
 use borrow.Author.Needs.{needs}
 use Rattle.session_lent_turns.proofs.keep_registration.Statement.{statement}
 use Rattle.session_lent_turns.proofs.keep_registration.Tie as tie
-use Rattle.session_lent_turns.proofs.keep_registration.Reads as reads
-use Rattle.session_lent_turns.proofs.keep_registration.Lts as lts
-use Rattle.session_lent_turns.proofs.store_turns.Reads as store-turns-reads
 
 returns : tie.Need-returns
 returns c =

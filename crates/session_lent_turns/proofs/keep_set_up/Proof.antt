@@ -5,9 +5,6 @@ use Rattle.session_lent_turns.specs.LentTurns.{setUpLeft}
 use borrow.Author.Needs.{needs}
 use Rattle.session_lent_turns.proofs.keep_set_up.Statement.{statement}
 use Rattle.session_lent_turns.proofs.keep_set_up.Tie as tie
-use Rattle.session_lent_turns.proofs.keep_set_up.Reads as reads
-use Rattle.session_lent_turns.proofs.keep_set_up.Lts as lts
-use Rattle.session_lent_turns.proofs.store_turns.Reads as store-turns-reads
 
 returns : tie.Need-returns
 returns c =

@@ -5,9 +5,6 @@ use Rattle.session_lent_turns.specs.LentTurns.{turnLeft}
 use borrow.Author.Needs.{needs}
 use Rattle.session_lent_turns.proofs.keep_turn.Statement.{statement}
 use Rattle.session_lent_turns.proofs.keep_turn.Tie as tie
-use Rattle.session_lent_turns.proofs.keep_turn.Reads as reads
-use Rattle.session_lent_turns.proofs.keep_turn.Lts as lts
-use Rattle.session_lent_turns.proofs.store_turns.Reads as store-turns-reads
 
 returns-2 : tie.Need-returns-2
 returns-2 c =

@@ -4,8 +4,6 @@ use borrow.Author.Tests.{eq-eqb, ne-eqb}
 use Rattle.session_lent_turns.specs.LentTurns.{namedAt}
 use Rattle.session_lent_turns.proofs.named_at.Statement.{statement}
 use Rattle.session_lent_turns.proofs.named_at.Tie as tie
-use Rattle.session_lent_turns.proofs.named_at.Reads as reads
-use Rattle.session_lent_turns.proofs.named_at.Lts as lts
 
 returns : tie.Need-returns
 unfolding namedAt

@@ -9,11 +9,6 @@ use Rattle.session_lent_turns.specs.LentTurns.{registerLeft}
 use borrow.Author.Needs.{needs}
 use Rattle.session_lent_turns.proofs.register.Statement.{statement}
 use Rattle.session_lent_turns.proofs.register.Tie as tie
-use Rattle.session_lent_turns.proofs.register.Reads as reads
-use Rattle.session_lent_turns.proofs.register.Lts as lts
-use Rattle.session_lent_turns.proofs.keep_registration.Reads as keep-registration-reads
-use Rattle.session_lent_turns.proofs.turns_in.Reads as turns-in-reads
-use Rattle.session_turns.proofs.SenderTurns.register.Reads as register-reads
 
 returns : tie.Need-returns
 returns c = record { other = λ no. (refl, refl); eleven = λ yes. absurd (c .if1 .taken yes) }

@@ -6,10 +6,6 @@ use Rattle.session_lent_turns.specs.LentTurns.{setUpLeft}
 use borrow.Author.Needs.{needs}
 use Rattle.session_lent_turns.proofs.set_up.Statement.{statement}
 use Rattle.session_lent_turns.proofs.set_up.Tie as tie
-use Rattle.session_lent_turns.proofs.set_up.Reads as reads
-use Rattle.session_lent_turns.proofs.set_up.Lts as lts
-use Rattle.session_lent_turns.proofs.keep_set_up.Reads as keep-set-up-reads
-use Rattle.session_turns.proofs.SenderTurns.new.Reads as new-reads
 
 returns : tie.Need-returns
 returns c = record { other = λ no. (refl, refl); eleven = λ yes. absurd (c .if1 .taken yes) }

@@ -7,11 +7,6 @@ use lib.ListN.{length-set}
 use borrow.Author.Needs.{needs}
 use Rattle.session_lent_turns.proofs.store_turns.Statement.{statement}
 use Rattle.session_lent_turns.proofs.store_turns.Tie as tie
-use Rattle.session_lent_turns.proofs.store_turns.Reads as reads
-use Rattle.session_lent_turns.proofs.store_turns.Lts as lts
-use Rattle.session_lent_turns.proofs.flag.Reads as flag-reads
-use Rattle.session_lent_turns.proofs.named_kind.Reads as named-kind-reads
-use Rattle.session_lent_turns.proofs.named_number.Reads as named-number-reads
 
 slice-write-numbers-5 : tie.Need-slice-write-numbers-5
 slice-write-numbers-5 c = simp length-set (omega arith)

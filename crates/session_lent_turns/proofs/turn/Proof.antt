@@ -10,11 +10,6 @@ use Rattle.session_lent_turns.specs.LentTurns.{turnLeft}
 use borrow.Author.Needs.{needs}
 use Rattle.session_lent_turns.proofs.turn.Statement.{statement}
 use Rattle.session_lent_turns.proofs.turn.Tie as tie
-use Rattle.session_lent_turns.proofs.turn.Reads as reads
-use Rattle.session_lent_turns.proofs.turn.Lts as lts
-use Rattle.session_lent_turns.proofs.keep_turn.Reads as keep-turn-reads
-use Rattle.session_lent_turns.proofs.turns_in.Reads as turns-in-reads
-use Rattle.session_turns.proofs.SenderTurns.turn.Reads as turn-reads
 
 returns : tie.Need-returns
 returns c = record { other = λ no. (refl, refl); eleven = λ yes. absurd (c .if1 .taken yes) }

@@ -4,9 +4,6 @@ use Rattle.session_lent_turns.specs.LentTurns.{turnsAt}
 use borrow.Author.Needs.{needs}
 use Rattle.session_lent_turns.proofs.turns_in.Statement.{statement}
 use Rattle.session_lent_turns.proofs.turns_in.Tie as tie
-use Rattle.session_lent_turns.proofs.turns_in.Reads as reads
-use Rattle.session_lent_turns.proofs.turns_in.Lts as lts
-use Rattle.session_lent_turns.proofs.named_at.Reads as named-at-reads
 
 returns : tie.Need-returns
 returns c =

@@ -2,11 +2,6 @@
 use borrow.Author.Needs.{needs}
 use Rattle.c_answers.proofs.answers.answer_of.Statement.{statement}
 use Rattle.c_answers.proofs.answers.answer_of.Tie as tie
-use Rattle.c_answers.proofs.answers.answer_of.Reads as reads
-use Rattle.c_answers.proofs.answers.answer_of.Lts as lts
-use Rattle.c_answers.proofs.answers.cursor_kind.Reads as cursor-kind-reads
-use Rattle.c_answers.proofs.answers.cursor_number.Reads as cursor-number-reads
-use Rattle.c_answers.proofs.answers.disposition_number.Reads as disposition-number-reads
 
 returns : tie.Need-returns
 returns c =

@@ -4,10 +4,6 @@ use Rattle.c_answers.specs.Answers.{batchTold}
 use borrow.Author.Needs.{needs}
 use Rattle.c_answers.proofs.answers.answered.Statement.{statement}
 use Rattle.c_answers.proofs.answers.answered.Tie as tie
-use Rattle.c_answers.proofs.answers.answered.Reads as reads
-use Rattle.c_answers.proofs.answers.answered.Lts as lts
-use Rattle.c_answers.proofs.answers.answer_of.Reads as answer-of-reads
-use Rattle.c_answers.proofs.answers.unanswered.Reads as unanswered-reads
 
 returns : tie.Need-returns
 returns c = c .answer-of .ensures ∙ ap batchTold (sym (c .before .before .answer .given .1))

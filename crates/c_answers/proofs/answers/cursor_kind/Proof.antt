@@ -5,8 +5,6 @@ use Rattle.session_lent.specs.Head.{cursorKind}
 use borrow.Author.Needs.{needs}
 use Rattle.c_answers.proofs.answers.cursor_kind.Statement.{statement}
 use Rattle.c_answers.proofs.answers.cursor_kind.Tie as tie
-use Rattle.c_answers.proofs.answers.cursor_kind.Reads as reads
-use Rattle.c_answers.proofs.answers.cursor_kind.Lts as lts
 
 returns : tie.Need-returns
 unfolding cursorOf

@@ -5,8 +5,6 @@ use Rattle.session_lent.specs.Head.{cursorNumber}
 use borrow.Author.Needs.{needs}
 use Rattle.c_answers.proofs.answers.cursor_number.Statement.{statement}
 use Rattle.c_answers.proofs.answers.cursor_number.Tie as tie
-use Rattle.c_answers.proofs.answers.cursor_number.Reads as reads
-use Rattle.c_answers.proofs.answers.cursor_number.Lts as lts
 
 returns : tie.Need-returns
 unfolding cursorOf

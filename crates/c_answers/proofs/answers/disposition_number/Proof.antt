@@ -3,8 +3,6 @@ use Rattle.session_steps.specs.Answers.{dispositionTold}
 use borrow.Author.Needs.{needs}
 use Rattle.c_answers.proofs.answers.disposition_number.Statement.{statement}
 use Rattle.c_answers.proofs.answers.disposition_number.Tie as tie
-use Rattle.c_answers.proofs.answers.disposition_number.Reads as reads
-use Rattle.c_answers.proofs.answers.disposition_number.Lts as lts
 
 returns : tie.Need-returns
 unfolding dispositionTold

@@ -3,8 +3,6 @@ use Rattle.session_lifecycle.specs.Meaning.{dispositionMeans}
 use borrow.Author.Needs.{needs}
 use Rattle.c_answers.proofs.answers.step_number.Statement.{statement}
 use Rattle.c_answers.proofs.answers.step_number.Tie as tie
-use Rattle.c_answers.proofs.answers.step_number.Reads as reads
-use Rattle.c_answers.proofs.answers.step_number.Lts as lts
 
 returns : tie.Need-returns
 unfolding dispositionMeans

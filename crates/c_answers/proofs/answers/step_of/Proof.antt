@@ -2,12 +2,6 @@
 use borrow.Author.Needs.{needs}
 use Rattle.c_answers.proofs.answers.step_of.Statement.{statement}
 use Rattle.c_answers.proofs.answers.step_of.Tie as tie
-use Rattle.c_answers.proofs.answers.step_of.Reads as reads
-use Rattle.c_answers.proofs.answers.step_of.Lts as lts
-use Rattle.c_answers.proofs.answers.cursor_kind.Reads as cursor-kind-reads
-use Rattle.c_answers.proofs.answers.cursor_number.Reads as cursor-number-reads
-use Rattle.c_answers.proofs.answers.lifecycle_number.Reads as lifecycle-number-reads
-use Rattle.c_answers.proofs.answers.step_number.Reads as step-number-reads
 
 returns : tie.Need-returns
 returns c =

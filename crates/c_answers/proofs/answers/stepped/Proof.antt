@@ -4,10 +4,6 @@ use Rattle.c_answers.specs.Answers.{stepTold}
 use borrow.Author.Needs.{needs}
 use Rattle.c_answers.proofs.answers.stepped.Statement.{statement}
 use Rattle.c_answers.proofs.answers.stepped.Tie as tie
-use Rattle.c_answers.proofs.answers.stepped.Reads as reads
-use Rattle.c_answers.proofs.answers.stepped.Lts as lts
-use Rattle.c_answers.proofs.answers.no_step.Reads as no-step-reads
-use Rattle.c_answers.proofs.answers.step_of.Reads as step-of-reads
 
 returns : tie.Need-returns
 returns c = c .step-of .ensures ∙ ap stepTold (sym (c .before .before .answer .given .1))

@@ -4,8 +4,6 @@ use borrow.Author.Tests.{eq-eqb, ne-eqb}
 use Rattle.c_answers.specs.Asked.{editionAt}
 use Rattle.c_answers.proofs.asked.edition_of.Statement.{statement}
 use Rattle.c_answers.proofs.asked.edition_of.Tie as tie
-use Rattle.c_answers.proofs.asked.edition_of.Reads as reads
-use Rattle.c_answers.proofs.asked.edition_of.Lts as lts
 
 returns : tie.Need-returns
 unfolding editionAt

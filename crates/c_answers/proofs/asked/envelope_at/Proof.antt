@@ -3,15 +3,6 @@ use Rattle.c_answers.specs.Asked.{envelopeAt}
 use borrow.Author.Needs.{needs}
 use Rattle.c_answers.proofs.asked.envelope_at.Statement.{statement}
 use Rattle.c_answers.proofs.asked.envelope_at.Tie as tie
-use Rattle.c_answers.proofs.asked.envelope_at.Reads as reads
-use Rattle.c_answers.proofs.asked.envelope_at.Lts as lts
-use Rattle.c_answers.proofs.asked.surface_at.Reads as surface-at-reads
-use Rattle.projection_patch.proofs.contract_primitives.Epoch.new.Reads as contract-primitives-Epoch-new-reads
-use Rattle.projection_patch.proofs.contract_primitives.Revision.new.Reads as contract-primitives-Revision-new-reads
-use Rattle.projection_patch.proofs.contract_primitives.StaticDocumentId.new.Reads as contract-primitives-StaticDocumentId-new-reads
-use Rattle.projection_patch.proofs.patch.ProjectionPatchId.new.Reads as patch-ProjectionPatchId-new-reads
-use Rattle.projection_patch.proofs.patch.ProjectionPatchSequence.new.Reads as patch-ProjectionPatchSequence-new-reads
-use Rattle.projection_patch.proofs.patch.ProjectionPatchStreamId.new.Reads as patch-ProjectionPatchStreamId-new-reads
 
 returns : tie.Need-returns
 unfolding envelopeAt

@@ -4,8 +4,6 @@ use borrow.Author.Tests.{eq-eqb, ne-eqb}
 use Rattle.c_answers.specs.Asked.{isEdition}
 use Rattle.c_answers.proofs.asked.is_edition.Statement.{statement}
 use Rattle.c_answers.proofs.asked.is_edition.Tie as tie
-use Rattle.c_answers.proofs.asked.is_edition.Reads as reads
-use Rattle.c_answers.proofs.asked.is_edition.Lts as lts
 
 returns : tie.Need-returns
 unfolding isEdition

@@ -5,8 +5,6 @@ use Rattle.session_lifecycle.specs.Meaning.{commandOf, stimulusOf}
 use Rattle.c_answers.specs.Asked.{commandAt}
 use Rattle.c_answers.proofs.asked.stimulus_of.Statement.{statement}
 use Rattle.c_answers.proofs.asked.stimulus_of.Tie as tie
-use Rattle.c_answers.proofs.asked.stimulus_of.Reads as reads
-use Rattle.c_answers.proofs.asked.stimulus_of.Lts as lts
 
 returns : tie.Need-returns
 unfolding stimulusOf commandOf commandAt

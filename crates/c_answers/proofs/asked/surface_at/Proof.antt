@@ -6,9 +6,6 @@ use Rattle.c_answers.specs.Asked.{surfaceAt}
 use borrow.Author.Needs.{needs}
 use Rattle.c_answers.proofs.asked.surface_at.Statement.{statement}
 use Rattle.c_answers.proofs.asked.surface_at.Tie as tie
-use Rattle.c_answers.proofs.asked.surface_at.Reads as reads
-use Rattle.c_answers.proofs.asked.surface_at.Lts as lts
-use Rattle.projection_patch.proofs.contract_primitives.StaticSurfaceId.new.Reads as new-reads
 
 returns : tie.Need-returns
 unfolding surfaceAt

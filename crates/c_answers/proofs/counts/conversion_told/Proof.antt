@@ -4,11 +4,6 @@ use Rattle.c_answers.specs.Counts.{refusedTo, conversionTold}
 use borrow.Author.Needs.{needs}
 use Rattle.c_answers.proofs.counts.conversion_told.Statement.{statement}
 use Rattle.c_answers.proofs.counts.conversion_told.Tie as tie
-use Rattle.c_answers.proofs.counts.conversion_told.Reads as reads
-use Rattle.c_answers.proofs.counts.conversion_told.Lts as lts
-use Rattle.c_answers.proofs.counts.counted.Reads as counted-reads
-use Rattle.c_answers.proofs.counts.refused.Reads as refused-reads
-use Rattle.patch_converter.proofs.ConversionRefusal.number.Reads as number-reads
 
 returns : tie.Need-returns
 returns c = c .counted .ensures ∙ ap conversionTold (sym (c .before .before .answer .given .1))

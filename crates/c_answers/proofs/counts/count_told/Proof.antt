@@ -4,10 +4,6 @@ use Rattle.c_answers.specs.Counts.{countTold}
 use borrow.Author.Needs.{needs}
 use Rattle.c_answers.proofs.counts.count_told.Statement.{statement}
 use Rattle.c_answers.proofs.counts.count_told.Tie as tie
-use Rattle.c_answers.proofs.counts.count_told.Reads as reads
-use Rattle.c_answers.proofs.counts.count_told.Lts as lts
-use Rattle.c_answers.proofs.counts.counted.Reads as counted-reads
-use Rattle.c_answers.proofs.counts.not_counted.Reads as not-counted-reads
 
 returns : tie.Need-returns
 returns c = c .counted .ensures ∙ ap countTold (sym (c .before .before .answer .given .1))

@@ -4,11 +4,6 @@ use Rattle.c_answers.specs.Counts.{refusedTo, importTold}
 use borrow.Author.Needs.{needs}
 use Rattle.c_answers.proofs.counts.import_told.Statement.{statement}
 use Rattle.c_answers.proofs.counts.import_told.Tie as tie
-use Rattle.c_answers.proofs.counts.import_told.Reads as reads
-use Rattle.c_answers.proofs.counts.import_told.Lts as lts
-use Rattle.c_answers.proofs.counts.counted.Reads as counted-reads
-use Rattle.c_answers.proofs.counts.refused.Reads as refused-reads
-use Rattle.patch_import.proofs.answer.ImportRefusal.number.Reads as number-reads
 
 returns : tie.Need-returns
 returns c = c .counted .ensures ∙ ap importTold (sym (c .before .before .answer .given .1))

@@ -4,10 +4,6 @@ use Rattle.c_answers.specs.Counts.{listingTold}
 use borrow.Author.Needs.{needs}
 use Rattle.c_answers.proofs.counts.listing_told.Statement.{statement}
 use Rattle.c_answers.proofs.counts.listing_told.Tie as tie
-use Rattle.c_answers.proofs.counts.listing_told.Reads as reads
-use Rattle.c_answers.proofs.counts.listing_told.Lts as lts
-use Rattle.c_answers.proofs.counts.not_counted.Reads as not-counted-reads
-use Rattle.c_answers.proofs.counts.written_to.Reads as written-to-reads
 
 returns : tie.Need-returns
 returns c = c .written-to .ensures ∙ ap listingTold (sym (c .before .before .answer .given .1))

@@ -4,10 +4,6 @@ use Rattle.c_answers.specs.Counts.{pageTold}
 use borrow.Author.Needs.{needs}
 use Rattle.c_answers.proofs.counts.page_told.Statement.{statement}
 use Rattle.c_answers.proofs.counts.page_told.Tie as tie
-use Rattle.c_answers.proofs.counts.page_told.Reads as reads
-use Rattle.c_answers.proofs.counts.page_told.Lts as lts
-use Rattle.c_answers.proofs.counts.not_counted.Reads as not-counted-reads
-use Rattle.c_answers.proofs.counts.page_to.Reads as page-to-reads
 
 returns : tie.Need-returns
 returns c = c .page-to .ensures ∙ ap pageTold (sym (c .before .before .answer .given .1))

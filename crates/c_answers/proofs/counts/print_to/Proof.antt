@@ -5,11 +5,6 @@ use Rattle.c_answers.specs.Counts.{printTo}
 use borrow.Author.Needs.{needs}
 use Rattle.c_answers.proofs.counts.print_to.Statement.{statement}
 use Rattle.c_answers.proofs.counts.print_to.Tie as tie
-use Rattle.c_answers.proofs.counts.print_to.Reads as reads
-use Rattle.c_answers.proofs.counts.print_to.Lts as lts
-use Rattle.c_answers.proofs.counts.counted.Reads as counted-reads
-use Rattle.c_answers.proofs.counts.refused.Reads as refused-reads
-use Rattle.panel_print.proofs.PrintRefusal.number.Reads as number-reads
 
 returns : tie.Need-returns
 returns c = c .counted .ensures ∙ ap printTo (sym (c .before .before .answer .given .1))

@@ -4,10 +4,6 @@ use Rattle.c_answers.specs.Counts.{printTold}
 use borrow.Author.Needs.{needs}
 use Rattle.c_answers.proofs.counts.print_told.Statement.{statement}
 use Rattle.c_answers.proofs.counts.print_told.Tie as tie
-use Rattle.c_answers.proofs.counts.print_told.Reads as reads
-use Rattle.c_answers.proofs.counts.print_told.Lts as lts
-use Rattle.c_answers.proofs.counts.not_counted.Reads as not-counted-reads
-use Rattle.c_answers.proofs.counts.print_to.Reads as print-to-reads
 
 returns : tie.Need-returns
 returns c = c .print-to .ensures ∙ ap printTold (sym (c .before .before .answer .given .1))

@@ -5,11 +5,6 @@ use Rattle.c_answers.specs.Counts.{writtenTo}
 use borrow.Author.Needs.{needs}
 use Rattle.c_answers.proofs.counts.written_to.Statement.{statement}
 use Rattle.c_answers.proofs.counts.written_to.Tie as tie
-use Rattle.c_answers.proofs.counts.written_to.Reads as reads
-use Rattle.c_answers.proofs.counts.written_to.Lts as lts
-use Rattle.c_answers.proofs.counts.counted.Reads as counted-reads
-use Rattle.c_answers.proofs.counts.refused.Reads as refused-reads
-use Rattle.patch_part_writer.proofs.written.WriteRefusal.number.Reads as number-reads
 
 returns : tie.Need-returns
 returns c = c .counted .ensures ∙ ap writtenTo (sym (c .before .before .answer .given .1))

@@ -4,11 +4,6 @@ use Rattle.c_answers.specs.Sets.{uncheckedSet, checkTold}
 use borrow.Author.Needs.{needs}
 use Rattle.c_answers.proofs.sets.check_told.Statement.{statement}
 use Rattle.c_answers.proofs.sets.check_told.Tie as tie
-use Rattle.c_answers.proofs.sets.check_told.Reads as reads
-use Rattle.c_answers.proofs.sets.check_told.Lts as lts
-use Rattle.c_answers.proofs.sets.checked_at.Reads as checked-at-reads
-use Rattle.c_answers.proofs.sets.unchecked.Reads as unchecked-reads
-use Rattle.projection_patch.proofs.read_values.ProjectionPatchReadFault.number.Reads as number-reads
 
 returns : tie.Need-returns
 returns c = c .checked-at .ensures ∙ ap checkTold (sym (c .before .before .answer .given .1))

@@ -5,9 +5,6 @@ use Rattle.c_answers.specs.Sets.{checkedAt}
 use borrow.Author.Needs.{needs}
 use Rattle.c_answers.proofs.sets.checked_at.Statement.{statement}
 use Rattle.c_answers.proofs.sets.checked_at.Tie as tie
-use Rattle.c_answers.proofs.sets.checked_at.Reads as reads
-use Rattle.c_answers.proofs.sets.checked_at.Lts as lts
-use Rattle.c_answers.proofs.sets.checked_in.Reads as checked-in-reads
 
 returns : tie.Need-returns
 returns c =

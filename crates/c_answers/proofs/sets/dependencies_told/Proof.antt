@@ -4,12 +4,6 @@ use Rattle.c_answers.specs.Sets.{notTold, dependenciesTold}
 use borrow.Author.Needs.{needs}
 use Rattle.c_answers.proofs.sets.dependencies_told.Statement.{statement}
 use Rattle.c_answers.proofs.sets.dependencies_told.Tie as tie
-use Rattle.c_answers.proofs.sets.dependencies_told.Reads as reads
-use Rattle.c_answers.proofs.sets.dependencies_told.Lts as lts
-use Rattle.c_answers.proofs.sets.needs_keys.Reads as needs-keys-reads
-use Rattle.c_answers.proofs.sets.never_by.Reads as never-by-reads
-use Rattle.c_answers.proofs.sets.not_told.Reads as not-told-reads
-use Rattle.set_dependencies.proofs.depends.DependenciesRefusal.number.Reads as number-reads
 
 returns : tie.Need-returns
 returns c = c .never-by .ensures ∙ ap dependenciesTold (sym (c .before .before .answer .given .1))

@@ -4,9 +4,6 @@ use Rattle.c_answers.specs.Values.{availabilityTold}
 use borrow.Author.Needs.{needs}
 use Rattle.c_answers.proofs.values.availability_told.Statement.{statement}
 use Rattle.c_answers.proofs.values.availability_told.Tie as tie
-use Rattle.c_answers.proofs.values.availability_told.Reads as reads
-use Rattle.c_answers.proofs.values.availability_told.Lts as lts
-use Rattle.c_answers.proofs.values.bit.Reads as bit-reads
 
 returns : tie.Need-returns
 returns c =

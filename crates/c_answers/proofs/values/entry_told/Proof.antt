@@ -2,9 +2,6 @@
 use borrow.Author.Needs.{needs}
 use Rattle.c_answers.proofs.values.entry_told.Statement.{statement}
 use Rattle.c_answers.proofs.values.entry_told.Tie as tie
-use Rattle.c_answers.proofs.values.entry_told.Reads as reads
-use Rattle.c_answers.proofs.values.entry_told.Lts as lts
-use Rattle.c_answers.proofs.values.value_to.Reads as value-to-reads
 
 returns : tie.Need-returns
 returns c = λ i. record { key = c .before .before .before .args .answer .entry .key; value = c .value-to .ensures i }

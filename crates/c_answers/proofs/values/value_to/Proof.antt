@@ -5,10 +5,6 @@ use borrow.Author.Needs.{sfits-of}
 use borrow.Author.Needs.{needs}
 use Rattle.c_answers.proofs.values.value_to.Statement.{statement}
 use Rattle.c_answers.proofs.values.value_to.Tie as tie
-use Rattle.c_answers.proofs.values.value_to.Reads as reads
-use Rattle.c_answers.proofs.values.value_to.Lts as lts
-use Rattle.c_answers.proofs.values.bit.Reads as bit-reads
-use Rattle.c_answers.proofs.values.view_number.Reads as view-number-reads
 
 returns : tie.Need-returns
 returns c =

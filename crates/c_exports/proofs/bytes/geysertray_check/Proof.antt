@@ -5,13 +5,6 @@ use Rattle.c_answers.specs.Sets.{checkTold}
 use borrow.Author.Needs.{needs}
 use Rattle.c_exports.proofs.bytes.geysertray_check.Statement.{statement}
 use Rattle.c_exports.proofs.bytes.geysertray_check.Tie as tie
-use Rattle.c_exports.proofs.bytes.geysertray_check.Reads as reads
-use Rattle.c_exports.proofs.bytes.geysertray_check.Lts as lts
-use Rattle.c_answers.proofs.asked.edition_of.Reads as edition-of-reads
-use Rattle.c_answers.proofs.asked.is_edition.Reads as is-edition-reads
-use Rattle.c_answers.proofs.sets.check_told.Reads as check-told-reads
-use Rattle.c_answers.proofs.sets.unchecked.Reads as unchecked-reads
-use Rattle.check_set.proofs.check_set.check.Reads as check-reads
 
 returns : tie.Need-returns
 unfolding byEdition

@@ -5,13 +5,6 @@ use Rattle.c_answers.specs.Counts.{conversionTold}
 use borrow.Author.Needs.{needs}
 use Rattle.c_exports.proofs.bytes.geysertray_convert.Statement.{statement}
 use Rattle.c_exports.proofs.bytes.geysertray_convert.Tie as tie
-use Rattle.c_exports.proofs.bytes.geysertray_convert.Reads as reads
-use Rattle.c_exports.proofs.bytes.geysertray_convert.Lts as lts
-use Rattle.c_answers.proofs.asked.edition_of.Reads as edition-of-reads
-use Rattle.c_answers.proofs.asked.is_edition.Reads as is-edition-reads
-use Rattle.c_answers.proofs.counts.conversion_told.Reads as conversion-told-reads
-use Rattle.c_answers.proofs.counts.not_counted.Reads as not-counted-reads
-use Rattle.patch_converter.proofs.convert.Reads as convert-reads
 
 returns : tie.Need-returns
 unfolding byEdition

@@ -5,13 +5,6 @@ use Rattle.c_answers.specs.Sets.{dependenciesTold}
 use borrow.Author.Needs.{needs}
 use Rattle.c_exports.proofs.bytes.geysertray_depends.Statement.{statement}
 use Rattle.c_exports.proofs.bytes.geysertray_depends.Tie as tie
-use Rattle.c_exports.proofs.bytes.geysertray_depends.Reads as reads
-use Rattle.c_exports.proofs.bytes.geysertray_depends.Lts as lts
-use Rattle.c_answers.proofs.asked.edition_of.Reads as edition-of-reads
-use Rattle.c_answers.proofs.asked.is_edition.Reads as is-edition-reads
-use Rattle.c_answers.proofs.sets.dependencies_told.Reads as dependencies-told-reads
-use Rattle.c_answers.proofs.sets.not_told.Reads as not-told-reads
-use Rattle.set_dependencies.proofs.depends.depends.Reads as depends-reads
 
 returns : tie.Need-returns
 unfolding byEdition

@@ -5,14 +5,6 @@ use Rattle.c_answers.specs.Counts.{importTold}
 use borrow.Author.Needs.{needs}
 use Rattle.c_exports.proofs.bytes.geysertray_import_terms.Statement.{statement}
 use Rattle.c_exports.proofs.bytes.geysertray_import_terms.Tie as tie
-use Rattle.c_exports.proofs.bytes.geysertray_import_terms.Reads as reads
-use Rattle.c_exports.proofs.bytes.geysertray_import_terms.Lts as lts
-use Rattle.c_answers.proofs.asked.edition_of.Reads as edition-of-reads
-use Rattle.c_answers.proofs.asked.envelope_at.Reads as envelope-at-reads
-use Rattle.c_answers.proofs.asked.is_edition.Reads as is-edition-reads
-use Rattle.c_answers.proofs.counts.import_told.Reads as import-told-reads
-use Rattle.c_answers.proofs.counts.not_counted.Reads as not-counted-reads
-use Rattle.patch_import.proofs.import_terms.Reads as import-terms-reads
 
 returns : tie.Need-returns
 unfolding byEdition

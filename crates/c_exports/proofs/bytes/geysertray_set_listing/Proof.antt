@@ -5,13 +5,6 @@ use Rattle.c_answers.specs.Counts.{writtenTo}
 use borrow.Author.Needs.{needs}
 use Rattle.c_exports.proofs.bytes.geysertray_set_listing.Statement.{statement}
 use Rattle.c_exports.proofs.bytes.geysertray_set_listing.Tie as tie
-use Rattle.c_exports.proofs.bytes.geysertray_set_listing.Reads as reads
-use Rattle.c_exports.proofs.bytes.geysertray_set_listing.Lts as lts
-use Rattle.c_answers.proofs.asked.edition_of.Reads as edition-of-reads
-use Rattle.c_answers.proofs.asked.is_edition.Reads as is-edition-reads
-use Rattle.c_answers.proofs.counts.not_counted.Reads as not-counted-reads
-use Rattle.c_answers.proofs.counts.written_to.Reads as written-to-reads
-use Rattle.listing_panel.proofs.write_listing.Reads as write-listing-reads
 
 returns : tie.Need-returns
 unfolding byEdition

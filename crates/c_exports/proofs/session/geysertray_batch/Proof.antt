@@ -5,12 +5,6 @@ use Rattle.c_exports.specs.Calls.{same-edition}
 use borrow.Author.Needs.{needs}
 use Rattle.c_exports.proofs.session.geysertray_batch.Statement.{statement}
 use Rattle.c_exports.proofs.session.geysertray_batch.Tie as tie
-use Rattle.c_exports.proofs.session.geysertray_batch.Reads as reads
-use Rattle.c_exports.proofs.session.geysertray_batch.Lts as lts
-use Rattle.c_answers.proofs.answers.unanswered.Reads as unanswered-reads
-use Rattle.c_answers.proofs.answers.answered.Reads as answered-reads
-use Rattle.c_answers.proofs.asked.edition_of.Reads as edition-of-reads
-use Rattle.session_lent.proofs.batch.apply_projection_patch_batch.Reads as apply-projection-patch-batch-reads
 
 returns : tie.Need-returns
 returns c = record { known = λ lo hi. absurd (omega (arith, c .before .if1 .taken)); low = λ h. (c .unanswered .ensures, (refl, (refl, (refl, (refl, refl))))); high = λ h. absurd (omega (arith, c .before .if1 .taken)) }

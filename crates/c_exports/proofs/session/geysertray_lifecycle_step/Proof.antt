@@ -5,12 +5,6 @@ use Rattle.c_exports.specs.Calls.{same-stimulus}
 use borrow.Author.Needs.{needs}
 use Rattle.c_exports.proofs.session.geysertray_lifecycle_step.Statement.{statement}
 use Rattle.c_exports.proofs.session.geysertray_lifecycle_step.Tie as tie
-use Rattle.c_exports.proofs.session.geysertray_lifecycle_step.Reads as reads
-use Rattle.c_exports.proofs.session.geysertray_lifecycle_step.Lts as lts
-use Rattle.c_answers.proofs.answers.no_step.Reads as no-step-reads
-use Rattle.c_answers.proofs.asked.stimulus_of.Reads as stimulus-of-reads
-use Rattle.c_answers.proofs.answers.stepped.Reads as stepped-reads
-use Rattle.session_lent.proofs.lifecycle.transition.Reads as transition-reads
 
 returns : tie.Need-returns
 returns c = record { known = λ k. absurd (omega (arith, c .before .if1 .taken)); unknown = λ k. (c .no-step .ensures, refl) }

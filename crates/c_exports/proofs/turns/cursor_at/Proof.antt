@@ -5,8 +5,6 @@ use Rattle.session_lifecycle.specs.Meaning.{cursorOf}
 use Rattle.session_lent.specs.Head.{cursorNumbered}
 use Rattle.c_exports.proofs.turns.cursor_at.Statement.{statement}
 use Rattle.c_exports.proofs.turns.cursor_at.Tie as tie
-use Rattle.c_exports.proofs.turns.cursor_at.Reads as reads
-use Rattle.c_exports.proofs.turns.cursor_at.Lts as lts
 
 returns : tie.Need-returns
 unfolding cursorOf cursorNumbered

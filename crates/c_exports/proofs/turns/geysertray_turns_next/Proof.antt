@@ -3,11 +3,6 @@ use mathlib.Core.Path.{sym}
 use borrow.Author.Needs.{needs}
 use Rattle.c_exports.proofs.turns.geysertray_turns_next.Statement.{statement}
 use Rattle.c_exports.proofs.turns.geysertray_turns_next.Tie as tie
-use Rattle.c_exports.proofs.turns.geysertray_turns_next.Reads as reads
-use Rattle.c_exports.proofs.turns.geysertray_turns_next.Lts as lts
-use Rattle.c_exports.proofs.turns.cursor_at.Reads as cursor-at-reads
-use Rattle.c_exports.proofs.turns.lent_turn_told.Reads as lent-turn-told-reads
-use Rattle.session_lent_turns.proofs.turn.Reads as turn-reads
 
 returns : tie.Need-returns
 returns c =

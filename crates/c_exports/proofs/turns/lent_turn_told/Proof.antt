@@ -4,9 +4,6 @@ use Rattle.c_exports.specs.Turns.{lentTurnTold}
 use borrow.Author.Needs.{needs}
 use Rattle.c_exports.proofs.turns.lent_turn_told.Statement.{statement}
 use Rattle.c_exports.proofs.turns.lent_turn_told.Tie as tie
-use Rattle.c_exports.proofs.turns.lent_turn_told.Reads as reads
-use Rattle.c_exports.proofs.turns.lent_turn_told.Lts as lts
-use Rattle.c_exports.proofs.turns.turn_to.Reads as turn-to-reads
 
 returns-2 : tie.Need-returns-2
 returns-2 c = ap lentTurnTold (sym (c .enum-told .given .1))

@@ -4,8 +4,6 @@ use Rattle.c_exports.specs.Turns.{turnTo}
 use borrow.Author.Needs.{needs}
 use Rattle.c_exports.proofs.turns.turn_to.Statement.{statement}
 use Rattle.c_exports.proofs.turns.turn_to.Tie as tie
-use Rattle.c_exports.proofs.turns.turn_to.Reads as reads
-use Rattle.c_exports.proofs.turns.turn_to.Lts as lts
 
 returns : tie.Need-returns
 returns c = ap turnTo (sym (c .enum-told .given .1))

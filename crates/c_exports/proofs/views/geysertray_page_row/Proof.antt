@@ -4,10 +4,6 @@ use Rattle.c_answers.specs.Values.{placeTold}
 use borrow.Author.Needs.{needs}
 use Rattle.c_exports.proofs.views.geysertray_page_row.Statement.{statement}
 use Rattle.c_exports.proofs.views.geysertray_page_row.Tie as tie
-use Rattle.c_exports.proofs.views.geysertray_page_row.Reads as reads
-use Rattle.c_exports.proofs.views.geysertray_page_row.Lts as lts
-use Rattle.c_answers.proofs.values.place_told.Reads as place-told-reads
-use Rattle.panel_page.proofs.rows.PageLookup.read.Reads as read-reads
 
 returns : tie.Need-returns
 returns c = λ a fits row. c .place-told .ensures ∙ ap placeTold (c .before .read .ensures a fits row)

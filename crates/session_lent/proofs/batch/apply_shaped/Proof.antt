@@ -11,16 +11,6 @@ use Rattle.session_lent.specs.BatchesLaws.{held-tables, kept-change, row
 use borrow.Author.Needs.{needs}
 use Rattle.session_lent.proofs.batch.apply_shaped.Statement.{statement}
 use Rattle.session_lent.proofs.batch.apply_shaped.Tie as tie
-use Rattle.session_lent.proofs.batch.apply_shaped.Reads as reads
-use Rattle.session_lent.proofs.batch.apply_shaped.Lts as lts
-use Rattle.session_gates.proofs.batch.check_batch.Reads as check-batch-reads
-use Rattle.session_lent.proofs.batch.commit.Reads as commit-reads
-use Rattle.session_lent.proofs.head.limits_in.Reads as limits-in-reads
-use Rattle.session_lent.proofs.head.state_in.Reads as state-in-reads
-use Rattle.session_steps.proofs.answers.concluded.Reads as concluded-reads
-use Rattle.session_steps.proofs.answers.rejected.Reads as rejected-reads
-use Rattle.session_steps.proofs.answers.unchanged.Reads as unchanged-reads
-use Rattle.session_steps.proofs.checks.is_empty.Reads as is-empty-reads
 
 returns : tie.Need-returns
 unfolding gateOf checkCounted

@@ -13,11 +13,6 @@ use Rattle.session_lent.specs.BatchesLaws.{stopped-became, stopped-kept,
 use borrow.Author.Needs.{needs}
 use Rattle.session_lent.proofs.batch.commit.Statement.{statement}
 use Rattle.session_lent.proofs.batch.commit.Tie as tie
-use Rattle.session_lent.proofs.batch.commit.Reads as reads
-use Rattle.session_lent.proofs.batch.commit.Lts as lts
-use Rattle.panel_changes.proofs.apply_set.Reads as apply-set-reads
-use Rattle.session_lent.proofs.head.counts_in.Reads as counts-in-reads
-use Rattle.session_lent.proofs.head.store_moved.Reads as store-moved-reads
 
 stored : {b a e : List ℕ} {p : Projection} {k : ProjectionCounts} (n : ProjectionCounts) → n ≡ k → StoredTables k b a e p → StoredTables n b a e p
 stored {b = b} {a = a} {e = e} {p = p} n is = subst (λ (x : ProjectionCounts). StoredTables x b a e p) (sym is)

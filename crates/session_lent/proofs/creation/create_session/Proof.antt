@@ -7,12 +7,6 @@ use Rattle.session_lent.specs.CreationLaws.{room-head}
 use borrow.Author.Needs.{needs}
 use Rattle.session_lent.proofs.creation.create_session.Statement.{statement}
 use Rattle.session_lent.proofs.creation.create_session.Tie as tie
-use Rattle.session_lent.proofs.creation.create_session.Reads as reads
-use Rattle.session_lent.proofs.creation.create_session.Lts as lts
-use Rattle.bytes_records.proofs.moves.clear.Reads as clear-reads
-use Rattle.session_lent.proofs.creation.room_shaped.Reads as room-shaped-reads
-use Rattle.session_lent.proofs.head.store_new.Reads as store-new-reads
-use Rattle.session_lent.proofs.shape.anchors_shaped.Reads as anchors-shaped-reads
 
 store-new-requires : tie.Need-store-new-requires
 store-new-requires c κs = room-head _ _ _ _ _ _ (sym (c .before .before .before .before .room-shaped .ensures) ∙ c .before .before .before .if1 .taken)

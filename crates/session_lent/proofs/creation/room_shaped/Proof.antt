@@ -8,9 +8,6 @@ use Rattle.session_lent.specs.Steps.{roomShaped}
 use borrow.Author.Needs.{needs}
 use Rattle.session_lent.proofs.creation.room_shaped.Statement.{statement}
 use Rattle.session_lent.proofs.creation.room_shaped.Tie as tie
-use Rattle.session_lent.proofs.creation.room_shaped.Reads as reads
-use Rattle.session_lent.proofs.creation.room_shaped.Lts as lts
-use Rattle.panel_changes.proofs.tables_fit.Reads as tables-fit-reads
 
 returns : tie.Need-returns
 unfolding roomShaped

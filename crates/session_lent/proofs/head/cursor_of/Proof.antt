@@ -5,8 +5,6 @@ use Rattle.session_lifecycle.specs.Meaning.{cursorOf}
 use Rattle.session_lent.specs.Head.{cursorNumbered}
 use Rattle.session_lent.proofs.head.cursor_of.Statement.{statement}
 use Rattle.session_lent.proofs.head.cursor_of.Tie as tie
-use Rattle.session_lent.proofs.head.cursor_of.Reads as reads
-use Rattle.session_lent.proofs.head.cursor_of.Lts as lts
 
 returns : tie.Need-returns
 unfolding cursorOf cursorNumbered

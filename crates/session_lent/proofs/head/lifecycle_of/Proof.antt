@@ -2,8 +2,6 @@
 use Rattle.session_lent.specs.HeadLaws.{numbered-created, numbered-active, numbered-suspended, numbered-closed}
 use Rattle.session_lent.proofs.head.lifecycle_of.Statement.{statement}
 use Rattle.session_lent.proofs.head.lifecycle_of.Tie as tie
-use Rattle.session_lent.proofs.head.lifecycle_of.Reads as reads
-use Rattle.session_lent.proofs.head.lifecycle_of.Lts as lts
 
 returns : tie.Need-returns
 returns c = numbered-created _ (c .match .keys1)

@@ -3,10 +3,6 @@ use lib.ListN.{getD}
 use borrow.Author.Needs.{needs}
 use Rattle.session_lent.proofs.head.state_in.Statement.{statement}
 use Rattle.session_lent.proofs.head.state_in.Tie as tie
-use Rattle.session_lent.proofs.head.state_in.Reads as reads
-use Rattle.session_lent.proofs.head.state_in.Lts as lts
-use Rattle.session_lent.proofs.head.cursor_of.Reads as cursor-of-reads
-use Rattle.session_lent.proofs.head.lifecycle_of.Reads as lifecycle-of-reads
 
 returns : tie.Need-returns
 returns c = λ i. record { id = getD (c .before .before .before .before .before .before .before .args .head .now) 0 0; lifecycle = c .before .before .before .lifecycle-of .ensures i; cursor = c .cursor-of .ensures i }

@@ -5,8 +5,6 @@ use Rattle.session_lent.specs.HeadLaws.{all-written}
 use borrow.Author.Needs.{needs}
 use Rattle.session_lent.proofs.head.store_moved.Statement.{statement}
 use Rattle.session_lent.proofs.head.store_moved.Tie as tie
-use Rattle.session_lent.proofs.head.store_moved.Reads as reads
-use Rattle.session_lent.proofs.head.store_moved.Lts as lts
 
 slice-write-to-5 : tie.Need-slice-write-to-5
 slice-write-to-5 c = simp length-set (omega arith)

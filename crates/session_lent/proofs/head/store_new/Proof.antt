@@ -5,8 +5,6 @@ use Rattle.session_lent.specs.HeadLaws.{all-written}
 use borrow.Author.Needs.{needs}
 use Rattle.session_lent.proofs.head.store_new.Statement.{statement}
 use Rattle.session_lent.proofs.head.store_new.Tie as tie
-use Rattle.session_lent.proofs.head.store_new.Reads as reads
-use Rattle.session_lent.proofs.head.store_new.Lts as lts
 
 slice-write-head-5 : tie.Need-slice-write-head-5
 slice-write-head-5 c = simp length-set (omega arith)

@@ -17,12 +17,6 @@ use Rattle.session_lent.specs.Steps.{steppedHead}
 use borrow.Author.Needs.{needs}
 use Rattle.session_lent.proofs.lifecycle.transition.Statement.{statement}
 use Rattle.session_lent.proofs.lifecycle.transition.Tie as tie
-use Rattle.session_lent.proofs.lifecycle.transition.Reads as reads
-use Rattle.session_lent.proofs.lifecycle.transition.Lts as lts
-use Rattle.session_lent.proofs.head.lifecycle_number.Reads as lifecycle-number-reads
-use Rattle.session_lent.proofs.head.limits_in.Reads as limits-in-reads
-use Rattle.session_lent.proofs.head.state_in.Reads as state-in-reads
-use Rattle.session_lifecycle.proofs.lifecycle.evaluate_lifecycle_transition.Reads as evaluate-lifecycle-transition-reads
 
 -- a step that is not applied leaves the head
 other : (h : List ℕ) (d : ShellTransitionDisposition) (n : ℕ) → OneOf (1 ∷ 2 ∷ []) (tagOf disposition.the-type d) → h ≡ steppedHead h d n

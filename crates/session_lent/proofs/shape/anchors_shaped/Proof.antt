@@ -7,8 +7,6 @@ use Rattle.session_lent.specs.LentSession.{anchorsShaped}
 use borrow.Author.Needs.{needs}
 use Rattle.session_lent.proofs.shape.anchors_shaped.Statement.{statement}
 use Rattle.session_lent.proofs.shape.anchors_shaped.Tie as tie
-use Rattle.session_lent.proofs.shape.anchors_shaped.Reads as reads
-use Rattle.session_lent.proofs.shape.anchors_shaped.Lts as lts
 
 returns : tie.Need-returns
 unfolding anchorsShaped

@@ -7,11 +7,6 @@ use Rattle.session_lent.specs.LentSession.{halfShaped}
 use borrow.Author.Needs.{needs}
 use Rattle.session_lent.proofs.shape.half_shaped.Statement.{statement}
 use Rattle.session_lent.proofs.shape.half_shaped.Tie as tie
-use Rattle.session_lent.proofs.shape.half_shaped.Reads as reads
-use Rattle.session_lent.proofs.shape.half_shaped.Lts as lts
-use Rattle.panel_changes.proofs.counts_fit.Reads as counts-fit-reads
-use Rattle.panel_changes.proofs.tables_fit.Reads as tables-fit-reads
-use Rattle.session_lent.proofs.head.counts_in.Reads as counts-in-reads
 
 returns : tie.Need-returns
 unfolding halfShaped

@@ -3,10 +3,6 @@ use mathlib.Core.Path.{refl, sym, _∙_}
 use borrow.Author.Needs.{needs}
 use Rattle.session_lent.proofs.shape.memory_shaped.Statement.{statement}
 use Rattle.session_lent.proofs.shape.memory_shaped.Tie as tie
-use Rattle.session_lent.proofs.shape.memory_shaped.Reads as reads
-use Rattle.session_lent.proofs.shape.memory_shaped.Lts as lts
-use Rattle.session_lent.proofs.shape.anchors_shaped.Reads as anchors-shaped-reads
-use Rattle.session_lent.proofs.shape.half_shaped.Reads as half-shaped-reads
 
 returns : tie.Need-returns
 returns c = sym (rw (sym (c .before .before .before .before .before .anchors-shaped .ensures) ∙ c .before .before .before .before .if1 .taken, sym (c .before .before .before .half-shaped .ensures) ∙ c .before .before .if2 .taken, sym (c .before .half-shaped2 .ensures) ∙ c .if3 .taken) refl)
