@@ -146,6 +146,30 @@ static void batch(void)
         must(told.number == answer.number, "the rule has another number than the batch's answer");
 }
 
+static geysertray_half spare;
+
+/* Up to nine batches, whose sets come behind their numbers. A group that is not taken leaves the session; one that is leaves what the batches leave singly. */
+static void group(void)
+{
+    static uint64_t numbers[9 * GEYSERTRAY_BATCH_NUMBERS];
+    const geysertray_half *half = geysertray_current(&panel);
+    uint64_t count = take(1) % 10, sequence = half->head[2] ? half->head[3] + 1 : 1, *told = numbers;
+    geysertray_group_answer answer;
+    size_t length;
+    const uint8_t *sets;
+    for (; told < numbers + count * GEYSERTRAY_BATCH_NUMBERS; told += GEYSERTRAY_BATCH_NUMBERS) {
+        told[0] = 1, told[1] = sequence, told[5] = take(1), told[2] = take(1), told[4] = take(1), told[3] = told[6] = take(2);
+        sequence += told[2] != 0;
+    }
+    sets = take_slice(&length);
+    before = panel;
+    answer = geysertray_send_group(&panel, &spare, numbers, count * GEYSERTRAY_BATCH_NUMBERS, sets, length);
+    for (told = numbers; sound && told < numbers + answer.count * GEYSERTRAY_BATCH_NUMBERS; sets += told[6], told += GEYSERTRAY_BATCH_NUMBERS)
+        must(geysertray_send(&before, told[0], told[1], told[2], told[3], told[4], sets, told[6], told[5]).disposition < GEYSERTRAY_REJECTED, "a batch is refused singly");
+    if (sound || answer.answer.disposition >= GEYSERTRAY_REJECTED)
+        must(memcmp(geysertray_current(&panel), geysertray_current(&before), sizeof spare) == 0, "a group left another session");
+}
+
 static uint64_t turns[GEYSERTRAY_TURNS_NUMBERS];
 
 /* A sender that is named waited, and waits no more; what is refused leaves the turns. */
@@ -223,13 +247,14 @@ static void spoil(void)
     sound = 0;
 }
 
-static void (*const calls[])(void) = {batch, step, on_bytes, look, spoil, take_turns};
+static void (*const calls[])(void) = {batch, step, on_bytes, look, spoil, take_turns, group};
 
 int LLVMFuzzerTestOneInput(const uint8_t *data, size_t size)
 {
     rest = data, left = size, sound = 1;
     memset(&panel, 0, sizeof panel);
     memset(turns, 0, sizeof turns);
+    memset(&spare, 0, sizeof spare);
     open_panel();
     while (left)
         calls[take(1) % (sizeof calls / sizeof *calls)]();

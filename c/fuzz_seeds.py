@@ -7,7 +7,7 @@ from pathlib import Path
 ROOT = Path(__file__).resolve().parent.parent
 DATA = ROOT / "crates" / "test_conformance" / "data"
 # the places of c/fuzz.c's calls
-BATCH, STEP, ON_BYTES, LOOK, SPOIL, TURNS = range(6)
+BATCH, STEP, ON_BYTES, LOOK, SPOIL, TURNS, GROUP = range(7)
 STEPS = ("activate", "suspend", "resume", "close", "noop")
 # limits that let most batches pass
 OPEN = bytes([255, 8, 64, 255])
@@ -23,10 +23,18 @@ def small(field):
     return int(field) % 256
 
 
+def member(field):
+    """Edition, patches, references and bytes of a batch in a group."""
+    _, _, patches, _, references, edition, length = field.split(",")
+    return bytes([small(edition), small(patches), small(references)]) + (int(length) % 65536).to_bytes(2, "big")
+
+
 def record(words, edition):
     """The bytes of one line, or none."""
     if words[0] in ("batch", "explain") and len(words) == 7:
         return bytes([BATCH, edition, small(words[3]), small(words[5])]) + lent(words[6])
+    if words[0] == "group":
+        return bytes([GROUP, len(words) - 2]) + b"".join(map(member, words[1:-1])) + lent(words[-1])
     if words[0] == "apply" and words[1] in STEPS:
         return bytes([STEP, STEPS.index(words[1]), 0])
     if words[0] in ("check", "list", "convert", "depends", "import"):
