@@ -53,17 +53,17 @@ two-at ns at h =
     let two : at + 2 ≡ suc (suc at) = omega arith in
     rw (one, two, drop-cons ns at 0 (omega arith), drop-cons ns (suc at) 0 (omega arith))
 
-seen-turn : (node slot : ℕ) (ns : List ℕ) (at : ℕ) → at + 2 ≤ length ns
+pair-seen-turn : (node slot : ℕ) (ns : List ℕ) (at : ℕ) → at + 2 ≤ length ns
     → pairSeen node slot (drop at ns) ≡ ((eqb (getD ns at 0) node && eqb (getD ns (at + 1) 0) slot) || pairSeen node slot (drop (at + 2) ns))
 unfolding pairSeen
-seen-turn node slot ns at h = ap (pairSeen node slot) (two-at ns at h)
+pair-seen-turn node slot ns at h = ap (pairSeen node slot) (two-at ns at h)
 
 module _ (node slot : ℕ) (ns : List ℕ) (at : ℕ) (within : at + 2 ≤ length ns) where
-  pub seen-here : (eqb (getD ns at 0) node && eqb (getD ns (at + 1) 0) slot) ≡ true → pairSeen node slot (drop at ns) ≡ true
-  seen-here e = seen-turn node slot ns at within ∙ rw e
+  pub pair-seen-here : (eqb (getD ns at 0) node && eqb (getD ns (at + 1) 0) slot) ≡ true → pairSeen node slot (drop at ns) ≡ true
+  pair-seen-here e = pair-seen-turn node slot ns at within ∙ rw e
 
-  pub seen-on : (eqb (getD ns at 0) node && eqb (getD ns (at + 1) 0) slot) ≡ false → pairSeen node slot (drop at ns) ≡ pairSeen node slot (drop (at + 2) ns)
-  seen-on e = seen-turn node slot ns at within ∙ rw e
+  pub pair-seen-on : (eqb (getD ns at 0) node && eqb (getD ns (at + 1) 0) slot) ≡ false → pairSeen node slot (drop at ns) ≡ pairSeen node slot (drop (at + 2) ns)
+  pair-seen-on e = pair-seen-turn node slot ns at within ∙ rw e
 
 -- fewer than two numbers are no pair
 pub pair-seen-end : (node slot : ℕ) (ns : List ℕ) → length ns < 2 → pairSeen node slot ns ≡ false
@@ -76,14 +76,14 @@ any-turn : (test : ℕ → Bool) (ns : List ℕ) (at : ℕ) → at < length ns �
 any-turn test ns at h = let one : at + 1 ≡ suc at = omega arith in rw one (ap (any test) (drop-cons ns at 0 h))
 
 module _ (id : ℕ) (ns : List ℕ) (at : ℕ) (within : at < length ns) where
-  pub id-here : id ≡ getD ns at 0 → any (eqb id) (drop at ns) ≡ true
-  id-here e = any-turn (eqb id) ns at within ∙ rw (eq-eqb id (getD ns at 0) e)
+  pub anchor-here : id ≡ getD ns at 0 → any (eqb id) (drop at ns) ≡ true
+  anchor-here e = any-turn (eqb id) ns at within ∙ rw (eq-eqb id (getD ns at 0) e)
 
-  pub id-on : (id ≡ getD ns at 0 → ⊥) → any (eqb id) (drop at ns) ≡ any (eqb id) (drop (at + 1) ns)
-  id-on n = any-turn (eqb id) ns at within ∙ rw (ne-eqb id (getD ns at 0) n)
+  pub anchor-on : (id ≡ getD ns at 0 → ⊥) → any (eqb id) (drop at ns) ≡ any (eqb id) (drop (at + 1) ns)
+  anchor-on n = any-turn (eqb id) ns at within ∙ rw (ne-eqb id (getD ns at 0) n)
 
-pub id-end : (id : ℕ) (ns : List ℕ) (at : ℕ) → length ns ≤ at → any (eqb id) (drop at ns) ≡ false
-id-end id ns at h = ap (any (eqb id)) (drop-of-length-le ns h)
+pub anchor-end : (id : ℕ) (ns : List ℕ) (at : ℕ) → length ns ≤ at → any (eqb id) (drop at ns) ≡ false
+anchor-end id ns at h = ap (any (eqb id)) (drop-of-length-le ns h)
 
 -- ---- an array of anchors, filled one by one
 

@@ -30,18 +30,18 @@ stored-start n h = record { small = h; last = []; digits = append-nil (decimal n
 
 module _ {n start rest : ℕ} {bytes : List ℕ} (s : StoredDigits n start rest bytes) where
   -- there is a place for each digit that is left
-  pub place-left : 10 ≤ rest → 1 ≤ start
-  place-left h =
+  pub digit-left : 10 ≤ rest → 1 ≤ start
+  digit-left h =
       let more : length (decimal rest) ≡ length (decimal (rest / 10)) + 1 = ap length (decimal-more rest (s .small) h) ∙ length-append (decimal (rest / 10)) _ in
       let all : length (decimal rest) + length (s .last) ≡ length (decimal n) = sym (length-append (decimal rest) (s .last)) ∙ ap length (s .digits) in
       omega (arith, length-decimal n .1, length-decimal (rest / 10) .0, s .size)
 
-  pub inside : start < 20
-  inside = omega (arith, s .size)
+  pub start-inside : start < 20
+  start-inside = omega (arith, s .size)
 
   pub stored-turn : 10 ≤ rest → StoredDigits n (start - 1) (rest / 10) (set bytes start (digit (rest % 10)))
   stored-turn h =
-      let place : suc (start - 1) ≡ start = omega (arith, place-left h) in
+      let place : suc (start - 1) ≡ start = omega (arith, digit-left h) in
       record {
         small = omega (arith, s .small);
         last = digit (rest % 10) ∷ s .last;

@@ -10,15 +10,15 @@ use Rattle.bytes_decimal.specs.Print.{mostDigits, HoldsDigits}
 use Rattle.bytes_decimal.specs.declared.Digits.{Digits}
 
 module _ (n : ℕ) (d : Digits) (h : HoldsDigits n d) where
-  abbrev zeros : List ℕ
-  zeros = replicate (d .start) 0
+  abbrev leadingZeros : List ℕ
+  leadingZeros = replicate (d .start) 0
 
   pub digits-long : length (d .bytes) ≡ mostDigits
-  digits-long = ap length (h .bytes) ∙ length-append zeros (decimal n) ∙ ap (λ (k : ℕ). k + length (decimal n)) (length-replicate {A = ℕ} (d .start) 0) ∙ h .place
+  digits-long = ap length (h .bytes) ∙ length-append leadingZeros (decimal n) ∙ ap (λ (k : ℕ). k + length (decimal n)) (length-replicate {A = ℕ} (d .start) 0) ∙ h .place
 
   -- from their start to the end
   pub digits-behind : take (mostDigits - d .start) (drop (d .start) (d .bytes)) ≡ decimal n
   digits-behind =
       ap (λ (l : List ℕ). take (mostDigits - d .start) (drop (d .start) l)) (h .bytes)
-      ∙ ap (take (mostDigits - d .start)) (drop-at zeros (decimal n) (d .start) (length-replicate {A = ℕ} (d .start) 0))
+      ∙ ap (take (mostDigits - d .start)) (drop-at leadingZeros (decimal n) (d .start) (length-replicate {A = ℕ} (d .start) 0))
       ∙ take-all (mostDigits - d .start) (decimal n) (omega (arith, h .place))

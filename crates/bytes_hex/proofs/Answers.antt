@@ -30,13 +30,13 @@ module _ (out text : List ℕ) where
   unfolding isPairs
   even h = omega (arith, eqb-true (length text % 2) 0 (and-left (eqb (length text % 2) 0) (all isHexDigit text) h))
 
-  pub fits : isPairs text ≡ true → length text / 2 ≤ length out → Bytes (length text / 2) ≡ decoding (length out) (hexPairs text)
+  pub pair-bytes-fit : isPairs text ≡ true → length text / 2 ≤ length out → Bytes (length text / 2) ≡ decoding (length out) (hexPairs text)
   unfolding decoding
-  fits h k = rw (spelled h, length-pairBytes text, le-leb (length text / 2) (length out) k)
+  pair-bytes-fit h k = rw (spelled h, length-pairBytes text, le-leb (length text / 2) (length out) k)
 
-  pub stored : isPairs text ≡ true → overwrite out 0 (pairBytes text) ≡ decodedInto out (hexPairs text)
+  pub pair-bytes-stored : isPairs text ≡ true → overwrite out 0 (pairBytes text) ≡ decodedInto out (hexPairs text)
   unfolding decodedInto
-  stored h = rw (spelled h)
+  pair-bytes-stored h = rw (spelled h)
 
   pub exceeds : isPairs text ≡ true → length out < length text / 2 → (NoRoom ≡ decoding (length out) (hexPairs text)) × (out ≡ decodedInto out (hexPairs text))
   unfolding decoding decodedInto

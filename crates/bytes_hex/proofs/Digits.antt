@@ -9,9 +9,9 @@ use Rattle.spec_lists.specs.ListLaws.{test-cases}
 use Rattle.bytes_hex.specs.Decoding.{isHexDigit, hexValue}
 
 module _ (b : ℕ) where
-  pub below : b < 48 → (isHexDigit b ≡ false) × (hexValue b ≡ 0)
+  pub below-figures : b < 48 → (isHexDigit b ≡ false) × (hexValue b ≡ 0)
   unfolding isHexDigit hexValue
-  below h = (rw (lt-leb 48 b h, lt-leb 97 b (omega arith)), rw (lt-leb 48 b h, lt-leb 97 b (omega arith)))
+  below-figures h = (rw (lt-leb 48 b h, lt-leb 97 b (omega arith)), rw (lt-leb 48 b h, lt-leb 97 b (omega arith)))
 
   pub figure : 48 ≤ b → b ≤ 57 → (isHexDigit b ≡ true) × (hexValue b ≡ b - 48)
   unfolding isHexDigit hexValue
@@ -26,10 +26,10 @@ module _ (b : ℕ) where
   letter h k =
       (rw (le-leb 48 b (omega arith), lt-leb b 57 (omega arith), le-leb 97 b h, le-leb b 102 k), rw (le-leb 48 b (omega arith), lt-leb b 57 (omega arith), le-leb 97 b h, le-leb b 102 k))
 
-  pub above : 102 < b → (isHexDigit b ≡ false) × (hexValue b ≡ 0)
+  pub above-letters : 102 < b → (isHexDigit b ≡ false) × (hexValue b ≡ 0)
   unfolding isHexDigit hexValue
-  above h =
+  above-letters h =
       (rw (le-leb 48 b (omega arith), lt-leb b 57 (omega arith), le-leb 97 b (omega arith), lt-leb b 102 h), rw (le-leb 48 b (omega arith), lt-leb b 57 (omega arith), le-leb 97 b (omega arith), lt-leb b 102 h))
 
-  pub letters : 97 ≤ b → isHexDigit b ≡ leb b 102
-  letters h = test-cases (leb b 102) (λ t. rw t (letter h (omega (arith, leb-true b 102 t)) .0)) (λ t. rw t (above (omega (arith, leb-false b 102 t)) .0))
+  pub letter-test : 97 ≤ b → isHexDigit b ≡ leb b 102
+  letter-test h = test-cases (leb b 102) (λ t. rw t (letter h (omega (arith, leb-true b 102 t)) .0)) (λ t. rw t (above-letters (omega (arith, leb-false b 102 t)) .0))

@@ -111,8 +111,8 @@ _⨾_ {l} {at = at} {a = a} {b = b} p q = record {
     outputs NoRoom = refl
 
 -- the same bytes, spelt otherwise
-pub same-bytes : {l m bs cs : List ℕ} {at r : Printed} → bs ≡ cs → Prints l at bs m r → Prints l at cs m r
-same-bytes {l} {m} {bs} {cs} {at} {r} e p = subst (λ (b : List ℕ). Prints l at b m r) e p
+pub prints-same : {l m bs cs : List ℕ} {at r : Printed} → bs ≡ cs → Prints l at bs m r → Prints l at cs m r
+prints-same {l} {m} {bs} {cs} {at} {r} e p = subst (λ (b : List ℕ). Prints l at b m r) e p
 
 -- ---- from a position that a match told
 
@@ -172,11 +172,11 @@ ends-within {l} {m} {at} {r} {bs} p = subst (λ (x : Printed). Within m x) (sym 
 
 module _ (text : List ℕ) (i : ℕ) (h : i < length text) {l m : List ℕ} {at : Printed} {to : ℕ} (p : Prints l at (take i text) m (Next to)) where
   pub byte-turn : to < length m → Prints l at (take (i + 1) text) (set m to (getD text i 0)) (Next (to + 1))
-  byte-turn room = same-bytes (sym (ap (λ (k : ℕ). take k text) (add-one i) ∙ take-suc text i 0 h)) (p ⨾ one-printed m to (getD text i 0) room)
+  byte-turn room = prints-same (sym (ap (λ (k : ℕ). take k text) (add-one i) ∙ take-suc text i 0 h)) (p ⨾ one-printed m to (getD text i 0) room)
 
   pub byte-full : length m ≤ to → Prints l at text m NoRoom
   byte-full full =
-      same-bytes (take-append-drop i text) (p ⨾ none-printed m to (drop i text) full (omega (arith, length-drop i text)))
+      prints-same (take-append-drop i text) (p ⨾ none-printed m to (drop i text) full (omega (arith, length-drop i text)))
 
 -- ---- a line for each element of a list
 
@@ -195,11 +195,11 @@ module _ {A : Type 0} (line : A → List ℕ) (xs : List A) {l : List ℕ} {at :
       sym (ap (flatMap line) (ap (λ (k : ℕ). take k xs) (add-one i) ∙ take-suc xs i d h)
       ∙ flatMap-append line (take i xs) (getD xs i d ∷ [])
       ∙ ap (λ (b : List ℕ). flatMap line (take i xs) ++ b) (append-nil (line (getD xs i d)))) in
-      same-bytes lines (p ⨾ q)
+      prints-same lines (p ⨾ q)
 
   -- after the last turn
   pub lines-end : (i : ℕ) → length xs ≤ i → {m : List ℕ} {r : Printed} → Prints l at (flatMap line (take i xs)) m r → Prints l at (flatMap line xs) m r
-  lines-end i h p = same-bytes (ap (flatMap line) (take-all i xs h)) p
+  lines-end i h p = prints-same (ap (flatMap line) (take-all i xs h)) p
 
 -- ---- what a whole print leaves
 

@@ -11,7 +11,7 @@ use borrow.Author.Tests.{le-leb, lt-leb, lt-ltb, le-ltb, eq-eqb, ne-eqb}
 use Rattle.spec_lists.specs.ListLaws.{all-append, all-take, all-drop}
 use Rattle.bytes_records.specs.Positions.{insertAt, removeAt, replaceAt}
 use Rattle.bytes_records.specs.Table.{Wide, HoldsRows, canInsert, canRemove, canReplace, Changed}
-use Rattle.bytes_records.specs.TableLaws.{flatten-append, flatten-middle, wide-middle, zeros-split, holds, before-length, after-length, split, row-width, row-bytes, row-split}
+use Rattle.bytes_records.specs.TableLaws.{flatten-append, flatten-middle, wide-middle, zeros-split, holds, before-length, after-length, rows-split, row-width, row-bytes, row-split}
 use Rattle.bytes_records.specs.Moves.{zeros, overwriteRows, pushFront, popFront}
 use Rattle.bytes_records.proofs.Parts.{part-is, lent}
 use Rattle.bytes_records.proofs.Offsets.{start-le}
@@ -33,14 +33,14 @@ module _ {w n : ℕ} {l : List ℕ} (m : List (List ℕ)) (t : HoldsRows w n l m
     insert-split : l ≡ flatten (take i m) ++ ((flatten (drop i m) ++ zeros w) ++ zeros (length l - n * w - w))
     insert-split =
         let h : w ≤ length l - n * w = omega arith in
-        split t i within ∙ rw (zeros-split w (length l - n * w), append-assoc)
+        rows-split t i within ∙ rw (zeros-split w (length l - n * w), append-assoc)
 
     insert-size : length (flatten (drop i m) ++ zeros w) ≡ n * w + w - i * w
     insert-size = simp (length-append, length-replicate) (omega (arith, after-length t i within, start-le w within))
 
-    pub inserted : (s : List ℕ) → s ≡ pushFront r (midOf (i * w) (n * w + w - i * w) l)
+    pub insert-holds : (s : List ℕ) → s ≡ pushFront r (midOf (i * w) (n * w + w - i * w) l)
         → HoldsRows w (n + 1) (putMid (i * w) (n * w + w - i * w) l s) (insertAt i r m)
-    inserted s e =
+    insert-holds s e =
         let kept : length (flatten (drop i m)) ≡ length (flatten (drop i m) ++ zeros w) - length r = simp (length-append, length-replicate) (omega arith) in
         let long : length (insertAt i r m) ≡ n + 1 = simp (length-append, length-take, length-drop) (omega (arith, t .counted)) in
         holds w (n + 1) _ (insertAt i r m) (length l - n * w - w)
@@ -51,9 +51,9 @@ module _ {w n : ℕ} {l : List ℕ} (m : List (List ℕ)) (t : HoldsRows w n l m
         ∙ rw (flatten-middle, take-at) (simp append-assoc))
 
   module _ (i : ℕ) (below : i < n) where
-    pub removed : (s : List ℕ) → s ≡ popFront w (midOf (i * w) (n * w - i * w) l)
+    pub remove-holds : (s : List ℕ) → s ≡ popFront w (midOf (i * w) (n * w - i * w) l)
         → HoldsRows w (n - 1) (putMid (i * w) (n * w - i * w) l s) (removeAt i m)
-    removed s e =
+    remove-holds s e =
         let within : i ≤ n = omega arith in
         let long : length (removeAt i m) ≡ n - 1 = simp (length-append, length-take, length-drop) (omega (arith, t .counted)) in
         let h : w ≤ w + (length l - n * w) = omega arith in
@@ -63,12 +63,12 @@ module _ {w n : ℕ} {l : List ℕ} (m : List (List ℕ)) (t : HoldsRows w n l m
         (all-append (Wide w) (take i m) (drop (i + 1) m) (all-take (Wide w) i m (t .wide)) (all-drop (Wide w) (i + 1) m (t .wide)))
         long
         (lent l (flatten (take i m)) (flatten (drop i m)) (zeros (length l - n * w)) _ _
-        (split t i within) (before-length t i within) (after-length t i within) (popFront w) s e
+        (rows-split t i within) (before-length t i within) (after-length t i within) (popFront w) s e
         ∙ rw (row-bytes t i below, drop-at, flatten-append, zeros-split w (w + (length l - n * w)), k, append-assoc, append-assoc))
 
-    pub replaced : (r : List ℕ) → length r ≡ w → (s : List ℕ) → s ≡ overwriteRows r (midOf (i * w) (i * w + w - i * w) l)
+    pub replace-holds : (r : List ℕ) → length r ≡ w → (s : List ℕ) → s ≡ overwriteRows r (midOf (i * w) (i * w + w - i * w) l)
         → HoldsRows w n (putMid (i * w) (i * w + w - i * w) l s) (replaceAt i r m)
-    replaced r width s e =
+    replace-holds r width s e =
         let within : i ≤ n = omega arith in
         let long : length (replaceAt i r m) ≡ n = simp (length-append, length-take, length-drop) (omega (arith, t .counted)) in
         let covered : length (getD m i []) ≤ length r = omega (arith, row-width t i below) in
@@ -83,11 +83,11 @@ module _ {w n : ℕ} {l : List ℕ} (m : List (List ℕ)) (t : HoldsRows w n l m
 -- ---- the answer
 
 module _ {w n n′ : ℕ} {f : List (List ℕ) → List (List ℕ)} {can : Bool} {l : List ℕ} where
-  pub refused : can ≡ false → Changed w n n′ f can l l false
-  refused e = record { told = sym e; made = λ h. absurd (false≢true h); kept = λ h. refl }
+  pub change-refused : can ≡ false → Changed w n n′ f can l l false
+  change-refused e = record { told = sym e; made = λ h. absurd (false≢true h); kept = λ h. refl }
 
-  pub changed : {l′ : List ℕ} → can ≡ true → ((m : List (List ℕ)) → HoldsRows w n l m → HoldsRows w n′ l′ (f m)) → Changed w n n′ f can l l′ true
-  changed e h = record { told = sym e; made = λ k. h; kept = λ k. absurd (false≢true (sym k)) }
+  pub change-made : {l′ : List ℕ} → can ≡ true → ((m : List (List ℕ)) → HoldsRows w n l m → HoldsRows w n′ l′ (f m)) → Changed w n n′ f can l l′ true
+  change-made e h = record { told = sym e; made = λ k. h; kept = λ k. absurd (false≢true (sym k)) }
 
 module _ (size w n at : ℕ) where
   pub insert-past : (row : List ℕ) → n < at → canInsert size w n at row ≡ false

@@ -13,7 +13,7 @@ use borrow.Author.Tests.{le-leb, lt-leb, lt-ltb, le-ltb, eq-eqb, ne-eqb}
 use Rattle.spec_lists.specs.ListLaws.{all-append, all-left, all-right}
 use Rattle.bytes_records.specs.Positions.{insertAt, removeAt, moveAt}
 use Rattle.bytes_records.specs.Table.{Wide, HoldsRows, canMove}
-use Rattle.bytes_records.specs.TableLaws.{flatten-append, flatten-middle, wide-middle, length-flatten, holds, padded}
+use Rattle.bytes_records.specs.TableLaws.{flatten-append, flatten-middle, wide-middle, length-flatten, holds, rows-padded}
 use Rattle.bytes_records.specs.Moves.{zeros, pushFront, pushBack}
 use Rattle.bytes_records.proofs.Parts.{lent}
 
@@ -54,7 +54,7 @@ module _ {w n : ℕ} {l : List ℕ} (a : List (List ℕ)) (x : List ℕ) (b c : 
       let size : length (x ++ flatten b) ≡ to * w + w - from * w = simp length-append (omega (arith, length-flatten w b wide-b, wide .0, ap (λ (i : ℕ). i * w) front)) in
       let gone : length x ≡ length r = wide .0 ∙ sym width in
       let long : length (a ++ (b ++ r ∷ c)) ≡ n = simp length-append (omega (arith, simp length-append at (t .counted))) in
-      let split : l ≡ flatten a ++ ((x ++ flatten b) ++ (flatten c ++ zeros (length l - n * w))) = padded t ∙ rw (flatten-middle, flatten-append) (simp append-assoc) in
+      let split : l ≡ flatten a ++ ((x ++ flatten b) ++ (flatten c ++ zeros (length l - n * w))) = rows-padded t ∙ rw (flatten-middle, flatten-append) (simp append-assoc) in
       holds w n _ (a ++ (b ++ r ∷ c)) (length l - n * w) (all-append (Wide w) a (b ++ r ∷ c) wide-a (wide-middle w b r c wide-b width wide-c)) long
       (lent l (flatten a) (x ++ flatten b) (flatten c ++ zeros (length l - n * w)) _ _ split start size (pushBack r) s e
       ∙ rw (drop-at x (flatten b) (length r) gone, flatten-append, flatten-middle) (simp append-assoc))
@@ -72,7 +72,7 @@ module _ {w n : ℕ} {l : List ℕ} (a : List (List ℕ)) (x : List ℕ) (b c : 
       let size : length (flatten b ++ x) ≡ from * w + w - to * w = simp length-append (omega (arith, length-flatten w b wide-b, wide-c .0, ap (λ (i : ℕ). i * w) front)) in
       let left : length (flatten b) ≡ length (flatten b ++ x) - length r = simp length-append (omega (arith, wide-c .0)) in
       let long : length (a ++ (r ∷ (b ++ c))) ≡ n = simp length-append (omega (arith, simp length-append at (t .counted))) in
-      let split : l ≡ flatten a ++ ((flatten b ++ x) ++ (flatten c ++ zeros (length l - n * w))) = padded t ∙ rw (flatten-append, flatten-middle) (simp append-assoc) in
+      let split : l ≡ flatten a ++ ((flatten b ++ x) ++ (flatten c ++ zeros (length l - n * w))) = rows-padded t ∙ rw (flatten-append, flatten-middle) (simp append-assoc) in
       holds w n _ (a ++ (r ∷ (b ++ c))) (length l - n * w) (wide-middle w a r (b ++ c) wide-a width (all-append (Wide w) b c wide-b (wide-c .1))) long
       (lent l (flatten a) (flatten b ++ x) (flatten c ++ zeros (length l - n * w)) _ _ split start size (pushFront r) s e
       ∙ rw (take-at (flatten b) x _ left, flatten-middle, flatten-append) (simp append-assoc))

@@ -29,8 +29,8 @@ number-end l i x none read =
     read ∙ ap (λ (k : ℕ). numberOf (drop k l)) e
 
 -- what is read of four bytes leaves room for one more
-pub number-small : (l : List ℕ) (i : ℕ) → Bytes l → length l ≤ 4 → 0 < i → numberOf (drop i l) < 0x100_0000
-number-small l i h short some = numberOf-lt 3 (drop i l) (bytes-drop i l h) (simp length-drop (omega arith))
+pub rest-small : (l : List ℕ) (i : ℕ) → Bytes l → length l ≤ 4 → 0 < i → numberOf (drop i l) < 0x100_0000
+rest-small l i h short some = numberOf-lt 3 (drop i l) (bytes-drop i l h) (simp length-drop (omega arith))
 
 -- the lent part from a position on
 pub rest-is : (l : List ℕ) (k : ℕ) → take (length l - k) (drop k l) ≡ drop k l
@@ -48,5 +48,5 @@ module _ (l : List ℕ) (low high : ℕ) (long : 4 ≤ length l) (first : low �
       ap numberOf (sym (take-append-drop 4 l)) ∙ numberOf-append (take 4 l) (drop 4 l) in
       rw (first, high-is) (sym (rw n at whole))
 
-  pub number-fits : Bytes l → length l ≤ 8 → low + high * 0x1_0000_0000 < 2 ^ 64
-  number-fits h short = rw number-halves (numberOf-lt 8 l h short)
+  pub halves-fit : Bytes l → length l ≤ 8 → low + high * 0x1_0000_0000 < 2 ^ 64
+  halves-fit h short = rw number-halves (numberOf-lt 8 l h short)

@@ -16,7 +16,7 @@ use Rattle.spec_lists.specs.Order.{lexLess}
 use Rattle.bytes_records.specs.Positions.{firstIndex}
 use Rattle.bytes_records.specs.PositionsLaws.{firstIndex-le, first-passes}
 use Rattle.bytes_records.specs.Table.{HoldsRows}
-use Rattle.bytes_records.specs.TableLaws.{fitting, row-at, row-cons}
+use Rattle.bytes_records.specs.TableLaws.{rows-fit, row-at, row-cons}
 use Rattle.bytes_records.specs.Keys.{orderOf}
 use Rattle.bytes_records.specs.Search.{firstRowNumber, isPair, Rising, Starts, nextPlace, placeOf, later}
 use Rattle.bytes_records.specs.SearchLaws.{rising-at, later-none, later-next}
@@ -25,9 +25,9 @@ use Rattle.bytes_records.specs.declared.keys.Order.the-variants.{Below, 
 use Rattle.bytes_records.proofs.Offsets.{end-le}
 
 -- the lent part that is the row's first eight bytes
-pub head-is : {w n : ℕ} {l : List ℕ} (m : List (List ℕ)) (t : HoldsRows w n l m) (i : ℕ) → i < n → 8 ≤ w
+pub row-head-is : {w n : ℕ} {l : List ℕ} (m : List (List ℕ)) (t : HoldsRows w n l m) (i : ℕ) → i < n → 8 ≤ w
     → midOf (i * w) (i * w + 8 - i * w) l ≡ take 8 (getD m i [])
-head-is {w} {n} {l} m t i below wide =
+row-head-is {w} {n} {l} m t i below wide =
     let k : i * w + 8 - i * w ≡ 8 = omega arith in
     rw (k, ← row-at t i below, take-take)
 
@@ -38,7 +38,7 @@ second-is {w} {n} {l} m t i below wide =
     let k : i * w + 8 + 8 - (i * w + 8) ≡ 8 = omega arith in
     let whole : w ≡ 8 + (w - 8) = omega arith in
     let more : 8 ≤ w - 8 = omega arith in
-    let front : length (take 8 (drop (i * w) l)) ≡ 8 = simp (length-take, length-drop) (omega (arith, fitting t, end-le w i n below)) in
+    let front : length (take 8 (drop (i * w) l)) ≡ 8 = simp (length-take, length-drop) (omega (arith, rows-fit t, end-le w i n below)) in
     let row : getD m i [] ≡ take 8 (drop (i * w) l) ++ take (w - 8) (drop 8 (drop (i * w) l)) = sym (row-at t i below) ∙ ap (λ (j : ℕ). take j (drop (i * w) l)) whole ∙ take-add 8 (w - 8) (drop (i * w) l) in
     rw (k, row, drop-at _ _ 8 front, take-take, drop-drop)
 

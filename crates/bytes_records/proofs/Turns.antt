@@ -85,13 +85,13 @@ abbrev pub copiedTurn : ℕ → List ℕ → List ℕ → List ℕ
 copiedTurn i s t = take i s ++ drop i t
 
 module _ (s t u : List ℕ) (i : ℕ) where
-  pub copied-turn : i < length s → i < length t → u ≡ copiedTurn i s t → set u i (getD s i 0) ≡ copiedTurn (i + 1) s t
-  copied-turn more room e =
+  pub copy-turn : i < length s → i < length t → u ≡ copiedTurn i s t → set u i (getD s i 0) ≡ copiedTurn (i + 1) s t
+  copy-turn more room e =
       let n : length (take i s) ≡ i = simp length-take (omega arith) in
       rw (e, add-one, drop-cons t i 0, set-at (take i s) _ _ _ i n, take-suc s i 0, append-snoc)
 
-  pub copied-end : i ≤ length s → length s ≤ i → u ≡ copiedTurn i s t → u ≡ overwriteRows s t
-  copied-end low high e =
+  pub copy-end : i ≤ length s → length s ≤ i → u ≡ copiedTurn i s t → u ≡ overwriteRows s t
+  copy-end low high e =
       let n : i ≡ length s = omega arith in
       rw (e, n, take-length)
 

@@ -55,17 +55,17 @@ unfolding flatten
 holds-none w k = holds w 0 (zeros k) [] k tt refl refl
 
 module _ {w n : ℕ} {l : List ℕ} {m : List (List ℕ)} (t : HoldsRows w n l m) where
-  pub used : length (flatten m) ≡ n * w
-  used = length-flatten w m (t .wide) ∙ ap (λ (k : ℕ). k * w) (t .counted)
+  pub rows-used : length (flatten m) ≡ n * w
+  rows-used = length-flatten w m (t .wide) ∙ ap (λ (k : ℕ). k * w) (t .counted)
 
   -- the rows, and what follows them
-  pub padded : l ≡ flatten m ++ zeros (length l - n * w)
+  pub rows-padded : l ≡ flatten m ++ zeros (length l - n * w)
   unfolding tableBytes
-  padded = rw (← used) (t .bytes)
+  rows-padded = rw (← rows-used) (t .bytes)
 
   -- the rows fit
-  pub fitting : n * w ≤ length l
-  fitting = omega (arith, used, simp length-append at (ap length padded))
+  pub rows-fit : n * w ≤ length l
+  rows-fit = omega (arith, rows-used, simp length-append at (ap length rows-padded))
 
   -- the table in two, at a position
   module _ (i : ℕ) (within : i ≤ n) where
@@ -78,10 +78,10 @@ module _ {w n : ℕ} {l : List ℕ} {m : List (List ℕ)} (t : HoldsRows w n l m
         length-flatten w (take i m) (all-take (Wide w) i m (t .wide)) ∙ ap (λ (k : ℕ). k * w) e
 
     pub after-length : length (flatten (drop i m)) ≡ n * w - i * w
-    after-length = omega (arith, used, before-length, simp length-append at (ap length parted))
+    after-length = omega (arith, rows-used, before-length, simp length-append at (ap length parted))
 
-    pub split : l ≡ flatten (take i m) ++ (flatten (drop i m) ++ zeros (length l - n * w))
-    split = padded ∙ rw (parted, append-assoc)
+    pub rows-split : l ≡ flatten (take i m) ++ (flatten (drop i m) ++ zeros (length l - n * w))
+    rows-split = rows-padded ∙ rw (parted, append-assoc)
 
   -- the row at a position
   module _ (i : ℕ) (below : i < n) where
@@ -100,7 +100,7 @@ module _ {w n : ℕ} {l : List ℕ} {m : List (List ℕ)} (t : HoldsRows w n l m
     pub row-split : l ≡ flatten (take i m) ++ (getD m i [] ++ (flatten (drop (i + 1) m) ++ zeros (length l - n * w)))
     row-split =
         let within : i ≤ n = omega arith in
-        split i within ∙ rw (row-bytes, append-assoc)
+        rows-split i within ∙ rw (row-bytes, append-assoc)
 
     -- where the row's bytes stand
     pub row-at : take w (drop (i * w) l) ≡ getD m i []
@@ -130,15 +130,15 @@ holds-bytes w n l l′ m s t e = s .bytes ∙ ap (λ (k : ℕ). tableBytes k m) 
 module _ {w n : ℕ} {l : List ℕ} {m : List (List ℕ)} (t : HoldsRows w n l m) (at : ℕ) where
   pub can-remove : at < n → canRemove (length l) w n at ≡ true
   unfolding canRemove
-  can-remove h = rw (lt-ltb at n h, le-leb (n * w) (length l) (fitting t))
+  can-remove h = rw (lt-ltb at n h, le-leb (n * w) (length l) (rows-fit t))
 
   pub can-replace : (row : List ℕ) → at < n → length row ≡ w → canReplace (length l) w n at row ≡ true
   unfolding canReplace
-  can-replace row h e = rw (lt-ltb at n h, eq-eqb (length row) w e, le-leb (n * w) (length l) (fitting t))
+  can-replace row h e = rw (lt-ltb at n h, eq-eqb (length row) w e, le-leb (n * w) (length l) (rows-fit t))
 
   pub can-move : (to : ℕ) (row : List ℕ) → at < n → to < n → length row ≡ w → canMove (length l) w n at to row ≡ true
   unfolding canMove
-  can-move to row h k e = rw (lt-ltb at n h, lt-ltb to n k, eq-eqb (length row) w e, le-leb (n * w) (length l) (fitting t))
+  can-move to row h k e = rw (lt-ltb at n h, lt-ltb to n k, eq-eqb (length row) w e, le-leb (n * w) (length l) (rows-fit t))
 
   pub can-insert : (row : List ℕ) → at ≤ n → length row ≡ w → n * w + w ≤ length l → canInsert (length l) w n at row ≡ true
   unfolding canInsert

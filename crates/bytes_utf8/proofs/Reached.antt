@@ -9,7 +9,7 @@ use lib.ListN.{length, getD, take, drop, length-drop}
 use lib.Seq.{take-all, drop-length, drop-drop, getD-drop}
 use Rattle.spec_text.specs.Syntax.{isUtf8, characters}
 use Rattle.bytes_utf8.specs.Characters.{characterLength, AsciiBetween, CharactersFrom}
-use Rattle.bytes_utf8.specs.Answer.{answer}
+use Rattle.bytes_utf8.specs.Answer.{utf8Answer}
 use Rattle.bytes_utf8.specs.declared.Utf8Check.the-variants.{Valid, Invalid}
 use Rattle.bytes_utf8.proofs.RowLaws.{characters-fewer}
 use Rattle.bytes_utf8.proofs.CharacterLaws.{character-read, character-refused, character-ascii}
@@ -81,7 +81,7 @@ reached-characters {text} {count} {i} n (suc k) l r h =
 
 -- ---- the end
 
-pub reached-end : {text : List ℕ} {count i : ℕ} → Reached text count i → length text ≤ i → answer text ≡ Valid count
+pub reached-end : {text : List ℕ} {count i : ℕ} → Reached text count i → length text ≤ i → utf8Answer text ≡ Valid count
 reached-end {text} {count} {i} r h =
     let e : i ≡ length text = le-antisymm (r .within) h in
     let done : drop i text ≡ [] = rw e (drop-length text) in
@@ -90,7 +90,7 @@ reached-end {text} {count} {i} r h =
     rw (← u, ← n, add-zero)
 
 pub reached-refused : {text : List ℕ} {count i : ℕ} → Reached text count i → i < length text → 0 ≡ characterLength (drop i text)
-    → answer text ≡ Invalid
+    → utf8Answer text ≡ Invalid
 reached-refused {text} {count} {i} r h e =
     let f = character-refused (drop i text) (rw (length-drop i text) (omega arith)) (sym e) in
     rw (sym (r .same-utf8) ∙ f)

@@ -6,5 +6,5 @@ use Rattle.spec_text.specs.Syntax.{isUtf8, characters}
 use Rattle.bytes_utf8.specs.declared.Utf8Check.{Utf8Check}
 use Rattle.bytes_utf8.specs.declared.Utf8Check.the-variants.{Valid, Invalid}
 
-abbrev pub answer : List ℕ → Utf8Check
-answer text = if isUtf8 text then Valid (characters text) else Invalid
+abbrev pub utf8Answer : List ℕ → Utf8Check
+utf8Answer text = if isUtf8 text then Valid (characters text) else Invalid

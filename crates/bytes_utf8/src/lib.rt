@@ -8,7 +8,7 @@ ghost use lib.ListN.{length, drop};
 ghost use Rattle.spec_text.specs.Syntax.{tail, expects};
 ghost use Rattle.bytes_utf8.specs.Classes.{classOf, IsClassTable, IsTailClass, tails};
 ghost use Rattle.bytes_utf8.specs.Characters.{matches, lengthAfter, characterLength, AsciiBetween, CharactersFrom};
-ghost use Rattle.bytes_utf8.specs.Answer.{answer};
+ghost use Rattle.bytes_utf8.specs.Answer.{utf8Answer};
 
 mod tables;
 
@@ -202,7 +202,7 @@ fn three_byte_characters(classes: &[u8; 256], text: &[u8], from: usize) -> usize
 // stands one character is taken by its class.
 fn check_from(classes: &[u8; 256], text: &[u8], from: usize) -> Utf8Check
     requires { ⌜ IsClassTable (now classes) × AsciiBetween (now text) 0 from ⌝ }
-    ensures { λ r. ⌜ r ≡ answer (now (text .entry)) ⌝ }
+    ensures { λ r. ⌜ r ≡ utf8Answer (now (text .entry)) ⌝ }
 {
     let mut characters = from;
     let mut i = from;
@@ -250,7 +250,7 @@ fn front_end(text: &[u8]) -> usize
 
 // Whether the text is UTF-8, and the number of its characters. The table is written out for a text that is not whole groups of bytes below 0x80.
 pub fn check(text: &[u8]) -> Utf8Check
-    ensures { λ r. ⌜ r ≡ answer (now (text .entry)) ⌝ }
+    ensures { λ r. ⌜ r ≡ utf8Answer (now (text .entry)) ⌝ }
 {
     let passed = front_end(text);
     if passed == text.len() {

@@ -21,20 +21,20 @@ use Rattle.bytes_wire.specs.Read.{firstNumber, firstSigned}
 
 module _ (l : List ℕ) (at n : ℕ) where
   -- there are n bytes from index at on, and they spell x
-  pub record NumberAt (x : ℕ) : Type 0 where
+  pub record SpelledAt (x : ℕ) : Type 0 where
     pub room : n ≤ length l - at
     pub enough : leb n (length (drop at l)) ≡ true
     pub number : numberOf (take n (drop at l)) ≡ x
 
-  pub number-at : (x : ℕ) → firstNumber n (drop at l) ≡ some x → NumberAt x
+  pub number-at : (x : ℕ) → firstNumber n (drop at l) ≡ some x → SpelledAt x
   unfolding firstNumber
   number-at x e = go (leb n (length (drop at l))) refl e
     where
-      go : (t : Bool) → leb n (length (drop at l)) ≡ t → (if t then some (numberOf (take n (drop at l))) else none) ≡ some x → NumberAt x
+      go : (t : Bool) → leb n (length (drop at l)) ≡ t → (if t then some (numberOf (take n (drop at l))) else none) ≡ some x → SpelledAt x
       go true is q = record { room = omega (arith, leb-true n (length (drop at l)) is, length-drop at l); enough = is; number = cc }
       go false is q = absurd (let z : _≡_ {A = ℕ} 0 1 = cc in omega arith)
 
-  module _ {x : ℕ} (read : NumberAt x) (all : Bytes l) where
+  module _ {x : ℕ} (read : SpelledAt x) (all : Bytes l) where
     front-long : length (take n (drop at l)) ≡ n
     front-long = length-take-le n (drop at l) (omega (arith, read .room, length-drop at l))
 
@@ -70,7 +70,7 @@ module _ (l : List ℕ) (at n : ℕ) where
 -- eight bytes stand there, and they are the two's complement of z
 pub record SignedAt (l : List ℕ) (at : ℕ) (z : ℤ) : Type 0 where
   pub bits : ℕ
-  pub read : NumberAt l at 8 bits
+  pub read : SpelledAt l at 8 bits
   pub is : toZ w64 bits ≡ z
 
 pub signed-at : (l : List ℕ) (at : ℕ) (z : ℤ) → firstSigned (drop at l) ≡ some z → SignedAt l at z

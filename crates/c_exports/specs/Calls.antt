@@ -7,7 +7,7 @@ use Rattle.spec_session.specs.Session.{Limits}
 use Rattle.spec_session.specs.Lifecycle.{Stimulus}
 use Rattle.spec_session.specs.Batch.{BatchEnvelope}
 use Rattle.session_lent.specs.Steps.{TransitionCall, CreationCall}
-use Rattle.session_lent.specs.Batches.{SameHalf, BatchCall}
+use Rattle.session_lent.specs.Batches.{SameHalf, BatchCallOnSlices}
 use Rattle.session_lent.specs.declared.batch.LentBatch.{LentBatch}
 use Rattle.session_lent.specs.declared.lifecycle.LentTransition.{LentTransition}
 use Rattle.c_answers.specs.declared.answers.GeysertrayAnswer.{GeysertrayAnswer}
@@ -37,7 +37,7 @@ module _ (edition : ℕ) (v : BatchEnvelope) (declared : ℕ) (set head nodes pa
   -- a batch that was called
   abbrev pub BatchedAs : (r : GeysertrayAnswer) (h′ b′ a′ e′ l′ : List ℕ) → Type 0
   BatchedAs r h′ b′ a′ e′ l′ =
-      Told batchTold (λ answer. BatchCall (editionAt edition) v declared set head nodes pairs collections b a e toH toB toA toE toL answer h′ b′ a′ e′ l′) r
+      Told batchTold (λ answer. BatchCallOnSlices (editionAt edition) v declared set head nodes pairs collections b a e toH toB toA toE toL answer h′ b′ a′ e′ l′) r
 
   pub record ExportedBatch (r : GeysertrayAnswer) (h′ b′ a′ e′ l′ : List ℕ) : Type 0 where
     pub known : 1 ≤ edition → edition ≤ 2 → BatchedAs r h′ b′ a′ e′ l′
@@ -47,8 +47,8 @@ module _ (edition : ℕ) (v : BatchEnvelope) (declared : ℕ) (set head nodes pa
 -- ---- a call told otherwise
 
 module _ {v : BatchEnvelope} {declared : ℕ} {set head nodes pairs collections b a e toH toB toA toE toL : List ℕ} {r : LentBatch} {h′ b′ a′ e′ l′ : List ℕ} where
-  pub same-edition : {x y : Edition} → x ≡ y → BatchCall x v declared set head nodes pairs collections b a e toH toB toA toE toL r h′ b′ a′ e′ l′ → BatchCall y v declared set head nodes pairs collections b a e toH toB toA toE toL r h′ b′ a′ e′ l′
-  same-edition is = subst (λ ed. BatchCall ed v declared set head nodes pairs collections b a e toH toB toA toE toL r h′ b′ a′ e′ l′) is
+  pub same-edition : {x y : Edition} → x ≡ y → BatchCallOnSlices x v declared set head nodes pairs collections b a e toH toB toA toE toL r h′ b′ a′ e′ l′ → BatchCallOnSlices y v declared set head nodes pairs collections b a e toH toB toA toE toL r h′ b′ a′ e′ l′
+  same-edition is = subst (λ ed. BatchCallOnSlices ed v declared set head nodes pairs collections b a e toH toB toA toE toL r h′ b′ a′ e′ l′) is
 
 pub same-stimulus : {h : List ℕ} {u w : Stimulus} {n : ℕ} {r : LentTransition} {h′ : List ℕ} → u ≡ w → TransitionCall h u n r h′ → TransitionCall h w n r h′
 same-stimulus {h = h} {n = n} {r = r} {h′ = h′} is = subst (λ u. TransitionCall h u n r h′) is

@@ -24,7 +24,7 @@ use Rattle.projection_patch.proofs.At.{position}
 use Rattle.projection_patch.proofs.Answers.{ToldReading, Got, NotGot, got, not-got}
 use Rattle.patch_sets.specs.Walk.{headOf}
 use Rattle.patch_sets.specs.SetAnswers.{headTo}
-use Rattle.patch_sets.proofs.ReadAt.{HeadAt}
+use Rattle.patch_sets.proofs.ReadAt.{HeadReadAt}
 use Rattle.check_targets.specs.Targets.{numbersOf, targetNumbers, targetSeen}
 use Rattle.check_targets.specs.ToldLaws.{target-told, self-told, envelope-back}
 use Rattle.check_quick.specs.Anchors.{absentAmong, absentOf}
@@ -75,10 +75,10 @@ module _ (ed : Edition) (known : MutationTarget → Bool) (set : List ℕ) (at l
           go (refused f) = refl
 
       -- what is told of the operation does not depend on where its text stands
-      pub turn : (t : MutationTarget) (found′ : Bool) (ts′ : List ℕ) → t ≡ mutationTarget (operationOf [] x) → found′ ≡ (found || (targetSeen t ts || beforeSelf (operationOf [] x))) → ts′ ≡ ts ++ numbersOf t
+      pub operations-turn : (t : MutationTarget) (found′ : Bool) (ts′ : List ℕ) → t ≡ mutationTarget (operationOf [] x) → found′ ≡ (found || (targetSeen t ts || beforeSelf (operationOf [] x))) → ts′ ≡ ts ++ numbersOf t
           → quickLeftAnswer ed known set (at + taken) (left - 1) found′ ts′ ≡ quickLeftAnswer ed known set at left found ts
       unfolding operationFound targetNumbers
-      turn t found′ ts′ target-is found-is ts-are =
+      operations-turn t found′ ts′ target-is found-is ts-are =
           let rest : Bool → List ℕ → OperationsChecked = quickLeftAnswer ed known set (at + taken) (left - 1) in
           let target : t ≡ mutationTarget o = target-is ∙ sym (ap (λ y. mutationTarget (operationOf [] y)) (g .same)) ∙ target-told [] taken o in
           let self : beforeSelf (operationOf [] x) ≡ beforeSelf o = sym (ap (λ y. beforeSelf (operationOf [] y)) (g .same)) ∙ self-told [] taken o in
@@ -101,7 +101,7 @@ module _ (ed : Edition) (known : MutationTarget → Bool) (l : List ℕ) (at n :
   pub no-operations : {f : ProjectionPatchReadFault} → r ≡ operations-checked.Refused f → NotGot (many n (readOperation ed)) l at f
   no-operations {f} = not-got (anywhere (tallyOf known)) (many-codec (operation-codec ed) n) operations-told l at r ensured f
 
-module _ (ed : Edition) (known : MutationTarget → Bool) {set : List ℕ} {at taken : ℕ} {head : ProjectionPatch} (front : HeadAt set at head taken) where
+module _ (ed : Edition) (known : MutationTarget → Bool) {set : List ℕ} {at taken : ℕ} {head : ProjectionPatch} (front : HeadReadAt set at head taken) where
   pub patch-checked : (os : List Operation) (end : ℕ) → readPatch ed (drop at set) ≡ read (toPatch (front .got .a .0, os)) (drop end set) → length os ≡ head .«operation_count» → length set - length (drop end set) ≡ end
       → (found : Bool) (absent : ℕ) → found ≡ (headFound (envelopeOf (head .envelope)) (head .«operation_count») || foundFrom [] os) → absent ≡ absentOf known os
       → patch-read.Read (record { head = head; found = found; absent = absent }) end ≡ patchAnswer known (length set) (readPatch ed (drop at set))

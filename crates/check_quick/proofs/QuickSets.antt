@@ -26,7 +26,7 @@ use Rattle.patch_sets.specs.SetAnswers.{operationCount}
 use Rattle.check_findings.specs.IdsLaws.{ids-snoc}
 use Rattle.check_targets.specs.ToldLaws.{envelope-back}
 use Rattle.check_quick.specs.Anchors.{absentAmong, absentOf}
-use Rattle.check_quick.specs.AnchorsLaws.{absent-append, absent-few}
+use Rattle.check_quick.specs.AnchorsLaws.{absentOf-append, absent-few}
 use Rattle.check_quick.specs.Quick.{patchFound, afterFound, patchesFound, AtMost, leastPatch}
 use Rattle.check_quick.specs.QuickLaws.{or-assoc, or-false, quick-found, at-most-more}
 use Rattle.check_quick.specs.QuickAnswers.{quickCheckedTo, patchAnswer, inspectedBy, quickEndAnswer}
@@ -130,9 +130,9 @@ module _ (ed : Edition) (known : MutationTarget → Bool) (l : List ℕ) (at lef
       go (fault f) = refl
 
   module _ (t : PassedPatches) (previous : Option Envelope) where
-    pub end-is : (ids : List ℕ) (count : ℕ) → left ≡ 0 → t .done ≡ count → quickEndAnswer (length l - at) (t .found) count (t .operations) (t .absent) ≡ patchesLeft ed known l at left t ids previous
+    pub patches-end : (ids : List ℕ) (count : ℕ) → left ≡ 0 → t .done ≡ count → quickEndAnswer (length l - at) (t .found) count (t .operations) (t .absent) ≡ patchesLeft ed known l at left t ids previous
     unfolding many ended patchesFound operationCount operationsOf flatMap absentAmong
-    end-is ids count all e = rw all (go (drop at l) (length-drop at l))
+    patches-end ids count all e = rw all (go (drop at l) (length-drop at l))
       where
         go : (rest : List ℕ) → length rest ≡ length l - at → quickEndAnswer (length l - at) (t .found) count (t .operations) (t .absent) ≡ after known t ids previous (ended (read [] rest))
         go [] h = rw (le-ltb 0 (length l - at) (omega arith)) (same-told (sym (or-false (t .found))) (omega arith) (omega arith) (omega arith))
@@ -166,15 +166,15 @@ module _ (ed : Edition) (known : MutationTarget → Bool) (l : List ℕ) (at lef
             go (read ps []) =
                 let rest = patchesFound (ids ++ (p .envelope .id ∷ [])) (some (p .envelope)) ps in
                 let own = afterFound ids previous (p .envelope) in
-                same-told (or-assoc (t .found || patchFound p) own rest ∙ or-assoc (t .found) (patchFound p) (own || rest)) (omega arith) (omega arith) (omega (arith, absent-append known (p .operations) (operationsOf ps)))
+                same-told (or-assoc (t .found || patchFound p) own rest ∙ or-assoc (t .found) (patchFound p) (own || rest)) (omega arith) (omega arith) (omega (arith, absentOf-append known (p .operations) (operationsOf ps)))
             go (read ps (b ∷ rest)) = refl
             go (refused f) = refl
 
-        pub turn : (found′ : Bool) (ids ids′ : List ℕ) → t .done < length ids
+        pub patches-turn : (found′ : Bool) (ids ids′ : List ℕ) → t .done < length ids
             → found′ ≡ ((t .found || x .found) || afterFound (take (t .done) ids) previous (envelopeOf (x .head .envelope)))
             → ids′ ≡ set ids (t .done) (envelopeOf (x .head .envelope) .id)
             → patchesLeft ed known l end (left - 1) (next (envelopeOf (x .head .envelope)) x found′) (take (t .done + 1) ids′) (some (envelopeOf (x .head .envelope))) ≡ patchesLeft ed known l at left t (take (t .done) ids) previous
-        turn found′ ids ids′ room found-is ids-are =
+        patches-turn found′ ids ids′ room found-is ids-are =
             let e = envelopeOf (x .head .envelope) in
             let seen = take (t .done) ids in
             let front = ids-front ids ids′ (t .done) (e .id) room ids-are in

@@ -21,10 +21,10 @@ module _ (known : MutationTarget → Bool) where
 
   -- ---- operations
 
-  pub absent-append : (os us : List Operation) → absentOf known (os ++ us) ≡ absentOf known os + absentOf known us
+  pub absentOf-append : (os us : List Operation) → absentOf known (os ++ us) ≡ absentOf known os + absentOf known us
   unfolding absentAmong targetNumbers flatMap
-  absent-append [] us = omega arith
-  absent-append (o ∷ os) us = let rest = absent-append os us in omega (arith, rest)
+  absentOf-append [] us = omega arith
+  absentOf-append (o ∷ os) us = let rest = absentOf-append os us in omega (arith, rest)
 
   pub absent-few : (os : List Operation) → absentOf known os ≤ length os
   unfolding absentAmong targetNumbers flatMap

@@ -30,7 +30,7 @@ module _ (ed : Edition) (set : List ℕ) (id : ℕ) (os : List Operation) (ps : 
   abbrev own : List Operation → Operation → List Finding
   own = operationFindings id
 
-  pub record Run (c : SetCursor) (used index kept : ℕ) (targets records : List ℕ) : Type 0 where
+  pub record OperationRun (c : SetCursor) (used index kept : ℕ) (targets records : List ℕ) : Type 0 where
     pub done : List Operation
     pub rest : List Operation
     pub here : AtSteps ed set c rest ps
@@ -38,11 +38,11 @@ module _ (ed : Edition) (set : List ℕ) (id : ℕ) (os : List Operation) (ps : 
     pub seen : take used targets ≡ flatMap targetNumbers done
     pub counted : index ≡ length done
 
-  pub run-start : (c : SetCursor) (targets : List ℕ) → AtSteps ed set c os ps → Run c 0 0 first targets before
+  pub operation-run-start : (c : SetCursor) (targets : List ℕ) → AtSteps ed set c os ps → OperationRun c 0 0 first targets before
   unfolding flatMap
-  run-start c targets here = record { done = []; rest = os; here = here; same = refl; seen = refl; counted = refl }
+  operation-run-start c targets here = record { done = []; rest = os; here = here; same = refl; seen = refl; counted = refl }
 
-  module _ {c : SetCursor} {used index kept : ℕ} {targets records : List ℕ} (run : Run c used index kept targets records) where
+  module _ {c : SetCursor} {used index kept : ℕ} {targets records : List ℕ} (run : OperationRun c used index kept targets records) where
     -- one operation more
     module _ {r : SetStep} (answer-is : r ≡ stepAnswer false ed c set) (x : ProjectionPatchOperation) (d : SetCursor) (told : r ≡ set-step.Operation x d)
         (kept′ : ℕ) (targets′ records′ : List ℕ) (target : MutationTarget) (self seen : Bool) (room : used + 3 ≤ length targets)
@@ -91,8 +91,8 @@ module _ (ed : Edition) (set : List ℕ) (id : ℕ) (os : List Operation) (ps : 
           ∙ ap (λ l. l ++ targetNumbers o) (run .seen)
           ∙ sym (targets-snoc (run .done) o)
 
-      pub run-turn : Run d (used + 3) (index + 1) kept′ targets′ records′
-      run-turn = record {
+      pub operation-run-turn : OperationRun d (used + 3) (index + 1) kept′ targets′ records′
+      operation-run-turn = record {
         done = run .done ++ (o ∷ []);
         rest = v .rest;
         here = v .next;
@@ -102,9 +102,9 @@ module _ (ed : Edition) (set : List ℕ) (id : ℕ) (os : List Operation) (ps : 
       }
 
     -- where none is left
-    pub run-end : c .«operations_left» ≤ 0 → Inserted (checkEach own [] os) first before kept records × AtSteps ed set c [] ps
+    pub operation-run-end : c .«operations_left» ≤ 0 → Inserted (checkEach own [] os) first before kept records × AtSteps ed set c [] ps
     unfolding checkEach insertedAll
-    run-end none = go (run .rest) (run .here) (run .same)
+    operation-run-end none = go (run .rest) (run .here) (run .same)
       where
         go : (l : List Operation) → AtSteps ed set c l ps → insertedAll (checkEach own [] os) first before ≡ insertedAll (checkEach own (reverse (run .done)) l) kept records
             → Inserted (checkEach own [] os) first before kept records × AtSteps ed set c [] ps

@@ -44,7 +44,7 @@ module _ (ed : Edition) (bytes : List ℕ) (ps : List Patch) where
   whole = record { place = inSet; found = setFindings ps }
 
   -- where a walk over the patches stands: none of those that are done has findings, and the table holds those of the set so far
-  pub record Run (c : SetCursor) (done kept : ℕ) (ids : List ℕ) (previous : Option Envelope) (records : List ℕ) : Type 0 where
+  pub record PatchRun (c : SetCursor) (done kept : ℕ) (ids : List ℕ) (previous : Option Envelope) (records : List ℕ) : Type 0 where
     pub before : List Patch
     pub rest : List Patch
     pub here : AtSteps ed bytes c [] rest
@@ -55,16 +55,16 @@ module _ (ed : Edition) (bytes : List ℕ) (ps : List Patch) where
     pub known : take done ids ≡ map idOf before
     pub last : previous ≡ lastEnvelope (reverse before)
 
-  pub run-start : (c : SetCursor) (ids records : List ℕ) → AtSteps ed bytes c [] ps → Run c 0 0 ids none records
+  pub patch-run-start : (c : SetCursor) (ids records : List ℕ) → AtSteps ed bytes c [] ps → PatchRun c 0 0 ids none records
   unfolding findings rawSetFindings
-  run-start c ids records here =
+  patch-run-start c ids records here =
       record { before = []; rest = ps; here = here; place = refl; raw = []; holds = kept-none records; all = refl; known = refl; last = refl }
 
-  module _ {c : SetCursor} {done kept : ℕ} {ids : List ℕ} {previous : Option Envelope} {records : List ℕ} (run : Run c done kept ids previous records) where
+  module _ {c : SetCursor} {done kept : ℕ} {ids : List ℕ} {previous : Option Envelope} {records : List ℕ} (run : PatchRun c done kept ids previous records) where
     -- where none is left, the table is the set's
-    pub run-end : c .«patches_left» ≤ 0 → FindingsListedAs (findings ps) (listedTo inSet kept) records
+    pub patch-run-end : c .«patches_left» ≤ 0 → FindingsListedAs (findings ps) (listedTo inSet kept) records
     unfolding firstFindings checkEach setFindings
-    run-end none′ = go (run .rest) (run .here) (run .place) (run .all)
+    patch-run-end none′ = go (run .rest) (run .here) (run .place) (run .all)
       where
         go : (l : List Patch) → AtSteps ed bytes c [] l → findings ps ≡ firstFindings done l whole → rawSetFindings ps ≡ run .raw ++ checkEach afterFindings (reverse (run .before)) l → FindingsListedAs (findings ps) (listedTo inSet kept) records
         go [] here place all =
@@ -89,8 +89,8 @@ module _ (ed : Edition) (bytes : List ℕ) (ps : List Patch) where
       small = subst (λ (l : List Patch). All (FitsPatch ed) l) (o .is) (run .here .fit-rest) .0 .few
 
       -- with findings it ends the listing
-      pub run-found : 0 < listed .count → FindingsListedAs (findings ps) (listedTo (inPatch done) (listed .count)) mid
-      run-found more =
+      pub patch-run-found : 0 < listed .count → FindingsListedAs (findings ps) (listedTo (inPatch done) (listed .count)) mid
+      patch-run-found more =
           subst (λ f. FindingsListedAs f (listedTo (inPatch done) (listed .count)) mid) (sym (run .place ∙ ap (λ l. firstFindings done l whole) (o .is)))
           (patch-is p records small room (listed .count) mid (now .0) done (o .rest) whole more)
 
@@ -143,8 +143,8 @@ module _ (ed : Edition) (bytes : List ℕ) (ps : List Patch) where
             ∙ ap₂ (λ (l : List ℕ) (e : Envelope). l ++ (e .id ∷ [])) (run .known) envelope-is
             ∙ sym (map-snoc (run .before) p)
 
-        pub run-turn : Run (listed .next) (done + 1) kept′ ids′ (some (envelopeOf (h .envelope))) after
-        run-turn = record {
+        pub patch-run-turn : PatchRun (listed .next) (done + 1) kept′ ids′ (some (envelopeOf (h .envelope))) after
+        patch-run-turn = record {
           before = more;
           rest = o .rest;
           here = now .1;

@@ -15,7 +15,7 @@ use Rattle.spec_patch.specs.Read.{SetReading, patches, fault}
 use Rattle.spec_checks.specs.Finding.{Finding, findingKey}
 use Rattle.spec_checks.specs.Findings.{Place, inPatch, inSet, Findings, findings}
 use Rattle.spec_checks.specs.PartsLaws.{clean-of-findings, findings-of-clean}
-use Rattle.spec_checks.specs.Answer.{recordLength, findingWords, fitting, writeFindings, checked}
+use Rattle.spec_checks.specs.Answer.{recordLength, findingWords, fitting, writeFindings, checkedList}
 use Rattle.spec_checks.specs.AnswerLaws.{findingWords-length, fitting-length, fitting-all}
 use Rattle.projection_patch.specs.ReadAnswers.{faultTo}
 use Rattle.projection_patch.specs.declared.read_values.ProjectionPatchReadFault.{ProjectionPatchReadFault}
@@ -90,8 +90,8 @@ module _ (ps : List Patch) (r : FindingsListed) (records : List ℕ) (h : Findin
     counted-now : w ≡ min (length records / recordLength) (min (length out / recordLength) (length (findings ps .found)))
     counted-now = counted ∙ ap (λ (n : ℕ). min (length records / recordLength) (min (length out / recordLength) n)) (sym (same .1))
 
-    pub answer-is : set-check.Checked (placeTo p) logical w ≡ checkedTo (checked ps (length out))
-    unfolding checked
+    pub answer-is : set-check.Checked (placeTo p) logical w ≡ checkedTo (checkedList ps (length out))
+    unfolding checkedList
     answer-is =
         ap₂ (λ (q : Place) (n : ℕ). set-check.Checked (placeTo q) n w) (sym (same .0)) (sym (same .1))
         ∙ ap (set-check.Checked (placeTo (findings ps .place)) (length (findings ps .found))) (written-count (findings ps .found) records out w (h .1) counted-now)
@@ -106,8 +106,8 @@ module _ (lent : List ℕ) where
   unfolding writeFindings findingWords flatMap
   unchanged = sym (ap (λ (l : List Finding). findingWords l ++ drop (length (findingWords l)) lent) (fitting-all (length lent) [] (omega arith)))
 
-  clean-answer : (ps : List Patch) → findings ps .found ≡ [] → (set-check.Checked place.Set 0 0 ≡ checkedTo (checked ps (length lent))) × (lent ≡ writeFindings (findings ps .found) lent)
-  unfolding checked
+  clean-answer : (ps : List Patch) → findings ps .found ≡ [] → (set-check.Checked place.Set 0 0 ≡ checkedTo (checkedList ps (length lent))) × (lent ≡ writeFindings (findings ps .found) lent)
+  unfolding checkedList
   clean-answer ps q =
       let whole : findings ps ≡ record { place = inSet; found = [] } = findings-of-clean ps (clean-of-findings ps q) in
       let none-written : 0 ≡ length (fitting (length lent) []) = sym (ap length (fitting-all (length lent) [] (omega arith))) in (
@@ -125,12 +125,12 @@ module _ (lent : List ℕ) where
   clean-is (fault f) a b e = absurd (let z : _≡_ {A = ℕ} 0 1 = cc in omega arith)
   clean-is (patches ps) a b e = go (findings ps .found) refl
     where
-      go : (l : List Finding) → findings ps .found ≡ l → (set-check.Checked place.Set 0 0 ≡ checkedTo (checked ps (length lent))) × (lent ≡ writeFindings (findings ps .found) lent)
+      go : (l : List Finding) → findings ps .found ≡ l → (set-check.Checked place.Set 0 0 ≡ checkedTo (checkedList ps (length lent))) × (lent ≡ writeFindings (findings ps .found) lent)
       go [] q = clean-answer ps q
       go (f ∷ fs) q = absurd (not-clean ps a b f fs q e)
 
   pub found-some : (s : SetReading) → quickAnswer s ≡ quick.Found → (r : PatchSetCheck) (out : List ℕ)
-      → ((ps : List Patch) → s ≡ patches ps → r ≡ checkedTo (checked ps (length lent))) → ((ps : List Patch) → s ≡ patches ps → out ≡ writeFindings (findings ps .found) lent)
+      → ((ps : List Patch) → s ≡ patches ps → r ≡ checkedTo (checkedList ps (length lent))) → ((ps : List Patch) → s ≡ patches ps → out ≡ writeFindings (findings ps .found) lent)
       → (r ≡ checkAnswer s (length lent)) × (out ≡ checkNumbers s lent)
   found-some (fault f) e r out h k = absurd (let z : _≡_ {A = ℕ} 0 1 = cc in omega arith)
   found-some (patches ps) e r out h k = (h ps refl, k ps refl)

@@ -4,7 +4,7 @@ use mathlib.Core.List.{List, _++_}
 use lib.ListN.{length, take, drop}
 use Rattle.spec_patch.specs.Read.{SetReading, patches, fault}
 use Rattle.spec_checks.specs.Findings.{Place, inPatch, inSet, findings}
-use Rattle.spec_checks.specs.Answer.{recordLength, writeFindings, Checked, checked}
+use Rattle.spec_checks.specs.Answer.{recordLength, writeFindings, Checked, checkedList}
 use Rattle.projection_patch.specs.ReadAnswers.{faultTo}
 use Rattle.check_set.specs.declared.check_set.CheckPlace.{CheckPlace}
 use Rattle.check_set.specs.declared.check_set.CheckPlace.the-variants as place
@@ -20,7 +20,7 @@ checkedTo c = set-check.Checked (placeTo (c .place)) (c .logical) (c .written)
 
 -- 12 or 10; or place, logical count and written count, with so many places lent
 abbrev pub checkAnswer : SetReading → ℕ → PatchSetCheck
-checkAnswer (patches ps) room = checkedTo (checked ps room)
+checkAnswer (patches ps) room = checkedTo (checkedList ps room)
 checkAnswer (fault f) room = set-check.Refused (faultTo f)
 
 -- the lent list after the call: bytes that do not read leave it as it was

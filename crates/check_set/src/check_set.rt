@@ -13,7 +13,7 @@ ghost use lib.ListN.{length};
 ghost use Rattle.spec_patch.specs.Patch.{Patch};
 ghost use Rattle.spec_patch.specs.Read.{patches, readSet};
 ghost use Rattle.spec_checks.specs.Findings.{findings};
-ghost use Rattle.spec_checks.specs.Answer.{writeFindings, checked};
+ghost use Rattle.spec_checks.specs.Answer.{writeFindings, checkedList};
 ghost use Rattle.projection_patch.specs.Meaning.{editionOf};
 ghost use Rattle.check_set.specs.CheckAnswers.{writtenAnswer, writtenNumbers, checkedTo, checkAnswer, checkNumbers};
 
@@ -53,7 +53,7 @@ fn write_answer(
 
 // Lists the findings of a readable set and writes those that fit.
 fn find(set: &[u8], edition: ProjectionPatchEdition, out: &mut [u64]) -> PatchSetCheck
-    ensures answered { λ r. ⌜ ((ps : List Patch) → readSet (editionOf edition) (now (set .entry)) ≡ patches ps → r ≡ checkedTo (checked ps (length (now (out .entry))))) ⌝ }
+    ensures answered { λ r. ⌜ ((ps : List Patch) → readSet (editionOf edition) (now (set .entry)) ≡ patches ps → r ≡ checkedTo (checkedList ps (length (now (out .entry))))) ⌝ }
     ensures written { λ _. ⌜ ((ps : List Patch) → readSet (editionOf edition) (now (set .entry)) ≡ patches ps → now (out .exit) ≡ writeFindings (findings ps .found) (now (out .entry))) ⌝ }
 {
     let mut records = [0u64; FindingsListed::NUMBERS];

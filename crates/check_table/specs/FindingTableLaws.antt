@@ -75,8 +75,8 @@ place-order key k x xs = go (lexLess k (key x)) (lexLess (key x) k) (placeOf key
 
 -- a search that has come to position `at`, past i records
 module _ (f : Finding) (ns : List ℕ) (at i : ℕ) where
-  abbrev pub Placed : Type 0
-  Placed = placeOf findingKey (findingKey f) (findingsIn ns) ≡ later i (placeOf findingKey (findingKey f) (findingsIn (drop at ns)))
+  abbrev pub FindingPlaced : Type 0
+  FindingPlaced = placeOf findingKey (findingKey f) (findingsIn ns) ≡ later i (placeOf findingKey (findingKey f) (findingsIn (drop at ns)))
 
   abbrev own : Finding
   own = record { kind = getD ns at 0; domain = getD ns (at + 1) 0; secondary = getD ns (at + 2) 0 }
@@ -89,16 +89,16 @@ module _ (f : Finding) (ns : List ℕ) (at i : ℕ) where
         ∙ place-order findingKey (findingKey f) own (findingsIn (drop (at + 3) ns))
         ∙ ap (λ q. byOrder q (placeOf findingKey (findingKey f) (findingsIn (drop (at + 3) ns)))) e
 
-    pub placed-below : Placed → o ≡ Below → placeOf findingKey (findingKey f) (findingsIn ns) ≡ later (i + 1) (placeOf findingKey (findingKey f) (findingsIn (drop (at + 3) ns)))
+    pub placed-below : FindingPlaced → o ≡ Below → placeOf findingKey (findingKey f) (findingsIn ns) ≡ later (i + 1) (placeOf findingKey (findingKey f) (findingsIn (drop (at + 3) ns)))
     placed-below p h = p ∙ ap (later i) (placed-turn ∙ ap (λ q. byOrder q (placeOf findingKey (findingKey f) (findingsIn (drop (at + 3) ns)))) h) ∙ later-next i (placeOf findingKey (findingKey f) (findingsIn (drop (at + 3) ns)))
 
-    pub placed-same : Placed → o ≡ Same → placeOf findingKey (findingKey f) (findingsIn ns) ≡ Taken i
+    pub placed-same : FindingPlaced → o ≡ Same → placeOf findingKey (findingKey f) (findingsIn ns) ≡ Taken i
     placed-same p h = p ∙ ap (later i) (placed-turn ∙ ap (λ q. byOrder q (placeOf findingKey (findingKey f) (findingsIn (drop (at + 3) ns)))) h) ∙ ap Taken (add-zero i)
 
-    pub placed-above : Placed → o ≡ Above → placeOf findingKey (findingKey f) (findingsIn ns) ≡ Before i
+    pub placed-above : FindingPlaced → o ≡ Above → placeOf findingKey (findingKey f) (findingsIn ns) ≡ Before i
     placed-above p h = p ∙ ap (later i) (placed-turn ∙ ap (λ q. byOrder q (placeOf findingKey (findingKey f) (findingsIn (drop (at + 3) ns)))) h) ∙ ap Before (add-zero i)
 
-  pub placed-last : Placed → length (drop at ns) < 3 → placeOf findingKey (findingKey f) (findingsIn ns) ≡ Before i
+  pub placed-last : FindingPlaced → length (drop at ns) < 3 → placeOf findingKey (findingKey f) (findingsIn ns) ≡ Before i
   unfolding placeOf
   placed-last p h = p ∙ ap (λ l. later i (placeOf findingKey (findingKey f) l)) (findings-few (drop at ns) h) ∙ ap Before (add-zero i)
 
@@ -121,8 +121,8 @@ upsert-same f (g ∷ fs) h = go (lexLess (findingKey f) (findingKey g)) refl (le
     go false a true b (Before i) ih h = absurd h
     go false a false b p ih h = ap (λ x. x ∷ fs) (findingKey-injective f g (lexLess-total (findingKey f) (findingKey g) a b))
 
-pub upsert-taken : (f : Finding) (fs : List Finding) (i : ℕ) → placeOf findingKey (findingKey f) fs ≡ Taken i → upsert findingKey f fs ≡ fs
-upsert-taken f fs i e = upsert-same f fs (rw e tt)
+pub upsert-kept : (f : Finding) (fs : List Finding) (i : ℕ) → placeOf findingKey (findingKey f) fs ≡ Taken i → upsert findingKey f fs ≡ fs
+upsert-kept f fs i e = upsert-same f fs (rw e tt)
 
 pub upsert-before : (f : Finding) (fs : List Finding) (i : ℕ) → placeOf findingKey (findingKey f) fs ≡ Before i → upsert findingKey f fs ≡ insertAt i f fs
 unfolding upsertAt
@@ -172,9 +172,9 @@ module _ (ns : List ℕ) (count i : ℕ) (f : Finding) (fs : List Finding) (word
   unfolding findingWords flatMap
   words-inserted = flatMap-append findingKey (take i fs) (f ∷ drop i fs)
 
-  pub inserted : (ys : List ℕ) → ys ≡ pushFront (findingKey f) (midOf (recordLength * i) (recordLength * count + recordLength - recordLength * i) ns)
+  pub finding-inserted : (ys : List ℕ) → ys ≡ pushFront (findingKey f) (midOf (recordLength * i) (recordLength * count + recordLength - recordLength * i) ns)
       → putMid (recordLength * i) (recordLength * count + recordLength - recordLength * i) ns ys ≡ findingWords (insertAt i f fs) ++ drop (recordLength * length (insertAt i f fs)) ns
-  inserted ys e =
+  finding-inserted ys e =
       let size : recordLength * length (insertAt i f fs) ≡ recordLength * count + 3 = omega (arith, length-insertAt i f fs) in
       let rest : drop (recordLength * length (insertAt i f fs)) ns ≡ drop 3 past = ap (λ n. drop n ns) size ∙ sym (drop-drop 3 (recordLength * count) ns) in
       lent ns front (back ++ take 3 past) (drop 3 past) _ _ numbers-split front-length part-length (pushFront (findingKey f)) ys e
@@ -195,9 +195,9 @@ unfolding PlaceWithin
 within-before n i p w e = rw e at w
 
 module _ (f : Finding) (count : ℕ) (ns : List ℕ) where
-  pub no-room : length ns < recordLength * count + recordLength → (count ≡ insertedCount f count ns) × (ns ≡ insertedNumbers f count ns)
+  pub table-full : length ns < recordLength * count + recordLength → (count ≡ insertedCount f count ns) × (ns ≡ insertedNumbers f count ns)
   unfolding insertedCount insertedNumbers tableHasRoom
-  no-room h = (rw (lt-leb (recordLength * count + recordLength) (length ns) h), rw (lt-leb (recordLength * count + recordLength) (length ns) h))
+  table-full h = (rw (lt-leb (recordLength * count + recordLength) (length ns) h), rw (lt-leb (recordLength * count + recordLength) (length ns) h))
 
   module _ (room : recordLength * count + recordLength ≤ length ns) where
     abbrev held : List Finding
@@ -223,7 +223,7 @@ module _ (f : Finding) (count : ℕ) (ns : List ℕ) where
     pub there-already : (i : ℕ) → placeOf findingKey (findingKey f) held ≡ Taken i → (count ≡ insertedCount f count ns) × (ns ≡ insertedNumbers f count ns)
     unfolding insertedFindings
     there-already i e =
-        let same = upsert-taken f held i e in (
+        let same = upsert-kept f held i e in (
           sym held-count ∙ count-is held same,
           sym (ap (λ l. l ++ drop (recordLength * length held) ns) held-words ∙ ap (λ n. take (recordLength * count) ns ++ drop (recordLength * n) ns) held-count ∙ take-append-drop (recordLength * count) ns) ∙ numbers-are held same,
         )
@@ -235,7 +235,7 @@ module _ (f : Finding) (count : ℕ) (ns : List ℕ) where
     one-more i e below ys h =
         let more = upsert-before f held i e in (
           omega (arith, length-insertAt i f held, held-count) ∙ count-is (insertAt i f held) more,
-          inserted ns count i f held (sym held-words) held-count below room ys h ∙ numbers-are (insertAt i f held) more,
+          finding-inserted ns count i f held (sym held-words) held-count below room ys h ∙ numbers-are (insertAt i f held) more,
         )
 
 -- ---- the findings one after the other

@@ -16,17 +16,17 @@ use Rattle.check_targets.specs.Targets.{equalTargets, numbersOf, targetN
 use Rattle.check_targets.specs.Threes.{three-at}
 
 -- one turn of the scan
-seen-turn : (t : MutationTarget) (ns : List ℕ) (at : ℕ) → at + 3 ≤ length ns
+target-seen-turn : (t : MutationTarget) (ns : List ℕ) (at : ℕ) → at + 3 ≤ length ns
     → targetSeen t (drop at ns) ≡ (equalTargets t (record { kind = getD ns at 0; first = getD ns (at + 1) 0; second = getD ns (at + 2) 0 }) || targetSeen t (drop (at + 3) ns))
 unfolding targetSeen
-seen-turn t ns at h = ap (targetSeen t) (three-at ns at h)
+target-seen-turn t ns at h = ap (targetSeen t) (three-at ns at h)
 
 module _ (t : MutationTarget) (ns : List ℕ) (at : ℕ) (within : at + 3 ≤ length ns) where
-  pub seen-here : equalTargets t (record { kind = getD ns at 0; first = getD ns (at + 1) 0; second = getD ns (at + 2) 0 }) ≡ true → targetSeen t (drop at ns) ≡ true
-  seen-here e = seen-turn t ns at within ∙ rw e
+  pub target-seen-here : equalTargets t (record { kind = getD ns at 0; first = getD ns (at + 1) 0; second = getD ns (at + 2) 0 }) ≡ true → targetSeen t (drop at ns) ≡ true
+  target-seen-here e = target-seen-turn t ns at within ∙ rw e
 
-  pub seen-on : equalTargets t (record { kind = getD ns at 0; first = getD ns (at + 1) 0; second = getD ns (at + 2) 0 }) ≡ false → targetSeen t (drop at ns) ≡ targetSeen t (drop (at + 3) ns)
-  seen-on e = seen-turn t ns at within ∙ rw e
+  pub target-seen-on : equalTargets t (record { kind = getD ns at 0; first = getD ns (at + 1) 0; second = getD ns (at + 2) 0 }) ≡ false → targetSeen t (drop at ns) ≡ targetSeen t (drop (at + 3) ns)
+  target-seen-on e = target-seen-turn t ns at within ∙ rw e
 
 -- fewer than three numbers are no target
 pub target-seen-end : (t : MutationTarget) (ns : List ℕ) → length ns < 3 → targetSeen t ns ≡ false

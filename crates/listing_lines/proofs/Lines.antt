@@ -10,9 +10,9 @@ use Rattle.spec_lists.specs.Lists.{All}
 use Rattle.spec_lists.specs.ListLaws.{flatMap-append}
 use Rattle.bytes_printer.specs.declared.Printed.{Printed}
 use Rattle.bytes_records.specs.Table.{HoldsRows}
-use Rattle.bytes_records.specs.TableLaws.{fitting}
+use Rattle.bytes_records.specs.TableLaws.{rows-fit}
 use Rattle.bytes_printer.specs.Prints.{Prints}
-use Rattle.bytes_printer.specs.PrintsLaws.{_⨾_, same-bytes}
+use Rattle.bytes_printer.specs.PrintsLaws.{_⨾_, prints-same}
 use Rattle.listing_lines.specs.declared.RowKind.{RowKind}
 use Rattle.listing_lines.specs.RowKinds.{Element, FitsRow as FitsKind, rowOf, lineOfRow}
 
@@ -39,7 +39,7 @@ module _ {A : Type 0} (Fits : A → Type 0) (row : A → List ℕ) where
     pub not-too-many : 0 < width → length table / width < count → ⊥
     not-too-many some-width h =
         let past : length table < count * width = div-lt-iff-lt-mul some-width .0 h in
-        omega (arith, fitting t)
+        omega (arith, rows-fit t)
 
   -- the line of the element at a position, behind those before it
   pub line-more : (line : A → List ℕ) (xs : List A) (i : ℕ) (e : ElementAt Fits row xs i) {l m n : List ℕ} {at r s : Printed} → Prints l at (flatMap line (take i xs)) m r → Prints m r (line (e .element)) n s
@@ -50,10 +50,10 @@ module _ {A : Type 0} (Fits : A → Type 0) (row : A → List ℕ) where
       ap (flatMap line) (ap (λ (k : ℕ). take k xs) (add-one i) ∙ e .more)
       ∙ flatMap-append line (take i xs) (e .element ∷ [])
       ∙ ap (λ (b : List ℕ). flatMap line (take i xs) ++ b) (append-nil (line (e .element))) in
-      same-bytes (sym lines) (p ⨾ q)
+      prints-same (sym lines) (p ⨾ q)
 
 -- ---- the kind of a row, as a match told it
 
-pub told : {row l m : List ℕ} {at r : Printed} {kind k : RowKind} → kind ≡ k → ((x : Element k) → FitsKind k x → row ≡ rowOf k x → Prints l at (lineOfRow k x) m r)
+pub kind-told : {row l m : List ℕ} {at r : Printed} {kind k : RowKind} → kind ≡ k → ((x : Element k) → FitsKind k x → row ≡ rowOf k x → Prints l at (lineOfRow k x) m r)
     → (x : Element kind) → FitsKind kind x → row ≡ rowOf kind x → Prints l at (lineOfRow kind x) m r
-told {row} {l} {m} {at} {r} is p = subst (λ (k : RowKind). (x : Element k) → FitsKind k x → row ≡ rowOf k x → Prints l at (lineOfRow k x) m r) (sym is) p
+kind-told {row} {l} {m} {at} {r} is p = subst (λ (k : RowKind). (x : Element k) → FitsKind k x → row ≡ rowOf k x → Prints l at (lineOfRow k x) m r) (sym is) p

@@ -45,30 +45,30 @@ listing-applies ed set = by-reading (readSet ed set)
 -- ---- 0 is no refusal's number
 
 -- the outcome is no refusal of number 0
-abbrev Numbered : SetOutcome → Type 0
-Numbered (applied p) = Unit {0}
-Numbered (refused n) = n ≡ 0 → ⊥
+abbrev NumberedOutcome : SetOutcome → Type 0
+NumberedOutcome (applied p) = Unit {0}
+NumberedOutcome (refused n) = n ≡ 0 → ⊥
 
 fault-numbered : (f : Fault) → faultNumber f ≡ 0 → ⊥
 unfolding faultNumber
 fault-numbered malformed e = omega arith
 fault-numbered overCapacity e = omega arith
 
-outcome-numbered : (x : Outcome) → Numbered (setOutcome x)
+outcome-numbered : (x : Outcome) → NumberedOutcome (setOutcome x)
 unfolding setOutcome operationFaultNumber
 outcome-numbered (done p) = tt
 outcome-numbered (stopped keyRule) = λ e. omega arith
 outcome-numbered (stopped projectionFull) = λ e. omega arith
 
-set-numbered : (ed : Edition) (set : List ℕ) → Numbered (applySet ed empty set)
+set-numbered : (ed : Edition) (set : List ℕ) → NumberedOutcome (applySet ed empty set)
 unfolding applySet applyReading
 set-numbered ed set = by-reading (readSet ed set)
   where
-    by-findings : (ps : List Patch) (t : Bool) → Numbered (if t then setOutcome (applySteps empty (replaySteps ps)) else refused 11)
+    by-findings : (ps : List Patch) (t : Bool) → NumberedOutcome (if t then setOutcome (applySteps empty (replaySteps ps)) else refused 11)
     by-findings ps true = outcome-numbered (applySteps empty (replaySteps ps))
     by-findings ps false = λ e. omega arith
 
-    by-reading : (r : SetReading) → Numbered (applyReading empty r)
+    by-reading : (r : SetReading) → NumberedOutcome (applyReading empty r)
     by-reading (fault f) = fault-numbered f
     by-reading (patches ps) = by-findings ps (isEmpty (findings ps .found))
 
@@ -85,7 +85,7 @@ module _ (ed : Edition) (set : List ℕ) (next : LocalProjectionState) (o : Proj
   unfolding setLines
   set-applied zero = go (applySet ed empty set) (listing-applies ed set) (set-numbered ed set) became
     where
-      go : (x : SetOutcome) → listing ed set ≡ setLines x → Numbered x → SetBecame next o x → ShowsLines ed set next
+      go : (x : SetOutcome) → listing ed set ≡ setLines x → NumberedOutcome x → SetBecame next o x → ShowsLines ed set next
       go (applied q) e n b = record { projection = q; stores = b .1; lines = e }
       go (refused m) e n b = absurd (n (sym b ∙ zero))
 

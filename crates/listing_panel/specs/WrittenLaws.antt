@@ -24,8 +24,8 @@ printed-holds p h = let w = whole-printed p h in record { position = w .0; bytes
 -- ---- by the position where printing ended
 
 module _ (text : List ℕ) (end : Printed) (lines : List ℕ) (h : HoldsLines text end lines) where
-  pub ended : end ≡ NoRoom → ⊥
-  ended e = let z : _≡_ {A = ℕ} 0 1 = cc (h .position) in omega arith
+  pub has-ended : end ≡ NoRoom → ⊥
+  has-ended e = let z : _≡_ {A = ℕ} 0 1 = cc (h .position) in omega arith
 
   pub ended-at : (n : ℕ) → end ≡ Next n → n ≡ length lines
   ended-at n e = cc (h .position)
@@ -33,8 +33,8 @@ module _ (text : List ℕ) (end : Printed) (lines : List ℕ) (h : HoldsLines te
   pub within-text : (n : ℕ) → end ≡ Next n → n ≤ length text
   within-text n e = omega (arith, ended-at n e, ap length (h .bytes), length-take (length lines) text)
 
-  pub part-is : (n : ℕ) → end ≡ Next n → take (n - 0) (drop 0 text) ≡ lines
-  part-is n e =
+  pub text-part : (n : ℕ) → end ≡ Next n → take (n - 0) (drop 0 text) ≡ lines
+  text-part n e =
       let same : n - 0 ≡ length lines = omega (arith, ended-at n e) in
       ap (λ (k : ℕ). take k text) same ∙ h .bytes
 
@@ -55,8 +55,8 @@ module _ (before bytes after : List ℕ) (is : after ≡ overwrite before 0 byte
       let none-before : 0 + length bytes ≡ n = omega arith in
       ap (drop n) is ∙ rw (sym none-before) (drop-past-overwrite before 0 bytes (length bytes) refl room)
 
-  pub kept-all : hasRoom before 0 (length bytes) ≡ false → after ≡ before
-  kept-all full = is ∙ overwrite-refused before 0 bytes (length bytes) refl full
+  pub kept-whole : hasRoom before 0 (length bytes) ≡ false → after ≡ before
+  kept-whole full = is ∙ overwrite-refused before 0 bytes (length bytes) refl full
 
 -- ---- what a caller has of lines that were written
 

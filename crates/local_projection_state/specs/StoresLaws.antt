@@ -43,9 +43,9 @@ module _ {A : Type 0} (row : A → List ℕ) (Fits : A → Type 0) (width : ℕ)
       → Stored row width capacity count table l → Stored row width capacity count table m → l ≡ m
   one-list capacity count table l m g h s t = rows-tell l m g h (holds-unique width count table (map row l) (map row m) (s .rows) (t .rows))
 
-  pub stored : (capacity : ℕ) (l : List A) → All Fits l → length l ≤ capacity → Stored row width capacity (length l) (tableBytes (capacity * width) (map row l)) l
+  pub table-stored : (capacity : ℕ) (l : List A) → All Fits l → length l ≤ capacity → Stored row width capacity (length l) (tableBytes (capacity * width) (map row l)) l
   unfolding tableBytes
-  stored capacity l g few =
+  table-stored capacity l g few =
       let rows = map row l in
       let used : length (flatten rows) ≡ length l * width = length-flatten width rows (all-wide l g) ∙ ap (λ (n : ℕ). n * width) (length-map l row) in
       let room : length l * width ≤ capacity * width = mul-le-mul-right width few in
@@ -101,16 +101,16 @@ one-state p s t g′ h′ =
 
 -- the lengths of the collections of entries that a projection may have
 pub lengths-stored : (es : List Entry) → All FitsEntry es → length es ≤ projectionEntries → StoredLengths (tableBytes lengthBytes (map lengthRow (lengthsIn es))) (lengthsIn es)
-lengths-stored es fit few = stored lengthRow FitsLength lengthWidth length-wide length-tells projectionEntries (lengthsIn es) (lengths-fit es fit few) (omega (arith, few-lengths es))
+lengths-stored es fit few = table-stored lengthRow FitsLength lengthWidth length-wide length-tells projectionEntries (lengthsIn es) (lengths-fit es fit few) (omega (arith, few-lengths es))
 
 -- and there is one
 pub some-state : (p : Projection) → Valid p → Stores (storedState p) p
 unfolding storedState collectionLengths
 some-state p v = record {
   tables = record {
-    bindings = stored bindingRow FitsBinding bindingWidth binding-wide binding-tells projectionBindings (p .bindings) (v .fitBindings) (v .fewBindings);
-    availabilities = stored availabilityRow FitsNodeAvailability availabilityWidth availability-wide availability-tells projectionAvailabilities (p .availabilities) (v .fitAvailabilities) (v .fewAvailabilities);
-    entries = stored entryRow FitsEntry entryWidth entry-wide entry-tells projectionEntries (p .entries) (v .fitEntries) (v .fewEntries);
+    bindings = table-stored bindingRow FitsBinding bindingWidth binding-wide binding-tells projectionBindings (p .bindings) (v .fitBindings) (v .fewBindings);
+    availabilities = table-stored availabilityRow FitsNodeAvailability availabilityWidth availability-wide availability-tells projectionAvailabilities (p .availabilities) (v .fitAvailabilities) (v .fewAvailabilities);
+    entries = table-stored entryRow FitsEntry entryWidth entry-wide entry-tells projectionEntries (p .entries) (v .fitEntries) (v .fewEntries);
     valid = v;
   };
   lengths = lengths-stored (p .entries) (v .fitEntries) (v .fewEntries);

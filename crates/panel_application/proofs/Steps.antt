@@ -14,26 +14,26 @@ use Rattle.panel_application.specs.Application.{StepsBecame}
 use Rattle.panel_application.specs.declared.ProjectionOutcome.the-variants.{Applied, Refused}
 
 -- the tables store what came of the operations
-abbrev Became : (b a e l : List ℕ) → SetChange → Outcome → Type 0
-Became b a e l = ChangeBecame (λ n q. StoredAfter n b a e l q)
+abbrev TablesBecame : (b a e l : List ℕ) → SetChange → Outcome → Type 0
+TablesBecame b a e l = ChangeBecame (λ n q. StoredAfter n b a e l q)
 
-module _ (b a e l : List ℕ) {r : SetChange} (x : Outcome) (h : Became b a e l r x) where
-  pub set-applied : (n : ProjectionCounts) → r ≡ change.Applied n → StepsBecame (record { counts = n; bindings = b; availability = a; entries = e; lengths = l }) Applied x
-  set-applied n is = go x (subst (λ z. Became b a e l z x) is h)
+module _ (b a e l : List ℕ) {r : SetChange} (x : Outcome) (h : TablesBecame b a e l r x) where
+  pub steps-applied : (n : ProjectionCounts) → r ≡ change.Applied n → StepsBecame (record { counts = n; bindings = b; availability = a; entries = e; lengths = l }) Applied x
+  steps-applied n is = go x (subst (λ z. TablesBecame b a e l z x) is h)
     where
-      go : (x : Outcome) → Became b a e l (change.Applied n) x → StepsBecame (record { counts = n; bindings = b; availability = a; entries = e; lengths = l }) Applied x
+      go : (x : Outcome) → TablesBecame b a e l (change.Applied n) x → StepsBecame (record { counts = n; bindings = b; availability = a; entries = e; lengths = l }) Applied x
       go (done q) h = record { tables = h .0; lengths = h .1 }
       go (stopped f) h = h
 
-  pub set-refused : (state : LocalProjectionState) (fault : LocalProjectionApplicationError) → r ≡ change.Refused fault → StepsBecame state (Refused fault) x
-  set-refused state fault is = go x (subst (λ z. Became b a e l z x) is h)
+  pub steps-refused : (state : LocalProjectionState) (fault : LocalProjectionApplicationError) → r ≡ change.Refused fault → StepsBecame state (Refused fault) x
+  steps-refused state fault is = go x (subst (λ z. TablesBecame b a e l z x) is h)
     where
-      go : (x : Outcome) → Became b a e l (change.Refused fault) x → StepsBecame state (Refused fault) x
+      go : (x : Outcome) → TablesBecame b a e l (change.Refused fault) x → StepsBecame state (Refused fault) x
       go (done q) h = h
       go (stopped f) h = h
 
   pub set-reads : (fault : ProjectionPatchReadFault) → r ≡ change.Unreadable fault → ⊥
-  set-reads fault is = subst (λ z. Became b a e l z x) is h
+  set-reads fault is = subst (λ z. TablesBecame b a e l z x) is h
 
   pub set-fits : r ≡ change.BadTables → ⊥
-  set-fits is = subst (λ z. Became b a e l z x) is h
+  set-fits is = subst (λ z. TablesBecame b a e l z x) is h

@@ -52,18 +52,18 @@ steps-set next (Unreadable f) x h = absurd h
 -- ---- by the quick check's answer
 
 -- what a clean answer says of the reading
-record Clean (p : Projection) (r : SetReading) : Type 0 where
+record CleanReading (p : Projection) (r : SetReading) : Type 0 where
   pub ps : List Patch
   pub readable : r ≡ patches ps
   pub outcome : applyReading p r ≡ setOutcome (applySteps p (replaySteps ps))
 
 module _ (p : Projection) where
-  clean-reading : (r : SetReading) (n m : ℕ) → quick.Clean n m ≡ quickAnswer r → Clean p r
+  clean-reading : (r : SetReading) (n m : ℕ) → quick.Clean n m ≡ quickAnswer r → CleanReading p r
   unfolding applyReading isFound
   clean-reading (fault f) n m e = absurd (let z : _≡_ {A = ℕ} 0 1 = cc in omega arith)
   clean-reading (patches ps) n m e = go (isEmpty (findings ps .found)) refl e
     where
-      go : (t : Bool) → isEmpty (findings ps .found) ≡ t → quick.Clean n m ≡ (if not t then quick.Found else quick.Clean (length ps) (operationCount ps)) → Clean p (patches ps)
+      go : (t : Bool) → isEmpty (findings ps .found) ≡ t → quick.Clean n m ≡ (if not t then quick.Found else quick.Clean (length ps) (operationCount ps)) → CleanReading p (patches ps)
       go true is e = record { ps = ps; readable = refl; outcome = rw is }
       go false is e = absurd (let z : _≡_ {A = ℕ} 0 1 = cc in omega arith)
 

@@ -12,7 +12,7 @@ use Rattle.bytes_records.specs.declared.Place.{Place}
 use Rattle.bytes_records.specs.declared.Place.the-variants.{Taken, Before}
 use Rattle.panel_bindings.specs.Change.{RowsBecame}
 use Rattle.bytes_records.specs.PositionsLaws.{length-insertAt}
-use Rattle.panel_bindings.specs.RowChanges.{few, replaced, inserted, full}
+use Rattle.panel_bindings.specs.RowChanges.{rows-few, rows-replaced, rows-inserted, rows-full}
 use Rattle.panel_bindings.specs.declared.LocalProjectionApplicationError.the-variants.{ProjectionFull}
 use Rattle.panel_bindings.specs.declared.TableChange.{TableChange}
 use Rattle.panel_bindings.specs.declared.TableChange.the-variants.{Applied, Refused}
@@ -25,19 +25,19 @@ module _ {w n : ℕ} {l exit : List ℕ} {answer : Bool} (some : 0 < w) (same : 
   taken-made : Changed w n n (replaceAt at row) (canReplace (length l) w n at row) l exit answer → Made w n l exit row (Applied n) (Taken at)
   unfolding upsertAt PlaceWithin
   taken-made c capacity rows size t wide h =
-      let after = replaced t at row h wide c in
-      (omega (arith, few after capacity some (same ∙ size), after .counted), after)
+      let after = rows-replaced t at row h wide c in
+      (omega (arith, rows-few after capacity some (same ∙ size), after .counted), after)
 
   inserted-made : answer ≡ true → Changed w n (n + 1) (insertAt at row) (canInsert (length l) w n at row) l exit answer → Made w n l exit row (Applied (n + 1)) (Before at)
   unfolding upsertAt PlaceWithin
   inserted-made e c capacity rows size t wide h =
-      let after = inserted t at row e c in
-      (omega (arith, few after capacity some (same ∙ size), after .counted), after)
+      let after = rows-inserted t at row e c in
+      (omega (arith, rows-few after capacity some (same ∙ size), after .counted), after)
 
   full-made : answer ≡ false → Changed w n (n + 1) (insertAt at row) (canInsert (length l) w n at row) l exit answer → Made w n l exit row (Refused ProjectionFull) (Before at)
   unfolding upsertAt PlaceWithin
   full-made e c capacity rows size t wide h =
-      (omega (arith, full t at capacity size row h wide e c, length-insertAt at row rows, t .counted), refl)
+      (omega (arith, rows-full t at capacity size row h wide e c, length-insertAt at row rows, t .counted), refl)
 
   module _ (place : Place) where
     pub upsert-taken : place ≡ Taken at → Changed w n n (replaceAt at row) (canReplace (length l) w n at row) l exit answer → Made w n l exit row (Applied n) place

@@ -24,7 +24,7 @@ use Rattle.panel_plan.specs.PlanRows.{plannedEntryWidth, plannedEntryRow, Plann
 use Rattle.panel_bindings.specs.Change.{Became}
 use Rattle.panel_bindings.specs.ChangeLaws.{became-done, became-stopped}
 use Rattle.bytes_records.specs.PositionsLaws.{length-insertAt}
-use Rattle.panel_bindings.specs.RowChanges.{few, replaced, removed, inserted, full}
+use Rattle.panel_bindings.specs.RowChanges.{rows-few, rows-replaced, rows-removed, rows-inserted, rows-full}
 use Rattle.panel_bindings.specs.declared.LocalProjectionApplicationError.the-variants.{KeyRule, ProjectionFull}
 use Rattle.panel_bindings.specs.declared.TableChange.the-variants.{Applied, Refused}
 use Rattle.panel_entries.specs.Places.{placeBefore, PositionWithin, placeBeforeOther, withoutAt}
@@ -88,7 +88,7 @@ module _ {n : ℕ} {table : List ℕ} (exit : List ℕ) (same : length exit ≡ 
         → Became (NextEntry exit) (Applied n) (applyUpdate p e)
     updated h c =
         became-done (NextEntry exit) n (update-found p e at h)
-        (next (replaceAt at e (p .entries)) (ap (λ x. replaceAt at x (map plannedEntryRow (p .entries))) is ∙ sym (map-replaceAt plannedEntryRow at e (p .entries))) (replaced (s .rows) at row (below _ _ at h) wide c))
+        (next (replaceAt at e (p .entries)) (ap (λ x. replaceAt at x (map plannedEntryRow (p .entries))) is ∙ sym (map-replaceAt plannedEntryRow at e (p .entries))) (rows-replaced (s .rows) at row (below _ _ at h) wide c))
 
     module _ (before : Option ℕ) (absent : findFirstRow (isEntry (e .collection) (e .key)) (p .entries) ≡ Absent) (there : placeBefore (e .collection) before (p .entries) ≡ At at)
         (c : Changed plannedEntryWidth n (n + 1) (insertAt at row) (canInsert (length table) plannedEntryWidth n at row) table exit answer) where
@@ -97,22 +97,22 @@ module _ {n : ℕ} {table : List ℕ} (exit : List ℕ) (same : length exit ≡ 
 
       pub inserted-there : answer ≡ true → Became (NextEntry exit) (Applied (n + 1)) (applyInsert p before e)
       inserted-there t =
-          let h = inserted (s .rows) at row t c in
+          let h = rows-inserted (s .rows) at row t c in
           let counted : length (insertAt at e (p .entries)) ≡ n + 1 = sym (length-map (insertAt at e (p .entries)) plannedEntryRow) ∙ ap length (sym image) ∙ h .counted in
-          let fits : length (insertAt at e (p .entries)) ≤ projectionEntries = omega (arith, few h projectionEntries (omega arith) (same ∙ s .size)) in
+          let fits : length (insertAt at e (p .entries)) ≤ projectionEntries = omega (arith, rows-few h projectionEntries (omega arith) (same ∙ s .size)) in
           rw (insert-there p before e absent at there, le-leb (length (insertAt at e (p .entries))) projectionEntries fits) (next (insertAt at e (p .entries)) image h)
 
-      pub insert-full : at ≤ n → answer ≡ false → Became (NextEntry exit) (Refused ProjectionFull) (applyInsert p before e)
-      insert-full h t =
+      pub inserted-nowhere : at ≤ n → answer ≡ false → Became (NextEntry exit) (Refused ProjectionFull) (applyInsert p before e)
+      inserted-nowhere h t =
           let counted : length (p .entries) ≡ n = sym (length-map (p .entries) plannedEntryRow) ∙ s .rows .counted in
-          let over : projectionEntries < length (insertAt at e (p .entries)) = omega (arith, full (s .rows) at projectionEntries (s .size) row h wide t c, length-insertAt at e (p .entries)) in
+          let over : projectionEntries < length (insertAt at e (p .entries)) = omega (arith, rows-full (s .rows) at projectionEntries (s .size) row h wide t c, length-insertAt at e (p .entries)) in
           rw (insert-there p before e absent at there, lt-leb (length (insertAt at e (p .entries))) projectionEntries over)
 
   pub removed-there : (c k at : ℕ) {answer : Bool} → findFirstRow (isEntry c k) (p .entries) ≡ At at → Changed plannedEntryWidth n (n - 1) (removeAt at) (canRemove (length table) plannedEntryWidth n at) table exit answer
       → Became (NextEntry exit) (Applied (n - 1)) (applyRemove p c k)
   removed-there c k at h change =
       became-done (NextEntry exit) (n - 1) (remove-found p c k at h)
-      (next (removeAt at (p .entries)) (sym (map-removeAt plannedEntryRow at (p .entries))) (removed (s .rows) at (below c k at h) change))
+      (next (removeAt at (p .entries)) (sym (map-removeAt plannedEntryRow at (p .entries))) (rows-removed (s .rows) at (below c k at h) change))
 
   module _ (v : Valid p) (c k : ℕ) (before : Option ℕ) where
     pub moved-there : (i j : ℕ) → findFirstRow (isEntry c k) (p .entries) ≡ At i → placeBeforeOther c k before (p .entries) ≡ At j

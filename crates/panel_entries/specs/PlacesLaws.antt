@@ -16,7 +16,7 @@ use Rattle.spec_projection.specs.Projection.{Entry, Projection}
 use Rattle.spec_projection.specs.FirstMatch as first
 use Rattle.spec_projection.specs.FirstMatch.{insertBeforeFirst, replaceFirst, removeFirst}
 use Rattle.spec_projection.specs.Entries.{isEntry, isLater, contains, containsNeighbour, insertLast, insertBefore, insertEntry, replaceEntry, removeEntry}
-use Rattle.spec_projection.specs.EntriesLaws.{entry-collection, entry-key, removeEntry-gone}
+use Rattle.spec_projection.specs.EntriesLaws.{isEntry-collection, isEntry-key, removeEntry-gone}
 use Rattle.spec_projection.specs.Valid.{Grouped}
 use Rattle.spec_projection.specs.Apply.{keyRule, projectionFull, done, stopped, withEntries, applyInsert, applyUpdate, applyRemove, applyMove}
 use Rattle.bytes_records.specs.Positions.{insertAt, removeAt, replaceAt, firstIndex}
@@ -165,11 +165,11 @@ found-none test (x ∷ l) h = rw (or-left (test x) (any test l) h) (found-none t
 
 -- an entry is not one of another key, nor of a later collection
 other-key : (c k b : ℕ) (e : Entry) → isEntry c k e ≡ true → eqb b k ≡ false → isEntry c b e ≡ false
-other-key c k b e is n = test-cases (isEntry c b e) (λ f. absurd (eqb-false b k n (sym (entry-key c b e f) ∙ entry-key c k e is))) (λ f. f)
+other-key c k b e is n = test-cases (isEntry c b e) (λ f. absurd (eqb-false b k n (sym (isEntry-key c b e f) ∙ isEntry-key c k e is))) (λ f. f)
 
 not-later : (c k : ℕ) (e : Entry) → isEntry c k e ≡ true → isLater c e ≡ false
 unfolding isLater
-not-later c k e is = le-ltb c (e .collection) (omega (arith, entry-collection c k e is))
+not-later c k e is = le-ltb c (e .collection) (omega (arith, isEntry-collection c k e is))
 
 module _ (c k : ℕ) (es : List Entry) (i : ℕ) (g : FoundAt (isEntry c k) plannedEntryRow es i) where
   -- the neighbour's place once the entry is taken out
@@ -204,14 +204,14 @@ module _ (p : Projection) (ordered : Grouped (p .entries)) (c k : ℕ) (before :
     moved = found-at (isEntry c k) plannedEntryRow (p .entries) i there
 
     own-collection : moved .element .collection ≡ c
-    own-collection = entry-collection c k (moved .element) (moved .passes)
+    own-collection = isEntry-collection c k (moved .element) (moved .passes)
 
     out : removeEntry c k (p .entries) ≡ removeAt i (p .entries)
     unfolding removeEntry
     out = remove-at-first (isEntry c k) (p .entries) ∙ ap (λ n. removeAt n (p .entries)) (sym (find-at (isEntry c k) (p .entries) i there .0))
 
     rest-is : removeEntry (moved .element .collection) (moved .element .key) (p .entries) ≡ removeAt i (p .entries)
-    rest-is = ap₂ (λ x y. removeEntry x y (p .entries)) own-collection (entry-key c k (moved .element) (moved .passes)) ∙ out
+    rest-is = ap₂ (λ x y. removeEntry x y (p .entries)) own-collection (isEntry-key c k (moved .element) (moved .passes)) ∙ out
 
     pub move-no-neighbour : placeBeforeOther c k before (p .entries) ≡ Absent → applyMove p before (first.findFirst (isEntry c k) (p .entries)) ≡ stopped keyRule
     unfolding applyMove

@@ -24,7 +24,7 @@ use Rattle.spec_lengths.specs.Lengths.{CollectionLength, FitsLength, lengthOf, 
 use Rattle.spec_lengths.specs.LengthsLaws.{found-here, found-past}
 use Rattle.bytes_records.specs.Moves.{zeros}
 use Rattle.bytes_records.specs.MovesLaws.{length-zeros, drop-zeros}
-use Rattle.bytes_records.specs.TableLaws.{zeros-split, used, padded, fitting, before-length, row-split}
+use Rattle.bytes_records.specs.TableLaws.{zeros-split, rows-used, rows-padded, rows-fit, before-length, row-split}
 use Rattle.panel_rows.specs.Rows.{idWidth, countWidth, lengthAt, lengthWidth, lengthRow, fieldAt}
 use Rattle.panel_rows.specs.RowsLaws.{field-behind}
 use Rattle.local_projection_state.specs.Stores.{Stored, StoredLengths}
@@ -45,7 +45,7 @@ module _ (table : List ℕ) (l : List CollectionLength) (s : StoredLengths table
   at i = getD l i noLength
 
   pub few-rows : length l ≤ projectionEntries
-  few-rows = omega (arith, fitting (s .rows), s .size)
+  few-rows = omega (arith, rows-fit (s .rows), s .size)
 
   module _ (i : ℕ) (below : i < length l) where
     fits : FitsLength (at i)
@@ -87,21 +87,21 @@ module _ (table : List ℕ) (l : List CollectionLength) (s : StoredLengths table
       let inside : suc i * lengthWidth ≤ projectionEntries * lengthWidth = mul-le-mul-right lengthWidth below in
       let room : j + countWidth ≤ k = omega (arith, s .size, suc-mul i lengthWidth) in
       let there : i * lengthWidth + lengthAt ≡ n + j = omega arith in
-      let behind : drop n table ≡ zeros k = ap (drop n) (padded (s .rows)) ∙ drop-at (flatten (map lengthRow l)) (zeros k) n (used (s .rows)) in
+      let behind : drop n table ≡ zeros k = ap (drop n) (rows-padded (s .rows)) ∙ drop-at (flatten (map lengthRow l)) (zeros k) n (rows-used (s .rows)) in
       let row : drop (i * lengthWidth + lengthAt) table ≡ zeros (k - j) = ap (λ (a : ℕ). drop a table) there ∙ sym (drop-drop j n table) ∙ ap (drop j) behind ∙ drop-zeros j k (omega arith) in
       ap (λ (r : List ℕ). numberOf (take countWidth r)) (row ∙ zeros-split countWidth (k - j) (omega arith)) ∙ ap numberOf (take-at (zeros countWidth) (zeros (k - j - countWidth)) countWidth (length-zeros countWidth))
 
   -- ---- a collection's length, one row after the other: those that were passed are others'
 
   module _ (c i : ℕ) (same : lengthOf c (drop i l) ≡ lengthOf c l) where
-    pub none-left : length l ≤ i → lengthOf c l ≡ 0
+    pub lengths-past : length l ≤ i → lengthOf c l ≡ 0
     unfolding lengthOf lengthFound lookup
-    none-left past = sym same ∙ ap (lengthOf c) (drop-of-length-le l past)
+    lengths-past past = sym same ∙ ap (lengthOf c) (drop-of-length-le l past)
 
     module _ (below : i < projectionEntries) where
       -- a length of 0 ends the table
-      pub ended : entriesAt i table ≡ 0 → lengthOf c l ≡ 0
-      ended e = test-cases (ltb i (length l)) (λ t. absurd (omega (arith, some-entries i (ltb-true i (length l) t)))) (λ t. none-left (ltb-false i (length l) t))
+      pub lengths-ended : entriesAt i table ≡ 0 → lengthOf c l ≡ 0
+      lengths-ended e = test-cases (ltb i (length l)) (λ t. absurd (omega (arith, some-entries i (ltb-true i (length l) t)))) (λ t. lengths-past (ltb-false i (length l) t))
 
       module _ (some : entriesAt i table ≡ 0 → ⊥) where
         within : i < length l

@@ -19,17 +19,17 @@ use Rattle.panel_lengths.specs.RunsLaws.{runs-lengths}
 use Rattle.panel_lengths.specs.LengthRowsLaws.{planned-collections}
 
 module _ (count : ℕ) (to : List ℕ) where
-  pub can-write : count ≤ projectionEntries → length to ≡ lengthBytes → canWriteLengths count to ≡ true
+  pub lengths-can-write : count ≤ projectionEntries → length to ≡ lengthBytes → canWriteLengths count to ≡ true
   unfolding canWriteLengths
-  can-write few size = rw (le-leb count projectionEntries few, eq-eqb (length to) lengthBytes size)
+  lengths-can-write few size = rw (le-leb count projectionEntries few, eq-eqb (length to) lengthBytes size)
 
   pub many-rows : projectionEntries < count → canWriteLengths count to ≡ false
   unfolding canWriteLengths
   many-rows many = rw (lt-leb count projectionEntries many)
 
-  pub other-table : count ≤ projectionEntries → (length to ≡ lengthBytes → ⊥) → canWriteLengths count to ≡ false
+  pub other-lengths-table : count ≤ projectionEntries → (length to ≡ lengthBytes → ⊥) → canWriteLengths count to ≡ false
   unfolding canWriteLengths
-  other-table few other = rw (le-leb count projectionEntries few, ne-eqb (length to) lengthBytes other)
+  other-lengths-table few other = rw (le-leb count projectionEntries few, ne-eqb (length to) lengthBytes other)
 
 module _ (count : ℕ) (plan to : List ℕ) where
   pub left : canWriteLengths count to ≡ false → writtenLengths count plan to ≡ to

@@ -8,7 +8,7 @@ use lib.ListN.{length, length-map}
 use Rattle.spec_patch.specs.Patch.{unsigned}
 use Rattle.spec_projection.specs.Projection.{Entry}
 use Rattle.bytes_records.specs.Table.{HoldsRows}
-use Rattle.bytes_records.specs.TableLaws.{fitting}
+use Rattle.bytes_records.specs.TableLaws.{rows-fit}
 use Rattle.panel_rows.specs.Rows.{entryWidth, entryRow}
 
 -- an entry that stands for none
@@ -23,4 +23,4 @@ pub not-too-many : {n : ℕ} {table : List ℕ} (es : List Entry) → HoldsRows 
 not-too-many {n} {table} es t h =
     let some-width : 0 < entryWidth = omega arith in
     let past : length table < n * entryWidth = div-lt-iff-lt-mul some-width .0 h in
-    omega (arith, fitting t)
+    omega (arith, rows-fit t)

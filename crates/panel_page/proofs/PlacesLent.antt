@@ -12,7 +12,7 @@ use Rattle.bytes_records.specs.Positions.{replaceAt}
 use Rattle.bytes_records.specs.PositionsLaws.{map-replaceAt}
 use Rattle.bytes_records.specs.Table.{HoldsRows}
 use Rattle.bytes_records.specs.TableLaws.{row-width}
-use Rattle.bytes_records.proofs.Changes.{row-is, replaced}
+use Rattle.bytes_records.proofs.Changes.{row-is, replace-holds}
 use Rattle.panel_rows.specs.Rows.{filledRow, writtenRow}
 use Rattle.panel_rows.specs.RowsLaws.{written-filled}
 use Rattle.panel_page.specs.PageTable.{pageWidth}
@@ -33,7 +33,7 @@ module _ {w n : ℕ} {l : List ℕ} (m : List (List ℕ)) (t : HoldsRows w n l m
       let row = getD m i [] in
       let part = row-is m t i below in
       let width = keeps row ∙ row-width t i below in
-      replaced m t i below (f row) width s (e ∙ ap f part ∙ over (f row) _ (ap length part ∙ sym (keeps row)))
+      replace-holds m t i below (f row) width s (e ∙ ap f part ∙ over (f row) _ (ap length part ∙ sym (keeps row)))
 
 -- ---- the places of a table, changed one after the other
 
@@ -95,6 +95,6 @@ module _ {n : ℕ} {l : List ℕ} {rows : List (List ℕ)} (t : Shows n l rows) 
       let filled : s ≡ row = e ∙ written-filled head rest part (omega arith) ∙ ap (λ (k : ℕ). filledRow k head rest) long in
       record {
         places = replaceAt i row (t .places);
-        held = replaced (t .places) (t .held) i below row width s (filled ∙ over row part (long ∙ sym width));
+        held = replace-holds (t .places) (t .held) i below row width s (filled ∙ over row part (long ∙ sym width));
         stand = map-replaceAt shown i row (t .places) ∙ ap₂ (λ (x : List ℕ) (m : List (List ℕ)). replaceAt i x m) (filled-itself pageWidth head rest first) (t .stand);
       }

@@ -21,7 +21,7 @@ use Rattle.spec_page.specs.PageLaws.{page-length}
 use Rattle.bytes_records.specs.Moves.{zeros}
 use Rattle.bytes_records.specs.MovesLaws.{length-zeros}
 use Rattle.bytes_records.specs.Table.{Wide, HoldsRows}
-use Rattle.bytes_records.specs.TableLaws.{holds, used, padded, row-at}
+use Rattle.bytes_records.specs.TableLaws.{holds, rows-used, rows-padded, row-at}
 use Rattle.panel_rows.specs.Rows as rows
 use Rattle.panel_rows.specs.Rows.{markWidth, entryMarkAt, fieldAt, entryRow, filledRow}
 use Rattle.panel_rows.specs.RowsLaws.{length-padded}
@@ -52,9 +52,9 @@ number-behind : (front rest : List ℕ) (at n x : ℕ) → length front ≡ at �
 number-behind front rest at n x long small =
     rw (drop-at front (littleEndian n x ++ rest) at long, take-at (littleEndian n x) rest n (length-littleEndian n x), numberOf-littleEndian n x small)
 
-pub none-found : fieldAt 0 foundWidth (answerRow none) ≡ 0
+pub none-row : fieldAt 0 foundWidth (answerRow none) ≡ 0
 unfolding answerRow numberOf
-none-found = refl
+none-row = refl
 
 module _ (x : PageEntry) (h : FitsAnswer (some x)) where
   pub some-found : fieldAt 0 foundWidth (answerRow (some x)) ≡ 1
@@ -84,7 +84,7 @@ nothing-found c k = refl
 pub holds-all : {w n : ℕ} {l : List ℕ} {m : List (List ℕ)} → HoldsRows w n l m → length l ≡ n * w → l ≡ flatten m
 holds-all {w} {n} {l} {m} t size =
     let none-left : length l - n * w ≡ 0 = omega arith in
-    padded t ∙ ap (λ (k : ℕ). flatten m ++ zeros k) none-left ∙ append-nil (flatten m)
+    rows-padded t ∙ ap (λ (k : ℕ). flatten m ++ zeros k) none-left ∙ append-nil (flatten m)
 
 -- each key's row once all entries went by is its answer's
 pub page-bytes : (p : Projection) (c : ℕ) (keys : List ℕ) → flatten (map (answersIn c (p .entries)) keys) ≡ pageBytes p c keys
@@ -125,7 +125,7 @@ module _ (p : Projection) (v : Valid p) (c : ℕ) where
 
   pub length-page : (keys : List ℕ) → length (pageBytes p c keys) ≡ length keys * pageWidth
   unfolding pageBytes
-  length-page keys = used (rows-hold keys 0)
+  length-page keys = rows-used (rows-hold keys 0)
 
   row-is : (keys : List ℕ) (i : ℕ) → i < length keys → getD (map answerRow (pageRows p c keys)) i [] ≡ answerRow (pageEntry p c (getD keys i 0))
   unfolding pageRows

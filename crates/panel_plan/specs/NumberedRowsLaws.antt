@@ -11,7 +11,7 @@ use Rattle.spec_patch.specs.Patch.{Value}
 use Rattle.spec_patch.specs.Encode.{u32, u64}
 use Rattle.spec_projection.specs.Projection.{Binding, Entry}
 use Rattle.bytes_records.specs.Table.{HoldsRows}
-use Rattle.bytes_records.specs.TableLaws.{fitting}
+use Rattle.bytes_records.specs.TableLaws.{rows-fit}
 use Rattle.panel_rows.specs.Rows.{bindingValueAt, entryValueAt, padded, bindingRow, entryRow}
 use Rattle.panel_rows.specs.RowsLaws.{regroup}
 use Rattle.local_projection_state.specs.Stores.{Stored}
@@ -43,7 +43,7 @@ module _ {A : Type 0} (row planned : A → List ℕ) (put : A → Value → A) (
       → ((rows : List (List ℕ)) → front ≤ width → HoldsRows width n from rows → HoldsRows (front + sourceWidth) 0 to [] → n * (front + sourceWidth) ≤ length to → HoldsRows (front + sourceWidth) n exit (numberedRows front 0 rows))
       → Stored row width capacity n from l → Stored planned (front + sourceWidth) capacity 0 to [] → Stored planned (front + sourceWidth) capacity n exit (numbered put 0 l)
   stored-numbered width capacity n {from} {to} {exit} l some wide same made s none =
-      let few : n ≤ capacity = le-of-mul-le-mul-right (rw (s .size) at (fitting (s .rows))) some in
+      let few : n ≤ capacity = le-of-mul-le-mul-right (rw (s .size) at (rows-fit (s .rows))) some in
       let room : n * (front + sourceWidth) ≤ capacity * (front + sourceWidth) = mul-le-mul-right (front + sourceWidth) few in
       record {
         size = same ∙ none .size;

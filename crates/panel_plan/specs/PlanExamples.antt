@@ -48,12 +48,12 @@ plain o = stepOf 1 (withSource (new 0) o)
 
 -- ---- questions
 
-number : Value → ℕ
-number (quad q) = 0
-number (signed z) = 0
-number (text t) = 0
-number (unsigned x) = x
-number (score n) = 0
+valueNumber : Value → ℕ
+valueNumber (quad q) = 0
+valueNumber (signed z) = 0
+valueNumber (text t) = 0
+valueNumber (unsigned x) = x
+valueNumber (score n) = 0
 
 ask : (Projection → List ℕ) → Outcome → List ℕ
 ask f (done p) = f p
@@ -63,13 +63,13 @@ keys : Projection → List ℕ
 keys p = map (λ (e : Entry). e .key) (p .entries)
 
 values : Projection → List ℕ
-values p = map (λ (e : Entry). number (e .value)) (p .entries)
+values p = map (λ (e : Entry). valueNumber (e .value)) (p .entries)
 
 marks : Projection → List ℕ
 marks p = map (λ (e : Entry). e .mark) (p .entries)
 
 bindings : Projection → List ℕ
-bindings p = map (λ (b : Binding). number (b .value)) (p .bindings)
+bindings p = map (λ (b : Binding). valueNumber (b .value)) (p .bindings)
 
 -- what the plan answers after these steps, as sources
 plans : List ℕ → (Projection → List ℕ) → Projection → List ReplayStep → Bool
@@ -112,7 +112,7 @@ planExamples =
 
 -- no row fails
 pub plan-examples : failing 0 planExamples ≡ []
-unfolding planExamples failing keyed before numbers full set at plain number ask keys values marks bindings plans resolves
+unfolding planExamples failing keyed before numbers full set at plain valueNumber ask keys values marks bindings plans resolves
     lexLess upsert bindingKey availabilityKey findFirst insertBeforeFirst replaceFirst removeFirst
     isEntry isLater contains containsNeighbour insertLast insertBefore insertEntry replaceEntry removeEntry
     operationFaultNumber withBindings withAvailabilities withEntries applyBinding applyAvailability applyInsert applyUpdate applyRemove applyMove applyOperation applyStep applySteps

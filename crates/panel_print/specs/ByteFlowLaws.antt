@@ -19,10 +19,10 @@ use Rattle.panel_print.specs.ByteFlow.{beginsCharacter, columnAfter, bro
 -- ---- one byte
 
 -- a byte of a character behind its first
-abbrev Further : ℕ → Type 0
-Further b = (0x80 ≤ b) × (b < 0xc0)
+abbrev FurtherByte : ℕ → Type 0
+FurtherByte b = (0x80 ≤ b) × (b < 0xc0)
 
-further-begins : (b : ℕ) → Further b → beginsCharacter b ≡ false
+further-begins : (b : ℕ) → FurtherByte b → beginsCharacter b ≡ false
 unfolding beginsCharacter
 further-begins b h = rw (le-ltb b 0x80 (h .0), lt-leb 0xc0 b (h .1))
 
@@ -89,7 +89,7 @@ flows-begin : (column b : ℕ) (rest : List ℕ) → beginsCharacter b ≡ true 
 unfolding flowedBytes brokenByte columnAfter
 flows-begin column b rest h = test-cases (eqb column textWidth) (λ t. rw (h, t)) (λ t. rw (h, t))
 
-flows-further : (column : ℕ) (bs rest : List ℕ) → All Further bs → flowedBytes column (bs ++ rest) ≡ bs ++ flowedBytes column rest
+flows-further : (column : ℕ) (bs rest : List ℕ) → All FurtherByte bs → flowedBytes column (bs ++ rest) ≡ bs ++ flowedBytes column rest
 unfolding flowedBytes brokenByte columnAfter
 flows-further column [] rest h = refl
 flows-further column (b ∷ bs) rest h =
@@ -100,7 +100,7 @@ flows-further column (b ∷ bs) rest h =
 -- ---- one character
 
 -- of more than one byte
-flows-bytes : (column b : ℕ) (bs rest : List ℕ) → 0xc0 ≤ b → All Further bs → flowedBytes column ((b ∷ bs) ++ rest) ≡ shownFrom column (b ∷ bs) rest
+flows-bytes : (column b : ℕ) (bs rest : List ℕ) → 0xc0 ≤ b → All FurtherByte bs → flowedBytes column ((b ∷ bs) ++ rest) ≡ shownFrom column (b ∷ bs) rest
 flows-bytes column b bs rest h g =
     flows-begin column b (bs ++ rest) (first-begins b h)
     ∙ rw (high-shown b (omega arith), flows-further 1 bs rest g, flows-further (suc column) bs rest g)
@@ -130,7 +130,7 @@ flows-long column c rest h g =
     (λ t. rw (t₁, t) (flows-bytes column (0xe0 + c / 0x1000) ((0x80 + c / 0x40 % 0x40) ∷ (0x80 + c % 0x40) ∷ []) rest (omega arith) (six (c / 0x40 % 0x40) (omega arith), (six (c % 0x40) (omega arith), tt))))
     (λ t. rw (t₁, t) (flows-bytes column (0xf0 + c / 0x40000) ((0x80 + c / 0x1000 % 0x40) ∷ (0x80 + c / 0x40 % 0x40) ∷ (0x80 + c % 0x40) ∷ []) rest (omega arith) (six (c / 0x1000 % 0x40) (omega arith), (six (c / 0x40 % 0x40) (omega arith), (six (c % 0x40) (omega arith), tt)))))))
   where
-    six : (bits : ℕ) → bits < 0x40 → Further (0x80 + bits)
+    six : (bits : ℕ) → bits < 0x40 → FurtherByte (0x80 + bits)
     six bits h = (omega arith, omega arith)
 
 flows-character : (column c : ℕ) (rest : List ℕ) → c ≤ 0x10ffff → flowedBytes column (encodeScalar c ++ rest) ≡ shownFrom column (encodeScalar (printedCharacter c)) rest

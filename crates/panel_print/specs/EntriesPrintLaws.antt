@@ -10,13 +10,13 @@ use Rattle.spec_projection.specs.Lookups.{KeyedValue, keyedValue, entriesIn, en
 use Rattle.spec_panel_print.specs.Print.{entryLines, collectionLines, lineOctets, collectionPrint}
 use Rattle.panel_print.specs.EntriesPrint.{entryPrint, rowPrint}
 
-pub own-row : (c : ℕ) (e : Entry) → eqb (e .collection) c ≡ true → entryPrint (keyedValue e) ≡ rowPrint c e
+pub own-print : (c : ℕ) (e : Entry) → eqb (e .collection) c ≡ true → entryPrint (keyedValue e) ≡ rowPrint c e
 unfolding rowPrint entriesIn flatMap
-own-row c e t = rw t (sym (append-nil (entryPrint (keyedValue e))))
+own-print c e t = rw t (sym (append-nil (entryPrint (keyedValue e))))
 
-pub other-row : (c : ℕ) (e : Entry) → eqb (e .collection) c ≡ false → [] ≡ rowPrint c e
+pub other-print : (c : ℕ) (e : Entry) → eqb (e .collection) c ≡ false → [] ≡ rowPrint c e
 unfolding rowPrint entriesIn flatMap
-other-row c e t = rw t
+other-print c e t = rw t
 
 lines-joined : (es : List KeyedValue) → flatMap lineOctets (flatMap entryLines es) ≡ flatMap entryPrint es
 unfolding flatMap entryPrint

@@ -104,19 +104,19 @@ pub record Running (ed : Edition) (p : Projection) (set : List ℕ) (c : SetCurs
   pub same : applySteps model (map (stepOf (c .«patch_id»)) os ++ replaySteps ps) ≡ whole
 
 -- what an operation's answer makes of a run: it goes on, or its outcome is the operation's refusal
-abbrev After : Edition → Projection → List ℕ → SetCursor → (b a e : List ℕ) → Outcome → OperationChange → Type 0
-After ed p set d b a e whole (operation.Applied m) = Running ed p set d m b a e whole
-After ed p set d b a e whole (operation.Refused error) = whole ≡ stopped (applicationFaultOf error)
+abbrev AfterTurn : Edition → Projection → List ℕ → SetCursor → (b a e : List ℕ) → Outcome → OperationChange → Type 0
+AfterTurn ed p set d b a e whole (operation.Applied m) = Running ed p set d m b a e whole
+AfterTurn ed p set d b a e whole (operation.Refused error) = whole ≡ stopped (applicationFaultOf error)
 
 pub record Turned (ed : Edition) (p : Projection) (set : List ℕ) (d : SetCursor) (b a e : List ℕ) (whole : Outcome) (r : OperationChange) : Type 0 where
-  after : After ed p set d b a e whole r
+  after : AfterTurn ed p set d b a e whole r
 
 module _ {ed : Edition} {p : Projection} {set : List ℕ} {d : SetCursor} {b a e : List ℕ} {whole : Outcome} {r : OperationChange} (t : Turned ed p set d b a e whole r) where
   pub turned-on : {m : ProjectionCounts} → r ≡ operation.Applied m → Running ed p set d m b a e whole
-  turned-on is = subst (After ed p set d b a e whole) is (t .after)
+  turned-on is = subst (AfterTurn ed p set d b a e whole) is (t .after)
 
   pub turned-stop : (Next : ProjectionCounts → Projection → Type 0) {error : LocalProjectionApplicationError} → r ≡ operation.Refused error → RunBecame Next (Refused error) whole
-  turned-stop Next {error} is = subst (RunBecame Next (Refused error)) (sym (subst (After ed p set d b a e whole) is (t .after))) refl
+  turned-stop Next {error} is = subst (RunBecame Next (Refused error)) (sym (subst (AfterTurn ed p set d b a e whole) is (t .after))) refl
 
 module _ {ed : Edition} {p : Projection} {set : List ℕ} where
   pub run-start : {c : SetCursor} {n : ProjectionCounts} {b a e : List ℕ} (ps : List Patch) → Valid p → StoredPlan n b a e (planOf p) → AtSteps ed set c [] ps → Running ed p set c n b a e (applySteps p (replaySteps ps))
@@ -215,7 +215,7 @@ module _ {ed : Edition} {p : Projection} {set : List ℕ} where
       pub run-turn : (b′ a′ e′ : List ℕ) (r : OperationChange) → OperationBecame (λ m q. StoredPlan m b′ a′ e′ q) r (applyOperation (run .planned .plan) (c .«patch_id») (plannedOperation source x)) → Turned ed p set d b′ a′ e′ whole r
       run-turn b′ a′ e′ r became = record { after = go r (applyOperation (run .planned .plan) (c .«patch_id») (plannedOperation source x)) refl became }
         where
-          go : (r : OperationChange) (y : Outcome) → applyOperation (run .planned .plan) (c .«patch_id») (plannedOperation source x) ≡ y → OperationBecame (λ m q. StoredPlan m b′ a′ e′ q) r y → After ed p set d b′ a′ e′ whole r
+          go : (r : OperationChange) (y : Outcome) → applyOperation (run .planned .plan) (c .«patch_id») (plannedOperation source x) ≡ y → OperationBecame (λ m q. StoredPlan m b′ a′ e′ q) r y → AfterTurn ed p set d b′ a′ e′ whole r
           go (operation.Applied m) (done q) e h = record {
             os = v .rest;
             ps = run .ps;

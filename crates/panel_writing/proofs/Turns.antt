@@ -28,9 +28,9 @@ module _ (w : ℕ) (to : List ℕ) (write : ℕ → List ℕ → List ℕ) where
     pub long : length (front i) ≡ i * w
     pub is : table ≡ front i ++ drop (i * w) to
 
-  pub none-written : RowsWritten 0 to
+  pub no-rows-written : RowsWritten 0 to
   unfolding rowsTo flatten
-  none-written = record { long = sym (zero-mul w); is = rw zero-mul }
+  no-rows-written = record { long = sym (zero-mul w); is = rw zero-mul }
 
   next-row : (i : ℕ) → front (i + 1) ≡ front i ++ row i
   unfolding rowsTo flatten

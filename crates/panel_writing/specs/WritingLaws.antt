@@ -28,7 +28,7 @@ use Rattle.bytes_records.specs.TableLaws.{row-at, length-flatten, zeros-split}
 use Rattle.panel_rows.specs.Rows.{valueWidth, padded, fieldAt, writtenRow}
 use Rattle.panel_rows.specs.RowsLaws.{length-padded, written-encoded}
 use Rattle.local_projection_state.specs.Stores.{Stored}
-use Rattle.local_projection_state.specs.StoresLaws.{stored}
+use Rattle.local_projection_state.specs.StoresLaws.{table-stored}
 use Rattle.panel_plan.specs.Plan.{old, new, valueFrom}
 use Rattle.panel_plan.specs.PlanLaws.{old-value, new-value}
 use Rattle.panel_plan.specs.PlanRows.{sourceNumber, sourceWidth}
@@ -263,7 +263,7 @@ module _ {A : Type 0} (ids : A → List ℕ) (value : A → Value) (planRow row 
       let inside : places ≤ length to = omega (arith, mul-le-mul-right {m = max count used} {n = capacity} w (max-le (omega (arith, length-map m resolve)) fewer)) in
       let part : length (take places to) ≡ places = length-take-le places to inside in
       let are = rows-resolved ids value planRow row key long plan-is row-is ed set l storable few s resolve same-ids same-value m t numbers (take places to) (omega arith) in
-      let whole = stored row Fits w wide tells capacity (map resolve m) fits (omega (arith, length-map m resolve)) in
+      let whole = table-stored row Fits w wide tells capacity (map resolve m) fits (omega (arith, length-map m resolve)) in
       let flat : length (flatten (map row (map resolve m))) ≡ count * w = length-flatten w (map row (map resolve m)) (whole .rows .wide) ∙ ap (λ (k : ℕ). k * w) (length-map (map resolve m) row ∙ counted) in
       let bytes = ap (λ (r : List (List ℕ)). tableBytes places r ++ drop places to) are ∙ zeros-behind (map row (map resolve m)) places to (omega arith) inside (clear-behind-more used count w to inside clear) in
       subst (λ (x : List ℕ). Stored row w capacity count x (map resolve m)) (sym bytes)

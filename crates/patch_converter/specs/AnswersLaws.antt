@@ -34,16 +34,16 @@ module _ (from : Edition) (set : List ℕ) where
     pub list : List Patch
     pub reads : readSet from set ≡ patches list
 
-  pub readable : (m n : ℕ) → setAnswer (readSet from set) ≡ set-read.Read m n → Readable
-  readable m n e = go (readSet from set) refl e
+  pub set-readable : (m n : ℕ) → setAnswer (readSet from set) ≡ set-read.Read m n → Readable
+  set-readable m n e = go (readSet from set) refl e
     where
       go : (r : SetReading) → readSet from set ≡ r → setAnswer r ≡ set-read.Read m n → Readable
       go (patches ps) r e = record { list = ps; reads = r }
       go (fault f) r e = absurd (let z : _≡_ {A = ℕ} 0 1 = cc in omega arith)
 
   -- one that is not
-  pub not-read : (f : ProjectionPatchReadFault) → setAnswer (readSet from set) ≡ set-read.Refused f → readSet from set ≡ fault (faultOf f)
-  not-read f e = go (readSet from set) refl e
+  pub set-not-read : (f : ProjectionPatchReadFault) → setAnswer (readSet from set) ≡ set-read.Refused f → readSet from set ≡ fault (faultOf f)
+  set-not-read f e = go (readSet from set) refl e
     where
       told : (g : ProjectionPatchReadFault) → set-read.Refused g ≡ set-read.Refused f → faultOf g ≡ faultOf f
       told g e = let is : g ≡ f = cc in ap faultOf is
@@ -86,13 +86,13 @@ letter-length set d h = length-append (take 30 set) (d ∷ drop 31 set) ∙ omeg
 
 module _ (out : List ℕ) where
   -- what both clauses of the contract say
-  abbrev pub Left : model.Converted → ConversionAnswer → List ℕ → Type 0
-  Left w r after = (r ≡ conversionAnswer w) × (after ≡ conversionOutput out w)
+  abbrev pub ConversionLeft : model.Converted → ConversionAnswer → List ℕ → Type 0
+  ConversionLeft w r after = (r ≡ conversionAnswer w) × (after ≡ conversionOutput out w)
 
-  pub left-refused : {w : model.Converted} (n : model.ConversionRefusal) → w ≡ model.refused n → Left w (Refused (conversionRefusalTo n)) out
-  left-refused n e = (sym (ap conversionAnswer e), sym (ap (conversionOutput out) e))
+  pub left-unconverted : {w : model.Converted} (n : model.ConversionRefusal) → w ≡ model.refused n → ConversionLeft w (Refused (conversionRefusalTo n)) out
+  left-unconverted n e = (sym (ap conversionAnswer e), sym (ap (conversionOutput out) e))
 
-  pub left-converted : {w : model.Converted} (bs : List ℕ) → w ≡ model.converted bs → (n : ℕ) → length bs ≡ n → n ≤ length out → (after : List ℕ) → after ≡ overwrite out 0 bs → Left w (Converted n) after
+  pub left-converted : {w : model.Converted} (bs : List ℕ) → w ≡ model.converted bs → (n : ℕ) → length bs ≡ n → n ≤ length out → (after : List ℕ) → after ≡ overwrite out 0 bs → ConversionLeft w (Converted n) after
   left-converted bs e n long room after is =
       let none : 0 + n ≡ n = omega arith in (
         ap Converted (sym long) ∙ sym (ap conversionAnswer e),
@@ -100,7 +100,7 @@ module _ (out : List ℕ) where
       )
 
 -- what was written is read in the other edition as the set is read in its own
-pub converted-read : (from : Edition) (set : List ℕ) → Bytes set → (out : List ℕ) (r : ConversionAnswer) (after : List ℕ) → Left out (convert from set (length out)) r after
+pub converted-read : (from : Edition) (set : List ℕ) → Bytes set → (out : List ℕ) (r : ConversionAnswer) (after : List ℕ) → ConversionLeft out (convert from set (length out)) r after
     → (n : ℕ) → r ≡ Converted n → readSet (otherEdition from) (take n after) ≡ readSet from set
 unfolding convert
 converted-read from set all-bytes out r after h n e = ap (λ (l : List ℕ). readSet (otherEdition from) (take n l)) (h .1) ∙ go (convert from set (length out)) refl (sym (h .0) ∙ e)

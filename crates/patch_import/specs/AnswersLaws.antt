@@ -29,13 +29,13 @@ same-refusal OutputTooShort = refl
 
 module _ (out : List ℕ) where
   -- what both clauses of the contract say
-  abbrev pub Left : model.Imported → ImportAnswer → List ℕ → Type 0
-  Left w r after = (r ≡ importAnswer w) × (after ≡ importOutput out w)
+  abbrev pub ImportLeft : model.Imported → ImportAnswer → List ℕ → Type 0
+  ImportLeft w r after = (r ≡ importAnswer w) × (after ≡ importOutput out w)
 
-  pub left-refused : {w : model.Imported} (r : ImportRefusal) → w ≡ model.refused (importRefusalOf r) → Left w (Refused r) out
-  left-refused r e = (ap Refused (same-refusal r) ∙ sym (ap importAnswer e), sym (ap (importOutput out) e))
+  pub left-unimported : {w : model.Imported} (r : ImportRefusal) → w ≡ model.refused (importRefusalOf r) → ImportLeft w (Refused r) out
+  left-unimported r e = (ap Refused (same-refusal r) ∙ sym (ap importAnswer e), sym (ap (importOutput out) e))
 
-  pub left-imported : {w : model.Imported} (bs : List ℕ) → w ≡ model.imported bs → (n : ℕ) → n ≡ length bs → n ≤ length out → (after : List ℕ) → after ≡ overwrite out 0 bs → Left w (Imported n) after
+  pub left-imported : {w : model.Imported} (bs : List ℕ) → w ≡ model.imported bs → (n : ℕ) → n ≡ length bs → n ≤ length out → (after : List ℕ) → after ≡ overwrite out 0 bs → ImportLeft w (Imported n) after
   left-imported bs e n long room after is =
       let none : 0 + length bs ≡ length bs = omega arith in (
         ap Imported long ∙ sym (ap importAnswer e),
@@ -58,7 +58,7 @@ abbrev pub ReadsBack : Edition → ℕ → Envelope → List ℕ → ImportAnswe
 ReadsBack ed collection e list r after = (n : ℕ) → r ≡ Imported n → (ts : List Term) × (map readTerm (lines list) ≡ map some ts) × (readSet ed (take n after) ≡ patches (patchOf collection e ts ∷ []))
 
 pub imported-read : (ed : Edition) (collection : ℕ) (e : Envelope) → U64 collection → InRangeEnvelope e → (list out : List ℕ) (r : ImportAnswer) (after : List ℕ)
-    → Left out (importTerms ed collection e list (length out)) r after → ReadsBack ed collection e list r after
+    → ImportLeft out (importTerms ed collection e list (length out)) r after → ReadsBack ed collection e list r after
 imported-read ed collection e c-fits e-fits list out r after h n is = go (importTerms ed collection e list (length out)) refl (sym (h .0) ∙ is) (h .1)
   where
     go : (w : model.Imported) → importTerms ed collection e list (length out) ≡ w → importAnswer w ≡ Imported n → after ≡ importOutput out w

@@ -46,9 +46,9 @@ module _ (ed : Edition) (collection : ℕ) (patch : ProjectionPatch) (ts : List 
   many = length-map ts (insertOf collection) ∙ sym counted
 
   -- the heading with the patch count, the head, and the operations
-  pub encode-parts : bytes ≡ ((heading ed ++ u32 1) ++ (encodeEnvelope e ++ u32 (patch .«operation_count»))) ++ insertBytes collection ts
+  pub import-parts : bytes ≡ ((heading ed ++ u32 1) ++ (encodeEnvelope e ++ u32 (patch .«operation_count»))) ++ insertBytes collection ts
   unfolding encode encodeCounted encodePatch patchOf insertBytes flatMap
-  encode-parts =
+  import-parts =
       ap (λ (n : ℕ). heading ed ++ (u32 1 ++ ((encodeEnvelope e ++ (u32 n ++ insertBytes collection ts)) ++ []))) many
       ∙ regrouped (heading ed) (u32 1) (encodeEnvelope e) (u32 (patch .«operation_count»)) (insertBytes collection ts)
 
@@ -56,13 +56,13 @@ module _ (ed : Edition) (collection : ℕ) (patch : ProjectionPatch) (ts : List 
   set-size =
       let front = heading ed ++ u32 1 in
       let head = encodeEnvelope e ++ u32 (patch .«operation_count») in
-      ap length encode-parts
+      ap length import-parts
       ∙ omega (arith, length-append (front ++ head) (insertBytes collection ts), length-append front head, length-heading ed 1, length-head patch)
 
   -- one patch has no neighbour
-  pub set-found : isFound (findings (setOf collection e ts) .found) ≡ (headFound e (patch .«operation_count») || foundFrom [] (map (insertOf collection) ts))
+  pub import-found : isFound (findings (setOf collection e ts) .found) ≡ (headFound e (patch .«operation_count») || foundFrom [] (map (insertOf collection) ts))
   unfolding patchesFound patchFound afterFound previousFound idSeen patchOf
-  set-found =
+  import-found =
       sym (quick-found (setOf collection e ts))
       ∙ or-false (patchFound (patchOf collection e ts))
       ∙ ap (λ (n : ℕ). headFound e n || foundFrom [] (map (insertOf collection) ts)) many
@@ -75,7 +75,7 @@ module _ (ed : Edition) (collection : ℕ) (patch : ProjectionPatch) (ts : List 
 
     clean : isEmpty (findings (setOf collection e ts) .found) ≡ not found
     unfolding isFound
-    clean = twice (isEmpty (findings (setOf collection e ts) .found)) ∙ ap not (set-found ∙ sym told)
+    clean = twice (isEmpty (findings (setOf collection e ts) .found)) ∙ ap not (import-found ∙ sym told)
       where
         twice : (b : Bool) → b ≡ not (not b)
         twice true = refl
@@ -100,8 +100,8 @@ module _ (ed : Edition) (collection : ℕ) (patch : ProjectionPatch) (ts : List 
     pub judged-refused : (r : ImportRefusal) → judgedPatch size found room ≡ Refused r → importPatch ed (patchOf collection e ts) room ≡ model.refused (importRefusalOf r)
     judged-refused r h = judged ∙ ap gives h
 
-    pub judged-fits : (n : ℕ) → judgedPatch size found room ≡ Fits n → importPatch ed (patchOf collection e ts) room ≡ model.imported bytes
-    judged-fits n h = judged ∙ ap gives h
+    pub judged-imports : (n : ℕ) → judgedPatch size found room ≡ Fits n → importPatch ed (patchOf collection e ts) room ≡ model.imported bytes
+    judged-imports n h = judged ∙ ap gives h
 
     pub fits-told : (n : ℕ) → judgedPatch size found room ≡ Fits n → (n ≡ length bytes) × (n ≤ room)
     unfolding judgedPatch

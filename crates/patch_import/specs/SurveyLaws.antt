@@ -82,8 +82,8 @@ module _ (collection : ℕ) (list : List ℕ) (at k start len next : ℕ) (t : T
   target-is = ap mutationTarget (inserts-term collection list k start len)
 
   -- the next line starts behind it
-  pub goes-on : at < next
-  goes-on = omega (arith, t .ends)
+  pub next-behind : at < next
+  next-behind = omega (arith, t .ends)
 
   module _ (n bytes : ℕ) (repeated : Bool) (targets : List ℕ) (more : at < length list) (small : n < patchOperations) where
     pub survey-turn : (size : ℕ) → size ≡ termBytes len → (found : Bool) → found ≡ (repeated || targetSeen (mutationTarget (insertOf collection term)) targets) → (ts : List ℕ) → ts ≡ targets ++ numbersOf (mutationTarget (insertOf collection term))
@@ -112,8 +112,8 @@ module _ (collection : ℕ) (list : List ℕ) (at n bytes : ℕ) (repeated : Boo
 -- ---- the survey taken apart
 
 module _ (collection : ℕ) (x : Terms) where
-  pub survey-refused : (r : ImportRefusal) → surveyOf collection x ≡ Refused r → x ≡ faulty (importRefusalOf r)
-  survey-refused r e = go x refl e
+  pub survey-faulty : (r : ImportRefusal) → surveyOf collection x ≡ Refused r → x ≡ faulty (importRefusalOf r)
+  survey-faulty r e = go x refl e
     where
       back : (m : model.ImportRefusal) → importRefusalTo m ≡ r → m ≡ importRefusalOf r
       back m e = back-of m ∙ ap importRefusalOf e
@@ -134,8 +134,8 @@ module _ (collection : ℕ) (x : Terms) where
     pub sized : bytes ≡ length (insertBytes collection (heldIn x))
     pub told : repeated ≡ foundFrom [] (map (insertOf collection) (heldIn x))
 
-  pub surveyed : (count bytes : ℕ) (repeated : Bool) → surveyOf collection x ≡ Within count bytes repeated → Surveyed count bytes repeated
-  surveyed count bytes repeated e = go x refl e
+  pub survey-held : (count bytes : ℕ) (repeated : Bool) → surveyOf collection x ≡ Within count bytes repeated → Surveyed count bytes repeated
+  survey-held count bytes repeated e = go x refl e
     where
       go : (y : Terms) → x ≡ y → surveyOf collection y ≡ Within count bytes repeated → Surveyed count bytes repeated
       go (terms ts) is e =

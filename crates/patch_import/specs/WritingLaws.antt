@@ -24,11 +24,11 @@ use Rattle.patch_import.specs.Survey.{termBytes, insertBytes, heldOf, Wr
 use Rattle.patch_import.specs.SurveyLaws.{term-size}
 
 -- the lines from a position on, behind some others, hold these terms
-pub record Left (list : List ℕ) (at : ℕ) (rest : List Term) : Type 0 where
+pub record TermsLeft (list : List ℕ) (at : ℕ) (rest : List Term) : Type 0 where
   pub done : ℕ
   pub reads : readTerms done (lines (drop at list)) ≡ terms rest
 
-pub left-start : (collection : ℕ) (list : List ℕ) (from room : ℕ) → Writable collection list from room → Left list 0 (heldOf list)
+pub left-start : (collection : ℕ) (list : List ℕ) (from room : ℕ) → Writable collection list from room → TermsLeft list 0 (heldOf list)
 left-start collection list from room w = record { done = 0; reads = w .held }
 
 pub no-bytes : (collection : ℕ) → insertBytes collection [] ≡ []
@@ -51,7 +51,7 @@ three-written out a b x n long-a long-b room =
     ∙ ap (λ (k : ℕ). overwrite (overwrite out 0 (a ++ b)) k x) from
     ∙ overwrite-append out 0 (a ++ b) x (35 + n) both (omega arith)
 
-module _ {list : List ℕ} {at : ℕ} {rest : List Term} (left : Left list at rest) where
+module _ {list : List ℕ} {at : ℕ} {rest : List Term} (left : TermsLeft list at rest) where
   -- none is of another form or over its limits
   pub left-other : {C : Type 0} → at < length list → lineAnswer at (drop at list) ≡ line-read.OtherForm → C
   left-other more e = never otherForm (left .reads) (reads-other list at (left .done) more e)
@@ -80,11 +80,11 @@ module _ {list : List ℕ} {at : ℕ} {rest : List Term} (left : Left list at re
     pub record Later : Type 0 where
       pub after : List Term
       pub parted : rest ≡ term ∷ after
-      pub onward : Left list next after
+      pub onward : TermsLeft list next after
 
-    pub later : Later
+    pub later-terms : Later
     unfolding also
-    later =
+    later-terms =
         test-cases (ltb (left .done) patchOperations)
         (λ small. go (readTerms (suc (left .done)) (lines (drop next list))) refl (sym (reads-term list at (left .done) more k start len next t (ltb-true (left .done) patchOperations small)) ∙ left .reads))
         (λ full. never overCapacity (left .reads) (reads-full list at (left .done) more k start len next t (ltb-false (left .done) patchOperations full)))
@@ -93,9 +93,9 @@ module _ {list : List ℕ} {at : ℕ} {rest : List Term} (left : Left list at re
         go (terms us) r e = record { after = us; parted = sym (terms-inj (term ∷ us) rest e); onward = record { done = suc (left .done); reads = r } }
         go (faulty f) r e = absurd (let z : _≡_ {A = ℕ} 0 1 = cc in omega arith)
 
-    pub later-bytes : (collection : ℕ) → Next (insertBytes collection rest) (encodeOperation (insertOf collection term)) (insertBytes collection (later .after)) (termBytes len)
+    pub later-bytes : (collection : ℕ) → Next (insertBytes collection rest) (encodeOperation (insertOf collection term)) (insertBytes collection (later-terms .after)) (termBytes len)
     unfolding insertBytes flatMap
     later-bytes collection = record {
-      parted = ap (insertBytes collection) (later .parted);
+      parted = ap (insertBytes collection) (later-terms .parted);
       long = term-size collection list at k start len next t;
     }

@@ -144,13 +144,13 @@ module _ {l : Locator} (steady : Steady l) (part : List ℕ) (at : ℕ) (r : Loc
       }
 
   -- the answer goes on at the next position
-  pub goes-on : (m : Locator) (next : ℕ) → r ≡ located.Past next → locatedAnswer (length part) (m (drop next part)) ≡ locatedAnswer (length part) ((l ⨟ m) (drop at part))
-  goes-on m next q = sym (ap (λ (x : locating.Located). locatedAnswer (length part) (goOn x m)) (went next q .is))
+  pub locates-on : (m : Locator) (next : ℕ) → r ≡ located.Past next → locatedAnswer (length part) (m (drop next part)) ≡ locatedAnswer (length part) ((l ⨟ m) (drop at part))
+  locates-on m next q = sym (ap (λ (x : locating.Located). locatedAnswer (length part) (goOn x m)) (went next q .is))
 
 -- a stop ends it
-pub stops-there : (l m : Locator) (part : List ℕ) (at : ℕ) (r : Located) → r ≡ locatedAnswer (length part) (l (drop at part))
+pub locates-stop : (l m : Locator) (part : List ℕ) (at : ℕ) (r : Located) → r ≡ locatedAnswer (length part) (l (drop at part))
     → (rule : ReadingRule) (inside : Inside) (p : ℕ) → r ≡ located.Stop rule inside p → located.Stop rule inside p ≡ locatedAnswer (length part) ((l ⨟ m) (drop at part))
-stops-there l m part at r ensured rule inside p q = go (l (drop at part)) (sym ensured ∙ q)
+locates-stop l m part at r ensured rule inside p q = go (l (drop at part)) (sym ensured ∙ q)
   where
     go : (x : locating.Located) → locatedAnswer (length part) x ≡ located.Stop rule inside p → located.Stop rule inside p ≡ locatedAnswer (length part) (goOn x m)
     go (locating.past rest) e = absurd (let z : _≡_ {A = ℕ} 0 1 = cc in omega arith)

@@ -77,9 +77,9 @@ unfolding operationIn
 steady-operation-in ed i j = steady-within _ (steady-operation ed)
 
 -- a patch is its fields, in their place
-pub patch-is : (ed : Edition) (i : ℕ) (bs : List ℕ) → placedStop (model.inPatch i) (patchFields ed i bs) ≡ locatePatch ed i bs
+pub patch-located : (ed : Edition) (i : ℕ) (bs : List ℕ) → placedStop (model.inPatch i) (patchFields ed i bs) ≡ locatePatch ed i bs
 unfolding locatePatch patchFields operationIn
-patch-is ed i bs = refl
+patch-located ed i bs = refl
 
 -- ---- the letters of the heading
 
@@ -119,9 +119,9 @@ letters-end ls i h bs = rw (drop-of-length-le ls h)
 
 -- ---- the end
 
-pub end-is : (ed : Edition) (set : List ℕ) → length set ≤ setBytes → endTo (length set) (locatedAnswer (length set) (locatePatches ed set)) ≡ locatedSet (locate ed set)
+pub set-end-is : (ed : Edition) (set : List ℕ) → length set ≤ setBytes → endTo (length set) (locatedAnswer (length set) (locatePatches ed set)) ≡ locatedSet (locate ed set)
 unfolding locate stopOf atEnd
-end-is ed set h = rw (le-leb (length set) setBytes h) (by-way (locatePatches ed set) refl)
+set-end-is ed set h = rw (le-leb (length set) setBytes h) (by-way (locatePatches ed set) refl)
   where
     by-way : (x : locating.Located) → locatePatches ed set ≡ x → endTo (length set) (locatedAnswer (length set) x) ≡ locatedSet (fromStart set (atEnd x))
     by-way (locating.past []) is =

@@ -48,9 +48,9 @@ module _ (part : List ℕ) (at n : ℕ) (room : at + 4 ≤ length part) where
       unfolding textAfter
       text-not-utf8 a = rw (there, within, a) (stop-here part (at + 4) rules.NotUtf8 room)
 
-      pub text-many : allowed true textBytesAt ≡ true → fewCharacters true textBytesAt ≡ false → located.Stop rules.CharacterCount insides.Outside (at + 4) ≡ locatedAnswer (length part) (textAfter (drop at part) n (drop (at + 4) part))
+      pub text-too-many : allowed true textBytesAt ≡ true → fewCharacters true textBytesAt ≡ false → located.Stop rules.CharacterCount insides.Outside (at + 4) ≡ locatedAnswer (length part) (textAfter (drop at part) n (drop (at + 4) part))
       unfolding textAfter
-      text-many a b = rw (there, within, a, b) (stop-here part (at + 4) rules.CharacterCount room)
+      text-too-many a b = rw (there, within, a, b) (stop-here part (at + 4) rules.CharacterCount room)
 
       pub text-passed : allowed true textBytesAt ≡ true → fewCharacters true textBytesAt ≡ true → located.Past (at + 4 + n) ≡ locatedAnswer (length part) (textAfter (drop at part) n (drop (at + 4) part))
       unfolding textAfter

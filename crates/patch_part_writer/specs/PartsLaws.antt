@@ -27,22 +27,22 @@ same-refusal Malformed = refl
 same-refusal OutputTooShort = refl
 
 module _ (out : List ℕ) (at : ℕ) where
-  abbrev pub Answers : model.Written → Written → List ℕ → Type 0
-  Answers w r after = (r ≡ writtenAt out at w) × (after ≡ outputAt out at w)
+  abbrev pub PartAnswered : model.Written → Written → List ℕ → Type 0
+  PartAnswered w r after = (r ≡ writtenAt out at w) × (after ≡ outputAt out at w)
 
-  pub answers-refused : {w : model.Written} {n : model.WriteRefusal} → w ≡ model.refused n → Answers w (Refused (refusalTo n)) out
+  pub answers-refused : {w : model.Written} {n : model.WriteRefusal} → w ≡ model.refused n → PartAnswered w (Refused (refusalTo n)) out
   answers-refused e = (sym (ap (writtenAt out at) e), sym (ap (outputAt out at) e))
 
-  pub answers-refusal : {w : model.Written} (r : WriteRefusal) → w ≡ model.refused (writeRefusalOf r) → Answers w (Refused r) out
+  pub answers-refusal : {w : model.Written} (r : WriteRefusal) → w ≡ model.refused (writeRefusalOf r) → PartAnswered w (Refused r) out
   answers-refusal r e = (ap Refused (same-refusal r) ∙ answers-refused e .0, answers-refused e .1)
 
   module _ {w : model.Written} {bs : List ℕ} (e : w ≡ model.wrote bs) (n : ℕ) (long : length bs ≡ n) where
-    pub answers-short : leb (at + n) (length out) ≡ false → Answers w (Refused OutputTooShort) out
+    pub answers-short : leb (at + n) (length out) ≡ false → PartAnswered w (Refused OutputTooShort) out
     unfolding hasRoom
     answers-short h =
         (sym (ap (writtenAt out at) e ∙ rw (long, h)), sym (ap (outputAt out at) e ∙ overwrite-refused out at bs n long h))
 
-    pub answers-wrote : leb (at + n) (length out) ≡ true → (after : List ℕ) → after ≡ overwrite out at bs → Answers w (Wrote (at + n)) after
+    pub answers-wrote : leb (at + n) (length out) ≡ true → (after : List ℕ) → after ≡ overwrite out at bs → PartAnswered w (Wrote (at + n)) after
     unfolding hasRoom
     answers-wrote h after is = (sym (ap (writtenAt out at) e ∙ rw (long, h)), is ∙ sym (ap (outputAt out at) e))
 

@@ -31,12 +31,12 @@ use Rattle.patch_sets.proofs.PatchAnswers.{heading-got, head-got, no-he
 -- ---- the heading
 
 -- a heading was read: so many patches, from a position on
-pub record HeadingAt (ed : Edition) (set : List ℕ) (count at : ℕ) : Type 0 where
+pub record HeadingReadAt (ed : Edition) (set : List ℕ) (count at : ℕ) : Type 0 where
   pub got : Got (readHeading ed) (anywhere (λ n. n)) set 0 count at
   pub few : count ≤ setPatches
   pub within : at ≤ length set
 
-pub heading-at : (ed : Edition) (set : List ℕ) → Bytes set → {r : CountRead} → r ≡ countAnswer (length set) (readHeading ed set) → {count at : ℕ} → r ≡ count-read.Read count at → HeadingAt ed set count at
+pub heading-at : (ed : Edition) (set : List ℕ) → Bytes set → {r : CountRead} → r ≡ countAnswer (length set) (readHeading ed set) → {count at : ℕ} → r ≡ count-read.Read count at → HeadingReadAt ed set count at
 heading-at ed set bytes {r} ensured {count} {at} told =
     let g = heading-got set 0 ed r ensured bytes count at told in
     record {
@@ -49,7 +49,7 @@ module _ (set : List ℕ) (at : ℕ) where
   -- ---- a patch's head
 
   -- a head was read from a position on
-  pub record HeadAt (head : ProjectionPatch) (taken : ℕ) : Type 0 where
+  pub record HeadReadAt (head : ProjectionPatch) (taken : ℕ) : Type 0 where
     pub got : Got readHead (anywhere headTo) (drop at set) 0 head taken
     pub counts : got .a .1 ≡ head .«operation_count»
     pub few : head .«operation_count» ≤ patchOperations
@@ -60,7 +60,7 @@ module _ (set : List ℕ) (at : ℕ) where
     head-answer : r ≡ headAnswer (length (drop at set)) (readHead (drop at set))
     head-answer = ensured ∙ ap (λ (l : List ℕ). headAnswer (length l) (readHead l)) (from set at)
 
-    pub head-at : Bytes set → at ≤ length set → {head : ProjectionPatch} {taken : ℕ} → r ≡ head-read.Read head taken → HeadAt head taken
+    pub head-at : Bytes set → at ≤ length set → {head : ProjectionPatch} {taken : ℕ} → r ≡ head-read.Read head taken → HeadReadAt head taken
     head-at bytes here {head} {taken} told =
         let rest = bytes-drop at set bytes in
         let g = head-got (drop at set) 0 r head-answer rest head taken told in
@@ -79,7 +79,7 @@ module _ (set : List ℕ) (at : ℕ) where
 
 module _ (ed : Edition) (set : List ℕ) (at : ℕ) where
   -- an operation was read from a position on
-  pub record OperationAt (x : ProjectionPatchOperation) (taken : ℕ) : Type 0 where
+  pub record OperationReadAt (x : ProjectionPatchOperation) (taken : ℕ) : Type 0 where
     pub got : Got (readOperation ed) operationTo (drop at set) 0 x taken
     pub within : at + taken ≤ length set
 
@@ -88,7 +88,7 @@ module _ (ed : Edition) (set : List ℕ) (at : ℕ) where
     operation-answer : r ≡ operationAnswer (length (drop at set)) (readOperation ed (drop at set))
     operation-answer = ensured ∙ ap (λ (l : List ℕ). operationAnswer (length l) (readOperation ed l)) (from set at)
 
-    pub operation-at : Bytes set → at ≤ length set → {x : ProjectionPatchOperation} {taken : ℕ} → r ≡ operation-read.Read x taken → OperationAt x taken
+    pub operation-at : Bytes set → at ≤ length set → {x : ProjectionPatchOperation} {taken : ℕ} → r ≡ operation-read.Read x taken → OperationReadAt x taken
     operation-at bytes here {x} {taken} told =
         let g = operation-got (drop at set) 0 true ed r operation-answer (bytes-drop at set bytes) x taken told in
         record { got = g; within = omega (arith, length-drop at set, g .there) }

@@ -20,7 +20,7 @@ use Rattle.projection_patch.specs.ReadAnswers.{anywhere}
 use Rattle.projection_patch.specs.declared.patch.ProjectionPatch.{ProjectionPatch}
 use Rattle.projection_patch.specs.declared.read_values.ProjectionPatchReadFault.{ProjectionPatchReadFault}
 use Rattle.projection_patch.proofs.Answers.{Got, NotGot}
-use Rattle.patch_sets.proofs.ReadAt.{HeadAt}
+use Rattle.patch_sets.proofs.ReadAt.{HeadReadAt}
 
 -- ---- a patch
 
@@ -30,7 +30,7 @@ module _ (ed : Edition) (set : List ℕ) (at : ℕ) where
   run-length n h os rest e = many-codec (operation-codec ed) n .only (bytes-drop at set h) os rest e .0 .1
 
   -- behind its head, its operations decide
-  pub patch-read : {head : ProjectionPatch} {taken : ℕ} (front : HeadAt set at head taken) (r : Result (List Operation)) → many (head .«operation_count») (readOperation ed) (drop (at + taken) set) ≡ r → readPatch ed (drop at set) ≡ onward r (λ os rest. read (toPatch (front .got .a .0, os)) rest)
+  pub patch-read : {head : ProjectionPatch} {taken : ℕ} (front : HeadReadAt set at head taken) (r : Result (List Operation)) → many (head .«operation_count») (readOperation ed) (drop (at + taken) set) ≡ r → readPatch ed (drop at set) ≡ onward r (λ os rest. read (toPatch (front .got .a .0, os)) rest)
   patch-read {taken = taken} front r q = patch-by-head ed (drop at set) ∙ rw (front .got .is, drop-drop taken at set, front .counts, q)
 
   -- without its head it is refused

@@ -23,7 +23,7 @@ use Rattle.spec_import.specs.Import.{Term, termWith, termOfFields, readTerm, ke
 use Rattle.spec_import.specs.FormLaws.{some-part}
 use Rattle.patch_terms.specs.declared.TermRead.the-variants.{Term as Read, OtherForm, OverCapacity}
 use Rattle.patch_terms.specs.Places.{bytePlaceOf}
-use Rattle.patch_terms.specs.PlacesLaws.{place-within, place-lacks, place-found, place-none}
+use Rattle.patch_terms.specs.PlacesLaws.{bytePlaceOf-within, place-lacks, place-found, place-none}
 use Rattle.patch_terms.specs.Answers.{judgedTerm, termTo, termAnswer}
 
 -- ---- the text
@@ -89,9 +89,9 @@ module _ (line : List ℕ) where
     parted = ap (split tab) (place-found tab line found) ∙ split-part tab key behind (place-lacks tab line)
 
     -- a second tab
-    pub line-more : bytePlaceOf tab behind < length behind → OtherForm ≡ termAnswer line
+    pub line-second-tab : bytePlaceOf tab behind < length behind → OtherForm ≡ termAnswer line
     unfolding readTerm termOfFields
-    line-more h =
+    line-second-tab h =
         let first = take (bytePlaceOf tab behind) behind in
         let rest = drop (suc (bytePlaceOf tab behind)) behind in
         let w = some-part tab rest in
@@ -139,7 +139,7 @@ module _ (line : List ℕ) (k start : ℕ) (is : termAnswer line ≡ Read k star
   known-tab =
       test-cases (eqb (bytePlaceOf tab line) (length line))
       (λ e. other-never (line-whole line (eqb-true (bytePlaceOf tab line) (length line) e)))
-      (λ e. let apart = eqb-false (bytePlaceOf tab line) (length line) e in let within = place-within tab line in less apart within)
+      (λ e. let apart = eqb-false (bytePlaceOf tab line) (length line) e in let within = bytePlaceOf-within tab line in less apart within)
     where
       less : {m n : ℕ} → m ≢ n → m ≤ n → m < n
       less apart within = omega arith
@@ -149,7 +149,7 @@ module _ (line : List ℕ) (k start : ℕ) (is : termAnswer line ≡ Read k star
       let behind = drop (suc (bytePlaceOf tab line)) line in
       test-cases (eqb (bytePlaceOf tab behind) (length behind))
       (λ e. eqb-true (bytePlaceOf tab behind) (length behind) e)
-      (λ e. other-never (line-more line known-tab (less (eqb-false (bytePlaceOf tab behind) (length behind) e) (place-within tab behind))))
+      (λ e. other-never (line-second-tab line known-tab (less (eqb-false (bytePlaceOf tab behind) (length behind) e) (bytePlaceOf-within tab behind))))
     where
       less : {m n : ℕ} → m ≢ n → m ≤ n → m < n
       less apart within = omega arith

@@ -18,7 +18,7 @@ use Rattle.spec_import.specs.FormLaws.{form-exactly}
 use Rattle.patch_terms.specs.declared.TermRead.the-variants as term-read
 use Rattle.patch_terms.specs.declared.LineRead.the-variants as line-read
 use Rattle.patch_terms.specs.Places.{bytePlaceOf, firstTermLine}
-use Rattle.patch_terms.specs.PlacesLaws.{place-within, lines-at}
+use Rattle.patch_terms.specs.PlacesLaws.{bytePlaceOf-within, lines-at}
 use Rattle.patch_terms.specs.Answers.{termTo, lineTo, lineAnswer}
 
 -- the text of a line is its end
@@ -53,7 +53,7 @@ module _ (list : List ℕ) (at : ℕ) where
     pub inside : start + len ≤ length list
 
   first-long : length first ≡ bytePlaceOf newline bytes
-  first-long = length-take-le (bytePlaceOf newline bytes) bytes (place-within newline bytes)
+  first-long = length-take-le (bytePlaceOf newline bytes) bytes (bytePlaceOf-within newline bytes)
 
   -- the words stand where the answer says
   words-at : (t : Term) → readTerm first ≡ some t → at ≤ length list → (start len : ℕ) → at + (length first - length (t .words)) ≡ start → (at + length first) - start ≡ len
@@ -64,9 +64,9 @@ module _ (list : List ℕ) (at : ℕ) where
       let n = bytePlaceOf newline bytes in
       let long : len ≡ m = omega (arith, last .1) in
       let size : (length first - m) ≡ (n - m) = ap (λ (x : ℕ). x - m) first-long in
-      let same : take m (drop (n - m) bytes) ≡ t .words = sym (last-of-first bytes m n (omega (arith, last .1, first-long)) (place-within newline bytes)) ∙ ap (λ (x : ℕ). drop x first) (sym size) ∙ last .0 in (
+      let same : take m (drop (n - m) bytes) ≡ t .words = sym (last-of-first bytes m n (omega (arith, last .1, first-long)) (bytePlaceOf-within newline bytes)) ∙ ap (λ (x : ℕ). drop x first) (sym size) ∙ last .0 in (
         sym (ap₂ (λ (x y : ℕ). take x (drop y list)) long (sym s ∙ ap (λ (x : ℕ). at + x) size) ∙ ap (take m) (sym (drop-drop (n - m) at list)) ∙ same),
-        omega (arith, last .1, first-long, place-within newline bytes, length-drop at list),
+        omega (arith, last .1, first-long, bytePlaceOf-within newline bytes, length-drop at list),
       )
 
   pub term-at : (k start len next : ℕ) → at ≤ length list → lineAnswer at bytes ≡ line-read.Term k start len next → TermAt k start len next

@@ -16,10 +16,10 @@ use Rattle.spec_import.specs.Import.{lines}
 use Rattle.patch_terms.specs.Places.{bytePlaceOf, firstTermLine, otherLines}
 
 module _ (byte : ℕ) where
-  pub place-within : (l : List ℕ) → bytePlaceOf byte l ≤ length l
+  pub bytePlaceOf-within : (l : List ℕ) → bytePlaceOf byte l ≤ length l
   unfolding bytePlaceOf
-  place-within [] = omega arith
-  place-within (b ∷ l) = test-cases (eqb b byte) (λ t. rw t (omega arith)) (λ t. rw t (omega (arith, place-within l)))
+  bytePlaceOf-within [] = omega arith
+  bytePlaceOf-within (b ∷ l) = test-cases (eqb b byte) (λ t. rw t (omega arith)) (λ t. rw t (omega (arith, bytePlaceOf-within l)))
 
   -- none stands before it
   pub place-lacks : (l : List ℕ) → lacks byte (take (bytePlaceOf byte l) l) ≡ true

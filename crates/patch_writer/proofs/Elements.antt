@@ -39,8 +39,8 @@ module _ {A : Type 0} where
   all-getD test (x ∷ l) (suc i) d e h = all-getD test l i d (and-right (test x) (all test l) e) (omega arith)
 
   -- each of the first n passes
-  pub each : (test : A → Bool) (n : ℕ) (l : List A) (i : ℕ) (d : A) → all test (take n l) ≡ true → i < n → n ≤ length l → test (getD l i d) ≡ true
-  each test n l i d e more within =
+  pub each-passes : (test : A → Bool) (n : ℕ) (l : List A) (i : ℕ) (d : A) → all test (take n l) ≡ true → i < n → n ≤ length l → test (getD l i d) ≡ true
+  each-passes test n l i d e more within =
       ap test (sym (getD-take n l i d more)) ∙ all-getD test (take n l) i d e (omega (arith, length-take-le n l within))
 
 -- ---- what a read past the end of an array would give

@@ -17,9 +17,9 @@ use Rattle.patch_part_writer.specs.ExtentLaws.{length-head, length-operation}
 use Rattle.patch_part_writer.specs.Parts.{sizeWithin}
 use Rattle.patch_part_writer.specs.PartsLaws.{size-kept}
 use Rattle.patch_writer.specs.Set.{operationAt, listFrom, heads, operationTotal, fewOperations, shortAt, insideAt}
-use Rattle.patch_writer.specs.CallLaws.{Arrays, few-patches, few-operations, enough-places, many-heads}
+use Rattle.patch_writer.specs.CallLaws.{Arrays, few-patches, few-operations, places-suffice, many-heads}
 use Rattle.patch_writer.specs.Survey.{ReadyToWrite}
-use Rattle.patch_writer.proofs.Elements.{left-cons, whole-cons, each, noPatch, no-text-place}
+use Rattle.patch_writer.proofs.Elements.{left-cons, whole-cons, each-passes, noPatch, no-text-place}
 use Rattle.patch_writer.proofs.Progress.{Next}
 
 -- the bytes of operations
@@ -133,7 +133,7 @@ pub record Standing (texts : List ℕ) (set : ProjectionPatchSet) (operations ro
 
 module _ (texts : List ℕ) (set : ProjectionPatchSet) (arrays : Arrays set) {operations room at : ℕ} (ready : ReadyToWrite texts set operations room at) where
   pub few-turns : set .«patch_count» + operations ≤ 3184
-  few-turns = omega (arith, arrays .operations, few-patches texts set arrays (ready .fit), enough-places texts set arrays (ready .fit), ready .counted)
+  few-turns = omega (arith, arrays .operations, few-patches texts set arrays (ready .fit), places-suffice texts set arrays (ready .fit), ready .counted)
 
   pub start-counts : Counts (heads set) 0 0 0 (set .«patch_count» + operations)
   start-counts = counts-start (heads set) (set .«patch_count») operations (sym (many-heads texts set arrays (ready .fit))) (ready .counted)
@@ -143,7 +143,7 @@ module _ {texts : List ℕ} {set : ProjectionPatchSet} {operations room at p i l
   few = omega (arith, here .arrays .patches, few-patches texts set (here .arrays) (here .ready .fit))
 
   enough : operationTotal (heads set) ≤ length (set .operations)
-  enough = enough-places texts set (here .arrays) (here .ready .fit)
+  enough = places-suffice texts set (here .arrays) (here .ready .fit)
 
   module _ (more : 0 < turns) (none : left ≡ 0) where
     abbrev patch : ProjectionPatch
@@ -167,7 +167,7 @@ module _ {texts : List ℕ} {set : ProjectionPatchSet} {operations room at p i l
     }
 
     pub head-few : patch .«operation_count» ≤ patchOperations
-    head-few = leb-true (patch .«operation_count») patchOperations (each fewOperations (set .«patch_count») (set .patches) p noPatch (few-operations texts set (here .arrays) (here .ready .fit)) head-index few)
+    head-few = leb-true (patch .«operation_count») patchOperations (each-passes fewOperations (set .«patch_count») (set .patches) p noPatch (few-operations texts set (here .arrays) (here .ready .fit)) head-index few)
 
     pub head-counts : Counts (heads set) (p + 1) i (patch .«operation_count») (turns - 1)
     head-counts = counts-head (heads set) p i left turns (here .counts) patch head-parted none
@@ -184,8 +184,8 @@ module _ {texts : List ℕ} {set : ProjectionPatchSet} {operations room at p i l
 
     pub place-within : WithinTexts texts (operationText (place .operation))
     place-within = record {
-      inside = leb-true (operationText (place .operation) .start + operationText (place .operation) .len) (length texts) (each (insideAt texts) (operationTotal (heads set)) (set .operations) i no-text-place (here .ready .inside) place-index enough);
-      short = leb-true (operationText (place .operation) .len) textBytes (each shortAt (operationTotal (heads set)) (set .operations) i no-text-place (here .ready .short) place-index enough);
+      inside = leb-true (operationText (place .operation) .start + operationText (place .operation) .len) (length texts) (each-passes (insideAt texts) (operationTotal (heads set)) (set .operations) i no-text-place (here .ready .inside) place-index enough);
+      short = leb-true (operationText (place .operation) .len) textBytes (each-passes shortAt (operationTotal (heads set)) (set .operations) i no-text-place (here .ready .short) place-index enough);
     }
 
     pub place-size : sizeWithin (place .operation) ≡ operationSize (place .operation)

@@ -92,9 +92,9 @@ module _ (texts : List ℕ) (set : ProjectionPatchSet) (arrays : Arrays set) (fi
   unfolding countsFit
   few-operations = and-left (all fewOperations (heads set)) _ (and-right (leb (set .«patch_count») setPatches) _ fit)
 
-  pub enough-places : operationTotal (heads set) ≤ length (set .operations)
+  pub places-suffice : operationTotal (heads set) ≤ length (set .operations)
   unfolding countsFit
-  enough-places =
+  places-suffice =
       omega (arith, arrays .operations, leb-true (operationTotal (heads set)) setPlaces (and-right (all fewOperations (heads set)) _ (and-right (leb (set .«patch_count») setPatches) _ fit)))
 
   pub many-heads : length (heads set) ≡ set .«patch_count»
@@ -105,7 +105,7 @@ module _ (texts : List ℕ) (set : ProjectionPatchSet) (arrays : Arrays set) (fi
 
   module _ (inside : all (insideAt texts) (used set) ≡ true) where
     pub patches-size : length (flatMap encodePatch (listOf texts set)) ≡ headSizes (heads set) + operationSizes (used set)
-    patches-size = size-list texts (heads set) (set .operations) enough-places inside
+    patches-size = size-list texts (heads set) (set .operations) places-suffice inside
 
     pub patches-fit : 35 + length (flatMap encodePatch (listOf texts set)) ≡ setSize set
     unfolding setSize
@@ -131,15 +131,15 @@ module _ (texts : List ℕ) (set : ProjectionPatchSet) (arrays : Arrays set) (fi
       unfolding withinCapacities capacitiesKept
       capacities-agree =
           let one : leb (length (listOf texts set)) setPatches ≡ true = le-leb (length (listOf texts set)) setPatches (omega (arith, many-patches, few-patches)) in
-          let two : all (λ (p : model.Patch). leb (length (p .operations)) patchOperations) (listOf texts set) ≡ true = counts-list texts (heads set) (set .operations) enough-places ∙ few-operations in
-          let three : allValues shortEnough (listOf texts set) ≡ all shortAt (used set) = values-list texts shortEnough shortAt (place-short texts) (heads set) (set .operations) enough-places inside in
+          let two : all (λ (p : model.Patch). leb (length (p .operations)) patchOperations) (listOf texts set) ≡ true = counts-list texts (heads set) (set .operations) places-suffice ∙ few-operations in
+          let three : allValues shortEnough (listOf texts set) ≡ all shortAt (used set) = values-list texts shortEnough shortAt (place-short texts) (heads set) (set .operations) places-suffice inside in
           rw (one, two, three, encode-size, fit)
 
       allowed-agree : allValues (wellFormed ed) (listOf texts set) ≡ all (allowedAt ed texts) (used set)
-      allowed-agree = values-list texts (wellFormed ed) (allowedAt ed texts) (place-allowed texts ed) (heads set) (set .operations) enough-places inside
+      allowed-agree = values-list texts (wellFormed ed) (allowedAt ed texts) (place-allowed texts ed) (heads set) (set .operations) places-suffice inside
 
       few-agree : allValues fewEnough (listOf texts set) ≡ all (fewAt texts) (used set)
-      few-agree = values-list texts fewEnough (fewAt texts) (place-few texts) (heads set) (set .operations) enough-places inside
+      few-agree = values-list texts fewEnough (fewAt texts) (place-few texts) (heads set) (set .operations) places-suffice inside
 
       -- the set is written as the list that it stands for
       pub write-agrees : (room : ℕ) → write ed (listOf texts set) room ≡ withRoom room (patchSetBytes ed texts set)
@@ -169,21 +169,21 @@ module _ (texts : List ℕ) (set : ProjectionPatchSet) (arrays : Arrays set) (fi
 
 module _ (ed : Edition) (texts : List ℕ) (set : ProjectionPatchSet) where
   -- a set that is written
-  pub record Success (bs : List ℕ) : Type 0 where
+  pub record CallSuccess (bs : List ℕ) : Type 0 where
     pub kept : capacitiesKept set ≡ true
     pub allowed : all (allowedAt ed texts) (used set) ≡ true
     pub few : all (fewAt texts) (used set) ≡ true
     pub bytes : bs ≡ encode ed (listOf texts set)
 
-  pub success : (bs : List ℕ) → patchSetBytes ed texts set ≡ wrote bs → Success bs
+  pub call-success : (bs : List ℕ) → patchSetBytes ed texts set ≡ wrote bs → CallSuccess bs
   unfolding patchSetBytes
-  success bs e = go (capacitiesKept set) refl (all (allowedAt ed texts) (used set)) refl (all (fewAt texts) (used set)) refl e
+  call-success bs e = go (capacitiesKept set) refl (all (allowedAt ed texts) (used set)) refl (all (fewAt texts) (used set)) refl e
     where
       never : {C : Type 0} (n : WriteRefusal) → refused n ≡ wrote bs → C
       never n e = absurd (let z : _≡_ {A = ℕ} 0 1 = cc in omega arith)
 
       go : (k : Bool) → capacitiesKept set ≡ k → (a : Bool) → all (allowedAt ed texts) (used set) ≡ a → (f : Bool) → all (fewAt texts) (used set) ≡ f
-          → (if k then (if a then (if f then wrote (encode ed (listOf texts set)) else refused overCapacity) else refused malformed) else refused overCapacity) ≡ wrote bs → Success bs
+          → (if k then (if a then (if f then wrote (encode ed (listOf texts set)) else refused overCapacity) else refused malformed) else refused overCapacity) ≡ wrote bs → CallSuccess bs
       go true k true a true f e = record { kept = k; allowed = a; few = f; bytes = cc }
       go true k true a false f e = never overCapacity e
       go true k false a f g e = never malformed e
@@ -204,7 +204,7 @@ module _ (ed : Edition) (texts : List ℕ) (set : ProjectionPatchSet) where
       by-room : (bs : List ℕ) → patchSetBytes ed texts set ≡ wrote bs → (t : Bool) → hasRoom out 0 (length bs) ≡ t → (if t then Wrote (0 + length bs) else Refused OutputTooShort) ≡ Wrote n
           → readSet ed (take n (overwrite out 0 bs)) ≡ patches (listOf texts set)
       by-room bs is true room e =
-          let s = success bs is in
+          let s = call-success bs is in
           let position : n ≡ 0 + length bs = cc in
           let fits = fits-list texts set (passed-arrays set passed) (counted (s .kept)) ed (allowed-inside ed texts (used set) (s .allowed)) (passed-in-range texts set passed) (s .kept) (s .allowed) (s .few) in
           ap (readSet ed) (ap (λ (k : ℕ). take k (overwrite out 0 bs)) position ∙ take-overwrite out 0 bs (length bs) refl room ∙ s .bytes) ∙ reads-back ed (listOf texts set) fits

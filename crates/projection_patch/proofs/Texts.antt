@@ -65,8 +65,8 @@ unchecked true t e = absurd (let z : _≡_ {A = ℕ} 0 1 = cc e in omega arith)
 unchecked false t e = (refl, refl)
 
 module _ (check : Bool) (l : List ℕ) (start n : ℕ) where
-  pub short : length l - start < n → textBody check n (drop start l) ≡ refused malformed
-  short h = rw (lt-leb n (length (drop start l)) (omega (arith, length-drop start l)))
+  pub body-short : length l - start < n → textBody check n (drop start l) ≡ refused malformed
+  body-short h = rw (lt-leb n (length (drop start l)) (omega (arith, length-drop start l)))
 
   module _ (room : n ≤ length l - start) where
     inside : n ≤ length (drop start l)
@@ -76,23 +76,23 @@ module _ (check : Bool) (l : List ℕ) (start n : ℕ) where
     named : length (take n (drop start l)) ≡ n
     named = length-take-le n (drop start l) inside
 
-    pub long : textBytes < n → textBody check n (drop start l) ≡ refused overCapacity
-    long over = rw (le-leb n (length (drop start l)) inside, lt-leb (length (take n (drop start l))) textBytes (omega (arith, named)))
+    pub body-long : textBytes < n → textBody check n (drop start l) ≡ refused overCapacity
+    body-long over = rw (le-leb n (length (drop start l)) inside, lt-leb (length (take n (drop start l))) textBytes (omega (arith, named)))
 
     module _ (few : n ≤ textBytes) where
       taken : textTaken n (drop start l) ≡ read (take n (drop start l)) (drop n (drop start l))
       taken = rw (le-leb n (length (drop start l)) inside, le-leb (length (take n (drop start l))) textBytes (omega (arith, named)))
 
-      pub bad : allowed check (take n (drop start l)) ≡ false → textBody check n (drop start l) ≡ refused malformed
-      bad u = rw (taken, u)
+      pub body-bad : allowed check (take n (drop start l)) ≡ false → textBody check n (drop start l) ≡ refused malformed
+      body-bad u = rw (taken, u)
 
-      pub many : (allowed check (take n (drop start l)) ≡ true) × (fewCharacters check (take n (drop start l)) ≡ false) → textBody check n (drop start l) ≡ refused overCapacity
-      many u = rw (taken, u .0, u .1)
+      pub body-many : (allowed check (take n (drop start l)) ≡ true) × (fewCharacters check (take n (drop start l)) ≡ false) → textBody check n (drop start l) ≡ refused overCapacity
+      body-many u = rw (taken, u .0, u .1)
 
       -- the text's place, told by where it ends
-      pub placed : start ≤ length l → (allowed check (take n (drop start l)) ≡ true) × (fewCharacters check (take n (drop start l)) ≡ true)
+      pub body-placed : start ≤ length l → (allowed check (take n (drop start l)) ≡ true) × (fewCharacters check (take n (drop start l)) ≡ true)
           → Read (Text start n) (start + n) ≡ valueAnswer (length l) (mapped text (textBody check n) (drop start l))
-      placed h u =
+      body-placed h u =
           let end : start + n ≤ length l = omega arith in
           let back : start + n - n ≡ start = omega arith in
           rw (taken, u .0, u .1, drop-drop n start l, position l (start + n) end, named, back)

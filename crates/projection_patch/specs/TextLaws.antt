@@ -40,17 +40,17 @@ textOf (move c k b) = []
 -- ---- it stands at the end
 
 -- the list ends with the other
-record Ends (l t : List ℕ) : Type 0 where
+record EndsWith (l t : List ℕ) : Type 0 where
   front : List ℕ
   is : l ≡ front ++ t
 
-none-at-end : (l : List ℕ) → Ends l []
+none-at-end : (l : List ℕ) → EndsWith l []
 none-at-end l = record { front = l; is = sym (append-nil l) }
 
-after-end : (x l t : List ℕ) → Ends l t → Ends (x ++ l) t
+after-end : (x l t : List ℕ) → EndsWith l t → EndsWith (x ++ l) t
 after-end x l t h = record { front = x ++ h .front; is = ap (λ (y : List ℕ). x ++ y) (h .is) ∙ sym (append-assoc x (h .front) t) }
 
-value-end : (v : Value) → Ends (encodeValue v) (textIn v)
+value-end : (v : Value) → EndsWith (encodeValue v) (textIn v)
 unfolding encodeValue kindOf valueBody encodeText textIn
 value-end (quad q) = none-at-end (1 ∷ (quadByte q ∷ []))
 value-end (signed z) = none-at-end (2 ∷ u64 (ofZ w64 z))
@@ -58,7 +58,7 @@ value-end (text t) = record { front = 3 ∷ u32 (length t); is = refl }
 value-end (unsigned n) = none-at-end (4 ∷ u64 n)
 value-end (score n) = none-at-end (5 ∷ (n ∷ []))
 
-operation-end : (o : Operation) → Ends (encodeOperation o) (textOf o)
+operation-end : (o : Operation) → EndsWith (encodeOperation o) (textOf o)
 unfolding encodeOperation textOf
 operation-end (setBinding n s v) = after-end (1 ∷ u64 n) _ (textIn v) (after-end (u32 s) _ (textIn v) (value-end v))
 operation-end (setAvailability n a) = none-at-end (2 ∷ (u64 n ++ (availabilityByte a ∷ [])))

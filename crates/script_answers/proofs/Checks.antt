@@ -11,7 +11,7 @@ use Rattle.spec_patch.specs.Read.{SetReading, patches, fault, readSet}
 use Rattle.spec_patch.specs.SetLaws.{was-encoded}
 use Rattle.spec_checks.specs.Finding.{Finding}
 use Rattle.spec_checks.specs.Findings.{Place, inPatch, inSet, Findings, findings}
-use Rattle.spec_checks.specs.Answer.{recordLength, findingWords, fitting, checked}
+use Rattle.spec_checks.specs.Answer.{recordLength, findingWords, fitting, checkedList}
 use Rattle.spec_checks.specs.AnswerLaws.{fitting-all, writeFindings-front}
 use Rattle.spec_checks.specs.CountLaws.{findings-most}
 use Rattle.spec_decimal.specs.Decimal.{decimal}
@@ -64,7 +64,7 @@ pub record ToldFindings (f : Findings) (where-found : CheckPlace) (logical : ℕ
 module _ (ps : List Patch) (lent : List ℕ) (room : recordLength * length (findings ps .found) ≤ length lent) where
   findings-told : (p : CheckPlace) (logical written : ℕ) (records : List ℕ) → set-check.Checked p logical written ≡ checkAnswer (patches ps) (length lent) → records ≡ checkNumbers (patches ps) lent
       → ToldFindings (findings ps) p logical records
-  unfolding checked
+  unfolding checkedList
   findings-told p logical written records answered numbers =
       let found = findings ps .found in
       let all : fitting (length lent) found ≡ found = fitting-all (length lent) found room in
@@ -76,8 +76,8 @@ module _ (ps : List Patch) (lent : List ℕ) (room : recordLength * length (find
       }
 
 module _ (ed : Edition) (set : List ℕ) (answer : PatchSetCheck) (records : List ℕ) (h : CheckOf ed set answer records) where
-  pub refused-lines : (f : ProjectionPatchReadFault) → answer ≡ set-check.Refused f → refusal f ≡ checkLines (readSet ed set)
-  refused-lines f is = refused-reading (readSet ed set) (length (h .lent)) f (sym is ∙ h .answered)
+  pub check-refused-lines : (f : ProjectionPatchReadFault) → answer ≡ set-check.Refused f → refusal f ≡ checkLines (readSet ed set)
+  check-refused-lines f is = refused-reading (readSet ed set) (length (h .lent)) f (sym is ∙ h .answered)
 
   -- the line of the place and the count, and a line for each record
   module _ {l m n : List ℕ} {at r s : Printed} (p : CheckPlace) (logical written : ℕ) (is : answer ≡ set-check.Checked p logical written)

@@ -49,18 +49,18 @@ module _ (lent print : List ℕ) (answer : PrintAnswer) (output : List ℕ) (h :
     left : output ≡ print ++ drop (0 + length print) lent
     left = h .written ∙ overwrite-in-place lent 0 print (length print) refl (all-wrote .1)
 
-    pub wrote-within : n ≤ length output
-    wrote-within = omega (arith, all-wrote .0, ap length left, length-append print (drop (0 + length print) lent))
+    pub print-wrote-within : n ≤ length output
+    print-wrote-within = omega (arith, all-wrote .0, ap length left, length-append print (drop (0 + length print) lent))
 
-    pub wrote-lines : paper (take (n - 0) (drop 0 output)) ≡ printLines (length lent) print
-    wrote-lines =
+    pub print-wrote-lines : paper (take (n - 0) (drop 0 output)) ≡ printLines (length lent) print
+    print-wrote-lines =
         let same : n - 0 ≡ length print = omega (arith, all-wrote .0) in
         ap paper (ap (take (n - 0)) left ∙ take-at print (drop (0 + length print) lent) (n - 0) (sym same))
         ∙ print-fitting (length lent) print (omega (arith, room-true lent 0 (length print) (all-wrote .1)))
 
-  pub refused-lines : (f : PrintRefusal) → answer ≡ Refused f → 79 ∷ fields (decimal (printNumber f) ∷ []) ≡ printLines (length lent) print
+  pub print-refused-lines : (f : PrintRefusal) → answer ≡ Refused f → 79 ∷ fields (decimal (printNumber f) ∷ []) ≡ printLines (length lent) print
   unfolding printAnswer hasRoom
-  refused-lines OutputTooShort is = go (hasRoom lent 0 (length print)) refl (sym is ∙ h .answered)
+  print-refused-lines OutputTooShort is = go (hasRoom lent 0 (length print)) refl (sym is ∙ h .answered)
     where
       go : (t : Bool) → hasRoom lent 0 (length print) ≡ t → Refused OutputTooShort ≡ (if t then Wrote (length print) else Refused OutputTooShort) → 79 ∷ fields (decimal 14 ∷ []) ≡ printLines (length lent) print
       go true e q = absurd (let z : _≡_ {A = ℕ} 0 1 = cc in omega arith)

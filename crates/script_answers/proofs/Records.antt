@@ -11,10 +11,10 @@ use Rattle.spec_checks.specs.AnswerLaws.{findingWords-length}
 use Rattle.script_answers.specs.CheckOf.{findingTold}
 
 -- the finding at a position of a list of numbers
-abbrev numbersAt : List ℕ → ℕ → Finding
-numbersAt ns k = findingTold (getD ns k 0) (getD ns (suc k) 0) (getD ns (suc (suc k)) 0)
+abbrev findingIn : List ℕ → ℕ → Finding
+findingIn ns k = findingTold (getD ns k 0) (getD ns (suc k) 0) (getD ns (suc (suc k)) 0)
 
-in-words : (fs : List Finding) (i : ℕ) (d : Finding) (k : ℕ) → i < length fs → k ≡ recordLength * i → numbersAt (findingWords fs) k ≡ getD fs i d
+in-words : (fs : List Finding) (i : ℕ) (d : Finding) (k : ℕ) → i < length fs → k ≡ recordLength * i → findingIn (findingWords fs) k ≡ getD fs i d
 unfolding findingWords flatMap findingKey
 in-words [] i d k h e = absurd (omega arith)
 in-words (f ∷ fs) zero d zero h e = refl

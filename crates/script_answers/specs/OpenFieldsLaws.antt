@@ -5,7 +5,7 @@ use mathlib.Core.List.{List, [], _∷_, _++_, append-assoc, append-nil}
 use Rattle.spec_listing.specs.Listing.{fields}
 use Rattle.bytes_printer.specs.declared.Printed.{Printed}
 use Rattle.bytes_printer.specs.Prints.{spacedField, Prints}
-use Rattle.bytes_printer.specs.PrintsLaws.{_⨾_, same-bytes}
+use Rattle.bytes_printer.specs.PrintsLaws.{_⨾_, prints-same}
 use Rattle.script_answers.specs.OpenFields.{openFields}
 
 open-fields : (fs gs : List (List ℕ)) → openFields fs ++ fields gs ≡ fields (fs ++ gs)
@@ -17,8 +17,8 @@ module _ {l m : List ℕ} {at r : Printed} where
   -- the last of the first fields
   pub last-open : {f : List ℕ} → Prints l at (spacedField f) m r → Prints l at (openFields (f ∷ [])) m r
   unfolding openFields
-  last-open {f} p = same-bytes (sym (append-nil (spacedField f))) p
+  last-open {f} p = prints-same (sym (append-nil (spacedField f))) p
 
   -- the line goes on behind its first fields
   pub line : {n : List ℕ} {s : Printed} (fs gs : List (List ℕ)) → Prints l at (openFields fs) m r → Prints m r (fields gs) n s → Prints l at (fields (fs ++ gs)) n s
-  line fs gs p q = same-bytes (open-fields fs gs) (p ⨾ q)
+  line fs gs p q = prints-same (open-fields fs gs) (p ⨾ q)

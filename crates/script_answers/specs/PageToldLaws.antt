@@ -81,8 +81,8 @@ module _ (p : Projection) (c : ℕ) (keys : List ℕ) (places : ℕ) (answer : P
     fits : (pageRefusal (length keys) places ≡ none) × (length keys ≡ n)
     fits = taken (pageRefusal (length keys) places) (sym (h .answered) ∙ is)
 
-    pub keys-counted : length keys ≡ n
-    keys-counted = fits .1
+    pub page-keys-counted : length keys ≡ n
+    page-keys-counted = fits .1
 
     pub keys-table : output ≡ pageBytes p c keys ++ drop (length (pageBytes p c keys)) (h .before)
     unfolding tableLeft
@@ -93,13 +93,13 @@ module _ (p : Projection) (c : ℕ) (keys : List ℕ) (places : ℕ) (answer : P
     answered-lines =
         let rows = pageRows p c keys in
         let room : pageRefusal (length keys) (length (replicate {A = Option PageEntry} places none)) ≡ none = ap (pageRefusal (length keys)) (length-replicate places none) ∙ fits .0 in
-        ap₂ (λ (m : ℕ) (l : List (Option PageEntry)). (89 ∷ fields (decimal 0 ∷ decimal m ∷ [])) ++ flatMap rowLine l) (sym keys-counted)
+        ap₂ (λ (m : ℕ) (l : List (Option PageEntry)). (89 ∷ fields (decimal 0 ∷ decimal m ∷ [])) ++ flatMap rowLine l) (sym page-keys-counted)
         (sym (take-at rows (drop (length rows) (replicate places none)) (length keys) (page-length p c keys)))
         ∙ sym (ap (λ (o : Option model.PageRefusal). answeredLines (length keys) o (tableLeft o rows (replicate places none))) room)
 
-  pub refused-lines : (f : PageRefusal) → answer ≡ Refused f → 89 ∷ fields (decimal (pageNumber (pageRefusalOf f)) ∷ []) ≡ pageLines (length keys) (page p c keys (replicate places none))
+  pub page-refused-lines : (f : PageRefusal) → answer ≡ Refused f → 89 ∷ fields (decimal (pageNumber (pageRefusalOf f)) ∷ []) ≡ pageLines (length keys) (page p c keys (replicate places none))
   unfolding pageLines answeredLines page
-  refused-lines f is = go (pageRefusal (length keys) places) refl (sym (h .answered) ∙ is)
+  page-refused-lines f is = go (pageRefusal (length keys) places) refl (sym (h .answered) ∙ is)
     where
       lines : (o : Option model.PageRefusal) → pageRefusal (length keys) places ≡ o → pageLines (length keys) (page p c keys (replicate places none)) ≡ answeredLines (length keys) o (tableLeft o (pageRows p c keys) (replicate places none))
       lines o e = ap (λ (q : Option model.PageRefusal). answeredLines (length keys) q (tableLeft q (pageRows p c keys) (replicate places none))) (ap (pageRefusal (length keys)) (length-replicate places none) ∙ e)

@@ -70,11 +70,11 @@ module _ (s : ReplayState) (m : State) (h : ReplayHolds s m) where
 
 module _ {s : ReplayState} {before after : List ℕ} where
   -- a step that goes on, by its parts
-  pub goes-on : {r : ReplayStep} {m : State} {printed : List ℕ} → r .stopped ≡ false → ReplayHolds (r .state) m → Prints before (Next 0) printed after (r .printed) → ReplayStepped s before after r (onward m printed)
-  goes-on e h p = record { is = (e, (h, p)) }
+  pub step-goes-on : {r : ReplayStep} {m : State} {printed : List ℕ} → r .stopped ≡ false → ReplayHolds (r .state) m → Prints before (Next 0) printed after (r .printed) → ReplayStepped s before after r (onward m printed)
+  step-goes-on e h p = record { is = (e, (h, p)) }
 
-  pub stops-there : (r : ReplayStep) {printed : List ℕ} → r .stopped ≡ true → r .state ≡ s → Prints before (Next 0) printed after (r .printed) → ReplayStepped s before after r (stops printed)
-  stops-there r e same p = record { is = (e, (same, p)) }
+  pub step-stops : (r : ReplayStep) {printed : List ℕ} → r .stopped ≡ true → r .state ≡ s → Prints before (Next 0) printed after (r .printed) → ReplayStepped s before after r (stops printed)
+  step-stops r e same p = record { is = (e, (same, p)) }
 
 -- a batch in the edition that the struct stores is one in the edition of the replay
 pub in-edition : {s : ReplayState} {before after : List ℕ} {r : ReplayStep} (m : State) (own : ProjectionPatchEdition) → editionOf own ≡ m .edition → (x : Session) (e : BatchEnvelope) (references : ℕ) (set : List ℕ)
@@ -86,8 +86,8 @@ pub created-step : (s : ReplayState) (m : State) → ReplayHolds s m → (c : Cr
     → (before after : List ℕ) (p : Printed) → Prints before (Next 0) (creationLine c) after p
     → ReplayStepped s before after (record { state = record { setup = s .setup; exists = b; session = r .session; turns = s .turns; edition = s .edition }; printed = p; stopped = false }) (created m c)
 unfolding created Creates isCreated withSession
-created-step s m h (made x) r k b e before after p printed = goes-on refl (record { setup-is = h .setup-is; session-is = rw (e, k .0) (k .1); turns-are = h .turns-are; edition-is = h .edition-is }) printed
-created-step s m h (refused f) r k b e before after p printed = goes-on refl (record { setup-is = h .setup-is; session-is = rw (e, k .0) (k .1); turns-are = h .turns-are; edition-is = h .edition-is }) printed
+created-step s m h (made x) r k b e before after p printed = step-goes-on refl (record { setup-is = h .setup-is; session-is = rw (e, k .0) (k .1); turns-are = h .turns-are; edition-is = h .edition-is }) printed
+created-step s m h (refused f) r k b e before after p printed = step-goes-on refl (record { setup-is = h .setup-is; session-is = rw (e, k .0) (k .1); turns-are = h .turns-are; edition-is = h .edition-is }) printed
 
 -- the anchors that a set-up keeps are those of the definitions
 pub setup-creates : (s : ReplaySetup) (m : Setup) → SetsUp s m → (n k : ℕ) → n ≡ min (s .«node_count») keptAnchors → k ≡ min (s .«collection_count») keptAnchors

@@ -31,7 +31,7 @@ use Rattle.script_calls.specs.TurnsHeldLaws.{turns-there, turns-nowhere,
 use Rattle.script_calls.specs.declared.state.ReplayState.{ReplayState}
 use Rattle.script_calls.specs.declared.state.ReplayStep.{ReplayStep}
 use Rattle.script_calls.specs.ReplayHolds.{ReplayHolds, ReplayStepped, withLatestTurns}
-use Rattle.script_calls.specs.ReplayHoldsLaws.{goes-on}
+use Rattle.script_calls.specs.ReplayHoldsLaws.{step-goes-on}
 
 module _ (m : State) (f : Turns → Step) where
   asked-is : (o : Option Turns) → m .turns ≡ o → askedTurns m f ≡ elim o [ none ↦ onward m noSessionLine | some t ↦ f t ]
@@ -107,10 +107,10 @@ module _ (s : ReplayState) (m : State) (h : ReplayHolds s m) (r : TurnsSetUp) (x
   unfolding settled setUpTo afterSetUp heldTurns withTurns
   settled-as (model.made t) few is printed =
       let made : x ≡ heldTurns (some t) = chosen ∙ ap (λ (k : TurnsSetUp). afterSetUp (s .turns) (k .answer) (k .turns)) is in
-      goes-on refl (record { setup-is = h .setup-is; session-is = h .session-is; turns-are = record { are = made; few = few }; edition-is = h .edition-is }) printed
+      step-goes-on refl (record { setup-is = h .setup-is; session-is = h .session-is; turns-are = record { are = made; few = few }; edition-is = h .edition-is }) printed
   settled-as (model.refused model.wrongSenderCount) few is printed =
       let own : x ≡ s .turns = chosen ∙ ap (λ (k : TurnsSetUp). afterSetUp (s .turns) (k .answer) (k .turns)) is in
-      goes-on refl (record { setup-is = h .setup-is; session-is = h .session-is; turns-are = subst (λ (u : SenderTurns). TurnsHeld u (m .turns)) (sym own) (h .turns-are); edition-is = h .edition-is }) printed
+      step-goes-on refl (record { setup-is = h .setup-is; session-is = h .session-is; turns-are = subst (λ (u : SenderTurns). TurnsHeld u (m .turns)) (sym own) (h .turns-are); edition-is = h .edition-is }) printed
 
   pub settled-step : (k : ℕ) → r ≡ setUpTo (setUp k) → Prints before (Next 0) (setUpLine (setUp k)) after p
       → ReplayStepped s before after (record { state = withLatestTurns s x; printed = p; stopped = false }) (settled m (setUp k))

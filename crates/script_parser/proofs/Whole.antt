@@ -12,10 +12,10 @@ pub line-too-long : (line : List ℕ) → lineBytes < length line → command li
 unfolding command
 line-too-long line h = rw (lt-leb (length line) lineBytes h)
 
-pub no-byte : (line : List ℕ) → length line ≡ 0 → command line ≡ nothing
+pub empty-line : (line : List ℕ) → length line ≡ 0 → command line ≡ nothing
 unfolding command isRemark
-no-byte [] h = refl
-no-byte (b ∷ bs) h = absurd (omega arith)
+empty-line [] h = refl
+empty-line (b ∷ bs) h = absurd (omega arith)
 
 pub comment : (line : List ℕ) → length line ≤ lineBytes → (length line ≡ 0 → ⊥) → getD line 0 0 ≡ commentMark → command line ≡ nothing
 unfolding command isRemark

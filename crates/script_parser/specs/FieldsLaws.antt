@@ -98,13 +98,13 @@ module _ (separator : ℕ) where
 
   -- ---- the last field
 
-  pub ended : (line : List ℕ) (at : ℕ) (c : Command) → length line ≤ at → end c (fieldsAfter separator line at) ≡ c
+  pub fields-ended : (line : List ℕ) (at : ℕ) (c : Command) → length line ≤ at → end c (fieldsAfter separator line at) ≡ c
   unfolding end
-  ended line at c h = rw (none-after line at h)
+  fields-ended line at c h = rw (none-after line at h)
 
-  pub not-ended : (line : List ℕ) (at : ℕ) (c : Command) → at < length line → end c (fieldsAfter separator line at) ≡ other
+  pub fields-not-ended : (line : List ℕ) (at : ℕ) (c : Command) → at < length line → end c (fieldsAfter separator line at) ≡ other
   unfolding end
-  not-ended line at c h = rw (one-after line at h)
+  fields-not-ended line at c h = rw (one-after line at h)
 
   -- ---- where a field ends
 
@@ -141,7 +141,7 @@ module _ (line : List ℕ) (at : ℕ) (next : List ℕ → Command) (to : ℕ) (
     where
       by-set : (x : Option (List ℕ)) → given x (λ set. end (next set) (fieldsAfter space line to)) ≡ other
       by-set none = refl
-      by-set (some set) = not-ended space line to (next set) k
+      by-set (some set) = fields-not-ended space line to (next set) k
 
   pub hex-last : length line ≤ to → hex (λ set. end (next set)) (fieldsAfter space line at) ≡ given (readHex (drop (at + 1) line)) next
   unfolding given
@@ -152,4 +152,4 @@ module _ (line : List ℕ) (at : ℕ) (next : List ℕ → Command) (to : ℕ) (
     where
       by-set : (x : Option (List ℕ)) → given x (λ set. end (next set) (fieldsAfter space line to)) ≡ given x next
       by-set none = refl
-      by-set (some set) = ended space line to (next set) k
+      by-set (some set) = fields-ended space line to (next set) k

@@ -25,8 +25,8 @@ abbrev pub formArguments : Form → Arguments
 formArguments f = numbers (f .count) (λ ns. lastArguments f (filled (f .count) ns))
 
 -- the number at a place
-abbrev pub at : List ℕ → ℕ → ℕ
-at ns i = getD ns i 0
+abbrev pub numberIn : List ℕ → ℕ → ℕ
+numberIn ns i = getD ns i 0
 
 -- a number up to a bound, or any other line
 abbrev pub upTo : (bound n : ℕ) → (ℕ → Command) → Command
@@ -37,11 +37,11 @@ abbrev pub withSlot : ℕ → (ℕ → Command) → Command
 withSlot = upTo 4294967295
 
 abbrev stimulusForm : Stimulus → Form
-stimulusForm s = record { count = 1; withSet = false; makes = λ ns set. apply s (at ns 0) }
+stimulusForm s = record { count = 1; withSet = false; makes = λ ns set. apply s (numberIn ns 0) }
 
 -- a batch that is sent or asked about
 abbrev batchForm : (BatchEnvelope → ℕ → List ℕ → Command) → Form
-batchForm asks = record { count = 5; withSet = true; makes = λ ns. asks (record { session = at ns 0; sequence = at ns 1; patches = at ns 2; stimulusBytes = at ns 3 }) (at ns 4) }
+batchForm asks = record { count = 5; withSet = true; makes = λ ns. asks (record { session = numberIn ns 0; sequence = numberIn ns 1; patches = numberIn ns 2; stimulusBytes = numberIn ns 3 }) (numberIn ns 4) }
 
 -- no command
 abbrev pub noForm : Form
@@ -93,34 +93,34 @@ secondForms =
     ∷ (2 ⇛ stimulusForm resume)
     ∷ (3 ⇛ stimulusForm close)
     ∷ (4 ⇛ stimulusForm noOp)
-    ∷ (6 ⇛ record { count = 2; withSet = false; makes = λ ns set. withSlot (at ns 1) (valueBinding (at ns 0)) })
-    ∷ (7 ⇛ record { count = 1; withSet = false; makes = λ ns set. valueNode (at ns 0) })
-    ∷ (8 ⇛ record { count = 2; withSet = false; makes = λ ns set. valueEntry (at ns 0) (at ns 1) })
-    ∷ (10 ⇛ record { count = 2; withSet = false; makes = λ ns set. withSlot (at ns 1) (markBinding (at ns 0)) })
-    ∷ (11 ⇛ record { count = 1; withSet = false; makes = λ ns set. markNode (at ns 0) })
-    ∷ (12 ⇛ record { count = 2; withSet = false; makes = λ ns set. markEntry (at ns 0) (at ns 1) })
+    ∷ (6 ⇛ record { count = 2; withSet = false; makes = λ ns set. withSlot (numberIn ns 1) (valueBinding (numberIn ns 0)) })
+    ∷ (7 ⇛ record { count = 1; withSet = false; makes = λ ns set. valueNode (numberIn ns 0) })
+    ∷ (8 ⇛ record { count = 2; withSet = false; makes = λ ns set. valueEntry (numberIn ns 0) (numberIn ns 1) })
+    ∷ (10 ⇛ record { count = 2; withSet = false; makes = λ ns set. withSlot (numberIn ns 1) (markBinding (numberIn ns 0)) })
+    ∷ (11 ⇛ record { count = 1; withSet = false; makes = λ ns set. markNode (numberIn ns 0) })
+    ∷ (12 ⇛ record { count = 2; withSet = false; makes = λ ns set. markEntry (numberIn ns 0) (numberIn ns 1) })
     ∷ []
 
 -- first words in the order of `commands`
 abbrev pub firstForms : List Numbered
 firstForms =
-    (16 ⇛ record { count = 5; withSet = false; makes = λ ns set. session (at ns 0) (record { stimulusBytes = at ns 1; diagnostics = at ns 2; patches = at ns 3; references = at ns 4 }) })
-    ∷ (17 ⇛ record { count = 1; withSet = false; makes = λ ns set. node (at ns 0) })
-    ∷ (18 ⇛ record { count = 2; withSet = false; makes = λ ns set. withSlot (at ns 1) (λ s. binding (record { node = at ns 0; slot = s })) })
-    ∷ (19 ⇛ record { count = 1; withSet = false; makes = λ ns set. collection (at ns 0) })
+    (16 ⇛ record { count = 5; withSet = false; makes = λ ns set. session (numberIn ns 0) (record { stimulusBytes = numberIn ns 1; diagnostics = numberIn ns 2; patches = numberIn ns 3; references = numberIn ns 4 }) })
+    ∷ (17 ⇛ record { count = 1; withSet = false; makes = λ ns set. node (numberIn ns 0) })
+    ∷ (18 ⇛ record { count = 2; withSet = false; makes = λ ns set. withSlot (numberIn ns 1) (λ s. binding (record { node = numberIn ns 0; slot = s })) })
+    ∷ (19 ⇛ record { count = 1; withSet = false; makes = λ ns set. collection (numberIn ns 0) })
     ∷ (20 ⇛ record { count = 0; withSet = false; makes = λ ns set. create })
     ∷ (22 ⇛ batchForm batch)
     ∷ (23 ⇛ record { count = 0; withSet = true; makes = λ ns. check })
     ∷ (24 ⇛ record { count = 0; withSet = true; makes = λ ns. list })
     ∷ (25 ⇛ record { count = 0; withSet = false; makes = λ ns set. show })
-    ∷ (27 ⇛ record { count = 1; withSet = false; makes = λ ns set. senders (at ns 0) })
-    ∷ (28 ⇛ record { count = 1; withSet = false; makes = λ ns set. wait (at ns 0) })
+    ∷ (27 ⇛ record { count = 1; withSet = false; makes = λ ns set. senders (numberIn ns 0) })
+    ∷ (28 ⇛ record { count = 1; withSet = false; makes = λ ns set. wait (numberIn ns 0) })
     ∷ (29 ⇛ record { count = 0; withSet = false; makes = λ ns set. turn })
-    ∷ (30 ⇛ record { count = 1; withSet = false; makes = λ ns set. given (numberedEdition (some (at ns 0))) edition })
-    ∷ (31 ⇛ record { count = 1; withSet = true; makes = λ ns set. upTo setBytes (at ns 0) (λ room. convert room set) })
-    ∷ (33 ⇛ record { count = 1; withSet = true; makes = λ ns set. upTo placesLent (at ns 0) (λ room. depends room set) })
-    ∷ (34 ⇛ record { count = 2; withSet = false; makes = λ ns set. upTo bytesLent (at ns 1) (print (at ns 0)) })
-    ∷ (36 ⇛ record { count = 1; withSet = false; makes = λ ns set. collectionLength (at ns 0) })
+    ∷ (30 ⇛ record { count = 1; withSet = false; makes = λ ns set. given (numberedEdition (some (numberIn ns 0))) edition })
+    ∷ (31 ⇛ record { count = 1; withSet = true; makes = λ ns set. upTo setBytes (numberIn ns 0) (λ room. convert room set) })
+    ∷ (33 ⇛ record { count = 1; withSet = true; makes = λ ns set. upTo placesLent (numberIn ns 0) (λ room. depends room set) })
+    ∷ (34 ⇛ record { count = 2; withSet = false; makes = λ ns set. upTo bytesLent (numberIn ns 1) (print (numberIn ns 0)) })
+    ∷ (36 ⇛ record { count = 1; withSet = false; makes = λ ns set. collectionLength (numberIn ns 0) })
     ∷ (39 ⇛ batchForm explainBatch)
     ∷ []
 

@@ -72,15 +72,15 @@ number-and-slot = number-and-bounded 4294967295
 -- ---- the tables
 
 -- a property of each number from one on
-abbrev Each : (ℕ → Type 0) → ℕ → ℕ → Type 0
-Each P from zero = Unit {0}
-Each P from (suc n) = P from × Each P (suc from) n
+abbrev EachFrom : (ℕ → Type 0) → ℕ → ℕ → Type 0
+EachFrom P from zero = Unit {0}
+EachFrom P from (suc n) = P from × EachFrom P (suc from) n
 
 infixr 20 _also_
 abbrev _also_ : {A B : Type 0} → A → B → A × B
 a also b = (a, b)
 
-pick : (P : ℕ → Type 0) (from n : ℕ) → Each P from n → (k : ℕ) → from ≤ k → k < from + n → P k
+pick : (P : ℕ → Type 0) (from n : ℕ) → EachFrom P from n → (k : ℕ) → from ≤ k → k < from + n → P k
 pick P from zero all k h m = absurd (omega arith)
 pick P from (suc n) all k h m =
     test-cases (eqb k from) (λ t. subst P (sym (eqb-true k from t)) (all .0))

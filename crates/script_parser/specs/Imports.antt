@@ -7,7 +7,7 @@ use Rattle.spec_replay.specs.Lines.{space}
 use Rattle.spec_replay.specs.Script.{Command, importList, other, Arguments, end, numberField, optional, hex}
 use Rattle.projection_patch.specs.Meaning.{surfaceOf}
 use Rattle.script_parser.specs.Fields.{fieldsAfter, numbers, filled}
-use Rattle.script_parser.specs.Forms.{at}
+use Rattle.script_parser.specs.Forms.{numberIn}
 use Rattle.script_parser.specs.declared.imports.SurfaceField.{SurfaceField}
 use Rattle.script_parser.specs.declared.imports.SurfaceField.the-variants as SurfaceAnswer
 
@@ -22,16 +22,16 @@ SurfaceAfter line from r = (next : Option ℕ → Arguments) → optional next (
 -- the command of all fields
 abbrev pub importMade : ℕ → List ℕ → Option ℕ → List ℕ → List ℕ → Command
 importMade room front surface back list =
-    importList room (at front 0)
+    importList room (numberIn front 0)
     (record {
-      id = at front 1;
-      stream = at front 2;
-      document = at front 3;
+      id = numberIn front 1;
+      stream = numberIn front 2;
+      document = numberIn front 3;
       surface = surface;
-      previous = at back 0;
-      revision = at back 1;
-      epoch = at back 2;
-      sequence = at back 3;
+      previous = numberIn back 0;
+      revision = numberIn back 1;
+      epoch = numberIn back 2;
+      sequence = numberIn back 3;
     }) list
 
 -- the fields behind the surface, and those behind the room

@@ -12,7 +12,7 @@ use Rattle.spec_replay.specs.Lines.{space}
 use Rattle.spec_replay.specs.Script.{Command, page, other, Arguments, numberField, readBy, atMost, upToEnd, placesOfPage, lineKeys, pageArguments}
 use Rattle.script_parser.specs.Fields.{fieldsAfter, numbers, filled, numberThen, NumberAfter}
 use Rattle.script_parser.specs.FieldsLaws.{none-after, one-after}
-use Rattle.script_parser.specs.Forms.{at, upTo}
+use Rattle.script_parser.specs.Forms.{numberIn, upTo}
 use Rattle.script_parser.specs.FormsLaws.{number-first}
 use Rattle.script_parser.specs.Keys.{pageThen}
 use Rattle.script_parser.specs.declared.keys.PageFields.{PageFields}
@@ -23,7 +23,7 @@ use Rattle.script_parser.specs.declared.fields.NumberField.the-variants.
 
 -- what follows the collection and the room
 abbrev pub keysBehindRoom : List ℕ → Arguments
-keysBehindRoom ns fs = upTo placesOfPage (at ns 1) (λ room. upToEnd lineKeys (page (at ns 0) room) fs)
+keysBehindRoom ns fs = upTo placesOfPage (numberIn ns 1) (λ room. upToEnd lineKeys (page (numberIn ns 0) room) fs)
 
 -- two numbers, the second of which is tested
 pub page-numbers : (fs : List (List ℕ)) → pageArguments fs ≡ numbers 2 (λ ns. keysBehindRoom (filled 2 ns)) fs

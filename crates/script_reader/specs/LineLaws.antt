@@ -17,14 +17,14 @@ first-prepend b [] = refl
 first-prepend b (part ∷ parts) = refl
 
 module _ (bytes : List ℕ) (i : ℕ) where
-  pub at-newline : i < length bytes → getD bytes i 0 ≡ newline → length (firstScriptLine (drop i bytes)) ≡ 0
+  pub line-at-newline : i < length bytes → getD bytes i 0 ≡ newline → length (firstScriptLine (drop i bytes)) ≡ 0
   unfolding firstScriptLine firstPart split
-  at-newline h e = rw (drop-cons bytes i 0 h, eq-eqb (getD bytes i 0) newline e)
+  line-at-newline h e = rw (drop-cons bytes i 0 h, eq-eqb (getD bytes i 0) newline e)
 
-  pub past-byte : i < length bytes → (getD bytes i 0 ≡ newline → ⊥) → length (firstScriptLine (drop i bytes)) ≡ 1 + length (firstScriptLine (drop (i + 1) bytes))
+  pub line-past-byte : i < length bytes → (getD bytes i 0 ≡ newline → ⊥) → length (firstScriptLine (drop i bytes)) ≡ 1 + length (firstScriptLine (drop (i + 1) bytes))
   unfolding firstScriptLine split
-  past-byte h e = rw (add-one i, drop-cons bytes i 0 h, ne-eqb (getD bytes i 0) newline e, first-prepend (getD bytes i 0) (split newline (drop (suc i) bytes))) (omega arith)
+  line-past-byte h e = rw (add-one i, drop-cons bytes i 0 h, ne-eqb (getD bytes i 0) newline e, first-prepend (getD bytes i 0) (split newline (drop (suc i) bytes))) (omega arith)
 
-  pub at-end : length bytes ≤ i → length (firstScriptLine (drop i bytes)) ≡ 0
+  pub line-at-end : length bytes ≤ i → length (firstScriptLine (drop i bytes)) ≡ 0
   unfolding firstScriptLine firstPart split
-  at-end h = rw (drop-of-length-le bytes h)
+  line-at-end h = rw (drop-of-length-le bytes h)

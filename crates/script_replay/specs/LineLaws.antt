@@ -28,12 +28,12 @@ use Rattle.script_calls.specs.declared.setup.ReplaySetup.{ReplaySetup}
 use Rattle.script_calls.specs.declared.state.ReplayState.{ReplayState}
 use Rattle.script_calls.specs.declared.state.ReplayStep.{ReplayStep}
 use Rattle.script_calls.specs.ReplayHolds.{ReplayHolds, ReplayStepped}
-use Rattle.script_calls.specs.ReplayHoldsLaws.{goes-on}
+use Rattle.script_calls.specs.ReplayHoldsLaws.{step-goes-on}
 use Rattle.script_replay.specs.SetupLines.{nextSetup, setup-line}
 
 -- a line that prints nothing leaves the slice as it was
 pub silent-step : (s : ReplayState) (l : List ℕ) (r : ReplayStep) (m : State) → r .stopped ≡ false → r .printed ≡ Next 0 → ReplayHolds (r .state) m → ReplayStepped s l l r (onward m [])
-silent-step s l r m goes unprinted h = goes-on goes h (subst (λ (p : Printed). Prints l (Next 0) [] l p) (sym unprinted) (nothing-printed l (Next 0) (omega arith)))
+silent-step s l r m goes unprinted h = step-goes-on goes h (subst (λ (p : Printed). Prints l (Next 0) [] l p) (sym unprinted) (nothing-printed l (Next 0) (omega arith)))
 
 -- a line for the next creation
 pub set-up-step : (s : ReplayState) (m : State) → ReplayHolds s m → (t : ReplaySetup) (line : SetupLine) → SetsUp t (nextSetup (m .setup) line) → (n : ℕ) (l : List ℕ)
@@ -82,9 +82,9 @@ module _ (line : List ℕ) (from : ℕ) (next : List ℕ → Command) (lent afte
           by true few h = let same : length bs ≡ n = cc in omega (arith, leb-true (length bs) (length lent) few)
           by false few h = absurd (let z : _≡_ {A = ℕ} 0 1 = cc in omega arith)
 
-  pub no-set : r ≡ decoded.Malformed → setFrom line from next ≡ other
+  pub no-set-bytes : r ≡ decoded.Malformed → setFrom line from next ≡ other
   unfolding given decoding
-  no-set e = go (readHex (drop from line)) (sym told ∙ e)
+  no-set-bytes e = go (readHex (drop from line)) (sym told ∙ e)
     where
       go : (o : Option (List ℕ)) → decoding (length lent) o ≡ decoded.Malformed → given o next ≡ other
       go none h = refl
@@ -95,5 +95,5 @@ module _ (line : List ℕ) (from : ℕ) (next : List ℕ → Command) (lent afte
           never false h = absurd (let z : _≡_ {A = ℕ} 0 1 = cc in omega arith)
 
   -- there is always room for what a line spells
-  pub has-room : 65536 ≤ length lent → length line ≤ lineBytes → r ≡ decoded.NoRoom → ⊥
-  has-room room short e = always-room (drop from line) (length lent) (omega (arith, length-drop from line)) (sym told ∙ e)
+  pub line-has-room : 65536 ≤ length lent → length line ≤ lineBytes → r ≡ decoded.NoRoom → ⊥
+  line-has-room room short e = always-room (drop from line) (length lent) (omega (arith, length-drop from line)) (sym told ∙ e)

@@ -63,10 +63,10 @@ module _ (id : ℕ) (limits : ShellLifecycleLimits) (nodes : List ℕ) (ps : Lis
 -- ---- what the code hands back
 
 module _ (id : ℕ) (limits : ShellLifecycleLimits) (nodes : List ℕ) (pairs : List BindingPair) (given : ℕ) (collections : List ℕ) (s : ShellSession) where
-  pub refused-is : anchorsWithin (length nodes) given (length collections) ≡ false → s ≡ noSession → _≡_ {A = ShellSessionCreation} (record { answer = Refused AnchorsOverCapacity; session = s }) (creationWith id limits nodes pairs given collections)
+  pub refused-creation : anchorsWithin (length nodes) given (length collections) ≡ false → s ≡ noSession → _≡_ {A = ShellSessionCreation} (record { answer = Refused AnchorsOverCapacity; session = s }) (creationWith id limits nodes pairs given collections)
   unfolding creationWith
-  refused-is w e = rw (w, e)
+  refused-creation w e = rw (w, e)
 
-  pub created-is : anchorsWithin (length nodes) given (length collections) ≡ true → s ≡ freshSession id limits nodes pairs given collections → _≡_ {A = ShellSessionCreation} (record { answer = Created; session = s }) (creationWith id limits nodes pairs given collections)
+  pub made-creation : anchorsWithin (length nodes) given (length collections) ≡ true → s ≡ freshSession id limits nodes pairs given collections → _≡_ {A = ShellSessionCreation} (record { answer = Created; session = s }) (creationWith id limits nodes pairs given collections)
   unfolding creationWith
-  created-is w e = rw (w, e)
+  made-creation w e = rw (w, e)

@@ -18,7 +18,7 @@ use Rattle.session_steps.specs.Checks.{SeenSession}
 use Rattle.session_steps.specs.declared.checks.ActivatedShellSessionContext.{ActivatedShellSessionContext}
 use Rattle.session_explain.specs.Reasons.{stepTo, explanationTo, firstTo, cappedTo}
 use Rattle.session_explain.specs.Steps.{checksBy}
-use Rattle.session_explain.specs.StepsLaws.{first-then, capped-is, checkSteps, applySteps, steps-are, checks-read}
+use Rattle.session_explain.specs.StepsLaws.{first-then, capped-is, checkSteps, operationSteps, steps-are, checks-read}
 use Rattle.session_explain.specs.declared.reasons.BatchReason.{BatchReason}
 use Rattle.session_explain.specs.declared.reasons.StepReason.{StepReason}
 use Rattle.session_explain.specs.declared.reasons.StepReason.the-variants as steps
@@ -26,13 +26,13 @@ use Rattle.session_explain.specs.declared.reasons.BatchExplanation.{Batc
 
 module _ (ed : Edition) (m : Session) (e : BatchEnvelope) (declared : ℕ) (set : List ℕ) where
   abbrev operations : StepReason
-  operations = stepTo (applySteps ed m e declared set (patchesRead (readSet ed set)))
+  operations = stepTo (operationSteps ed m e declared set (patchesRead (readSet ed set)))
 
   -- the steps' reason under the cap is what the call tells
   told-is : {x : StepReason} → x ≡ firstTo (stepTo (checkSteps ed m e declared set)) operations → cappedTo (m .limits .diagnostics) x ≡ explanationTo (explain ed m e declared set)
   unfolding explain explainBatch
   told-is is =
-      ap (cappedTo (m .limits .diagnostics)) (is ∙ first-then (checkSteps ed m e declared set) (applySteps ed m e declared set (patchesRead (readSet ed set))) ∙ ap stepTo (sym (steps-are ed m e declared set)))
+      ap (cappedTo (m .limits .diagnostics)) (is ∙ first-then (checkSteps ed m e declared set) (operationSteps ed m e declared set (patchesRead (readSet ed set))) ∙ ap stepTo (sym (steps-are ed m e declared set)))
       ∙ capped-is (m .limits .diagnostics) (explainSteps ed m e declared set)
 
   -- the cap is the session's, and the reason of its checks is known
@@ -48,7 +48,7 @@ module _ (ed : Edition) (m : Session) (e : BatchEnvelope) (declared : ℕ) (set 
     unfolding patchesRead
     operations-tell is by out =
         let read = checks-read ed m e declared set (sym checked ∙ is) in
-        under out (ap₂ firstTo (sym is ∙ checked) (by (read .0) (read .1) ∙ ap (λ (x : SetReading). stepTo (applySteps ed m e declared set (patchesRead x))) (sym (read .1))))
+        under out (ap₂ firstTo (sym is ∙ checked) (by (read .0) (read .1) ∙ ap (λ (x : SetReading). stepTo (operationSteps ed m e declared set (patchesRead x))) (sym (read .1))))
 
   -- of a session by value
   module _ {context : ActivatedShellSessionContext} {state : ShellLocalState} (seen : SeenSession context state m) {r : StepReason}

@@ -114,13 +114,13 @@ module _ {n : ProjectionCounts} {b a e : List ℕ} {p : Projection} where
 
     -- the operation applies to the tables' plan and to the projection alike
     module _ (id : ℕ) (b′ a′ e′ : List ℕ) where
-      pub record Applies (m : ProjectionCounts) : Type 0 where
+      pub record AppliesKept (m : ProjectionCounts) : Type 0 where
         pub next : Projection
         pub went : stepKept p id o ≡ some next
         pub held : StandsFor m b′ a′ e′ next
 
       abbrev pub StepBecame : OperationChange → Type 0
-      StepBecame (operation.Applied m) = Applies m
+      StepBecame (operation.Applied m) = AppliesKept m
       StepBecame (operation.Refused f) = stepKept p id o ≡ none
 
       pub step-became : (r : OperationChange) → OperationBecame (λ m q. StoredPlan m b′ a′ e′ q) r (applyOperation (s .plan) id (plannedOperation 0 x)) → StepBecame r

@@ -27,7 +27,7 @@ use Rattle.panel_operations.specs.declared.OperationChange.{OperationChange}
 use Rattle.panel_operations.specs.declared.OperationChange.the-variants as operation
 use Rattle.session_explain.specs.Reasons.{operationRuleTo}
 use Rattle.session_explain.specs.Refused.{StandsFor, reasonRefusedTo}
-use Rattle.session_explain.specs.RefusedLaws.{rule-alike, fits-blank, Applies, StepBecame, step-became}
+use Rattle.session_explain.specs.RefusedLaws.{rule-alike, fits-blank, AppliesKept, StepBecame, step-became}
 use Rattle.session_explain.specs.Walking.{Walking, walk-start, walk-end, walk-head, walk-on, walk-halts}
 use Rattle.session_explain.specs.declared.operations.FirstRefused.the-variants as refused
 use Rattle.session_explain.specs.declared.reasons.OperationRule.{OperationRule}
@@ -65,7 +65,7 @@ module _ {ed : Edition} {set : List ℕ} {whole : Walk Projection} where
         -- an operation that applies
         pub replay-on : {m : ProjectionCounts} → y ≡ operation.Applied m → Replaying ed set whole d opened patch (index + 1) m b′ a′ e′
         replay-on {m} is =
-            let t : Applies (r .stands) texts x (v .first) (v .means) (c .«patch_id») b′ a′ e′ m = subst (StepBecame (r .stands) texts x (v .first) (v .means) (c .«patch_id») b′ a′ e′) is turned in
+            let t : AppliesKept (r .stands) texts x (v .first) (v .means) (c .«patch_id») b′ a′ e′ m = subst (StepBecame (r .stands) texts x (v .first) (v .means) (c .«patch_id») b′ a′ e′) is turned in
             record { model = t .next; stands = t .held; walk = walk-on _ _ _ _ (r .walk) v (t .next) (t .went) }
 
         -- one that does not, with the rule of what the tables hold

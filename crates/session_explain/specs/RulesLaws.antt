@@ -24,27 +24,27 @@ use Rattle.session_explain.specs.declared.reasons.OperationRule.{Operati
 
 module _ (p : Projection) (c k : ℕ) (before : Option ℕ) where
   module _ (v : Value) where
-    pub insert-present : (i : ℕ) → findFirstRow (isEntry c k) (p .entries) ≡ At i → operationRuleTo keyPresent ≡ operationRuleTo (ruleOf p (insert c k before v))
+    pub rule-insert-present : (i : ℕ) → findFirstRow (isEntry c k) (p .entries) ≡ At i → operationRuleTo keyPresent ≡ operationRuleTo (ruleOf p (insert c k before v))
     unfolding ruleOf contains
-    insert-present i h = rw (find-at (isEntry c k) (p .entries) i h .2)
+    rule-insert-present i h = rw (find-at (isEntry c k) (p .entries) i h .2)
 
     module _ (absent : findFirstRow (isEntry c k) (p .entries) ≡ Absent) where
-      pub insert-full : (i : ℕ) → placeBefore c before (p .entries) ≡ At i → operationRuleTo entriesFull ≡ operationRuleTo (ruleOf p (insert c k before v))
+      pub rule-insert-full : (i : ℕ) → placeBefore c before (p .entries) ≡ At i → operationRuleTo entriesFull ≡ operationRuleTo (ruleOf p (insert c k before v))
       unfolding ruleOf contains
-      insert-full i h =
+      rule-insert-full i h =
           rw (find-absent (isEntry c k) (p .entries) absent, neighbour-at before (record { collection = c; key = k; mark = 0; value = v }) (p .entries) i h .0)
 
-      pub insert-no-neighbour : placeBefore c before (p .entries) ≡ Absent → operationRuleTo neighbourAbsent ≡ operationRuleTo (ruleOf p (insert c k before v))
+      pub rule-insert-no-neighbour : placeBefore c before (p .entries) ≡ Absent → operationRuleTo neighbourAbsent ≡ operationRuleTo (ruleOf p (insert c k before v))
       unfolding ruleOf contains
-      insert-no-neighbour h = rw (find-absent (isEntry c k) (p .entries) absent, neighbour-absent c before (p .entries) h)
+      rule-insert-no-neighbour h = rw (find-absent (isEntry c k) (p .entries) absent, neighbour-absent c before (p .entries) h)
 
-  pub move-no-neighbour : (i : ℕ) → findFirstRow (isEntry c k) (p .entries) ≡ At i → operationRuleTo neighbourAbsent ≡ operationRuleTo (ruleOf p (move c k before))
+  pub rule-move-no-neighbour : (i : ℕ) → findFirstRow (isEntry c k) (p .entries) ≡ At i → operationRuleTo neighbourAbsent ≡ operationRuleTo (ruleOf p (move c k before))
   unfolding ruleOf contains
-  move-no-neighbour i h = rw (find-at (isEntry c k) (p .entries) i h .2)
+  rule-move-no-neighbour i h = rw (find-at (isEntry c k) (p .entries) i h .2)
 
-  pub move-absent : findFirstRow (isEntry c k) (p .entries) ≡ Absent → operationRuleTo keyAbsent ≡ operationRuleTo (ruleOf p (move c k before))
+  pub rule-move-absent : findFirstRow (isEntry c k) (p .entries) ≡ Absent → operationRuleTo keyAbsent ≡ operationRuleTo (ruleOf p (move c k before))
   unfolding ruleOf contains
-  move-absent h = rw (find-absent (isEntry c k) (p .entries) h)
+  rule-move-absent h = rw (find-absent (isEntry c k) (p .entries) h)
 
 -- ---- the operations as they are read
 

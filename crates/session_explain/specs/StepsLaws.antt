@@ -13,7 +13,7 @@ use Rattle.spec_patch.specs.Patch.{Patch}
 use Rattle.spec_patch.specs.Read.{SetReading, patches, fault, readSet}
 use Rattle.spec_checks.specs.Finding.{Finding, findingKey}
 use Rattle.spec_checks.specs.Findings.{Place, findings}
-use Rattle.spec_checks.specs.Answer.{findingWords, fitting, writeFindings, checked}
+use Rattle.spec_checks.specs.Answer.{findingWords, fitting, writeFindings, checkedList}
 use Rattle.spec_projection.specs.Projection.{Projection}
 use Rattle.spec_projection.specs.Apply.{operationsOf}
 use Rattle.spec_session.specs.Session.{Lifecycle, Cursor, Limits, Catalogue, Session}
@@ -103,13 +103,13 @@ first-written : (f : Finding) (fs : List Finding) → writeFindings (f ∷ fs) (
 unfolding writeFindings fitting findingWords findingKey flatMap
 first-written f fs = refl
 
-module _ (ps : List Patch) {p : CheckPlace} {n w : ℕ} (told : set-check.Checked p n w ≡ checkedTo (checked ps 3)) where
+module _ (ps : List Patch) {p : CheckPlace} {n w : ℕ} (told : set-check.Checked p n w ≡ checkedTo (checkedList ps 3)) where
   counted : n ≡ length (findings ps .found)
-  unfolding checked
+  unfolding checkedList
   counted = cc
 
   placed : p ≡ placeTo (findings ps .place)
-  unfolding checked
+  unfolding checkedList
   placed = cc
 
   pub findings-none : n ≡ 0 → steps.Fine ≡ stepTo (noFindings (findings ps .place) (findings ps .found))
@@ -129,7 +129,7 @@ module _ (ps : List Patch) {p : CheckPlace} {n w : ℕ} (told : set-check.Checke
       go [] e h = absurd (some-found e)
       go (f ∷ fs) e h = rw (placed, e, h, first-written f fs)
 
-pub findings-unread : (ps : List Patch) {f : ProjectionPatchReadFault} {r : StepReason} → set-check.Refused f ≡ checkedTo (checked ps 3) → r ≡ stepTo (noFindings (findings ps .place) (findings ps .found))
+pub findings-unread : (ps : List Patch) {f : ProjectionPatchReadFault} {r : StepReason} → set-check.Refused f ≡ checkedTo (checkedList ps 3) → r ≡ stepTo (noFindings (findings ps .place) (findings ps .found))
 findings-unread ps h = absurd (let z : _≡_ {A = ℕ} 0 1 = cc in omega arith)
 
 -- ---- the cursor
@@ -154,10 +154,10 @@ module _ (c : Cursor) (e : BatchEnvelope) (g : BatchGate) (told : gateOf g ≡ g
 -- ---- several steps
 
 module _ (c : Catalogue) (l : Limits) (cursor : Cursor) (e : BatchEnvelope) (declared n k absent : ℕ) (ps : List Patch) where
-  pub clean-is : {counts known taken both r : StepReason} → counts ≡ stepTo (explainCountsBy l e declared n k) → known ≡ stepTo (targetsKnown absent (walkPatches (tested (targetKnown c)) 0 tt ps)) → taken ≡ stepTo (explainReplayBy cursor e)
+  pub cleanBy-is : {counts known taken both r : StepReason} → counts ≡ stepTo (explainCountsBy l e declared n k) → known ≡ stepTo (targetsKnown absent (walkPatches (tested (targetKnown c)) 0 tt ps)) → taken ≡ stepTo (explainReplayBy cursor e)
       → both ≡ firstTo known taken → r ≡ firstTo counts both → r ≡ stepTo (cleanBy c l cursor e declared n k absent ps)
   unfolding cleanBy
-  clean-is counted known taken both r =
+  cleanBy-is counted known taken both r =
       let targets = targetsKnown absent (walkPatches (tested (targetKnown c)) 0 tt ps) in
       r ∙ ap₂ firstTo counted (both ∙ ap₂ firstTo known taken ∙ first-then targets (explainReplayBy cursor e)) ∙ first-then (explainCountsBy l e declared n k) (targets >> explainReplayBy cursor e)
 
@@ -258,10 +258,10 @@ module _ (ed : Edition) (s : Session) (e : BatchEnvelope) (declared : ℕ) (set 
   abbrev pub checkSteps : Explained (Unit {0})
   checkSteps = checksBy ed (s .id) (s .limits) (s .lifecycle) (s .cursor) (s .catalogue) e declared set
 
-  abbrev pub applySteps : List Patch → Explained (Unit {0})
-  applySteps ps = applies (walkPatches stepKept 0 (s .projection) ps)
+  abbrev pub operationSteps : List Patch → Explained (Unit {0})
+  operationSteps ps = applies (walkPatches stepKept 0 (s .projection) ps)
 
-  pub steps-are : explainSteps ed s e declared set ≡ (checkSteps >> applySteps (patchesRead (readSet ed set)))
+  pub steps-are : explainSteps ed s e declared set ≡ (checkSteps >> operationSteps (patchesRead (readSet ed set)))
   unfolding explainSteps checksBy explainPreflightBy declaredBy setBy cleanBy explainCountsBy referencesBy explainReplayBy overDeclared
   steps-are =
       let own = requireOr (eqb (e .session) (s .id)) (foreignSession (e .session) (s .id)) in
@@ -269,14 +269,14 @@ module _ (ed : Edition) (s : Session) (e : BatchEnvelope) (declared : ℕ) (set 
       let within = declaredBy (s .limits) e in
       let qs = patchesRead (readSet ed set) in
       let clean : List Patch → Explained (Unit {0}) = λ ps. noFindings (findings ps .place) (findings ps .found) >> cleanBy (s .catalogue) (s .limits) (s .cursor) e declared (length ps) (length (operationsOf ps)) (absentTargets (s .catalogue) (operationsOf ps)) ps in
-      sym (assoc-three own open′ within (setBy ed (s .catalogue) (s .limits) (s .cursor) e declared set) (applySteps qs)
+      sym (assoc-three own open′ within (setBy ed (s .catalogue) (s .limits) (s .cursor) e declared set) (operationSteps qs)
       ∙ ap (λ (x : Explained (Unit {0})). own >> (open′ >> (within >> x)))
-      (after-reading (locate ed set) qs clean applySteps _
+      (after-reading (locate ed set) qs clean operationSteps _
       (assoc-five (noFindings (findings qs .place) (findings qs .found))
       (requireOr (eqb (e .patches) (length qs) && eqb declared (length (operationsOf qs))) (countsDiffer (e .patches) (length qs) declared (length (operationsOf qs))))
       (referencesBy (s .limits) (length (operationsOf qs)))
       (targetsKnown (absentTargets (s .catalogue) (operationsOf qs)) (walkPatches (tested (targetKnown (s .catalogue))) 0 tt qs))
-      (explainReplayBy (s .cursor) e) (applySteps qs))))
+      (explainReplayBy (s .cursor) e) (operationSteps qs))))
 
   -- a set that passes the checks is read
   pub checks-read : stepTo checkSteps ≡ steps.Fine → (ps : List Patch) × (readSet ed set ≡ patches ps)

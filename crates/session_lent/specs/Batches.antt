@@ -63,6 +63,6 @@ module _ (ed : Edition) (v : BatchEnvelope) (declared : ℕ) (set head nodes pai
       && (halfShaped head (length b) (length a) (length e) && (halfShaped toH (length toB) (length toA) (length toE) && eqb (length toL) lengthBytes))
 
   -- memory of that shape is answered; of any other nothing is changed
-  pub record BatchCall (r : LentBatch) (h′ b′ a′ e′ l′ : List ℕ) : Type 0 where
+  pub record BatchCallOnSlices (r : LentBatch) (h′ b′ a′ e′ l′ : List ℕ) : Type 0 where
     pub answered : memoryShaped ≡ true → (result : ProjectionPatchApplicationResult) × ((r ≡ Answered result) × ShapedCall result h′ b′ a′ e′ l′)
     pub refused : memoryShaped ≡ false → (r ≡ NoSession) × SameHalf toH toB toA toE toL h′ b′ a′ e′ l′

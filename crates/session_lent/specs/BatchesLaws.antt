@@ -36,9 +36,9 @@ use Rattle.session_steps.specs.declared.answers.ProjectionPatchApplicationDispo
 use Rattle.session_steps.specs.declared.answers.ProjectionPatchApplicationDisposition.the-variants.{Applied, NoChange, Rejected}
 use Rattle.session_steps.specs.declared.answers.ProjectionPatchApplicationResult.{ProjectionPatchApplicationResult}
 use Rattle.session_lent.specs.Head.{headNumbers, stateAt, limitsAt, countsAt, lentHeadOf, movedHead}
-use Rattle.session_lent.specs.HeadLaws.{state-told, limits-told, counts-told, long, moved-told}
+use Rattle.session_lent.specs.HeadLaws.{state-told, limits-told, counts-told, lentHead-long, moved-told}
 use Rattle.session_lent.specs.LentSession.{LentSession, LentRoom, anchorsShaped, halfShaped}
-use Rattle.session_lent.specs.CreationLaws.{anchors-agree, few-fit}
+use Rattle.session_lent.specs.CreationLaws.{anchors-agree, few-anchors-fit}
 use Rattle.session_lent.specs.Batches.{SameHalf, KeptUnlessChanged, NextIn, LentStep, ShapedCall}
 
 -- ---- slices that hold a session have the shape of one
@@ -47,10 +47,10 @@ pub held-half : (head nodes pairs collections b a e l : List ℕ) (m : Session) 
 unfolding halfShaped
 held-half head nodes pairs collections b a e l m h =
     let counts : changeCountsFit (countsAt head) ≡ true = ap changeCountsFit (counts-told head m (h .head-is)) ∙ stored-counts (h .projection) in
-    rw (eq-eqb (length head) headNumbers (long head m (h .head-is)), tableLengths-fit b a e (stored-lengths (h .projection)), counts)
+    rw (eq-eqb (length head) headNumbers (lentHead-long head m (h .head-is)), tableLengths-fit b a e (stored-lengths (h .projection)), counts)
 
 pub held-anchors : (head nodes pairs collections b a e l : List ℕ) (m : Session) → LentSession head nodes pairs collections b a e l m → anchorsShaped (length nodes) (length pairs) (length collections) ≡ true
-held-anchors head nodes pairs collections b a e l m h = anchors-agree (m .catalogue) nodes pairs collections (h .anchors-are) ∙ few-fit (m .catalogue) nodes pairs collections (h .anchors-are) (h .few)
+held-anchors head nodes pairs collections b a e l m h = anchors-agree (m .catalogue) nodes pairs collections (h .anchors-are) ∙ few-anchors-fit (m .catalogue) nodes pairs collections (h .anchors-are) (h .few)
 
 pub room-half : (head b a e l : List ℕ) → LentRoom head b a e l → halfShaped head (length b) (length a) (length e) ≡ true
 unfolding halfShaped
@@ -158,9 +158,9 @@ module _ (head nodes pairs collections b a e : List ℕ) (limits : ShellLifecycl
     state-of = state-is ∙ state-told head m (holds .head-is)
 
     -- a batch sees the session that is lent
-    pub seen : Seen m (state .«session_id» .0) limits state nodes pairs collections
+    pub lent-seen : Seen m (state .«session_id» .0) limits state nodes pairs collections
     unfolding stateOf
-    seen = record {
+    lent-seen = record {
       id-is = ap (λ (t : LocalState). t .id) state-of;
       limits-are = limits-of;
       lifecycle-is = ap (λ (t : LocalState). t .lifecycle) state-of;
@@ -169,37 +169,37 @@ module _ (head nodes pairs collections b a e : List ℕ) (limits : ShellLifecycl
     }
 
     module _ (h′ b′ a′ e′ l′ : List ℕ) (r : ProjectionPatchApplicationResult) where
-      abbrev Step : BatchStep → Type 0
-      Step = LentStep r m h′ nodes pairs collections b′ a′ e′ l′
+      abbrev StepHere : BatchStep → Type 0
+      StepHere = LentStep r m h′ nodes pairs collections b′ a′ e′ l′
 
-      rejects : (f : SessionRefusal) (n : ℕ) → batchAnswerOf r ≡ rejectedAt cap f n cursor → Step (rejectBatch m f n)
+      rejects : (f : SessionRefusal) (n : ℕ) → batchAnswerOf r ≡ rejectedAt cap f n cursor → StepHere (rejectBatch m f n)
       unfolding rejectBatch
       rejects f n h = record {
-        answer = h ∙ ap₂ (λ (k : Limits) (c : Cursor). rejectedAt (k .diagnostics) f n c) limits-of (seen .cursor-is);
+        answer = h ∙ ap₂ (λ (k : Limits) (c : Cursor). rejectedAt (k .diagnostics) f n c) limits-of (lent-seen .cursor-is);
         next = next-kept m m h′ nodes pairs collections b′ a′ e′ l′ (r .disposition) (rejected-not (batchAnswerOf r) cap f n cursor h) refl;
       }
 
       module _ (v : BatchEnvelope) (ps : List Patch) where
         -- without patches nothing changes
-        pub commits-none : batchAnswerOf r ≡ answerAt noChange cursor → v .patches ≡ 0 → v .patches ≡ length ps → Step (commit m v (candidate m ps))
+        pub lent-commits-none : batchAnswerOf r ≡ answerAt noChange cursor → v .patches ≡ 0 → v .patches ≡ length ps → StepHere (commit m v (candidate m ps))
         unfolding commit candidate replaySteps applySteps flatMap keepSession
-        commits-none h none count = go ps count
+        lent-commits-none h none count = go ps count
           where
-            go : (qs : List Patch) → v .patches ≡ length qs → Step (commit m v (candidate m qs))
+            go : (qs : List Patch) → v .patches ≡ length qs → StepHere (commit m v (candidate m qs))
             go [] c = rw (eq-eqb (v .patches) 0 none) (
                 record {
-                  answer = h ∙ ap (λ (k : Cursor). answerAt noChange k) (seen .cursor-is);
+                  answer = h ∙ ap (λ (k : Cursor). answerAt noChange k) (lent-seen .cursor-is);
                   next = next-kept m m h′ nodes pairs collections b′ a′ e′ l′ (r .disposition) (unchanged-not (batchAnswerOf r) cursor h) refl;
                 }
                 )
             go (q ∷ qs) c = absurd (omega arith)
 
         -- what came of the operations
-        pub commits : (u : SetChange) → (v .patches ≡ 0 → ⊥) → ChangeBecame (λ n q. (h′ ≡ movedHead head (v .sequence) n) × StoredAfter n b′ a′ e′ l′ q) u (candidate m ps) → batchAnswerOf r ≡ changeAnswer cap cursor (v .sequence) u → Step (commit m v (candidate m ps))
+        pub commits : (u : SetChange) → (v .patches ≡ 0 → ⊥) → ChangeBecame (λ n q. (h′ ≡ movedHead head (v .sequence) n) × StoredAfter n b′ a′ e′ l′ q) u (candidate m ps) → batchAnswerOf r ≡ changeAnswer cap cursor (v .sequence) u → StepHere (commit m v (candidate m ps))
         unfolding commit applyBatch advanced changeAnswer
         commits u some became h = go u (candidate m ps) became h
           where
-            go : (w : SetChange) (x : Outcome) → ChangeBecame (λ n q. (h′ ≡ movedHead head (v .sequence) n) × StoredAfter n b′ a′ e′ l′ q) w x → batchAnswerOf r ≡ changeAnswer cap cursor (v .sequence) w → Step (commit m v x)
+            go : (w : SetChange) (x : Outcome) → ChangeBecame (λ n q. (h′ ≡ movedHead head (v .sequence) n) × StoredAfter n b′ a′ e′ l′ q) w x → batchAnswerOf r ≡ changeAnswer cap cursor (v .sequence) w → StepHere (commit m v x)
             go (change.Applied n) (done q) stored h =
                 let counted = counts-stored n b′ a′ e′ q (stored .1 .0) in
                 rw (ne-eqb (v .patches) 0 some) (
@@ -223,14 +223,14 @@ module _ (head nodes pairs collections b a e : List ℕ) (limits : ShellLifecycl
             go change.BadTables x stored h = absurd stored
 
       module _ (ed : Edition) (v : BatchEnvelope) (declared : ℕ) (set : List ℕ) where
-        pub batch-rejects : (f : SessionRefusal) (n : ℕ) → refuse f n ≡ erased (batchChecks ed m v declared set) → batchAnswerOf r ≡ rejectedAt cap f n cursor → Step (batch ed m v declared set)
+        pub lent-batch-rejects : (f : SessionRefusal) (n : ℕ) → refuse f n ≡ erased (batchChecks ed m v declared set) → batchAnswerOf r ≡ rejectedAt cap f n cursor → StepHere (batch ed m v declared set)
         unfolding batch concludeBatch
-        batch-rejects f n h x = subst (λ (c : Check (List Patch)). Step (concludeBatch m v c)) (sym (erased-refused (batchChecks ed m v declared set) f n h)) (rejects f n x)
+        lent-batch-rejects f n h x = subst (λ (c : Check (List Patch)). StepHere (concludeBatch m v c)) (sym (erased-refused (batchChecks ed m v declared set) f n h)) (rejects f n x)
 
-        pub batch-commits : pass tt ≡ erased (batchChecks ed m v declared set) → ((ps : List Patch) → readSet ed set ≡ patches ps → v .patches ≡ length ps → Step (commit m v (candidate m ps))) → Step (batch ed m v declared set)
+        pub lent-batch-commits : pass tt ≡ erased (batchChecks ed m v declared set) → ((ps : List Patch) → readSet ed set ≡ patches ps → v .patches ≡ length ps → StepHere (commit m v (candidate m ps))) → StepHere (batch ed m v declared set)
         unfolding batch concludeBatch
-        batch-commits h f =
+        lent-batch-commits h f =
             let p = erased-passed (batchChecks ed m v declared set) h in
             let c = checks-passed ed m v declared set (p .0) (p .1) in
             let count = eqb-true (v .patches) (length (p .0)) (and-left (eqb (v .patches) (length (p .0))) _ (c .counts)) in
-            subst (λ (k : Check (List Patch)). Step (concludeBatch m v k)) (sym (p .1)) (f (p .0) (c .reads) count)
+            subst (λ (k : Check (List Patch)). StepHere (concludeBatch m v k)) (sym (p .1)) (f (p .0) (c .reads) count)

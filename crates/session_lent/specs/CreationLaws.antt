@@ -57,9 +57,9 @@ module _ (c : Catalogue) (nodes pairs collections : List ℕ) (lent : Lent c nod
       let pairs-even : eqb (length pairs % 2) 0 ≡ true = ap (λ n. eqb (n % 2) 0) pairs-long ∙ even (length (c .bindings)) in
       rw (pairs-fit, pairs-even, lent .nodes-are, lent .collections-are)
 
-  fit-few : anchorsFit c ≡ true → FewAnchors c
+  anchors-fit-few : anchorsFit c ≡ true → FewAnchors c
   unfolding anchorsFit
-  fit-few h =
+  anchors-fit-few h =
       let one = leb (length (c .nodes)) anchors in
       let two = leb (length (c .bindings)) anchors in
       let three = leb (length (c .collections)) anchors in
@@ -71,9 +71,9 @@ module _ (c : Catalogue) (nodes pairs collections : List ℕ) (lent : Lent c nod
       }
 
   -- a session of few anchors fits
-  pub few-fit : FewAnchors c → anchorsFit c ≡ true
+  pub few-anchors-fit : FewAnchors c → anchorsFit c ≡ true
   unfolding anchorsFit
-  few-fit h = rw (le-leb (length (c .nodes)) anchors (h .nodes), le-leb (length (c .bindings)) anchors (h .bindings), le-leb (length (c .collections)) anchors (h .collections))
+  few-anchors-fit h = rw (le-leb (length (c .nodes)) anchors (h .nodes), le-leb (length (c .bindings)) anchors (h .bindings), le-leb (length (c .collections)) anchors (h .collections))
 
   module _ (id : ℕ) (limits : Limits) (head b a e l : List ℕ) (lengths : TableLengths b a e) (collections-long : length l ≡ lengthBytes) where
     cleared : StoredTables noneUsed (zeros (length b)) (zeros (length a)) (zeros (length e)) empty
@@ -91,7 +91,7 @@ module _ (c : Catalogue) (nodes pairs collections : List ℕ) (lent : Lent c nod
     unfolding create newSession empty
     created-in true is =
         let fits : anchorsFit c ≡ true = sym anchors-agree ∙ is in
-        rw fits (refl, record { head-is = new-told id limits c; anchors-are = lent; few = fit-few fits; projection = cleared; collections-told = no-collections })
+        rw fits (refl, record { head-is = new-told id limits c; anchors-are = lent; few = anchors-fit-few fits; projection = cleared; collections-told = no-collections })
     created-in false is = let over : anchorsFit c ≡ false = sym anchors-agree ∙ is in rw over refl
 
 -- a head that a session can be made in has eleven numbers

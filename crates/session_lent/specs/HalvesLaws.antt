@@ -6,22 +6,22 @@ use lib.ListN.{drop}
 use lib.Seq.{drop-at}
 use Rattle.spec_session.specs.Session.{Session}
 use Rattle.bytes_records.specs.Table.{HoldsRows}
-use Rattle.bytes_records.specs.TableLaws.{used, padded}
+use Rattle.bytes_records.specs.TableLaws.{rows-used, rows-padded}
 use Rattle.panel_writing.specs.Writing.{ClearBehind}
 use Rattle.panel_changes.specs.SetChangesLaws.{stored-lengths, stored-counts}
-use Rattle.session_lent.specs.HeadLaws.{long}
+use Rattle.session_lent.specs.HeadLaws.{lentHead-long}
 use Rattle.session_lent.specs.Batches.{SameHalf}
 use Rattle.session_lent.specs.BatchesLaws.{held-tables}
 use Rattle.session_lent.specs.Halves.{Anchors, Half, halfWith, HeldIn, RoomIn}
 
 clear : {w n : ℕ} {l : List ℕ} {rows : List (List ℕ)} → HoldsRows w n l rows → ClearBehind n w l
-clear {w} {n} {l} {rows} h = ap (drop (n * w)) (padded h) ∙ drop-at (flatten rows) _ (n * w) (used h)
+clear {w} {n} {l} {rows} h = ap (drop (n * w)) (rows-padded h) ∙ drop-at (flatten rows) _ (n * w) (rows-used h)
 
 pub held-room : (k : Anchors) (h : Half) (m : Session) → HeldIn k h m → RoomIn h
 held-room k h m held =
     let tables = held-tables m held in
     record {
-      head-long = long (h .head) m (held .head-is);
+      head-long = lentHead-long (h .head) m (held .head-is);
       tables = record {
         lengths = stored-lengths tables;
         collections = held .collections-told .size;

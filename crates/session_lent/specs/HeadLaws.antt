@@ -63,8 +63,8 @@ module _ (h : List ℕ) (m : Session) (is : h ≡ lentHeadOf m) where
   pub counts-told : countsAt h ≡ countsOf (m .projection)
   counts-told = ap countsAt is
 
-  pub long : length h ≡ headNumbers
-  long = ap length is
+  pub lentHead-long : length h ≡ headNumbers
+  lentHead-long = ap length is
 
   -- the head after a batch that was applied
   pub moved-told : (n : ℕ) (k : ProjectionCounts) (p : Projection) → k ≡ countsOf p → movedHead h n k ≡ lentHeadOf (advanced m n p)
@@ -82,18 +82,18 @@ new-told id l c = refl
 
 -- ---- a head of which every number is written
 
-pub all-written : (h : List ℕ) (a b c d e f g i j k l : ℕ) → length h ≡ headNumbers
+pub head-written : (h : List ℕ) (a b c d e f g i j k l : ℕ) → length h ≡ headNumbers
     → set (set (set (set (set (set (set (set (set (set (set h 0 a) 1 b) 2 c) 3 d) 4 e) 5 f) 6 g) 7 i) 8 j) 9 k) 10 l ≡ a ∷ b ∷ c ∷ d ∷ e ∷ f ∷ g ∷ i ∷ j ∷ k ∷ l ∷ []
-all-written [] a b c d e f g i j k l n = absurd (omega arith)
-all-written (_ ∷ []) a b c d e f g i j k l n = absurd (omega arith)
-all-written (_ ∷ _ ∷ []) a b c d e f g i j k l n = absurd (omega arith)
-all-written (_ ∷ _ ∷ _ ∷ []) a b c d e f g i j k l n = absurd (omega arith)
-all-written (_ ∷ _ ∷ _ ∷ _ ∷ []) a b c d e f g i j k l n = absurd (omega arith)
-all-written (_ ∷ _ ∷ _ ∷ _ ∷ _ ∷ []) a b c d e f g i j k l n = absurd (omega arith)
-all-written (_ ∷ _ ∷ _ ∷ _ ∷ _ ∷ _ ∷ []) a b c d e f g i j k l n = absurd (omega arith)
-all-written (_ ∷ _ ∷ _ ∷ _ ∷ _ ∷ _ ∷ _ ∷ []) a b c d e f g i j k l n = absurd (omega arith)
-all-written (_ ∷ _ ∷ _ ∷ _ ∷ _ ∷ _ ∷ _ ∷ _ ∷ []) a b c d e f g i j k l n = absurd (omega arith)
-all-written (_ ∷ _ ∷ _ ∷ _ ∷ _ ∷ _ ∷ _ ∷ _ ∷ _ ∷ []) a b c d e f g i j k l n = absurd (omega arith)
-all-written (_ ∷ _ ∷ _ ∷ _ ∷ _ ∷ _ ∷ _ ∷ _ ∷ _ ∷ _ ∷ []) a b c d e f g i j k l n = absurd (omega arith)
-all-written (_ ∷ _ ∷ _ ∷ _ ∷ _ ∷ _ ∷ _ ∷ _ ∷ _ ∷ _ ∷ _ ∷ []) a b c d e f g i j k l n = refl
-all-written (_ ∷ _ ∷ _ ∷ _ ∷ _ ∷ _ ∷ _ ∷ _ ∷ _ ∷ _ ∷ _ ∷ _ ∷ h) a b c d e f g i j k l n = absurd (omega arith)
+head-written [] a b c d e f g i j k l n = absurd (omega arith)
+head-written (_ ∷ []) a b c d e f g i j k l n = absurd (omega arith)
+head-written (_ ∷ _ ∷ []) a b c d e f g i j k l n = absurd (omega arith)
+head-written (_ ∷ _ ∷ _ ∷ []) a b c d e f g i j k l n = absurd (omega arith)
+head-written (_ ∷ _ ∷ _ ∷ _ ∷ []) a b c d e f g i j k l n = absurd (omega arith)
+head-written (_ ∷ _ ∷ _ ∷ _ ∷ _ ∷ []) a b c d e f g i j k l n = absurd (omega arith)
+head-written (_ ∷ _ ∷ _ ∷ _ ∷ _ ∷ _ ∷ []) a b c d e f g i j k l n = absurd (omega arith)
+head-written (_ ∷ _ ∷ _ ∷ _ ∷ _ ∷ _ ∷ _ ∷ []) a b c d e f g i j k l n = absurd (omega arith)
+head-written (_ ∷ _ ∷ _ ∷ _ ∷ _ ∷ _ ∷ _ ∷ _ ∷ []) a b c d e f g i j k l n = absurd (omega arith)
+head-written (_ ∷ _ ∷ _ ∷ _ ∷ _ ∷ _ ∷ _ ∷ _ ∷ _ ∷ []) a b c d e f g i j k l n = absurd (omega arith)
+head-written (_ ∷ _ ∷ _ ∷ _ ∷ _ ∷ _ ∷ _ ∷ _ ∷ _ ∷ _ ∷ []) a b c d e f g i j k l n = absurd (omega arith)
+head-written (_ ∷ _ ∷ _ ∷ _ ∷ _ ∷ _ ∷ _ ∷ _ ∷ _ ∷ _ ∷ _ ∷ []) a b c d e f g i j k l n = refl
+head-written (_ ∷ _ ∷ _ ∷ _ ∷ _ ∷ _ ∷ _ ∷ _ ∷ _ ∷ _ ∷ _ ∷ _ ∷ h) a b c d e f g i j k l n = absurd (omega arith)

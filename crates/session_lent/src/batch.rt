@@ -24,7 +24,7 @@ ghost use Rattle.panel_changes.specs.SetChanges.{StoredAfter, ChangeBecame};
 ghost use Rattle.session_gates.specs.Gates.{envelopeMeans};
 ghost use Rattle.session_lent.specs.Head.{headNumbers, countsAt, movedHead};
 ghost use Rattle.session_lent.specs.LentSession.{halfShaped, LentRoom};
-ghost use Rattle.session_lent.specs.Batches.{KeptUnlessChanged, ShapedCall, BatchCall};
+ghost use Rattle.session_lent.specs.Batches.{KeptUnlessChanged, ShapedCall, BatchCallOnSlices};
 
 // The answer, or that the slices cannot hold a session: one has another length, or a count is over its capacity.
 pub enum LentBatch {
@@ -159,7 +159,7 @@ pub fn apply_projection_patch_batch<'a>(
     to_entries: &mut [u8],
     to_lengths: &mut [u8],
 ) -> LentBatch
-    ensures { λ r. ⌜ BatchCall (editionOf edition) (envelopeMeans envelope) «declared_target_reference_count» (now (set .entry)) (now (head .entry)) (now (nodes .entry)) (now (pairs .entry)) (now (collections .entry)) (now (bindings .entry)) (now (availability .entry)) (now (entries .entry))
+    ensures { λ r. ⌜ BatchCallOnSlices (editionOf edition) (envelopeMeans envelope) «declared_target_reference_count» (now (set .entry)) (now (head .entry)) (now (nodes .entry)) (now (pairs .entry)) (now (collections .entry)) (now (bindings .entry)) (now (availability .entry)) (now (entries .entry))
         (now («to_head» .entry)) (now («to_bindings» .entry)) (now («to_availability» .entry)) (now («to_entries» .entry)) (now («to_lengths» .entry)) r (now («to_head» .exit)) (now («to_bindings» .exit)) (now («to_availability» .exit)) (now («to_entries» .exit)) (now («to_lengths» .exit)) ⌝ }
 {
     if shape::memory_shaped(

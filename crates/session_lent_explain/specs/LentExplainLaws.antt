@@ -28,7 +28,7 @@ use Rattle.session_explain.specs.declared.reasons.StepReason.the-variants as st
 use Rattle.session_explain.specs.declared.reasons.BatchExplanation.{BatchExplanation}
 use Rattle.session_lent.specs.Head.{stateAt, limitsAt, countsAt}
 use Rattle.session_lent.specs.LentSession.{anchorsShaped, halfShaped}
-use Rattle.session_lent.specs.BatchesLaws.{held-anchors, held-half, held-tables, seen}
+use Rattle.session_lent.specs.BatchesLaws.{held-anchors, held-half, held-tables, lent-seen}
 use Rattle.session_lent_explain.specs.LentExplain.{HoldsSession, sessionShaped}
 
 pub session-shaped : (head nodes pairs collections b a e : List ℕ) (m : Session) → HoldsSession head nodes pairs collections b a e m → sessionShaped head nodes pairs collections b a e ≡ true
@@ -56,7 +56,7 @@ module _ (ed : Edition) (v : BatchEnvelope) (declared : ℕ) (set head nodes pai
     (m : Session) (h : HoldsSession head nodes pairs collections b a e m) {r : StepReason}
     (told : (c : Catalogue) → Lent c nodes pairs collections → r ≡ stepTo (checksBy ed (state .«session_id» .0) (limitsOf limits) (lifecycleOf (state .lifecycle)) (cursorOf (state .«replay_cursor»)) c v declared set)) where
   sees : Seen m (state .«session_id» .0) limits state nodes pairs collections
-  sees = seen head nodes pairs collections b a e limits state limits-are state-is m (h .lengths) (h .held)
+  sees = lent-seen head nodes pairs collections b a e limits state limits-are state-is m (h .lengths) (h .held)
 
   its-cap : limits .«max_diagnostics_per_transition» ≡ m .limits .diagnostics
   its-cap = lent-cap ed m v declared set sees (told (m .catalogue) (sees .anchors-are))

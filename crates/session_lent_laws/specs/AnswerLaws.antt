@@ -23,20 +23,20 @@ batch-answer-same a b e = λ i. record {
 
 -- ---- a lifecycle step's
 
-stepTo : Disposition → ShellTransitionDisposition
-stepTo step.applied = Applied
-stepTo step.noChange = NoChange
-stepTo step.rejected = Rejected
+transitionDispositionTo : Disposition → ShellTransitionDisposition
+transitionDispositionTo step.applied = Applied
+transitionDispositionTo step.noChange = NoChange
+transitionDispositionTo step.rejected = Rejected
 
-step-back : (d : ShellTransitionDisposition) → stepTo (dispositionMeans d) ≡ d
-unfolding stepTo dispositionMeans
+step-back : (d : ShellTransitionDisposition) → transitionDispositionTo (dispositionMeans d) ≡ d
+unfolding transitionDispositionTo dispositionMeans
 step-back Applied = refl
 step-back NoChange = refl
 step-back Rejected = refl
 
 pub step-answer-same : (a b : ShellTransitionResult) → answerOf a ≡ answerOf b → a ≡ b
 step-answer-same a b e = λ i. record {
-  disposition = (sym (step-back (a .disposition)) ∙ ap (λ (x : LifecycleAnswer). stepTo (x .disposition)) e ∙ step-back (b .disposition)) i;
+  disposition = (sym (step-back (a .disposition)) ∙ ap (λ (x : LifecycleAnswer). transitionDispositionTo (x .disposition)) e ∙ step-back (b .disposition)) i;
   state = (state-back (a .state) ∙ ap (λ (x : LifecycleAnswer). stateTo (x .state)) e ∙ sym (state-back (b .state))) i;
   diagnostics = diagnostics-same (a .diagnostics) (b .diagnostics) (ap (λ (x : LifecycleAnswer). x .diagnostics) e) i;
   «stimulus_bytes» = ap (λ (x : LifecycleAnswer). x .stimulusBytes) e i;

@@ -26,7 +26,7 @@ use Rattle.shell_player.specs.declared.session.ShellTransition.{ShellTransition
 use Rattle.shell_player.specs.declared.batch.ProjectionPatchBatch.{ProjectionPatchBatch}
 use Rattle.session_creation.specs.Creation.{Creates}
 use Rattle.session_creation.specs.declared.ShellSessionCreation.{ShellSessionCreation}
-use Rattle.session_lent.specs.HeadLaws.{long}
+use Rattle.session_lent.specs.HeadLaws.{lentHead-long}
 use Rattle.session_lent.specs.Steps.{roomShaped, CreatedIn, CreationCall, TransitionCall}
 use Rattle.session_lent.specs.Batches.{SameHalf, NextIn, LentStep, memoryShaped}
 use Rattle.session_lent.specs.BatchesLaws.{held-half, held-anchors, room-half}
@@ -64,7 +64,7 @@ pub transition-alike : (s : ShellSession) (k : Anchors) (h : Half) (m : Session)
     → ((x : Session) → Holds s x → (answerOf (t .result) ≡ lifecycleStep x u n .answer) × Holds (t .session) (lifecycleStep x u n .next))
     → (r : LentTransition) (head′ : List ℕ) → TransitionCall (h .head) u n r head′ → TransitionAlike k (withHead h head′) r t (lifecycleStep m u n .next)
 transition-alike s k h m by-value held u n t step r head′ call =
-    let told = call .answered (long (h .head) m (held .head-is)) in
+    let told = call .answered (lentHead-long (h .head) m (held .head-is)) in
     let became = transition-became told m (k .nodes) (k .pairs) (k .collections) (h .bindings) (h .availability) (h .entries) (h .lengths) held in
     let own = step m by-value in
     record {

@@ -21,7 +21,7 @@ use Rattle.panel_changes.specs.SetChangesLaws.{tableLengths-fit, stored-lengths
 use Rattle.shell_player.specs.Holds.{Holds}
 use Rattle.shell_player.specs.declared.session.ShellSession.{ShellSession}
 use Rattle.session_lent.specs.Head.{headNumbers, lentHeadOf}
-use Rattle.session_lent.specs.HeadLaws.{long}
+use Rattle.session_lent.specs.HeadLaws.{lentHead-long}
 use Rattle.session_lent.specs.Steps.{roomShaped}
 use Rattle.session_lent.specs.CreationLaws.{pairs-apart}
 use Rattle.session_lent.specs.HalvesLaws.{held-room}
@@ -75,7 +75,7 @@ unfolding roomShaped
 held-shaped k h m held =
     let pairs : length (k .pairs) ≡ 2 * length (map pairTo (m .catalogue .bindings)) = ap length (held .anchors-are .bindings-are) ∙ pairs-apart (map pairTo (m .catalogue .bindings)) in
     let even : length (k .pairs) % 2 ≡ 0 = omega (arith, pairs) in
-    rw (eq-eqb (length (h .head)) headNumbers (long (h .head) m (held .head-is)), eq-eqb (length (k .pairs) % 2) 0 even, eq-eqb (length (h .lengths)) lengthBytes (held .collections-told .size), tableLengths-fit (h .bindings) (h .availability) (h .entries) (stored-lengths (held .projection)))
+    rw (eq-eqb (length (h .head)) headNumbers (lentHead-long (h .head) m (held .head-is)), eq-eqb (length (k .pairs) % 2) 0 even, eq-eqb (length (h .lengths)) lengthBytes (held .collections-told .size), tableLengths-fit (h .bindings) (h .availability) (h .entries) (stored-lengths (held .projection)))
 
 -- ---- memory that nothing was written to
 

@@ -14,7 +14,7 @@ use Rattle.shell_player.specs.HoldsLaws.{stateTo, limitsTo}
 use Rattle.shell_player.specs.declared.session.ShellSession.{ShellSession}
 use Rattle.session_lent.specs.Head.{stateAt, limitsAt, countsAt}
 use Rattle.session_lent.specs.Halves.{Anchors, Half, HeldIn, RoomIn}
-use Rattle.session_lent.specs.Batches.{BatchCall}
+use Rattle.session_lent.specs.Batches.{BatchCallOnSlices}
 use Rattle.session_lent.specs.declared.batch.LentBatch.{LentBatch}
 
 -- ---- lent slices
@@ -32,7 +32,7 @@ pub record Panel (k : Anchors) (p : Memory) (m : Session) : Type 0 where
 -- the relation of the lent batch call: what it is told, the memory, its answer, and what it leaves in the other half
 abbrev pub LentBatchCall : Edition → BatchEnvelope → ℕ → List ℕ → Anchors → Memory → LentBatch → Half → Type 0
 LentBatchCall ed v declared set k p r w =
-    BatchCall ed v declared set (p .held .head) (k .nodes) (k .pairs) (k .collections) (p .held .bindings) (p .held .availability) (p .held .entries)
+    BatchCallOnSlices ed v declared set (p .held .head) (k .nodes) (k .pairs) (k .collections) (p .held .bindings) (p .held .availability) (p .held .entries)
     (p .other .head) (p .other .bindings) (p .other .availability) (p .other .entries) (p .other .lengths) r (w .head) (w .bindings) (w .availability) (w .entries) (w .lengths)
 
 -- after Applied the caller exchanges the halves

@@ -20,7 +20,7 @@ use Rattle.spec_session.specs.Lifecycle.{LocalState, applied}
 use Rattle.spec_session.specs.Batch.{BatchEnvelope, pass, batch}
 use Rattle.spec_session.specs.BatchLaws.{never-passes}
 use Rattle.spec_splitting.specs.Splitting.{Piece, references, patchesOf, Given}
-use Rattle.spec_examples.specs.Opened.{opened}
+use Rattle.spec_examples.specs.Opened.{openedAll}
 use Rattle.spec_examples.specs.SplitInstances.{patchNumbered, startSession, piece}
 use Rattle.active_projection_target_catalog.specs.Catalog.{pairOf, pairTo}
 use Rattle.active_projection_target_catalog.specs.CatalogLaws.{pairs-back}
@@ -139,15 +139,15 @@ unfoldable pub wholePiece : Piece
 wholePiece = piece (putsIn 1 ∷ takesOut 2 ∷ putsIn 3 ∷ takesOut 4 ∷ [])
 
 puts-fits : (n : ℕ) → n < 100 → InRangePatch (putsIn n)
-unfolding putsIn patchNumbered opened OperationHolds InRangeValue OptionalU64
+unfolding putsIn patchNumbered openedAll OperationHolds InRangeValue OptionalU64
 puts-fits n h = omega (arith, h)
 
 takes-fits : (n : ℕ) → n < 100 → InRangePatch (takesOut n)
-unfolding takesOut patchNumbered opened OperationHolds InRangeValue OptionalU64
+unfolding takesOut patchNumbered openedAll OperationHolds InRangeValue OptionalU64
 takes-fits n h = omega (arith, h)
 
 given : Given startSession 40 wholePiece (firstPiece ∷ secondPiece ∷ [])
-unfolding startSession wholePiece firstPiece secondPiece piece opened patchesOf
+unfolding startSession wholePiece firstPiece secondPiece piece openedAll patchesOf
 given = record {
   inRange = (puts-fits 1 (omega arith), (takes-fits 2 (omega arith), (puts-fits 3 (omega arith), (takes-fits 4 (omega arith), tt))));
   cut = refl;
@@ -178,11 +178,11 @@ abbrev pub premiseCall : Session → Memory → ℕ → Piece → LentCall
 premiseCall m p n q = record { result = appliedAt n; written = halfOf (afterPiece m p n q) }
 
 whole-sent : LentSent v1 someAnchors memory 40 wholePiece (premiseCall startSession memory 40 wholePiece)
-unfolding opened afterPiece startSession wholePiece putsIn takesOut patchNumbered piece references preflightBy
+unfolding openedAll afterPiece startSession wholePiece putsIn takesOut patchNumbered piece references preflightBy
 whole-sent = some-call v1 startSession few-start memory start-panel refl (sentTo memory 40 wholePiece) (references wholePiece) (encode v1 (wholePiece .patches)) refl refl refl refl
 
 first-sent : LentSent v1 someAnchors memory 40 firstPiece (premiseCall startSession memory 40 firstPiece)
-unfolding opened afterPiece startSession firstPiece putsIn takesOut patchNumbered piece references preflightBy
+unfolding openedAll afterPiece startSession firstPiece putsIn takesOut patchNumbered piece references preflightBy
 first-sent = some-call v1 startSession few-start memory start-panel refl (sentTo memory 40 firstPiece) (references firstPiece) (encode v1 (firstPiece .patches)) refl refl refl refl
 
 unfoldable pub betweenPieces : Session
@@ -196,7 +196,7 @@ unfolding betweenPieces afterPiece
 between-panel = lent-goes-on v1 (sentTo memory 40 firstPiece) (references firstPiece) (encode v1 (firstPiece .patches)) someAnchors memory startSession start-panel (appliedAt 40) (halfOf betweenPieces) first-sent
 
 second-sent : LentSent v1 someAnchors betweenMemory 41 secondPiece (premiseCall betweenPieces betweenMemory 41 secondPiece)
-unfolding opened betweenPieces afterPiece startSession firstPiece secondPiece putsIn takesOut patchNumbered piece references preflightBy
+unfolding openedAll betweenPieces afterPiece startSession firstPiece secondPiece putsIn takesOut patchNumbered piece references preflightBy
 second-sent = some-call v1 betweenPieces few-start betweenMemory between-panel refl (sentTo betweenMemory 41 secondPiece) (references secondPiece) (encode v1 (secondPiece .patches)) refl refl refl refl
 
 pub lent-premises-met : AllAppliedIn memory 40 (firstPiece ∷ secondPiece ∷ []) (premiseCall startSession memory 40 wholePiece) (premiseCall startSession memory 40 firstPiece ∷ premiseCall betweenPieces betweenMemory 41 secondPiece ∷ [])

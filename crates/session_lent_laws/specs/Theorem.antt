@@ -12,7 +12,7 @@ use Rattle.spec_splitting.specs.Splitting.{Piece, references, Given}
 use Rattle.session_lifecycle.specs.Meaning.{cursorOf}
 use Rattle.session_steps.specs.declared.answers.ProjectionPatchApplicationDisposition.{ProjectionPatchApplicationDisposition}
 use Rattle.shell_player.specs.declared.session.ShellSession.{ShellSession}
-use Rattle.session_splitting.specs.Calls.{envelopeFor, Sent, refused, Onward, Calls, lastOf}
+use Rattle.session_splitting.specs.Calls.{envelopeFor, Sent, refused, UnlessRejected, Calls, lastOf}
 use Rattle.session_splitting.specs.Claim.{WasApplied, CallsInPieces}
 use Rattle.session_splitting.specs.Theorem.{session-whole-and-pieces}
 use Rattle.session_lent.specs.Head.{stateAt}
@@ -44,7 +44,7 @@ lent-calls ed k (q ∷ qs) (x ∷ cs) p m n panel c =
   where
     go : (t : Bool) → Further t cs (LentCalls ed k (afterCall p x) (n + 1) qs cs)
         → (LentCalls ed k (afterCall p x) (n + 1) qs cs → Calls ed (structIn k (afterCall p x .held)) (n + 1) qs (asBatches k (afterCall p x) cs))
-        → Onward t (asBatches k (afterCall p x) cs) (Calls ed (structIn k (afterCall p x .held)) (n + 1) qs (asBatches k (afterCall p x) cs))
+        → UnlessRejected t (asBatches k (afterCall p x) cs) (Calls ed (structIn k (afterCall p x .held)) (n + 1) qs (asBatches k (afterCall p x) cs))
     go true none ih = ap (asBatches k (afterCall p x)) none
     go false on ih = ih on
 

@@ -32,14 +32,14 @@ tables-stored {m = m} h = held-tables m (h .held)
 pub tables-counted : {head b a e : List ℕ} {m : Session} (n : ProjectionCounts) → n ≡ countsAt head → HoldsTables head b a e m → StoredTables n b a e (m .projection)
 tables-counted {b = b} {a = a} {e = e} {m = m} n is h = subst (λ (k : ProjectionCounts). StoredTables k b a e (m .projection)) (sym is) (tables-stored h)
 
-pub bindings-stored : {head b : List ℕ} {m : Session} (n : ℕ) → n ≡ countsAt head .bindings → HoldsBindings head b m → Stored bindingRow bindingWidth projectionBindings n b (m .projection .bindings)
-bindings-stored {b = b} {m = m} n is h = subst (λ (k : ℕ). Stored bindingRow bindingWidth projectionBindings k b (m .projection .bindings)) (sym is) (tables-stored (h .tables) .bindings)
+pub bindings-held : {head b : List ℕ} {m : Session} (n : ℕ) → n ≡ countsAt head .bindings → HoldsBindings head b m → Stored bindingRow bindingWidth projectionBindings n b (m .projection .bindings)
+bindings-held {b = b} {m = m} n is h = subst (λ (k : ℕ). Stored bindingRow bindingWidth projectionBindings k b (m .projection .bindings)) (sym is) (tables-stored (h .tables) .bindings)
 
-pub availabilities-stored : {head a : List ℕ} {m : Session} (n : ℕ) → n ≡ countsAt head .availabilities → HoldsAvailabilities head a m → Stored availabilityRow availabilityWidth projectionAvailabilities n a (m .projection .availabilities)
-availabilities-stored {a = a} {m = m} n is h = subst (λ (k : ℕ). Stored availabilityRow availabilityWidth projectionAvailabilities k a (m .projection .availabilities)) (sym is) (tables-stored (h .tables) .availabilities)
+pub availabilities-held : {head a : List ℕ} {m : Session} (n : ℕ) → n ≡ countsAt head .availabilities → HoldsAvailabilities head a m → Stored availabilityRow availabilityWidth projectionAvailabilities n a (m .projection .availabilities)
+availabilities-held {a = a} {m = m} n is h = subst (λ (k : ℕ). Stored availabilityRow availabilityWidth projectionAvailabilities k a (m .projection .availabilities)) (sym is) (tables-stored (h .tables) .availabilities)
 
-pub entries-stored : {head e : List ℕ} {m : Session} (n : ℕ) → n ≡ countsAt head .entries → HoldsEntries head e m → Stored entryRow entryWidth projectionEntries n e (m .projection .entries)
-entries-stored {e = e} {m = m} n is h = subst (λ (k : ℕ). Stored entryRow entryWidth projectionEntries k e (m .projection .entries)) (sym is) (tables-stored (h .tables) .entries)
+pub entries-held : {head e : List ℕ} {m : Session} (n : ℕ) → n ≡ countsAt head .entries → HoldsEntries head e m → Stored entryRow entryWidth projectionEntries n e (m .projection .entries)
+entries-held {e = e} {m = m} n is h = subst (λ (k : ℕ). Stored entryRow entryWidth projectionEntries k e (m .projection .entries)) (sym is) (tables-stored (h .tables) .entries)
 
 -- and they have its shape
 pub tables-shaped : (head b a e : List ℕ) (m : Session) → HoldsTables head b a e m → halfShaped head (length b) (length a) (length e) ≡ true

@@ -28,16 +28,16 @@ refused NoChange = false
 refused Rejected = true
 
 -- nothing follows a refusal
-abbrev pub Onward : Bool → List ProjectionPatchBatch → Type 0 → Type 0
-Onward true bs on = bs ≡ []
-Onward false bs on = on
+abbrev pub UnlessRejected : Bool → List ProjectionPatchBatch → Type 0 → Type 0
+UnlessRejected true bs on = bs ≡ []
+UnlessRejected false bs on = on
 
 -- piece i, from 0, carries the number n + i; each goes to the session just handed back, until one is refused
 abbrev pub Calls : Edition → ShellSession → ℕ → List Piece → List ProjectionPatchBatch → Type 0
 Calls ed s n [] [] = Unit {0}
 Calls ed s n [] (b ∷ bs) = ⊥
 Calls ed s n (p ∷ ps) [] = ⊥
-Calls ed s n (p ∷ ps) (b ∷ bs) = Sent ed s n p b × Onward (refused (b .result .disposition)) bs (Calls ed (b .session) (n + 1) ps bs)
+Calls ed s n (p ∷ ps) (b ∷ bs) = Sent ed s n p b × UnlessRejected (refused (b .result .disposition)) bs (Calls ed (b .session) (n + 1) ps bs)
 
 -- the session that was handed back last
 unfoldable pub lastOf : ShellSession → List ProjectionPatchBatch → ShellSession

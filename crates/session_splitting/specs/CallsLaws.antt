@@ -16,7 +16,7 @@ use Rattle.shell_player.specs.declared.batch.ProjectionPatchBatch.{ProjectionPa
 use Rattle.shell_player.specs.Holds.{Holds}
 use Rattle.session_steps.specs.Answers.{dispositionTold, batchAnswerOf}
 use Rattle.shell_player.specs.Batches.{BatchBecame}
-use Rattle.session_splitting.specs.Calls.{Sent, refused, Onward, Calls, lastOf}
+use Rattle.session_splitting.specs.Calls.{Sent, refused, UnlessRejected, Calls, lastOf}
 
 abbrev pub answersOf : List ProjectionPatchBatch → List BatchAnswer
 answersOf bs = map (λ (b : ProjectionPatchBatch). batchAnswerOf (b .result)) bs
@@ -50,7 +50,7 @@ calls-follow ed (p ∷ ps) (b ∷ bs) s m n h c = go (refused (b .result .dispos
     told : isRejected (send ed m n p .answer .disposition) ≡ refused (b .result .disposition)
     told = ap (λ (a : BatchAnswer). isRejected (a .disposition)) (sym (step .answer)) ∙ refused-told (b .result .disposition)
 
-    go : (t : Bool) → refused (b .result .disposition) ≡ t → Onward t bs (Calls ed (b .session) (n + 1) ps bs)
+    go : (t : Bool) → refused (b .result .disposition) ≡ t → UnlessRejected t bs (Calls ed (b .session) (n + 1) ps bs)
         → (Holds (b .session) (send ed m n p .next) → Calls ed (b .session) (n + 1) ps bs → FollowsRun (b .session) bs (sendAll ed (send ed m n p .next) (n + 1) ps))
         → FollowsRun s (b ∷ bs) (continue (send ed m n p) (sendAll ed (send ed m n p .next) (n + 1) ps))
     go true e none ih = rw (told ∙ e, none) (record { answers = ap (λ (a : BatchAnswer). a ∷ []) (step .answer); last = step .next })

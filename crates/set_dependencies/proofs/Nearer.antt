@@ -11,7 +11,7 @@ use borrow.Rule.Slice.PartMut.{midOf, putMid}
 use Rattle.bytes_records.specs.Moves.{zeros}
 use Rattle.bytes_records.specs.Positions.{insertAt, moveAt}
 use Rattle.bytes_records.specs.Table.{HoldsRows, Changed, canInsert, canMove}
-use Rattle.bytes_records.specs.TableLaws.{holds, padded, can-insert, can-move}
+use Rattle.bytes_records.specs.TableLaws.{holds, rows-padded, can-insert, can-move}
 use Rattle.spec_dependencies.specs.Settled.{Settled}
 use Rattle.set_dependencies.specs.SettledRows.{settledRow, rowWidth, rowCapacity, SettledTable, RowsIn, SettledIn}
 use Rattle.set_dependencies.specs.SettledRowsLaws.{start-within, settled-rows}
@@ -38,7 +38,7 @@ one-more : {count : ℕ} {part : List ℕ} (x rest : List ℕ) {rows : List (Lis
 unfolding flatten
 one-more {count} {part} x rest {rows} h wide is =
     holds rowWidth (count + 1) part (x ∷ rows) (length rest - count * rowWidth) (wide, h .wide) (omega (arith, h .counted))
-    (is ∙ ap (λ (l : List ℕ). x ++ l) (padded h) ∙ sym (append-assoc x (flatten rows) (zeros (length rest - count * rowWidth))))
+    (is ∙ ap (λ (l : List ℕ). x ++ l) (rows-padded h) ∙ sym (append-assoc x (flatten rows) (zeros (length rest - count * rowWidth))))
 
 module _ {p : SettledPlaces} {table : List ℕ} {rows : List (List ℕ)} (h : RowsIn p table rows) (room : p .count < rowCapacity) (at : ℕ) (within : at ≤ p .count) (row : List ℕ) (wide : length row ≡ rowWidth) where
   -- ---- the last rows move up

@@ -11,7 +11,7 @@ use Rattle.spec_patch.specs.Patch.{Operation, Patch}
 use Rattle.spec_patch.specs.Encode.{encodeOperation}
 use Rattle.spec_dependencies.specs.Expectations.{expectations}
 use Rattle.spec_dependencies.specs.Settled.{Settled, judgeAll}
-use Rattle.spec_dependencies.specs.Dependencies.{SettlingWalk, contradicts, walkOn, walkStep, walkOperations, walkPatches}
+use Rattle.spec_dependencies.specs.Dependencies.{SettlingWalk, contradicts, settleOn, settleStep, settleOperations, settlePatches}
 use Rattle.spec_dependencies.specs.CountLaws.{judgeAll-length, expectations-bytes}
 use Rattle.projection_patch.specs.Meaning.{operationOf}
 use Rattle.projection_patch.specs.ReadAnswers.{lentFrom}
@@ -42,7 +42,7 @@ expects-alike texts (CollectionMove c k b) = refl
 
 module _ (ed : Edition) (set : List ℕ) (whole : SettlingWalk) where
   -- operations of the open patch are left, then patches; settling their keys too gives what the whole walk gives
-  pub record Walking (c : SetCursor) (places : SettledPlaces) (opened patch index : ℕ) (table : List ℕ) : Type 0 where
+  pub record SettlingRun (c : SetCursor) (places : SettledPlaces) (opened patch index : ℕ) (table : List ℕ) : Type 0 where
     pub os : List Operation
     pub ps : List Patch
     pub here : AtSteps ed set c os ps
@@ -50,26 +50,26 @@ module _ (ed : Edition) (set : List ℕ) (whole : SettlingWalk) where
     pub stored : SettledIn places table settled
     -- 13 bytes for each key
     pub few : 13 * places .count ≤ c .at
-    pub same : walkOn (walkOperations patch index os settled) (λ u. walkPatches opened ps u) ≡ whole
+    pub same : settleOn (settleOperations patch index os settled) (λ u. settlePatches opened ps u) ≡ whole
 
-  module _ {c : SetCursor} {places : SettledPlaces} {opened patch index : ℕ} {table : List ℕ} (w : Walking c places opened patch index table) where
-    pub walk-end : (w .os ≡ []) × (w .ps ≡ []) → SetSettlesTo whole (set-settling.Settled places) table
-    unfolding walkOperations walkPatches
-    walk-end all =
+  module _ {c : SetCursor} {places : SettledPlaces} {opened patch index : ℕ} {table : List ℕ} (w : SettlingRun c places opened patch index table) where
+    pub settling-end : (w .os ≡ []) × (w .ps ≡ []) → SetSettlesTo whole (set-settling.Settled places) table
+    unfolding settleOperations settlePatches
+    settling-end all =
         subst (λ x. SetSettlesTo x (set-settling.Settled places) table)
-        (ap₂ (λ (os : List Operation) (ps : List Patch). walkOn (walkOperations patch index os (w .settled)) (λ u. walkPatches opened ps u)) (sym (all .0)) (sym (all .1)) ∙ w .same) (w .stored)
+        (ap₂ (λ (os : List Operation) (ps : List Patch). settleOn (settleOperations patch index os (w .settled)) (λ u. settlePatches opened ps u)) (sym (all .0)) (sym (all .1)) ∙ w .same) (w .stored)
 
     -- a patch's head: its operations are left now, counted from 0
-    pub walk-head : {head : ProjectionPatch} {d : SetCursor} → Opened ed set c (w .os) (w .ps) head d → Walking d places (opened + 1) opened 0 table
-    unfolding walkOperations walkPatches
-    walk-head o = record {
+    pub settling-head : {head : ProjectionPatch} {d : SetCursor} → Opened ed set c (w .os) (w .ps) head d → SettlingRun d places (opened + 1) opened 0 table
+    unfolding settleOperations settlePatches
+    settling-head o = record {
       os = o .first .operations;
       ps = o .rest;
       here = o .next;
       settled = w .settled;
       stored = w .stored;
       few = omega (arith, w .few, ap (λ (x : SetCursor). x .at) (o .behind));
-      same = ap₂ (λ (os : List Operation) (ps : List Patch). walkOn (walkOperations patch index os (w .settled)) (λ u. walkPatches opened ps u)) (sym (o .none)) (sym (o .is)) ∙ w .same;
+      same = ap₂ (λ (os : List Operation) (ps : List Patch). settleOn (settleOperations patch index os (w .settled)) (λ u. settlePatches opened ps u)) (sym (o .none)) (sym (o .is)) ∙ w .same;
     }
 
     -- ---- an operation
@@ -83,19 +83,19 @@ module _ (ed : Edition) (set : List ℕ) (whole : SettlingWalk) where
 
       -- the walk after the operation, by what its expectations come to
       by-step : (y : Option (List Settled)) → judgeAll (expectations (v .first)) (w .settled) ≡ y
-          → walkOn (walkOn (walkStep patch index y) (λ u. walkOperations patch (index + 1) (v .rest) u)) (λ u. walkPatches opened (w .ps) u) ≡ whole
-      unfolding walkOperations
+          → settleOn (settleOn (settleStep patch index y) (λ u. settleOperations patch (index + 1) (v .rest) u)) (λ u. settlePatches opened (w .ps) u) ≡ whole
+      unfolding settleOperations
       by-step y e =
-          ap (λ z. walkOn (walkOn (walkStep patch index z) (λ u. walkOperations patch (index + 1) (v .rest) u)) (λ u. walkPatches opened (w .ps) u)) (sym e)
-          ∙ ap (λ (os : List Operation). walkOn (walkOperations patch index os (w .settled)) (λ u. walkPatches opened (w .ps) u)) (sym (v .is)) ∙ w .same
+          ap (λ z. settleOn (settleOn (settleStep patch index z) (λ u. settleOperations patch (index + 1) (v .rest) u)) (λ u. settlePatches opened (w .ps) u)) (sym e)
+          ∙ ap (λ (os : List Operation). settleOn (settleOperations patch index os (w .settled)) (λ u. settlePatches opened (w .ps) u)) (sym (v .is)) ∙ w .same
 
       -- it goes on, or the whole walk ends at this operation
-      abbrev After : List ℕ → Settling → Type 0
-      After exit (settling.Settled more) = Walking d more opened patch (index + 1) exit
-      After exit settling.Contradiction = whole ≡ contradicts patch index
+      abbrev AfterSettling : List ℕ → Settling → Type 0
+      AfterSettling exit (settling.Settled more) = SettlingRun d more opened patch (index + 1) exit
+      AfterSettling exit settling.Contradiction = whole ≡ contradicts patch index
 
       module _ (exit : List ℕ) where
-        go : (r : Settling) (y : Option (List Settled)) → judgeAll (expectations (v .first)) (w .settled) ≡ y → SettlesTo y r exit → After exit r
+        go : (r : Settling) (y : Option (List Settled)) → judgeAll (expectations (v .first)) (w .settled) ≡ y → SettlesTo y r exit → AfterSettling exit r
         go (settling.Settled more) none e h = absurd h
         go (settling.Settled more) (some u) e h = record {
           os = v .rest;
@@ -109,18 +109,18 @@ module _ (ed : Edition) (set : List ℕ) (whole : SettlingWalk) where
         go settling.Contradiction none e h = sym (by-step none e)
         go settling.Contradiction (some u) e h = absurd h
 
-        after : (r : Settling) → Judges places table exit r (expectations (operationOf [] x)) → After exit r
+        after : (r : Settling) → Judges places table exit r (expectations (operationOf [] x)) → AfterSettling exit r
         after r judges =
             let within = v .next .inside in
             go r (judgeAll (expectations (v .first)) (w .settled)) refl
             (subst (Judges places table exit r) expected judges (w .settled) (w .stored) (omega (arith, w .few, position, expectations-bytes (v .first), within, short)))
 
-        pub walk-on : {r : Settling} {more : SettledPlaces} → Judges places table exit r (expectations (operationOf [] x)) → r ≡ settling.Settled more → Walking d more opened patch (index + 1) exit
-        walk-on {r} judges is = subst (After exit) is (after r judges)
+        pub settling-on : {r : Settling} {more : SettledPlaces} → Judges places table exit r (expectations (operationOf [] x)) → r ≡ settling.Settled more → SettlingRun d more opened patch (index + 1) exit
+        settling-on {r} judges is = subst (AfterSettling exit) is (after r judges)
 
-        pub walk-contradicts : {r : Settling} → Judges places table exit r (expectations (operationOf [] x)) → r ≡ settling.Contradiction → SetSettlesTo whole (set-settling.Contradiction patch index) exit
-        walk-contradicts {r} judges is = subst (λ y. SetSettlesTo y (set-settling.Contradiction patch index) exit) (sym (subst (After exit) is (after r judges))) (refl, refl)
+        pub settling-contradicts : {r : Settling} → Judges places table exit r (expectations (operationOf [] x)) → r ≡ settling.Contradiction → SetSettlesTo whole (set-settling.Contradiction patch index) exit
+        settling-contradicts {r} judges is = subst (λ y. SetSettlesTo y (set-settling.Contradiction patch index) exit) (sym (subst (AfterSettling exit) is (after r judges))) (refl, refl)
 
-pub walk-start : (ed : Edition) (set : List ℕ) {c : SetCursor} {table : List ℕ} (ps : List Patch) → AtSteps ed set c [] ps → SettledIn noPlaces table [] → Walking ed set (walkPatches 0 ps []) c noPlaces 0 0 0 table
-unfolding walkOperations
-walk-start ed set ps here stored = record { os = []; ps = ps; here = here; settled = []; stored = stored; few = omega arith; same = refl }
+pub settling-start : (ed : Edition) (set : List ℕ) {c : SetCursor} {table : List ℕ} (ps : List Patch) → AtSteps ed set c [] ps → SettledIn noPlaces table [] → SettlingRun ed set (settlePatches 0 ps []) c noPlaces 0 0 0 table
+unfolding settleOperations
+settling-start ed set ps here stored = record { os = []; ps = ps; here = here; settled = []; stored = stored; few = omega arith; same = refl }

@@ -16,16 +16,16 @@ use Rattle.bytes_records.specs.declared.Place.the-variants.{Taken, Before}
 
 module _ {A : Type 0} (key : A → List ℕ) (k : List ℕ) (d : A) where
   -- what a place says of a lookup
-  abbrev pub Tells : Place → List A → Type 0
-  Tells (Taken i) l = (i < length l) × (lookup key k l ≡ some (getD l i d))
-  Tells (Before i) l = (i ≤ length l) × (lookup key k l ≡ none)
+  abbrev pub PlaceTells : Place → List A → Type 0
+  PlaceTells (Taken i) l = (i < length l) × (lookup key k l ≡ some (getD l i d))
+  PlaceTells (Before i) l = (i ≤ length l) × (lookup key k l ≡ none)
 
-  past : (x : A) (l : List A) → lexLess (key x) k ≡ true → (p : Place) → Tells p l → Tells (nextPlace p) (x ∷ l)
+  past : (x : A) (l : List A) → lexLess (key x) k ≡ true → (p : Place) → PlaceTells p l → PlaceTells (nextPlace p) (x ∷ l)
   unfolding nextPlace
   past x l h (Taken i) t = (omega (arith, t .0), lookup-past key k x l (λ e. lexLess-irreflexive k (rw e at h)) ∙ t .1)
   past x l h (Before i) t = (omega (arith, t .0), lookup-past key k x l (λ e. lexLess-irreflexive k (rw e at h)) ∙ t .1)
 
-  pub place-tells : (l : List A) → Ascending key l → Tells (placeOf key k l) l
+  pub place-tells : (l : List A) → Ascending key l → PlaceTells (placeOf key k l) l
   unfolding placeOf lookup
   place-tells [] h = (omega arith, refl)
   place-tells (x ∷ l) h = test-cases (lexLess k (key x))

@@ -22,7 +22,7 @@ use Rattle.bytes_records.specs.declared.Place.{Place}
 use Rattle.bytes_records.specs.declared.Place.the-variants.{Taken, Before}
 use Rattle.set_dependencies.specs.SettledRows.{settledRow, rowWidth, FitsSettled, SettledTable, RowsIn, SettledIn}
 use Rattle.set_dependencies.specs.SettledRowsLaws.{row-wide, noKey, settled-rows}
-use Rattle.set_dependencies.specs.PlaceLaws.{Tells, place-tells}
+use Rattle.set_dependencies.specs.PlaceLaws.{PlaceTells, place-tells}
 use Rattle.set_dependencies.specs.Settling.{SettlesAgain, SettlesTo}
 use Rattle.set_dependencies.specs.declared.settled_rows.SettledPlaces.{SettledPlaces}
 use Rattle.set_dependencies.specs.declared.settling.Settling.{Settling}
@@ -38,8 +38,8 @@ module _ (e : Expectation) (fits : U64 (e .collection) × U64 (e .key)) (t : Lis
   abbrev place : Place
   place = placeOf settledKey (e .collection ∷ e .key ∷ []) t
 
-  tells : (p : Place) → place ≡ p → Tells settledKey (e .collection ∷ e .key ∷ []) noKey p t
-  tells p is = subst (λ q. Tells settledKey (e .collection ∷ e .key ∷ []) noKey q t) is (place-tells settledKey (e .collection ∷ e .key ∷ []) noKey t ascending)
+  tells : (p : Place) → place ≡ p → PlaceTells settledKey (e .collection ∷ e .key ∷ []) noKey p t
+  tells p is = subst (λ q. PlaceTells settledKey (e .collection ∷ e .key ∷ []) noKey q t) is (place-tells settledKey (e .collection ∷ e .key ∷ []) noKey t ascending)
 
   module _ (b : Bool) where
     -- the keys with that of the expectation

@@ -40,9 +40,9 @@ module _ (out : List ℕ) (at c k : ℕ) (room : at + 2 ≤ length out) where
 
 module _ (b : Bool) (s : Settled) (t : List Settled) (n : ℕ) (out : List ℕ) (total : ℕ) (whole : List ℕ) (h : KeysLeft b (s ∷ t) n out total whole) where
   -- a row of the other list
-  pub left-other : Bool·beq (s .atStart) b ≡ false → KeysLeft b t n out total whole
+  pub keysLeft-other : Bool·beq (s .atStart) b ≡ false → KeysLeft b t n out total whole
   unfolding keysAtStart
-  left-other f = record { counted = rw f at (h .counted); words = rw f at (h .words) }
+  keysLeft-other f = record { counted = rw f at (h .counted); words = rw f at (h .words) }
 
   module _ (f : Bool·beq (s .atStart) b ≡ true) where
     counted-own : n + suc (length (keysAtStart b t)) ≡ total
@@ -54,11 +54,11 @@ module _ (b : Bool) (s : Settled) (t : List Settled) (n : ℕ) (out : List ℕ) 
     words-own = rw f at (h .words)
 
     -- a row of this list has room
-    pub left-room : pairLength * total ≤ length out → pairLength * n + 2 ≤ length out
-    left-room few = omega (arith, counted-own)
+    pub keysLeft-room : pairLength * total ≤ length out → pairLength * n + 2 ≤ length out
+    keysLeft-room few = omega (arith, counted-own)
 
-    pub left-own : pairLength * n + 2 ≤ length out → KeysLeft b t (n + 1) (set (set out (pairLength * n) (s .collection)) (pairLength * n + 1) (s .key)) total whole
-    left-own room =
+    pub keysLeft-own : pairLength * n + 2 ≤ length out → KeysLeft b t (n + 1) (set (set out (pairLength * n) (s .collection)) (pairLength * n + 1) (s .key)) total whole
+    keysLeft-own room =
         let more : pairLength * (n + 1) ≡ pairLength * n + 2 = omega arith in
         let next = set (set out (pairLength * n) (s .collection)) (pairLength * n + 1) (s .key) in
         record {
@@ -69,6 +69,6 @@ module _ (b : Bool) (s : Settled) (t : List Settled) (n : ℕ) (out : List ℕ) 
         }
 
 -- no rows are left
-pub left-none : (b : Bool) (n : ℕ) (out : List ℕ) (total : ℕ) (whole : List ℕ) → KeysLeft b [] n out total whole → (n ≡ total) × (out ≡ whole)
+pub keysLeft-none : (b : Bool) (n : ℕ) (out : List ℕ) (total : ℕ) (whole : List ℕ) → KeysLeft b [] n out total whole → (n ≡ total) × (out ≡ whole)
 unfolding keysAtStart allWords flatMap wordsWritten
-left-none b n out total whole h = (omega (arith, h .counted), sym (take-append-drop (pairLength * n) out) ∙ h .words)
+keysLeft-none b n out total whole h = (omega (arith, h .counted), sym (take-append-drop (pairLength * n) out) ∙ h .words)

@@ -12,7 +12,7 @@ ghost use Prim.Native.Nat.{_≤_};
 ghost use lib.ListN.{length};
 ghost use Rattle.spec_patch.specs.Sizes.{setBytes};
 ghost use Rattle.spec_patch.specs.Patch.{Patch};
-ghost use Rattle.spec_dependencies.specs.Dependencies.{walkPatches};
+ghost use Rattle.spec_dependencies.specs.Dependencies.{settlePatches};
 ghost use Rattle.projection_patch.specs.Meaning.{editionOf};
 ghost use Rattle.patch_walk.specs.Steps.{AtSteps};
 ghost use Rattle.set_dependencies.specs.SettledRows.{SettledIn, noPlaces};
@@ -33,7 +33,7 @@ pub fn settle_steps(
     table: &mut [u8],
 ) -> SetSettling
     ensures { λ r. ⌜ ((ps : List Patch) → length (now (set .entry)) ≤ setBytes → AtSteps (editionOf edition) (now (set .entry)) from [] ps → SettledIn noPlaces (now (table .entry)) []
-        → SetSettlesTo (walkPatches 0 ps []) r (now (table .exit))) ⌝ }
+        → SetSettlesTo (settlePatches 0 ps []) r (now (table .exit))) ⌝ }
 {
     let mut cursor = from;
     let mut places = SettledPlaces {

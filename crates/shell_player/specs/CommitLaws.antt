@@ -46,9 +46,9 @@ kept-applied s r c e not = absurd (not (applied-told (r .result .disposition) (a
 
 module _ (s : ShellSession) (m : Session) (holds : Holds s m) where
   -- a batch sees the session that the struct stores
-  pub seen : SeenSession (s .context) (s .state) m
+  pub struct-seen : SeenSession (s .context) (s .state) m
   unfolding stateOf
-  seen = record {
+  struct-seen = record {
     id-is = holds .id;
     limits-are = holds .limits;
     lifecycle-is = ap (λ (t : LocalState). t .lifecycle) (holds .state);
@@ -64,7 +64,7 @@ module _ (s : ShellSession) (m : Session) (holds : Holds s m) where
 
   pub rejects : (r : ProjectionPatchApplicationResult) (f : SessionRefusal) (n : ℕ) → batchAnswerOf r ≡ rejectedAt cap f n cursor → BatchBecame (record { session = s; result = r }) (rejectBatch m f n)
   unfolding rejectBatch
-  rejects r f n h = record { answer = h ∙ ap₂ (λ (k : Limits) (c : Cursor). rejectedAt (k .diagnostics) f n c) (holds .limits) (seen .cursor-is); next = holds }
+  rejects r f n h = record { answer = h ∙ ap₂ (λ (k : Limits) (c : Cursor). rejectedAt (k .diagnostics) f n c) (holds .limits) (struct-seen .cursor-is); next = holds }
 
   module _ (e : BatchEnvelope) (ps : List Patch) where
     -- without patches nothing changes
@@ -73,7 +73,7 @@ module _ (s : ShellSession) (m : Session) (holds : Holds s m) where
     commits-none r h none count = go ps count
       where
         go : (qs : List Patch) → e .patches ≡ length qs → BatchBecame (record { session = s; result = r }) (commit m e (candidate m qs))
-        go [] c = rw (eq-eqb (e .patches) 0 none) (record { answer = h ∙ ap (λ (k : Cursor). answerAt noChange k) (seen .cursor-is); next = holds })
+        go [] c = rw (eq-eqb (e .patches) 0 none) (record { answer = h ∙ ap (λ (k : Cursor). answerAt noChange k) (struct-seen .cursor-is); next = holds })
         go (q ∷ qs) c = absurd (omega arith)
 
     -- a set that was not applied hands the session back

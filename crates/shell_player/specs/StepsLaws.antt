@@ -20,11 +20,11 @@ use Rattle.shell_player.specs.Holds.{Holds}
 use Rattle.shell_player.specs.Steps.{withState, nextSession}
 
 -- the struct with the state after the step
-pub stored : (s : ShellSession) (d : ShellTransitionDisposition) (t : ShellLocalState) → withState s (nextState (s .state) d t) ≡ nextSession s d t
+pub state-stored : (s : ShellSession) (d : ShellTransitionDisposition) (t : ShellLocalState) → withState s (nextState (s .state) d t) ≡ nextSession s d t
 unfolding nextState nextSession
-stored s Applied t = refl
-stored s NoChange t = refl
-stored s Rejected t = refl
+state-stored s Applied t = refl
+state-stored s NoChange t = refl
+state-stored s Rejected t = refl
 
 module _ (s : ShellSession) (m : model.Session) (holds : Holds s m) (u : Stimulus) (b : ℕ) (r : ShellTransitionResult)
     (answered : answerOf r ≡ lifecycleStep (bare (limitsOf (s .context .limits)) (stateTold (s .state))) u b .answer) where

@@ -30,7 +30,7 @@ pub record Checked : Type 0 where
   pub written : ℕ
 
 -- the check of a patch list, with so many places lent
-unfoldable pub checked : List Patch → ℕ → Checked
-checked ps room =
+unfoldable pub checkedList : List Patch → ℕ → Checked
+checkedList ps room =
     let f = findings ps in
     record { place = f .place; logical = length (f .found); written = length (fitting room (f .found)) }

@@ -11,7 +11,7 @@ use Rattle.spec_checks.specs.Target.{mutationTarget, sameTarget}
 use Rattle.spec_checks.specs.PatchChecks.{isSelf, beforeSelf, operationFindings, envelopeFindings, rawPatchFindings, patchFindings}
 use Rattle.spec_checks.specs.SetChecks.{isLastSequence, isSameSequence, isNextSequence, sequenceFindings, pairFindings, duplicateIdFindings, previousFindings, afterFindings, rawSetFindings, setFindings}
 use Rattle.spec_checks.specs.Findings.{inPatch, inSet, Findings, firstFindings, findings}
-use Rattle.spec_checks.specs.Answer.{findingWords, fitting, writeFindings, checked}
+use Rattle.spec_checks.specs.Answer.{findingWords, fitting, writeFindings, checkedList}
 
 -- ---- patches, and rows of an answer
 
@@ -120,7 +120,7 @@ examples-found = refl
 pub examples-written :
     (writeFindings (exampleRow 4 7 3 ∷ exampleRow 5 7 3 ∷ []) (10 ∷ 20 ∷ 30 ∷ 40 ∷ 50 ∷ []) ≡ 4 ∷ 7 ∷ 3 ∷ 40 ∷ 50 ∷ [])
     × (writeFindings (exampleRow 4 7 3 ∷ exampleRow 5 7 3 ∷ []) (10 ∷ 20 ∷ 30 ∷ 40 ∷ 50 ∷ 60 ∷ 70 ∷ []) ≡ 4 ∷ 7 ∷ 3 ∷ 5 ∷ 7 ∷ 3 ∷ 70 ∷ [])
-    × (checked (plain 7 3 ∷ plain 7 3 ∷ []) 5 ≡ record { place = inSet; logical = 2; written = 1 })
-    × (checked (plain 7 3 ∷ plain 7 3 ∷ []) 7 ≡ record { place = inSet; logical = 2; written = 2 })
-unfolding lexLess upsert sortUnique kindNumber findingKey report checkEach mutationTarget sameTarget isSelf beforeSelf operationFindings envelopeFindings rawPatchFindings patchFindings isLastSequence isSameSequence isNextSequence sequenceFindings pairFindings duplicateIdFindings previousFindings afterFindings rawSetFindings setFindings firstFindings findings flatMap findingWords fitting writeFindings checked
+    × (checkedList (plain 7 3 ∷ plain 7 3 ∷ []) 5 ≡ record { place = inSet; logical = 2; written = 1 })
+    × (checkedList (plain 7 3 ∷ plain 7 3 ∷ []) 7 ≡ record { place = inSet; logical = 2; written = 2 })
+unfolding lexLess upsert sortUnique kindNumber findingKey report checkEach mutationTarget sameTarget isSelf beforeSelf operationFindings envelopeFindings rawPatchFindings patchFindings isLastSequence isSameSequence isNextSequence sequenceFindings pairFindings duplicateIdFindings previousFindings afterFindings rawSetFindings setFindings firstFindings findings flatMap findingWords fitting writeFindings checkedList
 examples-written = (refl, refl, refl, refl)

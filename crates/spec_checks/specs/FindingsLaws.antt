@@ -102,7 +102,7 @@ first-found i (q ∷ a) p b set h n =
     rw (h .0, firstFindings) (first-found (i + 1) a p b set (h .1) n ∙ λ j. record { place = inPatch (index j); found = patchFindings p })
 
 -- a first patch with findings
-record First (ps : List Patch) : Type 0 where
+record FirstWithFindings (ps : List Patch) : Type 0 where
   before : List Patch
   patch : Patch
   after : List Patch
@@ -110,11 +110,11 @@ record First (ps : List Patch) : Type 0 where
   clean : All CleanPatch before
   some : patchFindings patch ≢ []
 
-first-or-none : (ps : List Patch) → First ps ⊎ All CleanPatch ps
+first-or-none : (ps : List Patch) → FirstWithFindings ps ⊎ All CleanPatch ps
 first-or-none [] = inr tt
 first-or-none (p ∷ ps) = go (patchFindings p) refl (first-or-none ps)
   where
-    go : (l : List Finding) → patchFindings p ≡ l → First ps ⊎ All CleanPatch ps → First (p ∷ ps) ⊎ All CleanPatch (p ∷ ps)
+    go : (l : List Finding) → patchFindings p ≡ l → FirstWithFindings ps ⊎ All CleanPatch ps → FirstWithFindings (p ∷ ps) ⊎ All CleanPatch (p ∷ ps)
     go [] e (inl s) = inl (record { before = p ∷ s .before; patch = s .patch; after = s .after; split = ap (λ l. p ∷ l) (s .split); clean = (e, s .clean); some = s .some })
     go [] e (inr h) = inr (e, h)
     go (f ∷ fs) e rest = inl (record { before = []; patch = p; after = ps; split = refl; clean = tt; some = λ h. let z : _≡_ {A = ℕ} 0 1 = cc in omega arith })
@@ -126,7 +126,7 @@ findings-ended ps = go (first-or-none ps)
     set : Findings
     set = record { place = inSet; found = setFindings ps }
 
-    go : First ps ⊎ All CleanPatch ps → Ended ps (firstFindings 0 ps set)
+    go : FirstWithFindings ps ⊎ All CleanPatch ps → Ended ps (firstFindings 0 ps set)
     go (inl s) =
         let index : 0 + length (s .before) ≡ length (s .before) = omega arith in
         let ends = ap (λ l. firstFindings 0 l set) (s .split) ∙ first-found 0 (s .before) (s .patch) (s .after) set (s .clean) (s .some) in

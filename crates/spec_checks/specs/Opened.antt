@@ -36,5 +36,5 @@ unfolding
     Rattle.spec_checks.specs.Answer.findingWords
     Rattle.spec_checks.specs.Answer.fitting
     Rattle.spec_checks.specs.Answer.writeFindings
-    Rattle.spec_checks.specs.Answer.checked
+    Rattle.spec_checks.specs.Answer.checkedList
 openedChecks = tt

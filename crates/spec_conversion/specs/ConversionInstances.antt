@@ -42,9 +42,9 @@ ending v = record {
 } ∷ []
 
 -- 0, or the number of the refusal
-numberOf : Converted → ℕ
-numberOf (converted bs) = 0
-numberOf (refused r) = conversionNumber r
+refusalOrZero : Converted → ℕ
+refusalOrZero (converted bs) = 0
+refusalOrZero (refused r) = conversionNumber r
 
 -- the conversion of these bytes gives those
 gives : Edition → List ℕ → ℕ → List ℕ → Bool
@@ -56,7 +56,7 @@ gives from set room bs = same (convert from set room)
 
 -- the conversion of these bytes, into so many places, is refused with the number
 refuses : Edition → List ℕ → ℕ → ℕ → Bool
-refuses from set room number = eqb (numberOf (convert from set room)) number
+refuses from set room number = eqb (refusalOrZero (convert from set room)) number
 
 -- ---- the instances
 
@@ -91,7 +91,7 @@ pub scoresSeen : Bool
 scoresSeen = withoutScores (ending (quad N)) && not (withoutScores (ending (score 0)))
 
 pub conversions-hold : T (all (λ (b : Bool). b) (bothWays ∷ scoresMissing ∷ unreadOnes ∷ shortOutputs ∷ scoresSeen ∷ []))
-unfolding bothWays scoresMissing unreadOnes shortOutputs scoresSeen ending numberOf gives refuses opened
+unfolding bothWays scoresMissing unreadOnes shortOutputs scoresSeen ending refusalOrZero gives refuses opened
 conversions-hold = tt
 
 -- ---- the theorems, met by a set of each edition

@@ -181,8 +181,8 @@ module _ (from to : Edition) (set : List ℕ) (all-bytes : Bytes set) where
     same-list = ap (readSet to) (done .after) ∙ reads-back to (done .list) (fits-other from to (done .list) (done .fits) (done .kinds)) ∙ sym (done .reads)
 
     -- as many bytes
-    pub length-kept : length bs ≡ length set
-    length-kept = ap length (done .after) ∙ same-length from to (done .list) ∙ sym (ap length (done .before))
+    pub converted-length : length bs ≡ length set
+    converted-length = ap length (done .after) ∙ same-length from to (done .list) ∙ sym (ap length (done .before))
 
     -- but for the last letter of the heading they are the same
     pub one-letter : bs ≡ take 30 set ++ (editionDigit to ∷ drop 31 set)

@@ -16,24 +16,24 @@ pub data SettlingWalk : Type 0 where
   contradicts : (patch operation : ℕ) → SettlingWalk
 
 -- goes on with what is settled
-abbrev pub walkOn : SettlingWalk → (List Settled → SettlingWalk) → SettlingWalk
-walkOn (settles t) f = f t
-walkOn (contradicts i j) f = contradicts i j
+abbrev pub settleOn : SettlingWalk → (List Settled → SettlingWalk) → SettlingWalk
+settleOn (settles t) f = f t
+settleOn (contradicts i j) f = contradicts i j
 
 -- an operation of that place, by what its expectations come to
-abbrev pub walkStep : ℕ → ℕ → Option (List Settled) → SettlingWalk
-walkStep i j none = contradicts i j
-walkStep i j (some t) = settles t
+abbrev pub settleStep : ℕ → ℕ → Option (List Settled) → SettlingWalk
+settleStep i j none = contradicts i j
+settleStep i j (some t) = settles t
 
 -- the operations of patch i, from index j on
-unfoldable pub walkOperations : ℕ → ℕ → List Operation → List Settled → SettlingWalk
-walkOperations i j [] t = settles t
-walkOperations i j (o ∷ os) t = walkOn (walkStep i j (judgeAll (expectations o) t)) (λ u. walkOperations i (j + 1) os u)
+unfoldable pub settleOperations : ℕ → ℕ → List Operation → List Settled → SettlingWalk
+settleOperations i j [] t = settles t
+settleOperations i j (o ∷ os) t = settleOn (settleStep i j (judgeAll (expectations o) t)) (λ u. settleOperations i (j + 1) os u)
 
 -- the patches from index i on; each counts its operations from 0
-unfoldable pub walkPatches : ℕ → List Patch → List Settled → SettlingWalk
-walkPatches i [] t = settles t
-walkPatches i (p ∷ ps) t = walkOn (walkOperations i 0 (p .operations) t) (λ u. walkPatches (i + 1) ps u)
+unfoldable pub settlePatches : ℕ → List Patch → List Settled → SettlingWalk
+settlePatches i [] t = settles t
+settlePatches i (p ∷ ps) t = settleOn (settleOperations i 0 (p .operations) t) (λ u. settlePatches (i + 1) ps u)
 
 -- ---- the answer
 
@@ -65,4 +65,4 @@ dependenciesBy (contradicts i j) = neverApplicable i j
 
 -- of a patch list, with nothing settled at first
 unfoldable pub dependencies : List Patch → Dependencies
-dependencies ps = dependenciesBy (walkPatches 0 ps [])
+dependencies ps = dependenciesBy (settlePatches 0 ps [])

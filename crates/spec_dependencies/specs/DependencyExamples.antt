@@ -15,7 +15,7 @@ use Rattle.spec_checks.specs.Findings.{firstFindings, findings}
 use Rattle.spec_checks.specs.CheckExamples.{with}
 use Rattle.spec_dependencies.specs.Expectations.{neighbour, expectations}
 use Rattle.spec_dependencies.specs.Settled.{settledKey, settledBy, judgeBy, judge, judgeAll}
-use Rattle.spec_dependencies.specs.Dependencies.{walkOperations, walkPatches, CollectionKey, keyWords, keysAtStart, Dependencies, neverApplicable, needs, dependenciesBy, dependencies}
+use Rattle.spec_dependencies.specs.Dependencies.{settleOperations, settlePatches, CollectionKey, keyWords, keysAtStart, Dependencies, neverApplicable, needs, dependenciesBy, dependencies}
 use Rattle.spec_dependencies.specs.Answer.{allWords, unreadable, hasFindings, outputTooShort, refusalNumber, refused, answerNever, answerNeeds, answered, wordsWritten, answerBy, answerReading}
 
 abbrev pub keyAt : ℕ → ℕ → CollectionKey
@@ -94,7 +94,7 @@ abbrev pub dependencyExamples : List DependencyExample
 dependencyExamples = single ++ (sameKey ++ (neighbours ++ collections))
 
 pub examples-depend : map (λ (e : DependencyExample). dependencies (e .set)) dependencyExamples ≡ map (λ (e : DependencyExample). e .answer) dependencyExamples
-unfolding lexLess upsert lookup neighbour expectations settledKey settledBy judgeBy judge judgeAll walkOperations walkPatches keysAtStart dependenciesBy dependencies
+unfolding lexLess upsert lookup neighbour expectations settledKey settledBy judgeBy judge judgeAll settleOperations settlePatches keysAtStart dependenciesBy dependencies
 examples-depend = refl
 
 -- none of these sets has findings
@@ -114,7 +114,7 @@ pub examples-answered :
     × (answerReading (patches []) [] ≡ answered (answerNeeds 0 0) [])
     × (answerReading (patches (onePatch (insertKey 9 1 (some 1) ∷ []))) (10 ∷ 20 ∷ []) ≡ answered (refused hasFindings) (10 ∷ 20 ∷ []))
     × (answerReading (fault overCapacity) (10 ∷ 20 ∷ []) ≡ answered (refused (unreadable overCapacity)) (10 ∷ 20 ∷ []))
-unfolding lexLess upsert lookup neighbour expectations settledKey settledBy judgeBy judge judgeAll walkOperations walkPatches keysAtStart dependenciesBy dependencies
+unfolding lexLess upsert lookup neighbour expectations settledKey settledBy judgeBy judge judgeAll settleOperations settlePatches keysAtStart dependenciesBy dependencies
     flatMap keyWords allWords wordsWritten answerBy answerReading
     sortUnique kindNumber findingKey report checkEach mutationTarget sameTarget isSelf beforeSelf operationFindings envelopeFindings rawPatchFindings patchFindings isLastSequence isSameSequence isNextSequence sequenceFindings pairFindings duplicateIdFindings previousFindings afterFindings rawSetFindings setFindings firstFindings findings
 examples-answered = (refl, refl, refl, refl, refl, refl, refl, refl)

@@ -22,7 +22,7 @@ use Rattle.spec_projection.specs.Valid.{Valid}
 use Rattle.spec_projection.specs.ValidLaws.{empty-valid}
 use Rattle.spec_dependencies.specs.Expectations.{neighbour, expectations}
 use Rattle.spec_dependencies.specs.Settled.{settledKey, settledBy, judgeBy, judge, judgeAll}
-use Rattle.spec_dependencies.specs.Dependencies.{walkOperations, walkPatches, keysAtStart, dependenciesBy, dependencies}
+use Rattle.spec_dependencies.specs.Dependencies.{settleOperations, settlePatches, keysAtStart, dependenciesBy, dependencies}
 use Rattle.spec_dependencies.specs.Presence.{presence}
 use Rattle.spec_dependencies.specs.Claim.{AppliesTo, Meets}
 use Rattle.spec_dependencies.specs.Theorem.{depends-exactly}
@@ -61,7 +61,7 @@ holding-room e = stopped-not-done (sym e)
 
 -- what the set depends on is there
 holding-meets : Meets holdingTwo (dependencies oneBeforeTwo)
-unfolding holdingTwo presence contains isEntry lexLess upsert lookup neighbour expectations settledKey settledBy judgeBy judge judgeAll walkOperations walkPatches keysAtStart dependenciesBy dependencies
+unfolding holdingTwo presence contains isEntry lexLess upsert lookup neighbour expectations settledKey settledBy judgeBy judge judgeAll settleOperations settlePatches keysAtStart dependenciesBy dependencies
 holding-meets = ((refl, tt), (refl, tt))
 
 -- so it applies
@@ -76,7 +76,7 @@ unfolding empty insertBeforeFirst isEntry contains containsNeighbour insertBefor
 empty-room e = keyRule-not-full e
 
 empty-lacks : Meets empty (dependencies oneBeforeTwo) → ⊥
-unfolding empty presence contains isEntry lexLess upsert lookup neighbour expectations settledKey settledBy judgeBy judge judgeAll walkOperations walkPatches keysAtStart dependenciesBy dependencies
+unfolding empty presence contains isEntry lexLess upsert lookup neighbour expectations settledKey settledBy judgeBy judge judgeAll settleOperations settlePatches keysAtStart dependenciesBy dependencies
 empty-lacks m = false≢true (m .0 .0)
 
 -- to an empty projection it does not apply: the neighbour is not there
@@ -95,6 +95,6 @@ fullPanel = record { bindings = []; availabilities = []; entries = entriesTo 128
 
 -- a full projection lacks the key and still does not take it
 pub full-meets : Meets fullPanel (dependencies (onePatch (insertKey 9 1 none ∷ []))) × (applySteps fullPanel (replaySteps (onePatch (insertKey 9 1 none ∷ []))) ≡ stopped projectionFull)
-unfolding fullPanel entriesTo presence contains isEntry lexLess upsert lookup neighbour expectations settledKey settledBy judgeBy judge judgeAll walkOperations walkPatches keysAtStart dependenciesBy dependencies
+unfolding fullPanel entriesTo presence contains isEntry lexLess upsert lookup neighbour expectations settledKey settledBy judgeBy judge judgeAll settleOperations settlePatches keysAtStart dependenciesBy dependencies
     insertBeforeFirst isLater containsNeighbour insertLast insertEntry withEntries applyInsert applyOperation flatMap patchSteps replaySteps applyStep applySteps
 full-meets = ((tt, (refl, tt)), refl)

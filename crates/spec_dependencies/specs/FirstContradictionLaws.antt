@@ -11,7 +11,7 @@ use Rattle.spec_patch.specs.Patch.{Operation, Patch}
 use Rattle.spec_projection.specs.Apply.{operationsOf}
 use Rattle.spec_dependencies.specs.Expectations.{Expectation, expectations}
 use Rattle.spec_dependencies.specs.Settled.{Settled, judgeAll}
-use Rattle.spec_dependencies.specs.Dependencies.{SettlingWalk, settles, contradicts, walkPatches, neverApplicable, dependenciesBy, dependencies}
+use Rattle.spec_dependencies.specs.Dependencies.{SettlingWalk, settles, contradicts, settlePatches, neverApplicable, dependenciesBy, dependencies}
 use Rattle.spec_dependencies.specs.Presence.{Accepts}
 use Rattle.spec_dependencies.specs.Claim.{Possible, FirstContradiction}
 use Rattle.spec_dependencies.specs.SettledLaws.{current-none, starts-none, accepted, accepting, toldStart, told-starts}
@@ -47,7 +47,7 @@ module _ (a b : List Operation) (o : Operation) where
 -- the place that is reported is the first operation that contradicts, and no other place is
 pub never-first : (ps : List Patch) (i j : ℕ) → (dependencies ps ≡ neverApplicable i j) ↔ FirstContradiction ps i j
 unfolding dependencies dependenciesBy
-never-first ps i j = (λ e. first (walk-stops 0 ps [] i j (contradicted (walkPatches 0 ps []) e)), back)
+never-first ps i j = (λ e. first (walk-stops 0 ps [] i j (contradicted (settlePatches 0 ps []) e)), back)
   where
     contradicted : (w : SettlingWalk) → dependenciesBy w ≡ neverApplicable i j → w ≡ contradicts i j
     contradicted (settles t) e = let z : _≡_ {A = ℕ} 0 1 = cc in absurd (omega arith)
@@ -80,7 +80,7 @@ never-first ps i j = (λ e. first (walk-stops 0 ps [] i j (contradicted (walkPat
           impossible = λ m. let told = possible-judged _ m in Option·none-ne-some (told .0) (sym fails ∙ told .1);
         }
 
-    back : FirstContradiction ps i j → dependenciesBy (walkPatches 0 ps []) ≡ neverApplicable i j
+    back : FirstContradiction ps i j → dependenciesBy (settlePatches 0 ps []) ≡ neverApplicable i j
     back f =
         let (t, judges) = possible-judged _ (f .possible) in
         let (r, ran, settled) = judged-first (expectationsOf (f .earlier)) (flatMap expectations (f .before)) [] t
@@ -90,6 +90,6 @@ never-first ps i j = (λ e. first (walk-stops 0 ps [] i j (contradicted (walkPat
         ∙ ap (λ es. judgeAll es []) (sym (split-last (operationsOf (f .earlier)) (f .before) (f .operation))) ∙ impossible-judged _ (f .impossible) in
         let index : 0 + length (f .earlier) ≡ i = omega (arith, f .patchIndex) in
         ap dependenciesBy
-        (ap (λ l. walkPatches 0 l []) (f .patches)
+        (ap (λ l. settlePatches 0 l []) (f .patches)
         ∙ stops-walk 0 (f .earlier) (f .patch) (f .later) (f .before) (f .operation) (f .behind) [] r t (f .operations) ran settled fails
         ∙ (λ x. contradicts (index x) (f .operationIndex x)))

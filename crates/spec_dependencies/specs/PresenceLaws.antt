@@ -19,12 +19,12 @@ use Rattle.spec_projection.specs.Projection.{Binding, NodeAvailability, Entry, 
 use Rattle.spec_projection.specs.FirstMatch.{findFirst, insertBeforeFirst, replaceFirst, removeFirst}
 use Rattle.spec_projection.specs.FirstMatchLaws.{findFirst-passes}
 use Rattle.spec_projection.specs.Entries.{isEntry, isLater, contains, containsNeighbour, insertLast, insertBefore, insertEntry, replaceEntry, removeEntry}
-use Rattle.spec_projection.specs.EntriesLaws.{entry-collection, entry-key, insertEntry-grouped, replaceEntry-grouped, removeEntry-grouped, removeEntry-gone, found-contains}
+use Rattle.spec_projection.specs.EntriesLaws.{isEntry-collection, isEntry-key, insertEntry-grouped, replaceEntry-grouped, removeEntry-grouped, removeEntry-gone, found-contains}
 use Rattle.spec_projection.specs.Apply.{OperationFault, keyRule, projectionFull, done, stopped, withBindings, withAvailabilities, withEntries, applyBinding, applyAvailability, applyInsert, applyUpdate, applyRemove, applyMove, applyOperation}
 use Rattle.spec_projection.specs.ApplyLaws.{stopped-not-done}
 use Rattle.spec_projection.specs.OperationLaws.{applied-binding, applied-availability, applied-insert, applied-update, applied-remove, AppliedMove, applied-move}
 use Rattle.spec_projection.specs.Valid.{Grouped}
-use Rattle.spec_dependencies.specs.Expectations.{Expectation, added, keptKey, taken, neighbour, expectations}
+use Rattle.spec_dependencies.specs.Expectations.{Expectation, added, keptKey, takenKey, neighbour, expectations}
 use Rattle.spec_dependencies.specs.Presence.{Presence, presence, isOf, presenceAfter, presenceAfterAll, Accepts}
 
 -- ---- a test of some element, after an edit at the first match
@@ -61,12 +61,12 @@ contains-replace : (e : Entry) (l : List Entry) (c k : ℕ) → contains c k (re
 unfolding contains replaceEntry isEntry
 contains-replace e l c k =
     any-replace (isEntry (e .collection) (e .key)) (isEntry c k) e
-    (λ y t. rw (entry-collection (e .collection) (e .key) y t, entry-key (e .collection) (e .key) y t)) l
+    (λ y t. rw (isEntry-collection (e .collection) (e .key) y t, isEntry-key (e .collection) (e .key) y t)) l
 
 -- a key that is not the one
 entry-other : (c k d j : ℕ) → (eqb d c && eqb j k) ≡ false → (y : Entry) → isEntry d j y ≡ true → isEntry c k y ≡ false
 unfolding isEntry
-entry-other c k d j n y t = rw (entry-collection d j y t, entry-key d j y t) n
+entry-other c k d j n y t = rw (isEntry-collection d j y t, isEntry-key d j y t) n
 
 contains-remove : (d j : ℕ) (l : List Entry) (c k : ℕ) → (eqb d c && eqb j k) ≡ false → contains c k (removeEntry d j l) ≡ contains c k l
 unfolding contains removeEntry
@@ -157,13 +157,13 @@ update-leaves p c k m v q g h =
       entries = rw (a .1) (replaceEntry-grouped e (p .entries) g);
     }
 
-remove-leaves : (p : Projection) (c k : ℕ) (q : Projection) → Grouped (p .entries) → applyRemove p c k ≡ done q → LeavesKeys p (taken c k ∷ []) q
+remove-leaves : (p : Projection) (c k : ℕ) (q : Projection) → Grouped (p .entries) → applyRemove p c k ≡ done q → LeavesKeys p (takenKey c k ∷ []) q
 unfolding presence withEntries presenceAfterAll presenceAfter isOf
 remove-leaves p c k q g h =
     let a = applied-remove p c k q h in
     record { accepts = (a .0, tt); keys = ap presence (a .1) ∙ (λ i d j. point d j i); entries = rw (a .1) (removeEntry-grouped c k (p .entries) g) }
   where
-    point : (d j : ℕ) → contains d j (removeEntry c k (p .entries)) ≡ presenceAfter (taken c k) (presence p) d j
+    point : (d j : ℕ) → contains d j (removeEntry c k (p .entries)) ≡ presenceAfter (takenKey c k) (presence p) d j
     point d j = test-cases (eqb c d && eqb k j)
         (λ f. rw (f, ← (eqb-true c d (and-left _ _ f)), ← (eqb-true k j (and-right (eqb c d) _ f))) (removeEntry-gone c k (p .entries) g))
         (λ f. rw f (contains-remove c k (p .entries) d j f))
@@ -178,7 +178,7 @@ moved-keys : (before : Option ℕ) (e : Entry) (l : List Entry) → contains (e 
 moved-keys before e l stored d j =
     contains-insert before e (removeEntry (e .collection) (e .key) l) d j
     ∙ test-cases (isEntry d j e)
-    (λ f. rw (f, ← (entry-collection d j e f), ← (entry-key d j e f)) (sym stored))
+    (λ f. rw (f, ← (isEntry-collection d j e f), ← (isEntry-key d j e f)) (sym stored))
     (λ f. rw f (contains-remove (e .collection) (e .key) l d j (not-entry d j e f)))
 
 move-leaves : (p : Projection) (c k : ℕ) (before : Option ℕ) (q : Projection) → ((n : ℕ) → before ≡ some n → k ≢ n) → Grouped (p .entries)
@@ -190,8 +190,8 @@ move-leaves p c k before q other g h = go (applied-move p before (findFirst (isE
     go a =
         let e = a .entry in
         let is = findFirst-passes (isEntry c k) (p .entries) e (a .found-entry) in
-        let own : e .collection ≡ c = entry-collection c k e is in
-        let named : e .key ≡ k = entry-key c k e is in
+        let own : e .collection ≡ c = isEntry-collection c k e is in
+        let named : e .key ≡ k = isEntry-key c k e is in
         let stored = found-contains c k (p .entries) e (a .found-entry) in
         let here : contains c k (p .entries) ≡ true = rw (own, named) at stored in
         let beside : containsNeighbour c before (removeEntry c k (p .entries)) ≡ true = rw (own, named) at (a .neighbour) in
@@ -251,4 +251,4 @@ operation-accepted p id (move c k before) b a h =
     let found = contains-finds c k (p .entries) (a .0) in
     let is = findFirst-passes (isEntry c k) (p .entries) (found .0) (found .1) in
     let there : containsNeighbour c before (removeEntry c k (p .entries)) ≡ true = neighbour-rest c k before (p .entries) other ∙ neighbour-accepts (keptKey c k) before p other .1 (a .1) in
-    done-not-stopped (rw (found .1, entry-collection c k (found .0) is, entry-key c k (found .0) is, there) at h)
+    done-not-stopped (rw (found .1, isEntry-collection c k (found .0) is, isEntry-key c k (found .0) is, there) at h)

@@ -16,7 +16,7 @@ use Rattle.spec_projection.specs.Projection.{Projection}
 use Rattle.spec_projection.specs.Apply.{keyRule, projectionFull, Outcome, done, stopped, replaySteps, operationsOf, applySteps}
 use Rattle.spec_projection.specs.Valid.{Valid}
 use Rattle.spec_dependencies.specs.Settled.{Settled, settledKey, judgeAll}
-use Rattle.spec_dependencies.specs.Dependencies.{SettlingWalk, settles, contradicts, walkPatches, CollectionKey, keysAtStart, Dependencies, neverApplicable, needs, dependenciesBy, dependencies}
+use Rattle.spec_dependencies.specs.Dependencies.{SettlingWalk, settles, contradicts, settlePatches, CollectionKey, keysAtStart, Dependencies, neverApplicable, needs, dependenciesBy, dependencies}
 use Rattle.spec_dependencies.specs.Presence.{presence, Accepts}
 use Rattle.spec_dependencies.specs.Claim.{AppliesTo, Each, Meets, ListsInOrder}
 use Rattle.spec_dependencies.specs.SettledLaws.{current-none, starts-none, accepted, accepting, judgeAll-ascending}
@@ -41,7 +41,7 @@ by-table (contradicts i j) = tt
 
 answer-tabled : (ps : List Patch) → tabled (judgeAll (expectationsOf ps) []) (dependencies ps)
 unfolding dependencies
-answer-tabled ps = subst (λ x. tabled x (dependenciesBy (walkPatches 0 ps []))) (walk-table 0 ps []) (by-table (walkPatches 0 ps []))
+answer-tabled ps = subst (λ x. tabled x (dependenciesBy (settlePatches 0 ps []))) (walk-table 0 ps []) (by-table (settlePatches 0 ps []))
 
 module _ (p : Projection) (ps : List Patch) where
   -- expectations that are met from the start on are judged

@@ -19,7 +19,7 @@ use Rattle.spec_patch.specs.LengthFirst.{patchesOver, lengthFirstText, lengthFi
 use Rattle.spec_patch.specs.CutOff.{CutOff, SetChange, asBefore, changed}
 use Rattle.spec_patch.specs.CutLaws.{set-changed}
 use Rattle.spec_examples.specs.TextInstances.{updating}
-use Rattle.spec_examples.specs.Opened.{opened}
+use Rattle.spec_examples.specs.Opened.{openedAll}
 
 -- ---- what the instances are made of
 
@@ -76,7 +76,7 @@ pub countOnes : Bool
 countOnes = all (answers 12 12) ((heading v1 ++ u32 65) ∷ (but 26 (encode v1 (updating ([] ∷ []))) ++ u32 129) ∷ [])
 
 pub cuts-hold : T (all (λ (b : Bool). b) (cutOffOnes ∷ tooLongOnes ∷ shortOnes ∷ middleOnes ∷ countOnes ∷ []))
-unfolding cutOffOnes tooLongOnes shortOnes middleOnes countOnes letters but ending amid numberFor answers lengthFirstText lengthFirstSet updating flatMap opened
+unfolding cutOffOnes tooLongOnes shortOnes middleOnes countOnes letters but ending amid numberFor answers lengthFirstText lengthFirstSet updating flatMap openedAll
 cuts-hold = tt
 
 -- ---- the theorem on what has changed, met by a set
@@ -85,11 +85,11 @@ pub cutSet : List ℕ
 cutSet = ending 241 (letters 240)
 
 was-12 : lengthFirstSet v1 cutSet ≡ fault overCapacity
-unfolding cutSet letters but ending lengthFirstText lengthFirstSet updating flatMap opened
+unfolding cutSet letters but ending lengthFirstText lengthFirstSet updating flatMap openedAll
 was-12 = refl
 
 is-10 : readSet v1 cutSet ≡ fault malformed
-unfolding cutSet letters but ending updating flatMap opened
+unfolding cutSet letters but ending updating flatMap openedAll
 is-10 = refl
 
 bytes-if : (l : List ℕ) → all (λ (b : ℕ). leb b 255) l ≡ true → Bytes l
@@ -99,7 +99,7 @@ bytes-if (b ∷ l) e =
     (omega arith, bytes-if l (and-right (leb b 255) _ e))
 
 all-bytes : Bytes cutSet
-unfolding cutSet letters but ending updating flatMap opened
+unfolding cutSet letters but ending updating flatMap openedAll
 all-bytes = bytes-if (ending 241 (letters 240)) refl
 
 -- a text in it is cut off

@@ -16,7 +16,7 @@ use Rattle.spec_projection.specs.Projection.{empty}
 use Rattle.spec_session.specs.Session.{created, uninitialized, Session}
 use Rattle.spec_session.specs.Batch.{BatchStep, batch}
 use Rattle.spec_listing.specs.Listing.{listing, projectionLines}
-use Rattle.spec_examples.specs.Opened.{opened}
+use Rattle.spec_examples.specs.Opened.{openedAll}
 
 -- ---- what the instances are made of
 
@@ -107,5 +107,5 @@ editionsListed =
     && same (listing v1 (encode v2 (scored 0))) (69 ∷ 9 ∷ 49 ∷ 48 ∷ 10 ∷ [])
 
 pub editions-hold : T (all (λ (b : Bool). b) (scoreBytes ∷ scoresRead ∷ scoresWritten ∷ otherHeading ∷ bothTaken ∷ replaced ∷ editionsListed ∷ []))
-unfolding scoreBytes scoresRead scoresWritten otherHeading bothTaken replaced editionsListed one scored reading writing start sent same flatMap opened
+unfolding scoreBytes scoresRead scoresWritten otherHeading bothTaken replaced editionsListed one scored reading writing start sent same flatMap openedAll
 editions-hold = tt

@@ -21,13 +21,13 @@ use Rattle.spec_session.specs.Session.{Cursor, uninitialized, at, Session, acti
 use Rattle.spec_session.specs.Lifecycle.{Disposition, applied, noChange, rejected}
 use Rattle.spec_session.specs.Batch.{BatchAnswer, batch}
 use Rattle.spec_listing.specs.Listing.{listing}
-use Rattle.spec_examples.specs.Opened.{opened}
+use Rattle.spec_examples.specs.Opened.{openedAll}
 
 -- ---- what the examples are made of
 
 -- a patch of an id and a sequence, with no surface
-onePatch : ℕ → ℕ → List Operation → Patch
-onePatch i n os = record {
+plainPatch : ℕ → ℕ → List Operation → Patch
+plainPatch i n os = record {
   envelope = record { id = i; stream = 1; document = 1; surface = none; previous = n; revision = n + 1; epoch = 1; sequence = n };
   operations = os;
 }
@@ -78,21 +78,21 @@ isNoChange applied = false
 isNoChange noChange = true
 isNoChange rejected = false
 
-isApplied : Disposition → Bool
-isApplied applied = true
-isApplied noChange = false
-isApplied rejected = false
+wasApplied : Disposition → Bool
+wasApplied applied = true
+wasApplied noChange = false
+wasApplied rejected = false
 
 sameNumbers : List ℕ → List ℕ → Bool
 sameNumbers = equalLists eqb
 
 -- a set of one patch whose one value is this text
 textSet : List ℕ → List ℕ
-textSet t = encode v1 (onePatch 1 1 (setBinding 5 0 (text t) ∷ []) ∷ [])
+textSet t = encode v1 (plainPatch 1 1 (setBinding 5 0 (text t) ∷ []) ∷ [])
 
 -- Pending for node 5; in collection 9 insert key 2 as −4, then key 1 before 2 as text Ok; binding 5, 0 as T
 listingSet : List ℕ
-listingSet = encode v1 (onePatch 1 1 (setAvailability 5 pending ∷ insert 9 2 none (signed (negsuc 3)) ∷ insert 9 1 (some 2) (text (79 ∷ 107 ∷ [])) ∷ setBinding 5 0 (quad patch.T) ∷ []) ∷ [])
+listingSet = encode v1 (plainPatch 1 1 (setAvailability 5 pending ∷ insert 9 2 none (signed (negsuc 3)) ∷ insert 9 1 (some 2) (text (79 ∷ 107 ∷ [])) ∷ setBinding 5 0 (quad patch.T) ∷ []) ∷ [])
 
 -- the five lines of 01's listing
 listingLines : List ℕ
@@ -111,7 +111,7 @@ emptySet = eqb (length (encode v1 [])) 35 && isNoChange (sent (session 9 9 (at 4
 
 -- one patch, no surface, one availability: 106 bytes
 pub oneAvailability : Bool
-oneAvailability = eqb (length (encode v1 (onePatch 1 1 availability ∷ []))) 106
+oneAvailability = eqb (length (encode v1 (plainPatch 1 1 availability ∷ []))) 106
 
 -- unsigned 1: 04, 01, seven zero bytes
 pub unsignedOne : Bool
@@ -119,23 +119,23 @@ unsignedOne = sameNumbers (encodeValue (unsigned 1)) (4 ∷ 1 ∷ replicate 7 0)
 
 -- At(2^64−1) and one valid patch: 7
 pub lastNumber : Bool
-lastNumber = eqb (sent (session 9 9 (at (2 ^ 64 - 1))) 7 0 (onePatch 1 1 availability ∷ []) .diagnostics .code) 7
+lastNumber = eqb (sent (session 9 9 (at (2 ^ 64 - 1))) 7 0 (plainPatch 1 1 availability ∷ []) .diagnostics .code) 7
 
 -- a patch limit of 1: count 1 passes, 2 gives 4
 pub patchLimit : Bool
 patchLimit =
-    isApplied (sent (session 9 1 uninitialized) 7 1 (onePatch 1 1 availability ∷ []) .disposition)
-    && eqb (sent (session 9 1 uninitialized) 7 1 (onePatch 1 1 availability ∷ onePatch 2 2 availability ∷ []) .diagnostics .code) 4
+    wasApplied (sent (session 9 1 uninitialized) 7 1 (plainPatch 1 1 availability ∷ []) .disposition)
+    && eqb (sent (session 9 1 uninitialized) 7 1 (plainPatch 1 1 availability ∷ plainPatch 2 2 availability ∷ []) .diagnostics .code) 4
 
 -- a cap of 0 and a foreign session: logical 1, emitted 0
 pub capZero : Bool
 capZero =
-    let g = sent (session 0 9 uninitialized) 8 1 (onePatch 1 1 availability ∷ []) .diagnostics in
+    let g = sent (session 0 9 uninitialized) 8 1 (plainPatch 1 1 availability ∷ []) .diagnostics in
     eqb (g .logical) 1 && (eqb (g .emitted) 0 && (eqb (g .code) 0 && eqb (g .stage) 0))
 
 -- three patches alike, id 7 and sequence 3: kinds 4 and 5, each (7, 3), once
 pub threeAlike : Bool
-threeAlike = equalLists sameNumbers (map findingKey (findings (replicate 3 (onePatch 7 3 availability)) .found)) ((4 ∷ 7 ∷ 3 ∷ []) ∷ (5 ∷ 7 ∷ 3 ∷ []) ∷ [])
+threeAlike = equalLists sameNumbers (map findingKey (findings (replicate 3 (plainPatch 7 3 availability)) .found)) ((4 ∷ 7 ∷ 3 ∷ []) ∷ (5 ∷ 7 ∷ 3 ∷ []) ∷ [])
 
 -- [1,2,3], move 1 before 3: [2,1,3]
 pub moveBefore : Bool
@@ -155,7 +155,7 @@ texts =
 
 -- insert and update of one key in a patch: no finding
 pub insertAndUpdate : Bool
-insertAndUpdate = isEmpty (findings (onePatch 1 1 (insert 9 1 none (unsigned 1) ∷ update 9 1 (unsigned 2) ∷ []) ∷ []) .found)
+insertAndUpdate = isEmpty (findings (plainPatch 1 1 (insert 9 1 none (unsigned 1) ∷ update 9 1 (unsigned 2) ∷ []) ∷ []) .found)
 
 -- the listing of 181 bytes
 pub theListing : Bool
@@ -169,5 +169,5 @@ examples =
 -- all twelve hold
 pub examples-hold : T (all (λ (b : Bool). b) examples)
 unfolding emptySet oneAvailability unsignedOne lastNumber patchLimit capZero threeAlike moveBefore entriesFit texts insertAndUpdate theListing
-    onePatch availability inserts applyToEmpty keysAfter outcomeNumber readingNumber session sent isNoChange isApplied sameNumbers textSet listingSet listingLines opened
+    plainPatch availability inserts applyToEmpty keysAfter outcomeNumber readingNumber session sent isNoChange wasApplied sameNumbers textSet listingSet listingLines openedAll
 examples-hold = tt

@@ -17,14 +17,14 @@ use Rattle.spec_splitting.specs.Splitting.{Piece, pieceEnvelope, references, is
 use Rattle.spec_group.specs.Group.{GroupBatch, totalBytes, isGroup, sendFirst, runGroup, GroupAnswer, notAGroup, taken, refusedAt, takenCount, withCursor, concludeGroup, GroupStep, group}
 use Rattle.spec_group.specs.Singly.{pieceBatch, TakenAsWhole, RefusedAsWhole}
 use Rattle.spec_group.specs.PiecesLaws.{group-as-whole}
-use Rattle.spec_examples.specs.Opened.{opened}
+use Rattle.spec_examples.specs.Opened.{openedAll}
 use Rattle.spec_examples.specs.SplitInstances.{patchNumbered, startSession, piece, first, scored, second, failingPatch, pieces, failingPieces, given-pieces, given-failing, premise-applies, premise-fails}
 
 -- ---- what the instances are made of
 
 -- a batch of these patches for the session at its start, with true counts, a number and an edition
-batchOf : Edition → ℕ → List Patch → GroupBatch
-batchOf ed n ps = pieceBatch ed startSession n (piece ps)
+startBatch : Edition → ℕ → List Patch → GroupBatch
+startBatch ed n ps = pieceBatch ed startSession n (piece ps)
 
 -- the answer of a group, as numbers: how many were taken; or 0, the place and the number of the refusal; or 17
 numbers : GroupAnswer → List ℕ
@@ -37,8 +37,8 @@ cursorNumber uninitialized = 0
 cursorNumber (at n) = n
 
 -- what a group on the starting session answers, where its cursor stands afterwards, and the keys of collection 9
-ends : List GroupBatch → List ℕ → List (List ℕ)
-ends bs sets = numbers (step .answer) ∷ (cursorNumber (step .next .cursor) ∷ []) ∷ map (λ (e : KeyedValue). e .key) (entriesOf (step .next .projection) 9) ∷ []
+groupEnds : List GroupBatch → List ℕ → List (List ℕ)
+groupEnds bs sets = numbers (step .answer) ∷ (cursorNumber (step .next .cursor) ∷ []) ∷ map (λ (e : KeyedValue). e .key) (entriesOf (step .next .projection) 9) ∷ []
   where
     step : GroupStep
     step = group startSession bs sets
@@ -63,29 +63,29 @@ none = encode v1 []
 
 -- a batch of each edition, and one without patches between them: all three are taken
 pub threeTaken : Bool
-threeTaken = same (ends (batchOf v2 40 (scored ∷ []) ∷ batchOf v1 77 [] ∷ batchOf v1 41 (second ∷ []) ∷ []) (one ++ (none ++ two))) ((3 ∷ []) ∷ (41 ∷ []) ∷ (1 ∷ []) ∷ [])
+threeTaken = same (groupEnds (startBatch v2 40 (scored ∷ []) ∷ startBatch v1 77 [] ∷ startBatch v1 41 (second ∷ []) ∷ []) (one ++ (none ++ two))) ((3 ∷ []) ∷ (41 ∷ []) ∷ (1 ∷ []) ∷ [])
 
 -- the second fails at its operation: nothing is taken, its place is 1, and the first is taken back
 pub secondRefused : Bool
-secondRefused = same (ends (batchOf v2 40 (scored ∷ []) ∷ batchOf v1 41 (failingPatch ∷ []) ∷ batchOf v1 42 (second ∷ []) ∷ []) (one ++ (bad ++ two))) ((0 ∷ 1 ∷ 8 ∷ []) ∷ (0 ∷ []) ∷ [] ∷ [])
+secondRefused = same (groupEnds (startBatch v2 40 (scored ∷ []) ∷ startBatch v1 41 (failingPatch ∷ []) ∷ startBatch v1 42 (second ∷ []) ∷ []) (one ++ (bad ++ two))) ((0 ∷ 1 ∷ 8 ∷ []) ∷ (0 ∷ []) ∷ [] ∷ [])
 
 -- a wrong number is refused as it would be singly, after the first
 pub numberSkipped : Bool
-numberSkipped = same (ends (batchOf v2 40 (scored ∷ []) ∷ batchOf v1 42 (second ∷ []) ∷ []) (one ++ two)) ((0 ∷ 1 ∷ 7 ∷ []) ∷ (0 ∷ []) ∷ [] ∷ [])
+numberSkipped = same (groupEnds (startBatch v2 40 (scored ∷ []) ∷ startBatch v1 42 (second ∷ []) ∷ []) (one ++ two)) ((0 ∷ 1 ∷ 7 ∷ []) ∷ (0 ∷ []) ∷ [] ∷ [])
 
 -- no batch, nine batches, a byte too many, a byte too few: 17
 pub noGroups : Bool
 noGroups =
     all (λ (l : List (List ℕ)). same l ((17 ∷ []) ∷ (0 ∷ []) ∷ [] ∷ []))
-    (ends [] []
-    ∷ ends (replicate 9 (batchOf v1 40 [])) (flatMap (λ (k : ℕ). none) (replicate 9 0))
-    ∷ ends (batchOf v2 40 (scored ∷ []) ∷ []) (one ++ (0 ∷ []))
-    ∷ ends (batchOf v2 40 (scored ∷ []) ∷ batchOf v1 41 (second ∷ []) ∷ []) one ∷ [])
+    (groupEnds [] []
+    ∷ groupEnds (replicate 9 (startBatch v1 40 [])) (flatMap (λ (k : ℕ). none) (replicate 9 0))
+    ∷ groupEnds (startBatch v2 40 (scored ∷ []) ∷ []) (one ++ (0 ∷ []))
+    ∷ groupEnds (startBatch v2 40 (scored ∷ []) ∷ startBatch v1 41 (second ∷ []) ∷ []) one ∷ [])
 
 pub groups-hold : T (all (λ (b : Bool). b) (threeTaken ∷ secondRefused ∷ numberSkipped ∷ noGroups ∷ []))
-unfolding threeTaken secondRefused numberSkipped noGroups batchOf numbers cursorNumber ends same one two bad none entriesOf
+unfolding threeTaken secondRefused numberSkipped noGroups startBatch numbers cursorNumber groupEnds same one two bad none entriesOf
     totalBytes isGroup sendFirst runGroup withCursor concludeGroup group pieceBatch pieceEnvelope references isRejected
-    patchNumbered startSession piece first scored second failingPatch flatMap opened
+    patchNumbered startSession piece first scored second failingPatch flatMap openedAll
 groups-hold = tt
 
 -- the claim on pieces, met by a list that applies and by one that fails

@@ -17,7 +17,7 @@ use Rattle.spec_session.specs.Lifecycle.{applied}
 use Rattle.spec_session.specs.Batch.{BatchEnvelope, BatchStep, advanced, applyBatch, batch}
 use Rattle.spec_session.specs.BatchLaws.{batch-unchanged, batch-applied}
 use Rattle.spec_splitting.specs.Splitting.{pieceEnvelope, references, send}
-use Rattle.spec_examples.specs.Opened.{opened}
+use Rattle.spec_examples.specs.Opened.{openedAll}
 use Rattle.spec_examples.specs.SplitInstances.{patchNumbered, startSession, piece, first}
 
 abbrev pub lengthsKept : Session → List CollectionLength
@@ -55,5 +55,5 @@ empties = patchNumbered 4 (remove 9 1 ∷ [])
 pub batch-lengths-hold :
     (lengthsKept startSession ≡ []) × ((lengthsKept filled ≡ lengthRecord 9 1 ∷ []) × ((lengthsKept (send v1 filled 41 (piece (works ∷ [])) .next) ≡ lengthRecord 9 1 ∷ [])
     × ((lengthsKept (send v1 filled 41 (piece (breaksOff ∷ [])) .next) ≡ lengthRecord 9 1 ∷ []) × (lengthsKept (send v1 filled 41 (piece (empties ∷ [])) .next) ≡ []))))
-unfolding opened send pieceEnvelope references startSession piece first patchNumbered sortUnique entriesIn collectionsIn lengthsIn collectionLengths
+unfolding openedAll send pieceEnvelope references startSession piece first patchNumbered sortUnique entriesIn collectionsIn lengthsIn collectionLengths
 batch-lengths-hold = (refl, (refl, (refl, (refl, refl))))

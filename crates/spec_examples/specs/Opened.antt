@@ -10,7 +10,7 @@ use Rattle.spec_session.specs.Batch
 use Rattle.spec_listing.specs.Escapes
 use Rattle.spec_listing.specs.Listing
 
-unfoldable pub opened : Unit {0}
+unfoldable pub openedAll : Unit {0}
 unfolding openedSets openedChecks openedPanels
     Rattle.spec_decimal.specs.Decimal.digits
     Rattle.spec_decimal.specs.Decimal.decimal
@@ -60,4 +60,4 @@ unfolding openedSets openedChecks openedPanels
     Rattle.spec_listing.specs.Listing.outcomeLines
     Rattle.spec_listing.specs.Listing.readingLines
     Rattle.spec_listing.specs.Listing.listing
-opened = tt
+openedAll = tt

@@ -15,7 +15,7 @@ use Rattle.spec_projection.specs.Apply.{keyRule}
 use Rattle.spec_session.specs.Session.{uninitialized, Session, active}
 use Rattle.spec_splitting.specs.Splitting.{Piece, pieceEnvelope, references, send, continue, isRejected, sendAll, patchesOf, Given, Applies, AllApply, FailsAtOperation, StopsAtPiece}
 use Rattle.spec_splitting.specs.Theorem.{whole-and-pieces}
-use Rattle.spec_examples.specs.Opened.{opened}
+use Rattle.spec_examples.specs.Opened.{openedAll}
 
 unfoldable pub patchNumbered : ℕ → List Operation → Patch
 patchNumbered n os = record {
@@ -57,12 +57,12 @@ abbrev pub pieces : List Piece
 pieces = piece (scored ∷ []) ∷ piece (second ∷ []) ∷ []
 
 pub given-pieces : Given startSession 40 (piece (scored ∷ second ∷ [])) pieces
-unfolding startSession piece scored second patchNumbered opened patchesOf OperationHolds InRangeValue OptionalU64
+unfolding startSession piece scored second patchNumbered openedAll patchesOf OperationHolds InRangeValue OptionalU64
 given-pieces = record { inRange = omega arith; cut = refl; nonEmpty = omega arith; figures = omega arith; numbers = omega arith }
 
 -- the whole applies
 pub premise-applies : Applies (send v2 startSession 40 (piece (scored ∷ second ∷ [])) .answer)
-unfolding opened send pieceEnvelope references startSession piece scored second patchNumbered
+unfolding openedAll send pieceEnvelope references startSession piece scored second patchNumbered
 premise-applies = refl
 
 -- and so do the two pieces
@@ -74,7 +74,7 @@ abbrev pub splitMarks : Session → List (Option ℕ)
 splitMarks s = entryMark (s .projection) 9 1 ∷ availabilityMark (s .projection) 5 ∷ []
 
 pub marks-alike : (splitMarks (send v2 startSession 40 (piece (scored ∷ second ∷ [])) .next) ≡ some 1 ∷ some 2 ∷ []) × (splitMarks (sendAll v2 startSession 40 pieces .last) ≡ some 1 ∷ some 2 ∷ [])
-unfolding opened send sendAll continue isRejected pieceEnvelope references startSession piece scored second patchNumbered entryMark availabilityMark
+unfolding openedAll send sendAll continue isRejected pieceEnvelope references startSession piece scored second patchNumbered entryMark availabilityMark
 marks-alike = (refl, refl)
 
 -- ---- a list that fails in its second piece
@@ -83,12 +83,12 @@ abbrev pub failingPieces : List Piece
 failingPieces = piece (first ∷ []) ∷ piece (failingPatch ∷ []) ∷ []
 
 pub given-failing : Given startSession 40 (piece (first ∷ failingPatch ∷ [])) failingPieces
-unfolding startSession piece first failingPatch patchNumbered opened patchesOf OperationHolds InRangeValue OptionalU64
+unfolding startSession piece first failingPatch patchNumbered openedAll patchesOf OperationHolds InRangeValue OptionalU64
 given-failing = record { inRange = omega arith; cut = refl; nonEmpty = omega arith; figures = omega arith; numbers = omega arith }
 
 -- the whole passes steps 1 to 8 and fails in step 9, by the key rule
 pub premise-fails : FailsAtOperation v1 startSession 40 (piece (first ∷ failingPatch ∷ []))
-unfolding opened pieceEnvelope references startSession piece first failingPatch patchNumbered
+unfolding openedAll pieceEnvelope references startSession piece first failingPatch patchNumbered
 premise-fails = record { patches = first ∷ failingPatch ∷ []; passes = refl; fault = keyRule; fails = refl }
 
 pub conclusion-fails : StopsAtPiece startSession 40 (piece (first ∷ failingPatch ∷ [])) (premise-fails .fault) (send v1 startSession 40 (piece (first ∷ failingPatch ∷ [])) .answer .diagnostics) failingPieces (sendAll v1 startSession 40 failingPieces)
@@ -96,5 +96,5 @@ conclusion-fails = whole-and-pieces v1 startSession 40 _ failingPieces given-fai
 
 -- the refusal is 8, of two answers
 pub fails-with-8 : (send v1 startSession 40 (piece (first ∷ failingPatch ∷ [])) .answer .diagnostics .code ≡ 8) × (length (sendAll v1 startSession 40 failingPieces .answers) ≡ 2)
-unfolding opened send sendAll continue isRejected pieceEnvelope references startSession piece first failingPatch patchNumbered
+unfolding openedAll send sendAll continue isRejected pieceEnvelope references startSession piece first failingPatch patchNumbered
 fails-with-8 = (refl, refl)

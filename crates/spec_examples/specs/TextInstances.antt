@@ -16,7 +16,7 @@ use Rattle.spec_patch.specs.Read.{readText, patches, readSet}
 use Rattle.spec_patch.specs.Write.{Written, wrote, refused, writeNumber, write}
 use Rattle.spec_patch.specs.Former.{formerText, formerValue, formerOperation, formerPatch, formerPatches, formerSet}
 use Rattle.spec_patch.specs.FormerLaws.{former-accepted}
-use Rattle.spec_examples.specs.Opened.{opened}
+use Rattle.spec_examples.specs.Opened.{openedAll}
 
 -- ---- what the instances are made of
 
@@ -93,12 +93,12 @@ pub twoTexts : Bool
 twoTexts = eqb (writingNumber (times 161 one ∷ (0xFF ∷ []) ∷ [])) 10 && eqb (writingNumber (times 161 one ∷ one ∷ [])) 12
 
 pub texts-hold : T (all (λ (b : Bool). b) (ofOneByte ∷ ofMoreBytes ∷ ofBoth ∷ lastByte ∷ twoTexts ∷ []))
-unfolding ofOneByte ofMoreBytes ofBoth lastByte twoTexts times textNumber updating writingNumber flatMap opened
+unfolding ofOneByte ofMoreBytes ofBoth lastByte twoTexts times textNumber updating writingNumber flatMap openedAll
 texts-hold = tt
 
 -- a set that was accepted before, and is still
 pub was-accepted : formerSet v1 (encode v1 (updating (three ∷ []))) ≡ patches (updating (three ∷ []))
-unfolding formerText formerValue formerOperation formerPatch formerPatches formerSet updating flatMap opened
+unfolding formerText formerValue formerOperation formerPatch formerPatches formerSet updating flatMap openedAll
 was-accepted = refl
 
 pub is-accepted : readSet v1 (encode v1 (updating (three ∷ []))) ≡ patches (updating (three ∷ []))

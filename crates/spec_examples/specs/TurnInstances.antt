@@ -14,7 +14,7 @@ use Rattle.spec_session.specs.Batch.{BatchEnvelope, pass, refuse, batchChecks}
 use Rattle.spec_turns.specs.Turns.{numberAfter}
 use Rattle.spec_turns.specs.Numbers.{atLastNumber, withoutCursor}
 use Rattle.spec_turns.specs.NumberLaws.{turn-number-passes, turn-number-at-end, no-patches-pass}
-use Rattle.spec_examples.specs.Opened.{opened}
+use Rattle.spec_examples.specs.Opened.{openedAll}
 use Rattle.spec_examples.specs.SplitInstances.{patchNumbered, startSession, second}
 
 -- the session of the split lists, with a cursor
@@ -29,12 +29,12 @@ turnEnvelope n count = record { session = 7; sequence = n; patches = count; stim
 
 -- but for its number the batch passes
 pub one-patch : (c : Cursor) (n : ℕ) → batchChecks v1 (withoutCursor (startAt c)) (turnEnvelope n 1) 1 (encode v1 patches) ≡ pass patches
-unfolding opened startAt turnEnvelope withoutCursor startSession second patchNumbered
+unfolding openedAll startAt turnEnvelope withoutCursor startSession second patchNumbered
 one-patch c n = refl
 
-pub no-patch : (c : Cursor) (n : ℕ) → batchChecks v1 (withoutCursor (startAt c)) (turnEnvelope n 0) 0 (encode v1 []) ≡ pass []
-unfolding opened startAt turnEnvelope withoutCursor startSession
-no-patch c n = refl
+pub no-patch-passes : (c : Cursor) (n : ℕ) → batchChecks v1 (withoutCursor (startAt c)) (turnEnvelope n 0) 0 (encode v1 []) ≡ pass []
+unfolding openedAll startAt turnEnvelope withoutCursor startSession
+no-patch-passes c n = refl
 
 -- at 4 the turn's number is 5, and the batch passes with it
 pub passes-at-4 : batchChecks v1 (startAt (at 4)) (turnEnvelope 5 1) 1 (encode v1 patches) ≡ pass patches
@@ -48,4 +48,4 @@ mismatch-at-end = turn-number-at-end v1 (startAt (at largestU64)) (turnEnvelope 
 
 pub passes-at-end : batchChecks v1 (startAt (at largestU64)) (turnEnvelope largestU64 0) 0 (encode v1 []) ≡ pass []
 unfolding turnEnvelope
-passes-at-end = no-patches-pass v1 (startAt (at largestU64)) (turnEnvelope largestU64 0) 0 (encode v1 []) [] refl (no-patch (at largestU64) largestU64)
+passes-at-end = no-patches-pass v1 (startAt (at largestU64)) (turnEnvelope largestU64 0) 0 (encode v1 []) [] refl (no-patch-passes (at largestU64) largestU64)

@@ -225,7 +225,7 @@ import-explained ed collection e list room = by-lines (firstBadLine 0 (lines lis
     by-lines (some b) (faulty r) (broken c) = notBrought (badLine b)
 
 -- the line that is named is the first that breaks a rule
-record FirstFrom (n : ℕ) (ls : List (List ℕ)) (b : BadLine) : Type 0 where
+record FirstBadFrom (n : ℕ) (ls : List (List ℕ)) (b : BadLine) : Type 0 where
   before : List (List ℕ)
   line : List ℕ
   behind : List (List ℕ)
@@ -234,15 +234,15 @@ record FirstFrom (n : ℕ) (ls : List (List ℕ)) (b : BadLine) : Type 0 where
   fine-before : firstBadLine n before ≡ none
   breaks : lineRule (b .line) line ≡ some (b .rule)
 
-first-from : (n : ℕ) (ls : List (List ℕ)) (b : BadLine) → firstBadLine n ls ≡ some b → FirstFrom n ls b
+first-bad-from : (n : ℕ) (ls : List (List ℕ)) (b : BadLine) → firstBadLine n ls ≡ some b → FirstBadFrom n ls b
 unfolding firstBadLine
-first-from n [] b e = absurd (let z : _≡_ {A = ℕ} 0 1 = cc in omega arith)
-first-from n (line ∷ ls) b e = go (lineRule n line) refl (first-from (suc n) ls b) e
+first-bad-from n [] b e = absurd (let z : _≡_ {A = ℕ} 0 1 = cc in omega arith)
+first-bad-from n (line ∷ ls) b e = go (lineRule n line) refl (first-bad-from (suc n) ls b) e
   where
     some-is : {x y : BadLine} → some x ≡ some y → x ≡ y
     some-is q = cc
 
-    go : (r : Option LineRule) → lineRule n line ≡ r → (firstBadLine (suc n) ls ≡ some b → FirstFrom (suc n) ls b) → orLater n r (firstBadLine (suc n) ls) ≡ some b → FirstFrom n (line ∷ ls) b
+    go : (r : Option LineRule) → lineRule n line ≡ r → (firstBadLine (suc n) ls ≡ some b → FirstBadFrom (suc n) ls b) → orLater n r (firstBadLine (suc n) ls) ≡ some b → FirstBadFrom n (line ∷ ls) b
     go (some r) is later e =
         let same = some-is e in
         record {
@@ -268,5 +268,5 @@ first-from n (line ∷ ls) b e = go (lineRule n line) refl (first-from (suc n) l
 
 pub first-bad-line : (ls : List (List ℕ)) (b : BadLine) → firstBadLine 0 ls ≡ some b → FirstBadLine ls b
 first-bad-line ls b e =
-    let f = first-from 0 ls b e in
+    let f = first-bad-from 0 ls b e in
     record { before = f .before; line = f .line; behind = f .behind; parts = f .parts; index = omega (arith, f .index); fine-before = f .fine-before; breaks = f .breaks }

@@ -36,7 +36,7 @@ use Rattle.spec_explain.specs.FirstByteLaws.{first-byte}
 use Rattle.spec_explain.specs.PlacedLaws.{named-place}
 use Rattle.spec_explain.specs.OperationRule.{OperationRule, operationFault, ruleOf}
 use Rattle.spec_explain.specs.OperationRuleLaws.{rule-told}
-use Rattle.spec_explain.specs.Walk.{Halt, Walk, through, halted, walkPatches, onward, tested, patchId, stepsBefore, operationsBefore, runs, FirstLacking}
+use Rattle.spec_explain.specs.Walk.{Halt, Walk, through, halted, walkPatches, ifSome, tested, patchId, stepsBefore, operationsBefore, runSteps, FirstLacking}
 use Rattle.spec_explain.specs.WalkLaws.{walk-through, walk-first, steps-parted, operations-parted, test-through, test-first}
 use Rattle.spec_explain.specs.Reason.{Reason, foreignSession, sessionClosed, unreadable, hasFindings, countsDiffer, referencesOver, unknownTarget, cursorMismatch, operationFails, refusalFor, logicalOf}
 use Rattle.spec_explain.specs.Explain.{Explained, fine, because, _>>=_, _>>_, requireOr, whichLimit, overDeclared, patchesRead, patchesReadable, noFindings, targetKnown, targetsKnown, nextNumber, keptProjection, stepKept, applies, explainSteps, reasonOf, explainBatch}
@@ -72,12 +72,12 @@ kept-none (done q) e = absurd (let z : _≡_ {A = ℕ} 0 1 = cc in omega arith)
 kept-none (stopped f) e = (f, refl)
 
 -- the steps that go through are those that apply
-runs-applied : (p : Projection) (ss : List ReplayStep) → runs stepKept p ss ≡ keptProjection (applySteps p ss)
-unfolding runs stepKept applySteps applying.applyStep keptProjection
+runs-applied : (p : Projection) (ss : List ReplayStep) → runSteps stepKept p ss ≡ keptProjection (applySteps p ss)
+unfolding runSteps stepKept applySteps applying.applyStep keptProjection
 runs-applied p [] = refl
 runs-applied p (r ∷ ss) = go (applyOperation p (r .patch) (r .operation)) (λ q. runs-applied q ss)
   where
-    go : (x : Outcome) → ((q : Projection) → runs stepKept q ss ≡ keptProjection (applySteps q ss)) → onward (keptProjection x) (λ q. runs stepKept q ss) ≡ keptProjection (andThen x (λ q. applySteps q ss))
+    go : (x : Outcome) → ((q : Projection) → runSteps stepKept q ss ≡ keptProjection (applySteps q ss)) → ifSome (keptProjection x) (λ q. runSteps stepKept q ss) ≡ keptProjection (andThen x (λ q. applySteps q ss))
     go (done q) later = later q
     go (stopped f) later = refl
 

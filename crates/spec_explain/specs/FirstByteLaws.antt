@@ -15,7 +15,7 @@ use Rattle.spec_patch.specs.Edition.{Edition}
 use Rattle.spec_patch.specs.Encode.{heading}
 use Rattle.spec_explain.specs.ReadingRule.{setTooLong, tooFewBytes, bytesLeft, Inside, outside, Unread}
 use Rattle.spec_explain.specs.Locate.{Stop, Located, past, stop, locateLetters, locatePatches, atEnd, stopOf, fromStart, locate}
-use Rattle.spec_explain.specs.SteadyLaws.{stopFurther, brokenOff, Decided, short, fixed, Passed, StoppedReading, past-is, stop-is, not-both}
+use Rattle.spec_explain.specs.SteadyLaws.{stopFurther, brokenOff, Decided, short, fixed, PassedSteadily, StoppedReading, past-is, stop-is, not-both}
 use Rattle.spec_explain.specs.SteadySetLaws.{steady-patches}
 use Rattle.spec_explain.specs.FirstByte.{FieldReached, lacksField, wholeSet, BreaksOff, breaksOff, NoOther, isRead, tooFew, sameFault, FirstByte}
 
@@ -48,21 +48,21 @@ module _ (ed : Edition) where
       ap (λ (l : List ℕ). locatePatches ed (l ++ g)) (p .parts) ∙ ap (locatePatches ed) (append-assoc (p .taken) rest g) ∙ p .again (rest ++ g)
 
   -- bytes that are a whole set, or end at a field
-  data Cut (front : List ℕ) : Type 0 where
-    all : locatePatches ed front ≡ past [] → Cut front
-    atField : (s : Stop) → s .rule ≡ tooFewBytes → locatePatches ed front ≡ stop s → Cut front
+  data CutShort (front : List ℕ) : Type 0 where
+    all : locatePatches ed front ≡ past [] → CutShort front
+    atField : (s : Stop) → s .rule ≡ tooFewBytes → locatePatches ed front ≡ stop s → CutShort front
 
   -- what is shorter has too few bytes
-  breaks : (f g front : List ℕ) → f ++ g ≡ front → 0 < length g → Cut front → BreaksOff (fromStart f (atEnd (locatePatches ed f)))
+  breaks : (f g front : List ℕ) → f ++ g ≡ front → 0 < length g → CutShort front → BreaksOff (fromStart f (atEnd (locatePatches ed f)))
   unfolding atEnd
   breaks f g front whole more cut = by (locatePatches ed f) refl cut
     where
-      decide : (s : Stop) → Decided (locatePatches ed) f s → Cut front → s .rule ≡ tooFewBytes
+      decide : (s : Stop) → Decided (locatePatches ed) f s → CutShort front → s .rule ≡ tooFewBytes
       decide s (short e) c = e
       decide s (fixed h) (all e) = not-both (sym e ∙ ap (locatePatches ed) (sym whole) ∙ h g)
       decide s (fixed h) (atField t r e) = ap (λ (u : Stop). u .rule) (stop-is (sym (h g) ∙ ap (locatePatches ed) whole ∙ e)) ∙ r
 
-      by : (x : Located) → locatePatches ed f ≡ x → Cut front → BreaksOff (fromStart f (atEnd x))
+      by : (x : Located) → locatePatches ed f ≡ x → CutShort front → BreaksOff (fromStart f (atEnd x))
       by (past rest) is (all e) =
           let none-left : rest ++ g ≡ [] = past-is (sym (passed-further f g rest is) ∙ ap (locatePatches ed) whole ∙ e) in
           absurd (omega (arith, length-append rest g, ap length none-left))
@@ -112,7 +112,7 @@ module _ (ed : Edition) where
       front-fits = omega (arith, ap length parts, length-append front back)
 
       -- a beginning before the end of the front has too few bytes
-      before-of : Cut front → (n : ℕ) → n < length front → BreaksOff (locate ed (take n set))
+      before-of : CutShort front → (n : ℕ) → n < length front → BreaksOff (locate ed (take n set))
       before-of cut n h =
           let f = take n front in
           let g = drop n front in
@@ -121,7 +121,7 @@ module _ (ed : Edition) where
           let same : take n set ≡ f = ap (take n) (parts ∙ ap (λ (l : List ℕ). l ++ back) (sym whole) ∙ append-assoc f g back) ∙ take-at f (g ++ back) n long in
           rw (begun n, same) (breaks f g front whole (omega (arith, ap length whole, length-append f g)) cut)
 
-      first-byte-of : (u : Unread) → locate ed set ≡ some u → u .position ≡ length front → Cut front → FieldReached u (fromStart front (atEnd (locatePatches ed front))) → FirstByte ed set u
+      first-byte-of : (u : Unread) → locate ed set ≡ some u → u .position ≡ length front → CutShort front → FieldReached u (fromStart front (atEnd (locatePatches ed front))) → FirstByte ed set u
       first-byte-of u e p cut reached = record {
         within = omega (arith, ap length parts, length-append front back, p);
         reached = subst (FieldReached u) (sym (ap (λ (n : ℕ). locate ed (take n set)) p ∙ ap (locate ed) front-is ∙ located front front-fits)) reached;
@@ -148,7 +148,7 @@ module _ (ed : Edition) where
       (λ t. let fits = leb-true (length set) setBytes t in by-way fits (locatePatches ed set) refl (sym (located set fits) ∙ e))
       (λ t. too-long set u (leb-false (length set) setBytes t) (some-is (rw t at e)))
     where
-      left-over : (fits : length set ≤ setBytes) (b : ℕ) (rest : List ℕ) → Passed (locatePatches ed) set (b ∷ rest) → fromStart set (some (record { rule = bytesLeft; inside = outside; left = length (b ∷ rest) })) ≡ some u → FirstByte ed set u
+      left-over : (fits : length set ≤ setBytes) (b : ℕ) (rest : List ℕ) → PassedSteadily (locatePatches ed) set (b ∷ rest) → fromStart set (some (record { rule = bytesLeft; inside = outside; left = length (b ∷ rest) })) ≡ some u → FirstByte ed set u
       left-over fits b rest p q =
           let same = some-is q in
           let whole : locatePatches ed (p .taken) ≡ past [] = ap (locatePatches ed) (sym (append-nil (p .taken))) ∙ p .again [] in

@@ -14,7 +14,7 @@ use Rattle.spec_projection.specs.Projection.{Entry, Projection, bindingKey, ava
 use Rattle.spec_projection.specs.FirstMatch.{findFirst}
 use Rattle.spec_projection.specs.FirstMatchLaws.{findFirst-passes, findFirst-any, findFirst-none}
 use Rattle.spec_projection.specs.Entries.{isEntry, contains, containsNeighbour, insertEntry, removeEntry}
-use Rattle.spec_projection.specs.EntriesLaws.{entry-collection, entry-key, insertEntry-length}
+use Rattle.spec_projection.specs.EntriesLaws.{isEntry-collection, isEntry-key, insertEntry-length}
 use Rattle.spec_projection.specs.Apply.{OperationFault, done, stopped, applyBinding, applyAvailability, applyInsert, applyUpdate, applyRemove, applyMove, applyOperation}
 use Rattle.spec_projection.specs.ApplyLaws.{stopped-not-done}
 use Rattle.spec_explain.specs.OperationRule.{operationFault, ruleOf, Breaks, addsBinding, addsAvailability, insertsPresent, insertsBeforeAbsent, insertsIntoFull, updatesAbsent, removesAbsent, movesAbsent, movesBeforeAbsent}
@@ -39,7 +39,7 @@ move-told p c k before f none is e =
 move-told p c k before f (some x) is e =
     let there = findFirst-any (isEntry c k) (p .entries) x is in
     let passes = findFirst-passes (isEntry c k) (p .entries) x is in
-    let e′ = rw (entry-collection c k x passes, entry-key c k x passes) at e in
+    let e′ = rw (isEntry-collection c k x passes, isEntry-key c k x passes) at e in
     test-cases (containsNeighbour c before (removeEntry c k (p .entries)))
     (λ t. ran (rw t at e′))
     (λ t. record { breaks = rw there (movesBeforeAbsent there t); number = rw there (stopped-is (rw t at e′)) })

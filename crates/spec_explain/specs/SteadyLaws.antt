@@ -29,7 +29,7 @@ pub data Decided (l : Locator) (bs : List ℕ) (s : Stop) : Type 0 where
   fixed : ((more : List ℕ) → l (bs ++ more) ≡ stop (stopFurther s (length more))) → Decided l bs s
 
 -- what was passed is passed whatever follows
-pub record Passed (l : Locator) (bs rest : List ℕ) : Type 0 where
+pub record PassedSteadily (l : Locator) (bs rest : List ℕ) : Type 0 where
   pub taken : List ℕ
   pub parts : bs ≡ taken ++ rest
   pub again : (other : List ℕ) → l (taken ++ other) ≡ past other
@@ -44,7 +44,7 @@ pub record StoppedReading (l : Locator) (bs : List ℕ) (s : Stop) : Type 0 wher
   pub decided : Decided l bs s
 
 pub record Steady (l : Locator) : Type 0 where
-  pub passes : (bs rest : List ℕ) → l bs ≡ past rest → Passed l bs rest
+  pub passes : (bs rest : List ℕ) → l bs ≡ past rest → PassedSteadily l bs rest
   pub stops : (bs : List ℕ) (s : Stop) → l bs ≡ stop s → StoppedReading l bs s
 
 -- ---- located or not
@@ -67,7 +67,7 @@ steady-ends = record {
 }
 
 module _ {l m : Locator} (first : Steady l) (second : Steady m) where
-  then-passes : (bs rest : List ℕ) (x : Located) → l bs ≡ x → goOn x m ≡ past rest → Passed (l ⨟ m) bs rest
+  then-passes : (bs rest : List ℕ) (x : Located) → l bs ≡ x → goOn x m ≡ past rest → PassedSteadily (l ⨟ m) bs rest
   then-passes bs rest (stop s) is e = not-both (sym e)
   then-passes bs rest (past mid) is e =
       let a = first .passes bs mid is in
@@ -81,7 +81,7 @@ module _ {l m : Locator} (first : Steady l) (second : Steady m) where
             ∙ b .again other;
       }
 
-  then-decided : (bs mid : List ℕ) (s : Stop) → (a : Passed l bs mid) → Decided m mid s → Decided (l ⨟ m) bs s
+  then-decided : (bs mid : List ℕ) (s : Stop) → (a : PassedSteadily l bs mid) → Decided m mid s → Decided (l ⨟ m) bs s
   then-decided bs mid s a (short e) = short e
   then-decided bs mid s a (fixed f) = fixed (λ more.
       ap (λ (b : List ℕ). (l ⨟ m) (b ++ more)) (a .parts)
@@ -122,7 +122,7 @@ module _ {l m : Locator} (first : Steady l) (second : Steady m) where
 -- ---- the place of a stop
 
 module _ (here : Inside) {l : Locator} (one : Steady l) where
-  within-passes : (bs rest : List ℕ) (x : Located) → l bs ≡ x → placedStop here x ≡ past rest → Passed (within here l) bs rest
+  within-passes : (bs rest : List ℕ) (x : Located) → l bs ≡ x → placedStop here x ≡ past rest → PassedSteadily (within here l) bs rest
   within-passes bs rest (stop s) is e = not-both (sym e)
   within-passes bs rest (past mid) is e =
       let a = one .passes bs rest (is ∙ e) in
@@ -211,7 +211,7 @@ module _ {A : Type 0} {p : Reader A} (wide : WideField p) (lacks : (f : Fault) �
   reads-on : (taken other : List ℕ) (a : A) → p (taken ++ other) ≡ read a other → whole (taken ++ other) ≡ next (taken ++ other) a other
   reads-on taken other a e = rw e
 
-  field-passes : (bs rest mid : List ℕ) (a : A) → p bs ≡ read a mid → FieldFollows (λ b r. next b a r) → next bs a mid ≡ past rest → Passed whole bs rest
+  field-passes : (bs rest mid : List ℕ) (a : A) → p bs ≡ read a mid → FieldFollows (λ b r. next b a r) → next bs a mid ≡ past rest → PassedSteadily whole bs rest
   field-passes bs rest mid a is (refuses rule at) e = not-both (sym e ∙ at bs mid)
   field-passes bs rest mid a is (goesOn l steady on) e =
       let w = wide .reads bs a mid is in
@@ -281,7 +281,7 @@ module _ {A : Type 0} {p : Reader A} (wide : WideField p) (lacks : (f : Fault) �
   pub steady-field : Steady whole
   steady-field = record { passes = λ bs rest e. by-passing bs rest (p bs) refl e; stops = λ bs s e. by-stopping bs s (p bs) refl e }
     where
-      by-passing : (bs rest : List ℕ) (r : Result A) → p bs ≡ r → behind bs r (next bs) ≡ past rest → Passed whole bs rest
+      by-passing : (bs rest : List ℕ) (r : Result A) → p bs ≡ r → behind bs r (next bs) ≡ past rest → PassedSteadily whole bs rest
       by-passing bs rest (read a mid) is e = field-passes bs rest mid a is (each a) e
       by-passing bs rest (refused f) is e = not-both (sym e)
 

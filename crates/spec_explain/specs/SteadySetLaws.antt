@@ -18,7 +18,7 @@ use Rattle.spec_patch.specs.Read.{readU32, readU64}
 use Rattle.spec_patch.specs.Codec.{bytes-long}
 use Rattle.spec_explain.specs.ReadingRule.{ReadingRule, tooFewBytes, operationTag, valueKind, optionalTag, availabilityTag, quadTag, scoreRange, wrongHeading, notUtf8, patchCount, operationCount, textLength, characterCount, outside}
 use Rattle.spec_explain.specs.Locate.{Stop, Located, past, stop, Locator, stopAt, behind, field, TagRow, byRow, tagged, repeated, counted, ends, locateOptional, locateQuad, locateAvailability, locateText, locateScore, scoreRow, locateValue, locateOperation, locateEnvelope, locatePatch, locateLetters, locatePatches}
-use Rattle.spec_explain.specs.SteadyLaws.{short, fixed, Passed, StoppedReading, Steady, stop-is, past-is, not-both, steady-ends, steady-then, steady-within, wide-byte, wide-bytes, wide-number, FieldFollows, refuses, goesOn, steady-field}
+use Rattle.spec_explain.specs.SteadyLaws.{short, fixed, PassedSteadily, StoppedReading, Steady, stop-is, past-is, not-both, steady-ends, steady-then, steady-within, wide-byte, wide-bytes, wide-number, FieldFollows, refuses, goesOn, steady-field}
 
 -- ---- numbers
 
@@ -106,13 +106,13 @@ abbrev tests : List ℕ → (bs text rest : List ℕ) → Located
 tests t bs text rest = if fewBytes t then (if allowed true t then (if fewCharacters true t then past rest else stopAt characterCount text) else stopAt notUtf8 text) else stopAt textLength bs
 
 -- they pass, or reading stops at the text, which has bytes then, or at the length
-data Verdict (t : List ℕ) : Type 0 where
-  fine : ((bs text rest : List ℕ) → tests t bs text rest ≡ past rest) → Verdict t
-  atText : (rule : ReadingRule) → (t ≡ [] → ⊥) → ((bs text rest : List ℕ) → tests t bs text rest ≡ stopAt rule text) → Verdict t
-  atLength : (rule : ReadingRule) → ((bs text rest : List ℕ) → tests t bs text rest ≡ stopAt rule bs) → Verdict t
+data TextVerdict (t : List ℕ) : Type 0 where
+  fine : ((bs text rest : List ℕ) → tests t bs text rest ≡ past rest) → TextVerdict t
+  atText : (rule : ReadingRule) → (t ≡ [] → ⊥) → ((bs text rest : List ℕ) → tests t bs text rest ≡ stopAt rule text) → TextVerdict t
+  atLength : (rule : ReadingRule) → ((bs text rest : List ℕ) → tests t bs text rest ≡ stopAt rule bs) → TextVerdict t
 
-verdict : (t : List ℕ) → Verdict t
-verdict t = by-bytes (fewBytes t) refl
+text-verdict : (t : List ℕ) → TextVerdict t
+text-verdict t = by-bytes (fewBytes t) refl
   where
     none-allowed : t ≡ [] → allowed true t ≡ true
     none-allowed e = rw e
@@ -123,15 +123,15 @@ verdict t = by-bytes (fewBytes t) refl
     apart : {C : Type 0} (b : Bool) → b ≡ true → b ≡ false → C
     apart b p q = absurd (let z : _≡_ {A = ℕ} 0 1 = cc in omega arith)
 
-    by-characters : fewBytes t ≡ true → allowed true t ≡ true → (b : Bool) → fewCharacters true t ≡ b → Verdict t
+    by-characters : fewBytes t ≡ true → allowed true t ≡ true → (b : Bool) → fewCharacters true t ≡ b → TextVerdict t
     by-characters p q true r = fine (λ bs text rest. rw (p, q, r))
     by-characters p q false r = atText characterCount (λ e. apart _ (none-few e) r) (λ bs text rest. rw (p, q, r))
 
-    by-rule : fewBytes t ≡ true → (b : Bool) → allowed true t ≡ b → Verdict t
+    by-rule : fewBytes t ≡ true → (b : Bool) → allowed true t ≡ b → TextVerdict t
     by-rule p true q = by-characters p q (fewCharacters true t) refl
     by-rule p false q = atText notUtf8 (λ e. apart _ (none-allowed e) q) (λ bs text rest. rw (p, q))
 
-    by-bytes : (b : Bool) → fewBytes t ≡ b → Verdict t
+    by-bytes : (b : Bool) → fewBytes t ≡ b → TextVerdict t
     by-bytes true p = by-rule p (allowed true t) refl
     by-bytes false p = atLength textLength (λ bs text rest. rw p)
 
@@ -163,13 +163,13 @@ bytes-missing n mid t rest e there = test-cases (leb n 0)
 data Way (bs : List ℕ) : Type 0 where
   noLength : (f : Fault) → readU32 bs ≡ refused f → Way bs
   noText : (n : ℕ) (mid : List ℕ) (f : Fault) → readU32 bs ≡ read n mid → bytes n mid ≡ refused f → Way bs
-  withText : (n : ℕ) (mid t rest : List ℕ) → readU32 bs ≡ read n mid → bytes n mid ≡ read t rest → Verdict t → Way bs
+  withText : (n : ℕ) (mid t rest : List ℕ) → readU32 bs ≡ read n mid → bytes n mid ≡ read t rest → TextVerdict t → Way bs
 
 way : (bs : List ℕ) → Way bs
 way bs = by-length (readU32 bs) refl
   where
     by-text : (n : ℕ) (mid : List ℕ) → readU32 bs ≡ read n mid → (r : Result (List ℕ)) → bytes n mid ≡ r → Way bs
-    by-text n mid is (read t rest) are = withText n mid t rest is are (verdict t)
+    by-text n mid is (read t rest) are = withText n mid t rest is are (text-verdict t)
     by-text n mid is (refused f) are = noText n mid f is are
 
     by-length : (r : Result ℕ) → readU32 bs ≡ r → Way bs
@@ -192,7 +192,7 @@ module _ (bs mid t rest : List ℕ) (n : ℕ) (is : readU32 bs ≡ read n mid) (
       ap (λ (l : List ℕ). l ++ other) (width .1) ∙ append-assoc (width .0) mid other
       ∙ ap (λ (l : List ℕ). width .0 ++ (l ++ other)) (body .1) ∙ ap (λ (l : List ℕ). width .0 ++ l) (append-assoc (body .0) rest other)
 
-  text-passes : ((bs text rest : List ℕ) → tests t bs text rest ≡ past rest) → Passed locateText bs rest
+  text-passes : ((bs text rest : List ℕ) → tests t bs text rest ≡ past rest) → PassedSteadily locateText bs rest
   text-passes v = record {
     taken = width .0 ++ body .0;
     parts = width .1 ∙ ap (λ (l : List ℕ). width .0 ++ l) (body .1) ∙ sym (append-assoc (width .0) (body .0) rest);
@@ -230,7 +230,7 @@ module _ (bs mid t rest : List ℕ) (n : ℕ) (is : readU32 bs ≡ read n mid) (
 steady-text : Steady locateText
 steady-text = record { passes = λ bs rest e. by-passing bs rest (way bs) e; stops = λ bs s e. by-stopping bs s (way bs) e }
   where
-    by-passing : (bs rest : List ℕ) → Way bs → locateText bs ≡ past rest → Passed locateText bs rest
+    by-passing : (bs rest : List ℕ) → Way bs → locateText bs ≡ past rest → PassedSteadily locateText bs rest
     by-passing bs rest (noLength f is) e = not-both (sym e ∙ length-lacking bs f is)
     by-passing bs rest (noText n mid f is are) e = not-both (sym e ∙ text-lacking n bs mid f is are)
     by-passing bs rest (withText n mid t left is are (fine v)) e =

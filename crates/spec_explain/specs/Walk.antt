@@ -33,9 +33,9 @@ module _ {S : Type 0} where
   walkStep i j s o (some t) = through t
 
   -- goes on where there is something
-  abbrev pub onward : Option S → (S → Option S) → Option S
-  onward none f = none
-  onward (some s) f = f s
+  abbrev pub ifSome : Option S → (S → Option S) → Option S
+  ifSome none f = none
+  ifSome (some s) f = f s
 
 -- `step` says what an operation of the patch of that id makes of what stands, or none where the walk ends at it
 module _ {S : Type 0} (step : S → ℕ → Operation → Option S) where
@@ -81,14 +81,14 @@ module _ {ps : List Patch} {i j : ℕ} {o : Operation} where
 
 module _ {S : Type 0} (step : S → ℕ → Operation → Option S) where
   -- the steps of a list, one after the other; none where one ends it
-  unfoldable pub runs : S → List ReplayStep → Option S
-  runs s [] = some s
-  runs s (r ∷ rs) = onward (step s (r .patch) (r .operation)) (λ t. runs t rs)
+  unfoldable pub runSteps : S → List ReplayStep → Option S
+  runSteps s [] = some s
+  runSteps s (r ∷ rs) = ifSome (step s (r .patch) (r .operation)) (λ t. runSteps t rs)
 
   -- the operations before the named one go through, and it does not
   pub record First (s : S) (ps : List Patch) (h : Halt S) : Type 0 where
     pub there : At ps (h .patch) (h .operation) (h .refused)
-    pub ran : runs s (stepsBefore there) ≡ some (h .left)
+    pub ran : runSteps s (stepsBefore there) ≡ some (h .left)
     pub ends : step (h .left) (patchId there) (h .refused) ≡ none
 
 -- the first operation that does not pass a test

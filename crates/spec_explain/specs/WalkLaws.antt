@@ -11,7 +11,7 @@ use lib.ListN.{length}
 use Rattle.spec_patch.specs.Patch.{Operation, Patch}
 use Rattle.spec_projection.specs.Apply.{ReplayStep, stepOf, stepOperations, patchSteps, replaySteps, operationsOf}
 use Rattle.spec_projection.specs.ApplyLaws.{replaySteps-append, operationsOf-append, replaySteps-operations}
-use Rattle.spec_explain.specs.Walk.{Halt, Walk, through, halted, walkOn, walkStep, walkOperations, walkPatches, onward, At, patchId, stepsBefore, operationsBefore, runs, First, tested, FirstLacking}
+use Rattle.spec_explain.specs.Walk.{Halt, Walk, through, halted, walkOn, walkStep, walkOperations, walkPatches, ifSome, At, patchId, stepsBefore, operationsBefore, runSteps, First, tested, FirstLacking}
 
 module _ {S : Type 0} (step : S → ℕ → Operation → Option S) where
   through-is : {s t : S} → through s ≡ through t → s ≡ t
@@ -21,13 +21,13 @@ module _ {S : Type 0} (step : S → ℕ → Operation → Option S) where
   not-both e = absurd (let z : _≡_ {A = ℕ} 0 1 = cc in omega arith)
 
   -- steps in two runs
-  pub runs-append : (s : S) (a b : List ReplayStep) → runs step s (a ++ b) ≡ onward (runs step s a) (λ t. runs step t b)
-  unfolding runs
-  runs-append s [] b = refl
-  runs-append s (r ∷ a) b = go (step s (r .patch) (r .operation)) (λ t. runs-append t a b)
+  pub runSteps-append : (s : S) (a b : List ReplayStep) → runSteps step s (a ++ b) ≡ ifSome (runSteps step s a) (λ t. runSteps step t b)
+  unfolding runSteps
+  runSteps-append s [] b = refl
+  runSteps-append s (r ∷ a) b = go (step s (r .patch) (r .operation)) (λ t. runSteps-append t a b)
     where
-      go : (x : Option S) → ((t : S) → runs step t (a ++ b) ≡ onward (runs step t a) (λ u. runs step u b))
-          → onward x (λ t. runs step t (a ++ b)) ≡ onward (onward x (λ t. runs step t a)) (λ u. runs step u b)
+      go : (x : Option S) → ((t : S) → runSteps step t (a ++ b) ≡ ifSome (runSteps step t a) (λ u. runSteps step u b))
+          → ifSome x (λ t. runSteps step t (a ++ b)) ≡ ifSome (ifSome x (λ t. runSteps step t a)) (λ u. runSteps step u b)
       go none later = refl
       go (some t) later = later t
 
@@ -41,21 +41,21 @@ module _ {S : Type 0} (step : S → ℕ → Operation → Option S) where
       operations : os ≡ before ++ (h .refused ∷ behind)
       place : j + length before ≡ h .operation
       index : i ≡ h .patch
-      ran : runs step s (map (stepOf id) before) ≡ some (h .left)
+      ran : runSteps step s (map (stepOf id) before) ≡ some (h .left)
       ends : step (h .left) id (h .refused) ≡ none
 
-    operations-through : (j : ℕ) (s : S) (os : List Operation) (t : S) → walkOperations step i id j s os ≡ through t → runs step s (map (stepOf id) os) ≡ some t
-    unfolding walkOperations runs
+    operations-through : (j : ℕ) (s : S) (os : List Operation) (t : S) → walkOperations step i id j s os ≡ through t → runSteps step s (map (stepOf id) os) ≡ some t
+    unfolding walkOperations runSteps
     operations-through j s [] t e = ap some (through-is e)
     operations-through j s (o ∷ os) t e = go (step s id o) (λ u. operations-through (suc j) u os t) e
       where
-        go : (x : Option S) → ((u : S) → walkOperations step i id (suc j) u os ≡ through t → runs step u (map (stepOf id) os) ≡ some t)
-            → walkOn (walkStep i j s o x) (λ u. walkOperations step i id (suc j) u os) ≡ through t → onward x (λ u. runs step u (map (stepOf id) os)) ≡ some t
+        go : (x : Option S) → ((u : S) → walkOperations step i id (suc j) u os ≡ through t → runSteps step u (map (stepOf id) os) ≡ some t)
+            → walkOn (walkStep i j s o x) (λ u. walkOperations step i id (suc j) u os) ≡ through t → ifSome x (λ u. runSteps step u (map (stepOf id) os)) ≡ some t
         go none later e = not-both (sym e)
         go (some u) later e = later u e
 
     operations-first : (j : ℕ) (s : S) (os : List Operation) (h : Halt S) → walkOperations step i id j s os ≡ halted h → FirstHere j s os h
-    unfolding walkOperations runs
+    unfolding walkOperations runSteps
     operations-first j s [] h e = not-both e
     operations-first j s (o ∷ os) h e = go (step s id o) refl (λ u. operations-first (suc j) u os h) e
       where
@@ -89,17 +89,17 @@ module _ {S : Type 0} (step : S → ℕ → Operation → Option S) where
 
   -- ---- all patches
 
-  pub walk-through : (i : ℕ) (s : S) (ps : List Patch) (t : S) → walkPatches step i s ps ≡ through t → runs step s (replaySteps ps) ≡ some t
-  unfolding walkPatches replaySteps patchSteps flatMap runs
+  pub walk-through : (i : ℕ) (s : S) (ps : List Patch) (t : S) → walkPatches step i s ps ≡ through t → runSteps step s (replaySteps ps) ≡ some t
+  unfolding walkPatches replaySteps patchSteps flatMap runSteps
   walk-through i s [] t e = ap some (through-is e)
   walk-through i s (p ∷ ps) t e = go (walkOperations step i (p .envelope .id) 0 s (p .operations)) refl (λ u. walk-through (suc i) u ps t) e
     where
-      go : (x : Walk S) → walkOperations step i (p .envelope .id) 0 s (p .operations) ≡ x → ((u : S) → walkPatches step (suc i) u ps ≡ through t → runs step u (replaySteps ps) ≡ some t)
-          → walkOn x (λ u. walkPatches step (suc i) u ps) ≡ through t → runs step s (map (stepOf (p .envelope .id)) (p .operations) ++ replaySteps ps) ≡ some t
+      go : (x : Walk S) → walkOperations step i (p .envelope .id) 0 s (p .operations) ≡ x → ((u : S) → walkPatches step (suc i) u ps ≡ through t → runSteps step u (replaySteps ps) ≡ some t)
+          → walkOn x (λ u. walkPatches step (suc i) u ps) ≡ through t → runSteps step s (map (stepOf (p .envelope .id)) (p .operations) ++ replaySteps ps) ≡ some t
       go (halted h) is later e = not-both (sym e)
       go (through u) is later e =
-          runs-append s (map (stepOf (p .envelope .id)) (p .operations)) (replaySteps ps)
-          ∙ ap (λ (x : Option S). onward x (λ t. runs step t (replaySteps ps))) (operations-through i (p .envelope .id) 0 s (p .operations) u is)
+          runSteps-append s (map (stepOf (p .envelope .id)) (p .operations)) (replaySteps ps)
+          ∙ ap (λ (x : Option S). ifSome x (λ t. runSteps step t (replaySteps ps))) (operations-through i (p .envelope .id) 0 s (p .operations) u is)
           ∙ later u e
 
   -- the first of these patches' operations that is refused, patches counted from i on
@@ -113,11 +113,11 @@ module _ {S : Type 0} (step : S → ℕ → Operation → Option S) where
     behind : List Operation
     operations : patch .operations ≡ before ++ (h .refused ∷ behind)
     operationIndex : length before ≡ h .operation
-    ran : runs step s (replaySteps earlier ++ map (stepOf (patch .envelope .id)) before) ≡ some (h .left)
+    ran : runSteps step s (replaySteps earlier ++ map (stepOf (patch .envelope .id)) before) ≡ some (h .left)
     ends : step (h .left) (patch .envelope .id) (h .refused) ≡ none
 
   first-from : (i : ℕ) (s : S) (ps : List Patch) (h : Halt S) → walkPatches step i s ps ≡ halted h → FirstFrom i s ps h
-  unfolding walkPatches replaySteps patchSteps flatMap runs
+  unfolding walkPatches replaySteps patchSteps flatMap runSteps
   first-from i s [] h e = not-both e
   first-from i s (p ∷ ps) h e = go (walkOperations step i (p .envelope .id) 0 s (p .operations)) refl (λ u. first-from (suc i) u ps h) e
     where
@@ -152,9 +152,9 @@ module _ {S : Type 0} (step : S → ℕ → Operation → Option S) where
             behind = f .behind;
             operations = f .operations;
             operationIndex = f .operationIndex;
-            ran = ap (runs step s) (append-assoc own (replaySteps (f .earlier)) others)
-                ∙ runs-append s own (replaySteps (f .earlier) ++ others)
-                ∙ ap (λ (x : Option S). onward x (λ t. runs step t (replaySteps (f .earlier) ++ others))) (operations-through i (p .envelope .id) 0 s (p .operations) u is)
+            ran = ap (runSteps step s) (append-assoc own (replaySteps (f .earlier)) others)
+                ∙ runSteps-append s own (replaySteps (f .earlier) ++ others)
+                ∙ ap (λ (x : Option S). ifSome x (λ t. runSteps step t (replaySteps (f .earlier) ++ others))) (operations-through i (p .envelope .id) 0 s (p .operations) u is)
                 ∙ f .ran;
             ends = f .ends;
           }
@@ -218,8 +218,8 @@ module _ {ps : List Patch} {i j : ℕ} {o : Operation} (a : At ps i j o) where
 -- ---- a test of every operation
 
 module _ (test : Operation → Bool) where
-  all-pass : (ss : List ReplayStep) → runs (tested test) tt ss ≡ some tt → all test (stepOperations ss) ≡ true
-  unfolding runs tested
+  all-pass : (ss : List ReplayStep) → runSteps (tested test) tt ss ≡ some tt → all test (stepOperations ss) ≡ true
+  unfolding runSteps tested
   all-pass [] e = refl
   all-pass (r ∷ ss) e = test-cases (test (r .operation))
       (λ t. rw t (all-pass ss (rw t at e)))

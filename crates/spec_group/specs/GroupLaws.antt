@@ -23,12 +23,12 @@ one-answer : (a b : BatchAnswer) (firsts : List BatchAnswer) → a ∷ [] ≡ fi
 one-answer a b [] e = (cc e, refl)
 one-answer a b (f ∷ fs) e = absurd (omega (arith, ap length e, length-append fs (b ∷ [])))
 
-record Behind (a b : BatchAnswer) (rest firsts : List BatchAnswer) : Type 0 where
+record BehindAnswers (a b : BatchAnswer) (rest firsts : List BatchAnswer) : Type 0 where
   others : List BatchAnswer
   is : rest ≡ others ++ b ∷ []
   one-more : length firsts ≡ suc (length others)
 
-more-answers : (a b : BatchAnswer) (rest firsts : List BatchAnswer) → isRejected (a .disposition) ≡ false → isRejected (b .disposition) ≡ true → a ∷ rest ≡ firsts ++ b ∷ [] → Behind a b rest firsts
+more-answers : (a b : BatchAnswer) (rest firsts : List BatchAnswer) → isRejected (a .disposition) ≡ false → isRejected (b .disposition) ≡ true → a ∷ rest ≡ firsts ++ b ∷ [] → BehindAnswers a b rest firsts
 more-answers a b rest [] p q e = let same : a ≡ b = cc e in true-not-false q (ap (λ (x : BatchAnswer). isRejected (x .disposition)) (sym same) ∙ p)
 more-answers a b rest (f ∷ fs) p q e = record { others = fs; is = cc e; one-more = refl }
 

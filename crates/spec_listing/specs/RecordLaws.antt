@@ -92,39 +92,39 @@ tagOf (bindingRecord b) = 66
 tagOf (availabilityRecord a) = 65
 tagOf (entryRecord e) = 67
 
-abbrev fieldsOf : Record → List (List ℕ)
-fieldsOf (bindingRecord b) = decimal (b .node) ∷ decimal (b .slot) ∷ valueFields (b .value)
-fieldsOf (availabilityRecord a) = decimal (a .node) ∷ decimal (availabilityByte (a .availability)) ∷ []
-fieldsOf (entryRecord e) = decimal (e .collection) ∷ decimal (e .key) ∷ valueFields (e .value)
+abbrev recordFields : Record → List (List ℕ)
+recordFields (bindingRecord b) = decimal (b .node) ∷ decimal (b .slot) ∷ valueFields (b .value)
+recordFields (availabilityRecord a) = decimal (a .node) ∷ decimal (availabilityByte (a .availability)) ∷ []
+recordFields (entryRecord e) = decimal (e .collection) ∷ decimal (e .key) ∷ valueFields (e .value)
 
 -- a line without its newline
-abbrev textOf : Record → List ℕ
-textOf r = tagOf r ∷ tabbed (fieldsOf r)
+abbrev recordText : Record → List ℕ
+recordText r = tagOf r ∷ tabbed (recordFields r)
 
-fieldsOf-plain : (r : Record) → All Plain (fieldsOf r)
+fieldsOf-plain : (r : Record) → All Plain (recordFields r)
 fieldsOf-plain (bindingRecord b) = (decimal-plain (b .node), (decimal-plain (b .slot), valueFields-plain (b .value)))
 fieldsOf-plain (availabilityRecord a) = (decimal-plain (a .node), (decimal-plain (availabilityByte (a .availability)), tt))
 fieldsOf-plain (entryRecord e) = (decimal-plain (e .collection), (decimal-plain (e .key), valueFields-plain (e .value)))
 
-recordLine-fields : (r : Record) → recordLine r ≡ tagOf r ∷ fields (fieldsOf r)
+recordLine-fields : (r : Record) → recordLine r ≡ tagOf r ∷ fields (recordFields r)
 unfolding recordLine bindingLine availabilityLine entryLine
 recordLine-fields (bindingRecord b) = refl
 recordLine-fields (availabilityRecord a) = refl
 recordLine-fields (entryRecord e) = refl
 
-recordLine-text : (r : Record) (rest : List ℕ) → recordLine r ++ rest ≡ textOf r ++ (newline ∷ rest)
-recordLine-text r rest = ap (λ (l : List ℕ). l ++ rest) (recordLine-fields r) ∙ ap (λ (l : List ℕ). tagOf r ∷ l) (fields-tabbed (fieldsOf r) rest)
+recordLine-text : (r : Record) (rest : List ℕ) → recordLine r ++ rest ≡ recordText r ++ (newline ∷ rest)
+recordLine-text r rest = ap (λ (l : List ℕ). l ++ rest) (recordLine-fields r) ∙ ap (λ (l : List ℕ). tagOf r ∷ l) (fields-tabbed (recordFields r) rest)
 
 tagOf-plain : (r : Record) → Plain (tagOf r ∷ [])
 tagOf-plain (bindingRecord b) = alone-plain 66 (omega arith)
 tagOf-plain (availabilityRecord a) = alone-plain 65 (omega arith)
 tagOf-plain (entryRecord e) = alone-plain 67 (omega arith)
 
-textOf-split : (r : Record) → split tab (textOf r) ≡ (tagOf r ∷ []) ∷ fieldsOf r
-textOf-split r = split-tabbed (tagOf r ∷ []) (fieldsOf r) (tagOf-plain r .no-tab) (fieldsOf-plain r)
+textOf-split : (r : Record) → split tab (recordText r) ≡ (tagOf r ∷ []) ∷ recordFields r
+textOf-split r = split-tabbed (tagOf r ∷ []) (recordFields r) (tagOf-plain r .no-tab) (fieldsOf-plain r)
 
-textOf-no-newline : (r : Record) → lacks newline (textOf r) ≡ true
-textOf-no-newline r = lacks-append newline (tagOf r ∷ []) (tabbed (fieldsOf r)) (tagOf-plain r .no-newline) (tabbed-no-newline (fieldsOf r) (fieldsOf-plain r))
+textOf-no-newline : (r : Record) → lacks newline (recordText r) ≡ true
+textOf-no-newline r = lacks-append newline (tagOf r ∷ []) (tabbed (recordFields r)) (tagOf-plain r .no-newline) (tabbed-no-newline (recordFields r) (fieldsOf-plain r))
 
 -- ---- a record read back
 
@@ -156,7 +156,7 @@ value-fields next (text t) h = rw (unescaped-escaped t)
 value-fields next (unsigned x) h = rw (readDecimal-decimal x h)
 value-fields next (score n) h = rw (readDecimal-decimal n (omega (arith, h)))
 
-fields-back : (r : Record) → FitsRecord r → readBehind (tagOf r) (fieldsOf r) ≡ some (unmarkedRecord r)
+fields-back : (r : Record) → FitsRecord r → readBehind (tagOf r) (recordFields r) ≡ some (unmarkedRecord r)
 unfolding readBehind readBinding readNodeAvailability readEntry noMore FitsRecord unmarkedRecord unmarked
 fields-back (bindingRecord b) h =
     read-on readDecimal _ (decimal (b .node)) _ (b .node) (readDecimal-decimal (b .node) (h .node))
@@ -173,18 +173,18 @@ fields-back (entryRecord e) h =
     ∙ read-on readDecimal _ (decimal (e .key)) _ (e .key) (readDecimal-decimal (e .key) (h .key))
     ∙ value-fields _ (e .value) (h .value)
 
-textOf-back : (r : Record) → FitsRecord r → readUnended (textOf r) ≡ some (unmarkedRecord r)
+textOf-back : (r : Record) → FitsRecord r → readUnended (recordText r) ≡ some (unmarkedRecord r)
 unfolding readUnended alone
-textOf-back r h = ap (readField alone readBehind) (textOf-split r) ∙ read-on alone readBehind (tagOf r ∷ []) (fieldsOf r) (tagOf r) refl ∙ fields-back r h
+textOf-back r h = ap (readField alone readBehind) (textOf-split r) ∙ read-on alone readBehind (tagOf r ∷ []) (recordFields r) (tagOf r) refl ∙ fields-back r h
 
 -- ---- lines
 
-lines-text : (r : Record) → FitsRecord r → (lines : List (List ℕ)) → readLines (textOf r ∷ lines) ≡ cons (some (unmarkedRecord r)) (readLines lines)
+lines-text : (r : Record) → FitsRecord r → (lines : List (List ℕ)) → readLines (recordText r ∷ lines) ≡ cons (some (unmarkedRecord r)) (readLines lines)
 unfolding readLines
 lines-text r h lines = ap (λ (o : Option Record). cons o (readLines lines)) (textOf-back r h)
 
-split-line : (r : Record) (rest : List ℕ) → split newline (recordLine r ++ rest) ≡ textOf r ∷ split newline rest
-split-line r rest = ap (split newline) (recordLine-text r rest) ∙ split-part newline (textOf r) rest (textOf-no-newline r)
+split-line : (r : Record) (rest : List ℕ) → split newline (recordLine r ++ rest) ≡ recordText r ∷ split newline rest
+split-line r rest = ap (split newline) (recordLine-text r rest) ∙ split-part newline (recordText r) rest (textOf-no-newline r)
 
 -- Records that fit are read back from their lines, one after the other, without their marks.
 pub records-back : (rs : List Record) → All FitsRecord rs → readRecords (flatMap recordLine rs) ≡ some (map unmarkedRecord rs)

@@ -87,21 +87,21 @@ runs-alike = runs-with-room empty interleaved groupedExamples afterwards empty-v
 
 -- ---- marks must be dropped: the same operation of two patches leaves two marks
 
-abbrev setBy : ℕ → List ReplayStep
-setBy id = stepOf id (setAvailability 5 pending) ∷ []
+abbrev pendingBy : ℕ → List ReplayStep
+pendingBy id = stepOf id (setAvailability 5 pending) ∷ []
 
 abbrev availableBy : ℕ → Projection
 availableBy id = record { bindings = []; availabilities = record { node = 5; mark = id; availability = pending } ∷ []; entries = [] }
 
-set-leaves : (id : ℕ) → applySteps empty (setBy id) ≡ done (availableBy id)
+set-leaves : (id : ℕ) → applySteps empty (pendingBy id) ≡ done (availableBy id)
 unfolding openedOrders applySteps applyStep
 set-leaves id = refl
 
 pub marks-dropped : ((p : Projection) (left right : List ReplayStep) (q r : Projection) → Valid p → OrderKept (stepOperations left) (stepOperations right) → applySteps p left ≡ done q → applySteps p right ≡ done r → q ≡ r) → ⊥
 marks-dropped claim =
-    let same = claim empty (setBy 7) (setBy 8) _ _ empty-valid (λ t. refl) (set-leaves 7) (set-leaves 8) in
+    let same = claim empty (pendingBy 7) (pendingBy 8) _ _ empty-valid (λ t. refl) (set-leaves 7) (set-leaves 8) in
     let marks : _≡_ {A = ℕ} 7 8 = ap (λ (x : NodeAvailability). x .mark) (head-eq-of-cons-eq (ap (λ (p : Projection). p .availabilities) same)) in omega arith
 
 -- without them both leave the same
 pub set-alike : withoutMarks (availableBy 7) ≡ withoutMarks (availableBy 8)
-set-alike = step-order-is-free empty (setBy 7) (setBy 8) _ _ empty-valid (λ t. refl) (set-leaves 7) (set-leaves 8)
+set-alike = step-order-is-free empty (pendingBy 7) (pendingBy 8) _ _ empty-valid (λ t. refl) (set-leaves 7) (set-leaves 8)

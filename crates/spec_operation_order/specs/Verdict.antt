@@ -17,7 +17,7 @@ use Rattle.spec_projection.specs.Projection.{Binding, NodeAvailability, Entry, 
 use Rattle.spec_projection.specs.FirstMatch.{findFirst, removeFirst}
 use Rattle.spec_projection.specs.FirstMatchLaws.{findFirst-passes, findFirst-any, findFirst-none}
 use Rattle.spec_projection.specs.Entries.{isEntry, contains, containsNeighbour, insertEntry, replaceEntry, removeEntry}
-use Rattle.spec_projection.specs.EntriesLaws.{entry-collection, entry-key, insertEntry-length, replaceEntry-length, removeEntry-length, found-contains}
+use Rattle.spec_projection.specs.EntriesLaws.{isEntry-collection, isEntry-key, insertEntry-length, replaceEntry-length, removeEntry-length, found-contains}
 use Rattle.spec_projection.specs.Lookups.{KeyedValue, entriesIn, entriesOf}
 use Rattle.spec_projection.specs.Apply.{keyRule, projectionFull, Outcome, done, stopped, withBindings, withAvailabilities, withEntries, applyBinding, applyAvailability, applyInsert, applyUpdate, applyRemove, applyMove, applyOperation}
 use Rattle.spec_projection.specs.Effects.{Target, bindingTarget, nodeTarget, collectionTarget, targetOf, hasKey}
@@ -122,7 +122,7 @@ move-verdict p c k before (some x) e =
     let rest = removeEntry (x .collection) (x .key) es in
     let there : any (hasKey k) (entriesIn c es) ≡ true = sym (contains-own c k es) ∙ findFirst-any (isEntry c k) es x e in
     let next : containsNeighbour (x .collection) before rest ≡ hasNeighbour before (removeFirst (hasKey k) (entriesIn c es)) =
-    rw (entry-collection c k x is, entry-key c k x is) (neighbour-own c before (removeEntry c k es) ∙ ap (hasNeighbour before) (removeEntry-own c k es)) in
+    rw (isEntry-collection c k x is, isEntry-key c k x is) (neighbour-own c before (removeEntry c k es) ∙ ap (hasNeighbour before) (removeEntry-own c k es)) in
     if-cases (Verdict p (move c k before)) (containsNeighbour (x .collection) before rest) _ _
     (λ h. entries-leave p (move c k before) (insertEntry before x rest) refl refl (rw there (sym next ∙ h)) (λ f. omega (arith, f .entries))
     (omega (arith, insertEntry-length before x rest, removeEntry-length (x .collection) (x .key) es (found-contains c k es x e))))

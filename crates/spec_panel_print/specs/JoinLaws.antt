@@ -91,9 +91,9 @@ padding-dropped (c ∷ d ∷ l) n h =
     (λ t. rw (t, padding-dropped (d ∷ l) n h))
 
 -- Joining the text columns and dropping the spaces at the end returns the printed value, if that does not end in a space.
-pub printed-back : (e : KeyedValue) → endsInSpace (printedValue (e .value)) ≡ false → withoutEndSpaces (textColumns (entryLines e)) ≡ printedValue (e .value)
+pub columns-back : (e : KeyedValue) → endsInSpace (printedValue (e .value)) ≡ false → withoutEndSpaces (textColumns (entryLines e)) ≡ printedValue (e .value)
 unfolding entryLines
-printed-back e h =
+columns-back e h =
     let (n, joined) = columns-joined (e .key) (printedValue (e .value)) in
     ap withoutEndSpaces joined ∙ padding-dropped (printedValue (e .value)) n h
 

@@ -14,7 +14,7 @@ use Rattle.spec_projection.specs.Valid.{Valid}
 use Rattle.spec_panel_print.specs.Decode.{scalarsFrom, scalarsOf}
 use Rattle.spec_panel_print.specs.Print.{isControl, printedCharacter, printedValue, entryLines, collectionLines, collectionPrint, textColumns, withoutEndSpaces, endsInSpace}
 use Rattle.spec_panel_print.specs.PrintLaws.{LineOfCharacters, collectionLines-characters, collectionPrint-utf8}
-use Rattle.spec_panel_print.specs.JoinLaws.{FirstLine, first-line, printed-back}
+use Rattle.spec_panel_print.specs.JoinLaws.{FirstLine, first-line, columns-back}
 use Rattle.spec_panel_print.specs.PrintSizes.{printBytes}
 use Rattle.spec_panel_print.specs.PrintSizesLaws.{print-fits}
 use Rattle.spec_panel_print.specs.PrintExamples.{withKey, latin, inCollection, printedPanel}
@@ -61,7 +61,7 @@ spacedText = latin 57 ++ (32 ∷ 120 ∷ [])
 
 pub spaced-back : withoutEndSpaces (textColumns (entryLines (withKey 1 (text spacedText)))) ≡ printedValue (text spacedText)
 unfolding withKey latin endsInSpace printedValue printedCharacter isControl scalarsOf scalarsFrom
-spaced-back = printed-back (withKey 1 (text spacedText)) refl
+spaced-back = columns-back (withKey 1 (text spacedText)) refl
 
 pub spaced-first : FirstLine (withKey 1 (text spacedText))
 unfolding withKey

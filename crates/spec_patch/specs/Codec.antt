@@ -285,8 +285,8 @@ literal-codec l = record {
 
 module _ {A : Type 0} {e : A → List ℕ} {Good : A → Type 0} {p : Reader A} (codec : Codec e Good p) where
   -- the bytes that were taken are those that are encoded
-  pub taken : {bs : List ℕ} → Bytes bs → (a : A) (rest : List ℕ) → p bs ≡ read a rest → take (length bs - length rest) bs ≡ e a
-  taken {bs} h a rest q =
+  pub codec-taken : {bs : List ℕ} → Bytes bs → (a : A) (rest : List ℕ) → p bs ≡ read a rest → take (length bs - length rest) bs ≡ e a
+  codec-taken {bs} h a rest q =
       let o = codec .only h a rest q in
       let long : length bs ≡ length (e a) + length rest = ap length (o .1) ∙ length-append (e a) rest in
       ap (take (length bs - length rest)) (o .1) ∙ take-at (e a) rest (length bs - length rest) (omega arith)

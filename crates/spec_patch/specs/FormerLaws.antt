@@ -85,11 +85,11 @@ counted n bs mid e =
     let value : t .a ≡ n = cc (d .result) in
     record { number = t .first ∙ d .result; within = omega (arith, leb-true (t .a) formerTextBytes (d .passed)) }
 
-record Checked (n : ℕ) (mid t rest : List ℕ) : Type 0 where
+record CheckedText (n : ℕ) (mid t rest : List ℕ) : Type 0 where
   taken : bytes n mid ≡ read t rest
   utf8 : isUtf8 t ≡ true
 
-checked-text : (n : ℕ) (mid t rest : List ℕ) → checked isUtf8 malformed (bytes n) mid ≡ read t rest → Checked n mid t rest
+checked-text : (n : ℕ) (mid t rest : List ℕ) → checked isUtf8 malformed (bytes n) mid ≡ read t rest → CheckedText n mid t rest
 checked-text n mid t rest e =
     let u = onward-read (bytes n mid) (λ x rest′. if isUtf8 x then read x rest′ else refused malformed) t rest e in
     let d = if-read (isUtf8 (u .a)) (read (u .a) (u .mid)) malformed t rest (u .next) in

@@ -55,10 +55,10 @@ holds-map P Q f (move c k b) h = h
 -- ---- values
 
 -- in range and short enough
-abbrev Short : Value → Type 0
-Short v = InRangeValue v × (shortEnough v ≡ true)
+abbrev ShortValue : Value → Type 0
+ShortValue v = InRangeValue v × (shortEnough v ≡ true)
 
-storable : (v : Value) → Short v → allowedValue v ≡ true → fewEnough v ≡ true → Storable v
+storable : (v : Value) → ShortValue v → allowedValue v ≡ true → fewEnough v ≡ true → Storable v
 unfolding InRangeValue shortEnough allowedValue fewEnough StorableBy
 storable (quad q) h e c = tt
 storable (signed z) h e c = h .0
@@ -66,12 +66,12 @@ storable (text t) h e c = record { short = leb-true (length t) textBytes (h .1);
 storable (unsigned x) h e c = h .0
 storable (score n) h e c = leb-true n highestScore e
 
-record Tested (v : Value) : Type 0 where
+record TestedValue (v : Value) : Type 0 where
   short : shortEnough v ≡ true
   allowed : allowedValue v ≡ true
   few : fewEnough v ≡ true
 
-storable-tested : (v : Value) → Storable v → Tested v
+storable-tested : (v : Value) → Storable v → TestedValue v
 unfolding shortEnough allowedValue fewEnough StorableBy
 storable-tested (quad q) h = record { short = refl; allowed = refl; few = refl }
 storable-tested (signed z) h = record { short = refl; allowed = refl; few = refl }
@@ -89,10 +89,10 @@ storable-in-range (score n) h = omega (arith, h)
 
 module _ (ed : Edition) where
   -- in range, short enough and well formed
-  abbrev Formed : Value → Type 0
-  Formed v = Short v × (wellFormed ed v ≡ true)
+  abbrev WellFormedValue : Value → Type 0
+  WellFormedValue v = ShortValue v × (wellFormed ed v ≡ true)
 
-  value-fits : (v : Value) → Formed v → fewEnough v ≡ true → FitsValue ed v
+  value-fits : (v : Value) → WellFormedValue v → fewEnough v ≡ true → FitsValue ed v
   unfolding wellFormed
   value-fits v h e = record { kind = and-left (hasKind ed (kindOf v)) _ (h .1); storable = storable v (h .0) (and-right (hasKind ed (kindOf v)) _ (h .1)) e }
 
@@ -135,9 +135,9 @@ module _ (ed : Edition) where
       let b = and-right (leb (length ps) setPatches) _ w in
       let c = and-right (all counts ps) _ b in
       let counted = all-of-test InRangePatch (PatchHolds InRangeValue) counts patch-counted ps r (and-left (all counts ps) _ b) in
-      let shorts = list-of-test InRangeValue Short shortEnough (λ v h e. (h, e)) ps counted (and-left (allValues shortEnough ps) _ c) in
-      let formed = list-of-test Short Formed (wellFormed ed) (λ v h e. (h, e)) ps shorts t in
-      let good = list-of-test Formed (FitsValue ed) fewEnough value-fits ps formed f in
+      let shorts = list-of-test InRangeValue ShortValue shortEnough (λ v h e. (h, e)) ps counted (and-left (allValues shortEnough ps) _ c) in
+      let formed = list-of-test ShortValue WellFormedValue (wellFormed ed) (λ v h e. (h, e)) ps shorts t in
+      let good = list-of-test WellFormedValue (FitsValue ed) fewEnough value-fits ps formed f in
       record {
         few = leb-true (length ps) setPatches (and-left (leb (length ps) setPatches) _ w);
         patches = all-map (PatchHolds (FitsValue ed)) (FitsPatch ed) patch-fits ps good;

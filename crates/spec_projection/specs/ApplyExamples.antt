@@ -47,9 +47,9 @@ full : Projection
 full = stored 0 (keyed 9 128)
 
 -- 0, or the number of the fault
-numberOf : Outcome → ℕ
-numberOf (done p) = 0
-numberOf (stopped fault) = operationFaultNumber fault
+faultOrZero : Outcome → ℕ
+faultOrZero (done p) = 0
+faultOrZero (stopped fault) = operationFaultNumber fault
 
 -- what is asked of the projection afterwards; nothing where a step failed
 ask : (Projection → List ℕ) → Outcome → List ℕ
@@ -58,7 +58,7 @@ ask f (stopped fault) = []
 
 -- the operations of one patch, from this projection on, give this number
 gives : ℕ → Projection → List Operation → Bool
-gives n p os = eqb (numberOf (applySteps p (replaySteps (patch 1 os ∷ [])))) n
+gives n p os = eqb (faultOrZero (applySteps p (replaySteps (patch 1 os ∷ [])))) n
 
 -- and leave a projection that answers this
 shows : List ℕ → (Projection → List ℕ) → Projection → List Operation → Bool
@@ -76,13 +76,13 @@ plain (text t) = []
 plain (unsigned x) = x ∷ []
 plain (score n) = n ∷ []
 
-number : Option Value → List ℕ
-number none = []
-number (some v) = plain v
+valueAsked : Option Value → List ℕ
+valueAsked none = []
+valueAsked (some v) = plain v
 
-byte : Option Availability → List ℕ
-byte none = []
-byte (some a) = availabilityByte a ∷ []
+availabilityAsked : Option Availability → List ℕ
+availabilityAsked none = []
+availabilityAsked (some a) = availabilityByte a ∷ []
 
 -- ---- the table
 
@@ -93,11 +93,11 @@ places =
     shows (2 ∷ 1 ∷ 3 ∷ []) (keys 9) three (move 9 1 (some 3) ∷ [])
     ∷ shows (2 ∷ 3 ∷ 1 ∷ []) (keys 9) three (move 9 1 none ∷ [])
     -- a move keeps the value; before itself it finds no neighbour
-    ∷ shows (1 ∷ []) (λ p. number (entryOf p 9 1)) three (move 9 1 none ∷ [])
+    ∷ shows (1 ∷ []) (λ p. valueAsked (entryOf p 9 1)) three (move 9 1 none ∷ [])
     ∷ gives 8 three (move 9 1 (some 1) ∷ [])
     -- an update leaves the entry in its place
     ∷ shows (1 ∷ 2 ∷ 3 ∷ []) (keys 9) three (update 9 1 (unsigned 40) ∷ [])
-    ∷ shows (40 ∷ []) (λ p. number (entryOf p 9 1)) three (update 9 1 (unsigned 40) ∷ [])
+    ∷ shows (40 ∷ []) (λ p. valueAsked (entryOf p 9 1)) three (update 9 1 (unsigned 40) ∷ [])
     -- an insert goes before its neighbour, or last
     ∷ shows (1 ∷ 4 ∷ 2 ∷ 3 ∷ []) (keys 9) three (insert 9 4 (some 2) (unsigned 0) ∷ [])
     ∷ shows (1 ∷ 2 ∷ 3 ∷ 4 ∷ []) (keys 9) three (insert 9 4 none (unsigned 0) ∷ [])
@@ -149,11 +149,11 @@ storedOrder =
 -- lookups answer the last value set, or none; an emptied collection has no entries
 lookups : List Bool
 lookups =
-    shows (2 ∷ []) (λ p. number (bindingOf p 5 0)) empty (setBinding 5 0 (unsigned 1) ∷ setBinding 5 0 (unsigned 2) ∷ [])
-    ∷ shows [] (λ p. number (bindingOf p 5 1)) empty (setBinding 5 0 (unsigned 1) ∷ [])
-    ∷ shows (2 ∷ []) (λ p. byte (availabilityOf p 5)) empty (setAvailability 5 pending ∷ setAvailability 5 hidden ∷ [])
-    ∷ shows [] (λ p. byte (availabilityOf p 6)) empty (setAvailability 5 pending ∷ [])
-    ∷ shows (3 ∷ []) (λ p. number (Option·map (λ (e : KeyedValue). e .value) (entryAt p 9 2))) three []
+    shows (2 ∷ []) (λ p. valueAsked (bindingOf p 5 0)) empty (setBinding 5 0 (unsigned 1) ∷ setBinding 5 0 (unsigned 2) ∷ [])
+    ∷ shows [] (λ p. valueAsked (bindingOf p 5 1)) empty (setBinding 5 0 (unsigned 1) ∷ [])
+    ∷ shows (2 ∷ []) (λ p. availabilityAsked (availabilityOf p 5)) empty (setAvailability 5 pending ∷ setAvailability 5 hidden ∷ [])
+    ∷ shows [] (λ p. availabilityAsked (availabilityOf p 6)) empty (setAvailability 5 pending ∷ [])
+    ∷ shows (3 ∷ []) (λ p. valueAsked (Option·map (λ (e : KeyedValue). e .value) (entryAt p 9 2))) three []
     ∷ shows (3 ∷ []) (λ p. entryCount p 9 ∷ []) three []
     ∷ shows (0 ∷ []) (λ p. entryCount p 9 ∷ []) three (remove 9 1 ∷ remove 9 2 ∷ remove 9 3 ∷ [])
     ∷ []
@@ -179,7 +179,7 @@ failing i (false ∷ rows) = i ∷ failing (suc i) rows
 
 -- no row fails
 pub projection-examples : failing 0 applyExamples ≡ []
-unfolding applyExamples places keyRules capacities storedOrder lookups steps failing patch numbers keyed stored three full numberOf ask gives shows keys plain number byte availabilityByte
+unfolding applyExamples places keyRules capacities storedOrder lookups steps failing patch numbers keyed stored three full faultOrZero ask gives shows keys plain valueAsked availabilityAsked availabilityByte
     flatMap lexLess upsert lookup
     empty bindingKey availabilityKey findFirst insertBeforeFirst replaceFirst removeFirst
     isEntry isLater contains containsNeighbour insertLast insertBefore insertEntry replaceEntry removeEntry

@@ -13,7 +13,7 @@ use Rattle.spec_lists.specs.ListLaws.{test-cases}
 use Rattle.spec_projection.specs.Projection.{Entry}
 use Rattle.spec_projection.specs.FirstMatch.{findFirst, insertBeforeFirst, replaceFirst, removeFirst}
 use Rattle.spec_projection.specs.Entries.{isEntry, isLater, contains, insertLast, insertBefore, insertEntry, replaceEntry, removeEntry}
-use Rattle.spec_projection.specs.EntriesLaws.{entry-collection, later-above}
+use Rattle.spec_projection.specs.EntriesLaws.{isEntry-collection, later-above}
 use Rattle.spec_projection.specs.Lookups.{keyedValue, entriesIn}
 use Rattle.spec_projection.specs.Effects.{hasKey, insertKeyed}
 use Rattle.spec_projection.specs.Valid.{Behind, Grouped}
@@ -44,14 +44,14 @@ pub replaceEntry-other : (e : Entry) (l : List Entry) (c : ℕ) → e .collectio
 unfolding replaceEntry replaceFirst entriesIn
 replaceEntry-other e [] c n = refl
 replaceEntry-other e (x ∷ l) c n = test-cases (isEntry (e .collection) (e .key) x)
-    (λ f. rw f (entriesIn-other c e l n ∙ sym (entriesIn-other c x l (λ g. n (sym (entry-collection _ _ x f) ∙ g)))))
+    (λ f. rw f (entriesIn-other c e l n ∙ sym (entriesIn-other c x l (λ g. n (sym (isEntry-collection _ _ x f) ∙ g)))))
     (λ f. rw (f, replaceEntry-other e l c n))
 
 pub removeEntry-other : (c k : ℕ) (l : List Entry) (d : ℕ) → c ≢ d → entriesIn d (removeEntry c k l) ≡ entriesIn d l
 unfolding removeEntry removeFirst entriesIn
 removeEntry-other c k [] d n = refl
 removeEntry-other c k (x ∷ l) d n = test-cases (isEntry c k x)
-    (λ f. rw f (sym (entriesIn-other d x l (λ g. n (sym (entry-collection c k x f) ∙ g)))))
+    (λ f. rw f (sym (entriesIn-other d x l (λ g. n (sym (isEntry-collection c k x f) ∙ g)))))
     (λ f. rw (f, removeEntry-other c k l d n))
 
 -- ---- the entry's own collection

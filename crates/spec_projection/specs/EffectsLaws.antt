@@ -11,7 +11,7 @@ use Rattle.spec_projection.specs.Projection.{Binding, NodeAvailability, 
 use Rattle.spec_projection.specs.FirstMatch.{findFirst}
 use Rattle.spec_projection.specs.FirstMatchLaws.{findFirst-passes}
 use Rattle.spec_projection.specs.Entries.{isEntry, insertEntry, replaceEntry, removeEntry}
-use Rattle.spec_projection.specs.EntriesLaws.{entry-collection, entry-key, removeEntry-grouped}
+use Rattle.spec_projection.specs.EntriesLaws.{isEntry-collection, isEntry-key, removeEntry-grouped}
 use Rattle.spec_projection.specs.Lookups.{bindingOf, availabilityOf, keyedValue, entriesIn, entriesOf}
 use Rattle.spec_projection.specs.Apply.{done, withBindings, withAvailabilities, withEntries, applyOperation}
 use Rattle.spec_projection.specs.OperationLaws.{applied-binding, applied-availability, applied-insert, applied-update, applied-remove, AppliedMove, applied-move}
@@ -47,7 +47,7 @@ effect p id (remove c k) q h = record { entries = removeEntry c k (p .entries); 
 effect p id (move c k before) q h =
     let a = applied-move p before (findFirst (isEntry c k) (p .entries)) q h in
     let e = a .entry in
-    let own = entry-collection c k e (findFirst-passes (isEntry c k) (p .entries) e (a .found-entry)) in
+    let own = isEntry-collection c k e (findFirst-passes (isEntry c k) (p .entries) e (a .found-entry)) in
     record {
       entries = insertEntry before e (removeEntry (e .collection) (e .key) (p .entries));
       result = a .result;
@@ -150,7 +150,7 @@ own-list p id (move c k before) q w h = go (applied-move p before (findFirst (is
         let e = a .entry in
         let is = findFirst-passes (isEntry c k) (p .entries) e (a .found-entry) in
         let found : findFirst (hasKey k) (entriesOf p c) ≡ some (keyedValue e) = sym (findFirst-own c k (p .entries)) ∙ ap (Option·map keyedValue) (a .found-entry) in
-        rw (found, ← (entry-collection c k e is), ← (entry-key c k e is))
+        rw (found, ← (isEntry-collection c k e is), ← (isEntry-key c k e is))
         (ap (λ (r : Projection). entriesOf r (e .collection)) (a .result)
         ∙ insertEntry-own before e (removeEntry (e .collection) (e .key) (p .entries)) (removeEntry-grouped (e .collection) (e .key) (p .entries) w)
         ∙ ap (insertKeyed before (keyedValue e)) (removeEntry-own (e .collection) (e .key) (p .entries)))

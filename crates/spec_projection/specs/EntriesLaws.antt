@@ -18,13 +18,13 @@ use Rattle.spec_projection.specs.Valid.{Behind, Grouped}
 
 -- ---- being the entry of a collection and key
 
-pub entry-collection : (c k : ℕ) (e : Entry) → isEntry c k e ≡ true → e .collection ≡ c
+pub isEntry-collection : (c k : ℕ) (e : Entry) → isEntry c k e ≡ true → e .collection ≡ c
 unfolding isEntry
-entry-collection c k e h = eqb-true (e .collection) c (and-left _ _ h)
+isEntry-collection c k e h = eqb-true (e .collection) c (and-left _ _ h)
 
-pub entry-key : (c k : ℕ) (e : Entry) → isEntry c k e ≡ true → e .key ≡ k
+pub isEntry-key : (c k : ℕ) (e : Entry) → isEntry c k e ≡ true → e .key ≡ k
 unfolding isEntry
-entry-key c k e h = eqb-true (e .key) k (and-right (eqb (e .collection) c) _ h)
+isEntry-key c k e h = eqb-true (e .key) k (and-right (eqb (e .collection) c) _ h)
 
 pub entry-is : (c k : ℕ) (e : Entry) → e .collection ≡ c → e .key ≡ k → isEntry c k e ≡ true
 unfolding isEntry
@@ -44,7 +44,7 @@ not-later-below c e h = ltb-false c (e .collection) h
 
 -- two entries differ, seen from either
 entry-sym : (x e : Entry) → isEntry (e .collection) (e .key) x ≡ false → isEntry (x .collection) (x .key) e ≡ false
-entry-sym x e h = test-cases (isEntry (x .collection) (x .key) e) (λ f. cc (f, h, entry-is (e .collection) (e .key) x (sym (entry-collection (x .collection) (x .key) e f)) (sym (entry-key (x .collection) (x .key) e f)))) (λ f. f)
+entry-sym x e h = test-cases (isEntry (x .collection) (x .key) e) (λ f. cc (f, h, entry-is (e .collection) (e .key) x (sym (isEntry-collection (x .collection) (x .key) e f)) (sym (isEntry-key (x .collection) (x .key) e f)))) (λ f. f)
 
 -- first of a list whose collections are not earlier
 insert-here : (e x : Entry) (l : List Entry) → e .collection ≤ x .collection → contains (e .collection) (e .key) (x ∷ l) ≡ false → Grouped (x ∷ l) → Grouped (e ∷ x ∷ l)
@@ -75,14 +75,14 @@ behind-collection : (x : Entry) (c k : ℕ) (l : List Entry) → contains c k l 
 unfolding contains
 behind-collection x c k [] n h = absurd (false≢true n)
 behind-collection x c k (y ∷ l) n h = test-cases (isEntry c k y)
-    (λ f. omega (arith, h .0 .collection, entry-collection c k y f))
+    (λ f. omega (arith, h .0 .collection, isEntry-collection c k y f))
     (λ f. behind-collection x c k l (or-second _ _ n f) (h .1))
 
 pub insertBefore-grouped : (k : ℕ) (e : Entry) (l : List Entry) → contains (e .collection) (e .key) l ≡ false → contains (e .collection) k l ≡ true → Grouped l → Grouped (insertBefore k e l)
 unfolding insertBefore insertBeforeFirst contains
 insertBefore-grouped k e [] n m h = (tt, tt)
 insertBefore-grouped k e (x ∷ l) n m h = test-cases (isEntry (e .collection) k x)
-    (λ f. rw f (insert-here e x l (omega (arith, entry-collection (e .collection) k x f)) n h))
+    (λ f. rw f (insert-here e x l (omega (arith, isEntry-collection (e .collection) k x f)) n h))
     (λ f. let later = or-second _ _ m f in
     rw f (insert-further (isEntry (e .collection) k) e x l (behind-collection x (e .collection) k l later (h .0)) (or-left _ _ n) (h .0) (insertBefore-grouped k e l (or-right (isEntry (e .collection) (e .key) x) _ n) later (h .1))))
 
@@ -105,8 +105,8 @@ pub replaceEntry-grouped : (e : Entry) (l : List Entry) → Grouped l → Groupe
 unfolding replaceEntry replaceFirst
 replaceEntry-grouped e [] h = tt
 replaceEntry-grouped e (x ∷ l) h = test-cases (isEntry (e .collection) (e .key) x)
-    (λ f. rw f (all-map (Behind x) (Behind e) (λ y. same-behind x y e (entry-collection _ _ x f) (entry-key _ _ x f)) l (h .0), h .1))
-    (λ f. rw f (replaceFirst-all (isEntry (e .collection) (e .key)) (Behind x) e l (λ y g. behind-same x y e (entry-collection _ _ y g) (entry-key _ _ y g)) (h .0), replaceEntry-grouped e l (h .1)))
+    (λ f. rw f (all-map (Behind x) (Behind e) (λ y. same-behind x y e (isEntry-collection _ _ x f) (isEntry-key _ _ x f)) l (h .0), h .1))
+    (λ f. rw f (replaceFirst-all (isEntry (e .collection) (e .key)) (Behind x) e l (λ y g. behind-same x y e (isEntry-collection _ _ y g) (isEntry-key _ _ y g)) (h .0), replaceEntry-grouped e l (h .1)))
 
 pub removeEntry-grouped : (c k : ℕ) (l : List Entry) → Grouped l → Grouped (removeEntry c k l)
 unfolding removeEntry removeFirst
@@ -118,7 +118,7 @@ pub removeEntry-gone : (c k : ℕ) (l : List Entry) → Grouped l → contains c
 unfolding removeEntry removeFirst contains
 removeEntry-gone c k [] h = refl
 removeEntry-gone c k (x ∷ l) h = test-cases (isEntry c k x)
-    (λ f. rw f (rw (entry-collection c k x f, entry-key c k x f) at (none-behind x l (h .0))))
+    (λ f. rw f (rw (isEntry-collection c k x f, isEntry-key c k x f) at (none-behind x l (h .0))))
     (λ f. rw (f, f) (removeEntry-gone c k l (h .1)))
   where
     none-behind : (x : Entry) (l : List Entry) → All (Behind x) l → any (isEntry (x .collection) (x .key)) l ≡ false
@@ -130,7 +130,7 @@ pub found-contains : (c k : ℕ) (l : List Entry) (e : Entry) → findFirst (isE
 unfolding contains
 found-contains c k l e h =
     let is = findFirst-passes (isEntry c k) l e h in
-    rw (entry-collection c k e is, entry-key c k e is) (findFirst-any (isEntry c k) l e h)
+    rw (isEntry-collection c k e is, isEntry-key c k e is) (findFirst-any (isEntry c k) l e h)
 
 -- ---- properties of all entries, and lengths
 

@@ -9,13 +9,13 @@ use Rattle.spec_projection.specs.Projection.{Entry}
 use Rattle.spec_projection.specs.FirstMatch.{findFirst, replaceFirst}
 use Rattle.spec_projection.specs.FirstMatchLaws.{findFirst-absent, insertBeforeFirst-found, insertBeforeFirst-beside, replaceFirst-found, replaceFirst-beside, removeFirst-beside}
 use Rattle.spec_projection.specs.Entries.{isEntry, isLater, contains, insertLast, insertBefore, insertEntry, replaceEntry, removeEntry}
-use Rattle.spec_projection.specs.EntriesLaws.{entry-collection, entry-key, removeEntry-gone}
+use Rattle.spec_projection.specs.EntriesLaws.{isEntry-collection, isEntry-key, removeEntry-gone}
 use Rattle.spec_projection.specs.Valid.{Grouped}
 
 -- the entry of one collection and key is not that of another
 entry-other : (d j c k : ℕ) → (eqb d c && eqb j k) ≡ false → (x : Entry) → isEntry d j x ≡ true → isEntry c k x ≡ false
 unfolding isEntry
-entry-other d j c k n x h = rw (entry-collection d j x h, entry-key d j x h) n
+entry-other d j c k n x h = rw (isEntry-collection d j x h, isEntry-key d j x h) n
 
 module _ (c k : ℕ) (l : List Entry) where
   pub insertEntry-found : (before : Option ℕ) (e : Entry) → isEntry c k e ≡ true → contains c k l ≡ false → findFirst (isEntry c k) (insertEntry before e l) ≡ some e
@@ -31,7 +31,7 @@ module _ (c k : ℕ) (l : List Entry) where
   pub replaceEntry-found : (e : Entry) → isEntry c k e ≡ true → contains c k l ≡ true → findFirst (isEntry c k) (replaceEntry e l) ≡ some e
   unfolding replaceEntry contains
   replaceEntry-found e h m =
-      ap₂ (λ (i x : ℕ). findFirst (isEntry c k) (replaceFirst (isEntry i x) e l)) (entry-collection c k e h) (entry-key c k e h) ∙ replaceFirst-found (isEntry c k) e l h m
+      ap₂ (λ (i x : ℕ). findFirst (isEntry c k) (replaceFirst (isEntry i x) e l)) (isEntry-collection c k e h) (isEntry-key c k e h) ∙ replaceFirst-found (isEntry c k) e l h m
 
   pub replaceEntry-beside : (e : Entry) → isEntry c k e ≡ false → findFirst (isEntry c k) (replaceEntry e l) ≡ findFirst (isEntry c k) l
   unfolding replaceEntry isEntry

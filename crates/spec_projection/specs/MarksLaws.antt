@@ -15,7 +15,7 @@ use Rattle.spec_projection.specs.Projection.{Binding, NodeAvailability, 
 use Rattle.spec_projection.specs.FirstMatch.{findFirst}
 use Rattle.spec_projection.specs.FirstMatchLaws.{findFirst-passes}
 use Rattle.spec_projection.specs.Entries.{isEntry, contains, insertEntry, replaceEntry, removeEntry}
-use Rattle.spec_projection.specs.EntriesLaws.{entry-collection, entry-key, removeEntry-gone}
+use Rattle.spec_projection.specs.EntriesLaws.{isEntry-collection, isEntry-key, removeEntry-gone}
 use Rattle.spec_projection.specs.Lookups.{bindingMark, availabilityMark, entryMark}
 use Rattle.spec_projection.specs.Apply.{done, withBindings, withAvailabilities, withEntries, applyOperation, ReplayStep, applyStep, applySteps}
 use Rattle.spec_projection.specs.ApplyLaws.{done-injective, andThen-done}
@@ -90,12 +90,12 @@ module _ (d j : ℕ) where
 
   found-inserted : (before : Option ℕ) (e : Entry) (l : List Entry) → contains (e .collection) (e .key) l ≡ false → foundMark (insertEntry before e l) ≡ (if isEntry d j e then some (e .mark) else foundMark l)
   found-inserted before e l n = test-cases (isEntry d j e)
-      (λ t. rw (t, insertEntry-found d j l before e t (rw (entry-collection d j e t, entry-key d j e t) at n)))
+      (λ t. rw (t, insertEntry-found d j l before e t (rw (isEntry-collection d j e t, isEntry-key d j e t) at n)))
       (λ t. rw (t, insertEntry-beside d j l before e t))
 
   found-replaced : (e : Entry) (l : List Entry) → contains (e .collection) (e .key) l ≡ true → foundMark (replaceEntry e l) ≡ (if isEntry d j e then some (e .mark) else foundMark l)
   found-replaced e l h = test-cases (isEntry d j e)
-      (λ t. rw (t, replaceEntry-found d j l e t (rw (entry-collection d j e t, entry-key d j e t) at h)))
+      (λ t. rw (t, replaceEntry-found d j l e t (rw (isEntry-collection d j e t, isEntry-key d j e t) at h)))
       (λ t. rw (t, replaceEntry-beside d j l e t))
 
   found-removed : (c k : ℕ) (l : List Entry) → Grouped l → foundMark (removeEntry c k l) ≡ (if eqb c d && eqb k j then none else foundMark l)
@@ -112,8 +112,8 @@ module _ (d j : ℕ) where
       found-inserted before e (removeEntry (e .collection) (e .key) l) (removeEntry-gone (e .collection) (e .key) l g)
       ∙ test-cases (isEntry d j e)
       (λ t. let is = findFirst-passes (isEntry c k) l e h in
-      let own : c ≡ d = sym (entry-collection c k e is) ∙ entry-collection d j e t in
-      let key : k ≡ j = sym (entry-key c k e is) ∙ entry-key d j e t in
+      let own : c ≡ d = sym (isEntry-collection c k e is) ∙ isEntry-collection d j e t in
+      let key : k ≡ j = sym (isEntry-key c k e is) ∙ isEntry-key d j e t in
       rw t (sym (ap (Option·map (λ (x : Entry). x .mark)) (rw (own, key) at h))))
       (λ t. rw t (found-removed (e .collection) (e .key) l g ∙ rw t))
 

@@ -30,7 +30,7 @@ use Rattle.spec_session.specs.Diagnostics.{diagnosticsOf}
 use Rattle.spec_session.specs.Lifecycle.{transition, dispositionOf, stateOf, withLifecycle, rejectLifecycle, enterLifecycle, lifecycleStep}
 use Rattle.spec_session.specs.Batch.{require, readable, absentTargets, knownTargets, batchChecks, rejectBatch, keepSession, candidate, commit, concludeBatch, batch}
 use Rattle.spec_conversion.specs.Conversion.{otherEdition, conversionNumber, unread, allKinds, rewritten, convertTo, convert}
-use Rattle.spec_dependencies.specs.Dependencies.{walkPatches, keysAtStart, dependenciesBy, dependencies}
+use Rattle.spec_dependencies.specs.Dependencies.{settlePatches, keysAtStart, dependenciesBy, dependencies}
 use Rattle.spec_dependencies.specs.Answer.{allWords, hasFindings, refused, answerNever, answerNeeds, refusalNumber, wordsWritten, answerBy, answerReading, dependenciesOf}
 use Rattle.spec_panel_print.specs.Print.{quadLetter, printedValue, lineCount, textPieces, columnOf, keyLead, laidOut, printedLines, entryLines, collectionLines, lineOctets, collectionPrint}
 use Rattle.spec_import.specs.ImportInstances.{openedImport}
@@ -163,7 +163,7 @@ unfolding replayExamples prints closedWith printsAt marked printsMarked shows
     require readable absentTargets knownTargets batchChecks rejectBatch keepSession candidate commit concludeBatch batch
     newTurns setUp refuseRegister startWaiting register after firstAsked firstWaiting nextSender numberAfter spendTurn turnFor turn
     encodeCounted encode allValues otherEdition conversionNumber unread allKinds rewritten convertTo convert
-    walkPatches keysAtStart dependenciesBy dependencies allWords refusalNumber wordsWritten answerBy answerReading dependenciesOf
+    settlePatches keysAtStart dependenciesBy dependencies allWords refusalNumber wordsWritten answerBy answerReading dependenciesOf
     octets encodeScalar isEntry entriesIn entriesOf entryCount quadLetter printedValue lineCount textPieces columnOf keyLead laidOut printedLines entryLines collectionLines lineOctets collectionPrint
     isRejected totalBytes isGroup sendFirst runGroup withCursor concludeGroup group
     findFrom pageEntry pageRows pageRefusal tableLeft page quadByte

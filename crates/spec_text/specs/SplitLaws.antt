@@ -24,30 +24,30 @@ SplitAfter (expects rs) text = Split rs text
 SplitAfter refused text = ⊥
 
 -- a first octet and those that it leads to, and then an encoding
-record First (rows : List (List Range)) (b : ℕ) (text : List ℕ) : Type 0 where
+record FirstCharacter (rows : List (List Range)) (b : ℕ) (text : List ℕ) : Type 0 where
   front : List ℕ
   rest : List ℕ
   matches : AnyMatches rows (b ∷ front)
   joined : front ++ rest ≡ text
   encoded : Encoded rest
 
-first-later : (row : List Range) (rows : List (List Range)) (b : ℕ) (bs : List ℕ) → First rows b bs → First (row ∷ rows) b bs
+first-later : (row : List Range) (rows : List (List Range)) (b : ℕ) (bs : List ℕ) → FirstCharacter rows b bs → FirstCharacter (row ∷ rows) b bs
 first-later row rows b bs f = record { front = f .front; rest = f .rest; matches = inr (f .matches); joined = f .joined; encoded = f .encoded }
 
-first-of : (rows : List (List Range)) (b : ℕ) (bs : List ℕ) → SplitAfter (lead rows b) bs → First rows b bs
+first-of : (rows : List (List Range)) (b : ℕ) (bs : List ℕ) → SplitAfter (lead rows b) bs → FirstCharacter rows b bs
 first-of [] b bs s = absurd s
 first-of ([] ∷ rows) b bs s = first-later [] rows b bs (first-of rows b bs s)
 first-of ((r ∷ rs) ∷ rows) b bs s = go (inside r b) refl (first-of rows b bs) s
   where
-    go : (t : Bool) → inside r b ≡ t → (SplitAfter (lead rows b) bs → First rows b bs) → SplitAfter (if t then expects rs else lead rows b) bs
-        → First ((r ∷ rs) ∷ rows) b bs
+    go : (t : Bool) → inside r b ≡ t → (SplitAfter (lead rows b) bs → FirstCharacter rows b bs) → SplitAfter (if t then expects rs else lead rows b) bs
+        → FirstCharacter ((r ∷ rs) ∷ rows) b bs
     go true e later s =
         let h = inside-true r b e in
         record { front = s .front; rest = s .rest; matches = inl (h .0, h .1, s .matches); joined = s .joined; encoded = s .encoded }
     go false e later s = first-later (r ∷ rs) rows b bs (later s)
 
 -- a character, and then an encoding
-split-character : (b : ℕ) (bs : List ℕ) → First sequences b bs → Split [] (b ∷ bs)
+split-character : (b : ℕ) (bs : List ℕ) → FirstCharacter sequences b bs → Split [] (b ∷ bs)
 unfolding encodeScalars flatMap
 split-character b bs f =
     let d : Decoded (b ∷ f .front) = decode (b ∷ f .front) (f .matches) in
@@ -65,7 +65,7 @@ split-character b bs f =
     }
 
 -- an octet that was expected, with the rest of its character
-split-part : (r : Range) (rs : List Range) (b : ℕ) (bs : List ℕ) → First ((r ∷ rs) ∷ []) b bs → Split (r ∷ rs) (b ∷ bs)
+split-part : (r : Range) (rs : List Range) (b : ℕ) (bs : List ℕ) → FirstCharacter ((r ∷ rs) ∷ []) b bs → Split (r ∷ rs) (b ∷ bs)
 split-part r rs b bs f =
     record { front = b ∷ f .front; rest = f .rest; matches = ⊎-elim (λ m. m) absurd (f .matches); joined = ap (λ (l : List ℕ). b ∷ l) (f .joined); encoded = f .encoded }
 

@@ -63,17 +63,17 @@ named-soon (turnCall c ∷ calls) t s (suc m) k near long = go (turn-nearer t c 
 -- ---- every later turn
 
 -- at the next turn call the sender waits
-Ready : ℕ → Turns → List Call → Type 0
-Ready s t calls = (waits t s ≡ true) ⊎ (registersFirst s calls ≡ true)
+WaitsNext : ℕ → Turns → List Call → Type 0
+WaitsNext s t calls = (waits t s ≡ true) ⊎ (registersFirst s calls ≡ true)
 
-ready-register : (s x : ℕ) (t : Turns) (calls : List Call) → s < senders t → Ready s t (registers x ∷ calls) → Ready s (register t x .next) calls
-unfolding Ready registersFirst
+ready-register : (s x : ℕ) (t : Turns) (calls : List Call) → s < senders t → WaitsNext s t (registers x ∷ calls) → WaitsNext s (register t x .next) calls
+unfolding WaitsNext registersFirst
 ready-register s x t calls h (inl k) = inl (register-keeps t x s k)
 ready-register s x t calls h (inr k) =
     test-cases (eqb x s) (λ e. inl (rw (eqb-true x s e) (register-waits t s h))) (λ e. inr (or-second (eqb x s) (registersFirst s calls) k e))
 
-ready-turn : (s : ℕ) (t : Turns) (c : Cursor) (calls : List Call) → Ready s t (turnCall c ∷ calls) → waits t s ≡ true
-unfolding Ready registersFirst
+ready-turn : (s : ℕ) (t : Turns) (c : Cursor) (calls : List Call) → WaitsNext s t (turnCall c ∷ calls) → waits t s ≡ true
+unfolding WaitsNext registersFirst
 ready-turn s t c calls (inl k) = k
 ready-turn s t c calls (inr k) = absurd (false≢true k)
 
@@ -87,9 +87,9 @@ again-after s t c calls e =
     (λ q. rw q at (and-left first later e), and-right first later e)
 
 -- a number of turn calls is at most that of the senders asked before it, and a whole circle for each time that it is named
-named-often : (calls : List Call) (t : Turns) (s m : ℕ) → s < senders t → Ready s t calls → registersAgain s t calls ≡ true → m ≤ length (answers t calls)
+named-often : (calls : List Call) (t : Turns) (s m : ℕ) → s < senders t → WaitsNext s t calls → registersAgain s t calls ≡ true → m ≤ length (answers t calls)
     → m ≤ away t s + timesNamed s (take m (answers t calls)) * senders t
-unfolding answers registersAgain Ready
+unfolding answers registersAgain WaitsNext
 named-often [] t s m h ready again long = omega arith
 named-often (registers x ∷ calls) t s m h ready again long =
     rw (register-away t x s, register-senders t x) at (named-often calls (register t x .next) s m (rw (register-senders t x) h) (ready-register s x t calls h ready) again long)
@@ -107,7 +107,7 @@ named-often (turnCall c ∷ calls) t s (suc m) h ready again long =
     within = rw (turn-senders t c) at (away-within after s (rw (turn-senders t c) h))
 
     go : (names s (turn t c .answer) ≡ true) ⊎ ((names s (turn t c .answer) ≡ false) × (waits after s ≡ true) × (away after s < away t s))
-        → (Ready s after calls → m ≤ away after s + timesNamed s (take m (answers after calls)) * senders t)
+        → (WaitsNext s after calls → m ≤ away after s + timesNamed s (take m (answers after calls)) * senders t)
         → suc m ≤ away t s + timesNamed s (turn t c .answer ∷ take m (answers after calls)) * senders t
     go (inl q) ih =
         let registered : registersFirst s calls ≡ true = again-after s t c calls again .0 q in
@@ -124,7 +124,7 @@ named-in-one-circle t s calls k long = named-soon calls t s (senders t) k (away-
 -- calls as there are senders.
 pub named-in-each-circle : (k : ℕ) (t : Turns) (s : ℕ) (calls : List Call) → waits t s ≡ true → registersAgain s t calls ≡ true → k * senders t ≤ length (answers t calls)
     → k ≤ timesNamed s (take (k * senders t) (answers t calls))
-unfolding Ready
+unfolding WaitsNext
 named-in-each-circle k t s calls w again long =
     let h : s < senders t = waits-within (t .waiting) s w in
     let n = timesNamed s (take (k * senders t) (answers t calls)) in

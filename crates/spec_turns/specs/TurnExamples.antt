@@ -16,13 +16,13 @@ openedTurns = tt
 -- ---- answers as numbers
 
 -- 0, or the number of the refusal
-abbrev setUpTold : SetUp → ℕ
-setUpTold (made t) = 0
-setUpTold (refused r) = setUpNumber r
+abbrev setUpShown : SetUp → ℕ
+setUpShown (made t) = 0
+setUpShown (refused r) = setUpNumber r
 
-abbrev registerTold : RegisterAnswer → List ℕ
-registerTold registered = 0 ∷ []
-registerTold (registerRefused r) = registerNumber r ∷ []
+abbrev registerShown : RegisterAnswer → List ℕ
+registerShown registered = 0 ∷ []
+registerShown (registerRefused r) = registerNumber r ∷ []
 
 -- the sender and the number, or nothing
 abbrev turnTold : TurnAnswer → List ℕ
@@ -31,7 +31,7 @@ turnTold (turnOf s n) = s ∷ n ∷ []
 
 abbrev told : Turns → List Call → List (List ℕ)
 told t [] = []
-told t (registers s ∷ cs) = registerTold (register t s .answer) ∷ told (register t s .next) cs
+told t (registers s ∷ cs) = registerShown (register t s .answer) ∷ told (register t s .next) cs
 told t (turnCall c ∷ cs) = turnTold (turn t c .answer) ∷ told (turn t c .next) cs
 
 -- calls on new turns of so many senders, and all their answers
@@ -49,7 +49,7 @@ last = 2 ^ 64 - 1
 abbrev examples : List Bool
 examples =
     -- set-up: one to eight senders, else 21
-    eqb (setUpTold (setUp 0)) 21 ∷ eqb (setUpTold (setUp 1)) 0 ∷ eqb (setUpTold (setUp 8)) 0 ∷ eqb (setUpTold (setUp 9)) 21
+    eqb (setUpShown (setUp 0)) 21 ∷ eqb (setUpShown (setUp 1)) 0 ∷ eqb (setUpShown (setUp 8)) 0 ∷ eqb (setUpShown (setUp 9)) 21
     -- registering: 19 out of the range, 20 for one that waits; once it was named it may register again
     ∷ tells 3 (registers 2 ∷ registers 3 ∷ registers 2 ∷ now ∷ registers 2 ∷ []) ((0 ∷ []) ∷ (19 ∷ []) ∷ (20 ∷ []) ∷ (2 ∷ 1 ∷ []) ∷ (0 ∷ []) ∷ [])
     -- at the start from sender 0 on; where nobody waits none, and after sender 2 of three comes 0

@@ -1,7 +1,7 @@
 -- `bytes_decimal::digits_of` meets its contract. The invariant: the digits of what is left stand before those that are stored.
 use native.Mathlib.Omega.{arith}
 use borrow.Author.Needs.{needs}
-use Rattle.bytes_decimal.proofs.Printing.{StoredDigits, stored-start, place-left, inside, stored-turn, stored-end}
+use Rattle.bytes_decimal.proofs.Printing.{StoredDigits, stored-start, digit-left, start-inside, stored-turn, stored-end}
 use Rattle.bytes_decimal.proofs.digits_of.Statement.{statement}
 use Rattle.bytes_decimal.proofs.digits_of.Tie as tie
 
@@ -24,10 +24,10 @@ add-bytes : tie.Need-add-bytes Inv-loop μ-loop
 add-bytes c = search needs
 
 array-write-bytes : tie.Need-array-write-bytes Inv-loop μ-loop
-array-write-bytes c = omega (arith, inside (c .before .loop .inv))
+array-write-bytes c = omega (arith, start-inside (c .before .loop .inv))
 
 sub-start-2 : tie.Need-sub-start-2 Inv-loop μ-loop
-sub-start-2 c = omega (arith, place-left (c .before .loop .inv) (c .loop-test .taken))
+sub-start-2 c = omega (arith, digit-left (c .before .loop .inv) (c .loop-test .taken))
 
 loop-less : tie.Need-loop-less Inv-loop μ-loop
 loop-less c = search needs
@@ -42,7 +42,7 @@ add-bytes-2 : tie.Need-add-bytes-2 Inv-loop μ-loop
 add-bytes-2 c = search needs
 
 array-write-bytes-2 : tie.Need-array-write-bytes-2 Inv-loop μ-loop
-array-write-bytes-2 c = omega (arith, inside (c .before .loop .inv))
+array-write-bytes-2 c = omega (arith, start-inside (c .before .loop .inv))
 
 returns : tie.Need-returns Inv-loop μ-loop
 returns c = let end = stored-end (c .before .loop .inv) (c .loop-test .left) in record { bytes = end .0; place = end .1 }

@@ -4,7 +4,7 @@ use mathlib.Core.Bool.{true}
 use native.Mathlib.Omega.{arith}
 use borrow.Author.Needs.{needs}
 use Rattle.bytes_hex.specs.Decoding.{isPairs}
-use Rattle.bytes_hex.proofs.Answers.{even, fits, stored, exceeds, no-pairs}
+use Rattle.bytes_hex.proofs.Answers.{even, pair-bytes-fit, pair-bytes-stored, exceeds, no-pairs}
 use Rattle.bytes_hex.proofs.decode_pairs.Statement.{statement}
 use Rattle.bytes_hex.proofs.decode_pairs.Tie as tie
 
@@ -21,8 +21,8 @@ returns c =
     let wrote = c .before .before in
     let taken = wrote .before .before in
     let args = taken .before .before .before .before .before .args in (
-      fits (args .out .now) (args .text .now) (is-pairs (taken .before)) (omega arith),
-      wrote .store-pairs .ensures ∙ stored (args .out .now) (args .text .now) (is-pairs (taken .before)),
+      pair-bytes-fit (args .out .now) (args .text .now) (is-pairs (taken .before)) (omega arith),
+      wrote .store-pairs .ensures ∙ pair-bytes-stored (args .out .now) (args .text .now) (is-pairs (taken .before)),
     )
 
 returns-2 : tie.Need-returns-2

@@ -2,12 +2,12 @@
 use mathlib.Core.Path.{sym}
 use native.Mathlib.Omega.{arith}
 use borrow.Author.Needs.{needs}
-use Rattle.bytes_hex.proofs.Digits.{below, figure, amid, letter, above}
+use Rattle.bytes_hex.proofs.Digits.{below-figures, figure, amid, letter, above-letters}
 use Rattle.bytes_hex.proofs.hex_value.Statement.{statement}
 use Rattle.bytes_hex.proofs.hex_value.Tie as tie
 
 returns : tie.Need-returns
-returns c = (sym (below _ (omega arith) .1), omega arith)
+returns c = (sym (below-figures _ (omega arith) .1), omega arith)
 
 returns-2 : tie.Need-returns-2
 returns-2 c = (sym (figure _ (omega arith) (omega arith) .1), omega arith)
@@ -19,7 +19,7 @@ returns-4 : tie.Need-returns-4
 returns-4 c = (sym (letter _ (omega arith) (omega arith) .1), omega arith)
 
 returns-5 : tie.Need-returns-5
-returns-5 c = (sym (above _ (omega arith) .1), omega arith)
+returns-5 c = (sym (above-letters _ (omega arith) .1), omega arith)
 
 pub hex-value-spec : {M : Type 1} → statement M
 hex-value-spec =

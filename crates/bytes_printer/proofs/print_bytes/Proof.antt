@@ -7,7 +7,7 @@ use borrow.Author.Needs.{needs}
 use denote.Ref.{now}
 use Rattle.bytes_printer.specs.declared.Printed.the-variants.{Next}
 use Rattle.bytes_printer.specs.Prints.{Prints}
-use Rattle.bytes_printer.specs.PrintsLaws.{from-next, not-printed, none-printed, nothing-printed, keeps-length, ends-within, byte-turn, byte-full, same-bytes}
+use Rattle.bytes_printer.specs.PrintsLaws.{from-next, not-printed, none-printed, nothing-printed, keeps-length, ends-within, byte-turn, byte-full, prints-same}
 use Rattle.bytes_printer.proofs.print_bytes.Statement.{statement}
 use Rattle.bytes_printer.proofs.print_bytes.Tie as tie
 
@@ -68,7 +68,7 @@ same-length-2 c = keeps-length (c .before .loop .inv)
 returns-4 : tie.Need-returns-4 Inv-loop μ-loop
 returns-4 c =
     let start = c .before .before .before .before in
-    from-next (start .at .given .1) (same-bytes (take-all (c .before .loop .i) (now (start .before .before .args .text)) (omega arith)) (c .before .loop .inv))
+    from-next (start .at .given .1) (prints-same (take-all (c .before .loop .i) (now (start .before .before .args .text)) (omega arith)) (c .before .loop .inv))
 
 pub print-bytes-spec : {M : Type 1} → statement M
 print-bytes-spec =

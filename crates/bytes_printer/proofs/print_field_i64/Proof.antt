@@ -3,7 +3,7 @@ use mathlib.Core.Path.{ap}
 use mir.Facts.{toZ-ofZ}
 use borrow.Author.Needs.{needs}
 use Rattle.spec_decimal.specs.Decimal.{signedDecimal}
-use Rattle.bytes_printer.specs.PrintsLaws.{_⨾_, same-bytes}
+use Rattle.bytes_printer.specs.PrintsLaws.{_⨾_, prints-same}
 use Rattle.bytes_printer.proofs.print_field_i64.Statement.{statement}
 use Rattle.bytes_printer.proofs.print_field_i64.Tie as tie
 
@@ -12,7 +12,7 @@ returns c =
     let field = c .before .before in
     let tab = field .before .before .before .before in
     let same = ap signedDecimal (toZ-ofZ (tab .before .before .before .fits .z)) in
-    tab .print-byte .ensures ⨾ same-bytes same (field .print-i64 .ensures)
+    tab .print-byte .ensures ⨾ prints-same same (field .print-i64 .ensures)
 
 pub print-field-i64-spec : {M : Type 1} → statement M
 print-field-i64-spec =

@@ -5,7 +5,7 @@ use lib.IntN.{ℤ, pos}
 use lib.Signed.{ltZ}
 use mir.Facts.{toZ-ofZ}
 use Rattle.bytes_wire.specs.Complement.{Below, below, AtLeast, at-least}
-use Rattle.bytes_printer.specs.PrintsLaws.{_⨾_, same-bytes}
+use Rattle.bytes_printer.specs.PrintsLaws.{_⨾_, prints-same}
 use Rattle.bytes_printer.proofs.Signs.{signed-below, signed-at-least}
 use borrow.Author.Needs.{needs}
 use Rattle.bytes_printer.proofs.print_i64.Statement.{statement}
@@ -36,13 +36,13 @@ returns : tie.Need-returns
 returns c =
     let digits = c .before .before in
     let sign = digits .before .before .before .before in
-    same-bytes (sym (signed-below _ (signed-by (digits .before)))) (sign .print-byte .ensures ⨾ digits .print-u64 .ensures)
+    prints-same (sym (signed-below _ (signed-by (digits .before)))) (sign .print-byte .ensures ⨾ digits .print-u64 .ensures)
 
 returns-2 : tie.Need-returns-2
 returns-2 c =
     let digits = c .before .before in
     let start = digits .before .before .before .before in
-    same-bytes (sym (signed-at-least _ (start .fits .z) (is-at-least (digits .before .before)))) (digits .print-u642 .ensures)
+    prints-same (sym (signed-at-least _ (start .fits .z) (is-at-least (digits .before .before)))) (digits .print-u642 .ensures)
 
 pub print-i64-spec : {M : Type 1} → statement M
 print-i64-spec =

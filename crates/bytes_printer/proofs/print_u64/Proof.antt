@@ -2,7 +2,7 @@
 use native.Mathlib.Omega.{arith}
 use borrow.Author.Needs.{needs}
 use Rattle.bytes_decimal.specs.PrintLaws.{digits-long, digits-behind}
-use Rattle.bytes_printer.specs.PrintsLaws.{same-bytes}
+use Rattle.bytes_printer.specs.PrintsLaws.{prints-same}
 use Rattle.bytes_printer.proofs.print_u64.Statement.{statement}
 use Rattle.bytes_printer.proofs.print_u64.Tie as tie
 
@@ -15,7 +15,7 @@ returns : tie.Need-returns
 returns c =
     let printed = c .before .before in
     let made = printed .before .before .before .before .before in
-    same-bytes (digits-behind _ (made .digits-of .result) (made .digits-of .ensures)) (printed .print-bytes .ensures)
+    prints-same (digits-behind _ (made .digits-of .result) (made .digits-of .ensures)) (printed .print-bytes .ensures)
 
 pub print-u64-spec : {M : Type 1} → statement M
 print-u64-spec =

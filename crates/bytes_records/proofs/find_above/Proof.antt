@@ -10,11 +10,11 @@ use Rattle.spec_lists.specs.Bytes.{numberOf}
 use Rattle.bytes_records.specs.Positions.{firstIndex}
 use Rattle.bytes_records.specs.PositionsLaws.{firstIndex-le, first-le}
 use Rattle.bytes_records.specs.Table.{HoldsRows}
-use Rattle.bytes_records.specs.TableLaws.{fitting}
+use Rattle.bytes_records.specs.TableLaws.{rows-fit}
 use Rattle.bytes_records.specs.Search.{firstRowNumber, isAbove, Rising}
 use Rattle.bytes_records.specs.SearchLaws.{above-later}
 use Rattle.bytes_records.proofs.Offsets.{end-le, fits, fits-not}
-use Rattle.bytes_records.proofs.Searches.{head-is}
+use Rattle.bytes_records.proofs.Searches.{row-head-is}
 use Rattle.bytes_records.proofs.find_above.Statement.{statement}
 use Rattle.bytes_records.proofs.find_above.Tie as tie
 
@@ -30,7 +30,7 @@ div-if1 c = search needs
 
 returns : tie.Need-returns Inv-loop μ-loop
 returns c =
-    ((λ m t rising. absurd (omega (arith, fitting t, fits-not _ _ _ (search needs) (c .if1 .taken)))), search needs)
+    ((λ m t rising. absurd (omega (arith, rows-fit t, fits-not _ _ _ (search needs) (c .if1 .taken)))), search needs)
 
 loop-holds : tie.Need-loop-holds Inv-loop μ-loop
 loop-holds c = (search needs, search needs, λ m t rising. (omega arith, omega (arith, firstIndex-le (isAbove (c .before .before .args .id)) m, t .counted)))
@@ -76,7 +76,7 @@ read-row : (c : tie.After-number-of Inv-loop μ-loop) (m : List (List ℕ)) → 
     HoldsRows (args .width) (args .count) (args .table .now) m → c .number-of .result ≡ firstRowNumber (getD m (middle at-loop) [])
 read-row c m t =
     let in-loop = c .before .before in
-    c .number-of .ensures ∙ ap numberOf (head-is m t (middle (in-loop .before)) (search needs) (search needs))
+    c .number-of .ensures ∙ ap numberOf (row-head-is m t (middle (in-loop .before)) (search needs) (search needs))
 
 loop-less : tie.Need-loop-less Inv-loop μ-loop
 loop-less c = search needs

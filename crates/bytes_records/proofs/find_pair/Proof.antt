@@ -12,11 +12,11 @@ use Rattle.spec_lists.specs.Bytes.{numberOf}
 use Rattle.bytes_records.specs.Positions.{firstIndex}
 use Rattle.bytes_records.specs.PositionsLaws.{firstIndex-le, first-here, first-more}
 use Rattle.bytes_records.specs.Table.{HoldsRows}
-use Rattle.bytes_records.specs.TableLaws.{fitting}
+use Rattle.bytes_records.specs.TableLaws.{rows-fit}
 use Rattle.bytes_records.specs.Search.{firstRowNumber, secondNumber, isPair, Rising, Starts, WithinRows}
 use Rattle.bytes_records.specs.SearchLaws.{find-stopped, find-ended}
 use Rattle.bytes_records.proofs.Offsets.{end-le, fits, fits-not}
-use Rattle.bytes_records.proofs.Searches.{head-is, second-is, pair-start, pair-gone}
+use Rattle.bytes_records.proofs.Searches.{row-head-is, second-is, pair-start, pair-gone}
 use Rattle.bytes_records.proofs.find_pair.Statement.{statement}
 use Rattle.bytes_records.proofs.find_pair.Tie as tie
 
@@ -33,7 +33,7 @@ div-if1 c = search needs
 returns : tie.Need-returns Inv-loop μ-loop
 unfolding WithinRows
 returns c =
-    ((λ m t rising. absurd (omega (arith, fitting t, fits-not _ _ _ (search needs) (c .if1 .taken)))), tt)
+    ((λ m t rising. absurd (omega (arith, rows-fit t, fits-not _ _ _ (search needs) (c .if1 .taken)))), tt)
 
 find-start-requires : tie.Need-find-start-requires Inv-loop μ-loop
 find-start-requires c κs = search needs
@@ -84,7 +84,7 @@ read-first : (c : tie.After-number-of Inv-loop μ-loop) (m : List (List ℕ)) �
     HoldsRows (args .width) (args .count) (args .table .now) m → c .number-of .result ≡ firstRowNumber (getD m (at-loop .loop .at) [])
 read-first c m t =
     let in-loop = c .before .before in
-    c .number-of .ensures ∙ ap numberOf (head-is m t (in-loop .before .loop .at) (search needs) (search needs))
+    c .number-of .ensures ∙ ap numberOf (row-head-is m t (in-loop .before .loop .at) (search needs) (search needs))
 
 returns-2 : tie.Need-returns-2 Inv-loop μ-loop
 unfolding WithinRows

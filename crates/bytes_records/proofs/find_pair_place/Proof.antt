@@ -6,7 +6,7 @@ use native.Mathlib.Omega.{arith}
 use lib.ListN.{length, getD}
 use borrow.Author.Needs.{needs}
 use Rattle.bytes_records.specs.Table.{HoldsRows}
-use Rattle.bytes_records.specs.TableLaws.{fitting}
+use Rattle.bytes_records.specs.TableLaws.{rows-fit}
 use Rattle.bytes_records.specs.Keys.{leadingNumbers, orderOf}
 use Rattle.bytes_records.specs.Search.{PlaceWithin}
 use Rattle.bytes_records.proofs.Offsets.{end-le, fits, fits-not}
@@ -27,7 +27,7 @@ div-if1 c = search needs
 
 returns : tie.Need-returns Inv-loop μ-loop
 unfolding PlaceWithin
-returns c = ((λ m t. absurd (omega (arith, fitting t, fits-not _ _ _ (search needs) (c .if1 .taken)))), search needs)
+returns c = ((λ m t. absurd (omega (arith, rows-fit t, fits-not _ _ _ (search needs) (c .if1 .taken)))), search needs)
 
 loop-holds : tie.Need-loop-holds Inv-loop μ-loop
 loop-holds c = (search needs, λ m t. placed-none _ _ m)

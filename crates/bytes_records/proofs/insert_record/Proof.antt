@@ -4,20 +4,20 @@ use native.Mathlib.Omega.{arith}
 use lib.ListN.{length, length-take, length-drop}
 use borrow.Author.Needs.{needs}
 use Rattle.bytes_records.proofs.Offsets.{start-le, room, room-not}
-use Rattle.bytes_records.proofs.Changes.{refused, changed, inserted, insert-past, insert-other, insert-full, insert-can}
+use Rattle.bytes_records.proofs.Changes.{change-refused, change-made, insert-holds, insert-past, insert-other, insert-full, insert-can}
 use Rattle.bytes_records.proofs.insert_record.Statement.{statement}
 use Rattle.bytes_records.proofs.insert_record.Tie as tie
 
 returns : tie.Need-returns
-returns c = refused (insert-past _ _ _ _ _ (search needs))
+returns c = change-refused (insert-past _ _ _ _ _ (search needs))
 
 returns-2 : tie.Need-returns-2
-returns-2 c = refused (insert-other _ _ _ _ _ (search needs) (c .if2 .taken))
+returns-2 c = change-refused (insert-other _ _ _ _ _ (search needs) (c .if2 .taken))
 
 returns-3 : tie.Need-returns-3
 returns-3 c =
     let args = c .before .before .before .before .before .args in
-    refused
+    change-refused
     (insert-full _ _ _ _ _ (search needs) (search needs) (room-not (length (args .table .now)) (args .width) (args .count) (search needs) (search needs)))
 
 -- the position and the room behind the last row are within the table
@@ -53,9 +53,9 @@ returns-4 c =
     let at-call = c .before .before in
     let tested = at-call .before .before in
     let at-start = tested .before .before .before .before .before in
-    changed
+    change-made
     (insert-can _ _ _ _ _ (search needs) (search needs) (placed tested .1))
-    (λ m t. inserted m t (at-start .args .at) (at-start .args .row .now) (search needs) (search needs) (placed tested .1) _ (at-call .push-front .ensures))
+    (λ m t. insert-holds m t (at-start .args .at) (at-start .args .row .now) (search needs) (search needs) (placed tested .1) _ (at-call .push-front .ensures))
 
 pub insert-record-spec : {M : Type 1} → statement M
 insert-record-spec =

@@ -4,24 +4,24 @@ use native.Mathlib.Omega.{arith}
 use lib.ListN.{length, length-take, length-drop}
 use borrow.Author.Needs.{needs}
 use Rattle.bytes_records.proofs.Offsets.{start-le, end-le, fits, fits-not}
-use Rattle.bytes_records.proofs.Changes.{refused, changed}
+use Rattle.bytes_records.proofs.Changes.{change-refused, change-made}
 use Rattle.bytes_records.proofs.Moved.{moved-later, moved-earlier, move-from-past, move-to-past, move-other, move-outside, move-can}
 use Rattle.bytes_records.proofs.move_record.Statement.{statement}
 use Rattle.bytes_records.proofs.move_record.Tie as tie
 
 returns : tie.Need-returns
-returns c = refused (move-from-past _ _ _ _ _ _ (search needs))
+returns c = change-refused (move-from-past _ _ _ _ _ _ (search needs))
 
 returns-2 : tie.Need-returns-2
-returns-2 c = refused (move-to-past _ _ _ _ _ _ (search needs) (search needs))
+returns-2 c = change-refused (move-to-past _ _ _ _ _ _ (search needs) (search needs))
 
 returns-3 : tie.Need-returns-3
-returns-3 c = refused (move-other _ _ _ _ _ _ (search needs) (search needs) (c .if3 .taken))
+returns-3 c = change-refused (move-other _ _ _ _ _ _ (search needs) (search needs) (c .if3 .taken))
 
 returns-4 : tie.Need-returns-4
 returns-4 c =
     let args = c .before .before .before .before .before .before .args in
-    refused
+    change-refused
     (move-outside _ _ _ _ _ _ (search needs) (search needs) (search needs) (fits-not (length (args .table .now)) (args .width) (args .count) (search needs) (search needs)))
 
 -- both positions are among the rows of the table, and these are within it
@@ -93,7 +93,7 @@ returns-5 c =
     let at-call = c .before .before in
     let branch = at-call .before .before in
     let args = branch .before .before .before .before .before .before .before .args in
-    changed
+    change-made
     (move-can _ _ _ _ _ _ (search needs) (search needs) (search needs) (placed (branch .before) .2))
     (λ m t. moved-later m t (args .from) (args .to) (args .row .now) (search needs) (search needs) (search needs) _ (at-call .push-back .ensures))
 
@@ -102,7 +102,7 @@ returns-6 c =
     let at-call = c .before .before in
     let branch = at-call .before .before in
     let args = branch .before .before .before .before .before .before .before .args in
-    changed
+    change-made
     (move-can _ _ _ _ _ _ (search needs) (search needs) (search needs) (placed (branch .before) .2))
     (λ m t. moved-earlier m t (args .from) (args .to) (args .row .now) (search needs) (search needs) (search needs) _ (at-call .push-front .ensures))
 

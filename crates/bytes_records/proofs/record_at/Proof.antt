@@ -4,7 +4,7 @@ use Prim.Native.Nat.{_+_, _*_, _≤_}
 use native.Mathlib.Omega.{arith}
 use lib.ListN.{length, length-take}
 use borrow.Author.Needs.{needs}
-use Rattle.bytes_records.specs.TableLaws.{fitting, row-past}
+use Rattle.bytes_records.specs.TableLaws.{rows-fit, row-past}
 use Rattle.bytes_records.proofs.Offsets.{end-le, fits, fits-not}
 use Rattle.bytes_records.proofs.Changes.{row-is}
 use Rattle.bytes_records.proofs.record_at.Statement.{statement}
@@ -16,7 +16,7 @@ returns c = ((λ m t. sym (row-past t _ (search needs))), search needs)
 returns-2 : tie.Need-returns-2
 returns-2 c =
     let at-start = c .before .before .before in
-    ((λ m t. absurd (omega (arith, fitting t, fits-not _ _ _ (at-start .pre) (c .before .if2 .taken)))), search needs)
+    ((λ m t. absurd (omega (arith, rows-fit t, fits-not _ _ _ (at-start .pre) (c .before .if2 .taken)))), search needs)
 
 -- the row is among those of the table, and these are within it
 placed : (c : tie.Else2) → let args = c .before .before .args in

@@ -4,17 +4,17 @@ use native.Mathlib.Omega.{arith}
 use lib.ListN.{length, length-take, length-drop}
 use borrow.Author.Needs.{needs}
 use Rattle.bytes_records.proofs.Offsets.{end-le, fits, fits-not}
-use Rattle.bytes_records.proofs.Changes.{refused, changed, removed, remove-past, remove-outside, remove-can}
+use Rattle.bytes_records.proofs.Changes.{change-refused, change-made, remove-holds, remove-past, remove-outside, remove-can}
 use Rattle.bytes_records.proofs.remove_record.Statement.{statement}
 use Rattle.bytes_records.proofs.remove_record.Tie as tie
 
 returns : tie.Need-returns
-returns c = refused (remove-past _ _ _ _ (search needs))
+returns c = change-refused (remove-past _ _ _ _ (search needs))
 
 returns-2 : tie.Need-returns-2
 returns-2 c =
     let args = c .before .before .before .args in
-    refused (remove-outside _ _ _ _ (search needs) (fits-not (length (args .table .now)) (args .width) (args .count) (search needs) (search needs)))
+    change-refused (remove-outside _ _ _ _ (search needs) (fits-not (length (args .table .now)) (args .width) (args .count) (search needs) (search needs)))
 
 -- the row is among those of the table, and these are within it
 placed : (c : tie.Else2) → let args = c .before .before .before .args in
@@ -46,9 +46,9 @@ returns-3 c =
     let at-call = c .before .before in
     let tested = at-call .before .before in
     let at-start = tested .before .before .before in
-    changed
+    change-made
     (remove-can _ _ _ _ (search needs) (placed tested .1))
-    (λ m t. removed m t (at-start .args .at) (search needs) _ (at-call .pop-front .ensures))
+    (λ m t. remove-holds m t (at-start .args .at) (search needs) _ (at-call .pop-front .ensures))
 
 pub remove-record-spec : {M : Type 1} → statement M
 remove-record-spec =

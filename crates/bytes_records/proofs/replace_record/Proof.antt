@@ -4,20 +4,20 @@ use native.Mathlib.Omega.{arith}
 use lib.ListN.{length}
 use borrow.Author.Needs.{needs}
 use Rattle.bytes_records.proofs.Offsets.{end-le, fits, fits-not}
-use Rattle.bytes_records.proofs.Changes.{refused, changed, replaced, replace-past, replace-other, replace-outside, replace-can}
+use Rattle.bytes_records.proofs.Changes.{change-refused, change-made, replace-holds, replace-past, replace-other, replace-outside, replace-can}
 use Rattle.bytes_records.proofs.replace_record.Statement.{statement}
 use Rattle.bytes_records.proofs.replace_record.Tie as tie
 
 returns : tie.Need-returns
-returns c = refused (replace-past _ _ _ _ _ (search needs))
+returns c = change-refused (replace-past _ _ _ _ _ (search needs))
 
 returns-2 : tie.Need-returns-2
-returns-2 c = refused (replace-other _ _ _ _ _ (search needs) (c .if2 .taken))
+returns-2 c = change-refused (replace-other _ _ _ _ _ (search needs) (c .if2 .taken))
 
 returns-3 : tie.Need-returns-3
 returns-3 c =
     let args = c .before .before .before .before .before .args in
-    refused
+    change-refused
     (replace-outside _ _ _ _ _ (search needs) (search needs) (fits-not (length (args .table .now)) (args .width) (args .count) (search needs) (search needs)))
 
 -- the row is among those of the table, and these are within it
@@ -41,9 +41,9 @@ returns-4 c =
     let at-call = c .before .before in
     let tested = at-call .before .before in
     let at-start = tested .before .before .before .before .before in
-    changed
+    change-made
     (replace-can _ _ _ _ _ (search needs) (search needs) (placed tested .1))
-    (λ m t. replaced m t (at-start .args .at) (search needs) (at-start .args .row .now) (search needs) _ (at-call .copy .ensures))
+    (λ m t. replace-holds m t (at-start .args .at) (search needs) (at-start .args .row .now) (search needs) _ (at-call .copy .ensures))
 
 pub replace-record-spec : {M : Type 1} → statement M
 replace-record-spec =

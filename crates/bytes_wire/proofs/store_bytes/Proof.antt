@@ -5,7 +5,7 @@ use native.Mathlib.Omega.{arith}
 use borrow.Author.Needs.{needs}
 use lib.ListN.{length, getD, length-set}
 use lib.Seq.{paste, paste-zero}
-use Rattle.bytes_wire.proofs.Paste.{turn, finished}
+use Rattle.bytes_wire.proofs.Paste.{paste-turn, paste-finished}
 use Rattle.bytes_wire.proofs.store_bytes.Statement.{statement}
 use Rattle.bytes_wire.proofs.store_bytes.Tie as tie
 
@@ -42,7 +42,7 @@ loop-again c =
     let args = at-loop .before .args in
     let b = getD (args .bytes .now) i 0 in (
       omega arith,
-      turn (args .out .now) (args .at) (args .bytes .now) (omega arith) i (omega arith) (at-loop .loop .out) b (at-loop .loop .inv .1) refl,
+      paste-turn (args .out .now) (args .at) (args .bytes .now) (omega arith) i (omega arith) (at-loop .loop .out) b (at-loop .loop .inv .1) refl,
       length-set (at-loop .loop .out) (args .at + i) b ∙ at-loop .loop .inv .2,
     )
 
@@ -53,7 +53,7 @@ returns : tie.Need-returns Inv-loop μ-loop
 returns c =
     let at-loop = c .before in
     let args = at-loop .before .args in
-    finished (args .out .now) (args .at) (args .bytes .now) (omega arith) (at-loop .loop .out) (at-loop .loop .i) (omega arith) (at-loop .loop .inv .1)
+    paste-finished (args .out .now) (args .at) (args .bytes .now) (omega arith) (at-loop .loop .out) (at-loop .loop .i) (omega arith) (at-loop .loop .inv .1)
 
 pub store-bytes-spec : {M : Type 1} → statement M
 store-bytes-spec =

@@ -10,7 +10,7 @@ use lib.ListN.{length, getD, drop, length-set}
 use lib.Seq.{drop-cons, paste, paste-zero}
 use Rattle.spec_lists.specs.Bytes.{littleEndian}
 use Rattle.spec_lists.specs.BytesLaws.{length-littleEndian}
-use Rattle.bytes_wire.proofs.Paste.{turn, finished}
+use Rattle.bytes_wire.proofs.Paste.{paste-turn, paste-finished}
 use Rattle.bytes_wire.proofs.store_number.Statement.{statement}
 use Rattle.bytes_wire.proofs.store_number.Tie as tie
 
@@ -66,7 +66,7 @@ loop-again c =
     let long : length bs ≡ args .n = length-littleEndian (args .n) (args .x) in
     let more : i < args .n = omega arith in (
       omega arith,
-      turn (args .out .now) (args .at) bs (omega arith) i (omega arith) (at-loop .loop .out) (rest % 256) (at-loop .loop .inv .1) (byte bs (args .n) i rest more (at-loop .loop .inv .2) long),
+      paste-turn (args .out .now) (args .at) bs (omega arith) i (omega arith) (at-loop .loop .out) (rest % 256) (at-loop .loop .inv .1) (byte bs (args .n) i rest more (at-loop .loop .inv .2) long),
       after bs (args .n) i rest more (at-loop .loop .inv .2) long,
       length-set (at-loop .loop .out) (args .at + i) (rest % 256) ∙ at-loop .loop .inv .3,
     )
@@ -80,7 +80,7 @@ returns c =
     let args = at-loop .before .args in
     let bs = littleEndian (args .n) (args .x) in
     let long : length bs ≡ args .n = length-littleEndian (args .n) (args .x) in
-    finished (args .out .now) (args .at) bs (omega arith) (at-loop .loop .out) (at-loop .loop .i) (omega arith) (at-loop .loop .inv .1)
+    paste-finished (args .out .now) (args .at) bs (omega arith) (at-loop .loop .out) (at-loop .loop .i) (omega arith) (at-loop .loop .inv .1)
 
 pub store-number-spec : {M : Type 1} → statement M
 store-number-spec =

@@ -7,12 +7,12 @@ use native.Mathlib.Omega.{arith}
 use lib.ListN.{length, length-drop}
 use Rattle.bytes_records.specs.Search.{PlaceWithin}
 use Rattle.check_table.specs.FindingTable.{findingOf}
-use Rattle.check_table.specs.FindingTableLaws.{Placed, placed-below, placed-same, placed-above, placed-last}
+use Rattle.check_table.specs.FindingTableLaws.{FindingPlaced, placed-below, placed-same, placed-above, placed-last}
 use Rattle.check_table.proofs.finding_place.Statement.{statement}
 use Rattle.check_table.proofs.finding_place.Tie as tie
 
 abbrev Inv-loop : tie.InvT-loop
-Inv-loop records finding at₀ place₀ at place = (at ≤ length records) × (at ≡ 3 * place) × Placed (findingOf finding) records at place
+Inv-loop records finding at₀ place₀ at place = (at ≤ length records) × (at ≡ 3 * place) × FindingPlaced (findingOf finding) records at place
 
 abbrev μ-loop : tie.MeasureT-loop
 μ-loop records finding at₀ place₀ at place = length records - at

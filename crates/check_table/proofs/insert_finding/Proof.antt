@@ -3,13 +3,13 @@ use mathlib.Core.Path.{sym, _∙_}
 use Prim.Native.Nat.{_*_, _≤_}
 use native.Mathlib.Omega.{arith}
 use lib.ListN.{length-take, length-drop}
-use Rattle.check_table.specs.FindingTableLaws.{within-before, no-room, there-already, one-more}
+use Rattle.check_table.specs.FindingTableLaws.{within-before, table-full, there-already, one-more}
 use borrow.Author.Needs.{needs}
 use Rattle.check_table.proofs.insert_finding.Statement.{statement}
 use Rattle.check_table.proofs.insert_finding.Tie as tie
 
 returns : tie.Need-returns
-returns c = no-room _ _ _ (search needs)
+returns c = table-full _ _ _ (search needs)
 
 slice-aggregate-finding-place : tie.Need-slice-aggregate-finding-place
 slice-aggregate-finding-place c =

@@ -4,7 +4,7 @@ use borrow.Author.Needs.{needs}
 use Prim.Native.Nat.{_-_, _≤_}
 use lib.ListN.{length, drop, length-drop}
 use Rattle.check_targets.specs.Targets.{checkTargetOf, targetSeen}
-use Rattle.check_targets.specs.TargetsLaws.{seen-here, seen-on, target-seen-end}
+use Rattle.check_targets.specs.TargetsLaws.{target-seen-here, target-seen-on, target-seen-end}
 use Rattle.check_targets.proofs.target_seen.Statement.{statement}
 use Rattle.check_targets.proofs.target_seen.Tie as tie
 
@@ -50,7 +50,7 @@ same-target-requires c κs = search needs
 returns : tie.Need-returns Inv-loop μ-loop
 returns c =
     let at-loop = c .before .before .before .before .before .before in
-    sym (at-loop .loop .inv .1 ∙ seen-here _ _ (at-loop .loop .at) (search needs) (sym (c .before .same-target .ensures) ∙ c .if1 .taken))
+    sym (at-loop .loop .inv .1 ∙ target-seen-here _ _ (at-loop .loop .at) (search needs) (sym (c .before .same-target .ensures) ∙ c .if1 .taken))
 
 add-at : tie.Need-add-at Inv-loop μ-loop
 add-at c = search needs
@@ -61,7 +61,7 @@ loop-less c = search needs
 loop-again : tie.Need-loop-again Inv-loop μ-loop
 loop-again c =
     let at-loop = c .before .before .before .before .before .before in
-    (search needs, at-loop .loop .inv .1 ∙ seen-on _ _ (at-loop .loop .at) (search needs) (sym (c .before .same-target .ensures) ∙ c .if1 .left))
+    (search needs, at-loop .loop .inv .1 ∙ target-seen-on _ _ (at-loop .loop .at) (search needs) (sym (c .before .same-target .ensures) ∙ c .if1 .left))
 
 returns-2 : tie.Need-returns-2 Inv-loop μ-loop
 returns-2 c = sym (c .before .loop .inv .1 ∙ target-seen-end _ _ (simp length-drop (search needs)))

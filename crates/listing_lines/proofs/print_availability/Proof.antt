@@ -2,7 +2,7 @@
 use mathlib.Core.Path.{ap, _∙_}
 use borrow.Author.Needs.{needs}
 use Rattle.spec_listing.specs.Listing.{fields, availabilityLine}
-use Rattle.bytes_printer.specs.PrintsLaws.{_⨾_, same-bytes}
+use Rattle.bytes_printer.specs.PrintsLaws.{_⨾_, prints-same}
 use Rattle.panel_rows.specs.Rows.{nodeIn, availabilityIn}
 use Rattle.panel_rows.specs.RowsLaws.{availability-node, availability-byte}
 use Rattle.listing_lines.proofs.Rows.{same-record, none-more}
@@ -19,7 +19,7 @@ returns c =
     let byte = letter .before .before in
     let node = byte .before in
     λ a fits is.
-    same-bytes (same-record 65 (node .availability-node .ensures ∙ ap nodeIn is ∙ availability-node a fits) (byte .availability-byte .ensures ∙ ap availabilityIn is ∙ availability-byte a) none-more)
+    prints-same (same-record 65 (node .availability-node .ensures ∙ ap nodeIn is ∙ availability-node a fits) (byte .availability-byte .ensures ∙ ap availabilityIn is ∙ availability-byte a) none-more)
     (letter .print-byte .ensures ⨾ first .print-field-u64 .ensures ⨾ second .print-field-u642 .ensures ⨾ end .print-newline .ensures)
 
 pub print-availability-spec : {M : Type 1} → statement M

@@ -6,7 +6,7 @@ use lib.ListN.{length, take}
 use Rattle.spec_patch.specs.Sizes.{textBytes}
 use Rattle.spec_listing.specs.Escapes.{escaped}
 use Rattle.spec_listing.specs.Listing.{fields}
-use Rattle.bytes_printer.specs.PrintsLaws.{_⨾_, same-bytes, ends-within}
+use Rattle.bytes_printer.specs.PrintsLaws.{_⨾_, prints-same, ends-within}
 use Rattle.listing_lines.proofs.Rows.{front}
 use borrow.Author.Needs.{needs}
 use Rattle.listing_lines.proofs.print_text.Statement.{statement}
@@ -31,7 +31,7 @@ returns c =
     let start = len .before .before .before in
     let text = start .args .value .text in
     let same = ap (λ (n : ℕ). take (n - 0) text) (len .at-most .ensures) ∙ front text (start .args .value .«text_len») textBytes (long start) in
-    let escapes = same-bytes (ap escaped same) (bytes .print-escaped .ensures (ends-within (tab .print-byte .ensures))) in
+    let escapes = prints-same (ap escaped same) (bytes .print-escaped .ensures (ends-within (tab .print-byte .ensures))) in
     letter .print-letter .ensures ⨾ tab .print-byte .ensures ⨾ escapes ⨾ end .print-newline .ensures
 
 pub print-text-spec : {M : Type 1} → statement M

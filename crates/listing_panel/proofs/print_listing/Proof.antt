@@ -4,7 +4,7 @@ use borrow.Author.Needs.{needs}
 use denote.Ref.{now}
 use Rattle.spec_projection.specs.Projection.{empty}
 use Rattle.spec_listing.specs.Listing.{refusalLine}
-use Rattle.bytes_printer.specs.PrintsLaws.{same-bytes}
+use Rattle.bytes_printer.specs.PrintsLaws.{prints-same}
 use Rattle.projection_patch.specs.Meaning.{editionOf}
 use Rattle.listing_panel.specs.SetLines.{set-applied, set-refused}
 use Rattle.listing_panel.proofs.print_listing.Statement.{statement}
@@ -18,7 +18,7 @@ returns c =
     let application = apply .apply-projection-patch-set .result in
     let args = apply .before .before .before .before .args in
     let shows = set-applied (editionOf (args .edition)) (now (args .set)) (application .state) (application .outcome) (apply .apply-projection-patch-set .ensures .0 empty (apply .before .empty .ensures)) (sym (number .number .ensures) ∙ print .before .before .if1 .taken) in
-    same-bytes (sym (shows .lines)) (print .print-projection .ensures (shows .projection) (shows .stores))
+    prints-same (sym (shows .lines)) (print .print-projection .ensures (shows .projection) (shows .stores))
 
 returns-2 : tie.Need-returns-2
 unfolding refusalLine
@@ -29,7 +29,7 @@ returns-2 c =
     let application = apply .apply-projection-patch-set .result in
     let args = apply .before .before .before .before .args in
     let lines = set-refused (editionOf (args .edition)) (now (args .set)) (application .state) (application .outcome) (apply .apply-projection-patch-set .ensures .0 empty (apply .before .empty .ensures)) (λ e. print .before .before .if1 .left (number .number .ensures ∙ e)) in
-    same-bytes (ap refusalLine (number .number .ensures) ∙ sym lines) (print .print-number-line .ensures)
+    prints-same (ap refusalLine (number .number .ensures) ∙ sym lines) (print .print-number-line .ensures)
 
 pub print-listing-spec : {M : Type 1} → statement M
 print-listing-spec =

@@ -8,14 +8,14 @@ use lib.Seq.{length-take-le}
 use borrow.Author.Needs.{needs}
 use denote.Ref.{now}
 use Rattle.bytes_wire.specs.Write.{hasRoom, overwrite}
-use Rattle.listing_panel.specs.WrittenLaws.{ended, ended-at, within-text, part-is, wrote-lines, refused-lines, kept-behind, kept-all}
+use Rattle.listing_panel.specs.WrittenLaws.{has-ended, ended-at, within-text, text-part, wrote-lines, refused-lines, kept-behind, kept-whole}
 use Rattle.listing_panel.proofs.write_lines.Statement.{statement}
 use Rattle.listing_panel.proofs.write_lines.Tie as tie
 
 returns : tie.Need-returns
 returns c =
     let args = c .before .before .before .before .args in
-    ((λ lines h. absurd (ended (now (args .text)) (args .end) lines h (c .enum-told .given .1))), refl)
+    ((λ lines h. absurd (has-ended (now (args .text)) (args .end) lines h (c .enum-told .given .1))), refl)
 
 returns-2 : tie.Need-returns-2
 returns-2 c =
@@ -33,7 +33,7 @@ returns-3 c =
     let room = sym (write .write-bytes-at .ensures .0) ∙ c .if2 .taken in
     let whole : n - 0 ≡ n = omega arith in (
       (λ lines h.
-          let same = part-is (now (args .text)) (args .end) lines h n (place .1) in
+          let same = text-part (now (args .text)) (args .end) lines h n (place .1) in
           wrote-lines (now (args .out)) lines _ n (ended-at (now (args .text)) (args .end) lines h n (place .1))
           (write .write-bytes-at .ensures .1 ∙ ap (overwrite (now (args .out)) 0) same)
           (ap (λ (l : List ℕ). hasRoom (now (args .out)) 0 (length l)) (sym same) ∙ room)),
@@ -49,11 +49,11 @@ returns-4 c =
     let part = take (n - 0) (now (args .text)) in
     let full = sym (write .write-bytes-at .ensures .0) ∙ c .if2 .left in (
       (λ lines h.
-          let same = part-is (now (args .text)) (args .end) lines h n (place .1) in
+          let same = text-part (now (args .text)) (args .end) lines h n (place .1) in
           refused-lines (now (args .out)) lines _ n (ended-at (now (args .text)) (args .end) lines h n (place .1))
           (write .write-bytes-at .ensures .1 ∙ ap (overwrite (now (args .out)) 0) same)
           (ap (λ (l : List ℕ). hasRoom (now (args .out)) 0 (length l)) (sym same) ∙ full)),
-      kept-all (now (args .out)) part _ (write .write-bytes-at .ensures .1) full,
+      kept-whole (now (args .out)) part _ (write .write-bytes-at .ensures .1) full,
     )
 
 pub write-lines-spec : {M : Type 1} → statement M

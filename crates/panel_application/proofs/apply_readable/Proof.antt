@@ -10,7 +10,7 @@ use Rattle.panel_changes.specs.SetChanges.{ReadyTables}
 use Rattle.panel_changes.specs.SetChangesLaws.{zeros-ready}
 use Rattle.panel_application.specs.Application.{StepsBecame}
 use Rattle.panel_application.specs.declared.ProjectionOutcome.the-variants.{Applied}
-use Rattle.panel_application.proofs.Steps.{set-applied, set-refused, set-reads, set-fits}
+use Rattle.panel_application.proofs.Steps.{steps-applied, steps-refused, set-reads, set-fits}
 use Rattle.panel_application.proofs.apply_readable.Statement.{statement}
 use Rattle.panel_application.proofs.apply_readable.Tie as tie
 
@@ -24,7 +24,7 @@ returns c =
     let tables = call .apply-set .last .1 .1 .1 .1 .1 .1 in (
       (λ ps p readable s.
           subst (λ (next : LocalProjectionState). StepsBecame next Applied (applySteps p (replaySteps ps))) (sym (c .state-of .ensures))
-          (set-applied (tables .0) (tables .1 .0) (tables .1 .1 .0) (tables .1 .1 .1 .0) (applySteps p (replaySteps ps)) (call .apply-set .ensures .0 p ps (s .tables) readable (ready call)) _ (c .before .before .counts .given .1))),
+          (steps-applied (tables .0) (tables .1 .0) (tables .1 .1 .0) (tables .1 .1 .1 .0) (applySteps p (replaySteps ps)) (call .apply-set .ensures .0 p ps (s .tables) readable (ready call)) _ (c .before .before .counts .given .1))),
       tt,
     )
 
@@ -32,7 +32,7 @@ returns-2 : tie.Need-returns-2
 returns-2 c =
     let call = c .before .before .before .before .before .before .before in
     let tables = call .apply-set .last .1 .1 .1 .1 .1 .1 in
-    ((λ ps p readable s. set-refused (tables .0) (tables .1 .0) (tables .1 .1 .0) (tables .1 .1 .1 .0) (applySteps p (replaySteps ps)) (call .apply-set .ensures .0 p ps (s .tables) readable (ready call)) _ _ (c .before .error .given .1)), refl)
+    ((λ ps p readable s. steps-refused (tables .0) (tables .1 .0) (tables .1 .1 .0) (tables .1 .1 .1 .0) (applySteps p (replaySteps ps)) (call .apply-set .ensures .0 p ps (s .tables) readable (ready call)) _ _ (c .before .error .given .1)), refl)
 
 returns-3 : tie.Need-returns-3
 returns-3 c =

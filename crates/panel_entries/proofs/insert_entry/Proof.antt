@@ -14,7 +14,7 @@ use Rattle.panel_bindings.specs.RowChanges.{insert-room}
 use Rattle.panel_entries.specs.EntryRowsLaws.{planned-keyed}
 use Rattle.panel_entries.specs.Places.{placeBefore}
 use Rattle.panel_entries.specs.PlacesLaws.{neighbour-is}
-use Rattle.panel_entries.proofs.Entries.{position-at, inserted-there, insert-full, key-present, neighbour-missing}
+use Rattle.panel_entries.proofs.Entries.{position-at, inserted-there, inserted-nowhere, key-present, neighbour-missing}
 use Rattle.panel_entries.proofs.insert_entry.Statement.{statement}
 use Rattle.panel_entries.proofs.insert_entry.Tie as tie
 
@@ -58,7 +58,7 @@ returns-3 c =
     let place = c .before .before .before .before .before .before .before .before .before .before in
     let find = c .before .before .before .before .before .before .before .before .before .before .before .before .before .before .before .before in (
       (λ p s v.
-          insert-full (call .insert-record .last .0) (search needs) p s _ (c .before .before .before .before .before .before .entry-row .result) (c .before .before .before .before .before .before .entry-row .ensures) (row-wide (c .before .before .before .before .before .before)) _ _
+          inserted-nowhere (call .insert-record .last .0) (search needs) p s _ (c .before .before .before .before .before .before .entry-row .result) (c .before .before .before .before .before .before .entry-row .ensures) (row-wide (c .before .before .before .before .before .before)) _ _
           (sym (find .find-entry .ensures .0 plannedEntryRow planned-keyed (p .entries) (v .fitEntries) (v .entries) (s .rows)) ∙ c .before .before .before .before .before .before .before .before .before .before .before .before .before .before .enum-told2 .given .1)
           (sym (placed place (p .entries) (v .fitEntries) (v .entries) (s .rows)) ∙ c .before .before .before .before .before .before .before .before .at .given .1) (call .insert-record .ensures)
           (position-at _ _ (c .before .before .before .before .before .before .before .before .at .given .1) (place .seek-place .ensures .1)) (c .if1 .left)),

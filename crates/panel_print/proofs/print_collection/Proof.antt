@@ -6,7 +6,7 @@ use borrow.Author.Needs.{needs}
 use Rattle.spec_panel_print.specs.Print.{collectionPrint}
 use Rattle.spec_panel_print.specs.PrintSizes.{printBytes}
 use Rattle.spec_panel_print.specs.PrintSizesLaws.{print-fits}
-use Rattle.bytes_printer.specs.PrintsLaws.{same-bytes}
+use Rattle.bytes_printer.specs.PrintsLaws.{prints-same}
 use Rattle.panel_print.specs.EntriesPrintLaws.{rows-print}
 use Rattle.panel_print.specs.AnswersLaws.{printed-whole}
 use Rattle.panel_print.proofs.print_collection.Statement.{statement}
@@ -18,7 +18,7 @@ returns c =
     let print = write .before .before .before .before in
     let collection = print .before .before .before .before .args .collection in (
       (λ p s v.
-          let made = same-bytes (rows-print p collection) (print .print-rows .ensures (p .entries) (v .fitEntries) (s .rows) (omega arith)) in
+          let made = prints-same (rows-print p collection) (print .print-rows .ensures (p .entries) (v .fitEntries) (s .rows) (omega arith)) in
           write .write-print .ensures .0 (collectionPrint p collection) (printed-whole made (omega (arith, print-fits p collection v, length-replicate {A = ℕ} printBytes 0)))),
       write .write-print .ensures .1,
     )

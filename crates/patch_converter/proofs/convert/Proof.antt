@@ -20,7 +20,7 @@ use Rattle.patch_part_writer.proofs.Flags.{fails, not-false-holds}
 use Rattle.patch_converter.specs.declared.ConversionAnswer.{ConversionAnswer}
 use Rattle.patch_converter.specs.declared.ConversionAnswer.the-variants.{Converted, Refused}
 use Rattle.patch_converter.specs.Answers.{conversionAnswer, conversionOutput}
-use Rattle.patch_converter.specs.AnswersLaws.{Readable, readable, not-read, is-unread, is-missing, is-short, is-converted, letter-length, Left, left-refused, left-converted, converted-read}
+use Rattle.patch_converter.specs.AnswersLaws.{Readable, set-readable, set-not-read, is-unread, is-missing, is-short, is-converted, letter-length, ConversionLeft, left-unconverted, left-converted, converted-read}
 use Rattle.patch_converter.proofs.convert.Statement.{statement}
 use Rattle.patch_converter.proofs.convert.Tie as tie
 
@@ -41,7 +41,7 @@ all-bytes k = bytes-of (set k) (λ j. k .before .before .shared-slice-known .giv
 
 -- with what both clauses say of an answer and an output, what was written is read back
 also-read : (k : tie.After-read-set) (r : ConversionAnswer) (o : List ℕ) → let w = convert (from k) (set k) (length (out k)) in
-    Left (out k) w r o → (r ≡ conversionAnswer w) × ((o ≡ conversionOutput (out k) w) × ((n : ℕ) → r ≡ Converted n → readSet (otherEdition (from k)) (take n o) ≡ readSet (from k) (set k)))
+    ConversionLeft (out k) w r o → (r ≡ conversionAnswer w) × ((o ≡ conversionOutput (out k) w) × ((n : ℕ) → r ≡ Converted n → readSet (otherEdition (from k)) (take n o) ≡ readSet (from k) (set k)))
 also-read k r o h = (h .0, (h .1, converted-read (from k) (set k) (all-bytes k) (out k) r o h))
 
 -- ---- where the set was read, and its kinds have been asked for
@@ -50,7 +50,7 @@ abbrev read : tie.After-has-every-kind → tie.After-read-set
 read k = k .before .before .before .before
 
 listed : (k : tie.After-has-every-kind) → Readable (from (read k)) (set (read k))
-listed k = readable (from (read k)) (set (read k)) _ _ (sym (read k .read-set .ensures) ∙ k .before .before .enum-told .given .1)
+listed k = set-readable (from (read k)) (set (read k)) _ _ (sym (read k .read-set .ensures) ∙ k .before .before .enum-told .given .1)
 
 asked : (k : tie.After-has-every-kind) → allKinds (otherEdition (from (read k))) (listed k .list) ≡ k .has-every-kind .result
 asked k = sym (k .has-every-kind .ensures (listed k .list) (listed k .reads) ∙ ap (λ (ed : Edition). allKinds ed (listed k .list)) (k .before .other-edition .ensures))
@@ -65,12 +65,12 @@ long k = heading-within (from (read k)) (set (read k)) (listed k .list) (all-byt
 returns : tie.Need-returns
 returns c =
     let k = c .before in
-    also-read (read k) _ _ (left-refused (out (read k)) model.kindMissing (is-missing (from (read k)) (set (read k)) (length (out (read k))) (listed k .list) (listed k .reads) (asked k ∙ fails (k .has-every-kind .result) (c .if1 .taken))))
+    also-read (read k) _ _ (left-unconverted (out (read k)) model.kindMissing (is-missing (from (read k)) (set (read k)) (length (out (read k))) (listed k .list) (listed k .reads) (asked k ∙ fails (k .has-every-kind .result) (c .if1 .taken))))
 
 returns-2 : tie.Need-returns-2
 returns-2 c =
     let k = c .before .before in
-    also-read (read k) _ _ (left-refused (out (read k)) model.outputTooShort (is-short (from (read k)) (set (read k)) (length (out (read k))) (listed k .list) (listed k .reads) (all-bytes (read k)) (asked k ∙ not-false-holds (k .has-every-kind .result) (c .before .if1 .left)) (omega (arith, c .if2 .taken))))
+    also-read (read k) _ _ (left-unconverted (out (read k)) model.outputTooShort (is-short (from (read k)) (set (read k)) (length (out (read k))) (listed k .list) (listed k .reads) (all-bytes (read k)) (asked k ∙ not-false-holds (k .has-every-kind .result) (c .before .if1 .left)) (omega (arith, c .if2 .taken))))
 
 store-with-letter-requires : tie.Need-store-with-letter-requires
 store-with-letter-requires c κs = (long (c .before .before .before), omega (arith, c .before .if2 .left))
@@ -79,8 +79,8 @@ returns-3 : tie.Need-returns-3
 returns-3 c =
     let k = c .before .before .before .before in
     let fault = c .before .before .fault .given .0 .0 in
-    let told = is-unread (from k) (set k) (length (out k)) fault (not-read (from k) (set k) fault (sym (k .read-set .ensures) ∙ c .before .before .fault .given .1)) in
-    let left = left-refused (out k) (model.unread (faultOf fault)) told in
+    let told = is-unread (from k) (set k) (length (out k)) fault (set-not-read (from k) (set k) fault (sym (k .read-set .ensures) ∙ c .before .before .fault .given .1)) in
+    let left = left-unconverted (out k) (model.unread (faultOf fault)) told in
     also-read k _ _ (ap Refused (c .unread .ensures) ∙ left .0, left .1)
 
 returns-4 : tie.Need-returns-4

@@ -19,9 +19,9 @@ use Rattle.check_quick.specs.Quick.{foundFrom, headFound}
 use Rattle.patch_import.specs.declared.answer.ImportAnswer.{ImportAnswer}
 use Rattle.patch_import.specs.Answers.{importAnswer, importOutput, importRefusalOf}
 use Rattle.patch_import.specs.Survey.{heldOf, insertBytes, setOf}
-use Rattle.patch_import.specs.SurveyLaws.{survey-refused, Surveyed, surveyed, bytes-few}
-use Rattle.patch_import.specs.SetLaws.{set-size, judged-refused, judged-fits, fits-told}
-use Rattle.patch_import.specs.AnswersLaws.{Left, left-refused, left-imported, of-faulty, of-terms, ReadsBack, imported-read}
+use Rattle.patch_import.specs.SurveyLaws.{survey-faulty, Surveyed, survey-held, bytes-few}
+use Rattle.patch_import.specs.SetLaws.{set-size, judged-refused, judged-imports, fits-told}
+use Rattle.patch_import.specs.AnswersLaws.{ImportLeft, left-unimported, left-imported, of-faulty, of-terms, ReadsBack, imported-read}
 use Rattle.patch_import.proofs.import_terms.Statement.{statement}
 use Rattle.patch_import.proofs.import_terms.Tie as tie
 
@@ -42,7 +42,7 @@ e s = envelopeOf (s .args .envelope)
 
 -- with what both clauses say of an answer and an output, what was written is read back
 also-read : (s : tie.Start) (r : ImportAnswer) (o : List ℕ) → let w = importTerms (ed s) (s .args .collection) (e s) (list s) (length (out s)) in
-    Left (out s) w r o → (r ≡ importAnswer w) × ((o ≡ importOutput (out s) w) × ReadsBack (ed s) (s .args .collection) (e s) (list s) r o)
+    ImportLeft (out s) w r o → (r ≡ importAnswer w) × ((o ≡ importOutput (out s) w) × ReadsBack (ed s) (s .args .collection) (e s) (list s) r o)
 also-read s r o h = (h .0, (h .1, imported-read (ed s) (s .args .collection) (e s) (s .fits .collection .fits) (envelope-in-range (s .args .envelope) _ (s .good .1 .1 .1 .0)) (list s) (out s) r o h))
 
 -- ---- where every line holds a term
@@ -63,7 +63,7 @@ abbrev patch : tie.After-known-told2 → ProjectionPatch
 patch k = record { envelope = told k .args .envelope; «operation_count» = count k }
 
 held : (k : tie.After-known-told2) → Surveyed (told k .args .collection) (readTerms 0 (lines (list (told k)))) (count k) (bytes k) (repeated k)
-held k = surveyed (told k .args .collection) (readTerms 0 (lines (list (told k)))) (count k) (bytes k) (repeated k) (sym (k .before .before .before .survey-lines .ensures) ∙ k .before .count .given .1)
+held k = survey-held (told k .args .collection) (readTerms 0 (lines (list (told k)))) (count k) (bytes k) (repeated k) (sym (k .before .before .before .survey-lines .ensures) ∙ k .before .count .given .1)
 
 read : (k : tie.After-known-told2) → LinesRead 0 (lines (list (told k))) (heldOf (list (told k)))
 read k = lines-read 0 (lines (list (told k))) (heldOf (list (told k))) (omega arith) (held k .held)
@@ -117,7 +117,7 @@ returns c =
     let k = c .before .before .before in
     let s = begun k in
     let refusal = c .before .refusal .given .0 .0 in
-    also-read s _ _ (left-refused (out s) refusal (of-faulty (ed s) (s .args .collection) (e s) (list s) (length (out s)) (importRefusalOf refusal) (survey-refused (s .args .collection) (readTerms 0 (lines (list s))) refusal (sym (k .survey-lines .ensures) ∙ c .before .refusal .given .1))))
+    also-read s _ _ (left-unimported (out s) refusal (of-faulty (ed s) (s .args .collection) (e s) (list s) (length (out s)) (importRefusalOf refusal) (survey-faulty (s .args .collection) (readTerms 0 (lines (list s))) refusal (sym (k .survey-lines .ensures) ∙ c .before .refusal .given .1))))
 
 returns-2 : tie.Need-returns-2
 returns-2 c =
@@ -126,7 +126,7 @@ returns-2 c =
     let s = told t in
     let refusal = c .before .refusal2 .given .0 .0 in
     let refused = judged-refused (ed s) (s .args .collection) (patch t) (heldOf (list s)) (held t .counted) (size t) (sized t) (found t) (finds t) (length (out s)) refusal (sym (k .judge-patch .ensures) ∙ c .before .refusal2 .given .1) in
-    also-read s _ _ (left-refused (out s) refusal (given t ∙ refused))
+    also-read s _ _ (left-unimported (out s) refusal (given t ∙ refused))
 
 returns-3 : tie.Need-returns-3
 returns-3 c =
@@ -134,7 +134,7 @@ returns-3 c =
     let k = call .before .before in
     let t = judged k .before in
     let s = told t in
-    let is = judged-fits (ed s) (s .args .collection) (patch t) (heldOf (list s)) (held t .counted) (size t) (sized t) (found t) (finds t) (length (out s)) (length-told k) (sym (judged k .judge-patch .ensures) ∙ k .before .size .given .1) in
+    let is = judged-imports (ed s) (s .args .collection) (patch t) (heldOf (list s)) (held t .counted) (size t) (sized t) (found t) (finds t) (length (out s)) (length-told k) (sym (judged k .judge-patch .ensures) ∙ k .before .size .given .1) in
     also-read s _ _ (left-imported (out s) (set t) (given t ∙ is) (length-told k) (fits k .0) (fits k .1) _ (call .write-patch .ensures))
 
 pub import-terms-spec : {M : Type 1} → statement M

@@ -11,7 +11,7 @@ use Rattle.spec_import.specs.Import.{readTerm}
 use Rattle.projection_patch.specs.TextLaws.{lent-from}
 use Rattle.patch_terms.specs.declared.TermRead.{TermRead}
 use Rattle.patch_terms.specs.Places.{bytePlaceOf, firstTermLine}
-use Rattle.patch_terms.specs.PlacesLaws.{place-within}
+use Rattle.patch_terms.specs.PlacesLaws.{bytePlaceOf-within}
 use Rattle.patch_terms.specs.Answers.{lineTo, termAnswer, lineAnswer}
 use Rattle.patch_terms.specs.AnswersLaws.{starts-within}
 use Rattle.patch_terms.proofs.read_line.Statement.{statement}
@@ -31,10 +31,10 @@ place : (k : tie.After-place-of) → k .place-of .result ≡ bytePlaceOf newline
 place k = k .place-of .ensures ∙ ap (bytePlaceOf newline) (lent-from (start k .args .list .now) (at k))
 
 within : (k : tie.After-place-of) → at k + k .place-of .result ≤ length (start k .args .list .now)
-within k = omega (arith, place k, place-within newline (bytes k), length-drop (at k) (start k .args .list .now), start k .pre)
+within k = omega (arith, place k, bytePlaceOf-within newline (bytes k), length-drop (at k) (start k .args .list .now), start k .pre)
 
 ends : (k : tie.After-place-of) → at k + k .place-of .result ≡ at k + length (firstTermLine (bytes k))
-ends k = ap (λ (n : ℕ). at k + n) (place k ∙ sym (length-take-le (bytePlaceOf newline (bytes k)) (bytes k) (place-within newline (bytes k))))
+ends k = ap (λ (n : ℕ). at k + n) (place k ∙ sym (length-take-le (bytePlaceOf newline (bytes k)) (bytes k) (bytePlaceOf-within newline (bytes k))))
 
 -- ---- where the line has been read
 

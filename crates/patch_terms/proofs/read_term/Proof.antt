@@ -11,9 +11,9 @@ use Rattle.spec_decimal.specs.Decimal.{readDecimal}
 use Rattle.bytes_decimal.specs.Read.{decimalU64}
 use Rattle.projection_patch.specs.TextLaws.{lent-from}
 use Rattle.patch_terms.specs.Places.{bytePlaceOf}
-use Rattle.patch_terms.specs.PlacesLaws.{place-within}
+use Rattle.patch_terms.specs.PlacesLaws.{bytePlaceOf-within}
 use Rattle.patch_terms.specs.Answers.{judgedTerm}
-use Rattle.patch_terms.specs.AnswersLaws.{line-whole, line-more, line-unspelled, line-judged}
+use Rattle.patch_terms.specs.AnswersLaws.{line-whole, line-second-tab, line-unspelled, line-judged}
 use Rattle.patch_terms.proofs.read_term.Statement.{statement}
 use Rattle.patch_terms.proofs.read_term.Tie as tie
 
@@ -21,7 +21,7 @@ abbrev line : tie.After-place-of → List ℕ
 line k = k .before .before .args .line .now
 
 within : (k : tie.After-place-of) → k .place-of .result ≤ length (line k)
-within k = omega (arith, place-within tab (line k), k .place-of .ensures)
+within k = omega (arith, bytePlaceOf-within tab (line k), k .place-of .ensures)
 
 -- ---- where a tab was found
 
@@ -52,7 +52,7 @@ only : (c : tie.Else2) → let e = c .before .before .before in bytePlaceOf tab 
 only c =
     let k = c .before in
     let e = k .before .before in
-    omega (arith, place-within tab (behind e), sym (k .place-of2 .ensures ∙ ap (bytePlaceOf tab) (lent e)), c .if2 .left, length-drop (suc (bytePlaceOf tab (line (head e)))) (line (head e)), started e)
+    omega (arith, bytePlaceOf-within tab (behind e), sym (k .place-of2 .ensures ∙ ap (bytePlaceOf tab) (lent e)), c .if2 .left, length-drop (suc (bytePlaceOf tab (line (head e)))) (line (head e)), started e)
 
 -- what the bytes before it spell
 spelled : (k : tie.After-read-u64) → let l = line (head (k .before .before .before .before .before)) in readDecimal (take (bytePlaceOf tab l) l) ≡ decimalU64 (k .read-u64 .result)
@@ -79,7 +79,7 @@ returns-2 : tie.Need-returns-2
 returns-2 c =
     let k = c .before in
     let e = k .before .before in
-    line-more (line (head e)) (found e) (omega (arith, sym (k .place-of2 .ensures ∙ ap (bytePlaceOf tab) (lent e)), c .if2 .taken, length-drop (suc (bytePlaceOf tab (line (head e)))) (line (head e)), started e))
+    line-second-tab (line (head e)) (found e) (omega (arith, sym (k .place-of2 .ensures ∙ ap (bytePlaceOf tab) (lent e)), c .if2 .taken, length-drop (suc (bytePlaceOf tab (line (head e)))) (line (head e)), started e))
 
 slice-aggregate-read-u64 : tie.Need-slice-aggregate-read-u64
 slice-aggregate-read-u64 c = sym (length-take-le _ _ (within (head (c .before .before .before .before))))

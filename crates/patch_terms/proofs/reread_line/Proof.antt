@@ -13,7 +13,7 @@ use Rattle.bytes_decimal.specs.Read.{decimalU64}
 use Rattle.projection_patch.specs.TextLaws.{lent-from}
 use Rattle.patch_terms.specs.declared.LineRead.the-variants as line-read
 use Rattle.patch_terms.specs.Places.{bytePlaceOf, firstTermLine}
-use Rattle.patch_terms.specs.PlacesLaws.{place-within}
+use Rattle.patch_terms.specs.PlacesLaws.{bytePlaceOf-within}
 use Rattle.patch_terms.specs.Answers.{lineTo, termAnswer, HoldsTerm}
 use Rattle.patch_terms.specs.AnswersLaws.{known-tab, known-key}
 use Rattle.patch_terms.proofs.reread_line.Statement.{statement}
@@ -36,10 +36,10 @@ place : (k : tie.After-place-of) → k .place-of .result ≡ bytePlaceOf newline
 place k = k .place-of .ensures ∙ ap (bytePlaceOf newline) (lent-from (start k .args .list .now) (at k))
 
 within : (k : tie.After-place-of) → at k + k .place-of .result ≤ length (start k .args .list .now)
-within k = omega (arith, place k, place-within newline (bytes k), length-drop (at k) (start k .args .list .now), start k .pre .0)
+within k = omega (arith, place k, bytePlaceOf-within newline (bytes k), length-drop (at k) (start k .args .list .now), start k .pre .0)
 
 long : (k : tie.After-place-of) → length (line k) ≡ k .place-of .result
-long k = length-take-le (bytePlaceOf newline (bytes k)) (bytes k) (place-within newline (bytes k)) ∙ sym (place k)
+long k = length-take-le (bytePlaceOf newline (bytes k)) (bytes k) (bytePlaceOf-within newline (bytes k)) ∙ sym (place k)
 
 abbrev holds : (k : tie.After-place-of) → HoldsTerm (bytes k)
 holds k = start k .pre .1

@@ -7,7 +7,7 @@ use Rattle.spec_lists.specs.Lists.{if_then_else_}
 use Rattle.spec_replay.specs.Lines.{space}
 use Rattle.spec_replay.specs.Script.{end, hex}
 use Rattle.script_parser.specs.Fields.{fieldsAfter, hexThen}
-use Rattle.script_parser.specs.FieldsLaws.{ended, not-ended}
+use Rattle.script_parser.specs.FieldsLaws.{fields-ended, fields-not-ended}
 use Rattle.script_parser.specs.Forms.{Form, lastArguments, formAt}
 use Rattle.script_parser.specs.declared.fields.HexField.{HexField}
 use borrow.Author.Needs.{needs}
@@ -46,7 +46,7 @@ returns-3 : tie.Need-returns-3
 returns-3 c =
     let test = c .before in
     let args = test .before .before .before .args in
-    sym (without-set (formAt (args .form)) (args .values) (fieldsAfter space (args .line .now) (args .end)) (sym (test .before .has-set .ensures) ∙ test .if1 .left) ∙ not-ended space (args .line .now) (args .end) _ (c .if2 .taken))
+    sym (without-set (formAt (args .form)) (args .values) (fieldsAfter space (args .line .now) (args .end)) (sym (test .before .has-set .ensures) ∙ test .if1 .left) ∙ fields-not-ended space (args .line .now) (args .end) _ (c .if2 .taken))
 
 command-of-requires : tie.Need-command-of-requires
 command-of-requires c κs =
@@ -58,7 +58,7 @@ returns-4 c =
     let test = c .before .before in
     let args = test .before .before .before .args in
     c .command-of .ensures (args .line .now)
-    ∙ sym (without-set (formAt (args .form)) (args .values) (fieldsAfter space (args .line .now) (args .end)) (sym (test .before .has-set .ensures) ∙ test .if1 .left) ∙ ended space (args .line .now) (args .end) _ (c .before .if2 .left))
+    ∙ sym (without-set (formAt (args .form)) (args .values) (fieldsAfter space (args .line .now) (args .end)) (sym (test .before .has-set .ensures) ∙ test .if1 .left) ∙ fields-ended space (args .line .now) (args .end) _ (c .before .if2 .left))
 
 pub last-fields-spec : {M : Type 1} → statement M
 last-fields-spec =

@@ -1,7 +1,7 @@
 -- `script_parser::parse_line` meets its contract: a line that is too long, an empty one, a comment, and fields.
 use mathlib.Core.Path.{sym, _∙_}
 use borrow.Author.Needs.{needs}
-use Rattle.script_parser.proofs.Whole.{line-too-long, no-byte, comment, by-fields}
+use Rattle.script_parser.proofs.Whole.{line-too-long, empty-line, comment, by-fields}
 use Rattle.script_parser.proofs.parse_line.Statement.{statement}
 use Rattle.script_parser.proofs.parse_line.Tie as tie
 
@@ -9,7 +9,7 @@ returns : tie.Need-returns
 returns c = sym (line-too-long (c .before .before .args .line .now) (c .if1 .taken))
 
 returns-2 : tie.Need-returns-2
-returns-2 c = sym (no-byte (c .before .before .before .args .line .now) (c .if2 .taken))
+returns-2 c = sym (empty-line (c .before .before .before .args .line .now) (c .if2 .taken))
 
 returns-3 : tie.Need-returns-3
 returns-3 c =

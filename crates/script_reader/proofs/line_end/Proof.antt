@@ -5,7 +5,7 @@ use native.Mathlib.Omega.{arith}
 use borrow.Author.Needs.{needs}
 use lib.ListN.{length, drop}
 use Rattle.script_reader.specs.Lines.{firstScriptLine}
-use Rattle.script_reader.specs.LineLaws.{at-newline, past-byte, at-end}
+use Rattle.script_reader.specs.LineLaws.{line-at-newline, line-past-byte, line-at-end}
 use Rattle.script_reader.proofs.line_end.Statement.{statement}
 use Rattle.script_reader.proofs.line_end.Tie as tie
 
@@ -24,7 +24,7 @@ shared-slice-read-if1 c = search needs
 returns : tie.Need-returns Inv-loop μ-loop
 returns c =
     let at-loop = c .before .before .before in
-    (omega (arith, at-newline (at-loop .before .args .bytes .now) (at-loop .loop .i) (omega arith) (c .if1 .taken)), omega arith)
+    (omega (arith, line-at-newline (at-loop .before .args .bytes .now) (at-loop .loop .i) (omega arith) (c .if1 .taken)), omega arith)
 
 add-i : tie.Need-add-i Inv-loop μ-loop
 add-i c = search needs
@@ -35,12 +35,12 @@ loop-less c = search needs
 loop-again : tie.Need-loop-again Inv-loop μ-loop
 loop-again c =
     let at-loop = c .before .before .before in
-    (omega (arith, past-byte (at-loop .before .args .bytes .now) (at-loop .loop .i) (omega arith) (c .if1 .left)), omega arith)
+    (omega (arith, line-past-byte (at-loop .before .args .bytes .now) (at-loop .loop .i) (omega arith) (c .if1 .left)), omega arith)
 
 returns-2 : tie.Need-returns-2 Inv-loop μ-loop
 returns-2 c =
     let at-loop = c .before in
-    (omega (arith, at-end (at-loop .before .args .bytes .now) (at-loop .loop .i) (omega arith)), omega arith)
+    (omega (arith, line-at-end (at-loop .before .args .bytes .now) (at-loop .loop .i) (omega arith)), omega arith)
 
 pub line-end-spec : {M : Type 1} → statement M
 line-end-spec =

@@ -2,7 +2,7 @@
 use mathlib.Core.Path.{_∙_}
 use mathlib.Core.List.{[], _∷_}
 use native.Mathlib.Omega.{arith}
-use Rattle.session_lent.specs.HeadLaws.{all-written}
+use Rattle.session_lent.specs.HeadLaws.{head-written}
 use lib.ListN.{length-set}
 use borrow.Author.Needs.{needs}
 use Rattle.session_lent_turns.proofs.store_turns.Statement.{statement}
@@ -35,7 +35,7 @@ same-length c = simp length-set
 returns : tie.Need-returns
 returns c =
     let start = c .before .before .before .before .before .before .before .before .before .before .before .before in
-    all-written (start .args .numbers .now) _ _ _ _ _ _ _ _ _ _ _ (start .pre)
+    head-written (start .args .numbers .now) _ _ _ _ _ _ _ _ _ _ _ (start .pre)
     ∙ (λ i. start .args .turns .senders ∷ c .before .before .before .before .before .before .before .before .before .flag .ensures i ∷ c .before .before .before .before .before .before .before .before .flag2 .ensures i ∷ c .before .before .before .before .before .before .before .flag3 .ensures i ∷ c .before .before .before .before .before .before .flag4 .ensures i ∷ c .before .before .before .before .before .flag5 .ensures i ∷ c .before .before .before .before .flag6 .ensures i ∷ c .before .before .before .flag7 .ensures i ∷ c .before .before .flag8 .ensures i ∷ c .before .named-kind .ensures i ∷ c .named-number .ensures i ∷ [])
 
 pub store-turns-spec : {M : Type 1} → statement M

@@ -2,7 +2,7 @@ use Prim.Native.Nat.{_-_, _≤_}
 use mathlib.Core.Path.{_≡_, sym, _∙_}
 use lib.ListN.{length, drop, length-drop}
 use Rattle.active_projection_target_catalog.specs.Catalog.{pairSeen}
-use Rattle.active_projection_target_catalog.specs.CatalogLaws.{seen-here, seen-on, pair-seen-end}
+use Rattle.active_projection_target_catalog.specs.CatalogLaws.{pair-seen-here, pair-seen-on, pair-seen-end}
 use borrow.Author.Needs.{needs}
 use Rattle.active_projection_target_catalog.proofs.membership.contains_binding.Statement.{
   statement,
@@ -42,7 +42,7 @@ same-pair-requires c κs = search needs
 returns : tie.Need-returns Inv-loop μ-loop
 returns c =
     let at-loop = c .before .before .before .before .before in
-    sym (at-loop .loop .inv .1 ∙ seen-here _ _ _ (at-loop .loop .i) (search needs) (sym (c .before .same-pair .ensures) ∙ c .if1 .taken))
+    sym (at-loop .loop .inv .1 ∙ pair-seen-here _ _ _ (at-loop .loop .i) (search needs) (sym (c .before .same-pair .ensures) ∙ c .if1 .taken))
 
 add-i : tie.Need-add-i Inv-loop μ-loop
 add-i c = search needs
@@ -53,7 +53,7 @@ loop-less c = search needs
 loop-again : tie.Need-loop-again Inv-loop μ-loop
 loop-again c =
     let at-loop = c .before .before .before .before .before in
-    (search needs, at-loop .loop .inv .1 ∙ seen-on _ _ _ (at-loop .loop .i) (search needs) (sym (c .before .same-pair .ensures) ∙ c .if1 .left))
+    (search needs, at-loop .loop .inv .1 ∙ pair-seen-on _ _ _ (at-loop .loop .i) (search needs) (sym (c .before .same-pair .ensures) ∙ c .if1 .left))
 
 returns-2 : tie.Need-returns-2 Inv-loop μ-loop
 returns-2 c = sym (c .before .loop .inv .1 ∙ pair-seen-end _ _ _ (simp length-drop (search needs)))

@@ -3,7 +3,7 @@ use mathlib.Core.Path.{_≡_, sym, _∙_}
 use lib.Dec.{eqb}
 use lib.ListN.{length, drop}
 use Rattle.spec_lists.specs.Lists.{any}
-use Rattle.active_projection_target_catalog.specs.CatalogLaws.{id-here, id-on, id-end}
+use Rattle.active_projection_target_catalog.specs.CatalogLaws.{anchor-here, anchor-on, anchor-end}
 use borrow.Author.Needs.{needs}
 use Rattle.active_projection_target_catalog.proofs.membership.contains_id.Statement.{
   statement,
@@ -28,7 +28,7 @@ shared-slice-read-if1 c = search needs
 returns : tie.Need-returns Inv-loop μ-loop
 returns c =
     let at-loop = c .before .before .before in
-    sym (at-loop .loop .inv .1 ∙ id-here _ _ (at-loop .loop .i) (search needs) (c .if1 .taken))
+    sym (at-loop .loop .inv .1 ∙ anchor-here _ _ (at-loop .loop .i) (search needs) (c .if1 .taken))
 
 add-i : tie.Need-add-i Inv-loop μ-loop
 add-i c = search needs
@@ -39,10 +39,10 @@ loop-less c = search needs
 loop-again : tie.Need-loop-again Inv-loop μ-loop
 loop-again c =
     let at-loop = c .before .before .before in
-    (search needs, at-loop .loop .inv .1 ∙ id-on _ _ (at-loop .loop .i) (search needs) (c .if1 .left))
+    (search needs, at-loop .loop .inv .1 ∙ anchor-on _ _ (at-loop .loop .i) (search needs) (c .if1 .left))
 
 returns-2 : tie.Need-returns-2 Inv-loop μ-loop
-returns-2 c = sym (c .before .loop .inv .1 ∙ id-end _ _ (c .before .loop .i) (search needs))
+returns-2 c = sym (c .before .loop .inv .1 ∙ anchor-end _ _ (c .before .loop .i) (search needs))
 
 pub contains-id-spec : {M : Type 1} → statement M
 contains-id-spec =

@@ -6,7 +6,7 @@ use native.Mathlib.Omega.{arith}
 use lib.ListN.{length}
 use borrow.Author.Needs.{needs}
 use Rattle.spec_replay.specs.Hex.{bytePair, hexField}
-use Rattle.bytes_printer.specs.PrintsLaws.{_⨾_, same-bytes, ends-within}
+use Rattle.bytes_printer.specs.PrintsLaws.{_⨾_, prints-same, ends-within}
 use Rattle.bytes_hex.proofs.printing.print_field_hex.Statement.{statement}
 use Rattle.bytes_hex.proofs.printing.print_field_hex.Tie as tie
 
@@ -25,14 +25,14 @@ returns c =
     let dash = c .before .before in
     let test = dash .before .before in
     let tab = test .before .before .before in
-    tab .print-byte .ensures ⨾ same-bytes (no-bytes _ (test .if1 .taken)) (dash .print-byte2 .ensures)
+    tab .print-byte .ensures ⨾ prints-same (no-bytes _ (test .if1 .taken)) (dash .print-byte2 .ensures)
 
 returns-2 : tie.Need-returns-2
 returns-2 c =
     let pairs = c .before .before in
     let test = pairs .before .before in
     let tab = test .before .before .before in
-    tab .print-byte .ensures ⨾ same-bytes (some-bytes _ (test .if1 .left)) (pairs .print-pairs .ensures (ends-within (tab .print-byte .ensures)))
+    tab .print-byte .ensures ⨾ prints-same (some-bytes _ (test .if1 .left)) (pairs .print-pairs .ensures (ends-within (tab .print-byte .ensures)))
 
 pub print-field-hex-spec : {M : Type 1} → statement M
 print-field-hex-spec =

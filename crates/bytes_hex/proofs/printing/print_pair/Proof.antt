@@ -4,7 +4,7 @@ use mathlib.Core.Path.{ap₂}
 use mathlib.Core.List.{[], _∷_}
 use borrow.Author.Needs.{needs}
 use Rattle.spec_replay.specs.Hex.{bytePair}
-use Rattle.bytes_printer.specs.PrintsLaws.{_⨾_, same-bytes}
+use Rattle.bytes_printer.specs.PrintsLaws.{_⨾_, prints-same}
 use Rattle.bytes_hex.proofs.printing.print_pair.Statement.{statement}
 use Rattle.bytes_hex.proofs.printing.print_pair.Tie as tie
 
@@ -15,7 +15,7 @@ returns c =
     let low = second .before .before in
     let first = low .before .before .before in
     let high = first .before .before in
-    same-bytes (ap₂ (λ (h l : ℕ). h ∷ l ∷ []) (high .hex-character .ensures) (low .hex-character2 .ensures)) (first .print-byte .ensures ⨾ second .print-byte2 .ensures)
+    prints-same (ap₂ (λ (h l : ℕ). h ∷ l ∷ []) (high .hex-character .ensures) (low .hex-character2 .ensures)) (first .print-byte .ensures ⨾ second .print-byte2 .ensures)
 
 pub print-pair-spec : {M : Type 1} → statement M
 print-pair-spec =

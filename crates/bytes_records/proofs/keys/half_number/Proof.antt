@@ -6,7 +6,7 @@ use lib.ListN.{length, drop}
 use borrow.Author.Needs.{needs}
 use Rattle.spec_lists.specs.Bytes.{Bytes, numberOf}
 use Rattle.spec_lists.specs.BytesLaws.{bytes-of}
-use Rattle.bytes_records.proofs.Numbers.{number-start, number-turn, number-end, number-small}
+use Rattle.bytes_records.proofs.Numbers.{number-start, number-turn, number-end, rest-small}
 use Rattle.bytes_records.proofs.keys.half_number.Statement.{statement}
 use Rattle.bytes_records.proofs.keys.half_number.Tie as tie
 
@@ -28,7 +28,7 @@ small c =
     let at-loop = c .before in
     let part = at-loop .before .before .args .part .now in
     let bytes : Bytes part = bytes-of part (λ i. omega (arith, at-loop .before .shared-slice-known .given i)) in
-    omega (arith, number-small part (at-loop .loop .i) bytes (search needs) (search needs))
+    omega (arith, rest-small part (at-loop .loop .i) bytes (search needs) (search needs))
 
 mul-x : tie.Need-mul-x Inv-loop μ-loop
 mul-x c = omega (arith, small c)

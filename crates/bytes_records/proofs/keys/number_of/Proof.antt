@@ -5,7 +5,7 @@ use lib.ListN.{length-take}
 use borrow.Author.Needs.{needs}
 use Rattle.spec_lists.specs.Bytes.{Bytes}
 use Rattle.spec_lists.specs.BytesLaws.{bytes-of}
-use Rattle.bytes_records.proofs.Numbers.{number-halves, number-fits}
+use Rattle.bytes_records.proofs.Numbers.{number-halves, halves-fit}
 use Rattle.bytes_records.proofs.keys.number_of.Statement.{statement}
 use Rattle.bytes_records.proofs.keys.number_of.Tie as tie
 
@@ -20,7 +20,7 @@ fits c =
     let at-low = c .before .before in
     let at-start = at-low .before .before .before .before in
     let bytes : Bytes (at-start .args .part .now) = bytes-of (at-start .args .part .now) (λ i. omega (arith, at-low .before .before .before .shared-slice-known .given i)) in
-    number-fits (at-start .args .part .now) _ _ (search needs) (at-low .half-number2 .ensures) (c .half-number3 .ensures) bytes (search needs)
+    halves-fit (at-start .args .part .now) _ _ (search needs) (at-low .half-number2 .ensures) (c .half-number3 .ensures) bytes (search needs)
 
 mul-result : tie.Need-mul-result
 mul-result c = omega (arith, fits c)

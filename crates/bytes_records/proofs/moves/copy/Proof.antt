@@ -3,7 +3,7 @@ use mathlib.Core.Path.{_≡_}
 use Prim.Native.Nat.{_≤_, _-_}
 use lib.ListN.{length, length-set}
 use borrow.Author.Needs.{needs}
-use Rattle.bytes_records.proofs.Turns.{copiedTurn, copied-turn, copied-end}
+use Rattle.bytes_records.proofs.Turns.{copiedTurn, copy-turn, copy-end}
 use Rattle.bytes_records.proofs.moves.copy.Statement.{statement}
 use Rattle.bytes_records.proofs.moves.copy.Tie as tie
 
@@ -31,13 +31,13 @@ loop-less c = search needs
 loop-again : tie.Need-loop-again Inv-loop μ-loop
 loop-again c =
     let at-loop = c .before .before .loop in
-    (search needs, simp length-set (search needs), copied-turn _ _ _ _ (search needs) (search needs) (at-loop .inv .2))
+    (search needs, simp length-set (search needs), copy-turn _ _ _ _ (search needs) (search needs) (at-loop .inv .2))
 
 same-length : tie.Need-same-length Inv-loop μ-loop
 same-length c = search needs
 
 returns : tie.Need-returns Inv-loop μ-loop
-returns c = copied-end _ _ _ (c .before .loop .i) (search needs) (search needs) (c .before .loop .inv .2)
+returns c = copy-end _ _ _ (c .before .loop .i) (search needs) (search needs) (c .before .loop .inv .2)
 
 pub copy-spec : {M : Type 1} → statement M
 copy-spec =

@@ -21,7 +21,7 @@ use Rattle.check_quick.specs.Anchors.{anchored}
 use Rattle.check_quick.specs.Quick.{AtMost, leastPatch}
 use Rattle.check_quick.specs.QuickAnswers.{previousOf, quickCheckedTo, inspectionAnswer}
 use Rattle.check_quick.specs.declared.quick_patches.PatchChecked.{PatchChecked}
-use Rattle.check_quick.proofs.QuickSets.{PassedPatches, passed-patches, patch-got, no-patch, least-taken, patchesLeft, none-passed, patch-refused, count-is, few-absent, at-most-still, turn, end-is}
+use Rattle.check_quick.proofs.QuickSets.{PassedPatches, passed-patches, patch-got, no-patch, least-taken, patchesLeft, none-passed, patch-refused, count-is, few-absent, at-most-still, patches-turn, patches-end}
 use mir.Val.{Fits}
 use mir.Syntax.{w64}
 use borrow.Author.Needs.{needs}
@@ -147,7 +147,7 @@ loop-again c =
     let id = envelopeOf (patch read .head .envelope) .id in
     let still = at-most-still (l .ids) _ (l .done) id (l .highest) _ fits (found .1) (l .inv .1 .1 .1 .1 .1 .0) (highest .0) (omega (arith, highest .1, own)) in (
       t .1,
-      (omega arith, (omega (arith, s .0), (omega (arith, s .1), ((ap length (found .1) ∙ length-set (l .ids) (l .done) _ ∙ l .inv .1 .1 .1 .1 .0 .0, omega (arith, t .0)), (still, turn (edition h) (known h) (set h) (l .at) (l .left) (before h) (previousOf (l .previous)) (omega arith) (patch read) (end read) g _ (l .ids) _ fits (found .0) (found .1) ∙ l .inv .1 .1 .1 .1 .1 .1))))),
+      (omega arith, (omega (arith, s .0), (omega (arith, s .1), ((ap length (found .1) ∙ length-set (l .ids) (l .done) _ ∙ l .inv .1 .1 .1 .1 .0 .0, omega (arith, t .0)), (still, patches-turn (edition h) (known h) (set h) (l .at) (l .left) (before h) (previousOf (l .previous)) (omega arith) (patch read) (end read) g _ (l .ids) _ fits (found .0) (found .1) ∙ l .inv .1 .1 .1 .1 .1 .1))))),
     )
 
 enum-known-fault : tie.Need-enum-known-fault Inv-loop μ-loop
@@ -179,7 +179,7 @@ returns-2 c =
     let h = c .before .before in
     let l = h .loop in
     c .at-end .ensures
-    ∙ end-is (edition h) (known h) (set h) (l .at) (l .left) (before h) (previousOf (l .previous)) (take (l .done) (l .ids)) (l .done) (omega arith) refl
+    ∙ patches-end (edition h) (known h) (set h) (l .at) (l .left) (before h) (previousOf (l .previous)) (take (l .done) (l .ids)) (l .done) (omega arith) refl
     ∙ l .inv .1 .1 .1 .1 .1 .1
 
 pub inspect-patches-spec : {M : Type 1} → statement M

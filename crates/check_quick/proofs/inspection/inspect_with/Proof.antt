@@ -11,7 +11,7 @@ use Rattle.spec_patch.specs.Edition.{Edition}
 use Rattle.spec_patch.specs.Read.{readSet}
 use Rattle.projection_patch.specs.Meaning.{editionOf}
 use Rattle.patch_sets.proofs.PatchAnswers.{no-heading}
-use Rattle.patch_sets.proofs.ReadAt.{HeadingAt, heading-at}
+use Rattle.patch_sets.proofs.ReadAt.{HeadingReadAt, heading-at}
 use Rattle.patch_sets.proofs.Runs.{set-by-patches, no-set}
 use Rattle.check_quick.specs.QuickAnswers.{inspectedBy, inspectionAnswer}
 use borrow.Author.Needs.{needs}
@@ -33,7 +33,7 @@ count c = c .before .count .given .0 .0
 abbrev at : tie.After-known-told → ℕ
 at c = c .before .count .given .0 .1 .0
 
-front : (c : tie.After-known-told) → let k = c .before .before .before in HeadingAt (edition k) (set k) (count c) (at c)
+front : (c : tie.After-known-told) → let k = c .before .before .before in HeadingReadAt (edition k) (set k) (count c) (at c)
 front c =
     let k = c .before .before .before in
     heading-at (edition k) (set k) (bytes-of (set k) (λ j. k .before .before .before .before .before .before .shared-slice-known .given j .fits)) (k .read-heading .ensures) (c .before .count .given .1)

@@ -8,10 +8,10 @@ use Rattle.spec_lists.specs.BytesLaws.{bytes-of}
 use Rattle.spec_patch.specs.Edition.{Edition}
 use Rattle.spec_checks.specs.Target.{MutationTarget}
 use Rattle.projection_patch.specs.Meaning.{editionOf}
-use Rattle.patch_sets.proofs.ReadAt.{OperationAt, operation-at, no-operation-at}
+use Rattle.patch_sets.proofs.ReadAt.{OperationReadAt, operation-at, no-operation-at}
 use Rattle.check_targets.specs.Targets.{checkTargetOf, numbersOf, targetSeen}
 use Rattle.check_quick.specs.Anchors.{anchored, absentAmong}
-use Rattle.check_quick.proofs.QuickRuns.{none-left, refusal, turn}
+use Rattle.check_quick.proofs.QuickRuns.{none-left, refusal, operations-turn}
 use borrow.Author.Needs.{needs}
 use Rattle.check_quick.proofs.quick_operations.check_one.Statement.{statement}
 use Rattle.check_quick.proofs.quick_operations.check_one.Tie as tie
@@ -31,7 +31,7 @@ known c = let a = start c .args in anchored (a .nodes .now) (a .bindings .now) (
 abbrev taken : tie.After-known-told → ℕ
 taken c = c .before .operation .given .0 .1 .0
 
-one : (c : tie.After-known-told) → let k = c .before .before .before in OperationAt (edition k) (set k) (start k .args .at) (c .before .operation .given .0 .0) (taken c)
+one : (c : tie.After-known-told) → let k = c .before .before .before in OperationReadAt (edition k) (set k) (start k .args .at) (c .before .operation .given .0 .0) (taken c)
 one c =
     let k = c .before .before .before in
     operation-at (edition k) (set k) (start k .args .at) (k .operation-from .ensures) (bytes-of (set k) (λ j. k .before .before .before .before .before .shared-slice-known .given j .fits)) (omega arith) (c .before .operation .given .1)
@@ -48,7 +48,7 @@ returns c =
     let target = c .before .before .mutation-target .result in
     let self = c .before .before-self in
     none-left (edition k) (known k) (set k) (at + taken told) 0 (self .result) (numbersOf (checkTargetOf target)) (one told .within) refl (c .one-if-absent .result) (omega (arith, c .one-if-absent .ensures))
-    ∙ turn (edition k) (known k) (set k) at 1 false [] (omega arith) _ (taken told) (one told .got) (checkTargetOf target) (self .result) (numbersOf (checkTargetOf target)) (c .before .before .mutation-target .ensures []) (self .ensures []) refl
+    ∙ operations-turn (edition k) (known k) (set k) at 1 false [] (omega arith) _ (taken told) (one told .got) (checkTargetOf target) (self .result) (numbersOf (checkTargetOf target)) (c .before .before .mutation-target .ensures []) (self .ensures []) refl
 
 returns-2 : tie.Need-returns-2
 returns-2 c =

@@ -9,13 +9,13 @@ use Rattle.spec_lists.specs.BytesLaws.{bytes-of}
 use Rattle.spec_patch.specs.Edition.{Edition}
 use Rattle.spec_checks.specs.Target.{MutationTarget}
 use Rattle.projection_patch.specs.Meaning.{editionOf}
-use Rattle.patch_sets.proofs.ReadAt.{OperationAt, operation-at, no-operation-at}
+use Rattle.patch_sets.proofs.ReadAt.{OperationReadAt, operation-at, no-operation-at}
 use Rattle.check_targets.specs.Targets.{checkTargetOf, targetSeen}
 use Rattle.check_targets.specs.TargetsLaws.{with-target-front, with-target-length}
 use Rattle.check_targets.specs.Marks.{Marked}
 use Rattle.check_targets.specs.MarksLaws.{marked-none}
 use Rattle.check_quick.specs.Anchors.{absentAmong}
-use Rattle.check_quick.proofs.QuickRuns.{quickLeftAnswer, none-left, refusal, turn}
+use Rattle.check_quick.proofs.QuickRuns.{quickLeftAnswer, none-left, refusal, operations-turn}
 use mir.Val.{Fits}
 use mir.Syntax.{w64}
 use borrow.Author.Needs.{needs}
@@ -46,7 +46,7 @@ edition c = editionOf (start (head c) .args .edition)
 abbrev taken : tie.After-known-told Inv-loop μ-loop → ℕ
 taken c = c .before .operation .given .0 .1 .0
 
-one : (c : tie.After-known-told Inv-loop μ-loop) → let k = c .before .before .before in OperationAt (edition k) (set k) (head k .loop .at) (c .before .operation .given .0 .0) (taken c)
+one : (c : tie.After-known-told Inv-loop μ-loop) → let k = c .before .before .before in OperationReadAt (edition k) (set k) (head k .loop .at) (c .before .operation .given .0 .0) (taken c)
 one c =
     let k = c .before .before .before in
     operation-at (edition k) (set k) (head k .loop .at) (k .operation-from .ensures) (bytes-of (set k) (λ j. head k .before .before .before .shared-slice-known .given j .fits)) (omega arith) (c .before .operation .given .1)
@@ -115,7 +115,7 @@ loop-again c =
     let front = ap (take (l .used + 3)) (found .1 .0) ∙ with-target-front (l .used) (checkTargetOf (target .result)) (l .targets) more in
     let told = found .0 ∙ ap (λ (b : Bool). l .found || (targetSeen (checkTargetOf (target .result)) (take (l .used) (l .targets)) || b)) (self .ensures []) in (
       one k .within,
-      (omega arith, (omega (arith, same), (rw front (found .1 .1), λ known. turn (edition r) known (set r) (l .at) (l .left) (l .found) (take (l .used) (l .targets)) (omega arith) _ (taken k) (one k .got) (checkTargetOf (target .result)) _ _ (target .ensures []) told front ∙ l .inv .1 .1 .1 .1 known))),
+      (omega arith, (omega (arith, same), (rw front (found .1 .1), λ known. operations-turn (edition r) known (set r) (l .at) (l .left) (l .found) (take (l .used) (l .targets)) (omega arith) _ (taken k) (one k .got) (checkTargetOf (target .result)) _ _ (target .ensures []) told front ∙ l .inv .1 .1 .1 .1 known))),
     )
 
 enum-known-fault : tie.Need-enum-known-fault Inv-loop μ-loop

@@ -12,7 +12,7 @@ use Rattle.spec_patch.specs.Reader.{read, refused}
 use Rattle.spec_checks.specs.Target.{MutationTarget}
 use Rattle.projection_patch.specs.Meaning.{editionOf, envelopeOf}
 use Rattle.projection_patch.specs.declared.patch.ProjectionPatch.{ProjectionPatch}
-use Rattle.patch_sets.proofs.ReadAt.{HeadAt, head-at, no-head-at}
+use Rattle.patch_sets.proofs.ReadAt.{HeadReadAt, head-at, no-head-at}
 use Rattle.patch_sets.proofs.Runs.{run-length, patch-read, head-refused}
 use Rattle.check_quick.specs.Anchors.{anchored}
 use Rattle.check_quick.specs.Quick.{headFound}
@@ -46,7 +46,7 @@ head c = c .before .head .given .0 .0
 abbrev taken : tie.After-known-told → ℕ
 taken c = c .before .head .given .0 .1 .0
 
-front : (c : tie.After-known-told) → let k = c .before .before .before in HeadAt (set k) (at k) (head c) (taken c)
+front : (c : tie.After-known-told) → let k = c .before .before .before in HeadReadAt (set k) (at k) (head c) (taken c)
 front c = let k = c .before .before .before in head-at (set k) (at k) (k .read-patch-head .ensures) (all-bytes k) (omega arith) (c .before .head .given .1)
 
 add-check-operations : tie.Need-add-check-operations

@@ -17,7 +17,7 @@ use Rattle.check_targets.specs.Targets.{checkTargetOf}
 use Rattle.check_targets.specs.TargetsLaws.{with-target-front, with-target-length}
 use Rattle.check_targets.specs.Marks.{Marked}
 use Rattle.check_targets.specs.MarksLaws.{marked-none}
-use Rattle.check_set.proofs.OperationRuns.{Run, run-start, run-turn, run-end}
+use Rattle.check_set.proofs.OperationRuns.{OperationRun, operation-run-start, operation-run-turn, operation-run-end}
 use borrow.Author.Needs.{needs}
 use Rattle.check_set.proofs.list_operations.list_operations.Statement.{statement}
 use Rattle.check_set.proofs.list_operations.list_operations.Tie as tie
@@ -26,7 +26,7 @@ abbrev Inv-loop : tie.InvT-loop
 Inv-loop set edition start targets₀ marks₀ records₀ first cursor₀ used₀ index₀ kept₀ targets marks records cursor used index kept =
     (used + 3 * cursor .«operations_left» ≤ length targets) × ((index ≤ used) × ((length targets ≡ length targets₀) × ((length records ≡ length records₀)
     × ((cursor .«patches_left» ≡ start .«patches_left») × (Marked marks (take used targets)
-    × ((os : List Operation) (ps : List Patch) → AtSteps (editionOf edition) set start os ps → Run (editionOf edition) set (start .«patch_id») os ps first records₀ cursor used index kept targets records))))))
+    × ((os : List Operation) (ps : List Patch) → AtSteps (editionOf edition) set start os ps → OperationRun (editionOf edition) set (start .«patch_id») os ps first records₀ cursor used index kept targets records))))))
 
 abbrev μ-loop : tie.MeasureT-loop
 μ-loop set edition start targets₀ marks₀ records₀ first cursor₀ used₀ index₀ kept₀ targets marks records cursor used index kept = cursor .«operations_left»
@@ -71,7 +71,7 @@ marks-long c = c .loop .inv .1 .1 .1 .1 .1 .0 .long ∙ sym (begin c .pre .1)
 loop-holds : tie.Need-loop-holds Inv-loop μ-loop
 loop-holds c =
     let start = c .before .before .before .before in
-    (omega arith, (omega arith, (refl, (refl, (refl, (marked-none (start .args .marks .now) (start .pre .1), λ os ps here. run-start _ _ _ os ps _ _ _ _ here))))))
+    (omega arith, (omega arith, (refl, (refl, (refl, (marked-none (start .args .marks .now) (start .pre .1), λ os ps here. operation-run-start _ _ _ os ps _ _ _ _ here))))))
 
 next-step-requires : tie.Need-next-step-requires Inv-loop μ-loop
 next-step-requires c κs = search needs
@@ -141,7 +141,7 @@ loop-again c =
               n .1 ∙ l .inv .1 .1 .1 .1 .0,
               (
                 rw front (seen .1 .1),
-                λ os ps here. run-turn _ _ _ os ps _ _ (l .inv .1 .1 .1 .1 .1 .1 os ps here) (r .next-step .ensures .0) _ _ q _ _ _ _ _ _ room (told .mutation-target .ensures []) (own .before-self .ensures []) (seen .0) (seen .1 .0) (call .insert-operation .ensures),
+                λ os ps here. operation-run-turn _ _ _ os ps _ _ (l .inv .1 .1 .1 .1 .1 .1 os ps here) (r .next-step .ensures .0) _ _ q _ _ _ _ _ _ room (told .mutation-target .ensures []) (own .before-self .ensures []) (seen .0) (seen .1 .0) (call .insert-operation .ensures),
               ),
             ),
           ),
@@ -159,7 +159,7 @@ same-length-6 : tie.Need-same-length-6 Inv-loop μ-loop
 same-length-6 c = search needs
 
 returns-2 : tie.Need-returns-2 Inv-loop μ-loop
-returns-2 c = let l = c .before .before .loop in (λ os ps here. run-end _ _ _ os ps _ _ (l .inv .1 .1 .1 .1 .1 .1 os ps here) (c .if1 .left), l .inv .1 .1 .1 .1 .0)
+returns-2 c = let l = c .before .before .loop in (λ os ps here. operation-run-end _ _ _ os ps _ _ (l .inv .1 .1 .1 .1 .1 .1 os ps here) (c .if1 .left), l .inv .1 .1 .1 .1 .0)
 
 pub list-operations-spec : {M : Type 1} → statement M
 list-operations-spec =

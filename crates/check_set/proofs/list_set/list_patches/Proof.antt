@@ -16,7 +16,7 @@ use Rattle.patch_walk.specs.declared.SetStep.{SetStep}
 use Rattle.patch_walk.proofs.Matches.{head-matches}
 use Rattle.check_quick.specs.QuickAnswers.{previousOf}
 use Rattle.check_set.specs.Listed.{tableLength}
-use Rattle.check_set.proofs.PatchRuns.{Run, run-start, run-end, run-found, run-turn}
+use Rattle.check_set.proofs.PatchRuns.{PatchRun, patch-run-start, patch-run-end, patch-run-found, patch-run-turn}
 use borrow.Author.Needs.{needs}
 use Rattle.check_set.proofs.list_set.list_patches.Statement.{statement}
 use Rattle.check_set.proofs.list_set.list_patches.Tie as tie
@@ -24,7 +24,7 @@ use Rattle.check_set.proofs.list_set.list_patches.Tie as tie
 abbrev Inv-loop : tie.InvT-loop
 Inv-loop set edition records₀ ids₀ previous₀ cursor₀ done₀ kept₀ records ids previous cursor done kept =
     (done + cursor .«patches_left» ≤ setPatches) × ((length records ≡ length records₀) × ((length ids ≡ setPatches)
-    × ((ps : List Patch) → AtSteps (editionOf edition) set cursor₀ [] ps → Run (editionOf edition) set ps cursor done kept ids (previousOf previous) records)))
+    × ((ps : List Patch) → AtSteps (editionOf edition) set cursor₀ [] ps → PatchRun (editionOf edition) set ps cursor done kept ids (previousOf previous) records)))
 
 abbrev μ-loop : tie.MeasureT-loop
 μ-loop set edition records₀ ids₀ previous₀ cursor₀ done₀ kept₀ records ids previous cursor done kept = cursor .«patches_left»
@@ -67,7 +67,7 @@ room : (c : tie.After-next-step Inv-loop μ-loop) → tableLength ≤ length (he
 room c = omega (arith, head c .loop .inv .1 .0, start c .pre)
 
 loop-holds : tie.Need-loop-holds Inv-loop μ-loop
-loop-holds c = (omega (arith, c .before .before .pre), (refl, (search needs, λ ps here. run-start _ _ ps _ _ _ here)))
+loop-holds c = (omega (arith, c .before .before .pre), (refl, (search needs, λ ps here. patch-run-start _ _ ps _ _ _ here)))
 
 next-step-requires : tie.Need-next-step-requires Inv-loop μ-loop
 next-step-requires c κs = search needs
@@ -96,7 +96,7 @@ returns-2 : tie.Need-returns-2 Inv-loop μ-loop
 returns-2 c =
     let l = c .before .before .before .before in
     let k = step (known l) in
-    λ ps here. run-found _ _ ps (head k .loop .inv .1 .1 .1 ps here) (omega (arith, here .patches, start k .pre)) (room k) (k .next-step .ensures .0) _ _ (known l .before .head .given .1) _ _ (l .list-patch .ensures .0) (c .if2 .taken)
+    λ ps here. patch-run-found _ _ ps (head k .loop .inv .1 .1 .1 ps here) (omega (arith, here .patches, start k .pre)) (room k) (k .next-step .ensures .0) _ _ (known l .before .head .given .1) _ _ (l .list-patch .ensures .0) (c .if2 .taken)
 
 slice-aggregate-insert-after : tie.Need-slice-aggregate-insert-after Inv-loop μ-loop
 slice-aggregate-insert-after c = sym (head (step (known (call (c .before .before .before)))) .loop .inv .1 .1 .0)
@@ -134,7 +134,7 @@ loop-again c =
         search (needs, l .inv .1 .0, test .before .before .slice-known2 .given, test .before .before .before .records .given, c .before .before .slice-known3 .given, c .before .before .before .records2 .given),
         (
           ap length (after-is .1 .1) ∙ length-set (l .ids) (l .done) _ ∙ l .inv .1 .1 .0,
-          λ ps here. run-turn _ _ ps (l .inv .1 .1 .1 ps here) (omega (arith, here .patches, start k .pre)) (room k) (k .next-step .ensures .0) _ _ q _ _ (listed .list-patch .ensures .0) (omega (arith, test .if2 .left)) _ _ _ space (after-is .0, after-is .1 .0) (after-is .1 .1),
+          λ ps here. patch-run-turn _ _ ps (l .inv .1 .1 .1 ps here) (omega (arith, here .patches, start k .pre)) (room k) (k .next-step .ensures .0) _ _ q _ _ (listed .list-patch .ensures .0) (omega (arith, test .if2 .left)) _ _ _ space (after-is .0, after-is .1 .0) (after-is .1 .1),
         ),
       ),
     )
@@ -143,7 +143,7 @@ same-length-3 : tie.Need-same-length-3 Inv-loop μ-loop
 same-length-3 c = search needs
 
 returns-3 : tie.Need-returns-3 Inv-loop μ-loop
-returns-3 c = λ ps here. run-end _ _ ps (c .before .before .loop .inv .1 .1 .1 ps here) (c .if1 .left)
+returns-3 c = λ ps here. patch-run-end _ _ ps (c .before .before .loop .inv .1 .1 .1 ps here) (c .if1 .left)
 
 pub list-patches-spec : {M : Type 1} → statement M
 list-patches-spec =

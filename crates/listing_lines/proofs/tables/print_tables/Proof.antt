@@ -7,7 +7,7 @@ use borrow.Author.Needs.{needs}
 use Rattle.spec_projection.specs.Valid.{FitsBinding, FitsNodeAvailability, FitsEntry}
 use Rattle.spec_decimal.specs.Decimal.{decimal}
 use Rattle.spec_listing.specs.Listing.{fields, recordCount, projectionLines}
-use Rattle.bytes_printer.specs.PrintsLaws.{_⨾_, same-bytes, ends-within}
+use Rattle.bytes_printer.specs.PrintsLaws.{_⨾_, prints-same, ends-within}
 use Rattle.panel_rows.specs.Rows.{bindingRow, availabilityRow, entryRow}
 use Rattle.listing_lines.proofs.Lines.{holds-length}
 use Rattle.listing_lines.proofs.tables.print_tables.Statement.{statement}
@@ -26,7 +26,7 @@ returns c =
     let a = holds-length FitsNodeAvailability availabilityRow (p .availabilities) (vs .rows) in
     let e = holds-length FitsEntry entryRow (p .entries) (es .rows) in
     let total : count .record-count .result ≡ recordCount p = count .record-count .ensures (omega (arith, v .fewBindings)) (omega (arith, v .fewAvailabilities)) (omega (arith, v .fewEntries)) ∙ omega arith in
-    let counted = same-bytes (ap (λ (n : ℕ). 80 ∷ fields (decimal n ∷ [])) total) (head .print-number-line .ensures) in
+    let counted = prints-same (ap (λ (n : ℕ). 80 ∷ fields (decimal n ∷ [])) total) (head .print-number-line .ensures) in
     let bound = first .print-rows .ensures (p .bindings) (v .fitBindings) (bs .rows) (ends-within counted) in
     let available = second .print-rows2 .ensures (p .availabilities) (v .fitAvailabilities) (vs .rows) (ends-within bound) in
     counted ⨾ bound ⨾ available ⨾ third .print-rows3 .ensures (p .entries) (v .fitEntries) (es .rows) (ends-within available)

@@ -13,7 +13,7 @@ use Rattle.spec_projection.specs.Valid.{Valid}
 use Rattle.spec_lengths.specs.Lengths.{CollectionLength, collectionLengths, lengthOf, FitsLength}
 use Rattle.spec_lengths.specs.LengthsLaws.{length-kept, lengths-fit}
 use Rattle.local_projection_state.specs.Stores.{StoredLengths}
-use Rattle.panel_lengths.specs.LengthRowsLaws.{few-rows, none-left, ended, own-row, other-row}
+use Rattle.panel_lengths.specs.LengthRowsLaws.{few-rows, lengths-past, lengths-ended, own-row, other-row}
 use Rattle.panel_lengths.proofs.lookup.collection_length.Statement.{statement}
 use Rattle.panel_lengths.proofs.lookup.collection_length.Tie as tie
 
@@ -39,7 +39,7 @@ returns c =
     let call = c .before in
     let h = call .before .before in
     let a = h .before .before .args in
-    λ p s v. sym (ended (now (a .table)) (collectionLengths p) s (fit p v) (a .collection) (h .loop .i) (h .loop .inv .1 _ s (fit p v)) (search needs) (sym (call .row-length .ensures) ∙ search needs)) ∙ length-kept p (a .collection)
+    λ p s v. sym (lengths-ended (now (a .table)) (collectionLengths p) s (fit p v) (a .collection) (h .loop .i) (h .loop .inv .1 _ s (fit p v)) (search needs) (sym (call .row-length .ensures) ∙ search needs)) ∙ length-kept p (a .collection)
 
 row-collection-requires : tie.Need-row-collection-requires Inv-loop μ-loop
 row-collection-requires c κs = search needs
@@ -75,7 +75,7 @@ returns-3 : tie.Need-returns-3 Inv-loop μ-loop
 returns-3 c =
     let h = c .before in
     let a = h .before .before .args in
-    λ p s v. sym (none-left (now (a .table)) (collectionLengths p) s (fit p v) (a .collection) (h .loop .i) (h .loop .inv .1 _ s (fit p v)) (omega (arith, few-rows (now (a .table)) (collectionLengths p) s (fit p v)))) ∙ length-kept p (a .collection)
+    λ p s v. sym (lengths-past (now (a .table)) (collectionLengths p) s (fit p v) (a .collection) (h .loop .i) (h .loop .inv .1 _ s (fit p v)) (omega (arith, few-rows (now (a .table)) (collectionLengths p) s (fit p v)))) ∙ length-kept p (a .collection)
 
 pub collection-length-spec : {M : Type 1} → statement M
 collection-length-spec =

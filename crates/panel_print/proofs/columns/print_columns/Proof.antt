@@ -9,7 +9,7 @@ use lib.ListN.{length, drop, getD}
 use Rattle.spec_panel_print.specs.Print.{textWidth}
 use Rattle.bytes_printer.specs.declared.Printed.{Printed}
 use Rattle.bytes_printer.specs.Prints.{Prints}
-use Rattle.bytes_printer.specs.PrintsLaws.{_⨾_, same-bytes}
+use Rattle.bytes_printer.specs.PrintsLaws.{_⨾_, prints-same}
 use Rattle.panel_print.specs.ByteFlow.{flowedBytes, brokenByte}
 use Rattle.panel_print.specs.ByteFlowLaws.{flow-turn, flow-end}
 use Rattle.panel_print.proofs.columns.print_columns.Statement.{statement}
@@ -52,7 +52,7 @@ loop-again c =
         c .column-after .ensures .1,
         λ m r q.
             let left = ap (λ (k : ℕ). brokenByte column (getD bytes i 0) ++ flowedBytes k (drop (i + 1) bytes)) (c .column-after .ensures .0) in
-            at-loop .loop .inv .1 .1 m r (same-bytes (left ∙ sym (flow-turn column bytes i (search needs))) (printed .print-broken-byte .ensures ⨾ q)),
+            at-loop .loop .inv .1 .1 m r (prints-same (left ∙ sym (flow-turn column bytes i (search needs))) (printed .print-broken-byte .ensures ⨾ q)),
       ),
     )
 
@@ -74,7 +74,7 @@ returns c =
     let padded = ended .before .before .before .before in
     let at-loop = padded .before .before .before in
     let bytes = now (at-loop .before .before .before .args .bytes) in
-    at-loop .loop .inv .1 .1 _ _ (same-bytes (sym (flow-end (at-loop .loop .column) bytes (at-loop .loop .i) (omega arith))) (padded .print-spaces .ensures ⨾ ended .print-newline .ensures))
+    at-loop .loop .inv .1 .1 _ _ (prints-same (sym (flow-end (at-loop .loop .column) bytes (at-loop .loop .i) (omega arith))) (padded .print-spaces .ensures ⨾ ended .print-newline .ensures))
 
 pub print-columns-spec : {M : Type 1} → statement M
 print-columns-spec =

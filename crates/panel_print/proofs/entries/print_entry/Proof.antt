@@ -5,7 +5,7 @@ use borrow.Author.Needs.{needs}
 use Rattle.spec_projection.specs.Lookups.{keyedValue}
 use Rattle.spec_panel_print.specs.Print.{keyLead}
 use Rattle.spec_panel_print.specs.FlowLaws.{entry-flows}
-use Rattle.bytes_printer.specs.PrintsLaws.{_⨾_, same-bytes}
+use Rattle.bytes_printer.specs.PrintsLaws.{_⨾_, prints-same}
 use Rattle.panel_rows.specs.Rows.{entryValueAt, keyIn}
 use Rattle.panel_rows.specs.RowsLaws.{entry-key, entry-behind}
 use Rattle.panel_print.specs.ByteFlow.{flowedBytes}
@@ -23,10 +23,10 @@ returns c =
     let value = key .before .before in
     let number = value .before in
     λ e fits is.
-    let first = same-bytes (ap keyLead (number .entry-key .ensures ∙ ap keyIn is ∙ entry-key e fits)) (key .print-key .ensures) in
+    let first = prints-same (ap keyLead (number .entry-key .ensures ∙ ap keyIn is ∙ entry-key e fits)) (key .print-key .ensures) in
     let found = value .stored-value .ensures (e .value) (fits .value) (ap (drop entryValueAt) is ∙ entry-behind e) in
-    let second = same-bytes (ap (λ l. flowedBytes 0 (lookupBytes l)) found ∙ found-flows 0 (e .value) (fits .value)) (printed .print-value .ensures) in
-    same-bytes (sym (entry-flows (keyedValue e))) (first ⨾ second)
+    let second = prints-same (ap (λ l. flowedBytes 0 (lookupBytes l)) found ∙ found-flows 0 (e .value) (fits .value)) (printed .print-value .ensures) in
+    prints-same (sym (entry-flows (keyedValue e))) (first ⨾ second)
 
 pub print-entry-spec : {M : Type 1} → statement M
 print-entry-spec =

@@ -7,7 +7,7 @@ use borrow.Author.Needs.{needs}
 use Rattle.spec_decimal.specs.Decimal.{decimal}
 use Rattle.spec_panel_print.specs.Print.{keyWidth, blank, keyLead}
 use Rattle.bytes_decimal.specs.PrintLaws.{digits-long, digits-behind}
-use Rattle.bytes_printer.specs.PrintsLaws.{_⨾_, same-bytes}
+use Rattle.bytes_printer.specs.PrintsLaws.{_⨾_, prints-same}
 use Rattle.panel_print.proofs.entries.print_key.Statement.{statement}
 use Rattle.panel_print.proofs.entries.print_key.Tie as tie
 
@@ -28,8 +28,8 @@ returns c =
     let made = lead .before .before .before in
     let key = made .before .before .args .key in
     let many : made .digits-of .result .start ≡ keyWidth - length (decimal key) = omega (arith, made .digits-of .ensures .place) in
-    let first = same-bytes (ap (λ (n : ℕ). replicate n blank) many) (lead .print-spaces .ensures) in
-    let second = same-bytes (digits-behind _ (made .digits-of .result) (made .digits-of .ensures)) (number .print-bytes .ensures) in
+    let first = prints-same (ap (λ (n : ℕ). replicate n blank) many) (lead .print-spaces .ensures) in
+    let second = prints-same (digits-behind _ (made .digits-of .result) (made .digits-of .ensures)) (number .print-bytes .ensures) in
     (first ⨾ second) ⨾ behind .print-spaces2 .ensures
 
 pub print-key-spec : {M : Type 1} → statement M

@@ -5,10 +5,10 @@ use borrow.Author.Tests.{eq-eqb, ne-eqb}
 use Rattle.spec_projection.specs.Projection.{Entry}
 use Rattle.spec_projection.specs.Valid.{FitsEntry}
 use denote.Ref.{now}
-use Rattle.bytes_printer.specs.PrintsLaws.{same-bytes, nothing-printed}
+use Rattle.bytes_printer.specs.PrintsLaws.{prints-same, nothing-printed}
 use Rattle.panel_rows.specs.Rows.{collectionIn, entryRow}
 use Rattle.panel_rows.specs.RowsLaws.{entry-collection}
-use Rattle.panel_print.specs.EntriesPrintLaws.{own-row, other-row}
+use Rattle.panel_print.specs.EntriesPrintLaws.{own-print, other-print}
 use Rattle.panel_print.proofs.entries.print_row.Statement.{statement}
 use Rattle.panel_print.proofs.entries.print_row.Tie as tie
 
@@ -20,7 +20,7 @@ returns : tie.Need-returns
 returns c =
     let args = c .before .before .before .before .args in
     λ e fits is within.
-    same-bytes (other-row (args .collection) e (ne-eqb (e .collection) (args .collection) (λ same. c .if1 .taken (own (c .before) e fits is ∙ same)))) (nothing-printed (now (args .out)) (args .at) within)
+    prints-same (other-print (args .collection) e (ne-eqb (e .collection) (args .collection) (λ same. c .if1 .taken (own (c .before) e fits is ∙ same)))) (nothing-printed (now (args .out)) (args .at) within)
 
 returns-2 : tie.Need-returns-2
 returns-2 c =
@@ -29,7 +29,7 @@ returns-2 c =
     let args = test .before .before .before .before .args in
     λ e fits is within.
     let same = sym (own (test .before) e fits is) ∙ test .if1 .left in
-    same-bytes (own-row (args .collection) e (eq-eqb (e .collection) (args .collection) same)) (printed .print-entry .ensures e fits is)
+    prints-same (own-print (args .collection) e (eq-eqb (e .collection) (args .collection) same)) (printed .print-entry .ensures e fits is)
 
 pub print-row-spec : {M : Type 1} → statement M
 print-row-spec =

@@ -4,7 +4,7 @@ use mathlib.Core.Path.{refl, sym, ap, _∙_}
 use native.Mathlib.Omega.{arith}
 use lib.ListN.{length-replicate}
 use borrow.Author.Needs.{needs}
-use Rattle.bytes_printer.specs.PrintsLaws.{same-bytes}
+use Rattle.bytes_printer.specs.PrintsLaws.{prints-same}
 use Rattle.panel_print.specs.ByteFlow.{flowedBytes}
 use Rattle.panel_print.specs.LookupBytes.{scalarMost}
 use Rattle.panel_print.specs.LookupBytesLaws.{text-bytes, no-text-bytes, scalar-few}
@@ -17,7 +17,7 @@ returns c =
     let printed = c .before .before in
     let part = printed .before in
     let test = part .before .before .before .before in
-    same-bytes (ap (flowedBytes 0) (part .key-part .ensures ∙ sym (text-bytes (test .before .before .before .args .value) (test .if1 .taken)))) (printed .print-columns .ensures)
+    prints-same (ap (flowedBytes 0) (part .key-part .ensures ∙ sym (text-bytes (test .before .before .before .args .value) (test .if1 .taken)))) (printed .print-columns .ensures)
 
 returns-2 : tie.Need-returns-2
 returns-2 c =
@@ -34,7 +34,7 @@ returns-3 c =
     let test = scalar .before .before in
     let value = test .before .before .before .args .value in
     let made = printed-whole (scalar .print-scalar .ensures) (omega (arith, scalar-few value, length-replicate {A = ℕ} scalarMost 0)) in
-    same-bytes (ap (flowedBytes 0) (part .key-part2 .ensures ∙ whole-part made (end .len .given .0 .0) (end .len .given .1) _ refl ∙ sym (no-text-bytes value (test .if1 .left)))) (printed .print-columns2 .ensures)
+    prints-same (ap (flowedBytes 0) (part .key-part2 .ensures ∙ whole-part made (end .len .given .0 .0) (end .len .given .1) _ refl ∙ sym (no-text-bytes value (test .if1 .left)))) (printed .print-columns2 .ensures)
 
 pub print-value-spec : {M : Type 1} → statement M
 print-value-spec =

@@ -18,7 +18,7 @@ use Rattle.check_targets.specs.Marks.{Marked}
 use Rattle.check_targets.specs.MarksLaws.{marked-none}
 use Rattle.patch_terms.specs.LinesLaws.{TermAt, term-at}
 use Rattle.patch_import.specs.Survey.{termBytes, surveyFrom, surveyOf}
-use Rattle.patch_import.specs.SurveyLaws.{text-short, size-told, target-is, goes-on, survey-turn, survey-full, survey-other, survey-over, survey-end}
+use Rattle.patch_import.specs.SurveyLaws.{text-short, size-told, target-is, next-behind, survey-turn, survey-full, survey-other, survey-over, survey-end}
 use Rattle.patch_import.proofs.survey.survey_with.Statement.{statement}
 use Rattle.patch_import.proofs.survey.survey_with.Tie as tie
 
@@ -139,7 +139,7 @@ loop-less : tie.Need-loop-less Inv-loop μ-loop
 loop-less c =
     let k = passed c .before in
     let r = read k in
-    omega (arith, within r, goes-on (collection r) (list r) (head r .loop .at) (key k) (from k) (len k) (next k) (one k))
+    omega (arith, within r, next-behind (collection r) (list r) (head r .loop .at) (key k) (from k) (len k) (next k) (one k))
 
 loop-again : tie.Need-loop-again Inv-loop μ-loop
 loop-again c =

@@ -16,14 +16,14 @@ use Rattle.patch_part_writer.specs.Parts.{sizeWithin}
 use Rattle.patch_writer.proofs.Progress.{Progress, Next, progress-start, progress-end, progress-fits, progress-next, next-sized}
 use Rattle.patch_terms.specs.LinesLaws.{termOf, TermAt, term-at}
 use Rattle.patch_import.specs.Survey.{insertionOf, termBytes, insertBytes, heldOf}
-use Rattle.patch_import.specs.SurveyLaws.{inserts-term, text-short, size-told, goes-on}
-use Rattle.patch_import.specs.WritingLaws.{Left, Later, left-start, left-holds, left-other, left-over, left-end, later, later-bytes, no-bytes}
+use Rattle.patch_import.specs.SurveyLaws.{inserts-term, text-short, size-told, next-behind}
+use Rattle.patch_import.specs.WritingLaws.{TermsLeft, Later, left-start, left-holds, left-other, left-over, left-end, later-terms, later-bytes, no-bytes}
 use Rattle.patch_import.proofs.writing.write_lines.Statement.{statement}
 use Rattle.patch_import.proofs.writing.write_lines.Tie as tie
 
 abbrev Inv-loop : tie.InvT-loop
 Inv-loop list collection out₀ from at₀ next₀ out at next =
-    (rest : List Term) × Left list at rest × Progress out₀ from (insertBytes collection (heldOf list)) out next (insertBytes collection rest)
+    (rest : List Term) × TermsLeft list at rest × Progress out₀ from (insertBytes collection (heldOf list)) out next (insertBytes collection rest)
 
 abbrev μ-loop : tie.MeasureT-loop
 μ-loop list collection out₀ from at₀ next₀ out at next = length list - at
@@ -66,11 +66,11 @@ one k =
     term-at (list r) (head r .loop .at) (key k) (from k) (len k) (behind k) (omega (arith, within r)) (sym (r .reread-line .ensures) ∙ k .before .key .given .1)
 
 -- what is left behind it
-abbrev left : (k : tie.After-known-told Inv-loop μ-loop) → let r = read k in Left (list r) (head r .loop .at) (head r .loop .inv .0)
+abbrev left : (k : tie.After-known-told Inv-loop μ-loop) → let r = read k in TermsLeft (list r) (head r .loop .at) (head r .loop .inv .0)
 left k = head (read k) .loop .inv .1
 
 rest : (k : tie.After-known-told Inv-loop μ-loop) → let r = read k in Later (left k) (within r) (key k) (from k) (len k) (behind k) (one k)
-rest k = later (left k) (within (read k)) (key k) (from k) (len k) (behind k) (one k)
+rest k = later-terms (left k) (within (read k)) (key k) (from k) (len k) (behind k) (one k)
 
 part : (k : tie.After-known-told Inv-loop μ-loop) → let r = read k in
     Next (insertBytes (collection r) (head r .loop .inv .0)) (encodeOperation (insertOf (collection r) (termOf (list r) (key k) (from k) (len k)))) (insertBytes (collection r) (rest k .after)) (termBytes (len k))
@@ -125,7 +125,7 @@ loop-less : tie.Need-loop-less Inv-loop μ-loop
 loop-less c =
     let k = made c .before in
     let r = read k in
-    omega (arith, within r, goes-on (collection r) (list r) (head r .loop .at) (key k) (from k) (len k) (behind k) (one k))
+    omega (arith, within r, next-behind (collection r) (list r) (head r .loop .at) (key k) (from k) (len k) (behind k) (one k))
 
 loop-again : tie.Need-loop-again Inv-loop μ-loop
 loop-again c =

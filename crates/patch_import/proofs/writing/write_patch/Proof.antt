@@ -12,7 +12,7 @@ use Rattle.projection_patch.specs.Meaning.{editionOf, envelopeOf}
 use Rattle.patch_part_writer.specs.Extent.{headSize}
 use Rattle.patch_part_writer.specs.ExtentLaws.{surface-small, length-heading, length-head}
 use Rattle.patch_import.specs.Survey.{insertBytes, heldOf}
-use Rattle.patch_import.specs.SetLaws.{encode-parts}
+use Rattle.patch_import.specs.SetLaws.{import-parts}
 use Rattle.patch_import.specs.WritingLaws.{held-few, three-written}
 use Rattle.patch_import.proofs.writing.write_patch.Statement.{statement}
 use Rattle.patch_import.proofs.writing.write_patch.Tie as tie
@@ -73,7 +73,7 @@ returns c =
     ∙ ap (λ (n : ℕ). overwrite (k .store-head .last .0) (35 + n) (operations s)) sized
     ∙ ap (λ (o : List ℕ). overwrite o (35 + headSize patch) (operations s)) (k .store-head .ensures ∙ ap (λ (o : List ℕ). overwrite o 35 (head s)) (headed k .store-heading .ensures))
     ∙ three-written out (front s) (head s) (operations s) (headSize patch) (length-heading (editionOf (s .args .edition)) 1) (length-head patch) (s .pre .0 .enough)
-    ∙ ap (overwrite out 0) (sym (encode-parts (editionOf (s .args .edition)) (s .args .collection) patch (heldOf (s .args .list .now)) (s .pre .1)))
+    ∙ ap (overwrite out 0) (sym (import-parts (editionOf (s .args .edition)) (s .args .collection) patch (heldOf (s .args .list .now)) (s .pre .1)))
 
 pub write-patch-spec : {M : Type 1} → statement M
 write-patch-spec =

@@ -11,7 +11,7 @@ use Rattle.projection_patch.specs.Meaning.{editionOf}
 use Rattle.patch_locate.specs.Answers.{locatedAnswer}
 use Rattle.patch_locate.specs.Fields.{fieldOf, fieldsOf}
 use Rattle.patch_locate.specs.FieldsLaws.{steady-field-of, fields-turn, fields-end}
-use Rattle.patch_locate.specs.Positions.{past-here, went, goes-on, stops-there}
+use Rattle.patch_locate.specs.Positions.{past-here, went, locates-on, locates-stop}
 use borrow.Author.Needs.{needs}
 use Rattle.patch_locate.proofs.fields.fields_at.Statement.{statement}
 use Rattle.patch_locate.proofs.fields.fields_at.Tie as tie
@@ -60,7 +60,7 @@ returns : tie.Need-returns Inv-loop μ-loop
 returns c =
     let k = c .before .before .before in
     let bound = c .before .rule .given in
-    stops-there (fieldOf (edition k) (getD (letters k) (head k .loop .i) 0)) (fieldsOf (edition k) (drop (head k .loop .i + 1) (letters k))) (part k) (head k .loop .next) (k .field-at .result) (k .field-at .ensures) (bound .0 .0) (bound .0 .1 .0) (bound .0 .1 .1 .0) (bound .1)
+    locates-stop (fieldOf (edition k) (getD (letters k) (head k .loop .i) 0)) (fieldsOf (edition k) (drop (head k .loop .i + 1) (letters k))) (part k) (head k .loop .next) (k .field-at .result) (k .field-at .ensures) (bound .0 .0) (bound .0 .1 .0) (bound .0 .1 .1 .0) (bound .1)
     ∙ sym (turn k) ∙ head k .loop .inv .1
 
 add-i : tie.Need-add-i Inv-loop μ-loop
@@ -75,7 +75,7 @@ loop-again c =
     let bound = c .before .end .given in
     let steady = steady-field-of (edition k) (getD (letters k) (head k .loop .i) 0) in (
       went steady (part k) (head k .loop .next) (k .field-at .result) (k .field-at .ensures) (bound .0 .0) (bound .1) .within,
-      goes-on steady (part k) (head k .loop .next) (k .field-at .result) (k .field-at .ensures) (fieldsOf (edition k) (drop (head k .loop .i + 1) (letters k))) (bound .0 .0) (bound .1)
+      locates-on steady (part k) (head k .loop .next) (k .field-at .result) (k .field-at .ensures) (fieldsOf (edition k) (drop (head k .loop .i + 1) (letters k))) (bound .0 .0) (bound .1)
           ∙ sym (turn k) ∙ head k .loop .inv .1,
     )
 

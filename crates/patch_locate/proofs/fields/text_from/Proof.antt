@@ -8,7 +8,7 @@ use native.Mathlib.Omega.{arith}
 use lib.ListN.{take, drop}
 use Rattle.projection_patch.specs.TextRule.{judgement}
 use Rattle.projection_patch.proofs.Texts.{judged-fits, judged-malformed, judged-many, just-there}
-use Rattle.patch_locate.specs.TextPositions.{text-lacking, text-over, text-not-utf8, text-many, text-passed}
+use Rattle.patch_locate.specs.TextPositions.{text-lacking, text-over, text-not-utf8, text-too-many, text-passed}
 use borrow.Author.Needs.{needs}
 use Rattle.patch_locate.proofs.fields.text_from.Statement.{statement}
 use Rattle.patch_locate.proofs.fields.text_from.Tie as tie
@@ -55,7 +55,7 @@ returns-5 c =
     let k = c .before .before in
     let a = begun k .args in
     let many = judged-many true (text k) refl (sym (asked k) ∙ c .enum-told3 .given .1) in
-    text-many (a .part .now) (a .at) (a .len) (omega arith) (omega arith) (omega arith) (many .0) (many .1)
+    text-too-many (a .part .now) (a .at) (a .len) (omega arith) (omega arith) (omega arith) (many .0) (many .1)
 
 pub text-from-spec : {M : Type 1} → statement M
 text-from-spec =

@@ -4,7 +4,7 @@ use native.Mathlib.Omega.{arith}
 use lib.ListN.{length}
 use Rattle.projection_patch.specs.Meaning.{editionOf}
 use Rattle.patch_locate.specs.Answers.{endTo}
-use Rattle.patch_locate.specs.SetPositions.{end-is, set-too-long}
+use Rattle.patch_locate.specs.SetPositions.{set-end-is, set-too-long}
 use borrow.Author.Needs.{needs}
 use Rattle.patch_locate.proofs.set.locate_set.Statement.{statement}
 use Rattle.patch_locate.proofs.set.locate_set.Tie as tie
@@ -17,7 +17,7 @@ returns c =
 returns-2 : tie.Need-returns-2
 returns-2 c =
     let a = c .before .before .before .before .args in
-    c .at-end .ensures ∙ ap (endTo (length (a .set .now))) (c .before .way .ensures) ∙ end-is (editionOf (a .edition)) (a .set .now) (omega arith)
+    c .at-end .ensures ∙ ap (endTo (length (a .set .now))) (c .before .way .ensures) ∙ set-end-is (editionOf (a .edition)) (a .set .now) (omega arith)
 
 pub locate-set-spec : {M : Type 1} → statement M
 locate-set-spec =

@@ -9,7 +9,7 @@ use Rattle.spec_explain.specs.Locate.{Locator, _⨟_, repeated, locateOperation
 use Rattle.projection_patch.specs.Meaning.{editionOf}
 use Rattle.patch_locate.specs.Answers.{locatedAnswer, withinTo}
 use Rattle.patch_locate.specs.Fields.{operationIn}
-use Rattle.patch_locate.specs.Positions.{past-here, went, goes-on, stops-there}
+use Rattle.patch_locate.specs.Positions.{past-here, went, locates-on, locates-stop}
 use Rattle.patch_locate.specs.SetPositions.{repeated-start, repeated-turn, repeated-end, within-is, steady-operation-in}
 use Rattle.patch_locate.specs.declared.rules.Inside.the-variants as insides
 use borrow.Author.Needs.{needs}
@@ -74,7 +74,7 @@ returns : tie.Need-returns Inv-loop μ-loop
 returns c =
     let k = c .before .before .before in
     let bound = c .before .rule .given in
-    stops-there (one k) (others k) (set k) (head k .loop .next) (k .within .result) (told k) (bound .0 .0) (bound .0 .1 .0) (bound .0 .1 .1 .0) (bound .1)
+    locates-stop (one k) (others k) (set k) (head k .loop .next) (k .within .result) (told k) (bound .0 .0) (bound .0 .1 .0) (bound .0 .1 .1 .0) (bound .1)
     ∙ sym (turn k) ∙ head k .loop .inv .1 .1
 
 add-j : tie.Need-add-j Inv-loop μ-loop
@@ -91,7 +91,7 @@ loop-again c =
       went steady (set k) (head k .loop .next) (k .within .result) (told k) (bound .0 .0) (bound .1) .within,
       (
         omega arith,
-        goes-on steady (set k) (head k .loop .next) (k .within .result) (told k) (others k) (bound .0 .0) (bound .1) ∙ sym (turn k) ∙ head k .loop .inv .1 .1,
+        locates-on steady (set k) (head k .loop .next) (k .within .result) (told k) (others k) (bound .0 .0) (bound .1) ∙ sym (turn k) ∙ head k .loop .inv .1 .1,
       ),
     )
 

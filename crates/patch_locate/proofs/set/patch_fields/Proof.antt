@@ -9,7 +9,7 @@ use Rattle.projection_patch.specs.Meaning.{editionOf}
 use Rattle.patch_locate.specs.Answers.{locatedAnswer}
 use Rattle.patch_locate.specs.Fields.{operationIn, patchFields}
 use Rattle.patch_locate.specs.FieldsLaws.{letters-envelope}
-use Rattle.patch_locate.specs.Positions.{goes-on, stops-there}
+use Rattle.patch_locate.specs.Positions.{locates-on, locates-stop}
 use borrow.Author.Needs.{needs}
 use Rattle.patch_locate.proofs.set.patch_fields.Statement.{statement}
 use Rattle.patch_locate.proofs.set.patch_fields.Tie as tie
@@ -26,7 +26,7 @@ returns c =
     let a = k .before .before .before .args in
     let bound = c .before .before .end .given in
     c .operations-counted .ensures
-    ∙ goes-on steady-envelope (a .set .now) (a .at) (k .fields-at .result) (told k) (counted operationCount patchOperations (operationIn (editionOf (a .edition)) (a .patch))) (bound .0 .0) (bound .1)
+    ∙ locates-on steady-envelope (a .set .now) (a .at) (k .fields-at .result) (told k) (counted operationCount patchOperations (operationIn (editionOf (a .edition)) (a .patch))) (bound .0 .0) (bound .1)
 
 returns-2 : tie.Need-returns-2
 unfolding patchFields
@@ -34,7 +34,7 @@ returns-2 c =
     let k = c .before .before .before in
     let a = k .before .before .before .args in
     let bound = c .before .rule .given in
-    stops-there locateEnvelope (counted operationCount patchOperations (operationIn (editionOf (a .edition)) (a .patch))) (a .set .now) (a .at) (k .fields-at .result) (told k) (bound .0 .0) (bound .0 .1 .0) (bound .0 .1 .1 .0) (bound .1)
+    locates-stop locateEnvelope (counted operationCount patchOperations (operationIn (editionOf (a .edition)) (a .patch))) (a .set .now) (a .at) (k .fields-at .result) (told k) (bound .0 .0) (bound .0 .1 .0) (bound .0 .1 .1 .0) (bound .1)
 
 pub patch-fields-spec : {M : Type 1} → statement M
 patch-fields-spec =

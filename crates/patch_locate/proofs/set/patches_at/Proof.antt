@@ -10,8 +10,8 @@ use Rattle.spec_explain.specs.SteadySetLaws.{steady-patch}
 use Rattle.projection_patch.specs.Meaning.{editionOf}
 use Rattle.patch_locate.specs.Answers.{locatedAnswer, withinTo}
 use Rattle.patch_locate.specs.Fields.{patchFields}
-use Rattle.patch_locate.specs.Positions.{past-here, went, goes-on, stops-there}
-use Rattle.patch_locate.specs.SetPositions.{repeated-start, repeated-turn, repeated-end, within-is, patch-is}
+use Rattle.patch_locate.specs.Positions.{past-here, went, locates-on, locates-stop}
+use Rattle.patch_locate.specs.SetPositions.{repeated-start, repeated-turn, repeated-end, within-is, patch-located}
 use Rattle.patch_locate.specs.declared.rules.Inside.the-variants as insides
 use borrow.Author.Needs.{needs}
 use Rattle.patch_locate.proofs.set.patches_at.Statement.{statement}
@@ -46,7 +46,7 @@ told c =
     let bs = drop (head c .loop .next) (set c) in
     c .within .ensures ∙ ap (withinTo (insides.Patch (head c .loop .i))) (c .before .patch-fields .ensures)
     ∙ within-is (length (set c)) (insides.Patch (head c .loop .i)) (patchFields (edition c) (head c .loop .i) bs)
-    ∙ ap (locatedAnswer (length (set c))) (patch-is (edition c) (head c .loop .i) bs)
+    ∙ ap (locatedAnswer (length (set c))) (patch-located (edition c) (head c .loop .i) bs)
 
 turn : (c : tie.After-within Inv-loop μ-loop) → locatedAnswer (length (set c)) (repeated (locatePatch (edition c)) (head c .loop .i) (head c .before .before .args .count - head c .loop .i) (drop (head c .loop .next) (set c)))
     ≡ locatedAnswer (length (set c)) ((one c ⨟ others c) (drop (head c .loop .next) (set c)))
@@ -73,7 +73,7 @@ returns : tie.Need-returns Inv-loop μ-loop
 returns c =
     let k = c .before .before .before in
     let bound = c .before .rule .given in
-    stops-there (one k) (others k) (set k) (head k .loop .next) (k .within .result) (told k) (bound .0 .0) (bound .0 .1 .0) (bound .0 .1 .1 .0) (bound .1)
+    locates-stop (one k) (others k) (set k) (head k .loop .next) (k .within .result) (told k) (bound .0 .0) (bound .0 .1 .0) (bound .0 .1 .1 .0) (bound .1)
     ∙ sym (turn k) ∙ head k .loop .inv .1 .1
 
 add-i : tie.Need-add-i Inv-loop μ-loop
@@ -90,7 +90,7 @@ loop-again c =
       went steady (set k) (head k .loop .next) (k .within .result) (told k) (bound .0 .0) (bound .1) .within,
       (
         omega arith,
-        goes-on steady (set k) (head k .loop .next) (k .within .result) (told k) (others k) (bound .0 .0) (bound .1) ∙ sym (turn k) ∙ head k .loop .inv .1 .1,
+        locates-on steady (set k) (head k .loop .next) (k .within .result) (told k) (others k) (bound .0 .0) (bound .1) ∙ sym (turn k) ∙ head k .loop .inv .1 .1,
       ),
     )
 

@@ -7,20 +7,20 @@ use native.Mathlib.Nat.{add-sub-cancel-left}
 use borrow.Author.Needs.{needs}
 use lib.ListN.{take, drop}
 use Rattle.projection_patch.specs.TextRule.{judgement}
-use Rattle.projection_patch.proofs.Texts.{judged-fits, judged-malformed, judged-many, unchecked, short, long, bad, many, placed, just-there}
+use Rattle.projection_patch.proofs.Texts.{judged-fits, judged-malformed, judged-many, unchecked, body-short, body-long, body-bad, body-many, body-placed, just-there}
 use Rattle.projection_patch.proofs.read_values.text_from.Statement.{statement}
 use Rattle.projection_patch.proofs.read_values.text_from.Tie as tie
 
 returns : tie.Need-returns
-returns c = let a = c .before .before .args in rw (short (a .strict) (a .part .now) (a .start) (a .len) (omega arith))
+returns c = let a = c .before .before .args in rw (body-short (a .strict) (a .part .now) (a .start) (a .len) (omega arith))
 
 returns-2 : tie.Need-returns-2
-returns-2 c = let a = c .before .before .before .args in rw (long (a .strict) (a .part .now) (a .start) (a .len) (omega arith) (omega arith))
+returns-2 c = let a = c .before .before .before .args in rw (body-long (a .strict) (a .part .now) (a .start) (a .len) (omega arith) (omega arith))
 
 returns-3 : tie.Need-returns-3
 returns-3 c =
     let a = c .before .before .before .before .args in
-    placed (a .strict) (a .part .now) (a .start) (a .len) (omega arith) (omega arith) (omega arith) (unchecked (a .strict) _ (c .if3 .taken))
+    body-placed (a .strict) (a .part .now) (a .start) (a .len) (omega arith) (omega arith) (omega arith) (unchecked (a .strict) _ (c .if3 .taken))
 
 abbrev begun : tie.After-judge-text → tie.Start
 begun k = k .before .before .before .before .before .before
@@ -40,20 +40,20 @@ returns-4 : tie.Need-returns-4
 returns-4 c =
     let k = c .before .before in
     let a = begun k .args in
-    placed (a .strict) (a .part .now) (a .start) (a .len) (omega arith) (omega arith) (omega arith)
+    body-placed (a .strict) (a .part .now) (a .start) (a .len) (omega arith) (omega arith) (omega arith)
     (judged-fits (a .strict) (text k) (k .before .before .if3 .left) (sym (asked k) ∙ c .enum-told .given .1))
 
 returns-5 : tie.Need-returns-5
 returns-5 c =
     let k = c .before .before in
     let a = begun k .args in
-    rw (bad (a .strict) (a .part .now) (a .start) (a .len) (omega arith) (omega arith) (judged-malformed (a .strict) (text k) (k .before .before .if3 .left) (sym (asked k) ∙ c .enum-told2 .given .1)))
+    rw (body-bad (a .strict) (a .part .now) (a .start) (a .len) (omega arith) (omega arith) (judged-malformed (a .strict) (text k) (k .before .before .if3 .left) (sym (asked k) ∙ c .enum-told2 .given .1)))
 
 returns-6 : tie.Need-returns-6
 returns-6 c =
     let k = c .before .before in
     let a = begun k .args in
-    rw (many (a .strict) (a .part .now) (a .start) (a .len) (omega arith) (omega arith) (judged-many (a .strict) (text k) (k .before .before .if3 .left) (sym (asked k) ∙ c .enum-told3 .given .1)))
+    rw (body-many (a .strict) (a .part .now) (a .start) (a .len) (omega arith) (omega arith) (judged-many (a .strict) (text k) (k .before .before .if3 .left) (sym (asked k) ∙ c .enum-told3 .given .1)))
 
 pub text-from-spec : {M : Type 1} → statement M
 text-from-spec =

@@ -6,8 +6,8 @@ use borrow.Author.Needs.{needs}
 use denote.Ref.{now}
 use Rattle.spec_decimal.specs.Decimal.{decimal}
 use Rattle.spec_listing.specs.Listing.{fields}
-use Rattle.bytes_printer.specs.PrintsLaws.{same-bytes}
-use Rattle.script_answers.proofs.Checks.{refused-lines, checked-lines}
+use Rattle.bytes_printer.specs.PrintsLaws.{prints-same}
+use Rattle.script_answers.proofs.Checks.{check-refused-lines, checked-lines}
 use Rattle.script_answers.proofs.check.print_check.Statement.{statement}
 use Rattle.script_answers.proofs.check.print_check.Tie as tie
 
@@ -25,7 +25,7 @@ returns-2 c =
     let told = call .before .before .before .before in
     let args = told .before .before .before .before .args in
     let number = ap (λ (n : ℕ). 75 ∷ fields (decimal n ∷ [])) (call .before .number .ensures) in
-    λ ed set h. same-bytes (number ∙ refused-lines ed set (args .answer) (now (args .records)) h _ (told .answer2 .given .1)) (call .print-number-line .ensures)
+    λ ed set h. prints-same (number ∙ check-refused-lines ed set (args .answer) (now (args .records)) h _ (told .answer2 .given .1)) (call .print-number-line .ensures)
 
 pub print-check-spec : {M : Type 1} → statement M
 print-check-spec =

@@ -6,7 +6,7 @@ use borrow.Author.Needs.{needs}
 use Rattle.spec_decimal.specs.Decimal.{decimal}
 use Rattle.spec_listing.specs.Listing.{fields}
 use Rattle.spec_replay.specs.Answers.{placeField, checkedLine}
-use Rattle.bytes_printer.specs.PrintsLaws.{_⨾_, same-bytes}
+use Rattle.bytes_printer.specs.PrintsLaws.{_⨾_, prints-same}
 use Rattle.script_answers.proofs.check.print_checked.Statement.{statement}
 use Rattle.script_answers.proofs.check.print_checked.Tie as tie
 
@@ -19,7 +19,7 @@ returns c =
     let zero = named .before .before .before .before in
     let letter = zero .before .before .before .before in
     λ f place count.
-    same-bytes (ap (λ (n : ℕ). 75 ∷ fields (decimal 0 ∷ placeField (f .place) ∷ decimal n ∷ [])) count)
+    prints-same (ap (λ (n : ℕ). 75 ∷ fields (decimal 0 ∷ placeField (f .place) ∷ decimal n ∷ [])) count)
     (letter .print-byte .ensures ⨾ zero .print-field-u64 .ensures ⨾ named .print-place .ensures (f .place) place ⨾ counted .print-field-u642 .ensures ⨾ end .print-newline .ensures)
 
 pub print-checked-spec : {M : Type 1} → statement M

@@ -10,7 +10,7 @@ use Rattle.spec_checks.specs.Finding.{Finding}
 use Rattle.spec_checks.specs.Answer.{recordLength, findingWords}
 use Rattle.spec_replay.specs.Answers.{findingLine}
 use Rattle.bytes_printer.specs.Prints.{Prints, Within}
-use Rattle.bytes_printer.specs.PrintsLaws.{same-bytes, lines-start, lines-turn, lines-end}
+use Rattle.bytes_printer.specs.PrintsLaws.{prints-same, lines-start, lines-turn, lines-end}
 use Rattle.script_answers.proofs.Records.{noFinding, words-there, finding-at}
 use Rattle.script_answers.proofs.check.print_findings.Statement.{statement}
 use Rattle.script_answers.proofs.check.print_findings.Tie as tie
@@ -78,7 +78,7 @@ loop-again c =
         search needs,
         λ fs counted words w.
             let same = ap findingLine (finding-at (now (args .records)) (args .count) fs counted words (at-loop .loop .i) (printed .before .before .before .before .before .loop-test .taken)) in
-            lines-turn findingLine fs (at-loop .loop .i) noFinding (omega arith) (at-loop .loop .inv .1 .1 fs counted words w) (same-bytes same (printed .print-finding .ensures)),
+            lines-turn findingLine fs (at-loop .loop .i) noFinding (omega arith) (at-loop .loop .inv .1 .1 fs counted words w) (prints-same same (printed .print-finding .ensures)),
       ),
     )
 

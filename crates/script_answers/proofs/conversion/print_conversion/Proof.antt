@@ -6,7 +6,7 @@ use native.Mathlib.Omega.{arith}
 use denote.Ref.{now}
 use Rattle.spec_decimal.specs.Decimal.{decimal}
 use Rattle.spec_listing.specs.Listing.{fields}
-use Rattle.bytes_printer.specs.PrintsLaws.{same-bytes}
+use Rattle.bytes_printer.specs.PrintsLaws.{prints-same}
 use Rattle.script_answers.proofs.Conversions.{converted-within, converted-line, conversion-refused}
 use borrow.Author.Needs.{needs}
 use Rattle.script_answers.proofs.conversion.print_conversion.Statement.{statement}
@@ -23,7 +23,7 @@ returns-2 c =
     let set = c .before .before in
     let told = set .before .before .before .before .before in
     let args = told .before .before .before .before .args in
-    λ conversion h. same-bytes (converted-line conversion (args .answer) (now (args .written)) h _ (told .answer .given .1)) (set .print-set .ensures)
+    λ conversion h. prints-same (converted-line conversion (args .answer) (now (args .written)) h _ (told .answer .given .1)) (set .print-set .ensures)
 
 returns-3 : tie.Need-returns-3
 returns-3 c =
@@ -31,7 +31,7 @@ returns-3 c =
     let told = call .before .before .before .before in
     let args = told .before .before .before .before .args in
     let number = ap (λ (n : ℕ). 84 ∷ fields (decimal n ∷ [])) (call .before .number .ensures) in
-    λ conversion h. same-bytes (number ∙ conversion-refused conversion (args .answer) (now (args .written)) h _ (told .answer2 .given .1)) (call .print-number-line .ensures)
+    λ conversion h. prints-same (number ∙ conversion-refused conversion (args .answer) (now (args .written)) h _ (told .answer2 .given .1)) (call .print-number-line .ensures)
 
 pub print-conversion-spec : {M : Type 1} → statement M
 print-conversion-spec =

@@ -6,7 +6,7 @@ use borrow.Author.Needs.{needs}
 use denote.Ref.{now}
 use Rattle.spec_decimal.specs.Decimal.{decimal}
 use Rattle.spec_listing.specs.Listing.{fields}
-use Rattle.bytes_printer.specs.PrintsLaws.{same-bytes}
+use Rattle.bytes_printer.specs.PrintsLaws.{prints-same}
 use Rattle.script_answers.proofs.DependencyLines.{never-lines, needs-counted, needs-lines, refusal-lines}
 use Rattle.script_answers.proofs.dependencies.print_dependencies.Statement.{statement}
 use Rattle.script_answers.proofs.dependencies.print_dependencies.Tie as tie
@@ -16,7 +16,7 @@ returns c =
     let call = c .before .before in
     let told = call .before .before .before in
     let args = told .before .before .before .before .args in
-    λ a h. same-bytes (never-lines a (args .answer) (now (args .written)) h _ _ (told .answer .given .1)) (call .print-never .ensures _)
+    λ a h. prints-same (never-lines a (args .answer) (now (args .written)) h _ _ (told .answer .given .1)) (call .print-never .ensures _)
 
 returns-2 : tie.Need-returns-2
 returns-2 c =
@@ -25,7 +25,7 @@ returns-2 c =
     let args = told .before .before .before .before .args in
     λ a h.
     let is = told .answer2 .given .1 in
-    same-bytes (needs-lines a (args .answer) (now (args .written)) h _ _ is) (call .print-needs .ensures (needs-counted a (args .answer) (now (args .written)) h _ _ is))
+    prints-same (needs-lines a (args .answer) (now (args .written)) h _ _ is) (call .print-needs .ensures (needs-counted a (args .answer) (now (args .written)) h _ _ is))
 
 returns-3 : tie.Need-returns-3
 returns-3 c =
@@ -33,7 +33,7 @@ returns-3 c =
     let told = call .before .before .before .before in
     let args = told .before .before .before .before .args in
     let number = ap (λ (n : ℕ). 68 ∷ fields (decimal n ∷ [])) (call .before .number .ensures) in
-    λ a h. same-bytes (number ∙ refusal-lines a (args .answer) (now (args .written)) h _ (told .answer3 .given .1)) (call .print-number-line .ensures)
+    λ a h. prints-same (number ∙ refusal-lines a (args .answer) (now (args .written)) h _ (told .answer3 .given .1)) (call .print-number-line .ensures)
 
 pub print-dependencies-spec : {M : Type 1} → statement M
 print-dependencies-spec =

@@ -9,7 +9,7 @@ use lib.ListN.{length, take}
 use Rattle.spec_dependencies.specs.Answer.{pairLength}
 use Rattle.spec_replay.specs.Answers.{keyLine, firstKeys}
 use Rattle.bytes_printer.specs.Prints.{Prints, Within}
-use Rattle.bytes_printer.specs.PrintsLaws.{same-bytes, lines-start, lines-turn, lines-end}
+use Rattle.bytes_printer.specs.PrintsLaws.{prints-same, lines-start, lines-turn, lines-end}
 use Rattle.script_answers.proofs.Keys.{no-key, keys-counted, key-at}
 use Rattle.script_answers.proofs.dependencies.print_keys.Statement.{statement}
 use Rattle.script_answers.proofs.dependencies.print_keys.Tie as tie
@@ -69,7 +69,7 @@ loop-again c =
         search needs,
         λ room w.
             let same = ap keyLine (key-at (args .count) (at-loop .loop .i) (now (args .words)) (omega arith)) in
-            lines-turn keyLine keys (at-loop .loop .i) no-key (omega (arith, keys-counted (args .count) (now (args .words)))) (at-loop .loop .inv .1 .1 room w) (same-bytes same (printed .print-key .ensures)),
+            lines-turn keyLine keys (at-loop .loop .i) no-key (omega (arith, keys-counted (args .count) (now (args .words)))) (at-loop .loop .inv .1 .1 room w) (prints-same same (printed .print-key .ensures)),
       ),
     )
 

@@ -5,7 +5,7 @@ use mathlib.Core.List.{List}
 use borrow.Author.Needs.{needs}
 use Rattle.spec_replay.specs.Answers.{cursorField}
 use Rattle.bytes_printer.specs.Prints.{spacedField}
-use Rattle.bytes_printer.specs.PrintsLaws.{same-bytes}
+use Rattle.bytes_printer.specs.PrintsLaws.{prints-same}
 use Rattle.session_lifecycle.specs.Meaning.{cursorOf}
 use Rattle.session_lifecycle.specs.declared.state.ProjectionReplayCursor.{ProjectionReplayCursor}
 use Rattle.script_answers.proofs.fields.print_cursor.Statement.{statement}
@@ -18,13 +18,13 @@ returns : tie.Need-returns
 unfolding cursorField cursorOf
 returns c =
     let call = c .before .before in
-    same-bytes (sym (ap place (call .before .before .before .enum-told .given .1))) (call .print-field-bytes .ensures)
+    prints-same (sym (ap place (call .before .before .before .enum-told .given .1))) (call .print-field-bytes .ensures)
 
 returns-2 : tie.Need-returns-2
 unfolding cursorField cursorOf
 returns-2 c =
     let call = c .before .before in
-    same-bytes (sym (ap place (call .before .before .before .cursor .given .1))) (call .print-field-u64 .ensures)
+    prints-same (sym (ap place (call .before .before .before .cursor .given .1))) (call .print-field-u64 .ensures)
 
 pub print-cursor-spec : {M : Type 1} → statement M
 print-cursor-spec =

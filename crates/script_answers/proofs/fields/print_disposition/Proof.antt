@@ -5,7 +5,7 @@ use mathlib.Core.List.{List}
 use borrow.Author.Needs.{needs}
 use Rattle.spec_replay.specs.Answers.{dispositionField}
 use Rattle.bytes_printer.specs.Prints.{spacedField}
-use Rattle.bytes_printer.specs.PrintsLaws.{same-bytes}
+use Rattle.bytes_printer.specs.PrintsLaws.{prints-same}
 use Rattle.session_lifecycle.specs.Meaning.{dispositionMeans}
 use Rattle.session_lifecycle.specs.declared.lifecycle.ShellTransitionDisposition.{ShellTransitionDisposition}
 use Rattle.script_answers.proofs.fields.print_disposition.Statement.{statement}
@@ -18,19 +18,19 @@ returns : tie.Need-returns
 unfolding dispositionField dispositionMeans
 returns c =
     let call = c .before .before in
-    same-bytes (sym (ap word (call .before .before .before .enum-told .given .1))) (call .print-field-bytes .ensures)
+    prints-same (sym (ap word (call .before .before .before .enum-told .given .1))) (call .print-field-bytes .ensures)
 
 returns-2 : tie.Need-returns-2
 unfolding dispositionField dispositionMeans
 returns-2 c =
     let call = c .before .before in
-    same-bytes (sym (ap word (call .before .before .before .enum-told2 .given .1))) (call .print-field-bytes2 .ensures)
+    prints-same (sym (ap word (call .before .before .before .enum-told2 .given .1))) (call .print-field-bytes2 .ensures)
 
 returns-3 : tie.Need-returns-3
 unfolding dispositionField dispositionMeans
 returns-3 c =
     let call = c .before .before in
-    same-bytes (sym (ap word (call .before .before .before .enum-told3 .given .1))) (call .print-field-bytes3 .ensures)
+    prints-same (sym (ap word (call .before .before .before .enum-told3 .given .1))) (call .print-field-bytes3 .ensures)
 
 pub print-disposition-spec : {M : Type 1} → statement M
 print-disposition-spec =

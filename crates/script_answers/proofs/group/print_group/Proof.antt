@@ -4,7 +4,7 @@ use mathlib.Core.Path.{sym, ap}
 use mathlib.Core.List.{List}
 use borrow.Author.Needs.{needs}
 use Rattle.spec_replay.specs.Answers.{groupLines}
-use Rattle.bytes_printer.specs.PrintsLaws.{same-bytes}
+use Rattle.bytes_printer.specs.PrintsLaws.{prints-same}
 use Rattle.session_group.specs.Groups.{groupAnswerOf}
 use Rattle.session_group.specs.declared.GroupAnswer.{GroupAnswer}
 use Rattle.script_answers.proofs.group.print_group.Statement.{statement}
@@ -17,19 +17,19 @@ returns : tie.Need-returns
 unfolding groupLines groupAnswerOf
 returns c =
     let call = c .before .before in
-    same-bytes (sym (ap lines (call .before .before .enum-told .given .1))) (call .print-number-line .ensures)
+    prints-same (sym (ap lines (call .before .before .enum-told .given .1))) (call .print-number-line .ensures)
 
 returns-2 : tie.Need-returns-2
 unfolding groupAnswerOf
 returns-2 c =
     let call = c .before .before in
-    same-bytes (sym (ap lines (call .before .before .before .answer .given .1))) (call .print-taken .ensures)
+    prints-same (sym (ap lines (call .before .before .before .answer .given .1))) (call .print-taken .ensures)
 
 returns-3 : tie.Need-returns-3
 unfolding groupAnswerOf
 returns-3 c =
     let call = c .before .before in
-    same-bytes (sym (ap lines (call .before .before .before .answer2 .given .1))) (call .print-refused .ensures)
+    prints-same (sym (ap lines (call .before .before .before .answer2 .given .1))) (call .print-refused .ensures)
 
 pub print-group-spec : {M : Type 1} → statement M
 print-group-spec =

@@ -6,8 +6,8 @@ use borrow.Author.Needs.{needs}
 use denote.Ref.{now}
 use Rattle.spec_decimal.specs.Decimal.{decimal}
 use Rattle.spec_listing.specs.Listing.{fields}
-use Rattle.bytes_printer.specs.PrintsLaws.{same-bytes}
-use Rattle.script_answers.specs.PageToldLaws.{keys-counted, keys-table, answered-lines, refused-lines}
+use Rattle.bytes_printer.specs.PrintsLaws.{prints-same}
+use Rattle.script_answers.specs.PageToldLaws.{page-keys-counted, keys-table, answered-lines, page-refused-lines}
 use Rattle.script_answers.proofs.page.print_page.Statement.{statement}
 use Rattle.script_answers.proofs.page.print_page.Tie as tie
 
@@ -18,8 +18,8 @@ returns c =
     let args = told .before .before .before .before .args in
     λ p k keys places h.
     let is = told .answer .given .1 in
-    same-bytes (answered-lines p k keys places (args .answer) (now (args .table)) h _ is)
-    (call .print-answered .ensures p k keys _ (h .valid) (keys-counted p k keys places (args .answer) (now (args .table)) h _ is) (keys-table p k keys places (args .answer) (now (args .table)) h _ is))
+    prints-same (answered-lines p k keys places (args .answer) (now (args .table)) h _ is)
+    (call .print-answered .ensures p k keys _ (h .valid) (page-keys-counted p k keys places (args .answer) (now (args .table)) h _ is) (keys-table p k keys places (args .answer) (now (args .table)) h _ is))
 
 returns-2 : tie.Need-returns-2
 returns-2 c =
@@ -27,7 +27,7 @@ returns-2 c =
     let told = call .before .before .before .before in
     let args = told .before .before .before .before .args in
     let number = ap (λ (n : ℕ). 89 ∷ fields (decimal n ∷ [])) (call .before .number .ensures) in
-    λ p k keys places h. same-bytes (number ∙ refused-lines p k keys places (args .answer) (now (args .table)) h _ (told .answer2 .given .1)) (call .print-number-line .ensures)
+    λ p k keys places h. prints-same (number ∙ page-refused-lines p k keys places (args .answer) (now (args .table)) h _ (told .answer2 .given .1)) (call .print-number-line .ensures)
 
 pub print-page-spec : {M : Type 1} → statement M
 print-page-spec =

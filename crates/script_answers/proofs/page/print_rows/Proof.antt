@@ -10,7 +10,7 @@ use Rattle.spec_projection.specs.Projection.{Projection}
 use Rattle.spec_projection.specs.Valid.{Valid}
 use Rattle.spec_page.specs.Page.{pageEntry}
 use Rattle.bytes_printer.specs.Prints.{Prints, Within}
-use Rattle.bytes_printer.specs.PrintsLaws.{same-bytes, lines-start, lines-turn, lines-end}
+use Rattle.bytes_printer.specs.PrintsLaws.{prints-same, lines-start, lines-turn, lines-end}
 use Rattle.panel_page.specs.PageTable.{pageWidth, pageBytes}
 use Rattle.panel_page.specs.PageTableLaws.{length-page, page-fits}
 use Rattle.script_answers.specs.PageTold.{rowLookupLine}
@@ -82,7 +82,7 @@ loop-again c =
             let inside : i < length keys = omega (arith, in-loop .loop-test .taken, counted) in
             let answer = pageEntry p k (getD keys i 0) in
             let looked = taken .read .ensures answer (page-fits p v k (getD keys i 0)) (lent-place p v k keys rest (now (args .table)) is i inside) in
-            lines-turn (lineOfKey p k) keys i 0 inside (at-loop .loop .inv .1 .1 p k keys rest v counted is w) (same-bytes (ap rowLookupLine looked ∙ row-looked-up answer) (printed .print-row .ensures)),
+            lines-turn (lineOfKey p k) keys i 0 inside (at-loop .loop .inv .1 .1 p k keys rest v counted is w) (prints-same (ap rowLookupLine looked ∙ row-looked-up answer) (printed .print-row .ensures)),
       ),
     )
 
@@ -93,7 +93,7 @@ returns-2 : tie.Need-returns-2 Inv-loop μ-loop
 returns-2 c =
     let at-loop = c .before in
     λ p k keys rest v counted is w.
-    same-bytes (lines-of-keys p k keys) (lines-end (lineOfKey p k) keys (at-loop .loop .i) (omega (arith, c .loop-test .left, counted)) (at-loop .loop .inv .1 .1 p k keys rest v counted is w))
+    prints-same (lines-of-keys p k keys) (lines-end (lineOfKey p k) keys (at-loop .loop .i) (omega (arith, c .loop-test .left, counted)) (at-loop .loop .inv .1 .1 p k keys rest v counted is w))
 
 pub print-rows-spec : {M : Type 1} → statement M
 print-rows-spec =

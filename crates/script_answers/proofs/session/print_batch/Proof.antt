@@ -5,7 +5,7 @@ use borrow.Author.Needs.{needs}
 use Rattle.spec_session.specs.Lifecycle.{Disposition}
 use Rattle.spec_listing.specs.Listing.{fields}
 use Rattle.spec_replay.specs.Answers.{cursorField, sessionFields, batchLine}
-use Rattle.bytes_printer.specs.PrintsLaws.{_⨾_, same-bytes}
+use Rattle.bytes_printer.specs.PrintsLaws.{_⨾_, prints-same}
 use Rattle.session_lifecycle.specs.Meaning.{dispositionMeans, diagnosticsMean, cursorOf}
 use Rattle.script_answers.specs.OpenFieldsLaws.{line}
 use Rattle.script_answers.proofs.session.print_batch.Statement.{statement}
@@ -23,7 +23,7 @@ returns c =
     let diagnostics = diagnosticsMean (result .diagnostics) in
     let more = cursorField (cursorOf (result .«replay_cursor»)) ∷ [] in
     let first = sessionFields (dispositionMeans (turned .transition-disposition .result)) diagnostics [] in
-    same-bytes (ap (λ (d : Disposition). 82 ∷ fields (sessionFields d diagnostics more)) (turned .transition-disposition .ensures))
+    prints-same (ap (λ (d : Disposition). 82 ∷ fields (sessionFields d diagnostics more)) (turned .transition-disposition .ensures))
     (letter .print-byte .ensures ⨾ line first more (outcome .print-outcome .ensures) (place .print-cursor .ensures ⨾ end .print-newline .ensures))
 
 pub print-batch-spec : {M : Type 1} → statement M

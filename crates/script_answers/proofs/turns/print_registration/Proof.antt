@@ -6,7 +6,7 @@ use borrow.Author.Needs.{needs}
 use Rattle.spec_decimal.specs.Decimal.{decimal}
 use Rattle.spec_listing.specs.Listing.{fields}
 use Rattle.spec_replay.specs.Answers.{registerLine}
-use Rattle.bytes_printer.specs.PrintsLaws.{same-bytes}
+use Rattle.bytes_printer.specs.PrintsLaws.{prints-same}
 use Rattle.session_turns.specs.declared.RegisterAnswer.{RegisterAnswer}
 use Rattle.script_answers.specs.TurnAnswers.{registerAnswerOf}
 use Rattle.script_answers.proofs.turns.print_registration.Statement.{statement}
@@ -19,14 +19,14 @@ returns : tie.Need-returns
 unfolding registerLine
 returns c =
     let call = c .before .before in
-    same-bytes (sym (ap line (call .before .before .enum-told .given .1))) (call .print-number-line .ensures)
+    prints-same (sym (ap line (call .before .before .enum-told .given .1))) (call .print-number-line .ensures)
 
 returns-2 : tie.Need-returns-2
 unfolding registerLine
 returns-2 c =
     let call = c .before .before in
     let number = ap (λ (n : ℕ). 74 ∷ fields (decimal n ∷ [])) (call .before .number .ensures) in
-    same-bytes (number ∙ sym (ap line (call .before .before .before .before .answer .given .1))) (call .print-number-line2 .ensures)
+    prints-same (number ∙ sym (ap line (call .before .before .before .before .answer .given .1))) (call .print-number-line2 .ensures)
 
 pub print-registration-spec : {M : Type 1} → statement M
 print-registration-spec =

@@ -5,7 +5,7 @@ use mathlib.Core.List.{List}
 use borrow.Author.Needs.{needs}
 use Rattle.spec_listing.specs.Listing.{fields}
 use Rattle.spec_replay.specs.Answers.{turnLine}
-use Rattle.bytes_printer.specs.PrintsLaws.{_⨾_, same-bytes}
+use Rattle.bytes_printer.specs.PrintsLaws.{_⨾_, prints-same}
 use Rattle.session_turns.specs.declared.TurnAnswer.{TurnAnswer}
 use Rattle.session_turns.specs.Runs.{turnAnswerOf}
 use Rattle.script_answers.proofs.turns.print_turn.Statement.{statement}
@@ -21,7 +21,7 @@ returns c =
     let word = end .before .before .before .before in
     let told = word .before .before .before in
     let letter = told .before .before .before .before in
-    same-bytes (sym (ap line (told .enum-told .given .1))) (letter .print-byte .ensures ⨾ word .print-field-bytes .ensures ⨾ end .print-newline .ensures)
+    prints-same (sym (ap line (told .enum-told .given .1))) (letter .print-byte .ensures ⨾ word .print-field-bytes .ensures ⨾ end .print-newline .ensures)
 
 returns-2 : tie.Need-returns-2
 unfolding turnLine fields
@@ -31,7 +31,7 @@ returns-2 c =
     let sender = number .before .before .before .before in
     let told = sender .before .before .before in
     let letter = told .before .before .before .before in
-    same-bytes (sym (ap line (told .answer .given .1))) (letter .print-byte .ensures ⨾ sender .print-field-u64 .ensures ⨾ number .print-field-u642 .ensures ⨾ end .print-newline2 .ensures)
+    prints-same (sym (ap line (told .answer .given .1))) (letter .print-byte .ensures ⨾ sender .print-field-u64 .ensures ⨾ number .print-field-u642 .ensures ⨾ end .print-newline2 .ensures)
 
 pub print-turn-spec : {M : Type 1} → statement M
 print-turn-spec =

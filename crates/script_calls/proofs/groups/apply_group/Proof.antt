@@ -2,8 +2,8 @@
 use mathlib.Core.Path.{refl, ap}
 use Rattle.spec_replay.specs.Replay.{grouped}
 use Rattle.spec_replay.specs.Answers.{groupLines}
-use Rattle.bytes_printer.specs.PrintsLaws.{same-bytes}
-use Rattle.script_calls.specs.ReplayHoldsLaws.{asked-there, asked-nowhere, goes-on, holds-latest}
+use Rattle.bytes_printer.specs.PrintsLaws.{prints-same}
+use Rattle.script_calls.specs.ReplayHoldsLaws.{asked-there, asked-nowhere, step-goes-on, holds-latest}
 use borrow.Author.Needs.{needs}
 use Rattle.script_calls.proofs.groups.apply_group.Statement.{statement}
 use Rattle.script_calls.proofs.groups.apply_group.Tie as tie
@@ -15,7 +15,7 @@ returns c =
     let there = c .before .before .before .before .before .before .before .before .if1 .taken in
     λ m h bs names. asked-there (a .state) m h _ _ _ _ there (λ x held.
     let got = c .before .before .before .before .before .before .apply-projection-patch-batches .ensures .0 .became x held bs names in
-    goes-on refl (rw (c .with-latest .ensures) (holds-latest (a .state) m h _ _ there (got .next))) (same-bytes (ap groupLines (got .answer)) (c .before .before .before .before .print-group .ensures)))
+    step-goes-on refl (rw (c .with-latest .ensures) (holds-latest (a .state) m h _ _ there (got .next))) (prints-same (ap groupLines (got .answer)) (c .before .before .before .before .print-group .ensures)))
 
 returns-2 : tie.Need-returns-2
 returns-2 c = λ m h bs names. asked-nowhere (c .before .before .before .before .before .before .before .args .state) m h _ _ _ _ (c .before .before .before .before .if1 .left) (c .before .before .no-session .ensures m h)

@@ -1,6 +1,6 @@
 -- `script_calls::pages::look_up` meets its contract: the session there is is looked into, and stays.
 use mathlib.Core.Path.{refl}
-use Rattle.script_calls.specs.ReplayHoldsLaws.{asked-there, asked-nowhere, goes-on}
+use Rattle.script_calls.specs.ReplayHoldsLaws.{asked-there, asked-nowhere, step-goes-on}
 use borrow.Author.Needs.{needs}
 use Rattle.script_calls.proofs.pages.look_up.Statement.{statement}
 use Rattle.script_calls.proofs.pages.look_up.Tie as tie
@@ -10,7 +10,7 @@ returns c =
     let call = c .before .before in
     let test = call .before .before .before in
     let args = test .before .before .before .args in
-    λ m h. asked-there (args .state) m h _ _ _ _ (test .if1 .taken) (λ x held. goes-on refl h (call .page-into .ensures x held))
+    λ m h. asked-there (args .state) m h _ _ _ _ (test .if1 .taken) (λ x held. step-goes-on refl h (call .page-into .ensures x held))
 
 returns-2 : tie.Need-returns-2
 returns-2 c = λ m h. asked-nowhere (c .before .before .before .before .before .before .before .args .state) m h _ _ _ _ (c .before .before .before .before .if1 .left) (c .before .before .no-session .ensures m h)

@@ -9,7 +9,7 @@ use lib.ListN.{length, take, drop, replicate, length-replicate}
 use lib.Seq.{length-take-le}
 use Rattle.spec_page.specs.Page.{page}
 use Rattle.spec_replay.specs.Answers.{pageLines}
-use Rattle.bytes_printer.specs.PrintsLaws.{same-bytes}
+use Rattle.bytes_printer.specs.PrintsLaws.{prints-same}
 use Rattle.panel_page.specs.PageTable.{pageWidth}
 use Rattle.script_calls.proofs.pages.page_into.Statement.{statement}
 use Rattle.script_calls.proofs.pages.page_into.Tie as tie
@@ -27,7 +27,7 @@ returns c =
     let printed = c .before .before .before in
     let start = printed .before .before .before .before .before in
     let args = start .args in
-    λ m h. same-bytes (ap (λ (n : ℕ). pageLines (length (now (args .keys))) (page (m .projection) (args .collection) (now (args .keys)) (replicate n none))) (lent-places 67072 (args .room) (omega (arith, few start)))) (printed .page-lent .ensures m h)
+    λ m h. prints-same (ap (λ (n : ℕ). pageLines (length (now (args .keys))) (page (m .projection) (args .collection) (now (args .keys)) (replicate n none))) (lent-places 67072 (args .room) (omega (arith, few start)))) (printed .page-lent .ensures m h)
 
 pub page-into-spec : {M : Type 1} → statement M
 page-into-spec =

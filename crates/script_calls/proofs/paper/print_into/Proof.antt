@@ -9,7 +9,7 @@ use lib.Seq.{length-take-le}
 use Rattle.spec_panel_print.specs.Print.{collectionPrint}
 use Rattle.spec_panel_print.specs.PrintSizes.{printBytes}
 use Rattle.spec_panel_print.specs.PrintSizesLaws.{print-fits}
-use Rattle.bytes_printer.specs.PrintsLaws.{same-bytes}
+use Rattle.bytes_printer.specs.PrintsLaws.{prints-same}
 use Rattle.script_calls.specs.PaperLaws.{longest-suffices}
 use Rattle.script_calls.proofs.paper.print_into.Statement.{statement}
 use Rattle.script_calls.proofs.paper.print_into.Tie as tie
@@ -29,7 +29,7 @@ returns c =
     let args = room .before .before .args in
     λ m h.
     let size = lent-length printBytes (room .lent-bytes .result) (room .lent-bytes .ensures .1) ∙ room .lent-bytes .ensures .0 in
-    same-bytes (longest-suffices (args .room) _ (collectionPrint (m .projection) (args .collection)) size (print-fits (m .projection) (args .collection) (h .projection .tables .valid))) (printed .print-lent .ensures m h)
+    prints-same (longest-suffices (args .room) _ (collectionPrint (m .projection) (args .collection)) size (print-fits (m .projection) (args .collection) (h .projection .tables .valid))) (printed .print-lent .ensures m h)
 
 pub print-into-spec : {M : Type 1} → statement M
 print-into-spec =

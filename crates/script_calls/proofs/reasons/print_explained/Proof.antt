@@ -2,7 +2,7 @@
 use mathlib.Core.Path.{ap, _∙_}
 use Rattle.spec_explain.specs.Explain.{Explanation}
 use Rattle.spec_replay.specs.Reasons.{reasonLine}
-use Rattle.bytes_printer.specs.PrintsLaws.{same-bytes}
+use Rattle.bytes_printer.specs.PrintsLaws.{prints-same}
 use Rattle.session_explain.specs.Meaning.{explanationOf}
 use Rattle.session_explain.specs.MeaningLaws.{explanation-back}
 use borrow.Author.Needs.{needs}
@@ -13,7 +13,7 @@ returns : tie.Need-returns
 returns c =
     let line = c .before .before in
     let told = line .before .before in
-    λ m h. same-bytes (ap (λ x. reasonLine (explanationOf x)) (told .explain-batch .ensures m h) ∙ ap reasonLine (explanation-back _)) (line .print-reason .ensures)
+    λ m h. prints-same (ap (λ x. reasonLine (explanationOf x)) (told .explain-batch .ensures m h) ∙ ap reasonLine (explanation-back _)) (line .print-reason .ensures)
 
 pub print-explained-spec : {M : Type 1} → statement M
 print-explained-spec =

@@ -1,7 +1,7 @@
 -- `script_parser::imports::import_command` meets its contract: the numbers are those that are given.
 use Rattle.spec_replay.specs.Script.{importList}
 use Rattle.projection_patch.specs.Meaning.{surfaceOf}
-use Rattle.script_parser.specs.Forms.{at}
+use Rattle.script_parser.specs.Forms.{numberIn}
 use Rattle.script_parser.specs.Meaning.{setFrom}
 use borrow.Author.Needs.{needs}
 use Rattle.script_parser.proofs.imports.import_command.Statement.{statement}
@@ -16,7 +16,7 @@ returns c =
     let stream = document .before in
     let id = stream .before in
     let args = id .before .args in
-    λ line i. setFrom line (args .from) (importList (args .room) (at (args .t2) 0)
+    λ line i. setFrom line (args .from) (importList (args .room) (numberIn (args .t2) 0)
     (record {
       id = id .new .ensures i;
       stream = stream .new2 .ensures i;

@@ -9,7 +9,7 @@ use Rattle.spec_lists.specs.Lists.{if_then_else_}
 use Rattle.spec_replay.specs.Lines.{space}
 use Rattle.spec_replay.specs.Script.{Command, page, other, upToEnd, placesOfPage, lineKeys, pageArguments}
 use Rattle.script_parser.specs.Fields.{fieldsAfter}
-use Rattle.script_parser.specs.Forms.{at}
+use Rattle.script_parser.specs.Forms.{numberIn}
 use Rattle.script_parser.specs.Keys.{pageThen}
 use Rattle.script_parser.specs.KeysLaws.{keysBehindRoom, page-numbers, no-page-then}
 use Rattle.script_parser.specs.FormsLaws.{fits-bound, exceeds-bound}
@@ -35,8 +35,8 @@ returns c =
     let numbers = read .read-numbers .result in (
       by-numbers read
           ∙ ap (λ (t : Bool). if t then keysBehindRoom (numbers .values) (fieldsAfter space line (numbers .end)) else other) (c .before .if1 .taken)
-          ∙ sym (fits-bound placesOfPage (at (numbers .values) 1) (λ room. upToEnd lineKeys (page (at (numbers .values) 0) room) (fieldsAfter space line (numbers .end))) (c .if2 .taken))
-          ∙ keys .read-keys .ensures .0 (page (at (numbers .values) 0) (at (numbers .values) 1)),
+          ∙ sym (fits-bound placesOfPage (numberIn (numbers .values) 1) (λ room. upToEnd lineKeys (page (numberIn (numbers .values) 0) room) (fieldsAfter space line (numbers .end))) (c .if2 .taken))
+          ∙ keys .read-keys .ensures .0 (page (numberIn (numbers .values) 0) (numberIn (numbers .values) 1)),
       keys .read-keys .ensures .1,
     )
 
@@ -50,7 +50,7 @@ returns-2 c =
     no-page (c .no-page .result) (keys .read-keys .result) (keys .read-keys .ensures .1) (c .no-page .ensures)
     (by-numbers read
     ∙ ap (λ (t : Bool). if t then keysBehindRoom (numbers .values) (fieldsAfter space line (numbers .end)) else other) (test .before .if1 .taken)
-    ∙ sym (exceeds-bound placesOfPage (at (numbers .values) 1) (λ room. upToEnd lineKeys (page (at (numbers .values) 0) room) (fieldsAfter space line (numbers .end))) (test .if2 .left)))
+    ∙ sym (exceeds-bound placesOfPage (numberIn (numbers .values) 1) (λ room. upToEnd lineKeys (page (numberIn (numbers .values) 0) room) (fieldsAfter space line (numbers .end))) (test .if2 .left)))
 
 returns-3 : tie.Need-returns-3
 returns-3 c =

@@ -7,7 +7,7 @@ use Rattle.spec_lists.specs.Lists.{if_then_else_}
 use Rattle.spec_group.specs.Group.{GroupBatch}
 use Rattle.spec_replay.specs.Script.{Command, other, end, comma, memberParts}
 use Rattle.script_parser.specs.Fields.{fieldsAfter}
-use Rattle.script_parser.specs.FieldsLaws.{ended, not-ended}
+use Rattle.script_parser.specs.FieldsLaws.{fields-ended, fields-not-ended}
 use Rattle.script_parser.specs.Members.{memberMade}
 use Rattle.script_parser.specs.MembersLaws.{member-numbers}
 use borrow.Author.Needs.{needs}
@@ -23,7 +23,7 @@ returns c next =
     let test = c .before .before in
     let read = test .before in
     by-numbers read next ∙ ap (λ (t : Bool). if t then end (memberMade (read .read-numbers .result .values) next) (fieldsAfter comma (read .before .before .args .part .now) (read .read-numbers .result .end)) else other) (test .if1 .taken)
-    ∙ not-ended comma (read .before .before .args .part .now) (read .read-numbers .result .end) _ (c .if2 .taken)
+    ∙ fields-not-ended comma (read .before .before .args .part .now) (read .read-numbers .result .end) _ (c .if2 .taken)
 
 returns-2 : tie.Need-returns-2
 returns-2 c next =
@@ -31,7 +31,7 @@ returns-2 c next =
     let test = over .before .before in
     let read = test .before in
     by-numbers read next ∙ ap (λ (t : Bool). if t then end (memberMade (read .read-numbers .result .values) next) (fieldsAfter comma (read .before .before .args .part .now) (read .read-numbers .result .end)) else other) (test .if1 .taken)
-    ∙ ended comma (read .before .before .args .part .now) (read .read-numbers .result .end) _ (over .if2 .left)
+    ∙ fields-ended comma (read .before .before .args .part .now) (read .read-numbers .result .end) _ (over .if2 .left)
     ∙ sym (c .member-of .ensures next)
 
 returns-3 : tie.Need-returns-3

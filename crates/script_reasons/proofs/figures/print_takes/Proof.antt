@@ -4,7 +4,7 @@ use mathlib.Core.Path.{sym, ap}
 use mathlib.Core.List.{List, [], _∷_}
 use Rattle.spec_listing.specs.Listing.{fields}
 use Rattle.spec_replay.specs.Reasons.{takesField}
-use Rattle.bytes_printer.specs.PrintsLaws.{_⨾_, same-bytes}
+use Rattle.bytes_printer.specs.PrintsLaws.{_⨾_, prints-same}
 use Rattle.projection_patch.specs.ReadAnswers.{optionalOf}
 use Rattle.projection_patch.specs.declared.read_values.OptionalNumber.{OptionalNumber}
 use borrow.Author.Needs.{needs}
@@ -16,11 +16,11 @@ word x = fields (takesField (optionalOf x) ∷ [])
 
 returns : tie.Need-returns
 unfolding fields takesField
-returns c = same-bytes (sym (ap word (c .before .before .before .before .enum-told .given .1))) (c .before .before .print-none .ensures)
+returns c = prints-same (sym (ap word (c .before .before .before .before .enum-told .given .1))) (c .before .before .print-none .ensures)
 
 returns-2 : tie.Need-returns-2
 unfolding fields takesField
-returns-2 c = same-bytes (sym (ap word (c .before .before .before .before .before .before .before .before .before .takes .given .1))) (c .before .before .before .before .before .before .print-field-u64 .ensures ⨾ c .before .before .print-newline .ensures)
+returns-2 c = prints-same (sym (ap word (c .before .before .before .before .before .before .before .before .before .takes .given .1))) (c .before .before .before .before .before .before .print-field-u64 .ensures ⨾ c .before .before .print-newline .ensures)
 
 pub print-takes-spec : {M : Type 1} → statement M
 print-takes-spec =

@@ -4,7 +4,7 @@ use mathlib.Core.Path.{sym, ap}
 use mathlib.Core.List.{List}
 use Rattle.spec_explain.specs.Reason.{limitWord}
 use Rattle.bytes_printer.specs.Prints.{spacedField}
-use Rattle.bytes_printer.specs.PrintsLaws.{same-bytes}
+use Rattle.bytes_printer.specs.PrintsLaws.{prints-same}
 use Rattle.session_explain.specs.declared.reasons.DeclaredLimit.{DeclaredLimit}
 use Rattle.session_explain.specs.Meaning.{limitOf}
 use borrow.Author.Needs.{needs}
@@ -15,13 +15,13 @@ abbrev word : DeclaredLimit → List ℕ
 word x = spacedField (limitWord (limitOf x))
 
 returns : tie.Need-returns
-returns c = same-bytes (sym (ap word (c .before .before .before .before .before .enum-told .given .1))) (c .before .before .print-field-bytes .ensures)
+returns c = prints-same (sym (ap word (c .before .before .before .before .before .enum-told .given .1))) (c .before .before .print-field-bytes .ensures)
 
 returns-2 : tie.Need-returns-2
-returns-2 c = same-bytes (sym (ap word (c .before .before .before .before .before .enum-told2 .given .1))) (c .before .before .print-field-bytes2 .ensures)
+returns-2 c = prints-same (sym (ap word (c .before .before .before .before .before .enum-told2 .given .1))) (c .before .before .print-field-bytes2 .ensures)
 
 returns-3 : tie.Need-returns-3
-returns-3 c = same-bytes (sym (ap word (c .before .before .before .before .before .enum-told3 .given .1))) (c .before .before .print-field-bytes3 .ensures)
+returns-3 c = prints-same (sym (ap word (c .before .before .before .before .before .enum-told3 .given .1))) (c .before .before .print-field-bytes3 .ensures)
 
 pub print-limit-spec : {M : Type 1} → statement M
 print-limit-spec =

@@ -8,7 +8,7 @@ use denote.Ref.{now}
 use lib.ListN.{take, drop, replicate}
 use Rattle.spec_dependencies.specs.Answer.{dependenciesOf}
 use Rattle.spec_replay.specs.Answers.{dependencyLines}
-use Rattle.bytes_printer.specs.PrintsLaws.{same-bytes}
+use Rattle.bytes_printer.specs.PrintsLaws.{prints-same}
 use Rattle.projection_patch.specs.Meaning.{editionOf}
 use Rattle.script_replay.proofs.dependency_lines.depends_into.Statement.{statement}
 use Rattle.script_replay.proofs.dependency_lines.depends_into.Tie as tie
@@ -28,7 +28,7 @@ returns : tie.Need-returns
 returns c =
     let printed = c .before .before .before in
     let args = printed .before .before .before .before .before .args in
-    same-bytes (ap (λ (l : List ℕ). dependencyLines (dependenciesOf (editionOf (args .edition)) (now (args .set)) l)) (lent-zeros 65536 (args .room) (search needs))) (printed .print-told .ensures)
+    prints-same (ap (λ (l : List ℕ). dependencyLines (dependenciesOf (editionOf (args .edition)) (now (args .set)) l)) (lent-zeros 65536 (args .room) (search needs))) (printed .print-told .ensures)
 
 pub depends-into-spec : {M : Type 1} → statement M
 depends-into-spec =

@@ -6,7 +6,7 @@ use borrow.Author.Needs.{needs}
 use Rattle.spec_replay.specs.Script.{lineMembers, group}
 use Rattle.spec_replay.specs.Replay.{replayLine}
 use Rattle.script_parser.specs.Meaning.{firstMembers}
-use Rattle.script_replay.specs.LineLaws.{line-step, set-is, set-within, no-set, has-room}
+use Rattle.script_replay.specs.LineLaws.{line-step, set-is, set-within, no-set-bytes, line-has-room}
 use Rattle.script_replay.specs.GroupLaws.{names-members}
 use Rattle.script_replay.proofs.group_lines.send_group.Statement.{statement}
 use Rattle.script_replay.proofs.group_lines.send_group.Tie as tie
@@ -40,7 +40,7 @@ returns-2 c =
     let read = told .before .before .before in
     let d = read .decode-set in
     let a = read .before .before .before .before .before .args in
-    λ m h short few. line-step (a .number) m _ _ (sym (no-set (a .line .now) (a .from) (group (firstMembers (a .count) (a .members))) (replicate 65536 0) (a .line .now) (d .result) (d .ensures .0) (told .enum-told .given .1))) (c .before .before .other .ensures)
+    λ m h short few. line-step (a .number) m _ _ (sym (no-set-bytes (a .line .now) (a .from) (group (firstMembers (a .count) (a .members))) (replicate 65536 0) (a .line .now) (d .result) (d .ensures .0) (told .enum-told .given .1))) (c .before .before .other .ensures)
 
 returns-3 : tie.Need-returns-3
 returns-3 c =
@@ -48,7 +48,7 @@ returns-3 c =
     let read = told .before .before .before in
     let d = read .decode-set in
     let a = read .before .before .before .before .before .args in
-    λ m h short few. absurd (has-room (a .line .now) (a .from) (group (firstMembers (a .count) (a .members))) (replicate 65536 0) (a .line .now) (d .result) (d .ensures .0) (search needs) short (told .enum-told2 .given .1))
+    λ m h short few. absurd (line-has-room (a .line .now) (a .from) (group (firstMembers (a .count) (a .members))) (replicate 65536 0) (a .line .now) (d .result) (d .ensures .0) (search needs) short (told .enum-told2 .given .1))
 
 pub send-group-spec : {M : Type 1} → statement M
 send-group-spec =

@@ -8,7 +8,7 @@ use lib.ListN.{length, take, drop, replicate, length-replicate}
 use lib.Seq.{length-take-le}
 use Rattle.spec_import.specs.Import.{importTerms}
 use Rattle.spec_replay.specs.Answers.{importLine}
-use Rattle.bytes_printer.specs.PrintsLaws.{same-bytes}
+use Rattle.bytes_printer.specs.PrintsLaws.{prints-same}
 use Rattle.projection_patch.specs.Meaning.{editionOf, envelopeOf}
 use Rattle.script_replay.proofs.import_lines.import_into.Statement.{statement}
 use Rattle.script_replay.proofs.import_lines.import_into.Tie as tie
@@ -26,7 +26,7 @@ returns c =
     let printed = c .before .before .before in
     let start = printed .before .before .before .before .before .before .before in
     let args = start .args in
-    same-bytes (ap (λ (n : ℕ). importLine (importTerms (editionOf (args .edition)) (args .wanted .collection) (envelopeOf (args .wanted .envelope)) (now (args .list)) n)) (lent-length 65536 (args .wanted .room) (few start))) (printed .print-imported .ensures)
+    prints-same (ap (λ (n : ℕ). importLine (importTerms (editionOf (args .edition)) (args .wanted .collection) (envelopeOf (args .wanted .envelope)) (now (args .list)) n)) (lent-length 65536 (args .wanted .room) (few start))) (printed .print-imported .ensures)
 
 pub import-into-spec : {M : Type 1} → statement M
 import-into-spec =

@@ -8,7 +8,7 @@ use lib.ListN.{length, take, drop, replicate, length-replicate}
 use lib.Seq.{length-take-le}
 use Rattle.spec_conversion.specs.Conversion.{convert}
 use Rattle.spec_replay.specs.Answers.{conversionLine}
-use Rattle.bytes_printer.specs.PrintsLaws.{same-bytes}
+use Rattle.bytes_printer.specs.PrintsLaws.{prints-same}
 use Rattle.projection_patch.specs.Meaning.{editionOf}
 use Rattle.script_replay.proofs.set_lines.convert_into.Statement.{statement}
 use Rattle.script_replay.proofs.set_lines.convert_into.Tie as tie
@@ -22,7 +22,7 @@ returns : tie.Need-returns
 returns c =
     let printed = c .before .before .before in
     let args = printed .before .before .before .before .before .args in
-    same-bytes (ap (λ (n : ℕ). conversionLine (convert (editionOf (args .edition)) (now (args .set)) n)) (lent-length 65536 (args .room) (search needs))) (printed .print-converted .ensures)
+    prints-same (ap (λ (n : ℕ). conversionLine (convert (editionOf (args .edition)) (now (args .set)) n)) (lent-length 65536 (args .room) (search needs))) (printed .print-converted .ensures)
 
 pub convert-into-spec : {M : Type 1} → statement M
 convert-into-spec =

@@ -4,7 +4,7 @@ use native.Mathlib.Omega.{arith}
 use lib.ListN.{replicate}
 use Rattle.spec_replay.specs.Replay.{replayLine}
 use Rattle.script_parser.specs.Meaning.{withSetOf}
-use Rattle.script_replay.specs.LineLaws.{line-step, set-is, set-within, no-set, has-room}
+use Rattle.script_replay.specs.LineLaws.{line-step, set-is, set-within, no-set-bytes, line-has-room}
 use borrow.Author.Needs.{needs}
 use Rattle.script_replay.proofs.set_lines.run_with_set.Statement.{statement}
 use Rattle.script_replay.proofs.set_lines.run_with_set.Tie as tie
@@ -28,13 +28,13 @@ unfolding replayLine
 returns-2 c =
     let a = c .before .before .before .before .before .before .before .before .before .before .before .args in
     let d = c .before .before .before .before .before .before .before .decode-set in
-    λ m h short. line-step (a .number) m _ _ (sym (no-set (a .line .now) (a .from) (withSetOf (a .wanted)) (replicate 65536 0) (a .line .now) (d .result) (d .ensures .0) (c .before .before .before .before .enum-told .given .1))) (c .before .before .other .ensures)
+    λ m h short. line-step (a .number) m _ _ (sym (no-set-bytes (a .line .now) (a .from) (withSetOf (a .wanted)) (replicate 65536 0) (a .line .now) (d .result) (d .ensures .0) (c .before .before .before .before .enum-told .given .1))) (c .before .before .other .ensures)
 
 returns-3 : tie.Need-returns-3
 returns-3 c =
     let a = c .before .before .before .before .before .before .before .before .before .before .before .args in
     let d = c .before .before .before .before .before .before .before .decode-set in
-    λ m h short. absurd (has-room (a .line .now) (a .from) (withSetOf (a .wanted)) (replicate 65536 0) (a .line .now) (d .result) (d .ensures .0) (search needs) short (c .before .before .before .before .enum-told2 .given .1))
+    λ m h short. absurd (line-has-room (a .line .now) (a .from) (withSetOf (a .wanted)) (replicate 65536 0) (a .line .now) (d .result) (d .ensures .0) (search needs) short (c .before .before .before .before .enum-told2 .given .1))
 
 pub run-with-set-spec : {M : Type 1} → statement M
 run-with-set-spec =

@@ -9,7 +9,7 @@ use Rattle.spec_import.specs.Import.{importTerms}
 use Rattle.spec_listing.specs.Listing.{listing}
 use Rattle.spec_replay.specs.Answers.{checkLines, conversionLine, dependencyLines, importLine}
 use Rattle.spec_replay.specs.Replay.{replayLine}
-use Rattle.bytes_printer.specs.PrintsLaws.{same-bytes}
+use Rattle.bytes_printer.specs.PrintsLaws.{prints-same}
 use Rattle.projection_patch.specs.Meaning.{envelopeOf}
 use Rattle.script_parser.specs.Meaning.{withSetOf}
 use Rattle.script_parser.specs.declared.SetLine.{SetLine}
@@ -32,7 +32,7 @@ returns-2 c =
     let told = checked .before .before in
     let set = told .before .before .before .before .args .set .now in
     λ m h n. line-step n m _ _ (ap (λ (w : SetLine). withSetOf w set) (sym (told .enum-told .given .1)))
-    (c .answered .ensures m h _ _ _ (same-bytes (ap (λ (ed : Edition). checkLines (readSet ed set)) (h .edition-is)) (checked .print-checked .ensures)))
+    (c .answered .ensures m h _ _ _ (prints-same (ap (λ (ed : Edition). checkLines (readSet ed set)) (h .edition-is)) (checked .print-checked .ensures)))
 
 returns-3 : tie.Need-returns-3
 unfolding replayLine
@@ -41,7 +41,7 @@ returns-3 c =
     let told = listed .before .before in
     let set = told .before .before .before .before .args .set .now in
     λ m h n. line-step n m _ _ (ap (λ (w : SetLine). withSetOf w set) (sym (told .enum-told2 .given .1)))
-    (c .answered2 .ensures m h _ _ _ (same-bytes (ap (λ (ed : Edition). listing ed set) (h .edition-is)) (listed .print-listing .ensures)))
+    (c .answered2 .ensures m h _ _ _ (prints-same (ap (λ (ed : Edition). listing ed set) (h .edition-is)) (listed .print-listing .ensures)))
 
 returns-4 : tie.Need-returns-4
 unfolding replayLine
@@ -50,7 +50,7 @@ returns-4 c =
     let told = converted .before .before .before in
     let set = told .before .before .before .before .args .set .now in
     λ m h n. line-step n m _ _ (ap (λ (w : SetLine). withSetOf w set) (sym (told .wanted2 .given .1)))
-    (c .answered3 .ensures m h _ _ _ (same-bytes (ap (λ (ed : Edition). conversionLine (convert ed set (told .wanted2 .given .0 .0))) (h .edition-is)) (converted .convert-into .ensures)))
+    (c .answered3 .ensures m h _ _ _ (prints-same (ap (λ (ed : Edition). conversionLine (convert ed set (told .wanted2 .given .0 .0))) (h .edition-is)) (converted .convert-into .ensures)))
 
 returns-5 : tie.Need-returns-5
 unfolding replayLine
@@ -59,7 +59,7 @@ returns-5 c =
     let told = depended .before .before .before in
     let set = told .before .before .before .before .args .set .now in
     λ m h n. line-step n m _ _ (ap (λ (w : SetLine). withSetOf w set) (sym (told .wanted3 .given .1)))
-    (c .answered4 .ensures m h _ _ _ (same-bytes (ap (λ (ed : Edition). dependencyLines (dependenciesOf ed set (replicate (told .wanted3 .given .0 .0) 0))) (h .edition-is)) (depended .depends-into .ensures)))
+    (c .answered4 .ensures m h _ _ _ (prints-same (ap (λ (ed : Edition). dependencyLines (dependenciesOf ed set (replicate (told .wanted3 .given .0 .0) 0))) (h .edition-is)) (depended .depends-into .ensures)))
 
 returns-6 : tie.Need-returns-6
 unfolding replayLine
@@ -69,7 +69,7 @@ returns-6 c =
     let set = told .before .before .before .before .args .set .now in
     let wanted = told .wanted4 .given .0 .0 in
     λ m h n. line-step n m _ _ (ap (λ (w : SetLine). withSetOf w set) (sym (told .wanted4 .given .1)))
-    (c .answered5 .ensures m h _ _ _ (same-bytes (ap (λ (ed : Edition). importLine (importTerms ed (wanted .collection) (envelopeOf (wanted .envelope)) set (wanted .room))) (h .edition-is)) (brought .import-into .ensures)))
+    (c .answered5 .ensures m h _ _ _ (prints-same (ap (λ (ed : Edition). importLine (importTerms ed (wanted .collection) (envelopeOf (wanted .envelope)) set (wanted .room))) (h .edition-is)) (brought .import-into .ensures)))
 
 returns-7 : tie.Need-returns-7
 returns-7 c =

@@ -95,11 +95,11 @@ module _ (r : ShellTransition) (is : Is St.the-row r (st-vals r)) where
 
 module _ {M : Type 1} (𝓤 : URA M) (H : Heap 𝓤) (A : Atoms 𝓤) (at-mem : Memory → SProp 𝓤) (run : Routine → Fun 𝓤) where
   -- the contracts that the proof cites
-  abbrev pub Step : Contract 𝓤
-  Step = tripleOf 𝓤 H A step.signature (step.spec 𝓤 H A at-mem run)
+  abbrev pub StepContract : Contract 𝓤
+  StepContract = tripleOf 𝓤 H A step.signature (step.spec 𝓤 H A at-mem run)
 
-  abbrev pub Applied : Contract 𝓤
-  Applied = tripleOf 𝓤 H A applied.signature (applied.spec 𝓤 H A at-mem run)
+  abbrev pub AppliedContract : Contract 𝓤
+  AppliedContract = tripleOf 𝓤 H A applied.signature (applied.spec 𝓤 H A at-mem run)
 
   -- of each callee's `ensured`, the clause alone
   pub stepped-of : (s : ShellSession) (i : ShellTransitionInput) (r : ShellTransition) → ent 𝓤 (ensured 𝓤 H A step.ended (step.clauses 𝓤 H A at-mem run) tt (s, (i, tt)) tt r) (fact 𝓤 (Stepped s i r))
@@ -113,34 +113,34 @@ module _ {M : Type 1} (𝓤 : URA M) (H : Heap 𝓤) (A : Atoms 𝓤) (W : Given
   abbrev pub x : RefT ShellSession × (ShellTransitionInput × Unit {0})
   x = (record { ptr = (b, o); name = γ; now = h }, (i, tt))
 
-  abbrev pub at : List Val × (List Val × Unit {0})
-  at = (vptr b o ∷ [], (in-vals i, tt))
+  abbrev pub callArguments : List Val × (List Val × Unit {0})
+  callArguments = (vptr b o ∷ [], (in-vals i, tt))
 
   abbrev pub Post : Val → SProp 𝓤
-  Post = walkOf 𝓤 H A f.ended stayed (f.clauses 𝓤 H A at-mem run) .post (((κ, tt), (q, tt), tt, x, at), tt)
+  Post = walkOf 𝓤 H A f.ended stayed (f.clauses 𝓤 H A at-mem run) .post (((κ, tt), (q, tt), tt, x, callArguments), tt)
 
   -- at exit: the session behind the reference is h′, and the answer is r
   pub exits : (r : ShellTransitionResult) (h′ : ShellSession) → StepsInPlace h i r h′ → Is An.the-row r (an-vals r)
       → ent 𝓤 (sep 𝓤 (A .obs γ (T.the-row .coded .code h′)) (sep 𝓤 (A .bor κ (Body (mem T.the-row) b o γ)) (A .lft κ q))) (Post (only (an-vals r)))
   exits r h′ e is-r =
       qed W (‵ (fobs γ (T.the-row .coded .code h′)) ∷ ‵ (fbor κ (Body (mem T.the-row) b o γ)) ∷ ‵ (flft κ q) ∷ []) ∵
-      suffices ! _ (ends-at 𝓤 H A f.ended stayed (f.clauses 𝓤 H A at-mem run) W (((κ, tt), (q, tt), tt, x, at), tt) (only (an-vals r)) r (h′, (tt, tt)) (tt, (tt, tt))) $ says ! e $ nothing ! $ move ! (3 ∷ 0 ∷ []) $ join ! $
+      suffices ! _ (ends-at 𝓤 H A f.ended stayed (f.clauses 𝓤 H A at-mem run) W (((κ, tt), (q, tt), tt, x, callArguments), tt) (only (an-vals r)) r (h′, (tt, tt)) (tt, (tt, tt))) $ says ! e $ nothing ! $ move ! (3 ∷ 0 ∷ []) $ join ! $
       frame ! $ feqI ! (List Val) (vptr b o ∷ []) (vptr b o ∷ []) refl $ fjoin3 ! $ nothing ! $ owned ! In.the-row (Is In.the-row) (LL.makes In.the-type In′.the-plain 𝓤 H A) i _ is-i $ fjoin ! $ move ! (1 ∷ 0 ∷ []) $ fjoin ! $
       owned ! An.the-row (Is An.the-row) (LL.makes An.the-type An′.the-plain 𝓤 H A) r _ is-r $ move ! (1 ∷ 0 ∷ []) $ done !
 
   -- what the callees ask
-  abbrev pub to-step : Step 𝓤 H A at-mem run .Ghost
+  abbrev pub to-step : StepContract 𝓤 H A at-mem run .Ghost
   to-step = ((tt, tt, tt, (h, (i, tt)), (t-vals h, (in-vals i, tt))), tt)
 
-  pub goes-step : Is T.the-row h (t-vals h) → ent 𝓤 (emp 𝓤) (Step 𝓤 H A at-mem run .pre to-step)
+  pub goes-step : Is T.the-row h (t-vals h) → ent 𝓤 (emp 𝓤) (StepContract 𝓤 H A at-mem run .pre to-step)
   goes-step is-h =
       qed W [] ∵ nothing ! $ nothing ! $ owned ! In.the-row (Is In.the-row) (LL.makes In.the-type In′.the-plain 𝓤 H A) i _ is-i $ fjoin ! $
       owned ! T.the-row (Is T.the-row) (LL.makes T.the-type T′.the-plain 𝓤 H A) h _ is-h $ fjoin ! $ nothing ! $ join ! $ frame ! $ done !
 
-  abbrev pub to-applied : ShellTransitionDisposition → Applied 𝓤 H A at-mem run .Ghost
+  abbrev pub to-applied : ShellTransitionDisposition → AppliedContract 𝓤 H A at-mem run .Ghost
   to-applied d = ((tt, tt, tt, (d, tt), (di-vals d, tt)), tt)
 
-  pub goes-applied : (d : ShellTransitionDisposition) → Is Di.the-row d (di-vals d) → ent 𝓤 (emp 𝓤) (Applied 𝓤 H A at-mem run .pre (to-applied d))
+  pub goes-applied : (d : ShellTransitionDisposition) → Is Di.the-row d (di-vals d) → ent 𝓤 (emp 𝓤) (AppliedContract 𝓤 H A at-mem run .pre (to-applied d))
   goes-applied d is-d = qed W [] ∵ nothing ! $ nothing ! $ owned ! Di.the-row (Is Di.the-row) (EL.makes Di.the-type Di′.the-plain 𝓤 H A) d _ is-d $ fjoin ! $ nothing ! $ join ! $ frame ! $ done !
 
   module _ (C : Calls 𝓤 H) (Λ : Loops 𝓤 H) where
@@ -150,8 +150,8 @@ module _ {M : Type 1} (𝓤 : URA M) (H : Heap 𝓤) (A : Atoms 𝓤) (W : Given
 
     module _ (l₀ l₁ l₂ l₃ l₄ l₅ l₆ l₇ : ℕ) where
       -- the open borrow, five items: the session's cell; what it owns; the open borrow; obs; auth
-      abbrev pub Opened : List (Item 𝓤) → List (Item 𝓤)
-      Opened Γ = ‵ (cellAt fullShare (T.the-row .mir) (t-vals h) b o) ∷ ‵ (T.the-row .own h (t-vals h)) ∷ ‵ (fobor κ q (Body (mem T.the-row) b o γ)) ∷ ‵ (fobs γ (T.the-row .coded .code h)) ∷ ‵ (fauth γ (T.the-row .coded .code h)) ∷ Γ
+      abbrev pub OpenBorrow : List (Item 𝓤) → List (Item 𝓤)
+      OpenBorrow Γ = ‵ (cellAt fullShare (T.the-row .mir) (t-vals h) b o) ∷ ‵ (T.the-row .own h (t-vals h)) ∷ ‵ (fobor κ q (Body (mem T.the-row) b o γ)) ∷ ‵ (fobs γ (T.the-row .coded .code h)) ∷ ‵ (fauth γ (T.the-row .coded .code h)) ∷ Γ
 
       -- the locals that no later statement changes: _3, _2, _1, and room for _0
       abbrev pub Early : List (Item 𝓤)
@@ -182,7 +182,7 @@ module _ {M : Type 1} (𝓤 : URA M) (H : Heap 𝓤) (A : Atoms 𝓤) (W : Given
 
       -- else: the borrow is closed at the session as it was
       pub closes-same : (r : ShellTransition) (y : Bool) → StepsInPlace h i (r .result) h → Is St.the-row r (st-vals r)
-          → Sq W (Opened (Tested r y)) (runs C Λ (En l₀ l₁ l₂ l₃ l₄ l₅ l₆ l₇) mir.t-7 (atRet (En l₀ l₁ l₂ l₃ l₄ l₅ l₆ l₇) Post))
+          → Sq W (OpenBorrow (Tested r y)) (runs C Λ (En l₀ l₁ l₂ l₃ l₄ l₅ l₆ l₇) mir.t-7 (atRet (En l₀ l₁ l₂ l₃ l₄ l₅ l₆ l₇) Post))
       closes-same r y e is-r = closes ! tt T.the-row h (t-vals h) b o $ leaves r y h e is-r
 
       -- the statement of the branch: _4's session is stored behind _1
@@ -190,7 +190,7 @@ module _ {M : Type 1} (𝓤 : URA M) (H : Heap 𝓤) (A : Atoms 𝓤) (W : Given
       Arm = assign (place 1 (deref T′.mir ∷ [])) (rvOpd (copy (place 4 (field 0 ∷ []))))
 
       pub stores-next : (r : ShellTransition) (y : Bool) → Stepped h i r → Is St.the-row r (st-vals r)
-          → Sq W (Opened (Tested r y)) (runs C Λ (En l₀ l₁ l₂ l₃ l₄ l₅ l₆ l₇) Arm (anyQ (afterSeq 𝓤 H (Wp 𝓤 H C Λ (En l₀ l₁ l₂ l₃ l₄ l₅ l₆ l₇) mir.t-7 (post 𝓤 H (atRet (En l₀ l₁ l₂ l₃ l₄ l₅ l₆ l₇) Post))) (post 𝓤 H (atRet (En l₀ l₁ l₂ l₃ l₄ l₅ l₆ l₇) Post)))))
+          → Sq W (OpenBorrow (Tested r y)) (runs C Λ (En l₀ l₁ l₂ l₃ l₄ l₅ l₆ l₇) Arm (anyQ (afterSeq 𝓤 H (Wp 𝓤 H C Λ (En l₀ l₁ l₂ l₃ l₄ l₅ l₆ l₇) mir.t-7 (post 𝓤 H (atRet (En l₀ l₁ l₂ l₃ l₄ l₅ l₆ l₇) Post))) (post 𝓤 H (atRet (En l₀ l₁ l₂ l₃ l₄ l₅ l₆ l₇) Post)))))
       stores-next r y e is-r =
           assigns-then ! {rest = mir.t-7} {v = only (t-vals (r .session))} {sp = (T′.mir, b, o)}
           (of-opd ! (load ! {sp = (T′.mir, l₄, 0)} {v = only (t-vals (r .session))} (from ! {i = 4} (fld ! {k = 0} {τ = T′.mir} {d = 0} refl (stop !))) (look-in ! 11 {τ = T′.mir} {b = l₄} {o = 0} {v = only (t-vals (r .session))} (sub ! 0 {τ = T′.mir} {d = 0} refl (whole !)))))
@@ -198,24 +198,24 @@ module _ {M : Type 1} (𝓤 : URA M) (H : Heap 𝓤) (A : Atoms 𝓤) (W : Given
           closes-next r y e is-r
 
       pub stores : (r : ShellTransition) (y : Bool) → Stepped h i r → y ≡ isApplied (r .result .disposition) → Is St.the-row r (st-vals r)
-          → Sq W (Opened (Tested r y)) (runs C Λ (En l₀ l₁ l₂ l₃ l₄ l₅ l₆ l₇) mir.t-6 (atRet (En l₀ l₁ l₂ l₃ l₄ l₅ l₆ l₇) Post))
+          → Sq W (OpenBorrow (Tested r y)) (runs C Λ (En l₀ l₁ l₂ l₃ l₄ l₅ l₆ l₇) mir.t-6 (atRet (En l₀ l₁ l₂ l₃ l₄ l₅ l₆ l₇) Post))
       stores r y e e′ is-r = guards ! {c = copy (place 7 [])} {a = Arm} {rest = mir.t-7} {y = y} (load ! (from ! (stop !)) (look ! 5 refl)) (λ z. stores-next r y e is-r) (λ z. closes-same r y (in-place-same h i r e y e′ z) is-r)
 
-      module _ (fm : FmC 𝓤 H (W .laws) C) (known-applied : Triple 𝓤 (C #applied) (Applied 𝓤 H A at-mem run)) (r : ShellTransition) (e : Stepped h i r) (is-r : Is St.the-row r (st-vals r)) where
+      module _ (fm : FmC 𝓤 H (W .laws) C) (known-applied : Triple 𝓤 (C #applied) (AppliedContract 𝓤 H A at-mem run)) (r : ShellTransition) (e : Stepped h i r) (is-r : Is St.the-row r (st-vals r)) where
         -- the step by value is done, and _4 has what it gave
         abbrev pub Done : List (Item 𝓤)
         Done = ‵ (fat fullShare St′.mir l₄ 0 (only (st-vals r))) ∷ ‵ (fdies St′.mir l₄) ∷ Early
 
         -- _6 has the answer's disposition: it is tested
-        pub tests : Sq W (Opened (‵ (froom tyBool l₇ 0) ∷ ‵ (fdies tyBool l₇) ∷ ‵ (fat fullShare Di′.mir l₆ 0 (only (di-vals (r .result .disposition)))) ∷ ‵ (fdies Di′.mir l₆) ∷ ‵ (fat fullShare An′.mir l₅ 0 (only (an-vals (r .result)))) ∷ ‵ (fdies An′.mir l₅) ∷ Done))
+        pub tests : Sq W (OpenBorrow (‵ (froom tyBool l₇ 0) ∷ ‵ (fdies tyBool l₇) ∷ ‵ (fat fullShare Di′.mir l₆ 0 (only (di-vals (r .result .disposition)))) ∷ ‵ (fdies Di′.mir l₆) ∷ ‵ (fat fullShare An′.mir l₅ 0 (only (an-vals (r .result)))) ∷ ‵ (fdies An′.mir l₅) ∷ Done))
             (runs C Λ (En l₀ l₁ l₂ l₃ l₄ l₅ l₆ l₇) mir.t-5 (atRet (En l₀ l₁ l₂ l₃ l₄ l₅ l₆ l₇) Post))
         tests =
-            calls-plain ! fm {rest = mir.t-6} (Applied 𝓤 H A at-mem run) known-applied (to-applied (r .result .disposition)) (goes-applied (r .result .disposition) (is-di r is-r)) (and-then ! (load ! {sp = (Di′.mir, l₆, 0)} (from ! {i = 6} (stop !)) (look ! 7 refl)) (no-more !))
+            calls-plain ! fm {rest = mir.t-6} (AppliedContract 𝓤 H A at-mem run) known-applied (to-applied (r .result .disposition)) (goes-applied (r .result .disposition) (is-di r is-r)) (and-then ! (load ! {sp = (Di′.mir, l₆, 0)} (from ! {i = 6} (stop !)) (look ! 7 refl)) (no-more !))
             Boolean bool-vals bool-tells (ensured 𝓤 H A applied.ended (applied.clauses 𝓤 H A at-mem run) tt (r .result .disposition, tt) tt) (λ y. y ≡ isApplied (r .result .disposition)) (applied-of 𝓤 H A at-mem run (r .result .disposition)) (λ v. id⊢ 𝓤 _) (λ y e′ _.
             land ! {rest = mir.t-6} {sp = (tyBool, l₇, 0)} (from ! {i = 7} (stop !)) (init ! 5 refl (tt, tt)) $ stores r y e e′ is-r)
 
         -- _5 has the answer: its disposition is taken out
-        pub disposes : Sq W (Opened (‵ (froom tyBool l₇ 0) ∷ ‵ (fdies tyBool l₇) ∷ ‵ (froom Di′.mir l₆ 0) ∷ ‵ (fdies Di′.mir l₆) ∷ ‵ (fat fullShare An′.mir l₅ 0 (only (an-vals (r .result)))) ∷ ‵ (fdies An′.mir l₅) ∷ Done))
+        pub disposes : Sq W (OpenBorrow (‵ (froom tyBool l₇ 0) ∷ ‵ (fdies tyBool l₇) ∷ ‵ (froom Di′.mir l₆ 0) ∷ ‵ (fdies Di′.mir l₆) ∷ ‵ (fat fullShare An′.mir l₅ 0 (only (an-vals (r .result)))) ∷ ‵ (fdies An′.mir l₅) ∷ Done))
             (runs C Λ (En l₀ l₁ l₂ l₃ l₄ l₅ l₆ l₇) mir.t-4 (atRet (En l₀ l₁ l₂ l₃ l₄ l₅ l₆ l₇) Post))
         disposes =
             assigns ! {rest = mir.t-5} {v = only (di-vals (r .result .disposition))} {sp = (Di′.mir, l₆, 0)}
@@ -223,7 +223,7 @@ module _ {M : Type 1} (𝓤 : URA M) (H : Heap 𝓤) (A : Atoms 𝓤) (W : Given
             (from ! {i = 6} (stop !)) (init ! 7 {τ = Di′.mir} {b = l₆} {o = 0} refl (EL.lawful Di.the-type Di′.the-laws 𝓤 H A W tt .typed (r .result .disposition) _ (is-di r is-r) .0)) $ tests
 
         -- the answer is taken out of _4
-        pub judges : Sq W (Opened (‵ (froom tyBool l₇ 0) ∷ ‵ (fdies tyBool l₇) ∷ ‵ (froom Di′.mir l₆ 0) ∷ ‵ (fdies Di′.mir l₆) ∷ ‵ (froom An′.mir l₅ 0) ∷ ‵ (fdies An′.mir l₅) ∷ Done))
+        pub judges : Sq W (OpenBorrow (‵ (froom tyBool l₇ 0) ∷ ‵ (fdies tyBool l₇) ∷ ‵ (froom Di′.mir l₆ 0) ∷ ‵ (fdies Di′.mir l₆) ∷ ‵ (froom An′.mir l₅ 0) ∷ ‵ (fdies An′.mir l₅) ∷ Done))
             (runs C Λ (En l₀ l₁ l₂ l₃ l₄ l₅ l₆ l₇) mir.t-3 (atRet (En l₀ l₁ l₂ l₃ l₄ l₅ l₆ l₇) Post))
         judges =
             assigns ! {rest = mir.t-4} {v = only (an-vals (r .result))} {sp = (An′.mir, l₅, 0)}

@@ -7,7 +7,7 @@ use Rattle.spec_session.specs.BatchLaws.{never-passes}
 use Rattle.session_gates.specs.Gates.{gateOf, checkCounted}
 use Rattle.session_steps.specs.Answers.{rejectedRow, unchangedRow}
 use Rattle.session_steps.specs.AnswersLaws.{same-rejection, change-row}
-use Rattle.session_lent.specs.BatchesLaws.{held-tables, kept-change, row-told, preflight-told, seen, commits-none, commits, batch-rejects, batch-commits}
+use Rattle.session_lent.specs.BatchesLaws.{held-tables, kept-change, row-told, preflight-told, lent-seen, lent-commits-none, commits, lent-batch-rejects, lent-batch-commits}
 use borrow.Author.Needs.{needs}
 use Rattle.session_lent.proofs.batch.apply_shaped.Statement.{statement}
 use Rattle.session_lent.proofs.batch.apply_shaped.Tie as tie
@@ -22,7 +22,7 @@ returns c =
     let gate = ap gateOf (sym (c .before .before .gate .given .1)) in
     let answer = c .rejected .ensures in
     record {
-      became = λ m l h room. batch-rejects (a .head .now) (a .nodes .now) (a .pairs .now) (a .collections .now) (a .bindings .now) (a .availability .now) (a .entries .now) (limits .result) (state .result) (limits .ensures) (state .ensures) m l h _ _ _ _ _ _ _ _ _ _ _ _ (gate ∙ checked .0 m (seen (a .head .now) (a .nodes .now) (a .pairs .now) (a .collections .now) (a .bindings .now) (a .availability .now) (a .entries .now) (limits .result) (state .result) (limits .ensures) (state .ensures) m l h)) answer;
+      became = λ m l h room. lent-batch-rejects (a .head .now) (a .nodes .now) (a .pairs .now) (a .collections .now) (a .bindings .now) (a .availability .now) (a .entries .now) (limits .result) (state .result) (limits .ensures) (state .ensures) m l h _ _ _ _ _ _ _ _ _ _ _ _ (gate ∙ checked .0 m (lent-seen (a .head .now) (a .nodes .now) (a .pairs .now) (a .collections .now) (a .bindings .now) (a .availability .now) (a .entries .now) (limits .result) (state .result) (limits .ensures) (state .ensures) m l h)) answer;
       kept = λ n. (refl, (refl, (refl, (refl, refl))));
       row = row-told (a .head .now) (a .nodes .now) (a .pairs .now) (a .collections .now) (a .bindings .now) (a .availability .now) (a .entries .now) (limits .result) (state .result) (limits .ensures) (state .ensures) _ _ (rejectedRow _ _ (ap checkCounted gate ∙ checked .1 .0) answer);
       preflight = preflight-told (a .head .now) (a .nodes .now) (a .pairs .now) (a .collections .now) (a .bindings .now) (a .availability .now) (a .entries .now) (limits .result) (state .result) (limits .ensures) (state .ensures) _ _ (λ f n h. answer ∙ same-rejection _ _ (gate ∙ checked .1 .1 f n h));
@@ -39,7 +39,7 @@ returns-2 c =
     let answer = c .unchanged .ensures in
     let none = eqb-true _ 0 (sym (c .before .before .is-empty .ensures) ∙ c .before .if1 .taken) in
     record {
-      became = λ m l h room. batch-commits (a .head .now) (a .nodes .now) (a .pairs .now) (a .collections .now) (a .bindings .now) (a .availability .now) (a .entries .now) (limits .result) (state .result) (limits .ensures) (state .ensures) m l h _ _ _ _ _ _ _ _ _ _ (gate ∙ checked .0 m (seen (a .head .now) (a .nodes .now) (a .pairs .now) (a .collections .now) (a .bindings .now) (a .availability .now) (a .entries .now) (limits .result) (state .result) (limits .ensures) (state .ensures) m l h)) (λ ps reads count. commits-none (a .head .now) (a .nodes .now) (a .pairs .now) (a .collections .now) (a .bindings .now) (a .availability .now) (a .entries .now) (limits .result) (state .result) (limits .ensures) (state .ensures) m l h _ _ _ _ _ _ _ ps answer none count);
+      became = λ m l h room. lent-batch-commits (a .head .now) (a .nodes .now) (a .pairs .now) (a .collections .now) (a .bindings .now) (a .availability .now) (a .entries .now) (limits .result) (state .result) (limits .ensures) (state .ensures) m l h _ _ _ _ _ _ _ _ _ _ (gate ∙ checked .0 m (lent-seen (a .head .now) (a .nodes .now) (a .pairs .now) (a .collections .now) (a .bindings .now) (a .availability .now) (a .entries .now) (limits .result) (state .result) (limits .ensures) (state .ensures) m l h)) (λ ps reads count. lent-commits-none (a .head .now) (a .nodes .now) (a .pairs .now) (a .collections .now) (a .bindings .now) (a .availability .now) (a .entries .now) (limits .result) (state .result) (limits .ensures) (state .ensures) m l h _ _ _ _ _ _ _ ps answer none count);
       kept = λ n. (refl, (refl, (refl, (refl, refl))));
       row = row-told (a .head .now) (a .nodes .now) (a .pairs .now) (a .collections .now) (a .bindings .now) (a .availability .now) (a .entries .now) (limits .result) (state .result) (limits .ensures) (state .ensures) _ _ (unchangedRow answer);
       preflight = preflight-told (a .head .now) (a .nodes .now) (a .pairs .now) (a .collections .now) (a .bindings .now) (a .availability .now) (a .entries .now) (limits .result) (state .result) (limits .ensures) (state .ensures) _ _ (λ f n h. never-passes (sym (gate ∙ checked .1 .1 f n h)));
@@ -60,7 +60,7 @@ returns-3 c =
     let answer = c .concluded .ensures in
     let some : (a .envelope .«patch_count» ≡ 0 → ⊥) = λ none. false≢true (sym (sym (c .before .before .before .before .before .before .before .before .before .before .before .before .before .before .before .before .before .before .is-empty .ensures) ∙ c .before .before .before .before .before .before .before .before .before .before .before .before .before .before .before .before .before .if1 .left) ∙ eq-eqb _ 0 none) in
     record {
-      became = λ m l h room. batch-commits (a .head .now) (a .nodes .now) (a .pairs .now) (a .collections .now) (a .bindings .now) (a .availability .now) (a .entries .now) (limits .result) (state .result) (limits .ensures) (state .ensures) m l h _ _ _ _ _ _ _ _ _ _ (gate ∙ checked .0 m (seen (a .head .now) (a .nodes .now) (a .pairs .now) (a .collections .now) (a .bindings .now) (a .availability .now) (a .entries .now) (limits .result) (state .result) (limits .ensures) (state .ensures) m l h)) (λ ps reads count. commits (a .head .now) (a .nodes .now) (a .pairs .now) (a .collections .now) (a .bindings .now) (a .availability .now) (a .entries .now) (limits .result) (state .result) (limits .ensures) (state .ensures) m l h _ _ _ _ _ _ _ ps (call .result) some (call .ensures .0 (m .projection) ps (held-tables m h) reads room) answer);
+      became = λ m l h room. lent-batch-commits (a .head .now) (a .nodes .now) (a .pairs .now) (a .collections .now) (a .bindings .now) (a .availability .now) (a .entries .now) (limits .result) (state .result) (limits .ensures) (state .ensures) m l h _ _ _ _ _ _ _ _ _ _ (gate ∙ checked .0 m (lent-seen (a .head .now) (a .nodes .now) (a .pairs .now) (a .collections .now) (a .bindings .now) (a .availability .now) (a .entries .now) (limits .result) (state .result) (limits .ensures) (state .ensures) m l h)) (λ ps reads count. commits (a .head .now) (a .nodes .now) (a .pairs .now) (a .collections .now) (a .bindings .now) (a .availability .now) (a .entries .now) (limits .result) (state .result) (limits .ensures) (state .ensures) m l h _ _ _ _ _ _ _ ps (call .result) some (call .ensures .0 (m .projection) ps (held-tables m h) reads room) answer);
       kept = kept-change (call .result) _ _ _ _ _ _ _ _ _ _ _ _ _ (c .concluded .result) (call .ensures .1) answer;
       row = row-told (a .head .now) (a .nodes .now) (a .pairs .now) (a .collections .now) (a .bindings .now) (a .availability .now) (a .entries .now) (limits .result) (state .result) (limits .ensures) (state .ensures) _ _ (change-row _ _ _ _ (call .result) answer);
       preflight = preflight-told (a .head .now) (a .nodes .now) (a .pairs .now) (a .collections .now) (a .bindings .now) (a .availability .now) (a .entries .now) (limits .result) (state .result) (limits .ensures) (state .ensures) _ _ (λ f n h. never-passes (sym (gate ∙ checked .1 .1 f n h)));

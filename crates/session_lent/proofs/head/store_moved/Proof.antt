@@ -1,7 +1,7 @@
 -- `store_moved` meets its contract: every number is written.
 use native.Mathlib.Omega.{arith}
 use lib.ListN.{length-set}
-use Rattle.session_lent.specs.HeadLaws.{all-written}
+use Rattle.session_lent.specs.HeadLaws.{head-written}
 use borrow.Author.Needs.{needs}
 use Rattle.session_lent.proofs.head.store_moved.Statement.{statement}
 use Rattle.session_lent.proofs.head.store_moved.Tie as tie
@@ -31,7 +31,7 @@ same-length : tie.Need-same-length
 same-length c = simp length-set
 
 returns : tie.Need-returns
-returns c = all-written (c .before .before .before .before .before .before .args .to .now) _ _ _ _ _ _ _ _ _ _ _ (c .before .before .before .before .before .before .pre .1)
+returns c = head-written (c .before .before .before .before .before .before .args .to .now) _ _ _ _ _ _ _ _ _ _ _ (c .before .before .before .before .before .before .pre .1)
 
 pub store-moved-spec : {M : Type 1} → statement M
 store-moved-spec =

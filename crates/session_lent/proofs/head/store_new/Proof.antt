@@ -1,7 +1,7 @@
 -- `store_new` meets its contract: every number is written.
 use native.Mathlib.Omega.{arith}
 use lib.ListN.{length-set}
-use Rattle.session_lent.specs.HeadLaws.{all-written}
+use Rattle.session_lent.specs.HeadLaws.{head-written}
 use borrow.Author.Needs.{needs}
 use Rattle.session_lent.proofs.head.store_new.Statement.{statement}
 use Rattle.session_lent.proofs.head.store_new.Tie as tie
@@ -28,7 +28,7 @@ slice-write-head-11 : tie.Need-slice-write-head-11
 slice-write-head-11 c = simp length-set (omega arith)
 
 returns : tie.Need-returns
-returns c = all-written (c .args .head .now) _ _ _ _ _ _ _ _ _ _ _ (c .pre)
+returns c = head-written (c .args .head .now) _ _ _ _ _ _ _ _ _ _ _ (c .pre)
 
 pub store-new-spec : {M : Type 1} → statement M
 store-new-spec =

@@ -1,7 +1,7 @@
 -- `binding_value` meets its contract: the look-up in the table, or no session.
 use mathlib.Core.Path.{refl}
 use borrow.Author.Needs.{needs}
-use Rattle.session_lent_views.specs.ViewsLaws.{tables-stored, bindings-stored, bindings-shaped, rows-none, rows-some, viewed-refused, viewed-answered}
+use Rattle.session_lent_views.specs.ViewsLaws.{tables-stored, bindings-held, bindings-shaped, rows-none, rows-some, viewed-refused, viewed-answered}
 use Rattle.session_lent_views.proofs.lookups.binding_value.Statement.{statement}
 use Rattle.session_lent_views.proofs.lookups.binding_value.Tie as tie
 
@@ -15,7 +15,7 @@ returns-2 c =
     let call = c .before .before .before .before .binding-rows in
     let bound = c .before .before .count .given in
     let some = rows-some _ _ (call .result) (bound .0 .0) (call .ensures) (bound .1) in
-    viewed-answered (c .binding-value .result) (some .0) (λ m h. c .binding-value .ensures (m .projection) (bindings-stored _ (some .1) h) (tables-stored (h .tables) .valid))
+    viewed-answered (c .binding-value .result) (some .0) (λ m h. c .binding-value .ensures (m .projection) (bindings-held _ (some .1) h) (tables-stored (h .tables) .valid))
 
 pub binding-value-spec : {M : Type 1} → statement M
 binding-value-spec =

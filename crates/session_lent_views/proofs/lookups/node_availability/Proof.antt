@@ -1,7 +1,7 @@
 -- `node_availability` meets its contract: the look-up in the table, or no session.
 use mathlib.Core.Path.{refl}
 use borrow.Author.Needs.{needs}
-use Rattle.session_lent_views.specs.ViewsLaws.{tables-stored, availabilities-stored, availabilities-shaped, rows-none, rows-some, viewed-refused, viewed-answered}
+use Rattle.session_lent_views.specs.ViewsLaws.{tables-stored, availabilities-held, availabilities-shaped, rows-none, rows-some, viewed-refused, viewed-answered}
 use Rattle.session_lent_views.proofs.lookups.node_availability.Statement.{statement}
 use Rattle.session_lent_views.proofs.lookups.node_availability.Tie as tie
 
@@ -15,7 +15,7 @@ returns-2 c =
     let call = c .before .before .before .before .availability-rows in
     let bound = c .before .before .count .given in
     let some = rows-some _ _ (call .result) (bound .0 .0) (call .ensures) (bound .1) in
-    viewed-answered (c .node-availability .result) (some .0) (λ m h. c .node-availability .ensures (m .projection) (availabilities-stored _ (some .1) h) (tables-stored (h .tables) .valid))
+    viewed-answered (c .node-availability .result) (some .0) (λ m h. c .node-availability .ensures (m .projection) (availabilities-held _ (some .1) h) (tables-stored (h .tables) .valid))
 
 pub node-availability-spec : {M : Type 1} → statement M
 node-availability-spec =

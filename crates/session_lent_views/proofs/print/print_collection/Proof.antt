@@ -1,6 +1,6 @@
 -- `print_collection` meets its contract: the collection is printed from the table, or there is no session.
 use borrow.Author.Needs.{needs}
-use Rattle.session_lent_views.specs.ViewsLaws.{tables-stored, entries-stored, entries-shaped, rows-none, rows-some, written-refused, written-answered}
+use Rattle.session_lent_views.specs.ViewsLaws.{tables-stored, entries-held, entries-shaped, rows-none, rows-some, written-refused, written-answered}
 use Rattle.session_lent_views.proofs.print.print_collection.Statement.{statement}
 use Rattle.session_lent_views.proofs.print.print_collection.Tie as tie
 
@@ -15,7 +15,7 @@ returns-2 c =
     let bound = c .before .before .before .before .before .count .given in
     let call = c .before .before .before .before .before .before .before .entry-rows in
     let some = rows-some _ _ (call .result) (bound .0 .0) (call .ensures) (bound .1) in
-    written-answered _ _ (write .result) (some .0) (write .ensures .1) (λ m h. write .ensures .0 (m .projection) (entries-stored _ (some .1) h) (tables-stored (h .tables) .valid))
+    written-answered _ _ (write .result) (some .0) (write .ensures .1) (λ m h. write .ensures .0 (m .projection) (entries-held _ (some .1) h) (tables-stored (h .tables) .valid))
 
 pub print-collection-spec : {M : Type 1} → statement M
 print-collection-spec =

@@ -11,7 +11,7 @@ use Rattle.spec_patch.specs.Patch.{Patch}
 use Rattle.spec_patch.specs.Edition.{Edition}
 use Rattle.spec_patch.specs.Read.{patches, readSet}
 use Rattle.spec_patch.specs.SetLaws.{was-encoded}
-use Rattle.spec_dependencies.specs.Dependencies.{SettlingWalk, settles, contradicts, walkPatches, dependenciesBy, dependencies}
+use Rattle.spec_dependencies.specs.Dependencies.{SettlingWalk, settles, contradicts, settlePatches, dependenciesBy, dependencies}
 use Rattle.spec_dependencies.specs.Settled.{Settled}
 use Rattle.spec_dependencies.specs.Answer.{answerBy}
 use Rattle.projection_patch.specs.Meaning.{editionOf}
@@ -49,16 +49,16 @@ opening k = k .before .before .before .before .before
 
 -- what the walk over a readable set gave
 walked : (k : tie.After-settle-steps) (r : SetSettling) → k .settle-steps .result ≡ r → (ps : List Patch) → readSet (edition (opening k)) (set (opening k)) ≡ patches ps
-    → SetSettlesTo (walkPatches 0 ps []) r (k .settle-steps .last .1 .1 .1 .0)
+    → SetSettlesTo (settlePatches 0 ps []) r (k .settle-steps .last .1 .1 .1 .0)
 walked k r is ps e =
     let o = opening k in
-    subst (λ x. SetSettlesTo (walkPatches 0 ps []) x (k .settle-steps .last .1 .1 .1 .0)) is
+    subst (λ x. SetSettlesTo (settlePatches 0 ps []) x (k .settle-steps .last .1 .1 .1 .0)) is
     (k .settle-steps .ensures ps (short o ps e) (opened-at (edition o) (set o) (all-bytes o) ps e (o .open-set .ensures) _ (k .before .before .before .start .given .1)) none-settled)
 
 -- where all operations settle
 settled : (c : tie.After-places) (ps : List Patch) → let k = c .before .before .before in readSet (edition (opening k)) (set (opening k)) ≡ patches ps
-    → (t : List Settled) × (walkPatches 0 ps [] ≡ settles t) × SettledIn (c .places .given .0 .0) (k .settle-steps .last .1 .1 .1 .0) t
-settled c ps e = let k = c .before .before .before in settled-walk (k .settle-steps .last .1 .1 .1 .0) (walkPatches 0 ps []) _ (walked k _ (c .places .given .1) ps e)
+    → (t : List Settled) × (settlePatches 0 ps [] ≡ settles t) × SettledIn (c .places .given .0 .0) (k .settle-steps .last .1 .1 .1 .0) t
+settled c ps e = let k = c .before .before .before in settled-walk (k .settle-steps .last .1 .1 .1 .0) (settlePatches 0 ps []) _ (walked k _ (c .places .given .1) ps e)
 
 -- the rows that were listed
 listed : (c : tie.After-rows-from) (t : List Settled) → let p = c .before .before .before in SettledIn (p .places .given .0 .0) (p .before .before .before .settle-steps .last .1 .1 .1 .0) t
@@ -78,8 +78,8 @@ returns c =
 
 -- where one contradicts
 contradicted : (c : tie.After-patch) (ps : List Patch) → let k = c .before .before .before in readSet (edition (opening k)) (set (opening k)) ≡ patches ps
-    → walkPatches 0 ps [] ≡ contradicts (c .patch .given .0 .0) (c .patch .given .0 .1 .0)
-contradicted c ps e = let k = c .before .before .before in contradicted-walk (k .settle-steps .last .1 .1 .1 .0) (walkPatches 0 ps []) _ _ (walked k _ (c .patch .given .1) ps e)
+    → settlePatches 0 ps [] ≡ contradicts (c .patch .given .0 .0) (c .patch .given .0 .1 .0)
+contradicted c ps e = let k = c .before .before .before in contradicted-walk (k .settle-steps .last .1 .1 .1 .0) (settlePatches 0 ps []) _ _ (walked k _ (c .patch .given .1) ps e)
 
 returns-2 : tie.Need-returns-2
 unfolding dependencies dependenciesBy answerBy
@@ -93,7 +93,7 @@ returns-2 c =
 read : (c : tie.After-known-told4) (ps : List Patch) → readSet (edition (opening (c .before .before .before .before))) (set (opening (c .before .before .before .before))) ≡ patches ps → ⊥
 read c ps e =
     let k = c .before .before .before .before in
-    readable-walk (k .settle-steps .last .1 .1 .1 .0) (walkPatches 0 ps []) (c .before .fault .given .0 .0) (walked k _ (c .before .fault .given .1) ps e)
+    readable-walk (k .settle-steps .last .1 .1 .1 .0) (settlePatches 0 ps []) (c .before .fault .given .0 .0) (walked k _ (c .before .fault .given .1) ps e)
 
 returns-3 : tie.Need-returns-3
 returns-3 c = (λ ps e. absurd (read c ps e), λ ps e. absurd (read c ps e))

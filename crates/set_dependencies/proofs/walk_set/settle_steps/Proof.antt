@@ -10,26 +10,26 @@ use lib.ListN.{length}
 use Rattle.spec_patch.specs.Sizes.{setBytes}
 use Rattle.spec_patch.specs.Edition.{Edition}
 use Rattle.spec_patch.specs.Patch.{Patch}
-use Rattle.spec_dependencies.specs.Dependencies.{walkPatches}
+use Rattle.spec_dependencies.specs.Dependencies.{settlePatches}
 use Rattle.projection_patch.specs.Meaning.{editionOf}
 use Rattle.patch_walk.specs.Steps.{StepWithin, AtSteps}
 use Rattle.patch_walk.specs.StepsLaws.{visited, opened, done, never-refused}
 use Rattle.patch_walk.specs.declared.SetStep.{SetStep}
 use Rattle.set_dependencies.specs.SettledRows.{SettledIn, noPlaces}
-use Rattle.set_dependencies.proofs.Walking.{Walking, walk-start, walk-end, walk-head, walk-on, walk-contradicts}
+use Rattle.set_dependencies.proofs.Walking.{SettlingRun, settling-start, settling-end, settling-head, settling-on, settling-contradicts}
 use Rattle.set_dependencies.proofs.walk_set.settle_steps.Statement.{statement}
 use Rattle.set_dependencies.proofs.walk_set.settle_steps.Tie as tie
 
 abbrev Inv-loop : tie.InvT-loop
 Inv-loop set edition table₀ cursor₀ places₀ opened₀ patch₀ index₀ table cursor places opened patch index =
     (length table ≡ length table₀) × (opened ≤ cursor .at) × (index ≤ cursor .at)
-    × ((ps : List Patch) → length set ≤ setBytes → AtSteps (editionOf edition) set cursor₀ [] ps → SettledIn noPlaces table₀ [] → Walking (editionOf edition) set (walkPatches 0 ps []) cursor places opened patch index table)
+    × ((ps : List Patch) → length set ≤ setBytes → AtSteps (editionOf edition) set cursor₀ [] ps → SettledIn noPlaces table₀ [] → SettlingRun (editionOf edition) set (settlePatches 0 ps []) cursor places opened patch index table)
 
 abbrev μ-loop : tie.MeasureT-loop
 μ-loop set edition table₀ cursor₀ places₀ opened₀ patch₀ index₀ table cursor places opened patch index = length set - cursor .at
 
 loop-holds : tie.Need-loop-holds Inv-loop μ-loop
-loop-holds c = (refl, omega arith, omega arith, λ ps short here stored. walk-start _ _ ps here stored)
+loop-holds c = (refl, omega arith, omega arith, λ ps short here stored. settling-start _ _ ps here stored)
 
 abbrev head : tie.After-next-step Inv-loop μ-loop → tie.At-loop Inv-loop μ-loop
 head k = k .before
@@ -64,7 +64,7 @@ loop-again c =
       l .inv .0,
       omega (arith, on .0),
       omega arith,
-      λ ps short here stored. let w = l .inv .3 ps short here stored in walk-head (told k) (set k) _ w (opened false (told k) (set k) (l .cursor) (w .here) (k .next-step .ensures .0) _ _ q),
+      λ ps short here stored. let w = l .inv .3 ps short here stored in settling-head (told k) (set k) _ w (opened false (told k) (set k) (l .cursor) (w .here) (k .next-step .ensures .0) _ _ q),
     )
 
 enum-known-operation : tie.Need-enum-known-operation Inv-loop μ-loop
@@ -105,7 +105,7 @@ loop-again-2 c =
       omega (arith, on .0),
       λ ps short here stored.
           let w = l .inv .3 ps short here stored in
-          walk-on (told s) (set s) _ w (visited false (told s) (set s) (l .cursor) (w .here) (s .next-step .ensures .0) _ _ q) short _ (k .settle-operation .ensures) (c .before .more .given .1),
+          settling-on (told s) (set s) _ w (visited false (told s) (set s) (l .cursor) (w .here) (s .next-step .ensures .0) _ _ q) short _ (k .settle-operation .ensures) (c .before .more .given .1),
     )
 
 enum-told : tie.Need-enum-told Inv-loop μ-loop
@@ -121,7 +121,7 @@ returns c =
     let l = head s .loop in
     λ ps short here stored.
     let w = l .inv .3 ps short here stored in
-    walk-contradicts (told s) (set s) _ w (visited false (told s) (set s) (l .cursor) (w .here) (s .next-step .ensures .0) _ _ (read k .operation .given .1)) short _ (k .settle-operation .ensures) (c .enum-told .given .1)
+    settling-contradicts (told s) (set s) _ w (visited false (told s) (set s) (l .cursor) (w .here) (s .next-step .ensures .0) _ _ (read k .operation .given .1)) short _ (k .settle-operation .ensures) (c .enum-told .given .1)
 
 enum-told-2 : tie.Need-enum-told-2 Inv-loop μ-loop
 enum-told-2 c = search needs
@@ -135,7 +135,7 @@ returns-2 c =
     let l = head k .loop in
     λ ps short here stored.
     let w = l .inv .3 ps short here stored in
-    walk-end (told k) (set k) _ w (done false (told k) (set k) (l .cursor) (w .here) (k .next-step .ensures .0) (c .enum-told2 .given .1))
+    settling-end (told k) (set k) _ w (done false (told k) (set k) (l .cursor) (w .here) (k .next-step .ensures .0) (c .enum-told2 .given .1))
 
 enum-known-fault : tie.Need-enum-known-fault Inv-loop μ-loop
 enum-known-fault c = search needs

@@ -14,7 +14,7 @@ use Rattle.set_dependencies.specs.SettledRows.{settledRow, settledOf, Se
 use Rattle.set_dependencies.specs.SettledRowsLaws.{noKey, row-of, row-fits}
 use Rattle.set_dependencies.specs.SettlingLaws.{table-length}
 use Rattle.set_dependencies.specs.WrittenKeys.{KeysLeft}
-use Rattle.set_dependencies.specs.WrittenKeysLaws.{keysLeft-start, left-none}
+use Rattle.set_dependencies.specs.WrittenKeysLaws.{keysLeft-start, keysLeft-none}
 use Rattle.set_dependencies.proofs.write_keys.write_keys.Statement.{statement}
 use Rattle.set_dependencies.proofs.write_keys.write_keys.Tie as tie
 
@@ -86,7 +86,7 @@ ended c t s few =
     let b = c .before .before .before .before .args .at-start in
     let past : length t ≤ l .i = omega (arith, table-length t s, c .loop-test .left) in
     let whole = wordsWritten (allWords (keysAtStart b t)) (now (c .before .before .before .before .args .out)) in
-    left-none b (l .written) (l .out) (length (keysAtStart b t)) whole
+    keysLeft-none b (l .written) (l .out) (length (keysAtStart b t)) whole
     (subst (λ (left : List Settled). KeysLeft b left (l .written) (l .out) (length (keysAtStart b t)) whole) (drop-of-length-le t past) (l .inv .3 t s few))
 
 returns : tie.Need-returns Inv-loop μ-loop

@@ -10,7 +10,7 @@ use Rattle.spec_page.specs.Page.{PageEntry}
 use Rattle.panel_rows.specs.Rows.{fieldAt, markWidth}
 use Rattle.panel_rows.specs.Lookup.{foundValue}
 use Rattle.panel_page.specs.PageTable.{foundWidth, positionWidth, pageMarkAt, pageValueAt, answerRow, FitsAnswer, pageLookup}
-use Rattle.panel_page.specs.PageTableLaws.{none-found, some-found, answer-position, answer-mark, answer-value}
+use Rattle.panel_page.specs.PageTableLaws.{none-row, some-found, answer-position, answer-mark, answer-value}
 use Rattle.panel_page.specs.declared.rows.PageLookup.{PageLookup}
 use Rattle.panel_page.proofs.rows.PageLookup.read.Statement.{statement}
 use Rattle.panel_page.proofs.rows.PageLookup.read.Tie as tie
@@ -28,7 +28,7 @@ returns-2 c = by-answer
   where
     by-answer : (a : Option PageEntry) → FitsAnswer a → now (c .before .before .before .before .before .before .args .row) ≡ answerRow a
         → _≡_ {A = PageLookup} (record { position = c .before .before .number-at2 .result; value = c .stored-value .result }) (pageLookup a)
-    by-answer none fits is = absurd (omega (arith, none-found, ap (fieldAt 0 foundWidth) is, c .before .before .before .before .number-at .ensures))
+    by-answer none fits is = absurd (omega (arith, none-row, ap (fieldAt 0 foundWidth) is, c .before .before .before .before .number-at .ensures))
     by-answer (some x) fits is =
         let position = c .before .before .number-at2 .ensures ∙ ap (fieldAt foundWidth positionWidth) is ∙ answer-position x fits in
         let mark = c .before .number-at3 .ensures ∙ ap (fieldAt pageMarkAt markWidth) is ∙ answer-mark x fits in

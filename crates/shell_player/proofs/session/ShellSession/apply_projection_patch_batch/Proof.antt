@@ -31,7 +31,7 @@ use Rattle.shell_player.specs.declared.session.ShellSession.{ShellSessio
 use Rattle.shell_player.specs.declared.batch.ProjectionPatchBatch.{ProjectionPatchBatch}
 use Rattle.shell_player.specs.Holds.{Holds}
 use Rattle.shell_player.specs.Batches.{batchOf, BatchBecame, BatchCall, AnyBatchCall}
-use Rattle.shell_player.specs.CommitLaws.{kept-applied, seen, commits-none, commits-stopped, commits-applied, batch-rejects, batch-commits}
+use Rattle.shell_player.specs.CommitLaws.{kept-applied, struct-seen, commits-none, commits-stopped, commits-applied, batch-rejects, batch-commits}
 use Rattle.shell_player.proofs.session.ShellSession.apply_projection_patch_batch.Statement.{
   statement,
 }
@@ -58,7 +58,7 @@ returns c =
     let checked = c .before .before .before .before .before .check-session .ensures in
     let answer = c .before .rejected .ensures in
     told _ _ (c .batch-of .ensures) (
-      record { became = λ m h. batch-rejects _ m h _ _ _ _ _ _ _ (gate ∙ checked .0 m (seen _ m h)) answer },
+      record { became = λ m h. batch-rejects _ m h _ _ _ _ _ _ _ (gate ∙ checked .0 m (struct-seen _ m h)) answer },
       record {
         kept = λ n. refl;
         row = rejectedRow _ _ (ap checkCounted gate ∙ checked .1 .0) answer;
@@ -73,7 +73,7 @@ returns-2 c =
     let checked = c .before .before .before .before .before .before .check-session .ensures in
     let answer = c .before .unchanged .ensures in
     told _ _ (c .batch-of2 .ensures) (
-      record { became = λ m h. batch-commits _ m h _ _ _ _ _ (gate ∙ checked .0 m (seen _ m h)) (λ ps reads count. commits-none _ m h _ ps _ answer (eqb-true _ 0 (sym (c .before .before .before .is-empty .ensures) ∙ c .before .before .if1 .taken)) count) },
+      record { became = λ m h. batch-commits _ m h _ _ _ _ _ (gate ∙ checked .0 m (struct-seen _ m h)) (λ ps reads count. commits-none _ m h _ ps _ answer (eqb-true _ 0 (sym (c .before .before .before .is-empty .ensures) ∙ c .before .before .if1 .taken)) count) },
       record {
         kept = λ n. refl;
         row = unchangedRow answer;
@@ -90,7 +90,7 @@ returns-3 c =
     let change = call .apply-set .result in
     let answer = c .before .before .concluded .ensures in
     told _ _ (c .batch-of3 .ensures) (
-      record { became = λ m h. batch-commits _ m h _ _ _ _ _ (gate ∙ checked .0 m (seen _ m h)) (λ ps reads count. commits-stopped _ m h _ ps change _ _ (other-stopped change (c .before .match2 .keys2)) (became call m ps h reads) answer) },
+      record { became = λ m h. batch-commits _ m h _ _ _ _ _ (gate ∙ checked .0 m (struct-seen _ m h)) (λ ps reads count. commits-stopped _ m h _ ps change _ _ (other-stopped change (c .before .match2 .keys2)) (became call m ps h reads) answer) },
       record {
         kept = λ n. refl;
         row = change-row _ _ _ _ change answer;
@@ -123,7 +123,7 @@ returns-4 c =
     let checked = made .before .before .before .before .before .before .before .before .before .before .before .before .before .before .before .before .before .before .before .before .before .before .before .before .before .before .before .before .check-session .ensures in
     told _ _ (c .batch-of4 .ensures) (
       record {
-        became = λ m h. batch-commits _ m h _ _ _ _ _ (gate ∙ checked .0 m (seen _ m h)) (λ ps reads count. handed made m ps h reads (λ none. false≢true (sym (sym (made .before .before .before .before .before .before .before .before .before .before .before .before .before .before .before .before .before .before .before .before .before .before .before .before .before .is-empty .ensures) ∙ made .before .before .before .before .before .before .before .before .before .before .before .before .before .before .before .before .before .before .before .before .before .before .before .before .if1 .left) ∙ eq-eqb _ 0 none)));
+        became = λ m h. batch-commits _ m h _ _ _ _ _ (gate ∙ checked .0 m (struct-seen _ m h)) (λ ps reads count. handed made m ps h reads (λ none. false≢true (sym (sym (made .before .before .before .before .before .before .before .before .before .before .before .before .before .before .before .before .before .before .before .before .before .before .before .before .before .is-empty .ensures) ∙ made .before .before .before .before .before .before .before .before .before .before .before .before .before .before .before .before .before .before .before .before .before .before .before .before .if1 .left) ∙ eq-eqb _ 0 none)));
       },
       record {
         kept = kept-applied _ _ _ (answered made);

@@ -5,7 +5,7 @@ use Rattle.session_lifecycle.specs.Meaning.{stimulusOf}
 use Rattle.shell_player.specs.Holds.{Holds}
 use Rattle.shell_player.specs.declared.session.ShellSession.{ShellSession}
 use Rattle.shell_player.specs.Steps.{withState, nextSession, afterTransition}
-use Rattle.shell_player.specs.StepsLaws.{stored, same-answer, next-holds}
+use Rattle.shell_player.specs.StepsLaws.{state-stored, same-answer, next-holds}
 use borrow.Author.Needs.{needs}
 use Rattle.shell_player.proofs.session.ShellSession.transition.Statement.{statement}
 use Rattle.shell_player.proofs.session.ShellSession.transition.Tie as tie
@@ -16,7 +16,7 @@ returns c =
     let a = c .before .before .before .before .before .args in
     let result = c .before .evaluate-lifecycle-transition .result in
     let answered = c .before .evaluate-lifecycle-transition .ensures in
-    let is : withState (a .self) (c .next-state .result) ≡ nextSession (a .self) (result .disposition) (result .state) = ap (withState (a .self)) (c .next-state .ensures) ∙ stored (a .self) (result .disposition) (result .state) in (
+    let is : withState (a .self) (c .next-state .result) ≡ nextSession (a .self) (result .disposition) (result .state) = ap (withState (a .self)) (c .next-state .ensures) ∙ state-stored (a .self) (result .disposition) (result .state) in (
       ap (λ (s : ShellSession). record { session = s; result = result }) is,
       (
         λ m h. (
