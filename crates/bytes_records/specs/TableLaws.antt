@@ -1,12 +1,12 @@
 -- Laws of tables: where a row's bytes stand, that a table holds one list of rows only, and when it can be changed.
-use Prim.Native.Nat.{ℕ, _+_, _-_, _*_, _≤_, _<_}
+use Prim.Native.Nat.{ℕ, _+_, _-_, _*_, _/_, _≤_, _<_}
 use mathlib.Core.Path.{_≡_, refl, sym, ap, _∙_}
 use mathlib.Core.Bool.{true}
-use mathlib.Core.List.{List, [], _∷_, _++_, flatten, append-assoc}
-use native.Mathlib.Nat.{zero-mul, suc-mul}
+use mathlib.Core.List.{List, [], _∷_, _++_, flatten, append-assoc, map}
+use native.Mathlib.Nat.{zero-mul, suc-mul, div-lt-iff-lt-mul}
 use native.Mathlib.Numerals.{add-one}
 use native.Mathlib.Omega.{arith}
-use lib.ListN.{length, take, drop, getD, length-append, length-take, length-replicate, take-append-drop, replicate-append-replicate, List·getD-eq-default}
+use lib.ListN.{length, take, drop, getD, length-append, length-map, length-take, length-replicate, take-append-drop, replicate-append-replicate, List·getD-eq-default}
 use lib.Seq.{ext-getD, take-at, drop-at, drop-cons}
 use borrow.Author.Tests.{le-leb, lt-ltb, eq-eqb}
 use Rattle.spec_lists.specs.Lists.{All}
@@ -67,6 +67,12 @@ module _ {w n : ℕ} {l : List ℕ} {m : List (List ℕ)} (t : HoldsRows w n l m
   pub rows-fit : n * w ≤ length l
   rows-fit = omega (arith, rows-used, simp length-append at (ap length rows-padded))
 
+  -- a table has room for what it holds
+  pub not-too-many : 0 < w → length l / w < n → ⊥
+  not-too-many some h =
+      let past : length l < n * w = div-lt-iff-lt-mul some .0 h in
+      omega (arith, rows-fit)
+
   -- the table in two, at a position
   module _ (i : ℕ) (within : i ≤ n) where
     parted : flatten m ≡ flatten (take i m) ++ flatten (drop i m)
@@ -113,6 +119,10 @@ module _ {w n : ℕ} {l : List ℕ} {m : List (List ℕ)} (t : HoldsRows w n l m
   row-past i past =
       let h : length m ≤ i = omega (arith, t .counted) in
       List·getD-eq-default m [] h
+
+-- a table of the rows of a list has a row for each element
+pub holds-length : {A : Type 0} (row : A → List ℕ) {w n : ℕ} {l : List ℕ} (xs : List A) → HoldsRows w n l (map row xs) → length xs ≡ n
+holds-length row xs t = sym (length-map xs row) ∙ t .counted
 
 -- a table holds one list of rows only
 pub holds-unique : (w n : ℕ) (l : List ℕ) (m m′ : List (List ℕ)) → HoldsRows w n l m → HoldsRows w n l m′ → m ≡ m′

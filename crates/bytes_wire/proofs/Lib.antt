@@ -1,2 +1,2 @@
 -- Laws that belong to no one function.
-mod Paste
+pub mod Paste

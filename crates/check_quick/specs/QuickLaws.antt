@@ -12,6 +12,7 @@ use Rattle.spec_lists.specs.Lists.{if_then_else_, any, isEmpty}
 use Rattle.spec_lists.specs.ListLaws.{any-reverse, empty-count}
 use Rattle.spec_lists.specs.Order.{upsert, sortUnique}
 use Rattle.spec_lists.specs.OrderLaws.{upsert-cases}
+use Rattle.spec_lists.specs.ListLaws.{any-map}
 use Rattle.spec_patch.specs.Patch.{Operation, Envelope, Patch}
 use Rattle.spec_checks.specs.Finding.{Finding, findingKey, report, checkEach}
 use Rattle.spec_patch.specs.Read.{SetReading, patches, fault}
@@ -107,10 +108,6 @@ abbrev afterEach : List ℕ → Option Envelope → List Patch → Bool
 afterEach ids previous [] = false
 afterEach ids previous (p ∷ ps) = afterFound ids previous (p .envelope) || afterEach (ids ++ (p .envelope .id ∷ [])) (some (p .envelope)) ps
 
-pub any-map : (test : ℕ → Bool) (l : List Patch) → any test (map idOf l) ≡ any (λ (q : Patch). test (idOf q)) l
-any-map test [] = refl
-any-map test (q ∷ l) = ap (λ t. test (idOf q) || t) (any-map test l)
-
 pub map-snoc : (l : List Patch) (p : Patch) → map idOf (l ++ (p ∷ [])) ≡ map idOf l ++ (idOf p ∷ [])
 map-snoc [] p = refl
 map-snoc (q ∷ l) p = ap (λ m. idOf q ∷ m) (map-snoc l p)
@@ -125,7 +122,7 @@ unfolding afterFound afterFindings duplicateIdFindings idSeen
 after-found done p =
     let same : ℕ → Bool = λ n. eqb n (p .envelope .id) in
     let there = any (λ (q : Patch). eqb (q .envelope .id) (p .envelope .id)) (reverse done) in
-    ap₂ _||_ (any-map same done ∙ sym (any-reverse (λ (q : Patch). eqb (q .envelope .id) (p .envelope .id)) done)) (previous-found (reverse done) p)
+    ap₂ _||_ (any-map idOf same (λ (q : Patch). same (idOf q)) (λ q. refl) done ∙ sym (any-reverse (λ (q : Patch). eqb (q .envelope .id) (p .envelope .id)) done)) (previous-found (reverse done) p)
     ∙ sym (found-append (report there _) (previousFindings (reverse done) p) ∙ ap (λ t. t || isFound (previousFindings (reverse done) p)) (found-report there _))
 
 each-found : (done ps : List Patch) → afterEach (map idOf done) (lastEnvelope (reverse done)) ps ≡ isFound (checkEach afterFindings (reverse done) ps)

@@ -9,6 +9,7 @@ use lib.ListN.{length, take, length-reverse}
 use Rattle.spec_lists.specs.ListLaws.{any-reverse, empty-count}
 use Rattle.spec_lists.specs.Order.{sortUnique}
 use Rattle.spec_lists.specs.OrderLaws.{upsert-new}
+use Rattle.spec_lists.specs.ListLaws.{any-map}
 use Rattle.spec_patch.specs.Sizes.{patchOperations}
 use Rattle.spec_patch.specs.Patch.{Operation, Patch}
 use Rattle.spec_checks.specs.Finding.{Finding, finding, findingKey, kindNumber, report, checkEach, emptyOperations, duplicatePatchId}
@@ -26,7 +27,7 @@ use Rattle.check_findings.specs.EnvelopeChecks.{envelopeRow}
 use Rattle.check_findings.specs.Ids.{idSeen}
 use Rattle.check_findings.specs.InsertFindings.{insertedAll}
 use Rattle.check_findings.specs.InsertFindingsLaws.{Inserted, kept-all}
-use Rattle.check_quick.specs.QuickLaws.{idOf, lastEnvelope, any-map}
+use Rattle.check_quick.specs.QuickLaws.{idOf, lastEnvelope}
 use Rattle.check_set.specs.Listed.{tableLength, headFindings, previousListed, afterListed, listedTo, FindingsListedAs}
 
 -- ---- a patch
@@ -59,7 +60,7 @@ unfolding afterListed afterFindings duplicateIdFindings idSeen
 after-listed done p =
     let same : ℕ → Bool = λ n. eqb n (p .envelope .id) in
     ap₂ (λ (t : Bool) (l : List Finding). report t (finding duplicatePatchId (p .envelope .id) (p .envelope .sequence)) ++ l)
-    (any-map same done ∙ sym (any-reverse (λ (q : Patch). eqb (q .envelope .id) (p .envelope .id)) done)) (previous-listed (reverse done) p)
+    (any-map idOf same (λ (q : Patch). same (idOf q)) (λ q. refl) done ∙ sym (any-reverse (λ (q : Patch). eqb (q .envelope .id) (p .envelope .id)) done)) (previous-listed (reverse done) p)
 
 -- ---- tables
 

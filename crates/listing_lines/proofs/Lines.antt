@@ -1,16 +1,13 @@
 -- A line for each row of a table: the row at a position is that of the list's element there.
-use Prim.Native.Nat.{ℕ, zero, suc, _+_, _*_, _/_, _<_}
+use Prim.Native.Nat.{ℕ, zero, suc, _+_, _<_}
 use mathlib.Core.Path.{_≡_, refl, sym, ap, _∙_, subst}
 use mathlib.Core.List.{List, [], _∷_, _++_, append-nil, map, flatMap}
-use native.Mathlib.Nat.{div-lt-iff-lt-mul}
 use native.Mathlib.Numerals.{add-one}
 use native.Mathlib.Omega.{arith}
-use lib.ListN.{length, take, getD, length-map}
+use lib.ListN.{length, take, getD}
 use Rattle.spec_lists.specs.Lists.{All}
 use Rattle.spec_lists.specs.ListLaws.{flatMap-append}
 use Rattle.bytes_printer.specs.declared.Printed.{Printed}
-use Rattle.bytes_records.specs.Table.{HoldsRows}
-use Rattle.bytes_records.specs.TableLaws.{rows-fit}
 use Rattle.bytes_printer.specs.Prints.{Prints}
 use Rattle.bytes_printer.specs.PrintsLaws.{_⨾_, prints-same}
 use Rattle.listing_lines.specs.declared.RowKind.{RowKind}
@@ -30,16 +27,6 @@ module _ {A : Type 0} (Fits : A → Type 0) (row : A → List ℕ) where
   element-at (x ∷ xs) (suc i) h fit =
       let e = element-at xs i (omega arith) (fit .1) in
       record { element = e .element; fits = e .fits; stored = e .stored; more = ap (λ (l : List A). x ∷ l) (e .more) }
-
-  module _ {width count : ℕ} {table : List ℕ} (xs : List A) (t : HoldsRows width count table (map row xs)) where
-    pub holds-length : length xs ≡ count
-    holds-length = sym (length-map xs row) ∙ t .counted
-
-    -- a table has room for what it holds
-    pub not-too-many : 0 < width → length table / width < count → ⊥
-    not-too-many some-width h =
-        let past : length table < count * width = div-lt-iff-lt-mul some-width .0 h in
-        omega (arith, rows-fit t)
 
   -- the line of the element at a position, behind those before it
   pub line-more : (line : A → List ℕ) (xs : List A) (i : ℕ) (e : ElementAt Fits row xs i) {l m n : List ℕ} {at r s : Printed} → Prints l at (flatMap line (take i xs)) m r → Prints m r (line (e .element)) n s

@@ -11,6 +11,7 @@ use Rattle.spec_lists.specs.Order.{sortUnique}
 use Rattle.spec_projection.specs.Projection.{Entry, Projection, empty}
 use Rattle.spec_projection.specs.Valid.{FitsBinding, FitsNodeAvailability, FitsEntry, Valid}
 use Rattle.spec_projection.specs.ValidLaws.{empty-valid}
+use Rattle.spec_projection.specs.Determined.{projection-equal}
 use Rattle.spec_lengths.specs.Lengths.{collectionsIn, lengthsIn, collectionLengths, FitsLength}
 use Rattle.spec_lengths.specs.LengthsLaws.{few-lengths, lengths-fit}
 use Rattle.bytes_records.specs.Moves.{zeros}
@@ -64,9 +65,6 @@ module _ {A : Type 0} (row : A → List ℕ) (width capacity : ℕ) {n m : ℕ} 
   one-table = holds-bytes width m t u (map row l) (subst (λ (k : ℕ). HoldsRows width k t (map row l)) one-count (s .rows)) (v .rows) (s .size ∙ sym (v .size))
 
 -- ---- the three tables
-
-projection-equal : (p q : Projection) → p .bindings ≡ q .bindings → p .availabilities ≡ q .availabilities → p .entries ≡ q .entries → p ≡ q
-projection-equal p q b a e = λ i. record { bindings = b i; availabilities = a i; entries = e i }
 
 -- a state stores at most one projection
 pub one-projection : (s : LocalProjectionState) (p q : Projection) → Stores s p → Stores s q → p ≡ q

@@ -12,15 +12,11 @@ use lib.ListN.{length, drop, length-map, length-replicate, drop-of-length-le}
 use Rattle.spec_lists.specs.ListLaws.{and-left, and-right}
 use Rattle.spec_patch.specs.Sizes.{setBytes, projectionBindings, projectionAvailabilities, projectionEntries}
 use Rattle.spec_lists.specs.Lists.{if_then_else_}
-use Rattle.spec_lists.specs.Bytes.{Bytes}
-use Rattle.spec_patch.specs.Patch.{Patch}
 use Rattle.spec_patch.specs.Edition.{Edition}
-use Rattle.spec_patch.specs.Read.{patches, readSet}
 use Rattle.projection_patch.specs.ReadAnswers.{answer, anywhere}
 use Rattle.projection_patch.specs.declared.read_values.ProjectionPatchReadFault.the-variants.{OverCapacity}
-use Rattle.patch_sets.specs.Walk.{readHeading, encodeHeading}
-use Rattle.patch_walk.specs.Steps.{firstCursor, openAnswer, AtSteps}
-use Rattle.patch_walk.specs.StepsLaws.{opens, at-start}
+use Rattle.patch_sets.specs.Walk.{readHeading}
+use Rattle.patch_walk.specs.Steps.{firstCursor, openAnswer}
 use Rattle.patch_walk.specs.declared.SetCursor.{SetCursor}
 use Rattle.patch_walk.specs.declared.SetOpening.the-variants as opening
 use Rattle.spec_projection.specs.Projection.{Projection}
@@ -170,16 +166,6 @@ opened-short ed set c e = go (leb (length set) setBytes) refl e
     go : (t : Bool) → leb (length set) setBytes ≡ t → (if t then answer (anywhere (λ n. n)) (λ count from. opening.At (firstCursor count from)) opening.Refused (length set) (readHeading ed set) else opening.Refused OverCapacity) ≡ opening.At c → length set ≤ setBytes
     go true is e = leb-true (length set) setBytes is
     go false is e = absurd (let z : _≡_ {A = ℕ} 0 1 = cc e in omega arith)
-
--- a readable set is opened before its first patch
-module _ (ed : Edition) (set : List ℕ) (all : Bytes set) (ps : List Patch) (readable : readSet ed set ≡ patches ps) where
-  pub opened-at : (c : SetCursor) → openAnswer ed set ≡ opening.At c → AtSteps ed set c [] ps
-  opened-at c e =
-      let same : firstCursor (length ps) (length (encodeHeading ed (length ps))) ≡ c = cc (sym (opens ed set all ps readable) ∙ e) in
-      subst (λ d. AtSteps ed set d [] ps) same (at-start ed set all ps readable)
-
-  pub never-unopened : (f : ProjectionPatchReadFault) → openAnswer ed set ≡ opening.Refused f → ⊥
-  never-unopened f e = let z : _≡_ {A = ℕ} 0 1 = cc (sym (opens ed set all ps readable) ∙ e) in omega arith
 
 -- ---- what came of a run
 

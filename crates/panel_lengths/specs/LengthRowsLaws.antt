@@ -16,7 +16,6 @@ use Rattle.spec_lists.specs.ListLaws.{all-member, getD-member, test-cases}
 use Rattle.spec_lists.specs.Order.{lookup}
 use Rattle.spec_lists.specs.BytesLaws.{length-littleEndian}
 use Rattle.spec_patch.specs.Sizes.{projectionEntries}
-use Rattle.spec_patch.specs.Patch.{unsigned}
 use Rattle.spec_patch.specs.Encode.{u64}
 use Rattle.spec_projection.specs.Projection.{Entry}
 use Rattle.spec_projection.specs.Valid.{FitsEntry}
@@ -27,6 +26,7 @@ use Rattle.bytes_records.specs.MovesLaws.{length-zeros, drop-zeros}
 use Rattle.bytes_records.specs.TableLaws.{zeros-split, rows-used, rows-padded, rows-fit, before-length, row-split}
 use Rattle.panel_rows.specs.Rows.{idWidth, countWidth, lengthAt, lengthWidth, lengthRow, fieldAt}
 use Rattle.panel_rows.specs.RowsLaws.{field-behind}
+use Rattle.panel_rows.specs.RowsLaws.{noEntry}
 use Rattle.local_projection_state.specs.Stores.{Stored, StoredLengths}
 use Rattle.panel_plan.specs.PlanRows.{sourceNumber, plannedEntryRow, plannedEntryWidth, PlannedEntries}
 use Rattle.panel_lengths.specs.Runs.{collectionsFrom}
@@ -127,10 +127,6 @@ collections-are plan cs h zero i e = let none : length cs ≤ i = omega arith in
 collections-are plan cs h (suc n) i e =
     let below : i < length cs = omega arith in
     ap₂ (λ (a : ℕ) (b : List ℕ). a ∷ b) (h i below) (collections-are plan cs h n (suc i) (omega arith)) ∙ sym (drop-cons cs i 0 below)
-
--- an entry that stands for none
-noEntry : Entry
-noEntry = record { collection = 0; key = 0; mark = 0; value = unsigned 0 }
 
 module _ (count : ℕ) (plan : List ℕ) (es : List Entry) (s : PlannedEntries count plan es) (fit : All FitsEntry es) where
   planned-count : length es ≡ count

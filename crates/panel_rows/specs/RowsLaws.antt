@@ -183,6 +183,10 @@ module _ (a : NodeAvailability) where
       ap availabilityIn (sym (append-assoc (u64 (a .node)) (u64 (a .mark)) (availabilityByte (a .availability) ∷ [])))
       ∙ getD-at (u64 (a .node) ++ u64 (a .mark)) (availabilityByte (a .availability)) [] 0 availabilityAt (simp (length-append, length-littleEndian))
 
+-- an entry that stands for none
+unfoldable pub noEntry : Entry
+noEntry = record { collection = 0; key = 0; mark = 0; value = unsigned 0 }
+
 module _ (e : Entry) (h : FitsEntry e) where
   pub entry-collection : collectionIn (entryRow e) ≡ e .collection
   unfolding entryRow

@@ -15,7 +15,7 @@ use Rattle.spec_patch.specs.Edition.{Edition}
 use Rattle.spec_patch.specs.Encode.{u32, heading, encodeEnvelope, encodeCounted, encodePatch, encode}
 use Rattle.spec_checks.specs.Findings.{findings}
 use Rattle.spec_import.specs.Import as model
-use Rattle.spec_import.specs.Import.{Term, insertOf, patchOf, importPatch}
+use Rattle.spec_import.specs.Import.{Term, insertOf, patchOf, importPatch, setOf}
 use Rattle.projection_patch.specs.Meaning.{envelopeOf}
 use Rattle.projection_patch.specs.declared.patch.ProjectionPatch.{ProjectionPatch}
 use Rattle.patch_part_writer.specs.Extent.{headSize}
@@ -29,7 +29,7 @@ use Rattle.patch_import.specs.declared.answer.ImportRefusal.the-variants
 use Rattle.patch_import.specs.declared.judgement.PatchJudgement.{PatchJudgement}
 use Rattle.patch_import.specs.declared.judgement.PatchJudgement.the-variants.{Fits, Refused}
 use Rattle.patch_import.specs.Answers.{importRefusalOf}
-use Rattle.patch_import.specs.Survey.{insertBytes, setOf}
+use Rattle.patch_import.specs.Survey.{insertBytes}
 use Rattle.patch_import.specs.Judgement.{judgedPatch}
 
 regrouped : (a b c d x : List ℕ) → a ++ (b ++ ((c ++ (d ++ x)) ++ [])) ≡ ((a ++ b) ++ (c ++ d)) ++ x

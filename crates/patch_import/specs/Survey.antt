@@ -2,12 +2,11 @@
 use Prim.Native.Nat.{ℕ, _+_, _*_, _≤_}
 use mathlib.Core.Path.{_≡_}
 use mathlib.Core.Bool.{Bool, false, _||_}
-use mathlib.Core.List.{List, [], _∷_, map, flatMap}
+use mathlib.Core.List.{List, [], map, flatMap}
 use lib.ListN.{length}
 use Rattle.spec_patch.specs.Sizes.{patchOperations, textBytes}
-use Rattle.spec_patch.specs.Patch.{Envelope, Patch}
 use Rattle.spec_patch.specs.Encode.{encodeOperation}
-use Rattle.spec_import.specs.Import.{Term, lines, Terms, terms, faulty, readTerms, insertOf, patchOf}
+use Rattle.spec_import.specs.Import.{Term, lines, Terms, terms, faulty, readTerms, insertOf}
 use Rattle.projection_patch.specs.Meaning.{nodeTo, keyTo}
 use Rattle.projection_patch.specs.declared.patch.OptionalKey.the-variants as key
 use Rattle.projection_patch.specs.declared.patch.ProjectionPatchValue.the-variants.{Text}
@@ -61,7 +60,3 @@ heldOf list = heldIn (readTerms 0 (lines list))
 pub record Writable (collection : ℕ) (list : List ℕ) (from room : ℕ) : Type 0 where
   pub held : readTerms 0 (lines list) ≡ terms (heldOf list)
   pub enough : from + length (insertBytes collection (heldOf list)) ≤ room
-
--- the set of one patch
-abbrev pub setOf : ℕ → Envelope → List Term → List Patch
-setOf collection e ts = patchOf collection e ts ∷ []

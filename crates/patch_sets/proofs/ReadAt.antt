@@ -19,7 +19,7 @@ use Rattle.projection_patch.specs.declared.read_values.CountRead.{CountRead}
 use Rattle.projection_patch.specs.declared.read_values.CountRead.the-variants as count-read
 use Rattle.projection_patch.specs.declared.read_operations.OperationRead.{OperationRead}
 use Rattle.projection_patch.specs.declared.read_operations.OperationRead.the-variants as operation-read
-use Rattle.projection_patch.proofs.At.{from}
+use Rattle.spec_lists.specs.ListLaws.{lent-from}
 use Rattle.projection_patch.proofs.Answers.{Got, NotGot, operation-got, no-operation}
 use Rattle.patch_sets.specs.Walk.{readHeading, readHead}
 use Rattle.patch_sets.specs.HeadLaws.{heading-codec, head-codec}
@@ -58,7 +58,7 @@ module _ (set : List ℕ) (at : ℕ) where
   module _ {r : PatchHeadRead} (ensured : r ≡ headAnswer (length (lentFrom set at)) (readHead (lentFrom set at))) where
     -- the answer is of the bytes from the position on
     head-answer : r ≡ headAnswer (length (drop at set)) (readHead (drop at set))
-    head-answer = ensured ∙ ap (λ (l : List ℕ). headAnswer (length l) (readHead l)) (from set at)
+    head-answer = ensured ∙ ap (λ (l : List ℕ). headAnswer (length l) (readHead l)) (lent-from set at)
 
     pub head-at : Bytes set → at ≤ length set → {head : ProjectionPatch} {taken : ℕ} → r ≡ head-read.Read head taken → HeadReadAt head taken
     head-at bytes here {head} {taken} told =
@@ -86,7 +86,7 @@ module _ (ed : Edition) (set : List ℕ) (at : ℕ) where
   module _ {r : OperationRead} (ensured : r ≡ operationAnswer (length (lentFrom set at)) (readOperation ed (lentFrom set at))) where
     -- the answer is of the bytes from the position on
     operation-answer : r ≡ operationAnswer (length (drop at set)) (readOperation ed (drop at set))
-    operation-answer = ensured ∙ ap (λ (l : List ℕ). operationAnswer (length l) (readOperation ed l)) (from set at)
+    operation-answer = ensured ∙ ap (λ (l : List ℕ). operationAnswer (length l) (readOperation ed l)) (lent-from set at)
 
     pub operation-at : Bytes set → at ≤ length set → {x : ProjectionPatchOperation} {taken : ℕ} → r ≡ operation-read.Read x taken → OperationReadAt x taken
     operation-at bytes here {x} {taken} told =

@@ -21,7 +21,7 @@ use Rattle.projection_patch.specs.declared.read_values.ProjectionPatchReadFault
 use Rattle.projection_patch.specs.declared.read_values.ProjectionPatchReadFault.the-variants.{Malformed}
 use Rattle.projection_patch.specs.declared.read_operations.OperationRead.{OperationRead}
 use Rattle.projection_patch.specs.declared.read_operations.OperationRead.the-variants as operation-read
-use Rattle.projection_patch.proofs.At.{from}
+use Rattle.spec_lists.specs.ListLaws.{lent-from}
 use Rattle.projection_patch.proofs.Answers.{operation-told, operation-got, got-some, retold, retold-refusal}
 use Rattle.patch_sets.specs.Walk.{readHead, encodeHead}
 use Rattle.patch_sets.specs.HeadLaws.{head-codec}
@@ -51,7 +51,7 @@ module _ (set : List ℕ) (c : SetCursor) where
   -- an operation that was read goes on by as many bytes
   module _ (check : Bool) (ed : Edition) {r : OperationRead} (ensured : r ≡ operationAnswer (length (lentFrom set (c .at))) (readOperationBy check ed (lentFrom set (c .at)))) where
     operation-answer : r ≡ operationAnswer (length (drop (c .at) set)) (readOperationBy check ed (drop (c .at) set))
-    operation-answer = ensured ∙ ap (λ (l : List ℕ). operationAnswer (length l) (readOperationBy check ed l)) (from set (c .at))
+    operation-answer = ensured ∙ ap (λ (l : List ℕ). operationAnswer (length l) (readOperationBy check ed l)) (lent-from set (c .at))
 
     pub operation-read-is : (x : ProjectionPatchOperation) (taken : ℕ) → r ≡ operation-read.Read x taken → set-step.Operation x (afterOperation c taken) ≡ operationStep check ed c set
     operation-read-is =
@@ -70,7 +70,7 @@ module _ (set : List ℕ) (c : SetCursor) where
   -- and so does a patch's head
   module _ {r : PatchHeadRead} (ensured : r ≡ headAnswer (length (lentFrom set (c .at))) (readHead (lentFrom set (c .at)))) where
     head-answer : r ≡ headAnswer (length (drop (c .at) set)) (readHead (drop (c .at) set))
-    head-answer = ensured ∙ ap (λ (l : List ℕ). headAnswer (length l) (readHead l)) (from set (c .at))
+    head-answer = ensured ∙ ap (λ (l : List ℕ). headAnswer (length l) (readHead l)) (lent-from set (c .at))
 
     pub head-read-is : (h : ProjectionPatch) (taken : ℕ) → r ≡ head-read.Read h taken → set-step.Head h (afterHead c h taken) ≡ headStep c set
     head-read-is =

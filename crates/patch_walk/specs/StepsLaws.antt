@@ -9,6 +9,7 @@ use borrow.Author.Tests.{lt-ltb, le-ltb, le-leb}
 use lib.ListN.{length, drop, length-append, length-drop}
 use lib.Seq.{drop-at, drop-drop}
 use Rattle.spec_lists.specs.Bytes.{Bytes}
+use Rattle.spec_lists.specs.ListLaws.{lent-from}
 use Rattle.spec_patch.specs.Sizes.{setBytes}
 use Rattle.spec_patch.specs.Patch.{Operation, Patch}
 use Rattle.spec_patch.specs.Edition.{Edition}
@@ -19,7 +20,7 @@ use Rattle.spec_patch.specs.ReadLaws.{reads-operation}
 use Rattle.spec_patch.specs.SetLaws.{was-encoded}
 use Rattle.projection_patch.specs.Meaning.{operationTo, operationOf}
 use Rattle.projection_patch.specs.ReadAnswers.{answer, anywhere, lentFrom}
-use Rattle.projection_patch.specs.TextLaws.{operation-encoded-back, lent-from}
+use Rattle.projection_patch.specs.TextLaws.{operation-encoded-back}
 use Rattle.projection_patch.specs.declared.patch.ProjectionPatch.{ProjectionPatch}
 use Rattle.projection_patch.specs.declared.patch.ProjectionPatchOperation.{ProjectionPatchOperation}
 use Rattle.projection_patch.specs.declared.read_values.ProjectionPatchReadFault.{ProjectionPatchReadFault}

@@ -1,7 +1,7 @@
 -- The list that heads and operations stand for: its counts, its tests and its bytes, where the texts lie within the texts.
 use Prim.Native.Nat.{ℕ, suc, _+_, _≤_}
 use mathlib.Core.Path.{_≡_, refl, sym, ap, ap₂, _∙_}
-use mathlib.Core.Bool.{Bool, true, false, _&&_}
+use mathlib.Core.Bool.{Bool, true, _&&_}
 use mathlib.Core.List.{List, [], _∷_, _++_, map, flatMap}
 use native.Mathlib.Omega.{arith}
 use borrow.Author.Tests.{leb-true}
@@ -9,7 +9,7 @@ use lib.Dec.{leb}
 use lib.ListN.{length, take, drop, length-append, length-drop, length-map}
 use lib.Seq.{length-take-le, take-add}
 use Rattle.spec_lists.specs.Lists.{all}
-use Rattle.spec_lists.specs.ListLaws.{and-left, and-right}
+use Rattle.spec_lists.specs.ListLaws.{and-left, and-right, all-test-append}
 use Rattle.spec_lists.specs.BytesLaws.{length-littleEndian}
 use Rattle.spec_patch.specs.Sizes.{patchOperations, textBytes}
 use Rattle.spec_patch.specs.Patch as model
@@ -29,14 +29,6 @@ use Rattle.patch_part_writer.specs.Parts.{shortText, insideTexts}
 use Rattle.patch_writer.specs.Set.{operationAt, listFrom, operationTotal, headSizes, operationSizes, fewOperations, shortAt, insideAt, allowedAt, fewAt}
 
 -- ---- tests of lists
-
-all-append : {A : Type 0} (test : A → Bool) (a b : List A) → all test (a ++ b) ≡ (all test a && all test b)
-all-append test [] b = refl
-all-append test (x ∷ a) b = ap (λ (t : Bool). test x && t) (all-append test a b) ∙ sym (assoc (test x) (all test a) (all test b))
-  where
-    assoc : (p q r : Bool) → ((p && q) && r) ≡ (p && (q && r))
-    assoc true q r = refl
-    assoc false q r = refl
 
 -- a test of what elements stand for is a test of the elements, where that holds of each that passes a guard
 all-as : {A B : Type 0} (guard : A → Bool) (f : A → B) (test : B → Bool) (here : A → Bool) → ((a : A) → guard a ≡ true → test (f a) ≡ here a) → (l : List A) → all guard l ≡ true → all test (map f l) ≡ all here l
@@ -111,7 +103,7 @@ module _ (texts : List ℕ) where
 
     module _ (test : OperationPlace → Bool) (e : all test (take (operationTotal (h ∷ hs)) ps) ≡ true) where
       both : (all test (take (h .«operation_count») ps) && all test (take (operationTotal hs) (drop (h .«operation_count») ps))) ≡ true
-      both = sym (all-append test (take (h .«operation_count») ps) (take (operationTotal hs) (drop (h .«operation_count») ps))) ∙ sym (parted (all test) h hs ps) ∙ e
+      both = sym (all-test-append test (take (h .«operation_count») ps) (take (operationTotal hs) (drop (h .«operation_count») ps))) ∙ sym (parted (all test) h hs ps) ∙ e
 
       first-pass : all test (take (h .«operation_count») ps) ≡ true
       first-pass = and-left (all test (take (h .«operation_count») ps)) _ both
@@ -135,7 +127,7 @@ module _ (texts : List ℕ) where
       ap₂ (λ (a b : Bool). a && b)
       (all-as (insideAt texts) (operationAt texts) (valuePasses test) here g (take n ps) (first-pass h hs ps enough (insideAt texts) e))
       (values-list test here g hs (drop n ps) (others-enough h hs ps enough) (others-pass h hs ps enough (insideAt texts) e))
-      ∙ sym (all-append here (take n ps) (take (operationTotal hs) (drop n ps)))
+      ∙ sym (all-test-append here (take n ps) (take (operationTotal hs) (drop n ps)))
       ∙ sym (parted (all here) h hs ps)
 
   pub size-list : (hs : List ProjectionPatch) (ps : List OperationPlace) → operationTotal hs ≤ length ps → all (insideAt texts) (take (operationTotal hs) ps) ≡ true

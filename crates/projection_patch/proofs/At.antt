@@ -5,8 +5,8 @@ use mathlib.Core.List.{List}
 use mathlib.Core.Option.{Option, none, some}
 use native.Mathlib.Numerals.{add-one}
 use native.Mathlib.Omega.{arith}
-use lib.ListN.{length, getD, take, drop, length-drop, drop-of-length-le}
-use lib.Seq.{drop-cons, drop-drop, take-all}
+use lib.ListN.{length, getD, drop, length-drop, drop-of-length-le}
+use lib.Seq.{drop-cons, drop-drop}
 use lib.Dec.{lit<}
 use lib.IntN.{ℤ}
 use Rattle.spec_patch.specs.Reader.{Fault, read, refused, malformed, Result, Reader, onward, pair, byte, number}
@@ -26,10 +26,6 @@ use Rattle.projection_patch.specs.declared.read_values.NumbersRead.the-v
 -- the position after the first k elements
 pub position : (l : List ℕ) (k : ℕ) → k ≤ length l → length l - length (drop k l) ≡ k
 position l k h = omega (arith, length-drop k l)
-
--- a part from an index on, as the code lends it
-pub from : (l : List ℕ) (k : ℕ) → take (length l - k) (drop k l) ≡ drop k l
-from l k = take-all (length l - k) (drop k l) (omega (arith, length-drop k l))
 
 module _ (l : List ℕ) (at : ℕ) where
   pub byte-at : at < length l → byte (drop at l) ≡ read (getD l at 0) (drop (at + 1) l)

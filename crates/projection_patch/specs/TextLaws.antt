@@ -6,8 +6,8 @@ use mathlib.Core.List.{List, [], _∷_, _++_, append-nil, append-assoc}
 use mathlib.Core.Bool.{Bool}
 use mathlib.Core.Option.{Option, none, some}
 use native.Mathlib.Omega.{arith}
-use lib.ListN.{length, take, drop, length-append, length-drop}
-use lib.Seq.{take-at, drop-at, take-all}
+use lib.ListN.{length, take, drop, length-append}
+use lib.Seq.{take-at, drop-at}
 use mir.Syntax.{w64}
 use mir.Val.{ofZ}
 use Rattle.spec_lists.specs.Bytes.{Bytes}
@@ -18,7 +18,6 @@ use Rattle.spec_patch.specs.Reader.{read}
 use Rattle.spec_patch.specs.Read.{readOperationBy}
 use Rattle.spec_patch.specs.ReadLaws.{operation-codec-by}
 use Rattle.projection_patch.specs.Meaning.{beforeTo, beforeOf, quadTo, quadOf, availabilityTo, availabilityValueOf, valueTo, valueOf, operationTo, operationOf}
-use Rattle.projection_patch.specs.ReadAnswers.{lentFrom}
 
 -- ---- the text of an operation, or no bytes where it has none
 
@@ -133,8 +132,3 @@ operation-back check ed part h o rest q =
     let whole : part ≡ encodeOperation o ++ rest = operation-codec-by check ed .only h o rest q .1 in
     let end : length part - length rest ≡ length (encodeOperation o) = omega (arith, ap length whole ∙ length-append (encodeOperation o) rest) in
     ap₂ (λ (l : List ℕ) (n : ℕ). operationOf l (operationTo n o)) whole end ∙ operation-encoded-back o rest
-
--- ---- parts of a set
-
-pub lent-from : (set : List ℕ) (at : ℕ) → lentFrom set at ≡ drop at set
-lent-from set at = take-all (length set - at) (drop at set) (omega (arith, length-drop at set))

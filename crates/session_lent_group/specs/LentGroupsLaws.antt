@@ -46,9 +46,6 @@ own-heads k own first e =
     let rest = and-right (anchorsShaped (length (k .nodes)) (length (k .pairs)) (length (k .collections))) (held && workShaped first) e in
     (half-head (own .head) (length (own .bindings)) (length (own .availability)) (length (own .entries)) (and-left held (workShaped first) rest), work-head first (and-right held (workShaped first) rest))
 
-pub both-shaped : (x y : Bool) → x ≡ true → y ≡ true → (x && y) ≡ true
-both-shaped x y e f = rw (e, f) refl
-
 -- ---- the cursor that a half tells
 
 held-cursor : (k : Anchors) (h : Half) (m : Session) → HeldIn k h m → stateAt (h .head) .cursor ≡ m .cursor

@@ -2,19 +2,19 @@
 -- them the calls by value that they stand for.
 use Prim.Native.Nat.{ℕ, _+_, _-_}
 use mathlib.Core.Path.{_≡_}
-use mathlib.Core.Bool.{Bool, true, false}
 use mathlib.Core.List.{List, [], _∷_}
 use lib.ListN.{length, getD}
 use Rattle.spec_lists.specs.Lists.{All}
 use Rattle.spec_patch.specs.Edition.{Edition}
 use Rattle.spec_patch.specs.Encode.{encode}
 use Rattle.spec_session.specs.Session.{at}
-use Rattle.spec_splitting.specs.Splitting.{Piece, references}
+use Rattle.spec_splitting.specs.Splitting.{Piece, references, isRejected}
 use Rattle.session_steps.specs.declared.answers.ProjectionPatchApplicationDisposition.the-variants.{Applied}
 use Rattle.session_steps.specs.declared.answers.ProjectionPatchApplicationResult.{ProjectionPatchApplicationResult}
+use Rattle.session_steps.specs.Answers.{dispositionTold}
 use Rattle.shell_player.specs.Batches.{batchOf}
 use Rattle.shell_player.specs.declared.batch.ProjectionPatchBatch.{ProjectionPatchBatch}
-use Rattle.session_splitting.specs.Calls.{refused}
+use Rattle.session_splitting.specs.Calls.{UnlessRejected}
 use Rattle.session_lent.specs.Head.{stateAt}
 use Rattle.session_lent.specs.declared.batch.LentBatch.the-variants.{Answered}
 use Rattle.session_lent.specs.Halves.{Anchors, Half}
@@ -34,17 +34,12 @@ abbrev pub LentSent : Edition → Anchors → Memory → ℕ → Piece → LentC
 LentSent ed k p n q c =
     LentBatchCall ed (record { session = getD (p .held .head) 0 0; sequence = n; patches = length (q .patches); stimulusBytes = q .stimulusBytes }) (references q) (encode ed (q .patches)) k p (Answered (c .result)) (c .written)
 
--- nothing follows a refusal
-abbrev pub Further : Bool → List LentCall → Type 0 → Type 0
-Further true cs on = cs ≡ []
-Further false cs on = on
-
 -- piece i, from 0, carries the number n + i; each goes to the memory just left, until one is refused
 abbrev pub LentCalls : Edition → Anchors → Memory → ℕ → List Piece → List LentCall → Type 0
 LentCalls ed k p n [] [] = Unit {0}
 LentCalls ed k p n [] (c ∷ cs) = ⊥
 LentCalls ed k p n (q ∷ qs) [] = ⊥
-LentCalls ed k p n (q ∷ qs) (c ∷ cs) = LentSent ed k p n q c × Further (refused (c .result .disposition)) cs (LentCalls ed k (afterCall p c) (n + 1) qs cs)
+LentCalls ed k p n (q ∷ qs) (c ∷ cs) = LentSent ed k p n q c × UnlessRejected (isRejected (dispositionTold (c .result .disposition))) cs (LentCalls ed k (afterCall p c) (n + 1) qs cs)
 
 -- the memory that was left last
 unfoldable pub lastMemory : Memory → List LentCall → Memory

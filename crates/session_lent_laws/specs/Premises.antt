@@ -19,7 +19,7 @@ use Rattle.spec_session.specs.Lifecycle as step
 use Rattle.spec_session.specs.Lifecycle.{LocalState, applied}
 use Rattle.spec_session.specs.Batch.{BatchEnvelope, pass, batch}
 use Rattle.spec_session.specs.BatchLaws.{never-passes}
-use Rattle.spec_splitting.specs.Splitting.{Piece, references, patchesOf, Given}
+use Rattle.spec_splitting.specs.Splitting.{Piece, references, isRejected, patchesOf, Given}
 use Rattle.spec_examples.specs.Opened.{openedAll}
 use Rattle.spec_examples.specs.SplitInstances.{patchNumbered, startSession, piece}
 use Rattle.active_projection_target_catalog.specs.Catalog.{pairOf, pairTo}
@@ -33,7 +33,6 @@ use Rattle.session_gates.specs.Lent.{Lent}
 use Rattle.session_steps.specs.Answers.{dispositionTold, answerAt, appliedRow}
 use Rattle.session_steps.specs.declared.answers.ProjectionPatchApplicationDisposition.the-variants.{Applied}
 use Rattle.session_steps.specs.declared.answers.ProjectionPatchApplicationResult.{ProjectionPatchApplicationResult}
-use Rattle.session_splitting.specs.Calls.{refused}
 use Rattle.session_lent.specs.Head.{stateAt, limitsAt}
 use Rattle.session_lent.specs.HeadLaws.{state-told, limits-told, counts-told}
 use Rattle.session_lent.specs.LentSession.{LentSession}
@@ -200,5 +199,5 @@ unfolding openedAll betweenPieces afterPiece startSession firstPiece secondPiece
 second-sent = some-call v1 betweenPieces few-start betweenMemory between-panel refl (sentTo betweenMemory 41 secondPiece) (references secondPiece) (encode v1 (secondPiece .patches)) refl refl refl refl
 
 pub lent-premises-met : AllAppliedIn memory 40 (firstPiece ∷ secondPiece ∷ []) (premiseCall startSession memory 40 wholePiece) (premiseCall startSession memory 40 firstPiece ∷ premiseCall betweenPieces betweenMemory 41 secondPiece ∷ [])
-unfolding refused betweenPieces
+unfolding isRejected dispositionTold betweenPieces
 lent-premises-met = lent-all-applied v1 someAnchors memory startSession start-panel 40 wholePiece (firstPiece ∷ secondPiece ∷ []) given _ whole-sent _ (first-sent, (second-sent, tt)) refl

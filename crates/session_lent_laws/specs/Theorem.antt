@@ -8,17 +8,18 @@ use Rattle.spec_lists.specs.Lists.{All}
 use Rattle.spec_patch.specs.Edition.{Edition}
 use Rattle.spec_patch.specs.Encode.{encode}
 use Rattle.spec_session.specs.Session.{Session}
-use Rattle.spec_splitting.specs.Splitting.{Piece, references, Given}
+use Rattle.spec_splitting.specs.Splitting.{Piece, references, isRejected, Given}
 use Rattle.session_lifecycle.specs.Meaning.{cursorOf}
 use Rattle.session_steps.specs.declared.answers.ProjectionPatchApplicationDisposition.{ProjectionPatchApplicationDisposition}
+use Rattle.session_steps.specs.Answers.{dispositionTold}
 use Rattle.shell_player.specs.declared.session.ShellSession.{ShellSession}
-use Rattle.session_splitting.specs.Calls.{envelopeFor, Sent, refused, UnlessRejected, Calls, lastOf}
+use Rattle.session_splitting.specs.Calls.{envelopeFor, Sent, UnlessRejected, Calls, lastOf}
 use Rattle.session_splitting.specs.Claim.{WasApplied, CallsInPieces}
 use Rattle.session_splitting.specs.Theorem.{session-whole-and-pieces}
 use Rattle.session_lent.specs.Head.{stateAt}
 use Rattle.session_lent.specs.Halves.{Anchors, Half}
 use Rattle.session_lent_laws.specs.Memory.{Memory, Panel, exchanged, structIn}
-use Rattle.session_lent_laws.specs.Calls.{LentCall, afterCall, LentSent, Further, LentCalls, lastMemory, asBatch, asBatches, CallApplied, AllAppliedIn}
+use Rattle.session_lent_laws.specs.Calls.{LentCall, afterCall, LentSent, LentCalls, lastMemory, asBatch, asBatches, CallApplied, AllAppliedIn}
 use Rattle.session_lent_laws.specs.StructLaws.{struct-holds, cursor-told}
 use Rattle.session_lent_laws.specs.CallLaws.{lent-is-call, lent-goes-on}
 
@@ -40,9 +41,9 @@ lent-calls ed k [] (x ∷ cs) p m n panel c = absurd c
 lent-calls ed k (q ∷ qs) [] p m n panel c = absurd c
 lent-calls ed k (q ∷ qs) (x ∷ cs) p m n panel c =
     let next = next-panel ed k p m panel n q x (c .0) in
-    (lent-sent ed k p m panel n q x (c .0), go (refused (x .result .disposition)) (c .1) (λ on. lent-calls ed k qs cs (afterCall p x) (next .0) (n + 1) (next .1) on))
+    (lent-sent ed k p m panel n q x (c .0), go (isRejected (dispositionTold (x .result .disposition))) (c .1) (λ on. lent-calls ed k qs cs (afterCall p x) (next .0) (n + 1) (next .1) on))
   where
-    go : (t : Bool) → Further t cs (LentCalls ed k (afterCall p x) (n + 1) qs cs)
+    go : (t : Bool) → UnlessRejected t cs (LentCalls ed k (afterCall p x) (n + 1) qs cs)
         → (LentCalls ed k (afterCall p x) (n + 1) qs cs → Calls ed (structIn k (afterCall p x .held)) (n + 1) qs (asBatches k (afterCall p x) cs))
         → UnlessRejected t (asBatches k (afterCall p x) cs) (Calls ed (structIn k (afterCall p x .held)) (n + 1) qs (asBatches k (afterCall p x) cs))
     go true none ih = ap (asBatches k (afterCall p x)) none

@@ -6,11 +6,10 @@ use mathlib.Core.List.{List, [], _∷_}
 use lib.ListN.{length}
 use Rattle.spec_patch.specs.Edition.{Edition}
 use Rattle.spec_patch.specs.Encode.{encode}
-use Rattle.spec_splitting.specs.Splitting.{Piece, references}
+use Rattle.spec_splitting.specs.Splitting.{Piece, references, isRejected}
 use Rattle.session_gates.specs.declared.gates.OrderedProjectionPatchBatchEnvelope.{OrderedProjectionPatchBatchEnvelope}
 use Rattle.shell_player.specs.declared.session.ShellSession.{ShellSession}
-use Rattle.session_steps.specs.declared.answers.ProjectionPatchApplicationDisposition.{ProjectionPatchApplicationDisposition}
-use Rattle.session_steps.specs.declared.answers.ProjectionPatchApplicationDisposition.the-variants.{Applied, NoChange, Rejected}
+use Rattle.session_steps.specs.Answers.{dispositionTold}
 use Rattle.shell_player.specs.declared.batch.ProjectionPatchBatch.{ProjectionPatchBatch}
 use Rattle.shell_player.specs.Batches.{BatchCall}
 
@@ -22,13 +21,8 @@ envelopeFor s n p = record { «session_id» = s .context .«session_id»; «sequ
 abbrev pub Sent : Edition → ShellSession → ℕ → Piece → ProjectionPatchBatch → Type 0
 Sent ed s n p b = BatchCall s (envelopeFor s n p) (references p) (encode ed (p .patches)) ed b
 
-unfoldable pub refused : ProjectionPatchApplicationDisposition → Bool
-refused Applied = false
-refused NoChange = false
-refused Rejected = true
-
 -- nothing follows a refusal
-abbrev pub UnlessRejected : Bool → List ProjectionPatchBatch → Type 0 → Type 0
+abbrev pub UnlessRejected : {A : Type 0} → Bool → List A → Type 0 → Type 0
 UnlessRejected true bs on = bs ≡ []
 UnlessRejected false bs on = on
 
@@ -37,7 +31,7 @@ abbrev pub Calls : Edition → ShellSession → ℕ → List Piece → List Proj
 Calls ed s n [] [] = Unit {0}
 Calls ed s n [] (b ∷ bs) = ⊥
 Calls ed s n (p ∷ ps) [] = ⊥
-Calls ed s n (p ∷ ps) (b ∷ bs) = Sent ed s n p b × UnlessRejected (refused (b .result .disposition)) bs (Calls ed (b .session) (n + 1) ps bs)
+Calls ed s n (p ∷ ps) (b ∷ bs) = Sent ed s n p b × UnlessRejected (isRejected (dispositionTold (b .result .disposition))) bs (Calls ed (b .session) (n + 1) ps bs)
 
 -- the session that was handed back last
 unfoldable pub lastOf : ShellSession → List ProjectionPatchBatch → ShellSession

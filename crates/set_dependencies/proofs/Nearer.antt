@@ -6,8 +6,9 @@ use mathlib.Core.List.{List, [], _∷_, _++_, flatten, append-assoc, append-nil,
 use mathlib.Core.Option.{Option, none, some}
 use native.Mathlib.Omega.{arith}
 use lib.ListN.{length, take, drop, length-take, length-drop, take-append-drop, drop-of-length-le}
-use lib.Seq.{take-all, drop-at, drop-drop}
+use lib.Seq.{drop-at, drop-drop}
 use borrow.Rule.Slice.PartMut.{midOf, putMid}
+use Rattle.spec_lists.specs.ListLaws.{lent-from}
 use Rattle.bytes_records.specs.Moves.{zeros}
 use Rattle.bytes_records.specs.Positions.{insertAt, moveAt}
 use Rattle.bytes_records.specs.Table.{HoldsRows, Changed, canInsert, canMove}
@@ -22,9 +23,6 @@ use Rattle.set_dependencies.specs.declared.settled_rows.SettledPlaces.{S
 -- ---- a part that is lent, from a position to the end
 
 module _ (from : ℕ) (xs : List ℕ) (within : from ≤ length xs) where
-  pub rest-lent : midOf from (length xs - from) xs ≡ drop from xs
-  rest-lent = take-all (length xs - from) (drop from xs) (omega (arith, length-drop from xs))
-
   pub rest-back : (ys : List ℕ) → drop from (putMid from (length xs - from) xs ys) ≡ ys
   rest-back ys =
       let gone : length (drop from xs) ≤ length xs - from = omega (arith, length-drop from xs) in
@@ -49,7 +47,7 @@ module _ {p : SettledPlaces} {table : List ℕ} {rows : List (List ℕ)} (h : Ro
       → RowsIn (record { start = p .start; count = p .count + 1 }) (putMid from (length table - from) table exit) (insertAt at row rows)
   inserted-behind from is part exit lent c same =
       let inside : from ≤ length table = omega (arith, is, h .size, h .low) in
-      let part-is : part ≡ drop (p .start * rowWidth) table = lent ∙ rest-lent from table inside ∙ ap (λ (n : ℕ). drop n table) is in
+      let part-is : part ≡ drop (p .start * rowWidth) table = lent ∙ lent-from table from ∙ ap (λ (n : ℕ). drop n table) is in
       let held : HoldsRows rowWidth (p .count) part rows = subst (λ (l : List ℕ). HoldsRows rowWidth (p .count) l rows) (sym part-is) (h .held) in
       let long : length part ≡ length table - from = ap length part-is ∙ length-drop (p .start * rowWidth) table ∙ omega (arith, is) in
       let put = c .made (c .told ∙ can-insert held at row within wide (omega (arith, long, is, h .size, h .low, room))) rows held in
@@ -68,7 +66,7 @@ module _ {p : SettledPlaces} {table : List ℕ} {rows : List (List ℕ)} (h : Ro
       → RowsIn (record { start = p .start - 1; count = p .count + 1 }) (putMid from (length table - from) table exit) (insertAt at row rows)
   inserted-before from is part exit lent c same =
       let inside : from ≤ length table = omega (arith, is, h .size, h .low) in
-      let part-is : part ≡ drop from table = lent ∙ rest-lent from table inside in
+      let part-is : part ≡ drop from table = lent ∙ lent-from table from in
       let next : from + rowWidth ≡ p .start * rowWidth = omega (arith, is, h .high, room) in
       let rest-is : drop rowWidth part ≡ drop (p .start * rowWidth) table = ap (drop rowWidth) part-is ∙ drop-drop rowWidth from table ∙ ap (λ (n : ℕ). drop n table) next in
       let rest : HoldsRows rowWidth (p .count) (drop rowWidth part) rows = subst (λ (l : List ℕ). HoldsRows rowWidth (p .count) l rows) (sym rest-is) (h .held) in
@@ -89,7 +87,7 @@ module _ {p : SettledPlaces} {table : List ℕ} {t : List Settled} (s : SettledI
   start = p .start * rowWidth
 
   pub rows-lent : SettledTable (p .count) (midOf start (length table - start) table) t
-  rows-lent = subst (λ (l : List ℕ). SettledTable (p .count) l t) (sym (rest-lent start table (start-within (s .rows)))) (settled-rows s)
+  rows-lent = subst (λ (l : List ℕ). SettledTable (p .count) l t) (sym (lent-from table start)) (settled-rows s)
 
   pub settles-in : (x : Option (List Settled)) (exit : List ℕ) → length (putMid start (length table - start) table exit) ≡ length table
       → SettlesAgain x (p .count) true exit → SettlesTo x (settling.Settled p) (putMid start (length table - start) table exit)

@@ -1,16 +1,14 @@
 -- Conversions at their ends, 02, 'Job 13': one table of computed tests, and sets that the theorems are about.
-use Prim.Native.Nat.{ℕ, _≤_}
+use Prim.Native.Nat.{ℕ}
 use mathlib.Core.Path.{_≡_, refl}
-use mathlib.Core.Bool.{Bool, true, false, not, _&&_}
+use mathlib.Core.Bool.{Bool, false, not, _&&_}
 use mathlib.Core.List.{List, [], _∷_, _++_}
 use mathlib.Core.Option.{none}
-use native.Mathlib.Omega.{arith}
-use borrow.Author.Tests.{leb-true}
-use lib.Dec.{T, leb, eqb}
+use lib.Dec.{T, eqb}
 use Rattle.spec_patch.specs.Opened.{openedSets}
 use Rattle.spec_lists.specs.Lists.{all, equalLists}
-use Rattle.spec_lists.specs.ListLaws.{and-left, and-right}
 use Rattle.spec_lists.specs.Bytes.{Bytes}
+use Rattle.spec_lists.specs.BytesLaws.{bytes-if}
 use Rattle.spec_patch.specs.Patch.{Value, quad, N, text, score, setBinding, insert, update, Patch}
 use Rattle.spec_patch.specs.Edition.{Edition, v1, v2}
 use Rattle.spec_patch.specs.Encode.{u32, heading, encode}
@@ -98,12 +96,6 @@ conversions-hold = tt
 
 pub someSet : Edition → List ℕ
 someSet ed = encode ed (ending (quad N))
-
-bytes-if : (l : List ℕ) → all (λ (b : ℕ). leb b 255) l ≡ true → Bytes l
-bytes-if [] e = tt
-bytes-if (b ∷ l) e =
-    let byte : b ≤ 255 = leb-true b 255 (and-left (leb b 255) _ e) in
-    (omega arith, bytes-if l (and-right (leb b 255) _ e))
 
 first-bytes : Bytes (someSet v1)
 unfolding someSet ending opened

@@ -1,16 +1,15 @@
 -- Texts cut off, 02, 'Job 6', at its ends: one table of computed tests, as they are read now and as they were, and a set that the theorem on
 -- what has changed is about.
-use Prim.Native.Nat.{ℕ, _+_, _-_, _≤_}
+use Prim.Native.Nat.{ℕ, _+_, _-_}
 use mathlib.Core.Path.{_≡_, refl, sym, _∙_}
 use mathlib.Core.Bool.{Bool, true, _&&_}
 use mathlib.Core.List.{List, [], _∷_, _++_, flatMap}
 use native.Mathlib.Omega.{arith}
-use borrow.Author.Tests.{leb-true}
-use lib.Dec.{T, leb, eqb}
+use lib.Dec.{T, eqb}
 use lib.ListN.{length, take, drop, replicate}
 use Rattle.spec_lists.specs.Lists.{all}
-use Rattle.spec_lists.specs.ListLaws.{and-left, and-right}
 use Rattle.spec_lists.specs.Bytes.{Bytes}
+use Rattle.spec_lists.specs.BytesLaws.{bytes-if}
 use Rattle.spec_patch.specs.Edition.{v1}
 use Rattle.spec_patch.specs.Encode.{u32, heading, encode}
 use Rattle.spec_patch.specs.Reader.{malformed, overCapacity, faultNumber}
@@ -91,12 +90,6 @@ was-12 = refl
 is-10 : readSet v1 cutSet ≡ fault malformed
 unfolding cutSet letters but ending updating flatMap openedAll
 is-10 = refl
-
-bytes-if : (l : List ℕ) → all (λ (b : ℕ). leb b 255) l ≡ true → Bytes l
-bytes-if [] e = tt
-bytes-if (b ∷ l) e =
-    let byte : b ≤ 255 = leb-true b 255 (and-left (leb b 255) _ e) in
-    (omega arith, bytes-if l (and-right (leb b 255) _ e))
 
 all-bytes : Bytes cutSet
 unfolding cutSet letters but ending updating flatMap openedAll

@@ -9,7 +9,7 @@ use borrow.Author.Tests.{leb-false}
 use lib.Dec.{leb, ltb}
 use lib.ListN.{length}
 use Rattle.spec_lists.specs.Lists.{if_then_else_, all, isEmpty}
-use Rattle.spec_lists.specs.ListLaws.{test-cases}
+use Rattle.spec_lists.specs.ListLaws.{all-test-append, test-cases}
 use Rattle.spec_patch.specs.Sizes.{setBytes, patchOperations}
 use Rattle.spec_patch.specs.TextRule.{fewBytes, allowed, fewCharacters}
 use Rattle.spec_patch.specs.Patch.{Operation, Envelope, Patch}
@@ -92,18 +92,10 @@ pub data ConversionExplained (from : Edition) (set : List ℕ) : Option Conversi
   noRoom : (needed room : ℕ) → room < needed → ConversionExplained from set (some (reasons.noRoom needed room)) (refused (conversionRefusal (reasons.noRoom needed room)))
 
 -- a test of every operation, patch by patch
-all-append : (test : Operation → Bool) (a b : List Operation) → all test (a ++ b) ≡ (all test a && all test b)
-all-append test [] b = refl
-all-append test (o ∷ a) b = go (test o) (all-append test a b)
-  where
-    go : (t : Bool) → all test (a ++ b) ≡ (all test a && all test b) → (t && all test (a ++ b)) ≡ ((t && all test a) && all test b)
-    go true e = e
-    go false e = refl
-
 all-operations : (test : Operation → Bool) (ps : List Patch) → all (λ (p : Patch). all test (p .operations)) ps ≡ all test (operationsOf ps)
 unfolding operationsOf flatMap
 all-operations test [] = refl
-all-operations test (p ∷ ps) = ap (λ (t : Bool). all test (p .operations) && t) (all-operations test ps) ∙ sym (all-append test (p .operations) (operationsOf ps))
+all-operations test (p ∷ ps) = ap (λ (t : Bool). all test (p .operations) && t) (all-operations test ps) ∙ sym (all-test-append test (p .operations) (operationsOf ps))
 
 -- an operation that fails the test is among them
 not-all : (test : Operation → Bool) (a : List Operation) (o : Operation) (b : List Operation) → test o ≡ false → all test (a ++ (o ∷ b)) ≡ false

@@ -89,6 +89,10 @@ insertOf collection t = insert collection (t .key) none (text (t .words))
 unfoldable pub patchOf : ℕ → Envelope → List Term → Patch
 patchOf collection e ts = record { envelope = e; operations = map (insertOf collection) ts }
 
+-- the set of that patch alone
+abbrev pub setOf : ℕ → Envelope → List Term → List Patch
+setOf collection e ts = patchOf collection e ts ∷ []
+
 -- what bringing in gives
 pub data Imported : Type 0 where
   imported : List ℕ → Imported

@@ -14,14 +14,14 @@ use Rattle.spec_lists.specs.Lists.{isEmpty, All}
 use Rattle.spec_lists.specs.ListLaws.{and-left, and-right, isEmpty-true, test-cases}
 use Rattle.spec_patch.specs.Sizes.{setBytes, patchOperations, textBytes}
 use Rattle.spec_patch.specs.TextRule.{fewBytes, fewCharacters}
-use Rattle.spec_patch.specs.Patch.{Envelope, Patch}
+use Rattle.spec_patch.specs.Patch.{Envelope}
 use Rattle.spec_patch.specs.Edition.{Edition, kinds, hasKind}
 use Rattle.spec_patch.specs.Encode.{kindOf, encode}
 use Rattle.spec_patch.specs.Fits.{U64, OptionalU64, OperationHolds, InRangeEnvelope, StorableBy, FitsOperation, Fits}
 use Rattle.spec_patch.specs.Read.{patches, readSet}
 use Rattle.spec_patch.specs.SetLaws.{reads-back}
 use Rattle.spec_checks.specs.Findings.{findings}
-use Rattle.spec_import.specs.Import.{Term, ImportRefusal, patchInvalid, outputTooShort, overCapacity, lines, readTerm, keepsText, Terms, terms, faulty, readTerms, insertOf, patchOf, imported, refused, importPatch, afterLines, importTerms, printTerms}
+use Rattle.spec_import.specs.Import.{Term, ImportRefusal, patchInvalid, outputTooShort, overCapacity, lines, readTerm, keepsText, Terms, terms, faulty, readTerms, insertOf, patchOf, setOf, imported, refused, importPatch, afterLines, importTerms, printTerms}
 use Rattle.spec_import.specs.LineLaws.{Formed, PrintableTerm, KeptTerm, reads-lines, lines-read, printed-reads}
 use Rattle.spec_import.specs.FormLaws.{form-exactly}
 
@@ -45,24 +45,20 @@ some-inj (t ∷ a) (u ∷ b) e =
     ap₂ (λ (x : Term) (l : List Term). x ∷ l) here (some-inj a b rest)
 
 module _ (ed : Edition) (collection : ℕ) (e : Envelope) where
-  -- the set of one patch that terms become
-  abbrev pub setOf : List Term → List Patch
-  setOf ts = patchOf collection e ts ∷ []
-
   -- the lines hold terms and fit, the patch checks find nothing, and there is room
   pub record Importable (list : List ℕ) (room : ℕ) : Type 0 where
     pub held : List Term
     pub formed : map readTerm (lines list) ≡ map some held
     pub kept : All KeptTerm held
     pub few : length held ≤ patchOperations
-    pub short : length (encode ed (setOf held)) ≤ setBytes
-    pub clean : findings (setOf held) .found ≡ []
-    pub enough : length (encode ed (setOf held)) ≤ room
+    pub short : length (encode ed (setOf collection e held)) ≤ setBytes
+    pub clean : findings (setOf collection e held) .found ≡ []
+    pub enough : length (encode ed (setOf collection e held)) ≤ room
 
   -- ---- both directions
 
   -- such a list is brought in, as the canonical bytes of its patch
-  pub imports : (list : List ℕ) (room : ℕ) (i : Importable list room) → importTerms ed collection e list room ≡ imported (encode ed (setOf (i .held)))
+  pub imports : (list : List ℕ) (room : ℕ) (i : Importable list room) → importTerms ed collection e list room ≡ imported (encode ed (setOf collection e (i .held)))
   unfolding importTerms afterLines importPatch
   imports list room i =
       let read = reads-lines 0 (lines list) (i .held) (i .formed) (i .kept) (omega (arith, i .few)) in
@@ -71,7 +67,7 @@ module _ (ed : Edition) (collection : ℕ) (e : Envelope) where
   -- a list that is brought in is such a one
   pub record Import (list : List ℕ) (room : ℕ) (bs : List ℕ) : Type 0 where
     pub importable : Importable list room
-    pub bytes : bs ≡ encode ed (setOf (importable .held))
+    pub bytes : bs ≡ encode ed (setOf collection e (importable .held))
 
   pub was-importable : (list : List ℕ) (room : ℕ) (bs : List ℕ) → importTerms ed collection e list room ≡ imported bs → Import list room bs
   unfolding importTerms afterLines importPatch
@@ -80,8 +76,8 @@ module _ (ed : Edition) (collection : ℕ) (e : Envelope) where
       never : {C : Type 0} (r : ImportRefusal) → refused r ≡ imported bs → C
       never r e = absurd (let z : _≡_ {A = ℕ} 0 1 = cc in omega arith)
 
-      brought-in : (ts : List Term) → readTerms 0 (lines list) ≡ terms ts → leb (length (encode ed (setOf ts))) setBytes ≡ true → isEmpty (findings (setOf ts) .found) ≡ true → leb (length (encode ed (setOf ts))) room ≡ true
-          → imported (encode ed (setOf ts)) ≡ imported bs → Import list room bs
+      brought-in : (ts : List Term) → readTerms 0 (lines list) ≡ terms ts → leb (length (encode ed (setOf collection e ts))) setBytes ≡ true → isEmpty (findings (setOf collection e ts) .found) ≡ true → leb (length (encode ed (setOf collection e ts))) room ≡ true
+          → imported (encode ed (setOf collection e ts)) ≡ imported bs → Import list room bs
       brought-in ts r s c l same =
           let read = lines-read 0 (lines list) ts (omega arith) r in
           record {
@@ -91,11 +87,11 @@ module _ (ed : Edition) (collection : ℕ) (e : Envelope) where
 
       by-tests : (ts : List Term) → readTerms 0 (lines list) ≡ terms ts → importPatch ed (patchOf collection e ts) room ≡ imported bs → Import list room bs
       by-tests ts r h =
-          test-cases (leb (length (encode ed (setOf ts))) setBytes)
+          test-cases (leb (length (encode ed (setOf collection e ts))) setBytes)
           (λ s.
-          test-cases (isEmpty (findings (setOf ts) .found))
+          test-cases (isEmpty (findings (setOf collection e ts) .found))
           (λ c.
-          test-cases (leb (length (encode ed (setOf ts))) room)
+          test-cases (leb (length (encode ed (setOf collection e ts))) room)
           (λ l. brought-in ts r s c l (rw (s, c, l) at h))
           (λ l. never outputTooShort (rw (s, c, l) at h)))
           (λ c. never patchInvalid (rw (s, c) at h)))
@@ -106,7 +102,7 @@ module _ (ed : Edition) (collection : ℕ) (e : Envelope) where
       by-terms (faulty f) r h = never f h
 
   pub imports-exactly : (list : List ℕ) (room : ℕ) → ((bs : List ℕ) × (importTerms ed collection e list room ≡ imported bs)) ↔ Importable list room
-  imports-exactly list room = (λ s. was-importable list room (s .0) (s .1) .importable, λ i. (encode ed (setOf (i .held)), imports list room i))
+  imports-exactly list room = (λ s. was-importable list room (s .0) (s .1) .importable, λ i. (encode ed (setOf collection e (i .held)), imports list room i))
 
   -- ---- reading back
 
@@ -131,7 +127,7 @@ module _ (ed : Edition) (collection : ℕ) (e : Envelope) where
     inserts-fit [] f k = tt
     inserts-fit (t ∷ ts) f k = (insert-fits t (f .0) (k .0), inserts-fit ts (f .1) (k .1))
 
-    set-fits : (list : List ℕ) (room : ℕ) (i : Importable list room) → Fits ed (setOf (i .held))
+    set-fits : (list : List ℕ) (room : ℕ) (i : Importable list room) → Fits ed (setOf collection e (i .held))
     unfolding patchOf
     set-fits list room i = record {
       few = omega arith;
@@ -152,17 +148,17 @@ module _ (ed : Edition) (collection : ℕ) (e : Envelope) where
     reads-import list room bs h =
         let w = was-importable list room bs h in
         let i = w .importable in
-        (i .held, i .formed, ap (readSet ed) (w .bytes) ∙ reads-back ed (setOf (i .held)) (set-fits list room i))
+        (i .held, i .formed, ap (readSet ed) (w .bytes) ∙ reads-back ed (setOf collection e (i .held)) (set-fits list room i))
 
     -- and what is brought in of a printed list is read as the terms that were printed
     pub printed-back : (ts : List Term) → All PrintableTerm ts → All KeptTerm ts → length ts ≤ patchOperations → (room : ℕ) (bs : List ℕ) → importTerms ed collection e (printTerms ts) room ≡ imported bs
-        → (bs ≡ encode ed (setOf ts)) × (readSet ed bs ≡ patches (setOf ts))
+        → (bs ≡ encode ed (setOf collection e ts)) × (readSet ed bs ≡ patches (setOf collection e ts))
     printed-back ts p k few room bs h =
         let w = was-importable (printTerms ts) room bs h in
         let i = w .importable in
         let read = lines-read 0 (lines (printTerms ts)) ts (omega arith) (printed-reads ts p k few) in
         let same : i .held ≡ ts = some-inj (i .held) ts (sym (i .formed) ∙ read .formed) in
-        (w .bytes ∙ ap (λ (us : List Term). encode ed (setOf us)) same, ap (readSet ed) (w .bytes) ∙ reads-back ed (setOf (i .held)) (set-fits (printTerms ts) room i) ∙ ap (λ (us : List Term). patches (setOf us)) same)
+        (w .bytes ∙ ap (λ (us : List Term). encode ed (setOf collection e us)) same, ap (readSet ed) (w .bytes) ∙ reads-back ed (setOf collection e (i .held)) (set-fits (printTerms ts) room i) ∙ ap (λ (us : List Term). patches (setOf collection e us)) same)
 
   -- ---- printed lists
 

@@ -7,15 +7,16 @@ use mathlib.Core.Option.{Option, none, some}
 use native.Mathlib.Omega.{arith}
 use lib.Dec.{eqb, ltb}
 use lib.ListN.{length}
-use borrow.Author.Tests.{ne-eqb, lt-ltb, ltb-true}
-use Rattle.spec_lists.specs.Lists.{all, All}
+use borrow.Author.Tests.{lt-ltb, ltb-true}
+use Rattle.spec_lists.specs.Lists.{All}
 use Rattle.spec_lists.specs.ListLaws.{and-left, and-right, test-cases}
-use Rattle.spec_decimal.specs.Decimal.{isDigit, digits, decimal}
-use Rattle.spec_decimal.specs.DecimalLaws.{all-digits, isDigit-range}
+use Rattle.spec_decimal.specs.Decimal.{digits, decimal}
+use Rattle.spec_decimal.specs.DecimalLaws.{all-digits}
 use Rattle.spec_decimal.specs.ReadLaws.{readDecimal-decimal}
 use Rattle.spec_listing.specs.Escapes.{tab, newline}
 use Rattle.spec_listing.specs.Split.{prepend, lacks}
 use Rattle.spec_listing.specs.SplitLaws.{lacks-append, split-whole, split-part}
+use Rattle.spec_listing.specs.RecordLaws.{digits-lack}
 use Rattle.spec_patch.specs.Sizes.{patchOperations}
 use Rattle.spec_patch.specs.TextRule.{allowed}
 use Rattle.spec_import.specs.Import.{Term, ImportRefusal, otherForm, overCapacity, lines, termWith, termOfFields, readTerm, keepsText, Terms, terms, faulty, also, lineThen, readTerms, printTerm, printTerms}
@@ -47,13 +48,6 @@ lines-last (c ∷ front) b l h =
     (λ t. rw t (ap (prepend c) (lines-last front b l h)))
 
 -- ---- a line that is printed
-
--- digits are neither tabs nor newlines
-digits-lack : (separator : ℕ) → separator < 48 → (l : List ℕ) → all isDigit l ≡ true → lacks separator l ≡ true
-digits-lack separator small [] h = refl
-digits-lack separator small (b ∷ l) h =
-    let range = isDigit-range b (and-left (isDigit b) (all isDigit l) h) in
-    rw (ne-eqb b separator (λ e. omega arith), digits-lack separator small l (and-right (isDigit b) (all isDigit l) h))
 
 decimal-lacks : (separator : ℕ) → separator < 48 → (n : ℕ) → lacks separator (decimal n) ≡ true
 unfolding decimal

@@ -27,7 +27,7 @@ use Rattle.spec_listing.specs.ReadListing.{Record, bindingRecord, availa
 -- ---- fields within a line
 
 -- digits are none of the bytes below 48
-digits-lack : (separator : ℕ) → separator < 48 → (l : List ℕ) → all isDigit l ≡ true → lacks separator l ≡ true
+pub digits-lack : (separator : ℕ) → separator < 48 → (l : List ℕ) → all isDigit l ≡ true → lacks separator l ≡ true
 digits-lack separator h [] d = refl
 digits-lack separator h (b ∷ l) d =
     let range = isDigit-range b (and-left (isDigit b) (all isDigit l) d) in

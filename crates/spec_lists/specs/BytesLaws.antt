@@ -1,12 +1,15 @@
 -- `littleEndian` and `numberOf` undo each other, once for every width; and parts of bytes are bytes.
 use Prim.Native.Nat.{ℕ, zero, suc, _+_, _*_, _/_, _%_, _^_, _≤_, _<_}
 use mathlib.Core.Path.{_≡_, refl, ap}
+use mathlib.Core.Bool.{true}
 use mathlib.Core.List.{List, [], _∷_, _++_}
-use native.Mathlib.Nat.{mod-lt, pow-suc}
+use native.Mathlib.Nat.{pow-suc}
 use native.Mathlib.Omega.{arith}
 use lib.ListN.{length, getD, take, drop}
-use lib.Dec.{lit<}
-use Rattle.spec_lists.specs.ListLaws.{all-right}
+use lib.Dec.{lit<, leb}
+use borrow.Author.Tests.{leb-true}
+use Rattle.spec_lists.specs.Lists.{all}
+use Rattle.spec_lists.specs.ListLaws.{and-left, and-right, all-right}
 use Rattle.spec_lists.specs.Bytes.{Bytes, littleEndian, numberOf}
 
 -- ---- bytes
@@ -14,6 +17,13 @@ use Rattle.spec_lists.specs.Bytes.{Bytes, littleEndian, numberOf}
 pub bytes-of : (l : List ℕ) → ((i : ℕ) → getD l i 0 < 256) → Bytes l
 bytes-of [] h = tt
 bytes-of (b ∷ bs) h = (h zero, bytes-of bs (λ i. h (suc i)))
+
+-- by a computed test
+pub bytes-if : (l : List ℕ) → all (λ (b : ℕ). leb b 255) l ≡ true → Bytes l
+bytes-if [] e = tt
+bytes-if (b ∷ l) e =
+    let byte : b ≤ 255 = leb-true b 255 (and-left (leb b 255) _ e) in
+    (omega arith, bytes-if l (and-right (leb b 255) _ e))
 
 pub bytes-take : (n : ℕ) (l : List ℕ) → Bytes l → Bytes (take n l)
 bytes-take zero l h = tt
@@ -34,11 +44,6 @@ pub length-littleEndian : (n x : ℕ) → length (littleEndian n x) ≡ n
 unfolding littleEndian
 length-littleEndian zero x = refl
 length-littleEndian (suc n) x = ap suc (length-littleEndian n (x / 256))
-
-pub bytes-littleEndian : (n x : ℕ) → Bytes (littleEndian n x)
-unfolding littleEndian
-bytes-littleEndian zero x = tt
-bytes-littleEndian (suc n) x = (mod-lt x (lit< tt), bytes-littleEndian n (x / 256))
 
 -- ---- the number of bytes
 

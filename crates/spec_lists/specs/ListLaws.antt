@@ -4,11 +4,11 @@ use mathlib.Core.Bool.{Bool, true, false, _&&_, _||_}
 use mathlib.Core.List.{List, [], _∷_, _++_, append-assoc, map, flatMap, reverse, reverse-cons, reverse-reverse}
 use mathlib.Core.List.{List·Memᴰ, List·Memᴰ·head, List·Memᴰ·tail, List·Memᴰ·append-cases, List·Memᴰ·eq-of-singleton}
 use mathlib.Core.Logic.{⊎-elim}
-use Prim.Native.Nat.{ℕ, zero, suc, _<_}
+use Prim.Native.Nat.{ℕ, zero, suc, _-_, _<_}
 use native.Mathlib.Omega.{arith}
 use lib.Dec.{eqb}
-use lib.ListN.{length, getD, take, drop, length-map}
-use lib.Seq.{drop-at}
+use lib.ListN.{length, getD, take, drop, length-map, length-drop}
+use lib.Seq.{drop-at, take-all}
 use borrow.Author.Tests.{eqb-true, eq-eqb, ne-eqb}
 use Rattle.spec_lists.specs.Lists.{if_then_else_, all, any, equalLists, isEmpty, All}
 
@@ -21,6 +21,9 @@ and-left false b e = e
 pub and-right : (a b : Bool) → (a && b) ≡ true → b ≡ true
 and-right true b e = e
 and-right false b e = cc
+
+pub and-both : (a b : Bool) → a ≡ true → b ≡ true → (a && b) ≡ true
+and-both a b e f = rw (e, f) refl
 
 pub or-left : (a b : Bool) → (a || b) ≡ false → a ≡ false
 or-left true b e = e
@@ -92,14 +95,14 @@ equalLists-equal test sound (x ∷ a) (y ∷ b) e =
 pub equalLists-true : (a b : List ℕ) → equalLists eqb a b ≡ true → a ≡ b
 equalLists-true = equalLists-equal eqb eqb-true
 
--- a test that fails of a whole list fails of its front
-pub any-left : {A : Type 0} (test : A → Bool) (a b : List A) → any test (a ++ b) ≡ false → any test a ≡ false
-any-left test [] b e = refl
-any-left test (x ∷ a) b e = go (test x) (any-left test a b) e
-  where
-    go : (t : Bool) → (any test (a ++ b) ≡ false → any test a ≡ false) → (t || any test (a ++ b)) ≡ false → (t || any test a) ≡ false
-    go true h e = e
-    go false h e = h e
+-- a test of the images is a test of the elements
+pub any-map : {A B : Type 0} (f : A → B) (test : B → Bool) (own : A → Bool) → ((x : A) → test (f x) ≡ own x) → (l : List A) → any test (map f l) ≡ any own l
+any-map f test own same [] = refl
+any-map f test own same (x ∷ l) = rw (same x, any-map f test own same l)
+
+-- what stands from an index on, as the code lends it
+pub lent-from : {A : Type 0} (l : List A) (k : ℕ) → take (length l - k) (drop k l) ≡ drop k l
+lent-from l k = take-all (length l - k) (drop k l) (omega (arith, length-drop k l))
 
 -- ---- properties of all elements
 
@@ -124,6 +127,14 @@ pub all-of-test : {A : Type 0} (P Q : A → Type 0) (test : A → Bool) → ((a 
 all-of-test P Q test f [] h e = tt
 all-of-test P Q test f (x ∷ l) h e =
     (f x (h .0) (and-left (test x) _ e), all-of-test P Q test f l (h .1) (and-right (test x) _ e))
+
+pub all-test-append : {A : Type 0} (test : A → Bool) (a b : List A) → all test (a ++ b) ≡ (all test a && all test b)
+all-test-append test [] b = refl
+all-test-append test (x ∷ a) b = go (test x) (all-test-append test a b)
+  where
+    go : (t : Bool) → all test (a ++ b) ≡ (all test a && all test b) → (t && all test (a ++ b)) ≡ ((t && all test a) && all test b)
+    go true e = e
+    go false e = refl
 
 pub test-of-all : {A : Type 0} (P : A → Type 0) (test : A → Bool) → ((a : A) → P a → test a ≡ true) → (l : List A) → All P l → all test l ≡ true
 test-of-all P test f [] h = refl

@@ -54,7 +54,7 @@ grouped-determined (x ∷ l) (y ∷ m) g h e = heads (grouped-determined l m (g 
 
 -- ---- the theorem
 
-projection-equal : (p q : Projection) → p .bindings ≡ q .bindings → p .availabilities ≡ q .availabilities → p .entries ≡ q .entries → p ≡ q
+pub projection-equal : (p q : Projection) → p .bindings ≡ q .bindings → p .availabilities ≡ q .availabilities → p .entries ≡ q .entries → p ≡ q
 projection-equal p q b a e = λ i. record { bindings = b i; availabilities = a i; entries = e i }
 
 -- by its bindings, its availabilities and each collection's entries in order

@@ -4,7 +4,7 @@ use mathlib.Core.Path.{_≡_, refl, ap}
 use mathlib.Core.Bool.{Bool, true}
 use mathlib.Core.List.{List, [], _∷_, map}
 use mathlib.Core.Option.{Option·map}
-use Rattle.spec_lists.specs.Lists.{any, All}
+use Rattle.spec_lists.specs.Lists.{All}
 use Rattle.spec_lists.specs.ListLaws.{test-cases}
 use Rattle.spec_lists.specs.Order.{lexLess, upsert, Ascending}
 use Rattle.spec_projection.specs.FirstMatch.{findFirst, insertBeforeFirst, replaceFirst, removeFirst}
@@ -12,10 +12,6 @@ use Rattle.spec_projection.specs.FirstMatch.{findFirst, insertBeforeFirs
 module _ {A B : Type 0} (f : A → B) where
   -- a test of the images is a test of the elements
   module _ (test : B → Bool) (own : A → Bool) (same : (x : A) → test (f x) ≡ own x) where
-    pub any-map : (l : List A) → any test (map f l) ≡ any own l
-    any-map [] = refl
-    any-map (x ∷ l) = rw (same x, any-map l)
-
     pub findFirst-map : (l : List A) → findFirst test (map f l) ≡ Option·map f (findFirst own l)
     unfolding findFirst
     findFirst-map [] = refl

@@ -9,12 +9,13 @@ use lib.Dec.{leb}
 use lib.ListN.{length, length-map}
 use Rattle.spec_lists.specs.Lists.{if_then_else_}
 use Rattle.spec_lists.specs.Order.{upsert}
+use Rattle.spec_lists.specs.ListLaws.{any-map}
 use Rattle.spec_patch.specs.Sizes.{projectionBindings, projectionAvailabilities, projectionEntries}
 use Rattle.spec_projection.specs.Projection.{Binding, NodeAvailability, Entry, Projection, bindingKey, availabilityKey}
 use Rattle.spec_projection.specs.FirstMatch.{findFirst}
 use Rattle.spec_projection.specs.Entries.{isEntry, isLater, contains, containsNeighbour, insertLast, insertBefore, insertEntry, replaceEntry, removeEntry}
 use Rattle.spec_projection.specs.Apply.{keyRule, projectionFull, OperationFault, done, stopped, withBindings, withAvailabilities, withEntries, applyBinding, applyAvailability, applyInsert, applyUpdate, applyRemove, applyMove}
-use Rattle.spec_projection.specs.MapLaws.{any-map, findFirst-map, insertBeforeFirst-map, replaceFirst-map, removeFirst-map, upsert-map, all-image, ascending-map}
+use Rattle.spec_projection.specs.MapLaws.{findFirst-map, insertBeforeFirst-map, replaceFirst-map, removeFirst-map, upsert-map, all-image, ascending-map}
 use Rattle.spec_projection.specs.Valid.{Behind, Grouped, Ordered}
 use Rattle.spec_projection.specs.RowMap.{RowMap, mapRows, mapOutcome, KeepsKeys}
 

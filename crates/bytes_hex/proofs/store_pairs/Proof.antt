@@ -1,13 +1,13 @@
 -- `bytes_hex::store_pairs` meets its contract. The invariant: the bytes of the first i pairs are in place.
 use Prim.Native.Nat.{ℕ, _+_, _-_, _*_, _≤_, _<_}
-use mathlib.Core.Path.{_≡_, refl, sym, ap₂, _∙_}
+use mathlib.Core.Path.{_≡_, refl, sym, ap, ap₂, _∙_}
 use native.Mathlib.Omega.{arith}
 use borrow.Author.Needs.{needs}
-use lib.ListN.{length, getD, length-set}
+use lib.ListN.{length, getD, set, length-set}
 use lib.Seq.{paste, paste-zero}
+use Rattle.bytes_wire.proofs.Paste.{paste-turn, paste-finished}
 use Rattle.bytes_hex.specs.Decoding.{pairBytes}
 use Rattle.bytes_hex.specs.DecodingLaws.{length-pairBytes, pairBytes-at}
-use Rattle.bytes_hex.proofs.Store.{turn, finished}
 use Rattle.bytes_hex.proofs.store_pairs.Statement.{statement}
 use Rattle.bytes_hex.proofs.store_pairs.Tie as tie
 
@@ -66,11 +66,15 @@ loop-again c =
     let args = start .args in
     let text = args .text .now in
     let i = at-loop .loop .i in
-    let room : length (pairBytes text) ≤ length (args .out .now) = omega (arith, length-pairBytes text) in
+    let room : 0 + length (pairBytes text) ≤ length (args .out .now) = omega (arith, length-pairBytes text) in
     let more : i < length (pairBytes text) = omega (arith, length-pairBytes text) in
+    let here : i ≡ 0 + i = omega arith in
     let b : 16 * first .hex-value .result + c .hex-value2 .result ≡ getD (pairBytes text) i 0 =
-    ap₂ (λ (h l : ℕ). 16 * h + l) (first .hex-value .ensures .0) (c .hex-value2 .ensures .0) ∙ sym (pairBytes-at text i (omega arith)) in
-    (omega arith, length-set (at-loop .loop .out) i _ ∙ at-loop .loop .inv .1, turn (args .out .now) (pairBytes text) room i more (at-loop .loop .out) _ (at-loop .loop .inv .2) b)
+    ap₂ (λ (h l : ℕ). 16 * h + l) (first .hex-value .ensures .0) (c .hex-value2 .ensures .0) ∙ sym (pairBytes-at text i (omega arith)) in (
+      omega arith,
+      length-set (at-loop .loop .out) i _ ∙ at-loop .loop .inv .1,
+      ap (λ (j : ℕ). set (at-loop .loop .out) j (16 * first .hex-value .result + c .hex-value2 .result)) here ∙ paste-turn (args .out .now) 0 (pairBytes text) room i more (at-loop .loop .out) _ (at-loop .loop .inv .2) b,
+    )
 
 same-length : tie.Need-same-length Inv-loop μ-loop
 same-length c = search needs
@@ -80,8 +84,8 @@ returns c =
     let at-loop = c .before in
     let args = at-loop .before .before .before .args in
     let text = args .text .now in
-    let room : length (pairBytes text) ≤ length (args .out .now) = omega (arith, length-pairBytes text) in
-    finished (args .out .now) (pairBytes text) room (at-loop .loop .out) (at-loop .loop .i) (omega (arith, length-pairBytes text)) (at-loop .loop .inv .2)
+    let room : 0 + length (pairBytes text) ≤ length (args .out .now) = omega (arith, length-pairBytes text) in
+    paste-finished (args .out .now) 0 (pairBytes text) room (at-loop .loop .out) (at-loop .loop .i) (omega (arith, length-pairBytes text)) (at-loop .loop .inv .2)
 
 pub store-pairs-spec : {M : Type 1} → statement M
 store-pairs-spec =

@@ -6,7 +6,8 @@ use Rattle.spec_lists.specs.BytesLaws.{bytes-of}
 use Rattle.spec_patch.specs.SetLaws.{was-encoded}
 use Rattle.projection_patch.specs.Meaning.{editionOf}
 use Rattle.panel_changes.specs.SetChanges.{tablesFit, changeCountsFit}
-use Rattle.panel_changes.specs.SetChangesLaws.{fit-lengths, tableLengths-fit, stored-lengths, stored-counts, fit-arguments, opened-short, opened-at, never-unopened}
+use Rattle.panel_changes.specs.SetChangesLaws.{fit-lengths, tableLengths-fit, stored-lengths, stored-counts, fit-arguments, opened-short}
+use Rattle.patch_walk.specs.StepsLaws.{opened-at, never-unopened}
 use borrow.Author.Needs.{needs}
 use Rattle.panel_changes.proofs.apply_set.Statement.{statement}
 use Rattle.panel_changes.proofs.apply_set.Tie as tie
@@ -29,7 +30,7 @@ returns-2 c =
     let all = bytes-of set (λ j. c .before .before .before .before .before .before .before .before .before .before .before .before .before .before .before .before .before .before .before .before .before .before .before .before .shared-slice-known4 .given j .fits) in
     let bound = c .before .before .before .before .before .before .before .before .before .before .before .before .before .before .cursor .given in
     let call = c .before .before .before .before .before .before .before .before .apply-from in
-    (λ p ps st readable ready. call .ensures .0 p ps st (was-encoded ed set ps all readable .1 .patches) (opened-at ed set all ps readable (bound .0 .0) (sym (c .before .before .before .before .before .before .before .before .before .before .before .before .before .before .before .before .open-set .ensures) ∙ bound .1)) ready, call .ensures .1)
+    (λ p ps st readable ready. call .ensures .0 p ps st (was-encoded ed set ps all readable .1 .patches) (opened-at ed set all ps readable refl (bound .0 .0) (sym (c .before .before .before .before .before .before .before .before .before .before .before .before .before .before .before .before .open-set .ensures) ∙ bound .1)) ready, call .ensures .1)
 
 returns-3 : tie.Need-returns-3
 returns-3 c =
@@ -37,7 +38,7 @@ returns-3 c =
     let set = a .set .now in
     let all = bytes-of set (λ j. c .before .before .before .before .before .before .before .before .before .before .before .shared-slice-known4 .given j .fits) in
     let bound = c .before .fault .given in
-    (λ p ps st readable ready. never-unopened (editionOf (a .edition)) set all ps readable (bound .0 .0) (sym (c .before .before .before .open-set .ensures) ∙ bound .1), (refl, (refl, (refl, refl))))
+    (λ p ps st readable ready. never-unopened (editionOf (a .edition)) set all ps readable refl (bound .0 .0) (sym (c .before .before .before .open-set .ensures) ∙ bound .1), (refl, (refl, (refl, refl))))
 
 returns-4 : tie.Need-returns-4
 returns-4 c =

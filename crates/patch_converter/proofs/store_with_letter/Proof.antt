@@ -12,7 +12,7 @@ use Rattle.spec_patch.specs.Edition.{editionDigit}
 use Rattle.bytes_wire.specs.Write.{overwrite}
 use Rattle.bytes_wire.specs.WriteLaws.{overwrite-append}
 use Rattle.projection_patch.specs.Meaning.{editionOf}
-use Rattle.projection_patch.specs.TextLaws.{lent-from}
+use Rattle.spec_lists.specs.ListLaws.{lent-from}
 use Rattle.patch_converter.proofs.store_with_letter.Statement.{statement}
 use Rattle.patch_converter.proofs.store_with_letter.Tie as tie
 

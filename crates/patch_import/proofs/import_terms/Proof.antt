@@ -9,7 +9,7 @@ use lib.ListN.{length}
 use Rattle.spec_patch.specs.Patch.{Envelope}
 use Rattle.spec_patch.specs.Edition.{Edition}
 use Rattle.spec_patch.specs.Encode.{encode}
-use Rattle.spec_import.specs.Import.{lines, readTerms, insertOf, patchOf, importPatch, importTerms}
+use Rattle.spec_import.specs.Import.{lines, readTerms, insertOf, patchOf, importPatch, importTerms, setOf}
 use Rattle.spec_import.specs.LineLaws.{LinesRead, lines-read}
 use Rattle.projection_patch.specs.Meaning.{editionOf, envelopeOf}
 use Rattle.projection_patch.specs.declared.patch.ProjectionPatch.{ProjectionPatch}
@@ -18,7 +18,7 @@ use Rattle.patch_writer.specs.RangeLaws.{envelope-in-range}
 use Rattle.check_quick.specs.Quick.{foundFrom, headFound}
 use Rattle.patch_import.specs.declared.answer.ImportAnswer.{ImportAnswer}
 use Rattle.patch_import.specs.Answers.{importAnswer, importOutput, importRefusalOf}
-use Rattle.patch_import.specs.Survey.{heldOf, insertBytes, setOf}
+use Rattle.patch_import.specs.Survey.{heldOf, insertBytes}
 use Rattle.patch_import.specs.SurveyLaws.{survey-faulty, Surveyed, survey-held, bytes-few}
 use Rattle.patch_import.specs.SetLaws.{set-size, judged-refused, judged-imports, fits-told}
 use Rattle.patch_import.specs.AnswersLaws.{ImportLeft, left-unimported, left-imported, of-faulty, of-terms, ReadsBack, imported-read}

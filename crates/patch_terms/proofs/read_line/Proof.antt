@@ -8,7 +8,7 @@ use lib.Seq.{length-take-le}
 use borrow.Author.Needs.{needs}
 use Rattle.spec_listing.specs.Escapes.{newline}
 use Rattle.spec_import.specs.Import.{readTerm}
-use Rattle.projection_patch.specs.TextLaws.{lent-from}
+use Rattle.spec_lists.specs.ListLaws.{lent-from}
 use Rattle.patch_terms.specs.declared.TermRead.{TermRead}
 use Rattle.patch_terms.specs.Places.{bytePlaceOf, firstTermLine}
 use Rattle.patch_terms.specs.PlacesLaws.{bytePlaceOf-within}

@@ -9,7 +9,7 @@ use borrow.Author.Needs.{needs}
 use Rattle.spec_listing.specs.Escapes.{tab}
 use Rattle.spec_decimal.specs.Decimal.{readDecimal}
 use Rattle.bytes_decimal.specs.Read.{decimalU64}
-use Rattle.projection_patch.specs.TextLaws.{lent-from}
+use Rattle.spec_lists.specs.ListLaws.{lent-from}
 use Rattle.patch_terms.specs.Places.{bytePlaceOf}
 use Rattle.patch_terms.specs.PlacesLaws.{bytePlaceOf-within}
 use Rattle.patch_terms.specs.Answers.{judgedTerm}

@@ -10,7 +10,7 @@ use lib.Seq.{length-take-le, take-take}
 use Rattle.spec_decimal.specs.Decimal.{readDecimal}
 use Rattle.spec_listing.specs.Escapes.{tab, newline}
 use Rattle.bytes_decimal.specs.Read.{decimalU64}
-use Rattle.projection_patch.specs.TextLaws.{lent-from}
+use Rattle.spec_lists.specs.ListLaws.{lent-from}
 use Rattle.patch_terms.specs.declared.LineRead.the-variants as line-read
 use Rattle.patch_terms.specs.Places.{bytePlaceOf, firstTermLine}
 use Rattle.patch_terms.specs.PlacesLaws.{bytePlaceOf-within}

@@ -7,10 +7,11 @@ use borrow.Author.Needs.{needs}
 use lib.ListN.{length, take}
 use Rattle.spec_lists.specs.Lists.{All}
 use Rattle.bytes_records.specs.Table.{HoldsRows}
+use Rattle.bytes_records.specs.TableLaws.{not-too-many, holds-length}
 use Rattle.bytes_printer.specs.Prints.{Prints, Within}
 use Rattle.bytes_printer.specs.PrintsLaws.{lines-start, lines-end}
 use Rattle.listing_lines.specs.RowKinds.{Element, FitsRow, rowOf, widthOf, lineOfRow, some-width}
-use Rattle.listing_lines.proofs.Lines.{element-at, holds-length, not-too-many, line-more}
+use Rattle.listing_lines.proofs.Lines.{element-at, line-more}
 use Rattle.listing_lines.proofs.tables.print_rows.Statement.{statement}
 use Rattle.listing_lines.proofs.tables.print_rows.Tie as tie
 
@@ -31,7 +32,7 @@ returns : tie.Need-returns Inv-loop μ-loop
 returns c =
     let args = c .before .before .before .before .args in
     let full = rw (c .before .row-width .ensures) at (c .if1 .taken) in
-    λ xs fit t w. absurd (not-too-many (FitsRow (args .kind)) (rowOf (args .kind)) xs t (some-width (args .kind)) full)
+    λ xs fit t w. absurd (not-too-many t (some-width (args .kind)) full)
 
 loop-holds : tie.Need-loop-holds Inv-loop μ-loop
 loop-holds c = (omega arith, (refl, λ xs fit t w. lines-start (lineOfRow (c .before .before .before .before .args .kind)) xs w))
@@ -62,7 +63,7 @@ loop-again c =
       (
         search needs,
         λ xs fit t w.
-            let e = element-at (FitsRow kind) (rowOf kind) xs (at-loop .loop .i) (omega (arith, holds-length (FitsRow kind) (rowOf kind) xs t)) fit in
+            let e = element-at (FitsRow kind) (rowOf kind) xs (at-loop .loop .i) (omega (arith, holds-length (rowOf kind) xs t)) fit in
             let held = subst (λ (k : ℕ). HoldsRows k (args .count) (args .table .now) (map (rowOf kind) xs)) (sym (width .row-width .ensures)) t in
             line-more (FitsRow kind) (rowOf kind) (lineOfRow kind) xs (at-loop .loop .i) e (at-loop .loop .inv .1 .1 xs fit t w)
             (printed .print-row .ensures (e .element) (e .fits) (read .record-at .ensures .0 (map (rowOf kind) xs) held ∙ e .stored)),
@@ -76,7 +77,7 @@ returns-2 : tie.Need-returns-2 Inv-loop μ-loop
 returns-2 c =
     let at-loop = c .before in
     let kind = at-loop .before .before .before .before .before .args .kind in
-    λ xs fit t w. lines-end (lineOfRow kind) xs (at-loop .loop .i) (omega (arith, holds-length (FitsRow kind) (rowOf kind) xs t)) (at-loop .loop .inv .1 .1 xs fit t w)
+    λ xs fit t w. lines-end (lineOfRow kind) xs (at-loop .loop .i) (omega (arith, holds-length (rowOf kind) xs t)) (at-loop .loop .inv .1 .1 xs fit t w)
 
 pub print-rows-spec : {M : Type 1} → statement M
 print-rows-spec =

@@ -4,12 +4,11 @@ use mathlib.Core.Path.{_≡_, ap, _∙_}
 use mathlib.Core.List.{[], _∷_}
 use native.Mathlib.Omega.{arith}
 use borrow.Author.Needs.{needs}
-use Rattle.spec_projection.specs.Valid.{FitsBinding, FitsNodeAvailability, FitsEntry}
+use Rattle.panel_rows.specs.Rows.{bindingRow, availabilityRow, entryRow}
 use Rattle.spec_decimal.specs.Decimal.{decimal}
 use Rattle.spec_listing.specs.Listing.{fields, recordCount, projectionLines}
 use Rattle.bytes_printer.specs.PrintsLaws.{_⨾_, prints-same, ends-within}
-use Rattle.panel_rows.specs.Rows.{bindingRow, availabilityRow, entryRow}
-use Rattle.listing_lines.proofs.Lines.{holds-length}
+use Rattle.bytes_records.specs.TableLaws.{holds-length}
 use Rattle.listing_lines.proofs.tables.print_tables.Statement.{statement}
 use Rattle.listing_lines.proofs.tables.print_tables.Tie as tie
 
@@ -22,9 +21,9 @@ returns c =
     let head = first .before .before .before .before in
     let count = head .before .before in
     λ p bs vs es v.
-    let b = holds-length FitsBinding bindingRow (p .bindings) (bs .rows) in
-    let a = holds-length FitsNodeAvailability availabilityRow (p .availabilities) (vs .rows) in
-    let e = holds-length FitsEntry entryRow (p .entries) (es .rows) in
+    let b = holds-length bindingRow (p .bindings) (bs .rows) in
+    let a = holds-length availabilityRow (p .availabilities) (vs .rows) in
+    let e = holds-length entryRow (p .entries) (es .rows) in
     let total : count .record-count .result ≡ recordCount p = count .record-count .ensures (omega (arith, v .fewBindings)) (omega (arith, v .fewAvailabilities)) (omega (arith, v .fewEntries)) ∙ omega arith in
     let counted = prints-same (ap (λ (n : ℕ). 80 ∷ fields (decimal n ∷ [])) total) (head .print-number-line .ensures) in
     let bound = first .print-rows .ensures (p .bindings) (v .fitBindings) (bs .rows) (ends-within counted) in

@@ -14,7 +14,7 @@ use Rattle.bytes_records.specs.Table.{HoldsRows}
 use Rattle.panel_rows.specs.Rows.{entryWidth, entryRow, collectionIn}
 use Rattle.panel_rows.specs.RowsLaws.{entry-collection}
 use Rattle.panel_lookups.specs.NthLaws.{counts-test, fits-at, row-at-entry}
-use Rattle.panel_lookups.proofs.Counted.{holds-length}
+use Rattle.bytes_records.specs.TableLaws.{holds-length}
 use Rattle.panel_lookups.proofs.positions.counts_for.Statement.{statement}
 use Rattle.panel_lookups.proofs.positions.counts_for.Tie as tie
 
@@ -23,7 +23,7 @@ own : (c : tie.After-entry-collection) (es : List Entry) (d : Entry) → All Fit
     → let a = c .before .before .before .args in HoldsRows entryWidth (a .count) (now (a .table)) (map entryRow es) → a .at < a .count → c .entry-collection .result ≡ getD es (a .at) d .collection
 own c es d fit t below =
     let a = c .before .before .before .args in
-    let inside : a .at < length es = omega (arith, holds-length es t) in
+    let inside : a .at < length es = omega (arith, holds-length entryRow es t) in
     c .entry-collection .ensures ∙ ap collectionIn (c .before .record-at .ensures .0 (map entryRow es) t ∙ row-at-entry es (a .at) d inside)
     ∙ entry-collection (getD es (a .at) d) (fits-at es (a .at) d inside fit)
 

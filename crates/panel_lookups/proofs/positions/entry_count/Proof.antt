@@ -11,8 +11,9 @@ use Rattle.spec_projection.specs.Lookups.{entriesIn, entriesOf, entryCount}
 use Rattle.spec_projection.specs.Valid.{FitsEntry}
 use Rattle.bytes_records.specs.Table.{HoldsRows}
 use Rattle.panel_rows.specs.Rows.{entryWidth, entryRow}
+use Rattle.panel_rows.specs.RowsLaws.{noEntry}
 use Rattle.panel_lookups.specs.NthLaws.{counts-turn, counts-end}
-use Rattle.panel_lookups.proofs.Counted.{noEntry, holds-length, not-too-many}
+use Rattle.bytes_records.specs.TableLaws.{not-too-many, holds-length}
 use Rattle.panel_lookups.proofs.positions.entry_count.Statement.{statement}
 use Rattle.panel_lookups.proofs.positions.entry_count.Tie as tie
 
@@ -24,7 +25,7 @@ abbrev μ-loop : tie.MeasureT-loop
 μ-loop table count collection n₀ i₀ n i = count - i
 
 returns : tie.Need-returns Inv-loop μ-loop
-returns c = λ p s v. absurd (not-too-many (p .entries) (s .rows) (c .if1 .taken))
+returns c = λ p s v. absurd (not-too-many (s .rows) (omega arith) (c .if1 .taken))
 
 loop-holds : tie.Need-loop-holds Inv-loop μ-loop
 loop-holds c = (omega arith, (omega arith, λ es fit t. omega arith))
@@ -49,7 +50,7 @@ loop-again c =
       (
         search needs,
         λ es fit t.
-            let turned = counts-turn (a .collection) es noEntry (h .loop .i) (omega (arith, holds-length es t)) (h .loop .n) (h .loop .inv .1 .1 es fit t) in
+            let turned = counts-turn (a .collection) es noEntry (h .loop .i) (omega (arith, holds-length entryRow es t)) (h .loop .n) (h .loop .inv .1 .1 es fit t) in
             omega (arith, c .counts-for .ensures .0 es noEntry fit t (search needs)),
       ),
     )
@@ -59,7 +60,7 @@ unfolding entryCount entriesOf
 returns-2 c =
     let h = c .before in
     let a = c .before .before .before .before .args in
-    λ p s v. omega (arith, h .loop .inv .1 .1 (p .entries) (v .fitEntries) (s .rows), counts-end (a .collection) (p .entries) (h .loop .i) (omega (arith, holds-length (p .entries) (s .rows))))
+    λ p s v. omega (arith, h .loop .inv .1 .1 (p .entries) (v .fitEntries) (s .rows), counts-end (a .collection) (p .entries) (h .loop .i) (omega (arith, holds-length entryRow (p .entries) (s .rows))))
 
 pub entry-count-spec : {M : Type 1} → statement M
 entry-count-spec =

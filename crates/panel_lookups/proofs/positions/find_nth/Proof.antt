@@ -11,8 +11,9 @@ use Rattle.spec_projection.specs.Lookups.{entriesIn}
 use Rattle.spec_projection.specs.Valid.{FitsEntry}
 use Rattle.bytes_records.specs.Table.{HoldsRows}
 use Rattle.panel_rows.specs.Rows.{entryWidth, entryRow}
+use Rattle.panel_rows.specs.RowsLaws.{noEntry}
 use Rattle.panel_lookups.specs.NthLaws.{nth-turn, nth-found, nth-end, fits-at, row-at-entry}
-use Rattle.panel_lookups.proofs.Counted.{noEntry, holds-length, not-too-many}
+use Rattle.bytes_records.specs.TableLaws.{not-too-many, holds-length}
 use Rattle.panel_lookups.proofs.positions.find_nth.Statement.{statement}
 use Rattle.panel_lookups.proofs.positions.find_nth.Tie as tie
 
@@ -24,7 +25,7 @@ abbrev μ-loop : tie.MeasureT-loop
 μ-loop table count collection position left₀ i₀ left i = count - i
 
 returns : tie.Need-returns Inv-loop μ-loop
-returns c = λ es fit t. absurd (not-too-many es t (c .if1 .taken))
+returns c = λ es fit t. absurd (not-too-many t (omega arith) (c .if1 .taken))
 
 loop-holds : tie.Need-loop-holds Inv-loop μ-loop
 loop-holds c = (omega arith, λ es fit t. refl)
@@ -37,7 +38,7 @@ returns-2 c =
     let h = c .before .before .before in
     let a = c .before .before .before .before .before .before .args in
     λ es fit t.
-    let below : h .loop .i < length es = omega (arith, holds-length es t) in
+    let below : h .loop .i < length es = omega (arith, holds-length entryRow es t) in
     let own = c .before .counts-for .ensures .0 es noEntry fit t (search needs) in
     record {
       entry = getD es (h .loop .i) noEntry;
@@ -58,7 +59,7 @@ loop-again c =
     let a = c .before .before .before .before .before .before .args in (
       search needs,
       λ es fit t.
-          let below : h .loop .i < length es = omega (arith, holds-length es t) in
+          let below : h .loop .i < length es = omega (arith, holds-length entryRow es t) in
           let own = c .before .counts-for .ensures .0 es noEntry fit t (search needs) in
           ap (λ (k : ℕ). getElem? (entriesIn (a .collection) (drop (h .loop .i + 1) es)) (h .loop .left - k)) own
           ∙ nth-turn (a .collection) es noEntry (h .loop .i) below (a .position) (h .loop .left) (omega arith) (h .loop .inv .1 es fit t),
@@ -68,7 +69,7 @@ returns-3 : tie.Need-returns-3 Inv-loop μ-loop
 returns-3 c =
     let h = c .before in
     let a = c .before .before .before .before .args in
-    λ es fit t. sym (h .loop .inv .1 es fit t) ∙ nth-end (a .collection) es (h .loop .i) (h .loop .left) (omega (arith, holds-length es t))
+    λ es fit t. sym (h .loop .inv .1 es fit t) ∙ nth-end (a .collection) es (h .loop .i) (h .loop .left) (omega (arith, holds-length entryRow es t))
 
 pub find-nth-spec : {M : Type 1} → statement M
 find-nth-spec =

@@ -14,8 +14,9 @@ use Rattle.spec_projection.specs.Lookups.{entriesIn}
 use Rattle.spec_projection.specs.Valid.{FitsEntry, Grouped}
 use Rattle.bytes_records.specs.Table.{HoldsRows}
 use Rattle.panel_rows.specs.Rows.{entryWidth, entryRow}
+use Rattle.panel_rows.specs.RowsLaws.{noEntry}
 use Rattle.panel_lookups.specs.NthLaws.{fits-at, row-at-entry}
-use Rattle.panel_lookups.proofs.Counted.{noEntry, holds-length}
+use Rattle.bytes_records.specs.TableLaws.{holds-length}
 use Rattle.panel_page.specs.Answering.{answersIn}
 use Rattle.panel_page.specs.AnsweringLaws.{absent-before}
 use Rattle.panel_page.specs.Shown.{Shows}
@@ -61,7 +62,7 @@ loop-again c =
         (
           search needs,
           λ es fit g t h.
-              let inside : i < length es = omega (arith, holds-length es t) in
+              let inside : i < length es = omega (arith, holds-length entryRow es t) in
               let before = at-loop .loop .inv .1 .1 .1 es fit g t h in
               let e = getD es i noEntry in
               let step = at-row .answer-row .ensures .0 (take i es) e (fits-at es i noEntry inside fit) (read .record-at .ensures .0 (map entryRow es) t ∙ row-at-entry es i noEntry inside)
@@ -83,7 +84,7 @@ returns c =
     let a = c .before .before .before .before .before .before .before .args in
     let keys = now (a .keys) in
     λ es fit g t h.
-    let all : take (at-loop .i) es ≡ es = take-all (at-loop .i) es (omega (arith, holds-length es t)) in
+    let all : take (at-loop .i) es ≡ es = take-all (at-loop .i) es (omega (arith, holds-length entryRow es t)) in
     subst (λ (l : List Entry). Shows (length keys) (at-loop .answers) (map (answersIn (a .collection) l) keys)) all (at-loop .inv .1 .1 .1 es fit g t h .0)
 
 pub answer-rows-spec : {M : Type 1} → statement M

@@ -12,8 +12,9 @@ use Rattle.bytes_records.specs.Table.{HoldsRows}
 use Rattle.bytes_printer.specs.Prints.{Prints, Within}
 use Rattle.bytes_printer.specs.PrintsLaws.{lines-start, lines-turn, lines-end, ends-within}
 use Rattle.panel_rows.specs.Rows.{entryWidth, entryRow}
+use Rattle.panel_rows.specs.RowsLaws.{noEntry}
 use Rattle.panel_lookups.specs.NthLaws.{fits-at, row-at-entry}
-use Rattle.panel_lookups.proofs.Counted.{noEntry, holds-length, not-too-many}
+use Rattle.bytes_records.specs.TableLaws.{not-too-many, holds-length}
 use Rattle.panel_print.specs.EntriesPrint.{rowPrint}
 use Rattle.panel_print.proofs.entries.print_rows.Statement.{statement}
 use Rattle.panel_print.proofs.entries.print_rows.Tie as tie
@@ -29,7 +30,7 @@ div-if1 : tie.Need-div-if1 Inv-loop μ-loop
 div-if1 c = search needs
 
 returns : tie.Need-returns Inv-loop μ-loop
-returns c = λ es fit t w. absurd (not-too-many es t (c .if1 .taken))
+returns c = λ es fit t w. absurd (not-too-many t (omega arith) (c .if1 .taken))
 
 loop-holds : tie.Need-loop-holds Inv-loop μ-loop
 loop-holds c = (omega arith, (refl, λ es fit t w. lines-start (rowPrint (c .before .before .before .args .collection)) es w))
@@ -57,7 +58,7 @@ loop-again c =
       (
         search needs,
         λ es fit t w.
-            let inside : i < length es = omega (arith, holds-length es t) in
+            let inside : i < length es = omega (arith, holds-length entryRow es t) in
             let before = at-loop .loop .inv .1 .1 es fit t w in
             lines-turn (rowPrint (args .collection)) es i noEntry inside before
             (printed .print-row .ensures (getD es i noEntry) (fits-at es i noEntry inside fit) (read .record-at .ensures .0 (map entryRow es) t ∙ row-at-entry es i noEntry inside) (ends-within before)),
@@ -71,7 +72,7 @@ returns-2 : tie.Need-returns-2 Inv-loop μ-loop
 returns-2 c =
     let at-loop = c .before in
     let collection = at-loop .before .before .before .before .args .collection in
-    λ es fit t w. lines-end (rowPrint collection) es (at-loop .loop .i) (omega (arith, holds-length es t)) (at-loop .loop .inv .1 .1 es fit t w)
+    λ es fit t w. lines-end (rowPrint collection) es (at-loop .loop .i) (omega (arith, holds-length entryRow es t)) (at-loop .loop .inv .1 .1 es fit t w)
 
 pub print-rows-spec : {M : Type 1} → statement M
 print-rows-spec =

@@ -4,7 +4,7 @@ use native.Mathlib.Omega.{arith}
 use borrow.Author.Needs.{needs}
 use denote.Ref.{now}
 use lib.ListN.{drop-of-length-le}
-use Rattle.projection_patch.specs.TextLaws.{lent-from}
+use Rattle.spec_lists.specs.ListLaws.{lent-from}
 use Rattle.panel_rows.proofs.fields.value_part.Statement.{statement}
 use Rattle.panel_rows.proofs.fields.value_part.Tie as tie
 

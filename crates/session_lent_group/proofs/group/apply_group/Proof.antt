@@ -6,6 +6,7 @@ use mathlib.Core.List.{[]}
 use native.Mathlib.Omega.{arith}
 use lib.ListN.{length}
 use Rattle.spec_lists.specs.ListLaws.{unmapped, and-right}
+use Rattle.spec_lists.specs.ListLaws.{and-both}
 use Rattle.spec_group.specs.Group.{groupBatches}
 use Rattle.session_group.specs.GroupsLaws.{group-named}
 use Rattle.session_lent.specs.Head.{headNumbers}
@@ -14,7 +15,7 @@ use Rattle.session_lent_group.specs.declared.places.GroupLeft.{GroupLeft
 use Rattle.session_lent_group.specs.Sendings.{LeftFits}
 use Rattle.session_lent_group.specs.SendingsLaws.{RanFrom}
 use Rattle.session_lent_group.specs.LentGroups.{workShaped, ownShaped}
-use Rattle.session_lent_group.specs.LentGroupsLaws.{work-head, own-heads, both-shaped, whole-fits, none-sent, group-answered}
+use Rattle.session_lent_group.specs.LentGroupsLaws.{work-head, own-heads, whole-fits, none-sent, group-answered}
 use borrow.Author.Needs.{needs}
 use Rattle.session_lent_group.proofs.group.apply_group.Statement.{statement}
 use Rattle.session_lent_group.proofs.group.apply_group.Tie as tie
@@ -71,7 +72,7 @@ returns c =
     let first′ = halfWith (call .last .1 .1 .1 .1 .1 .1 .1 .1 .1 .0) (call .last .1 .1 .1 .1 .1 .1 .1 .1 .1 .1 .0) (call .last .1 .1 .1 .1 .1 .1 .1 .1 .1 .1 .1 .0) (call .last .1 .1 .1 .1 .1 .1 .1 .1 .1 .1 .1 .1 .0) (call .last .1 .1 .1 .1 .1 .1 .1 .1 .1 .1 .1 .1 .1 .0) in
     let second′ = halfWith (call .last .1 .1 .1 .1 .1 .1 .1 .1 .1 .1 .1 .1 .1 .1 .0) (call .last .1 .1 .1 .1 .1 .1 .1 .1 .1 .1 .1 .1 .1 .1 .1 .0) (call .last .1 .1 .1 .1 .1 .1 .1 .1 .1 .1 .1 .1 .1 .1 .1 .1 .0) (call .last .1 .1 .1 .1 .1 .1 .1 .1 .1 .1 .1 .1 .1 .1 .1 .1 .1 .0) (call .last .1 .1 .1 .1 .1 .1 .1 .1 .1 .1 .1 .1 .1 .1 .1 .1 .1 .1 .0) in
     let ran = subst (λ (x : GroupLeft). RanFrom (anchorsIn start) (a .head .now) (a .bindings .now) (a .availability .now) (a .entries .now) (firstIn start) (secondIn start) (a .sets .now) x first′ second′ (call .result)) (c .before .before .before .before .before .before .before .before .before .before .before .before .before .before .before .before .before .before .before .before .before .before .before .before .before .before .before .before .before .before .before .before .before .before .first-left .ensures) (call .ensures) in
-    let shaped = both-shaped (ownShaped (anchorsIn start) (ownIn start) (firstIn start)) (workShaped (secondIn start)) (start .pre) work in
+    let shaped = and-both (ownShaped (anchorsIn start) (ownIn start) (firstIn start)) (workShaped (secondIn start)) (start .pre) work in
     record {
       answered = λ yes. group-answered (anchorsIn start) (a .head .now) (a .bindings .now) (a .availability .now) (a .entries .now) (a .batches) (a .count) (a .sets .now) (firstIn start) (secondIn start) is first′ second′ (call .result) ran (c .concluded .result) (c .concluded .ensures);
       refused = λ no. absurd (false≢true (sym no ∙ shaped));
@@ -83,7 +84,7 @@ returns-2 c =
     let a = start .args in
     let is = sym (c .before .is-group .ensures) ∙ c .if2 .left in
     let work = sym (c .before .before .before .work-shaped .ensures) ∙ c .before .before .if1 .taken in
-    let shaped = both-shaped (ownShaped (anchorsIn start) (ownIn start) (firstIn start)) (workShaped (secondIn start)) (start .pre) work in
+    let shaped = and-both (ownShaped (anchorsIn start) (ownIn start) (firstIn start)) (workShaped (secondIn start)) (start .pre) work in
     record {
       answered = λ yes. none-sent (anchorsIn start) (a .head .now) (a .bindings .now) (a .availability .now) (a .entries .now) (a .batches) (a .count) (a .sets .now) (firstIn start) (secondIn start) is;
       refused = λ no. absurd (false≢true (sym no ∙ shaped));
