@@ -80,14 +80,10 @@ matches-first r rs (b ∷ bs) = go (inside r b)
     go true = refl
     go false = refl
 
-matches-at : (r : Range) (rs : List Range) (text : List ℕ) (at : ℕ)
-    → matches (r ∷ rs) (drop at text) ≡ (matches (r ∷ []) (drop at text) && matches rs (drop (at + 1) text))
-matches-at r rs text at = matches-first r rs (drop at text) ∙ rw (drop-drop 1 at text)
-
 -- The octets from a position on, by a test v of the first of them whose outcome is t.
 pub matches-told : (r : Range) (rs : List Range) (text : List ℕ) (at : ℕ) (t : Bool) {v : Bool} → v ≡ matches (r ∷ []) (drop at text) → v ≡ t
     → matches (r ∷ rs) (drop at text) ≡ (t && matches rs (drop (at + 1) text))
-matches-told r rs text at t e f = matches-at r rs text at ∙ rw (sym e ∙ f)
+matches-told r rs text at t e f = matches-first r rs (drop at text) ∙ rw (drop-drop 1 at text, sym e ∙ f)
 
 -- likewise the tails of a sequence of n octets from octet i on
 pub tails-told : (text : List ℕ) (n i : ℕ) (t : Bool) {v : Bool} → i < n → v ≡ matches (tails 1 3 ∷ []) (drop i text) → v ≡ t

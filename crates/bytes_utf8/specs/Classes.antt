@@ -36,7 +36,7 @@ IsTailClass c = (1 ≤ c) × (c ≤ 3)
 abbrev pub tails : ℕ → ℕ → Range
 tails low high = getD (0 ∷ 0x80 ∷ 0x90 ∷ 0xa0 ∷ []) low 0 ⋯ getD (0 ∷ 0x8f ∷ 0x9f ∷ 0xbf ∷ []) high 0
 
--- what follows the first byte of a sequence of n bytes, the second of such classes
+-- what follows the first byte of a sequence of n bytes, the next one of such classes
 abbrev pub sequence : ℕ → ℕ → ℕ → After
 sequence low high n = expects (tails low high ∷ replicate (n - 2) tail)
 
@@ -52,6 +52,6 @@ afterClass c =
     if eqb c 9 then sequence 1 3 4 else
     if eqb c 10 then sequence 1 1 4 else refused
 
--- The first bytes of a class begin the sequences of so many bytes whose tails are all free.
+-- the bytes of a class begin the sequences of so many bytes, with any tails
 abbrev pub Leads : ℕ → ℕ → Type 0
 Leads class width = (2 ≤ width) × (width ≤ 4) × (afterClass class ≡ sequence 1 3 width)

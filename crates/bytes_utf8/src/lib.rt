@@ -44,7 +44,7 @@ fn is_tail(classes: &[u8; 256], text: &[u8], at: usize, low: u8, high: u8) -> bo
     false
 }
 
-// The length, if as many bytes less one are the tails that follow the first byte, the second byte of the classes low to high; else 0.
+// The length of the sequence that the first byte begins, if its tails stand there, the first of them of the classes low to high; else 0.
 fn sequence_length(classes: &[u8; 256], text: &[u8], low: u8, high: u8, length: usize) -> usize
     requires { ⌜ IsClassTable (now classes) × IsTailClass low × IsTailClass high × (2 ≤ length) ⌝ }
     ensures { λ r. ⌜ r ≡ lengthAfter (sequence low high length) (drop 1 (now (text .entry))) ⌝ }
@@ -212,7 +212,28 @@ fn row_end(classes: &[u8; 256], text: &[u8], from: Position, lead: u8, width: us
     character_end(classes, text, Position { at, characters }, lead, width)
 }
 
-// The position behind the characters of three bytes there, or else behind one by its class. It is the same position where no character stands.
+// The position behind characters that are taken by their classes, up to one of less than three bytes. It is the same position where none stands.
+fn wide_end(classes: &[u8; 256], text: &[u8], from: Position) -> Position
+    requires { ⌜ IsClassTable (now classes) × Reached (now text) (from .characters) (from .at) × (from .at < length (now text)) ⌝ }
+    ensures { λ r. ⌜ Reached (now (text .entry)) (r .characters) (r .at) × (from .at ≤ r .at) × (r .at ≡ from .at → 0 ≡ characterLength (drop (from .at) (now (text .entry)))) ⌝ }
+{
+    let mut at = from.at;
+    let mut characters = from.characters;
+    while at < text.len() {
+        let length = character_length(classes, &text[at..]);
+        if length == 0 {
+            return Position { at, characters };
+        }
+        at += length;
+        characters += 1;
+        if length < 3 {
+            return Position { at, characters };
+        }
+    }
+    Position { at, characters }
+}
+
+// The position behind the characters of three bytes there, or else behind those taken by their classes.
 fn other_end(classes: &[u8; 256], text: &[u8], from: Position) -> Position
     requires { ⌜ IsClassTable (now classes) × Reached (now text) (from .characters) (from .at) × (from .at < length (now text)) ⌝ }
     ensures { λ r. ⌜ Reached (now (text .entry)) (r .characters) (r .at) × (from .at ≤ r .at) × (r .at ≡ from .at → 0 ≡ characterLength (drop (from .at) (now (text .entry)))) ⌝ }
@@ -222,14 +243,7 @@ fn other_end(classes: &[u8; 256], text: &[u8], from: Position) -> Position
     if at < threes.at {
         return threes;
     }
-    let length = character_length(classes, &text[at..]);
-    if length == 0 {
-        return from;
-    }
-    Position {
-        at: at + length,
-        characters: from.characters + 1,
-    }
+    wide_end(classes, text, from)
 }
 
 // The check of a text whose bytes before the position are below 0x80. Characters of two bytes and of one are passed in rows, as words and what

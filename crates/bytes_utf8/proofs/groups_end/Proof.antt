@@ -1,6 +1,5 @@
 -- `bytes_utf8::groups_end` meets its contract: the loop's invariant is the claim of the position reached.
 use Prim.Native.Nat.{_-_}
-use native.Mathlib.Omega.{arith}
 use lib.ListN.{length}
 use borrow.Author.Needs.{needs}
 use borrow.Author.Tests.{not-false}
