@@ -1,12 +1,15 @@
--- Bytes below 0x80 from one position to another: none, fewer, those of two rows, a group more, and one more.
-use Prim.Native.Nat.{ℕ, _+_, _-_, _≤_, _<_}
-use mathlib.Core.Path.{_≡_}
+-- Bytes below 0x80 from one position to another: none, fewer, those of two rows, one, and those whose highest bits a number has.
+use Prim.Native.Nat.{ℕ, zero, suc, _+_, _*_, _^_, _≤_, _<_}
+use mathlib.Core.Path.{_≡_, refl, sym, ap₂, _∙_}
 use mathlib.Core.List.{List}
 use native.Mathlib.Decide.{decLt}
+use native.Mathlib.Nat.{add-comm, add-assoc, mul-comm, suc-mul}
 use native.Mathlib.Omega.{arith}
-use lib.ListN.{length, getD, take, drop, length-drop}
-use lib.Seq.{getD-take, getD-drop, length-take-le}
-use Rattle.bytes_utf8.specs.Characters.{AsciiBetween}
+use lib.Bits.{bitAnd, and-block}
+use lib.ListN.{length, getD}
+use lib.Pow.{pow-pos}
+use Rattle.bytes_utf8.specs.Characters.{AsciiBetween, highBits, TellsAscii}
+use Rattle.bytes_utf8.proofs.TableLaws.{high-ascii}
 
 pub ascii-none : {text : List ℕ} {from : ℕ} → from ≤ length text → AsciiBetween text from from
 ascii-none h = record { ascends = omega arith; within = h; ascii = λ k l g. absurd (omega arith) }
@@ -22,26 +25,24 @@ ascii-joined {text} {from} {i} {to} a b =
     go k l u (yes v) = a .ascii k l v
     go k l u (no v) = b .ascii k (omega arith) u
 
--- a part of the text that is all such bytes
-pub ascii-group : {text : List ℕ} {from i : ℕ} (to : ℕ) → AsciiBetween text from i → i ≤ to → to ≤ length text
-    → AsciiBetween (take (to - i) (drop i text)) 0 (length (take (to - i) (drop i text))) → AsciiBetween text from to
-ascii-group {text} {from} {i} to a o h g =
-    record { ascends = omega (arith, a .ascends); within = h; ascii = λ k l u. go k l u (decLt k i) }
-  where
-    long : length (take (to - i) (drop i text)) ≡ to - i
-    long = length-take-le (to - i) (drop i text) (rw (length-drop i text) (omega arith))
+pub ascii-one : {text : List ℕ} {at : ℕ} → at < length text → getD text at 0 < 0x80 → AsciiBetween text at (at + 1)
+ascii-one {text} {at} h b =
+    record { ascends = omega arith; within = omega arith; ascii = λ k l u. let e : k ≡ at = omega arith in rw e b }
 
-    inner : (k : ℕ) → k < to - i → getD text (i + k) 0 < 0x80
-    inner k u = rw (getD-take (to - i) (drop i text) k 0 u, getD-drop i text k 0) at (g .ascii k (omega arith) (rw long u))
+-- ---- the highest bits of a number
 
-    go : (k : ℕ) → from ≤ k → k < to → Dec (k < i) → getD text k 0 < 0x80
-    go k l u (yes v) = a .ascii k l v
-    go k l u (no v) = let e : i + (k - i) ≡ k = omega arith in rw e at (inner (k - i) (omega arith))
+pub tells-byte : (text : List ℕ) (at : ℕ) → at < length text → getD text at 0 < 256 → TellsAscii text at 1 (getD text at 0)
+tells-byte text at h l e = ascii-one h (high-ascii (getD text at 0) l e)
 
-pub ascii-more : {text : List ℕ} {from i : ℕ} → AsciiBetween text from i → i < length text → getD text i 0 < 0x80 → AsciiBetween text from (i + 1)
-ascii-more {text} {from} {i} a h b =
-    record { ascends = omega (arith, a .ascends); within = omega arith; ascii = λ k l u. go k l u (decLt k i) }
-  where
-    go : (k : ℕ) → from ≤ k → k < i + 1 → Dec (k < i) → getD text k 0 < 0x80
-    go k l u (yes v) = a .ascii k l v
-    go k l u (no v) = let e : k ≡ i = omega arith in rw e b
+none-of : (a m : ℕ) → 0 < m → a * m ≡ 0 → a ≡ 0
+none-of zero m l e = refl
+none-of (suc a) m l e = absurd (omega (arith, suc-mul a m))
+
+-- twice as many bytes
+pub tells-more : (text : List ℕ) (at n k x y : ℕ) → highBits n < 2 ^ k → highBits (n + n) ≡ highBits n * 2 ^ k + highBits n → x < 2 ^ k
+    → TellsAscii text at n x → TellsAscii text (at + n) n y → TellsAscii text at (n + n) (x + 2 ^ k * y)
+tells-more text at n k x y l e u low high t =
+    let sum : x + 2 ^ k * y ≡ y * 2 ^ k + x = rw (mul-comm (2 ^ k) y) (add-comm x (y * 2 ^ k)) in
+    let z : bitAnd y (highBits n) * 2 ^ k + bitAnd x (highBits n) ≡ 0 =
+    sym (and-block k y (highBits n) x (highBits n) u l) ∙ sym (ap₂ bitAnd sum e) ∙ t in
+    rw (← add-assoc) (ascii-joined (low (omega arith)) (high (none-of _ (2 ^ k) (pow-pos k) (omega arith))))

@@ -1,19 +1,19 @@
 -- The character that a text begins with: what follows it decides the text, and it counts as one. Where there is none the text is not UTF-8.
-use Prim.Native.Nat.{ℕ, zero, suc, _+_, _≤_, _<_, zero-le}
+use Prim.Native.Nat.{ℕ, zero, suc, _+_, _-_, _≤_, _<_, zero-le}
 use mathlib.Core.Path.{_≡_, refl, sym, ap, _∙_}
 use mathlib.Core.Bool.{Bool, true, false, _&&_, and-true, false≢true}
 use mathlib.Core.List.{List, [], _∷_}
 use native.Mathlib.Nat.{zero-add, add-zero}
 use native.Mathlib.Omega.{arith}
 use lib.Dec.{leb}
-use lib.ListN.{length, drop, getD, length-drop}
+use lib.ListN.{length, drop, getD, replicate, length-drop, length-replicate}
 use lib.Seq.{drop-cons, drop-nil, drop-drop, getD-drop}
 use borrow.Author.Tests.{le-leb}
 use Rattle.spec_lists.specs.Lists.{if_then_else_}
 use Rattle.spec_lists.specs.ListLaws.{and-left, and-right, test-cases}
-use Rattle.spec_text.specs.Syntax.{Range, inside, sequences, After, expects, refused, lead, advance, whole, isUtf8After, charactersAfter, isUtf8, characters}
+use Rattle.spec_text.specs.Syntax.{Range, tail, inside, sequences, After, expects, refused, lead, advance, whole, isUtf8After, charactersAfter, isUtf8, characters}
 use Rattle.spec_text.specs.SyntaxLaws.{refused-stays}
-use Rattle.bytes_utf8.specs.Classes.{classOf, IsTailClass, tails, afterClass}
+use Rattle.bytes_utf8.specs.Classes.{classOf, IsTailClass, tails, sequence, afterClass}
 use Rattle.bytes_utf8.specs.Characters.{matches, lengthAfter, characterLength}
 use Rattle.bytes_utf8.proofs.TableLaws.{tail-class, lead-class}
 
@@ -80,30 +80,26 @@ matches-first r rs (b ∷ bs) = go (inside r b)
     go true = refl
     go false = refl
 
-matches-at : (r : Range) (rs : List Range) (text : List ℕ) (at : ℕ)
-    → matches (r ∷ rs) (drop at text) ≡ (matches (r ∷ []) (drop at text) && matches rs (drop (at + 1) text))
-matches-at r rs text at = matches-first r rs (drop at text) ∙ rw (drop-drop 1 at text)
+-- The octets from a position on, by a test v of the first of them whose outcome is t.
+pub matches-told : (r : Range) (rs : List Range) (text : List ℕ) (at : ℕ) (t : Bool) {v : Bool} → v ≡ matches (r ∷ []) (drop at text) → v ≡ t
+    → matches (r ∷ rs) (drop at text) ≡ (t && matches rs (drop (at + 1) text))
+matches-told r rs text at t e f = matches-first r rs (drop at text) ∙ rw (drop-drop 1 at text, sym e ∙ f)
 
--- an octet of the range at the position
-abbrev hasAt : List ℕ → Range → ℕ → Bool
-hasAt text r at = matches (r ∷ []) (drop at text)
+-- likewise the tails of a sequence of n octets from octet i on
+pub tails-told : (text : List ℕ) (n i : ℕ) (t : Bool) {v : Bool} → i < n → v ≡ matches (tails 1 3 ∷ []) (drop i text) → v ≡ t
+    → matches (replicate (n - i) tail) (drop i text) ≡ (t && matches (replicate (n - (i + 1)) tail) (drop (i + 1) text))
+tails-told text n i t h e f =
+    let s : n - i ≡ suc (n - (i + 1)) = omega arith in
+    rw s (matches-told tail (replicate (n - (i + 1)) tail) text i t e f)
 
--- The length by tests v, w and x of the octets one after the other, of which the outcomes are t, u and o.
-pub length-2 : (text : List ℕ) (a : Range) (t : Bool) {v : Bool} → v ≡ hasAt text a 1 → v ≡ t
-    → (if t then 2 else 0) ≡ lengthAfter (expects (a ∷ [])) (drop 1 text)
+-- the length of a sequence that is there, and of one that is not
+pub sequence-there : (low high n : ℕ) (bs : List ℕ) → 2 ≤ n → matches (tails low high ∷ replicate (n - 2) tail) bs ≡ true → n ≡ lengthAfter (sequence low high n) bs
 unfolding lengthAfter
-length-2 text a t e f = rw (sym e ∙ f)
+sequence-there low high n bs l e = rw (e, length-replicate (n - 2) tail) (omega arith)
 
-pub length-3 : (text : List ℕ) (a b : Range) (t u : Bool) {v w : Bool} → v ≡ hasAt text a 1 → v ≡ t → w ≡ hasAt text b 2 → w ≡ u
-    → (if t && u then 3 else 0) ≡ lengthAfter (expects (a ∷ b ∷ [])) (drop 1 text)
+pub sequence-missing : (low high n : ℕ) (bs : List ℕ) → matches (tails low high ∷ replicate (n - 2) tail) bs ≡ false → 0 ≡ lengthAfter (sequence low high n) bs
 unfolding lengthAfter
-length-3 text a b t u e f g h = rw (matches-at a (b ∷ []) text 1, sym e ∙ f, sym g ∙ h)
-
-pub length-4 : (text : List ℕ) (a b d : Range) (t u o : Bool) {v w x : Bool} → v ≡ hasAt text a 1 → v ≡ t → w ≡ hasAt text b 2 → w ≡ u
-    → x ≡ hasAt text d 3 → x ≡ o → (if t && (u && o) then 4 else 0) ≡ lengthAfter (expects (a ∷ b ∷ d ∷ [])) (drop 1 text)
-unfolding lengthAfter
-length-4 text a b d t u o e f g h i j =
-    rw (matches-at a (b ∷ d ∷ []) text 1, matches-at b (d ∷ []) text 2, sym e ∙ f, sym g ∙ h, sym i ∙ j)
+sequence-missing low high n bs e = rw e
 
 -- ---- the first character of a text
 
@@ -152,19 +148,8 @@ unfolding characterLength
 character-class [] class h l e = absurd (omega arith)
 character-class (b ∷ bs) class h l e = rw (e, lead-class b l)
 
--- A byte of class 4 and a tail, and one of class 6 and two tails, at a position.
-pub character-2 : (text : List ℕ) (at : ℕ) → at < length text → getD text at 0 < 256 → 4 ≡ classOf (getD text at 0) → hasAt text (tails 1 3) (at + 1) ≡ true
-    → characterLength (drop at text) ≡ 2
-unfolding afterClass lengthAfter
-character-2 text at h l e t =
-    character-class (drop at text) 4 (rw (length-drop at text) (omega arith)) (rw (getD-drop at text 0 0, add-zero) l) (rw (getD-drop at text 0 0, add-zero) e)
-    ∙ rw (drop-drop 1 at text, t)
-
-pub character-3 : (text : List ℕ) (at : ℕ) → at < length text → getD text at 0 < 256 → 6 ≡ classOf (getD text at 0) → hasAt text (tails 1 3) (at + 1) ≡ true
-    → hasAt text (tails 1 3) (at + 2) ≡ true → characterLength (drop at text) ≡ 3
-unfolding afterClass lengthAfter
-character-3 text at h l e t u =
-    let next : at + 1 + 1 ≡ at + 2 = omega arith in
-    let second : hasAt text (tails 1 3) (at + 1 + 1) ≡ true = rw next u in
-    character-class (drop at text) 6 (rw (length-drop at text) (omega arith)) (rw (getD-drop at text 0 0, add-zero) l) (rw (getD-drop at text 0 0, add-zero) e)
-    ∙ rw (drop-drop 1 at text, matches-at (tails 1 3) (tails 1 3 ∷ []) text (at + 1), t, second)
+-- The same of the first byte at a position.
+pub character-at : (text : List ℕ) (at class : ℕ) → at < length text → getD text at 0 < 256 → class ≡ classOf (getD text at 0)
+    → characterLength (drop at text) ≡ lengthAfter (afterClass class) (drop 1 (drop at text))
+character-at text at class h l e =
+    character-class (drop at text) class (rw (length-drop at text) (omega arith)) (rw (getD-drop at text 0 0, add-zero) l) (rw (getD-drop at text 0 0, add-zero) e)

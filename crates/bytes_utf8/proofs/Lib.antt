@@ -2,6 +2,5 @@ pub mod Below
 pub mod TableLaws
 pub mod CharacterLaws
 pub mod AsciiLaws
-pub mod RowLaws
 pub mod Reached
 pub mod Answers

@@ -1,25 +1,18 @@
 -- What holds of the check after i bytes of a text and with a count of characters: at the start, after one character more, after bytes below
 -- 0x80 in a row, and at the end.
-use Prim.Native.Nat.{ℕ, zero, suc, _+_, _-_, _*_, _≤_, _<_, zero-le}
+use Prim.Native.Nat.{ℕ, zero, suc, _+_, _-_, _≤_, _<_, zero-le}
 use mathlib.Core.Path.{_≡_, refl, sym, _∙_, subst}
 use mathlib.Core.List.{List, []}
-use native.Mathlib.Nat.{zero-add, add-zero, add-assoc, mul-zero, mul-suc, le-refl, le-antisymm}
+use native.Mathlib.Nat.{zero-add, add-zero, add-assoc, le-refl, le-antisymm}
 use native.Mathlib.Omega.{arith}
 use lib.ListN.{length, getD, take, drop, length-drop}
 use lib.Seq.{take-all, drop-length, drop-drop, getD-drop}
-use Rattle.spec_text.specs.Syntax.{isUtf8, characters}
-use Rattle.bytes_utf8.specs.Characters.{characterLength, AsciiBetween, CharactersFrom}
+use Rattle.spec_text.specs.Syntax.{After, isUtf8, characters}
+use Rattle.bytes_utf8.specs.Classes.{classOf, afterClass}
+use Rattle.bytes_utf8.specs.Characters.{lengthAfter, characterLength, AsciiBetween, Reached}
 use Rattle.bytes_utf8.specs.Answer.{utf8Answer}
 use Rattle.bytes_utf8.specs.declared.Utf8Check.the-variants.{Valid, Invalid}
-use Rattle.bytes_utf8.proofs.RowLaws.{characters-fewer}
-use Rattle.bytes_utf8.proofs.CharacterLaws.{character-read, character-refused, character-ascii}
-
--- The bytes from i on decide the text, and have the characters that are not counted yet.
-pub record Reached (text : List ℕ) (count i : ℕ) : Type 0 where
-  pub within : i ≤ length text
-  pub few : count ≤ i
-  pub same-utf8 : isUtf8 (drop i text) ≡ isUtf8 text
-  pub same-count : count + characters (drop i text) ≡ characters text
+use Rattle.bytes_utf8.proofs.CharacterLaws.{character-read, character-refused, character-ascii, character-at}
 
 reached-start : (text : List ℕ) → Reached text 0 0
 reached-start text = record { within = zero-le; few = zero-le; same-utf8 = refl; same-count = zero-add (characters text) }
@@ -41,6 +34,14 @@ reached-character {text} {count} {i} n r e ne =
       same-utf8 = rw (← drop-drop n i text, ← c .1) (r .same-utf8);
       same-count = rw (← drop-drop n i text, add-assoc, ← c .2) (r .same-count);
     }
+
+-- by the class of its first byte, and what follows in the part from there on
+pub reached-sequence : {text : List ℕ} {count at : ℕ} (class : ℕ) (a : After) (n : ℕ) → Reached text count at → at < length text → getD text at 0 < 256
+    → class ≡ classOf (getD text at 0) → afterClass class ≡ a → n ≡ lengthAfter a (drop 1 (take (length text - at) (drop at text))) → (n ≡ 0 → ⊥)
+    → Reached text (count + 1) (at + n)
+reached-sequence {text} {count} {at} class a n r h l e f g ne =
+    let same : n ≡ lengthAfter a (drop 1 (drop at text)) = rw part-from at g in
+    reached-character n r (same ∙ sym (character-at text at class h l e ∙ rw f)) ne
 
 -- ---- bytes below 0x80
 
@@ -67,17 +68,6 @@ pub reached-front : {text : List ℕ} {to : ℕ} → AsciiBetween text 0 to → 
 reached-front {text} {to} a =
     let n : 0 + (to - 0) ≡ to = omega arith in
     subst (λ (j : ℕ). Reached text j to) n (reached-ascii (reached-start text) a)
-
--- ---- characters of one length
-
-pub reached-characters : {text : List ℕ} {count i : ℕ} (n k : ℕ) → 0 < n → Reached text count i → CharactersFrom text n i k → Reached text (count + k) (i + n * k)
-reached-characters {text} {count} {i} n zero l r h = rw (add-zero count, mul-zero, add-zero i) r
-reached-characters {text} {count} {i} n (suc k) l r h =
-    let s = reached-characters n k l r (characters-fewer h) in
-    let t : Reached text (count + k + 1) (i + n * k + n) = reached-character n s (sym (h .characters k (omega arith))) (λ e. omega arith) in
-    let c : count + k + 1 ≡ count + suc k = omega arith in
-    let j : i + n * k + n ≡ i + n * suc k = rw (mul-suc n k) (add-assoc i (n * k) n) in
-    subst (λ (m : ℕ). Reached text (count + suc k) m) j (subst (λ (m : ℕ). Reached text m (i + n * k + n)) c t)
 
 -- ---- the end
 

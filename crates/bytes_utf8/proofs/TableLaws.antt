@@ -4,6 +4,7 @@ use mathlib.Core.Path.{_≡_, refl, ap, ap₂, subst, _∙_}
 use mathlib.Core.Bool.{Bool, true, false, _&&_, Bool·beq}
 use mathlib.Core.List.{List}
 use native.Mathlib.Omega.{arith}
+use lib.Bits.{bitAnd}
 use lib.Dec.{eqb, leb, ltb}
 use lib.ListN.{getD}
 use borrow.Author.Tests.{eqb-true, eq-eqb, ltb-true}
@@ -69,6 +70,14 @@ asciiRight b = Bool·beq (ltb b 0x80) (eqb (classOf b) 0)
 pub class-ascii : (b : ℕ) → b < 256 → classOf b ≡ 0 → b < 0x80
 unfolding asciiRight classOf
 class-ascii b h e = ltb-true b 0x80 (beq-equal _ _ (pass asciiRight 256 refl b h) ∙ eq-eqb (classOf b) 0 e)
+
+-- They are those without the highest bit.
+highRight : ℕ → Bool
+highRight b = Bool·beq (ltb b 0x80) (eqb (bitAnd b 0x80) 0)
+
+pub high-ascii : (b : ℕ) → b < 256 → bitAnd b 0x80 ≡ 0 → b < 0x80
+unfolding highRight
+high-ascii b h e = ltb-true b 0x80 (beq-equal _ _ (pass highRight 256 refl b h) ∙ eq-eqb (bitAnd b 0x80) 0 e)
 
 -- ---- the bytes that follow
 

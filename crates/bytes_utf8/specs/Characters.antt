@@ -1,11 +1,12 @@
--- The character that a text begins with, and rows of bytes below 0x80 and of characters of one length.
-use Prim.Native.Nat.{ℕ, suc, _+_, _*_, _≤_, _<_}
+-- The character that a text begins with, rows of bytes below 0x80, and how far a text was read.
+use Prim.Native.Nat.{ℕ, zero, suc, _+_, _*_, _≤_, _<_}
 use mathlib.Core.Path.{_≡_}
 use mathlib.Core.Bool.{Bool, true, false, _&&_}
 use mathlib.Core.List.{List, [], _∷_}
+use lib.Bits.{bitAnd}
 use lib.ListN.{length, getD, drop}
 use Rattle.spec_lists.specs.Lists.{if_then_else_}
-use Rattle.spec_text.specs.Syntax.{Range, inside, sequences, After, expects, refused, lead}
+use Rattle.spec_text.specs.Syntax.{Range, inside, sequences, After, expects, refused, lead, isUtf8, characters}
 
 -- The octets begin with one in each of the ranges.
 unfoldable pub matches : List Range → List ℕ → Bool
@@ -29,7 +30,18 @@ pub record AsciiBetween (text : List ℕ) (from to : ℕ) : Type 0 where
   pub within : to ≤ length text
   pub ascii : (k : ℕ) → from ≤ k → k < to → getD text k 0 < 0x80
 
--- So many characters of n bytes each stand from a position on.
-pub record CharactersFrom (text : List ℕ) (n from count : ℕ) : Type 0 where
-  pub within : from + n * count ≤ length text
-  pub characters : (k : ℕ) → k < count → characterLength (drop (from + n * k) text) ≡ n
+-- The highest bits of n bytes as a number.
+abbrev pub highBits : ℕ → ℕ
+highBits zero = 0
+highBits (suc n) = highBits n * 256 + 0x80
+
+-- A number tells by its highest bits whether n bytes are below 0x80.
+abbrev pub TellsAscii : List ℕ → ℕ → ℕ → ℕ → Type 0
+TellsAscii text at n x = bitAnd x (highBits n) ≡ 0 → AsciiBetween text at (at + n)
+
+-- The bytes from a position on decide the text, and have the characters that are not counted yet.
+pub record Reached (text : List ℕ) (count at : ℕ) : Type 0 where
+  pub within : at ≤ length text
+  pub few : count ≤ at
+  pub same-utf8 : isUtf8 (drop at text) ≡ isUtf8 text
+  pub same-count : count + characters (drop at text) ≡ characters text

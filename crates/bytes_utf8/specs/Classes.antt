@@ -1,9 +1,9 @@
 -- The classes of bytes, the table of them, and what the syntax allows after a byte of each class.
-use Prim.Native.Nat.{ℕ, _≤_, _<_}
+use Prim.Native.Nat.{ℕ, _-_, _≤_, _<_}
 use mathlib.Core.Path.{_≡_}
 use mathlib.Core.List.{List, [], _∷_}
 use lib.Dec.{eqb, ltb}
-use lib.ListN.{getD}
+use lib.ListN.{getD, replicate}
 use Rattle.spec_lists.specs.Lists.{if_then_else_}
 use Rattle.spec_text.specs.Syntax.{Range, _⋯_, tail, After, expects, refused}
 
@@ -36,14 +36,22 @@ IsTailClass c = (1 ≤ c) × (c ≤ 3)
 abbrev pub tails : ℕ → ℕ → Range
 tails low high = getD (0 ∷ 0x80 ∷ 0x90 ∷ 0xa0 ∷ []) low 0 ⋯ getD (0 ∷ 0x8f ∷ 0x9f ∷ 0xbf ∷ []) high 0
 
+-- what follows the first byte of a sequence of n bytes, the next one of such classes
+abbrev pub sequence : ℕ → ℕ → ℕ → After
+sequence low high n = expects (tails low high ∷ replicate (n - 2) tail)
+
 -- what the syntax allows after a first byte of the class
 unfoldable pub afterClass : ℕ → After
 afterClass c =
     if eqb c 0 then expects [] else
-    if eqb c 4 then expects (tails 1 3 ∷ []) else
-    if eqb c 5 then expects (tails 3 3 ∷ tail ∷ []) else
-    if eqb c 6 then expects (tails 1 3 ∷ tail ∷ []) else
-    if eqb c 7 then expects (tails 1 2 ∷ tail ∷ []) else
-    if eqb c 8 then expects (tails 2 3 ∷ tail ∷ tail ∷ []) else
-    if eqb c 9 then expects (tails 1 3 ∷ tail ∷ tail ∷ []) else
-    if eqb c 10 then expects (tails 1 1 ∷ tail ∷ tail ∷ []) else refused
+    if eqb c 4 then sequence 1 3 2 else
+    if eqb c 5 then sequence 3 3 3 else
+    if eqb c 6 then sequence 1 3 3 else
+    if eqb c 7 then sequence 1 2 3 else
+    if eqb c 8 then sequence 2 3 4 else
+    if eqb c 9 then sequence 1 3 4 else
+    if eqb c 10 then sequence 1 1 4 else refused
+
+-- the bytes of a class begin the sequences of so many bytes, with any tails
+abbrev pub Leads : ℕ → ℕ → Type 0
+Leads class width = (2 ≤ width) × (width ≤ 4) × (afterClass class ≡ sequence 1 3 width)

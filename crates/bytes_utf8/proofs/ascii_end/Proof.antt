@@ -4,7 +4,7 @@ use mathlib.Core.Path.{sym, _∙_}
 use lib.ListN.{length}
 use borrow.Author.Needs.{needs}
 use Rattle.bytes_utf8.specs.Characters.{AsciiBetween}
-use Rattle.bytes_utf8.proofs.AsciiLaws.{ascii-none, ascii-joined, ascii-more}
+use Rattle.bytes_utf8.proofs.AsciiLaws.{ascii-none, ascii-joined, ascii-one}
 use Rattle.bytes_utf8.proofs.TableLaws.{class-ascii}
 use Rattle.bytes_utf8.proofs.ascii_end.Statement.{statement}
 use Rattle.bytes_utf8.proofs.ascii_end.Tie as tie
@@ -20,61 +20,22 @@ first : (c : tie.Else2 Inv-loop μ-loop) → let a = c .before .before .before .
 first c =
     let known = c .before .before in
     let start = known .before .before .before in
-    ascii-more (ascii-none (start .pre .1)) (search needs) (class-ascii _ (known .shared-slice-known2 .given (start .args .from) .fits) (sym (c .before .class-of .ensures) ∙ c .if2 .left))
-
-returns : tie.Need-returns Inv-loop μ-loop
-returns c = search (needs, ascii-none)
-
-shared-slice-read-class-of : tie.Need-shared-slice-read-class-of Inv-loop μ-loop
-shared-slice-read-class-of c = search needs
-
-class-of-requires : tie.Need-class-of-requires Inv-loop μ-loop
-class-of-requires c κs = search needs
-
-returns-2 : tie.Need-returns-2 Inv-loop μ-loop
-returns-2 c = search (needs, ascii-none)
-
-add-next : tie.Need-add-next Inv-loop μ-loop
-add-next c = search needs
+    ascii-one (search needs) (class-ascii _ (known .shared-slice-known2 .given (start .args .from) .fits) (sym (c .before .class-of .ensures) ∙ c .if2 .left))
 
 returns-3 : tie.Need-returns-3 Inv-loop μ-loop
 returns-3 c = first (c .before)
 
-shared-slice-read-class-of-2 : tie.Need-shared-slice-read-class-of-2 Inv-loop μ-loop
-shared-slice-read-class-of-2 c = search needs
-
-class-of-requires-2 : tie.Need-class-of-requires-2 Inv-loop μ-loop
-class-of-requires-2 c κs = search needs
-
 returns-4 : tie.Need-returns-4 Inv-loop μ-loop
 returns-4 c = first (c .before .before .before .before)
 
-groups-end-requires : tie.Need-groups-end-requires Inv-loop μ-loop
-groups-end-requires c κs = search needs
-
 loop-holds : tie.Need-loop-holds Inv-loop μ-loop
 loop-holds c = ascii-joined (first (c .before .before .before .before .before)) (c .groups-end .ensures)
-
-shared-slice-read-class-of-3 : tie.Need-shared-slice-read-class-of-3 Inv-loop μ-loop
-shared-slice-read-class-of-3 c = search needs
-
-class-of-requires-3 : tie.Need-class-of-requires-3 Inv-loop μ-loop
-class-of-requires-3 c κs = search needs
-
-returns-5 : tie.Need-returns-5 Inv-loop μ-loop
-returns-5 c = search needs
-
-add-i : tie.Need-add-i Inv-loop μ-loop
-add-i c = search needs
-
-loop-less : tie.Need-loop-less Inv-loop μ-loop
-loop-less c = search needs
 
 loop-again : tie.Need-loop-again Inv-loop μ-loop
 loop-again c =
     let called = c .before in
     let turn = called .before .before in
-    ascii-more (turn .before .loop .inv) (turn .loop-test .taken) (class-ascii _ (called .before .shared-slice-known4 .given (turn .before .loop .i) .fits) (sym (called .class-of3 .ensures) ∙ c .if5 .left))
+    ascii-joined (turn .before .loop .inv) (ascii-one (turn .loop-test .taken) (class-ascii _ (called .before .shared-slice-known4 .given (turn .before .loop .i) .fits) (sym (called .class-of3 .ensures) ∙ c .if5 .left)))
 
 returns-6 : tie.Need-returns-6 Inv-loop μ-loop
 returns-6 c = c .before .loop .inv
@@ -82,24 +43,7 @@ returns-6 c = c .before .loop .inv
 pub ascii-end-spec : {M : Type 1} → statement M
 ascii-end-spec =
     tie.close
-    (tie.spec
-    Inv-loop
-    μ-loop
-    returns
-    shared-slice-read-class-of
-    class-of-requires
-    returns-2
-    add-next
-    returns-3
-    shared-slice-read-class-of-2
-    class-of-requires-2
-    returns-4
-    groups-end-requires
-    loop-holds
-    shared-slice-read-class-of-3
-    class-of-requires-3
-    returns-5
-    add-i
-    loop-less
-    loop-again
-    returns-6)
+    (tie.spec Inv-loop μ-loop (λ c. search (needs, ascii-none)) (λ c. search needs) (λ c κs. search needs)
+    (λ c. search (needs, ascii-none)) (λ c. search needs) returns-3 (λ c. search needs) (λ c κs. search needs) returns-4
+    (λ c κs. search needs) loop-holds (λ c. search needs) (λ c κs. search needs) (λ c. search needs) (λ c. search needs)
+    (λ c. search needs) loop-again returns-6)

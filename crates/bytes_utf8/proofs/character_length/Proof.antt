@@ -31,31 +31,31 @@ returns c = sym (of-class (c .before) 0 (c .match .keys1))
 
 returns-2 : tie.Need-returns-2
 unfolding afterClass
-returns-2 c = c .two-bytes .ensures ∙ sym (of-class (c .before .before) 4 (c .before .match .keys2))
+returns-2 c = c .sequence-length .ensures ∙ sym (of-class (c .before .before) 4 (c .before .match .keys2))
 
 returns-3 : tie.Need-returns-3
 unfolding afterClass
-returns-3 c = c .three-bytes .ensures ∙ sym (of-class (c .before .before) 5 (c .before .match .keys3))
+returns-3 c = c .sequence-length2 .ensures ∙ sym (of-class (c .before .before) 5 (c .before .match .keys3))
 
 returns-4 : tie.Need-returns-4
 unfolding afterClass
-returns-4 c = c .three-bytes2 .ensures ∙ sym (of-class (c .before .before) 6 (c .before .match .keys4))
+returns-4 c = c .sequence-length3 .ensures ∙ sym (of-class (c .before .before) 6 (c .before .match .keys4))
 
 returns-5 : tie.Need-returns-5
 unfolding afterClass
-returns-5 c = c .three-bytes3 .ensures ∙ sym (of-class (c .before .before) 7 (c .before .match .keys5))
+returns-5 c = c .sequence-length4 .ensures ∙ sym (of-class (c .before .before) 7 (c .before .match .keys5))
 
 returns-6 : tie.Need-returns-6
 unfolding afterClass
-returns-6 c = c .four-bytes .ensures ∙ sym (of-class (c .before .before) 8 (c .before .match .keys6))
+returns-6 c = c .sequence-length5 .ensures ∙ sym (of-class (c .before .before) 8 (c .before .match .keys6))
 
 returns-7 : tie.Need-returns-7
 unfolding afterClass
-returns-7 c = c .four-bytes2 .ensures ∙ sym (of-class (c .before .before) 9 (c .before .match .keys7))
+returns-7 c = c .sequence-length6 .ensures ∙ sym (of-class (c .before .before) 9 (c .before .match .keys7))
 
 returns-8 : tie.Need-returns-8
 unfolding afterClass
-returns-8 c = c .four-bytes3 .ensures ∙ sym (of-class (c .before .before) 10 (c .before .match .keys8))
+returns-8 c = c .sequence-length7 .ensures ∙ sym (of-class (c .before .before) 10 (c .before .match .keys8))
 
 returns-9 : tie.Need-returns-9
 unfolding lengthAfter
