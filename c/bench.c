@@ -48,7 +48,7 @@ static patch_set cut(size_t *at, size_t end)
     return set;
 }
 
-/* Applies a set for the first time: its operations are as many as the call takes. */
+/* Sends a set for the first time: its operations are as many as the call takes. */
 static void count_and_send(patch_set *set)
 {
     geysertray_answer answer = send(set);
@@ -56,7 +56,7 @@ static void count_and_send(patch_set *set)
         set->operations++;
         answer = send(set);
     }
-    if (answer.disposition != GEYSERTRAY_APPLIED) {
+    if (answer.disposition != GEYSERTRAY_APPLIED && answer.disposition != GEYSERTRAY_NO_CHANGE) {
         fprintf(stderr, "refused by %d\n", (int)answer.number);
         exit(1);
     }

@@ -3,11 +3,14 @@
 //   r q k d reading, the quick check and the check of a set, and what it depends on; the data is the set
 //   i       bringing in a term list; the data is the list
 //   t w     the UTF-8 check of a text, and the writing of a list that repeats it; the data is the text
-//   b v a e batches, and look-ups of bindings, availabilities and entries; o operations in place on a projection; p pages of 64 keys, x the same with each
-//           row taken apart, s as many single look-ups; the data is a set that fills the panel, a set that is applied to it and one that takes it back,
-//           each after its length as a u32
+//   b l     batches on a session by value, and on one in lent memory
+//   v a e   look-ups of bindings, availabilities and entries
+//   o       operations in place on a projection
+//   p x s   pages of 64 keys, the same with each row taken apart, and as many single look-ups
+// The data of the last four lines is a set that fills the panel, a set that is applied to it and one that takes it back, each after its length as a u32.
 mod dependencies;
 mod imports;
+mod lent;
 mod lists;
 mod lookups;
 mod pages;
@@ -40,6 +43,9 @@ fn set_length(rest: &[u8]) -> usize
 fn use_panel(way: u8, times: u64, fill: &[u8], forth: &[u8], back: &[u8]) -> u64 {
     if way == b'o' {
         return projections::replay_often(fill, forth, times);
+    }
+    if way == b'l' {
+        return lent::apply_often(fill, forth, back, times);
     }
     let session = sessions::filled(fill);
     if way == b'b' {

@@ -15,12 +15,12 @@ use session_steps::answers::ProjectionPatchApplicationResult;
 use shell_player::session::ShellSession;
 
 // How many patches and operations a set has.
-struct SetCounts {
-    patches: u64,
-    operations: u64,
+pub(crate) struct SetCounts {
+    pub(crate) patches: u64,
+    pub(crate) operations: u64,
 }
 
-fn counted(set: &[u8]) -> SetCounts {
+pub(crate) fn counted(set: &[u8]) -> SetCounts {
     match patch_walk::read_set(set, ProjectionPatchEdition::V1) {
         SetRead::Read {
             patch_count,
@@ -36,7 +36,7 @@ fn counted(set: &[u8]) -> SetCounts {
     }
 }
 
-fn envelope(number: u64, counts: SetCounts) -> OrderedProjectionPatchBatchEnvelope {
+pub(crate) fn envelope(number: u64, counts: SetCounts) -> OrderedProjectionPatchBatchEnvelope {
     OrderedProjectionPatchBatchEnvelope {
         session_id: ShellSessionId(1),
         sequence_no: number,
@@ -46,9 +46,9 @@ fn envelope(number: u64, counts: SetCounts) -> OrderedProjectionPatchBatchEnvelo
 }
 
 // The nodes of the panel.
-const NODES: usize = 64;
+pub(crate) const NODES: usize = 64;
 
-fn nodes() -> [u64; NODES]
+pub(crate) fn nodes() -> [u64; NODES]
     ensures { λ r. ⌜ 64 ≡ length r ⌝ }
 {
     let mut ids = [0u64; NODES];
@@ -74,19 +74,22 @@ fn pairs() -> [BindingPair; BindingAnchors::LENT] {
     all
 }
 
-// A session with anchors for nodes 1 to 64, slot 1 of each and collections 1 to 4.
-fn created() -> ShellSession {
-    let limits = ShellLifecycleLimits {
+pub(crate) fn limits() -> ShellLifecycleLimits {
+    ShellLifecycleLimits {
         max_transition_stimulus_bytes: 1,
         max_diagnostics_per_transition: 1,
         max_patches_per_transition: ProjectionPatchSet::PATCHES as u64,
         max_target_references_per_transition: ProjectionPatchSet::PLACES as u64,
-    };
+    }
+}
+
+// A session with anchors for nodes 1 to 64, slot 1 of each and collections 1 to 4.
+fn created() -> ShellSession {
     let anchors = nodes();
     let collections = [1u64, 2, 3, 4];
     let creation = session_from_pairs::create_from(
         1,
-        limits,
+        limits(),
         &anchors,
         pairs(),
         NODES,
@@ -108,7 +111,7 @@ pub(crate) fn filled(fill: &[u8]) -> ShellSession {
 }
 
 // One more where the batch was applied.
-fn raised(count: u64, result: ProjectionPatchApplicationResult) -> u64 {
+pub(crate) fn raised(count: u64, result: ProjectionPatchApplicationResult) -> u64 {
     let disposition = result.disposition;
     match disposition {
         ProjectionPatchApplicationDisposition::Applied => sums::after(count),

@@ -11,3 +11,11 @@ pub(crate) fn after(n: u64) -> u64 {
     }
     n
 }
+
+// How far a number rose.
+pub(crate) fn rise(from: u64, to: u64) -> u64 {
+    if to < from {
+        return 0;
+    }
+    to - from
+}

@@ -26,15 +26,26 @@ pub fn least(runs: impl Fn() -> f64) -> f64 {
     (0..RUNS).map(|_| runs()).fold(f64::INFINITY, f64::min)
 }
 
-/// Nanoseconds of the proved program for one repeat.
-pub fn proved(program: &str, way: char, set: &[u8]) -> f64 {
+/// Nanoseconds of each program for one repeat. The programs run in turn, so that what else the machine does falls on all of them.
+pub fn proved_in_turn<const N: usize>(programs: [&str; N], way: char, set: &[u8]) -> [f64; N] {
     let mut count = 50;
-    while process_seconds(program, way, count, set) < 0.06 {
+    while process_seconds(programs[0], way, count, set) < 0.06 {
         count *= 4;
     }
-    let long = least(|| process_seconds(program, way, 5 * count, set));
-    let short = least(|| process_seconds(program, way, count, set));
-    (long - short) / (4 * count) as f64 * 1e9
+    let mut least = [[f64::INFINITY; 2]; N];
+    for _ in 0..RUNS {
+        for (program, [long, short]) in programs.iter().zip(&mut least) {
+            *long = long.min(process_seconds(program, way, 5 * count, set));
+            *short = short.min(process_seconds(program, way, count, set));
+        }
+    }
+    least.map(|[long, short]| (long - short) / (4 * count) as f64 * 1e9)
+}
+
+/// Nanoseconds of the proved program for one repeat.
+pub fn proved(program: &str, way: char, set: &[u8]) -> f64 {
+    let [nanoseconds] = proved_in_turn([program], way, set);
+    nanoseconds
 }
 
 /// Nanoseconds of one call, over arguments that were made before.

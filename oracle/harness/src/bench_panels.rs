@@ -108,10 +108,13 @@ impl Layout {
         patch(0, operations)
     }
 
-    /// The panel, and sets of so many operations. Where a set has more than 64 on a panel with entries, its second
-    /// half takes back the first, and both sets are the same.
+    /// The panel, and sets of so many operations, or without patches. Where a set has more than 64 on a panel with
+    /// entries, its second half takes back the first, and both sets are the same.
     pub fn panel(self, operations: u64) -> PanelSets {
         let fill = vec![self.fill()];
+        if operations == 0 {
+            return PanelSets { fill, forth: Vec::new(), back: Vec::new() };
+        }
         if self.entries == 0 || operations <= HALF {
             let (forth, back) = self.pair(operations);
             return PanelSets { fill, forth: vec![patch(0, forth)], back: vec![patch(0, back)] };

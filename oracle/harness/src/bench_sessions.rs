@@ -6,7 +6,7 @@ use prom_ui::shell_bridge::{initial_local_projection_state, prepare_patch_submis
 use prom_ui::shell_bridge::{BridgeValue, LocalProjectionStateHandle, PreparedPatchSubmission};
 use prom_ui_runtime::shell_player::*;
 
-use crate::bench::{admitted, built, least, original, proved, show};
+use crate::bench::{admitted, built, least, original, proved, proved_in_turn, show};
 use crate::bench_panels::{self, Layout, PanelSets};
 use crate::{bench_sets, processor};
 
@@ -75,9 +75,8 @@ fn admission(panel: &PanelSets) -> f64 {
 }
 
 /// Nanoseconds of a batch without patches, which the proved call copies in and out.
-fn copies(program: &str, panel: &PanelSets) -> f64 {
-    let none = PanelSets { fill: panel.fill.clone(), forth: vec![], back: vec![] };
-    proved(program, 'b', &bench_panels::data(&none)) / 2.0
+fn copies(program: &str, layout: Layout) -> f64 {
+    proved(program, 'b', &bench_panels::data(&layout.panel(0))) / 2.0
 }
 
 /// Batches on sessions; the original's with and without its admission, which the proved call has inside. The last ratio is that of the time
@@ -86,9 +85,10 @@ pub fn batches(program: &str, collections: u64) {
     println!("entries operations       proved     original  ratio    admitted  ratio       copies   over");
     for entries in ENTRIES {
         for operations in OPERATIONS {
-            let panel = Layout { entries, collections }.panel(operations);
+            let layout = Layout { entries, collections };
+            let panel = layout.panel(operations);
             let ours = proved(program, 'b', &bench_panels::data(&panel)) / 2.0;
-            let bare = copies(program, &panel);
+            let bare = copies(program, layout);
             let theirs = original_batch(&panel);
             let whole = theirs + admission(&panel);
             println!(
@@ -119,6 +119,31 @@ pub fn lent(program: &str, collections: u64) {
     }
 }
 
+/// Nanoseconds of a batch in lent memory, by the call in Rattle and by the C call.
+fn both_calls(rattle: &str, c: &str, panel: &PanelSets) -> [f64; 2] {
+    proved_in_turn([rattle, c], 'l', &bench_panels::data(panel)).map(|both| both / 2.0)
+}
+
+/// The call in Rattle and the C call, beside the original with its admission. The first row is a batch without patches, which has little but the call.
+pub fn lent_calls(rattle: &str, c: &str, collections: u64) {
+    println!("entries operations       Rattle            C   C - Rattle    admitted  Rattle      C");
+    let [ours, called] = both_calls(rattle, c, &Layout { entries: 0, collections }.panel(0));
+    println!("      0          0 {ours:9.0} ns {called:9.0} ns {:9.0} ns", called - ours);
+    for entries in ENTRIES {
+        for operations in OPERATIONS {
+            let panel = Layout { entries, collections }.panel(operations);
+            let [ours, called] = both_calls(rattle, c, &panel);
+            let whole = original_batch(&panel) + admission(&panel);
+            println!(
+                "{entries:7} {operations:10} {ours:9.0} ns {called:9.0} ns {:9.0} ns {whole:8.0} ns {:7.2} {:6.2}",
+                called - ours,
+                ours / whole,
+                called / whole
+            );
+        }
+    }
+}
+
 fn original_set(panel: &PanelSets) -> f64 {
     let batch = |list: &[RawPatch]| admitted(glue::check(built(list)));
     let (fill, forth, back) = (batch(&panel.fill), batch(&panel.forth), batch(&panel.back));
@@ -137,10 +162,10 @@ fn original_set(panel: &PanelSets) -> f64 {
 /// One operation in place, averaged over 128 of the six kinds; the original's loop without its copy of the state.
 pub fn operation(program: &str, collections: u64) {
     for entries in [32, 120] {
-        let panel = Layout { entries, collections }.panel(128);
-        let copy = PanelSets { fill: panel.fill.clone(), forth: Vec::new(), back: Vec::new() };
+        let layout = Layout { entries, collections };
+        let panel = layout.panel(128);
         let ours = proved(program, 'o', &bench_panels::data(&panel)) / 128.0;
-        let theirs = (original_set(&panel) - original_set(&copy)) / 128.0;
+        let theirs = (original_set(&panel) - original_set(&layout.panel(0))) / 128.0;
         show(&format!("an operation at {entries} entries"), ours, theirs);
     }
 }
@@ -191,7 +216,7 @@ fn original_singly(session: &ShellSession, keys: &[u64]) -> Vec<Option<(u64, Bri
 }
 
 fn one_collection() -> PanelSets {
-    PanelSets { forth: Vec::new(), back: Vec::new(), ..Layout { entries: 120, collections: 1 }.panel(1) }
+    Layout { entries: 120, collections: 1 }.panel(0)
 }
 
 /// 64 keys among 120 entries of one collection, together and singly, on the proved side also with each row taken apart.

@@ -42,7 +42,7 @@ oracle bench-depends PROGRAM | bench-keys ORDER
 oracle bench-original build|check TIMES PATCHES OPERATIONS | bench-original build|check TIMES found OPERATIONS
 oracle bench-original page TIMES
 oracle bench-set texts | bench-set PATCHES OPERATIONS | bench-set found OPERATIONS
-oracle bench-session PROGRAM COLLECTIONS | bench-lent PROGRAM COLLECTIONS
+oracle bench-session PROGRAM COLLECTIONS | bench-lent PROGRAM COLLECTIONS | bench-lent-call PROGRAM C_PROGRAM COLLECTIONS
 oracle bench-operation PROGRAM COLLECTIONS
 oracle bench-lookup PROGRAM | bench-page PROGRAM | bench-text PROGRAM | bench-write PROGRAM
 oracle bench-import PROGRAM | bench-import-plain TIMES terms|texts | bench-terms terms|texts
@@ -76,6 +76,7 @@ fn main() {
         ["bench-original", "page", times] => bench_sessions::pages_often(number(times)),
         ["bench-session", program, collections] => bench_sessions::batches(program, number(collections)),
         ["bench-lent", program, collections] => bench_sessions::lent(program, number(collections)),
+        ["bench-lent-call", program, c, collections] => bench_sessions::lent_calls(program, c, number(collections)),
         ["bench-operation", program, collections] => bench_sessions::operation(program, number(collections)),
         ["bench-lookup", program] => bench_sessions::lookups(program),
         ["bench-page", program] => bench_sessions::pages(program),
