@@ -21,6 +21,9 @@ impl ActiveProjectionTargetCatalog {
     // The most anchors of each kind.
     pub const ANCHORS: usize = 128;
 
+    // Two numbers for each pair.
+    pub const PAIR_NUMBERS: usize = 2 * ActiveProjectionTargetCatalog::ANCHORS;
+
     // The catalogue of these anchors. The pairs stand in their array already, so many as are given, and it is kept as it is. Ids past
     // the capacity are left out; creation refuses them before.
     pub fn from_snapshot(
@@ -43,10 +46,12 @@ impl ActiveProjectionTargetCatalog {
 }
 
 // The pairs taken apart, node and slot of each in turn, so that they can be lent.
-pub fn pair_numbers(pairs: [BindingPair; ActiveProjectionTargetCatalog::ANCHORS]) -> [u64; 256]
+pub fn pair_numbers(
+    pairs: [BindingPair; ActiveProjectionTargetCatalog::ANCHORS],
+) -> [u64; ActiveProjectionTargetCatalog::PAIR_NUMBERS]
     ensures { λ r. ⌜ r ≡ flatMap pairNumbers pairs ⌝ }
 {
-    let mut numbers = [0u64; 256];
+    let mut numbers = [0u64; ActiveProjectionTargetCatalog::PAIR_NUMBERS];
     let mut i = 0;
     while i < ActiveProjectionTargetCatalog::ANCHORS {
         let pair = pairs[i];

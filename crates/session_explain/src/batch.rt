@@ -5,7 +5,6 @@ use crate::operations;
 use crate::reasons;
 use crate::reasons::BatchExplanation;
 use crate::reasons::StepReason;
-use active_projection_target_catalog::catalog;
 use projection_patch::patch::ProjectionPatchEdition;
 use session_gates::gates::OrderedProjectionPatchBatchEnvelope;
 use session_lifecycle::state::ShellLocalState;
@@ -35,20 +34,19 @@ fn explain_session(
 {
     let session_id = context.session_id;
     let limits = context.limits;
-    let catalog = context.catalog;
-    let nodes = catalog.node_anchors;
-    let pairs = catalog.binding_anchors;
-    let bindings = catalog::pair_numbers(pairs);
-    let collections = catalog.collection_anchors;
-    let node_count = session_steps::checks::held(catalog.node_count);
-    let binding_count = session_steps::checks::held(catalog.binding_count);
-    let collection_count = session_steps::checks::held(catalog.collection_count);
+    let lent = session_steps::checks::lent_anchors(context.catalog);
+    let nodes = lent.nodes;
+    let bindings = lent.bindings;
+    let collections = lent.collections;
+    let node_count = lent.node_count;
+    let binding_numbers = lent.binding_numbers;
+    let collection_count = lent.collection_count;
     checks::explain_checks(
         session_id.0,
         limits,
         state,
         &nodes[0..node_count],
-        &bindings[0..2 * binding_count],
+        &bindings[0..binding_numbers],
         &collections[0..collection_count],
         envelope,
         declared,

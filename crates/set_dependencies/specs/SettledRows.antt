@@ -14,6 +14,19 @@ use Rattle.bytes_records.specs.Table.{HoldsRows}
 use Rattle.set_dependencies.specs.declared.settled_rows.SettledKey.{SettledKey}
 use Rattle.set_dependencies.specs.declared.settled_rows.SettledPlaces.{SettledPlaces}
 
+-- where the key stands in a row, and the two bytes behind it
+abbrev pub settledKeyAt : ℕ
+settledKeyAt = 8
+
+abbrev pub atStartAt : ℕ
+atStartAt = settledKeyAt + 8
+
+abbrev pub presentAt : ℕ
+presentAt = atStartAt + 1
+
+abbrev pub rowWidth : ℕ
+rowWidth = presentAt + 1
+
 -- the collection and the key, in bytes
 abbrev pub rowFields : List ℕ
 rowFields = 8 ∷ 8 ∷ []
@@ -26,9 +39,6 @@ flag false = 0
 -- collection, key, whether it must be there at the start, whether it is there now
 unfoldable pub settledRow : Settled → List ℕ
 settledRow s = u64 (s .collection) ++ (u64 (s .key) ++ (flag (s .atStart) ∷ flag (s .now) ∷ []))
-
-abbrev pub rowWidth : ℕ
-rowWidth = 18
 
 -- a set takes 13 bytes for each key that it looks for
 abbrev pub rowCapacity : ℕ

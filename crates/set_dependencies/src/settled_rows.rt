@@ -9,11 +9,11 @@ ghost use Rattle.set_dependencies.specs.SettledRows.{rowWidth, flag, set
 // Where the key stands in a row, and the two bytes behind it.
 pub const KEY: usize = 8;
 
-pub const AT_START: usize = 16;
+pub const AT_START: usize = KEY + 8;
 
-pub const PRESENT: usize = 17;
+pub const PRESENT: usize = AT_START + 1;
 
-pub const WIDTH: usize = 18;
+pub const WIDTH: usize = PRESENT + 1;
 
 // The fewest bytes of a set for a key that it looks for: a move before a neighbour looks for two, in 26.
 const KEY_BYTES: usize = 13;

@@ -2,16 +2,17 @@ use Prim.Native.Nat.{_+_, _-_, _≤_}
 use mathlib.Core.Path.{_≡_, ap, _∙_}
 use mathlib.Core.List.{_++_}
 use lib.ListN.{length, take, replicate, set, getD}
+use Rattle.spec_patch.specs.Sizes.{anchors}
 use Rattle.active_projection_target_catalog.specs.CatalogLaws.{padded-turn, padded-short, padded-full}
 use borrow.Author.Needs.{needs}
 use Rattle.active_projection_target_catalog.proofs.catalog.padded_ids.Statement.{statement}
 use Rattle.active_projection_target_catalog.proofs.catalog.padded_ids.Tie as tie
 
 abbrev Inv-loop : tie.InvT-loop
-Inv-loop ids anchors₀ i₀ anchors i = (i ≤ length ids) × ((i ≤ 128) × (anchors ≡ take i ids ++ replicate (128 - i) 0))
+Inv-loop ids all₀ i₀ all i = (i ≤ length ids) × ((i ≤ anchors) × (all ≡ take i ids ++ replicate (anchors - i) 0))
 
 abbrev μ-loop : tie.MeasureT-loop
-μ-loop ids anchors₀ i₀ anchors i = 128 - i
+μ-loop ids all₀ i₀ all i = anchors - i
 
 loop-holds : tie.Need-loop-holds Inv-loop μ-loop
 loop-holds c = search needs

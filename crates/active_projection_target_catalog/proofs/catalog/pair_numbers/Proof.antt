@@ -3,6 +3,7 @@ use mathlib.Core.Path.{_≡_}
 use native.Mathlib.Omega.{arith}
 use mathlib.Core.List.{flatMap}
 use lib.ListN.{length, take}
+use Rattle.spec_patch.specs.Sizes.{anchors}
 use Rattle.active_projection_target_catalog.specs.Catalog.{pairNumbers}
 use Rattle.active_projection_target_catalog.specs.CatalogLaws.{one-more-pair, all-pairs}
 use borrow.Author.Needs.{needs}
@@ -13,10 +14,10 @@ use Rattle.active_projection_target_catalog.proofs.catalog.pair_numbers
 use Rattle.active_projection_target_catalog.proofs.catalog.pair_numbers.Tie as tie
 
 abbrev Inv-loop : tie.InvT-loop
-Inv-loop pairs numbers₀ i₀ numbers i = (i ≤ 128) × ((length numbers ≡ 256) × (take (2 * i) numbers ≡ flatMap pairNumbers (take i pairs)))
+Inv-loop pairs numbers₀ i₀ numbers i = (i ≤ anchors) × ((length numbers ≡ 2 * anchors) × (take (2 * i) numbers ≡ flatMap pairNumbers (take i pairs)))
 
 abbrev μ-loop : tie.MeasureT-loop
-μ-loop pairs numbers₀ i₀ numbers i = 128 - i
+μ-loop pairs numbers₀ i₀ numbers i = anchors - i
 
 loop-holds : tie.Need-loop-holds Inv-loop μ-loop
 unfolding flatMap
@@ -61,7 +62,7 @@ loop-less c = search needs
 loop-again : tie.Need-loop-again Inv-loop μ-loop
 loop-again c =
     let at-loop = c .before .before .before in
-    let long : length (at-loop .before .args .t1) ≡ 128 = search (needs, unmapped) in
+    let long : length (at-loop .before .args .t1) ≡ anchors = search (needs, unmapped) in
     (search needs, (search needs, one-more-pair (at-loop .before .args .t1) (at-loop .loop .numbers) (at-loop .loop .i) _ (omega (arith, long)) (search needs) (at-loop .loop .inv .1 .1)))
 
 returns : tie.Need-returns Inv-loop μ-loop

@@ -1,77 +1,33 @@
 -- `script_reasons::words::print_reading` meets its contract: each rule by its word.
 use Prim.Native.Nat.{ℕ}
-use mathlib.Core.Path.{sym, ap}
 use mathlib.Core.List.{List}
 use Rattle.spec_explain.specs.ReadingRule.{readingWord}
-use Rattle.bytes_printer.specs.Prints.{spacedField}
-use Rattle.bytes_printer.specs.PrintsLaws.{prints-same}
 use Rattle.patch_locate.specs.Answers.{readingRuleOf}
 use Rattle.patch_locate.specs.declared.rules.ReadingRule.{ReadingRule}
+use Rattle.script_reasons.proofs.RuleWords.{of-rule}
 use borrow.Author.Needs.{needs}
 use Rattle.script_reasons.proofs.words.print_reading.Statement.{statement}
 use Rattle.script_reasons.proofs.words.print_reading.Tie as tie
 
 abbrev word : ReadingRule → List ℕ
-word x = spacedField (readingWord (readingRuleOf x))
-
-returns : tie.Need-returns
-returns c = prints-same (sym (ap word (c .before .before .before .before .before .enum-told .given .1))) (c .before .before .print-field-bytes .ensures)
-
-returns-2 : tie.Need-returns-2
-returns-2 c = prints-same (sym (ap word (c .before .before .before .before .before .enum-told2 .given .1))) (c .before .before .print-field-bytes2 .ensures)
-
-returns-3 : tie.Need-returns-3
-returns-3 c = prints-same (sym (ap word (c .before .before .before .before .before .enum-told3 .given .1))) (c .before .before .print-field-bytes3 .ensures)
-
-returns-4 : tie.Need-returns-4
-returns-4 c = prints-same (sym (ap word (c .before .before .before .before .before .enum-told4 .given .1))) (c .before .before .print-field-bytes4 .ensures)
-
-returns-5 : tie.Need-returns-5
-returns-5 c = prints-same (sym (ap word (c .before .before .before .before .before .enum-told5 .given .1))) (c .before .before .print-field-bytes5 .ensures)
-
-returns-6 : tie.Need-returns-6
-returns-6 c = prints-same (sym (ap word (c .before .before .before .before .before .enum-told6 .given .1))) (c .before .before .print-field-bytes6 .ensures)
-
-returns-7 : tie.Need-returns-7
-returns-7 c = prints-same (sym (ap word (c .before .before .before .before .before .enum-told7 .given .1))) (c .before .before .print-field-bytes7 .ensures)
-
-returns-8 : tie.Need-returns-8
-returns-8 c = prints-same (sym (ap word (c .before .before .before .before .before .enum-told8 .given .1))) (c .before .before .print-field-bytes8 .ensures)
-
-returns-9 : tie.Need-returns-9
-returns-9 c = prints-same (sym (ap word (c .before .before .before .before .before .enum-told9 .given .1))) (c .before .before .print-field-bytes9 .ensures)
-
-returns-10 : tie.Need-returns-10
-returns-10 c = prints-same (sym (ap word (c .before .before .before .before .before .enum-told10 .given .1))) (c .before .before .print-field-bytes10 .ensures)
-
-returns-11 : tie.Need-returns-11
-returns-11 c = prints-same (sym (ap word (c .before .before .before .before .before .enum-told11 .given .1))) (c .before .before .print-field-bytes11 .ensures)
-
-returns-12 : tie.Need-returns-12
-returns-12 c = prints-same (sym (ap word (c .before .before .before .before .before .enum-told12 .given .1))) (c .before .before .print-field-bytes12 .ensures)
-
-returns-13 : tie.Need-returns-13
-returns-13 c = prints-same (sym (ap word (c .before .before .before .before .before .enum-told13 .given .1))) (c .before .before .print-field-bytes13 .ensures)
-
-returns-14 : tie.Need-returns-14
-returns-14 c = prints-same (sym (ap word (c .before .before .before .before .before .enum-told14 .given .1))) (c .before .before .print-field-bytes14 .ensures)
-
-returns-15 : tie.Need-returns-15
-returns-15 c = prints-same (sym (ap word (c .before .before .before .before .before .enum-told15 .given .1))) (c .before .before .print-field-bytes15 .ensures)
+word x = readingWord (readingRuleOf x)
 
 pub print-reading-spec : {M : Type 1} → statement M
 print-reading-spec =
     tie.close
-    (tie.spec (λ c. search needs) (λ c. search needs) (λ c κs. search needs) (λ c. search needs) (λ c. search needs)
-    (λ c κs. search needs) (λ c. search needs) (λ c. search needs) (λ c κs. search needs) (λ c. search needs)
-    (λ c. search needs) (λ c κs. search needs) (λ c. search needs) (λ c. search needs) (λ c κs. search needs)
-    (λ c. search needs) (λ c. search needs) (λ c κs. search needs) (λ c. search needs) (λ c. search needs)
-    (λ c κs. search needs) (λ c. search needs) (λ c. search needs) (λ c κs. search needs) (λ c. search needs)
-    (λ c. search needs) (λ c κs. search needs) (λ c. search needs) (λ c. search needs) (λ c κs. search needs)
-    (λ c. search needs) (λ c. search needs) (λ c κs. search needs) (λ c. search needs) (λ c. search needs)
-    (λ c κs. search needs) (λ c. search needs) (λ c. search needs) (λ c κs. search needs) (λ c. search needs)
-    (λ c. search needs) (λ c κs. search needs) (λ c. search needs) (λ c. search needs) (λ c κs. search needs)
-    (λ c. search needs) returns (λ c. search needs) returns-2 (λ c. search needs) returns-3 (λ c. search needs) returns-4
-    (λ c. search needs) returns-5 (λ c. search needs) returns-6 (λ c. search needs) returns-7 (λ c. search needs) returns-8
-    (λ c. search needs) returns-9 (λ c. search needs) returns-10 (λ c. search needs) returns-11 (λ c. search needs) returns-12
-    (λ c. search needs) returns-13 (λ c. search needs) returns-14 (λ c. search needs) returns-15)
+    (tie.spec (λ c. search needs) (λ c. search needs) (λ c κs. search needs) (λ c. search needs) (λ c. search needs) (λ c κs. search needs) (λ c. search needs) (λ c. search needs) (λ c κs. search needs) (λ c. search needs) (λ c. search needs) (λ c κs. search needs) (λ c. search needs) (λ c. search needs) (λ c κs. search needs) (λ c. search needs) (λ c. search needs) (λ c κs. search needs) (λ c. search needs) (λ c. search needs) (λ c κs. search needs) (λ c. search needs) (λ c. search needs) (λ c κs. search needs) (λ c. search needs) (λ c. search needs) (λ c κs. search needs) (λ c. search needs) (λ c. search needs) (λ c κs. search needs) (λ c. search needs) (λ c. search needs) (λ c κs. search needs) (λ c. search needs) (λ c. search needs) (λ c κs. search needs) (λ c. search needs) (λ c. search needs) (λ c κs. search needs) (λ c. search needs) (λ c. search needs) (λ c κs. search needs) (λ c. search needs) (λ c. search needs) (λ c κs. search needs)
+    (λ c. search needs) (λ c. of-rule word (c .before .before .before .before .before .enum-told .given .1) (c .before .before .print-field-bytes .ensures))
+    (λ c. search needs) (λ c. of-rule word (c .before .before .before .before .before .enum-told2 .given .1) (c .before .before .print-field-bytes2 .ensures))
+    (λ c. search needs) (λ c. of-rule word (c .before .before .before .before .before .enum-told3 .given .1) (c .before .before .print-field-bytes3 .ensures))
+    (λ c. search needs) (λ c. of-rule word (c .before .before .before .before .before .enum-told4 .given .1) (c .before .before .print-field-bytes4 .ensures))
+    (λ c. search needs) (λ c. of-rule word (c .before .before .before .before .before .enum-told5 .given .1) (c .before .before .print-field-bytes5 .ensures))
+    (λ c. search needs) (λ c. of-rule word (c .before .before .before .before .before .enum-told6 .given .1) (c .before .before .print-field-bytes6 .ensures))
+    (λ c. search needs) (λ c. of-rule word (c .before .before .before .before .before .enum-told7 .given .1) (c .before .before .print-field-bytes7 .ensures))
+    (λ c. search needs) (λ c. of-rule word (c .before .before .before .before .before .enum-told8 .given .1) (c .before .before .print-field-bytes8 .ensures))
+    (λ c. search needs) (λ c. of-rule word (c .before .before .before .before .before .enum-told9 .given .1) (c .before .before .print-field-bytes9 .ensures))
+    (λ c. search needs) (λ c. of-rule word (c .before .before .before .before .before .enum-told10 .given .1) (c .before .before .print-field-bytes10 .ensures))
+    (λ c. search needs) (λ c. of-rule word (c .before .before .before .before .before .enum-told11 .given .1) (c .before .before .print-field-bytes11 .ensures))
+    (λ c. search needs) (λ c. of-rule word (c .before .before .before .before .before .enum-told12 .given .1) (c .before .before .print-field-bytes12 .ensures))
+    (λ c. search needs) (λ c. of-rule word (c .before .before .before .before .before .enum-told13 .given .1) (c .before .before .print-field-bytes13 .ensures))
+    (λ c. search needs) (λ c. of-rule word (c .before .before .before .before .before .enum-told14 .given .1) (c .before .before .print-field-bytes14 .ensures))
+    (λ c. search needs) (λ c. of-rule word (c .before .before .before .before .before .enum-told15 .given .1) (c .before .before .print-field-bytes15 .ensures)))
