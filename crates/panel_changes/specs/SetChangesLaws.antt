@@ -177,10 +177,10 @@ module _ (P Next : ProjectionCounts → Projection → Type 0) {r : PlanRun} (x 
       go (done q) e k = made q e k
       go (stopped f) e k = k
 
-  pub run-refused : (f : LocalProjectionApplicationError) → r ≡ plan.Refused f → ChangeBecame Next (change.Refused f) x
-  run-refused f is = go x (subst (λ z. RunBecame P z x) is h)
+  pub run-refused : (f : LocalProjectionApplicationError) {c : SetCursor} {n : ProjectionCounts} → r ≡ plan.Refused f c n → ChangeBecame Next (change.Refused f) x
+  run-refused f {c} {n} is = go x (subst (λ z. RunBecame P z x) is h)
     where
-      go : (y : Outcome) → RunBecame P (plan.Refused f) y → ChangeBecame Next (change.Refused f) y
+      go : (y : Outcome) → RunBecame P (plan.Refused f c n) y → ChangeBecame Next (change.Refused f) y
       go (done q) k = k
       go (stopped g) k = k
 

@@ -227,7 +227,7 @@ fn apply_from(
                 SetChange::BadTables
             }
         }
-        PlanRun::Refused(error) => SetChange::Refused(error),
+        PlanRun::Refused(error, _, _) => SetChange::Refused(error),
         PlanRun::Unreadable(fault) => SetChange::Unreadable(fault),
     }
 }

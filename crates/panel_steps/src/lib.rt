@@ -9,14 +9,13 @@ ghost use lib.ListN.{length};
 ghost use Rattle.spec_patch.specs.Sizes.{setBytes};
 ghost use Rattle.spec_patch.specs.Patch.{Patch};
 ghost use Rattle.spec_projection.specs.Projection.{Projection};
-ghost use Rattle.spec_projection.specs.Apply.{replaySteps, applySteps};
 ghost use Rattle.spec_projection.specs.Valid.{Valid};
 ghost use Rattle.projection_patch.specs.Meaning.{editionOf, operationOf};
 ghost use Rattle.patch_walk.specs.Steps.{stepAnswer, StepWithin, AtSteps};
 ghost use Rattle.panel_plan.specs.Plan.{planOf};
 ghost use Rattle.panel_plan.specs.PlanRows.{StoredPlan};
 ghost use Rattle.panel_plan.specs.SetValues.{valueOffset};
-ghost use Rattle.panel_steps.specs.Runs.{runHead, RunBecame, PlannedAs};
+ghost use Rattle.panel_steps.specs.Runs.{runHead, RunTold};
 use local_projection_state::LocalProjectionState;
 use local_projection_state::ProjectionCounts;
 use panel_bindings::LocalProjectionApplicationError;
@@ -28,10 +27,11 @@ use projection_patch::patch::ProjectionPatchEdition;
 use projection_patch::patch::ProjectionPatchOperation;
 use projection_patch::read_values::ProjectionPatchReadFault;
 
-// How many rows each table of the plan has at the end, or why the run stopped.
+// How many rows each table of the plan has at the end, or why the run stopped: of a refusal the cursor at the operation that is refused, and
+// the rows of the plan before it, which the tables still hold.
 pub enum PlanRun {
     Planned(ProjectionCounts),
-    Refused(LocalProjectionApplicationError),
+    Refused(LocalProjectionApplicationError, SetCursor, ProjectionCounts),
     Unreadable(ProjectionPatchReadFault),
 }
 
@@ -91,7 +91,7 @@ pub fn plan_steps(
     requires { ⌜ length (now set) ≤ setBytes ⌝ }
     ensures { λ r. ⌜ ((p : Projection) (ps : List Patch) → Valid p → StoredPlan counts (now (bindings .entry)) (now (availability .entry)) (now (entries .entry)) (planOf p)
         → AtSteps (editionOf edition) (now (set .entry)) from [] ps
-        → RunBecame (PlannedAs (editionOf edition) p (now (set .entry)) (now (bindings .exit)) (now (availability .exit)) (now (entries .exit))) r (applySteps p (replaySteps ps))) ⌝ }
+        → RunTold (editionOf edition) p ps (now (set .entry)) (now (bindings .exit)) (now (availability .exit)) (now (entries .exit)) r) ⌝ }
 {
     let mut held = counts;
     let mut cursor = from;
@@ -126,7 +126,7 @@ pub fn plan_steps(
                     cursor = next;
                 }
                 OperationChange::Refused(error) => {
-                    return PlanRun::Refused(error);
+                    return PlanRun::Refused(error, cursor, held);
                 }
             }
         }

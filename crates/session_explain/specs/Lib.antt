@@ -1,11 +1,9 @@
 pub mod Unknown
-pub mod Walking
 pub mod UnknownLaws
 pub mod Reasons
 pub mod Refused
 pub mod RefusedLaws
 pub mod RulesLaws
-pub mod Replaying
 pub mod Steps
 pub mod StepsLaws
 pub mod BatchLaws

@@ -6,8 +6,8 @@ use crate::rules;
 use bytes_records::moves;
 use local_projection_state::LocalProjectionState;
 use local_projection_state::ProjectionCounts;
-use panel_operations::OperationChange;
 use panel_plan::fill;
+use panel_steps::PlanRun;
 use patch_walk::SetCursor;
 use patch_walk::SetOpening;
 use patch_walk::SetStep;
@@ -15,14 +15,21 @@ use projection_patch::patch::ProjectionPatchEdition;
 use projection_patch::read_values::ProjectionPatchReadFault;
 ghost use mathlib.Core.Path.{_≡_};
 ghost use mathlib.Core.List.{List, []};
+ghost use Prim.Native.Nat.{_-_, _≤_};
+ghost use lib.ListN.{length};
+ghost use Rattle.spec_patch.specs.Sizes.{setBytes};
 ghost use Rattle.spec_patch.specs.Patch.{Patch};
 ghost use Rattle.spec_patch.specs.Read.{patches, readSet};
 ghost use Rattle.spec_projection.specs.Projection.{Projection};
-ghost use Rattle.spec_explain.specs.Walk.{walkPatches};
+ghost use Rattle.spec_projection.specs.Valid.{Valid};
+ghost use Rattle.spec_explain.specs.Walk.{Halt, halted, walkPatches};
 ghost use Rattle.spec_explain.specs.Explain.{stepKept, applies};
 ghost use Rattle.projection_patch.specs.Meaning.{editionOf};
 ghost use Rattle.patch_walk.specs.Steps.{AtSteps};
 ghost use Rattle.local_projection_state.specs.Stores.{StoredTables};
+ghost use Rattle.panel_plan.specs.Plan.{planOf};
+ghost use Rattle.panel_plan.specs.PlanRows.{StoredPlan};
+ghost use Rattle.panel_steps.specs.Runs.{HaltsAt};
 ghost use Rattle.session_explain.specs.Refused.{StandsFor, reasonRefusedTo};
 ghost use Rattle.session_explain.specs.Reasons.{stepTo};
 
@@ -33,8 +40,36 @@ pub enum FirstRefused {
     Unreadable(ProjectionPatchReadFault),
 }
 
-// Applies the operations from a cursor on to the keys that the tables hold, up to the first that is refused. No value is looked at, and 0
-// stands for each.
+// How many of a count are passed where so many are left.
+fn passed(count: usize, left: usize) -> usize
+    ensures { λ r. ⌜ r ≡ count - left ⌝ }
+{
+    if count < left { 0 } else { count - left }
+}
+
+// The operation at a cursor in a set of so many patches, and the rule that it breaks on the planned entries, of one that was refused there.
+fn refused_at(
+    entries: &[u8],
+    count: usize,
+    set: &[u8],
+    edition: ProjectionPatchEdition,
+    patches: usize,
+    cursor: SetCursor,
+) -> FirstRefused
+    ensures { λ r. ⌜ ((h : Halt Projection) → HaltsAt (editionOf edition) (now (set .entry)) patches cursor h → StandsFor count (now (entries .entry)) (h .left)
+        → r ≡ reasonRefusedTo (halted h)) ⌝ }
+{
+    let step = patch_walk::next_step(set, cursor, false, edition);
+    let SetStep::Operation(operation, _) = step else {
+        return FirstRefused::Unreadable(ProjectionPatchReadFault::Malformed);
+    };
+    let rule = rules::rule_of(entries, count, operation);
+    let patch = passed(passed(patches, cursor.patches_left), 1);
+    let index = passed(cursor.operation_count, cursor.operations_left);
+    FirstRefused::Refused(patch, index, rule)
+}
+
+// Plans the operations from a cursor on, as a batch does, and tells the first that is refused.
 fn refused_from(
     bindings: &mut [u8],
     availability: &mut [u8],
@@ -44,46 +79,21 @@ fn refused_from(
     edition: ProjectionPatchEdition,
     from: SetCursor,
 ) -> FirstRefused
-    ensures { λ r. ⌜ ((p : Projection) (ps : List Patch) → StandsFor counts (now (bindings .entry)) (now (availability .entry)) (now (entries .entry)) p → AtSteps (editionOf edition) (now (set .entry)) from [] ps
+    requires { ⌜ length (now set) ≤ setBytes ⌝ }
+    ensures { λ r. ⌜ ((p : Projection) (ps : List Patch) → Valid p → StoredPlan counts (now (bindings .entry)) (now (availability .entry)) (now (entries .entry)) (planOf p) → AtSteps (editionOf edition) (now (set .entry)) from [] ps
         → r ≡ reasonRefusedTo (walkPatches stepKept 0 p ps)) ⌝ }
 {
-    let mut held = counts;
-    let mut cursor = from;
-    let mut opened: usize = 0;
-    let mut patch: usize = 0;
-    let mut index: usize = 0;
-    loop {
-        match patch_walk::next_step(set, cursor, false, edition) {
-            SetStep::Head(_, next) => {
-                patch = opened;
-                opened = opened + 1;
-                index = 0;
-                cursor = next;
-            }
-            SetStep::Operation(operation, next) => {
-                match panel_operations::apply_operation(
-                    bindings,
-                    availability,
-                    entries,
-                    held,
-                    cursor.patch_id,
-                    operation,
-                    0,
-                ) {
-                    OperationChange::Applied(n) => {
-                        held = n;
-                        index = index + 1;
-                        cursor = next;
-                    }
-                    OperationChange::Refused(_) => {
-                        let rule = rules::rule_of(entries, held.entries, operation);
-                        return FirstRefused::Refused(patch, index, rule);
-                    }
-                }
-            }
-            SetStep::End => return FirstRefused::AllApply,
-            SetStep::Refused(fault) => return FirstRefused::Unreadable(fault),
-        }
+    match panel_steps::plan_steps(bindings, availability, entries, counts, set, edition, from) {
+        PlanRun::Planned(_) => FirstRefused::AllApply,
+        PlanRun::Refused(_, cursor, held) => refused_at(
+            entries,
+            held.entries,
+            set,
+            edition,
+            from.patches_left,
+            cursor,
+        ),
+        PlanRun::Unreadable(fault) => FirstRefused::Unreadable(fault),
     }
 }
 

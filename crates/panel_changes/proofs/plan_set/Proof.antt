@@ -11,9 +11,9 @@ returns c =
     let a = start .args in
     let kept = c .before .before .before .before .before .before .before .before .before .before .before .before .before .before .before .before .copy .ensures ∙ whole-copy (a .from-availability .now) (a .availability .now) (start .pre .1) in
     λ p ps st none nothing at.
-    c .before .before .before .before .before .before .plan-steps .ensures p ps (st .valid)
+    (c .before .before .before .before .before .before .plan-steps .ensures p ps (st .valid)
     (plan-starts st kept (c .before .before .before .before .before .before .before .before .before .before .before .before .before .before .before .before .before .before .before .before .plan-bindings .ensures (p .bindings) (st .bindings) none) (c .before .before .before .before .before .before .before .before .before .before .before .before .plan-entries .ensures (p .entries) (st .entries) nothing))
-    at
+    at) .became
 
 pub plan-set-spec : {M : Type 1} → statement M
 plan-set-spec =

@@ -11,7 +11,6 @@ use Rattle.spec_patch.specs.Sizes.{projectionEntries}
 use Rattle.spec_patch.specs.Edition.{Edition}
 use Rattle.spec_patch.specs.Patch.{Patch}
 use Rattle.spec_projection.specs.Projection.{Projection}
-use Rattle.spec_projection.specs.Apply.{Outcome, replaySteps, applySteps}
 use Rattle.spec_projection.specs.Valid.{Valid}
 use Rattle.projection_patch.specs.Meaning.{editionOf, operationOf}
 use Rattle.patch_walk.specs.Steps.{stepAnswer, AtSteps}
@@ -26,7 +25,7 @@ abbrev Inv-loop : tie.InvT-loop
 Inv-loop bindings₀ availability₀ entries₀ set edition held₀ cursor₀ bindings availability entries held cursor =
     (length bindings ≡ length bindings₀) × (length availability ≡ length availability₀) × (length entries ≡ length entries₀)
     × ((p : Projection) (ps : List Patch) → Valid p → StoredPlan held₀ bindings₀ availability₀ entries₀ (planOf p) → AtSteps (editionOf edition) set cursor₀ [] ps
-    → Running (editionOf edition) p set cursor held bindings availability entries (applySteps p (replaySteps ps)))
+    → Running (editionOf edition) p ps set cursor held bindings availability entries)
 
 abbrev μ-loop : tie.MeasureT-loop
 μ-loop bindings₀ availability₀ entries₀ set edition held₀ cursor₀ bindings availability entries held cursor = length set - cursor .at
@@ -100,7 +99,9 @@ returns-2 : tie.Need-returns-2 Inv-loop μ-loop
 returns-2 c =
     let step = c .before in
     let l = step .before .before .before .loop in
-    λ p ps v s h. some-operation (l .inv .3 p ps v s h) (step .before .if1 .left) (step .next-step .result) (step .next-step .ensures .0) (c .match2 .keys2)
+    λ p ps v s h.
+    let never = some-operation (l .inv .3 p ps v s h .walk .here) (step .before .if1 .left) (step .next-step .result) (step .next-step .ensures .0) (c .match2 .keys2) in
+    record { became = never; walked = never }
 
 value-offset-requires : tie.Need-value-offset-requires Inv-loop μ-loop
 value-offset-requires c κs = search needs
@@ -122,15 +123,15 @@ apply-operation-requires : tie.Need-apply-operation-requires Inv-loop μ-loop
 apply-operation-requires c κs = search needs
 
 -- the operation's turn, whatever its answer
-turn : (k : tie.After-apply-operation Inv-loop μ-loop) (p : Projection) (whole : Outcome) → let l = top k .loop in let last = k .apply-operation .last in
-    Running (edition (top k)) p (now (start (top k) .args .set)) (l .cursor) (l .held) (l .bindings) (l .availability) (l .entries) whole
-    → Turned (edition (top k)) p (now (start (top k) .args .set)) (k .before .before .before .before .before .before .before .step .given .0 .1 .0) (last .0) (last .1 .0) (last .1 .1 .0) whole (k .apply-operation .result)
-turn k p whole run =
+turn : (k : tie.After-apply-operation Inv-loop μ-loop) (p : Projection) (ps : List Patch) → let l = top k .loop in let last = k .apply-operation .last in
+    Running (edition (top k)) p ps (now (start (top k) .args .set)) (l .cursor) (l .held) (l .bindings) (l .availability) (l .entries)
+    → Turned (edition (top k)) p ps (now (start (top k) .args .set)) (l .cursor) (k .before .before .before .before .before .before .before .step .given .0 .1 .0) (l .held) (l .bindings) (l .availability) (l .entries) (last .0) (last .1 .0) (last .1 .1 .0) (k .apply-operation .result)
+turn k p ps run =
     let step = k .before .before .before .before .before .before .before .before .before in
     let known = k .before .before .before .before .before .before .before in
     let l = top k .loop in
     let last = k .apply-operation .last in
-    let seen = visited false (edition (top k)) (now (start (top k) .args .set)) (l .cursor) (run .here) (step .next-step .ensures .0) _ _ (known .step .given .1) in
+    let seen = visited false (edition (top k)) (now (start (top k) .args .set)) (l .cursor) (run .walk .here) (step .next-step .ensures .0) _ _ (known .step .given .1) in
     let is = ap (λ (n : ℕ). projectionEntries + (l .cursor .at + n)) (k .before .before .before .before .before .value-offset .ensures) in
     let within = operation-within (l .cursor) (length (now (start (top k) .args .set))) _ _ (known .step .given .1) (step .next-step .ensures .1) in
     let small = offset-small (operationOf [] (known .step .given .0 .0)) in
@@ -151,7 +152,7 @@ loop-again-2 c =
     let k = c .before .before .before .before .before .before .before .before .before in
     let kept = k .apply-operation .kept in
     let inv = top k .loop .inv in
-    (search (needs, kept .0, inv .0), search (needs, kept .1 .0, inv .1), search (needs, kept .1 .1 .0, inv .2), λ p ps v s h. turned-on (turn k p _ (top k .loop .inv .3 p ps v s h)) (c .before .n .given .1))
+    (search (needs, kept .0, inv .0), search (needs, kept .1 .0, inv .1), search (needs, kept .1 .1 .0, inv .2), λ p ps v s h. turned-on (turn k p ps (top k .loop .inv .3 p ps v s h)) (c .before .n .given .1))
 
 enum-known-error : tie.Need-enum-known-error Inv-loop μ-loop
 enum-known-error c = search needs
@@ -168,7 +169,7 @@ same-length-9 c = search needs
 returns-3 : tie.Need-returns-3 Inv-loop μ-loop
 returns-3 c =
     let k = c .before .before .before .before .before .before .before .before .before in
-    λ p ps v s h. turned-stop (turn k p _ (top k .loop .inv .3 p ps v s h)) _ (c .before .error .given .1)
+    λ p ps v s h. turned-stop (turn k p ps (top k .loop .inv .3 p ps v s h)) (c .before .error .given .1) (k .apply-operation .ensures .1)
 
 pub plan-steps-spec : {M : Type 1} → statement M
 plan-steps-spec =

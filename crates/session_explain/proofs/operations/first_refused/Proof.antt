@@ -1,4 +1,4 @@
--- `session_explain::operations::first_refused` meets its contract: the keys of what is stored, and then the walk.
+-- `session_explain::operations::first_refused` meets its contract: the plan of what is stored, and then the run.
 use Prim.Native.Nat.{ℕ, _*_}
 use mathlib.Core.Path.{_≡_, sym, _∙_}
 use mathlib.Core.List.{List, []}
@@ -12,8 +12,7 @@ use Rattle.patch_walk.specs.StepsLaws.{opened-at, never-unopened}
 use Rattle.bytes_records.specs.Moves.{zeros}
 use Rattle.panel_rows.specs.Rows.{availabilityBytes}
 use Rattle.panel_plan.specs.PlanRows.{plannedBindingRow, plannedBindingWidth, plannedEntryRow, plannedEntryWidth, PlannedBindings, PlannedEntries}
-use Rattle.panel_changes.specs.SetChangesLaws.{none-stored, whole-copy}
-use Rattle.session_explain.specs.RefusedLaws.{starts-for}
+use Rattle.panel_changes.specs.SetChangesLaws.{none-stored, whole-copy, plan-starts, opened-short}
 use borrow.Author.Needs.{needs}
 use Rattle.session_explain.proofs.operations.first_refused.Statement.{statement}
 use Rattle.session_explain.proofs.operations.first_refused.Tie as tie
@@ -44,13 +43,19 @@ room a is = is ∙ sym (length-replicate {A = ℕ} availabilityBytes 0)
 returns : tie.Need-returns
 returns c = λ p ps st e. absurd (c .if1 .taken (st .availabilities .size))
 
+-- what was opened is not too long
+refused-from-requires : tie.Need-refused-from-requires
+refused-from-requires c κs =
+    let o = c .before .before .before .before .before .before in
+    opened-short (edition o) (set o) _ (sym (o .open-set .ensures) ∙ c .before .before .before .before .start .given .1)
+
 returns-2 : tie.Need-returns-2
 returns-2 c =
     let o = c .before .before .before .before .before .before .before .before .before .before in
     let a = start o .args in
     let copied = o .before .before .before .before .before .copy .ensures ∙ whole-copy (a .availability .now) (zeros availabilityBytes) (room (a .availability .now) (o .before .before .before .before .before .before .before .before .before .before .if1 .left)) in
-    λ p ps st e. c .before .before .before .refused-from .ensures p ps
-    (starts-for st copied (o .before .before .before .before .before .before .before .before .plan-bindings2 .ensures (p .bindings) (st .bindings) no-bindings) (o .before .before .plan-entries2 .ensures (p .entries) (st .entries) no-entries))
+    λ p ps st e. c .before .before .before .refused-from .ensures p ps (st .valid)
+    (plan-starts st copied (o .before .before .before .before .before .before .before .before .plan-bindings2 .ensures (p .bindings) (st .bindings) no-bindings) (o .before .before .plan-entries2 .ensures (p .entries) (st .entries) no-entries))
     (opened-at (edition o) (set o) (all-bytes o) ps e (o .open-set .ensures) _ (c .before .before .before .before .before .before .before .before .start .given .1))
 
 returns-3 : tie.Need-returns-3
@@ -63,4 +68,4 @@ first-refused-spec =
     tie.close
     (tie.spec returns (λ c. search needs) (λ c κs. search needs) (λ c. search needs) (λ c κs. search needs) (λ c. search needs)
     (λ c κs. search needs) (λ c κs. search needs) (λ c. search needs) (λ c. search needs) (λ c. search needs)
-    (λ c. search needs) (λ c κs. search needs) (λ c. search needs) returns-2 returns-3)
+    (λ c. search needs) refused-from-requires (λ c. search needs) returns-2 returns-3)

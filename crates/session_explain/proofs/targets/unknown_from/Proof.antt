@@ -17,7 +17,7 @@ use Rattle.patch_walk.specs.StepsLaws.{visited, opened, done, never-refused}
 use Rattle.patch_walk.specs.declared.SetStep.{SetStep}
 use Rattle.session_gates.specs.Lent.{Lent}
 use Rattle.session_explain.specs.Unknown.{unknownTo}
-use Rattle.session_explain.specs.Walking.{Walking, walk-start, walk-end, walk-head, walk-on, walk-halts}
+use Rattle.panel_steps.specs.Walking.{Walking, walk-start, walk-end, walk-head, walk-on, walk-halts}
 use Rattle.session_explain.specs.UnknownLaws.{step-on, step-halts}
 use borrow.Author.Needs.{needs}
 use Rattle.session_explain.proofs.targets.unknown_from.Statement.{statement}

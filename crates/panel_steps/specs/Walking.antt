@@ -26,8 +26,19 @@ module _ {S : Type 0} (step : S → ℕ → Operation → Option S) (ed : Editio
     unfolding walkOperations walkPatches
     walk-end all = sym (ap₂ (λ (os : List Operation) (ps : List Patch). walkOn (walkOperations step patch (c .«patch_id») index s os) (λ t. walkPatches step opened t ps)) (sym (all .0)) (sym (all .1)) ∙ w .same)
 
+    -- the same with its counts told in another way
+    unfoldable pub walk-counted : {opened′ patch′ index′ : ℕ} → opened′ ≡ opened → patch′ ≡ patch → index′ ≡ index → Walking c opened′ patch′ index′ s
+    walk-counted {patch′ = i} {index′ = j} os is js = record {
+      os = w .os;
+      ps = w .ps;
+      here = w .here;
+      same =
+          ap (λ (k : ℕ). walkOn (walkOperations step i (c .«patch_id») j s (w .os)) (λ t. walkPatches step k t (w .ps))) os
+          ∙ ap₂ (λ (k n : ℕ). walkOn (walkOperations step k (c .«patch_id») n s (w .os)) (λ t. walkPatches step opened t (w .ps))) is js ∙ w .same;
+    }
+
     -- a patch's head: its operations are left now, counted from 0
-    pub walk-head : {head : ProjectionPatch} {d : SetCursor} → Opened ed set c (w .os) (w .ps) head d → Walking d (opened + 1) opened 0 s
+    unfoldable pub walk-head : {head : ProjectionPatch} {d : SetCursor} → Opened ed set c (w .os) (w .ps) head d → Walking d (opened + 1) opened 0 s
     unfolding walkOperations walkPatches
     walk-head {head} {d} o =
         let next : opened + 1 ≡ suc opened = omega arith in
@@ -49,7 +60,8 @@ module _ {S : Type 0} (step : S → ℕ → Operation → Option S) (ed : Editio
           ∙ ap (λ (os : List Operation). walkOn (walkOperations step patch (c .«patch_id») index s os) (λ t. walkPatches step opened t (w .ps))) (sym (v .is)) ∙ w .same
 
       -- an operation that lets the walk go on
-      pub walk-on : (t : S) → step s (c .«patch_id») (v .first) ≡ some t → Walking d opened patch (index + 1) t
+      unfoldable pub walk-on : (t : S) → step s (c .«patch_id») (v .first) ≡ some t → Walking d opened patch (index + 1) t
+      unfolding by-step
       walk-on t e =
           let next : index + 1 ≡ suc index = omega arith in
           let id : d .«patch_id» ≡ c .«patch_id» = ap (λ (y : SetCursor). y .«patch_id») (v .behind) in
@@ -64,6 +76,7 @@ module _ {S : Type 0} (step : S → ℕ → Operation → Option S) (ed : Editio
       pub walk-halts : step s (c .«patch_id») (v .first) ≡ none → whole ≡ halted (record { patch = patch; operation = index; left = s; refused = v .first })
       walk-halts e = sym (by-step none e)
 
-  pub walk-start : {c : SetCursor} (ps : List Patch) (s : S) → AtSteps ed set c [] ps → walkPatches step 0 s ps ≡ whole → Walking c 0 0 0 s
+  -- before the first patch, whatever stands for the patch and the operation
+  unfoldable pub walk-start : {c : SetCursor} {patch index : ℕ} (ps : List Patch) (s : S) → AtSteps ed set c [] ps → walkPatches step 0 s ps ≡ whole → Walking c 0 patch index s
   unfolding walkOperations
   walk-start ps s here e = record { os = []; ps = ps; here = here; same = e }
