@@ -67,15 +67,15 @@ fn copy_rows(rows: &[u8], to: &mut [u8])
 fn write_planned(
     key: usize,
     row: &[u8],
+    source: usize,
     from: &[u8],
     set: &[u8],
     edition: ProjectionPatchEdition,
     to: &mut [u8],
 )
-    requires { ⌜ key ≤ entryValueAt ⌝ }
+    requires { ⌜ (key ≤ entryValueAt) × (source ≡ fieldAt key sourceWidth (now row)) ⌝ }
     ensures { λ _. ⌜ now (to .exit) ≡ plannedRow (editionOf edition) key (now (row .entry)) (now (from .entry)) (now (set .entry)) (now (to .entry)) ⌝ }
 {
-    let source = fields::number_at(row, key, SOURCE_WIDTH) as usize;
     if source < LocalProjectionState::ENTRIES {
         let start = source * (key + panel_rows::VALUE_WIDTH);
         let old = fields::key_part(fields::value_part(from, start), to.len());
@@ -96,16 +96,16 @@ fn lesser(a: usize, b: usize) -> usize
     b
 }
 
-// Whether a source stands at a position of the plan.
-fn has_source(plan: &[u8], at: usize, source: usize) -> bool
+// The source that stands at a position of the plan. Where its bytes are there, the compiler makes one load of them.
+fn source_at(plan: &[u8], at: usize) -> usize
     requires { ⌜ at ≤ projectionEntries * entryWidth ⌝ }
-    ensures { λ r. ⌜ (r ≡ true → fieldAt at sourceWidth (now (plan .entry)) ≡ source) ⌝ }
+    ensures { λ r. ⌜ r ≡ fieldAt at sourceWidth (now (plan .entry)) ⌝ }
 {
     let end = at + SOURCE_WIDTH;
     if plan.len() < end {
-        return false;
+        return fields::number_at(plan, at, SOURCE_WIDTH) as usize;
     }
-    bytes_records::keys::number_of(&plan[at..end]) == source as u64
+    bytes_records::keys::number_of(&plan[at..end]) as usize
 }
 
 // How many rows from the i-th on are written in one copy: old rows that follow each other, or one row.
@@ -120,7 +120,7 @@ fn run_length(key: usize, plan: &[u8], count: usize, i: usize, source: usize) ->
     let most = lesser(count - i, LocalProjectionState::ENTRIES - source);
     let mut n: usize = 1;
     while n < most {
-        if has_source(plan, (i + n) * width + key, source + n) {
+        if source_at(plan, (i + n) * width + key) == source + n {
             n += 1;
         } else {
             return n;
@@ -147,11 +147,11 @@ fn write_rows(
     let mut i = 0;
     while i < count {
         let row = row_at(plan, key + SOURCE_WIDTH, i);
-        let source = fields::number_at(row, key, SOURCE_WIDTH) as usize;
+        let source = source_at(plan, i * (key + SOURCE_WIDTH) + key);
         let n = run_length(key, plan, count, i, source);
         let start = i * width;
         let end = start + n * width;
-        write_planned(key, row, from, set, edition, &mut to[start..end]);
+        write_planned(key, row, source, from, set, edition, &mut to[start..end]);
         i += n;
     }
     let used = count * width;
