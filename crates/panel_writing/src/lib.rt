@@ -2,24 +2,24 @@
 // set. What is read is lent read-only, and a refusal leaves every byte of the new table.
 ghost use mathlib.Core.Path.{_≡_};
 ghost use mathlib.Core.Bool.{true};
+ghost use mathlib.Core.List.{List};
 ghost use Prim.Native.Nat.{ℕ, _+_, _*_, _≤_, _<_, min, max};
-ghost use lib.Dec.{eqb};
 ghost use lib.ListN.{length};
-ghost use Rattle.spec_lists.specs.Lists.{if_then_else_, All};
-ghost use Rattle.spec_patch.specs.Sizes.{projectionBindings, projectionEntries};
-ghost use Rattle.spec_projection.specs.Projection.{Projection};
+ghost use Rattle.spec_lists.specs.Lists.{All};
+ghost use Rattle.spec_patch.specs.Sizes.{projectionBindings, projectionAvailabilities, projectionEntries};
+ghost use Rattle.spec_projection.specs.Projection.{NodeAvailability, Projection};
 ghost use Rattle.spec_projection.specs.Valid.{Valid};
 ghost use Rattle.bytes_records.specs.Moves.{overwriteRows};
 ghost use Rattle.bytes_records.specs.Table.{tableBytes};
 ghost use Rattle.projection_patch.specs.Meaning.{editionOf};
-ghost use Rattle.panel_rows.specs.Rows.{fieldAt, valueWidth, bindingValueAt, bindingWidth, bindingRow, entryValueAt, entryWidth, entryRow};
+ghost use Rattle.panel_rows.specs.Rows.{fieldAt, valueWidth, availabilityWidth, availabilityRow, bindingValueAt, bindingWidth, bindingRow, entryValueAt, entryWidth, entryRow};
 ghost use Rattle.local_projection_state.specs.Stores.{Stored};
 ghost use Rattle.panel_plan.specs.PlanRows.{sourceWidth, PlannedBindings, PlannedEntries};
 ghost use Rattle.panel_plan.specs.Plan.{resolution};
 ghost use Rattle.panel_plan.specs.Resolved.{resolved};
 ghost use Rattle.panel_plan.specs.SetValues.{valueIn};
 ghost use Rattle.panel_plan.specs.Sources.{SourcedBinding, SourcedEntry};
-ghost use Rattle.panel_writing.specs.Writing.{rowAt, valueBytes, plannedRow, RowRun, newRow, rowsTo, canWrite, writtenTable, ClearBehind};
+ghost use Rattle.panel_writing.specs.Writing.{rowAt, valueBytes, plannedRow, RowRun, newRow, rowsTo, canWrite, writtenTable, ClearBehind, canCopy, copiedTable};
 use local_projection_state::LocalProjectionState;
 use panel_plan::SOURCE_WIDTH;
 use panel_rows::fields;
@@ -258,14 +258,27 @@ pub fn write_entries(
     )
 }
 
-// Writes the availabilities of a plan, whose rows are those of the table. Answers whether the table is as long.
-pub fn write_availabilities(plan: &[u8], to: &mut [u8]) -> bool
-    ensures told { λ r. ⌜ r ≡ eqb (length (now (plan .entry))) (length (now (to .entry))) ⌝ }
-    ensures made { λ r. ⌜ now (to .exit) ≡ (if r then now (plan .entry) else now (to .entry)) ⌝ }
+// Writes the availabilities of a plan, whose rows are those of the table, in the places that are used or were. Answers whether both are such
+// tables, and have a place for each.
+pub fn write_availabilities(plan: &[u8], count: usize, used: usize, to: &mut [u8]) -> bool
+    ensures told { λ r. ⌜ r ≡ canCopy count used (now (plan .entry)) (now (to .entry)) ⌝ }
+    ensures made { λ r. ⌜ now (to .exit) ≡ copiedTable count used (now (plan .entry)) (now (to .entry)) ⌝ }
+    ensures stores { λ r. ⌜ (r ≡ true → ClearBehind used availabilityWidth (now (to .entry)) → (l : List NodeAvailability) → Stored availabilityRow availabilityWidth projectionAvailabilities count (now (plan .entry)) l
+        → Stored availabilityRow availabilityWidth projectionAvailabilities count (now (to .exit)) l) ⌝ }
 {
-    if plan.len() != to.len() {
+    if LocalProjectionState::AVAILABILITIES < count {
         return false;
     }
-    bytes_records::moves::copy(plan, to);
+    if LocalProjectionState::AVAILABILITIES < used {
+        return false;
+    }
+    if plan.len() != LocalProjectionState::AVAILABILITY_BYTES {
+        return false;
+    }
+    if to.len() != LocalProjectionState::AVAILABILITY_BYTES {
+        return false;
+    }
+    let size = greater(count, used) * panel_rows::AVAILABILITY_WIDTH;
+    bytes_records::moves::copy(&plan[0..size], &mut to[0..size]);
     true
 }
