@@ -158,7 +158,8 @@ fn write_rows(
     bytes_records::moves::clear(&mut to[used..]);
 }
 
-fn greater(a: usize, b: usize) -> usize
+// The greater of two counts: the rows that are used now, or were.
+pub fn greater(a: usize, b: usize) -> usize
     ensures { λ r. ⌜ r ≡ max a b ⌝ }
 {
     if a < b {
