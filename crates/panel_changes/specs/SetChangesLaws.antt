@@ -3,7 +3,7 @@
 use Prim.Native.Nat.{ℕ, _+_, _-_, _*_, _≤_}
 use mathlib.Core.Path.{_≡_, refl, sym, ap, ap₂, _∙_, subst}
 use mathlib.Core.Bool.{Bool, true, false, _&&_}
-use mathlib.Core.List.{List, [], _++_, map-id}
+use mathlib.Core.List.{List, [], _∷_, _++_, map, map-id}
 use native.Mathlib.Nat.{zero-mul, mul-le-mul-right}
 use native.Mathlib.Omega.{arith}
 use borrow.Author.Tests.{le-leb, leb-true, eq-eqb, eqb-true}
@@ -24,11 +24,14 @@ use Rattle.patch_walk.specs.Steps.{firstCursor, openAnswer, AtSteps}
 use Rattle.patch_walk.specs.StepsLaws.{opens, at-start}
 use Rattle.patch_walk.specs.declared.SetCursor.{SetCursor}
 use Rattle.patch_walk.specs.declared.SetOpening.the-variants as opening
-use Rattle.spec_projection.specs.Projection.{Projection}
+use Rattle.spec_lists.specs.Order.{sortUnique}
+use Rattle.spec_lists.specs.OrderLaws.{sortUnique-length}
+use Rattle.spec_projection.specs.Projection.{Entry, Projection}
+use Rattle.spec_projection.specs.Lookups.{entriesIn}
 use Rattle.spec_projection.specs.Apply.{Outcome, done, stopped}
 use Rattle.spec_projection.specs.RowMap.{mapRows}
 use Rattle.spec_projection.specs.Valid.{Valid}
-use Rattle.spec_lengths.specs.Lengths.{collectionLengths}
+use Rattle.spec_lengths.specs.Lengths.{lengthRecord, collectionsIn, lengthsIn, collectionLengths}
 use Rattle.spec_lengths.specs.LengthsAfter.{lengths-mapped}
 use Rattle.bytes_records.specs.Moves.{zeros, overwriteRows}
 use Rattle.bytes_records.specs.MovesLaws.{length-zeros, drop-zeros}
@@ -47,7 +50,7 @@ use Rattle.panel_steps.specs.declared.PlanRun.the-variants as plan
 use Rattle.panel_bindings.specs.declared.LocalProjectionApplicationError.{LocalProjectionApplicationError}
 use Rattle.projection_patch.specs.declared.read_values.ProjectionPatchReadFault.{ProjectionPatchReadFault}
 use Rattle.panel_writing.specs.Writing.{ClearBehind}
-use Rattle.panel_writing.specs.WritingLaws.{rows-clear}
+use Rattle.panel_writing.specs.WritingLaws.{clear-behind-more, rows-clear}
 use Rattle.panel_changes.specs.SetChanges.{tablesFit, changeCountsFit, TableLengths, noneUsed, ReadyTables, StoredAfter, ChangeBecame}
 use Rattle.panel_changes.specs.declared.SetChange.the-variants as change
 
@@ -125,6 +128,19 @@ module _ {n : ProjectionCounts} {b a e : List ℕ} {p : Projection} where
       (omega (arith, counted (p .bindings) (s .bindings), s .valid .fewBindings))
       (omega (arith, counted (p .availabilities) (s .availabilities), s .valid .fewAvailabilities))
       (omega (arith, counted (p .entries) (s .entries), s .valid .fewEntries))
+
+-- a collection has an entry at least
+few-collections : (p : Projection) → length (collectionLengths p) ≤ length (p .entries)
+unfolding collectionLengths lengthsIn collectionsIn
+few-collections p =
+    let own = map (λ (e : Entry). e .collection) (p .entries) in
+    omega (arith, length-map (sortUnique (λ (c : ℕ). c ∷ []) own) (λ (c : ℕ). lengthRecord c (length (entriesIn c (p .entries)))), sortUnique-length (λ (c : ℕ). c ∷ []) own, length-map (p .entries) (λ (e : Entry). e .collection))
+
+-- so nothing stands in the table of the lengths behind as many rows as there are entries
+pub lengths-clear : {n : ProjectionCounts} {b a e l : List ℕ} {p : Projection} → StoredTables n b a e p → StoredLengths l (collectionLengths p) → ClearBehind (n .entries) lengthWidth l
+lengths-clear {n = n} {l = l} {p = p} s told =
+    let few : n .entries ≤ projectionEntries = omega (arith, counted (p .entries) (s .entries), s .valid .fewEntries) in
+    clear-behind-more (length (collectionLengths p)) (n .entries) lengthWidth l (omega (arith, few-collections p, counted (p .entries) (s .entries))) (omega (arith, mul-le-mul-right {m = n .entries} {n = projectionEntries} lengthWidth few, told .size)) (rows-clear (told .rows))
 
 -- ---- the plan that a set starts from
 

@@ -65,10 +65,12 @@ loop-again c =
     let own = run .before in
     let h = own .before .before in
     let start = h .before .before .before .before .before .before .before in
-    let a = start .args in
-    (search needs, one-written (now (a .plan)) (a .count) (h .loop .rows) (h .loop .i) (h .loop .inv .1) (search needs) (start .pre .0) (run .run-end .result)
-    (run .run-end .ensures ∙ ap (λ (b : ℕ). h .loop .i + 1 + leading b (collectionsFrom (h .loop .i + 1) (a .count - (h .loop .i + 1)) (now (a .plan)))) (own .collection-at .ensures))
-    (made .length-row .ensures ∙ ap (λ (b : ℕ). lengthRow (lengthRecord b (run .run-end .result - h .loop .i))) (own .collection-at .ensures)) (search needs) (call .insert-record .ensures))
+    let a = start .args in (
+      search needs,
+      one-written (now (a .plan)) (a .count) (h .loop .rows) (h .loop .i) (h .loop .inv .1) (search needs) (start .pre .0) (run .run-end .result)
+          (run .run-end .ensures ∙ ap (λ (b : ℕ). h .loop .i + 1 + leading b (collectionsFrom (h .loop .i + 1) (a .count - (h .loop .i + 1)) (now (a .plan)))) (own .collection-at .ensures))
+          (made .length-row .ensures ∙ ap (λ (b : ℕ). lengthRow (lengthRecord b (run .run-end .result - h .loop .i))) (own .collection-at .ensures)) (search needs) (call .insert-record .ensures),
+    )
 
 same-length : tie.Need-same-length Inv-loop μ-loop
 same-length c = search needs
