@@ -135,21 +135,22 @@ pub fn read_i64_at(part: &[u8], at: usize) -> ReadI64
     }
 }
 
-// Whether the bytes from index at on begin with prefix.
+// Whether the bytes from index at on begin with prefix. All of them are compared, whatever the first tell: the compiler compares many at once.
 pub fn starts_with(part: &[u8], at: usize, prefix: &[u8]) -> bool
     ensures { λ r. ⌜ r ≡ startsWith (now (prefix .entry)) (drop at (now (part .entry))) ⌝ }
 {
     if remaining(part.len(), at) < prefix.len() {
         return false;
     }
+    let mut same = true;
     let mut i = 0;
     while i < prefix.len() {
         if part[at + i] != prefix[i] {
-            return false;
+            same = false;
         }
         i += 1;
     }
-    true
+    same
 }
 
 // Stores the n bytes of x from index at on.

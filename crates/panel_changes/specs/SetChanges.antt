@@ -9,7 +9,7 @@ use Rattle.spec_patch.specs.Sizes.{projectionBindings, projectionAvailabilities
 use Rattle.spec_projection.specs.Projection.{Projection}
 use Rattle.spec_projection.specs.Apply.{Outcome, done, stopped}
 use Rattle.spec_lengths.specs.Lengths.{collectionLengths}
-use Rattle.panel_rows.specs.Rows.{bindingWidth, bindingBytes, availabilityBytes, entryWidth, entryBytes, lengthBytes}
+use Rattle.panel_rows.specs.Rows.{bindingWidth, bindingBytes, availabilityWidth, availabilityBytes, entryWidth, entryBytes, lengthWidth, lengthBytes}
 use Rattle.local_projection_state.specs.Stores.{StoredTables, StoredLengths}
 use Rattle.local_projection_state.specs.declared.ProjectionCounts.{ProjectionCounts}
 use Rattle.panel_bindings.specs.Change.{applicationFaultOf}
@@ -34,13 +34,16 @@ pub record TableLengths (b a e : List ℕ) : Type 0 where
 abbrev pub noneUsed : ProjectionCounts
 noneUsed = record { bindings = 0; availabilities = 0; entries = 0 }
 
--- the tables that are written: as long as they should be, and zero behind the rows that were used; that of the lengths may hold anything
+-- the tables that are written: as long as they should be, and zero behind the rows that were used; a collection has an entry at least, so that of
+-- the lengths is zero behind as many
 pub record ReadyTables (used : ProjectionCounts) (b a e l : List ℕ) : Type 0 where
   pub lengths : TableLengths b a e
   pub collections : length l ≡ lengthBytes
   pub few : changeCountsFit used ≡ true
   pub bindings : ClearBehind (used .bindings) bindingWidth b
+  pub availabilities : ClearBehind (used .availabilities) availabilityWidth a
   pub entries : ClearBehind (used .entries) entryWidth e
+  pub counted : ClearBehind (used .entries) lengthWidth l
 
 -- the tables that were written store the projection, and its collections' lengths
 abbrev pub StoredAfter : ProjectionCounts → (b a e l : List ℕ) → Projection → Type 0

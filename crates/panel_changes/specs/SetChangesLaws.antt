@@ -1,14 +1,15 @@
 -- Tables that store a projection are as long as they should be, a plan of it starts from them, and what is written of a plan stores what the
 -- plan stands for.
 use Prim.Native.Nat.{ℕ, _+_, _-_, _*_, _≤_}
-use mathlib.Core.Path.{_≡_, refl, sym, ap, _∙_, subst}
+use mathlib.Core.Path.{_≡_, refl, sym, ap, ap₂, _∙_, subst}
 use mathlib.Core.Bool.{Bool, true, false, _&&_}
-use mathlib.Core.List.{List, [], _++_, append-nil, map-id}
-use native.Mathlib.Nat.{zero-mul}
+use mathlib.Core.List.{List, [], _∷_, _++_, map, map-id}
+use native.Mathlib.Nat.{zero-mul, mul-le-mul-right}
 use native.Mathlib.Omega.{arith}
 use borrow.Author.Tests.{le-leb, leb-true, eq-eqb, eqb-true}
 use lib.Dec.{leb, eqb}
-use lib.ListN.{length, drop, length-map, length-replicate, drop-of-length-le}
+use lib.ListN.{length, take, drop, length-map, length-replicate, take-append-drop}
+use lib.Seq.{length-take-le}
 use Rattle.spec_lists.specs.ListLaws.{and-left, and-right}
 use Rattle.spec_patch.specs.Sizes.{setBytes, projectionBindings, projectionAvailabilities, projectionEntries}
 use Rattle.spec_lists.specs.Lists.{if_then_else_}
@@ -19,16 +20,19 @@ use Rattle.patch_sets.specs.Walk.{readHeading}
 use Rattle.patch_walk.specs.Steps.{firstCursor, openAnswer}
 use Rattle.patch_walk.specs.declared.SetCursor.{SetCursor}
 use Rattle.patch_walk.specs.declared.SetOpening.the-variants as opening
-use Rattle.spec_projection.specs.Projection.{Projection}
+use Rattle.spec_lists.specs.Order.{sortUnique}
+use Rattle.spec_lists.specs.OrderLaws.{sortUnique-length}
+use Rattle.spec_projection.specs.Projection.{Entry, Projection}
+use Rattle.spec_projection.specs.Lookups.{entriesIn}
 use Rattle.spec_projection.specs.Apply.{Outcome, done, stopped}
 use Rattle.spec_projection.specs.RowMap.{mapRows}
 use Rattle.spec_projection.specs.Valid.{Valid}
-use Rattle.spec_lengths.specs.Lengths.{collectionLengths}
+use Rattle.spec_lengths.specs.Lengths.{lengthRecord, collectionsIn, lengthsIn, collectionLengths}
 use Rattle.spec_lengths.specs.LengthsAfter.{lengths-mapped}
 use Rattle.bytes_records.specs.Moves.{zeros, overwriteRows}
 use Rattle.bytes_records.specs.MovesLaws.{length-zeros, drop-zeros}
 use Rattle.bytes_records.specs.TableLaws.{holds-none}
-use Rattle.panel_rows.specs.Rows.{bindingBytes, availabilityBytes, entryBytes, lengthBytes, bindingWidth, availabilityWidth, entryWidth, bindingRow, availabilityRow, entryRow}
+use Rattle.panel_rows.specs.Rows.{bindingBytes, availabilityBytes, entryBytes, lengthBytes, bindingWidth, availabilityWidth, entryWidth, lengthWidth, bindingRow, availabilityRow, entryRow}
 use Rattle.local_projection_state.specs.Stores.{Stored, StoredTables, StoredLengths}
 use Rattle.local_projection_state.specs.declared.ProjectionCounts.{ProjectionCounts}
 use Rattle.panel_plan.specs.Plan.{planOf, numbered, bindingWith, entryWith}
@@ -42,6 +46,7 @@ use Rattle.panel_steps.specs.declared.PlanRun.the-variants as plan
 use Rattle.panel_bindings.specs.declared.LocalProjectionApplicationError.{LocalProjectionApplicationError}
 use Rattle.projection_patch.specs.declared.read_values.ProjectionPatchReadFault.{ProjectionPatchReadFault}
 use Rattle.panel_writing.specs.Writing.{ClearBehind}
+use Rattle.panel_writing.specs.WritingLaws.{clear-behind-more, rows-clear}
 use Rattle.panel_changes.specs.SetChanges.{tablesFit, changeCountsFit, TableLengths, noneUsed, ReadyTables, StoredAfter, ChangeBecame}
 use Rattle.panel_changes.specs.declared.SetChange.the-variants as change
 
@@ -80,20 +85,23 @@ zeros-ready = record {
   collections = length-zeros lengthBytes;
   few = refl;
   bindings = clear-zeros bindingWidth bindingBytes;
+  availabilities = clear-zeros availabilityWidth availabilityBytes;
   entries = clear-zeros entryWidth entryBytes;
+  counted = clear-zeros lengthWidth lengthBytes;
 }
 
 pub few-fit : (n : ProjectionCounts) → n .bindings ≤ projectionBindings → n .availabilities ≤ projectionAvailabilities → n .entries ≤ projectionEntries → changeCountsFit n ≡ true
 unfolding changeCountsFit
 few-fit n b a e = rw (le-leb (n .bindings) projectionBindings b, le-leb (n .availabilities) projectionAvailabilities a, le-leb (n .entries) projectionEntries e)
 
-pub fit-few : (n : ProjectionCounts) → changeCountsFit n ≡ true → (n .bindings ≤ projectionBindings) × (n .entries ≤ projectionEntries)
+pub fit-few : (n : ProjectionCounts) → changeCountsFit n ≡ true → (n .bindings ≤ projectionBindings) × (n .entries ≤ projectionEntries) × (n .availabilities ≤ projectionAvailabilities)
 unfolding changeCountsFit
 fit-few n h =
     let one = leb (n .bindings) projectionBindings in
     let two = leb (n .availabilities) projectionAvailabilities in
     let three = leb (n .entries) projectionEntries in
-    (leb-true (n .bindings) projectionBindings (and-left one (two && three) h), leb-true (n .entries) projectionEntries (and-right two three (and-right one (two && three) h)))
+    let rest = and-right one (two && three) h in
+    (leb-true (n .bindings) projectionBindings (and-left one (two && three) h), leb-true (n .entries) projectionEntries (and-right two three rest), leb-true (n .availabilities) projectionAvailabilities (and-left two three rest))
 
 -- a count is the length of its list
 counted : {A : Type 0} {row : A → List ℕ} {width capacity count : ℕ} {table : List ℕ} (l : List A) → Stored row width capacity count table l → length l ≡ count
@@ -117,11 +125,30 @@ module _ {n : ProjectionCounts} {b a e : List ℕ} {p : Projection} where
       (omega (arith, counted (p .availabilities) (s .availabilities), s .valid .fewAvailabilities))
       (omega (arith, counted (p .entries) (s .entries), s .valid .fewEntries))
 
+-- a collection has an entry at least
+few-collections : (p : Projection) → length (collectionLengths p) ≤ length (p .entries)
+unfolding collectionLengths lengthsIn collectionsIn
+few-collections p =
+    let own = map (λ (e : Entry). e .collection) (p .entries) in
+    omega (arith, length-map (sortUnique (λ (c : ℕ). c ∷ []) own) (λ (c : ℕ). lengthRecord c (length (entriesIn c (p .entries)))), sortUnique-length (λ (c : ℕ). c ∷ []) own, length-map (p .entries) (λ (e : Entry). e .collection))
+
+-- so nothing stands in the table of the lengths behind as many rows as there are entries
+pub lengths-clear : {n : ProjectionCounts} {b a e l : List ℕ} {p : Projection} → StoredTables n b a e p → StoredLengths l (collectionLengths p) → ClearBehind (n .entries) lengthWidth l
+lengths-clear {n = n} {l = l} {p = p} s told =
+    let few : n .entries ≤ projectionEntries = omega (arith, counted (p .entries) (s .entries), s .valid .fewEntries) in
+    clear-behind-more (length (collectionLengths p)) (n .entries) lengthWidth l (omega (arith, few-collections p, counted (p .entries) (s .entries))) (omega (arith, mul-le-mul-right {m = n .entries} {n = projectionEntries} lengthWidth few, told .size)) (rows-clear (told .rows))
+
 -- ---- the plan that a set starts from
 
--- a copy over a table as long is the other table
-pub whole-copy : (s t : List ℕ) → length s ≡ length t → overwriteRows s t ≡ s
-whole-copy s t e = let none : length t ≤ length s = omega arith in ap (λ (l : List ℕ). s ++ l) (drop-of-length-le t none) ∙ append-nil s
+-- the rows of a table, copied to zeros, are the table
+pub rows-copy : {A : Type 0} {row : A → List ℕ} {width capacity n : ℕ} {table to : List ℕ} (l : List A) → Stored row width capacity n table l → n ≤ capacity → to ≡ zeros (capacity * width) → overwriteRows (take (n * width - 0) table) to ≡ table
+rows-copy {width = width} {capacity = capacity} {n = n} {table = table} {to = to} l s few none =
+    let most = mul-le-mul-right {m = n} {n = capacity} width few in
+    let same : n * width - 0 ≡ n * width = omega arith in
+    let front : length (take (n * width) table) ≡ n * width = length-take-le (n * width) table (omega (arith, most, s .size)) in
+    let behind : drop (n * width) (zeros (capacity * width)) ≡ drop (n * width) table = drop-zeros (n * width) (capacity * width) most ∙ ap (λ (k : ℕ). zeros (k - n * width)) (sym (s .size)) ∙ sym (rows-clear (s .rows)) in
+    ap₂ (λ (k : ℕ) (t : List ℕ). overwriteRows (take k table) t) same none ∙ ap (λ (k : ℕ). take (n * width) table ++ drop k (zeros (capacity * width))) front
+    ∙ ap (λ (t : List ℕ). take (n * width) table ++ t) behind ∙ take-append-drop (n * width) table
 
 pub plan-starts : {n : ProjectionCounts} {b a e b′ a′ e′ : List ℕ} {p : Projection} → StoredTables n b a e p → a′ ≡ a → PlannedBindings (n .bindings) b′ (numbered bindingWith 0 (p .bindings)) → PlannedEntries (n .entries) e′ (numbered entryWith 0 (p .entries)) → StoredPlan n b′ a′ e′ (planOf p)
 unfolding planOf

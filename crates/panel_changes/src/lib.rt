@@ -15,6 +15,7 @@ ghost use Rattle.spec_projection.specs.Apply.{replaySteps, applySteps};
 ghost use Rattle.spec_projection.specs.Valid.{Valid};
 ghost use Rattle.projection_patch.specs.Meaning.{editionOf};
 ghost use Rattle.patch_walk.specs.Steps.{AtSteps};
+ghost use Rattle.bytes_records.specs.Moves.{zeros};
 ghost use Rattle.panel_rows.specs.Rows.{availabilityBytes, lengthBytes};
 ghost use Rattle.local_projection_state.specs.Stores.{StoredTables};
 ghost use Rattle.panel_plan.specs.PlanRows.{PlannedBindings, PlannedEntries};
@@ -122,7 +123,12 @@ fn write_tables(
             edition,
             to_bindings,
         );
-        panel_writing::write_availabilities(plan_availability, to_availability);
+        panel_writing::write_availabilities(
+            plan_availability,
+            counts.availabilities,
+            used.availabilities,
+            to_availability,
+        );
         panel_writing::write_entries(
             plan_entries,
             counts.entries,
@@ -132,7 +138,7 @@ fn write_tables(
             edition,
             to_entries,
         );
-        write::write_lengths(plan_entries, counts.entries, to_lengths);
+        write::write_lengths(plan_entries, counts.entries, used.entries, to_lengths);
         return true;
     }
     false
@@ -151,13 +157,14 @@ fn plan_set(
     availability: &mut [u8],
     entries: &mut [u8],
 ) -> PlanRun
-    requires { ⌜ (length (now set) ≤ setBytes) × (length (now «from_availability») ≡ length (now availability)) ⌝ }
+    requires { ⌜ (length (now set) ≤ setBytes) × ((length (now «from_availability») ≡ availabilityBytes) × ((length (now availability) ≡ availabilityBytes) × (changeCountsFit counts ≡ true))) ⌝ }
     ensures { λ r. ⌜ ((p : Projection) (ps : List Patch) → StoredTables counts (now («from_bindings» .entry)) (now («from_availability» .entry)) (now («from_entries» .entry)) p
-        → PlannedBindings 0 (now (bindings .entry)) [] → PlannedEntries 0 (now (entries .entry)) [] → AtSteps (editionOf edition) (now (set .entry)) cursor [] ps
+        → PlannedBindings 0 (now (bindings .entry)) [] → now (availability .entry) ≡ zeros availabilityBytes → PlannedEntries 0 (now (entries .entry)) [] → AtSteps (editionOf edition) (now (set .entry)) cursor [] ps
         → RunBecame (PlannedAs (editionOf edition) p (now (set .entry)) (now (bindings .exit)) (now (availability .exit)) (now (entries .exit))) r (applySteps p (replaySteps ps))) ⌝ }
 {
     fill::plan_bindings(from_bindings, counts.bindings, bindings);
-    bytes_records::moves::copy(from_availability, availability);
+    let held = counts.availabilities * panel_rows::AVAILABILITY_WIDTH;
+    bytes_records::moves::copy(&from_availability[0..held], availability);
     fill::plan_entries(from_entries, counts.entries, entries);
     panel_steps::plan_steps(
         bindings,
@@ -185,7 +192,7 @@ fn apply_from(
     to_lengths: &mut [u8],
     used: ProjectionCounts,
 ) -> SetChange
-    requires { ⌜ (length (now set) ≤ setBytes) × ((length (now «from_availability») ≡ availabilityBytes) × (TableLengths (now «to_bindings») (now «to_availability») (now «to_entries») × ((length (now «to_lengths») ≡ lengthBytes) × (changeCountsFit used ≡ true)))) ⌝ }
+    requires { ⌜ (length (now set) ≤ setBytes) × ((length (now «from_availability») ≡ availabilityBytes) × (TableLengths (now «to_bindings») (now «to_availability») (now «to_entries») × ((length (now «to_lengths») ≡ lengthBytes) × ((changeCountsFit used ≡ true) × (changeCountsFit counts ≡ true))))) ⌝ }
     ensures changed { λ r. ⌜ ((p : Projection) (ps : List Patch) → StoredTables counts (now («from_bindings» .entry)) (now («from_availability» .entry)) (now («from_entries» .entry)) p
         → All (FitsPatch (editionOf edition)) ps → AtSteps (editionOf edition) (now (set .entry)) cursor [] ps → ReadyTables used (now («to_bindings» .entry)) (now («to_availability» .entry)) (now («to_entries» .entry)) (now («to_lengths» .entry))
         → ChangeBecame (λ n q. StoredAfter n (now («to_bindings» .exit)) (now («to_availability» .exit)) (now («to_entries» .exit)) (now («to_lengths» .exit)) q) r (applySteps p (replaySteps ps))) ⌝ }

@@ -13,8 +13,7 @@ use Rattle.bytes_records.specs.Moves.{zeros}
 use Rattle.bytes_records.specs.Positions.{insertAt}
 use Rattle.bytes_records.specs.Table.{Wide, HoldsRows, canInsert, Changed}
 use Rattle.bytes_records.specs.TableLaws.{holds-none, can-insert}
-use Rattle.panel_rows.specs.Rows.{idWidth, lengthWidth, lengthBytes, lengthRow, fieldAt}
-use Rattle.local_projection_state.specs.Stores.{Stored, StoredLengths}
+use Rattle.panel_rows.specs.Rows.{idWidth, lengthWidth, lengthRow, fieldAt}
 use Rattle.panel_plan.specs.PlanRows.{plannedEntryWidth}
 use Rattle.panel_lengths.specs.Runs.{runs, leading, collectionsFrom}
 use Rattle.panel_lengths.specs.RunsLaws.{run-within, next-run}
@@ -24,19 +23,19 @@ pub record RunsWritten (plan : List ℕ) (count rows i : ℕ) (to : List ℕ) : 
   pub written : List CollectionLength
   pub few : rows ≤ i
   pub within : i ≤ count
-  pub size : length to ≡ lengthBytes
+  pub room : count * lengthWidth ≤ length to
   pub table : HoldsRows lengthWidth rows to (map lengthRow written)
   pub all : written ++ runs (collectionsFrom i (count - i) plan) ≡ runs (collectionsFrom 0 count plan)
 
 module _ (plan : List ℕ) (count : ℕ) where
-  pub none-written : {to : List ℕ} (n : ℕ) → length to ≡ lengthBytes → to ≡ zeros n → RunsWritten plan count 0 0 to
-  none-written n size e =
+  pub none-written : {to : List ℕ} (n : ℕ) → count * lengthWidth ≤ length to → to ≡ zeros n → RunsWritten plan count 0 0 to
+  none-written n room e =
       let all : count - 0 ≡ count = omega arith in
       record {
         written = [];
         few = omega arith;
         within = omega arith;
-        size = size;
+        room = room;
         table = subst (λ (t : List ℕ). HoldsRows lengthWidth 0 t []) (sym e) (holds-none lengthWidth n);
         all = ap (λ (n : ℕ). runs (collectionsFrom 0 n plan)) all;
       }
@@ -59,21 +58,21 @@ module _ (plan : List ℕ) (count : ℕ) where
       unfolding lengthRow
       one-written {row} {exit} e same change =
           let wide : length row ≡ lengthWidth = ap length e ∙ simp (length-append, length-littleEndian) in
-          let can = can-insert (w .table) rows row (omega arith) wide (omega (arith, w .size, w .few)) in
+          let can = can-insert (w .table) rows row (omega arith) wide (omega (arith, w .room, w .few)) in
           let made = change .made (change .told ∙ can) (map lengthRow (w .written)) (w .table) in
           record {
             written = w .written ++ length-of ∷ [];
             few = omega (arith, w .few, run-within plan count i below end is .0);
             within = run-within plan count i below end is .1;
-            size = same ∙ w .size;
+            room = omega (arith, same, w .room);
             table = subst (HoldsRows lengthWidth (rows + 1) exit) (inserted-last row ∙ ap (λ (r : List ℕ). map lengthRow (w .written) ++ r ∷ []) e ∙ sym (map-append lengthRow (w .written) (length-of ∷ []))) made;
             all = append-assoc (w .written) (length-of ∷ []) (runs (collectionsFrom end (count - end) plan)) ∙ ap (λ (l : List CollectionLength). w .written ++ l) (sym (next-run plan count i below end is)) ∙ w .all;
           }
 
-    pub all-written : count ≤ i → StoredLengths to (runs (collectionsFrom 0 count plan))
+    pub all-written : count ≤ i → HoldsRows lengthWidth (length (runs (collectionsFrom 0 count plan))) to (map lengthRow (runs (collectionsFrom 0 count plan)))
     unfolding runs collectionsFrom
     all-written past =
         let none : count - i ≡ 0 = omega arith in
         let is : w .written ≡ runs (collectionsFrom 0 count plan) = sym (append-nil (w .written)) ∙ ap (λ (n : ℕ). w .written ++ runs (collectionsFrom i n plan)) (sym none) ∙ w .all in
         let many : rows ≡ length (w .written) = sym (w .table .counted) ∙ length-map (w .written) lengthRow in
-        subst (StoredLengths to) is (record { size = w .size; rows = subst (λ (n : ℕ). HoldsRows lengthWidth n to (map lengthRow (w .written))) many (w .table) })
+        subst (λ (l : List CollectionLength). HoldsRows lengthWidth (length l) to (map lengthRow l)) is (subst (λ (n : ℕ). HoldsRows lengthWidth n to (map lengthRow (w .written))) many (w .table))

@@ -67,23 +67,23 @@ drop-take (suc k) m n [] e = ap (drop (suc k)) (take-nil n) ∙ sym (take-nil m)
 drop-take (suc k) m zero (x ∷ l) e = absurd (omega arith)
 drop-take (suc k) m (suc n) (x ∷ l) e = drop-take k m n l (omega arith)
 
+-- the source of a row is found where its row has it
+pub field-there : (key : ℕ) (plan : List ℕ) (at : ℕ) → fieldAt key sourceWidth (rowAt (key + sourceWidth) at plan) ≡ fieldAt (at * (key + sourceWidth) + key) sourceWidth plan
+field-there key plan at =
+    let rest = drop (at * (key + sourceWidth)) plan in
+    ap (λ (l : List ℕ). numberOf (take sourceWidth l)) (drop-take key sourceWidth (key + sourceWidth) rest refl) ∙ ap numberOf (take-take sourceWidth sourceWidth (drop key rest) (omega arith))
+    ∙ ap (λ (l : List ℕ). numberOf (take sourceWidth l)) (drop-drop key (at * (key + sourceWidth)) plan)
+
 module _ (key : ℕ) (plan : List ℕ) (i source : ℕ) where
   pub run-of-one : RowRun key plan i source 1
   run-of-one k some h = absurd (omega arith)
-
-  -- the source of a row is found where its row has it
-  field-there : (at : ℕ) → fieldAt key sourceWidth (rowAt (key + sourceWidth) at plan) ≡ fieldAt (at * (key + sourceWidth) + key) sourceWidth plan
-  field-there at =
-      let rest = drop (at * (key + sourceWidth)) plan in
-      ap (λ (l : List ℕ). numberOf (take sourceWidth l)) (drop-take key sourceWidth (key + sourceWidth) rest refl) ∙ ap numberOf (take-take sourceWidth sourceWidth (drop key rest) (omega arith))
-      ∙ ap (λ (l : List ℕ). numberOf (take sourceWidth l)) (drop-drop key (at * (key + sourceWidth)) plan)
 
   pub run-and-next : (n : ℕ) → RowRun key plan i source n → fieldAt ((i + n) * (key + sourceWidth) + key) sourceWidth plan ≡ source + n → source + n < projectionEntries → RowRun key plan i source (n + 1)
   run-and-next n run e low k some h = next (eq-or-lt-of-le {n = k} {m = n} (omega arith))
     where
       next : (k ≡ n) ⊎ (k < n) → (fieldAt key sourceWidth (rowAt (key + sourceWidth) (i + k) plan) ≡ source + k) × (source + k < projectionEntries)
       next (inr less) = run k some less
-      next (inl same) = (field-there (i + k) ∙ ap (λ (m : ℕ). fieldAt ((i + m) * (key + sourceWidth) + key) sourceWidth plan) same ∙ e ∙ ap (λ (m : ℕ). source + m) (sym same), omega arith)
+      next (inl same) = (field-there key plan (i + k) ∙ ap (λ (m : ℕ). fieldAt ((i + m) * (key + sourceWidth) + key) sourceWidth plan) same ∙ e ∙ ap (λ (m : ℕ). source + m) (sym same), omega arith)
 
 -- ---- rows of the table before the batch, in one copy
 

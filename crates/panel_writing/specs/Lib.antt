@@ -1,3 +1,4 @@
 pub mod Writing
 pub mod WritingLaws
 pub mod StoredLaws
+pub mod CopyLaws

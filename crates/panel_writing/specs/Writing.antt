@@ -6,14 +6,14 @@ use mathlib.Core.List.{List, [], _∷_, _++_}
 use lib.Dec.{ltb, leb, eqb}
 use lib.ListN.{length, take, drop}
 use Rattle.spec_lists.specs.Lists.{if_then_else_}
-use Rattle.spec_patch.specs.Sizes.{projectionEntries}
+use Rattle.spec_patch.specs.Sizes.{projectionAvailabilities, projectionEntries}
 use Rattle.spec_patch.specs.Patch.{Value}
 use Rattle.spec_patch.specs.Edition.{Edition}
 use Rattle.spec_patch.specs.Reader.{Result, read, refused}
 use Rattle.spec_patch.specs.Read.{readValueBy}
 use Rattle.bytes_records.specs.Moves.{zeros, overwriteRows}
 use Rattle.bytes_records.specs.Table.{tableBytes}
-use Rattle.panel_rows.specs.Rows.{valueWidth, fieldAt, writtenRow}
+use Rattle.panel_rows.specs.Rows.{valueWidth, availabilityWidth, availabilityBytes, fieldAt, writtenRow}
 use Rattle.panel_plan.specs.PlanRows.{sourceWidth}
 
 -- row i of a table of rows so wide
@@ -72,3 +72,13 @@ writtenTable ed key capacity count used plan from set to =
 -- nothing stands behind so many rows of such a width
 abbrev pub ClearBehind : (used width : ℕ) → List ℕ → Type 0
 ClearBehind used width to = drop (used * width) to ≡ zeros (length to - used * width)
+
+-- ---- a table that is copied
+
+-- both are tables of the availabilities, and have a place for each row and for each that was used
+unfoldable pub canCopy : (count used : ℕ) (plan to : List ℕ) → Bool
+canCopy count used plan to = leb count projectionAvailabilities && (leb used projectionAvailabilities && (eqb (length plan) availabilityBytes && eqb (length to) availabilityBytes))
+
+-- the places that are used now, or were, and the rest as it was; another table is left as it is
+unfoldable pub copiedTable : (count used : ℕ) (plan to : List ℕ) → List ℕ
+copiedTable count used plan to = if canCopy count used plan to then take (max count used * availabilityWidth) plan ++ drop (max count used * availabilityWidth) to else to

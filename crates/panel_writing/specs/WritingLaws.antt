@@ -23,8 +23,8 @@ use Rattle.spec_patch.specs.ReadLaws.{value-codec, value-codec-by, value-any}
 use Rattle.spec_projection.specs.MapLaws.{all-image}
 use Rattle.bytes_records.specs.Moves.{zeros, overwriteRows}
 use Rattle.bytes_records.specs.MovesLaws.{drop-zeros}
-use Rattle.bytes_records.specs.Table.{Wide, tableBytes}
-use Rattle.bytes_records.specs.TableLaws.{row-at, length-flatten, zeros-split}
+use Rattle.bytes_records.specs.Table.{Wide, HoldsRows, tableBytes}
+use Rattle.bytes_records.specs.TableLaws.{row-at, length-flatten, zeros-split, used as used-rows, padded as padded-rows}
 use Rattle.panel_rows.specs.Rows.{valueWidth, padded, fieldAt, writtenRow}
 use Rattle.panel_rows.specs.RowsLaws.{length-padded, written-encoded}
 use Rattle.local_projection_state.specs.Stores.{Stored}
@@ -82,13 +82,17 @@ zeros-behind rows k to used room rest =
     ∙ ap (λ (l : List ℕ). flatten rows ++ l) (sym (zeros-split (k - n) (length to - n) (omega arith)))
 
 -- what is clear behind some rows is clear behind more
-pub clear-behind-more : (used count width : ℕ) (to : List ℕ) → max count used * width ≤ length to → ClearBehind used width to → ClearBehind (max count used) width to
-clear-behind-more used count width to room clear =
-    let more : used * width ≤ max count used * width = mul-le-mul-right {m = used} {n = max count used} width (le-max-right count used) in
-    let step = max count used * width - used * width in
-    let sum : used * width + step ≡ max count used * width = omega arith in
-    let left : length to - used * width - step ≡ length to - max count used * width = omega arith in
+pub clear-behind-more : (used most width : ℕ) (to : List ℕ) → used ≤ most → most * width ≤ length to → ClearBehind used width to → ClearBehind most width to
+clear-behind-more used most width to few room clear =
+    let more : used * width ≤ most * width = mul-le-mul-right {m = used} {n = most} width few in
+    let step = most * width - used * width in
+    let sum : used * width + step ≡ most * width = omega arith in
+    let left : length to - used * width - step ≡ length to - most * width = omega arith in
     ap (λ (k : ℕ). drop k to) (sym sum) ∙ sym (drop-drop step (used * width) to) ∙ ap (drop step) clear ∙ drop-zeros step (length to - used * width) (omega arith) ∙ ap zeros left
+
+-- rows have nothing behind them
+pub rows-clear : {w n : ℕ} {l : List ℕ} {rows : List (List ℕ)} → HoldsRows w n l rows → ClearBehind n w l
+rows-clear {w} {n} {l} {rows} h = ap (drop (n * w)) (padded-rows h) ∙ drop-at (flatten rows) _ (n * w) (used-rows h)
 
 -- ---- a source
 
@@ -101,7 +105,8 @@ module _ (ed : Edition) (key : ℕ) (front from set : List ℕ) (n : ℕ) (old :
   unfolding sourceRow
   source-new h = rw (le-ltb n projectionEntries h)
 
-overwrite-all : (s t : List ℕ) → length s ≡ length t → overwriteRows s t ≡ s
+-- a copy over as many bytes leaves none of them
+pub overwrite-all : (s t : List ℕ) → length s ≡ length t → overwriteRows s t ≡ s
 overwrite-all s t e = ap (λ (l : List ℕ). s ++ l) (drop-of-length-le t {i = length s} (omega arith)) ∙ append-nil s
 
 value-long : (v : Value) → 1 ≤ length (encodeValue v)
@@ -265,6 +270,6 @@ module _ {A : Type 0} (ids : A → List ℕ) (value : A → Value) (planRow row 
       let are = rows-resolved ids value planRow row key long plan-is row-is ed set l storable few s resolve same-ids same-value m t numbers (take places to) (omega arith) in
       let whole = table-stored row Fits w wide tells capacity (map resolve m) fits (omega (arith, length-map m resolve)) in
       let flat : length (flatten (map row (map resolve m))) ≡ count * w = length-flatten w (map row (map resolve m)) (whole .rows .wide) ∙ ap (λ (k : ℕ). k * w) (length-map (map resolve m) row ∙ counted) in
-      let bytes = ap (λ (r : List (List ℕ)). tableBytes places r ++ drop places to) are ∙ zeros-behind (map row (map resolve m)) places to (omega arith) inside (clear-behind-more used count w to inside clear) in
+      let bytes = ap (λ (r : List (List ℕ)). tableBytes places r ++ drop places to) are ∙ zeros-behind (map row (map resolve m)) places to (omega arith) inside (clear-behind-more used (max count used) w to (le-max-right count used) inside clear) in
       subst (λ (x : List ℕ). Stored row w capacity count x (map resolve m)) (sym bytes)
       (stored-as row w capacity (length to) count (map resolve m) size refl counted whole)

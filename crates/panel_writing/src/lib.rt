@@ -2,24 +2,24 @@
 // set. What is read is lent read-only, and a refusal leaves every byte of the new table.
 ghost use mathlib.Core.Path.{_≡_};
 ghost use mathlib.Core.Bool.{true};
+ghost use mathlib.Core.List.{List};
 ghost use Prim.Native.Nat.{ℕ, _+_, _*_, _≤_, _<_, min, max};
-ghost use lib.Dec.{eqb};
 ghost use lib.ListN.{length};
-ghost use Rattle.spec_lists.specs.Lists.{if_then_else_, All};
-ghost use Rattle.spec_patch.specs.Sizes.{projectionBindings, projectionEntries};
-ghost use Rattle.spec_projection.specs.Projection.{Projection};
+ghost use Rattle.spec_lists.specs.Lists.{All};
+ghost use Rattle.spec_patch.specs.Sizes.{projectionBindings, projectionAvailabilities, projectionEntries};
+ghost use Rattle.spec_projection.specs.Projection.{NodeAvailability, Projection};
 ghost use Rattle.spec_projection.specs.Valid.{Valid};
 ghost use Rattle.bytes_records.specs.Moves.{overwriteRows};
 ghost use Rattle.bytes_records.specs.Table.{tableBytes};
 ghost use Rattle.projection_patch.specs.Meaning.{editionOf};
-ghost use Rattle.panel_rows.specs.Rows.{fieldAt, valueWidth, bindingValueAt, bindingWidth, bindingRow, entryValueAt, entryWidth, entryRow};
+ghost use Rattle.panel_rows.specs.Rows.{fieldAt, valueWidth, availabilityWidth, availabilityRow, bindingValueAt, bindingWidth, bindingRow, entryValueAt, entryWidth, entryRow};
 ghost use Rattle.local_projection_state.specs.Stores.{Stored};
 ghost use Rattle.panel_plan.specs.PlanRows.{sourceWidth, PlannedBindings, PlannedEntries};
 ghost use Rattle.panel_plan.specs.Plan.{resolution};
 ghost use Rattle.panel_plan.specs.Resolved.{resolved};
 ghost use Rattle.panel_plan.specs.SetValues.{valueIn};
 ghost use Rattle.panel_plan.specs.Sources.{SourcedBinding, SourcedEntry};
-ghost use Rattle.panel_writing.specs.Writing.{rowAt, valueBytes, plannedRow, RowRun, newRow, rowsTo, canWrite, writtenTable, ClearBehind};
+ghost use Rattle.panel_writing.specs.Writing.{rowAt, valueBytes, plannedRow, RowRun, newRow, rowsTo, canWrite, writtenTable, ClearBehind, canCopy, copiedTable};
 use local_projection_state::LocalProjectionState;
 use panel_plan::SOURCE_WIDTH;
 use panel_rows::fields;
@@ -67,15 +67,15 @@ fn copy_rows(rows: &[u8], to: &mut [u8])
 fn write_planned(
     key: usize,
     row: &[u8],
+    source: usize,
     from: &[u8],
     set: &[u8],
     edition: ProjectionPatchEdition,
     to: &mut [u8],
 )
-    requires { ⌜ key ≤ entryValueAt ⌝ }
+    requires { ⌜ (key ≤ entryValueAt) × (source ≡ fieldAt key sourceWidth (now row)) ⌝ }
     ensures { λ _. ⌜ now (to .exit) ≡ plannedRow (editionOf edition) key (now (row .entry)) (now (from .entry)) (now (set .entry)) (now (to .entry)) ⌝ }
 {
-    let source = fields::number_at(row, key, SOURCE_WIDTH) as usize;
     if source < LocalProjectionState::ENTRIES {
         let start = source * (key + panel_rows::VALUE_WIDTH);
         let old = fields::key_part(fields::value_part(from, start), to.len());
@@ -96,16 +96,16 @@ fn lesser(a: usize, b: usize) -> usize
     b
 }
 
-// Whether a source stands at a position of the plan.
-fn has_source(plan: &[u8], at: usize, source: usize) -> bool
+// The source that stands at a position of the plan. Where its bytes are there, the compiler makes one load of them.
+fn source_at(plan: &[u8], at: usize) -> usize
     requires { ⌜ at ≤ projectionEntries * entryWidth ⌝ }
-    ensures { λ r. ⌜ (r ≡ true → fieldAt at sourceWidth (now (plan .entry)) ≡ source) ⌝ }
+    ensures { λ r. ⌜ r ≡ fieldAt at sourceWidth (now (plan .entry)) ⌝ }
 {
     let end = at + SOURCE_WIDTH;
     if plan.len() < end {
-        return false;
+        return fields::number_at(plan, at, SOURCE_WIDTH) as usize;
     }
-    bytes_records::keys::number_of(&plan[at..end]) == source as u64
+    bytes_records::keys::number_of(&plan[at..end]) as usize
 }
 
 // How many rows from the i-th on are written in one copy: old rows that follow each other, or one row.
@@ -120,7 +120,7 @@ fn run_length(key: usize, plan: &[u8], count: usize, i: usize, source: usize) ->
     let most = lesser(count - i, LocalProjectionState::ENTRIES - source);
     let mut n: usize = 1;
     while n < most {
-        if has_source(plan, (i + n) * width + key, source + n) {
+        if source_at(plan, (i + n) * width + key) == source + n {
             n += 1;
         } else {
             return n;
@@ -147,18 +147,19 @@ fn write_rows(
     let mut i = 0;
     while i < count {
         let row = row_at(plan, key + SOURCE_WIDTH, i);
-        let source = fields::number_at(row, key, SOURCE_WIDTH) as usize;
+        let source = source_at(plan, i * (key + SOURCE_WIDTH) + key);
         let n = run_length(key, plan, count, i, source);
         let start = i * width;
         let end = start + n * width;
-        write_planned(key, row, from, set, edition, &mut to[start..end]);
+        write_planned(key, row, source, from, set, edition, &mut to[start..end]);
         i += n;
     }
     let used = count * width;
     bytes_records::moves::clear(&mut to[used..]);
 }
 
-fn greater(a: usize, b: usize) -> usize
+// The greater of two counts: the rows that are used now, or were.
+pub fn greater(a: usize, b: usize) -> usize
     ensures { λ r. ⌜ r ≡ max a b ⌝ }
 {
     if a < b {
@@ -258,14 +259,27 @@ pub fn write_entries(
     )
 }
 
-// Writes the availabilities of a plan, whose rows are those of the table. Answers whether the table is as long.
-pub fn write_availabilities(plan: &[u8], to: &mut [u8]) -> bool
-    ensures told { λ r. ⌜ r ≡ eqb (length (now (plan .entry))) (length (now (to .entry))) ⌝ }
-    ensures made { λ r. ⌜ now (to .exit) ≡ (if r then now (plan .entry) else now (to .entry)) ⌝ }
+// Writes the availabilities of a plan, whose rows are those of the table, in the places that are used or were. Answers whether both are such
+// tables, and have a place for each.
+pub fn write_availabilities(plan: &[u8], count: usize, used: usize, to: &mut [u8]) -> bool
+    ensures told { λ r. ⌜ r ≡ canCopy count used (now (plan .entry)) (now (to .entry)) ⌝ }
+    ensures made { λ r. ⌜ now (to .exit) ≡ copiedTable count used (now (plan .entry)) (now (to .entry)) ⌝ }
+    ensures stores { λ r. ⌜ (r ≡ true → ClearBehind used availabilityWidth (now (to .entry)) → (l : List NodeAvailability) → Stored availabilityRow availabilityWidth projectionAvailabilities count (now (plan .entry)) l
+        → Stored availabilityRow availabilityWidth projectionAvailabilities count (now (to .exit)) l) ⌝ }
 {
-    if plan.len() != to.len() {
+    if LocalProjectionState::AVAILABILITIES < count {
         return false;
     }
-    bytes_records::moves::copy(plan, to);
+    if LocalProjectionState::AVAILABILITIES < used {
+        return false;
+    }
+    if plan.len() != LocalProjectionState::AVAILABILITY_BYTES {
+        return false;
+    }
+    if to.len() != LocalProjectionState::AVAILABILITY_BYTES {
+        return false;
+    }
+    let size = greater(count, used) * panel_rows::AVAILABILITY_WIDTH;
+    bytes_records::moves::copy(&plan[0..size], &mut to[0..size]);
     true
 }

@@ -1,8 +1,10 @@
--- `bytes_wire::starts_with` meets its contract. The invariant: what is left of the prefix and of the part answers as the whole does.
+-- `bytes_wire::starts_with` meets its contract. The invariant: where all bytes were the same so far, what is left of the prefix and of the part
+-- answers as the whole does, and where one was not the whole is false.
 -- The measure is what is left of the prefix.
 use Prim.Native.Nat.{ℕ, suc, _+_, _-_, _≤_, _<_}
-use mathlib.Core.Path.{_≡_, sym, ap, ap₂, _∙_}
-use mathlib.Core.Bool.{false, _&&_}
+use mathlib.Core.Path.{_≡_, refl, sym, ap, ap₂, _∙_}
+use mathlib.Core.Bool.{Bool, true, false, _&&_}
+use mathlib.Core.Logic.{⊎-elim}
 use mathlib.Core.List.{List, _∷_}
 use native.Mathlib.Omega.{arith}
 use borrow.Author.Needs.{needs}
@@ -16,10 +18,10 @@ use Rattle.bytes_wire.proofs.starts_with.Statement.{statement}
 use Rattle.bytes_wire.proofs.starts_with.Tie as tie
 
 abbrev Inv-loop : tie.InvT-loop
-Inv-loop part at prefix i₀ i = (i ≤ length prefix) × (startsWith (drop i prefix) (drop (at + i) part) ≡ startsWith prefix (drop at part))
+Inv-loop part at prefix same₀ i₀ same i = (i ≤ length prefix) × ((same && startsWith (drop i prefix) (drop (at + i) part)) ≡ startsWith prefix (drop at part))
 
 abbrev μ-loop : tie.MeasureT-loop
-μ-loop part at prefix i₀ i = length prefix - i
+μ-loop part at prefix same₀ i₀ same i = length prefix - i
 
 module _ (p l : List ℕ) (at i : ℕ) (h : i < length p) (k : at + i < length l) where
   -- one byte of each
@@ -35,6 +37,15 @@ module _ (p l : List ℕ) (at i : ℕ) (h : i < length p) (k : at + i < length l
 
   unlike : (getD l (at + i) 0 ≡ getD p i 0 → ⊥) → false ≡ startsWith (drop i p) (drop (at + i) l)
   unlike e = sym (rw (ne-eqb (getD p i 0) (getD l (at + i) 0) (λ q. e (sym q))) at step)
+
+-- where a byte differs no more than false is left
+and-false : (b : Bool) → false ≡ (b && false)
+and-false true = refl
+and-false false = refl
+
+and-true : (b : Bool) → b ≡ (b && true)
+and-true true = refl
+and-true false = refl
 
 remaining-requires : tie.Need-remaining-requires Inv-loop μ-loop
 remaining-requires c κs = search needs
@@ -59,13 +70,6 @@ shared-slice-read-if2 c = search needs
 shared-slice-read-if2-2 : tie.Need-shared-slice-read-if2-2 Inv-loop μ-loop
 shared-slice-read-if2-2 c = search needs
 
-returns-2 : tie.Need-returns-2 Inv-loop μ-loop
-returns-2 c =
-    let at-loop = c .before .before .before .before in
-    let args = at-loop .before .before .before .before .before .args in
-    unlike (args .prefix .now) (args .part .now) (args .at) (at-loop .loop .i) (omega arith) (omega arith) (c .if2 .taken)
-    ∙ at-loop .loop .inv .1
-
 add-i : tie.Need-add-i Inv-loop μ-loop
 add-i c = search needs
 
@@ -75,20 +79,27 @@ loop-less c = search needs
 loop-again : tie.Need-loop-again Inv-loop μ-loop
 loop-again c =
     let at-loop = c .before .before .before .before in
-    let args = at-loop .before .before .before .before .before .args in (
+    let args = at-loop .before .before .before .before .before .args in
+    let p = args .prefix .now in
+    let l = args .part .now in
+    let i = at-loop .loop .i in
+    let same = at-loop .loop .same in
+    let rest = startsWith (drop (i + 1) p) (drop (args .at + (i + 1)) l) in (
       omega arith,
-      alike (args .prefix .now) (args .part .now) (args .at) (at-loop .loop .i) (omega arith) (omega arith) (c .if2 .left)
-          ∙ at-loop .loop .inv .1,
+      ⊎-elim
+          (λ w. ap (λ (b : Bool). b && rest) (w .1) ∙ and-false same ∙ ap (λ (b : Bool). same && b) (unlike p l (args .at) i (omega arith) (omega arith) (w .0 .taken)) ∙ at-loop .loop .inv .1)
+          (λ w. ap (λ (b : Bool). b && rest) (w .1) ∙ ap (λ (b : Bool). same && b) (alike p l (args .at) i (omega arith) (omega arith) (w .0 .left)) ∙ at-loop .loop .inv .1) (c .if2 .came),
     )
 
-returns-3 : tie.Need-returns-3 Inv-loop μ-loop
-returns-3 c =
+returns-2 : tie.Need-returns-2 Inv-loop μ-loop
+returns-2 c =
     let at-loop = c .before in
     let args = at-loop .before .before .before .before .before .args in
     let p = args .prefix .now in
+    let here = drop (args .at + at-loop .loop .i) (args .part .now) in
     let ended : length p ≤ at-loop .loop .i = omega arith in
-    sym (starts-empty (drop (args .at + at-loop .loop .i) (args .part .now)))
-    ∙ ap (λ (q : List ℕ). startsWith q (drop (args .at + at-loop .loop .i) (args .part .now))) (sym (drop-of-length-le p ended))
+    and-true (at-loop .loop .same)
+    ∙ ap (λ (b : Bool). at-loop .loop .same && b) (sym (starts-empty here) ∙ ap (λ (q : List ℕ). startsWith q here) (sym (drop-of-length-le p ended)))
     ∙ at-loop .loop .inv .1
 
 pub starts-with-spec : {M : Type 1} → statement M
@@ -103,8 +114,7 @@ starts-with-spec =
     add-if2
     shared-slice-read-if2
     shared-slice-read-if2-2
-    returns-2
     add-i
     loop-less
     loop-again
-    returns-3)
+    returns-2)

@@ -22,7 +22,7 @@ no-entries : PlannedEntries 0 (zeros (projectionEntries * plannedEntryWidth)) []
 no-entries = none-stored plannedEntryRow plannedEntryWidth projectionEntries
 
 write-tables-requires : tie.Need-write-tables-requires
-write-tables-requires c κs = let start = c .before .before .before .before .before .before .before .before .before .before .before .before .before .before .before .before .before .before .before .before .before .before .before .before .before in (start .pre .1 .1 .0, (start .pre .1 .1 .1 .0, (search needs, start .pre .1 .1 .1 .1)))
+write-tables-requires c κs = let start = c .before .before .before .before .before .before .before .before .before .before .before .before .before .before .before .before .before .before .before .before .before .before .before .before .before in (start .pre .1 .1 .0, (start .pre .1 .1 .1 .0, (search needs, start .pre .1 .1 .1 .1 .0)))
 
 returns : tie.Need-returns
 returns c =
@@ -33,7 +33,7 @@ returns c =
     let written = c .before .before .before .before .before .before .before .before .before .write-tables in
     let n = c .before .before .before .before .before .before .before .before .before .before .before .before .before .before .before .before .before .before .n .given in (
       λ p ps st fit at ready.
-          run-planned _ _ (applySteps p (replaySteps ps)) (planned .ensures p ps st no-bindings no-entries at) (n .0 .0) (n .1)
+          run-planned _ _ (applySteps p (replaySteps ps)) (planned .ensures p ps st no-bindings refl no-entries at) (n .0 .0) (n .1)
           (λ q is pl. written .ensures .1 .1 (c .if1 .taken) ready p q (a .counts) (a .from-availability .now) st pl (applySteps-valid ed p (replaySteps ps) q (replaySteps-fit ed ps fit) (st .valid) is)),
       tt,
     )
@@ -44,7 +44,7 @@ returns-2 c =
     let written = c .before .before .before .before .before .before .before .before .before .write-tables in
     let n = c .before .before .before .before .before .before .before .before .before .before .before .before .before .before .before .before .before .before .n .given in (
       λ p ps st fit at ready.
-          let left = run-left _ (λ k q. ⊥) (applySteps p (replaySteps ps)) (planned .ensures p ps st no-bindings no-entries at) (n .0 .0) (n .1) in
+          let left = run-left _ (λ k q. ⊥) (applySteps p (replaySteps ps)) (planned .ensures p ps st no-bindings refl no-entries at) (n .0 .0) (n .1) in
           false≢true (sym (c .if1 .left) ∙ written .ensures .0 ∙ planned-counts (left .1 .stored)),
       written .ensures .1 .0 (c .if1 .left),
     )
@@ -53,13 +53,13 @@ returns-3 : tie.Need-returns-3
 returns-3 c =
     let planned = c .before .before .before .before .before .before .plan-set in
     let bound = c .before .error .given in
-    (λ p ps st fit at ready. run-refused _ _ (applySteps p (replaySteps ps)) (planned .ensures p ps st no-bindings no-entries at) (bound .0 .0) (bound .1), (refl, (refl, (refl, refl))))
+    (λ p ps st fit at ready. run-refused _ _ (applySteps p (replaySteps ps)) (planned .ensures p ps st no-bindings refl no-entries at) (bound .0 .0) (bound .1), (refl, (refl, (refl, refl))))
 
 returns-4 : tie.Need-returns-4
 returns-4 c =
     let planned = c .before .before .before .before .before .before .plan-set in
     let bound = c .before .fault .given in
-    (λ p ps st fit at ready. run-reads _ (λ k q. ⊥) (applySteps p (replaySteps ps)) (planned .ensures p ps st no-bindings no-entries at) (bound .0 .0) (bound .1), (refl, (refl, (refl, refl))))
+    (λ p ps st fit at ready. run-reads _ (λ k q. ⊥) (applySteps p (replaySteps ps)) (planned .ensures p ps st no-bindings refl no-entries at) (bound .0 .0) (bound .1), (refl, (refl, (refl, refl))))
 
 pub apply-from-spec : {M : Type 1} → statement M
 apply-from-spec =

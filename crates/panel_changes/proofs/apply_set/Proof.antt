@@ -20,7 +20,7 @@ apply-from-requires c κs =
     let a = c .before .before .before .before .before .before .before .before .before .before .before .before .before .before .before .before .before .before .before .args in
     let fit = fit-arguments (tablesFit (length (a .from-bindings .now)) (length (a .from-availability .now)) (length (a .from-entries .now))) (tablesFit (length (a .to-bindings .now)) (length (a .to-availability .now)) (length (a .to-entries .now))) (changeCountsFit (a .counts)) (changeCountsFit (a .used)) (c .before .before .before .before .before .before .before .before .before .arguments-fit .ensures) (c .before .before .before .before .before .before .before .before .if2 .taken) in
     let bound = c .before .before .before .before .before .cursor .given in
-    (opened-short (editionOf (a .edition)) (a .set .now) (bound .0 .0) (sym (c .before .before .before .before .before .before .before .open-set .ensures) ∙ bound .1), (fit-lengths (a .from-bindings .now) (a .from-availability .now) (a .from-entries .now) (fit .0) .availability, (fit-lengths (a .to-bindings .now) (a .to-availability .now) (a .to-entries .now) (fit .1 .0), (search needs, fit .1 .1 .1))))
+    (opened-short (editionOf (a .edition)) (a .set .now) (bound .0 .0) (sym (c .before .before .before .before .before .before .before .open-set .ensures) ∙ bound .1), (fit-lengths (a .from-bindings .now) (a .from-availability .now) (a .from-entries .now) (fit .0) .availability, (fit-lengths (a .to-bindings .now) (a .to-availability .now) (a .to-entries .now) (fit .1 .0), (search needs, (fit .1 .1 .1, fit .1 .1 .0)))))
 
 returns-2 : tie.Need-returns-2
 returns-2 c =

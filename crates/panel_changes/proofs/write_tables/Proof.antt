@@ -1,27 +1,19 @@
 -- `panel_changes::write_tables` meets its contract: what is written stores what the plan stands for, and more rows than places are refused first.
-use Prim.Native.Nat.{ℕ}
-use mathlib.Core.Path.{_≡_, refl, sym, _∙_, subst}
-use mathlib.Core.Bool.{Bool, true, false, false≢true}
-use mathlib.Core.List.{List}
-use borrow.Author.Tests.{eq-eqb}
-use lib.ListN.{length}
-use Rattle.spec_lists.specs.Lists.{if_then_else_}
-use Rattle.spec_patch.specs.Sizes.{projectionBindings, projectionAvailabilities, projectionEntries}
+use mathlib.Core.Path.{_≡_, refl, sym, _∙_}
+use mathlib.Core.Bool.{true, false≢true}
+use Rattle.spec_patch.specs.Sizes.{projectionBindings, projectionEntries}
 use Rattle.projection_patch.specs.Meaning.{editionOf}
-use Rattle.panel_rows.specs.Rows.{availabilityRow, availabilityWidth, bindingValueAt, entryValueAt}
-use Rattle.local_projection_state.specs.Stores.{Stored}
+use Rattle.panel_rows.specs.Rows.{bindingValueAt, entryValueAt}
 use Rattle.panel_plan.specs.Plan.{resolution}
 use Rattle.panel_plan.specs.SetValues.{valueIn}
 use Rattle.panel_writing.specs.WritingLaws.{can-write}
-use Rattle.panel_lengths.specs.WrittenLaws.{lengths-can-write as can-write-lengths}
+use Rattle.panel_writing.specs.CopyLaws.{can-copy}
+use Rattle.panel_lengths.specs.WrittenLaws.{can-write as can-write-lengths}
 use Rattle.panel_changes.specs.SetChanges.{changeCountsFit}
 use Rattle.panel_changes.specs.SetChangesLaws.{fit-few, written-stored}
 use borrow.Author.Needs.{needs}
 use Rattle.panel_changes.proofs.write_tables.Statement.{statement}
 use Rattle.panel_changes.proofs.write_tables.Tie as tie
-
-picked : (r : Bool) (x y : List ℕ) → r ≡ true → (if r then x else y) ≡ x
-picked r x y e = rw e
 
 returns : tie.Need-returns
 returns c =
@@ -41,9 +33,9 @@ returns c =
         λ _ ready p x n s st pl v.
             written-stored (a .counts) _ _ _ _ (resolution p (valueIn ed (a .set .now))) (pl .plan) x (pl .resolves) v
             (bindings .ensures .1 .1 (bindings .ensures .0 ∙ can-write bindingValueAt projectionBindings (a .counts .bindings) (a .used .bindings) (a .to-bindings .now) (few .0) (before .0) (start .pre .0 .bindings)) (ready .bindings) p (pl .plan) (n .bindings) (st .bindings) (st .valid) (pl .stored .bindings) (pl .stored .valid) (pl .sourced .bindings))
-            (subst (λ l. Stored availabilityRow availabilityWidth projectionAvailabilities (a .counts .availabilities) l (pl .plan .availabilities)) (sym (availability .ensures .1 ∙ picked (availability .result) _ _ (availability .ensures .0 ∙ eq-eqb (length (a .plan-availability .now)) (length (a .to-availability .now)) (start .pre .1 .1 .0 ∙ sym (start .pre .0 .availability))))) (pl .stored .availabilities))
+            (availability .ensures .1 .1 (availability .ensures .0 ∙ can-copy (a .counts .availabilities) (a .used .availabilities) (a .plan-availability .now) (a .to-availability .now) (few .2) (before .2) (start .pre .1 .1 .0) (start .pre .0 .availability)) (ready .availabilities) (pl .plan .availabilities) (pl .stored .availabilities))
             (entries .ensures .1 .1 (entries .ensures .0 ∙ can-write entryValueAt projectionEntries (a .counts .entries) (a .used .entries) (a .to-entries .now) (few .1) (before .1) (start .pre .0 .entries)) (ready .entries) p (pl .plan) (n .entries) (st .entries) (st .valid) (pl .stored .entries) (pl .stored .valid) (pl .sourced .entries))
-            (lengths .ensures .1 .1 (lengths .ensures .0 ∙ can-write-lengths (a .counts .entries) (a .to-lengths .now) (few .1) (start .pre .1 .0)) (pl .plan) (pl .stored .entries) (pl .stored .valid)),
+            (lengths .ensures .1 .1 (lengths .ensures .0 ∙ can-write-lengths (a .counts .entries) (a .used .entries) (a .to-lengths .now) (few .1) (before .1) (start .pre .1 .0)) (ready .counted) (pl .plan) (pl .stored .entries) (pl .stored .valid)),
       ),
     )
 

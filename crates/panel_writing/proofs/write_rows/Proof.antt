@@ -1,18 +1,19 @@
 -- `write_rows` meets its contract: the rows before the i-th are written; the measure is the rows left.
 use Prim.Native.Nat.{_+_, _-_, _*_, _≤_}
-use mathlib.Core.Path.{_≡_, refl, ap, _∙_, subst}
-use native.Mathlib.Nat.{add-mul}
+use mathlib.Core.Path.{_≡_, refl, sym, ap, _∙_, subst}
+use native.Mathlib.Nat.{add-mul, mul-le-mul}
 use native.Mathlib.Omega.{arith}
 use borrow.Author.Needs.{needs}
 use denote.Ref.{now}
 use lib.ListN.{length}
 use Rattle.projection_patch.specs.Meaning.{editionOf}
 use Rattle.bytes_records.proofs.Offsets.{start-le}
-use Rattle.panel_rows.specs.Rows.{valueWidth, fieldAt}
+use Rattle.spec_patch.specs.Sizes.{projectionEntries}
+use Rattle.panel_rows.specs.Rows.{valueWidth, entryValueAt, entryWidth, fieldAt}
 use Rattle.panel_plan.specs.PlanRows.{sourceWidth}
 use Rattle.panel_writing.specs.Writing.{rowAt, RowRun, newRow}
-use Rattle.panel_writing.proofs.Bytes.{planned, planned-keeps, planned-splits, planned-by}
-use Rattle.panel_writing.proofs.Turns.{RowsWritten, no-rows-written, same-size, run-written, rest-cleared}
+use Rattle.panel_writing.proofs.Bytes.{field-there, planned, planned-keeps, planned-splits, planned-by}
+use Rattle.panel_writing.proofs.Turns.{RowsWritten, none-written, same-size, run-written, rest-cleared}
 use Rattle.panel_writing.proofs.write_rows.Statement.{statement}
 use Rattle.panel_writing.proofs.write_rows.Tie as tie
 
@@ -31,13 +32,20 @@ room c =
     let i = c .before .before .before .before .loop .i in
     omega (arith, start-le w (c .run-length .ensures .1 .0), add-mul i (c .run-length .result) w, start .pre .2)
 
+-- the source that was read is the i-th row's
+sought : (c : tie.After-run-length Inv-loop μ-loop) → let a = c .before .before .before .before .before .before .before .before .before .args in
+    c .before .source-at .result ≡ fieldAt (a .key) sourceWidth (rowAt (a .key + sourceWidth) (c .before .before .before .before .loop .i) (now (a .plan)))
+sought c =
+    let a = c .before .before .before .before .before .before .before .before .before .args in
+    c .before .source-at .ensures ∙ sym (field-there (a .key) (now (a .plan)) (c .before .before .before .before .loop .i))
+
 -- the run that was found is that of the i-th row's source
 run : (c : tie.After-run-length Inv-loop μ-loop) → let a = c .before .before .before .before .before .before .before .before .before .args in
     let i = c .before .before .before .before .loop .i in
     RowRun (a .key) (now (a .plan)) i (fieldAt (a .key) sourceWidth (rowAt (a .key + sourceWidth) i (now (a .plan)))) (c .run-length .result)
 run c =
     let a = c .before .before .before .before .before .before .before .before .before .args in
-    subst (λ source. RowRun (a .key) (now (a .plan)) (c .before .before .before .before .loop .i) source (c .run-length .result)) (c .before .number-at .ensures ∙ ap (fieldAt (a .key) sourceWidth) (c .before .before .row-at .ensures)) (c .run-length .ensures .1 .1)
+    subst (λ source. RowRun (a .key) (now (a .plan)) (c .before .before .before .before .loop .i) source (c .run-length .result)) (sought c) (c .run-length .ensures .1 .1)
 
 fits : (c : tie.At-loop Inv-loop μ-loop) → let a = c .before .before .before .before .before .args in c .loop .i * (a .key + valueWidth) ≤ length (now (a .to))
 fits c =
@@ -48,7 +56,7 @@ add-width : tie.Need-add-width Inv-loop μ-loop
 add-width c = search needs
 
 loop-holds : tie.Need-loop-holds Inv-loop μ-loop
-loop-holds c = (search needs, (refl, no-rows-written _ _ _))
+loop-holds c = (search needs, (refl, none-written _ _ _))
 
 add-row-at : tie.Need-add-row-at Inv-loop μ-loop
 add-row-at c = search needs
@@ -56,8 +64,25 @@ add-row-at c = search needs
 row-at-requires : tie.Need-row-at-requires Inv-loop μ-loop
 row-at-requires c κs = search needs
 
-number-at-requires : tie.Need-number-at-requires Inv-loop μ-loop
-number-at-requires c κs = search needs
+-- where the source of the i-th row stands
+source-place : (c : tie.After-row-at Inv-loop μ-loop) → let a = c .before .before .before .before .before .before .before .args in c .before .before .loop .i * (a .key + sourceWidth) + a .key ≤ projectionEntries * entryWidth
+source-place c =
+    let start = c .before .before .before .before .before .before .before in
+    let a = start .args in
+    let rows : c .before .before .loop .i * (a .key + sourceWidth) ≤ projectionEntries * (entryValueAt + sourceWidth) = mul-le-mul {n₂ = projectionEntries} {m₂ = entryValueAt + sourceWidth} (omega (arith, c .before .loop-test .taken, start .pre .1)) (omega (arith, start .pre .0)) in
+    omega (arith, start .pre .0)
+
+add-source-at : tie.Need-add-source-at Inv-loop μ-loop
+add-source-at c = search needs
+
+mul-source-at : tie.Need-mul-source-at Inv-loop μ-loop
+mul-source-at c = omega (arith, source-place c)
+
+add-source-at-2 : tie.Need-add-source-at-2 Inv-loop μ-loop
+add-source-at-2 c = omega (arith, source-place c)
+
+source-at-requires : tie.Need-source-at-requires Inv-loop μ-loop
+source-at-requires c κs = source-place c
 
 run-length-requires : tie.Need-run-length-requires Inv-loop μ-loop
 run-length-requires c κs = search needs
@@ -81,7 +106,7 @@ part-write-planned-end : tie.Need-part-write-planned-end Inv-loop μ-loop
 part-write-planned-end c = omega (arith, room c)
 
 write-planned-requires : tie.Need-write-planned-requires Inv-loop μ-loop
-write-planned-requires c κs = search needs
+write-planned-requires c κs = (search needs, sought (c .before) ∙ ap (fieldAt (c .before .before .before .before .before .before .before .before .before .before .args .key) sourceWidth) (sym (c .before .before .before .row-at .ensures)))
 
 add-i : tie.Need-add-i Inv-loop μ-loop
 add-i c = search needs
@@ -143,7 +168,10 @@ write-rows-spec =
     loop-holds
     add-row-at
     row-at-requires
-    number-at-requires
+    add-source-at
+    mul-source-at
+    add-source-at-2
+    source-at-requires
     run-length-requires
     mul-start
     mul-end

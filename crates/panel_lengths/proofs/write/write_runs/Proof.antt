@@ -13,7 +13,7 @@ use Rattle.panel_lengths.proofs.write.write_runs.Statement.{statement}
 use Rattle.panel_lengths.proofs.write.write_runs.Tie as tie
 
 abbrev Inv-loop : tie.InvT-loop
-Inv-loop plan count to₀ rows₀ i₀ to rows i = RunsWritten plan count rows i to
+Inv-loop plan count to₀ rows₀ i₀ to rows i = (length to ≡ length to₀) × RunsWritten plan count rows i to
 
 abbrev μ-loop : tie.MeasureT-loop
 μ-loop plan count to₀ rows₀ i₀ to rows i = count - i
@@ -24,7 +24,7 @@ clear-requires c κs = search needs
 loop-holds : tie.Need-loop-holds Inv-loop μ-loop
 loop-holds c =
     let call = c .before .before in
-    none-written _ _ (length (now (call .before .before .before .before .args .to))) (search needs) (call .clear .ensures)
+    (refl, none-written _ _ (length (now (call .before .before .before .before .args .to))) (search needs) (call .clear .ensures))
 
 collection-at-requires : tie.Need-collection-at-requires Inv-loop μ-loop
 collection-at-requires c κs = search needs
@@ -50,7 +50,7 @@ insert-record-requires c κs = search needs
 add-rows : tie.Need-add-rows Inv-loop μ-loop
 add-rows c =
     let h = c .before .before .before .before .before .before .before .before .before in
-    omega (arith, h .loop .inv .few, h .loop .inv .within)
+    omega (arith, h .loop .inv .1 .few, h .loop .inv .1 .within)
 
 loop-less : tie.Need-loop-less Inv-loop μ-loop
 loop-less c =
@@ -65,18 +65,20 @@ loop-again c =
     let own = run .before in
     let h = own .before .before in
     let start = h .before .before .before .before .before .before .before in
-    let a = start .args in
-    one-written (now (a .plan)) (a .count) (h .loop .rows) (h .loop .i) (h .loop .inv) (search needs) (start .pre .0) (run .run-end .result)
-    (run .run-end .ensures ∙ ap (λ (b : ℕ). h .loop .i + 1 + leading b (collectionsFrom (h .loop .i + 1) (a .count - (h .loop .i + 1)) (now (a .plan)))) (own .collection-at .ensures))
-    (made .length-row .ensures ∙ ap (λ (b : ℕ). lengthRow (lengthRecord b (run .run-end .result - h .loop .i))) (own .collection-at .ensures)) (search needs) (call .insert-record .ensures)
+    let a = start .args in (
+      search needs,
+      one-written (now (a .plan)) (a .count) (h .loop .rows) (h .loop .i) (h .loop .inv .1) (search needs) (start .pre .0) (run .run-end .result)
+          (run .run-end .ensures ∙ ap (λ (b : ℕ). h .loop .i + 1 + leading b (collectionsFrom (h .loop .i + 1) (a .count - (h .loop .i + 1)) (now (a .plan)))) (own .collection-at .ensures))
+          (made .length-row .ensures ∙ ap (λ (b : ℕ). lengthRow (lengthRecord b (run .run-end .result - h .loop .i))) (own .collection-at .ensures)) (search needs) (call .insert-record .ensures),
+    )
 
 same-length : tie.Need-same-length Inv-loop μ-loop
-same-length c = c .before .loop .inv .size ∙ sym (c .before .before .before .before .before .before .before .before .pre .1)
+same-length c = search needs
 
 returns : tie.Need-returns Inv-loop μ-loop
 returns c =
     let h = c .before in
-    all-written (now (h .before .before .before .before .before .before .before .args .plan)) _ (h .loop .rows) (h .loop .i) (h .loop .inv) (omega arith)
+    (all-written (now (h .before .before .before .before .before .before .before .args .plan)) _ (h .loop .rows) (h .loop .i) (h .loop .inv .1) (omega arith), search needs)
 
 pub write-runs-spec : {M : Type 1} → statement M
 write-runs-spec =
