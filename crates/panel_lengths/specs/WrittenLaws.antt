@@ -24,9 +24,9 @@ use Rattle.panel_lengths.specs.RunsLaws.{runs-lengths}
 use Rattle.panel_lengths.specs.LengthRowsLaws.{planned-collections}
 
 module _ (count used : ℕ) (to : List ℕ) where
-  pub can-write : count ≤ projectionEntries → used ≤ projectionEntries → length to ≡ lengthBytes → canWriteLengths count used to ≡ true
+  pub lengths-can-write : count ≤ projectionEntries → used ≤ projectionEntries → length to ≡ lengthBytes → canWriteLengths count used to ≡ true
   unfolding canWriteLengths
-  can-write few before size = rw (le-leb count projectionEntries few, le-leb used projectionEntries before, eq-eqb (length to) lengthBytes size)
+  lengths-can-write few before size = rw (le-leb count projectionEntries few, le-leb used projectionEntries before, eq-eqb (length to) lengthBytes size)
 
   pub many-rows : projectionEntries < count → canWriteLengths count used to ≡ false
   unfolding canWriteLengths
@@ -36,9 +36,9 @@ module _ (count used : ℕ) (to : List ℕ) where
   unfolding canWriteLengths
   many-used few many = rw (le-leb count projectionEntries few, lt-leb used projectionEntries many)
 
-  pub other-table : count ≤ projectionEntries → used ≤ projectionEntries → (length to ≡ lengthBytes → ⊥) → canWriteLengths count used to ≡ false
+  pub other-lengths-table : count ≤ projectionEntries → used ≤ projectionEntries → (length to ≡ lengthBytes → ⊥) → canWriteLengths count used to ≡ false
   unfolding canWriteLengths
-  other-table few before other = rw (le-leb count projectionEntries few, le-leb used projectionEntries before, ne-eqb (length to) lengthBytes other)
+  other-lengths-table few before other = rw (le-leb count projectionEntries few, le-leb used projectionEntries before, ne-eqb (length to) lengthBytes other)
 
 module _ (count used : ℕ) (plan to : List ℕ) where
   abbrev places : ℕ

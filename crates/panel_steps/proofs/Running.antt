@@ -117,21 +117,21 @@ pub record Running (ed : Edition) (p : Projection) (all : List Patch) (set : Lis
   pub same : applySteps model (map (stepOf (c .«patch_id»)) (walk .os) ++ replaySteps (walk .ps)) ≡ applySteps p (replaySteps all)
 
 -- what an operation's answer makes of a run: it goes on, or the tables are as before, and the answer is the operation's refusal
-abbrev After : Edition → Projection → List Patch → List ℕ → (c d : SetCursor) → ProjectionCounts → (b a e b′ a′ e′ : List ℕ) → OperationChange → Type 0
-After ed p all set c d n b a e b′ a′ e′ (operation.Applied m) = Running ed p all set d m b′ a′ e′
-After ed p all set c d n b a e b′ a′ e′ (operation.Refused error) = RunTold ed p all set b a e (Refused error c n)
+abbrev AfterTurn : Edition → Projection → List Patch → List ℕ → (c d : SetCursor) → ProjectionCounts → (b a e b′ a′ e′ : List ℕ) → OperationChange → Type 0
+AfterTurn ed p all set c d n b a e b′ a′ e′ (operation.Applied m) = Running ed p all set d m b′ a′ e′
+AfterTurn ed p all set c d n b a e b′ a′ e′ (operation.Refused error) = RunTold ed p all set b a e (Refused error c n)
 
 pub record Turned (ed : Edition) (p : Projection) (all : List Patch) (set : List ℕ) (c d : SetCursor) (n : ProjectionCounts) (b a e b′ a′ e′ : List ℕ) (r : OperationChange) : Type 0 where
-  after : After ed p all set c d n b a e b′ a′ e′ r
+  after : AfterTurn ed p all set c d n b a e b′ a′ e′ r
 
 module _ {ed : Edition} {p : Projection} {all : List Patch} {set : List ℕ} {c d : SetCursor} {n : ProjectionCounts} {b a e b′ a′ e′ : List ℕ} {r : OperationChange} (t : Turned ed p all set c d n b a e b′ a′ e′ r) where
   pub turned-on : {m : ProjectionCounts} → r ≡ operation.Applied m → Running ed p all set d m b′ a′ e′
-  turned-on is = subst (After ed p all set c d n b a e b′ a′ e′) is (t .after)
+  turned-on is = subst (AfterTurn ed p all set c d n b a e b′ a′ e′) is (t .after)
 
   pub turned-stop : {error : LocalProjectionApplicationError} → r ≡ operation.Refused error → AfterRefusal ((b′ ≡ b) × (a′ ≡ a) × (e′ ≡ e)) r → RunTold ed p all set b′ a′ e′ (Refused error c n)
   turned-stop {error} is kept =
       let same = subst (AfterRefusal ((b′ ≡ b) × (a′ ≡ a) × (e′ ≡ e))) is kept in
-      let told = subst (After ed p all set c d n b a e b′ a′ e′) is (t .after) in
+      let told = subst (AfterTurn ed p all set c d n b a e b′ a′ e′) is (t .after) in
       subst (λ (l : List ℕ). RunTold ed p all set l a′ e′ (Refused error c n)) (sym (same .0))
       (subst (λ (l : List ℕ). RunTold ed p all set b l e′ (Refused error c n)) (sym (same .1)) (subst (λ (l : List ℕ). RunTold ed p all set b a l (Refused error c n)) (sym (same .2)) told))
 
@@ -257,7 +257,7 @@ module _ {ed : Edition} {p : Projection} {set : List ℕ} where
       unfolding keptProjection walk-behind walk-on walk-counted
       run-turn b′ a′ e′ r became = record { after = go r planning refl became }
         where
-          go : (r : OperationChange) (y : Outcome) → planning ≡ y → OperationBecame (λ m q. StoredPlan m b′ a′ e′ q) r y → After ed p all set c d n b a e b′ a′ e′ r
+          go : (r : OperationChange) (y : Outcome) → planning ≡ y → OperationBecame (λ m q. StoredPlan m b′ a′ e′ q) r y → AfterTurn ed p all set c d n b a e b′ a′ e′ r
           go (operation.Applied m) (done q) gives h = record {
             model = resolved R q;
             planned = record {

@@ -24,7 +24,7 @@ use Rattle.spec_projection.specs.MapLaws.{all-image}
 use Rattle.bytes_records.specs.Moves.{zeros, overwriteRows}
 use Rattle.bytes_records.specs.MovesLaws.{drop-zeros}
 use Rattle.bytes_records.specs.Table.{Wide, HoldsRows, tableBytes}
-use Rattle.bytes_records.specs.TableLaws.{row-at, length-flatten, zeros-split, used as used-rows, padded as padded-rows}
+use Rattle.bytes_records.specs.TableLaws.{row-at, length-flatten, zeros-split, rows-used as used-rows, rows-padded as padded-rows}
 use Rattle.panel_rows.specs.Rows.{valueWidth, padded, fieldAt, writtenRow}
 use Rattle.panel_rows.specs.RowsLaws.{length-padded, written-encoded}
 use Rattle.local_projection_state.specs.Stores.{Stored}

@@ -5,7 +5,7 @@ use mathlib.Core.List.{List}
 use Rattle.spec_session.specs.Session.{Session}
 use Rattle.panel_writing.specs.WritingLaws.{rows-clear}
 use Rattle.panel_changes.specs.SetChangesLaws.{stored-lengths, stored-counts, lengths-clear}
-use Rattle.session_lent.specs.HeadLaws.{long}
+use Rattle.session_lent.specs.HeadLaws.{lentHead-long}
 use Rattle.session_lent.specs.Batches.{SameHalf}
 use Rattle.session_lent.specs.BatchesLaws.{held-tables}
 use Rattle.session_lent.specs.Halves.{Anchors, Half, halfWith, HeldIn, RoomIn}
@@ -14,7 +14,7 @@ pub held-room : (k : Anchors) (h : Half) (m : Session) → HeldIn k h m → Room
 held-room k h m held =
     let tables = held-tables m held in
     record {
-      head-long = long (h .head) m (held .head-is);
+      head-long = lentHead-long (h .head) m (held .head-is);
       tables = record {
         lengths = stored-lengths tables;
         collections = held .collections-told .size;

@@ -8,7 +8,7 @@ use Rattle.panel_plan.specs.Plan.{resolution}
 use Rattle.panel_plan.specs.SetValues.{valueIn}
 use Rattle.panel_writing.specs.WritingLaws.{can-write}
 use Rattle.panel_writing.specs.CopyLaws.{can-copy}
-use Rattle.panel_lengths.specs.WrittenLaws.{can-write as can-write-lengths}
+use Rattle.panel_lengths.specs.WrittenLaws.{lengths-can-write as can-write-lengths}
 use Rattle.panel_changes.specs.SetChanges.{changeCountsFit}
 use Rattle.panel_changes.specs.SetChangesLaws.{fit-few, written-stored}
 use borrow.Author.Needs.{needs}

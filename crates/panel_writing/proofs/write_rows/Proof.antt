@@ -13,7 +13,7 @@ use Rattle.panel_rows.specs.Rows.{valueWidth, entryValueAt, entryWidth, fieldAt
 use Rattle.panel_plan.specs.PlanRows.{sourceWidth}
 use Rattle.panel_writing.specs.Writing.{rowAt, RowRun, newRow}
 use Rattle.panel_writing.proofs.Bytes.{field-there, planned, planned-keeps, planned-splits, planned-by}
-use Rattle.panel_writing.proofs.Turns.{RowsWritten, none-written, same-size, run-written, rest-cleared}
+use Rattle.panel_writing.proofs.Turns.{RowsWritten, no-rows-written, same-size, run-written, rest-cleared}
 use Rattle.panel_writing.proofs.write_rows.Statement.{statement}
 use Rattle.panel_writing.proofs.write_rows.Tie as tie
 
@@ -56,7 +56,7 @@ add-width : tie.Need-add-width Inv-loop μ-loop
 add-width c = search needs
 
 loop-holds : tie.Need-loop-holds Inv-loop μ-loop
-loop-holds c = (search needs, (refl, none-written _ _ _))
+loop-holds c = (search needs, (refl, no-rows-written _ _ _))
 
 add-row-at : tie.Need-add-row-at Inv-loop μ-loop
 add-row-at c = search needs

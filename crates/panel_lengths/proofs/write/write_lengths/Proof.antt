@@ -16,7 +16,7 @@ use Rattle.panel_rows.specs.Rows.{lengthWidth, lengthRow}
 use Rattle.spec_lengths.specs.Lengths.{collectionLengths}
 use Rattle.local_projection_state.specs.Stores.{StoredLengths}
 use Rattle.panel_lengths.specs.Runs.{runs, collectionsFrom}
-use Rattle.panel_lengths.specs.WrittenLaws.{can-write, many-rows, many-used, other-table, written, lengths-stored, left, plan-lengths}
+use Rattle.panel_lengths.specs.WrittenLaws.{lengths-can-write, many-rows, many-used, other-lengths-table, written, lengths-stored, left, plan-lengths}
 use Rattle.panel_lengths.proofs.write.write_lengths.Statement.{statement}
 use Rattle.panel_lengths.proofs.write.write_lengths.Tie as tie
 
@@ -35,7 +35,7 @@ returns-2 c =
 returns-3 : tie.Need-returns-3
 returns-3 c =
     let a = c .before .before .before .before .before .args in
-    let refused = other-table (a .count) (a .used) (now (a .to)) (c .before .before .if1 .left) (c .before .if2 .left) (c .if3 .taken) in
+    let refused = other-lengths-table (a .count) (a .used) (now (a .to)) (c .before .before .if1 .left) (c .before .if2 .left) (c .if3 .taken) in
     (sym refused, (sym (left (a .count) (a .used) (now (a .plan)) (now (a .to)) refused), λ e. absurd (false≢true e)))
 
 -- the places of so many rows, and of those that were used, stand in the table
@@ -58,7 +58,7 @@ returns-4 c =
     let a = g .before .before .before .before .before .before .args in
     let to = now (a .to) in
     let n = max (a .count) (a .used) * lengthWidth in
-    let may = can-write (a .count) (a .used) to (g .before .before .before .if1 .left) (g .before .before .if2 .left) (g .before .if3 .left) in
+    let may = lengths-can-write (a .count) (a .used) to (g .before .before .before .if1 .left) (g .before .before .if2 .left) (g .before .if3 .left) in
     let rows : List (List ℕ) = map lengthRow (runs (collectionsFrom 0 (a .count) (now (a .plan)))) in
     let size = g .greater .result * lengthWidth - 0 in
     let part-long : length (take n to) ≡ n = length-take-le n to (fits g .0) in
