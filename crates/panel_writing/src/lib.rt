@@ -108,6 +108,18 @@ fn source_at(plan: &[u8], at: usize) -> usize
     bytes_records::keys::number_of(&plan[at..end]) as usize
 }
 
+// Whether a source stands at a position of the plan.
+fn has_source(plan: &[u8], at: usize, source: usize) -> bool
+    requires { ⌜ at ≤ projectionEntries * entryWidth ⌝ }
+    ensures { λ r. ⌜ (r ≡ true → fieldAt at sourceWidth (now (plan .entry)) ≡ source) ⌝ }
+{
+    let end = at + SOURCE_WIDTH;
+    if plan.len() < end {
+        return false;
+    }
+    bytes_records::keys::number_of(&plan[at..end]) == source as u64
+}
+
 // How many rows from the i-th on are written in one copy: old rows that follow each other, or one row.
 fn run_length(key: usize, plan: &[u8], count: usize, i: usize, source: usize) -> usize
     requires { ⌜ (key ≤ entryValueAt) × ((count ≤ projectionEntries) × (i < count)) ⌝ }
@@ -120,7 +132,7 @@ fn run_length(key: usize, plan: &[u8], count: usize, i: usize, source: usize) ->
     let most = lesser(count - i, LocalProjectionState::ENTRIES - source);
     let mut n: usize = 1;
     while n < most {
-        if source_at(plan, (i + n) * width + key) == source + n {
+        if has_source(plan, (i + n) * width + key, source + n) {
             n += 1;
         } else {
             return n;

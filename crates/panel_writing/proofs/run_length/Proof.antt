@@ -1,6 +1,5 @@
 -- `run_length` meets its contract: the sources before the n-th follow each other; the measure is the rows that may still follow.
 use Prim.Native.Nat.{_+_, _-_, _*_, _≤_, min}
-use mathlib.Core.Path.{sym, _∙_}
 use native.Mathlib.Nat.{mul-le-mul, min-le-left, min-le-right, le-min}
 use native.Mathlib.Omega.{arith}
 use borrow.Author.Needs.{needs}
@@ -61,20 +60,20 @@ loop-holds c =
     let some : 1 ≤ min (a .count - a .i) (projectionEntries - a .source) = le-min (omega (arith, start .pre .1 .1)) (omega (arith, c .before .if1 .left)) in
     (omega arith, (omega (arith, c .lesser .ensures, some), run-of-one (a .key) (now (a .plan)) (a .i) (a .source)))
 
-add-source-at : tie.Need-add-source-at Inv-loop μ-loop
-add-source-at c = omega (arith, few (c .before .before) .0, c .loop-test .taken)
+add-has-source : tie.Need-add-has-source Inv-loop μ-loop
+add-has-source c = omega (arith, few (c .before .before) .0, c .loop-test .taken)
 
-mul-source-at : tie.Need-mul-source-at Inv-loop μ-loop
-mul-source-at c = omega (arith, place c)
+mul-has-source : tie.Need-mul-has-source Inv-loop μ-loop
+mul-has-source c = omega (arith, place c)
 
-add-source-at-2 : tie.Need-add-source-at-2 Inv-loop μ-loop
-add-source-at-2 c = omega (arith, place c)
+add-has-source-2 : tie.Need-add-has-source-2 Inv-loop μ-loop
+add-has-source-2 c = omega (arith, place c)
 
-add-if2 : tie.Need-add-if2 Inv-loop μ-loop
-add-if2 c = omega (arith, few (c .before .before .before) .1, c .before .loop-test .taken)
+add-has-source-3 : tie.Need-add-has-source-3 Inv-loop μ-loop
+add-has-source-3 c = omega (arith, few (c .before .before) .1, c .loop-test .taken)
 
-source-at-requires : tie.Need-source-at-requires Inv-loop μ-loop
-source-at-requires c κs = place c
+has-source-requires : tie.Need-has-source-requires Inv-loop μ-loop
+has-source-requires c κs = place c
 
 add-n : tie.Need-add-n Inv-loop μ-loop
 add-n c = omega (arith, few (c .before .before .before .before) .1, c .before .before .loop-test .taken)
@@ -90,7 +89,7 @@ loop-again c =
       omega arith,
       (
         omega (arith, turn .loop-test .taken),
-        run-and-next (a .key) (now (a .plan)) (a .i) (a .source) (h .loop .n) (h .loop .inv .1 .1) (sym (c .before .source-at .ensures) ∙ c .if2 .taken) (omega (arith, few (h .before) .1, turn .loop-test .taken)),
+        run-and-next (a .key) (now (a .plan)) (a .i) (a .source) (h .loop .n) (h .loop .inv .1 .1) (c .before .has-source .ensures (c .if2 .taken)) (omega (arith, few (h .before) .1, turn .loop-test .taken)),
       ),
     )
 
@@ -116,11 +115,11 @@ run-length-spec =
     sub-lesser-2
     lesser-requires
     loop-holds
-    add-source-at
-    mul-source-at
-    add-source-at-2
-    source-at-requires
-    add-if2
+    add-has-source
+    mul-has-source
+    add-has-source-2
+    add-has-source-3
+    has-source-requires
     add-n
     loop-less
     loop-again
