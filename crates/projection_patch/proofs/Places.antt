@@ -9,7 +9,7 @@ use Rattle.spec_patch.specs.Reader.{refused, malformed, Reader, mapped, pair}
 use Rattle.spec_patch.specs.Read.{readU64}
 use Rattle.bytes_wire.specs.Read.{firstNumber}
 use Rattle.projection_patch.specs.Meaning.{nodeTo, keyTo, beforeTo}
-use Rattle.projection_patch.specs.ReadAnswers.{numbersAnswer, textPlaceTo, optionalTo, optionalOf}
+use Rattle.projection_patch.specs.ReadAnswers.{numbersAnswer, collectionAndKeyTo, optionalTo, optionalOf}
 use Rattle.projection_patch.specs.declared.contract_primitives.StaticNodeId.{StaticNodeId}
 use Rattle.projection_patch.specs.declared.contract_primitives.CollectionKey.{CollectionKey}
 use Rattle.projection_patch.specs.declared.patch.OptionalKey.{OptionalKey}
@@ -48,21 +48,21 @@ pub record PlaceAt (l : List ℕ) (collection : StaticNodeId) (key : CollectionK
   pub node : nodeTo x ≡ collection
   pub in-it : keyTo y ≡ key
 
-module _ (l : List ℕ) (r : PlaceRead) (e : r ≡ textPlaceTo (numbersAnswer (firstNumber 8 (drop 1 l)) (firstNumber 8 (drop 9 l)))) where
+module _ (l : List ℕ) (r : PlaceRead) (e : r ≡ collectionAndKeyTo (numbersAnswer (firstNumber 8 (drop 1 l)) (firstNumber 8 (drop 9 l)))) where
   abbrev both : NumbersRead
   both = numbersAnswer (firstNumber 8 (drop 1 l)) (firstNumber 8 (drop 9 l))
 
   pub place-at : (c : StaticNodeId) (k : CollectionKey) → r ≡ place-read.Read c k → PlaceAt l c k
   place-at c k f = pick both refl (sym e ∙ f)
     where
-      pick : (s : NumbersRead) → both ≡ s → textPlaceTo s ≡ place-read.Read c k → PlaceAt l c k
+      pick : (s : NumbersRead) → both ≡ s → collectionAndKeyTo s ≡ place-read.Read c k → PlaceAt l c k
       pick (numbers-read.Read x y) is q = record { x = x; y = y; numbers = numbers-at l 1 both refl x y is; node = cc q; in-it = cc q }
       pick numbers-read.Short is q = absurd (let z : _≡_ {A = ℕ} 0 1 = cc q in omega arith)
 
   short : r ≡ place-read.Short → both ≡ numbers-read.Short
   short f = pick both (sym e ∙ f)
     where
-      pick : (s : NumbersRead) → textPlaceTo s ≡ place-read.Short → s ≡ numbers-read.Short
+      pick : (s : NumbersRead) → collectionAndKeyTo s ≡ place-read.Short → s ≡ numbers-read.Short
       pick (numbers-read.Read x y) q = absurd (let z : _≡_ {A = ℕ} 0 1 = cc q in omega arith)
       pick numbers-read.Short q = refl
 

@@ -90,9 +90,9 @@ lentPart set a b = if leb b (length set) then take (b - a) (drop a set) else []
 -- ---- operations
 
 -- two numbers as a collection and a key
-abbrev pub textPlaceTo : NumbersRead → PlaceRead
-textPlaceTo (numbers-read.Read c k) = place-read.Read (nodeTo c) (keyTo k)
-textPlaceTo numbers-read.Short = place-read.Short
+abbrev pub collectionAndKeyTo : NumbersRead → PlaceRead
+collectionAndKeyTo (numbers-read.Read c k) = place-read.Read (nodeTo c) (keyTo k)
+collectionAndKeyTo numbers-read.Short = place-read.Short
 
 abbrev pub operationAnswer : ℕ → Result model.Operation → OperationRead
 operationAnswer = answer operationTo operation-read.Read operation-read.Refused

@@ -6,7 +6,7 @@ ghost use Rattle.spec_patch.specs.Edition.{Edition};
 ghost use Rattle.spec_patch.specs.Read.{operationAfter, readOperationBy, readOperation};
 ghost use Rattle.projection_patch.specs.Meaning.{editionOf, beforeTo};
 ghost use Rattle.bytes_wire.specs.Read.{firstNumber};
-ghost use Rattle.projection_patch.specs.ReadAnswers.{optionalOf, numbersAnswer, textPlaceTo, operationAnswer};
+ghost use Rattle.projection_patch.specs.ReadAnswers.{optionalOf, numbersAnswer, collectionAndKeyTo, operationAnswer};
 use crate::binding_graph::BindingSlot;
 use crate::binding_graph::BindingTarget;
 use crate::contract_primitives::CollectionKey;
@@ -38,8 +38,8 @@ pub enum PlaceRead {
 }
 
 // The collection and the key behind the tag.
-pub fn place(part: &[u8]) -> PlaceRead
-    ensures { λ r. ⌜ r ≡ textPlaceTo (numbersAnswer (firstNumber 8 (drop 1 (now (part .entry)))) (firstNumber 8 (drop 9 (now (part .entry))))) ⌝ }
+pub fn collection_and_key(part: &[u8]) -> PlaceRead
+    ensures { λ r. ⌜ r ≡ collectionAndKeyTo (numbersAnswer (firstNumber 8 (drop 1 (now (part .entry)))) (firstNumber 8 (drop 9 (now (part .entry))))) ⌝ }
 {
     match read_values::numbers_at(part, 1) {
         NumbersRead::Read(collection, key) => PlaceRead::Read(
@@ -116,7 +116,7 @@ fn set_node_availability(part: &[u8]) -> OperationRead
 fn collection_insert(part: &[u8], strict: bool, edition: ProjectionPatchEdition) -> OperationRead
     ensures { λ r. ⌜ r ≡ operationAnswer (length (now (part .entry))) (operationAfter strict (editionOf edition) 3 (drop 1 (now (part .entry)))) ⌝ }
 {
-    let PlaceRead::Read(collection, key) = place(part) else {
+    let PlaceRead::Read(collection, key) = collection_and_key(part) else {
         return OperationRead::Refused(ProjectionPatchReadFault::Malformed);
     };
     match read_values::optional_at(part, 17) {
@@ -144,7 +144,7 @@ fn collection_insert(part: &[u8], strict: bool, edition: ProjectionPatchEdition)
 fn collection_update(part: &[u8], strict: bool, edition: ProjectionPatchEdition) -> OperationRead
     ensures { λ r. ⌜ r ≡ operationAnswer (length (now (part .entry))) (operationAfter strict (editionOf edition) 4 (drop 1 (now (part .entry)))) ⌝ }
 {
-    let PlaceRead::Read(collection, key) = place(part) else {
+    let PlaceRead::Read(collection, key) = collection_and_key(part) else {
         return OperationRead::Refused(ProjectionPatchReadFault::Malformed);
     };
     match read_values::value_at(part, 17, strict, edition) {
@@ -163,7 +163,7 @@ fn collection_update(part: &[u8], strict: bool, edition: ProjectionPatchEdition)
 fn collection_remove(part: &[u8]) -> OperationRead
     ensures { λ r. ⌜ ((strict : Bool) (ed : Edition) → r ≡ operationAnswer (length (now (part .entry))) (operationAfter strict ed 5 (drop 1 (now (part .entry))))) ⌝ }
 {
-    let PlaceRead::Read(collection, key) = place(part) else {
+    let PlaceRead::Read(collection, key) = collection_and_key(part) else {
         return OperationRead::Refused(ProjectionPatchReadFault::Malformed);
     };
     OperationRead::Read(
@@ -175,7 +175,7 @@ fn collection_remove(part: &[u8]) -> OperationRead
 fn collection_move(part: &[u8]) -> OperationRead
     ensures { λ r. ⌜ ((strict : Bool) (ed : Edition) → r ≡ operationAnswer (length (now (part .entry))) (operationAfter strict ed 6 (drop 1 (now (part .entry))))) ⌝ }
 {
-    let PlaceRead::Read(collection, key) = place(part) else {
+    let PlaceRead::Read(collection, key) = collection_and_key(part) else {
         return OperationRead::Refused(ProjectionPatchReadFault::Malformed);
     };
     match read_values::optional_at(part, 17) {

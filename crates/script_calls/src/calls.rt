@@ -16,7 +16,7 @@ ghost use Rattle.spec_session.specs.Lifecycle.{lifecycleStep};
 ghost use Rattle.spec_session.specs.Batch.{batch};
 ghost use Rattle.spec_replay.specs.Replay.{Setup, State, keptAnchors, asked, created, applied, batched};
 ghost use Rattle.session_lifecycle.specs.Meaning.{stimulusOf};
-ghost use Rattle.session_gates.specs.Gates.{envelopeMeans};
+ghost use Rattle.session_gates.specs.Gates.{batchEnvelopeOf};
 ghost use Rattle.session_creation.specs.Creation.{Creates};
 ghost use Rattle.script_calls.specs.SetsUp.{SetsUp};
 ghost use Rattle.script_calls.specs.ReplayHolds.{isCreated, ReplayHolds, ReplayStepped};
@@ -52,7 +52,7 @@ pub fn apply_batch(
     out: &mut [u8],
 ) -> ReplayStep
     ensures { λ r. ⌜ ((m : State) → ReplayHolds state m
-        → ReplayStepped state (now (out .entry)) (now (out .exit)) r (asked m (λ (x : Session). batched m (batch (m .edition) x (envelopeMeans envelope) references (now (set .entry)))))) ⌝ }
+        → ReplayStepped state (now (out .entry)) (now (out .exit)) r (asked m (λ (x : Session). batched m (batch (m .edition) x (batchEnvelopeOf envelope) references (now (set .entry)))))) ⌝ }
 {
     if state.exists {
         let session = state.session;

@@ -13,7 +13,7 @@ ghost use Rattle.spec_replay.specs.Replay.{State, asked, onward};
 ghost use Rattle.bytes_printer.specs.declared.Printed.the-variants.{Next};
 ghost use Rattle.bytes_printer.specs.Prints.{Prints};
 ghost use Rattle.projection_patch.specs.Meaning.{editionOf};
-ghost use Rattle.session_gates.specs.Gates.{envelopeMeans};
+ghost use Rattle.session_gates.specs.Gates.{batchEnvelopeOf};
 ghost use Rattle.shell_player.specs.Holds.{Holds};
 ghost use Rattle.script_calls.specs.ReplayHolds.{ReplayHolds, ReplayStepped};
 
@@ -26,7 +26,7 @@ fn print_explained(
     out: &mut [u8],
 ) -> Printed
     ensures { λ r. ⌜ ((m : Session) → Holds session m
-        → Prints (now (out .entry)) (Next 0) (reasonLine (explain (editionOf edition) m (envelopeMeans envelope) references (now (set .entry)))) (now (out .exit)) r) ⌝ }
+        → Prints (now (out .entry)) (Next 0) (reasonLine (explain (editionOf edition) m (batchEnvelopeOf envelope) references (now (set .entry)))) (now (out .exit)) r) ⌝ }
 {
     let explanation = session_explain::batch::explain_batch(
         session,
@@ -48,7 +48,7 @@ pub fn explain_batch(
     out: &mut [u8],
 ) -> ReplayStep
     ensures { λ r. ⌜ ((m : State) → ReplayHolds state m
-        → ReplayStepped state (now (out .entry)) (now (out .exit)) r (asked m (λ (x : Session). onward m (reasonLine (explain (m .edition) x (envelopeMeans envelope) references (now (set .entry))))))) ⌝ }
+        → ReplayStepped state (now (out .entry)) (now (out .exit)) r (asked m (λ (x : Session). onward m (reasonLine (explain (m .edition) x (batchEnvelopeOf envelope) references (now (set .entry))))))) ⌝ }
 {
     if state.exists {
         let session = state.session;

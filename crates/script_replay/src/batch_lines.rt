@@ -9,13 +9,13 @@ use session_lifecycle::state::ShellSessionId;
 ghost use mathlib.Core.Path.{_≡_};
 ghost use Prim.Native.Nat.{ℕ};
 ghost use Rattle.spec_replay.specs.Replay.{State, replayLine};
-ghost use Rattle.session_gates.specs.Gates.{envelopeMeans};
+ghost use Rattle.session_gates.specs.Gates.{batchEnvelopeOf};
 ghost use Rattle.script_parser.specs.Meaning.{scriptEnvelopeOf, withSetOf};
 ghost use Rattle.script_parser.specs.declared.SetLine.the-variants as SetLine;
 ghost use Rattle.script_calls.specs.ReplayHolds.{ReplayHolds, ReplayStepped};
 
 fn envelope_of(batch: BatchLine) -> OrderedProjectionPatchBatchEnvelope
-    ensures { λ r. ⌜ envelopeMeans r ≡ scriptEnvelopeOf batch ⌝ }
+    ensures { λ r. ⌜ batchEnvelopeOf r ≡ scriptEnvelopeOf batch ⌝ }
 {
     OrderedProjectionPatchBatchEnvelope {
         session_id: ShellSessionId(batch.session_id),

@@ -3,7 +3,7 @@ use mathlib.Core.Path.{_≡_}
 use mathlib.Core.Bool.{Bool, true, false}
 use Rattle.spec_session.specs.Session.{Session}
 use Rattle.spec_session.specs.Lifecycle.{lifecycleStep}
-use Rattle.session_lifecycle.specs.Meaning.{stimulusOf, answerOf, bare, limitsOf, stateTold}
+use Rattle.session_lifecycle.specs.Meaning.{stimulusOf, answerOf, bare, limitsOf, shellStateOf}
 use Rattle.session_lifecycle.specs.declared.lifecycle.ShellTransitionDisposition.{ShellTransitionDisposition}
 use Rattle.session_lifecycle.specs.declared.lifecycle.ShellTransitionDisposition.the-variants.{Applied, NoChange, Rejected}
 use Rattle.session_lifecycle.specs.declared.lifecycle.ShellTransitionInput.{ShellTransitionInput}
@@ -21,7 +21,7 @@ isApplied Rejected = false
 
 -- for every struct whatever: the answer is the definition's on its limits and its state
 abbrev pub Answers : ShellSession → ShellTransitionInput → ShellTransitionResult → Type 0
-Answers s i r = answerOf r ≡ lifecycleStep (bare (limitsOf (s .context .limits)) (stateTold (s .state))) (stimulusOf (i .stimulus)) (i .«stimulus_bytes») .answer
+Answers s i r = answerOf r ≡ lifecycleStep (bare (limitsOf (s .context .limits)) (shellStateOf (s .state))) (stimulusOf (i .stimulus)) (i .«stimulus_bytes») .answer
 
 -- for every session that the struct stores: the answer is the definition's, and the next session is stored afterwards
 abbrev pub StepsTo : ShellSession → ShellTransitionInput → ShellTransitionResult → ShellSession → Type 0

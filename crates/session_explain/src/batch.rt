@@ -16,7 +16,7 @@ ghost use Rattle.spec_explain.specs.Explain.{explain};
 ghost use Rattle.projection_patch.specs.Meaning.{editionOf};
 ghost use Rattle.active_projection_target_catalog.specs.Catalog.{catalogueOf};
 ghost use Rattle.session_lifecycle.specs.Meaning.{lifecycleOf, cursorOf, limitsOf};
-ghost use Rattle.session_gates.specs.Gates.{envelopeMeans};
+ghost use Rattle.session_gates.specs.Gates.{batchEnvelopeOf};
 ghost use Rattle.shell_player.specs.Holds.{Holds};
 ghost use Rattle.session_explain.specs.Reasons.{stepTo, explanationTo};
 ghost use Rattle.session_explain.specs.Steps.{checksBy};
@@ -30,7 +30,7 @@ fn explain_session(
     set: &[u8],
     edition: ProjectionPatchEdition,
 ) -> StepReason
-    ensures { λ r. ⌜ r ≡ stepTo (checksBy (editionOf edition) (context .«session_id» .0) (limitsOf (context .limits)) (lifecycleOf (state .lifecycle)) (cursorOf (state .«replay_cursor»)) (catalogueOf (context .catalog)) (envelopeMeans envelope) declared (now (set .entry))) ⌝ }
+    ensures { λ r. ⌜ r ≡ stepTo (checksBy (editionOf edition) (context .«session_id» .0) (limitsOf (context .limits)) (lifecycleOf (state .lifecycle)) (cursorOf (state .«replay_cursor»)) (catalogueOf (context .catalog)) (batchEnvelopeOf envelope) declared (now (set .entry))) ⌝ }
 {
     let session_id = context.session_id;
     let limits = context.limits;
@@ -64,7 +64,7 @@ pub fn explain_batch(
     edition: ProjectionPatchEdition,
 ) -> BatchExplanation
     ensures { λ r. ⌜ ((m : Session) → Holds session m
-        → r ≡ explanationTo (explain (editionOf edition) m (envelopeMeans envelope) «declared_target_reference_count» (now (set .entry)))) ⌝ }
+        → r ≡ explanationTo (explain (editionOf edition) m (batchEnvelopeOf envelope) «declared_target_reference_count» (now (set .entry)))) ⌝ }
 {
     let context = session.context;
     let limits = context.limits;

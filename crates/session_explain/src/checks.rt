@@ -22,7 +22,7 @@ ghost use Rattle.spec_explain.specs.Walk.{walkPatches, tested};
 ghost use Rattle.spec_explain.specs.Explain.{targetKnown, targetsKnown};
 ghost use Rattle.projection_patch.specs.Meaning.{editionOf};
 ghost use Rattle.session_lifecycle.specs.Meaning.{lifecycleOf, cursorOf, limitsOf};
-ghost use Rattle.session_gates.specs.Gates.{envelopeMeans};
+ghost use Rattle.session_gates.specs.Gates.{batchEnvelopeOf};
 ghost use Rattle.session_gates.specs.Lent.{Lent};
 ghost use Rattle.session_explain.specs.Reasons.{stepTo};
 ghost use Rattle.session_explain.specs.Steps.{cleanBy, setBy, checksBy};
@@ -63,7 +63,7 @@ fn explain_clean(
     absent: usize,
 ) -> StepReason
     ensures { λ r. ⌜ ((c : Catalogue) (ps : List Patch) → Lent c (now (nodes .entry)) (now (bindings .entry)) (now (collections .entry)) → readSet (editionOf edition) (now (set .entry)) ≡ patches ps
-        → r ≡ stepTo (cleanBy c (limitsOf limits) (cursorOf cursor) (envelopeMeans envelope) declared «patch_count» «operation_count» absent ps)) ⌝ }
+        → r ≡ stepTo (cleanBy c (limitsOf limits) (cursorOf cursor) (batchEnvelopeOf envelope) declared «patch_count» «operation_count» absent ps)) ⌝ }
 {
     let counts = gates::explain_counts(
         limits,
@@ -90,7 +90,7 @@ fn explain_set(
     edition: ProjectionPatchEdition,
 ) -> StepReason
     ensures { λ r. ⌜ ((c : Catalogue) → Lent c (now (nodes .entry)) (now (bindings .entry)) (now (collections .entry))
-        → r ≡ stepTo (setBy (editionOf edition) c (limitsOf limits) (cursorOf cursor) (envelopeMeans envelope) declared (now (set .entry)))) ⌝ }
+        → r ≡ stepTo (setBy (editionOf edition) c (limitsOf limits) (cursorOf cursor) (batchEnvelopeOf envelope) declared (now (set .entry)))) ⌝ }
 {
     match inspection::inspect_set(set, edition, nodes, bindings, collections) {
         SetInspection::Refused(_) => reading::explain_check(set, edition),
@@ -130,7 +130,7 @@ pub fn explain_checks(
     edition: ProjectionPatchEdition,
 ) -> StepReason
     ensures { λ r. ⌜ ((c : Catalogue) → Lent c (now (nodes .entry)) (now (bindings .entry)) (now (collections .entry))
-        → r ≡ stepTo (checksBy (editionOf edition) id (limitsOf limits) (lifecycleOf (state .lifecycle)) (cursorOf (state .«replay_cursor»)) c (envelopeMeans envelope) declared (now (set .entry)))) ⌝ }
+        → r ≡ stepTo (checksBy (editionOf edition) id (limitsOf limits) (lifecycleOf (state .lifecycle)) (cursorOf (state .«replay_cursor»)) c (batchEnvelopeOf envelope) declared (now (set .entry)))) ⌝ }
 {
     let lifecycle = state.lifecycle;
     let cursor = state.replay_cursor;

@@ -14,7 +14,7 @@ ghost use mathlib.Core.Path.{_≡_};
 ghost use Rattle.spec_explain.specs.Explain.{nextNumber};
 ghost use Rattle.projection_patch.specs.ReadAnswers.{optionalTo};
 ghost use Rattle.session_lifecycle.specs.Meaning.{lifecycleOf, cursorOf, limitsOf};
-ghost use Rattle.session_gates.specs.Gates.{envelopeMeans};
+ghost use Rattle.session_gates.specs.Gates.{batchEnvelopeOf};
 ghost use Rattle.session_explain.specs.Reasons.{overTo, stepTo};
 ghost use Rattle.session_explain.specs.Steps.{declaredBy, explainPreflightBy, referencesBy, explainCountsBy, explainReplayBy};
 
@@ -24,7 +24,7 @@ fn over_declared(
     limits: ShellLifecycleLimits,
     envelope: OrderedProjectionPatchBatchEnvelope,
 ) -> StepReason
-    ensures { λ r. ⌜ r ≡ overTo which (limitsOf limits) (envelopeMeans envelope) ⌝ }
+    ensures { λ r. ⌜ r ≡ overTo which (limitsOf limits) (batchEnvelopeOf envelope) ⌝ }
 {
     StepReason::Because(BatchReason::DeclaredLimits(
         which,
@@ -40,7 +40,7 @@ fn explain_declared(
     limits: ShellLifecycleLimits,
     envelope: OrderedProjectionPatchBatchEnvelope,
 ) -> StepReason
-    ensures { λ r. ⌜ r ≡ stepTo (declaredBy (limitsOf limits) (envelopeMeans envelope)) ⌝ }
+    ensures { λ r. ⌜ r ≡ stepTo (declaredBy (limitsOf limits) (batchEnvelopeOf envelope)) ⌝ }
 {
     if limits.max_patches_per_transition < envelope.patch_count {
         if limits.max_transition_stimulus_bytes < envelope.stimulus_bytes {
@@ -61,7 +61,7 @@ pub fn explain_preflight(
     lifecycle: ShellLifecycle,
     envelope: OrderedProjectionPatchBatchEnvelope,
 ) -> StepReason
-    ensures { λ r. ⌜ r ≡ stepTo (explainPreflightBy id (limitsOf limits) (lifecycleOf lifecycle) (envelopeMeans envelope)) ⌝ }
+    ensures { λ r. ⌜ r ≡ stepTo (explainPreflightBy id (limitsOf limits) (lifecycleOf lifecycle) (batchEnvelopeOf envelope)) ⌝ }
 {
     let session_id = envelope.session_id;
     if session_id.0 != id {
@@ -98,7 +98,7 @@ pub fn explain_counts(
     patches: u64,
     references: u64,
 ) -> StepReason
-    ensures { λ r. ⌜ r ≡ stepTo (explainCountsBy (limitsOf limits) (envelopeMeans envelope) declared patches references) ⌝ }
+    ensures { λ r. ⌜ r ≡ stepTo (explainCountsBy (limitsOf limits) (batchEnvelopeOf envelope) declared patches references) ⌝ }
 {
     if envelope.patch_count == patches {
         if declared == references {
@@ -133,7 +133,7 @@ pub fn explain_cursor(
     cursor: ProjectionReplayCursor,
     envelope: OrderedProjectionPatchBatchEnvelope,
 ) -> StepReason
-    ensures { λ r. ⌜ r ≡ stepTo (explainReplayBy (cursorOf cursor) (envelopeMeans envelope)) ⌝ }
+    ensures { λ r. ⌜ r ≡ stepTo (explainReplayBy (cursorOf cursor) (batchEnvelopeOf envelope)) ⌝ }
 {
     match gates::evaluate_replay_compatibility(cursor, envelope) {
         BatchGate::Passed => StepReason::Fine,

@@ -19,8 +19,8 @@ use Rattle.session_gates.specs.declared.gates.OrderedProjectionPatchBatc
 use Rattle.session_gates.specs.declared.gates.BatchGate.{BatchGate}
 use Rattle.session_gates.specs.declared.gates.BatchGate.the-variants.{Passed, Refused}
 
-abbrev pub envelopeMeans : OrderedProjectionPatchBatchEnvelope → BatchEnvelope
-envelopeMeans e = record { session = e .«session_id» .0; sequence = e .«sequence_no»; patches = e .«patch_count»; stimulusBytes = e .«stimulus_bytes» }
+abbrev pub batchEnvelopeOf : OrderedProjectionPatchBatchEnvelope → BatchEnvelope
+batchEnvelopeOf e = record { session = e .«session_id» .0; sequence = e .«sequence_no»; patches = e .«patch_count»; stimulusBytes = e .«stimulus_bytes» }
 
 unfoldable pub gateOf : BatchGate → Check (Unit {0})
 gateOf Passed = pass tt

@@ -19,7 +19,7 @@ ghost use Rattle.spec_session.specs.Batch.{batchChecks};
 ghost use Rattle.projection_patch.specs.Meaning.{editionOf};
 ghost use Rattle.projection_patch.specs.ReadAnswers.{faultOf};
 ghost use Rattle.session_lifecycle.specs.Meaning.{refusalOf, lifecycleOf, cursorOf, limitsOf};
-ghost use Rattle.session_gates.specs.Gates.{gateOf, envelopeMeans, preflightBy, targetsBy, inspectionBy, erased, checkCounted, Decides};
+ghost use Rattle.session_gates.specs.Gates.{gateOf, batchEnvelopeOf, preflightBy, targetsBy, inspectionBy, erased, checkCounted, Decides};
 ghost use Rattle.session_gates.specs.Seen.{Seen};
 
 // The refusal of a set that does not read.
@@ -38,7 +38,7 @@ fn check_targets(
     envelope: OrderedProjectionPatchBatchEnvelope,
     absent: u64,
 ) -> BatchGate
-    ensures { λ r. ⌜ gateOf r ≡ targetsBy absent (cursorOf cursor) (envelopeMeans envelope) ⌝ }
+    ensures { λ r. ⌜ gateOf r ≡ targetsBy absent (cursorOf cursor) (batchEnvelopeOf envelope) ⌝ }
 {
     if 0 < absent {
         return BatchGate::Refused(ShellRefusal::InvalidTarget, absent);
@@ -54,7 +54,7 @@ fn check_inspection(
     declared: u64,
     inspected: SetInspection,
 ) -> BatchGate
-    ensures { λ r. ⌜ gateOf r ≡ inspectionBy (limitsOf limits) (cursorOf cursor) (envelopeMeans envelope) declared inspected ⌝ }
+    ensures { λ r. ⌜ gateOf r ≡ inspectionBy (limitsOf limits) (cursorOf cursor) (batchEnvelopeOf envelope) declared inspected ⌝ }
 {
     match inspected {
         SetInspection::Refused(fault) => BatchGate::Refused(refusal_of(fault), 1),
@@ -90,9 +90,9 @@ pub fn check_batch(
     edition: ProjectionPatchEdition,
 ) -> BatchGate
     ensures checked { λ r. ⌜ ((s : Session) → Seen s id limits state (now (nodes .entry)) (now (bindings .entry)) (now (collections .entry))
-        → gateOf r ≡ erased (batchChecks (editionOf edition) s (envelopeMeans envelope) declared (now (set .entry)))) ⌝ }
+        → gateOf r ≡ erased (batchChecks (editionOf edition) s (batchEnvelopeOf envelope) declared (now (set .entry)))) ⌝ }
     ensures whatever { λ r. ⌜ checkCounted (gateOf r) ≡ true ⌝ }
-    ensures preflight { λ r. ⌜ Decides (preflightBy id (limitsOf limits) (lifecycleOf (state .lifecycle)) (envelopeMeans envelope)) (gateOf r) ⌝ }
+    ensures preflight { λ r. ⌜ Decides (preflightBy id (limitsOf limits) (lifecycleOf (state .lifecycle)) (batchEnvelopeOf envelope)) (gateOf r) ⌝ }
 {
     let lifecycle = state.lifecycle;
     let cursor = state.replay_cursor;

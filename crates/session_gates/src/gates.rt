@@ -8,7 +8,7 @@ use session_lifecycle::state::ShellSessionId;
 ghost use mathlib.Core.Path.{_≡_};
 ghost use Rattle.spec_session.specs.Batch.{takesNumber};
 ghost use Rattle.session_lifecycle.specs.Meaning.{lifecycleOf, cursorOf, limitsOf};
-ghost use Rattle.session_gates.specs.Gates.{gateOf, envelopeMeans, preflightBy, countsBy, replayBy};
+ghost use Rattle.session_gates.specs.Gates.{gateOf, batchEnvelopeOf, preflightBy, countsBy, replayBy};
 
 pub struct OrderedProjectionPatchBatchEnvelope {
     pub session_id: ShellSessionId,
@@ -30,7 +30,7 @@ pub fn evaluate_preflight(
     lifecycle: ShellLifecycle,
     envelope: OrderedProjectionPatchBatchEnvelope,
 ) -> BatchGate
-    ensures { λ r. ⌜ gateOf r ≡ preflightBy id (limitsOf limits) (lifecycleOf lifecycle) (envelopeMeans envelope) ⌝ }
+    ensures { λ r. ⌜ gateOf r ≡ preflightBy id (limitsOf limits) (lifecycleOf lifecycle) (batchEnvelopeOf envelope) ⌝ }
 {
     let session_id = envelope.session_id;
     if session_id.0 != id {
@@ -56,7 +56,7 @@ pub fn evaluate_counts(
     patches: u64,
     references: u64,
 ) -> BatchGate
-    ensures { λ r. ⌜ gateOf r ≡ countsBy (limitsOf limits) (envelopeMeans envelope) declared patches references ⌝ }
+    ensures { λ r. ⌜ gateOf r ≡ countsBy (limitsOf limits) (batchEnvelopeOf envelope) declared patches references ⌝ }
 {
     if envelope.patch_count != patches {
         return BatchGate::Refused(ShellRefusal::CountsDiffer, 1);
@@ -90,7 +90,7 @@ pub fn evaluate_replay_compatibility(
     cursor: ProjectionReplayCursor,
     envelope: OrderedProjectionPatchBatchEnvelope,
 ) -> BatchGate
-    ensures { λ r. ⌜ gateOf r ≡ replayBy (cursorOf cursor) (envelopeMeans envelope) ⌝ }
+    ensures { λ r. ⌜ gateOf r ≡ replayBy (cursorOf cursor) (batchEnvelopeOf envelope) ⌝ }
 {
     if envelope.patch_count == 0 {
         return BatchGate::Passed;

@@ -11,7 +11,7 @@ use Rattle.spec_group.specs.Group as model
 use Rattle.spec_group.specs.Group.{groupBatches, totalBytes, isGroup, groupNumber, group}
 use Rattle.projection_patch.specs.Meaning.{editionOf}
 use Rattle.session_lifecycle.specs.Meaning.{cursorOf}
-use Rattle.session_gates.specs.Gates.{envelopeMeans}
+use Rattle.session_gates.specs.Gates.{batchEnvelopeOf}
 use Rattle.session_steps.specs.Answers.{batchAnswerOf}
 use Rattle.session_steps.specs.declared.answers.ProjectionPatchApplicationResult.{ProjectionPatchApplicationResult}
 use Rattle.shell_player.specs.declared.session.ShellSession.{ShellSession}
@@ -24,7 +24,7 @@ use Rattle.session_group.specs.declared.ProjectionPatchGroup.{Projection
 -- ---- the batches of a call
 
 abbrev pub batchMeans : GroupBatch → model.GroupBatch
-batchMeans b = record { edition = editionOf (b .edition); envelope = envelopeMeans (b .envelope); references = b .«declared_target_reference_count»; bytes = b .bytes }
+batchMeans b = record { edition = editionOf (b .edition); envelope = batchEnvelopeOf (b .envelope); references = b .«declared_target_reference_count»; bytes = b .bytes }
 
 -- the batches in the first places
 abbrev pub namedBatch : ℕ → List GroupBatch → List model.GroupBatch

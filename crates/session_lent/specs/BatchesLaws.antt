@@ -18,7 +18,7 @@ use Rattle.spec_session.specs.Diagnostics.{SessionRefusal, ofOperation}
 use Rattle.spec_session.specs.Lifecycle.{Disposition, applied, noChange, rejected, LocalState, stateOf}
 use Rattle.spec_session.specs.Batch.{BatchEnvelope, BatchAnswer, BatchStep, Check, pass, refuse, batchChecks, rejectBatch, keepSession, advanced, applyBatch, candidate, commit, concludeBatch, batch}
 use Rattle.spec_session.specs.BatchLaws.{checks-passed}
-use Rattle.session_lifecycle.specs.Meaning.{lifecycleOf, cursorOf, stateTold, limitsOf}
+use Rattle.session_lifecycle.specs.Meaning.{lifecycleOf, cursorOf, shellStateOf, limitsOf}
 use Rattle.session_lifecycle.specs.declared.state.ShellLocalState.{ShellLocalState}
 use Rattle.session_lifecycle.specs.declared.state.ShellLifecycleLimits.{ShellLifecycleLimits}
 use Rattle.local_projection_state.specs.Stores.{StoredTables, countsOf}
@@ -126,7 +126,7 @@ applied-became P H u n x is moved became = go x (subst (λ w. ChangeBecame P w x
 
 -- ---- the steps on what the head tells
 
-module _ (head nodes pairs collections b a e : List ℕ) (limits : ShellLifecycleLimits) (state : ShellLocalState) (limits-are : limitsOf limits ≡ limitsAt head) (state-is : stateTold state ≡ stateAt head) where
+module _ (head nodes pairs collections b a e : List ℕ) (limits : ShellLifecycleLimits) (state : ShellLocalState) (limits-are : limitsOf limits ≡ limitsAt head) (state-is : shellStateOf state ≡ stateAt head) where
   abbrev cap : ℕ
   cap = limits .«max_diagnostics_per_transition»
 
@@ -154,7 +154,7 @@ module _ (head nodes pairs collections b a e : List ℕ) (limits : ShellLifecycl
     limits-of : limitsOf limits ≡ m .limits
     limits-of = limits-are ∙ limits-told head m (holds .head-is)
 
-    state-of : stateTold state ≡ stateOf m
+    state-of : shellStateOf state ≡ stateOf m
     state-of = state-is ∙ state-told head m (holds .head-is)
 
     -- a batch sees the session that is lent

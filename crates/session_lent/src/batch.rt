@@ -21,7 +21,7 @@ ghost use Rattle.spec_projection.specs.Apply.{replaySteps, applySteps};
 ghost use Rattle.projection_patch.specs.Meaning.{editionOf};
 ghost use Rattle.local_projection_state.specs.Stores.{StoredTables};
 ghost use Rattle.panel_changes.specs.SetChanges.{StoredAfter, ChangeBecame};
-ghost use Rattle.session_gates.specs.Gates.{envelopeMeans};
+ghost use Rattle.session_gates.specs.Gates.{batchEnvelopeOf};
 ghost use Rattle.session_lent.specs.Head.{headNumbers, countsAt, movedHead};
 ghost use Rattle.session_lent.specs.LentSession.{halfShaped, LentRoom};
 ghost use Rattle.session_lent.specs.Batches.{KeptUnlessChanged, ShapedCall, BatchCallOnSlices};
@@ -95,7 +95,7 @@ pub fn apply_shaped<'a>(
     to_lengths: &mut [u8],
 ) -> ProjectionPatchApplicationResult
     requires { ⌜ (length (now head) ≡ headNumbers) × (length (now «to_head») ≡ headNumbers) ⌝ }
-    ensures { λ r. ⌜ ShapedCall (editionOf edition) (envelopeMeans envelope) declared (now (set .entry)) (now (head .entry)) (now (nodes .entry)) (now (pairs .entry)) (now (collections .entry)) (now (bindings .entry)) (now (availability .entry)) (now (entries .entry))
+    ensures { λ r. ⌜ ShapedCall (editionOf edition) (batchEnvelopeOf envelope) declared (now (set .entry)) (now (head .entry)) (now (nodes .entry)) (now (pairs .entry)) (now (collections .entry)) (now (bindings .entry)) (now (availability .entry)) (now (entries .entry))
         (now («to_head» .entry)) (now («to_bindings» .entry)) (now («to_availability» .entry)) (now («to_entries» .entry)) (now («to_lengths» .entry)) r (now («to_head» .exit)) (now («to_bindings» .exit)) (now («to_availability» .exit)) (now («to_entries» .exit)) (now («to_lengths» .exit)) ⌝ }
 {
     let limits = head::limits_in(head);
@@ -159,7 +159,7 @@ pub fn apply_projection_patch_batch<'a>(
     to_entries: &mut [u8],
     to_lengths: &mut [u8],
 ) -> LentBatch
-    ensures { λ r. ⌜ BatchCallOnSlices (editionOf edition) (envelopeMeans envelope) «declared_target_reference_count» (now (set .entry)) (now (head .entry)) (now (nodes .entry)) (now (pairs .entry)) (now (collections .entry)) (now (bindings .entry)) (now (availability .entry)) (now (entries .entry))
+    ensures { λ r. ⌜ BatchCallOnSlices (editionOf edition) (batchEnvelopeOf envelope) «declared_target_reference_count» (now (set .entry)) (now (head .entry)) (now (nodes .entry)) (now (pairs .entry)) (now (collections .entry)) (now (bindings .entry)) (now (availability .entry)) (now (entries .entry))
         (now («to_head» .entry)) (now («to_bindings» .entry)) (now («to_availability» .entry)) (now («to_entries» .entry)) (now («to_lengths» .entry)) r (now («to_head» .exit)) (now («to_bindings» .exit)) (now («to_availability» .exit)) (now («to_entries» .exit)) (now («to_lengths» .exit)) ⌝ }
 {
     if shape::memory_shaped(

@@ -8,7 +8,7 @@ use session_lifecycle::state::ShellSessionId;
 ghost use mathlib.Core.Path.{_≡_};
 ghost use mathlib.Core.List.{[], _∷_};
 ghost use lib.ListN.{length};
-ghost use Rattle.session_lifecycle.specs.Meaning.{lifecycleOf, cursorOf, stateTold, limitsOf};
+ghost use Rattle.session_lifecycle.specs.Meaning.{lifecycleOf, cursorOf, shellStateOf, limitsOf};
 ghost use Rattle.session_lent.specs.Head.{headNumbers, lifecycleNumber, lifecycleNumbered, cursorNumbered, stateAt, limitsAt, countsAt, newHead, movedHead};
 
 // How many numbers a head has.
@@ -48,7 +48,7 @@ fn cursor_of(kind: u64, number: u64) -> ProjectionReplayCursor
 // The state that a head tells.
 pub fn state_in(head: &[u64]) -> ShellLocalState
     requires { ⌜ length (now head) ≡ headNumbers ⌝ }
-    ensures { λ r. ⌜ stateTold r ≡ stateAt (now (head .entry)) ⌝ }
+    ensures { λ r. ⌜ shellStateOf r ≡ stateAt (now (head .entry)) ⌝ }
 {
     let id = head[0];
     let lifecycle = lifecycle_of(head[1]);

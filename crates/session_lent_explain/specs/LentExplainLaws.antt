@@ -12,7 +12,7 @@ use Rattle.spec_session.specs.Session.{Catalogue, Session}
 use Rattle.spec_session.specs.Batch.{BatchEnvelope}
 use Rattle.spec_explain.specs.Walk.{walkPatches}
 use Rattle.spec_explain.specs.Explain.{stepKept, applies, explain}
-use Rattle.session_lifecycle.specs.Meaning.{lifecycleOf, cursorOf, stateTold, limitsOf}
+use Rattle.session_lifecycle.specs.Meaning.{lifecycleOf, cursorOf, shellStateOf, limitsOf}
 use Rattle.session_lifecycle.specs.declared.state.ShellLifecycleLimits.{ShellLifecycleLimits}
 use Rattle.session_lifecycle.specs.declared.state.ShellLocalState.{ShellLocalState}
 use Rattle.local_projection_state.specs.Stores.{StoredTables}
@@ -52,7 +52,7 @@ module _ (head nodes pairs collections b a e : List ℕ) where
 
 -- ---- the steps on what the head tells
 
-module _ (ed : Edition) (v : BatchEnvelope) (declared : ℕ) (set head nodes pairs collections b a e : List ℕ) (limits : ShellLifecycleLimits) (state : ShellLocalState) (limits-are : limitsOf limits ≡ limitsAt head) (state-is : stateTold state ≡ stateAt head)
+module _ (ed : Edition) (v : BatchEnvelope) (declared : ℕ) (set head nodes pairs collections b a e : List ℕ) (limits : ShellLifecycleLimits) (state : ShellLocalState) (limits-are : limitsOf limits ≡ limitsAt head) (state-is : shellStateOf state ≡ stateAt head)
     (m : Session) (h : HoldsSession head nodes pairs collections b a e m) {r : StepReason}
     (told : (c : Catalogue) → Lent c nodes pairs collections → r ≡ stepTo (checksBy ed (state .«session_id» .0) (limitsOf limits) (lifecycleOf (state .lifecycle)) (cursorOf (state .«replay_cursor»)) c v declared set)) where
   sees : Seen m (state .«session_id» .0) limits state nodes pairs collections

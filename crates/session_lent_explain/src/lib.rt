@@ -13,7 +13,7 @@ ghost use lib.ListN.{length};
 ghost use Rattle.spec_session.specs.Session.{Session};
 ghost use Rattle.spec_explain.specs.Explain.{explain};
 ghost use Rattle.projection_patch.specs.Meaning.{editionOf};
-ghost use Rattle.session_gates.specs.Gates.{envelopeMeans};
+ghost use Rattle.session_gates.specs.Gates.{batchEnvelopeOf};
 ghost use Rattle.session_explain.specs.Reasons.{explanationTo};
 ghost use Rattle.session_lent.specs.Head.{headNumbers};
 ghost use Rattle.session_lent_explain.specs.LentExplain.{HoldsSession, ExplainView};
@@ -40,7 +40,7 @@ fn explain_shaped(
 ) -> BatchExplanation
     requires { ⌜ length (now head) ≡ headNumbers ⌝ }
     ensures { λ r. ⌜ ((m : Session) → HoldsSession (now (head .entry)) (now (nodes .entry)) (now (pairs .entry)) (now (collections .entry)) (now (bindings .entry)) (now (availability .entry)) (now (entries .entry)) m
-        → r ≡ explanationTo (explain (editionOf edition) m (envelopeMeans envelope) declared (now (set .entry)))) ⌝ }
+        → r ≡ explanationTo (explain (editionOf edition) m (batchEnvelopeOf envelope) declared (now (set .entry)))) ⌝ }
 {
     let limits = head::limits_in(head);
     let state = head::state_in(head);
@@ -80,7 +80,7 @@ pub fn explain_lent_batch(
     set: &[u8],
     edition: ProjectionPatchEdition,
 ) -> LentExplanation
-    ensures { λ r. ⌜ ExplainView (editionOf edition) (envelopeMeans envelope) «declared_target_reference_count» (now (set .entry)) (now (head .entry)) (now (nodes .entry)) (now (pairs .entry)) (now (collections .entry)) (now (bindings .entry)) (now (availability .entry)) (now (entries .entry)) r ⌝ }
+    ensures { λ r. ⌜ ExplainView (editionOf edition) (batchEnvelopeOf envelope) «declared_target_reference_count» (now (set .entry)) (now (head .entry)) (now (nodes .entry)) (now (pairs .entry)) (now (collections .entry)) (now (bindings .entry)) (now (availability .entry)) (now (entries .entry)) r ⌝ }
 {
     if shape::anchors_shaped(nodes.len(), pairs.len(), collections.len()) {
         if shape::half_shaped(head, bindings.len(), availability.len(), entries.len()) {

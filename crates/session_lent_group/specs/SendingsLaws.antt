@@ -12,7 +12,7 @@ use Rattle.spec_splitting.specs.Splitting.{isRejected}
 use Rattle.spec_group.specs.Group as model
 use Rattle.spec_group.specs.Group.{totalBytes, sendFirst, ended, broke, runGroup}
 use Rattle.projection_patch.specs.Meaning.{editionOf}
-use Rattle.session_gates.specs.Gates.{envelopeMeans}
+use Rattle.session_gates.specs.Gates.{batchEnvelopeOf}
 use Rattle.session_steps.specs.Answers.{dispositionTold, batchAnswerOf}
 use Rattle.session_steps.specs.declared.answers.ProjectionPatchApplicationDisposition.{ProjectionPatchApplicationDisposition}
 use Rattle.session_steps.specs.declared.answers.ProjectionPatchApplicationDisposition.the-variants.{Applied, NoChange, Rejected}
@@ -121,7 +121,7 @@ module _ (k : Anchors) (h b a e : List ℕ) (sets : List ℕ) (g : GroupLeft) wh
     sent-ended done = (λ m l held room. sym (on .same m l held room) ∙ rest-none (leftFrom g place at) sets (on .fits) done m, on .kept)
 
     module _ (more : place < g .count) (r : ProjectionPatchApplicationResult) (after : Half)
-        (call : ShapedCall (editionOf (nextBatch (leftFrom g place at) .edition)) (envelopeMeans (nextBatch (leftFrom g place at) .envelope)) (nextBatch (leftFrom g place at) .«declared_target_reference_count») (take (nextBatch (leftFrom g place at) .bytes) (drop at sets))
+        (call : ShapedCall (editionOf (nextBatch (leftFrom g place at) .edition)) (batchEnvelopeOf (nextBatch (leftFrom g place at) .envelope)) (nextBatch (leftFrom g place at) .«declared_target_reference_count») (take (nextBatch (leftFrom g place at) .bytes) (drop at sets))
         h (k .nodes) (k .pairs) (k .collections) b a e (now .head) (now .bindings) (now .availability) (now .entries) (now .lengths) r (after .head) (after .bindings) (after .availability) (after .entries) (after .lengths)) where
       step-in : (m : Session) (l : List ℕ) → HeldIn k (halfWith h b a e l) m → RoomIn before → LentStep r m (after .head) (k .nodes) (k .pairs) (k .collections) (after .bindings) (after .availability) (after .entries) (after .lengths) (sendFirst m (batchMeans (nextBatch (leftFrom g place at))) (drop at sets))
       unfolding sendFirst

@@ -5,7 +5,7 @@ use session_steps::answers::ProjectionPatchApplicationResult;
 ghost use mathlib.Core.Path.{_≡_};
 ghost use lib.ListN.{length};
 ghost use Rattle.projection_patch.specs.Meaning.{editionOf};
-ghost use Rattle.session_gates.specs.Gates.{envelopeMeans};
+ghost use Rattle.session_gates.specs.Gates.{batchEnvelopeOf};
 ghost use Rattle.session_lent.specs.Head.{headNumbers};
 ghost use Rattle.session_lent.specs.Batches.{ShapedCall};
 
@@ -27,7 +27,7 @@ pub(crate) fn send_one<'a>(
     to_lengths: &mut [u8],
 ) -> ProjectionPatchApplicationResult
     requires { ⌜ (length (now head) ≡ headNumbers) × (length (now «to_head») ≡ headNumbers) ⌝ }
-    ensures { λ r. ⌜ ShapedCall (editionOf (sent .edition)) (envelopeMeans (sent .envelope)) (sent .«declared_target_reference_count») (now (set .entry)) (now (head .entry)) (now (nodes .entry)) (now (pairs .entry)) (now (collections .entry)) (now (bindings .entry)) (now (availability .entry)) (now (entries .entry))
+    ensures { λ r. ⌜ ShapedCall (editionOf (sent .edition)) (batchEnvelopeOf (sent .envelope)) (sent .«declared_target_reference_count») (now (set .entry)) (now (head .entry)) (now (nodes .entry)) (now (pairs .entry)) (now (collections .entry)) (now (bindings .entry)) (now (availability .entry)) (now (entries .entry))
         (now («to_head» .entry)) (now («to_bindings» .entry)) (now («to_availability» .entry)) (now («to_entries» .entry)) (now («to_lengths» .entry)) r (now («to_head» .exit)) (now («to_bindings» .exit)) (now («to_availability» .exit)) (now («to_entries» .exit)) (now («to_lengths» .exit)) ⌝ }
 {
     let envelope = sent.envelope;

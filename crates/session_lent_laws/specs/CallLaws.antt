@@ -13,7 +13,7 @@ use Rattle.spec_session.specs.Batch.{BatchEnvelope, batch}
 use Rattle.panel_rows.specs.Rows.{lengthBytes}
 use Rattle.session_lifecycle.specs.Meaning.{answerOf}
 use Rattle.session_gates.specs.Lent.{Lent}
-use Rattle.session_gates.specs.Gates.{envelopeMeans}
+use Rattle.session_gates.specs.Gates.{batchEnvelopeOf}
 use Rattle.session_gates.specs.declared.gates.OrderedProjectionPatchBatchEnvelope.{OrderedProjectionPatchBatchEnvelope}
 use Rattle.session_steps.specs.Answers.{batchAnswerOf}
 use Rattle.session_steps.specs.declared.answers.ProjectionPatchApplicationDisposition.{ProjectionPatchApplicationDisposition}
@@ -139,27 +139,27 @@ lent-goes-on ed v declared set k p m panel res w call =
 
 -- the struct that has the bytes of the memory before, that of the memory afterwards, and the answer are related as the call by value relates them
 pub lent-is-call : (ed : Edition) (e : OrderedProjectionPatchBatchEnvelope) (declared : ℕ) (set : List ℕ) (k : Anchors) (p : Memory) (m : Session) → Panel k p m → (result : ProjectionPatchApplicationResult) (w : Half)
-    → LentBatchCall ed (envelopeMeans e) declared set k p (answer.Answered result) w
+    → LentBatchCall ed (batchEnvelopeOf e) declared set k p (answer.Answered result) w
     → struct.BatchCall (structIn k (p .held)) e declared set ed (struct.batchOf (structIn k (exchanged (result .disposition) (p .held) w .held)) result)
 lent-is-call ed e declared set k p m panel res w call =
-    let told = is-answered ed (envelopeMeans e) declared set k p m panel (answer.Answered res) w call in
-    let same = answered-same res (result ed (envelopeMeans e) declared set k p m panel (answer.Answered res) w call) told in
-    let after = lent-goes-on ed (envelopeMeans e) declared set k p m panel res w call in
-    let own : struct.BatchBecame (struct.batchOf (structIn k (exchanged (res .disposition) (p .held) w .held)) res) (batch ed m (envelopeMeans e) declared set) = record {
-      answer = ap (λ (x : ProjectionPatchApplicationResult). batchAnswerOf x) same ∙ step ed (envelopeMeans e) declared set k p m panel (answer.Answered res) w call .answer;
-      next = struct-holds k (exchanged (res .disposition) (p .held) w .held) (batch ed m (envelopeMeans e) declared set .next) (after .held);
+    let told = is-answered ed (batchEnvelopeOf e) declared set k p m panel (answer.Answered res) w call in
+    let same = answered-same res (result ed (batchEnvelopeOf e) declared set k p m panel (answer.Answered res) w call) told in
+    let after = lent-goes-on ed (batchEnvelopeOf e) declared set k p m panel res w call in
+    let own : struct.BatchBecame (struct.batchOf (structIn k (exchanged (res .disposition) (p .held) w .held)) res) (batch ed m (batchEnvelopeOf e) declared set) = record {
+      answer = ap (λ (x : ProjectionPatchApplicationResult). batchAnswerOf x) same ∙ step ed (batchEnvelopeOf e) declared set k p m panel (answer.Answered res) w call .answer;
+      next = struct-holds k (exchanged (res .disposition) (p .held) w .held) (batch ed m (batchEnvelopeOf e) declared set .next) (after .held);
     } in
     record {
-      became = λ x h. subst (λ (y : Session). struct.BatchBecame (struct.batchOf (structIn k (exchanged (res .disposition) (p .held) w .held)) res) (batch ed y (envelopeMeans e) declared set))
+      became = λ x h. subst (λ (y : Session). struct.BatchBecame (struct.batchOf (structIn k (exchanged (res .disposition) (p .held) w .held)) res) (batch ed y (batchEnvelopeOf e) declared set))
           (one-session (structIn k (p .held)) m x (struct-holds k (p .held) m (panel .held)) h) own;
     }
 
 pub batch-alike : (s : ShellSession) (k : Anchors) (p : Memory) (m : Session) → Holds s m → Panel k p m → (ed : Edition) (e : OrderedProjectionPatchBatchEnvelope) (declared : ℕ) (set : List ℕ)
-    → (b : ProjectionPatchBatch) → struct.BatchCall s e declared set ed b → (r : LentBatch) (w : Half) → LentBatchCall ed (envelopeMeans e) declared set k p r w
-    → BatchAlike k (exchanged (b .result .disposition) (p .held) w) r b (batch ed m (envelopeMeans e) declared set .next)
+    → (b : ProjectionPatchBatch) → struct.BatchCall s e declared set ed b → (r : LentBatch) (w : Half) → LentBatchCall ed (batchEnvelopeOf e) declared set k p r w
+    → BatchAlike k (exchanged (b .result .disposition) (p .held) w) r b (batch ed m (batchEnvelopeOf e) declared set .next)
 batch-alike s k p m by-value panel ed e declared set b value r w call =
     let own = value .became m by-value in
-    let v = envelopeMeans e in
+    let v = batchEnvelopeOf e in
     let same = batch-answer-same (result ed v declared set k p m panel r w call) (b .result) (step ed v declared set k p m panel r w call .answer ∙ sym (own .answer)) in
     let after = subst (λ (x : ProjectionPatchApplicationResult). Panel k (exchanged (x .disposition) (p .held) w) (batch ed m v declared set .next)) same (panel-next ed v declared set k p m panel r w call) in
     record {

@@ -10,7 +10,7 @@ use Rattle.active_projection_target_catalog.specs.Catalog.{pairTo, noPair, padd
 use Rattle.active_projection_target_catalog.specs.CatalogLaws.{catalogue-back}
 use Rattle.active_projection_target_catalog.specs.declared.catalog.BindingPair.{BindingPair}
 use Rattle.session_gates.specs.Lent.{Lent}
-use Rattle.session_lifecycle.specs.Meaning.{lifecycleOf, cursorOf, stateTold}
+use Rattle.session_lifecycle.specs.Meaning.{lifecycleOf, cursorOf, shellStateOf}
 use Rattle.local_projection_state.specs.StoresLaws.{one-projection}
 use Rattle.shell_player.specs.Holds as struct
 use Rattle.shell_player.specs.HoldsLaws.{lifecycleTo, cursorTo, stateTo, one-struct}
@@ -66,7 +66,7 @@ unfolding cursorTo cursorOf
 cursor-told model.uninitialized = refl
 cursor-told (model.at n) = refl
 
-state-again : (t : LocalState) → stateTold (stateTo t) ≡ t
+state-again : (t : LocalState) → shellStateOf (stateTo t) ≡ t
 state-again t = λ i. record { id = t .id; lifecycle = lifecycle-told (t .lifecycle) i; cursor = cursor-told (t .cursor) i }
 
 module _ (k : Anchors) (h : Half) (m : Session) (held : HeldIn k h m) where

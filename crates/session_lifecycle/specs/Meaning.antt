@@ -60,8 +60,8 @@ unfoldable pub cursorOf : ProjectionReplayCursor → model.Cursor
 cursorOf Uninitialized = model.uninitialized
 cursorOf (At n) = model.at n
 
-abbrev pub stateTold : ShellLocalState → step.LocalState
-stateTold s = record { id = s .«session_id» .0; lifecycle = lifecycleOf (s .lifecycle); cursor = cursorOf (s .«replay_cursor») }
+abbrev pub shellStateOf : ShellLocalState → step.LocalState
+shellStateOf s = record { id = s .«session_id» .0; lifecycle = lifecycleOf (s .lifecycle); cursor = cursorOf (s .«replay_cursor») }
 
 abbrev pub limitsOf : ShellLifecycleLimits → model.Limits
 limitsOf l = record {
@@ -106,7 +106,7 @@ dispositionMeans Rejected = step.rejected
 abbrev pub answerOf : ShellTransitionResult → step.LifecycleAnswer
 answerOf r = record {
   disposition = dispositionMeans (r .disposition);
-  state = stateTold (r .state);
+  state = shellStateOf (r .state);
   stimulusBytes = r .«stimulus_bytes»;
   diagnostics = diagnosticsMean (r .diagnostics);
 }

@@ -9,7 +9,7 @@ use crate::state::ShellLocalState;
 ghost use mathlib.Core.Path.{_≡_};
 ghost use Rattle.spec_session.specs.Session.{Limits, created, active, suspended};
 ghost use Rattle.spec_session.specs.Lifecycle.{transition, isClosed, dispositionOf, rejectLifecycle, enterLifecycle, lifecycleStep};
-ghost use Rattle.session_lifecycle.specs.Meaning.{refusalOf, lifecycleOf, commandOf, stimulusOf, candidateOf, dispositionMeans, answerOf, limitsOf, stateTold, bare};
+ghost use Rattle.session_lifecycle.specs.Meaning.{refusalOf, lifecycleOf, commandOf, stimulusOf, candidateOf, dispositionMeans, answerOf, limitsOf, shellStateOf, bare};
 
 pub enum ShellLifecycleCommand {
     Activate,
@@ -125,7 +125,7 @@ fn reject(
     bytes: u64,
     refusal: ShellRefusal,
 ) -> ShellTransitionResult
-    ensures { λ r. ⌜ answerOf r ≡ rejectLifecycle (bare (limitsOf limits) (stateTold previous)) bytes (refusalOf refusal) .answer ⌝ }
+    ensures { λ r. ⌜ answerOf r ≡ rejectLifecycle (bare (limitsOf limits) (shellStateOf previous)) bytes (refusalOf refusal) .answer ⌝ }
 {
     ShellTransitionResult {
         disposition: ShellTransitionDisposition::Rejected,
@@ -141,7 +141,7 @@ fn enter(
     input: ShellTransitionInput,
     lifecycle: ShellLifecycle,
 ) -> ShellTransitionResult
-    ensures { λ r. ⌜ ((l : Limits) → answerOf r ≡ enterLifecycle (bare l (stateTold previous)) (input .«stimulus_bytes») (dispositionOf (stimulusOf (input .stimulus))) (lifecycleOf lifecycle) .answer) ⌝ }
+    ensures { λ r. ⌜ ((l : Limits) → answerOf r ≡ enterLifecycle (bare l (shellStateOf previous)) (input .«stimulus_bytes») (dispositionOf (stimulusOf (input .stimulus))) (lifecycleOf lifecycle) .answer) ⌝ }
 {
     let stimulus = input.stimulus;
     let session_id = previous.session_id;
@@ -165,7 +165,7 @@ pub fn evaluate_lifecycle_transition(
     previous: ShellLocalState,
     input: ShellTransitionInput,
 ) -> ShellTransitionResult
-    ensures { λ r. ⌜ answerOf r ≡ lifecycleStep (bare (limitsOf limits) (stateTold previous)) (stimulusOf (input .stimulus)) (input .«stimulus_bytes») .answer ⌝ }
+    ensures { λ r. ⌜ answerOf r ≡ lifecycleStep (bare (limitsOf limits) (shellStateOf previous)) (stimulusOf (input .stimulus)) (input .«stimulus_bytes») .answer ⌝ }
 {
     let current = previous.lifecycle;
     let stimulus = input.stimulus;

@@ -20,7 +20,7 @@ ghost use Rattle.projection_patch.specs.Meaning.{editionOf};
 ghost use Rattle.active_projection_target_catalog.specs.Catalog.{catalogueOf};
 ghost use Rattle.session_lifecycle.specs.Meaning.{lifecycleOf, limitsOf};
 ghost use Rattle.session_gates.specs.Lent.{Lent};
-ghost use Rattle.session_gates.specs.Gates.{gateOf, envelopeMeans, preflightBy, erased, checkCounted, Decides};
+ghost use Rattle.session_gates.specs.Gates.{gateOf, batchEnvelopeOf, preflightBy, erased, checkCounted, Decides};
 ghost use Rattle.session_steps.specs.Checks.{SeenSession};
 
 pub struct ActivatedShellSessionContext {
@@ -40,7 +40,7 @@ pub struct LentAnchors {
 }
 
 // A count of anchors that an array can hold.
-fn held(count: usize) -> usize
+fn anchors_held(count: usize) -> usize
     ensures { λ r. ⌜ r ≡ min count anchors ⌝ }
 {
     if count < ActiveProjectionTargetCatalog::ANCHORS {
@@ -61,9 +61,9 @@ pub fn lent_anchors(catalog: ActiveProjectionTargetCatalog) -> LentAnchors
         nodes,
         bindings,
         collections,
-        node_count: held(catalog.node_count),
-        binding_numbers: 2 * held(catalog.binding_count),
-        collection_count: held(catalog.collection_count),
+        node_count: anchors_held(catalog.node_count),
+        binding_numbers: 2 * anchors_held(catalog.binding_count),
+        collection_count: anchors_held(catalog.collection_count),
     }
 }
 
@@ -76,9 +76,9 @@ pub fn check_session(
     set: &[u8],
     edition: ProjectionPatchEdition,
 ) -> BatchGate
-    ensures checked { λ r. ⌜ ((s : Session) → SeenSession context state s → gateOf r ≡ erased (batchChecks (editionOf edition) s (envelopeMeans envelope) declared (now (set .entry)))) ⌝ }
+    ensures checked { λ r. ⌜ ((s : Session) → SeenSession context state s → gateOf r ≡ erased (batchChecks (editionOf edition) s (batchEnvelopeOf envelope) declared (now (set .entry)))) ⌝ }
     ensures whatever { λ r. ⌜ checkCounted (gateOf r) ≡ true ⌝ }
-    ensures preflight { λ r. ⌜ Decides (preflightBy (context .«session_id» .0) (limitsOf (context .limits)) (lifecycleOf (state .lifecycle)) (envelopeMeans envelope)) (gateOf r) ⌝ }
+    ensures preflight { λ r. ⌜ Decides (preflightBy (context .«session_id» .0) (limitsOf (context .limits)) (lifecycleOf (state .lifecycle)) (batchEnvelopeOf envelope)) (gateOf r) ⌝ }
 {
     let session_id = context.session_id;
     let limits = context.limits;

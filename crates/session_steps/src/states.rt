@@ -4,12 +4,12 @@ use session_lifecycle::lifecycle::ShellTransitionResult;
 use session_lifecycle::state::ProjectionReplayCursor;
 use session_lifecycle::state::ShellLocalState;
 ghost use mathlib.Core.Path.{_≡_};
-ghost use Rattle.session_lifecycle.specs.Meaning.{stateTold};
+ghost use Rattle.session_lifecycle.specs.Meaning.{shellStateOf};
 ghost use Rattle.session_steps.specs.States.{movedTo, nextState};
 
 // After a batch that was applied: the cursor is at its number.
 pub fn advanced(state: ShellLocalState, number: u64) -> ShellLocalState
-    ensures { λ r. ⌜ stateTold r ≡ movedTo (stateTold state) number ⌝ }
+    ensures { λ r. ⌜ shellStateOf r ≡ movedTo (shellStateOf state) number ⌝ }
 {
     let session_id = state.session_id;
     let lifecycle = state.lifecycle;

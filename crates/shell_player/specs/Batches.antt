@@ -9,7 +9,7 @@ use Rattle.spec_session.specs.Batch.{BatchStep, refuse, batch}
 use Rattle.session_lifecycle.specs.Meaning.{limitsOf, lifecycleOf, cursorOf}
 use Rattle.session_lifecycle.specs.declared.state.ShellLocalState.{ShellLocalState}
 use Rattle.local_projection_state.specs.declared.ProjectionCounts.{ProjectionCounts}
-use Rattle.session_gates.specs.Gates.{envelopeMeans, preflightBy}
+use Rattle.session_gates.specs.Gates.{batchEnvelopeOf, preflightBy}
 use Rattle.session_gates.specs.declared.gates.OrderedProjectionPatchBatchEnvelope.{OrderedProjectionPatchBatchEnvelope}
 use Rattle.session_steps.specs.Answers.{batchAnswerOf, rejectedAt, AnswerRow}
 use Rattle.session_steps.specs.declared.answers.ProjectionPatchApplicationDisposition.the-variants.{Applied}
@@ -40,7 +40,7 @@ KeptUnlessApplied s r = (r .result .disposition ≡ Applied → ⊥) → r .sess
 
 -- what a call with this envelope, declared count, set and edition hands back: for every session that the struct stores, what the model's batch gives
 pub record BatchCall (s : ShellSession) (e : OrderedProjectionPatchBatchEnvelope) (declared : ℕ) (set : List ℕ) (ed : Edition) (r : ProjectionPatchBatch) : Type 0 where
-  pub became : (m : Session) → Holds s m → BatchBecame r (batch ed m (envelopeMeans e) declared set)
+  pub became : (m : Session) → Holds s m → BatchBecame r (batch ed m (batchEnvelopeOf e) declared set)
 
 -- ---- the relation of a batch call for every struct whatever
 
@@ -51,7 +51,7 @@ CallRow s e r = AnswerRow (s .context .limits .«max_diagnostics_per_transition�
 -- steps 1 to 3 on the struct's own fields: where they refuse, that is the answer
 abbrev pub PreflightFirst : ShellSession → OrderedProjectionPatchBatchEnvelope → ProjectionPatchBatch → Type 0
 PreflightFirst s e r =
-    (f : SessionRefusal) (n : ℕ) → preflightBy (s .context .«session_id» .0) (limitsOf (s .context .limits)) (lifecycleOf (s .state .lifecycle)) (envelopeMeans e) ≡ refuse f n
+    (f : SessionRefusal) (n : ℕ) → preflightBy (s .context .«session_id» .0) (limitsOf (s .context .limits)) (lifecycleOf (s .state .lifecycle)) (batchEnvelopeOf e) ≡ refuse f n
     → batchAnswerOf (r .result) ≡ rejectedAt (s .context .limits .«max_diagnostics_per_transition») f n (cursorOf (s .state .«replay_cursor»))
 
 pub record AnyBatchCall (s : ShellSession) (e : OrderedProjectionPatchBatchEnvelope) (r : ProjectionPatchBatch) : Type 0 where

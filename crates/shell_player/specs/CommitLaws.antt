@@ -17,7 +17,7 @@ use Rattle.spec_session.specs.Diagnostics.{SessionRefusal, ofOperation}
 use Rattle.spec_session.specs.Lifecycle.{applied, noChange, LocalState, stateOf}
 use Rattle.spec_session.specs.Batch.{BatchEnvelope, BatchAnswer, Check, pass, refuse, batchChecks, rejectBatch, keepSession, advanced, applyBatch, candidate, commit, concludeBatch, batch}
 use Rattle.spec_session.specs.BatchLaws.{checks-passed}
-use Rattle.session_lifecycle.specs.Meaning.{cursorOf, stateTold}
+use Rattle.session_lifecycle.specs.Meaning.{cursorOf, shellStateOf}
 use Rattle.session_lifecycle.specs.declared.state.ShellLocalState.{ShellLocalState}
 use Rattle.active_projection_target_catalog.specs.Catalog.{catalogueOf}
 use Rattle.active_projection_target_catalog.specs.CatalogLaws.{catalogue-back}
@@ -91,7 +91,7 @@ module _ (s : ShellSession) (m : Session) (holds : Holds s m) where
 
     -- a set that was applied stores what the tables hold
     pub commits-applied : (n : ProjectionCounts) (b a y l : List ℕ) (t : ShellLocalState) (r : ProjectionPatchApplicationResult) → (e .patches ≡ 0 → ⊥) → ChangeBecame (λ k q. StoredAfter k b a y l q) (change.Applied n) (candidate m ps)
-        → stateTold t ≡ movedTo (stateTold (s .state)) (e .sequence) → batchAnswerOf r ≡ answerAt applied (at (e .sequence)) → BatchBecame (record { session = sessionOf (s .context) t n b a y l; result = r }) (commit m e (candidate m ps))
+        → shellStateOf t ≡ movedTo (shellStateOf (s .state)) (e .sequence) → batchAnswerOf r ≡ answerAt applied (at (e .sequence)) → BatchBecame (record { session = sessionOf (s .context) t n b a y l; result = r }) (commit m e (candidate m ps))
     unfolding commit applyBatch advanced stateOf
     commits-applied n b a y l t r some became moved h = go (candidate m ps) became
       where

@@ -3,7 +3,7 @@ use mathlib.Core.Path.{_≡_}
 use Rattle.spec_session.specs.Session as model
 use Rattle.spec_session.specs.Lifecycle.{stateOf}
 use Rattle.spec_session.specs.ValidSession.{FewAnchors}
-use Rattle.session_lifecycle.specs.Meaning.{limitsOf, stateTold}
+use Rattle.session_lifecycle.specs.Meaning.{limitsOf, shellStateOf}
 use Rattle.active_projection_target_catalog.specs.Catalog.{catalogTo}
 use Rattle.local_projection_state.specs.Stores.{Stores}
 use Rattle.shell_player.specs.declared.session.ShellSession.{ShellSession}
@@ -13,5 +13,5 @@ pub record Holds (s : ShellSession) (m : model.Session) : Type 0 where
   pub limits : limitsOf (s .context .limits) ≡ m .limits
   pub catalogue : s .context .catalog ≡ catalogTo (m .catalogue)
   pub few : FewAnchors (m .catalogue)
-  pub state : stateTold (s .state) ≡ stateOf m
+  pub state : shellStateOf (s .state) ≡ stateOf m
   pub projection : Stores (s .«local_projection») (m .projection)

@@ -4,7 +4,7 @@ use Rattle.spec_session.specs.Session as model
 use Rattle.spec_session.specs.Session.{Lifecycle, Cursor, Limits, Session}
 use Rattle.spec_session.specs.Lifecycle.{LocalState}
 use Rattle.spec_session.specs.Lifecycle as step
-use Rattle.session_lifecycle.specs.Meaning.{lifecycleOf, cursorOf, stateTold}
+use Rattle.session_lifecycle.specs.Meaning.{lifecycleOf, cursorOf, shellStateOf}
 use Rattle.session_lifecycle.specs.declared.state.ShellLifecycle.{ShellLifecycle}
 use Rattle.session_lifecycle.specs.declared.state.ShellLifecycle.the-variants.{Created, Active, Suspended, Closed}
 use Rattle.session_lifecycle.specs.declared.state.ProjectionReplayCursor.{ProjectionReplayCursor}
@@ -58,7 +58,7 @@ unfolding cursorTo cursorOf
 cursor-back Uninitialized = refl
 cursor-back (At n) = refl
 
-pub state-back : (t : ShellLocalState) → t ≡ stateTo (stateTold t)
+pub state-back : (t : ShellLocalState) → t ≡ stateTo (shellStateOf t)
 state-back t = λ i. record { «session_id» = t .«session_id»; lifecycle = lifecycle-back (t .lifecycle) i; «replay_cursor» = cursor-back (t .«replay_cursor») i }
 
 pub one-struct : (s : ShellSession) (m : Session) → Holds s m → s ≡ sessionTo m

@@ -5,7 +5,7 @@ use native.Mathlib.Omega.{arith}
 use Rattle.spec_session.specs.Session as model
 use Rattle.spec_session.specs.Lifecycle.{Stimulus, applied, noChange, rejected, LocalState, LifecycleAnswer, stateOf, withLifecycle, lifecycleStep}
 use Rattle.spec_session.specs.ValidSessionLaws.{lifecycleStep-unchanged, lifecycleStep-told, lifecycleStep-rest}
-use Rattle.session_lifecycle.specs.Meaning.{dispositionMeans, answerOf, limitsOf, stateTold, bare}
+use Rattle.session_lifecycle.specs.Meaning.{dispositionMeans, answerOf, limitsOf, shellStateOf, bare}
 use Rattle.session_lifecycle.specs.MeaningLaws.{bare-answers}
 use Rattle.session_lifecycle.specs.declared.lifecycle.ShellTransitionDisposition.{ShellTransitionDisposition}
 use Rattle.session_lifecycle.specs.declared.lifecycle.ShellTransitionDisposition.the-variants.{Applied, NoChange, Rejected}
@@ -27,7 +27,7 @@ state-stored s NoChange t = refl
 state-stored s Rejected t = refl
 
 module _ (s : ShellSession) (m : model.Session) (holds : Holds s m) (u : Stimulus) (b : ℕ) (r : ShellTransitionResult)
-    (answered : answerOf r ≡ lifecycleStep (bare (limitsOf (s .context .limits)) (stateTold (s .state))) u b .answer) where
+    (answered : answerOf r ≡ lifecycleStep (bare (limitsOf (s .context .limits)) (shellStateOf (s .state))) u b .answer) where
   -- the answer is that of the session
   pub same-answer : answerOf r ≡ lifecycleStep m u b .answer
   same-answer =
@@ -35,7 +35,7 @@ module _ (s : ShellSession) (m : model.Session) (holds : Holds s m) (u : Stimulu
       ∙ ap₂ (λ (l : model.Limits) (t : LocalState). lifecycleStep (bare l t) u b .answer) (holds .limits) (holds .state)
       ∙ bare-answers m u b
 
-  told : stateTold (r .state) ≡ stateOf (lifecycleStep m u b .next)
+  told : shellStateOf (r .state) ≡ stateOf (lifecycleStep m u b .next)
   told = ap (λ (a : LifecycleAnswer). a .state) same-answer ∙ sym (lifecycleStep-told m u b)
 
   moved : Holds (withState s (r .state)) (lifecycleStep m u b .next)

@@ -11,7 +11,7 @@ use session_steps::states;
 ghost use mathlib.Core.Path.{_≡_};
 ghost use Rattle.spec_session.specs.Session.{Session};
 ghost use Rattle.spec_session.specs.Lifecycle.{stateOf, lifecycleStep};
-ghost use Rattle.session_lifecycle.specs.Meaning.{stimulusOf, answerOf, bare, limitsOf, lifecycleOf, cursorOf, stateTold};
+ghost use Rattle.session_lifecycle.specs.Meaning.{stimulusOf, answerOf, bare, limitsOf, lifecycleOf, cursorOf, shellStateOf};
 ghost use Rattle.shell_player.specs.Holds.{Holds};
 ghost use Rattle.shell_player.specs.Steps.{newState, afterTransition};
 
@@ -48,7 +48,7 @@ impl ShellSession {
 
     pub fn state(self) -> ShellLocalState
         ensures whatever { λ r. ⌜ r ≡ self .state ⌝ }
-        ensures holding { λ r. ⌜ ((m : Session) → Holds self m → stateTold r ≡ stateOf m) ⌝ }
+        ensures holding { λ r. ⌜ ((m : Session) → Holds self m → shellStateOf r ≡ stateOf m) ⌝ }
     {
         self.state
     }
@@ -74,7 +74,7 @@ impl ShellSession {
         ensures whatever { λ r. ⌜ r ≡ afterTransition self (r .result) ⌝ }
         ensures holding { λ r. ⌜ ((m : Session) → Holds self m → (answerOf (r .result) ≡ lifecycleStep m (stimulusOf (input .stimulus)) (input .«stimulus_bytes») .answer)
             × Holds (r .session) (lifecycleStep m (stimulusOf (input .stimulus)) (input .«stimulus_bytes») .next)) ⌝ }
-        ensures answered { λ r. ⌜ answerOf (r .result) ≡ lifecycleStep (bare (limitsOf (self .context .limits)) (stateTold (self .state))) (stimulusOf (input .stimulus)) (input .«stimulus_bytes») .answer ⌝ }
+        ensures answered { λ r. ⌜ answerOf (r .result) ≡ lifecycleStep (bare (limitsOf (self .context .limits)) (shellStateOf (self .state))) (stimulusOf (input .stimulus)) (input .«stimulus_bytes») .answer ⌝ }
     {
         let context = self.context;
         let limits = context.limits;

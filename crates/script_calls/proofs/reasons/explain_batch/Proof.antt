@@ -5,7 +5,7 @@ use Rattle.spec_patch.specs.Edition.{Edition}
 use Rattle.spec_explain.specs.Explain.{explain}
 use Rattle.spec_replay.specs.Reasons.{reasonLine}
 use Rattle.bytes_printer.specs.PrintsLaws.{prints-same}
-use Rattle.session_gates.specs.Gates.{envelopeMeans}
+use Rattle.session_gates.specs.Gates.{batchEnvelopeOf}
 use Rattle.script_calls.specs.ReplayHoldsLaws.{asked-there, asked-nowhere, step-goes-on}
 use borrow.Author.Needs.{needs}
 use Rattle.script_calls.proofs.reasons.explain_batch.Statement.{statement}
@@ -17,7 +17,7 @@ returns c =
     let test = call .before .before .before in
     let args = test .before .before .before .args in
     λ m h. asked-there (args .state) m h _ _ _ _ (test .if1 .taken) (λ x held.
-    step-goes-on refl h (prints-same (ap (λ (ed : Edition). reasonLine (explain ed x (envelopeMeans (args .envelope)) (args .references) (now (args .set)))) (h .edition-is)) (call .print-explained .ensures x held)))
+    step-goes-on refl h (prints-same (ap (λ (ed : Edition). reasonLine (explain ed x (batchEnvelopeOf (args .envelope)) (args .references) (now (args .set)))) (h .edition-is)) (call .print-explained .ensures x held)))
 
 returns-2 : tie.Need-returns-2
 returns-2 c = λ m h. asked-nowhere (c .before .before .before .before .before .before .before .args .state) m h _ _ _ _ (c .before .before .before .before .if1 .left) (c .before .before .no-session .ensures m h)

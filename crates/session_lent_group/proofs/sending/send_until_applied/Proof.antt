@@ -7,7 +7,7 @@ use borrow.Author.Needs.{needs}
 use denote.Ref.{now}
 use lib.ListN.{length, take, drop}
 use Rattle.projection_patch.specs.Meaning.{editionOf}
-use Rattle.session_gates.specs.Gates.{envelopeMeans}
+use Rattle.session_gates.specs.Gates.{batchEnvelopeOf}
 use Rattle.session_lent.specs.Batches.{ShapedCall}
 use Rattle.session_lent.specs.Halves.{Anchors, Half, anchorsWith, halfWith}
 use Rattle.session_lent_group.specs.declared.places.GroupLeft.{GroupLeft}
@@ -55,7 +55,7 @@ called : (c : tie.After-send-one Inv-loop μ-loop) →
     let turn = turnOf c .before in
     let args = startOf turn .args in
     let x = nextBatch (leftIn turn) in
-    ShapedCall (editionOf (x .edition)) (envelopeMeans (x .envelope)) (x .«declared_target_reference_count») (take (x .bytes) (drop (turn .loop .at) (now (args .sets))))
+    ShapedCall (editionOf (x .edition)) (batchEnvelopeOf (x .envelope)) (x .«declared_target_reference_count») (take (x .bytes) (drop (turn .loop .at) (now (args .sets))))
     (now (args .head)) (now (args .nodes)) (now (args .pairs)) (now (args .collections)) (now (args .bindings)) (now (args .availability)) (now (args .entries))
     (turn .loop .to-head) (turn .loop .to-bindings) (turn .loop .to-availability) (turn .loop .to-entries) (turn .loop .to-lengths) (c .send-one .result)
     (afterOf c .head) (afterOf c .bindings) (afterOf c .availability) (afterOf c .entries) (afterOf c .lengths)
@@ -65,7 +65,7 @@ called c =
     let x = nextBatch (leftIn turn) in
     let size : (turn .loop .at + x .bytes) - turn .loop .at ≡ x .bytes = omega arith in
     subst
-    (λ (n : ℕ). ShapedCall (editionOf (x .edition)) (envelopeMeans (x .envelope)) (x .«declared_target_reference_count») (take n (drop (turn .loop .at) (now (args .sets))))
+    (λ (n : ℕ). ShapedCall (editionOf (x .edition)) (batchEnvelopeOf (x .envelope)) (x .«declared_target_reference_count») (take n (drop (turn .loop .at) (now (args .sets))))
     (now (args .head)) (now (args .nodes)) (now (args .pairs)) (now (args .collections)) (now (args .bindings)) (now (args .availability)) (now (args .entries))
     (turn .loop .to-head) (turn .loop .to-bindings) (turn .loop .to-availability) (turn .loop .to-entries) (turn .loop .to-lengths) (c .send-one .result)
     (afterOf c .head) (afterOf c .bindings) (afterOf c .availability) (afterOf c .entries) (afterOf c .lengths))

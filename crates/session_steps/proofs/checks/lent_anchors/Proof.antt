@@ -18,8 +18,8 @@ returns c =
     let pairs : length (catalog .«binding_anchors») ≡ anchors = search (needs, unmapped) in
     let numbers : length (apart .pair-numbers .result) ≡ 2 * anchors = search needs in
     let collections : length (catalog .«collection_anchors») ≡ anchors = search needs in (
-      lent-anchors catalog nodes pairs collections _ _ _ (c .before .before .held .ensures) (c .before .held2 .ensures) (c .held3 .ensures) _ (apart .pair-numbers .ensures),
-      (omega (arith, nodes, c .before .before .held .ensures), (omega (arith, numbers, c .before .held2 .ensures), omega (arith, collections, c .held3 .ensures))),
+      lent-anchors catalog nodes pairs collections _ _ _ (c .before .before .anchors-held .ensures) (c .before .anchors-held2 .ensures) (c .anchors-held3 .ensures) _ (apart .pair-numbers .ensures),
+      (omega (arith, nodes, c .before .before .anchors-held .ensures), (omega (arith, numbers, c .before .anchors-held2 .ensures), omega (arith, collections, c .anchors-held3 .ensures))),
     )
 
 pub lent-anchors-spec : {M : Type 1} → statement M

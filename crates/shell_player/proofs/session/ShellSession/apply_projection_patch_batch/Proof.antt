@@ -19,7 +19,7 @@ use Rattle.panel_changes.specs.SetChanges.{ReadyTables, StoredAfter, ChangeBeca
 use Rattle.panel_changes.specs.SetChangesLaws.{zeros-ready}
 use Rattle.panel_changes.specs.declared.SetChange.{SetChange}
 use Rattle.panel_changes.specs.declared.SetChange.the-variants.{Applied}
-use Rattle.session_gates.specs.Gates.{gateOf, checkCounted, envelopeMeans}
+use Rattle.session_gates.specs.Gates.{gateOf, checkCounted, batchEnvelopeOf}
 use Rattle.session_gates.specs.declared.gates.OrderedProjectionPatchBatchEnvelope.{OrderedProjectionPatchBatchEnvelope}
 use Rattle.session_steps.specs.declared.answers.ProjectionPatchApplicationResult.{ProjectionPatchApplicationResult}
 use Rattle.session_steps.specs.Answers.{batchAnswerOf, answerAt, changeAnswer, rejectedRow, unchangedRow, appliedRow}
@@ -105,15 +105,15 @@ answered c = c .before .before .before .before .before .concluded .ensures ∙ a
 
 -- the session that was made of the tables
 handed : (c : tie.After-with-tables) → let a = c .before .before .before .before .before .before .before .before .before .before .before .before .before .before .before .before .before .before .before .before .before .before .before .before .before .before .before .before .before .before .before .before .args in (m : Session) (ps : List Patch) → Holds (a .t1) m → readSet (editionOf (a .edition)) (now (a .set)) ≡ patches ps → (a .envelope .«patch_count» ≡ 0 → ⊥)
-    → BatchBecame (batchOf (c .with-tables .result) (c .before .before .before .before .before .concluded .result)) (commit m (envelopeMeans (a .envelope)) (candidate m ps))
+    → BatchBecame (batchOf (c .with-tables .result) (c .before .before .before .before .before .concluded .result)) (commit m (batchEnvelopeOf (a .envelope)) (candidate m ps))
 handed c m ps h reads some =
     let a = c .before .before .before .before .before .before .before .before .before .before .before .before .before .before .before .before .before .before .before .before .before .before .before .before .before .before .before .before .before .before .before .before .args in
     let call = c .before .before .before .before .before .before .before .before .before .before in
     let result = c .before .before .before .before .before .concluded .result in
     let ended = c .before .before .before .change .given in
     let stored : Tables call (Applied (ended .0 .0)) m ps = subst (λ r. Tables call r m ps) (ended .1) (became call m ps h reads) in
-    subst (λ (s : ShellSession). BatchBecame (batchOf s result) (commit m (envelopeMeans (a .envelope)) (candidate m ps))) (sym (c .with-tables .ensures))
-    (commits-applied (a .t1) m h (envelopeMeans (a .envelope)) ps (ended .0 .0) _ _ _ _ (c .before .advanced .result) result some stored (c .before .advanced .ensures) (answered c))
+    subst (λ (s : ShellSession). BatchBecame (batchOf s result) (commit m (batchEnvelopeOf (a .envelope)) (candidate m ps))) (sym (c .with-tables .ensures))
+    (commits-applied (a .t1) m h (batchEnvelopeOf (a .envelope)) ps (ended .0 .0) _ _ _ _ (c .before .advanced .result) result some stored (c .before .advanced .ensures) (answered c))
 
 returns-4 : tie.Need-returns-4
 unfolding gateOf
