@@ -18,16 +18,16 @@ use borrow.Author.Needs.{needs}
 use Rattle.projection_patch.proofs.read_operations.collection_insert.Statement.{statement}
 use Rattle.projection_patch.proofs.read_operations.collection_insert.Tie as tie
 
-abbrev part : tie.After-place → List ℕ
+abbrev part : tie.After-collection-and-key → List ℕ
 part c = c .before .before .args .part .now
 
-abbrev strict : tie.After-place → Bool
+abbrev strict : tie.After-collection-and-key → Bool
 strict c = c .before .before .args .strict
 
-abbrev edition : tie.After-place → Edition
+abbrev edition : tie.After-collection-and-key → Edition
 edition c = editionOf (c .before .before .args .edition)
 
-all-bytes : (c : tie.After-place) → Bytes (part c)
+all-bytes : (c : tie.After-collection-and-key) → Bytes (part c)
 all-bytes c = bytes-of (part c) (λ j. c .before .shared-slice-known .given j .fits)
 
 here : (c : tie.After-known-told) → PlaceAt (part (c .before .before .before)) (c .before .collection .given .0 .0) (c .before .collection .given .0 .1 .0)
@@ -36,7 +36,7 @@ here c =
     let bound = c .before .collection .given in
     place-at (part call) (call .collection-and-key .result) (call .collection-and-key .ensures) (bound .0 .0) (bound .0 .1 .0) (bound .1)
 
-abbrev start : tie.After-known-told2 → tie.After-place
+abbrev start : tie.After-known-told2 → tie.After-collection-and-key
 start c = c .before .before .before .before .before .before .before
 
 abbrev body : tie.After-known-told2 → ℕ

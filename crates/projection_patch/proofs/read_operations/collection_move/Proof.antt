@@ -13,10 +13,10 @@ use borrow.Author.Needs.{needs}
 use Rattle.projection_patch.proofs.read_operations.collection_move.Statement.{statement}
 use Rattle.projection_patch.proofs.read_operations.collection_move.Tie as tie
 
-abbrev part : tie.After-place → List ℕ
+abbrev part : tie.After-collection-and-key → List ℕ
 part c = c .before .before .args .part .now
 
-all-bytes : (c : tie.After-place) → Bytes (part c)
+all-bytes : (c : tie.After-collection-and-key) → Bytes (part c)
 all-bytes c = bytes-of (part c) (λ j. c .before .shared-slice-known .given j .fits)
 
 here : (c : tie.After-known-told) → PlaceAt (part (c .before .before .before)) (c .before .collection .given .0 .0) (c .before .collection .given .0 .1 .0)

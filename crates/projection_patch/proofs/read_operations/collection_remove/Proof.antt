@@ -11,7 +11,7 @@ use borrow.Author.Needs.{needs}
 use Rattle.projection_patch.proofs.read_operations.collection_remove.Statement.{statement}
 use Rattle.projection_patch.proofs.read_operations.collection_remove.Tie as tie
 
-abbrev part : tie.After-place → List ℕ
+abbrev part : tie.After-collection-and-key → List ℕ
 part c = c .before .before .args .part .now
 
 here : (c : tie.After-known-told) → PlaceAt (part (c .before .before .before)) (c .before .collection .given .0 .0) (c .before .collection .given .0 .1 .0)

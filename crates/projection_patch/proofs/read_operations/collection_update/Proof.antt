@@ -16,16 +16,16 @@ use borrow.Author.Needs.{needs}
 use Rattle.projection_patch.proofs.read_operations.collection_update.Statement.{statement}
 use Rattle.projection_patch.proofs.read_operations.collection_update.Tie as tie
 
-abbrev part : tie.After-place → List ℕ
+abbrev part : tie.After-collection-and-key → List ℕ
 part c = c .before .before .args .part .now
 
-abbrev strict : tie.After-place → Bool
+abbrev strict : tie.After-collection-and-key → Bool
 strict c = c .before .before .args .strict
 
-abbrev edition : tie.After-place → Edition
+abbrev edition : tie.After-collection-and-key → Edition
 edition c = editionOf (c .before .before .args .edition)
 
-all-bytes : (c : tie.After-place) → Bytes (part c)
+all-bytes : (c : tie.After-collection-and-key) → Bytes (part c)
 all-bytes c = bytes-of (part c) (λ j. c .before .shared-slice-known .given j .fits)
 
 here : (c : tie.After-known-told) → PlaceAt (part (c .before .before .before)) (c .before .collection .given .0 .0) (c .before .collection .given .0 .1 .0)
