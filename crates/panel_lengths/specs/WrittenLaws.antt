@@ -56,10 +56,10 @@ module _ (count used : ℕ) (plan to : List ℕ) where
   written e = rw e
 
   -- what is written stores the runs, where nothing stands behind the places that were used
-  pub lengths-stored : canWriteLengths count used to ≡ true → places ≤ length to → length to ≡ lengthBytes → ClearBehind used lengthWidth to
+  pub written-lengths-stored : canWriteLengths count used to ≡ true → places ≤ length to → length to ≡ lengthBytes → ClearBehind used lengthWidth to
       → {part : List ℕ} → length part ≡ places → HoldsRows lengthWidth (length (runs (collectionsFrom 0 count plan))) part rows → StoredLengths (writtenLengths count used plan to) (runs (collectionsFrom 0 count plan))
   unfolding tableBytes
-  lengths-stored can inside size clear {part} long held =
+  written-lengths-stored can inside size clear {part} long held =
       let few : length (flatten rows) ≤ places = omega (arith, long, ap length (held .bytes) ∙ length-append (flatten rows) _, length-zeros (length part - length (flatten rows))) in
       let whole : writtenLengths count used plan to ≡ tableBytes (length to) rows = written can ∙ zeros-behind rows places to few inside (clear-behind-more used (max count used) lengthWidth to (le-max-right count used) inside clear) in
       let all : length (writtenLengths count used plan to) ≡ length to = ap length whole ∙ length-append (flatten rows) (zeros (length to - length (flatten rows))) ∙ omega (arith, length-zeros (length to - length (flatten rows))) in

@@ -76,8 +76,8 @@ module _ {ed : Edition} {p : Projection} {ps : List Patch} {set b a e : List ℕ
   abbrev Walked : PlanRun → Walk Projection → Type 0
   Walked = RunWalked (PlannedAs ed p set b a e) (HaltsAt ed set (length ps))
 
-  pub run-applies : (n : ProjectionCounts) → r ≡ plan.Planned n → refused.AllApply ≡ reasonRefusedTo whole
-  run-applies n is = go whole (subst (λ y. Walked y whole) is (told .walked))
+  pub explained-applies : (n : ProjectionCounts) → r ≡ plan.Planned n → refused.AllApply ≡ reasonRefusedTo whole
+  explained-applies n is = go whole (subst (λ y. Walked y whole) is (told .walked))
     where
       go : (w : Walk Projection) → Walked (plan.Planned n) w → refused.AllApply ≡ reasonRefusedTo w
       go (through q) t = refl
@@ -91,5 +91,5 @@ module _ {ed : Edition} {p : Projection} {ps : List Patch} {set b a e : List ℕ
       go (through q) t = absurd t
       go (halted h) t = at h (t .1) (record { plan = t .0 .plan; stored = t .0 .stored .entries; valid = t .0 .stored .valid; sources = resolution p (valueIn ed set); resolves = t .0 .resolves })
 
-  pub run-reads : (f : ProjectionPatchReadFault) → r ≡ plan.Unreadable f → ⊥
-  run-reads f is = subst (λ z. Walked z whole) is (told .walked)
+  pub explained-reads : (f : ProjectionPatchReadFault) → r ≡ plan.Unreadable f → ⊥
+  explained-reads f is = subst (λ z. Walked z whole) is (told .walked)

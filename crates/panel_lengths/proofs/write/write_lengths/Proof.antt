@@ -16,7 +16,7 @@ use Rattle.panel_rows.specs.Rows.{lengthWidth, lengthRow}
 use Rattle.spec_lengths.specs.Lengths.{collectionLengths}
 use Rattle.local_projection_state.specs.Stores.{StoredLengths}
 use Rattle.panel_lengths.specs.Runs.{runs, collectionsFrom}
-use Rattle.panel_lengths.specs.WrittenLaws.{lengths-can-write, many-rows, many-used, other-lengths-table, written, lengths-stored, left, plan-lengths}
+use Rattle.panel_lengths.specs.WrittenLaws.{lengths-can-write, many-rows, many-used, other-lengths-table, written, written-lengths-stored, left, plan-lengths}
 use Rattle.panel_lengths.proofs.write.write_lengths.Statement.{statement}
 use Rattle.panel_lengths.proofs.write.write_lengths.Tie as tie
 
@@ -67,7 +67,7 @@ returns-4 c =
     let same = call .ensures .1 ∙ lent-long in
     let put = lent to [] (take n to) (drop n to) 0 size (sym (take-append-drop n to)) refl (omega (arith, fits g .1)) (λ (l : List ℕ). tableBytes (length l) rows) _ (call .ensures .0 .bytes ∙ ap (λ (k : ℕ). tableBytes k rows) (call .ensures .1)) in
     let is = put ∙ ap (λ (k : ℕ). tableBytes k rows ++ drop n to) part-long ∙ sym (written (a .count) (a .used) (now (a .plan)) to may) in
-    (sym may, (is, λ told clear p s v. subst (λ (t : List ℕ). StoredLengths t (collectionLengths p)) (sym is) (subst (StoredLengths _) (plan-lengths (a .count) (now (a .plan)) p s v) (lengths-stored (a .count) (a .used) (now (a .plan)) to may (fits g .0) (g .before .if3 .left) clear same (call .ensures .0)))))
+    (sym may, (is, λ told clear p s v. subst (λ (t : List ℕ). StoredLengths t (collectionLengths p)) (sym is) (subst (StoredLengths _) (plan-lengths (a .count) (now (a .plan)) p s v) (written-lengths-stored (a .count) (a .used) (now (a .plan)) to may (fits g .0) (g .before .if3 .left) clear same (call .ensures .0)))))
 
 pub write-lengths-spec : {M : Type 1} → statement M
 write-lengths-spec =

@@ -4,7 +4,7 @@ use mathlib.Core.Path.{subst}
 use denote.Ref.{now}
 use Rattle.projection_patch.specs.Meaning.{editionOf}
 use Rattle.panel_steps.specs.Runs.{HaltsAt}
-use Rattle.session_explain.specs.RefusedLaws.{run-applies, run-halts, run-reads}
+use Rattle.session_explain.specs.RefusedLaws.{explained-applies, run-halts, explained-reads}
 use borrow.Author.Needs.{needs}
 use Rattle.session_explain.proofs.operations.refused_from.Statement.{statement}
 use Rattle.session_explain.proofs.operations.refused_from.Tie as tie
@@ -12,7 +12,7 @@ use Rattle.session_explain.proofs.operations.refused_from.Tie as tie
 returns : tie.Need-returns
 returns c =
     let run = c .before .before .before .before .before .before .before .before in
-    λ p ps v s here. run-applies (run .plan-steps .ensures p ps v s here) _ (c .enum-told .given .1)
+    λ p ps v s here. explained-applies (run .plan-steps .ensures p ps v s here) _ (c .enum-told .given .1)
 
 returns-2 : tie.Need-returns-2
 returns-2 c =
@@ -24,7 +24,7 @@ returns-2 c =
 returns-3 : tie.Need-returns-3
 returns-3 c =
     let run = c .before .before .before .before .before .before .before .before .before in
-    λ p ps v s here. absurd (run-reads (run .plan-steps .ensures p ps v s here) _ (c .before .fault .given .1))
+    λ p ps v s here. absurd (explained-reads (run .plan-steps .ensures p ps v s here) _ (c .before .fault .given .1))
 
 pub refused-from-spec : {M : Type 1} → statement M
 refused-from-spec =
