@@ -19,11 +19,13 @@ pub enum CreationRefusal {
 }
 
 impl CreationRefusal {
+    pub const ANCHORS_OVER_CAPACITY: u64 = 13;
+
     pub fn number(self) -> u64
         ensures { λ r. ⌜ r ≡ creationNumber tooManyAnchors ⌝ }
     {
         match self {
-            CreationRefusal::AnchorsOverCapacity => 13,
+            CreationRefusal::AnchorsOverCapacity => CreationRefusal::ANCHORS_OVER_CAPACITY,
         }
     }
 }

@@ -83,9 +83,9 @@ module _ {ed : Edition} {p : Projection} {ps : List Patch} {set b a e : List ℕ
       go (through q) t = refl
       go (halted h) t = absurd t
 
-  pub run-halts : (f : LocalProjectionApplicationError) (c : SetCursor) (n : ProjectionCounts) → r ≡ plan.Refused f c n → (y : FirstRefused)
+  pub walked-halts : (f : LocalProjectionApplicationError) (c : SetCursor) (n : ProjectionCounts) → r ≡ plan.Refused f c n → (y : FirstRefused)
       → ((h : Halt Projection) → HaltsAt ed set (length ps) c h → StandsFor (n .entries) e (h .left) → y ≡ reasonRefusedTo (halted h)) → y ≡ reasonRefusedTo whole
-  run-halts f c n is y at = go whole (subst (λ z. Walked z whole) is (told .walked))
+  walked-halts f c n is y at = go whole (subst (λ z. Walked z whole) is (told .walked))
     where
       go : (w : Walk Projection) → Walked (plan.Refused f c n) w → y ≡ reasonRefusedTo w
       go (through q) t = absurd t

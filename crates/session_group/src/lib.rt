@@ -45,12 +45,14 @@ pub enum GroupAnswer {
 }
 
 impl GroupAnswer {
+    pub const NOT_A_GROUP: u64 = 17;
+
     // 17 for what is no group, 0 for a group: the number of its refused batch stands in that batch's answer.
     pub fn number(self) -> u64
         ensures { λ r. ⌜ r ≡ answerNumber self ⌝ }
     {
         match self {
-            GroupAnswer::NotAGroup => 17,
+            GroupAnswer::NotAGroup => GroupAnswer::NOT_A_GROUP,
             GroupAnswer::Taken {
                 count: _,
                 cursor: _,

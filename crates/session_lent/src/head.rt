@@ -25,7 +25,8 @@ fn lifecycle_of(number: u64) -> ShellLifecycle
     }
 }
 
-pub(crate) fn lifecycle_number(lifecycle: ShellLifecycle) -> u64
+// 0 Created, 1 Active, 2 Suspended, 3 Closed.
+pub fn lifecycle_number(lifecycle: ShellLifecycle) -> u64
     ensures { λ r. ⌜ r ≡ lifecycleNumber (lifecycleOf lifecycle) ⌝ }
 {
     match lifecycle {
@@ -36,7 +37,8 @@ pub(crate) fn lifecycle_number(lifecycle: ShellLifecycle) -> u64
     }
 }
 
-fn cursor_of(kind: u64, number: u64) -> ProjectionReplayCursor
+// A cursor at a number where the first one is not 0.
+pub fn cursor_of(kind: u64, number: u64) -> ProjectionReplayCursor
     ensures { λ r. ⌜ cursorOf r ≡ cursorNumbered kind number ⌝ }
 {
     if kind == 0 {

@@ -4,7 +4,7 @@ use mathlib.Core.Path.{subst}
 use denote.Ref.{now}
 use Rattle.projection_patch.specs.Meaning.{editionOf}
 use Rattle.panel_steps.specs.Runs.{HaltsAt}
-use Rattle.session_explain.specs.RefusedLaws.{explained-applies, run-halts, explained-reads}
+use Rattle.session_explain.specs.RefusedLaws.{explained-applies, walked-halts, explained-reads}
 use borrow.Author.Needs.{needs}
 use Rattle.session_explain.proofs.operations.refused_from.Statement.{statement}
 use Rattle.session_explain.proofs.operations.refused_from.Tie as tie
@@ -18,7 +18,7 @@ returns-2 : tie.Need-returns-2
 returns-2 c =
     let run = c .before .before .before .before .before .before .before .before .before .before .before in
     let a = run .before .before .before .before .before .before .before .before .args in
-    λ p ps v s here. run-halts (run .plan-steps .ensures p ps v s here) _ _ _ (c .before .before .before .cursor .given .1) _
+    λ p ps v s here. walked-halts (run .plan-steps .ensures p ps v s here) _ _ _ (c .before .before .before .cursor .given .1) _
     (λ h k stands. c .refused-at .ensures h (subst (λ (n : ℕ). HaltsAt (editionOf (a .edition)) (now (a .set)) n (c .before .before .before .cursor .given .0 .1 .0) h) (here .patches) k) stands)
 
 returns-3 : tie.Need-returns-3
