@@ -12,7 +12,8 @@ use Rattle.patch_walk.specs.StepsLaws.{opened-at, never-unopened}
 use Rattle.bytes_records.specs.Moves.{zeros}
 use Rattle.panel_rows.specs.Rows.{availabilityBytes}
 use Rattle.panel_plan.specs.PlanRows.{plannedBindingRow, plannedBindingWidth, plannedEntryRow, plannedEntryWidth, PlannedBindings, PlannedEntries}
-use Rattle.panel_changes.specs.SetChangesLaws.{none-stored, whole-copy, plan-starts, opened-short}
+use Rattle.panel_writing.specs.WritingLaws.{overwrite-all}
+use Rattle.panel_changes.specs.SetChangesLaws.{none-stored, plan-starts, opened-short}
 use borrow.Author.Needs.{needs}
 use Rattle.session_explain.proofs.operations.first_refused.Statement.{statement}
 use Rattle.session_explain.proofs.operations.first_refused.Tie as tie
@@ -53,7 +54,7 @@ returns-2 : tie.Need-returns-2
 returns-2 c =
     let o = c .before .before .before .before .before .before .before .before .before .before in
     let a = start o .args in
-    let copied = o .before .before .before .before .before .copy .ensures ∙ whole-copy (a .availability .now) (zeros availabilityBytes) (room (a .availability .now) (o .before .before .before .before .before .before .before .before .before .before .if1 .left)) in
+    let copied = o .before .before .before .before .before .copy .ensures ∙ overwrite-all (a .availability .now) (zeros availabilityBytes) (room (a .availability .now) (o .before .before .before .before .before .before .before .before .before .before .if1 .left)) in
     λ p ps st e. c .before .before .before .refused-from .ensures p ps (st .valid)
     (plan-starts st copied (o .before .before .before .before .before .before .before .before .plan-bindings2 .ensures (p .bindings) (st .bindings) no-bindings) (o .before .before .plan-entries2 .ensures (p .entries) (st .entries) no-entries))
     (opened-at (edition o) (set o) (all-bytes o) ps e (o .open-set .ensures) _ (c .before .before .before .before .before .before .before .before .start .given .1))
