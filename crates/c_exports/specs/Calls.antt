@@ -1,7 +1,6 @@
 -- What the exported calls promise: an answer of the call below, told as numbers, and the memory as that call leaves it.
 use Prim.Native.Nat.{ℕ, _<_, _≤_}
-use mathlib.Core.Path.{_≡_, ap, subst, _∙_}
-use mathlib.Core.Bool.{true, false}
+use mathlib.Core.Path.{_≡_, subst}
 use mathlib.Core.List.{List}
 use Rattle.spec_patch.specs.Edition.{Edition}
 use Rattle.spec_session.specs.Session.{Limits}
@@ -14,7 +13,7 @@ use Rattle.session_lent.specs.declared.lifecycle.LentTransition.{LentTransition
 use Rattle.c_answers.specs.declared.answers.GeysertrayAnswer.{GeysertrayAnswer}
 use Rattle.c_answers.specs.declared.answers.GeysertrayLifecycle.{GeysertrayLifecycle}
 use Rattle.c_answers.specs.Answers.{batchTold, stepTold, creationTold, sessionAbsent, noStep}
-use Rattle.c_answers.specs.Asked.{commandAt, editionAt, isEdition, byEdition}
+use Rattle.c_answers.specs.Asked.{commandAt, editionAt}
 
 -- a call below answers, and what it answers is told as numbers
 pub record Told {A R : Type 0} (tells : A → R) (Call : A → Type 0) (r : R) : Type 0 where
@@ -44,17 +43,6 @@ module _ (edition : ℕ) (v : BatchEnvelope) (declared : ℕ) (set head nodes pa
     pub known : 1 ≤ edition → edition ≤ 2 → BatchedAs r h′ b′ a′ e′ l′
     pub low : edition < 1 → (r ≡ sessionAbsent 4) × SameHalf toH toB toA toE toL h′ b′ a′ e′ l′
     pub high : 2 < edition → (r ≡ sessionAbsent 4) × SameHalf toH toB toA toE toL h′ b′ a′ e′ l′
-
--- ---- what is said by a number's edition
-
-module _ {A : Type 0} {n : ℕ} {x : A} {told : Edition → A} {other : A} where
-  pub by-edition : {ed : Edition} → isEdition n ≡ true → ed ≡ editionAt n → x ≡ told ed → x ≡ byEdition n told other
-  unfolding byEdition
-  by-edition known is e = rw known (e ∙ ap told is)
-
-  pub by-no-edition : isEdition n ≡ false → x ≡ other → x ≡ byEdition n told other
-  unfolding byEdition
-  by-no-edition unknown e = rw unknown e
 
 -- ---- a call told otherwise
 

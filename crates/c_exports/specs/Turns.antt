@@ -1,8 +1,5 @@
 -- What the exported calls on turns answer, as numbers.
 use Prim.Native.Nat.{ℕ}
-use mathlib.Core.Path.{_≡_, subst}
-use mathlib.Core.List.{List}
-use Rattle.spec_session.specs.Session.{Cursor}
 use Rattle.spec_turns.specs.Turns.{setUpNumber, wrongSenderCount, registerNumber}
 use Rattle.session_turns.specs.Meaning.{registerRefusalOf}
 use Rattle.session_turns.specs.declared.SetUpAnswer.{SetUpAnswer}
@@ -11,7 +8,6 @@ use Rattle.session_turns.specs.declared.RegisterAnswer.{RegisterAnswer}
 use Rattle.session_turns.specs.declared.RegisterAnswer.the-variants as register
 use Rattle.session_turns.specs.declared.TurnAnswer.{TurnAnswer}
 use Rattle.session_turns.specs.declared.TurnAnswer.the-variants as turn
-use Rattle.session_lent_turns.specs.LentTurns.{TurnCall}
 use Rattle.session_lent_turns.specs.declared.LentSetUp.{LentSetUp}
 use Rattle.session_lent_turns.specs.declared.LentSetUp.the-variants as lent-set-up
 use Rattle.session_lent_turns.specs.declared.LentRegistration.{LentRegistration}
@@ -47,7 +43,3 @@ turnTo (turn.Turn s n) = record { disposition = 0; named = 1; sender = s; number
 abbrev pub lentTurnTold : LentTurn → GeysertrayTurn
 lentTurnTold (lent-turn.Answered a) = turnTo a
 lentTurnTold lent-turn.NoTurns = record { disposition = 3; named = 0; sender = 0; number = 0 }
-
--- a call that is told the same cursor
-pub same-cursor : {u w : Cursor} {t : List ℕ} {r : LentTurn} {t′ : List ℕ} → u ≡ w → TurnCall u t r t′ → TurnCall w t r t′
-same-cursor {t = t} {r = r} {t′ = t′} is = subst (λ (u : Cursor). TurnCall u t r t′) is

@@ -1,9 +1,10 @@
 -- The line of a term list that was brought in, by what the call answered.
-use Prim.Native.Nat.{ℕ}
-use mathlib.Core.Path.{_≡_, refl, ap, _∙_}
-use mathlib.Core.List.{List, [], _∷_, _++_}
+use Prim.Native.Nat.{ℕ, _-_, _≤_}
+use mathlib.Core.Path.{_≡_, refl, sym, ap, _∙_}
+use mathlib.Core.List.{List, [], _∷_}
 use native.Mathlib.Omega.{arith}
-use lib.ListN.{length, drop}
+use lib.ListN.{length, take, drop, length-append}
+use lib.Seq.{take-at}
 use Rattle.spec_import.specs.Import as model
 use Rattle.spec_import.specs.Import.{importNumber}
 use Rattle.spec_decimal.specs.Decimal.{decimal}
@@ -16,13 +17,21 @@ use Rattle.patch_import.specs.declared.answer.ImportAnswer.{ImportAnswer}
 use Rattle.patch_import.specs.declared.answer.ImportAnswer.the-variants.{Imported, Refused}
 use Rattle.script_answers.specs.ImportOf.{ImportOf}
 
--- the set stands in the output from its start on; P says what is printed
-pub imported-line : (P : List ℕ → Type 0) (c : model.Imported) (answer : ImportAnswer) (written : List ℕ) → ImportOf c answer written → (n : ℕ) → answer ≡ Imported n
-    → ((set rest : List ℕ) → written ≡ set ++ rest → n ≡ length set → P (73 ∷ fields (decimal 0 ∷ hexField set ∷ []))) → P (importLine c)
+-- the set stands in the output from its start on
+pub imported-within : (c : model.Imported) (answer : ImportAnswer) (written : List ℕ) → ImportOf c answer written → (n : ℕ) → answer ≡ Imported n → n ≤ length written
+imported-within (model.imported bs) answer written h n is =
+    let same : n ≡ length bs = cc (is, h .answered) in
+    omega (arith, ap length (h .written), length-append bs (drop (length bs) (h .lent)))
+imported-within (model.refused f) answer written h n is = absurd (let z : _≡_ {A = ℕ} 0 1 = cc (is, h .answered) in omega arith)
+
+pub imported-line : (c : model.Imported) (answer : ImportAnswer) (written : List ℕ) → ImportOf c answer written → (n : ℕ) → answer ≡ Imported n
+    → 73 ∷ fields (decimal 0 ∷ hexField (take (n - 0) (drop 0 written)) ∷ []) ≡ importLine c
 unfolding importLine
-imported-line P (model.imported bs) answer written h n is printed =
-    printed bs (drop (length bs) (h .lent)) (h .written) (let same : n ≡ length bs = cc (is, h .answered) in same)
-imported-line P (model.refused f) answer written h n is printed = absurd (let z : _≡_ {A = ℕ} 0 1 = cc (is, h .answered) in omega arith)
+imported-line (model.imported bs) answer written h n is =
+    let same : n - 0 ≡ length bs = let told : n ≡ length bs = cc (is, h .answered) in omega arith in
+    ap (λ (l : List ℕ). 73 ∷ fields (decimal 0 ∷ hexField l ∷ []))
+    (ap (take (n - 0)) (h .written) ∙ take-at bs (drop (length bs) (h .lent)) (n - 0) (sym same))
+imported-line (model.refused f) answer written h n is = absurd (let z : _≡_ {A = ℕ} 0 1 = cc (is, h .answered) in omega arith)
 
 refusal-back : (f : model.ImportRefusal) → importRefusalOf (importRefusalTo f) ≡ f
 refusal-back model.otherForm = refl

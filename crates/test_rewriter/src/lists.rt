@@ -22,7 +22,7 @@ use projection_patch::read_values::CountRead;
 use std::num;
 
 // A list as far as it was read: its operations so far, where the next part starts, and whether all was readable.
-pub(crate) struct ListRead {
+pub struct ListRead {
     pub list: ProjectionPatchSet,
     pub used: usize,
     pub at: usize,
