@@ -1,2 +1,4 @@
+pub mod PlanMemory
+pub mod PlanMemoryLaws
 pub mod SetChanges
 pub mod SetChangesLaws

@@ -1,5 +1,7 @@
 // A set's operations, applied from the tables before it to those after it: planned on ids first, and then each row is written once.
 // After crates/prom-ui/src/local_projection_state.rs.
+pub mod memory;
+
 ghost use mathlib.Core.Path.{_≡_};
 ghost use mathlib.Core.Bool.{true, false, _&&_};
 ghost use mathlib.Core.List.{List, []};
@@ -15,11 +17,10 @@ ghost use Rattle.spec_projection.specs.Apply.{replaySteps, applySteps};
 ghost use Rattle.spec_projection.specs.Valid.{Valid};
 ghost use Rattle.projection_patch.specs.Meaning.{editionOf};
 ghost use Rattle.patch_walk.specs.Steps.{AtSteps};
-ghost use Rattle.bytes_records.specs.Moves.{zeros};
 ghost use Rattle.panel_rows.specs.Rows.{availabilityBytes, lengthBytes};
 ghost use Rattle.local_projection_state.specs.Stores.{StoredTables};
-ghost use Rattle.panel_plan.specs.PlanRows.{PlannedBindings, PlannedEntries};
-ghost use Rattle.panel_steps.specs.Runs.{RunBecame, PlannedAs};
+ghost use Rattle.panel_steps.specs.Runs.{PlannedAs, RunTold};
+ghost use Rattle.panel_changes.specs.PlanMemory.{planIn, ClearPlan};
 ghost use Rattle.panel_changes.specs.SetChanges.{tablesFit, changeCountsFit, TableLengths, noneUsed, ReadyTables, StoredAfter, ChangeBecame, TablesKeptUnlessApplied};
 use local_projection_state::LocalProjectionState;
 use local_projection_state::ProjectionCounts;
@@ -144,7 +145,7 @@ fn write_tables(
     false
 }
 
-// Plans the operations from a cursor on, in tables without rows that are lent for it.
+// Plans the operations from a cursor on, in the memory of a plan.
 fn plan_set(
     from_bindings: &[u8],
     from_availability: &[u8],
@@ -153,14 +154,14 @@ fn plan_set(
     set: &[u8],
     edition: ProjectionPatchEdition,
     cursor: SetCursor,
-    bindings: &mut [u8],
-    availability: &mut [u8],
-    entries: &mut [u8],
+    bindings: &mut [u8; panel_plan::BINDING_BYTES],
+    availability: &mut [u8; LocalProjectionState::AVAILABILITY_BYTES],
+    entries: &mut [u8; panel_plan::ENTRY_BYTES],
 ) -> PlanRun
-    requires { ⌜ (length (now set) ≤ setBytes) × ((length (now «from_availability») ≡ availabilityBytes) × ((length (now availability) ≡ availabilityBytes) × (changeCountsFit counts ≡ true))) ⌝ }
+    requires { ⌜ (length (now set) ≤ setBytes) × ((length (now «from_availability») ≡ availabilityBytes) × (changeCountsFit counts ≡ true)) ⌝ }
     ensures { λ r. ⌜ ((p : Projection) (ps : List Patch) → StoredTables counts (now («from_bindings» .entry)) (now («from_availability» .entry)) (now («from_entries» .entry)) p
-        → PlannedBindings 0 (now (bindings .entry)) [] → now (availability .entry) ≡ zeros availabilityBytes → PlannedEntries 0 (now (entries .entry)) [] → AtSteps (editionOf edition) (now (set .entry)) cursor [] ps
-        → RunBecame (PlannedAs (editionOf edition) p (now (set .entry)) (now (bindings .exit)) (now (availability .exit)) (now (entries .exit))) r (applySteps p (replaySteps ps))) ⌝ }
+        → ClearPlan (planIn (now (bindings .entry)) (now (availability .entry)) (now (entries .entry))) → AtSteps (editionOf edition) (now (set .entry)) cursor [] ps
+        → RunTold (editionOf edition) p ps (now (set .entry)) (now (bindings .exit)) (now (availability .exit)) (now (entries .exit)) r) ⌝ }
 {
     fill::plan_bindings(from_bindings, counts.bindings, bindings);
     let held = counts.availabilities * panel_rows::AVAILABILITY_WIDTH;
@@ -177,7 +178,7 @@ fn plan_set(
     )
 }
 
-// Plans the operations from a cursor on, and writes the tables when all of them have run.
+// Plans the operations from a cursor on, and writes the tables when all of them have run. The plan's memory is given back without rows.
 fn apply_from(
     from_bindings: &[u8],
     from_availability: &[u8],
@@ -191,16 +192,20 @@ fn apply_from(
     to_entries: &mut [u8],
     to_lengths: &mut [u8],
     used: ProjectionCounts,
+    plan_bindings: &mut [u8; panel_plan::BINDING_BYTES],
+    plan_availability: &mut [u8; LocalProjectionState::AVAILABILITY_BYTES],
+    plan_entries: &mut [u8; panel_plan::ENTRY_BYTES],
 ) -> SetChange
     requires { ⌜ (length (now set) ≤ setBytes) × ((length (now «from_availability») ≡ availabilityBytes) × (TableLengths (now «to_bindings») (now «to_availability») (now «to_entries») × ((length (now «to_lengths») ≡ lengthBytes) × ((changeCountsFit used ≡ true) × (changeCountsFit counts ≡ true))))) ⌝ }
     ensures changed { λ r. ⌜ ((p : Projection) (ps : List Patch) → StoredTables counts (now («from_bindings» .entry)) (now («from_availability» .entry)) (now («from_entries» .entry)) p
         → All (FitsPatch (editionOf edition)) ps → AtSteps (editionOf edition) (now (set .entry)) cursor [] ps → ReadyTables used (now («to_bindings» .entry)) (now («to_availability» .entry)) (now («to_entries» .entry)) (now («to_lengths» .entry))
+        → ClearPlan (planIn (now («plan_bindings» .entry)) (now («plan_availability» .entry)) (now («plan_entries» .entry)))
         → ChangeBecame (λ n q. StoredAfter n (now («to_bindings» .exit)) (now («to_availability» .exit)) (now («to_entries» .exit)) (now («to_lengths» .exit)) q) r (applySteps p (replaySteps ps))) ⌝ }
     ensures kept { λ r. ⌜ TablesKeptUnlessApplied r (now («to_bindings» .entry)) (now («to_availability» .entry)) (now («to_entries» .entry)) (now («to_lengths» .entry)) (now («to_bindings» .exit)) (now («to_availability» .exit)) (now («to_entries» .exit)) (now («to_lengths» .exit)) ⌝ }
+    ensures cleared { λ r. ⌜ ((p : Projection) (ps : List Patch) → StoredTables counts (now («from_bindings» .entry)) (now («from_availability» .entry)) (now («from_entries» .entry)) p
+        → AtSteps (editionOf edition) (now (set .entry)) cursor [] ps → ClearPlan (planIn (now («plan_bindings» .entry)) (now («plan_availability» .entry)) (now («plan_entries» .entry)))
+        → ClearPlan (planIn (now («plan_bindings» .exit)) (now («plan_availability» .exit)) (now («plan_entries» .exit)))) ⌝ }
 {
-    let mut bindings = [0u8; panel_plan::BINDING_BYTES];
-    let mut availability = [0u8; LocalProjectionState::AVAILABILITY_BYTES];
-    let mut entries = [0u8; panel_plan::ENTRY_BYTES];
     match plan_set(
         from_bindings,
         from_availability,
@@ -209,15 +214,15 @@ fn apply_from(
         set,
         edition,
         cursor,
-        &mut bindings,
-        &mut availability,
-        &mut entries,
+        plan_bindings,
+        plan_availability,
+        plan_entries,
     ) {
         PlanRun::Planned(n) => {
-            if write_tables(
-                &bindings,
-                &availability,
-                &entries,
+            let written = write_tables(
+                plan_bindings,
+                plan_availability,
+                plan_entries,
                 n,
                 from_bindings,
                 from_entries,
@@ -228,13 +233,18 @@ fn apply_from(
                 to_entries,
                 to_lengths,
                 used,
-            ) {
+            );
+            memory::clear_plan(plan_bindings, plan_availability, plan_entries, n);
+            if written {
                 SetChange::Applied(n)
             } else {
                 SetChange::BadTables
             }
         }
-        PlanRun::Refused(error, _, _) => SetChange::Refused(error),
+        PlanRun::Refused(error, _, held) => {
+            memory::clear_plan(plan_bindings, plan_availability, plan_entries, held);
+            SetChange::Refused(error)
+        }
         PlanRun::Unreadable(fault) => SetChange::Unreadable(fault),
     }
 }
@@ -252,8 +262,8 @@ pub fn none_used() -> ProjectionCounts
 
 // Applies the operations of a set that is known to be readable: what the first tables store is read, and what the set makes of it is
 // written to the others, with the lengths of its collections, whole or not at all. Of those so many rows were used, and what stands behind
-// them is zero; the table of lengths may hold anything.
-pub fn apply_set<'a>(
+// them is zero. The plan is made in memory of zeros, which are zeros again afterwards.
+pub fn apply_set_with_plan<'a>(
     from_bindings: &'a [u8],
     from_availability: &'a [u8],
     from_entries: &'a [u8],
@@ -265,11 +275,18 @@ pub fn apply_set<'a>(
     to_entries: &mut [u8],
     to_lengths: &mut [u8],
     used: ProjectionCounts,
+    plan_bindings: &mut [u8; panel_plan::BINDING_BYTES],
+    plan_availability: &mut [u8; LocalProjectionState::AVAILABILITY_BYTES],
+    plan_entries: &mut [u8; panel_plan::ENTRY_BYTES],
 ) -> SetChange
     ensures changed { λ r. ⌜ ((p : Projection) (ps : List Patch) → StoredTables counts (now («from_bindings» .entry)) (now («from_availability» .entry)) (now («from_entries» .entry)) p
         → readSet (editionOf edition) (now (set .entry)) ≡ patches ps → ReadyTables used (now («to_bindings» .entry)) (now («to_availability» .entry)) (now («to_entries» .entry)) (now («to_lengths» .entry))
+        → ClearPlan (planIn (now («plan_bindings» .entry)) (now («plan_availability» .entry)) (now («plan_entries» .entry)))
         → ChangeBecame (λ n q. StoredAfter n (now («to_bindings» .exit)) (now («to_availability» .exit)) (now («to_entries» .exit)) (now («to_lengths» .exit)) q) r (applySteps p (replaySteps ps))) ⌝ }
     ensures kept { λ r. ⌜ TablesKeptUnlessApplied r (now («to_bindings» .entry)) (now («to_availability» .entry)) (now («to_entries» .entry)) (now («to_lengths» .entry)) (now («to_bindings» .exit)) (now («to_availability» .exit)) (now («to_entries» .exit)) (now («to_lengths» .exit)) ⌝ }
+    ensures cleared { λ r. ⌜ ((p : Projection) (ps : List Patch) → StoredTables counts (now («from_bindings» .entry)) (now («from_availability» .entry)) (now («from_entries» .entry)) p
+        → readSet (editionOf edition) (now (set .entry)) ≡ patches ps → ClearPlan (planIn (now («plan_bindings» .entry)) (now («plan_availability» .entry)) (now («plan_entries» .entry)))
+        → ClearPlan (planIn (now («plan_bindings» .exit)) (now («plan_availability» .exit)) (now («plan_entries» .exit)))) ⌝ }
 {
     if to_lengths.len() != LocalProjectionState::LENGTH_BYTES {
         return SetChange::BadTables;
@@ -298,10 +315,53 @@ pub fn apply_set<'a>(
                 to_entries,
                 to_lengths,
                 used,
+                plan_bindings,
+                plan_availability,
+                plan_entries,
             ),
             SetOpening::Refused(fault) => SetChange::Unreadable(fault),
         }
     } else {
         SetChange::BadTables
     }
+}
+
+// The same, in a plan of its own.
+pub fn apply_set<'a>(
+    from_bindings: &'a [u8],
+    from_availability: &'a [u8],
+    from_entries: &'a [u8],
+    counts: ProjectionCounts,
+    set: &[u8],
+    edition: ProjectionPatchEdition,
+    to_bindings: &mut [u8],
+    to_availability: &mut [u8],
+    to_entries: &mut [u8],
+    to_lengths: &mut [u8],
+    used: ProjectionCounts,
+) -> SetChange
+    ensures changed { λ r. ⌜ ((p : Projection) (ps : List Patch) → StoredTables counts (now («from_bindings» .entry)) (now («from_availability» .entry)) (now («from_entries» .entry)) p
+        → readSet (editionOf edition) (now (set .entry)) ≡ patches ps → ReadyTables used (now («to_bindings» .entry)) (now («to_availability» .entry)) (now («to_entries» .entry)) (now («to_lengths» .entry))
+        → ChangeBecame (λ n q. StoredAfter n (now («to_bindings» .exit)) (now («to_availability» .exit)) (now («to_entries» .exit)) (now («to_lengths» .exit)) q) r (applySteps p (replaySteps ps))) ⌝ }
+    ensures kept { λ r. ⌜ TablesKeptUnlessApplied r (now («to_bindings» .entry)) (now («to_availability» .entry)) (now («to_entries» .entry)) (now («to_lengths» .entry)) (now («to_bindings» .exit)) (now («to_availability» .exit)) (now («to_entries» .exit)) (now («to_lengths» .exit)) ⌝ }
+{
+    let mut bindings = [0u8; panel_plan::BINDING_BYTES];
+    let mut availability = [0u8; LocalProjectionState::AVAILABILITY_BYTES];
+    let mut entries = [0u8; panel_plan::ENTRY_BYTES];
+    apply_set_with_plan(
+        from_bindings,
+        from_availability,
+        from_entries,
+        counts,
+        set,
+        edition,
+        to_bindings,
+        to_availability,
+        to_entries,
+        to_lengths,
+        used,
+        &mut bindings,
+        &mut availability,
+        &mut entries,
+    )
 }
