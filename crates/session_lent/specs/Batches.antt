@@ -11,6 +11,7 @@ use Rattle.spec_session.specs.Diagnostics.{SessionRefusal}
 use Rattle.spec_session.specs.Batch.{BatchStep, BatchEnvelope, refuse, batch}
 use Rattle.panel_rows.specs.Rows.{lengthBytes}
 use Rattle.session_gates.specs.Gates.{preflightBy}
+use Rattle.panel_changes.specs.PlanMemory.{PlanTables, ClearPlan}
 use Rattle.panel_changes.specs.declared.SetChange.{SetChange}
 use Rattle.panel_changes.specs.declared.SetChange.the-variants as change
 use Rattle.session_steps.specs.Answers.{batchAnswerOf, rejectedAt, AnswerRow}
@@ -48,10 +49,10 @@ pub record LentStep (result : ProjectionPatchApplicationResult) (m : Session) (h
 
 -- ---- the calls: what is read, what is written to before, the answer, and what is written to afterwards
 
-module _ (ed : Edition) (v : BatchEnvelope) (declared : ℕ) (set head nodes pairs collections b a e toH toB toA toE toL : List ℕ) where
+module _ (ed : Edition) (v : BatchEnvelope) (declared : ℕ) (set head nodes pairs collections b a e toH toB toA toE toL : List ℕ) (plan : PlanTables) where
   -- on memory of the right shape
   pub record ShapedCall (result : ProjectionPatchApplicationResult) (h′ b′ a′ e′ l′ : List ℕ) : Type 0 where
-    pub became : (m : Session) (l : List ℕ) → LentSession head nodes pairs collections b a e l m → LentRoom toH toB toA toE toL → LentStep result m h′ nodes pairs collections b′ a′ e′ l′ (batch ed m v declared set)
+    pub became : (m : Session) (l : List ℕ) → LentSession head nodes pairs collections b a e l m → LentRoom toH toB toA toE toL → ClearPlan plan → LentStep result m h′ nodes pairs collections b′ a′ e′ l′ (batch ed m v declared set)
     pub kept : (result .disposition ≡ Applied → ⊥) → SameHalf toH toB toA toE toL h′ b′ a′ e′ l′
     pub row : AnswerRow (limitsAt head .diagnostics) (stateAt head .cursor) (v .sequence) (batchAnswerOf result)
     pub preflight : (f : SessionRefusal) (n : ℕ) → preflightBy (stateAt head .id) (limitsAt head) (stateAt head .lifecycle) v ≡ refuse f n → batchAnswerOf result ≡ rejectedAt (limitsAt head .diagnostics) f n (stateAt head .cursor)
@@ -66,3 +67,7 @@ module _ (ed : Edition) (v : BatchEnvelope) (declared : ℕ) (set head nodes pai
   pub record BatchCallOnSlices (r : LentBatch) (h′ b′ a′ e′ l′ : List ℕ) : Type 0 where
     pub answered : memoryShaped ≡ true → (result : ProjectionPatchApplicationResult) × ((r ≡ Answered result) × ShapedCall result h′ b′ a′ e′ l′)
     pub refused : memoryShaped ≡ false → (r ≡ NoSession) × SameHalf toH toB toA toE toL h′ b′ a′ e′ l′
+
+-- the memory of a plan, lent without rows, is given back so
+abbrev pub PlanGivenBack : (head nodes pairs collections b a e : List ℕ) (plan plan′ : PlanTables) → Type 0
+PlanGivenBack head nodes pairs collections b a e plan plan′ = (m : Session) (l : List ℕ) → LentSession head nodes pairs collections b a e l m → ClearPlan plan → ClearPlan plan′

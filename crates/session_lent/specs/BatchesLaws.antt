@@ -124,6 +124,11 @@ applied-became P H u n x is moved became = go x (subst (λ w. ChangeBecame P w x
     go (done q) k = (moved, k)
     go (stopped f) k = k
 
+-- ---- a set that passes the steps before it is applied is readable
+
+pub passed-reads : (ed : Edition) (m : Session) (v : BatchEnvelope) (declared : ℕ) (set : List ℕ) → pass tt ≡ erased (batchChecks ed m v declared set) → (ps : List Patch) × (readSet ed set ≡ patches ps)
+passed-reads ed m v declared set h = let p = erased-passed (batchChecks ed m v declared set) h in (p .0, checks-passed ed m v declared set (p .0) (p .1) .reads)
+
 -- ---- the steps on what the head tells
 
 module _ (head nodes pairs collections b a e : List ℕ) (limits : ShellLifecycleLimits) (state : ShellLocalState) (limits-are : limitsOf limits ≡ limitsAt head) (state-is : shellStateOf state ≡ stateAt head) where

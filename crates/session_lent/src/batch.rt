@@ -1,6 +1,7 @@
 // One batch on a lent session: steps 1 to 8 on what its head and anchors tell, then step 9 from one half of the memory to the other.
 use crate::head;
 use crate::shape;
+use local_projection_state::LocalProjectionState;
 use panel_changes::SetChange;
 use projection_patch::patch::ProjectionPatchEdition;
 use session_gates::batch;
@@ -21,10 +22,11 @@ ghost use Rattle.spec_projection.specs.Apply.{replaySteps, applySteps};
 ghost use Rattle.projection_patch.specs.Meaning.{editionOf};
 ghost use Rattle.local_projection_state.specs.Stores.{StoredTables};
 ghost use Rattle.panel_changes.specs.SetChanges.{StoredAfter, ChangeBecame};
+ghost use Rattle.panel_changes.specs.PlanMemory.{planIn, ClearPlan};
 ghost use Rattle.session_gates.specs.Gates.{batchEnvelopeOf};
 ghost use Rattle.session_lent.specs.Head.{headNumbers, countsAt, movedHead};
 ghost use Rattle.session_lent.specs.LentSession.{halfShaped, LentRoom};
-ghost use Rattle.session_lent.specs.Batches.{KeptUnlessChanged, ShapedCall, BatchCallOnSlices};
+ghost use Rattle.session_lent.specs.Batches.{KeptUnlessChanged, ShapedCall, BatchCallOnSlices, PlanGivenBack};
 
 // The answer, or that the slices cannot hold a session: one has another length, or a count is over its capacity.
 pub enum LentBatch {
@@ -46,16 +48,22 @@ fn commit<'a>(
     to_availability: &mut [u8],
     to_entries: &mut [u8],
     to_lengths: &mut [u8],
+    plan_bindings: &mut [u8; panel_plan::BINDING_BYTES],
+    plan_availability: &mut [u8; LocalProjectionState::AVAILABILITY_BYTES],
+    plan_entries: &mut [u8; panel_plan::ENTRY_BYTES],
 ) -> SetChange
     requires { ⌜ (length (now head) ≡ headNumbers) × (length (now «to_head») ≡ headNumbers) ⌝ }
     ensures changed { λ r. ⌜ ((p : Projection) (ps : List Patch) → StoredTables (countsAt (now (head .entry))) (now (bindings .entry)) (now (availability .entry)) (now (entries .entry)) p
         → readSet (editionOf edition) (now (set .entry)) ≡ patches ps → LentRoom (now («to_head» .entry)) (now («to_bindings» .entry)) (now («to_availability» .entry)) (now («to_entries» .entry)) (now («to_lengths» .entry))
+        → ClearPlan (planIn (now («plan_bindings» .entry)) (now («plan_availability» .entry)) (now («plan_entries» .entry)))
         → ChangeBecame (λ n q. (now («to_head» .exit) ≡ movedHead (now (head .entry)) «sequence_no» n) × StoredAfter n (now («to_bindings» .exit)) (now («to_availability» .exit)) (now («to_entries» .exit)) (now («to_lengths» .exit)) q) r (applySteps p (replaySteps ps))) ⌝ }
     ensures kept { λ r. ⌜ KeptUnlessChanged r (now («to_head» .entry)) (now («to_bindings» .entry)) (now («to_availability» .entry)) (now («to_entries» .entry)) (now («to_lengths» .entry)) (now («to_head» .exit)) (now («to_bindings» .exit)) (now («to_availability» .exit)) (now («to_entries» .exit)) (now («to_lengths» .exit)) ⌝ }
+    ensures cleared { λ r. ⌜ ((p : Projection) (ps : List Patch) → StoredTables (countsAt (now (head .entry))) (now (bindings .entry)) (now (availability .entry)) (now (entries .entry)) p
+        → readSet (editionOf edition) (now (set .entry)) ≡ patches ps → ClearPlan (planIn (now («plan_bindings» .entry)) (now («plan_availability» .entry)) (now («plan_entries» .entry))) → ClearPlan (planIn (now («plan_bindings» .exit)) (now («plan_availability» .exit)) (now («plan_entries» .exit)))) ⌝ }
 {
     let counts = head::counts_in(head);
     let used = head::counts_in(to_head);
-    let change = panel_changes::apply_set(
+    let change = panel_changes::apply_set_with_plan(
         bindings,
         availability,
         entries,
@@ -67,6 +75,9 @@ fn commit<'a>(
         to_entries,
         to_lengths,
         used,
+        plan_bindings,
+        plan_availability,
+        plan_entries,
     );
     let SetChange::Applied(next) = change else {
         return change;
@@ -93,10 +104,16 @@ pub fn apply_shaped<'a>(
     to_availability: &mut [u8],
     to_entries: &mut [u8],
     to_lengths: &mut [u8],
+    plan_bindings: &mut [u8; panel_plan::BINDING_BYTES],
+    plan_availability: &mut [u8; LocalProjectionState::AVAILABILITY_BYTES],
+    plan_entries: &mut [u8; panel_plan::ENTRY_BYTES],
 ) -> ProjectionPatchApplicationResult
     requires { ⌜ (length (now head) ≡ headNumbers) × (length (now «to_head») ≡ headNumbers) ⌝ }
-    ensures { λ r. ⌜ ShapedCall (editionOf edition) (batchEnvelopeOf envelope) declared (now (set .entry)) (now (head .entry)) (now (nodes .entry)) (now (pairs .entry)) (now (collections .entry)) (now (bindings .entry)) (now (availability .entry)) (now (entries .entry))
-        (now («to_head» .entry)) (now («to_bindings» .entry)) (now («to_availability» .entry)) (now («to_entries» .entry)) (now («to_lengths» .entry)) r (now («to_head» .exit)) (now («to_bindings» .exit)) (now («to_availability» .exit)) (now («to_entries» .exit)) (now («to_lengths» .exit)) ⌝ }
+    ensures called { λ r. ⌜ ShapedCall (editionOf edition) (batchEnvelopeOf envelope) declared (now (set .entry)) (now (head .entry)) (now (nodes .entry)) (now (pairs .entry)) (now (collections .entry)) (now (bindings .entry)) (now (availability .entry)) (now (entries .entry))
+        (now («to_head» .entry)) (now («to_bindings» .entry)) (now («to_availability» .entry)) (now («to_entries» .entry)) (now («to_lengths» .entry))
+        (planIn (now («plan_bindings» .entry)) (now («plan_availability» .entry)) (now («plan_entries» .entry))) r (now («to_head» .exit)) (now («to_bindings» .exit)) (now («to_availability» .exit)) (now («to_entries» .exit)) (now («to_lengths» .exit)) ⌝ }
+    ensures cleared { λ r. ⌜ PlanGivenBack (now (head .entry)) (now (nodes .entry)) (now (pairs .entry)) (now (collections .entry)) (now (bindings .entry)) (now (availability .entry)) (now (entries .entry))
+        (planIn (now («plan_bindings» .entry)) (now («plan_availability» .entry)) (now («plan_entries» .entry))) (planIn (now («plan_bindings» .exit)) (now («plan_availability» .exit)) (now («plan_entries» .exit))) ⌝ }
 {
     let limits = head::limits_in(head);
     let state = head::state_in(head);
@@ -135,12 +152,15 @@ pub fn apply_shaped<'a>(
         to_availability,
         to_entries,
         to_lengths,
+        plan_bindings,
+        plan_availability,
+        plan_entries,
     );
     answers::concluded(cap, change, cursor, number)
 }
 
 // One batch: steps 1 to 9. The session in the first slices stays; the next one is written to the others where the answer is Applied, and nothing
-// is written otherwise.
+// is written otherwise. The plan is made in memory of zeros, which are zeros again afterwards.
 pub fn apply_projection_patch_batch<'a>(
     head: &[u64],
     nodes: &[u64],
@@ -158,9 +178,15 @@ pub fn apply_projection_patch_batch<'a>(
     to_availability: &mut [u8],
     to_entries: &mut [u8],
     to_lengths: &mut [u8],
+    plan_bindings: &mut [u8; panel_plan::BINDING_BYTES],
+    plan_availability: &mut [u8; LocalProjectionState::AVAILABILITY_BYTES],
+    plan_entries: &mut [u8; panel_plan::ENTRY_BYTES],
 ) -> LentBatch
-    ensures { λ r. ⌜ BatchCallOnSlices (editionOf edition) (batchEnvelopeOf envelope) «declared_target_reference_count» (now (set .entry)) (now (head .entry)) (now (nodes .entry)) (now (pairs .entry)) (now (collections .entry)) (now (bindings .entry)) (now (availability .entry)) (now (entries .entry))
-        (now («to_head» .entry)) (now («to_bindings» .entry)) (now («to_availability» .entry)) (now («to_entries» .entry)) (now («to_lengths» .entry)) r (now («to_head» .exit)) (now («to_bindings» .exit)) (now («to_availability» .exit)) (now («to_entries» .exit)) (now («to_lengths» .exit)) ⌝ }
+    ensures called { λ r. ⌜ BatchCallOnSlices (editionOf edition) (batchEnvelopeOf envelope) «declared_target_reference_count» (now (set .entry)) (now (head .entry)) (now (nodes .entry)) (now (pairs .entry)) (now (collections .entry)) (now (bindings .entry)) (now (availability .entry)) (now (entries .entry))
+        (now («to_head» .entry)) (now («to_bindings» .entry)) (now («to_availability» .entry)) (now («to_entries» .entry)) (now («to_lengths» .entry))
+        (planIn (now («plan_bindings» .entry)) (now («plan_availability» .entry)) (now («plan_entries» .entry))) r (now («to_head» .exit)) (now («to_bindings» .exit)) (now («to_availability» .exit)) (now («to_entries» .exit)) (now («to_lengths» .exit)) ⌝ }
+    ensures cleared { λ r. ⌜ PlanGivenBack (now (head .entry)) (now (nodes .entry)) (now (pairs .entry)) (now (collections .entry)) (now (bindings .entry)) (now (availability .entry)) (now (entries .entry))
+        (planIn (now («plan_bindings» .entry)) (now («plan_availability» .entry)) (now («plan_entries» .entry))) (planIn (now («plan_bindings» .exit)) (now («plan_availability» .exit)) (now («plan_entries» .exit))) ⌝ }
 {
     if shape::memory_shaped(
         nodes.len(),
@@ -193,6 +219,9 @@ pub fn apply_projection_patch_batch<'a>(
             to_availability,
             to_entries,
             to_lengths,
+            plan_bindings,
+            plan_availability,
+            plan_entries,
         );
         return LentBatch::Answered(result);
     }

@@ -17,22 +17,27 @@ second x y z w h = and-left y (z && w) (and-right x (y && (z && w)) h)
 third : (x y z w : Bool) → (x && (y && (z && w))) ≡ true → z ≡ true
 third x y z w h = and-left z w (and-right y (z && w) (and-right x (y && (z && w)) h))
 
+-- where the call began
+abbrev startOf : tie.After-memory-shaped → tie.Start
+startOf c = c .before .before .before .before .before .before .before .before .before .before .before .before .before .before .before
+
 apply-shaped-requires : tie.Need-apply-shaped-requires
 apply-shaped-requires c κs =
-    let a = c .before .before .before .before .before .before .before .before .before .before .before .before .before .before .before .before .before .before .before .before .before .args in
-    let shaped = sym (c .before .before .before .before .before .before .memory-shaped .ensures) ∙ c .before .before .before .before .before .if1 .taken in
+    let a = startOf (c .before .before .before .before .before .before .before .before .before) .args in
+    let shaped = sym (c .before .before .before .before .before .before .before .before .before .memory-shaped .ensures) ∙ c .before .before .before .before .before .before .before .before .if1 .taken in
     (half-head (a .head .now) _ _ _ (second (anchorsShaped (length (a .nodes .now)) (length (a .pairs .now)) (length (a .collections .now))) (halfShaped (a .head .now) (length (a .bindings .now)) (length (a .availability .now)) (length (a .entries .now))) (halfShaped (a .to-head .now) (length (a .to-bindings .now)) (length (a .to-availability .now)) (length (a .to-entries .now))) (eqb (length (a .to-lengths .now)) lengthBytes) shaped), half-head (a .to-head .now) _ _ _ (third (anchorsShaped (length (a .nodes .now)) (length (a .pairs .now)) (length (a .collections .now))) (halfShaped (a .head .now) (length (a .bindings .now)) (length (a .availability .now)) (length (a .entries .now))) (halfShaped (a .to-head .now) (length (a .to-bindings .now)) (length (a .to-availability .now)) (length (a .to-entries .now))) (eqb (length (a .to-lengths .now)) lengthBytes) shaped))
 
 returns : tie.Need-returns
 returns c =
-    let call = c .before .before .before .before .before .before .before .before .before .before .apply-shaped in
-    let shaped = sym (c .before .before .before .before .before .before .before .before .before .before .before .before .before .before .before .before .before .memory-shaped .ensures) ∙ c .before .before .before .before .before .before .before .before .before .before .before .before .before .before .before .before .if1 .taken in
-    record { answered = λ yes. (call .result, (refl, call .ensures)); refused = λ no. absurd (false≢true (sym no ∙ shaped)) }
+    let done = c .before .before .before .before .before .before .before .before .before .before in
+    let call = done .apply-shaped in
+    let shaped = sym (done .before .before .before .before .before .before .before .before .before .before .memory-shaped .ensures) ∙ done .before .before .before .before .before .before .before .before .before .if1 .taken in
+    (record { answered = λ yes. (call .result, (refl, call .ensures .0)); refused = λ no. absurd (false≢true (sym no ∙ shaped)) }, call .ensures .1)
 
 returns-2 : tie.Need-returns-2
 returns-2 c =
     let other = sym (c .before .memory-shaped .ensures) ∙ c .if1 .left in
-    record { answered = λ yes. absurd (false≢true (sym other ∙ yes)); refused = λ no. (refl, (refl, (refl, (refl, (refl, refl))))) }
+    (record { answered = λ yes. absurd (false≢true (sym other ∙ yes)); refused = λ no. (refl, (refl, (refl, (refl, (refl, refl))))) }, λ m l h clear. clear)
 
 pub apply-projection-patch-batch-spec : {M : Type 1} → statement M
 apply-projection-patch-batch-spec =

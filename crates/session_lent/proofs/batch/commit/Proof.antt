@@ -20,38 +20,52 @@ stored {b = b} {a = a} {e = e} {p = p} n is = subst (λ (x : ProjectionCounts). 
 ready : {b a e l : List ℕ} {k : ProjectionCounts} (n : ProjectionCounts) → n ≡ k → ReadyTables k b a e l → ReadyTables n b a e l
 ready {b = b} {a = a} {e = e} {l = l} n is = subst (λ (x : ProjectionCounts). ReadyTables x b a e l) (sym is)
 
+-- where the call began, and what the two heads tell
+abbrev startOf : tie.After-counts-in2 → tie.Start
+startOf c = c .before .before .before .before .before .before .before .before .before .before .before .before .before
+
+abbrev toldOf : tie.After-apply-set-with-plan → tie.After-counts-in2
+toldOf c = c .before .before .before .before .before .before .before .before
+
 returns : tie.Need-returns
 returns c =
-    let a = c .before .before .before .before .before .before .before .before .before .before .before .before .before .before .before .before .before .before .before .before .before .before .before .before .before .before .before .args in
-    let call = c .before .before .before .before .before .before .before .before .before .apply-set in
+    let done = c .before .before .before .before .before .before .before .before .before in
+    let told = toldOf done in
+    let a = startOf told .args in
+    let call = done .apply-set-with-plan in
     let b = call .last .1 .1 .1 .1 .1 .1 .0 in
     let v = call .last .1 .1 .1 .1 .1 .1 .1 .0 in
     let e = call .last .1 .1 .1 .1 .1 .1 .1 .1 .0 in
     let l = call .last .1 .1 .1 .1 .1 .1 .1 .1 .1 .0 in
     let stop = other-stopped (call .result) (c .match .keys2) in (
-      λ p ps st reads room.
+      λ p ps st reads room clear.
           stopped-became (λ n q. StoredAfter n b v e l q) (λ n q. (a .to-head .now ≡ movedHead (a .head .now) (a .sequence-no) n) × StoredAfter n b v e l q) (call .result) (applySteps p (replaySteps ps)) stop
-          (call .ensures .0 p ps (stored _ (c .before .before .before .before .before .before .before .before .before .before .before .before .before .before .before .before .counts-in .ensures) st) reads (ready _ (c .before .before .before .before .before .before .before .before .before .before .before .before .before .before .counts-in2 .ensures) (room .tables))),
-      stopped-kept (call .result) (a .to-head .now) (a .to-bindings .now) (a .to-availability .now) (a .to-entries .now) (a .to-lengths .now) b v e l stop (call .ensures .1),
+          (call .ensures .0 p ps (stored _ (told .before .before .counts-in .ensures) st) reads (ready _ (told .counts-in2 .ensures) (room .tables)) clear),
+      (
+        stopped-kept (call .result) (a .to-head .now) (a .to-bindings .now) (a .to-availability .now) (a .to-entries .now) (a .to-lengths .now) b v e l stop (call .ensures .1 .0),
+        λ p ps st. call .ensures .1 .1 p ps (stored _ (told .before .before .counts-in .ensures) st),
+      ),
     )
 
 store-moved-requires : tie.Need-store-moved-requires
-store-moved-requires c κs = c .before .before .before .before .before .before .before .before .before .before .before .before .before .before .before .before .before .before .before .before .before .before .before .before .before .before .before .before .before .before .pre
+store-moved-requires c κs = startOf (toldOf (c .before .before .before .before .before .before .before .before .before .before .before .before)) .pre
 
 returns-2 : tie.Need-returns-2
 returns-2 c =
-    let a = c .before .before .before .before .before .before .before .before .before .before .before .before .before .before .before .before .before .before .before .before .before .before .before .before .before .before .before .before .before .before .before .before .before .args in
-    let call = c .before .before .before .before .before .before .before .before .before .before .before .before .before .before .before .apply-set in
+    let done = c .before .before .before .before .before .before .before .before .before .before .before .before .before .before .before in
+    let told = toldOf done in
+    let a = startOf told .args in
+    let call = done .apply-set-with-plan in
     let b = call .last .1 .1 .1 .1 .1 .1 .0 in
     let v = call .last .1 .1 .1 .1 .1 .1 .1 .0 in
     let e = call .last .1 .1 .1 .1 .1 .1 .1 .1 .0 in
     let l = call .last .1 .1 .1 .1 .1 .1 .1 .1 .1 .0 in
     let h = c .before .before .store-moved .last .1 .1 .1 .0 in
     let bound = c .before .before .before .before .before .change .given in (
-      λ p ps st reads room.
+      λ p ps st reads room clear.
           applied-became (λ n q. StoredAfter n b v e l q) (λ n. h ≡ movedHead (a .head .now) (a .sequence-no) n) (call .result) (bound .0 .0) (applySteps p (replaySteps ps)) (bound .1) (c .before .before .store-moved .ensures)
-          (call .ensures .0 p ps (stored _ (c .before .before .before .before .before .before .before .before .before .before .before .before .before .before .before .before .before .before .before .before .before .before .counts-in .ensures) st) reads (ready _ (c .before .before .before .before .before .before .before .before .before .before .before .before .before .before .before .before .before .before .before .before .counts-in2 .ensures) (room .tables))),
-      tt,
+          (call .ensures .0 p ps (stored _ (told .before .before .counts-in .ensures) st) reads (ready _ (told .counts-in2 .ensures) (room .tables)) clear),
+      (tt, λ p ps st. call .ensures .1 .1 p ps (stored _ (told .before .before .counts-in .ensures) st)),
     )
 
 pub commit-spec : {M : Type 1} → statement M
