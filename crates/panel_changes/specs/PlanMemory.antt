@@ -20,3 +20,6 @@ pub record ClearPlan (t : PlanTables) : Type 0 where
   pub bindings : t .bindings ≡ zeros (projectionBindings * plannedBindingWidth)
   pub availability : t .availability ≡ zeros availabilityBytes
   pub entries : t .entries ≡ zeros (projectionEntries * plannedEntryWidth)
+
+abbrev pub noPlan : PlanTables
+noPlan = planIn (zeros (projectionBindings * plannedBindingWidth)) (zeros availabilityBytes) (zeros (projectionEntries * plannedEntryWidth))

@@ -1,6 +1,6 @@
 -- Tables whose rows are cleared have none, and a plan starts in tables that have none.
 use Prim.Native.Nat.{ℕ, _+_, _-_, _*_, _≤_}
-use mathlib.Core.Path.{_≡_, sym, ap, subst, _∙_}
+use mathlib.Core.Path.{_≡_, refl, sym, ap, subst, _∙_}
 use mathlib.Core.List.{List, [], _++_}
 use native.Mathlib.Nat.{mul-le-mul-right}
 use native.Mathlib.Omega.{arith}
@@ -18,8 +18,11 @@ use Rattle.panel_steps.specs.Runs.{RunWalked}
 use Rattle.panel_steps.specs.declared.PlanRun.{PlanRun}
 use Rattle.panel_steps.specs.declared.PlanRun.the-variants as plan
 use Rattle.panel_writing.specs.Writing.{ClearBehind}
-use Rattle.panel_changes.specs.PlanMemory.{PlanTables, ClearPlan}
+use Rattle.panel_changes.specs.PlanMemory.{PlanTables, ClearPlan, noPlan}
 use Rattle.panel_changes.specs.SetChangesLaws.{none-stored}
+
+pub no-plan-clear : ClearPlan noPlan
+no-plan-clear = record { bindings = refl; availability = refl; entries = refl }
 
 -- ---- a plan starts in them
 

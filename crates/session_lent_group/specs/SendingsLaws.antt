@@ -20,6 +20,8 @@ use Rattle.session_steps.specs.declared.answers.ProjectionPatchApplicationResul
 use Rattle.session_group.specs.declared.GroupBatch.{GroupBatch}
 use Rattle.session_group.specs.Groups.{batchMeans, namedBatch}
 use Rattle.session_group.specs.GroupsLaws.{noBatch, named-cons, named-none}
+use Rattle.panel_changes.specs.PlanMemory.{noPlan}
+use Rattle.panel_changes.specs.PlanMemoryLaws.{no-plan-clear}
 use Rattle.session_lent.specs.Batches.{NextIn, LentStep, ShapedCall}
 use Rattle.session_lent.specs.Halves.{Anchors, Half, halfWith, HeldIn, RoomIn}
 use Rattle.session_lent.specs.HalvesLaws.{held-room, same-half}
@@ -122,10 +124,10 @@ module _ (k : Anchors) (h b a e : List ℕ) (sets : List ℕ) (g : GroupLeft) wh
 
     module _ (more : place < g .count) (r : ProjectionPatchApplicationResult) (after : Half)
         (call : ShapedCall (editionOf (nextBatch (leftFrom g place at) .edition)) (batchEnvelopeOf (nextBatch (leftFrom g place at) .envelope)) (nextBatch (leftFrom g place at) .«declared_target_reference_count») (take (nextBatch (leftFrom g place at) .bytes) (drop at sets))
-        h (k .nodes) (k .pairs) (k .collections) b a e (now .head) (now .bindings) (now .availability) (now .entries) (now .lengths) r (after .head) (after .bindings) (after .availability) (after .entries) (after .lengths)) where
+        h (k .nodes) (k .pairs) (k .collections) b a e (now .head) (now .bindings) (now .availability) (now .entries) (now .lengths) noPlan r (after .head) (after .bindings) (after .availability) (after .entries) (after .lengths)) where
       step-in : (m : Session) (l : List ℕ) → HeldIn k (halfWith h b a e l) m → RoomIn before → LentStep r m (after .head) (k .nodes) (k .pairs) (k .collections) (after .bindings) (after .availability) (after .entries) (after .lengths) (sendFirst m (batchMeans (nextBatch (leftFrom g place at))) (drop at sets))
       unfolding sendFirst
-      step-in m l held room = call .became m l held (subst RoomIn (sym (on .kept)) room)
+      step-in m l held room = call .became m l held (subst RoomIn (sym (on .kept)) room) no-plan-clear
 
       stays : (r .disposition ≡ Applied → ⊥) → after ≡ before
       stays not = same-half (call .kept not) ∙ on .kept

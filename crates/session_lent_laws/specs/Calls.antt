@@ -9,6 +9,7 @@ use Rattle.spec_patch.specs.Edition.{Edition}
 use Rattle.spec_patch.specs.Encode.{encode}
 use Rattle.spec_session.specs.Session.{at}
 use Rattle.spec_splitting.specs.Splitting.{Piece, references, isRejected}
+use Rattle.panel_changes.specs.PlanMemory.{PlanTables}
 use Rattle.session_steps.specs.declared.answers.ProjectionPatchApplicationDisposition.the-variants.{Applied}
 use Rattle.session_steps.specs.declared.answers.ProjectionPatchApplicationResult.{ProjectionPatchApplicationResult}
 use Rattle.session_steps.specs.Answers.{dispositionTold}
@@ -20,19 +21,20 @@ use Rattle.session_lent.specs.declared.batch.LentBatch.the-variants.{Answered}
 use Rattle.session_lent.specs.Halves.{Anchors, Half}
 use Rattle.session_lent_laws.specs.Memory.{Memory, LentBatchCall, exchanged, structIn}
 
--- what a call answers, and what it leaves in the other half
+-- what a call answers, and what it leaves in the other half and in the plan's memory
 pub record LentCall : Type 0 where
   pub result : ProjectionPatchApplicationResult
   pub written : Half
+  pub plan : PlanTables
 
 -- the memory after it
 abbrev pub afterCall : Memory → LentCall → Memory
-afterCall p c = exchanged (c .result .disposition) (p .held) (c .written)
+afterCall p c = exchanged (c .result .disposition) (p .held) (c .written) (c .plan)
 
 -- a call with a piece: the id that the head tells, a sequence number, the true counts, the canonical bytes and their edition
 abbrev pub LentSent : Edition → Anchors → Memory → ℕ → Piece → LentCall → Type 0
 LentSent ed k p n q c =
-    LentBatchCall ed (record { session = getD (p .held .head) 0 0; sequence = n; patches = length (q .patches); stimulusBytes = q .stimulusBytes }) (references q) (encode ed (q .patches)) k p (Answered (c .result)) (c .written)
+    LentBatchCall ed (record { session = getD (p .held .head) 0 0; sequence = n; patches = length (q .patches); stimulusBytes = q .stimulusBytes }) (references q) (encode ed (q .patches)) k p (Answered (c .result)) (c .written) (c .plan)
 
 -- piece i, from 0, carries the number n + i; each goes to the memory just left, until one is refused
 abbrev pub LentCalls : Edition → Anchors → Memory → ℕ → List Piece → List LentCall → Type 0

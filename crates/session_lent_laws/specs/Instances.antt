@@ -26,6 +26,8 @@ use Rattle.session_lent.specs.Steps.{roomShaped}
 use Rattle.session_lent.specs.CreationLaws.{pairs-apart}
 use Rattle.session_lent.specs.HalvesLaws.{held-room}
 use Rattle.session_lent.specs.Halves.{Anchors, Half, halfWith, HeldIn, RoomIn}
+use Rattle.panel_changes.specs.PlanMemory.{noPlan}
+use Rattle.panel_changes.specs.PlanMemoryLaws.{no-plan-clear}
 use Rattle.session_lent_laws.specs.Memory.{Panel, structIn}
 use Rattle.session_lent_laws.specs.StructLaws.{same-bytes}
 
@@ -54,8 +56,8 @@ module _ (m : Session) (few : FewAnchors (m .catalogue)) (valid : Valid (m .proj
     collections-told = some-state (m .projection) valid .lengths;
   }
 
-  pub some-panel : Panel (instanceAnchors (m .catalogue)) (record { held = halfOf m; other = halfOf m }) m
-  some-panel = record { held = half-holds; room = held-room (instanceAnchors (m .catalogue)) (halfOf m) m half-holds }
+  pub some-panel : Panel (instanceAnchors (m .catalogue)) (record { held = halfOf m; other = halfOf m; plan = noPlan }) m
+  some-panel = record { held = half-holds; room = held-room (instanceAnchors (m .catalogue)) (halfOf m) m half-holds; clear = no-plan-clear }
 
 -- and so every session by value has slices with its numbers and bytes
 pub struct-held : (s : ShellSession) (m : Session) → Holds s m → HeldIn (instanceAnchors (m .catalogue)) (halfOf m) m × (s ≡ structIn (instanceAnchors (m .catalogue)) (halfOf m))
@@ -64,7 +66,7 @@ struct-held s m h =
     (held, same-bytes (instanceAnchors (m .catalogue)) (halfOf m) m held s h)
 
 -- the session whose batches of `SplitInstances` apply whole and in pieces, or fail at an operation
-pub start-panel : Panel (instanceAnchors (startSession .catalogue)) (record { held = halfOf startSession; other = halfOf startSession }) startSession
+pub start-panel : Panel (instanceAnchors (startSession .catalogue)) (record { held = halfOf startSession; other = halfOf startSession; plan = noPlan }) startSession
 unfolding startSession
 start-panel = some-panel startSession (record { nodes = omega arith; bindings = omega arith; collections = omega arith }) empty-valid
 

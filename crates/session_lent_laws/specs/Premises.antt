@@ -30,6 +30,8 @@ use Rattle.local_projection_state.specs.Stores.{countsOf}
 use Rattle.local_projection_state.specs.declared.ProjectionCounts.{ProjectionCounts}
 use Rattle.session_gates.specs.Gates.{preflightBy}
 use Rattle.session_gates.specs.Lent.{Lent}
+use Rattle.panel_changes.specs.PlanMemory.{noPlan}
+use Rattle.panel_changes.specs.PlanMemoryLaws.{no-plan-clear}
 use Rattle.session_steps.specs.Answers.{dispositionTold, answerAt, appliedRow}
 use Rattle.session_steps.specs.declared.answers.ProjectionPatchApplicationDisposition.the-variants.{Applied}
 use Rattle.session_steps.specs.declared.answers.ProjectionPatchApplicationResult.{ProjectionPatchApplicationResult}
@@ -98,15 +100,15 @@ module _ (ed : Edition) (m : Session) (few : FewAnchors (m .catalogue)) (p : Mem
   next-held : HeldIn (instanceAnchors (m .catalogue)) (halfOf next) next
   next-held = subst (λ (c : Catalogue). HeldIn (instanceAnchors c) (halfOf next) next) kept (half-holds next (subst FewAnchors (sym kept) few) (rw left empty-valid))
 
-  some-call : LentBatchCall ed v declared set (instanceAnchors (m .catalogue)) p (Answered (appliedAt (v .sequence))) (halfOf next)
+  some-call : LentBatchCall ed v declared set (instanceAnchors (m .catalogue)) p (Answered (appliedAt (v .sequence))) (halfOf next) noPlan
   unfolding dispositionTold cursorOf step.stateOf
-  some-call = record {
+  some-call = (record {
     answered = λ fits. (
       appliedAt (v .sequence),
       (
         refl,
         record {
-          became = λ x l held room. subst (λ (y : Session). LentStep (appliedAt (v .sequence)) y (halfOf next .head) (m .catalogue .nodes) (instanceAnchors (m .catalogue) .pairs) (m .catalogue .collections) (halfOf next .bindings) (halfOf next .availability) (halfOf next .entries) (halfOf next .lengths) (batch ed y v declared set))
+          became = λ x l held room clear. subst (λ (y : Session). LentStep (appliedAt (v .sequence)) y (halfOf next .head) (m .catalogue .nodes) (instanceAnchors (m .catalogue) .pairs) (m .catalogue .collections) (halfOf next .bindings) (halfOf next .availability) (halfOf next .entries) (halfOf next .lengths) (batch ed y v declared set))
               (one-held (instanceAnchors (m .catalogue)) (p .held) m (panel .held) none x l held) (record { answer = sym applies; next = next-held });
           kept = λ not. absurd (not refl);
           row = appliedRow refl;
@@ -115,7 +117,7 @@ module _ (ed : Edition) (m : Session) (few : FewAnchors (m .catalogue)) (p : Mem
       ),
     );
     refused = λ shape. absurd (false≢true (sym shape ∙ memory-fits ed v declared set (instanceAnchors (m .catalogue)) p m panel));
-  }
+  }, λ x l held clear. no-plan-clear)
     where
       same : preflightBy (stateAt (p .held .head) .id) (limitsAt (p .held .head)) (stateAt (p .held .head) .lifecycle) v ≡ preflightBy (m .id) (m .limits) (m .lifecycle) v
       same = ap₂ (λ (l : Limits) (t : LocalState). preflightBy (t .id) l (t .lifecycle) v) (limits-told (p .held .head) m (panel .held .head-is)) (state-told (p .held .head) m (panel .held .head-is))
@@ -159,7 +161,7 @@ abbrev pub someAnchors : Anchors
 someAnchors = instanceAnchors (startSession .catalogue)
 
 abbrev pub memory : Memory
-memory = record { held = halfOf startSession; other = halfOf startSession }
+memory = record { held = halfOf startSession; other = halfOf startSession; plan = noPlan }
 
 abbrev pub sentTo : Memory → ℕ → Piece → BatchEnvelope
 sentTo p n q = record { session = getD (p .held .head) 0 0; sequence = n; patches = length (q .patches); stimulusBytes = q .stimulusBytes }
@@ -174,7 +176,7 @@ afterPiece m p n q = batch v1 m (sentTo p n q) (references q) (encode v1 (q .pat
 
 -- the call that it takes
 abbrev pub premiseCall : Session → Memory → ℕ → Piece → LentCall
-premiseCall m p n q = record { result = appliedAt n; written = halfOf (afterPiece m p n q) }
+premiseCall m p n q = record { result = appliedAt n; written = halfOf (afterPiece m p n q); plan = noPlan }
 
 whole-sent : LentSent v1 someAnchors memory 40 wholePiece (premiseCall startSession memory 40 wholePiece)
 unfolding openedAll afterPiece startSession wholePiece putsIn takesOut patchNumbered piece references preflightBy
@@ -188,11 +190,11 @@ unfoldable pub betweenPieces : Session
 betweenPieces = afterPiece startSession memory 40 firstPiece
 
 abbrev pub betweenMemory : Memory
-betweenMemory = record { held = halfOf betweenPieces; other = halfOf startSession }
+betweenMemory = record { held = halfOf betweenPieces; other = halfOf startSession; plan = noPlan }
 
 between-panel : Panel someAnchors betweenMemory betweenPieces
 unfolding betweenPieces afterPiece
-between-panel = lent-goes-on v1 (sentTo memory 40 firstPiece) (references firstPiece) (encode v1 (firstPiece .patches)) someAnchors memory startSession start-panel (appliedAt 40) (halfOf betweenPieces) first-sent
+between-panel = lent-goes-on v1 (sentTo memory 40 firstPiece) (references firstPiece) (encode v1 (firstPiece .patches)) someAnchors memory startSession start-panel (appliedAt 40) (halfOf betweenPieces) noPlan first-sent
 
 second-sent : LentSent v1 someAnchors betweenMemory 41 secondPiece (premiseCall betweenPieces betweenMemory 41 secondPiece)
 unfolding openedAll betweenPieces afterPiece startSession firstPiece secondPiece putsIn takesOut patchNumbered piece references preflightBy

@@ -27,10 +27,10 @@ use Rattle.session_lent_laws.specs.CallLaws.{lent-is-call, lent-goes-on}
 
 module _ (ed : Edition) (k : Anchors) (p : Memory) (m : Session) (panel : Panel k p m) (n : ℕ) (q : Piece) (c : LentCall) (sent : LentSent ed k p n q c) where
   pub lent-sent : Sent ed (structIn k (p .held)) n q (asBatch k p c)
-  lent-sent = lent-is-call ed (envelopeFor (structIn k (p .held)) n q) (references q) (encode ed (q .patches)) k p m panel (c .result) (c .written) sent
+  lent-sent = lent-is-call ed (envelopeFor (structIn k (p .held)) n q) (references q) (encode ed (q .patches)) k p m panel (c .result) (c .written) (c .plan) sent
 
   next-panel : (x : Session) × Panel k (afterCall p c) x
-  next-panel = (_, lent-goes-on ed _ (references q) (encode ed (q .patches)) k p m panel (c .result) (c .written) sent)
+  next-panel = (_, lent-goes-on ed _ (references q) (encode ed (q .patches)) k p m panel (c .result) (c .written) (c .plan) sent)
 
 -- ---- calls that follow one another
 
@@ -80,7 +80,7 @@ module _ (ed : Edition) (k : Anchors) (p : Memory) (m : Session) (panel : Panel 
   lent-all-applied applied =
       let all = lent-whole-and-pieces .applies applied in
       let end = sym (last-struct k p cs) ∙ all .ended in
-      let half : afterCall p w .held ≡ w .written = ap (λ (d : ProjectionPatchApplicationDisposition). exchanged d (p .held) (w .written) .held) applied in
+      let half : afterCall p w .held ≡ w .written = ap (λ (d : ProjectionPatchApplicationDisposition). exchanged d (p .held) (w .written) (w .plan) .held) applied in
       record {
         sent = sym (batches-length k p cs) ∙ all .sent;
         apply = all-applied k p cs (all .apply);

@@ -7,6 +7,7 @@ use borrow.Author.Needs.{needs}
 use denote.Ref.{now}
 use lib.ListN.{length, take, drop}
 use Rattle.projection_patch.specs.Meaning.{editionOf}
+use Rattle.panel_changes.specs.PlanMemory.{noPlan}
 use Rattle.session_gates.specs.Gates.{batchEnvelopeOf}
 use Rattle.session_lent.specs.Batches.{ShapedCall}
 use Rattle.session_lent.specs.Halves.{Anchors, Half, anchorsWith, halfWith}
@@ -57,7 +58,7 @@ called : (c : tie.After-send-one Inv-loop μ-loop) →
     let x = nextBatch (leftIn turn) in
     ShapedCall (editionOf (x .edition)) (batchEnvelopeOf (x .envelope)) (x .«declared_target_reference_count») (take (x .bytes) (drop (turn .loop .at) (now (args .sets))))
     (now (args .head)) (now (args .nodes)) (now (args .pairs)) (now (args .collections)) (now (args .bindings)) (now (args .availability)) (now (args .entries))
-    (turn .loop .to-head) (turn .loop .to-bindings) (turn .loop .to-availability) (turn .loop .to-entries) (turn .loop .to-lengths) (c .send-one .result)
+    (turn .loop .to-head) (turn .loop .to-bindings) (turn .loop .to-availability) (turn .loop .to-entries) (turn .loop .to-lengths) noPlan (c .send-one .result)
     (afterOf c .head) (afterOf c .bindings) (afterOf c .availability) (afterOf c .entries) (afterOf c .lengths)
 called c =
     let turn = turnOf c .before in
@@ -67,7 +68,7 @@ called c =
     subst
     (λ (n : ℕ). ShapedCall (editionOf (x .edition)) (batchEnvelopeOf (x .envelope)) (x .«declared_target_reference_count») (take n (drop (turn .loop .at) (now (args .sets))))
     (now (args .head)) (now (args .nodes)) (now (args .pairs)) (now (args .collections)) (now (args .bindings)) (now (args .availability)) (now (args .entries))
-    (turn .loop .to-head) (turn .loop .to-bindings) (turn .loop .to-availability) (turn .loop .to-entries) (turn .loop .to-lengths) (c .send-one .result)
+    (turn .loop .to-head) (turn .loop .to-bindings) (turn .loop .to-availability) (turn .loop .to-entries) (turn .loop .to-lengths) noPlan (c .send-one .result)
     (afterOf c .head) (afterOf c .bindings) (afterOf c .availability) (afterOf c .entries) (afterOf c .lengths))
     size (c .send-one .ensures)
 
