@@ -1,4 +1,4 @@
-// Batches on a session in lent memory. Each reads the half in which the session stands and writes the other.
+// Batches on a session in lent memory. Each reads the half in which the session stands and writes the other, in one plan's memory for all.
 use crate::sessions;
 use crate::sessions::SetCounts;
 use crate::sums;
@@ -41,6 +41,9 @@ fn send<'a>(
     to_availability: &mut [u8],
     to_entries: &mut [u8],
     to_lengths: &mut [u8],
+    plan_bindings: &mut [u8; panel_plan::BINDING_BYTES],
+    plan_availability: &mut [u8; LocalProjectionState::AVAILABILITY_BYTES],
+    plan_entries: &mut [u8; panel_plan::ENTRY_BYTES],
 ) -> u64 {
     let answer = batch::apply_projection_patch_batch(
         head,
@@ -59,6 +62,9 @@ fn send<'a>(
         to_availability,
         to_entries,
         to_lengths,
+        plan_bindings,
+        plan_availability,
+        plan_entries,
     );
     match answer {
         LentBatch::Answered(result) => sessions::raised(number, result),
@@ -86,6 +92,9 @@ fn send_both(
     second_availability: &mut [u8; LocalProjectionState::AVAILABILITY_BYTES],
     second_entries: &mut [u8; LocalProjectionState::ENTRY_BYTES],
     second_lengths: &mut [u8; LocalProjectionState::LENGTH_BYTES],
+    plan_bindings: &mut [u8; panel_plan::BINDING_BYTES],
+    plan_availability: &mut [u8; LocalProjectionState::AVAILABILITY_BYTES],
+    plan_entries: &mut [u8; panel_plan::ENTRY_BYTES],
 ) -> u64 {
     let next = send(
         nodes,
@@ -103,6 +112,9 @@ fn send_both(
         second_availability,
         second_entries,
         second_lengths,
+        plan_bindings,
+        plan_availability,
+        plan_entries,
     );
     send(
         nodes,
@@ -120,6 +132,9 @@ fn send_both(
         first_availability,
         first_entries,
         first_lengths,
+        plan_bindings,
+        plan_availability,
+        plan_entries,
     )
 }
 
@@ -142,6 +157,9 @@ fn send_often(
     second_availability: &mut [u8; LocalProjectionState::AVAILABILITY_BYTES],
     second_entries: &mut [u8; LocalProjectionState::ENTRY_BYTES],
     second_lengths: &mut [u8; LocalProjectionState::LENGTH_BYTES],
+    plan_bindings: &mut [u8; panel_plan::BINDING_BYTES],
+    plan_availability: &mut [u8; LocalProjectionState::AVAILABILITY_BYTES],
+    plan_entries: &mut [u8; panel_plan::ENTRY_BYTES],
 ) -> u64 {
     let away = sessions::counted(forth);
     let home = sessions::counted(back);
@@ -167,6 +185,9 @@ fn send_often(
             second_availability,
             second_entries,
             second_lengths,
+            plan_bindings,
+            plan_availability,
+            plan_entries,
         );
         left -= 1;
     }
@@ -190,6 +211,9 @@ fn start(
     second_availability: &mut [u8; LocalProjectionState::AVAILABILITY_BYTES],
     second_entries: &mut [u8; LocalProjectionState::ENTRY_BYTES],
     second_lengths: &mut [u8; LocalProjectionState::LENGTH_BYTES],
+    plan_bindings: &mut [u8; panel_plan::BINDING_BYTES],
+    plan_availability: &mut [u8; LocalProjectionState::AVAILABILITY_BYTES],
+    plan_entries: &mut [u8; panel_plan::ENTRY_BYTES],
 ) -> u64 {
     let creation = creation::create_session(
         1,
@@ -227,6 +251,9 @@ fn start(
         second_availability,
         second_entries,
         second_lengths,
+        plan_bindings,
+        plan_availability,
+        plan_entries,
     )
 }
 
@@ -246,6 +273,9 @@ fn use_halves(
     second_availability: &mut [u8; LocalProjectionState::AVAILABILITY_BYTES],
     second_entries: &mut [u8; LocalProjectionState::ENTRY_BYTES],
     second_lengths: &mut [u8; LocalProjectionState::LENGTH_BYTES],
+    plan_bindings: &mut [u8; panel_plan::BINDING_BYTES],
+    plan_availability: &mut [u8; LocalProjectionState::AVAILABILITY_BYTES],
+    plan_entries: &mut [u8; panel_plan::ENTRY_BYTES],
 ) -> u64 {
     let nodes = sessions::nodes();
     let pairs = pairs();
@@ -266,6 +296,9 @@ fn use_halves(
         second_availability,
         second_entries,
         second_lengths,
+        plan_bindings,
+        plan_availability,
+        plan_entries,
     );
     send_often(
         &nodes,
@@ -285,6 +318,9 @@ fn use_halves(
         second_availability,
         second_entries,
         second_lengths,
+        plan_bindings,
+        plan_availability,
+        plan_entries,
     )
 }
 
@@ -300,6 +336,9 @@ pub(crate) fn apply_often(fill: &[u8], forth: &[u8], back: &[u8], times: u64) ->
     let mut second_availability = [0u8; LocalProjectionState::AVAILABILITY_BYTES];
     let mut second_entries = [0u8; LocalProjectionState::ENTRY_BYTES];
     let mut second_lengths = [0u8; LocalProjectionState::LENGTH_BYTES];
+    let mut plan_bindings = [0u8; panel_plan::BINDING_BYTES];
+    let mut plan_availability = [0u8; LocalProjectionState::AVAILABILITY_BYTES];
+    let mut plan_entries = [0u8; panel_plan::ENTRY_BYTES];
     use_halves(
         fill,
         forth,
@@ -315,5 +354,8 @@ pub(crate) fn apply_often(fill: &[u8], forth: &[u8], back: &[u8], times: u64) ->
         &mut second_availability,
         &mut second_entries,
         &mut second_lengths,
+        &mut plan_bindings,
+        &mut plan_availability,
+        &mut plan_entries,
     )
 }

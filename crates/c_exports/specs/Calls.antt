@@ -6,6 +6,7 @@ use Rattle.spec_patch.specs.Edition.{Edition}
 use Rattle.spec_session.specs.Session.{Limits}
 use Rattle.spec_session.specs.Lifecycle.{Stimulus}
 use Rattle.spec_session.specs.Batch.{BatchEnvelope}
+use Rattle.panel_changes.specs.PlanMemory.{PlanTables}
 use Rattle.session_lent.specs.Steps.{TransitionCall, CreationCall}
 use Rattle.session_lent.specs.Batches.{SameHalf, BatchCallOnSlices}
 use Rattle.session_lent.specs.declared.batch.LentBatch.{LentBatch}
@@ -33,11 +34,11 @@ pub record ExportedStep (command n : ℕ) (h : List ℕ) (r : GeysertrayLifecycl
   pub known : command ≤ 4 → SteppedAs command n h r h′
   pub unknown : 4 < command → (r ≡ noStep 4) × (h′ ≡ h)
 
-module _ (edition : ℕ) (v : BatchEnvelope) (declared : ℕ) (set head nodes pairs collections b a e toH toB toA toE toL : List ℕ) where
+module _ (edition : ℕ) (v : BatchEnvelope) (declared : ℕ) (set head nodes pairs collections b a e toH toB toA toE toL : List ℕ) (plan : PlanTables) where
   -- a batch that was called
   abbrev pub BatchedAs : (r : GeysertrayAnswer) (h′ b′ a′ e′ l′ : List ℕ) → Type 0
   BatchedAs r h′ b′ a′ e′ l′ =
-      Told batchTold (λ answer. BatchCallOnSlices (editionAt edition) v declared set head nodes pairs collections b a e toH toB toA toE toL answer h′ b′ a′ e′ l′) r
+      Told batchTold (λ answer. BatchCallOnSlices (editionAt edition) v declared set head nodes pairs collections b a e toH toB toA toE toL plan answer h′ b′ a′ e′ l′) r
 
   pub record ExportedBatch (r : GeysertrayAnswer) (h′ b′ a′ e′ l′ : List ℕ) : Type 0 where
     pub known : 1 ≤ edition → edition ≤ 2 → BatchedAs r h′ b′ a′ e′ l′
@@ -46,9 +47,9 @@ module _ (edition : ℕ) (v : BatchEnvelope) (declared : ℕ) (set head nodes pa
 
 -- ---- a call told otherwise
 
-module _ {v : BatchEnvelope} {declared : ℕ} {set head nodes pairs collections b a e toH toB toA toE toL : List ℕ} {r : LentBatch} {h′ b′ a′ e′ l′ : List ℕ} where
-  pub same-edition : {x y : Edition} → x ≡ y → BatchCallOnSlices x v declared set head nodes pairs collections b a e toH toB toA toE toL r h′ b′ a′ e′ l′ → BatchCallOnSlices y v declared set head nodes pairs collections b a e toH toB toA toE toL r h′ b′ a′ e′ l′
-  same-edition is = subst (λ ed. BatchCallOnSlices ed v declared set head nodes pairs collections b a e toH toB toA toE toL r h′ b′ a′ e′ l′) is
+module _ {v : BatchEnvelope} {declared : ℕ} {set head nodes pairs collections b a e toH toB toA toE toL : List ℕ} {plan : PlanTables} {r : LentBatch} {h′ b′ a′ e′ l′ : List ℕ} where
+  pub same-edition : {x y : Edition} → x ≡ y → BatchCallOnSlices x v declared set head nodes pairs collections b a e toH toB toA toE toL plan r h′ b′ a′ e′ l′ → BatchCallOnSlices y v declared set head nodes pairs collections b a e toH toB toA toE toL plan r h′ b′ a′ e′ l′
+  same-edition is = subst (λ ed. BatchCallOnSlices ed v declared set head nodes pairs collections b a e toH toB toA toE toL plan r h′ b′ a′ e′ l′) is
 
 pub same-stimulus : {h : List ℕ} {u w : Stimulus} {n : ℕ} {r : LentTransition} {h′ : List ℕ} → u ≡ w → TransitionCall h u n r h′ → TransitionCall h w n r h′
 same-stimulus {h = h} {n = n} {r = r} {h′ = h′} is = subst (λ u. TransitionCall h u n r h′) is

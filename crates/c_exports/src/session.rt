@@ -13,6 +13,8 @@ use session_lent::lifecycle;
 use session_lifecycle::lifecycle::ShellTransitionInput;
 use session_lifecycle::state::ShellLifecycleLimits;
 use session_lifecycle::state::ShellSessionId;
+ghost use Rattle.panel_changes.specs.PlanMemory.{planIn};
+ghost use Rattle.session_lent.specs.Batches.{PlanGivenBack};
 ghost use Rattle.c_exports.specs.Calls.{ExportedCreation, ExportedStep, ExportedBatch};
 
 const NO_SUCH: u64 = 4;
@@ -102,10 +104,16 @@ pub extern "C" fn geysertray_batch<'a>(
     to_availability: &mut [u8; LocalProjectionState::AVAILABILITY_BYTES],
     to_entries: &mut [u8; LocalProjectionState::ENTRY_BYTES],
     to_lengths: &mut [u8; LocalProjectionState::LENGTH_BYTES],
+    plan_bindings: &mut [u8; panel_plan::BINDING_BYTES],
+    plan_availability: &mut [u8; LocalProjectionState::AVAILABILITY_BYTES],
+    plan_entries: &mut [u8; panel_plan::ENTRY_BYTES],
 ) -> GeysertrayAnswer
-    ensures { λ r. ⌜ ExportedBatch edition (record { session = «session_id»; sequence = «sequence_no»; patches = «patch_count»; stimulusBytes = «stimulus_bytes» }) «target_references» (now (set .entry))
+    ensures called { λ r. ⌜ ExportedBatch edition (record { session = «session_id»; sequence = «sequence_no»; patches = «patch_count»; stimulusBytes = «stimulus_bytes» }) «target_references» (now (set .entry))
         (now (head .entry)) (now (nodes .entry)) (now (pairs .entry)) (now (collections .entry)) (now (bindings .entry)) (now (availability .entry)) (now (entries .entry))
-        (now («to_head» .entry)) (now («to_bindings» .entry)) (now («to_availability» .entry)) (now («to_entries» .entry)) (now («to_lengths» .entry)) r (now («to_head» .exit)) (now («to_bindings» .exit)) (now («to_availability» .exit)) (now («to_entries» .exit)) (now («to_lengths» .exit)) ⌝ }
+        (now («to_head» .entry)) (now («to_bindings» .entry)) (now («to_availability» .entry)) (now («to_entries» .entry)) (now («to_lengths» .entry))
+        (planIn (now («plan_bindings» .entry)) (now («plan_availability» .entry)) (now («plan_entries» .entry))) r (now («to_head» .exit)) (now («to_bindings» .exit)) (now («to_availability» .exit)) (now («to_entries» .exit)) (now («to_lengths» .exit)) ⌝ }
+    ensures cleared { λ r. ⌜ PlanGivenBack (now (head .entry)) (now (nodes .entry)) (now (pairs .entry)) (now (collections .entry)) (now (bindings .entry)) (now (availability .entry)) (now (entries .entry))
+        (planIn (now («plan_bindings» .entry)) (now («plan_availability» .entry)) (now («plan_entries» .entry))) (planIn (now («plan_bindings» .exit)) (now («plan_availability» .exit)) (now («plan_entries» .exit))) ⌝ }
 {
     if edition < 1 {
         return answers::unanswered(NO_SUCH);
@@ -137,6 +145,9 @@ pub extern "C" fn geysertray_batch<'a>(
         to_availability,
         to_entries,
         to_lengths,
+        plan_bindings,
+        plan_availability,
+        plan_entries,
     );
     answers::answered(answer)
 }

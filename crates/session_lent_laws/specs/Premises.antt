@@ -102,22 +102,25 @@ module _ (ed : Edition) (m : Session) (few : FewAnchors (m .catalogue)) (p : Mem
 
   some-call : LentBatchCall ed v declared set (instanceAnchors (m .catalogue)) p (Answered (appliedAt (v .sequence))) (halfOf next) noPlan
   unfolding dispositionTold cursorOf step.stateOf
-  some-call = (record {
-    answered = λ fits. (
-      appliedAt (v .sequence),
-      (
-        refl,
-        record {
-          became = λ x l held room clear. subst (λ (y : Session). LentStep (appliedAt (v .sequence)) y (halfOf next .head) (m .catalogue .nodes) (instanceAnchors (m .catalogue) .pairs) (m .catalogue .collections) (halfOf next .bindings) (halfOf next .availability) (halfOf next .entries) (halfOf next .lengths) (batch ed y v declared set))
-              (one-held (instanceAnchors (m .catalogue)) (p .held) m (panel .held) none x l held) (record { answer = sym applies; next = next-held });
-          kept = λ not. absurd (not refl);
-          row = appliedRow refl;
-          preflight = λ f n is. never-passes (sym (sym same ∙ is) ∙ passes);
-        },
-      ),
-    );
-    refused = λ shape. absurd (false≢true (sym shape ∙ memory-fits ed v declared set (instanceAnchors (m .catalogue)) p m panel));
-  }, λ x l held clear. no-plan-clear)
+  some-call = (
+    record {
+      answered = λ fits. (
+        appliedAt (v .sequence),
+        (
+          refl,
+          record {
+            became = λ x l held room clear. subst (λ (y : Session). LentStep (appliedAt (v .sequence)) y (halfOf next .head) (m .catalogue .nodes) (instanceAnchors (m .catalogue) .pairs) (m .catalogue .collections) (halfOf next .bindings) (halfOf next .availability) (halfOf next .entries) (halfOf next .lengths) (batch ed y v declared set))
+                (one-held (instanceAnchors (m .catalogue)) (p .held) m (panel .held) none x l held) (record { answer = sym applies; next = next-held });
+            kept = λ not. absurd (not refl);
+            row = appliedRow refl;
+            preflight = λ f n is. never-passes (sym (sym same ∙ is) ∙ passes);
+          },
+        ),
+      );
+      refused = λ shape. absurd (false≢true (sym shape ∙ memory-fits ed v declared set (instanceAnchors (m .catalogue)) p m panel));
+    },
+    λ x l held clear. no-plan-clear,
+  )
     where
       same : preflightBy (stateAt (p .held .head) .id) (limitsAt (p .held .head)) (stateAt (p .held .head) .lifecycle) v ≡ preflightBy (m .id) (m .limits) (m .lifecycle) v
       same = ap₂ (λ (l : Limits) (t : LocalState). preflightBy (t .id) l (t .lifecycle) v) (limits-told (p .held .head) m (panel .held .head-is)) (state-told (p .held .head) m (panel .held .head-is))

@@ -7,19 +7,22 @@ use Rattle.c_exports.proofs.session.geysertray_batch.Statement.{stateme
 use Rattle.c_exports.proofs.session.geysertray_batch.Tie as tie
 
 returns : tie.Need-returns
-returns c = record { known = λ lo hi. absurd (omega (arith, c .before .if1 .taken)); low = λ h. (c .unanswered .ensures, (refl, (refl, (refl, (refl, refl))))); high = λ h. absurd (omega (arith, c .before .if1 .taken)) }
+returns c = (record { known = λ lo hi. absurd (omega (arith, c .before .if1 .taken)); low = λ h. (c .unanswered .ensures, (refl, (refl, (refl, (refl, refl))))); high = λ h. absurd (omega (arith, c .before .if1 .taken)) }, λ m l h clear. clear)
 
 returns-2 : tie.Need-returns-2
-returns-2 c = record { known = λ lo hi. absurd (omega (arith, c .before .if2 .taken)); low = λ h. absurd (omega (arith, c .before .if2 .taken)); high = λ h. (c .unanswered2 .ensures, (refl, (refl, (refl, (refl, refl))))) }
+returns-2 c = (record { known = λ lo hi. absurd (omega (arith, c .before .if2 .taken)); low = λ h. absurd (omega (arith, c .before .if2 .taken)); high = λ h. (c .unanswered2 .ensures, (refl, (refl, (refl, (refl, refl))))) }, λ m l h clear. clear)
 
 returns-3 : tie.Need-returns-3
 returns-3 c =
-    let call = c .before .apply-projection-patch-batch in
-    record {
-      known = λ lo hi. record { answer = call .result; call = same-edition (c .before .before .before .before .before .before .before .before .before .before .before .edition-of .ensures) (call .ensures); told = c .answered .ensures };
-      low = λ h. absurd (omega (arith, c .before .before .before .before .before .before .before .before .before .before .before .before .before .if1 .left));
-      high = λ h. absurd (omega (arith, c .before .before .before .before .before .before .before .before .before .before .before .before .if2 .left));
-    }
+    let told = c .before .before .before .before .before .before .before .before .before .before .before .before .before .before in
+    let call = c .before .apply-projection-patch-batch in (
+      record {
+        known = λ lo hi. record { answer = call .result; call = same-edition (told .edition-of .ensures) (call .ensures .0); told = c .answered .ensures };
+        low = λ h. absurd (omega (arith, told .before .before .if1 .left));
+        high = λ h. absurd (omega (arith, told .before .if2 .left));
+      },
+      call .ensures .1,
+    )
 
 pub geysertray-batch-spec : {M : Type 1} → statement M
 geysertray-batch-spec =
