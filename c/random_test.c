@@ -32,7 +32,7 @@ static uint64_t number(void)
 /* ---- slices between pages that may not be touched */
 
 enum { HEAD, BINDINGS, AVAILABILITY, ENTRIES, LENGTHS, TO_HEAD, TO_BINDINGS, TO_AVAILABILITY, TO_ENTRIES, TO_LENGTHS };
-enum { SPARE_HEAD = TO_LENGTHS + 1, SPARE_BINDINGS, SPARE_AVAILABILITY, SPARE_ENTRIES, SPARE_LENGTHS, NODES, PAIRS, COLLECTIONS, NUMBERS, SET, OUT, TURNS, FENCES };
+enum { SPARE_HEAD = TO_LENGTHS + 1, SPARE_BINDINGS, SPARE_AVAILABILITY, SPARE_ENTRIES, SPARE_LENGTHS, NODES, PAIRS, COLLECTIONS, NUMBERS, SET, OUT, TURNS, PLAN_BINDINGS, PLAN_AVAILABILITY, PLAN_ENTRIES, FENCES };
 enum { PAGE = 4096, ROOM = 32 * PAGE, GUARD = 0xa5 };
 
 static struct fence {
@@ -224,6 +224,14 @@ static void lend_session(void)
     lend_half(HEAD, &half);
 }
 
+/* A plan's memory is given back as it was lent, whatever stands in the slices. */
+static void lend_plan(void)
+{
+    lend(PLAN_BINDINGS, panel.plan.bindings, sizeof panel.plan.bindings);
+    lend(PLAN_AVAILABILITY, panel.plan.availability, sizeof panel.plan.availability);
+    lend(PLAN_ENTRIES, panel.plan.entries, sizeof panel.plan.entries);
+}
+
 static void lend_anchors(size_t node_count, size_t pair_numbers, size_t collection_count)
 {
     lend(NODES, panel.nodes, node_count * 8);
@@ -320,6 +328,7 @@ static void batch(void)
     uint64_t edition = chance(30) ? set_edition : number(), sequence, id, patches, stimulus, references;
     lend_session();
     lend_half(TO_HEAD, &panel.halves[1 - panel.current]);
+    lend_plan();
     lend_anchors(panel.node_count, 2 * panel.pair_count, panel.collection_count);
     sound = memcmp(&half, &panel.halves[panel.current], sizeof half) == 0;
     sequence = chance(30) ? (half.head[2] ? half.head[3] + 1 : 1) : number();
@@ -331,7 +340,7 @@ static void batch(void)
     answer = geysertray_batch(
         AT64(HEAD), AT64(NODES), panel.node_count, AT64(PAIRS), 2 * panel.pair_count, AT64(COLLECTIONS), panel.collection_count, AT8(BINDINGS),
         AT8(AVAILABILITY), AT8(ENTRIES), id, sequence, patches, stimulus, references, bytes, SET_COUNT, edition, AT64(TO_HEAD), AT8(TO_BINDINGS),
-        AT8(TO_AVAILABILITY), AT8(TO_ENTRIES), AT8(TO_LENGTHS));
+        AT8(TO_AVAILABILITY), AT8(TO_ENTRIES), AT8(TO_LENGTHS), AT8(PLAN_BINDINGS), AT8(PLAN_AVAILABILITY), AT8(PLAN_ENTRIES));
     if (sound)
         same_number(told, answer);
     if (answer.disposition == GEYSERTRAY_APPLIED && sound) {

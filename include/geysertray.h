@@ -9,6 +9,7 @@
 
 #include <stddef.h>
 #include <stdint.h>
+#include <string.h>
 
 #ifdef __cplusplus
 extern "C" {
@@ -117,6 +118,8 @@ enum {
 #define GEYSERTRAY_AVAILABILITY_BYTES 1088
 #define GEYSERTRAY_ENTRY_BYTES 34432
 #define GEYSERTRAY_LENGTH_BYTES 2048
+#define GEYSERTRAY_PLAN_BINDING_BYTES 1792
+#define GEYSERTRAY_PLAN_ENTRY_BYTES 4096
 #define GEYSERTRAY_TEXT_BYTES 240
 #define GEYSERTRAY_PAGE_WIDTH 262
 #define GEYSERTRAY_TURNS_NUMBERS 11
@@ -366,7 +369,8 @@ geysertray_lifecycle geysertray_lifecycle_step(
     uint64_t command,
     uint64_t stimulus_bytes);
 
-/* One batch, from one half of a panel's memory to the other, which has the next session where the answer is Applied and is left otherwise. */
+/* One batch, from one half of a panel's memory to the other, which has the next session where the answer is Applied and is left otherwise. It
+   is planned in memory of zeros, which are zeros again after the call. */
 geysertray_answer geysertray_batch(
     const uint64_t head[GEYSERTRAY_HEAD_NUMBERS],
     const uint64_t *nodes,
@@ -390,7 +394,10 @@ geysertray_answer geysertray_batch(
     uint8_t to_bindings[GEYSERTRAY_BINDING_BYTES],
     uint8_t to_availability[GEYSERTRAY_AVAILABILITY_BYTES],
     uint8_t to_entries[GEYSERTRAY_ENTRY_BYTES],
-    uint8_t to_lengths[GEYSERTRAY_LENGTH_BYTES]);
+    uint8_t to_lengths[GEYSERTRAY_LENGTH_BYTES],
+    uint8_t plan_bindings[GEYSERTRAY_PLAN_BINDING_BYTES],
+    uint8_t plan_availability[GEYSERTRAY_AVAILABILITY_BYTES],
+    uint8_t plan_entries[GEYSERTRAY_PLAN_ENTRY_BYTES]);
 
 /* Several batches as if sent singly in order, or none. A batch is seven numbers: session id, sequence number, patch count, stimulus bytes, target
    references, edition and the bytes of its set. The half that is read stays; the answer tells in which half the session stands, and the two that are
@@ -594,11 +601,19 @@ typedef struct {
     uint8_t lengths[GEYSERTRAY_LENGTH_BYTES];
 } geysertray_half;
 
+/* Where a batch is planned: zeros before each call, and zeros again after it. */
+typedef struct {
+    uint8_t bindings[GEYSERTRAY_PLAN_BINDING_BYTES];
+    uint8_t availability[GEYSERTRAY_AVAILABILITY_BYTES];
+    uint8_t entries[GEYSERTRAY_PLAN_ENTRY_BYTES];
+} geysertray_plan;
+
 typedef struct {
     uint64_t nodes[GEYSERTRAY_ANCHORS], pairs[2 * GEYSERTRAY_ANCHORS], collections[GEYSERTRAY_ANCHORS];
     size_t node_count, pair_count, collection_count;
     int current; /* the half that holds the session: 0 or 1 */
     geysertray_half halves[2];
+    geysertray_plan plan;
 } geysertray_panel;
 
 /* The half that holds the session. */
@@ -607,12 +622,13 @@ static inline geysertray_half *geysertray_current(geysertray_panel *panel)
     return &panel->halves[panel->current];
 }
 
-/* Opens a panel whose anchors and their counts stand in it already: 0, or 13. Both halves are made ready. */
+/* Opens a panel whose anchors and their counts stand in it already: 0, or 13. Both halves are made ready, and the plan. */
 static inline uint64_t geysertray_open(geysertray_panel *panel, uint64_t id, uint64_t stimulus_bytes, uint64_t diagnostics, uint64_t patches, uint64_t references)
 {
     uint64_t answer = 0;
     int i;
     panel->current = 0;
+    memset(&panel->plan, 0, sizeof panel->plan);
     for (i = 0; i < 2 && answer == 0; i++) {
         geysertray_half *half = &panel->halves[i];
         answer = geysertray_create(
@@ -635,10 +651,11 @@ static inline geysertray_answer geysertray_send(
 {
     const geysertray_half *from = &panel->halves[panel->current];
     geysertray_half *to = &panel->halves[1 - panel->current];
+    geysertray_plan *plan = &panel->plan;
     geysertray_answer answer = geysertray_batch(
         from->head, panel->nodes, panel->node_count, panel->pairs, 2 * panel->pair_count, panel->collections, panel->collection_count, from->bindings,
         from->availability, from->entries, session_id, sequence_no, patch_count, stimulus_bytes, target_references, set, set_count, edition, to->head,
-        to->bindings, to->availability, to->entries, to->lengths);
+        to->bindings, to->availability, to->entries, to->lengths, plan->bindings, plan->availability, plan->entries);
     if (answer.disposition == GEYSERTRAY_APPLIED)
         panel->current = 1 - panel->current;
     return answer;

@@ -181,7 +181,7 @@ public:
     using number = std::uint64_t;
 
     panel(number id, const limits &bounds, std::vector<number> nodes, const std::vector<std::pair<number, std::uint32_t>> &bindings, std::vector<number> collections)
-        : nodes_(std::move(nodes)), collections_(std::move(collections)), halves_(new geysertray_half[3]())
+        : nodes_(std::move(nodes)), collections_(std::move(collections)), halves_(new geysertray_half[3]()), plan_(new geysertray_plan())
     {
         for (const auto &binding : bindings)
             pairs_.insert(pairs_.end(), {binding.first, binding.second});
@@ -207,7 +207,7 @@ public:
         const auto told = geysertray_batch(
             from.head, detail::at(nodes_), nodes_.size(), detail::at(pairs_), pairs_.size(), detail::at(collections_), collections_.size(), from.bindings, from.availability,
             from.entries, batch.session, batch.sequence, batch.patches, batch.stimulus_bytes, batch.references, detail::at(set), set.size(), edition, to.head,
-            to.bindings, to.availability, to.entries, to.lengths);
+            to.bindings, to.availability, to.entries, to.lengths, plan_->bindings, plan_->availability, plan_->entries);
         detail::look(told.disposition);
         if (told.disposition == GEYSERTRAY_REJECTED)
             throw refused(told.number, told);
@@ -334,6 +334,7 @@ private:
 
     std::vector<number> nodes_, pairs_, collections_;
     std::unique_ptr<geysertray_half[]> halves_;
+    std::unique_ptr<geysertray_plan> plan_;
     int current_ = 0, next_ = 1, spare_ = 2;
 };
 

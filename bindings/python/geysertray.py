@@ -17,6 +17,8 @@ BINDING_BYTES = 16960
 AVAILABILITY_BYTES = 1088
 ENTRY_BYTES = 34432
 LENGTH_BYTES = 2048
+PLAN_BINDING_BYTES = 1792
+PLAN_ENTRY_BYTES = 4096
 TURNS_NUMBERS = 11
 TEXT_BYTES = 240
 PAGE_WIDTH = 262
@@ -337,11 +339,18 @@ class _Half(ctypes.Structure):
     _fields_ += [("lengths", ctypes.c_uint8 * LENGTH_BYTES)]
 
 
+class _Plan(ctypes.Structure):
+    """Where a batch is planned: zeros before each call, and zeros again after it."""
+
+    _fields_ = [("bindings", ctypes.c_uint8 * PLAN_BINDING_BYTES), ("availability", ctypes.c_uint8 * AVAILABILITY_BYTES)]
+    _fields_ += [("entries", ctypes.c_uint8 * PLAN_ENTRY_BYTES)]
+
+
 # each call: its answer, and its parameters
 _CALLS = {
     "create": (ctypes.c_uint64, *[_U64] * 5, *_SLICE * 3, *[_AT] * 5),
     "lifecycle_step": (_Lifecycle, _AT, _U64, _U64),
-    "batch": (_Answer, _AT, *_SLICE * 3, *[_AT] * 3, *[_U64] * 5, *_SLICE, _U64, *[_AT] * 5),
+    "batch": (_Answer, _AT, *_SLICE * 3, *[_AT] * 3, *[_U64] * 5, *_SLICE, _U64, *[_AT] * 8),
     "explain": (_Explanation, _AT, *_SLICE * 3, *[_AT] * 3, *[_U64] * 5, *_SLICE, _U64),
     "group": (_GroupAnswer, _AT, *_SLICE * 3, *[_AT] * 3, *_SLICE * 2, *[_AT] * 10),
     "binding_value": (_Value, _AT, _AT, _U64, _U32),
@@ -461,7 +470,7 @@ class Panel:
         pairs = [number for pair in bindings for number in pair]
         self.id = id
         self._anchors = (*_numbers(nodes), *_numbers(pairs), *_numbers(collections))
-        self._half, self._next, self._spare = _Half(), _Half(), None
+        self._half, self._next, self._spare, self._plan = _Half(), _Half(), None, _Plan()
         for half in (self._half, self._next):
             refusal = _call("create", id, *limits, *self._anchors, *_parts(half))
             if refusal:
@@ -480,9 +489,9 @@ class Panel:
         self, data: bytes, *, sequence: int, patches: int, references: int, stimulus_bytes: int = 0, session: Optional[int] = None, edition: int = 1
     ) -> Answer:
         """One batch: a set's bytes, and what its sender declares of them. Without a session the batch names this one."""
-        half, to = self._half, self._next
+        half, to, plan = self._half, self._next, self._plan
         sent = self._batch(session, sequence, patches, stimulus_bytes, references, data, edition)
-        answer = _answer(_call("batch", *sent, *_parts(to)))
+        answer = _answer(_call("batch", *sent, *_parts(to), plan.bindings, plan.availability, plan.entries))
         if answer.disposition is Disposition.REJECTED:
             raise Refused(answer.number, answer, _explanation(_call("explain", *sent)))
         if answer.disposition is Disposition.APPLIED:

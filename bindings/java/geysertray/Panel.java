@@ -27,6 +27,8 @@ public final class Panel implements AutoCloseable {
     private static final int AVAILABILITY_BYTES = 1088;
     private static final int ENTRY_BYTES = 34432;
     private static final int LENGTH_BYTES = 2048;
+    private static final int PLAN_BINDING_BYTES = 1792;
+    private static final int PLAN_ENTRY_BYTES = 4096;
     private static final long NOT_A_GROUP = 17;
     private static final MemoryLayout VALUE = Library.struct(8, TEXT_BYTES);
     private static final MemoryLayout NUMBER_AND_VALUE = Library.struct(9, TEXT_BYTES);
@@ -74,6 +76,13 @@ public final class Panel implements AutoCloseable {
         }
     }
 
+    /** Where a batch is planned: zeros before each call, and zeros again after it. */
+    private record Plan(MemorySegment bindings, MemorySegment availability, MemorySegment entries) {
+        Plan(Arena arena) {
+            this(arena.allocate(PLAN_BINDING_BYTES), arena.allocate(AVAILABILITY_BYTES), arena.allocate(PLAN_ENTRY_BYTES));
+        }
+    }
+
     private final Arena memory = Arena.ofShared();
     private final MemorySegment nodes;
     private final MemorySegment pairs;
@@ -84,6 +93,7 @@ public final class Panel implements AutoCloseable {
     private Half half = new Half(memory);
     private Half next = new Half(memory);
     private Half spare = new Half(memory);
+    private final Plan plan = new Plan(memory);
 
     public Panel(long id, Limits limits, long[] nodes, Slot[] bindings, long[] collections) {
         long[] numbers = new long[2 * bindings.length];
@@ -132,7 +142,7 @@ public final class Panel implements AutoCloseable {
                     arena, "batch", Library.struct(7, 0), 0, half.head(), nodes, nodeCount, pairs, pairNumbers, collections, collectionCount, half.bindings(),
                     half.availability(), half.entries(), batch.session(), batch.sequence(), batch.patches(), batch.stimulusBytes(), batch.references(),
                     Library.lend(arena, batch.set()), (long) batch.set().length, batch.edition(), next.head(), next.bindings(), next.availability(),
-                    next.entries(), next.lengths());
+                    next.entries(), next.lengths(), plan.bindings(), plan.availability(), plan.entries());
             Answer answer = answered(told, 5, null);
             if (answer.disposition() == Disposition.APPLIED) {
                 stand(1);

@@ -82,7 +82,8 @@ pub extern "C" fn geysertray_lifecycle_step(
     answers::stepped(answer)
 }
 
-// One batch, from one half of a panel's memory to the other, which has the next session where the answer is Applied and is left otherwise.
+// One batch, from one half of a panel's memory to the other, which has the next session where the answer is Applied and is left otherwise. It
+// is planned in memory of zeros, which are zeros again after the call.
 #[no_mangle]
 pub extern "C" fn geysertray_batch<'a>(
     head: &[u64; head::NUMBERS],
