@@ -4,11 +4,11 @@ use Rattle.bench.proofs.lent.send_often.Statement.{statement}
 use Rattle.bench.proofs.lent.send_often.Tie as tie
 
 abbrev Inv-loop : tie.InvT-loop
-Inv-loop nodes pairs collections number forth back times first-head₀ first-bindings₀ first-availability₀ first-entries₀ first-lengths₀ second-head₀ second-bindings₀ second-availability₀ second-entries₀ second-lengths₀ away home next₀ left₀ first-head first-bindings first-availability first-entries first-lengths second-head second-bindings second-availability second-entries second-lengths next left =
+Inv-loop nodes pairs collections number forth back times first-head₀ first-bindings₀ first-availability₀ first-entries₀ first-lengths₀ second-head₀ second-bindings₀ second-availability₀ second-entries₀ second-lengths₀ plan-bindings₀ plan-availability₀ plan-entries₀ away home next₀ left₀ first-head first-bindings first-availability first-entries first-lengths second-head second-bindings second-availability second-entries second-lengths plan-bindings plan-availability plan-entries next left =
     Unit
 
 abbrev μ-loop : tie.MeasureT-loop
-μ-loop nodes pairs collections number forth back times first-head₀ first-bindings₀ first-availability₀ first-entries₀ first-lengths₀ second-head₀ second-bindings₀ second-availability₀ second-entries₀ second-lengths₀ away home next₀ left₀ first-head first-bindings first-availability first-entries first-lengths second-head second-bindings second-availability second-entries second-lengths next left =
+μ-loop nodes pairs collections number forth back times first-head₀ first-bindings₀ first-availability₀ first-entries₀ first-lengths₀ second-head₀ second-bindings₀ second-availability₀ second-entries₀ second-lengths₀ plan-bindings₀ plan-availability₀ plan-entries₀ away home next₀ left₀ first-head first-bindings first-availability first-entries first-lengths second-head second-bindings second-availability second-entries second-lengths plan-bindings plan-availability plan-entries next left =
     left
 
 counted-requires : tie.Need-counted-requires Inv-loop μ-loop
