@@ -1,6 +1,10 @@
-// What a session stores of a panel: three tables of fixed-width rows, and one of each collection's length. After crates/prom-ui/src/local_projection_state.rs.
+// What a session stores of a panel: three tables of fixed-width rows, and one of each collection's length; and why an operation on them is
+// refused. After crates/prom-ui/src/local_projection_state.rs.
+ghost use mathlib.Core.Path.{_≡_};
 ghost use Rattle.spec_projection.specs.Projection.{empty};
+ghost use Rattle.spec_projection.specs.Apply.{operationFaultNumber};
 ghost use Rattle.local_projection_state.specs.Stores.{Stores};
+ghost use Rattle.local_projection_state.specs.Faults.{applicationFaultOf};
 
 // How many rows of each table are used.
 pub struct ProjectionCounts {
@@ -52,6 +56,24 @@ impl LocalProjectionState {
             availability: [0u8; LocalProjectionState::AVAILABILITY_BYTES],
             entries: [0u8; LocalProjectionState::ENTRY_BYTES],
             lengths: [0u8; LocalProjectionState::LENGTH_BYTES],
+        }
+    }
+}
+
+// Why an operation is refused.
+pub enum LocalProjectionApplicationError {
+    KeyRule,
+    ProjectionFull,
+}
+
+impl LocalProjectionApplicationError {
+    // The number of a refusal.
+    pub fn number(self) -> u64
+        ensures { λ r. ⌜ r ≡ operationFaultNumber (applicationFaultOf self) ⌝ }
+    {
+        match self {
+            LocalProjectionApplicationError::KeyRule => 8,
+            LocalProjectionApplicationError::ProjectionFull => 9,
         }
     }
 }

@@ -5,7 +5,7 @@ use mathlib.Core.List.{List}
 use Rattle.spec_projection.specs.Apply.{Outcome, done, stopped}
 use Rattle.local_projection_state.specs.declared.LocalProjectionState.{LocalProjectionState}
 use Rattle.local_projection_state.specs.declared.ProjectionCounts.{ProjectionCounts}
-use Rattle.panel_bindings.specs.declared.LocalProjectionApplicationError.{LocalProjectionApplicationError}
+use Rattle.local_projection_state.specs.declared.LocalProjectionApplicationError.{LocalProjectionApplicationError}
 use Rattle.projection_patch.specs.declared.read_values.ProjectionPatchReadFault.{ProjectionPatchReadFault}
 use Rattle.panel_changes.specs.SetChanges.{StoredAfter, ChangeBecame}
 use Rattle.panel_changes.specs.declared.SetChange.{SetChange}

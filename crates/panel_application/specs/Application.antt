@@ -12,7 +12,7 @@ use Rattle.spec_projection.specs.Apply.{Outcome, done, stopped, operationFaultN
 use Rattle.projection_patch.specs.ReadAnswers as reading
 use Rattle.local_projection_state.specs.Stores.{Stores}
 use Rattle.local_projection_state.specs.declared.LocalProjectionState.{LocalProjectionState}
-use Rattle.panel_bindings.specs.Change as change
+use Rattle.local_projection_state.specs.Faults.{applicationFaultOf}
 use Rattle.panel_application.specs.declared.ProjectionOutcome.{ProjectionOutcome}
 use Rattle.panel_application.specs.declared.ProjectionOutcome.the-variants.{Applied, Refused, Findings, Unreadable}
 
@@ -38,7 +38,7 @@ applySet ed p set = applyReading p (readSet ed set)
 -- the number of a refusal; 0 says that there is none
 unfoldable pub outcomeNumber : ProjectionOutcome → ℕ
 outcomeNumber Applied = 0
-outcomeNumber (Refused e) = operationFaultNumber (change.applicationFaultOf e)
+outcomeNumber (Refused e) = operationFaultNumber (applicationFaultOf e)
 outcomeNumber Findings = 11
 outcomeNumber (Unreadable f) = faultNumber (reading.faultOf f)
 
@@ -47,7 +47,7 @@ abbrev pub StepsBecame : LocalProjectionState → ProjectionOutcome → Outcome 
 StepsBecame next Applied (done q) = Stores next q
 StepsBecame next Applied (stopped f) = ⊥
 StepsBecame next (Refused e) (done q) = ⊥
-StepsBecame next (Refused e) (stopped f) = change.applicationFaultOf e ≡ f
+StepsBecame next (Refused e) (stopped f) = applicationFaultOf e ≡ f
 StepsBecame next Findings x = ⊥
 StepsBecame next (Unreadable f) x = ⊥
 

@@ -24,7 +24,7 @@ use Rattle.check_quick.specs.declared.quick_set.QuickCheck.{QuickCheck}
 use Rattle.check_quick.specs.declared.quick_set.QuickCheck.the-variants as quick
 use Rattle.patch_sets.specs.SetAnswers.{operationCount}
 use Rattle.local_projection_state.specs.declared.LocalProjectionState.{LocalProjectionState}
-use Rattle.panel_bindings.specs.declared.LocalProjectionApplicationError.the-variants.{KeyRule, ProjectionFull}
+use Rattle.local_projection_state.specs.declared.LocalProjectionApplicationError.the-variants.{KeyRule, ProjectionFull}
 use Rattle.panel_application.specs.Application.{refused, setOutcome, applyReading, applySet, outcomeNumber, StepsBecame, SetBecame}
 use Rattle.panel_application.specs.declared.ProjectionOutcome.{ProjectionOutcome}
 use Rattle.panel_application.specs.declared.ProjectionOutcome.the-variants.{Applied, Refused, Findings, Unreadable}

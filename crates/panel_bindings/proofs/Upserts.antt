@@ -13,7 +13,7 @@ use Rattle.bytes_records.specs.declared.Place.the-variants.{Taken, Before}
 use Rattle.panel_bindings.specs.Change.{RowsBecame}
 use Rattle.bytes_records.specs.PositionsLaws.{length-insertAt}
 use Rattle.panel_bindings.specs.RowChanges.{rows-few, rows-replaced, rows-inserted, rows-full}
-use Rattle.panel_bindings.specs.declared.LocalProjectionApplicationError.the-variants.{ProjectionFull}
+use Rattle.local_projection_state.specs.declared.LocalProjectionApplicationError.the-variants.{ProjectionFull}
 use Rattle.panel_bindings.specs.declared.TableChange.{TableChange}
 use Rattle.panel_bindings.specs.declared.TableChange.the-variants.{Applied, Refused}
 

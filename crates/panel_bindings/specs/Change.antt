@@ -4,16 +4,12 @@ use mathlib.Core.Path.{_≡_}
 use mathlib.Core.List.{List}
 use lib.ListN.{length}
 use Rattle.spec_projection.specs.Projection.{Projection}
-use Rattle.spec_projection.specs.Apply.{OperationFault, keyRule, projectionFull, Outcome, done, stopped}
+use Rattle.spec_projection.specs.Apply.{Outcome, done, stopped}
 use Rattle.bytes_records.specs.Table.{HoldsRows}
-use Rattle.panel_bindings.specs.declared.LocalProjectionApplicationError.{LocalProjectionApplicationError}
-use Rattle.panel_bindings.specs.declared.LocalProjectionApplicationError.the-variants.{KeyRule, ProjectionFull}
+use Rattle.local_projection_state.specs.Faults.{applicationFaultOf}
+use Rattle.local_projection_state.specs.declared.LocalProjectionApplicationError.the-variants.{ProjectionFull}
 use Rattle.panel_bindings.specs.declared.TableChange.{TableChange}
 use Rattle.panel_bindings.specs.declared.TableChange.the-variants.{Applied, Refused}
-
-abbrev pub applicationFaultOf : LocalProjectionApplicationError → OperationFault
-applicationFaultOf KeyRule = keyRule
-applicationFaultOf ProjectionFull = projectionFull
 
 -- the answer is the outcome's: with so many rows the table is what the next projection says, or the refusal is the fault's
 abbrev pub Became : (ℕ → Projection → Type 0) → TableChange → Outcome → Type 0

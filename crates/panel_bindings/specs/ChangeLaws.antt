@@ -14,8 +14,9 @@ use Rattle.bytes_records.specs.Search.{placeOf, upsertAt}
 use Rattle.bytes_records.specs.SearchLaws.{place-map, upsert-place, map-upsertAt}
 use Rattle.bytes_records.specs.declared.Place.{Place}
 use Rattle.local_projection_state.specs.Stores.{Stored}
-use Rattle.panel_bindings.specs.Change.{applicationFaultOf, Became, RowsBecame}
-use Rattle.panel_bindings.specs.declared.LocalProjectionApplicationError.{LocalProjectionApplicationError}
+use Rattle.local_projection_state.specs.Faults.{applicationFaultOf}
+use Rattle.panel_bindings.specs.Change.{Became, RowsBecame}
+use Rattle.local_projection_state.specs.declared.LocalProjectionApplicationError.{LocalProjectionApplicationError}
 use Rattle.panel_bindings.specs.declared.TableChange.{TableChange}
 use Rattle.panel_bindings.specs.declared.TableChange.the-variants.{Applied, Refused}
 

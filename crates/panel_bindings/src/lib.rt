@@ -7,7 +7,7 @@ ghost use lib.ListN.{length};
 ghost use Rattle.spec_patch.specs.Sizes.{projectionAvailabilities};
 ghost use Rattle.spec_patch.specs.Patch.{unsigned};
 ghost use Rattle.spec_projection.specs.Projection.{Projection};
-ghost use Rattle.spec_projection.specs.Apply.{operationFaultNumber, applyBinding, applyAvailability};
+ghost use Rattle.spec_projection.specs.Apply.{applyBinding, applyAvailability};
 ghost use Rattle.spec_projection.specs.Valid.{Valid};
 ghost use Rattle.bytes_records.specs.Table.{HoldsRows, Wide};
 ghost use Rattle.bytes_records.specs.Search.{upsertAt, PlaceWithin};
@@ -15,27 +15,10 @@ ghost use Rattle.projection_patch.specs.Meaning.{availabilityValueOf};
 ghost use Rattle.panel_rows.specs.Rows.{availabilityWidth, availabilityRow};
 ghost use Rattle.local_projection_state.specs.Stores.{Stored};
 ghost use Rattle.panel_plan.specs.PlanRows.{PlannedBindings};
-ghost use Rattle.panel_bindings.specs.Change.{applicationFaultOf, Became, KeptTable, RowsBecame};
+ghost use Rattle.panel_bindings.specs.Change.{Became, KeptTable, RowsBecame};
 use bytes_records::Place;
+use local_projection_state::LocalProjectionApplicationError;
 use projection_patch::patch::ProjectionNodeAvailability;
-
-// Why an operation is refused.
-pub enum LocalProjectionApplicationError {
-    KeyRule,
-    ProjectionFull,
-}
-
-impl LocalProjectionApplicationError {
-    // The number of a refusal.
-    pub fn number(self) -> u64
-        ensures { λ r. ⌜ r ≡ operationFaultNumber (applicationFaultOf self) ⌝ }
-    {
-        match self {
-            LocalProjectionApplicationError::KeyRule => 8,
-            LocalProjectionApplicationError::ProjectionFull => 9,
-        }
-    }
-}
 
 // What an operation on a table answers: how many rows there are now, or why it is refused and nothing is changed.
 pub enum TableChange {

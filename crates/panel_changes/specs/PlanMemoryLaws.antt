@@ -13,7 +13,7 @@ use Rattle.local_projection_state.specs.Stores.{Stored}
 use Rattle.local_projection_state.specs.declared.ProjectionCounts.{ProjectionCounts}
 use Rattle.panel_plan.specs.PlanRows.{plannedBindingRow, plannedBindingWidth, plannedEntryRow, plannedEntryWidth, PlannedBindings, PlannedEntries}
 use Rattle.patch_walk.specs.declared.SetCursor.{SetCursor}
-use Rattle.panel_bindings.specs.declared.LocalProjectionApplicationError.{LocalProjectionApplicationError}
+use Rattle.local_projection_state.specs.declared.LocalProjectionApplicationError.{LocalProjectionApplicationError}
 use Rattle.panel_steps.specs.Runs.{RunWalked}
 use Rattle.panel_steps.specs.declared.PlanRun.{PlanRun}
 use Rattle.panel_steps.specs.declared.PlanRun.the-variants as plan

@@ -12,7 +12,7 @@ use Rattle.spec_lengths.specs.Lengths.{collectionLengths}
 use Rattle.panel_rows.specs.Rows.{bindingWidth, bindingBytes, availabilityWidth, availabilityBytes, entryWidth, entryBytes, lengthWidth, lengthBytes}
 use Rattle.local_projection_state.specs.Stores.{StoredTables, StoredLengths}
 use Rattle.local_projection_state.specs.declared.ProjectionCounts.{ProjectionCounts}
-use Rattle.panel_bindings.specs.Change.{applicationFaultOf}
+use Rattle.local_projection_state.specs.Faults.{applicationFaultOf}
 use Rattle.panel_writing.specs.Writing.{ClearBehind}
 use Rattle.panel_changes.specs.declared.SetChange.{SetChange}
 use Rattle.panel_changes.specs.declared.SetChange.the-variants.{Applied, Refused, Unreadable, BadTables}

@@ -43,7 +43,7 @@ use Rattle.panel_plan.specs.ResolvedLaws.{resolving-keeps}
 use Rattle.panel_steps.specs.Runs.{RunBecame}
 use Rattle.panel_steps.specs.declared.PlanRun.{PlanRun}
 use Rattle.panel_steps.specs.declared.PlanRun.the-variants as plan
-use Rattle.panel_bindings.specs.declared.LocalProjectionApplicationError.{LocalProjectionApplicationError}
+use Rattle.local_projection_state.specs.declared.LocalProjectionApplicationError.{LocalProjectionApplicationError}
 use Rattle.projection_patch.specs.declared.read_values.ProjectionPatchReadFault.{ProjectionPatchReadFault}
 use Rattle.panel_writing.specs.Writing.{ClearBehind}
 use Rattle.panel_writing.specs.WritingLaws.{clear-behind-more, rows-clear}

@@ -22,9 +22,9 @@ ghost use Rattle.local_projection_state.specs.Stores.{StoredTables};
 ghost use Rattle.panel_steps.specs.Runs.{PlannedAs, RunTold};
 ghost use Rattle.panel_changes.specs.PlanMemory.{planIn, ClearPlan};
 ghost use Rattle.panel_changes.specs.SetChanges.{tablesFit, changeCountsFit, TableLengths, noneUsed, ReadyTables, StoredAfter, ChangeBecame, TablesKeptUnlessApplied};
+use local_projection_state::LocalProjectionApplicationError;
 use local_projection_state::LocalProjectionState;
 use local_projection_state::ProjectionCounts;
-use panel_bindings::LocalProjectionApplicationError;
 use panel_lengths::write;
 use panel_plan::fill;
 use panel_steps::PlanRun;
@@ -146,7 +146,7 @@ fn write_tables(
 }
 
 // Plans the operations from a cursor on, in the memory of a plan.
-fn plan_set(
+pub fn plan_set(
     from_bindings: &[u8],
     from_availability: &[u8],
     from_entries: &[u8],

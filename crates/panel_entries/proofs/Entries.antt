@@ -25,7 +25,7 @@ use Rattle.panel_bindings.specs.Change.{Became}
 use Rattle.panel_bindings.specs.ChangeLaws.{became-done, became-stopped}
 use Rattle.bytes_records.specs.PositionsLaws.{length-insertAt}
 use Rattle.panel_bindings.specs.RowChanges.{rows-few, rows-replaced, rows-removed, rows-inserted, rows-full}
-use Rattle.panel_bindings.specs.declared.LocalProjectionApplicationError.the-variants.{KeyRule, ProjectionFull}
+use Rattle.local_projection_state.specs.declared.LocalProjectionApplicationError.the-variants.{KeyRule, ProjectionFull}
 use Rattle.panel_bindings.specs.declared.TableChange.the-variants.{Applied, Refused}
 use Rattle.panel_entries.specs.Places.{placeBefore, PositionWithin, placeBeforeOther, withoutAt}
 use Rattle.panel_entries.specs.PlacesLaws.{update-found, update-absent, remove-found, remove-absent, insert-present, insert-no-neighbour, insert-there, moved, move-absent, move-no-neighbour, move-there}

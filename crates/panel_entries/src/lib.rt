@@ -18,7 +18,7 @@ ghost use Rattle.panel_plan.specs.PlanRows.{plannedEntryWidth, PlannedEntries};
 ghost use Rattle.panel_bindings.specs.Change.{Became, KeptTable};
 ghost use Rattle.panel_entries.specs.Places.{withoutAt};
 use bytes_records::Found;
-use panel_bindings::LocalProjectionApplicationError;
+use local_projection_state::LocalProjectionApplicationError;
 use panel_bindings::TableChange;
 use projection_patch::patch::OptionalKey;
 

@@ -14,7 +14,8 @@ use Rattle.local_projection_state.specs.Stores.{Stored}
 use Rattle.local_projection_state.specs.declared.ProjectionCounts.{ProjectionCounts}
 use Rattle.panel_plan.specs.Plan.{withSource}
 use Rattle.panel_plan.specs.PlanRows.{PlannedBindings, PlannedEntries}
-use Rattle.panel_bindings.specs.Change.{applicationFaultOf, Became, KeptTable}
+use Rattle.local_projection_state.specs.Faults.{applicationFaultOf}
+use Rattle.panel_bindings.specs.Change.{Became, KeptTable}
 use Rattle.panel_bindings.specs.declared.TableChange.{TableChange}
 use Rattle.panel_bindings.specs.declared.TableChange.the-variants as table
 use Rattle.panel_operations.specs.declared.OperationChange.{OperationChange}

@@ -11,8 +11,8 @@ ghost use Rattle.spec_projection.specs.Apply.{applyBinding, applyAvailability, 
 ghost use Rattle.projection_patch.specs.Meaning.{availabilityValueOf, beforeOf};
 ghost use Rattle.panel_plan.specs.PlanRows.{StoredPlan};
 ghost use Rattle.panel_operations.specs.OperationChange.{plannedOperation, OperationBecame, AfterRefusal, countedChange, bindingsNow, availabilitiesNow, entriesNow, BindingsChanged, AvailabilitiesChanged, EntriesChanged};
+use local_projection_state::LocalProjectionApplicationError;
 use local_projection_state::ProjectionCounts;
-use panel_bindings::LocalProjectionApplicationError;
 use panel_bindings::TableChange;
 use projection_patch::binding_graph::BindingTarget;
 use projection_patch::contract_primitives::CollectionKey;

@@ -40,7 +40,7 @@ use Rattle.panel_plan.specs.PlanValid.{planned-fits}
 use Rattle.panel_plan.specs.SetValues.{valueIn, valueOffset, StandsAt}
 use Rattle.panel_plan.specs.SetValuesLaws.{value-there, value-stands}
 use Rattle.panel_plan.specs.SourcesLaws.{plan-sourced, operation-sourced}
-use Rattle.panel_bindings.specs.declared.LocalProjectionApplicationError.{LocalProjectionApplicationError}
+use Rattle.local_projection_state.specs.declared.LocalProjectionApplicationError.{LocalProjectionApplicationError}
 use Rattle.panel_operations.specs.OperationChange.{plannedOperation, OperationBecame, AfterRefusal}
 use Rattle.panel_operations.specs.OperationLaws.{planned-is}
 use Rattle.panel_operations.specs.declared.OperationChange.{OperationChange}

@@ -15,7 +15,7 @@ use Rattle.panel_plan.specs.Plan.{resolution}
 use Rattle.panel_plan.specs.PlanRows.{StoredPlan}
 use Rattle.panel_plan.specs.SetValues.{valueIn}
 use Rattle.panel_plan.specs.Sources.{SourcedPlan}
-use Rattle.panel_bindings.specs.Change.{applicationFaultOf}
+use Rattle.local_projection_state.specs.Faults.{applicationFaultOf}
 use Rattle.projection_patch.specs.declared.read_values.ProjectionPatchReadFault.the-variants.{Malformed}
 use Rattle.patch_walk.specs.Steps.{AtSteps}
 use Rattle.patch_walk.specs.declared.SetCursor.{SetCursor}

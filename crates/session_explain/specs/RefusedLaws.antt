@@ -25,7 +25,7 @@ use Rattle.local_projection_state.specs.declared.ProjectionCounts.{ProjectionCo
 use Rattle.panel_steps.specs.Runs.{RunWalked, PlannedAs, patchIndex, operationIndex, HaltsAt, RunTold}
 use Rattle.panel_steps.specs.declared.PlanRun.{PlanRun}
 use Rattle.panel_steps.specs.declared.PlanRun.the-variants as plan
-use Rattle.panel_bindings.specs.declared.LocalProjectionApplicationError.{LocalProjectionApplicationError}
+use Rattle.local_projection_state.specs.declared.LocalProjectionApplicationError.{LocalProjectionApplicationError}
 use Rattle.projection_patch.specs.declared.read_values.ProjectionPatchReadFault.{ProjectionPatchReadFault}
 use Rattle.session_explain.specs.Reasons.{operationRuleTo}
 use Rattle.session_explain.specs.Refused.{StandsFor, reasonRefusedTo}

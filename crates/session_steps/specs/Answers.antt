@@ -7,7 +7,7 @@ use Rattle.spec_session.specs.Diagnostics.{SessionRefusal, malformed, ofOperati
 use Rattle.spec_session.specs.Lifecycle.{Disposition, applied, noChange, rejected}
 use Rattle.spec_session.specs.Batch.{BatchAnswer}
 use Rattle.session_lifecycle.specs.Meaning.{cursorOf, diagnosticsMean}
-use Rattle.panel_bindings.specs.Change.{applicationFaultOf}
+use Rattle.local_projection_state.specs.Faults.{applicationFaultOf}
 use Rattle.panel_changes.specs.declared.SetChange.{SetChange}
 use Rattle.panel_changes.specs.declared.SetChange.the-variants as change
 use Rattle.session_gates.specs.Gates.{countFits}

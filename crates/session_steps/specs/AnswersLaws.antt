@@ -9,7 +9,7 @@ use Rattle.spec_session.specs.Session.{Cursor}
 use Rattle.spec_session.specs.Diagnostics.{SessionRefusal, malformed, ofOperation}
 use Rattle.spec_session.specs.Lifecycle.{applied}
 use Rattle.spec_session.specs.Batch.{BatchAnswer, Check, refuse}
-use Rattle.panel_bindings.specs.Change.{applicationFaultOf}
+use Rattle.local_projection_state.specs.Faults.{applicationFaultOf}
 use Rattle.panel_changes.specs.declared.SetChange.{SetChange}
 use Rattle.panel_changes.specs.declared.SetChange.the-variants as change
 use Rattle.session_gates.specs.Gates.{countFits}

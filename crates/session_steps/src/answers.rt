@@ -1,5 +1,5 @@
 // The answers of a batch.
-use panel_bindings::LocalProjectionApplicationError;
+use local_projection_state::LocalProjectionApplicationError;
 use panel_changes::SetChange;
 use session_lifecycle::diagnostics;
 use session_lifecycle::diagnostics::ShellDiagnostics;
@@ -9,7 +9,7 @@ ghost use mathlib.Core.Path.{_≡_};
 ghost use Rattle.spec_session.specs.Session.{at};
 ghost use Rattle.spec_session.specs.Diagnostics.{ofOperation};
 ghost use Rattle.spec_session.specs.Lifecycle.{applied, noChange};
-ghost use Rattle.panel_bindings.specs.Change.{applicationFaultOf};
+ghost use Rattle.local_projection_state.specs.Faults.{applicationFaultOf};
 ghost use Rattle.session_lifecycle.specs.Meaning.{refusalOf, cursorOf};
 ghost use Rattle.session_steps.specs.Answers.{batchAnswerOf, rejectedAt, answerAt, changeAnswer};
 

@@ -2,12 +2,12 @@
 use mathlib.Core.Path.{sym, ap}
 use borrow.Author.Needs.{needs}
 use Rattle.spec_projection.specs.Apply.{operationFaultNumber}
-use Rattle.panel_bindings.specs.Change.{applicationFaultOf}
-use Rattle.panel_bindings.specs.declared.LocalProjectionApplicationError.{LocalProjectionApplicationError}
-use Rattle.panel_bindings.proofs.LocalProjectionApplicationError.number.Statement.{
+use Rattle.local_projection_state.specs.Faults.{applicationFaultOf}
+use Rattle.local_projection_state.specs.declared.LocalProjectionApplicationError.{LocalProjectionApplicationError}
+use Rattle.local_projection_state.proofs.LocalProjectionApplicationError.number.Statement.{
   statement,
 }
-use Rattle.panel_bindings.proofs.LocalProjectionApplicationError.number.Tie as tie
+use Rattle.local_projection_state.proofs.LocalProjectionApplicationError.number.Tie as tie
 
 returns : tie.Need-returns
 unfolding operationFaultNumber
