@@ -1,5 +1,6 @@
 -- What the numbers of the exported answers stand for.
 use Prim.Native.Nat.{ℕ}
+use Rattle.spec_session.specs.Session.{creationNumber, tooManyAnchors}
 use Rattle.spec_session.specs.Lifecycle.{Disposition, applied, noChange, rejected, LifecycleAnswer}
 use Rattle.spec_session.specs.Batch.{BatchAnswer}
 use Rattle.session_lifecycle.specs.Meaning.{answerOf}
@@ -64,5 +65,5 @@ stepTold transition.NoSession = noStep 3
 
 abbrev pub creationTold : LentCreation → ℕ
 creationTold creation.Created = 0
-creationTold creation.AnchorsOverCapacity = 13
+creationTold creation.AnchorsOverCapacity = creationNumber tooManyAnchors
 creationTold creation.NoSession = 3

@@ -1,5 +1,6 @@
 pub mod Answers
 pub mod Asked
+pub mod AskedLaws
 pub mod Counts
 pub mod GroupNumbers
 pub mod GroupNumbersLaws

@@ -1,17 +1,18 @@
 // What the calls on a session answer, as numbers.
+use session_creation::CreationRefusal;
 use session_lent::batch::LentBatch;
 use session_lent::creation::LentCreation;
+use session_lent::head;
 use session_lent::lifecycle::LentTransition;
 use session_lifecycle::lifecycle::ShellTransitionDisposition;
 use session_lifecycle::lifecycle::ShellTransitionResult;
 use session_lifecycle::state::ProjectionReplayCursor;
-use session_lifecycle::state::ShellLifecycle;
 use session_steps::answers::ProjectionPatchApplicationDisposition;
 use session_steps::answers::ProjectionPatchApplicationResult;
 ghost use mathlib.Core.Path.{_≡_};
-ghost use Rattle.session_lifecycle.specs.Meaning.{lifecycleOf, cursorOf, dispositionMeans, answerOf};
+ghost use Rattle.session_lifecycle.specs.Meaning.{cursorOf, dispositionMeans, answerOf};
 ghost use Rattle.session_steps.specs.Answers.{dispositionTold, batchAnswerOf};
-ghost use Rattle.session_lent.specs.Head.{lifecycleNumber, cursorKind, cursorNumber};
+ghost use Rattle.session_lent.specs.Head.{cursorKind, cursorNumber};
 ghost use Rattle.c_answers.specs.Answers.{dispositionNumber, answerTo, lifecycleNumberTo, sessionAbsent, noStep, batchTold, stepTold, creationTold};
 
 // 0 Applied, 1 NoChange, 2 Rejected, 3 no session in the memory, 4 no such edition; the diagnostics; the cursor after the call, if there is one.
@@ -59,17 +60,6 @@ fn step_number(disposition: ShellTransitionDisposition) -> u64
         ShellTransitionDisposition::Applied => 0,
         ShellTransitionDisposition::NoChange => 1,
         ShellTransitionDisposition::Rejected => 2,
-    }
-}
-
-fn lifecycle_number(lifecycle: ShellLifecycle) -> u64
-    ensures { λ r. ⌜ r ≡ lifecycleNumber (lifecycleOf lifecycle) ⌝ }
-{
-    match lifecycle {
-        ShellLifecycle::Created => 0,
-        ShellLifecycle::Active => 1,
-        ShellLifecycle::Suspended => 2,
-        ShellLifecycle::Closed => 3,
     }
 }
 
@@ -138,7 +128,7 @@ fn step_of(result: ShellTransitionResult) -> GeysertrayLifecycle
         stage: diagnostics.evaluation_stage,
         logical: diagnostics.logical_diagnostic_count,
         emitted: diagnostics.emitted_diagnostic_count,
-        lifecycle: lifecycle_number(lifecycle),
+        lifecycle: head::lifecycle_number(lifecycle),
         has_cursor: cursor_kind(cursor),
         cursor: cursor_number(cursor),
         stimulus_bytes: result.stimulus_bytes,
@@ -166,7 +156,7 @@ pub fn created(answer: LentCreation) -> u64
 {
     match answer {
         LentCreation::Created => 0,
-        LentCreation::AnchorsOverCapacity => 13,
+        LentCreation::AnchorsOverCapacity => CreationRefusal::ANCHORS_OVER_CAPACITY,
         LentCreation::NoSession => NO_SESSION,
     }
 }

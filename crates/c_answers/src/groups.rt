@@ -145,7 +145,7 @@ fn not_a_group() -> GeysertrayAnswer
 {
     GeysertrayAnswer {
         disposition: 2,
-        number: 17,
+        number: GroupAnswer::NOT_A_GROUP,
         stage: 0,
         logical: 0,
         emitted: 0,

@@ -1,14 +1,13 @@
 // The exported calls on turns among senders, in eleven numbers of the caller's: how many senders there are, of each of eight whether it waits,
 // and who was last named.
+use session_lent::head;
 use session_lent_turns::LentRegistration;
 use session_lent_turns::LentSetUp;
 use session_lent_turns::LentTurn;
-use session_lifecycle::state::ProjectionReplayCursor;
 use session_turns::RegisterAnswer;
 use session_turns::SetUpAnswer;
 use session_turns::TurnAnswer;
 ghost use mathlib.Core.Path.{_≡_};
-ghost use Rattle.session_lifecycle.specs.Meaning.{cursorOf};
 ghost use Rattle.session_lent.specs.Head.{cursorNumbered};
 ghost use Rattle.session_lent_turns.specs.LentTurns.{SetUpCall, RegisterCall, TurnCall};
 ghost use Rattle.c_exports.specs.Calls.{Told};
@@ -118,15 +117,6 @@ fn lent_turn_told(answer: LentTurn) -> GeysertrayTurn
     }
 }
 
-fn cursor_at(has_cursor: u64, cursor: u64) -> ProjectionReplayCursor
-    ensures { λ r. ⌜ cursorOf r ≡ cursorNumbered «has_cursor» cursor ⌝ }
-{
-    if has_cursor == 0 {
-        return ProjectionReplayCursor::Uninitialized;
-    }
-    ProjectionReplayCursor::At(cursor)
-}
-
 // Names the sender whose turn it is, which then waits no more, with the number for its batch: the one after the session's cursor, whose two
 // numbers stand in its head. With none waiting the numbers stay.
 #[no_mangle]
@@ -137,7 +127,7 @@ pub extern "C" fn geysertray_turns_next(
 ) -> GeysertrayTurn
     ensures { λ r. ⌜ Told lentTurnTold (λ a. TurnCall (cursorNumbered «has_cursor» cursor) (now (turns .entry)) a (now (turns .exit))) r ⌝ }
 {
-    let told = cursor_at(has_cursor, cursor);
+    let told = head::cursor_of(has_cursor, cursor);
     let answer = session_lent_turns::turn(turns, told);
     lent_turn_told(answer)
 }

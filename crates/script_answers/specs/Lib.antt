@@ -5,6 +5,7 @@ pub mod LookupLines
 pub mod CheckOf
 pub mod ConversionOf
 pub mod ImportOf
+pub mod SetPrints
 pub mod DependenciesTold
 pub mod PrintTold
 pub mod PageTold

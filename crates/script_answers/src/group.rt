@@ -44,7 +44,12 @@ pub fn print_group(out: &mut [u8], at: Printed, answer: GroupAnswer) -> Printed
     ensures { λ r. ⌜ Prints (now (out .entry)) at (groupLines (groupAnswerOf answer)) (now (out .exit)) r ⌝ }
 {
     match answer {
-        GroupAnswer::NotAGroup => listing_lines::print_number_line(out, at, 85, 17),
+        GroupAnswer::NotAGroup => listing_lines::print_number_line(
+            out,
+            at,
+            85,
+            GroupAnswer::NOT_A_GROUP,
+        ),
         GroupAnswer::Taken { count, cursor } => print_taken(out, at, count, cursor),
         GroupAnswer::RefusedAt { place, answer } => print_refused(out, at, place, answer),
     }

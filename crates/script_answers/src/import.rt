@@ -12,12 +12,7 @@ pub fn print_import(out: &mut [u8], at: Printed, answer: ImportAnswer, written: 
     ensures { λ r. ⌜ ((c : model.Imported) → ImportOf c answer (now (written .entry)) → Prints (now (out .entry)) at (importLine c) (now (out .exit)) r) ⌝ }
 {
     match answer {
-        ImportAnswer::Imported(len) => {
-            if written.len() < len {
-                return Printed::NoRoom;
-            }
-            conversion::print_set(out, at, 73, &written[0..len])
-        }
+        ImportAnswer::Imported(len) => conversion::print_set(out, at, 73, written, len),
         ImportAnswer::Refused(refusal) => {
             listing_lines::print_number_line(out, at, 73, refusal.number())
         }

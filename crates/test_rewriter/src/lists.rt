@@ -22,11 +22,11 @@ use projection_patch::read_values::CountRead;
 use std::num;
 
 // A list as far as it was read: its operations so far, where the next part starts, and whether all was readable.
-pub struct ListRead {
-    pub list: ProjectionPatchSet,
-    pub used: usize,
-    pub at: usize,
-    pub is_read: bool,
+pub(crate) struct ListRead {
+    pub(crate) list: ProjectionPatchSet,
+    pub(crate) used: usize,
+    pub(crate) at: usize,
+    pub(crate) is_read: bool,
 }
 
 fn nothing() -> ProjectionPatch {

@@ -37,14 +37,24 @@ use Rattle.shell_player.proofs.session.ShellSession.apply_projection_pa
 }
 use Rattle.shell_player.proofs.session.ShellSession.apply_projection_patch_batch.Tie as tie
 
+-- what the call of the operations rests on: the counts, the checks, and the arguments
+abbrev usedIn : tie.After-apply-set → tie.After-none-used
+usedIn c = c .before .before .before .before .before .before .before .before .before .before .before .before .before
+
+abbrev checkedIn : tie.After-apply-set → tie.After-check-session
+checkedIn c = usedIn c .before .before .before .before .before
+
+abbrev startOf : tie.After-apply-set → tie.Start
+startOf c = checkedIn c .before .before .before .before
+
 -- the tables that the call wrote
 abbrev Tables : tie.After-apply-set → SetChange → (m : Session) (ps : List Patch) → Type 0
 Tables c r m ps = ChangeBecame (λ n q. StoredAfter n (c .apply-set .last .1 .1 .1 .1 .1 .1 .0) (c .apply-set .last .1 .1 .1 .1 .1 .1 .1 .0) (c .apply-set .last .1 .1 .1 .1 .1 .1 .1 .1 .0) (c .apply-set .last .1 .1 .1 .1 .1 .1 .1 .1 .1 .0) q) r (candidate m ps)
 
 -- what came of the operations
-became : (c : tie.After-apply-set) → let a = c .before .before .before .before .before .before .before .before .before .before .before .before .before .before .before .before .before .before .before .before .before .before .args in (m : Session) (ps : List Patch) → Holds (a .t1) m → readSet (editionOf (a .edition)) (now (a .set)) ≡ patches ps → Tables c (c .apply-set .result) m ps
+became : (c : tie.After-apply-set) → let a = startOf c .args in (m : Session) (ps : List Patch) → Holds (a .t1) m → readSet (editionOf (a .edition)) (now (a .set)) ≡ patches ps → Tables c (c .apply-set .result) m ps
 unfolding candidate
-became c m ps h reads = c .apply-set .ensures .0 (m .projection) ps (h .projection .tables) reads (subst (λ (u : ProjectionCounts). ReadyTables u (zeros bindingBytes) (zeros availabilityBytes) (zeros entryBytes) (zeros lengthBytes)) (sym (c .before .before .before .before .before .before .before .before .before .before .before .before .before .none-used .ensures)) zeros-ready)
+became c m ps h reads = c .apply-set .ensures .0 (m .projection) ps (h .projection .tables) reads (subst (λ (u : ProjectionCounts). ReadyTables u (zeros bindingBytes) (zeros availabilityBytes) (zeros entryBytes) (zeros lengthBytes)) (sym (usedIn c .none-used .ensures)) zeros-ready)
 
 -- what is told of a session and an answer is told of the batch that is made of them
 told : {s : ShellSession} {e : OrderedProjectionPatchBatchEnvelope} {declared : ℕ} {set : List ℕ} {ed : Edition} (session : ShellSession) (result : ProjectionPatchApplicationResult) {r : ProjectionPatchBatch} → r ≡ batchOf session result
@@ -84,9 +94,9 @@ returns-2 c =
 returns-3 : tie.Need-returns-3
 unfolding gateOf
 returns-3 c =
-    let gate = ap gateOf (sym (c .before .before .before .before .before .before .before .before .before .before .before .before .before .before .before .before .before .before .before .before .before .before .before .enum-told .given .1)) in
-    let checked = c .before .before .before .before .before .before .before .before .before .before .before .before .before .before .before .before .before .before .before .before .before .before .before .before .before .check-session .ensures in
     let call = c .before .before .before .before .before .before .before in
+    let gate = ap gateOf (sym (usedIn call .before .before .before .enum-told .given .1)) in
+    let checked = checkedIn call .check-session .ensures in
     let change = call .apply-set .result in
     let answer = c .before .before .concluded .ensures in
     told _ _ (c .batch-of3 .ensures) (
@@ -98,18 +108,25 @@ returns-3 c =
       },
     )
 
--- the answer where the set was applied
-answered : (c : tie.After-with-tables) → batchAnswerOf (c .before .before .before .before .before .concluded .result) ≡ answerAt applied (at (c .before .before .before .before .before .before .before .before .before .before .before .before .before .before .before .before .before .before .before .before .before .before .before .before .before .before .before .before .before .before .before .before .args .envelope .«sequence_no»))
+-- ---- where the set was applied
+
+abbrev concludedIn : tie.After-with-tables → tie.After-concluded
+concludedIn c = c .before .before .before .before .before
+
+abbrev callIn : tie.After-with-tables → tie.After-apply-set
+callIn c = concludedIn c .before .before .before .before .before
+
+answered : (c : tie.After-with-tables) → batchAnswerOf (concludedIn c .concluded .result) ≡ answerAt applied (at (startOf (callIn c) .args .envelope .«sequence_no»))
 unfolding changeAnswer
-answered c = c .before .before .before .before .before .concluded .ensures ∙ ap (changeAnswer _ _ _) (c .before .before .before .change .given .1)
+answered c = concludedIn c .concluded .ensures ∙ ap (changeAnswer _ _ _) (c .before .before .before .change .given .1)
 
 -- the session that was made of the tables
-handed : (c : tie.After-with-tables) → let a = c .before .before .before .before .before .before .before .before .before .before .before .before .before .before .before .before .before .before .before .before .before .before .before .before .before .before .before .before .before .before .before .before .args in (m : Session) (ps : List Patch) → Holds (a .t1) m → readSet (editionOf (a .edition)) (now (a .set)) ≡ patches ps → (a .envelope .«patch_count» ≡ 0 → ⊥)
-    → BatchBecame (batchOf (c .with-tables .result) (c .before .before .before .before .before .concluded .result)) (commit m (batchEnvelopeOf (a .envelope)) (candidate m ps))
+handed : (c : tie.After-with-tables) → let a = startOf (callIn c) .args in (m : Session) (ps : List Patch) → Holds (a .t1) m → readSet (editionOf (a .edition)) (now (a .set)) ≡ patches ps → (a .envelope .«patch_count» ≡ 0 → ⊥)
+    → BatchBecame (batchOf (c .with-tables .result) (concludedIn c .concluded .result)) (commit m (batchEnvelopeOf (a .envelope)) (candidate m ps))
 handed c m ps h reads some =
-    let a = c .before .before .before .before .before .before .before .before .before .before .before .before .before .before .before .before .before .before .before .before .before .before .before .before .before .before .before .before .before .before .before .before .args in
-    let call = c .before .before .before .before .before .before .before .before .before .before in
-    let result = c .before .before .before .before .before .concluded .result in
+    let call = callIn c in
+    let a = startOf call .args in
+    let result = concludedIn c .concluded .result in
     let ended = c .before .before .before .change .given in
     let stored : Tables call (Applied (ended .0 .0)) m ps = subst (λ r. Tables call r m ps) (ended .1) (became call m ps h reads) in
     subst (λ (s : ShellSession). BatchBecame (batchOf s result) (commit m (batchEnvelopeOf (a .envelope)) (candidate m ps))) (sym (c .with-tables .ensures))
@@ -119,11 +136,12 @@ returns-4 : tie.Need-returns-4
 unfolding gateOf
 returns-4 c =
     let made = c .before in
-    let gate = ap gateOf (sym (made .before .before .before .before .before .before .before .before .before .before .before .before .before .before .before .before .before .before .before .before .before .before .before .before .before .before .enum-told .given .1)) in
-    let checked = made .before .before .before .before .before .before .before .before .before .before .before .before .before .before .before .before .before .before .before .before .before .before .before .before .before .before .before .before .check-session .ensures in
+    let tested = usedIn (callIn made) .before in
+    let gate = ap gateOf (sym (tested .before .before .enum-told .given .1)) in
+    let checked = checkedIn (callIn made) .check-session .ensures in
     told _ _ (c .batch-of4 .ensures) (
       record {
-        became = λ m h. batch-commits _ m h _ _ _ _ _ (gate ∙ checked .0 m (struct-seen _ m h)) (λ ps reads count. handed made m ps h reads (λ none. false≢true (sym (sym (made .before .before .before .before .before .before .before .before .before .before .before .before .before .before .before .before .before .before .before .before .before .before .before .before .before .is-empty .ensures) ∙ made .before .before .before .before .before .before .before .before .before .before .before .before .before .before .before .before .before .before .before .before .before .before .before .before .if1 .left) ∙ eq-eqb _ 0 none)));
+        became = λ m h. batch-commits _ m h _ _ _ _ _ (gate ∙ checked .0 m (struct-seen _ m h)) (λ ps reads count. handed made m ps h reads (λ none. false≢true (sym (sym (tested .before .is-empty .ensures) ∙ tested .if1 .left) ∙ eq-eqb _ 0 none)));
       },
       record {
         kept = kept-applied _ _ _ (answered made);
