@@ -8,6 +8,7 @@ use lib.ListN.{length, set, replicate, length-append, length-replicate}
 use lib.Seq.{set-at}
 use Rattle.spec_decimal.specs.Decimal.{digit, decimal}
 use Rattle.spec_decimal.specs.ReadLaws.{decimal-last, decimal-more, length-decimal}
+use Rattle.bytes_decimal.specs.Print.{mostDigits}
 
 -- the digits of rest are those of n that are not stored: zeros stand up to index start, and the last digits of n behind it
 pub record StoredDigits (n start rest : ℕ) (bytes : List ℕ) : Type 0 where
@@ -15,7 +16,7 @@ pub record StoredDigits (n start rest : ℕ) (bytes : List ℕ) : Type 0 where
   pub last : List ℕ
   pub digits : decimal rest ++ last ≡ decimal n
   pub held : bytes ≡ replicate (suc start) 0 ++ last
-  pub size : suc start + length last ≡ 20
+  pub size : suc start + length last ≡ mostDigits
 
 zeros-snoc : (k : ℕ) (bs : List ℕ) → replicate (suc k) 0 ++ bs ≡ replicate k 0 ++ (0 ∷ bs)
 zeros-snoc zero bs = refl
@@ -25,7 +26,7 @@ zeros-snoc (suc k) bs = ap (λ (l : List ℕ). 0 ∷ l) (zeros-snoc k bs)
 put : (k d : ℕ) (bs : List ℕ) → set (replicate (suc k) 0 ++ bs) k d ≡ replicate k 0 ++ (d ∷ bs)
 put k d bs = ap (λ (l : List ℕ). set l k d) (zeros-snoc k bs) ∙ set-at (replicate k 0) 0 bs d k (length-replicate k 0)
 
-pub stored-start : (n : ℕ) → n < 2 ^ 64 → StoredDigits n 19 n (replicate 20 0)
+pub stored-start : (n : ℕ) → n < 2 ^ 64 → StoredDigits n (mostDigits - 1) n (replicate mostDigits 0)
 stored-start n h = record { small = h; last = []; digits = append-nil (decimal n); held = refl; size = refl }
 
 module _ {n start rest : ℕ} {bytes : List ℕ} (s : StoredDigits n start rest bytes) where
@@ -36,7 +37,7 @@ module _ {n start rest : ℕ} {bytes : List ℕ} (s : StoredDigits n start rest 
       let all : length (decimal rest) + length (s .last) ≡ length (decimal n) = sym (length-append (decimal rest) (s .last)) ∙ ap length (s .digits) in
       omega (arith, length-decimal n .1, length-decimal (rest / 10) .0, s .size)
 
-  pub start-inside : start < 20
+  pub start-inside : start < mostDigits
   start-inside = omega (arith, s .size)
 
   pub stored-turn : 10 ≤ rest → StoredDigits n (start - 1) (rest / 10) (set bytes start (digit (rest % 10)))
@@ -50,7 +51,7 @@ module _ {n start rest : ℕ} {bytes : List ℕ} (s : StoredDigits n start rest 
         size = omega (arith, s .size, place);
       }
 
-  pub stored-end : rest < 10 → (set bytes start (digit rest) ≡ replicate start 0 ++ decimal n) × (start + length (decimal n) ≡ 20)
+  pub stored-end : rest < 10 → (set bytes start (digit rest) ≡ replicate start 0 ++ decimal n) × (start + length (decimal n) ≡ mostDigits)
   stored-end h =
       let all : digit rest ∷ s .last ≡ decimal n = ap (λ (l : List ℕ). l ++ s .last) (sym (decimal-last rest h)) ∙ s .digits in (
         ap (λ (l : List ℕ). set l start (digit rest)) (s .held) ∙ put start (digit rest) (s .last) ∙ ap (λ (l : List ℕ). replicate start 0 ++ l) all,

@@ -18,7 +18,7 @@ pub enum ReadI64 {
 
 // A number's digits: those from index start on.
 pub struct Digits {
-    pub bytes: [u8; 20],
+    pub bytes: [u8; Digits::MOST],
     pub start: usize,
 }
 

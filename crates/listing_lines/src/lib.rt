@@ -19,6 +19,7 @@ use bytes_printer::Printed;
 use panel_rows::fields as row_fields;
 use panel_rows::values::ValueLookup;
 use projection_patch::patch::ProjectionPatchValue;
+use projection_patch::read_values;
 
 // A field of one letter.
 fn print_letter(out: &mut [u8], at: Printed, letter: u8) -> Printed
@@ -73,7 +74,7 @@ fn print_text(out: &mut [u8], at: Printed, value: ValueLookup) -> Printed
     let len = at_most(value.text_len, ProjectionPatchValue::TEXT_BYTES);
     let letter = print_letter(out, at, 84);
     let tab = bytes_printer::print_byte(out, letter, 9);
-    let bytes = crate::escapes::print_escaped(out, tab, &text[0..len]);
+    let bytes = crate::escapes::print_escaped(out, tab, read_values::text_of(&text, 0, len));
     bytes_printer::print_newline(out, bytes)
 }
 

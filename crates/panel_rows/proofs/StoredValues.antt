@@ -4,7 +4,6 @@ use mathlib.Core.Path.{_≡_, refl, sym, ap, _∙_, subst}
 use mathlib.Core.Bool.{true, false}
 use mathlib.Core.List.{List, _∷_, _++_, append-assoc}
 use native.Mathlib.Omega.{arith}
-use borrow.Author.Tests.{le-leb}
 use lib.IntN.{pos}
 use lib.ListN.{length, take, drop, length-append, length-drop, take-append-drop}
 use lib.Seq.{take-at, drop-at, length-take-le}
@@ -19,6 +18,7 @@ use Rattle.bytes_records.specs.Moves.{zeros, overwriteRows}
 use Rattle.bytes_records.specs.MovesLaws.{drop-zeros}
 use Rattle.projection_patch.specs.Meaning.{quadTo, quadOf, valueTo, valueOf}
 use Rattle.projection_patch.specs.ReadAnswers.{lentPart, valueAnswer}
+use Rattle.projection_patch.proofs.Texts.{lent-text}
 use Rattle.projection_patch.specs.declared.patch.ProjectionQuadState.{ProjectionQuadState}
 use Rattle.projection_patch.specs.declared.patch.ProjectionQuadState.the-variants as states
 use Rattle.projection_patch.specs.declared.patch.ProjectionPatchValue.{ProjectionPatchValue}
@@ -45,10 +45,7 @@ quad-number states.S = refl
 module _ (row : List ℕ) (mark start len : ℕ) (inside : start + len ≤ length row) (short : len ≤ textBytes) where
   -- the part that is lent is the text
   text-lent : lentPart row start (start + len) ≡ take len (drop start row)
-  unfolding lentPart
-  text-lent =
-      let same : start + len - start ≡ len = omega arith in
-      rw (le-leb (start + len) (length row) inside, same)
+  text-lent = lent-text row start len inside
 
   text-long : length (take len (drop start row)) ≡ len
   text-long = length-take-le len (drop start row) (omega (arith, length-drop start row))

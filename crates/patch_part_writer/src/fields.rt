@@ -14,6 +14,7 @@ use projection_patch::patch::OptionalKey;
 use projection_patch::patch::ProjectionNodeAvailability;
 use projection_patch::patch::ProjectionPatchValue;
 use projection_patch::patch::ProjectionQuadState;
+use projection_patch::read_values;
 
 fn store_two(out: &mut [u8], at: usize, a: u8, b: u8)
     requires { ⌜ at + 2 ≤ length (now out) ⌝ }
@@ -57,7 +58,7 @@ fn store_text(out: &mut [u8], at: usize, texts: &[u8], start: usize, len: usize)
 {
     bytes_wire::write_u8_at(out, at, 3);
     bytes_wire::write_u32_at(out, at + 1, len as u32);
-    bytes_wire::write_bytes_at(out, at + 5, &texts[start..start + len]);
+    bytes_wire::write_bytes_at(out, at + 5, read_values::text_of(texts, start, start + len));
 }
 
 pub fn store_before(out: &mut [u8], at: usize, before: OptionalKey)

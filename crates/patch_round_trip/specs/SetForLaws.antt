@@ -121,7 +121,7 @@ few-heads : (ed : Edition) (ps : List model.Patch) → All (FitsPatch ed) ps →
 few-heads ed [] h = refl
 few-heads ed (p ∷ ps) h = ap₂ (λ (a b : Bool). a && b) (le-leb (length (p .operations)) patchOperations (h .0 .few)) (few-heads ed ps (h .1))
 
-few-operations : (ed : Edition) (ps : List model.Patch) → All (FitsPatch ed) ps → length (operationsFor ps) ≤ 128 * length ps
+few-operations : (ed : Edition) (ps : List model.Patch) → All (FitsPatch ed) ps → length (operationsFor ps) ≤ patchOperations * length ps
 unfolding flatMap
 few-operations ed [] h = omega arith
 few-operations ed (p ∷ ps) h = omega (arith, length-append (p .operations) (operationsFor ps), few-operations ed ps (h .1), h .0 .few)

@@ -35,7 +35,7 @@ pub record HeadsSeen (hs : List ProjectionPatch) (operations bytes p : ℕ) : Ty
   pub counted : operations + operationTotal (drop p hs) ≡ operationTotal hs
   pub sized : bytes + headSizes (drop p hs) ≡ headSizes hs
   pub tested : all fewOperations (drop p hs) ≡ all fewOperations hs
-  pub few : operations ≤ 128 * p
+  pub few : operations ≤ patchOperations * p
   pub small : bytes ≤ 69 * p
 
 pub heads-start : (hs : List ProjectionPatch) → HeadsSeen hs 0 0 0

@@ -6,7 +6,7 @@ use native.Mathlib.Omega.{arith}
 use borrow.Author.Tests.{leb-true}
 use lib.ListN.{length, getD, take, drop, length-drop, length-map, drop-of-length-le}
 use lib.Seq.{drop-drop, length-take-le}
-use Rattle.spec_patch.specs.Sizes.{patchOperations, textBytes}
+use Rattle.spec_patch.specs.Sizes.{setPatches, patchOperations, textBytes}
 use Rattle.spec_patch.specs.Encode.{u32, encodeOperation, encodeEnvelope, encodeCounted, encodePatch}
 use Rattle.projection_patch.specs.Meaning.{envelopeOf}
 use Rattle.projection_patch.specs.declared.patch.ProjectionPatch.{ProjectionPatch}
@@ -16,7 +16,7 @@ use Rattle.patch_part_writer.specs.Extent.{headSize, operationSize, operationTe
 use Rattle.patch_part_writer.specs.ExtentLaws.{length-head, length-operation}
 use Rattle.patch_part_writer.specs.Parts.{sizeWithin}
 use Rattle.patch_part_writer.specs.PartsLaws.{size-kept}
-use Rattle.patch_writer.specs.Set.{operationAt, listFrom, heads, operationTotal, fewOperations, shortAt, insideAt}
+use Rattle.patch_writer.specs.Set.{setPlaces, operationAt, listFrom, heads, operationTotal, fewOperations, shortAt, insideAt}
 use Rattle.patch_writer.specs.CallLaws.{Arrays, few-patches, few-operations, places-suffice, many-heads}
 use Rattle.patch_writer.specs.Survey.{ReadyToWrite}
 use Rattle.patch_writer.proofs.Elements.{left-cons, whole-cons, each-passes, noPatch, no-text-place}
@@ -132,7 +132,7 @@ pub record Standing (texts : List ℕ) (set : ProjectionPatchSet) (operations ro
   pub counts : Counts (heads set) p i left turns
 
 module _ (texts : List ℕ) (set : ProjectionPatchSet) (arrays : Arrays set) {operations room at : ℕ} (ready : ReadyToWrite texts set operations room at) where
-  pub few-turns : set .«patch_count» + operations ≤ 3184
+  pub few-turns : set .«patch_count» + operations ≤ setPatches + setPlaces
   few-turns = omega (arith, arrays .operations, few-patches texts set arrays (ready .fit), places-suffice texts set arrays (ready .fit), ready .counted)
 
   pub start-counts : Counts (heads set) 0 0 0 (set .«patch_count» + operations)
@@ -152,7 +152,7 @@ module _ {texts : List ℕ} {set : ProjectionPatchSet} {operations room at p i l
     head-index : p < set .«patch_count»
     head-index = omega (arith, head-left (heads set) p i left turns (here .counts) more none, many-heads texts set (here .arrays) (here .ready .fit))
 
-    pub small-head-index : p < 64
+    pub small-head-index : p < setPatches
     small-head-index = omega (arith, head-index, few-patches texts set (here .arrays) (here .ready .fit))
 
     head-parted : drop p (heads set) ≡ patch ∷ drop (p + 1) (heads set)
@@ -179,7 +179,7 @@ module _ {texts : List ℕ} {set : ProjectionPatchSet} {operations room at p i l
     place-index : i < operationTotal (heads set)
     place-index = place-left (heads set) p i left turns (here .counts) more
 
-    pub small-place-index : i < 3120
+    pub small-place-index : i < setPlaces
     small-place-index = omega (arith, place-index, enough, here .arrays .operations)
 
     pub place-within : WithinTexts texts (operationText (place .operation))

@@ -6,6 +6,7 @@ use patch_part_writer::extent::TextPlace;
 use projection_patch::patch::ProjectionPatchEdition;
 use projection_patch::patch::ProjectionPatchOperation;
 use projection_patch::patch::ProjectionPatchValue;
+use projection_patch::read_values;
 use projection_patch::text_rule::TextJudgement;
 use projection_patch::text_rule::judge_text;
 
@@ -33,7 +34,7 @@ fn judge_place(text: TextPlace, texts: &[u8]) -> TextJudgement
     if !bytes_wire::has_room(texts.len(), start, len) {
         return TextJudgement::Malformed;
     }
-    judge_text(&texts[start..start + len])
+    judge_text(read_values::text_of(texts, start, start + len))
 }
 
 // A score in an edition without scores is malformed, and so is one that is too high.

@@ -1,6 +1,6 @@
 -- A text of a length that was read, at a position.
 use Prim.Native.Nat.{ℕ, _+_, _-_, _≤_, _<_}
-use mathlib.Core.Path.{_≡_, refl}
+use mathlib.Core.Path.{_≡_, refl, sym, ap, _∙_}
 use mathlib.Core.Bool.{Bool, true, false, not}
 use mathlib.Core.List.{List, []}
 use native.Mathlib.Omega.{arith}
@@ -118,3 +118,9 @@ none-past l a b h = rw (lt-leb b (length l) h)
 pub just-there : (l : List ℕ) (a b : ℕ) → b ≤ length l → take (b - a) (drop a l) ≡ lentPart l a b
 unfolding lentPart
 just-there l a b h = rw (le-leb b (length l) h)
+
+-- the text of so many bytes from an index on, where they stand in the set
+pub lent-text : (l : List ℕ) (start len : ℕ) → start + len ≤ length l → lentPart l start (start + len) ≡ take len (drop start l)
+lent-text l start len h =
+    let size : start + len - start ≡ len = omega arith in
+    sym (just-there l start (start + len) h) ∙ ap (λ (n : ℕ). take n (drop start l)) size

@@ -18,8 +18,8 @@ ghost use Rattle.panel_page.specs.PageTable.{pageWidth};
 ghost use Rattle.shell_player.specs.Holds.{Holds};
 ghost use Rattle.script_calls.specs.ReplayHolds.{ReplayHolds, ReplayStepped};
 
-// As many places as a line's room can count.
-const PAGE_BYTES: usize = 256 * PageLookup::WIDTH;
+// As many places as a room can count.
+const PAGE_BYTES: usize = u8::MAX as usize * PageLookup::WIDTH;
 
 fn page_lent(
     session: ShellSession,

@@ -1,4 +1,5 @@
 // What a replay's next creation takes: the session's id, its limits and its anchors.
+use active_projection_target_catalog::catalog::ActiveProjectionTargetCatalog;
 use active_projection_target_catalog::catalog::BindingPair;
 use session_lifecycle::state::ShellLifecycleLimits;
 ghost use mathlib.Core.Path.{_≡_};
@@ -56,7 +57,7 @@ fn kept_pairs(
 
 impl ReplaySetup {
     // One anchor of a kind more than a session holds, so that its refusal can be shown.
-    pub const KEPT: usize = 129;
+    pub const KEPT: usize = ActiveProjectionTargetCatalog::ANCHORS + 1;
 
     // A set-up without anchors.
     pub fn new(id: u64, limits: ShellLifecycleLimits) -> ReplaySetup

@@ -33,6 +33,11 @@ pub struct PageFields {
     pub count: usize,
 }
 
+impl PageFields {
+    // So many places of an answer table can be lent to a page.
+    pub const PLACES: u64 = 128;
+}
+
 // Reads the fields behind the one that ends at index end, each of which is to be a key.
 fn read_keys(line: &[u8], end: usize) -> KeyFields
     ensures told { λ r. ⌜ ((next : List ℕ → Command) → upToEnd lineKeys next (fieldsAfter space (now (line .entry)) end) ≡ keysThen r next) ⌝ }
@@ -93,7 +98,7 @@ pub fn read_page(line: &[u8], end: usize) -> PageFields
     let keys = read_keys(line, numbers.end);
     let places = keys.keys;
     if numbers.read {
-        if room <= 128 {
+        if room <= PageFields::PLACES {
             return PageFields {
                 read: keys.read,
                 collection,

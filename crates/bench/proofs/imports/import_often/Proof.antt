@@ -1,12 +1,13 @@
 -- `import_often` ends: the output keeps its length, and each turn leaves one use fewer.
 use mathlib.Core.Path.{_≡_}
 use lib.ListN.{length}
+use Rattle.spec_patch.specs.Sizes.{setBytes}
 use borrow.Author.Needs.{needs}
 use Rattle.bench.proofs.imports.import_often.Statement.{statement}
 use Rattle.bench.proofs.imports.import_often.Tie as tie
 
 abbrev Inv-loop : tie.InvT-loop
-Inv-loop list times out₀ last₀ left₀ out last left = length out ≡ 32768
+Inv-loop list times out₀ last₀ left₀ out last left = length out ≡ setBytes
 
 abbrev μ-loop : tie.MeasureT-loop
 μ-loop list times out₀ last₀ left₀ out last left = left

@@ -2,15 +2,17 @@
 use Prim.Native.Nat.{_-_}
 use mathlib.Core.Path.{_≡_}
 use lib.ListN.{length}
+use Rattle.spec_patch.specs.Sizes.{patchOperations}
+use Rattle.patch_writer.specs.Set.{setPlaces}
 use borrow.Author.Needs.{needs}
 use Rattle.bench.proofs.lists.list.Statement.{statement}
 use Rattle.bench.proofs.lists.list.Tie as tie
 
 abbrev Inv-loop : tie.InvT-loop
-Inv-loop len operations₀ i₀ operations i = length operations ≡ 3120
+Inv-loop len operations₀ i₀ operations i = length operations ≡ setPlaces
 
 abbrev μ-loop : tie.MeasureT-loop
-μ-loop len operations₀ i₀ operations i = 128 - i
+μ-loop len operations₀ i₀ operations i = patchOperations - i
 
 binding-requires : tie.Need-binding-requires Inv-loop μ-loop
 binding-requires c κs = search needs

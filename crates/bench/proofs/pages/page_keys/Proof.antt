@@ -1,16 +1,17 @@
--- `page_keys` gives 64 keys: each turn leaves one place fewer.
+-- `page_keys` gives as many keys as a page has: each turn leaves one place fewer.
 use Prim.Native.Nat.{_-_}
 use mathlib.Core.Path.{_≡_}
 use lib.ListN.{length}
+use Rattle.spec_page.specs.Page.{pageKeys}
 use borrow.Author.Needs.{needs}
 use Rattle.bench.proofs.pages.page_keys.Statement.{statement}
 use Rattle.bench.proofs.pages.page_keys.Tie as tie
 
 abbrev Inv-loop : tie.InvT-loop
-Inv-loop keys₀ i₀ keys i = length keys ≡ 64
+Inv-loop keys₀ i₀ keys i = length keys ≡ pageKeys
 
 abbrev μ-loop : tie.MeasureT-loop
-μ-loop keys₀ i₀ keys i = 64 - i
+μ-loop keys₀ i₀ keys i = pageKeys - i
 
 loop-holds : tie.Need-loop-holds Inv-loop μ-loop
 loop-holds c = search needs

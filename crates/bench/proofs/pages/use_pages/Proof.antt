@@ -1,12 +1,16 @@
 -- `use_pages` ends: each turn leaves one use fewer. The invariant: the lengths of what is lent.
+use Prim.Native.Nat.{_*_}
 use mathlib.Core.Path.{_≡_}
 use borrow.Author.Needs.{needs}
 use lib.ListN.{length}
+use Rattle.spec_page.specs.Page.{pageKeys}
+use Rattle.panel_rows.specs.Rows.{entryBytes}
+use Rattle.panel_page.specs.PageTable.{pageWidth}
 use Rattle.bench.proofs.pages.use_pages.Statement.{statement}
 use Rattle.bench.proofs.pages.use_pages.Tie as tie
 
 abbrev Inv-loop : tie.InvT-loop
-Inv-loop way times table count keys answers₀ sum₀ left₀ answers sum left = (length table ≡ 34432) × ((length keys ≡ 64) × (length answers ≡ 16768))
+Inv-loop way times table count keys answers₀ sum₀ left₀ answers sum left = (length table ≡ entryBytes) × ((length keys ≡ pageKeys) × (length answers ≡ pageKeys * pageWidth))
 
 abbrev μ-loop : tie.MeasureT-loop
 μ-loop way times table count keys answers₀ sum₀ left₀ answers sum left = left

@@ -1,13 +1,14 @@
 -- `pairs` ends: each turn leaves one place fewer.
-use Prim.Native.Nat.{_-_}
+use Prim.Native.Nat.{_+_, _-_}
 use mathlib.Core.Path.{_≡_}
 use lib.ListN.{length}
+use Rattle.spec_patch.specs.Sizes.{anchors}
 use borrow.Author.Needs.{needs}
 use Rattle.bench.proofs.sessions.pairs.Statement.{statement}
 use Rattle.bench.proofs.sessions.pairs.Tie as tie
 
 abbrev Inv-loop : tie.InvT-loop
-Inv-loop all₀ i₀ all i = length all ≡ 129
+Inv-loop all₀ i₀ all i = length all ≡ anchors + 1
 
 abbrev μ-loop : tie.MeasureT-loop
 μ-loop all₀ i₀ all i = 64 - i

@@ -3,11 +3,10 @@ use Prim.Native.Nat.{ℕ, _+_}
 use mathlib.Core.Path.{_≡_, refl, sym, ap, _∙_}
 use mathlib.Core.Bool.{true}
 use mathlib.Core.List.{List}
-use native.Mathlib.Nat.{add-sub-cancel-left}
 use native.Mathlib.Omega.{arith}
 use lib.ListN.{take, drop}
 use Rattle.projection_patch.specs.TextRule.{judgement}
-use Rattle.projection_patch.proofs.Texts.{judged-fits, judged-malformed, judged-many, just-there}
+use Rattle.projection_patch.proofs.Texts.{judged-fits, judged-malformed, judged-many, lent-text}
 use Rattle.patch_locate.specs.TextPositions.{text-lacking, text-over, text-not-utf8, text-too-many, text-passed}
 use borrow.Author.Needs.{needs}
 use Rattle.patch_locate.proofs.fields.text_from.Statement.{statement}
@@ -25,7 +24,7 @@ asked : (k : tie.After-judge-text) → k .judge-text .result ≡ judgement (text
 asked k =
     let a = begun k .args in
     k .judge-text .ensures
-    ∙ ap judgement (k .before .text-of .ensures ∙ sym (just-there (a .part .now) (a .at + 4) _ (omega arith)) ∙ ap (λ (m : ℕ). take m (drop (a .at + 4) (a .part .now))) (add-sub-cancel-left (a .at + 4) (a .len)))
+    ∙ ap judgement (k .before .text-of .ensures ∙ lent-text (a .part .now) (a .at + 4) (a .len) (omega arith))
 
 returns : tie.Need-returns
 returns c =

@@ -7,8 +7,9 @@ use borrow.Author.Needs.{needs}
 use Rattle.spec_lists.specs.ListLaws.{unmapped}
 use denote.Ref.{now}
 use lib.ListN.{length}
+use Rattle.spec_patch.specs.Sizes.{setPatches}
 use Rattle.spec_patch.specs.Encode.{encodePatch}
-use Rattle.patch_writer.specs.Set.{heads, listOf}
+use Rattle.patch_writer.specs.Set.{setPlaces, heads, listOf}
 use Rattle.patch_writer.specs.CallLaws.{Arrays}
 use Rattle.patch_writer.proofs.Progress.{Progress, progress-start, progress-end, progress-fits, progress-next, next-sized}
 use Rattle.patch_writer.proofs.Turns.{rest, rest-start, Counts, Standing, few-turns, start-counts, small-head-index, head-next, head-few, head-counts, small-place-index, place-within, place-size, operation-next, operation-counts, end-rest}
@@ -49,7 +50,7 @@ loop-holds c =
 sub-turns : tie.Need-sub-turns Inv-loop μ-loop
 sub-turns c = search needs
 
-head-index : (c : tie.Then1 Inv-loop μ-loop) → c .before .before .loop .p < 64
+head-index : (c : tie.Then1 Inv-loop μ-loop) → c .before .before .loop .p < setPatches
 head-index c = small-head-index (standing (c .before .before)) (c .before .loop-test .taken) (c .if1 .taken)
 
 mul-patch : tie.Need-mul-patch Inv-loop μ-loop
@@ -88,7 +89,7 @@ loop-again c =
       head-counts (standing k) (turn .before .loop-test .taken) (turn .if1 .taken),
     )
 
-place-index : (c : tie.Else1 Inv-loop μ-loop) → c .before .before .loop .i < 3120
+place-index : (c : tie.Else1 Inv-loop μ-loop) → c .before .before .loop .i < setPlaces
 place-index c = small-place-index (standing (c .before .before)) (some c)
 
 mul-place : tie.Need-mul-place Inv-loop μ-loop

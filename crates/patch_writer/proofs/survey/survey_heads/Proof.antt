@@ -4,6 +4,7 @@ use mathlib.Core.Path.{_≡_, sym, subst}
 use native.Mathlib.Omega.{arith}
 use borrow.Author.Needs.{needs}
 use lib.ListN.{length, getD, take}
+use Rattle.spec_patch.specs.Sizes.{setPatches}
 use Rattle.patch_writer.proofs.Elements.{noPatch, left-cons, left-none}
 use Rattle.patch_writer.proofs.Surveyed.{HeadsSeen, head-small, heads-start, heads-next, heads-over, heads-end}
 use Rattle.patch_writer.proofs.survey.survey_heads.Statement.{statement}
@@ -29,7 +30,7 @@ returns : tie.Need-returns Inv-loop μ-loop
 returns c =
     let args = c .before .before .before .before .args in
     let loop = c .before .before .before .loop in
-    let long : length (args .t1) ≡ 64 = search needs in
+    let long : length (args .t1) ≡ setPatches = search needs in
     let patch = getD (args .t1) (loop .p) noPatch in
     let parted = left-cons (args .patch-count) (args .t1) (loop .p) noPatch (c .before .before .loop-test .taken) (omega arith) in
     sym (heads-over (loop .inv .1) patch parted (c .if1 .taken))
@@ -57,7 +58,7 @@ loop-again : tie.Need-loop-again Inv-loop μ-loop
 loop-again c =
     let args = c .before .before .before .before .before .args in
     let loop = c .before .before .before .before .loop in
-    let long : length (args .t1) ≡ 64 = search needs in
+    let long : length (args .t1) ≡ setPatches = search needs in
     let patch = getD (args .t1) (loop .p) noPatch in
     let parted = left-cons (args .patch-count) (args .t1) (loop .p) noPatch (c .before .before .before .loop-test .taken) (omega arith) in
     let next = heads-next (loop .inv .1) patch parted (c .before .if1 .left) in
@@ -67,7 +68,7 @@ returns-2 : tie.Need-returns-2 Inv-loop μ-loop
 returns-2 c =
     let args = c .before .before .args in
     let loop = c .before .loop in
-    let long : length (args .t1) ≡ 64 = search needs in
+    let long : length (args .t1) ≡ setPatches = search needs in
     sym (heads-end (loop .inv .1) (left-none (args .patch-count) (args .t1) (loop .p) (c .loop-test .left) (loop .inv .0) (omega arith)))
 
 pub survey-heads-spec : {M : Type 1} → statement M

@@ -15,6 +15,7 @@ use Rattle.projection_patch.specs.declared.text_rule.TextJudgement.{TextJudgeme
 use Rattle.patch_part_writer.specs.declared.extent.TextPlace.{TextPlace}
 use Rattle.patch_part_writer.specs.ExtentLaws.{operation-small}
 use Rattle.patch_part_writer.specs.PartsLaws.{size-kept}
+use Rattle.patch_writer.specs.Set.{setPlaces}
 use Rattle.patch_writer.specs.Survey.{worse}
 use Rattle.patch_writer.proofs.Elements.{no-text-place, left-cons, left-none}
 use Rattle.patch_writer.proofs.Surveyed.{OperationsSeen, operations-start, operations-next, operations-over, operations-end}
@@ -33,7 +34,7 @@ Inv-loop operations texts edition set bytes₀ judgement₀ i₀ bytes judgement
 abbrev μ-loop : tie.MeasureT-loop
 μ-loop operations texts edition set bytes₀ judgement₀ i₀ bytes judgement i = operations - i
 
-long : (c : tie.Start Inv-loop μ-loop) → length (c .args .t1 .operations) ≡ 3120
+long : (c : tie.Start Inv-loop μ-loop) → length (c .args .t1 .operations) ≡ setPlaces
 long c = search (needs, unmapped)
 
 loop-holds : tie.Need-loop-holds Inv-loop μ-loop

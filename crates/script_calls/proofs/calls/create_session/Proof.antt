@@ -4,6 +4,7 @@ use mathlib.Core.Path.{_≡_, subst}
 use native.Mathlib.Omega.{arith}
 use lib.ListN.{length}
 use Rattle.spec_session.specs.Session.{Creation}
+use Rattle.spec_replay.specs.Replay.{keptAnchors}
 use Rattle.session_creation.specs.Creation.{Creates}
 use Rattle.script_calls.specs.ReplayHoldsLaws.{setup-creates}
 use borrow.Author.Needs.{needs}
@@ -12,12 +13,12 @@ use Rattle.script_calls.proofs.calls.create_session.Tie as tie
 
 part-create-from-end : tie.Need-part-create-from-end
 part-create-from-end c =
-    let long : length (c .before .before .before .before .before .before .before .args .setup .nodes) ≡ 129 = search needs in
+    let long : length (c .before .before .before .before .before .before .before .args .setup .nodes) ≡ keptAnchors = search needs in
     omega (arith, c .before .before .held .ensures, long)
 
 part-create-from-end-2 : tie.Need-part-create-from-end-2
 part-create-from-end-2 c =
-    let long : length (c .before .before .before .before .before .before .before .before .before .args .setup .collections) ≡ 129 = search needs in
+    let long : length (c .before .before .before .before .before .before .before .before .before .args .setup .collections) ≡ keptAnchors = search needs in
     omega (arith, c .before .before .before .held2 .ensures, long)
 
 returns : tie.Need-returns

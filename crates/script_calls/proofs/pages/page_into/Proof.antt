@@ -19,7 +19,11 @@ lent-places n room h =
     let size = length-take-le (room * pageWidth - 0) (replicate {A = ℕ} n 0) (omega (arith, length-replicate {A = ℕ} n 0)) in
     rw size (omega arith)
 
-few : (c : tie.Start) → c .args .room ≤ 255
+-- a room is a byte
+abbrev mostRoom : ℕ
+mostRoom = 255
+
+few : (c : tie.Start) → c .args .room ≤ mostRoom
 few c = search needs
 
 returns : tie.Need-returns
@@ -27,7 +31,7 @@ returns c =
     let printed = c .before .before .before in
     let start = printed .before .before .before .before .before in
     let args = start .args in
-    λ m h. prints-same (ap (λ (n : ℕ). pageLines (length (now (args .keys))) (page (m .projection) (args .collection) (now (args .keys)) (replicate n none))) (lent-places 67072 (args .room) (omega (arith, few start)))) (printed .page-lent .ensures m h)
+    λ m h. prints-same (ap (λ (n : ℕ). pageLines (length (now (args .keys))) (page (m .projection) (args .collection) (now (args .keys)) (replicate n none))) (lent-places (mostRoom * pageWidth) (args .room) (omega (arith, few start)))) (printed .page-lent .ensures m h)
 
 pub page-into-spec : {M : Type 1} → statement M
 page-into-spec =
