@@ -9,6 +9,7 @@ use Rattle.spec_patch.specs.Encode.{encodeOptional, encodeValue}
 use Rattle.spec_patch.specs.Fits.{FitsValue}
 use Rattle.spec_patch.specs.Reader.{Result, read, refused}
 use Rattle.spec_patch.specs.Read.{readValue}
+use Rattle.projection_patch.specs.Widths.{pastSlot, pastKey}
 
 -- what was read, or N
 abbrev pub valueRead : Result Value → Value
@@ -21,10 +22,10 @@ valueIn ed set at = valueRead (readValue ed (drop at set))
 
 -- how many bytes of an operation stand before its value: the kind and the fields, as `encodeOperation` has them
 unfoldable pub valueOffset : Operation → ℕ
-valueOffset (setBinding n s v) = 13
+valueOffset (setBinding n s v) = pastSlot
 valueOffset (setAvailability n a) = 0
-valueOffset (insert c k before v) = 17 + length (encodeOptional before)
-valueOffset (update c k v) = 17
+valueOffset (insert c k before v) = pastKey + length (encodeOptional before)
+valueOffset (update c k v) = pastKey
 valueOffset (remove c k) = 0
 valueOffset (move c k before) = 0
 

@@ -12,6 +12,7 @@ use Rattle.spec_patch.specs.Encode.{u32, u64, encodeOptional, encodeValue, enco
 use Rattle.spec_patch.specs.Fits.{FitsValue, OperationHolds, FitsOperation}
 use Rattle.spec_patch.specs.Read.{readValue}
 use Rattle.spec_patch.specs.ReadLaws.{value-codec}
+use Rattle.projection_patch.specs.Widths.{pastSlot, pastKey}
 use Rattle.panel_plan.specs.SetValues.{valueRead, valueIn, valueOffset, StandsAt}
 
 module _ {ed : Edition} {set : List ℕ} (at : ℕ) where
@@ -35,7 +36,7 @@ three-behind kind a b c v rest = simp append-assoc
 pub value-stands : (ed : Edition) (set : List ℕ) (at : ℕ) (o : Operation) (rest : List ℕ) → FitsOperation ed o → drop at set ≡ encodeOperation o ++ rest → OperationHolds (StandsAt ed set (at + valueOffset o)) o
 unfolding encodeOperation valueOffset OperationHolds
 value-stands ed set at (setBinding n s v) rest f e =
-    (f .0, (f .1 .0, behind at 13 (1 ∷ u64 n ++ u32 s) v rest (f .1 .1) (simp (length-append, length-littleEndian)) (e ∙ two-behind 1 (u64 n) (u32 s) (encodeValue v) rest)))
+    (f .0, (f .1 .0, behind at pastSlot (1 ∷ u64 n ++ u32 s) v rest (f .1 .1) (simp (length-append, length-littleEndian)) (e ∙ two-behind 1 (u64 n) (u32 s) (encodeValue v) rest)))
 value-stands ed set at (setAvailability n a) rest f e = f
 value-stands ed set at (insert c k before v) rest f e = (
   f .0,
@@ -43,12 +44,12 @@ value-stands ed set at (insert c k before v) rest f e = (
     f .1 .0,
     (
       f .1 .1 .0,
-      behind at (17 + length (encodeOptional before)) (3 ∷ u64 c ++ (u64 k ++ encodeOptional before)) v rest (f .1 .1 .1) (simp (length-append, length-littleEndian) (omega arith))
+      behind at (pastKey + length (encodeOptional before)) (3 ∷ u64 c ++ (u64 k ++ encodeOptional before)) v rest (f .1 .1 .1) (simp (length-append, length-littleEndian) (omega arith))
           (e ∙ three-behind 3 (u64 c) (u64 k) (encodeOptional before) (encodeValue v) rest),
     ),
   ),
 )
 value-stands ed set at (update c k v) rest f e =
-    (f .0, (f .1 .0, behind at 17 (4 ∷ u64 c ++ u64 k) v rest (f .1 .1) (simp (length-append, length-littleEndian)) (e ∙ two-behind 4 (u64 c) (u64 k) (encodeValue v) rest)))
+    (f .0, (f .1 .0, behind at pastKey (4 ∷ u64 c ++ u64 k) v rest (f .1 .1) (simp (length-append, length-littleEndian)) (e ∙ two-behind 4 (u64 c) (u64 k) (encodeValue v) rest)))
 value-stands ed set at (remove c k) rest f e = f
 value-stands ed set at (move c k before) rest f e = f

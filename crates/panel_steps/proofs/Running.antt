@@ -21,6 +21,7 @@ use Rattle.spec_projection.specs.Apply.{Outcome, done, stopped, stepOf, patchSt
 use Rattle.spec_projection.specs.Valid.{Valid}
 use Rattle.spec_explain.specs.Walk.{walkPatches}
 use Rattle.spec_explain.specs.Explain.{keptProjection, stepKept}
+use Rattle.projection_patch.specs.Widths.{pastNeighbour}
 use Rattle.projection_patch.specs.Meaning.{operationOf}
 use Rattle.projection_patch.specs.ReadAnswers.{lentFrom}
 use Rattle.projection_patch.specs.declared.patch.ProjectionPatch.{ProjectionPatch}
@@ -62,7 +63,7 @@ offset-is texts (CollectionUpdate c k v) = refl
 offset-is texts (CollectionRemove c k) = refl
 offset-is texts (CollectionMove c k b) = refl
 
-pub offset-small : (o : Operation) → valueOffset o ≤ 26
+pub offset-small : (o : Operation) → valueOffset o ≤ pastNeighbour
 unfolding valueOffset encodeOptional
 offset-small (setBinding n s v) = omega arith
 offset-small (setAvailability n a) = omega arith

@@ -26,6 +26,7 @@ use projection_patch::patch::OptionalKey;
 use projection_patch::patch::ProjectionPatchEdition;
 use projection_patch::patch::ProjectionPatchOperation;
 use projection_patch::read_values::ProjectionPatchReadFault;
+use projection_patch::widths;
 
 // How many rows each table of the plan has at the end, or why the run stopped: of a refusal the cursor at the operation that is refused, and
 // the rows of the plan before it, which the tables still hold.
@@ -40,13 +41,13 @@ fn value_offset(operation: ProjectionPatchOperation) -> usize
     ensures { λ r. ⌜ r ≡ valueOffset (operationOf [] operation) ⌝ }
 {
     match operation {
-        ProjectionPatchOperation::SetBindingValue { .. } => 13,
+        ProjectionPatchOperation::SetBindingValue { .. } => widths::PAST_SLOT,
         ProjectionPatchOperation::SetNodeAvailability { .. } => 0,
         ProjectionPatchOperation::CollectionInsert { before, .. } => match before {
-            OptionalKey::None => 18,
-            OptionalKey::Some(_) => 26,
+            OptionalKey::None => widths::PAST_NO_NEIGHBOUR,
+            OptionalKey::Some(_) => widths::PAST_NEIGHBOUR,
         },
-        ProjectionPatchOperation::CollectionUpdate { .. } => 17,
+        ProjectionPatchOperation::CollectionUpdate { .. } => widths::PAST_KEY,
         ProjectionPatchOperation::CollectionRemove { .. } => 0,
         ProjectionPatchOperation::CollectionMove { .. } => 0,
     }

@@ -8,6 +8,7 @@ use Rattle.spec_lists.specs.Bytes.{littleEndian}
 use Rattle.spec_lists.specs.BytesLaws.{length-littleEndian}
 use Rattle.bytes_wire.specs.Write.{overwrite}
 use Rattle.bytes_wire.specs.WriteLaws.{overwrite-append}
+use Rattle.projection_patch.specs.Widths.{pastKey}
 
 -- the output is as it was but for the n bytes from index at on
 pub record StoredBytes (l : List ℕ) (at n : ℕ) (bs out : List ℕ) : Type 0 where
@@ -38,5 +39,5 @@ one-byte x small =
     ap (λ (b : ℕ). b ∷ []) same
 
 -- a tag and two numbers
-pub length-entry : (tag a b : ℕ) → length (tag ∷ littleEndian 8 a ++ littleEndian 8 b) ≡ 17
+pub length-entry : (tag a b : ℕ) → length (tag ∷ littleEndian 8 a ++ littleEndian 8 b) ≡ pastKey
 length-entry tag a b = simp (length-append, length-littleEndian)

@@ -3,6 +3,7 @@ use Prim.Native.Nat.{ℕ, _+_, _≤_}
 use mathlib.Core.List.{List}
 use lib.ListN.{length}
 use Rattle.spec_patch.specs.Sizes.{textBytes}
+use Rattle.projection_patch.specs.Widths.{taggedBytes, pastSlot, pastKey}
 use Rattle.projection_patch.specs.declared.patch.OptionalSurfaceId.{OptionalSurfaceId}
 use Rattle.projection_patch.specs.declared.patch.OptionalSurfaceId.the-variants as surface
 use Rattle.projection_patch.specs.declared.patch.OptionalKey.{OptionalKey}
@@ -17,11 +18,11 @@ use Rattle.patch_part_writer.specs.declared.extent.TextPlace.{TextPlace}
 -- an optional number is byte 0, or 1 and the number
 abbrev pub beforeSize : OptionalKey → ℕ
 beforeSize key.None = 1
-beforeSize (key.Some k) = 9
+beforeSize (key.Some k) = taggedBytes
 
 abbrev pub surfaceSize : OptionalSurfaceId → ℕ
 surfaceSize surface.None = 1
-surfaceSize (surface.Some s) = 9
+surfaceSize (surface.Some s) = taggedBytes
 
 -- a patch's envelope and its operation count
 abbrev pub headSize : ProjectionPatch → ℕ
@@ -30,18 +31,18 @@ headSize p = 60 + surfaceSize (p .envelope .«surface_id»)
 -- a kind, and what follows it
 abbrev pub valueSize : ProjectionPatchValue → ℕ
 valueSize (Quad q) = 2
-valueSize (SignedScalar z) = 9
-valueSize (UnsignedScalar x) = 9
+valueSize (SignedScalar z) = taggedBytes
+valueSize (UnsignedScalar x) = taggedBytes
 valueSize (Text start len) = 5 + len
 valueSize (Score n) = 2
 
 abbrev pub operationSize : ProjectionPatchOperation → ℕ
-operationSize (SetBindingValue t v) = 13 + valueSize v
+operationSize (SetBindingValue t v) = pastSlot + valueSize v
 operationSize (SetNodeAvailability n a) = 10
-operationSize (CollectionInsert c k b v) = 17 + (beforeSize b + valueSize v)
-operationSize (CollectionUpdate c k v) = 17 + valueSize v
-operationSize (CollectionRemove c k) = 17
-operationSize (CollectionMove c k b) = 17 + beforeSize b
+operationSize (CollectionInsert c k b v) = pastKey + (beforeSize b + valueSize v)
+operationSize (CollectionUpdate c k v) = pastKey + valueSize v
+operationSize (CollectionRemove c k) = pastKey
+operationSize (CollectionMove c k b) = pastKey + beforeSize b
 
 -- where a value's text stands; other values have the empty text at 0
 abbrev pub valueText : ProjectionPatchValue → TextPlace

@@ -9,6 +9,7 @@ use Rattle.spec_lists.specs.BytesLaws.{length-littleEndian}
 use Rattle.spec_patch.specs.Sizes.{textBytes}
 use Rattle.spec_patch.specs.Edition.{Edition, letters}
 use Rattle.spec_patch.specs.Encode.{u32, encodeOptional, encodeText, kindOf, valueBody, encodeValue, encodeOperation, encodeEnvelope, heading}
+use Rattle.projection_patch.specs.Widths.{taggedBytes}
 use Rattle.projection_patch.specs.Meaning.{beforeOf, surfaceOf, valueOf, operationOf, envelopeOf}
 use Rattle.projection_patch.specs.declared.patch.OptionalSurfaceId.{OptionalSurfaceId}
 use Rattle.projection_patch.specs.declared.patch.OptionalSurfaceId.the-variants as surface
@@ -63,11 +64,11 @@ length-operation texts (CollectionRemove c k) inside = simp (length-append, leng
 length-operation texts (CollectionMove c k b) inside = simp (length-append, length-littleEndian) (omega (arith, length-before b))
 
 -- what an operation takes at most
-pub before-small : (b : OptionalKey) → beforeSize b ≤ 9
+pub before-small : (b : OptionalKey) → beforeSize b ≤ taggedBytes
 before-small key.None = omega arith
 before-small (key.Some k) = omega arith
 
-pub surface-small : (s : OptionalSurfaceId) → surfaceSize s ≤ 9
+pub surface-small : (s : OptionalSurfaceId) → surfaceSize s ≤ taggedBytes
 surface-small surface.None = omega arith
 surface-small (surface.Some s) = omega arith
 

@@ -9,6 +9,7 @@ use projection_patch::patch::OptionalSurfaceId;
 use projection_patch::patch::ProjectionPatch;
 use projection_patch::patch::ProjectionPatchOperation;
 use projection_patch::patch::ProjectionPatchValue;
+use projection_patch::widths;
 
 // The bytes of a set's heading with its patch count.
 pub const HEADING_BYTES: usize = 35;
@@ -71,7 +72,7 @@ pub fn before_size(before: OptionalKey) -> usize
 {
     match before {
         OptionalKey::None => 1,
-        OptionalKey::Some(_) => 9,
+        OptionalKey::Some(_) => widths::TAGGED,
     }
 }
 
@@ -81,8 +82,8 @@ fn value_size(value: ProjectionPatchValue) -> usize
 {
     match value {
         ProjectionPatchValue::Quad(_) => 2,
-        ProjectionPatchValue::SignedScalar(_) => 9,
-        ProjectionPatchValue::UnsignedScalar(_) => 9,
+        ProjectionPatchValue::SignedScalar(_) => widths::TAGGED,
+        ProjectionPatchValue::UnsignedScalar(_) => widths::TAGGED,
         ProjectionPatchValue::Text { start: _, len } => 5 + len,
         ProjectionPatchValue::Score(_) => 2,
     }
@@ -93,7 +94,8 @@ fn kept_size(operation: ProjectionPatchOperation) -> usize
     ensures { λ r. ⌜ r ≡ operationSize operation ⌝ }
 {
     match operation {
-        ProjectionPatchOperation::SetBindingValue { target: _, value } => 13 + value_size(value),
+        ProjectionPatchOperation::SetBindingValue { target: _, value } => widths::PAST_SLOT
+            + value_size(value),
         ProjectionPatchOperation::SetNodeAvailability {
             node: _,
             availability: _,
@@ -103,21 +105,21 @@ fn kept_size(operation: ProjectionPatchOperation) -> usize
             key: _,
             before,
             value,
-        } => { 17 + (before_size(before) + value_size(value)) }
+        } => { widths::PAST_KEY + (before_size(before) + value_size(value)) }
         ProjectionPatchOperation::CollectionUpdate {
             collection: _,
             key: _,
             value,
-        } => 17 + value_size(value),
+        } => widths::PAST_KEY + value_size(value),
         ProjectionPatchOperation::CollectionRemove {
             collection: _,
             key: _,
-        } => 17,
+        } => widths::PAST_KEY,
         ProjectionPatchOperation::CollectionMove {
             collection: _,
             key: _,
             before,
-        } => 17 + before_size(before),
+        } => widths::PAST_KEY + before_size(before),
     }
 }
 
@@ -137,7 +139,7 @@ pub fn surface_size(surface: OptionalSurfaceId) -> usize
 {
     match surface {
         OptionalSurfaceId::None => 1,
-        OptionalSurfaceId::Some(_) => 9,
+        OptionalSurfaceId::Some(_) => widths::TAGGED,
     }
 }
 

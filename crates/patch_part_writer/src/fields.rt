@@ -8,6 +8,7 @@ ghost use mir.Val.{ofZ};
 ghost use Rattle.spec_patch.specs.Sizes.{textBytes};
 ghost use Rattle.spec_patch.specs.Encode.{u32, u64, encodeOptional, encodeValue, quadByte, availabilityByte};
 ghost use Rattle.bytes_wire.specs.Write.{overwrite};
+ghost use Rattle.projection_patch.specs.Widths.{taggedBytes, pastKey};
 ghost use Rattle.projection_patch.specs.Meaning.{beforeOf, quadOf, availabilityValueOf, valueOf};
 ghost use Rattle.patch_part_writer.specs.Extent.{beforeSize, valueSize, valueText, WithinTexts};
 use projection_patch::patch::OptionalKey;
@@ -15,6 +16,7 @@ use projection_patch::patch::ProjectionNodeAvailability;
 use projection_patch::patch::ProjectionPatchValue;
 use projection_patch::patch::ProjectionQuadState;
 use projection_patch::read_values;
+use projection_patch::widths;
 
 fn store_two(out: &mut [u8], at: usize, a: u8, b: u8)
     requires { ⌜ at + 2 ≤ length (now out) ⌝ }
@@ -26,29 +28,29 @@ fn store_two(out: &mut [u8], at: usize, a: u8, b: u8)
 
 // A tag and a u64 behind it.
 pub fn store_tagged(out: &mut [u8], at: usize, tag: u8, x: u64)
-    requires { ⌜ at + 9 ≤ length (now out) ⌝ }
+    requires { ⌜ at + taggedBytes ≤ length (now out) ⌝ }
     ensures { λ _. ⌜ now (out .exit) ≡ overwrite (now (out .entry)) at (tag ∷ u64 x) ⌝ }
 {
     bytes_wire::write_u8_at(out, at, tag);
-    bytes_wire::write_u64_at(out, at + 1, x);
+    bytes_wire::write_u64_at(out, at + widths::TAG, x);
 }
 
 // A tag and an i64 behind it.
 fn store_signed(out: &mut [u8], at: usize, tag: u8, z: i64)
-    requires { ⌜ at + 9 ≤ length (now out) ⌝ }
+    requires { ⌜ at + taggedBytes ≤ length (now out) ⌝ }
     ensures { λ _. ⌜ now (out .exit) ≡ overwrite (now (out .entry)) at (tag ∷ u64 (ofZ w64 z)) ⌝ }
 {
     bytes_wire::write_u8_at(out, at, tag);
-    bytes_wire::write_i64_at(out, at + 1, z);
+    bytes_wire::write_i64_at(out, at + widths::TAG, z);
 }
 
 // A tag, a collection and a key.
 pub fn store_entry(out: &mut [u8], at: usize, tag: u8, collection: u64, key: u64)
-    requires { ⌜ at + 17 ≤ length (now out) ⌝ }
+    requires { ⌜ at + pastKey ≤ length (now out) ⌝ }
     ensures { λ _. ⌜ now (out .exit) ≡ overwrite (now (out .entry)) at (tag ∷ u64 collection ++ u64 key) ⌝ }
 {
     store_tagged(out, at, tag, collection);
-    bytes_wire::write_u64_at(out, at + 9, key);
+    bytes_wire::write_u64_at(out, at + widths::TAGGED, key);
 }
 
 // A tag, the length and the len bytes from start on.

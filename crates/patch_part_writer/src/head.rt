@@ -7,6 +7,7 @@ ghost use Rattle.spec_patch.specs.Sizes.{setPatches, patchOperations};
 ghost use Rattle.spec_patch.specs.Edition.{editionDigit};
 ghost use Rattle.spec_patch.specs.Encode.{u32, u64, encodeOptional, encodeEnvelope, heading};
 ghost use Rattle.bytes_wire.specs.Write.{overwrite};
+ghost use Rattle.projection_patch.specs.Widths.{threeIds};
 ghost use Rattle.projection_patch.specs.Meaning.{editionOf, surfaceOf, envelopeOf};
 ghost use Rattle.patch_part_writer.specs.Extent.{surfaceSize, headSize};
 use crate::extent::surface_size;
@@ -15,6 +16,7 @@ use projection_patch::patch::OptionalSurfaceId;
 use projection_patch::patch::ProjectionPatch;
 use projection_patch::patch::ProjectionPatchEdition;
 use projection_patch::patch::ProjectionPatchEnvelope;
+use projection_patch::widths;
 
 // Where the edition's digit stands in a set.
 pub const DIGIT_AT: usize = 30;
@@ -53,12 +55,12 @@ fn store_surface(out: &mut [u8], at: usize, surface: OptionalSurfaceId)
 }
 
 fn store_three(out: &mut [u8], at: usize, a: u64, b: u64, c: u64)
-    requires { ⌜ at + 24 ≤ length (now out) ⌝ }
+    requires { ⌜ at + threeIds ≤ length (now out) ⌝ }
     ensures { λ _. ⌜ now (out .exit) ≡ overwrite (now (out .entry)) at (u64 a ++ (u64 b ++ u64 c)) ⌝ }
 {
     bytes_wire::write_u64_at(out, at, a);
-    bytes_wire::write_u64_at(out, at + 8, b);
-    bytes_wire::write_u64_at(out, at + 16, c);
+    bytes_wire::write_u64_at(out, at + widths::ID, b);
+    bytes_wire::write_u64_at(out, at + widths::TWO_IDS, c);
 }
 
 // The numbers behind the surface, and the operation count.
@@ -76,7 +78,7 @@ fn store_behind_surface(
     let epoch = envelope.epoch;
     let sequence = envelope.sequence;
     store_three(out, at, previous.raw(), revision.raw(), epoch.raw());
-    bytes_wire::write_u64_at(out, at + 24, sequence.raw());
+    bytes_wire::write_u64_at(out, at + widths::THREE_IDS, sequence.raw());
     bytes_wire::write_u32_at(out, at + 32, operation_count as u32);
 }
 
@@ -91,7 +93,12 @@ pub fn store_head(out: &mut [u8], at: usize, patch: ProjectionPatch)
     let document = envelope.document_id;
     let surface = envelope.surface_id;
     store_three(out, at, id.raw(), stream.raw(), document.raw());
-    store_surface(out, at + 24, surface);
+    store_surface(out, at + widths::THREE_IDS, surface);
     let count = patch.operation_count;
-    store_behind_surface(out, at + 24 + surface_size(surface), envelope, count);
+    store_behind_surface(
+        out,
+        at + widths::THREE_IDS + surface_size(surface),
+        envelope,
+        count,
+    );
 }

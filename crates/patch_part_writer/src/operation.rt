@@ -5,6 +5,7 @@ ghost use Prim.Native.Nat.{_+_, _≤_};
 ghost use lib.ListN.{length};
 ghost use Rattle.spec_patch.specs.Encode.{u32, u64, encodeOptional, encodeValue, encodeOperation};
 ghost use Rattle.bytes_wire.specs.Write.{overwrite};
+ghost use Rattle.projection_patch.specs.Widths.{pastSlot, pastKey};
 ghost use Rattle.projection_patch.specs.Meaning.{beforeOf, valueOf, operationOf};
 ghost use Rattle.patch_part_writer.specs.Extent.{beforeSize, valueSize, operationSize, valueText, operationText, WithinTexts};
 use crate::extent::before_size;
@@ -18,6 +19,7 @@ use projection_patch::contract_primitives::StaticNodeId;
 use projection_patch::patch::OptionalKey;
 use projection_patch::patch::ProjectionPatchOperation;
 use projection_patch::patch::ProjectionPatchValue;
+use projection_patch::widths;
 
 fn store_binding(
     out: &mut [u8],
@@ -26,14 +28,14 @@ fn store_binding(
     value: ProjectionPatchValue,
     texts: &[u8],
 )
-    requires { ⌜ (at + (13 + valueSize value) ≤ length (now out)) × WithinTexts (now texts) (valueText value) ⌝ }
+    requires { ⌜ (at + (pastSlot + valueSize value) ≤ length (now out)) × WithinTexts (now texts) (valueText value) ⌝ }
     ensures { λ _. ⌜ now (out .exit) ≡ overwrite (now (out .entry)) at (1 ∷ u64 (target .node .0) ++ (u32 (target .slot .0) ++ encodeValue (valueOf (now (texts .entry)) value))) ⌝ }
 {
     let node = target.node;
     let slot = target.slot;
     store_tagged(out, at, 1, node.raw());
-    bytes_wire::write_u32_at(out, at + 9, slot.0);
-    store_value(out, at + 13, value, texts);
+    bytes_wire::write_u32_at(out, at + widths::TAGGED, slot.0);
+    store_value(out, at + widths::PAST_SLOT, value, texts);
 }
 
 fn store_availability(out: &mut [u8], at: usize, node: StaticNodeId, byte: u8)
@@ -41,7 +43,7 @@ fn store_availability(out: &mut [u8], at: usize, node: StaticNodeId, byte: u8)
     ensures { λ _. ⌜ now (out .exit) ≡ overwrite (now (out .entry)) at (2 ∷ u64 (node .0) ++ (byte ∷ [])) ⌝ }
 {
     store_tagged(out, at, 2, node.raw());
-    bytes_wire::write_u8_at(out, at + 9, byte);
+    bytes_wire::write_u8_at(out, at + widths::TAGGED, byte);
 }
 
 fn store_insert(
@@ -53,12 +55,17 @@ fn store_insert(
     value: ProjectionPatchValue,
     texts: &[u8],
 )
-    requires { ⌜ (at + (17 + (beforeSize before + valueSize value)) ≤ length (now out)) × WithinTexts (now texts) (valueText value) ⌝ }
+    requires { ⌜ (at + (pastKey + (beforeSize before + valueSize value)) ≤ length (now out)) × WithinTexts (now texts) (valueText value) ⌝ }
     ensures { λ _. ⌜ now (out .exit) ≡ overwrite (now (out .entry)) at (3 ∷ u64 collection ++ (u64 key ++ (encodeOptional (beforeOf before) ++ encodeValue (valueOf (now (texts .entry)) value)))) ⌝ }
 {
     store_entry(out, at, 3, collection, key);
-    store_before(out, at + 17, before);
-    store_value(out, at + 17 + before_size(before), value, texts);
+    store_before(out, at + widths::PAST_KEY, before);
+    store_value(
+        out,
+        at + widths::PAST_KEY + before_size(before),
+        value,
+        texts,
+    );
 }
 
 fn store_update(
@@ -69,19 +76,19 @@ fn store_update(
     value: ProjectionPatchValue,
     texts: &[u8],
 )
-    requires { ⌜ (at + (17 + valueSize value) ≤ length (now out)) × WithinTexts (now texts) (valueText value) ⌝ }
+    requires { ⌜ (at + (pastKey + valueSize value) ≤ length (now out)) × WithinTexts (now texts) (valueText value) ⌝ }
     ensures { λ _. ⌜ now (out .exit) ≡ overwrite (now (out .entry)) at (4 ∷ u64 collection ++ (u64 key ++ encodeValue (valueOf (now (texts .entry)) value))) ⌝ }
 {
     store_entry(out, at, 4, collection, key);
-    store_value(out, at + 17, value, texts);
+    store_value(out, at + widths::PAST_KEY, value, texts);
 }
 
 fn store_move(out: &mut [u8], at: usize, collection: u64, key: u64, before: OptionalKey)
-    requires { ⌜ at + (17 + beforeSize before) ≤ length (now out) ⌝ }
+    requires { ⌜ at + (pastKey + beforeSize before) ≤ length (now out) ⌝ }
     ensures { λ _. ⌜ now (out .exit) ≡ overwrite (now (out .entry)) at (6 ∷ u64 collection ++ (u64 key ++ encodeOptional (beforeOf before))) ⌝ }
 {
     store_entry(out, at, 6, collection, key);
-    store_before(out, at + 17, before);
+    store_before(out, at + widths::PAST_KEY, before);
 }
 
 // Whether RFC 3629 allows the text is tested before, once for the whole list.

@@ -28,6 +28,7 @@ use projection_patch::read_values::NumbersRead;
 use projection_patch::read_values::OptionalNumber;
 use projection_patch::read_values::OptionalRead;
 use projection_patch::read_values::ProjectionPatchReadFault;
+use projection_patch::widths;
 
 pub enum EnvelopeRead {
     Read(ProjectionPatchEnvelope, usize),
@@ -79,20 +80,20 @@ fn envelope(part: &[u8]) -> EnvelopeRead
     let NumbersRead::Read(patch, stream) = read_values::numbers_at(part, 0) else {
         return EnvelopeRead::Refused(ProjectionPatchReadFault::Malformed);
     };
-    let ReadU64::Read(document) = bytes_wire::read_u64_at(part, 16) else {
+    let ReadU64::Read(document) = bytes_wire::read_u64_at(part, widths::TWO_IDS) else {
         return EnvelopeRead::Refused(ProjectionPatchReadFault::Malformed);
     };
-    let OptionalRead::Read(surface, at) = read_values::optional_at(part, 24) else {
+    let OptionalRead::Read(surface, at) = read_values::optional_at(part, widths::THREE_IDS) else {
         return EnvelopeRead::Refused(ProjectionPatchReadFault::Malformed);
     };
     let NumbersRead::Read(previous, revision) = read_values::numbers_at(part, at) else {
         return EnvelopeRead::Refused(ProjectionPatchReadFault::Malformed);
     };
-    let next = at + 16;
+    let next = at + widths::TWO_IDS;
     let NumbersRead::Read(epoch, sequence) = read_values::numbers_at(part, next) else {
         return EnvelopeRead::Refused(ProjectionPatchReadFault::Malformed);
     };
-    let end = next + 16;
+    let end = next + widths::TWO_IDS;
     EnvelopeRead::Read(
         envelope_of(
             patch,

@@ -8,6 +8,7 @@ use lib.ListN.{drop}
 use Rattle.spec_patch.specs.Reader.{refused, malformed, Reader, mapped, pair}
 use Rattle.spec_patch.specs.Read.{readU64}
 use Rattle.bytes_wire.specs.Read.{firstNumber}
+use Rattle.projection_patch.specs.Widths.{taggedBytes}
 use Rattle.projection_patch.specs.Meaning.{nodeTo, keyTo, beforeTo}
 use Rattle.projection_patch.specs.ReadAnswers.{numbersAnswer, collectionAndKeyTo, optionalTo, optionalOf}
 use Rattle.projection_patch.specs.declared.contract_primitives.StaticNodeId.{StaticNodeId}
@@ -48,9 +49,9 @@ pub record PlaceAt (l : List ℕ) (collection : StaticNodeId) (key : CollectionK
   pub node : nodeTo x ≡ collection
   pub in-it : keyTo y ≡ key
 
-module _ (l : List ℕ) (r : PlaceRead) (e : r ≡ collectionAndKeyTo (numbersAnswer (firstNumber 8 (drop 1 l)) (firstNumber 8 (drop 9 l)))) where
+module _ (l : List ℕ) (r : PlaceRead) (e : r ≡ collectionAndKeyTo (numbersAnswer (firstNumber 8 (drop 1 l)) (firstNumber 8 (drop taggedBytes l)))) where
   abbrev both : NumbersRead
-  both = numbersAnswer (firstNumber 8 (drop 1 l)) (firstNumber 8 (drop 9 l))
+  both = numbersAnswer (firstNumber 8 (drop 1 l)) (firstNumber 8 (drop taggedBytes l))
 
   pub place-at : (c : StaticNodeId) (k : CollectionKey) → r ≡ place-read.Read c k → PlaceAt l c k
   place-at c k f = pick both refl (sym e ∙ f)

@@ -3,3 +3,4 @@ pub mod ReadAnswers
 pub mod FaultLaws
 pub mod TextLaws
 pub mod TextRule
+pub mod Widths

@@ -5,3 +5,4 @@ pub mod patch;
 pub mod read_operations;
 pub mod read_values;
 pub mod text_rule;
+pub mod widths;

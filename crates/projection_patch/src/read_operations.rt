@@ -6,6 +6,7 @@ ghost use Rattle.spec_patch.specs.Edition.{Edition};
 ghost use Rattle.spec_patch.specs.Read.{operationAfter, readOperationBy, readOperation};
 ghost use Rattle.projection_patch.specs.Meaning.{editionOf, beforeTo};
 ghost use Rattle.bytes_wire.specs.Read.{firstNumber};
+ghost use Rattle.projection_patch.specs.Widths.{taggedBytes};
 ghost use Rattle.projection_patch.specs.ReadAnswers.{optionalOf, numbersAnswer, collectionAndKeyTo, operationAnswer};
 use crate::binding_graph::BindingSlot;
 use crate::binding_graph::BindingTarget;
@@ -22,6 +23,7 @@ use crate::read_values::OptionalNumber;
 use crate::read_values::OptionalRead;
 use crate::read_values::ProjectionPatchReadFault;
 use crate::read_values::ValueRead;
+use crate::widths;
 use bytes_wire::ReadU32;
 use bytes_wire::ReadU64;
 
@@ -39,7 +41,7 @@ pub enum PlaceRead {
 
 // The collection and the key behind the tag.
 pub fn collection_and_key(part: &[u8]) -> PlaceRead
-    ensures { λ r. ⌜ r ≡ collectionAndKeyTo (numbersAnswer (firstNumber 8 (drop 1 (now (part .entry)))) (firstNumber 8 (drop 9 (now (part .entry))))) ⌝ }
+    ensures { λ r. ⌜ r ≡ collectionAndKeyTo (numbersAnswer (firstNumber 8 (drop 1 (now (part .entry)))) (firstNumber 8 (drop taggedBytes (now (part .entry))))) ⌝ }
 {
     match read_values::numbers_at(part, 1) {
         NumbersRead::Read(collection, key) => PlaceRead::Read(
@@ -78,14 +80,14 @@ fn set_binding_value(part: &[u8], strict: bool, edition: ProjectionPatchEdition)
     let ReadU64::Read(node) = bytes_wire::read_u64_at(part, 1) else {
         return OperationRead::Refused(ProjectionPatchReadFault::Malformed);
     };
-    let ReadU32::Read(slot) = bytes_wire::read_u32_at(part, 9) else {
+    let ReadU32::Read(slot) = bytes_wire::read_u32_at(part, widths::TAGGED) else {
         return OperationRead::Refused(ProjectionPatchReadFault::Malformed);
     };
     let target = BindingTarget {
         node: StaticNodeId::new(node),
         slot: BindingSlot(slot),
     };
-    match read_values::value_at(part, 13, strict, edition) {
+    match read_values::value_at(part, widths::PAST_SLOT, strict, edition) {
         ValueRead::Read(value, end) => OperationRead::Read(
             ProjectionPatchOperation::SetBindingValue {
                 target,
@@ -104,7 +106,7 @@ fn set_node_availability(part: &[u8]) -> OperationRead
         return OperationRead::Refused(ProjectionPatchReadFault::Malformed);
     };
     let node = StaticNodeId::new(number);
-    match read_values::availability_at(part, 9) {
+    match read_values::availability_at(part, widths::TAGGED) {
         AvailabilityRead::Read(availability, end) => OperationRead::Read(
             ProjectionPatchOperation::SetNodeAvailability { node, availability },
             end,
@@ -119,7 +121,7 @@ fn collection_insert(part: &[u8], strict: bool, edition: ProjectionPatchEdition)
     let PlaceRead::Read(collection, key) = collection_and_key(part) else {
         return OperationRead::Refused(ProjectionPatchReadFault::Malformed);
     };
-    match read_values::optional_at(part, 17) {
+    match read_values::optional_at(part, widths::PAST_KEY) {
         OptionalRead::Read(neighbour, body) => match read_values::value_at(
             part,
             body,
@@ -147,7 +149,7 @@ fn collection_update(part: &[u8], strict: bool, edition: ProjectionPatchEdition)
     let PlaceRead::Read(collection, key) = collection_and_key(part) else {
         return OperationRead::Refused(ProjectionPatchReadFault::Malformed);
     };
-    match read_values::value_at(part, 17, strict, edition) {
+    match read_values::value_at(part, widths::PAST_KEY, strict, edition) {
         ValueRead::Read(value, end) => OperationRead::Read(
             ProjectionPatchOperation::CollectionUpdate {
                 collection,
@@ -168,7 +170,7 @@ fn collection_remove(part: &[u8]) -> OperationRead
     };
     OperationRead::Read(
         ProjectionPatchOperation::CollectionRemove { collection, key },
-        17,
+        widths::PAST_KEY,
     )
 }
 
@@ -178,7 +180,7 @@ fn collection_move(part: &[u8]) -> OperationRead
     let PlaceRead::Read(collection, key) = collection_and_key(part) else {
         return OperationRead::Refused(ProjectionPatchReadFault::Malformed);
     };
-    match read_values::optional_at(part, 17) {
+    match read_values::optional_at(part, widths::PAST_KEY) {
         OptionalRead::Read(neighbour, end) => OperationRead::Read(
             ProjectionPatchOperation::CollectionMove {
                 collection,

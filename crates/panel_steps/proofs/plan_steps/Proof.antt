@@ -12,6 +12,7 @@ use Rattle.spec_patch.specs.Edition.{Edition}
 use Rattle.spec_patch.specs.Patch.{Patch}
 use Rattle.spec_projection.specs.Projection.{Projection}
 use Rattle.spec_projection.specs.Valid.{Valid}
+use Rattle.projection_patch.specs.Widths.{pastNeighbour}
 use Rattle.projection_patch.specs.Meaning.{editionOf, operationOf}
 use Rattle.patch_walk.specs.Steps.{stepAnswer, AtSteps}
 use Rattle.patch_walk.specs.StepsLaws.{visited}
@@ -107,7 +108,7 @@ value-offset-requires : tie.Need-value-offset-requires Inv-loop μ-loop
 value-offset-requires c κs = search needs
 
 -- the operation ends in the set
-inside : (c : tie.After-value-offset Inv-loop μ-loop) → let top = c .before .before .before .before .before .before .before in top .loop .cursor .at + c .value-offset .result ≤ length (now (start top .args .set)) + 26
+inside : (c : tie.After-value-offset Inv-loop μ-loop) → let top = c .before .before .before .before .before .before .before in top .loop .cursor .at + c .value-offset .result ≤ length (now (start top .args .set)) + pastNeighbour
 inside c =
     let top = c .before .before .before .before .before .before .before in
     let within = operation-within (top .loop .cursor) (length (now (start top .args .set))) _ _ (c .before .before .step .given .1) (c .before .before .before .before .next-step .ensures .1) in

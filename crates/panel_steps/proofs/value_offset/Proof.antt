@@ -8,6 +8,7 @@ use borrow.Author.Needs.{needs}
 use lib.ListN.{length}
 use Rattle.spec_lists.specs.BytesLaws.{length-littleEndian}
 use Rattle.spec_patch.specs.Encode.{u64, encodeOptional}
+use Rattle.projection_patch.specs.Widths.{pastKey, pastNoNeighbour, pastNeighbour}
 use Rattle.projection_patch.specs.Meaning.{beforeOf, operationOf}
 use Rattle.projection_patch.specs.declared.patch.ProjectionPatchOperation.{ProjectionPatchOperation}
 use Rattle.panel_plan.specs.SetValues.{valueOffset}
@@ -17,11 +18,11 @@ use Rattle.panel_steps.proofs.value_offset.Tie as tie
 abbrev offset : ProjectionPatchOperation → ℕ
 offset o = valueOffset (operationOf [] o)
 
-no-neighbour : 17 + length (encodeOptional none) ≡ 18
+no-neighbour : pastKey + length (encodeOptional none) ≡ pastNoNeighbour
 unfolding encodeOptional
 no-neighbour = omega arith
 
-neighbour : (k : ℕ) → 17 + length (encodeOptional (some k)) ≡ 26
+neighbour : (k : ℕ) → pastKey + length (encodeOptional (some k)) ≡ pastNeighbour
 unfolding encodeOptional
 neighbour k = omega (arith, length-littleEndian 8 k)
 
@@ -35,11 +36,11 @@ returns-2 c = sym (ap offset (c .enum-told2 .given .1))
 
 returns-3 : tie.Need-returns-3
 unfolding valueOffset
-returns-3 c = sym (ap offset (c .before .before .before .operation .given .1) ∙ ap (λ b. 17 + length (encodeOptional (beforeOf b))) (c .enum-told3 .given .1) ∙ no-neighbour)
+returns-3 c = sym (ap offset (c .before .before .before .operation .given .1) ∙ ap (λ b. pastKey + length (encodeOptional (beforeOf b))) (c .enum-told3 .given .1) ∙ no-neighbour)
 
 returns-4 : tie.Need-returns-4
 unfolding valueOffset
-returns-4 c = sym (ap offset (c .before .before .before .operation .given .1) ∙ ap (λ b. 17 + length (encodeOptional (beforeOf b))) (c .enum-told4 .given .1) ∙ neighbour _)
+returns-4 c = sym (ap offset (c .before .before .before .operation .given .1) ∙ ap (λ b. pastKey + length (encodeOptional (beforeOf b))) (c .enum-told4 .given .1) ∙ neighbour _)
 
 returns-5 : tie.Need-returns-5
 unfolding valueOffset

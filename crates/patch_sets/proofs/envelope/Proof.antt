@@ -9,6 +9,7 @@ use Rattle.spec_lists.specs.Bytes.{Bytes}
 use Rattle.spec_lists.specs.BytesLaws.{bytes-of}
 use Rattle.spec_patch.specs.Reader.{Reader, pair}
 use Rattle.spec_patch.specs.Read.{readU64, readOptional, toEnvelope, readEnvelope}
+use Rattle.projection_patch.specs.Widths.{twoIds, threeIds}
 use Rattle.projection_patch.specs.Meaning.{envelopeTo}
 use Rattle.projection_patch.specs.ReadAnswers.{anywhere, optionalTo}
 use Rattle.patch_sets.specs.SetAnswers.{envelopeAnswer}
@@ -52,17 +53,17 @@ patch c =
     let bound = c .before .patch .given in
     numbers-at (part (start1 c)) 0 (call .numbers-at .result) (call .numbers-at .ensures) (bound .0 .0) (bound .0 .1 .0) (bound .1)
 
-document : (c : tie.After-known-told2) → NumberAt (part (start2 c)) 16 8 (c .before .document .given .0 .0)
+document : (c : tie.After-known-told2) → NumberAt (part (start2 c)) twoIds 8 (c .before .document .given .0 .0)
 document c =
     let call = c .before .before .before in
     let bound = c .before .document .given in
-    u64-at (part (start2 c)) 16 (bound .0 .0) (call .read-u64-at .result) (call .read-u64-at .ensures) (bound .1)
+    u64-at (part (start2 c)) twoIds (bound .0 .0) (call .read-u64-at .result) (call .read-u64-at .ensures) (bound .1)
 
-surface : (c : tie.After-known-told3) → Got readOptional (anywhere optionalTo) (part (start3 c)) 24 (c .before .surface .given .0 .0) (at c)
+surface : (c : tie.After-known-told3) → Got readOptional (anywhere optionalTo) (part (start3 c)) threeIds (c .before .surface .given .0 .0) (at c)
 surface c =
     let call = c .before .before .before in
     let bound = c .before .surface .given in
-    optional-got (part (start3 c)) 24 (call .optional-at .result) (call .optional-at .ensures) (all-bytes (start3 c)) (bound .0 .0) (at c) (bound .1)
+    optional-got (part (start3 c)) threeIds (call .optional-at .result) (call .optional-at .ensures) (all-bytes (start3 c)) (bound .0 .0) (at c) (bound .1)
 
 previous : (c : tie.After-known-told4) → NumbersAt (part (start4 c)) (at (c .before .before .before .before)) (c .before .previous .given .0 .0) (c .before .previous .given .0 .1 .0)
 previous c =
@@ -70,11 +71,11 @@ previous c =
     let bound = c .before .previous .given in
     numbers-at (part (start4 c)) (at (call .before)) (call .numbers-at2 .result) (call .numbers-at2 .ensures) (bound .0 .0) (bound .0 .1 .0) (bound .1)
 
-epoch : (c : tie.After-known-told5) → NumbersAt (part (start5 c)) (at (c .before .before .before .before .before .before .before .before) + 16) (c .before .epoch .given .0 .0) (c .before .epoch .given .0 .1 .0)
+epoch : (c : tie.After-known-told5) → NumbersAt (part (start5 c)) (at (c .before .before .before .before .before .before .before .before) + twoIds) (c .before .epoch .given .0 .0) (c .before .epoch .given .0 .1 .0)
 epoch c =
     let call = c .before .before .before in
     let bound = c .before .epoch .given in
-    numbers-at (part (start5 c)) (at (call .before .before .before .before .before) + 16) (call .numbers-at3 .result) (call .numbers-at3 .ensures) (bound .0 .0) (bound .0 .1 .0) (bound .1)
+    numbers-at (part (start5 c)) (at (call .before .before .before .before .before) + twoIds) (call .numbers-at3 .result) (call .numbers-at3 .ensures) (bound .0 .0) (bound .0 .1 .0) (bound .1)
 
 -- what follows the first two numbers
 abbrev rest : Reader (ℕ × (Option ℕ × (ℕ × (ℕ × (ℕ × ℕ)))))
@@ -92,7 +93,7 @@ unfolding readEnvelope
 returns-2 c =
     let call = c .before .before in
     let one = patch (call .before) in
-    rw (one .first, one .second, u64-short (part (start1 (call .before))) 16 (call .read-u64-at .result) (call .read-u64-at .ensures) (c .enum-told2 .given .1))
+    rw (one .first, one .second, u64-short (part (start1 (call .before))) twoIds (call .read-u64-at .result) (call .read-u64-at .ensures) (c .enum-told2 .given .1))
 
 returns-3 : tie.Need-returns-3
 unfolding readEnvelope
@@ -101,8 +102,8 @@ returns-3 c =
     let k = call .before in
     let one = patch (k .before .before .before .before) in
     let l = part (start2 k) in
-    let g = no-optional l 24 (call .optional-at .result) (call .optional-at .ensures) (c .enum-told3 .given .0 .0) (c .enum-told3 .given .1) in
-    rw (one .first, one .second, document k .is, g .is, optional-malformed (drop 24 l) (g .fault) (g .is))
+    let g = no-optional l threeIds (call .optional-at .result) (call .optional-at .ensures) (c .enum-told3 .given .0 .0) (c .enum-told3 .given .1) in
+    rw (one .first, one .second, document k .is, g .is, optional-malformed (drop threeIds l) (g .fault) (g .is))
 
 returns-4 : tie.Need-returns-4
 unfolding readEnvelope
@@ -124,7 +125,7 @@ returns-5 c =
     let k3 = k4 .before .before .before .before in
     let k2 = k3 .before .before .before .before in
     let one = patch (k2 .before .before .before .before) in
-    rw (one .first, one .second, document k2 .is, surface k3 .is, previous k4 .first, previous k4 .second, last-numbers-missing (part (start4 k4)) (at k3 + 16) (call .numbers-at3 .result) (call .numbers-at3 .ensures) (c .enum-told5 .given .1))
+    rw (one .first, one .second, document k2 .is, surface k3 .is, previous k4 .first, previous k4 .second, last-numbers-missing (part (start4 k4)) (at k3 + twoIds) (call .numbers-at3 .result) (call .numbers-at3 .ensures) (c .enum-told5 .given .1))
 
 add-end : tie.Need-add-end
 add-end c = omega (arith, epoch c .room)
@@ -145,7 +146,7 @@ returns-6 c =
     let made = c .envelope-of .ensures
     ∙ ap (λ (o : Option ℕ). envelopeTo (toEnvelope (first .0, (first .1 .0, (k2 .before .document .given .0 .0, (o, (fourth .0, (fourth .1 .0, (fifth .0, fifth .1 .0)))))))))
     (optional-is (k3 .before .surface .given .0 .0) (s .a) (s .same)) in
-    rw (one .first, one .second, document k2 .is, s .is, previous k4 .first, previous k4 .second, epoch k5 .first, epoch k5 .second, position (part (start5 k5)) (at k3 + 16 + 16) (epoch k5 .room), made)
+    rw (one .first, one .second, document k2 .is, s .is, previous k4 .first, previous k4 .second, epoch k5 .first, epoch k5 .second, position (part (start5 k5)) (at k3 + twoIds + twoIds) (epoch k5 .room), made)
 
 pub envelope-spec : {M : Type 1} → statement M
 envelope-spec =

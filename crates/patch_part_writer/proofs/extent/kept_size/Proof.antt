@@ -4,6 +4,7 @@ use mathlib.Core.Path.{sym, ap, ap₂, subst, _∙_}
 use native.Mathlib.Omega.{arith}
 use borrow.Author.Needs.{needs}
 use Rattle.spec_patch.specs.Sizes.{textBytes}
+use Rattle.projection_patch.specs.Widths.{pastSlot, pastKey}
 use Rattle.projection_patch.specs.declared.patch.ProjectionPatchOperation.{ProjectionPatchOperation}
 use Rattle.patch_part_writer.specs.Extent.{operationText, operationSize}
 use Rattle.patch_part_writer.specs.ExtentLaws.{before-small, value-small}
@@ -35,16 +36,16 @@ add-result-5 : tie.Need-add-result-5
 add-result-5 c = omega (arith, before-small (c .before .before .operation4 .given .0 .1 .1 .0))
 
 returns : tie.Need-returns
-returns c = ap (λ (n : ℕ). 13 + n) (c .value-size .ensures) ∙ sym (ap operationSize (c .before .before .operation .given .1))
+returns c = ap (λ (n : ℕ). pastSlot + n) (c .value-size .ensures) ∙ sym (ap operationSize (c .before .before .operation .given .1))
 
 returns-3 : tie.Need-returns-3
-returns-3 c = ap₂ (λ (m n : ℕ). 17 + (m + n)) (c .before .before-size .ensures) (c .value-size2 .ensures) ∙ sym (ap operationSize (c .before .before .before .operation2 .given .1))
+returns-3 c = ap₂ (λ (m n : ℕ). pastKey + (m + n)) (c .before .before-size .ensures) (c .value-size2 .ensures) ∙ sym (ap operationSize (c .before .before .before .operation2 .given .1))
 
 returns-4 : tie.Need-returns-4
-returns-4 c = ap (λ (n : ℕ). 17 + n) (c .value-size3 .ensures) ∙ sym (ap operationSize (c .before .before .operation3 .given .1))
+returns-4 c = ap (λ (n : ℕ). pastKey + n) (c .value-size3 .ensures) ∙ sym (ap operationSize (c .before .before .operation3 .given .1))
 
 returns-6 : tie.Need-returns-6
-returns-6 c = ap (λ (n : ℕ). 17 + n) (c .before-size2 .ensures) ∙ sym (ap operationSize (c .before .before .operation4 .given .1))
+returns-6 c = ap (λ (n : ℕ). pastKey + n) (c .before-size2 .ensures) ∙ sym (ap operationSize (c .before .before .operation4 .given .1))
 
 pub kept-size-spec : {M : Type 1} → statement M
 kept-size-spec =

@@ -5,6 +5,7 @@ use mathlib.Core.Path.{ap}
 use native.Mathlib.Omega.{arith}
 use borrow.Author.Needs.{needs}
 use denote.Ref.{now}
+use Rattle.projection_patch.specs.Widths.{taggedBytes}
 use Rattle.patch_part_writer.proofs.Stored.{stored-first, next-number}
 use Rattle.spec_patch.specs.Encode.{u64}
 use Rattle.spec_lists.specs.BytesLaws.{length-littleEndian}
@@ -14,7 +15,7 @@ use Rattle.patch_part_writer.proofs.fields.store_entry.Tie as tie
 returns : tie.Need-returns
 returns c =
     let args = c .before .before .before .before .before .before .before .before .before .args in
-    next-number (stored-first (now (args .out)) (args .at) 9 (args .tag ∷ u64 (args .collection)) (ap suc (length-littleEndian 8 (args .collection))) (c .before .before .before .before .before .before .store-tagged .ensures)) 8 (args .key) (omega arith) (c .before .before .write-u64-at .ensures .1) .is
+    next-number (stored-first (now (args .out)) (args .at) taggedBytes (args .tag ∷ u64 (args .collection)) (ap suc (length-littleEndian 8 (args .collection))) (c .before .before .before .before .before .before .store-tagged .ensures)) 8 (args .key) (omega arith) (c .before .before .write-u64-at .ensures .1) .is
 
 pub store-entry-spec : {M : Type 1} → statement M
 store-entry-spec =

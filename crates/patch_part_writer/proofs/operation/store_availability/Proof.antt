@@ -8,6 +8,7 @@ use denote.Ref.{now}
 use Rattle.bytes_wire.specs.Write.{overwrite}
 use Rattle.spec_patch.specs.Encode.{u64}
 use Rattle.spec_lists.specs.BytesLaws.{length-littleEndian}
+use Rattle.projection_patch.specs.Widths.{taggedBytes}
 use Rattle.patch_part_writer.proofs.Stored.{stored-first, next, one-byte}
 use Rattle.patch_part_writer.proofs.operation.store_availability.Statement.{statement}
 use Rattle.patch_part_writer.proofs.operation.store_availability.Tie as tie
@@ -17,8 +18,8 @@ returns c =
     let start = c .before .before .before .before .before .before .before .before .before .before in
     let args = start .args in
     let l = now (args .out) in
-    let tagged = stored-first l (args .at) 9 (2 ∷ u64 (args .node .0)) (ap suc (length-littleEndian 8 (args .node .0))) (c .before .before .before .before .before .before .store-tagged .ensures ∙ ap (λ (x : ℕ). overwrite l (args .at) (2 ∷ u64 x)) (c .before .before .before .before .before .before .before .raw .ensures)) in
-    next tagged 1 (args .byte ∷ []) refl (omega arith) (c .before .before .write-u8-at .ensures .1 ∙ ap (overwrite (c .before .before .before .before .before .before .store-tagged .last .0) (args .at + 9)) (one-byte (args .byte) (start .fits .byte .fits))) .is
+    let tagged = stored-first l (args .at) taggedBytes (2 ∷ u64 (args .node .0)) (ap suc (length-littleEndian 8 (args .node .0))) (c .before .before .before .before .before .before .store-tagged .ensures ∙ ap (λ (x : ℕ). overwrite l (args .at) (2 ∷ u64 x)) (c .before .before .before .before .before .before .before .raw .ensures)) in
+    next tagged 1 (args .byte ∷ []) refl (omega arith) (c .before .before .write-u8-at .ensures .1 ∙ ap (overwrite (c .before .before .before .before .before .before .store-tagged .last .0) (args .at + taggedBytes)) (one-byte (args .byte) (start .fits .byte .fits))) .is
 
 pub store-availability-spec : {M : Type 1} → statement M
 store-availability-spec =

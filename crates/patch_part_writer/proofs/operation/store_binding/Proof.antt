@@ -8,6 +8,7 @@ use denote.Ref.{now}
 use Rattle.bytes_wire.specs.Write.{overwrite}
 use Rattle.spec_patch.specs.Encode.{u32, u64, encodeValue}
 use Rattle.spec_lists.specs.BytesLaws.{length-littleEndian}
+use Rattle.projection_patch.specs.Widths.{taggedBytes}
 use Rattle.projection_patch.specs.Meaning.{valueOf}
 use Rattle.patch_part_writer.specs.Extent.{valueSize}
 use Rattle.patch_part_writer.specs.ExtentLaws.{length-value}
@@ -22,7 +23,7 @@ returns c =
     let l = now (args .out) in
     let node = args .target .node .0 in
     let value = encodeValue (valueOf (now (args .texts)) (args .value)) in
-    let tagged = stored-first l (args .at) 9 (1 ∷ u64 node) (ap suc (length-littleEndian 8 node)) (c .before .before .before .before .before .before .before .before .before .before .store-tagged .ensures ∙ ap (λ (x : ℕ). overwrite l (args .at) (1 ∷ u64 x)) (c .before .before .before .before .before .before .before .before .before .before .before .raw .ensures)) in
+    let tagged = stored-first l (args .at) taggedBytes (1 ∷ u64 node) (ap suc (length-littleEndian 8 node)) (c .before .before .before .before .before .before .before .before .before .before .store-tagged .ensures ∙ ap (λ (x : ℕ). overwrite l (args .at) (1 ∷ u64 x)) (c .before .before .before .before .before .before .before .before .before .before .before .raw .ensures)) in
     let slot = next-number tagged 4 (args .target .slot .0) (omega arith) (c .before .before .before .before .before .before .write-u32-at .ensures .1) in
     next slot (valueSize (args .value)) value (length-value (now (args .texts)) (args .value) (start .pre .1 .inside)) (omega arith) (c .before .before .store-value .ensures) .is
     ∙ ap (λ (b : List ℕ). overwrite l (args .at) (1 ∷ b)) (append-assoc (u64 node) (u32 (args .target .slot .0)) value)

@@ -7,6 +7,7 @@ use borrow.Author.Needs.{needs}
 use denote.Ref.{now}
 use Rattle.bytes_wire.specs.Write.{overwrite}
 use Rattle.spec_patch.specs.Encode.{u64, encodeOptional, encodeValue}
+use Rattle.projection_patch.specs.Widths.{pastKey}
 use Rattle.projection_patch.specs.Meaning.{beforeOf, valueOf}
 use Rattle.patch_part_writer.specs.Extent.{beforeSize, valueSize}
 use Rattle.patch_part_writer.specs.ExtentLaws.{length-before, length-value}
@@ -26,9 +27,9 @@ returns c =
     let key = u64 (args .key) in
     let neighbour = encodeOptional (beforeOf (args .before)) in
     let value = encodeValue (valueOf (now (args .texts)) (args .value)) in
-    let entry = stored-first l (args .at) 17 (3 ∷ collection ++ key) (length-entry 3 (args .collection) (args .key)) (c .before .before .before .before .before .before .before .before .before .before .before .store-entry .ensures) in
+    let entry = stored-first l (args .at) pastKey (3 ∷ collection ++ key) (length-entry 3 (args .collection) (args .key)) (c .before .before .before .before .before .before .before .before .before .before .before .store-entry .ensures) in
     let placed = next entry (beforeSize (args .before)) neighbour (length-before (args .before)) (omega arith) (c .before .before .before .before .before .before .before .store-before .ensures) in
-    let position : args .at + 17 + c .before .before .before .before-size .result ≡ args .at + (17 + beforeSize (args .before)) = omega (arith, c .before .before .before .before-size .ensures) in
+    let position : args .at + pastKey + c .before .before .before .before-size .result ≡ args .at + (pastKey + beforeSize (args .before)) = omega (arith, c .before .before .before .before-size .ensures) in
     next placed (valueSize (args .value)) value (length-value (now (args .texts)) (args .value) (start .pre .1 .inside)) (omega arith) (c .before .before .store-value .ensures ∙ ap (λ (n : ℕ). overwrite (c .before .before .before .before .before .before .before .store-before .last .0) n value) position) .is
     ∙ ap (λ (b : List ℕ). overwrite l (args .at) (3 ∷ b)) (regroup collection key neighbour value)
 

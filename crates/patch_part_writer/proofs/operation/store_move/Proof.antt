@@ -7,6 +7,7 @@ use borrow.Author.Needs.{needs}
 use denote.Ref.{now}
 use Rattle.bytes_wire.specs.Write.{overwrite}
 use Rattle.spec_patch.specs.Encode.{u64, encodeOptional}
+use Rattle.projection_patch.specs.Widths.{pastKey}
 use Rattle.projection_patch.specs.Meaning.{beforeOf}
 use Rattle.patch_part_writer.specs.Extent.{beforeSize}
 use Rattle.patch_part_writer.specs.ExtentLaws.{length-before}
@@ -19,7 +20,7 @@ returns c =
     let args = c .before .before .before .before .before .before .before .before .before .args in
     let l = now (args .out) in
     let neighbour = encodeOptional (beforeOf (args .before)) in
-    let entry = stored-first l (args .at) 17 (6 ∷ u64 (args .collection) ++ u64 (args .key)) (length-entry 6 (args .collection) (args .key)) (c .before .before .before .before .before .before .store-entry .ensures) in
+    let entry = stored-first l (args .at) pastKey (6 ∷ u64 (args .collection) ++ u64 (args .key)) (length-entry 6 (args .collection) (args .key)) (c .before .before .before .before .before .before .store-entry .ensures) in
     next entry (beforeSize (args .before)) neighbour (length-before (args .before)) (omega arith) (c .before .before .store-before .ensures) .is
     ∙ ap (λ (b : List ℕ). overwrite l (args .at) (6 ∷ b)) (append-assoc (u64 (args .collection)) (u64 (args .key)) neighbour)
 

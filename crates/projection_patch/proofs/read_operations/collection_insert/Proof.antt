@@ -7,6 +7,7 @@ use lib.ListN.{length}
 use Rattle.spec_lists.specs.Bytes.{Bytes}
 use Rattle.spec_lists.specs.BytesLaws.{bytes-of}
 use Rattle.spec_patch.specs.Edition.{Edition}
+use Rattle.projection_patch.specs.Widths.{pastKey}
 use Rattle.projection_patch.specs.Meaning.{editionOf}
 use Rattle.projection_patch.specs.ReadAnswers.{operationAnswer}
 use Rattle.spec_patch.specs.Reader.{pair}
@@ -42,11 +43,11 @@ start c = c .before .before .before .before .before .before .before
 abbrev body : tie.After-known-told2 → ℕ
 body c = c .before .neighbour .given .0 .1 .0
 
-neighbour : (c : tie.After-known-told2) → Got readOptional (anywhere optionalTo) (part (start c)) 17 (c .before .neighbour .given .0 .0) (body c)
+neighbour : (c : tie.After-known-told2) → Got readOptional (anywhere optionalTo) (part (start c)) pastKey (c .before .neighbour .given .0 .0) (body c)
 neighbour c =
     let call = c .before .before .before in
     let bound = c .before .neighbour .given in
-    optional-got (part (start c)) 17 (call .optional-at .result) (call .optional-at .ensures) (all-bytes (start c)) (bound .0 .0) (body c) (bound .1)
+    optional-got (part (start c)) pastKey (call .optional-at .result) (call .optional-at .ensures) (all-bytes (start c)) (bound .0 .0) (body c) (bound .1)
 
 returns : tie.Need-returns
 unfolding operationAfter
@@ -82,7 +83,7 @@ returns-4 c =
     let k = call .before in
     let p = here k in
     let bound = c .before .fault2 .given in
-    let b = no-optional (part (k .before .before .before)) 17 (call .optional-at .result) (call .optional-at .ensures) (bound .0 .0) (bound .1) in
+    let b = no-optional (part (k .before .before .before)) pastKey (call .optional-at .result) (call .optional-at .ensures) (bound .0 .0) (bound .1) in
     rw (p .numbers .first, p .numbers .second, b .is, b .same)
 
 pub collection-insert-spec : {M : Type 1} → statement M

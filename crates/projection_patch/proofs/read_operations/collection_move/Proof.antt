@@ -5,6 +5,7 @@ use mathlib.Core.List.{List}
 use lib.ListN.{length}
 use Rattle.spec_lists.specs.Bytes.{Bytes}
 use Rattle.spec_lists.specs.BytesLaws.{bytes-of}
+use Rattle.projection_patch.specs.Widths.{pastKey}
 use Rattle.projection_patch.specs.ReadAnswers.{operationAnswer}
 use Rattle.spec_patch.specs.Read.{readOptional, toMove, operationAfter}
 use Rattle.projection_patch.proofs.Answers.{optional-got, no-optional}
@@ -39,7 +40,7 @@ returns-2 c strict ed =
     let k = call .before in
     let start = k .before .before .before in
     let p = here k in
-    let b = optional-got (part start) 17 (call .optional-at .result) (call .optional-at .ensures) (all-bytes start) (bound .0 .0) (bound .0 .1 .0) (bound .1) in
+    let b = optional-got (part start) pastKey (call .optional-at .result) (call .optional-at .ensures) (all-bytes start) (bound .0 .0) (bound .0 .1 .0) (bound .1) in
     rw (p .numbers .first, p .numbers .second, b .is, b .there, p .node, p .in-it, before-is (bound .0 .0) (b .a) (b .same) (c .key-of .result) (c .key-of .ensures))
 
 returns-3 : tie.Need-returns-3
@@ -49,7 +50,7 @@ returns-3 c strict ed =
     let k = call .before in
     let p = here k in
     let bound = c .before .fault .given in
-    let b = no-optional (part (k .before .before .before)) 17 (call .optional-at .result) (call .optional-at .ensures) (bound .0 .0) (bound .1) in
+    let b = no-optional (part (k .before .before .before)) pastKey (call .optional-at .result) (call .optional-at .ensures) (bound .0 .0) (bound .1) in
     rw (p .numbers .first, p .numbers .second, b .is, b .same)
 
 pub collection-move-spec : {M : Type 1} → statement M

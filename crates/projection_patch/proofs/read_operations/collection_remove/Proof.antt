@@ -4,6 +4,7 @@ use mathlib.Core.Path.{sym, ap}
 use mathlib.Core.List.{List}
 use lib.ListN.{length}
 use Rattle.spec_patch.specs.Read.{toRemove, operationAfter}
+use Rattle.projection_patch.specs.Widths.{pastKey}
 use Rattle.projection_patch.specs.ReadAnswers.{operationAnswer}
 use Rattle.projection_patch.proofs.At.{position}
 use Rattle.projection_patch.proofs.Places.{PlaceAt, place-at, no-place-alone}
@@ -30,7 +31,7 @@ returns-2 : tie.Need-returns-2
 unfolding operationAfter
 returns-2 c strict ed =
     let p = here c in
-    rw (p .numbers .first, p .numbers .second, position (part (c .before .before .before)) 17 (p .numbers .room), p .node, p .in-it)
+    rw (p .numbers .first, p .numbers .second, position (part (c .before .before .before)) pastKey (p .numbers .room), p .node, p .in-it)
 
 pub collection-remove-spec : {M : Type 1} → statement M
 collection-remove-spec =

@@ -7,6 +7,7 @@ use lib.ListN.{length}
 use Rattle.spec_lists.specs.Bytes.{Bytes}
 use Rattle.spec_lists.specs.BytesLaws.{bytes-of}
 use Rattle.spec_patch.specs.Edition.{Edition}
+use Rattle.projection_patch.specs.Widths.{pastKey}
 use Rattle.projection_patch.specs.Meaning.{editionOf}
 use Rattle.projection_patch.specs.ReadAnswers.{operationAnswer}
 use Rattle.spec_patch.specs.Read.{readValueBy, toUpdate, operationAfter}
@@ -48,7 +49,7 @@ returns-2 c =
     let start = k .before .before .before in
     let p = here k in
     let bound = c .before .before .value .given in
-    let v = value-got (part start) 17 (strict start) (edition start) (call .value-at .result) (call .value-at .ensures) (all-bytes start) (bound .0 .0) (bound .0 .1 .0) (bound .1) in
+    let v = value-got (part start) pastKey (strict start) (edition start) (call .value-at .result) (call .value-at .ensures) (all-bytes start) (bound .0 .0) (bound .0 .1 .0) (bound .1) in
     rw (c .same-value .ensures, p .numbers .first, p .numbers .second, v .is, v .there, v .same, p .node, p .in-it)
 
 returns-3 : tie.Need-returns-3
@@ -58,7 +59,7 @@ returns-3 c =
     let k = call .before in
     let p = here k in
     let bound = c .before .fault .given in
-    let v = no-value (part (k .before .before .before)) 17 (strict (k .before .before .before)) (edition (k .before .before .before)) (call .value-at .result) (call .value-at .ensures) (bound .0 .0) (bound .1) in
+    let v = no-value (part (k .before .before .before)) pastKey (strict (k .before .before .before)) (edition (k .before .before .before)) (call .value-at .result) (call .value-at .ensures) (bound .0 .0) (bound .1) in
     rw (p .numbers .first, p .numbers .second, v .is, v .same)
 
 pub collection-update-spec : {M : Type 1} → statement M

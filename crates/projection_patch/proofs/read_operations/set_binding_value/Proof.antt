@@ -6,6 +6,7 @@ use Rattle.spec_lists.specs.Bytes.{Bytes}
 use Rattle.spec_lists.specs.BytesLaws.{bytes-of}
 use Rattle.spec_patch.specs.Edition.{Edition}
 use Rattle.spec_patch.specs.Read.{operationAfter}
+use Rattle.projection_patch.specs.Widths.{taggedBytes, pastSlot}
 use Rattle.projection_patch.specs.Meaning.{editionOf}
 use Rattle.projection_patch.proofs.At.{NumberAt, u64-at, u64-short, u32-at, u32-short}
 use Rattle.projection_patch.proofs.Answers.{value-got, no-value}
@@ -34,10 +35,10 @@ node c =
     let call = c .before .before .before in
     u64-at (part (call .before)) 1 (c .before .node .given .0 .0) (call .read-u64-at .result) (call .read-u64-at .ensures) (c .before .node .given .1)
 
-slot : (c : tie.After-known-told2) → NumberAt (part (start c)) 9 4 (c .before .slot .given .0 .0)
+slot : (c : tie.After-known-told2) → NumberAt (part (start c)) taggedBytes 4 (c .before .slot .given .0 .0)
 slot c =
     let call = c .before .before .before in
-    u32-at (part (start c)) 9 (c .before .slot .given .0 .0) (call .read-u32-at .result) (call .read-u32-at .ensures) (c .before .slot .given .1)
+    u32-at (part (start c)) taggedBytes (c .before .slot .given .0 .0) (call .read-u32-at .result) (call .read-u32-at .ensures) (c .before .slot .given .1)
 
 returns : tie.Need-returns
 unfolding operationAfter
@@ -50,7 +51,7 @@ unfolding operationAfter
 returns-2 c =
     let call = c .before .before in
     let l = part (call .before .before .before .before .before) in
-    rw (node (call .before) .is, u32-short l 9 (call .read-u32-at .result) (call .read-u32-at .ensures) (c .enum-told2 .given .1))
+    rw (node (call .before) .is, u32-short l taggedBytes (call .read-u32-at .result) (call .read-u32-at .ensures) (c .enum-told2 .given .1))
 
 returns-3 : tie.Need-returns-3
 unfolding operationAfter
@@ -60,7 +61,7 @@ returns-3 c =
     let k = made .before in
     let first = k .before .before .before .before in
     let bound = c .before .before .value .given in
-    let v = value-got (part (start k)) 13 (strict (start k)) (edition (start k)) (call .value-at .result) (call .value-at .ensures) (all-bytes (start k)) (bound .0 .0) (bound .0 .1 .0) (bound .1) in
+    let v = value-got (part (start k)) pastSlot (strict (start k)) (edition (start k)) (call .value-at .result) (call .value-at .ensures) (all-bytes (start k)) (bound .0 .0) (bound .0 .1 .0) (bound .1) in
     rw (c .same-value .ensures, node first .is, slot k .is, v .is, v .there, v .same, node-is (made .new .result) (first .before .node .given .0 .0) (made .new .ensures))
 
 returns-4 : tie.Need-returns-4
@@ -69,7 +70,7 @@ returns-4 c =
     let call = c .before .before .before in
     let k = call .before .before in
     let bound = c .before .fault .given in
-    let v = no-value (part (start k)) 13 (strict (start k)) (edition (start k)) (call .value-at .result) (call .value-at .ensures) (bound .0 .0) (bound .1) in
+    let v = no-value (part (start k)) pastSlot (strict (start k)) (edition (start k)) (call .value-at .result) (call .value-at .ensures) (bound .0 .0) (bound .1) in
     rw (node (k .before .before .before .before) .is, slot k .is, v .is, v .same)
 
 pub set-binding-value-spec : {M : Type 1} → statement M

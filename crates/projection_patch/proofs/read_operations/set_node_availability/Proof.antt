@@ -4,6 +4,7 @@ use mathlib.Core.List.{List}
 use Rattle.spec_lists.specs.Bytes.{Bytes}
 use Rattle.spec_lists.specs.BytesLaws.{bytes-of}
 use Rattle.spec_patch.specs.Read.{operationAfter}
+use Rattle.projection_patch.specs.Widths.{taggedBytes}
 use Rattle.projection_patch.proofs.At.{NumberAt, u64-at, u64-short}
 use Rattle.projection_patch.proofs.Answers.{availability-got, no-availability}
 use Rattle.projection_patch.proofs.Places.{node-is}
@@ -36,7 +37,7 @@ returns-2 c strict ed =
     let k = made .before in
     let start = k .before .before .before .before in
     let bound = c .before .availability .given in
-    let g = availability-got (part start) 9 (call .availability-at .result) (call .availability-at .ensures) (all-bytes start) (bound .0 .0) (bound .0 .1 .0) (bound .1) in
+    let g = availability-got (part start) taggedBytes (call .availability-at .result) (call .availability-at .ensures) (all-bytes start) (bound .0 .0) (bound .0 .1 .0) (bound .1) in
     rw (node k .is, g .is, g .there, g .same, node-is (made .new .result) (k .before .number .given .0 .0) (made .new .ensures))
 
 returns-3 : tie.Need-returns-3
@@ -46,7 +47,7 @@ returns-3 c strict ed =
     let k = call .before .before in
     let start = k .before .before .before .before in
     let bound = c .before .fault .given in
-    let g = no-availability (part start) 9 (call .availability-at .result) (call .availability-at .ensures) (bound .0 .0) (bound .1) in
+    let g = no-availability (part start) taggedBytes (call .availability-at .result) (call .availability-at .ensures) (bound .0 .0) (bound .1) in
     rw (node k .is, g .is, g .same)
 
 pub set-node-availability-spec : {M : Type 1} → statement M
