@@ -146,7 +146,7 @@ fn write_tables(
 }
 
 // Plans the operations from a cursor on, in the memory of a plan.
-pub fn plan_set(
+fn plan_set(
     from_bindings: &[u8],
     from_availability: &[u8],
     from_entries: &[u8],

@@ -3,8 +3,10 @@ use crate::reasons::BatchReason;
 use crate::reasons::OperationRule;
 use crate::reasons::StepReason;
 use crate::rules;
+use bytes_records::moves;
 use local_projection_state::LocalProjectionState;
 use local_projection_state::ProjectionCounts;
+use panel_plan::fill;
 use panel_steps::PlanRun;
 use patch_walk::SetCursor;
 use patch_walk::SetOpening;
@@ -19,13 +21,14 @@ ghost use Rattle.spec_patch.specs.Sizes.{setBytes};
 ghost use Rattle.spec_patch.specs.Patch.{Patch};
 ghost use Rattle.spec_patch.specs.Read.{patches, readSet};
 ghost use Rattle.spec_projection.specs.Projection.{Projection};
+ghost use Rattle.spec_projection.specs.Valid.{Valid};
 ghost use Rattle.spec_explain.specs.Walk.{Halt, halted, walkPatches};
 ghost use Rattle.spec_explain.specs.Explain.{stepKept, applies};
 ghost use Rattle.projection_patch.specs.Meaning.{editionOf};
 ghost use Rattle.patch_walk.specs.Steps.{AtSteps};
-ghost use Rattle.panel_rows.specs.Rows.{availabilityBytes};
 ghost use Rattle.local_projection_state.specs.Stores.{StoredTables};
-ghost use Rattle.panel_changes.specs.SetChanges.{changeCountsFit};
+ghost use Rattle.panel_plan.specs.Plan.{planOf};
+ghost use Rattle.panel_plan.specs.PlanRows.{StoredPlan};
 ghost use Rattle.panel_steps.specs.Runs.{HaltsAt};
 ghost use Rattle.session_explain.specs.Refused.{StandsFor, reasonRefusedTo};
 ghost use Rattle.session_explain.specs.Reasons.{stepTo};
@@ -68,36 +71,22 @@ fn refused_at(
 
 // Plans the operations from a cursor on, as a batch does, and tells the first that is refused.
 fn refused_from(
-    bindings: &[u8],
-    availability: &[u8],
-    entries: &[u8],
+    bindings: &mut [u8],
+    availability: &mut [u8],
+    entries: &mut [u8],
     counts: ProjectionCounts,
     set: &[u8],
     edition: ProjectionPatchEdition,
     from: SetCursor,
 ) -> FirstRefused
-    requires { ⌜ (length (now set) ≤ setBytes) × ((length (now availability) ≡ availabilityBytes) × (changeCountsFit counts ≡ true)) ⌝ }
-    ensures { λ r. ⌜ ((p : Projection) (ps : List Patch) → StoredTables counts (now (bindings .entry)) (now (availability .entry)) (now (entries .entry)) p → AtSteps (editionOf edition) (now (set .entry)) from [] ps
+    requires { ⌜ length (now set) ≤ setBytes ⌝ }
+    ensures { λ r. ⌜ ((p : Projection) (ps : List Patch) → Valid p → StoredPlan counts (now (bindings .entry)) (now (availability .entry)) (now (entries .entry)) (planOf p) → AtSteps (editionOf edition) (now (set .entry)) from [] ps
         → r ≡ reasonRefusedTo (walkPatches stepKept 0 p ps)) ⌝ }
 {
-    let mut plan_bindings = [0u8; panel_plan::BINDING_BYTES];
-    let mut plan_availability = [0u8; LocalProjectionState::AVAILABILITY_BYTES];
-    let mut plan_entries = [0u8; panel_plan::ENTRY_BYTES];
-    match panel_changes::plan_set(
-        bindings,
-        availability,
-        entries,
-        counts,
-        set,
-        edition,
-        from,
-        &mut plan_bindings,
-        &mut plan_availability,
-        &mut plan_entries,
-    ) {
+    match panel_steps::plan_steps(bindings, availability, entries, counts, set, edition, from) {
         PlanRun::Planned(_) => FirstRefused::AllApply,
         PlanRun::Refused(_, cursor, held) => refused_at(
-            &plan_entries,
+            entries,
             held.entries,
             set,
             edition,
@@ -123,21 +112,23 @@ pub fn first_refused(
     if availability.len() != LocalProjectionState::AVAILABILITY_BYTES {
         return FirstRefused::AllApply;
     }
-    if panel_changes::counts_fit(counts) {
-        match patch_walk::open_set(set, edition) {
-            SetOpening::At(start) => refused_from(
-                bindings,
-                availability,
-                entries,
-                counts,
-                set,
-                edition,
-                start,
-            ),
-            SetOpening::Refused(fault) => FirstRefused::Unreadable(fault),
-        }
-    } else {
-        FirstRefused::AllApply
+    let mut plan_bindings = [0u8; panel_plan::BINDING_BYTES];
+    let mut plan_availability = [0u8; LocalProjectionState::AVAILABILITY_BYTES];
+    let mut plan_entries = [0u8; panel_plan::ENTRY_BYTES];
+    fill::plan_bindings(bindings, counts.bindings, &mut plan_bindings);
+    moves::copy(availability, &mut plan_availability);
+    fill::plan_entries(entries, counts.entries, &mut plan_entries);
+    match patch_walk::open_set(set, edition) {
+        SetOpening::At(start) => refused_from(
+            &mut plan_bindings,
+            &mut plan_availability,
+            &mut plan_entries,
+            counts,
+            set,
+            edition,
+            start,
+        ),
+        SetOpening::Refused(fault) => FirstRefused::Unreadable(fault),
     }
 }
 
