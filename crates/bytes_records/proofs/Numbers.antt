@@ -4,9 +4,10 @@ use mathlib.Core.List.{List}
 use Prim.Native.Nat.{ℕ, suc, _+_, _-_, _*_, _^_, _≤_, _<_}
 use native.Mathlib.Omega.{arith}
 use lib.ListN.{length, take, drop, getD, length-drop, length-take, take-append-drop}
-use lib.Seq.{drop-cons, drop-length, take-all}
+use lib.Seq.{drop-cons, drop-length}
 use Rattle.spec_lists.specs.Bytes.{Bytes, numberOf}
 use Rattle.spec_lists.specs.BytesLaws.{bytes-drop, numberOf-lt, numberOf-append}
+use Rattle.spec_lists.specs.ListLaws.{lent-from}
 
 -- no byte is read
 pub number-start : (l : List ℕ) → 0 ≡ numberOf (drop (length l) l)
@@ -32,14 +33,10 @@ number-end l i x none read =
 pub rest-small : (l : List ℕ) (i : ℕ) → Bytes l → length l ≤ 4 → 0 < i → numberOf (drop i l) < 0x100_0000
 rest-small l i h short some = numberOf-lt 3 (drop i l) (bytes-drop i l h) (simp length-drop (omega arith))
 
--- the lent part from a position on
-pub rest-is : (l : List ℕ) (k : ℕ) → take (length l - k) (drop k l) ≡ drop k l
-rest-is l k = take-all (length l - k) (drop k l) (simp length-drop (omega arith))
-
 -- the number of four bytes and of those behind them
 module _ (l : List ℕ) (low high : ℕ) (long : 4 ≤ length l) (first : low ≡ numberOf (take 4 l)) (second : high ≡ numberOf (take (length l - 4) (drop 4 l))) where
   high-is : high ≡ numberOf (drop 4 l)
-  high-is = second ∙ ap numberOf (rest-is l 4)
+  high-is = second ∙ ap numberOf (lent-from l 4)
 
   pub number-halves : low + high * 0x1_0000_0000 ≡ numberOf l
   number-halves =

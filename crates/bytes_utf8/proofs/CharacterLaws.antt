@@ -11,15 +11,12 @@ use lib.Seq.{drop-cons, drop-nil, drop-drop, getD-drop}
 use borrow.Author.Tests.{le-leb}
 use Rattle.spec_lists.specs.Lists.{if_then_else_}
 use Rattle.spec_lists.specs.ListLaws.{and-left, and-right, test-cases}
-use Rattle.spec_text.specs.Syntax.{Range, tail, inside, sequences, After, expects, refused, lead, advance, whole, isUtf8After, charactersAfter, isUtf8, characters}
+use Rattle.spec_text.specs.Syntax.{Range, tail, inside, sequences, After, expects, refused, lead, advance, isUtf8After, isUtf8, characters}
 use Rattle.spec_text.specs.SyntaxLaws.{refused-stays}
+use Rattle.spec_text.specs.SequenceLaws.{countedFrom}
 use Rattle.bytes_utf8.specs.Classes.{classOf, IsTailClass, tails, sequence, afterClass}
 use Rattle.bytes_utf8.specs.Characters.{matches, lengthAfter, characterLength}
 use Rattle.bytes_utf8.proofs.TableLaws.{tail-class, lead-class}
-
--- The count from an octet on that leads to `a`: one if it ends a character, and what follows.
-abbrev countedFrom : After → List ℕ → ℕ
-countedFrom a bs = (if whole a then 1 else 0) + charactersAfter a bs
 
 -- Octets are read up to a rest of theirs: the rest decides, and one character is counted before it.
 pub record ReadTo (a : After) (bs rest : List ℕ) : Type 0 where

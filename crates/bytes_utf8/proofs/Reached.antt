@@ -3,10 +3,11 @@
 use Prim.Native.Nat.{ℕ, zero, suc, _+_, _-_, _≤_, _<_, zero-le}
 use mathlib.Core.Path.{_≡_, refl, sym, _∙_, subst}
 use mathlib.Core.List.{List, []}
-use native.Mathlib.Nat.{zero-add, add-zero, add-assoc, le-refl, le-antisymm}
+use native.Mathlib.Nat.{zero-add, add-zero, add-assoc, le-antisymm}
 use native.Mathlib.Omega.{arith}
 use lib.ListN.{length, getD, take, drop, length-drop}
-use lib.Seq.{take-all, drop-length, drop-drop, getD-drop}
+use lib.Seq.{drop-length, drop-drop, getD-drop}
+use Rattle.spec_lists.specs.ListLaws.{lent-from}
 use Rattle.spec_text.specs.Syntax.{After, isUtf8, characters}
 use Rattle.bytes_utf8.specs.Classes.{classOf, afterClass}
 use Rattle.bytes_utf8.specs.Characters.{lengthAfter, characterLength, AsciiBetween, Reached}
@@ -18,10 +19,6 @@ reached-start : (text : List ℕ) → Reached text 0 0
 reached-start text = record { within = zero-le; few = zero-le; same-utf8 = refl; same-count = zero-add (characters text) }
 
 -- ---- one character more
-
--- the part of a text from a position to its end
-pub part-from : (i : ℕ) (text : List ℕ) → take (length text - i) (drop i text) ≡ drop i text
-part-from i text = take-all (length text - i) (drop i text) (rw (length-drop i text) (le-refl _))
 
 pub reached-character : {text : List ℕ} {count i : ℕ} (n : ℕ) → Reached text count i → n ≡ characterLength (drop i text) → (n ≡ 0 → ⊥)
     → Reached text (count + 1) (i + n)
@@ -40,7 +37,7 @@ pub reached-sequence : {text : List ℕ} {count at : ℕ} (class : ℕ) (a : Aft
     → class ≡ classOf (getD text at 0) → afterClass class ≡ a → n ≡ lengthAfter a (drop 1 (take (length text - at) (drop at text))) → (n ≡ 0 → ⊥)
     → Reached text (count + 1) (at + n)
 reached-sequence {text} {count} {at} class a n r h l e f g ne =
-    let same : n ≡ lengthAfter a (drop 1 (drop at text)) = rw part-from at g in
+    let same : n ≡ lengthAfter a (drop 1 (drop at text)) = rw lent-from at g in
     reached-character n r (same ∙ sym (character-at text at class h l e ∙ rw f)) ne
 
 -- ---- bytes below 0x80

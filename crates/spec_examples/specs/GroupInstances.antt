@@ -14,7 +14,7 @@ use Rattle.spec_session.specs.Batch.{BatchAnswer}
 use Rattle.spec_projection.specs.Projection.{Projection}
 use Rattle.spec_projection.specs.Lookups.{KeyedValue, entriesOf}
 use Rattle.spec_splitting.specs.Splitting.{Piece, pieceEnvelope, references, isRejected, send, sendAll, continue, patchesOf}
-use Rattle.spec_group.specs.Group.{GroupBatch, totalBytes, isGroup, sendFirst, runGroup, GroupAnswer, notAGroup, taken, refusedAt, takenCount, withCursor, concludeGroup, GroupStep, group}
+use Rattle.spec_group.specs.Group.{GroupBatch, totalBytes, isGroup, sendFirst, runGroup, GroupAnswer, notAGroup, taken, refusedAt, groupNumber, takenCount, withCursor, concludeGroup, GroupStep, group}
 use Rattle.spec_group.specs.Singly.{pieceBatch, TakenAsWhole, RefusedAsWhole}
 use Rattle.spec_group.specs.PiecesLaws.{group-as-whole}
 use Rattle.spec_examples.specs.Opened.{openedAll}
@@ -26,9 +26,9 @@ use Rattle.spec_examples.specs.SplitInstances.{patchNumbered, startSessi
 startBatch : Edition → ℕ → List Patch → GroupBatch
 startBatch ed n ps = pieceBatch ed startSession n (piece ps)
 
--- the answer of a group, as numbers: how many were taken; or 0, the place and the number of the refusal; or 17
+-- the answer of a group, as numbers: how many were taken; or 0, the place and the number of the refusal; or the number of what is no group
 numbers : GroupAnswer → List ℕ
-numbers notAGroup = 17 ∷ []
+numbers notAGroup = groupNumber ∷ []
 numbers (taken n c) = n ∷ []
 numbers (refusedAt i a) = 0 ∷ i ∷ a .diagnostics .code ∷ []
 

@@ -49,7 +49,7 @@ utf8-matches (r ∷ rs) (x ∷ xs) rest m =
     ap (λ (a : After). isUtf8After a (xs ++ rest)) (advance-in r rs x (m .0) (m .1)) ∙ utf8-matches rs xs rest (m .2)
 
 -- the count from an octet on that leads to `a`: one if it ends a character, and what follows
-abbrev countedFrom : After → List ℕ → ℕ
+abbrev pub countedFrom : After → List ℕ → ℕ
 countedFrom a bs = (if whole a then 1 else 0) + charactersAfter a bs
 
 -- The character that they end counts as one.

@@ -4,8 +4,9 @@ use mathlib.Core.Path.{_≡_, sym, ap, _∙_}
 use native.Mathlib.Omega.{arith}
 use lib.ListN.{length, drop}
 use borrow.Author.Needs.{needs}
+use Rattle.spec_lists.specs.ListLaws.{lent-from}
 use Rattle.bytes_utf8.specs.Characters.{characterLength, Reached}
-use Rattle.bytes_utf8.proofs.Reached.{part-from, reached-character}
+use Rattle.bytes_utf8.proofs.Reached.{reached-character}
 use Rattle.bytes_utf8.proofs.wide_end.Statement.{statement}
 use Rattle.bytes_utf8.proofs.wide_end.Tie as tie
 
@@ -20,7 +21,7 @@ abbrev head : tie.After-character-length Inv-loop μ-loop → tie.At-loop Inv-lo
 head c = c .before .before .before
 
 measured : (c : tie.After-character-length Inv-loop μ-loop) → c .character-length .result ≡ characterLength (drop (head c .loop .at) (head c .before .before .args .text .now))
-measured c = c .character-length .ensures ∙ ap characterLength (part-from (head c .loop .at) (head c .before .before .args .text .now))
+measured c = c .character-length .ensures ∙ ap characterLength (lent-from (head c .before .before .args .text .now) (head c .loop .at))
 
 -- one character more
 more : (c : tie.Else1 Inv-loop μ-loop) → let h = head (c .before) in

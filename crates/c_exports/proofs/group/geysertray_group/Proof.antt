@@ -23,19 +23,28 @@ returns c =
     let numbers = c .before .before .before .before .before .before .before .args .batches .now in
     record { known = λ yes. absurd (false≢true (sym (uneven numbers (c .before .if1 .taken)) ∙ yes)); unknown = λ no. (c .no-group .ensures, (refl, refl)) }
 
+-- the numbers that tell the batches which were read
+abbrev numbersIn : tie.After-read-batches → List ℕ
+numbersIn r = r .before .before .before .before .before .before .before .args .batches .now
+
+read-told : (r : tie.After-read-batches) (told : Bool) → r .read-batches .result .known ≡ told → batchesKnown (numbersIn r) ≡ told
+read-told r = even (numbersIn r) (r .read-batches .result .known) (r .before .if1 .left) (r .read-batches .ensures .0)
+
+-- where every edition was known
+abbrev knownIn : tie.After-group-told → tie.Then2
+knownIn c = c .before .before .before .before .before .before .before .before .before .before .before .before .before .before .before .before .before
+
 returns-2 : tie.Need-returns-2
 returns-2 c =
-    let numbers = c .before .before .before .before .before .before .before .before .before .before .before .before .before .before .before .before .before .before .before .before .before .before .before .before .before .args .batches .now in
-    let read = c .before .before .before .before .before .before .before .before .before .before .before .before .before .before .before .before .before .before .read-batches in
+    let known = knownIn c in
+    let read = known .before .read-batches in
     let call = c .before .apply-projection-patch-batches in
-    let all = even numbers (read .result .known) (c .before .before .before .before .before .before .before .before .before .before .before .before .before .before .before .before .before .before .before .if1 .left) (read .ensures .0) true (c .before .before .before .before .before .before .before .before .before .before .before .before .before .before .before .before .before .if2 .taken) in
+    let all = read-told (known .before) true (known .if2 .taken) in
     record { known = λ yes. (read .result .batches, (read .ensures .1, record { answer = call .result; call = call .ensures; told = c .group-told .ensures })); unknown = λ no. absurd (false≢true (sym no ∙ all)) }
 
 returns-3 : tie.Need-returns-3
 returns-3 c =
-    let numbers = c .before .before .before .before .before .before .before .before .before .args .batches .now in
-    let read = c .before .before .read-batches in
-    let other = even numbers (read .result .known) (c .before .before .before .if1 .left) (read .ensures .0) false (c .before .if2 .left) in
+    let other = read-told (c .before .before) false (c .before .if2 .left) in
     record { known = λ yes. absurd (false≢true (sym other ∙ yes)); unknown = λ no. (c .no-group2 .ensures, (refl, refl)) }
 
 pub geysertray-group-spec : {M : Type 1} → statement M
