@@ -35,6 +35,16 @@ send-between-below t =
     (falls 14 send-between-kinds.ps _<_ μ-send-between t)
     send-between.Pre
 
+-- where the call began, the batch that was sent, and what was left behind it
+abbrev startOf : (t : ℕ) → send-between-lts.After-send-until-applied (send-until-applied-reads.Asked, send-until-applied-reads.Learnt, left-from-reads.Asked, left-from-reads.Learnt, send-between-below t, send-between.Post, turned-reads.Asked, turned-reads.Learnt) (send-between-at t) send-between.Post → send-between-lts.Start (send-until-applied-reads.Asked, send-until-applied-reads.Learnt, left-from-reads.Asked, left-from-reads.Learnt, send-between-below t, send-between.Post, turned-reads.Asked, turned-reads.Learnt) (send-between-at t) send-between.Post
+startOf t c = c .before .before .before .before .before .before .before .before .before .before .before .before .before .before .before .before .before .before .before .before .before .before .before .before
+
+abbrev sentOf : (t : ℕ) → send-between-lts.After-left-from (send-until-applied-reads.Asked, send-until-applied-reads.Learnt, left-from-reads.Asked, left-from-reads.Learnt, send-between-below t, send-between.Post, turned-reads.Asked, turned-reads.Learnt) (send-between-at t) send-between.Post → send-between-lts.After-send-until-applied (send-until-applied-reads.Asked, send-until-applied-reads.Learnt, left-from-reads.Asked, left-from-reads.Learnt, send-between-below t, send-between.Post, turned-reads.Asked, turned-reads.Learnt) (send-between-at t) send-between.Post
+sentOf t c = c .before .before .before .before .before .before .before .before .before .before .before .before .before .before
+
+abbrev leftOf : (t : ℕ) → send-between-lts.After-send-between (send-until-applied-reads.Asked, send-until-applied-reads.Learnt, left-from-reads.Asked, left-from-reads.Learnt, send-between-below t, send-between.Post, turned-reads.Asked, turned-reads.Learnt) (send-between-at t) send-between.Post → send-between-lts.After-left-from (send-until-applied-reads.Asked, send-until-applied-reads.Learnt, left-from-reads.Asked, left-from-reads.Learnt, send-between-below t, send-between.Post, turned-reads.Asked, turned-reads.Learnt) (send-between-at t) send-between.Post
+leftOf t c = c .before .before .before .before .before .before .before .before .before .before .before
+
 send-between-send-until-applied-requires : (t : ℕ) → send-between-lts.Need-send-until-applied-requires (send-until-applied-reads.Asked, send-until-applied-reads.Learnt, left-from-reads.Asked, left-from-reads.Learnt, send-between-below t, send-between.Post, turned-reads.Asked, turned-reads.Learnt) (send-between-at t) send-between.Post
 send-between-send-until-applied-requires t c κs = c .before .before .before .before .before .before .before .before .before .before .before .before .before .before .before .before .before .before .before .before .before .before .before .pre .1
 
@@ -52,8 +62,8 @@ send-between-left-from-requires t c κs = search needs
 
 send-between-send-between-requires : (t : ℕ) → send-between-lts.Need-send-between-requires (send-until-applied-reads.Asked, send-until-applied-reads.Learnt, left-from-reads.Asked, left-from-reads.Learnt, send-between-below t, send-between.Post, turned-reads.Asked, turned-reads.Learnt) (send-between-at t) send-between.Post
 send-between-send-between-requires t c κs =
-    let a = c .before .before .before .before .before .before .before .before .before .before .before .before .before .before .before .before .before .before .before .before .before .before .before .before .before .before .before .before .before .before .before .before .before .before .before .before .before .before .before .before .before .before .before .before .before .before .before .before .args in
-    let call = c .before .before .before .before .before .before .before .before .before .before .before .before .before .before .before .before .before .before .before .before .before .before .before .before .send-until-applied in
+    let a = (startOf t (sentOf t (c .before .before .before .before .before .before .before .before .before .before))) .args in
+    let call = (sentOf t (c .before .before .before .before .before .before .before .before .before .before)) .send-until-applied in
     let anchors = anchorsWith (a .nodes .now) (a .pairs .now) (a .collections .now) in
     let from = halfWith (a .head .now) (a .bindings .now) (a .availability .now) (a .entries .now) (a .lengths .now) in
     let to = halfWith (a .to-head .now) (a .to-bindings .now) (a .to-availability .now) (a .to-entries .now) (a .to-lengths .now) in
@@ -62,10 +72,10 @@ send-between-send-between-requires t c κs =
     let moved = c .before .before .before .before .before .before .before .before .before .before .before .before .sending2 .given in
     let fits = subst (λ (x : LentSending). SentFits x (a .left) sets to after) (moved .1) (call .ensures .1) in
     let next = c .before .before .before .before .before .before .before .before .before .before .left-from .ensures in
-    let long = c .before .before .before .before .before .before .before .before .before .before .before .before .before .before .before .before .before .before .before .before .before .before .before .before .before .before .before .before .before .before .before .before .before .before .before .before .before .before .before .before .before .before .before .before .before .before .before .before .pre .1 .1 in
+    let long = (startOf t (sentOf t (c .before .before .before .before .before .before .before .before .before .before))) .pre .1 .1 in
     let head-long = long .0 in
     let to-long = long .1 in (
-      fewer-left (a .left) (c .before .before .before .before .before .before .before .before .before .before .left-from .result) (moved .0 .0) (moved .0 .1 .0) t next (fits .0) (fits .1 .reached) (c .before .before .before .before .before .before .before .before .before .before .before .before .before .before .before .before .before .before .before .before .before .before .before .before .before .before .before .before .before .before .before .before .before .before .before .before .before .before .before .before .before .before .before .before .before .before .before .before .pre .0),
+      fewer-left (a .left) (c .before .before .before .before .before .before .before .before .before .before .left-from .result) (moved .0 .0) (moved .0 .1 .0) t next (fits .0) (fits .1 .reached) ((startOf t (sentOf t (c .before .before .before .before .before .before .before .before .before .before))) .pre .0),
       (subst (λ (x : GroupLeft). LeftFits x sets) (sym next) (fits .1), (search (needs, to-long), search (needs, head-long))),
     )
 
@@ -101,7 +111,7 @@ send-between-same-length-9 t c = search needs
 
 send-between-returns : (t : ℕ) → send-between-lts.Need-returns (send-until-applied-reads.Asked, send-until-applied-reads.Learnt, left-from-reads.Asked, left-from-reads.Learnt, send-between-below t, send-between.Post, turned-reads.Asked, turned-reads.Learnt) (send-between-at t) send-between.Post
 send-between-returns t c =
-    let a = c .before .before .before .before .before .before .before .before .before .before .before .before .before .before .before .before .before .before .before .before .before .before .before .before .before .before .before .before .before .before .before .before .before .before .before .before .args in
+    let a = (startOf t (c .before .before .before .before .before .before .before .before .before .before .before .before)) .args in
     let call = c .before .before .before .before .before .before .before .before .before .before .before .before .send-until-applied in
     let anchors = anchorsWith (a .nodes .now) (a .pairs .now) (a .collections .now) in
     let from = halfWith (a .head .now) (a .bindings .now) (a .availability .now) (a .entries .now) (a .lengths .now) in
@@ -139,7 +149,7 @@ send-between-same-length-18 t c = search needs
 
 send-between-returns-2 : (t : ℕ) → send-between-lts.Need-returns-2 (send-until-applied-reads.Asked, send-until-applied-reads.Learnt, left-from-reads.Asked, left-from-reads.Learnt, send-between-below t, send-between.Post, turned-reads.Asked, turned-reads.Learnt) (send-between-at t) send-between.Post
 send-between-returns-2 t c =
-    let a = c .before .before .before .before .before .before .before .before .before .before .before .before .before .before .before .before .before .before .before .before .before .before .before .before .before .before .before .before .before .before .before .before .before .before .before .before .before .args in
+    let a = (startOf t (c .before .before .before .before .before .before .before .before .before .before .before .before .before)) .args in
     let call = c .before .before .before .before .before .before .before .before .before .before .before .before .before .send-until-applied in
     let anchors = anchorsWith (a .nodes .now) (a .pairs .now) (a .collections .now) in
     let from = halfWith (a .head .now) (a .bindings .now) (a .availability .now) (a .entries .now) (a .lengths .now) in
@@ -165,34 +175,34 @@ send-between-same-length-23 : (t : ℕ) → send-between-lts.Need-same-length-23
 send-between-same-length-23 t c = search needs
 
 send-between-same-length-24 : (t : ℕ) → send-between-lts.Need-same-length-24 (send-until-applied-reads.Asked, send-until-applied-reads.Learnt, left-from-reads.Asked, left-from-reads.Learnt, send-between-below t, send-between.Post, turned-reads.Asked, turned-reads.Learnt) (send-between-at t) send-between.Post
-send-between-same-length-24 t c = c .before .before .before .before .before .before .before .before .before .before .before .before .before .before .before .before .before .before .before .before .before .send-between .kept .1 .1 .1 .1 .1 .0 ∙ c .before .before .before .before .before .before .before .before .before .before .before .before .before .before .before .before .before .before .before .before .before .before .before .before .before .before .before .before .before .before .before .before .before .before .before .before .before .before .before .before .before .before .before .before .before .before .send-until-applied .kept .1 .1 .1 .1 .1 .1 .1 .1 .1 .0
+send-between-same-length-24 t c = c .before .before .before .before .before .before .before .before .before .before .before .before .before .before .before .before .before .before .before .before .before .send-between .kept .1 .1 .1 .1 .1 .0 ∙ (sentOf t (leftOf t (c .before .before .before .before .before .before .before .before .before .before .before .before .before .before .before .before .before .before .before .before .before))) .send-until-applied .kept .1 .1 .1 .1 .1 .1 .1 .1 .1 .0
 
 send-between-same-length-25 : (t : ℕ) → send-between-lts.Need-same-length-25 (send-until-applied-reads.Asked, send-until-applied-reads.Learnt, left-from-reads.Asked, left-from-reads.Learnt, send-between-below t, send-between.Post, turned-reads.Asked, turned-reads.Learnt) (send-between-at t) send-between.Post
-send-between-same-length-25 t c = c .before .before .before .before .before .before .before .before .before .before .before .before .before .before .before .before .before .before .before .before .before .send-between .kept .1 .1 .1 .1 .1 .1 .0 ∙ c .before .before .before .before .before .before .before .before .before .before .before .before .before .before .before .before .before .before .before .before .before .before .before .before .before .before .before .before .before .before .before .before .before .before .before .before .before .before .before .before .before .before .before .before .before .before .send-until-applied .kept .1 .1 .1 .1 .1 .1 .1 .1 .1 .1 .0
+send-between-same-length-25 t c = c .before .before .before .before .before .before .before .before .before .before .before .before .before .before .before .before .before .before .before .before .before .send-between .kept .1 .1 .1 .1 .1 .1 .0 ∙ (sentOf t (leftOf t (c .before .before .before .before .before .before .before .before .before .before .before .before .before .before .before .before .before .before .before .before .before))) .send-until-applied .kept .1 .1 .1 .1 .1 .1 .1 .1 .1 .1 .0
 
 send-between-same-length-26 : (t : ℕ) → send-between-lts.Need-same-length-26 (send-until-applied-reads.Asked, send-until-applied-reads.Learnt, left-from-reads.Asked, left-from-reads.Learnt, send-between-below t, send-between.Post, turned-reads.Asked, turned-reads.Learnt) (send-between-at t) send-between.Post
-send-between-same-length-26 t c = c .before .before .before .before .before .before .before .before .before .before .before .before .before .before .before .before .before .before .before .before .before .send-between .kept .1 .1 .1 .1 .1 .1 .1 .0 ∙ c .before .before .before .before .before .before .before .before .before .before .before .before .before .before .before .before .before .before .before .before .before .before .before .before .before .before .before .before .before .before .before .before .before .before .before .before .before .before .before .before .before .before .before .before .before .before .send-until-applied .kept .1 .1 .1 .1 .1 .1 .1 .1 .1 .1 .1 .0
+send-between-same-length-26 t c = c .before .before .before .before .before .before .before .before .before .before .before .before .before .before .before .before .before .before .before .before .before .send-between .kept .1 .1 .1 .1 .1 .1 .1 .0 ∙ (sentOf t (leftOf t (c .before .before .before .before .before .before .before .before .before .before .before .before .before .before .before .before .before .before .before .before .before))) .send-until-applied .kept .1 .1 .1 .1 .1 .1 .1 .1 .1 .1 .1 .0
 
 send-between-same-length-27 : (t : ℕ) → send-between-lts.Need-same-length-27 (send-until-applied-reads.Asked, send-until-applied-reads.Learnt, left-from-reads.Asked, left-from-reads.Learnt, send-between-below t, send-between.Post, turned-reads.Asked, turned-reads.Learnt) (send-between-at t) send-between.Post
-send-between-same-length-27 t c = c .before .before .before .before .before .before .before .before .before .before .before .before .before .before .before .before .before .before .before .before .before .send-between .kept .1 .1 .1 .1 .1 .1 .1 .1 .0 ∙ c .before .before .before .before .before .before .before .before .before .before .before .before .before .before .before .before .before .before .before .before .before .before .before .before .before .before .before .before .before .before .before .before .before .before .before .before .before .before .before .before .before .before .before .before .before .before .send-until-applied .kept .1 .1 .1 .1 .1 .1 .1 .1 .1 .1 .1 .1 .0
+send-between-same-length-27 t c = c .before .before .before .before .before .before .before .before .before .before .before .before .before .before .before .before .before .before .before .before .before .send-between .kept .1 .1 .1 .1 .1 .1 .1 .1 .0 ∙ (sentOf t (leftOf t (c .before .before .before .before .before .before .before .before .before .before .before .before .before .before .before .before .before .before .before .before .before))) .send-until-applied .kept .1 .1 .1 .1 .1 .1 .1 .1 .1 .1 .1 .1 .0
 
 send-between-same-length-28 : (t : ℕ) → send-between-lts.Need-same-length-28 (send-until-applied-reads.Asked, send-until-applied-reads.Learnt, left-from-reads.Asked, left-from-reads.Learnt, send-between-below t, send-between.Post, turned-reads.Asked, turned-reads.Learnt) (send-between-at t) send-between.Post
-send-between-same-length-28 t c = c .before .before .before .before .before .before .before .before .before .before .before .before .before .before .before .before .before .before .before .before .before .send-between .kept .1 .1 .1 .1 .1 .1 .1 .1 .1 .0 ∙ c .before .before .before .before .before .before .before .before .before .before .before .before .before .before .before .before .before .before .before .before .before .before .before .before .before .before .before .before .before .before .before .before .before .before .before .before .before .before .before .before .before .before .before .before .before .before .send-until-applied .kept .1 .1 .1 .1 .1 .1 .1 .1 .1 .1 .1 .1 .1 .0
+send-between-same-length-28 t c = c .before .before .before .before .before .before .before .before .before .before .before .before .before .before .before .before .before .before .before .before .before .send-between .kept .1 .1 .1 .1 .1 .1 .1 .1 .1 .0 ∙ (sentOf t (leftOf t (c .before .before .before .before .before .before .before .before .before .before .before .before .before .before .before .before .before .before .before .before .before))) .send-until-applied .kept .1 .1 .1 .1 .1 .1 .1 .1 .1 .1 .1 .1 .1 .0
 
 send-between-returns-3 : (t : ℕ) → send-between-lts.Need-returns-3 (send-until-applied-reads.Asked, send-until-applied-reads.Learnt, left-from-reads.Asked, left-from-reads.Learnt, send-between-below t, send-between.Post, turned-reads.Asked, turned-reads.Learnt) (send-between-at t) send-between.Post
 send-between-returns-3 t c =
-    let a = c .before .before .before .before .before .before .before .before .before .before .before .before .before .before .before .before .before .before .before .before .before .before .before .before .before .before .before .before .before .before .before .before .before .before .before .before .before .before .before .before .before .before .before .before .before .before .before .before .before .before .before .before .before .before .before .before .before .before .before .before .before .before .before .before .before .before .before .before .before .before .args in
-    let call = c .before .before .before .before .before .before .before .before .before .before .before .before .before .before .before .before .before .before .before .before .before .before .before .before .before .before .before .before .before .before .before .before .before .before .before .before .before .before .before .before .before .before .before .before .before .before .send-until-applied in
+    let a = (startOf t (sentOf t (leftOf t (c .before .before .before .before .before .before .before .before .before .before .before .before .before .before .before .before .before .before .before .before .before)))) .args in
+    let call = (sentOf t (leftOf t (c .before .before .before .before .before .before .before .before .before .before .before .before .before .before .before .before .before .before .before .before .before))) .send-until-applied in
     let anchors = anchorsWith (a .nodes .now) (a .pairs .now) (a .collections .now) in
     let from = halfWith (a .head .now) (a .bindings .now) (a .availability .now) (a .entries .now) (a .lengths .now) in
     let to = halfWith (a .to-head .now) (a .to-bindings .now) (a .to-availability .now) (a .to-entries .now) (a .to-lengths .now) in
     let after = halfWith (call .last .1 .1 .1 .1 .1 .1 .1 .1 .1 .0) (call .last .1 .1 .1 .1 .1 .1 .1 .1 .1 .1 .0) (call .last .1 .1 .1 .1 .1 .1 .1 .1 .1 .1 .1 .0) (call .last .1 .1 .1 .1 .1 .1 .1 .1 .1 .1 .1 .1 .0) (call .last .1 .1 .1 .1 .1 .1 .1 .1 .1 .1 .1 .1 .1 .0) in
     let sets = a .sets .now in
-    let moved = c .before .before .before .before .before .before .before .before .before .before .before .before .before .before .before .before .before .before .before .before .before .before .before .before .before .before .before .before .before .before .before .before .before .before .sending2 .given in
+    let moved = (leftOf t (c .before .before .before .before .before .before .before .before .before .before .before .before .before .before .before .before .before .before .before .before .before)) .before .before .sending2 .given in
     let rest = c .before .before .before .before .before .before .before .before .before .before .before .before .before .before .before .before .before .before .before .before .before .send-between in
     let to″ = halfWith (rest .last .1 .1 .1 .1 .1 .0) (rest .last .1 .1 .1 .1 .1 .1 .0) (rest .last .1 .1 .1 .1 .1 .1 .1 .0) (rest .last .1 .1 .1 .1 .1 .1 .1 .1 .0) (rest .last .1 .1 .1 .1 .1 .1 .1 .1 .1 .0) in
     let from″ = halfWith (rest .last .1 .1 .1 .1 .1 .1 .1 .1 .1 .1 .0) (rest .last .1 .1 .1 .1 .1 .1 .1 .1 .1 .1 .1 .0) (rest .last .1 .1 .1 .1 .1 .1 .1 .1 .1 .1 .1 .1 .0) (rest .last .1 .1 .1 .1 .1 .1 .1 .1 .1 .1 .1 .1 .1 .0) (rest .last .1 .1 .1 .1 .1 .1 .1 .1 .1 .1 .1 .1 .1 .1 .0) in
-    let ran = subst (λ (x : GroupLeft). RanBetween anchors after from sets x to″ from″ (rest .result)) (c .before .before .before .before .before .before .before .before .before .before .before .before .before .before .before .before .before .before .before .before .before .before .before .before .before .before .before .before .before .before .before .before .left-from .ensures) (rest .ensures) in
+    let ran = subst (λ (x : GroupLeft). RanBetween anchors after from sets x to″ from″ (rest .result)) ((leftOf t (c .before .before .before .before .before .before .before .before .before .before .before .before .before .before .before .before .before .before .before .before .before)) .left-from .ensures) (rest .ensures) in
     subst (λ (x : LentRun). RanBetween anchors from to sets (a .left) from″ to″ x) (sym (c .turned .ensures))
     (between-moved anchors from to after sets (a .left) (moved .0 .0) (moved .0 .1 .0) (subst (λ (x : LentSending). SentAs anchors (a .head .now) (a .bindings .now) (a .availability .now) (a .entries .now) sets (a .left) to after x) (moved .1) (call .ensures)) from″ to″ (rest .result) ran)
 

@@ -42,12 +42,22 @@ places c = let good = c .good .1 .1 .1 .1 .1 .1 .1 .0 in search (needs, unmapped
 heads : (c : tie.Start) → (length (c .args .head .now) ≡ headNumbers) × (length (c .args .first-head .now) ≡ headNumbers)
 heads c = own-heads (anchorsIn c) (ownIn c) (firstIn c) (c .pre)
 
+-- where the call began, the memory that was tested, and the batches that are sent
+abbrev startOf : tie.After-work-shaped → tie.Start
+startOf c = c .before .before .before .before .before .before .before .before .before .before .before .before .before .before .before .before .before .before .before .before
+
+abbrev shapedOf : tie.After-first-left → tie.After-work-shaped
+shapedOf c = c .before .before .before .before
+
+abbrev leftOf : tie.After-send-all → tie.After-first-left
+leftOf c = c .before .before .before .before .before .before .before .before .before .before .before
+
 send-all-requires : tie.Need-send-all-requires
 send-all-requires c κs =
-    let start = c .before .before .before .before .before .before .before .before .before .before .before .before .before .before .before .before .before .before .before .before .before .before .before .before .before .before .before .before .before .before .before .before .before .before in
+    let start = (startOf (shapedOf (c .before .before .before .before .before .before .before .before .before .before))) in
     let a = start .args in
     let is = sym (c .before .before .before .before .before .before .before .before .before .before .before .before .is-group .ensures) ∙ c .before .before .before .before .before .before .before .before .before .before .before .if2 .taken in
-    let work = sym (c .before .before .before .before .before .before .before .before .before .before .before .before .before .before .work-shaped .ensures) ∙ c .before .before .before .before .before .before .before .before .before .before .before .before .before .if1 .taken in
+    let work = sym ((shapedOf (c .before .before .before .before .before .before .before .before .before .before)) .work-shaped .ensures) ∙ c .before .before .before .before .before .before .before .before .before .before .before .before .before .if1 .taken in
     let few = group-named (a .count) (a .batches) (length (a .sets .now)) is .0 in
     let long = places start in
     let named : groupIn start = omega (arith, few, long) in
@@ -55,23 +65,23 @@ send-all-requires c κs =
 
 concluded-requires : tie.Need-concluded-requires
 concluded-requires c κs =
-    let start = c .before .before .before .before .before .before .before .before .before .before .before .before .before .before .before .before .before .before .before .before .before .before .before .before .before .before .before .before .before .before .before .before .before .before .before .before .before .before .before .before .before .before .before .before .before .before .before .before .before .before .before .before .before .before .before .before .before in
+    let start = (startOf (shapedOf (leftOf (c .before .before .before .before .before .before .before .before .before .before .before .before .before .before .before .before .before .before .before .before .before .before)))) in
     let own-long = heads start .0 in
     let first-long = heads start .1 in
-    let second-long = work-head (secondIn start) (sym (c .before .before .before .before .before .before .before .before .before .before .before .before .before .before .before .before .before .before .before .before .before .before .before .before .before .before .before .before .before .before .before .before .before .before .before .before .before .work-shaped .ensures) ∙ c .before .before .before .before .before .before .before .before .before .before .before .before .before .before .before .before .before .before .before .before .before .before .before .before .before .before .before .before .before .before .before .before .before .before .before .before .if1 .taken) in
+    let second-long = work-head (secondIn start) (sym ((shapedOf (leftOf (c .before .before .before .before .before .before .before .before .before .before .before .before .before .before .before .before .before .before .before .before .before .before))) .work-shaped .ensures) ∙ (leftOf (c .before .before .before .before .before .before .before .before .before .before .before .before .before .before .before .before .before .before .before .before .before .before)) .before .before .before .if1 .taken) in
     let call = c .before .before .before .before .before .before .before .before .before .before .before .before .before .before .before .before .before .before .before .before .before .before .send-all in
     (own-long, (call .kept .1 .1 .1 .1 .1 .1 .1 .1 .1 .0 ∙ first-long, call .kept .1 .1 .1 .1 .1 .1 .1 .1 .1 .1 .1 .1 .1 .1 .0 ∙ second-long))
 
 returns : tie.Need-returns
 returns c =
-    let start = c .before .before .before .before .before .before .before .before .before .before .before .before .before .before .before .before .before .before .before .before .before .before .before .before .before .before .before .before .before .before .before .before .before .before .before .before .before .before .before .before .before .before .before .before .before .before .before .before .before .before .before .before .before .before .before .before .before .before in
+    let start = (startOf (shapedOf (leftOf (c .before .before .before .before .before .before .before .before .before .before .before .before .before .before .before .before .before .before .before .before .before .before .before)))) in
     let a = start .args in
     let call = c .before .before .before .before .before .before .before .before .before .before .before .before .before .before .before .before .before .before .before .before .before .before .before .send-all in
-    let is = sym (c .before .before .before .before .before .before .before .before .before .before .before .before .before .before .before .before .before .before .before .before .before .before .before .before .before .before .before .before .before .before .before .before .before .before .before .before .is-group .ensures) ∙ c .before .before .before .before .before .before .before .before .before .before .before .before .before .before .before .before .before .before .before .before .before .before .before .before .before .before .before .before .before .before .before .before .before .before .before .if2 .taken in
-    let work = sym (c .before .before .before .before .before .before .before .before .before .before .before .before .before .before .before .before .before .before .before .before .before .before .before .before .before .before .before .before .before .before .before .before .before .before .before .before .before .before .work-shaped .ensures) ∙ c .before .before .before .before .before .before .before .before .before .before .before .before .before .before .before .before .before .before .before .before .before .before .before .before .before .before .before .before .before .before .before .before .before .before .before .before .before .if1 .taken in
+    let is = sym ((leftOf (c .before .before .before .before .before .before .before .before .before .before .before .before .before .before .before .before .before .before .before .before .before .before .before)) .before .before .is-group .ensures) ∙ (leftOf (c .before .before .before .before .before .before .before .before .before .before .before .before .before .before .before .before .before .before .before .before .before .before .before)) .before .if2 .taken in
+    let work = sym ((shapedOf (leftOf (c .before .before .before .before .before .before .before .before .before .before .before .before .before .before .before .before .before .before .before .before .before .before .before))) .work-shaped .ensures) ∙ (leftOf (c .before .before .before .before .before .before .before .before .before .before .before .before .before .before .before .before .before .before .before .before .before .before .before)) .before .before .before .if1 .taken in
     let first′ = halfWith (call .last .1 .1 .1 .1 .1 .1 .1 .1 .1 .0) (call .last .1 .1 .1 .1 .1 .1 .1 .1 .1 .1 .0) (call .last .1 .1 .1 .1 .1 .1 .1 .1 .1 .1 .1 .0) (call .last .1 .1 .1 .1 .1 .1 .1 .1 .1 .1 .1 .1 .0) (call .last .1 .1 .1 .1 .1 .1 .1 .1 .1 .1 .1 .1 .1 .0) in
     let second′ = halfWith (call .last .1 .1 .1 .1 .1 .1 .1 .1 .1 .1 .1 .1 .1 .1 .0) (call .last .1 .1 .1 .1 .1 .1 .1 .1 .1 .1 .1 .1 .1 .1 .1 .0) (call .last .1 .1 .1 .1 .1 .1 .1 .1 .1 .1 .1 .1 .1 .1 .1 .1 .0) (call .last .1 .1 .1 .1 .1 .1 .1 .1 .1 .1 .1 .1 .1 .1 .1 .1 .1 .0) (call .last .1 .1 .1 .1 .1 .1 .1 .1 .1 .1 .1 .1 .1 .1 .1 .1 .1 .1 .0) in
-    let ran = subst (λ (x : GroupLeft). RanFrom (anchorsIn start) (a .head .now) (a .bindings .now) (a .availability .now) (a .entries .now) (firstIn start) (secondIn start) (a .sets .now) x first′ second′ (call .result)) (c .before .before .before .before .before .before .before .before .before .before .before .before .before .before .before .before .before .before .before .before .before .before .before .before .before .before .before .before .before .before .before .before .before .before .first-left .ensures) (call .ensures) in
+    let ran = subst (λ (x : GroupLeft). RanFrom (anchorsIn start) (a .head .now) (a .bindings .now) (a .availability .now) (a .entries .now) (firstIn start) (secondIn start) (a .sets .now) x first′ second′ (call .result)) ((leftOf (c .before .before .before .before .before .before .before .before .before .before .before .before .before .before .before .before .before .before .before .before .before .before .before)) .first-left .ensures) (call .ensures) in
     let shaped = and-both (ownShaped (anchorsIn start) (ownIn start) (firstIn start)) (workShaped (secondIn start)) (start .pre) work in
     record {
       answered = λ yes. group-answered (anchorsIn start) (a .head .now) (a .bindings .now) (a .availability .now) (a .entries .now) (a .batches) (a .count) (a .sets .now) (firstIn start) (secondIn start) is first′ second′ (call .result) ran (c .concluded .result) (c .concluded .ensures);
@@ -80,7 +90,7 @@ returns c =
 
 returns-2 : tie.Need-returns-2
 returns-2 c =
-    let start = c .before .before .before .before .before .before .before .before .before .before .before .before .before .before .before .before .before .before .before .before .before .before .before in
+    let start = (startOf (c .before .before .before)) in
     let a = start .args in
     let is = sym (c .before .is-group .ensures) ∙ c .if2 .left in
     let work = sym (c .before .before .before .work-shaped .ensures) ∙ c .before .before .if1 .taken in
@@ -92,7 +102,7 @@ returns-2 c =
 
 returns-3 : tie.Need-returns-3
 returns-3 c =
-    let start = c .before .before .before .before .before .before .before .before .before .before .before .before .before .before .before .before .before .before .before .before .before in
+    let start = (startOf (c .before)) in
     let other = sym (c .before .work-shaped .ensures) ∙ c .if1 .left in
     record {
       answered = λ yes. absurd (false≢true (sym other ∙ and-right (ownShaped (anchorsIn start) (ownIn start) (firstIn start)) (workShaped (secondIn start)) yes));
