@@ -15,7 +15,7 @@ module _ (l : List ℕ) (at n : ℕ) where
 
   pub has_room_lem : at + n ≤ length l → has_room l at n ≡ true
   unfolding has_room
-  has_room = le-leb (at + n) (length l)
+  has_room_lem = le-leb (at + n) (length l)
 
   pub no_room : length l < at + n → has_room l at n ≡ false
   unfolding has_room

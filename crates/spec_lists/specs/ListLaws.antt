@@ -145,6 +145,7 @@ test_cases false holds fails = fails refl
 -- ---- members
 
 pub all_member : {A : Type 0} (P : A → Type 0) {x : A} (l : List A) → All P l → Memᴰ x l → P x
+all_member {A = A} P [] h x3 = elim x3 [ ]
 all_member P (y ∷ l) h (Memᴰ.head e) = rw e h.0
 all_member P (y ∷ l) h (Memᴰ.tail m) = all_member P l h.1 m
 
@@ -163,6 +164,7 @@ any_member {A} test (x ∷ l) e = go (test x) refl (any_member test l) e
     go false f ih e = let found = ih e in (found.0, Memᴰ.tail found.1, found.2)
 
 pub member_any : {A : Type 0} (test : A → Bool) {x : A} (l : List A) → Memᴰ x l → test x ≡ true → any test l ≡ true
+member_any {A = A} test [] x3 h = elim x3 [ ]
 member_any test (y ∷ l) (Memᴰ.head e) h = rw (ap test (sym e) ∙ h)
 member_any test (y ∷ l) (Memᴰ.tail m) h = or_true (test y) (any test l) (member_any test l m h)
 
@@ -183,6 +185,7 @@ get_or_member (x ∷ l) (suc i) d h = Memᴰ.tail (get_or_member l i d (omega ar
 
 -- two maps that agree on a list agree at its members
 pub map_member : {A B : Type 0} (f g : A → B) {x : A} (l : List A) → map f l ≡ map g l → Memᴰ x l → f x ≡ g x
+map_member {A = A} {B = B} f g [] h x3 = elim x3 [ ]
 map_member f g (y ∷ l) h (Memᴰ.head e) = cc
 map_member f g (y ∷ l) h (Memᴰ.tail m) = map_member f g l (cc) m
 
