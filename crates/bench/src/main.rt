@@ -8,6 +8,8 @@
 //   o       operations in place on a projection
 //   p x s   pages of 64 keys, the same with each row taken apart, and as many single look-ups
 // The data of the last four lines is a set that fills the panel, a set that is applied to it and one that takes it back, each after its length as a u32.
+#![tactic(auto)]
+
 mod dependencies;
 mod imports;
 mod lent;

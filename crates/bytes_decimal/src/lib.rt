@@ -1,4 +1,6 @@
 // Numbers in decimal: their digits, and what is read of digits.
+#![tactic(auto)]
+
 ghost use Rattle.std.specs.Prelude.{◌≡◌, drop};
 ghost use Rattle.std.proofs.Math.Option.{some};
 ghost use Rattle.spec_decimal.specs.Decimal.{read_decimal, positive, negative, read_signed_decimal};

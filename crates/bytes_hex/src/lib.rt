@@ -1,4 +1,6 @@
 // Lower-case hex: decoded into a lent slice here, and printed.
+#![tactic(auto)]
+
 pub mod printing;
 
 ghost use Rattle.std.specs.Prelude.{◌≡◌, ◌*◌, ◌≤◌, ◌<◌, length};

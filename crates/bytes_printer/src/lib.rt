@@ -1,5 +1,7 @@
 // Fields of a line printed into a lent slice, one behind the other. A call goes on where the one before it ended. Each prints as much as
 // fits; once something did not fit, nothing further is written.
+#![tactic(auto)]
+
 ghost use Rattle.std.specs.Prelude.{[], ◌∷◌};
 ghost use Rattle.spec_decimal.specs.Decimal.{decimal, signed_decimal};
 ghost use Rattle.bytes_printer.specs.Prints.{spaced_field, line_feed, Prints};

@@ -1,5 +1,7 @@
 // Tables of fixed-width records in one lent byte slice, changed in place. A contract speaks of the rows that the table
 // holds, whichever these are (`Holds`). Nothing is asked of a count or a position: a call that does not fit is refused.
+#![tactic(auto)]
+
 ghost use Rattle.std.specs.Prelude.{List, [], ◌∷◌, ◌≡◌, ℕ, ◌+◌, ◌-◌, ◌*◌, ◌≤◌, ◌<◌, length, get_or};
 ghost use Rattle.bytes_records.specs.Positions.{insert_at, remove_at, replace_at, move_at, first_index};
 ghost use Rattle.bytes_records.specs.Table.{HoldsRows, Changed, can_insert, can_remove, can_replace, can_move};

@@ -1,5 +1,7 @@
 // Whether a text is UTF-8 by RFC 3629, and how many characters it has. A table of byte classes decides: each byte's class comes from it. Only
 // whole groups of 16 bytes below 0x80 are passed ahead of it.
+#![tactic(auto)]
+
 ghost use Rattle.std.specs.Prelude.{◌+◌, ◌≤◌, ◌<◌, ◌≡◌, true, [], ◌∷◌, length, drop};
 ghost use Rattle.bytes_utf8.specs.Classes.{class_of, IsClassTable, IsTailClass, tails, sequence, Leads};
 ghost use Rattle.bytes_utf8.specs.Characters.{matches, length_after, character_length, AsciiBetween, TellsAscii, Reached};

@@ -1,5 +1,7 @@
 // Little-endian numbers in lent slices. Every position may be asked for: where a number does not fit, reading answers Short, and writing
 // answers false and changes nothing.
+#![tactic(auto)]
+
 ghost use Rattle.std.specs.Prelude.{◌≡◌, ◌+◌, ◌-◌, ◌≤◌, ◌<◌, leb, length, take, drop};
 ghost use Rattle.std.specs.Int.{w64};
 ghost use Rattle.std.proofs.Common.{to_z, of_z};

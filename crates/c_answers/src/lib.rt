@@ -1,4 +1,6 @@
 // What the calls for C answer, as numbers, and what they are asked for by numbers. The crate that exports them calls these.
+#![tactic(auto)]
+
 pub mod answers;
 pub mod asked;
 pub mod counts;

@@ -1,4 +1,6 @@
 // Findings in ascending order without repeats, kept as three numbers each in a lent slice.
+#![tactic(auto)]
+
 ghost use Rattle.std.specs.Prelude.{◌++◌, ◌≡◌, ◌-◌, ◌/◌, ◌≤◌, length, take};
 ghost use Rattle.bytes_records.specs.Moves.{push_front};
 ghost use Rattle.bytes_records.specs.Keys.{order_of};

@@ -1,4 +1,6 @@
 // What an operation changes, taken apart into numbers, so that later operations are compared with it without being read again.
+#![tactic(auto)]
+
 ghost use Rattle.std.specs.Prelude.{◌≡◌, List, ◌++◌, ℕ, ◌+◌, ◌≤◌, length, take};
 ghost use Rattle.spec_checks.specs.Target.{mutation_target};
 ghost use Rattle.spec_checks.specs.PatchChecks.{is_self, before_self_lem};

@@ -1,4 +1,6 @@
 // The listing of the set that stands on standard input: what both listing programs do, each in its edition.
+#![tactic(auto)]
+
 ghost use Rattle.std.specs.Prelude.{◌≤◌};
 ghost use Rattle.listing_lines.specs.ListingBytes.{listing_bytes};
 

@@ -1,4 +1,6 @@
 // The lines of a listing: 01, 'Listing'. A record's line is printed from its stored row, and shows no mark.
+#![tactic(auto)]
+
 mod escapes;
 pub mod tables;
 

@@ -1,4 +1,6 @@
 // The listing of a set, printed; and that of a set, a state or its tables, written into a lent slice whole or not at all: 01, 'Listing'.
+#![tactic(auto)]
+
 ghost use Rattle.std.specs.Prelude.{List, ℕ};
 ghost use Rattle.spec_patch.specs.Sizes.{projection_bindings, projection_availabilities, projection_entries};
 ghost use Rattle.spec_projection.specs.Projection.{Projection};

@@ -1,4 +1,6 @@
 // Reads a set of the second edition from standard input and prints its listing: 01, 'Listing', and 02, 'Job 13'.
+#![tactic(auto)]
+
 use projection_patch::patch::ProjectionPatchEdition;
 
 fn main() {

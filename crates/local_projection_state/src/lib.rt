@@ -1,5 +1,7 @@
 // What a session stores of a panel: three tables of fixed-width rows, and one of each collection's length; and why an operation on them is
 // refused. After crates/prom-ui/src/local_projection_state.rs.
+#![tactic(auto)]
+
 ghost use Rattle.std.specs.Prelude.{◌≡◌};
 ghost use Rattle.spec_projection.specs.Projection.{empty};
 ghost use Rattle.spec_projection.specs.Apply.{operation_fault_number};

@@ -1,4 +1,6 @@
 // A set applied to a state, whole or not at all. After crates/prom-ui/src/local_projection_state.rs.
+#![tactic(auto)]
+
 ghost use Rattle.std.specs.Prelude.{◌≡◌, List};
 ghost use Rattle.spec_patch.specs.Patch.{Patch};
 ghost use Rattle.spec_patch.specs.Read.{patches, read_set};

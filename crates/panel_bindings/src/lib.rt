@@ -1,5 +1,7 @@
 // Setting a binding or a node's availability, in place on a lent table: the row of that key is replaced, or one is added at its place.
 // After crates/prom-ui/src/local_projection_state.rs.
+#![tactic(auto)]
+
 ghost use Rattle.std.specs.Prelude.{◌≡◌, List, ℕ, ◌*◌, ◌<◌, length};
 ghost use Rattle.spec_patch.specs.Sizes.{projection_availabilities};
 ghost use Rattle.spec_patch.specs.Patch.{unsigned};

@@ -1,5 +1,7 @@
 // A set's operations, applied from the tables before it to those after it: planned on ids first, and then each row is written once.
 // After crates/prom-ui/src/local_projection_state.rs.
+#![tactic(auto)]
+
 pub mod memory;
 
 ghost use Rattle.std.specs.Prelude.{◌≡◌, true, false, ◌&&◌, List, [], ℕ, ◌≤◌, length};

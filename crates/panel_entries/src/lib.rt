@@ -1,5 +1,7 @@
 // Operations on the entries of a collection, in place on a lent table of the planned entries of all collections. A refusal leaves
 // every byte. After crates/prom-ui/src/local_projection_state.rs.
+#![tactic(auto)]
+
 pub mod find;
 
 ghost use Rattle.std.specs.Prelude.{List, [], ℕ, ◌≤◌, ◌<◌, get_or};

@@ -1,5 +1,7 @@
 // Lookups in the tables of a state. Without a record every field of the answer is zero.
 // After crates/prom-ui/src/local_projection_state.rs.
+#![tactic(auto)]
+
 pub mod positions;
 
 ghost use Rattle.std.specs.Prelude.{◌≡◌};

@@ -1,5 +1,7 @@
 // One operation on the three lent tables of a plan: its value is not looked at, a source stands for it.
 // After crates/prom-ui/src/local_projection_state.rs.
+#![tactic(auto)]
+
 ghost use Rattle.std.specs.Prelude.{◌≡◌};
 ghost use Rattle.spec_patch.specs.Edition.{Edition};
 ghost use Rattle.spec_patch.specs.Fits.{FitsOperation};

@@ -1,4 +1,6 @@
 // Looks up a page of keys together: 02, Job 7. The keys are indexed once, and then each row of the table is read once.
+#![tactic(auto)]
+
 mod entries;
 mod index;
 mod places;

@@ -1,4 +1,6 @@
 // Prints a collection for paper: 02, Job 10. The print is made in a buffer of its longest length, and written whole or not at all.
+#![tactic(auto)]
+
 mod columns;
 mod entries;
 

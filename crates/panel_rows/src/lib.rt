@@ -1,4 +1,6 @@
 // The rows of a projection's tables: where each field stands, and how a row is made and taken apart.
+#![tactic(auto)]
+
 pub mod fields;
 pub mod values;
 pub mod written;

@@ -1,6 +1,8 @@
 // The operations of a set, read and planned in order: each value's source is the position of its bytes in the set, and its mark
 // the id of its patch.
 // After crates/prom-ui/src/local_projection_state.rs.
+#![tactic(auto)]
+
 ghost use Rattle.std.specs.Prelude.{◌≡◌, false, List, [], ◌≤◌, length};
 ghost use Rattle.spec_patch.specs.Sizes.{set_bytes};
 ghost use Rattle.spec_patch.specs.Patch.{Patch};

@@ -1,5 +1,7 @@
 // Writes the tables that a plan stands for: each row once, its value straight from the table before the batch or from the
 // set. What is read is lent read-only, and a refusal leaves every byte of the new table.
+#![tactic(auto)]
+
 ghost use Rattle.std.specs.Prelude.{◌≡◌, true, List, ℕ, ◌+◌, ◌*◌, ◌≤◌, ◌<◌, min, max, length};
 ghost use Rattle.spec_lists.specs.Lists.{All};
 ghost use Rattle.spec_patch.specs.Sizes.{projection_bindings, projection_availabilities, projection_entries};

@@ -1,4 +1,6 @@
 // Converting of a set into the other edition: 02, 'Job 13'. The set is read first, and nothing is written before it is known to fit.
+#![tactic(auto)]
+
 ghost use Rattle.std.specs.Prelude.{◌≡◌, List, ◌∷◌, ◌++◌, ℕ, ◌≤◌, length, take, drop};
 ghost use Rattle.spec_patch.specs.Edition.{edition_digit};
 ghost use Rattle.spec_patch.specs.Read.{read_set};

@@ -1,4 +1,6 @@
 // Bringing in a term list: 02, 'Job 1'. One pass over the lines checks them, and one writes; nothing is written before all is known to fit.
+#![tactic(auto)]
+
 ghost use Rattle.std.specs.Prelude.{◌≡◌, List, [], ◌∷◌, map, ℕ, length, take};
 ghost use Rattle.std.proofs.Math.Option.{some};
 ghost use Rattle.spec_patch.specs.Read.{patches, read_set};

@@ -1,4 +1,6 @@
 // Reading of a patch's head and of the heading.
+#![tactic(auto)]
+
 ghost use Rattle.std.specs.Prelude.{◌≡◌, length, drop};
 ghost use Rattle.spec_patch.specs.Edition.{letters};
 ghost use Rattle.spec_patch.specs.Read.{to_envelope, read_envelope};

@@ -1,4 +1,6 @@
 // The lines of a term list, read in place: 02, 'Job 1'.
+#![tactic(auto)]
+
 ghost use Rattle.std.specs.Prelude.{◌≡◌, ◌≤◌, length, drop};
 ghost use Rattle.patch_terms.specs.Places.{byte_place_of};
 ghost use Rattle.patch_terms.specs.Answers.{judged_term, term_answer, line_answer, HoldsTerm};

@@ -1,4 +1,6 @@
 // A walk over a set, one step at a time: a patch's head, an operation, or the end. Every pass over a set goes by it.
+#![tactic(auto)]
+
 ghost use Rattle.std.specs.Prelude.{◌≡◌, ◌<◌, length};
 ghost use Rattle.spec_patch.specs.Read.{read_set};
 ghost use Rattle.projection_patch.specs.Meaning.{edition_of};

@@ -1,4 +1,6 @@
 // Patches and their canonical bytes. After crates/prom-ui/src/projection_patch.rs.
+#![tactic(auto)]
+
 pub mod binding_graph;
 pub mod contract_primitives;
 pub mod patch;

@@ -1,4 +1,6 @@
 // Answers a replay script from standard input, line by line: docs/DECISIONS.md, 'Replay'.
+#![tactic(auto)]
+
 ghost use Rattle.std.specs.Prelude.{◌≤◌, ◌<◌, length};
 
 use bytes_printer::Printed;

@@ -1,4 +1,6 @@
 // The lines that a replay prints of the answers of a session's calls, of the check of a set, of its conversion, of what it depends on, of a print, of a group and of the senders' turns, printed into a lent slice.
+#![tactic(auto)]
+
 pub mod check;
 pub mod conversion;
 pub mod dependencies;

@@ -1,4 +1,6 @@
 // The calls of a replay: each takes the state, prints its answer from the start of a lent slice, and gives the state after it.
+#![tactic(auto)]
+
 pub mod calls;
 pub mod groups;
 pub mod marks;

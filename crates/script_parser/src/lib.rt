@@ -1,4 +1,6 @@
 // A line of a replay script, read as a command.
+#![tactic(auto)]
+
 mod fields;
 mod forms;
 mod imports;

@@ -1,4 +1,6 @@
 // Lines, in bytes that were read.
+#![tactic(auto)]
+
 ghost use Rattle.std.specs.Prelude.{◌≡◌, ◌+◌, ◌-◌, ◌≤◌, length, drop};
 ghost use Rattle.script_reader.specs.Lines.{first_script_line};
 

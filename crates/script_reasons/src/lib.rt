@@ -1,4 +1,6 @@
 // The line that a replay prints of the rule behind a refusal, printed into a lent slice.
+#![tactic(auto)]
+
 pub mod figures;
 pub mod words;
 

@@ -1,4 +1,6 @@
 // One line of a replay script: the command that it asks for is run, and its answer printed.
+#![tactic(auto)]
+
 mod batch_lines;
 mod call_lines;
 mod dependency_lines;

@@ -1,5 +1,7 @@
 // The outermost lifecycle call: the session stands behind a mutable reference, as `ShellSession::apply` of
 // crates/prom-ui-runtime/src/shell_player.rs takes it.
+#![tactic(auto)]
+
 ghost use Rattle.std.specs.Prelude.{◌≡◌};
 ghost use Rattle.session_apply.specs.Applied.{is_applied, Stepped, StepsInPlace};
 

@@ -1,4 +1,6 @@
 // Creation of a session from its anchors. After crates/prom-ui-runtime/src/shell_player.rs.
+#![tactic(auto)]
+
 ghost use Rattle.std.specs.Prelude.{◌≡◌};
 ghost use Rattle.spec_session.specs.Session.{creation_number, too_many_anchors};
 ghost use Rattle.session_creation.specs.Creation.{anchors_within, no_session_lem, creation_with};

@@ -1,4 +1,6 @@
 // The rule behind a batch's refusal: which one, where and with which figures.
+#![tactic(auto)]
+
 pub mod batch;
 pub mod checks;
 pub mod gates;

@@ -1,4 +1,6 @@
 // Creation of a session whose binding anchors are lent as node and slot pairs.
+#![tactic(auto)]
+
 ghost use Rattle.std.specs.Prelude.{◌≡◌, ◌+◌, min, take};
 ghost use Rattle.spec_patch.specs.Sizes.{anchors};
 ghost use Rattle.session_creation.specs.Creation.{creation_with};

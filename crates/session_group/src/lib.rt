@@ -1,5 +1,7 @@
 // Several batches, or none: the sets of a group lie end to end in one lent slice. Methods stand beside their struct, so the call is a function
 // that takes the session first.
+#![tactic(auto)]
+
 ghost use Rattle.std.specs.Prelude.{◌≡◌, ◌≤◌, eqb, length};
 ghost use Rattle.spec_session.specs.Session.{Session};
 ghost use Rattle.spec_splitting.specs.Splitting.{is_rejected};

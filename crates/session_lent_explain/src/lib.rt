@@ -1,4 +1,6 @@
 // The rule behind the refusal of a batch on a session in lent memory. All slices are read, and none is changed.
+#![tactic(auto)]
+
 ghost use Rattle.std.specs.Prelude.{◌≡◌, length};
 ghost use Rattle.spec_session.specs.Session.{Session};
 ghost use Rattle.spec_explain.specs.Explain.{explain};

@@ -1,4 +1,6 @@
 // Turns among senders in eleven lent numbers: how many senders there are, of each of eight whether it waits, and who was last named.
+#![tactic(auto)]
+
 ghost use Rattle.std.specs.Prelude.{◌≡◌, length};
 ghost use Rattle.session_lifecycle.specs.Meaning.{cursor_of};
 ghost use Rattle.session_lent_turns.specs.LentTurns.{turns_numbers, named_at, turns_at, turn_flag, named_kind, named_number, turn_numbers, set_up_left, register_left, turn_left, SetUpCall, RegisterCall, TurnCall};

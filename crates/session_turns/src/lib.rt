@@ -1,4 +1,6 @@
 // Turns among up to eight senders, by value: each call hands back the next turns.
+#![tactic(auto)]
+
 ghost use Rattle.std.specs.Prelude.{◌≡◌, false, min, length, get_or};
 ghost use Rattle.spec_turns.specs.Turns.{most_senders, set_up_number, wrong_sender_count, refused, set_up, register_number, after, first_asked, first_waiting, next_sender, number_after};
 ghost use Rattle.session_lifecycle.specs.Meaning.{cursor_of};

@@ -1,1 +1,2 @@
 // Bringing in a term list. The definitions stand in specs/; there is no code here.
+#![tactic(auto)]

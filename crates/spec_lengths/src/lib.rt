@@ -1,1 +1,2 @@
 // Each collection's length, kept with the collection. The definitions stand in specs/; there is no code here.
+#![tactic(auto)]

@@ -1,5 +1,7 @@
 // Answers the scripts of the kit and those that the Rust answered, and compares each answer with the one beside the script. Prints a line for
 // each case that an index names.
+#![tactic(auto)]
+
 ghost use Rattle.std.specs.Prelude.{◌-◌, ◌≤◌, length};
 
 use bytes_printer::Printed;

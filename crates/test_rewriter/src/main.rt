@@ -1,6 +1,8 @@
 // Reads sets from standard input, one to a line in lower-case hex, makes of each the list that it stands for, and writes that list in the edition
 // that it was read in. What is printed is the lines as they came where the writer gives the bytes of each set; a question mark stands for a set
 // that is not readable in either edition.
+#![tactic(auto)]
+
 ghost use Rattle.std.specs.Prelude.{◌-◌, ◌≤◌, length};
 
 mod lists;

@@ -1,6 +1,8 @@
 // Runs the writer and the patch checks on refused lists and sets, and on slices that are too short for the answer. Each item of standard input is
 // three u32, which say what it is (0 a set, 1 a list, 2 a list of wide texts), how many places are lent and how many bytes follow, and these bytes: the set, or the row of
 // the list (`lists::set_of`). docs/DECISIONS.md says how the files stdin and stdout were made.
+#![tactic(auto)]
+
 mod checks;
 mod lists;
 mod writes;
