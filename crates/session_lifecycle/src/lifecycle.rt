@@ -15,7 +15,7 @@ pub enum ShellLifecycleCommand {
     Close,
 }
 
-#[derive(Drop)]
+#[derive(Clone, Copy)]
 pub enum ShellLifecycleStimulus {
     Command(ShellLifecycleCommand),
     ExplicitNoOp,

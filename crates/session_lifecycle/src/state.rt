@@ -2,7 +2,7 @@
 #[derive(Drop)]
 pub struct ShellSessionId(pub u64);
 
-#[derive(Drop)]
+#[derive(Clone, Copy)]
 pub enum ShellLifecycle {
     Created,
     Active,
