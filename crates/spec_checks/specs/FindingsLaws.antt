@@ -83,7 +83,7 @@ reported_unique raw a b h k =
 first_clean : (i : ℕ) (ps : List Patch) (set : Findings) → All CleanPatch ps → first_findings i ps set ≡ set
 unfolding first_findings
 first_clean i [] set h = refl
-first_clean i (p ∷ ps) set h = rw (h.0, first_findings) (first_clean _ ps set h.1)
+first_clean i (p ∷ ps) set h = rw (h.0, first_findings) (first_clean (i + 1) ps set h.1)
 
 first_found : (i : ℕ) (a : List Patch) (p : Patch) (b : List Patch) (set : Findings) → All CleanPatch a → patch_findings p ≢ []
     → first_findings i (a ++ (p ∷ b)) set ≡ record { place = in_patch (i + length a); found = patch_findings p }

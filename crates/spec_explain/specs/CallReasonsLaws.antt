@@ -48,6 +48,8 @@ unfolding explain_check reason_of patches_readable patches_read
 check_explained ed set = go (locate ed set) (read_set ed set) (locate_agrees ed set)
   where
     go : (o : Option Unread) (x : SetReading) → Agrees ed o x → CheckExplained (reason_of (patches_readable o (patches_read x) >>= (λ ps. fine tt))) x
+    go (some u) (patches ps) x5 = elim x5 [ ]
+    go none (fault f) x4 = elim x4 [ ]
     go none (patches ps) (reads qs) = checks ps
     go (some u) (fault f) (stops v g is) = not_checked (unreadable u) f (reading_number (rule_fault u.rule) ∙ ap fault_number is)
 
@@ -74,6 +76,8 @@ listing_explained ed set = by_reading (locate ed set) (read_set ed set) (locate_
 
     by_reading : (o : Option Unread) (x : SetReading) → Agrees ed o x
         → ListingExplained (reason_of (patches_readable o (patches_read x) >>= (λ ps. no_findings (findings ps).place (findings ps).found >> applies (walk_patches step_kept 0 empty ps)))) (reading_lines x)
+    by_reading (some u) (patches ps) x5 = elim x5 [ ]
+    by_reading none (fault f) x4 = elim x4 [ ]
     by_reading none (patches ps) (reads qs) = by_findings ps (findings ps).found refl
     by_reading (some u) (fault f) (stops v g is) = rw (← is, ← reading_number (rule_fault u.rule)) (not_listed (unreadable u))
 
@@ -127,6 +131,8 @@ conversion_explained from set room = by_reading (locate from set) (read_set from
         (kind_missing h.patch h.operation ps r f)
 
     by_reading : (o : Option Unread) (x : SetReading) → locate from set ≡ o → read_set from set ≡ x → Agrees from o x → ConversionExplained from set (explain_converting (other_edition from) room o (patches_read x)) (rewritten (other_edition from) room x)
+    by_reading (some u) (patches ps) l r x7 = elim x7 [ ]
+    by_reading none (fault f) l r x8 = elim x8 [ ]
     by_reading none (patches ps) l r (reads qs) = by_walk ps r (walk_patches (tested (value_passes (kind_in (other_edition from)))) 0 tt ps) refl
     by_reading (some u) (fault f) l r (stops v g is) = rw (← is) (not_read u l)
 
@@ -179,10 +185,13 @@ lines_tell n [] = hold []
 lines_tell n (line ∷ ls) = by_line (line_rule n line) (read_term line) (line_tells n line) (first_bad_line (suc n) ls) (read_terms (suc n) ls) (lines_tell (suc n) ls)
   where
     added : (t : Term) (b : Option BadLine) (x : Terms) → LinesTell b x → LinesTell b (also t x)
+    added t (some b) (terms ts) x5 = elim x5 [ ]
+    added t none (faulty r) x4 = elim x4 [ ]
     added t none (terms ts) (hold us) = hold (t ∷ ts)
     added t (some b) (faulty r) (broken c) = broken b
 
     by_line : (r : Option LineRule) (o : Option Term) → LineTells n r o → (b : Option BadLine) (x : Terms) → LinesTell b x → LinesTell (or_later n r b) (line_then n o x)
+    by_line none none x7 b x later = elim x7 [ ]
     by_line none (some t) (tells_term u k) b x later = rw k (added t b x later)
     by_line (some r) (some t) (tells_over q u k is) b x later = rw (k, ← is) (broken (record { line = n; rule = r }))
     by_line (some r) none (tells_form q is) b x later = rw (← is) (broken (record { line = n; rule = r }))
@@ -208,6 +217,8 @@ import_explained ed collection e list room = by_lines (first_bad_line 0 (lines l
     by_bytes p false = not_brought (set_over (length (encode ed (p ∷ []))))
 
     by_lines : (b : Option BadLine) (x : Terms) → LinesTell b x → ImportExplained (reasons.line_reason_first b (explain_patch ed (patch_of collection e (terms_of x) ∷ []) room)) (imports.after_lines ed collection e room x)
+    by_lines (some b) (terms ts) x5 = elim x5 [ ]
+    by_lines none (faulty r) x4 = elim x4 [ ]
     by_lines none (terms ts) (hold us) = by_bytes (patch_of collection e ts) (leb (length (encode ed (patch_of collection e ts ∷ []))) set_bytes)
     by_lines (some b) (faulty r) (broken c) = not_brought (bad_line b)
 

@@ -140,6 +140,8 @@ module _ (ed : Edition) (s : Session) (e : BatchEnvelope) (references : ℕ) (se
   reading_step : (o : Option Unread) (x : SetReading) → locate ed set ≡ o → read_set ed set ≡ x → Agrees ed o x → (c : List Patch → Explained (Unit {0})) (d : List Patch → Check (List Patch))
       → ((ps : List Patch) → read_set ed set ≡ patches ps → Explains (c ps) (conclude_batch s e (d ps))) → Explains (patches_readable o (patches_read x) >>= c) (conclude_batch s e (batching.◌>>=◌ (batching.readable x) d))
   unfolding patches_readable patches_read batching.readable conclude_batch
+  reading_step (some u) (patches ps) l r x8 c d on = elim x8 [ ]
+  reading_step none (fault f) l r x10 c d on = elim x10 [ ]
   reading_step none (patches ps) l r (reads qs) c d on = on ps r
   reading_step (some u) (fault f) l r (stops v g is) c d on = rw (← is) (explains (unreadable u) (Says.not_read u l (first_byte ed set u l) (named_place ed set u l)) (λ z. omega arith))
 

@@ -1,6 +1,6 @@
 -- A projection in stored order is determined by what its lookups and its collections' lists answer.
 use Rattle.std.specs.Prelude.{ℕ, ◌<◌, ◌≡◌, refl, ltb, eqb}
-use Rattle.std.proofs.Common.{sym, ◌∙◌, arith, ltb-true, ltb-false, eqb-true}
+use Rattle.std.proofs.Common.{sym, ◌∙◌, subst, arith, ltb-true, ltb-false, eqb-true}
 use mathlib.Core.List.{List, [], ◌∷◌, cons≢nil, head-eq_of_cons-eq, tail-eq_of_cons-eq}
 use Rattle.std.proofs.Math.Option.{Option, none, some, map, some-injective, some-ne-none}
 use Rattle.std.proofs.lemmas.Bool.{eqb-false}
@@ -37,7 +37,7 @@ grouped_determined (x ∷ l) (y ∷ m) g h e = heads (grouped_determined l m g.1
         (λ t. omega (arith, ltb-false x.collection y.collection s, ltb-false y.collection x.collection t)))
 
     own : keyed_value x ∷ entries_in x.collection l ≡ keyed_value y ∷ entries_in x.collection m
-    own = sym (entries_in_own x l) ∙ e x.collection ∙ rw collections (entries_in_own y m)
+    own = sym (entries_in_own x l) ∙ e x.collection ∙ subst (λ c. entries_in c (y ∷ m) ≡ keyed_value y ∷ entries_in c m) (sym collections) (entries_in_own y m)
 
     tails : (c : ℕ) → entries_in c l ≡ entries_in c m
     tails c = test_cases (eqb x.collection c)
