@@ -118,17 +118,41 @@ class Function:
             out = out[:1] + self.named(self.own[0], out[1:])
         return j, out
 
+    def knows(self, i, first):
+        return (
+            norm(self.old_label[i]) == first
+            or any(norm(label) == first for _, label in self.typed[i])
+            or (self.arms[i] and any(norm(old) == first for _, old, _ in self.arms[i][2]))
+        )
+
+    def at_label(self, start, i, first):
+        """The place of a step: where the chain leads, or the nearest one on the way from the start."""
+        for word in (first, first[: -len("_lem")] if first.endswith("_lem") else first):
+            if norm(self.old_label[i]) == word or self.knows(i, word):
+                return i, word
+            chain, j = [], start
+            while j is not None:
+                chain.append(j)
+                j = self.parent[j]
+            here = chain.index(i) if i in chain else 0
+            for d in range(1, len(chain)):
+                for k in (here - d, here + d):
+                    if 0 <= k < len(chain) and norm(self.old_label[chain[k]]) == word:
+                        return chain[k], word
+        return i, first
+
     def resolve_plain(self, i, labels):
         k = 0
+        start = i
         while k < len(labels) and labels[k] == "before":
-            i = self.parent[i]
-            if i is None:
-                return None
+            i = self.parent[i] if self.parent[i] is not None else i
             k += 1
         rest = labels[k:]
         if not rest:
             return i, None
         first = norm(rest[0])
+        if first not in ("args", "pre", "requires", "ranges", "lifetimes", "well_formed"):
+            i, first = self.at_label(start, i, first)
         for name, label in self.typed[i]:
             if norm(label) == first and rest[1:2] == ["given"]:
                 return i, ["type_inv", name] + tail(rest[2:])
@@ -140,9 +164,10 @@ class Function:
                 if norm(old) == first and [norm(x) for x in rest[1 : 1 + len(path)]] == [norm(x) for x in path]:
                     if best is None or len(path) > best[1]:
                         best = ([arm[0], new] + tail(rest[1 + len(path) :]), len(path))
-        if best and best[1]:
+        if best and (best[1] or len(rest) > 1 and rest[1] not in ("ensures", "result", "new", "last", "type_inv")):
             return i, best[0]
         if norm(self.old_label[i]) == first:
+            rest = [rest[0]] + ["invariant" if rest[1:2] == ["inv"] else x for x in rest[1:2]] + rest[2:]
             out = [self.new_label[i]] + tail(rest[1:])
             params = self.rows["params"].get(self.callee[i] or "")
             if params and len(rest) > 2 and rest[1] in ("last", "new") and rest[2] in ("0", "1"):
@@ -225,6 +250,8 @@ class File:
         self.imports = []
         self.head = []
         self.local_goal = {}
+        self.place_functions = {}
+        self.place_lemmas = {}
 
     def place_types(self, text):
         def one(m):
@@ -238,9 +265,70 @@ class File:
 
         return re.sub(PLACE_TYPE, one, text)
 
+    def expand(self, text, roots):
+        """Writes a place's own functions out, and the names that `let` gives to a place."""
+        roots = set(roots)
+        for _ in range(40):
+            before = text
+            for name, (steps, _) in self.place_functions.items():
+                text = re.sub(rf"\(\s*{re.escape(name)}\s+({NAME}(?:\.{NAME})*)\s*\)", lambda m: m[1] + steps, text)
+                text = re.sub(rf"(?<![\w.'-]){re.escape(name)}\s+({NAME}(?:\.{NAME})*)", lambda m: m[1] + steps, text)
+            m = None
+            for m in re.finditer(rf"let\s+({NAME})\s*=\s*({NAME}(?:\.{NAME})*)\s+in\s*", text):
+                if m[2].split(".")[0] in roots and re.search(r"\.", m[2]):
+                    break
+            else:
+                m = None
+            if m:
+                path, name = m[2], m[1]
+                rest = text[m.end() :]
+                rest = re.sub(rf"(?<![\w.'-]){re.escape(name)}(?![\w'-])", lambda k: path, rest)
+                text = text[: m.start()] + rest
+            if text == before:
+                break
+        return text
+
+    def inline(self, text, env):
+        """Writes out the lemmas over a place that are asked of an earlier one."""
+        for _ in range(40):
+            changed = False
+            for name, (place, var, sig, body, is_value) in self.place_lemmas.items():
+                for m in re.finditer(rf"(?<![\w.'-]){re.escape(name)}\s+(\(?)({NAME}(?:\.{NAME})*)(\)?)", text):
+                    root = m[2].split(".")[0]
+                    if root not in env:
+                        continue
+                    found = self.f.resolve(env[root][1], env[root][2] + m[2].split(".")[1:])
+                    if found is None or found[1] is not None or found[0] == env[root][1]:
+                        continue
+                    own = rf"(?<![\w.'-]){re.escape(var)}(?![\w'-])"
+                    filled = re.sub(own, lambda k: m[2], body).strip()
+                    if is_value:
+                        new = f"({filled})"
+                    else:
+                        typ = re.sub(own, lambda k: m[2], sig).strip()
+                        new = f"(let it : ({typ}) = {filled} in it)"
+                    if m[1] and not m[3]:
+                        continue
+                    end = m.end() - (1 if m[3] and not m[1] else 0)
+                    text = text[: m.start()] + new + text[end:]
+                    changed = True
+                    break
+                if changed:
+                    break
+            if not changed:
+                break
+        return text
+
     def turn(self, body, env, goal):
         """Writes the paths of body; env gives for a variable its place, or a path from one."""
         env = dict(env)
+        body = self.expand(body, env)
+        if goal is None:
+            body = self.expand(self.inline(body, env), env)
+        for local, new in self.local_goal.items():
+            if local != goal:
+                body = re.sub(rf"(?<![\w.'-]){re.escape(local)}(?![\w'-])", lambda m: new, body)
+        body = re.sub(r"\(?(?<![\w.'-])not-(?:true|false)\s+(?:_|c[^\s()]*)\s+(c(?:\.before)*\.if[^\s()]*)\)?", lambda m: m[1] if m[0].startswith("(") == m[0].endswith(")") else m[0], body)
         # aliases: let v = PATH in
         alias = re.compile(rf"let\s+({NAME})\s*=\s*({NAME}(?:\.{NAME})*)\s+in\s*")
         out = ""
@@ -319,7 +407,8 @@ class File:
                 if pm and norm(pm[1]) in self.f.index:
                     positions[pos] = self.f.index[norm(pm[1])]
                 pos += 1
-        sig = self.place_types(self.paths(sig, env_sig, None))
+        sig = self.expand(sig, env_sig)
+        sig = self.place_types(self.paths(self.expand(self.inline(sig, env_sig), env_sig), env_sig, None))
         out = lines[:start] + [sig]
         rest = "\n".join(lines[clause:])
         parts = re.split(rf"(?m)^(?={re.escape(name)}(?:\s|$))", rest)
@@ -455,13 +544,27 @@ def convert(crate, folder, function, text):
         others.append(b)
     if spec is None:
         return None, ["no tie.close"]
+    for o in others:
+        plain = "\n".join(l for l in o.split("\n") if not l.startswith("--"))
+        m = re.match(rf"(?:pub |abbrev |unfoldable )*({NAME})\s*:\s*{PLACE_TYPE}\s*→\s*{PLACE_TYPE}\s*\n\1\s+({NAME})\s*=\s*\6((?:\.before)+)\s*$", plain)
+        if m:
+            file.place_functions[m[1]] = (m[7], o)
+            continue
+        m = re.match(rf"(?:pub |abbrev |unfoldable )*({NAME})\s*:\s*(?:{PLACE_TYPE}|\(({NAME})\s*:\s*{PLACE_TYPE}\s*\))\s*→(.*?)\n((?:unfolding[^\n]*\n)?)\1\s+({NAME})\s*=(.*)\Z", plain, re.S)
+        if m and norm(m[2] or m[5]) in f.index:
+            sig = m[7]
+            if m[4] and m[4] != m[9]:
+                sig = re.sub(rf"(?<![\w.'-]){re.escape(m[4])}(?![\w'-])", m[9], sig)
+            file.place_lemmas[m[1]] = (f.index[norm(m[2] or m[5])], m[9], sig, m[10], bool(re.match(r"(pub )?abbrev", plain)) and not m[4])
+    others = [o for o in others if not any(o is k for _, k in file.place_functions.values())]
     # goals by name
     answers = {}
 
     def put(new, place, unfold, head_vars, body, note):
         if is_trivial(body):
             return
-        var = head_vars[0] if head_vars else "c"
+        head_vars = [v for v in head_vars if v != "κs"] or ["c"]
+        var = head_vars[0]
         env = {var: (var, place, [])}
         names = []
         if re.match(r"returns(-|$)", new):
@@ -469,7 +572,7 @@ def convert(crate, folder, function, text):
         elif re.search(r"-requires(-|$)", new) and f.callee[place]:
             names = []
         turned = by_clause(file.turn(file.place_types(body), env, new), names)
-        answers[new] = (note, unfold, var, turned)
+        answers[new] = (note, unfold, " ".join(head_vars), turned)
 
     args = spec_args(spec)
     n_loops = 2 * len(f.rows["loops"])
@@ -482,6 +585,11 @@ def convert(crate, folder, function, text):
                 put(new, place, [], m[1].split(), m[2].strip(), [])
     else:
         file.left.append(f"tie.spec has {None if args is None else len(args)} arguments, and there are {n_loops} + {len(f.order)} now")
+    for local, (old, rest, note) in goals.items():
+        key = norm(re.sub(r"^overflow-", "", old))
+        found = by_position.get(local) or f.goal.get(key) or f.goal.get(norm(old))
+        if found:
+            file.local_goal[local] = found[0]
     for local, (old, rest, note) in goals.items():
         key = norm(re.sub(r"^overflow-", "", old))
         found = by_position.get(local) or f.goal.get(key) or f.goal.get(norm(old))
