@@ -10,7 +10,7 @@ use Rattle.std.proofs.Math.Numerals.{add-one}
 use native.Mathlib.Omega.{arith}
 use Rattle.std.proofs.Math.ListN.{length}
 use Rattle.spec_lists.specs.Lists.{if◌then◌else◌, any, All}
-use Rattle.spec_lists.specs.ListLaws.{map_take, map_drop}
+use Rattle.spec_lists.proofs.ListLaws.{map_take, map_drop}
 use Rattle.bytes_records.specs.Positions.{insert_at, remove_at, replace_at, first_index}
 
 -- ---- one element more

@@ -8,7 +8,7 @@ use denote.Struct.Field.{Field}
 use denote.Struct.Declared as structs
 use denote.Enum.Declared as enums
 use Rattle.spec_lists.specs.Lists.{All}
-use Rattle.spec_lists.specs.ListLaws.{all_take, all_drop}
+use Rattle.spec_lists.proofs.ListLaws.{all_take, all_drop}
 use Rattle.spec_patch.specs.Fits.{OptionalU64, InRangeValue, OperationHolds, InRangeEnvelope, InRange}
 use Rattle.projection_patch.specs.Meaning.{surface_of, before_of, envelope_of, value_of, operation_of}
 use Rattle.projection_patch.specs.declared.patch.OptionalSurfaceId.{OptionalSurfaceId}

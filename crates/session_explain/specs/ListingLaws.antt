@@ -11,7 +11,7 @@ use Rattle.spec_checks.specs.Findings.{findings}
 use Rattle.spec_projection.specs.Projection.{empty}
 use Rattle.spec_explain.specs.ReadingRule.{Unread}
 use Rattle.spec_explain.specs.Locate.{locate}
-use Rattle.spec_explain.specs.LocateLaws.{Agrees, reads, stops, locate_agrees}
+use Rattle.spec_explain.proofs.LocateLaws.{Agrees, reads, stops, locate_agrees}
 use Rattle.spec_explain.specs.Walk.{walk_patches}
 use Rattle.spec_explain.specs.Explain.{Explained, fine, ◌>>=◌, ◌>>◌, patches_read, patches_readable, no_findings, step_kept, applies, reason_of}
 use Rattle.spec_explain.specs.CallReasons.{explain_check, explain_listing}

@@ -23,7 +23,7 @@ use Rattle.spec_session.specs.Lifecycle.{is_closed}
 use Rattle.spec_session.specs.Batch.{BatchEnvelope, pass, refuse, absent_targets, takes_number}
 use Rattle.spec_explain.specs.ReadingRule.{Unread}
 use Rattle.spec_explain.specs.Locate.{locate}
-use Rattle.spec_explain.specs.LocateLaws.{Agrees, reads, stops, locate_agrees}
+use Rattle.spec_explain.proofs.LocateLaws.{Agrees, reads, stops, locate_agrees}
 use Rattle.spec_explain.specs.Walk.{Walk, through, halted, walk_patches, tested}
 use Rattle.spec_explain.specs.Reason.{foreign_session, session_closed, counts_differ, cursor_mismatch}
 use Rattle.spec_explain.specs.Explain.{Explained, fine, because, ◌>>=◌, ◌>>◌, require_or, patches_read, patches_readable, no_findings, target_known, targets_known, next_number, step_kept, applies, explain_steps, over_declared, reason_of, withheld, given, under_cap}
@@ -45,9 +45,9 @@ use Rattle.session_lifecycle.specs.Meaning.{refusal_of}
 use Rattle.session_lifecycle.specs.declared.diagnostics.ShellRefusal.{ShellRefusal}
 use Rattle.session_gates.specs.Gates as gates
 use Rattle.session_gates.specs.Gates.{gate_of}
-use Rattle.session_gates.specs.GatesLaws.{operations_counted}
+use Rattle.session_gates.proofs.GatesLaws.{operations_counted}
 use Rattle.session_gates.specs.Lent.{Lent}
-use Rattle.session_gates.specs.LentLaws.{absent_is}
+use Rattle.session_gates.proofs.LentLaws.{absent_is}
 use Rattle.session_gates.specs.declared.gates.BatchGate.{BatchGate}
 use Rattle.session_gates.specs.declared.gates.BatchGate.TheVariants as gate
 use Rattle.session_explain.specs.Unknown.{unknown_to}

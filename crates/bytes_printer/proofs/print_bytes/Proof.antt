@@ -6,7 +6,7 @@ use lib.Seq.{take_all}
 use borrow.Author.Rules.{rules}
 use Rattle.bytes_printer.specs.declared.Printed.TheVariants.{Next}
 use Rattle.bytes_printer.specs.Prints.{Prints}
-use Rattle.bytes_printer.specs.PrintsLaws.{from_next, not_printed, none_printed, nothing_printed, keeps_length, ends_within, byte_turn, byte_full, prints_same}
+use Rattle.bytes_printer.proofs.PrintsLaws.{from_next, not_printed, none_printed, nothing_printed, keeps_length, ends_within, byte_turn, byte_full, prints_same}
 use Rattle.bytes_printer.proofs.print_bytes.Statement.{statement}
 use Rattle.bytes_printer.proofs.print_bytes.Tie as tie
 

@@ -3,7 +3,7 @@ use mathlib.Core.Path.{ap}
 use mir.Facts.{to_z-of_z}
 use borrow.Author.Rules.{rules}
 use Rattle.spec_decimal.specs.Decimal.{signed_decimal}
-use Rattle.bytes_printer.specs.PrintsLaws.{◌⨾◌, prints_same}
+use Rattle.bytes_printer.proofs.PrintsLaws.{◌⨾◌, prints_same}
 use Rattle.bytes_printer.proofs.print_field_i64.Statement.{statement}
 use Rattle.bytes_printer.proofs.print_field_i64.Tie as tie
 

@@ -1,6 +1,6 @@
 -- `bytes_printer::print_field_u64` meets its contract: a tab, and the field behind it.
 use borrow.Author.Rules.{rules}
-use Rattle.bytes_printer.specs.PrintsLaws.{◌⨾◌}
+use Rattle.bytes_printer.proofs.PrintsLaws.{◌⨾◌}
 use Rattle.bytes_printer.proofs.print_field_u64.Statement.{statement}
 use Rattle.bytes_printer.proofs.print_field_u64.Tie as tie
 

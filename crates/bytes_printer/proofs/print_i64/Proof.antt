@@ -4,8 +4,8 @@ use native.Mathlib.Omega.{arith}
 use lib.IntN.{ℤ, pos}
 use lib.Signed.{lt_z}
 use mir.Facts.{to_z-of_z}
-use Rattle.bytes_wire.specs.Complement.{Below, below, AtLeast, at_least}
-use Rattle.bytes_printer.specs.PrintsLaws.{◌⨾◌, prints_same}
+use Rattle.bytes_wire.proofs.Complement.{Below, below, AtLeast, at_least}
+use Rattle.bytes_printer.proofs.PrintsLaws.{◌⨾◌, prints_same}
 use Rattle.bytes_printer.proofs.Signs.{signed_below, signed_at_least}
 use borrow.Author.Rules.{rules}
 use Rattle.bytes_printer.proofs.print_i64.Statement.{statement}

@@ -2,7 +2,7 @@
 use native.Mathlib.Omega.{arith}
 use borrow.Author.Rules.{rules}
 use Rattle.bytes_decimal.specs.PrintLaws.{digits_long, digits_behind}
-use Rattle.bytes_printer.specs.PrintsLaws.{prints_same}
+use Rattle.bytes_printer.proofs.PrintsLaws.{prints_same}
 use Rattle.bytes_printer.proofs.print_u64.Statement.{statement}
 use Rattle.bytes_printer.proofs.print_u64.Tie as tie
 

@@ -3,7 +3,7 @@ use mathlib.Core.Path.{◌≡◌, sym, ap, ◌∙◌}
 use native.Mathlib.Omega.{arith}
 use lib.ListN.{length, drop}
 use borrow.Author.Rules.{rules}
-use Rattle.spec_lists.specs.ListLaws.{lent_from_lem}
+use Rattle.spec_lists.proofs.ListLaws.{lent_from_lem}
 use Rattle.bytes_utf8.specs.Characters.{character_length, Reached}
 use Rattle.bytes_utf8.proofs.Reached.{reached_character}
 use Rattle.bytes_utf8.proofs.wide_end.Given as goal

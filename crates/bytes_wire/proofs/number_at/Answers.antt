@@ -6,7 +6,7 @@ use native.Mathlib.Omega.{arith}
 use lib.ListN.{length, get_or, take, drop, length-drop}
 use lib.Seq.{slice_empty, slice-cons, length-slice, get_or-drop}
 use Rattle.spec_lists.specs.Bytes.{Bytes, number_of}
-use Rattle.spec_lists.specs.BytesLaws.{bytes_of, bytes_take, bytes_drop, number_of_lt}
+use Rattle.spec_lists.proofs.BytesLaws.{bytes_of, bytes_take, bytes_drop, number_of_lt}
 use Rattle.bytes_wire.proofs.number_at.Goals as goal
 use Rattle.bytes_wire.proofs.number_at.Goals.{In-loop-i}
 

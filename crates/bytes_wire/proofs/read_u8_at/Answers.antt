@@ -1,9 +1,9 @@
 -- `bytes_wire::read_u8_at` meets its contract: a number of 1 byte fits its type.
 use Prim.Native.Nat.{◌^◌, ◌<◌}
 use mathlib.Core.Path.{sym, ap, ◌∙◌}
-use Rattle.spec_lists.specs.BytesLaws.{bytes_of}
+use Rattle.spec_lists.proofs.BytesLaws.{bytes_of}
 use Rattle.bytes_wire.specs.Read.{number_u64}
-use Rattle.bytes_wire.specs.ReadLaws.{number_at, number_small}
+use Rattle.bytes_wire.proofs.ReadLaws.{number_at, number_small}
 use Rattle.bytes_wire.proofs.read_u8_at.Goals as goal
 use Rattle.bytes_wire.proofs.read_u8_at.Goals.{In-Read}
 

@@ -11,7 +11,7 @@ use lib.Dec.{eqb}
 use lib.ListN.{length, get_or, drop, length-drop, drop_of_length-le}
 use lib.Seq.{drop-cons}
 use Rattle.bytes_wire.specs.Prefix.{starts_with}
-use Rattle.bytes_wire.specs.PrefixLaws.{starts_cons, starts_empty, starts_short}
+use Rattle.bytes_wire.proofs.PrefixLaws.{starts_cons, starts_empty, starts_short}
 use Rattle.bytes_wire.proofs.starts_with.Goals as goal
 use Rattle.bytes_wire.proofs.starts_with.Goals.{then-part-at, else-part-at}
 

@@ -8,7 +8,7 @@ use native.Mathlib.Omega.{arith}
 use lib.ListN.{length, get_or, drop, length-set}
 use lib.Seq.{drop-cons, paste-zero}
 use Rattle.spec_lists.specs.Bytes.{little_endian}
-use Rattle.spec_lists.specs.BytesLaws.{length_little_endian}
+use Rattle.spec_lists.proofs.BytesLaws.{length_little_endian}
 use Rattle.bytes_wire.proofs.Paste.{paste_turn, paste_finished}
 use Rattle.bytes_wire.proofs.store_number.Goals as goal
 

@@ -6,7 +6,7 @@ use lib.IntN.{negsuc}
 use mir.Syntax.{w64}
 use mir.Val.{to_z}
 use mir.Facts.{to_z_pos}
-use Rattle.bytes_wire.specs.Complement.{flip, flip_pos}
+use Rattle.bytes_wire.proofs.Complement.{flip, flip_pos}
 use Rattle.bytes_wire.proofs.to_signed.Goals as goal
 use Rattle.bytes_wire.proofs.to_signed.Goals.{Else-x-lt9223372036854775808}
 

@@ -6,7 +6,7 @@ use lib.Signed.{lt_z}
 use mir.Syntax.{w64}
 use mir.Val.{of_z}
 use mir.Facts.{to_z-of_z}
-use Rattle.bytes_wire.specs.Complement.{Below, below, AtLeast, at_least}
+use Rattle.bytes_wire.proofs.Complement.{Below, below, AtLeast, at_least}
 use Rattle.bytes_wire.proofs.to_unsigned.Goals as goal
 use Rattle.bytes_wire.proofs.to_unsigned.Goals.{Else-z-lt0, Then-z-lt0}
 

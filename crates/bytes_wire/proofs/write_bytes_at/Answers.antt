@@ -2,7 +2,7 @@
 use mathlib.Core.Path.{refl, sym, ◌∙◌}
 use lib.ListN.{length}
 use Rattle.bytes_wire.specs.Write.{has_room}
-use Rattle.bytes_wire.specs.WriteLaws.{room_true, overwrite_refused}
+use Rattle.bytes_wire.proofs.WriteLaws.{room_true, overwrite_refused}
 use Rattle.bytes_wire.proofs.write_bytes_at.Goals as goal
 
 pub store_bytes-requires : goal.store_bytes-requires

@@ -1,9 +1,9 @@
 -- `bytes_wire::write_number_at` meets its contract: the bytes of x go in place where the test says that they fit, else nothing is written.
 use mathlib.Core.Path.{sym, ◌∙◌}
 use Rattle.spec_lists.specs.Bytes.{little_endian}
-use Rattle.spec_lists.specs.BytesLaws.{length_little_endian}
+use Rattle.spec_lists.proofs.BytesLaws.{length_little_endian}
 use Rattle.bytes_wire.specs.Write.{has_room}
-use Rattle.bytes_wire.specs.WriteLaws.{room_true, overwrite_refused}
+use Rattle.bytes_wire.proofs.WriteLaws.{room_true, overwrite_refused}
 use Rattle.bytes_wire.proofs.write_number_at.Goals as goal
 
 pub store_number-requires : goal.store_number-requires

@@ -3,7 +3,7 @@ use mathlib.Core.Path.{◌≡◌, refl, ap, ◌∙◌}
 use mathlib.Core.List.{[], ◌∷◌}
 use borrow.Author.Rules.{rules}
 use Rattle.spec_lists.specs.Bytes.{little_endian}
-use Rattle.spec_lists.specs.BytesLaws.{length_little_endian}
+use Rattle.spec_lists.proofs.BytesLaws.{length_little_endian}
 use Rattle.spec_patch.specs.Patch.{Availability, available, unavailable, hidden, pending, stale}
 use Rattle.spec_patch.specs.Encode.{u64, availability_byte}
 use Rattle.bytes_records.specs.MovesLaws.{length_zeros}

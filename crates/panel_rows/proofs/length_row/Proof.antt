@@ -1,6 +1,6 @@
 -- `length_row` meets its contract: one field behind another.
 use borrow.Author.Rules.{rules}
-use Rattle.spec_lists.specs.BytesLaws.{length_little_endian}
+use Rattle.spec_lists.proofs.BytesLaws.{length_little_endian}
 use Rattle.spec_patch.specs.Encode.{u64}
 use Rattle.bytes_records.specs.MovesLaws.{length_zeros}
 use Rattle.panel_rows.specs.Rows.{id_width, count_width, length_width, length_row}

@@ -6,12 +6,12 @@ use native.Mathlib.Omega.{arith}
 use borrow.Author.Rules.{rules}
 use lib.ListN.{length, take, drop}
 use Rattle.spec_lists.specs.Bytes.{Bytes}
-use Rattle.spec_lists.specs.BytesLaws.{bytes_of}
+use Rattle.spec_lists.proofs.BytesLaws.{bytes_of}
 use Rattle.spec_patch.specs.Edition.{Edition, edition_digit}
 use Rattle.spec_patch.specs.Read.{read_set}
 use Rattle.spec_conversion.specs.Conversion as model
 use Rattle.spec_conversion.specs.Conversion.{other_edition, all_kinds, convert}
-use Rattle.spec_conversion.specs.ConversionLaws.{heading_within}
+use Rattle.spec_conversion.proofs.ConversionLaws.{heading_within}
 use Rattle.bytes_wire.specs.Write.{overwrite}
 use Rattle.projection_patch.specs.Meaning.{edition_of}
 use Rattle.projection_patch.specs.ReadAnswers.{fault_of}

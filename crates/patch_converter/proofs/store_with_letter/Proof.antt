@@ -9,9 +9,9 @@ use lib.Seq.{length-take-le}
 use Rattle.spec_lists.specs.Bytes.{little_endian}
 use Rattle.spec_patch.specs.Edition.{edition_digit}
 use Rattle.bytes_wire.specs.Write.{overwrite}
-use Rattle.bytes_wire.specs.WriteLaws.{overwrite_append}
+use Rattle.bytes_wire.proofs.WriteLaws.{overwrite_append}
 use Rattle.projection_patch.specs.Meaning.{edition_of}
-use Rattle.spec_lists.specs.ListLaws.{lent_from_lem}
+use Rattle.spec_lists.proofs.ListLaws.{lent_from_lem}
 use Rattle.patch_converter.proofs.store_with_letter.Statement.{statement}
 use Rattle.patch_converter.proofs.store_with_letter.Tie as tie
 

@@ -6,7 +6,7 @@ use mathlib.Core.Option.{Option}
 use native.Mathlib.Omega.{arith}
 use lib.ListN.{length, drop}
 use Rattle.spec_lists.specs.Bytes.{Bytes}
-use Rattle.spec_lists.specs.BytesLaws.{bytes_of}
+use Rattle.spec_lists.proofs.BytesLaws.{bytes_of}
 use Rattle.spec_patch.specs.Reader.{Reader, pair}
 use Rattle.spec_patch.specs.Read.{read_u64, read_optional, to_envelope, read_envelope}
 use Rattle.projection_patch.specs.Widths.{two_ids, three_ids}

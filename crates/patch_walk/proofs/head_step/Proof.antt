@@ -3,7 +3,7 @@ use Prim.Native.Nat.{ℕ, ◌+◌, ◌≤◌, ◌<◌}
 use mathlib.Core.Path.{ap, ◌∙◌}
 use native.Mathlib.Omega.{arith}
 use lib.ListN.{length}
-use Rattle.spec_lists.specs.BytesLaws.{bytes_of}
+use Rattle.spec_lists.proofs.BytesLaws.{bytes_of}
 use Rattle.patch_walk.specs.Steps.{after_head}
 use Rattle.patch_walk.specs.declared.SetStep.TheVariants as set-step
 use Rattle.patch_walk.proofs.Reading.{no_head_past, head_read_is, head_refused_is, head_on}

@@ -2,7 +2,7 @@
 use Prim.Native.Nat.{◌+◌, ◌≤◌, ◌<◌}
 use native.Mathlib.Omega.{arith}
 use lib.ListN.{length}
-use Rattle.spec_lists.specs.BytesLaws.{bytes_of}
+use Rattle.spec_lists.proofs.BytesLaws.{bytes_of}
 use Rattle.projection_patch.specs.Meaning.{edition_of}
 use Rattle.patch_walk.proofs.Reading.{no_operation_past, operation_read_is, operation_refused_is, operation_on}
 use borrow.Author.Rules.{rules}

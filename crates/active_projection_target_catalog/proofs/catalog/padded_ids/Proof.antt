@@ -3,7 +3,7 @@ use mathlib.Core.Path.{◌≡◌, ap, ◌∙◌}
 use mathlib.Core.List.{◌++◌}
 use lib.ListN.{length, take, replicate, set, get_or}
 use Rattle.spec_patch.specs.Sizes.{anchors}
-use Rattle.active_projection_target_catalog.specs.CatalogLaws.{padded_turn, padded_short, padded_full}
+use Rattle.active_projection_target_catalog.proofs.CatalogLaws.{padded_turn, padded_short, padded_full}
 use borrow.Author.Rules.{rules}
 use Rattle.active_projection_target_catalog.proofs.catalog.padded_ids.Statement.{statement}
 use Rattle.active_projection_target_catalog.proofs.catalog.padded_ids.Tie as tie

@@ -5,9 +5,9 @@ use mathlib.Core.List.{flat_map}
 use lib.ListN.{length, take}
 use Rattle.spec_patch.specs.Sizes.{anchors}
 use Rattle.active_projection_target_catalog.specs.Catalog.{pair_numbers}
-use Rattle.active_projection_target_catalog.specs.CatalogLaws.{one_more_pair, all_pairs}
+use Rattle.active_projection_target_catalog.proofs.CatalogLaws.{one_more_pair, all_pairs}
 use borrow.Author.Rules.{rules}
-use Rattle.spec_lists.specs.ListLaws.{unmapped}
+use Rattle.spec_lists.proofs.ListLaws.{unmapped}
 use Rattle.active_projection_target_catalog.proofs.catalog.pair_numbers.Statement.{
   statement,
 }

@@ -2,7 +2,7 @@ use Prim.Native.Nat.{◌-◌, ◌≤◌}
 use mathlib.Core.Path.{◌≡◌, sym, ◌∙◌}
 use lib.ListN.{length, drop, length-drop}
 use Rattle.active_projection_target_catalog.specs.Catalog.{pair_seen}
-use Rattle.active_projection_target_catalog.specs.CatalogLaws.{pair_seen_here, pair_seen_on, pair_seen_end}
+use Rattle.active_projection_target_catalog.proofs.CatalogLaws.{pair_seen_here, pair_seen_on, pair_seen_end}
 use borrow.Author.Rules.{rules}
 use Rattle.active_projection_target_catalog.proofs.membership.contains_binding.Statement.{
   statement,

@@ -3,7 +3,7 @@ use mathlib.Core.Path.{◌≡◌, sym, ◌∙◌}
 use lib.Dec.{eqb}
 use lib.ListN.{length, drop}
 use Rattle.spec_lists.specs.Lists.{any}
-use Rattle.active_projection_target_catalog.specs.CatalogLaws.{anchor_here, anchor_on, anchor_end}
+use Rattle.active_projection_target_catalog.proofs.CatalogLaws.{anchor_here, anchor_on, anchor_end}
 use borrow.Author.Rules.{rules}
 use Rattle.active_projection_target_catalog.proofs.membership.contains_id.Statement.{
   statement,

@@ -4,7 +4,7 @@ use native.Mathlib.Omega.{arith}
 use lib.ListN.{length, drop}
 use borrow.Author.Rules.{rules}
 use Rattle.spec_lists.specs.Bytes.{Bytes, number_of}
-use Rattle.spec_lists.specs.BytesLaws.{bytes_of}
+use Rattle.spec_lists.proofs.BytesLaws.{bytes_of}
 use Rattle.bytes_records.proofs.Numbers.{number_start, number_turn, number_end, rest_small}
 use Rattle.bytes_records.proofs.keys.half_number.Given as goal
 

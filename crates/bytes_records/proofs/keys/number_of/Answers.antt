@@ -4,7 +4,7 @@ use native.Mathlib.Omega.{arith}
 use lib.ListN.{length-take}
 use borrow.Author.Rules.{rules}
 use Rattle.spec_lists.specs.Bytes.{Bytes}
-use Rattle.spec_lists.specs.BytesLaws.{bytes_of}
+use Rattle.spec_lists.proofs.BytesLaws.{bytes_of}
 use Rattle.bytes_records.proofs.Numbers.{number_halves, halves_fit}
 use Rattle.bytes_records.proofs.keys.number_of.Goals as goal
 use Rattle.bytes_records.proofs.keys.number_of.Goals.{After-half_number-3}

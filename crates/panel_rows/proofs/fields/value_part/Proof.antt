@@ -3,7 +3,7 @@ use mathlib.Core.Path.{sym}
 use native.Mathlib.Omega.{arith}
 use borrow.Author.Rules.{rules}
 use lib.ListN.{drop_of_length-le}
-use Rattle.spec_lists.specs.ListLaws.{lent_from_lem}
+use Rattle.spec_lists.proofs.ListLaws.{lent_from_lem}
 use Rattle.panel_rows.proofs.fields.value_part.Statement.{statement}
 use Rattle.panel_rows.proofs.fields.value_part.Tie as tie
 

@@ -7,7 +7,7 @@ use borrow.Author.Rules.{rules}
 use Rattle.projection_patch.specs.Widths.{tagged_bytes}
 use Rattle.patch_part_writer.proofs.Stored.{stored_first, next_number}
 use Rattle.spec_patch.specs.Encode.{u64}
-use Rattle.spec_lists.specs.BytesLaws.{length_little_endian}
+use Rattle.spec_lists.proofs.BytesLaws.{length_little_endian}
 use Rattle.patch_part_writer.proofs.fields.store_entry.Statement.{statement}
 use Rattle.patch_part_writer.proofs.fields.store_entry.Tie as tie
 

@@ -7,7 +7,7 @@ use borrow.Author.Rules.{rules}
 use lib.ListN.{length, length-append}
 use Rattle.bytes_wire.specs.Write.{overwrite}
 use Rattle.spec_patch.specs.Encode.{u64}
-use Rattle.spec_lists.specs.BytesLaws.{length_little_endian}
+use Rattle.spec_lists.proofs.BytesLaws.{length_little_endian}
 use Rattle.projection_patch.specs.Widths.{three_ids}
 use Rattle.patch_part_writer.proofs.Stored.{stored_first, next_number}
 use Rattle.patch_part_writer.proofs.head.store_behind_surface.Statement.{statement}

@@ -7,7 +7,7 @@ use borrow.Author.Rules.{rules}
 use lib.ListN.{length, length-append}
 use Rattle.bytes_wire.specs.Write.{overwrite}
 use Rattle.spec_patch.specs.Encode.{u32, u64, encode_optional, encode_envelope}
-use Rattle.spec_lists.specs.BytesLaws.{length_little_endian}
+use Rattle.spec_lists.proofs.BytesLaws.{length_little_endian}
 use Rattle.projection_patch.specs.Widths.{three_ids}
 use Rattle.projection_patch.specs.Meaning.{surface_of}
 use Rattle.patch_part_writer.specs.Extent.{surface_size}

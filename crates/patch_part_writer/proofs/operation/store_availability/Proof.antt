@@ -6,7 +6,7 @@ use native.Mathlib.Omega.{arith}
 use borrow.Author.Rules.{rules}
 use Rattle.bytes_wire.specs.Write.{overwrite}
 use Rattle.spec_patch.specs.Encode.{u64}
-use Rattle.spec_lists.specs.BytesLaws.{length_little_endian}
+use Rattle.spec_lists.proofs.BytesLaws.{length_little_endian}
 use Rattle.projection_patch.specs.Widths.{tagged_bytes}
 use Rattle.patch_part_writer.proofs.Stored.{stored_first, next, one_byte}
 use Rattle.patch_part_writer.proofs.operation.store_availability.Statement.{statement}

@@ -6,7 +6,7 @@ use native.Mathlib.Omega.{arith}
 use borrow.Author.Rules.{rules}
 use Rattle.bytes_wire.specs.Write.{overwrite}
 use Rattle.spec_patch.specs.Encode.{u32, u64, encode_value}
-use Rattle.spec_lists.specs.BytesLaws.{length_little_endian}
+use Rattle.spec_lists.proofs.BytesLaws.{length_little_endian}
 use Rattle.projection_patch.specs.Widths.{tagged_bytes}
 use Rattle.projection_patch.specs.Meaning.{value_of}
 use Rattle.patch_part_writer.specs.Extent.{value_size}

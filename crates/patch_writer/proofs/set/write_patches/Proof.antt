@@ -4,7 +4,7 @@ use mathlib.Core.Path.{◌∙◌}
 use mathlib.Core.List.{flat_map}
 use native.Mathlib.Omega.{arith}
 use borrow.Author.Rules.{rules}
-use Rattle.spec_lists.specs.ListLaws.{unmapped}
+use Rattle.spec_lists.proofs.ListLaws.{unmapped}
 use lib.ListN.{length}
 use Rattle.spec_patch.specs.Sizes.{set_patches}
 use Rattle.spec_patch.specs.Encode.{encode_patch}

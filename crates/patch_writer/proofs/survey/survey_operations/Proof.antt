@@ -4,7 +4,7 @@ use mathlib.Core.Path.{◌≡◌, sym, ap, subst, ◌∙◌}
 use mathlib.Core.List.{List}
 use native.Mathlib.Omega.{arith}
 use borrow.Author.Rules.{rules}
-use Rattle.spec_lists.specs.ListLaws.{unmapped}
+use Rattle.spec_lists.proofs.ListLaws.{unmapped}
 use lib.ListN.{length, get_or, take}
 use Rattle.spec_patch.specs.Sizes.{text_bytes}
 use Rattle.spec_patch.specs.Edition.{Edition}

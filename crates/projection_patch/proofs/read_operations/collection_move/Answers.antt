@@ -4,7 +4,7 @@ use mathlib.Core.Path.{sym, ap}
 use mathlib.Core.List.{List}
 use lib.ListN.{length}
 use Rattle.spec_lists.specs.Bytes.{Bytes}
-use Rattle.spec_lists.specs.BytesLaws.{bytes_of}
+use Rattle.spec_lists.proofs.BytesLaws.{bytes_of}
 use Rattle.projection_patch.specs.Widths.{past_key}
 use Rattle.projection_patch.specs.ReadAnswers.{operation_answer}
 use Rattle.spec_patch.specs.Read.{read_optional, to_move, operation_after}
