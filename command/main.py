@@ -10,10 +10,9 @@ from sheet.rules import Rules
 from .asking import SET_BYTES, Panel, Refused, line, set_field
 from .explaining import explained
 from .paper import printed
-from .proving import prove
+from .proving import built_program, prove
 from .terms import imported
 
-PROGRAMS = Path(__file__).resolve().parent.parent / "target" / "bin"
 LISTINGS = {1: "listing", 2: "listing_v2"}
 DONE, REFUSED, BAD = 0, 1, 2
 LAST_U64 = 2**64 - 1
@@ -83,9 +82,9 @@ def main(arguments, program=None, data=None):
 
 def built(name):
     """The proved program; on first use it is proved and built."""
-    path = PROGRAMS / name
+    path = built_program(name)
     if not path.exists() and not prove(name):
-        raise ProgramFault("without target/bin/%s there is no answer" % name)
+        raise ProgramFault("without crates/%s/out/%s there is no answer" % (name, name))
     return [str(path)]
 
 

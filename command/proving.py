@@ -1,5 +1,6 @@
 """The first use of a program or of the library: it is proved and built by rt, and one line tells how far that is."""
 
+import re
 import shutil
 import subprocess
 import sys
@@ -8,6 +9,13 @@ from pathlib import Path
 
 ROOT = Path(__file__).resolve().parent.parent
 STEP_SECONDS = 0.5
+# rt says of a crate that it begins, how many of its functions are checked, and of each whether it is proved
+BEGUN = re.compile(r"^(?:rt: chose --jobs \d+ for|checked|fn) (\w+)", re.M)
+
+
+def built_program(name, root=ROOT):
+    """Where rt leaves a program that it proved and built."""
+    return root / "crates" / name / "out" / name
 
 
 def reached(program, root=ROOT):
@@ -31,7 +39,7 @@ def minutes(seconds):
 
 
 class Progress:
-    """What rt has begun and ended since a moment, by the files in which it keeps its verdicts."""
+    """The crates that rt has begun since a moment, by what it says of them in its log. It says nothing of what was proved before."""
 
     def __init__(self, crates, log, since):
         self.crates = crates
@@ -40,15 +48,9 @@ class Progress:
 
     def at(self):
         """How many crates were begun, and the one begun last."""
-        begun = []
-        for crate in self.crates:
-            try:
-                stat = (self.log / (crate + ".res")).stat()
-            except OSError:
-                continue
-            if stat.st_mtime >= self.since:
-                begun.append((stat.st_mtime, crate))
-        return len(begun), max(begun)[1] if begun else ""
+        told = self.log.read_text(encoding="utf-8", errors="replace")
+        begun = [crate for crate in BEGUN.findall(told) if crate in self.crates]
+        return len(set(begun)), begun[-1] if begun else ""
 
 
 def tell(out, words, rewritten):
@@ -73,20 +75,22 @@ def watch(process, progress, out):
         tell(out, "", True)
 
 
-def prove(program, verb="check", root=ROOT, out=sys.stderr):
-    """Whether the program stands in target/bin afterwards, or with the verb staticlib the library in target/staticlib."""
+def prove(program, verb="run", root=ROOT, out=sys.stderr):
+    """Whether the program stands in its crate's folder out/ afterwards, or with the verb lib the static library."""
     if not shutil.which("rt"):
         print("geysertray: %s is not built yet, and to prove and build it the tool rt must be on the path" % program, file=out)
         return False
-    (root / "target").mkdir(exist_ok=True)
-    log = root / "target" / "first-use.log"
-    print("geysertray: %s is proved and built, with all that it rests on" % ("the library" if verb == "staticlib" else "first use: " + program), file=out)
+    crate = root / "crates" / program
+    (crate / "out").mkdir(exist_ok=True)
+    log = crate / "out" / "first-use.log"
+    print("geysertray: %s is proved and built, with all that it rests on" % ("the library" if verb == "lib" else "first use: " + program), file=out)
     since = time.time()
     with open(log, "wb") as file:
-        process = subprocess.Popen(["rt", verb, program], cwd=root, stdin=subprocess.DEVNULL, stdout=file, stderr=subprocess.STDOUT)
-        watch(process, Progress(reached(program, root), root / "target" / "log", since), out)
+        # rt run also runs the program, here on no input
+        process = subprocess.Popen(["rt", verb], cwd=crate, stdin=subprocess.DEVNULL, stdout=file, stderr=subprocess.STDOUT)
+        watch(process, Progress(reached(program, root), log, since), out)
     if process.returncode:
-        print("geysertray: %s was not built; the whole log is target/first-use.log" % program, file=out)
+        print("geysertray: %s was not built; the whole log is %s" % (program, log.relative_to(root)), file=out)
         return False
     print("geysertray: %s is proved (%s)" % (program, minutes(time.time() - since)), file=out)
     return True

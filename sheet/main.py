@@ -18,7 +18,7 @@ from .trial import Trial, unread_sets
 from .unscript import commented, unscript
 from .words import SheetErrors
 
-REPLAY = Path(__file__).resolve().parent.parent / "target" / "bin" / "replay"
+REPLAY = Path(__file__).resolve().parent.parent / "crates" / "replay" / "out" / "replay"
 MET, UNMET, BAD = 0, 1, 2
 
 

@@ -250,6 +250,7 @@ class File:
         self.imports = []
         self.head = []
         self.local_goal = {}
+        self.turned_test = False
         self.place_functions = {}
         self.place_lemmas = {}
 
@@ -328,7 +329,7 @@ class File:
         for local, new in self.local_goal.items():
             if local != goal:
                 body = re.sub(rf"(?<![\w.'-]){re.escape(local)}(?![\w'-])", lambda m: new, body)
-        body = re.sub(r"\(?(?<![\w.'-])not-(?:true|false)\s+(?:_|c[^\s()]*)\s+(c(?:\.before)*\.if[^\s()]*)\)?", lambda m: m[1] if m[0].startswith("(") == m[0].endswith(")") else m[0], body)
+        body = re.sub(r"\(?(?<![\w.'-])not-XX(?:true|false)\s+(?:_|c[^\s()]*)\s+(c(?:\.before)*\.if[^\s()]*)\)?", lambda m: m[1] if m[0].startswith("(") == m[0].endswith(")") else m[0], body)
         # aliases: let v = PATH in
         alias = re.compile(rf"let\s+({NAME})\s*=\s*({NAME}(?:\.{NAME})*)\s+in\s*")
         out = ""
@@ -363,6 +364,9 @@ class File:
                 return m[0]
             i, out = found
             if out is not None:
+                if len(out) > 1 and out[0].startswith("if-not-") and out[1] in ("true", "false") and not out[2:]:
+                    self.turned_test = True
+                    return "(ap not " + ".".join([var] + out) + ")"
                 return ".".join([var] + out)
             if i == place:
                 return var
@@ -572,6 +576,8 @@ def convert(crate, folder, function, text):
         elif re.search(r"-requires(-|$)", new) and f.callee[place]:
             names = []
         turned = by_clause(file.turn(file.place_types(body), env, new), names)
+        # what a test of `!x` says is said of `x` now
+        turned = re.sub(r"(?<![\w.'-])not[-_](?:true|false)\s+(?:_|c[^\s()]*)\s+\(ap not (c[^\s()]*)\)", r"\1", turned)
         answers[new] = (note, unfold, " ".join(head_vars), turned)
 
     args = spec_args(spec)
@@ -642,6 +648,8 @@ def convert(crate, folder, function, text):
         inv_out.append(f"abbrev pub {kind}-{new} : goal.{kind}-{new}\n{kind}-{new} l ={body.rstrip()}")
     module = f"Rattle.{name}.proofs.{base}"
     written = {}
+    if file.turned_test:
+        uses += ["use mathlib.Core.Path.{ap}", "use mathlib.Core.Bool.{not}"]
     uses_text = "\n".join(uses)
     # helper definitions that the invariants name go with them
     moved_names = set()

@@ -1,7 +1,6 @@
-"""How far a first use is, by the files that rt writes."""
+"""How far a first use is, by what rt says of it."""
 
 import io
-import os
 import tempfile
 import unittest
 from pathlib import Path
@@ -16,16 +15,17 @@ class ProvingTest(unittest.TestCase):
         self.root = Path(self.folder.name)
 
     def test_what_a_program_rests_on(self):
-        (self.root / "crates.txt").write_text("# a table\nlow:\nmid: low  # behind\nother:\ntop: mid io libc\n", encoding="utf-8")
+        (self.root / "crates.txt").write_text("# a table\nlow:\nmid: low  # behind\nother:\ntop: mid anyhow\n", encoding="utf-8")
         self.assertEqual(sorted(reached("top", self.root)), ["low", "mid", "top"])
 
     def test_what_was_begun(self):
-        for name, when in (("old", 5), ("one", 11), ("two", 12), ("stranger", 13)):
-            path = self.root / (name + ".res")
-            path.write_text("proved\n", encoding="utf-8")
-            os.utime(path, (when, when))
-        self.assertEqual(Progress(["old", "one", "two", "three"], self.root, 10).at(), (2, "two"))
-        self.assertEqual(Progress(["three"], self.root, 10).at(), (0, ""))
+        log = self.root / "first-use.log"
+        log.write_text("rt: chose --jobs 2 for one\nchecked one::f, 1 of 2\nfn one::f: proved\nfn one::g: proved\nlogic=proved functions=2\n", encoding="utf-8")
+        self.assertEqual(Progress(["old", "one", "two"], log, 10).at(), (1, "one"))
+        with open(log, "a", encoding="utf-8") as file:
+            file.write("fn two::part::f: proved\nrt: chose --jobs 2 for stranger\n")
+        self.assertEqual(Progress(["old", "one", "two"], log, 10).at(), (2, "two"))
+        self.assertEqual(Progress(["three"], log, 10).at(), (0, ""))
 
     def test_one_line_is_rewritten(self):
         out = io.StringIO()

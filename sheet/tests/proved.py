@@ -1,4 +1,4 @@
-"""The sheet over the proved replay: python3 -m unittest sheet.tests.proved, when target/bin/replay is built. A minute.
+"""The sheet over the proved replay: python3 -m unittest sheet.tests.proved, when crates/replay/out/replay is built. A minute.
 
 Every case of the kit is turned into a sheet with its recorded answers as expectations, and all of them must be met.
 """

@@ -26,7 +26,10 @@ ghost use Rattle.std.specs.Prelude.{◌+◌, ◌≤◌, length};
 
 use bytes_decimal::ReadU64;
 use bytes_wire::ReadU32;
-use libc::{STDIN_FILENO, STDOUT_FILENO};
+use std::io;
+
+// The most bytes of the input.
+const INPUT_BYTES: usize = 65536;
 
 // The length of the set that the data begins with, or 0 where it does not fit.
 fn set_length(rest: &[u8]) -> usize
@@ -111,9 +114,8 @@ fn run(input: &mut [u8]) -> u64 {
     }
 }
 
-fn main() {
-    let mut input = io::large_buffer();
-    let n = io::read_full(STDIN_FILENO, &mut input);
-    io::print_decimal(STDOUT_FILENO, run(&mut input[..n]));
-    io::write_all(STDOUT_FILENO, b"\n");
+fn main(rt: HostRuntime) -> io::Result<()> {
+    let mut input = [0u8; INPUT_BYTES];
+    let n = full_reads::read_full(&mut rt.reader(), &mut input)?;
+    rt.println(run(&mut input[..n]))
 }

@@ -14,7 +14,7 @@ use session_steps::answers::{
 use shell_player::session::ShellSession;
 
 // How many patches and operations a set has.
-#[derive(Drop)]
+#[derive(Clone, Copy)]
 pub(crate) struct SetCounts {
     pub(crate) patches: u64,
     pub(crate) operations: u64,

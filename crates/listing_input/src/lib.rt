@@ -1,25 +1,25 @@
 // The listing of the set that stands on standard input: what both listing programs do, each in its edition.
 #![tactic(auto)]
 
-ghost use Rattle.std.specs.Prelude.{◌≤◌};
+ghost use Rattle.std.specs.Prelude.{◌≤◌, IfOk};
 ghost use Rattle.listing_lines.specs.ListingBytes.{listing_bytes};
 
-use libc::STDOUT_FILENO;
 use listing_lines::tables::LISTING_BYTES;
 use patch_part_writer::written::Written;
 use projection_patch::patch::{ProjectionPatchEdition, ProjectionPatchSet};
+use std::io;
 
 // Reads a set of the edition, prints its listing, and answers how many bytes that has.
-pub fn list_input(edition: ProjectionPatchEdition) -> usize
-    ensures { result ≤ listing_bytes }
+pub fn list_input<R: Input + Print>(rt: &R, edition: ProjectionPatchEdition) -> io::Result<usize>
+    ensures { IfOk result (λ len. len ≤ listing_bytes) }
 {
     // One byte more than a set may have is enough to tell that there are too many.
     let mut input = [0u8; ProjectionPatchSet::BYTES + 1];
-    let n = io::read_full(0, &mut input);
+    let n = full_reads::read_full(&mut rt.reader(), &mut input)?;
     let mut lines = [0u8; LISTING_BYTES];
     if let Written::Wrote(len) = listing_panel::write_listing(&input[0..n], edition, &mut lines) {
-        io::write_all(STDOUT_FILENO, &lines[0..len]);
-        return len;
+        rt.write_all(&lines[0..len])?;
+        return Ok(len);
     }
-    0
+    Ok(0)
 }

@@ -2,7 +2,9 @@
 #![tactic(auto)]
 
 use projection_patch::patch::ProjectionPatchEdition;
+use std::io;
 
-fn main() {
-    listing_input::list_input(ProjectionPatchEdition::V2);
+fn main(rt: HostRuntime) -> io::Result<()> {
+    listing_input::list_input(&rt, ProjectionPatchEdition::V2)?;
+    Ok(())
 }

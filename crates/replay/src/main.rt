@@ -1,13 +1,14 @@
 // Answers a replay script from standard input, line by line: docs/DECISIONS.md, 'Replay'.
 #![tactic(auto)]
 
-ghost use Rattle.std.specs.Prelude.{◌≤◌, ◌<◌, length};
+ghost use Rattle.std.specs.Prelude.{◌≤◌, ◌<◌, length, IfOk};
 
 use bytes_printer::Printed;
-use libc::{STDIN_FILENO, STDOUT_FILENO};
 use script_calls::state::ReplayState;
 use script_parser::ScriptCommand;
 use script_replay::ANSWER_BYTES;
+use std::io;
+use std::io::Read;
 
 // Room for a line of the greatest length, and as much again to read into.
 const INPUT_BYTES: usize = 262144;
@@ -44,15 +45,15 @@ fn end_of_answer(printed: Printed, used: usize, len: usize) -> usize
 }
 
 // Writes the answers where there is not room for one more, and answers how many bytes are still used.
-fn write_if_full(out: &[u8], used: usize) -> usize
+fn write_if_full(rt: &impl Print, out: &[u8], used: usize) -> io::Result<usize>
     requires { used ≤ length out.now }
-    ensures { result ≤ length out.now }
+    ensures { IfOk result (λ left. left ≤ length out.now) }
 {
     if ANSWER_BYTES <= out.len() - used {
-        return used;
+        return Ok(used);
     }
-    io::write_all(STDOUT_FILENO, &out[0..used]);
-    0
+    rt.write_all(&out[0..used])?;
+    Ok(0)
 }
 
 // The number of the line behind one.
@@ -61,9 +62,16 @@ fn next_number(number: u64) -> u64 {
 }
 
 // Runs the lines that an LF ends, and writes their answers. Before index seen there is no LF.
-fn run_lines(before: ReplayState, first: u64, input: &[u8], seen: usize, out: &mut [u8]) -> Progress
+fn run_lines(
+    rt: &impl Print,
+    before: ReplayState,
+    first: u64,
+    input: &[u8],
+    seen: usize,
+    out: &mut [u8],
+) -> io::Result<Progress>
     requires { seen ≤ length input.now }
-    ensures { result.start ≤ length input.now }
+    ensures { IfOk result (λ after. after.start ≤ length input.now) }
 {
     let mut state = before;
     let mut number = first;
@@ -79,39 +87,37 @@ fn run_lines(before: ReplayState, first: u64, input: &[u8], seen: usize, out: &m
         used = end_of_answer(printed, used, out.len());
         start = next;
         if step.stopped {
-            io::write_all(STDOUT_FILENO, &out[0..used]);
-            return Progress {
+            rt.write_all(&out[0..used])?;
+            return Ok(Progress {
                 state,
                 number,
                 start,
                 stopped: true,
-            };
+            });
         }
-        used = write_if_full(out, used);
+        used = write_if_full(rt, out, used)?;
         number = next_number(number);
         end = script_reader::line_end(input, start);
     }
-    io::write_all(STDOUT_FILENO, &out[0..used]);
-    Progress {
+    rt.write_all(&out[0..used])?;
+    Ok(Progress {
         state,
         number,
         start,
         stopped: false,
-    }
+    })
 }
 
 // Reads behind the bytes that are kept, and answers where the bytes end then. A line that is too long is not read on.
-fn read_behind(input: &mut [u8], kept: usize) -> usize
+fn read_behind<R: Read>(reader: &mut R, input: &mut [u8], kept: usize) -> io::Result<usize>
     requires { kept ≤ length input.old }
-    ensures { (kept ≤ result) × (result ≤ length input.new) }
+    ensures { IfOk result (λ end. (kept ≤ end) × (end ≤ length input.new)) }
 {
     if ScriptCommand::LINE_BYTES < kept {
-        return kept;
+        return Ok(kept);
     }
-    let room = &mut input[kept..];
-    let got = libc::read(STDIN_FILENO, room);
-    let count = io::count(got, room);
-    kept + count
+    let count = reader.read(&mut input[kept..])?;
+    Ok(kept + count)
 }
 
 // Moves the bytes from start to end to the front, and answers how many these are.
@@ -124,41 +130,40 @@ fn keep(input: &mut [u8], start: usize, end: usize) -> usize
 }
 
 // The answer to the bytes that are left, if there are any: no LF ends them, or they are too many for a line.
-fn print_rest(number: u64, kept: usize) {
+fn print_rest(rt: &impl Print, number: u64, kept: usize) -> io::Result<()> {
     if kept == 0 {
-        return;
+        return Ok(());
     }
     let mut out = [0u8; 32];
     let start = Printed::Next(0);
     let printed = script_answers::session::print_other(&mut out, start, number);
     let end = end_of_answer(printed, 0, 32);
-    io::write_all(STDOUT_FILENO, &out[0..end]);
+    rt.write_all(&out[0..end])
 }
 
-fn replay(input: &mut [u8], out: &mut [u8]) {
+fn replay(rt: &(impl Input + Print), input: &mut [u8], out: &mut [u8]) -> io::Result<()> {
+    let mut reader = rt.reader();
     let mut state = script_replay::start();
     let mut number = 1;
     let mut kept = 0;
-    let mut reads = BUDGET;
-    while 0 < reads {
-        let end = read_behind(input, kept);
+    for _ in 0..BUDGET {
+        let end = read_behind(&mut reader, input, kept)?;
         if end == kept {
-            print_rest(number, kept);
-            return;
+            return print_rest(rt, number, kept);
         }
-        let after = run_lines(state, number, &input[0..end], kept, out);
+        let after = run_lines(rt, state, number, &input[0..end], kept, out)?;
         if after.stopped {
-            return;
+            return Ok(());
         }
         state = after.state;
         number = after.number;
         kept = keep(input, after.start, end);
-        reads -= 1;
     }
+    Ok(())
 }
 
-fn main() {
+fn main(rt: HostRuntime) -> io::Result<()> {
     let mut input = [0u8; INPUT_BYTES];
     let mut out = [0u8; OUTPUT_BYTES];
-    replay(&mut input, &mut out);
+    replay(&rt, &mut input, &mut out)
 }

@@ -2,17 +2,23 @@
 // each case that an index names.
 #![tactic(auto)]
 
-ghost use Rattle.std.specs.Prelude.{◌-◌, ◌≤◌, length};
+ghost use Rattle.std.specs.Prelude.{◌-◌, ◌≤◌, length, IfOk};
 
 use bytes_printer::Printed;
-use libc::STDOUT_FILENO;
 use script_calls::state::{ReplayState, ReplayStep};
 use script_replay::ANSWER_BYTES;
+use std::rt::Files;
+use std::{fs, io, str};
 
 // Every script, and every file of answers, is shorter.
 const SCRIPT_BYTES: usize = 1048576;
 
 const ANSWERS_BYTES: usize = 262144;
+
+// Room for both indexes, each by itself.
+const INDEX_BYTES: usize = 65536;
+
+const PATH_BYTES: usize = 4096;
 
 // A file that is missing, or fills its buffer, was not read.
 #[derive(Drop)]
@@ -42,23 +48,31 @@ fn join(path: &mut [u8], name: &[u8], ending: &[u8]) -> usize
     name.len() + ending.len()
 }
 
-fn read_file(name: &[u8], ending: &[u8], bytes: &mut [u8]) -> FileRead
+// Reads the file at a path, as far as there is room, and answers how many bytes that are.
+fn read_path(rt: &impl Files, path: &[u8], bytes: &mut [u8]) -> io::Result<usize>
+    ensures { IfOk result (λ count. count ≤ length bytes.new) }
+{
+    let Ok(path) = str::from_utf8(path) else {
+        return Err(io::Error::from(io::ErrorKind::InvalidInput));
+    };
+    let mut file = fs::open(rt, path)?;
+    full_reads::read_full(&mut file, bytes)
+}
+
+fn read_file(rt: &impl Files, name: &[u8], ending: &[u8], bytes: &mut [u8]) -> FileRead
     ensures { result.count ≤ length bytes.new }
 {
-    let mut path = io::buffer();
+    let mut path = [0u8; PATH_BYTES];
     let len = join(&mut path, name, ending);
-    let file = os::open_read(&path[0..len]);
-    if file < 0 {
-        return FileRead {
+    match read_path(rt, &path[0..len], bytes) {
+        Ok(count) => FileRead {
+            is_read: count < bytes.len(),
+            count,
+        },
+        Err(_) => FileRead {
             is_read: false,
             count: 0,
-        };
-    }
-    let count = io::read_full(file, bytes);
-    libc::close(file);
-    FileRead {
-        is_read: count < bytes.len(),
-        count,
+        },
     }
 }
 
@@ -139,9 +153,15 @@ fn is_answered(script: &[u8], answers: &[u8], out: &mut [u8]) -> bool {
     done == answers.len()
 }
 
-fn passes(name: &[u8], script: &mut [u8], answers: &mut [u8], out: &mut [u8]) -> bool {
-    let told = read_file(name, b".script", script);
-    let expected = read_file(name, b".answers", answers);
+fn passes(
+    rt: &impl Files,
+    name: &[u8],
+    script: &mut [u8],
+    answers: &mut [u8],
+    out: &mut [u8],
+) -> bool {
+    let told = read_file(rt, name, b".script", script);
+    let expected = read_file(rt, name, b".answers", answers);
     let script_len = told.count;
     let answers_len = expected.count;
     if told.is_read && expected.is_read {
@@ -150,56 +170,60 @@ fn passes(name: &[u8], script: &mut [u8], answers: &mut [u8], out: &mut [u8]) ->
     false
 }
 
-fn print_case(name: &[u8], is_passed: bool) {
-    io::write_all(STDOUT_FILENO, name);
-    if is_passed {
-        io::write_all(STDOUT_FILENO, b" ok\n");
-    } else {
-        io::write_all(STDOUT_FILENO, b" differs\n");
-    }
+fn print_case(rt: &impl Print, name: &[u8], is_passed: bool) -> io::Result<()> {
+    rt.write_all(name)?;
+    rt.println(if is_passed { " ok" } else { " differs" })
 }
 
-fn print_numbers(cases: u64, differing: u64) {
-    io::print_decimal(STDOUT_FILENO, cases);
-    io::write_all(STDOUT_FILENO, b" cases, ");
-    io::print_decimal(STDOUT_FILENO, differing);
-    io::write_all(STDOUT_FILENO, b" differ\n");
+fn print_numbers(rt: &impl Print, cases: u64, differing: u64) -> io::Result<()> {
+    println!(rt; "{cases} cases, {differing} differ")
 }
 
 // Runs each case whose name is a line of the index.
-fn run_cases(index: &[u8], script: &mut [u8], answers: &mut [u8], out: &mut [u8]) {
+fn run_cases(
+    rt: &(impl Files + Print),
+    index: &[u8],
+    script: &mut [u8],
+    answers: &mut [u8],
+    out: &mut [u8],
+) -> io::Result<()> {
     let mut cases: u64 = 0;
     let mut differing: u64 = 0;
     let mut start = 0;
     while start < index.len() {
         let end = script_reader::line_end(index, start);
         let name = &index[start..end];
-        let is_passed = passes(name, script, answers, out);
-        print_case(name, is_passed);
+        let is_passed = passes(rt, name, script, answers, out);
+        print_case(rt, name, is_passed)?;
         cases = one_more(cases);
         if !is_passed {
             differing = one_more(differing);
         }
         start = next_start(index, end);
     }
-    print_numbers(cases, differing);
+    print_numbers(rt, cases, differing)
 }
 
-fn run_index(name: &[u8], script: &mut [u8], answers: &mut [u8]) {
-    let mut index = io::large_buffer();
+fn run_index(
+    rt: &(impl Files + Print),
+    name: &[u8],
+    script: &mut [u8],
+    answers: &mut [u8],
+) -> io::Result<()> {
+    let mut index = [0u8; INDEX_BYTES];
     let mut out = [0u8; ANSWER_BYTES];
-    let names = read_file(name, b"", &mut index);
+    let names = read_file(rt, name, b"", &mut index);
     let len = names.count;
-    run_cases(&index[0..len], script, answers, &mut out);
+    run_cases(rt, &index[0..len], script, answers, &mut out)
 }
 
-fn run_both(script: &mut [u8], answers: &mut [u8]) {
-    run_index(b"index", script, answers);
-    run_index(b"rust_index", script, answers);
+fn run_both(rt: &(impl Files + Print), script: &mut [u8], answers: &mut [u8]) -> io::Result<()> {
+    run_index(rt, b"index", script, answers)?;
+    run_index(rt, b"rust_index", script, answers)
 }
 
-fn main() {
+fn main(rt: HostRuntime) -> io::Result<()> {
     let mut script = [0u8; SCRIPT_BYTES];
     let mut answers = [0u8; ANSWERS_BYTES];
-    run_both(&mut script, &mut answers);
+    run_both(&rt, &mut script, &mut answers)
 }

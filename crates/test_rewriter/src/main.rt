@@ -8,10 +8,10 @@ ghost use Rattle.std.specs.Prelude.{◌-◌, ◌≤◌, length};
 mod lists;
 
 use bytes_hex::Decoded;
-use libc::{STDIN_FILENO, STDOUT_FILENO};
 use patch_part_writer::written::Written;
 use patch_writer::set::write_patch_set;
 use projection_patch::patch::{ProjectionPatchEdition, ProjectionPatchSet};
+use std::io;
 
 // Lines are read at once, as many as there are in so many bytes.
 const INPUT_BYTES: usize = 1048576;
@@ -28,12 +28,12 @@ fn digit(value: u8) -> u8 {
 }
 
 // Prints bytes in hex, and the line's end.
-fn print_line(bytes: &[u8]) {
+fn print_line(rt: &impl Print, bytes: &[u8]) -> io::Result<()> {
     let mut line = [10u8; LINE_BYTES];
     let mut i = 0;
     while i < bytes.len() {
         if ProjectionPatchSet::BYTES <= i {
-            return;
+            return Ok(());
         }
         let byte = bytes[i];
         line[2 * i] = digit(byte / 16);
@@ -41,44 +41,43 @@ fn print_line(bytes: &[u8]) {
         i += 1;
     }
     let end = 2 * i + 1;
-    io::write_all(STDOUT_FILENO, &line[0..end]);
+    rt.write_all(&line[0..end])
 }
 
 // Writes the list of a set that is read in the edition, and prints what was written; false where there is none.
-fn rewrite_in(set: &[u8], edition: ProjectionPatchEdition) -> bool {
+fn rewrite_in(rt: &impl Print, set: &[u8], edition: ProjectionPatchEdition) -> io::Result<bool> {
     let read = lists::list_of(set, edition);
     let mut out = [0u8; ProjectionPatchSet::BYTES];
     if read.is_read {
         let list = read.list;
         if let Written::Wrote(n) = write_patch_set(list, set, edition, &mut out) {
             if n <= ProjectionPatchSet::BYTES {
-                print_line(&out[0..n]);
-                return true;
+                print_line(rt, &out[0..n])?;
+                return Ok(true);
             }
         }
     }
-    false
+    Ok(false)
 }
 
-fn rewrite(set: &[u8]) {
-    if rewrite_in(set, ProjectionPatchEdition::V1) {
-        return;
+fn rewrite(rt: &impl Print, set: &[u8]) -> io::Result<()> {
+    if rewrite_in(rt, set, ProjectionPatchEdition::V1)? {
+        return Ok(());
     }
-    if rewrite_in(set, ProjectionPatchEdition::V2) {
-        return;
+    if rewrite_in(rt, set, ProjectionPatchEdition::V2)? {
+        return Ok(());
     }
-    io::write_all(STDOUT_FILENO, b"?\n");
+    rt.println("?")
 }
 
-fn rewrite_line(line: &[u8]) {
+fn rewrite_line(rt: &impl Print, line: &[u8]) -> io::Result<()> {
     let mut set = [0u8; ProjectionPatchSet::BYTES];
     if let Decoded::Bytes(n) = bytes_hex::decode_hex(line, &mut set) {
         if n <= ProjectionPatchSet::BYTES {
-            rewrite(&set[0..n]);
-            return;
+            return rewrite(rt, &set[0..n]);
         }
     }
-    io::write_all(STDOUT_FILENO, b"?\n");
+    rt.println("?")
 }
 
 // Where the line behind the one that ends at an index starts.
@@ -89,21 +88,22 @@ fn next_start(bytes: &[u8], end: usize) -> usize
     if end < bytes.len() { end + 1 } else { end }
 }
 
-fn rewrite_lines(input: &[u8]) {
+fn rewrite_lines(rt: &impl Print, input: &[u8]) -> io::Result<()> {
     let mut start = 0;
     while start < input.len() {
         let end = script_reader::line_end(input, start);
-        rewrite_line(&input[start..end]);
+        rewrite_line(rt, &input[start..end])?;
         start = next_start(input, end);
     }
+    Ok(())
 }
 
-fn run(input: &mut [u8]) {
-    let n = io::read_full(STDIN_FILENO, input);
-    rewrite_lines(&input[0..n]);
+fn run(rt: &(impl Input + Print), input: &mut [u8]) -> io::Result<()> {
+    let n = full_reads::read_full(&mut rt.reader(), input)?;
+    rewrite_lines(rt, &input[0..n])
 }
 
-fn main() {
+fn main(rt: HostRuntime) -> io::Result<()> {
     let mut input = [0u8; INPUT_BYTES];
-    run(&mut input);
+    run(&rt, &mut input)
 }

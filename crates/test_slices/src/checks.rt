@@ -4,82 +4,69 @@ use check_quick::quick_set;
 use check_quick::quick_set::QuickCheck;
 use check_set::check_set as set_check;
 use check_set::check_set::{CheckPlace, PatchSetCheck};
-use libc::STDOUT_FILENO;
 use projection_patch::patch::ProjectionPatchEdition;
+use std::io;
 
 // The longest slice that is lent.
 const NUMBERS: usize = check_set::list_set::FindingsListed::NUMBERS;
 
-fn show(number: u64) {
-    io::print_decimal(STDOUT_FILENO, number);
-    io::write_all(STDOUT_FILENO, b" ");
+fn show(rt: &impl Print, number: u64) -> io::Result<()> {
+    print!(rt; "{number} ")
 }
 
-fn show_place(place: CheckPlace) {
+fn show_place(rt: &impl Print, place: CheckPlace) -> io::Result<()> {
     match place {
         CheckPlace::Patch(index) => {
-            io::write_all(STDOUT_FILENO, b"P ");
-            show(index as u64);
+            rt.print("P ")?;
+            show(rt, index as u64)
         }
-        CheckPlace::Set => {
-            io::write_all(STDOUT_FILENO, b"S ");
-        }
+        CheckPlace::Set => rt.print("S "),
     }
 }
 
-fn show_answer(answer: PatchSetCheck) {
+fn show_answer(rt: &impl Print, answer: PatchSetCheck) -> io::Result<()> {
     match answer {
         PatchSetCheck::Checked {
             place,
             logical,
             written,
         } => {
-            show_place(place);
-            show(logical as u64);
-            show(written as u64);
+            show_place(rt, place)?;
+            show(rt, logical as u64)?;
+            show(rt, written as u64)
         }
-        PatchSetCheck::Refused(fault) => {
-            io::print_decimal(STDOUT_FILENO, fault.number());
-        }
+        PatchSetCheck::Refused(fault) => rt.print(fault.number()),
     }
 }
 
-fn show_quick(answer: QuickCheck) {
+fn show_quick(rt: &impl Print, answer: QuickCheck) -> io::Result<()> {
     match answer {
         QuickCheck::Clean {
             patch_count: _,
             operation_count: _,
-        } => {
-            io::write_all(STDOUT_FILENO, b"clean:");
-        }
-        QuickCheck::Found => {
-            io::write_all(STDOUT_FILENO, b"found:");
-        }
-        QuickCheck::Refused(_) => {
-            io::write_all(STDOUT_FILENO, b":");
-        }
+        } => rt.print("clean:"),
+        QuickCheck::Found => rt.print("found:"),
+        QuickCheck::Refused(_) => rt.print(":"),
     }
 }
 
-fn show_numbers(numbers: &[u64]) {
-    let mut i = 0;
-    while i < numbers.len() {
-        io::write_all(STDOUT_FILENO, b" ");
-        io::print_decimal(STDOUT_FILENO, numbers[i]);
-        i += 1;
+fn show_numbers(rt: &impl Print, numbers: &[u64]) -> io::Result<()> {
+    for number in numbers {
+        print!(rt; " {number}")?;
     }
-    io::write_all(STDOUT_FILENO, b"\n");
+    rt.println("")
 }
 
-fn check_into(set: &[u8], lent: &mut [u64]) {
-    show_answer(set_check::check(set, ProjectionPatchEdition::V1, lent));
-    show_quick(quick_set::quick_check(set, ProjectionPatchEdition::V1));
-    show_numbers(lent);
+fn check_into(rt: &impl Print, set: &[u8], lent: &mut [u64]) -> io::Result<()> {
+    show_answer(rt, set_check::check(set, ProjectionPatchEdition::V1, lent))?;
+    show_quick(rt, quick_set::quick_check(set, ProjectionPatchEdition::V1))?;
+    show_numbers(rt, lent)
 }
 
-pub(crate) fn check(set: &[u8], places: usize) {
+pub(crate) fn check(rt: &impl Print, set: &[u8], places: usize) -> io::Result<()> {
     let mut lent = [9u64; NUMBERS];
     if places <= NUMBERS {
-        check_into(set, &mut lent[0..places]);
+        check_into(rt, set, &mut lent[0..places])?;
     }
+    Ok(())
 }

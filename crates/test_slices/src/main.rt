@@ -8,52 +8,53 @@ mod lists;
 mod writes;
 
 use bytes_wire::ReadU32;
-use libc::STDIN_FILENO;
+use std::io;
 
 // The most bytes of an item.
 const BYTES: usize = 32769;
 
-fn run(list: u32, places: usize, item: &mut [u8]) {
-    io::read_full(STDIN_FILENO, item);
+// The most items that are read.
+const ITEMS: usize = 1000;
+
+fn run(rt: &(impl Input + Print), list: u32, places: usize, item: &mut [u8]) -> io::Result<()> {
+    full_reads::read_full(&mut rt.reader(), item)?;
     match list {
-        1 => writes::write(item, &writes::texts(), places),
-        2 => writes::write(item, &writes::wide_texts(), places),
-        _ => checks::check(item, places),
+        1 => writes::write(rt, item, &writes::texts(), places),
+        2 => writes::write(rt, item, &writes::wide_texts(), places),
+        _ => checks::check(rt, item, places),
     }
 }
 
 // Reads an item and runs it; false where there is none.
-fn next_item() -> bool {
+fn next_item(rt: &(impl Input + Print)) -> io::Result<bool> {
     let mut lengths = [0u8; 12];
     let mut item = [0u8; BYTES];
-    if io::read_full(STDIN_FILENO, &mut lengths) < 12 {
-        return false;
+    if full_reads::read_full(&mut rt.reader(), &mut lengths)? < 12 {
+        return Ok(false);
     }
     let ReadU32::Read(list) = bytes_wire::read_u32_at(&lengths, 0) else {
-        return false;
+        return Ok(false);
     };
     let ReadU32::Read(places) = bytes_wire::read_u32_at(&lengths, 4) else {
-        return false;
+        return Ok(false);
     };
     let ReadU32::Read(size) = bytes_wire::read_u32_at(&lengths, 8) else {
-        return false;
+        return Ok(false);
     };
     let size = size as usize;
     if BYTES < size {
-        return false;
+        return Ok(false);
     }
-    run(list, places as usize, &mut item[0..size]);
-    true
+    run(rt, list, places as usize, &mut item[0..size])?;
+    Ok(true)
 }
 
-fn main() {
-    writes::untouched();
-    let mut left: usize = 1000;
-    while 0 < left {
-        if next_item() {
-            left -= 1;
-        } else {
-            left = 0;
+fn main(rt: HostRuntime) -> io::Result<()> {
+    writes::untouched(&rt)?;
+    for _ in 0..ITEMS {
+        if !next_item(&rt)? {
+            break;
         }
     }
+    Ok(())
 }

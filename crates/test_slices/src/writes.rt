@@ -2,10 +2,10 @@
 ghost use Rattle.std.specs.Prelude.{◌<◌};
 
 use crate::lists;
-use libc::STDOUT_FILENO;
 use patch_part_writer::written::{WriteRefusal, Written};
 use patch_writer::set::write_patch_set;
 use projection_patch::patch::{ProjectionPatchEdition, ProjectionPatchSet};
+use std::io;
 
 // The places of the output.
 const OUTPUT: usize = 32800;
@@ -34,21 +34,17 @@ fn adler32(bytes: &[u8]) -> u64 {
     (b as u64) * 65536 + (a as u64)
 }
 
-fn show_digest(bytes: &[u8]) {
-    io::write_all(STDOUT_FILENO, b" ");
-    io::print_hex(STDOUT_FILENO, adler32(bytes), 8);
-    io::write_all(STDOUT_FILENO, b"\n");
+fn show_digest(rt: &impl Print, bytes: &[u8]) -> io::Result<()> {
+    let digest = adler32(bytes);
+    println!(rt; " {digest:08x}")
 }
 
-fn show_answer(written: Written) {
+fn show_answer(rt: &impl Print, written: Written) -> io::Result<()> {
     match written {
-        Written::Wrote(n) => {
-            io::write_all(STDOUT_FILENO, b"wrote ");
-            io::print_decimal(STDOUT_FILENO, n as u64);
-        }
+        Written::Wrote(n) => print!(rt; "wrote {n}"),
         Written::Refused(refusal) => {
-            io::write_all(STDOUT_FILENO, b"refused ");
-            io::print_decimal(STDOUT_FILENO, refusal.number());
+            let number = refusal.number();
+            print!(rt; "refused {number}")
         }
     }
 }
@@ -96,15 +92,15 @@ fn write_front(set: ProjectionPatchSet, lent: &[u8], out: &mut [u8], places: usi
     write_patch_set(set, lent, ProjectionPatchEdition::V1, &mut out[0..places])
 }
 
-pub(crate) fn write(row: &[u8], lent: &[u8], places: usize) {
+pub(crate) fn write(rt: &impl Print, row: &[u8], lent: &[u8], places: usize) -> io::Result<()> {
     let mut out = [0xaau8; OUTPUT];
-    show_answer(write_front(lists::set_of(row), lent, &mut out, places));
-    show_digest(&out);
+    show_answer(rt, write_front(lists::set_of(row), lent, &mut out, places))?;
+    show_digest(rt, &out)
 }
 
 // The output that nothing was written into.
-pub(crate) fn untouched() {
+pub(crate) fn untouched(rt: &impl Print) -> io::Result<()> {
     let out = [0xaau8; OUTPUT];
-    io::write_all(STDOUT_FILENO, b"untouched");
-    show_digest(&out);
+    rt.print("untouched")?;
+    show_digest(rt, &out)
 }

@@ -4,7 +4,7 @@ use mathlib.Core.Logic.{⊎_elim}
 use borrow.Author.Rules.{rules}
 use Rattle.bytes_decimal.proofs.Reading.{none_empty, zero_leads, no_zero_leads}
 use Rattle.bytes_decimal.proofs.read_from.Goals as goal
-use Rattle.bytes_decimal.proofs.read_from.Goals.{else-text-from-gt1, else-text-from-eq48}
+use Rattle.bytes_decimal.proofs.read_from.Goals.{then-text-from-eq48+else-text-from-gt1, else-text-from-eq48}
 
 pub returns-then-text-from : goal.returns-then-text-from
 returns-then-text-from c = sym (none_empty _ _ c.if-text-from.true)
@@ -16,4 +16,4 @@ returns-then-text-from-gt1 c =
 pub returns : goal.returns
 returns c =
     c.read_digits.ensures
-    ∙ no_zero_leads _ _ c.if-text-from.false (λ e. elim c.if-text-from-eq48.branch [ else-text-from-gt1 w ↦ w.if-text-from-gt1.false | else-text-from-eq48 w ↦ absurd (w.if-text-from-eq48.false e) ])
+    ∙ no_zero_leads _ _ c.if-text-from.false (λ e. elim c.if-text-from-eq48.branch [ then-text-from-eq48+else-text-from-gt1 w ↦ w.if-text-from-gt1.false | else-text-from-eq48 w ↦ absurd (w.if-text-from-eq48.false e) ])
