@@ -8,7 +8,6 @@ use mathlib.Core.List.{List, [], ◌∷◌, ◌++◌, flat_map, append_assoc}
 use borrow.Author.Tests.{leb-true, le-leb}
 use Rattle.std.proofs.Math.Dec.{leb}
 use Rattle.std.proofs.Math.ListN.{length, length-append}
-use Rattle.std.proofs.lemmas.List.{length-map}
 use Rattle.spec_lists.specs.Lists.{if◌then◌else◌, all}
 use Rattle.spec_lists.proofs.ListLaws.{and_left, and_right}
 use Rattle.spec_lists.specs.Bytes.{Bytes}
@@ -42,7 +41,7 @@ pub record Arrays (set : ProjectionPatchSet) : Type 0 where
 pub passed_arrays : (set : ProjectionPatchSet) → PassedSet set → Arrays set
 passed_arrays set p =
     let fields = p.known.1.1 in
-    record { patches = sym (length-map set.patches _) ∙ fields.1.0.1.0.1; operations = sym (length-map set.operations _) ∙ fields.1.1.0.1.0.1 }
+    record { patches = fields.1.0.1.0.1; operations = fields.1.1.0.1.0.1 }
 
 -- ---- from the start of the output
 
