@@ -9,7 +9,7 @@ ghost use Rattle.local_projection_state.specs.Stores.{Stores};
 ghost use Rattle.local_projection_state.specs.Faults.{application_fault_of};
 
 // How many rows of each table are used.
-#[derive(Drop)]
+#[derive(Clone, Copy)]
 pub struct ProjectionCounts {
     pub bindings: usize,
     pub availabilities: usize,

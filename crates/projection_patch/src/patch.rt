@@ -81,7 +81,7 @@ pub struct ProjectionPatchEnvelope {
 }
 
 // The edition that a set is written in. The second has match scores.
-#[derive(Drop)]
+#[derive(Clone, Copy)]
 pub enum ProjectionPatchEdition {
     V1,
     V2,
@@ -192,7 +192,7 @@ pub struct OperationPlace {
 
 // A patch list by value: the first patch_count heads, and the operations of all their patches in order. No set that can be written has more
 // operations than there are places.
-#[derive(Drop)]
+#[derive(Clone, Copy)]
 pub struct ProjectionPatchSet {
     pub patch_count: usize,
     pub patches: [ProjectionPatch; ProjectionPatchSet::PATCHES],

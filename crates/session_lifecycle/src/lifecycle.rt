@@ -7,7 +7,7 @@ ghost use Rattle.session_lifecycle.specs.Meaning.{refusal_of, lifecycle_of, comm
 use crate::diagnostics::{ShellDiagnostics, ShellRefusal, apply_diagnostic_cap, no_diagnostics};
 use crate::state::{ShellLifecycle, ShellLifecycleLimits, ShellLocalState};
 
-#[derive(Drop)]
+#[derive(Clone, Copy)]
 pub enum ShellLifecycleCommand {
     Activate,
     Suspend,

@@ -1,5 +1,5 @@
 // What a session's answers tell of it, and the limits of one transition.
-#[derive(Drop)]
+#[derive(Clone, Copy)]
 pub struct ShellSessionId(pub u64);
 
 #[derive(Clone, Copy)]
@@ -24,7 +24,7 @@ pub struct ShellLocalState {
     pub replay_cursor: ProjectionReplayCursor,
 }
 
-#[derive(Drop)]
+#[derive(Clone, Copy)]
 pub struct ShellLifecycleLimits {
     pub max_transition_stimulus_bytes: u64,
     pub max_diagnostics_per_transition: u64,
