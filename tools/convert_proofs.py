@@ -550,10 +550,13 @@ def convert(crate, folder, function, text):
         return None, ["no tie.close"]
     for o in others:
         plain = "\n".join(l for l in o.split("\n") if not l.startswith("--"))
-        m = re.match(rf"(?:pub |abbrev |unfoldable )*({NAME})\s*:\s*{PLACE_TYPE}\s*→\s*{PLACE_TYPE}\s*\n\1\s+({NAME})\s*=\s*\6((?:\.before)+)\s*$", plain)
+        m = re.match(rf"(?:pub |abbrev |unfoldable )*({NAME})\s*:\s*(?:\(\s*{NAME}\s*:\s*)?{PLACE_TYPE}\s*\)?\s*→\s*{PLACE_TYPE}\s*\n\1\s+({NAME})\s*=\s*(.*?)\s*\Z", plain, re.S)
         if m:
-            file.place_functions[m[1]] = (m[7], o)
-            continue
+            chain = file.expand(m[7], {m[6]})
+            chain = re.sub(r"^\((.*)\)$", r"\1", chain)
+            if re.fullmatch(rf"{re.escape(m[6])}(\.before)*", chain):
+                file.place_functions[m[1]] = (chain[len(m[6]) :], o)
+                continue
         m = re.match(rf"(?:pub |abbrev |unfoldable )*({NAME})\s*:\s*(?:{PLACE_TYPE}|\(({NAME})\s*:\s*{PLACE_TYPE}\s*\))\s*→(.*?)\n((?:unfolding[^\n]*\n)?)\1\s+({NAME})\s*=(.*)\Z", plain, re.S)
         if m and norm(m[2] or m[5]) in f.index:
             sig = m[7]
