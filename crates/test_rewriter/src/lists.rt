@@ -12,7 +12,7 @@ use projection_patch::read_values::CountRead;
 use std::num;
 
 // A list as far as it was read: its operations so far, where the next part starts, and whether all was readable.
-#[derive(Drop)]
+#[derive(Clone, Copy)]
 pub(crate) struct ListRead {
     pub(crate) list: ProjectionPatchSet,
     pub(crate) used: usize,
