@@ -73,6 +73,15 @@ class Function:
         self.order = [(new, self.index[norm(place)]) for (old, new), (place, _) in zip(rows["needs"], rows["asked_at"])]
         self.loops = {norm(old): (new, names, changed) for ((old, new), names), changed in zip(rows["loops"], rows["changed"])}
 
+    def last_of(self, i):
+        """The last place of an arm, which has all that the arm says."""
+        while self.arms[i]:
+            on = [j for j in range(len(self.parent)) if self.parent[j] == i and self.arms[j] and self.arms[j][0] == self.arms[i][0]]
+            if not on:
+                break
+            i = on[0]
+        return i
+
     def clauses_of(self, callee):
         """The requires and the ensures of a function, by name, where it has two or more."""
         parts = callee.split("::")
@@ -251,6 +260,7 @@ class File:
         self.head = []
         self.local_goal = {}
         self.turned_test = False
+        self.first_place = {}
         self.place_functions = {}
         self.place_lemmas = {}
 
@@ -260,7 +270,7 @@ class File:
             if i is None:
                 self.left.append(f"place {m[1]}")
                 return m[0]
-            new = self.f.new_place[i]
+            new = self.f.new_place[self.f.last_of(i)]
             self.used.add(new)
             return new
 
@@ -320,12 +330,34 @@ class File:
                 break
         return text
 
+    def asked(self, body, env, goal):
+        """Gives each lemma over a place the record of that place."""
+        for name, place in self.first_place.items():
+            def one(m):
+                root = m[2].split(".")[0]
+                if root not in env:
+                    return m[0]
+                var = env[root][0]
+                if self.f.last_of(place) == self.f.last_of(env[root][1]):
+                    new = var
+                else:
+                    new = f"(goal.at.{goal} {var}).{self.f.new_place[self.f.last_of(place)]}"
+                opened, closed = m[1] or "", m[3] or ""
+                if opened and closed:
+                    opened = closed = ""
+                return f"\x00{name} {opened}{new}{closed}"
+
+            body = re.sub(rf"(?<![\w.'\x00-]){re.escape(name)}\s+(\(?)({NAME}(?:\.{NAME})*)(?![\w.])(\)?)", one, body)
+        return body
+
     def turn(self, body, env, goal):
         """Writes the paths of body; env gives for a variable its place, or a path from one."""
         env = dict(env)
         body = self.expand(body, env)
         if goal is None:
             body = self.expand(self.inline(body, env), env)
+        else:
+            body = self.asked(body, env, goal)
         for local, new in self.local_goal.items():
             if local != goal:
                 body = re.sub(rf"(?<![\w.'-]){re.escape(local)}(?![\w'-])", lambda m: new, body)
@@ -368,15 +400,15 @@ class File:
                     self.turned_test = True
                     return "(ap not " + ".".join([var] + out) + ")"
                 return ".".join([var] + out)
-            if i == place:
+            if self.f.last_of(i) == self.f.last_of(place):
                 return var
-            new = self.f.new_place[i]
+            new = self.f.new_place[self.f.last_of(i)]
             if goal is None:
                 self.left.append(f"place {new} of {m[0]} in a lemma")
                 return f"{m[0]}"
             return f"(goal.at.{goal} {var}).{new}"
 
-        return PATH.sub(one, text)
+        return PATH.sub(one, text).replace("\x00", "")
 
     def helper(self, block):
         """A lemma or a definition over a place's record."""
@@ -513,6 +545,7 @@ def convert(crate, folder, function, text):
     base = folder[len(os.path.join(crate, "proofs")) + 1 :].replace(os.sep, ".")
     name = os.path.basename(os.path.abspath(crate))
     f = function
+    text = re.sub(r"«([\w]+-[\w-]*)»", r"\1", text)
     file = File(f, text, base)
     blocks = blocks_of(text)
     uses, comments, others, goals, loops = [], [], [], {}, []
@@ -526,11 +559,11 @@ def convert(crate, folder, function, text):
             lines = b.split("\n")
             comments += [l for l in lines if l.startswith("--")]
             rest = "\n".join(l for l in lines if not l.startswith("--"))
-            for u in re.findall(r"(?m)^use [^\n]*(?:\n[ \t]+[^\n]*)*", rest):
+            for u in re.findall(r"(?m)^use [^\n{]*(?:\{[^}]*\})?[^\n]*", rest):
                 if re.search(r"\.(Statement|Tie)\b", u):
                     continue
                 uses.append(u)
-            extra = re.sub(r"(?m)^use [^\n]*(?:\n[ \t]+[^\n]*)*\n?", "", rest).strip()
+            extra = re.sub(r"(?m)^use [^\n{]*(?:\{[^}]*\})?[^\n]*\n?", "", rest).strip()
             if extra:
                 file.left.append("among uses: " + extra[:60])
             continue
@@ -564,11 +597,16 @@ def convert(crate, folder, function, text):
                 sig = re.sub(rf"(?<![\w.'-]){re.escape(m[4])}(?![\w'-])", m[9], sig)
             file.place_lemmas[m[1]] = (f.index[norm(m[2] or m[5])], m[9], sig, m[10], bool(re.match(r"(pub )?abbrev", plain)) and not m[4])
     others = [o for o in others if not any(o is k for _, k in file.place_functions.values())]
+    for o in others:
+        plain = "\n".join(l for l in o.split("\n") if not l.startswith("--"))
+        m = re.match(rf"(?:pub |abbrev |unfoldable )*({NAME})\s*:\s*(?:\(\s*{NAME}\s*:\s*)?{PLACE_TYPE}", plain)
+        if m and norm(m[2]) in f.index:
+            file.first_place[m[1]] = f.index[norm(m[2])]
     # goals by name
     answers = {}
 
     def put(new, place, unfold, head_vars, body, note):
-        if is_trivial(body):
+        if is_trivial(body) and not unfold:
             return
         head_vars = [v for v in head_vars if v != "κs"] or ["c"]
         var = head_vars[0]

@@ -8,8 +8,7 @@ use Rattle.session_lifecycle.specs.declared.lifecycle.ShellLifecycleStimulus.{Sh
 use Rattle.session_lifecycle.specs.declared.lifecycle.ShellLifecycleStimulus.TheVariants.{Command}
 use Rattle.session_lifecycle.specs.declared.lifecycle.ShellLifecycleCommand.{ShellLifecycleCommand}
 use Rattle.session_lifecycle.specs.declared.lifecycle.ShellLifecycleCommand.TheVariants.{Activate, Suspend, Resume, Close}
-use Rattle.session_lifecycle.proofs.lifecycle.disposition_of.Statement.{statement}
-use Rattle.session_lifecycle.proofs.lifecycle.disposition_of.Tie as tie
+use Rattle.session_lifecycle.proofs.lifecycle.disposition_of.Goals as goal
 
 command_applies : (k : ShellLifecycleCommand) → disposition_of (stimulus_of (Command k)) ≡ step.applied
 unfolding disposition_of stimulus_of command_of
@@ -18,14 +17,10 @@ command_applies Suspend = refl
 command_applies Resume = refl
 command_applies Close = refl
 
-returns : tie.Need-returns
+pub returns-in-Command : goal.returns-in-Command
 unfolding disposition_means
-returns c = sym (ap (λ (f : ShellLifecycleStimulus). disposition_of (stimulus_of f)) c.enum_told.given.1 ∙ command_applies _)
+returns-in-Command c = sym (ap (λ (f : ShellLifecycleStimulus). disposition_of (stimulus_of f)) c.in-Command.is ∙ command_applies _)
 
-returns-2 : tie.Need-returns-2
+pub returns-in-ExplicitNoOp : goal.returns-in-ExplicitNoOp
 unfolding disposition_means disposition_of stimulus_of
-returns-2 c = sym (ap (λ (f : ShellLifecycleStimulus). disposition_of (stimulus_of f)) c.enum-told2.given.1)
-
-pub disposition-of-spec : {M : Type 1} → statement M
-disposition-of-spec =
-    tie.close (tie.spec (λ c. search rules) (λ c. search rules) returns returns-2)
+returns-in-ExplicitNoOp c = sym (ap (λ (f : ShellLifecycleStimulus). disposition_of (stimulus_of f)) c.in-ExplicitNoOp.is)
