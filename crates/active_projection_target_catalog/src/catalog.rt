@@ -9,7 +9,7 @@ pub struct BindingPair {
     pub slot: u32,
 }
 
-#[derive(Drop)]
+#[derive(Clone, Copy)]
 pub struct ActiveProjectionTargetCatalog {
     pub node_count: usize,
     pub binding_count: usize,

@@ -65,7 +65,7 @@ impl LocalProjectionState {
 }
 
 // Why an operation is refused.
-#[derive(Drop)]
+#[derive(Clone, Copy)]
 pub enum LocalProjectionApplicationError {
     KeyRule,
     ProjectionFull,

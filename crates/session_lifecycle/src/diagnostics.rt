@@ -61,7 +61,7 @@ impl ShellRefusal {
 }
 
 // All diagnostics of an answer are alike, so their code, stage and counts tell them.
-#[derive(Drop)]
+#[derive(Clone, Copy)]
 pub struct ShellDiagnostics {
     pub stable_code: u64,
     pub evaluation_stage: u64,

@@ -27,14 +27,14 @@ pub struct ShellTransitionInput {
     pub stimulus_bytes: u64,
 }
 
-#[derive(Drop)]
+#[derive(Clone, Copy)]
 pub enum ShellTransitionDisposition {
     Applied,
     NoChange,
     Rejected,
 }
 
-#[derive(Drop)]
+#[derive(Clone, Copy)]
 pub struct ShellTransitionResult {
     pub disposition: ShellTransitionDisposition,
     pub state: ShellLocalState,

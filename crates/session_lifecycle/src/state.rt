@@ -11,13 +11,13 @@ pub enum ShellLifecycle {
 }
 
 // The sequence number of the last batch that was applied.
-#[derive(Drop)]
+#[derive(Clone, Copy)]
 pub enum ProjectionReplayCursor {
     Uninitialized,
     At(u64),
 }
 
-#[derive(Drop)]
+#[derive(Clone, Copy)]
 pub struct ShellLocalState {
     pub session_id: ShellSessionId,
     pub lifecycle: ShellLifecycle,
