@@ -156,7 +156,7 @@ module _ (head nodes pairs collections b a e : List ℕ) (limits : ShellLifecycl
 
   module _ (m : Session) (l : List ℕ) (holds : LentSession head nodes pairs collections b a e l m) where
     limits_of_lem : limits_of limits ≡ m.limits
-    limits_of = limits_are ∙ limits_told head m holds.head_is
+    limits_of_lem = limits_are ∙ limits_told head m holds.head_is
 
     state_of_lem : shell_state_of state ≡ state_of m
     state_of_lem = state-is ∙ state_told head m holds.head_is
