@@ -23,7 +23,7 @@ use Rattle.spec_patch.specs.Read.{SetReading, patches, fault, read_set}
 use Rattle.spec_patch.proofs.SetLaws.{reads_back, was_encoded}
 use Rattle.spec_patch.specs.Write.{value_passes, all_values, allowed_value, well_formed, within_capacities}
 use Rattle.spec_patch.proofs.WriteLaws.{fits_of_tests, capacities_of_fits, well_formed_of_fits, few_of_fits, fits_in_range}
-use Rattle.spec_conversion.specs.Conversion.{other_edition, ConversionRefusal, kind_missing, output_too_short, unread, Converted, converted, refused, kind_in, all_kinds, rewritten, convert_to, convert, is_score, without_scores}
+use Rattle.spec_conversion.specs.Conversion.{other_edition, ConversionRefusal, kind_missing, output_too_short, unread, converted, refused, kind_in, all_kinds, rewritten, convert_to, convert, is_score, without_scores}
 
 -- ---- tests of every value
 

@@ -3,7 +3,7 @@ use Rattle.std.specs.Prelude.{ℕ, Bool, ◌&&◌, T, eqb, length}
 use mathlib.Core.List.{List, [], ◌∷◌, flat_map}
 use Rattle.std.proofs.Math.Option.{none}
 use Rattle.spec_lists.specs.Lists.{all, equal_lists}
-use Rattle.spec_patch.specs.Patch.{Value, unsigned, score, Operation, insert, update, Patch}
+use Rattle.spec_patch.specs.Patch.{unsigned, score, Operation, insert, update, Patch}
 use Rattle.spec_patch.specs.Edition.{Edition, v1, v2}
 use Rattle.spec_patch.specs.Encode.{encode_value, encode}
 use Rattle.spec_patch.specs.Reader.{fault_number}
@@ -11,7 +11,7 @@ use Rattle.spec_patch.specs.Read.{SetReading, patches, fault, read_set}
 use Rattle.spec_patch.specs.Write.{Written, wrote, refused, write_number, write}
 use Rattle.spec_projection.specs.Projection.{empty}
 use Rattle.spec_session.specs.Session.{created, uninitialized, Session}
-use Rattle.spec_session.specs.Batch.{BatchStep, batch}
+use Rattle.spec_session.specs.Batch.{batch}
 use Rattle.spec_listing.specs.Listing.{listing, projection_lines}
 use Rattle.spec_examples.specs.Opened.{opened_all}
 

@@ -1,17 +1,15 @@
 -- Several batches, or none: 02, 'Job 12'. One table of computed tests, and the claim on pieces met by a list that applies and one that fails.
-use Rattle.std.specs.Prelude.{ℕ, Bool, true, false, ◌&&◌, T, eqb, length, replicate}
+use Rattle.std.specs.Prelude.{ℕ, Bool, T, eqb, replicate}
 use mathlib.Core.List.{List, [], ◌∷◌, ◌++◌, map, flat_map}
 use Rattle.std.proofs.Common.{arith}
 use Rattle.spec_lists.specs.Lists.{all, equal_lists}
 use Rattle.spec_patch.specs.Edition.{Edition, v1, v2}
 use Rattle.spec_patch.specs.Encode.{encode}
 use Rattle.spec_patch.specs.Patch.{Patch}
-use Rattle.spec_session.specs.Session.{Cursor, uninitialized, at, Session}
-use Rattle.spec_session.specs.Batch.{BatchAnswer}
-use Rattle.spec_projection.specs.Projection.{Projection}
+use Rattle.spec_session.specs.Session.{Cursor, uninitialized, at}
 use Rattle.spec_projection.specs.Lookups.{KeyedValue, entries_of}
-use Rattle.spec_splitting.specs.Splitting.{Piece, piece_envelope, references, is_rejected, send, send_all, continue, patches_of}
-use Rattle.spec_group.specs.Group.{GroupBatch, total_bytes, is_group, send_first, run_group, GroupAnswer, not_aGroup, taken, refused_at, group_number, taken_count, with_cursor, conclude_group, GroupStep, group}
+use Rattle.spec_splitting.specs.Splitting.{piece_envelope, references, is_rejected}
+use Rattle.spec_group.specs.Group.{GroupBatch, total_bytes, is_group, send_first, run_group, GroupAnswer, not_aGroup, taken, refused_at, group_number, with_cursor, conclude_group, GroupStep, group}
 use Rattle.spec_group.specs.Singly.{piece_batch, TakenAsWhole, RefusedAsWhole}
 use Rattle.spec_group.proofs.PiecesLaws.{group_as_whole}
 use Rattle.spec_examples.specs.Opened.{opened_all}

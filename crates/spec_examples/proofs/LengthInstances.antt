@@ -3,7 +3,7 @@
 use Rattle.std.specs.Prelude.{ℕ, ◌≡◌, refl, List, [], ◌∷◌}
 use Rattle.std.proofs.Math.Path.{ap}
 use Rattle.std.proofs.Common.{◌∙◌}
-use Rattle.std.proofs.Math.Option.{none, some}
+use Rattle.std.proofs.Math.Option.{none}
 use Rattle.spec_lists.specs.Order.{sort_unique}
 use Rattle.spec_patch.specs.Edition.{Edition, v1}
 use Rattle.spec_patch.specs.Patch.{Patch, unsigned, insert, update, remove, move}

@@ -23,7 +23,7 @@ use Rattle.spec_projection.proofs.ApplyLaws.{fails_there}
 use Rattle.spec_session.specs.Session.{Lifecycle, created, active, suspended, closed, Cursor, uninitialized, at, Catalogue, Session}
 use Rattle.spec_session.specs.Diagnostics as session
 use Rattle.spec_session.specs.Diagnostics.{SessionRefusal, no_diagnostics}
-use Rattle.spec_session.specs.Lifecycle.{applied, rejected, is_closed}
+use Rattle.spec_session.specs.Lifecycle.{rejected, is_closed}
 use Rattle.spec_session.specs.Batch as batching
 use Rattle.spec_session.specs.Batch.{BatchEnvelope, BatchStep, Check, pass, in_catalogue, absent_targets, takes_number, batch_checks, reject_batch, keep_session, apply_batch, candidate, commit, conclude_batch, batch}
 use Rattle.spec_session.proofs.BatchLaws.{absent_append}

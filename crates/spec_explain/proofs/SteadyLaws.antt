@@ -7,7 +7,7 @@ use Rattle.spec_lists.specs.Lists.{if◌then◌else◌}
 use Rattle.spec_lists.specs.Bytes.{number_of}
 use Rattle.spec_patch.specs.Reader.{Fault, malformed, Result, read, refused, Reader, byte, bytes, number}
 use Rattle.spec_explain.specs.ReadingRule.{ReadingRule, too_few_bytes, Inside, outside}
-use Rattle.spec_explain.specs.Locate.{Stop, Located, past, stop, Locator, stop_at, go_on, ◌⨟◌, behind, field_then, field, placed_stop, within, ends}
+use Rattle.spec_explain.specs.Locate.{Stop, Located, past, stop, Locator, stop_at, go_on, ◌⨟◌, behind, field_then, placed_stop, within, ends}
 
 -- the same stop, with so many bytes more behind the field
 abbrev pub stop_further : Stop → ℕ → Stop

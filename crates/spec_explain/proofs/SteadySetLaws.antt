@@ -12,7 +12,7 @@ use Rattle.spec_patch.specs.Reader.{Fault, malformed, Result, read, refused, byt
 use Rattle.spec_patch.specs.Read.{read_u32, read_u64}
 use Rattle.spec_patch.proofs.Codec.{bytes_long}
 use Rattle.spec_explain.specs.ReadingRule.{ReadingRule, too_few_bytes, operation_tag, value_kind, optional_tag, availability_tag, quad_tag, score_range, wrong_heading, not_utf8, patch_count, operation_count_lem, text_length, character_count, outside}
-use Rattle.spec_explain.specs.Locate.{Stop, Located, past, stop, Locator, stop_at, behind, field, TagRow, by_row, tagged, repeated, counted, ends, locate_optional, locate_quad, locate_availability, locate_text, locate_score, score_row, locate_value, locate_operation, locate_envelope, locate_patch, locate_letters, locate_patches}
+use Rattle.spec_explain.specs.Locate.{Stop, Located, past, stop, Locator, stop_at, field, TagRow, by_row, tagged, repeated, counted, ends, locate_optional, locate_quad, locate_availability, locate_text, locate_score, score_row, locate_value, locate_operation, locate_envelope, locate_patch, locate_letters, locate_patches}
 use Rattle.spec_explain.proofs.SteadyLaws.{short, fixed, PassedSteadily, StoppedReading, Steady, stop_is, past_is, not_both, steady_ends, steady_then, steady_within, wide_byte, wide_bytes, wide_number, FieldFollows, refuses, goes_on, steady_field}
 
 -- ---- numbers

@@ -1,13 +1,13 @@
 -- A group takes its batches as single calls would, or leaves everything.
-use Rattle.std.specs.Prelude.{ℕ, zero, suc, ◌+◌, ◌≤◌, ◌<◌, ◌≡◌, refl, Bool, true, false, List, [], ◌∷◌, ◌++◌, leb, length, drop}
+use Rattle.std.specs.Prelude.{ℕ, suc, ◌+◌, ◌≤◌, ◌≡◌, refl, Bool, true, false, List, [], ◌∷◌, ◌++◌, leb, length, drop}
 use Rattle.std.proofs.Common.{sym, ap, ◌∙◌, arith, leb-true, eqb-true, length-append}
 use Rattle.spec_lists.specs.Lists.{if◌then◌else◌, All}
 use Rattle.spec_lists.proofs.ListLaws.{and_left, and_right}
 use Rattle.spec_session.specs.Session.{Cursor, Session}
-use Rattle.spec_session.specs.Batch.{BatchAnswer, BatchStep}
+use Rattle.spec_session.specs.Batch.{BatchAnswer}
 use Rattle.spec_splitting.specs.Splitting.{Run, is_rejected, continue}
-use Rattle.spec_group.specs.Group.{group_batches, GroupBatch, total_bytes, is_group, send_first, GroupRun, ended, broke, run_group, not_aGroup, with_cursor, conclude_group, group}
-use Rattle.spec_group.specs.Singly.{singly, WasTaken, EndsRefused, AllOrNone}
+use Rattle.spec_group.specs.Group.{group_batches, GroupBatch, total_bytes, is_group, send_first, ended, broke, run_group, not_aGroup, with_cursor, conclude_group, group}
+use Rattle.spec_group.specs.Singly.{singly, WasTaken, AllOrNone}
 
 true_not_false : {C : Type 0} {b : Bool} → b ≡ true → b ≡ false → C
 true_not_false p q = absurd (let z : ◌≡◌ {A = Bool} true false = sym p ∙ q in let w : ◌≡◌ {A = ℕ} 0 1 = cc in omega arith)

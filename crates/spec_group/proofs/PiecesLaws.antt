@@ -1,8 +1,8 @@
 -- Pieces of a batch sent as a group end as the whole does.
-use Prim.Native.Nat.{ℕ, zero, suc, ◌+◌, ◌-◌, ◌≤◌, ◌<◌}
+use Prim.Native.Nat.{ℕ, suc, ◌+◌, ◌≤◌, ◌<◌}
 use Rattle.std.proofs.Math.Path.{◌≡◌, refl, sym, ap, ap₂, subst}
 use Rattle.std.proofs.Common.{◌∙◌, take_at}
-use Rattle.std.specs.Prelude.{Bool, true, false, leb, eqb, take, drop}
+use Rattle.std.specs.Prelude.{Bool, true, false, eqb, drop}
 use mathlib.Core.List.{List, [], ◌∷◌, ◌++◌, flat_map}
 use native.Mathlib.Omega.{arith}
 use borrow.Author.Tests.{le-leb, eq-eqb}
@@ -15,10 +15,10 @@ use Rattle.spec_patch.specs.Encode.{encode}
 use Rattle.spec_projection.specs.Projection.{Projection}
 use Rattle.spec_projection.specs.Apply.{Outcome, done, stopped}
 use Rattle.spec_session.specs.Session.{Session}
-use Rattle.spec_session.specs.Lifecycle.{Disposition, applied, rejected}
+use Rattle.spec_session.specs.Lifecycle.{applied, rejected}
 use Rattle.spec_session.specs.Batch.{BatchEnvelope, BatchAnswer, BatchStep, Check, pass, refuse, reject_batch, keep_session, advanced, apply_batch, candidate, commit, conclude_batch, batch_checks, batch}
 use Rattle.spec_session.proofs.BatchLaws.{batch_unchanged, batch_applied}
-use Rattle.spec_splitting.specs.Splitting.{Piece, piece_envelope, references, send, Run, is_rejected, continue, send_all, patches_of, Given, Applies, AllApply, AlikeBeside, FailsAtOperation, StopsAtPiece}
+use Rattle.spec_splitting.specs.Splitting.{Piece, piece_envelope, references, send, Run, is_rejected, continue, send_all, patches_of, Given, Applies, AlikeBeside, FailsAtOperation}
 use Rattle.spec_splitting.proofs.Theorem.{whole_and_pieces}
 use Rattle.spec_group.specs.Group.{group_batches, GroupBatch, total_bytes, is_group, send_first, taken, GroupStep}
 use Rattle.spec_group.specs.Singly.{singly, WasTaken, EndsRefused, piece_batch, piece_batches, piece_sets, send_group, TakenAsWhole, RefusedAsWhole, GroupAsWhole}

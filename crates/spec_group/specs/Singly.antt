@@ -1,5 +1,5 @@
 -- The batches of a group as single calls, and what is claimed of the group beside them; pieces of a batch as a group.
-use Rattle.std.specs.Prelude.{ℕ, ◌+◌, ◌-◌, ◌≤◌, ◌≡◌, true, false, length, drop}
+use Rattle.std.specs.Prelude.{ℕ, ◌+◌, ◌-◌, ◌≡◌, true, false, length, drop}
 use mathlib.Core.List.{List, [], ◌∷◌, ◌++◌, flat_map}
 use Rattle.spec_lists.specs.Lists.{All}
 use Rattle.spec_patch.specs.Edition.{Edition}
@@ -7,7 +7,7 @@ use Rattle.spec_patch.specs.Encode.{encode}
 use Rattle.spec_session.specs.Session.{at, Session}
 use Rattle.spec_session.specs.Batch.{BatchAnswer}
 use Rattle.spec_splitting.specs.Splitting.{Piece, piece_envelope, references, send, Run, is_rejected, continue, Applies, AlikeBeside, FailsAtOperation}
-use Rattle.spec_group.specs.Group.{group_batches, GroupBatch, send_first, taken, refused_at, with_cursor, GroupStep, group}
+use Rattle.spec_group.specs.Group.{GroupBatch, send_first, taken, refused_at, with_cursor, GroupStep, group}
 
 -- one call after the other, each on the session just handed back; a refused one ends the sending
 unfoldable pub singly : Session → List GroupBatch → List ℕ → Run

@@ -1,5 +1,5 @@
 -- The lengths that are kept after some runs on an empty projection, as one table that the checker computes: 02, Job 3.
-use Rattle.std.specs.Prelude.{ℕ, ◌≡◌, refl, List, [], ◌∷◌}
+use Rattle.std.specs.Prelude.{◌≡◌, refl, List, [], ◌∷◌}
 use Rattle.std.proofs.Math.Option.{none, some}
 use Rattle.spec_lists.specs.Lists.{All}
 use Rattle.spec_lists.specs.Order.{sort_unique}

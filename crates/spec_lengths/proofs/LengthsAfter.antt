@@ -1,7 +1,7 @@
 -- The lengths are right after every operation that applies: an insert counts one more for its collection, a removal one less, and all other
 -- lengths stay. 02, Job 3.
 use Rattle.std.specs.Prelude.{ℕ, zero, suc, ◌+◌, ◌-◌, ◌≡◌, refl, ◌≢◌, true, eqb}
-use Rattle.std.proofs.Common.{sym, ◌∙◌, add-one, arith, eqb-true, length-append}
+use Rattle.std.proofs.Common.{sym, ◌∙◌, arith, eqb-true, length-append}
 use Rattle.std.proofs.Math.Path.{ap}
 use mathlib.Core.List.{List, [], ◌∷◌, map, head-eq_of_cons-eq}
 use Rattle.std.proofs.Math.Option

@@ -20,7 +20,7 @@ use Rattle.spec_projection.specs.Projection.{Entry, Projection}
 use Rattle.spec_projection.specs.Lookups.{entries_in, entries_of, entry_count}
 use Rattle.spec_projection.proofs.MapLaws.{all_image, ascending_map}
 use Rattle.spec_lengths.specs.Lengths.{CollectionLength, length_record, length_key, collections_in, lengths_in, collection_lengths, length_found, length_of, FitsLength}
-use Rattle.spec_projection.specs.Valid.{FitsEntry, Valid}
+use Rattle.spec_projection.specs.Valid.{FitsEntry}
 
 -- ---- a collection's row
 

@@ -1,7 +1,7 @@
 -- Each collection's length, kept with the collection: 02, Job 3. A collection without entries has no row, and reads 0.
 use Rattle.std.specs.Prelude.{ℕ, zero, suc, ◌+◌, ◌-◌, ◌≤◌, List, [], ◌∷◌, map, eqb, length}
 use Rattle.std.proofs.Math.Option
-use Rattle.std.proofs.Math.Option.{Option, some}
+use Rattle.std.proofs.Math.Option.{Option}
 use Rattle.spec_lists.specs.Lists.{if◌then◌else◌, or_zero}
 use Rattle.spec_lists.specs.Order.{upsert, sort_unique, lookup}
 use Rattle.spec_patch.specs.Fits.{U64}

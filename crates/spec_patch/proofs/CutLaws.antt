@@ -17,7 +17,7 @@ use Rattle.spec_patch.specs.Sizes.{set_bytes, set_patches, patch_operations, tex
 use Rattle.spec_patch.specs.Patch.{Value, quad, signed, text, unsigned, score}
 use Rattle.spec_patch.specs.Edition.{Edition, has_kind}
 use Rattle.spec_patch.specs.Encode.{u32, heading}
-use Rattle.spec_patch.specs.Reader.{Fault, malformed, over_capacity, Result, read, refused, Reader, Kept, onward, followed, mapped, pair, or_tag, no_tag, many, byte, bytes}
+use Rattle.spec_patch.specs.Reader.{Fault, malformed, over_capacity, Result, read, refused, Reader, Kept, onward, followed, mapped, pair, or_tag, no_tag, many, byte}
 use Rattle.spec_patch.specs.Read.{read_u32, read_score, read_u64, read_i64, read_count, read_counted, read_optional, read_quad, read_availability, read_text_by, read_text, value_after_with, value_after, in_edition, read_value_by, to_set_binding, to_set_availability, to_insert, to_update, to_remove, to_move, operation_after_with, operation_after, read_operation_by, to_patch, read_patch, read_patches, fault, ended, read_set}
 use Rattle.spec_patch.proofs.Codec.{Codec, never, literal_codec}
 use Rattle.spec_patch.proofs.ReadLaws.{u64_codec, u32_codec, count_codec, optional_codec, operation_codec_by, envelope_codec, patch_codec}

@@ -10,7 +10,7 @@ use Rattle.spec_lists.specs.Lists.{if◌then◌else◌}
 use Rattle.spec_text.specs.Syntax.{is_utf8, characters}
 use Rattle.spec_text.proofs.SyntaxLaws.{characters_few}
 use Rattle.spec_patch.specs.Sizes.{set_bytes, set_patches, patch_operations, text_characters, text_bytes, former_text_bytes}
-use Rattle.spec_patch.specs.Patch.{Value, quad, signed, text, unsigned, score, Operation, Patch}
+use Rattle.spec_patch.specs.Patch.{Value, quad, signed, text, unsigned, score, Patch}
 use Rattle.spec_patch.specs.Edition.{Edition, has_kind}
 use Rattle.spec_patch.specs.Encode.{heading}
 use Rattle.spec_patch.specs.Fits.{FitsText}

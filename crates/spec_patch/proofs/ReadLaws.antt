@@ -1,5 +1,5 @@
 -- The readers of values, operations, patches and sets read what was encoded and nothing else: by the laws of `Codec`, a line or two each.
-use Rattle.std.specs.Prelude.{ℕ, ◌+◌, ◌-◌, ◌^◌, ◌≤◌, ◌<◌, ◌≡◌, refl, Bool, true, false, ℤ}
+use Rattle.std.specs.Prelude.{ℕ, ◌^◌, ◌≤◌, ◌<◌, ◌≡◌, refl, Bool, true, false, ℤ}
 use Rattle.std.proofs.Common.{sym, ◌∙◌, arith, lit<, SFits, to_z, of_z, to_z-of_z}
 use Rattle.std.proofs.Math.Path.{ap}
 use mathlib.Core.List.{List, [], ◌∷◌, ◌++◌, flat_map, head-eq_of_cons-eq}

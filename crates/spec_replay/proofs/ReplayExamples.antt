@@ -1,7 +1,7 @@
 -- Short scripts and what they print, as one table that the checker computes.
-use Rattle.std.specs.Prelude.{ℕ, Bool, T, eqb, replicate, take, drop, get_or}
+use Rattle.std.specs.Prelude.{ℕ, Bool, T, eqb}
 use Prim.Native.String.{String}
-use mathlib.Core.List.{List, [], ◌∷◌, ◌++◌, flat_map}
+use mathlib.Core.List.{List, [], ◌∷◌, flat_map}
 use Rattle.std.proofs.Math.Option.{none, some}
 use Rattle.spec_lists.specs.Lists.{all, equal_lists}
 use Rattle.spec_lists.specs.Bytes.{little_endian, number_of}

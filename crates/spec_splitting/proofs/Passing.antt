@@ -6,7 +6,6 @@ use Rattle.spec_lists.proofs.ListLaws.{and_left, and_right, is_empty_true}
 use Rattle.spec_patch.specs.Patch.{Patch}
 use Rattle.spec_patch.specs.Edition.{Edition}
 use Rattle.spec_patch.specs.Encode.{encode}
-use Rattle.spec_patch.specs.Read.{patches}
 use Rattle.spec_patch.specs.Fits.{Fits, InRange}
 use Rattle.spec_patch.proofs.FitsLaws.{fits_left, fits_right}
 use Rattle.spec_patch.proofs.SetLaws.{reads_back, patches_inj}

@@ -1,5 +1,5 @@
 -- Both claims of `Fairness` speak of something: a chatty sender among three.
-use Rattle.std.specs.Prelude.{ℕ, ◌≤◌, ◌≡◌, refl, true, false, List, [], ◌∷◌, take}
+use Rattle.std.specs.Prelude.{◌≤◌, ◌≡◌, refl, true, false, List, [], ◌∷◌, take}
 use Rattle.std.proofs.Common.{arith}
 use Rattle.spec_turns.specs.Turns.{Turns, new_turns, register}
 use Rattle.spec_turns.specs.Calls.{Call, registers, answers, names, times_named, registers_first, registers_again}
