@@ -44,7 +44,14 @@ def clauses(root):
                     asks = re.findall(r"(?m)^ *requires\*? *(\w*) *\{", head)
                     gives = re.findall(r"(?m)^ *ensures\*? *(\w*) *\{", head)
                     module = f[: -len(".rt")]
-                    found.setdefault((crate, m[1]), []).append((module, asks, gives))
+                    opened = head.find("(")
+                    depth, cut = 0, opened
+                    for cut in range(max(opened, 0), len(head)):
+                        depth += {"(": 1, "[": 1, "<": 1, ")": -1, "]": -1}.get(head[cut], 0)
+                        if depth == 0:
+                            break
+                    params = re.findall(r"(?:^|[(,]\s*)(?:mut\s+)?(\w+)\s*:(?!:)", head[opened:cut], re.M)
+                    found.setdefault((crate, m[1]), []).append((module, asks, gives, params))
     return found
 
 
@@ -54,7 +61,9 @@ class Function:
         self.known = known
         self.crate = crate
         parts = rel.replace("+", "").split(".")
+        self.last_params = []
         self.own = self.clauses_of("::".join([crate] + parts))
+        self.own_params = self.last_params
         places = rows["places"]
         self.index = {}
         self.new_place = rows["places_by_name"]
@@ -89,9 +98,9 @@ class Function:
         if len(those) > 1:
             near = [t for t in those if t[0] in parts[1:]] or those
             those = near
-        if not those or any(t[1:] != those[0][1:] for t in those):
+        if not those or any(t[1:3] != those[0][1:3] for t in those):
             return [], []
-        _, asks, gives = those[0]
+        _, asks, gives, self.last_params = those[0]
         return (asks if len(asks) > 1 else []), (gives if len(gives) > 1 else [])
 
     def named(self, names, rest):
@@ -123,6 +132,9 @@ class Function:
                 callee = self.callee[k]
             asks, gives = self.clauses_of(callee or "")
             out = out[:2] + self.named(gives if out[1] == "ensures" else asks, out[2:])
+        numbered = re.fullmatch(r"t(\d+)", out[1]) if len(out) > 1 and out[0] == "args" else None
+        if numbered and out[1] not in self.own_params and int(numbered[1]) <= len(self.own_params):
+            out = ["args", self.own_params[int(numbered[1]) - 1]] + out[2:]
         if len(out) > 1 and out[0] == "requires":
             out = out[:1] + self.named(self.own[0], out[1:])
         return j, out
@@ -189,7 +201,7 @@ class Function:
             return i, out
         if best:
             return i, best[0]
-        return i, [{"pre": "requires"}.get(rest[0], rest[0])] + tail(rest[1:])
+        return i, [{"pre": "requires"}.get(rest[0], plain(rest[0]))] + tail(rest[1:])
 
 
 def tail(labels):
@@ -282,8 +294,8 @@ class File:
         for _ in range(40):
             before = text
             for name, (steps, _) in self.place_functions.items():
-                text = re.sub(rf"\(\s*{re.escape(name)}\s+({NAME}(?:\.{NAME})*)\s*\)", lambda m: m[1] + steps, text)
-                text = re.sub(rf"(?<![\w.'-]){re.escape(name)}\s+({NAME}(?:\.{NAME})*)", lambda m: m[1] + steps, text)
+                text = re.sub(rf"\(\s*{re.escape(name)}\s+([A-Za-z_]{NAME[:-1]}*(?:\.{NAME})*)\s*\)", lambda m: m[1] + steps, text)
+                text = re.sub(rf"(?<![\w.'-]){re.escape(name)}\s+([A-Za-z_]{NAME[:-1]}*(?:\.{NAME})*)", lambda m: m[1] + steps, text)
             m = None
             for m in re.finditer(rf"let\s+({NAME})\s*=\s*({NAME}(?:\.{NAME})*)\s+in\s*", text):
                 if m[2].split(".")[0] in roots and re.search(r"\.", m[2]):
@@ -355,7 +367,8 @@ class File:
         env = dict(env)
         body = self.expand(body, env)
         if goal is None:
-            body = self.expand(self.inline(body, env), env)
+            for _ in range(4):
+                body = self.expand(self.inline(body, env), env)
         else:
             body = self.asked(body, env, goal)
         for local, new in self.local_goal.items():
