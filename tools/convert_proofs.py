@@ -119,6 +119,14 @@ class Function:
                 return rest
         return [names[n]] + rest[k:]
 
+    def gives_of(self, j, out):
+        callee = self.callee[j]
+        k = j
+        while callee is None and self.parent[k] is not None and out[0].startswith("in"):
+            k = self.parent[k]
+            callee = self.callee[k]
+        return self.clauses_of(callee or "")[1]
+
     def resolve(self, i, labels):
         found = self.resolve_plain(i, labels)
         if found is None or found[1] is None:
@@ -274,7 +282,6 @@ class File:
         self.turned_test = False
         self.first_place = {}
         self.place_functions = {}
-        self.place_lemmas = {}
 
     def place_types(self, text):
         def one(m):
@@ -311,37 +318,6 @@ class File:
                 break
         return text
 
-    def inline(self, text, env):
-        """Writes out the lemmas over a place that are asked of an earlier one."""
-        for _ in range(40):
-            changed = False
-            for name, (place, var, sig, body, is_value) in self.place_lemmas.items():
-                for m in re.finditer(rf"(?<![\w.'-]){re.escape(name)}\s+(\(?)({NAME}(?:\.{NAME})*)(\)?)", text):
-                    root = m[2].split(".")[0]
-                    if root not in env:
-                        continue
-                    found = self.f.resolve(env[root][1], env[root][2] + m[2].split(".")[1:])
-                    if found is None or found[1] is not None or found[0] == env[root][1]:
-                        continue
-                    own = rf"(?<![\w.'-]){re.escape(var)}(?![\w'-])"
-                    filled = re.sub(own, lambda k: m[2], body).strip()
-                    if is_value:
-                        new = f"({filled})"
-                    else:
-                        typ = re.sub(own, lambda k: m[2], sig).strip()
-                        new = f"(let it : ({typ}) = {filled} in it)"
-                    if m[1] and not m[3]:
-                        continue
-                    end = m.end() - (1 if m[3] and not m[1] else 0)
-                    text = text[: m.start()] + new + text[end:]
-                    changed = True
-                    break
-                if changed:
-                    break
-            if not changed:
-                break
-        return text
-
     def asked(self, body, env, goal):
         """Gives each lemma over a place the record of that place."""
         for name, place in self.first_place.items():
@@ -353,7 +329,7 @@ class File:
                 if self.f.last_of(place) == self.f.last_of(env[root][1]):
                     new = var
                 else:
-                    new = f"(goal.at.{goal} {var}).{self.f.new_place[self.f.last_of(place)]}"
+                    new = f"(goal.at.{goal or self.f.new_place[self.f.last_of(env[root][1])]} {var}).{self.f.new_place[self.f.last_of(place)]}"
                 opened, closed = m[1] or "", m[3] or ""
                 if opened and closed:
                     opened = closed = ""
@@ -366,11 +342,7 @@ class File:
         """Writes the paths of body; env gives for a variable its place, or a path from one."""
         env = dict(env)
         body = self.expand(body, env)
-        if goal is None:
-            for _ in range(4):
-                body = self.expand(self.inline(body, env), env)
-        else:
-            body = self.asked(body, env, goal)
+        body = self.asked(body, env, goal)
         for local, new in self.local_goal.items():
             if local != goal:
                 body = re.sub(rf"(?<![\w.'-]){re.escape(local)}(?![\w'-])", lambda m: new, body)
@@ -412,14 +384,16 @@ class File:
                 if len(out) > 1 and out[0].startswith("if-not-") and out[1] in ("true", "false") and not out[2:]:
                     self.turned_test = True
                     return "(ap not " + ".".join([var] + out) + ")"
-                return ".".join([var] + out)
+                whole = ".".join([var] + out)
+                if out[-1] == "ensures" and len(out) > 1:
+                    gives = self.f.gives_of(i, out)
+                    if len(gives) > 1:
+                        return "(" + ", ".join(f"{whole}.{x}" for x in gives) + ")"
+                return whole
             if self.f.last_of(i) == self.f.last_of(place):
                 return var
             new = self.f.new_place[self.f.last_of(i)]
-            if goal is None:
-                self.left.append(f"place {new} of {m[0]} in a lemma")
-                return f"{m[0]}"
-            return f"(goal.at.{goal} {var}).{new}"
+            return f"(goal.at.{goal or self.f.new_place[self.f.last_of(place)]} {var}).{new}"
 
         return PATH.sub(one, text).replace("\x00", "")
 
@@ -457,7 +431,7 @@ class File:
                     positions[pos] = self.f.index[norm(pm[1])]
                 pos += 1
         sig = self.expand(sig, env_sig)
-        sig = self.place_types(self.paths(self.expand(self.inline(sig, env_sig), env_sig), env_sig, None))
+        sig = self.place_types(self.paths(self.asked(self.expand(sig, env_sig), env_sig, None), env_sig, None))
         out = lines[:start] + [sig]
         rest = "\n".join(lines[clause:])
         parts = re.split(rf"(?m)^(?={re.escape(name)}(?:\s|$))", rest)
@@ -603,12 +577,6 @@ def convert(crate, folder, function, text):
             if re.fullmatch(rf"{re.escape(m[6])}(\.before)*", chain):
                 file.place_functions[m[1]] = (chain[len(m[6]) :], o)
                 continue
-        m = re.match(rf"(?:pub |abbrev |unfoldable )*({NAME})\s*:\s*(?:{PLACE_TYPE}|\(({NAME})\s*:\s*{PLACE_TYPE}\s*\))\s*→(.*?)\n((?:unfolding[^\n]*\n)?)\1\s+({NAME})\s*=(.*)\Z", plain, re.S)
-        if m and norm(m[2] or m[5]) in f.index:
-            sig = m[7]
-            if m[4] and m[4] != m[9]:
-                sig = re.sub(rf"(?<![\w.'-]){re.escape(m[4])}(?![\w'-])", m[9], sig)
-            file.place_lemmas[m[1]] = (f.index[norm(m[2] or m[5])], m[9], sig, m[10], bool(re.match(r"(pub )?abbrev", plain)) and not m[4])
     others = [o for o in others if not any(o is k for _, k in file.place_functions.values())]
     for o in others:
         plain = "\n".join(l for l in o.split("\n") if not l.startswith("--"))
