@@ -217,7 +217,11 @@ fn run_index(
     run_cases(rt, &index[0..len], script, answers, &mut out)
 }
 
-fn run_both(rt: &(impl Files + Print), script: &mut [u8], answers: &mut [u8]) -> io::Result<()> {
+fn run_both(
+    rt: &(impl Files + Print),
+    script: &mut [u8; SCRIPT_BYTES],
+    answers: &mut [u8; ANSWERS_BYTES],
+) -> io::Result<()> {
     run_index(rt, b"index", script, answers)?;
     run_index(rt, b"rust_index", script, answers)
 }

@@ -98,7 +98,7 @@ fn rewrite_lines(rt: &impl Print, input: &[u8]) -> io::Result<()> {
     Ok(())
 }
 
-fn run(rt: &(impl Input + Print), input: &mut [u8]) -> io::Result<()> {
+fn run(rt: &(impl Input + Print), input: &mut [u8; INPUT_BYTES]) -> io::Result<()> {
     let n = full_reads::read_full(&mut rt.reader(), input)?;
     rewrite_lines(rt, &input[0..n])
 }
