@@ -56,7 +56,7 @@ fn read_path(rt: &impl Files, path: &[u8], bytes: &mut [u8]) -> io::Result<usize
         return Err(io::Error::from(io::ErrorKind::InvalidInput));
     };
     let mut file = fs::open(rt, path)?;
-    full_reads::read_full(&mut file, bytes)
+    bytes_input::read_full(&mut file, bytes)
 }
 
 fn read_file(rt: &impl Files, name: &[u8], ending: &[u8], bytes: &mut [u8]) -> FileRead
