@@ -1,2 +1,1 @@
 pub mod Catalog
-pub mod CatalogLaws

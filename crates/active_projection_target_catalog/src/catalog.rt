@@ -3,13 +3,13 @@ ghost use Rattle.std.specs.Prelude.{◌≡◌};
 ghost use mathlib.Core.List.{flat_map};
 ghost use Rattle.active_projection_target_catalog.specs.Catalog.{pair_numbers, padded_pairs, catalog_with};
 
-#[derive(Drop)]
+#[derive(Clone, Copy)]
 pub struct BindingPair {
     pub node: u64,
     pub slot: u32,
 }
 
-#[derive(Drop)]
+#[derive(Clone, Copy)]
 pub struct ActiveProjectionTargetCatalog {
     pub node_count: usize,
     pub binding_count: usize,

@@ -7,7 +7,7 @@ use native.Mathlib.Omega.{arith}
 use lib.ListN.{length, set, replicate, length-append, length-replicate}
 use lib.Seq.{set_at}
 use Rattle.spec_decimal.specs.Decimal.{digit, decimal}
-use Rattle.spec_decimal.specs.ReadLaws.{decimal_last, decimal_more, length_decimal}
+use Rattle.spec_decimal.proofs.ReadLaws.{decimal_last, decimal_more, length_decimal}
 use Rattle.bytes_decimal.specs.Print.{most_digits}
 
 -- the digits of rest are those of n that are not stored: zeros stand up to index start, and the last digits of n behind it

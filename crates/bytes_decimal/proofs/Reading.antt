@@ -11,7 +11,7 @@ use lib.ListN.{length, get_or, drop, length-drop, drop_of_length-le}
 use lib.Seq.{drop-cons, get_or-drop}
 use borrow.Author.Tests.{ltb-true, ltb-false, lt-ltb, le-ltb, le-leb, lt-leb, eq-eqb, ne_eqb}
 use Rattle.spec_lists.specs.Lists.{all}
-use Rattle.spec_lists.specs.ListLaws.{and_left, and_right, test_cases}
+use Rattle.spec_lists.proofs.ListLaws.{and_left, and_right, test_cases}
 use Rattle.spec_decimal.specs.Decimal.{is_digit, is_numeral, number_with, read_decimal}
 use Rattle.bytes_decimal.specs.Read.{with_digit, read_digits}
 

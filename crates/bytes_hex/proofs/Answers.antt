@@ -9,10 +9,10 @@ use lib.Dec.{eqb}
 use lib.ListN.{length, get_or}
 use borrow.Author.Tests.{eqb-true, eq-eqb, ne_eqb, le-leb, lt-leb}
 use Rattle.spec_lists.specs.Lists.{all}
-use Rattle.spec_lists.specs.ListLaws.{and_left, test_cases}
+use Rattle.spec_lists.proofs.ListLaws.{and_left, test_cases}
 use Rattle.spec_replay.specs.Hex.{hex_pairs, read_hex}
 use Rattle.bytes_wire.specs.Write.{overwrite}
-use Rattle.bytes_wire.specs.WriteLaws.{has_room_lem, no_room, overwrite_in_place, overwrite_refused}
+use Rattle.bytes_wire.proofs.WriteLaws.{has_room_lem, no_room, overwrite_in_place, overwrite_refused}
 use Rattle.bytes_hex.specs.declared.Decoded.TheVariants.{Bytes, Malformed, NoRoom}
 use Rattle.bytes_hex.specs.Decoding.{is_hex_digit, is_pairs, pair_bytes, decoding, decoded_into}
 use Rattle.bytes_hex.specs.DecodingLaws.{hex_pairs_is, length_pair_bytes}

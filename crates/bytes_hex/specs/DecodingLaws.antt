@@ -3,11 +3,11 @@ use Rattle.std.specs.Prelude.{ℕ, zero, suc, ◌+◌, ◌-◌, ◌*◌, ◌/◌
 use Rattle.std.proofs.Common.{sym, ap, ◌∙◌, arith, le-leb, leb-true}
 use Rattle.std.proofs.Math.Option.{Option, none, some}
 use Rattle.spec_lists.specs.Lists.{if◌then◌else◌, all, equal_lists}
-use Rattle.spec_lists.specs.ListLaws.{test_cases}
+use Rattle.spec_lists.proofs.ListLaws.{test_cases}
 use Rattle.spec_decimal.specs.Decimal.{is_digit}
 use Rattle.spec_replay.specs.Hex.{hex_digit, hex_byte, cons, hex_pairs, read_hex}
 use Rattle.bytes_wire.specs.Write.{has_room, overwrite}
-use Rattle.bytes_wire.specs.WriteLaws.{has_room_lem, take_overwrite}
+use Rattle.bytes_wire.proofs.WriteLaws.{has_room_lem, take_overwrite}
 use Rattle.bytes_hex.specs.declared.Decoded.TheVariants as Answer
 use Rattle.bytes_hex.specs.Decoding.{is_hex_digit, hex_value, is_pairs, pair_bytes, decoding, decoded_into}
 

@@ -7,7 +7,7 @@ use mir.Syntax.{w64}
 use mir.Val.{SFits, to_z, of_z}
 use mir.Facts.{to_z-of_z}
 use lib.IntN.{ℤ, nat_abs}
-use Rattle.bytes_wire.specs.Complement.{flip, Below, AtLeast}
+use Rattle.bytes_wire.proofs.Complement.{flip, Below, AtLeast}
 use Rattle.spec_decimal.specs.Decimal.{decimal, signed_decimal}
 
 -- the magnitude as the code computes it, of a number below 0 and of any other

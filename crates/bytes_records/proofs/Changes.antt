@@ -8,7 +8,7 @@ use lib.ListN.{length, take, drop, get_or, length-append, length-take, length-dr
 use lib.Seq.{take_at, drop_at}
 use borrow.Rule.Slice.PartMut.{mid_of, put_mid}
 use borrow.Author.Tests.{le-leb, lt-leb, lt-ltb, le-ltb, eq-eqb, ne_eqb}
-use Rattle.spec_lists.specs.ListLaws.{all_append, all_take, all_drop}
+use Rattle.spec_lists.proofs.ListLaws.{all_append, all_take, all_drop}
 use Rattle.bytes_records.specs.Positions.{insert_at, remove_at, replace_at}
 use Rattle.bytes_records.specs.Table.{Wide, HoldsRows, can_insert, can_remove, can_replace, Changed}
 use Rattle.bytes_records.specs.TableLaws.{flatten_append, flatten_middle, wide_middle, zeros_split, holds, before_length, after_length, rows_split, row_width, row_bytes, row_split}

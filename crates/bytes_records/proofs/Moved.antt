@@ -10,7 +10,7 @@ use lib.ListN.{length, take, drop, get_or, length-append, length-take, length-dr
 use lib.Seq.{take_at, drop_at, take-add, drop-drop, split_at}
 use borrow.Rule.Slice.PartMut.{mid_of, put_mid}
 use borrow.Author.Tests.{le-leb, lt-leb, lt-ltb, le-ltb, eq-eqb, ne_eqb}
-use Rattle.spec_lists.specs.ListLaws.{all_append, all_left, all_right}
+use Rattle.spec_lists.proofs.ListLaws.{all_append, all_left, all_right}
 use Rattle.bytes_records.specs.Positions.{insert_at, remove_at, move_at}
 use Rattle.bytes_records.specs.Table.{Wide, HoldsRows, can_move}
 use Rattle.bytes_records.specs.TableLaws.{flatten_append, flatten_middle, wide_middle, length_flatten, holds, rows_padded}

@@ -6,8 +6,8 @@ use native.Mathlib.Omega.{arith}
 use lib.ListN.{length, take, drop, get_or, length-drop, length-take, take-append-drop}
 use lib.Seq.{drop-cons, drop-length}
 use Rattle.spec_lists.specs.Bytes.{Bytes, number_of}
-use Rattle.spec_lists.specs.BytesLaws.{bytes_drop, number_of_lt, number_of_append}
-use Rattle.spec_lists.specs.ListLaws.{lent_from_lem}
+use Rattle.spec_lists.proofs.BytesLaws.{bytes_drop, number_of_lt, number_of_append}
+use Rattle.spec_lists.proofs.ListLaws.{lent_from_lem}
 
 -- no byte is read
 pub number_start : (l : List ℕ) → 0 ≡ number_of (drop (length l) l)

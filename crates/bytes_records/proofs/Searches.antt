@@ -11,7 +11,7 @@ use lib.Seq.{take-take, take-add, drop_at, drop-drop}
 use borrow.Author.Tests.{ltb-true, ltb-false, eqb-true}
 use borrow.Rule.Slice.PartMut.{mid_of}
 use Rattle.spec_lists.specs.Lists.{if◌then◌else◌}
-use Rattle.spec_lists.specs.ListLaws.{and_left}
+use Rattle.spec_lists.proofs.ListLaws.{and_left}
 use Rattle.spec_lists.specs.Order.{lex_less}
 use Rattle.bytes_records.specs.Positions.{first_index}
 use Rattle.bytes_records.specs.PositionsLaws.{first_index_le, first_passes}

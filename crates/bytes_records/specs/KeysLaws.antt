@@ -2,7 +2,7 @@
 use Rattle.std.specs.Prelude.{ℕ, ◌^◌, ◌<◌, ◌≡◌, List, ◌∷◌, ◌++◌}
 use Rattle.std.proofs.Common.{take_at, drop_at}
 use Rattle.spec_lists.specs.Bytes.{little_endian}
-use Rattle.spec_lists.specs.BytesLaws.{length_little_endian, number_of_little_endian}
+use Rattle.spec_lists.proofs.BytesLaws.{length_little_endian, number_of_little_endian}
 use Rattle.bytes_records.specs.Keys.{leading_numbers}
 
 -- the numbers that a row begins with

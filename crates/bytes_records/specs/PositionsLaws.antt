@@ -10,7 +10,7 @@ use Rattle.std.proofs.Math.Numerals.{add-one}
 use native.Mathlib.Omega.{arith}
 use Rattle.std.proofs.Math.ListN.{length}
 use Rattle.spec_lists.specs.Lists.{if◌then◌else◌, any, All}
-use Rattle.spec_lists.specs.ListLaws.{map_take, map_drop}
+use Rattle.spec_lists.proofs.ListLaws.{map_take, map_drop}
 use Rattle.bytes_records.specs.Positions.{insert_at, remove_at, replace_at, first_index}
 
 -- ---- one element more
@@ -22,13 +22,13 @@ length_insert_at i a l = omega (arith, length-append (take i l) (a ∷ drop i l)
 
 module _ {A B : Type 0} (f : A → B) where
   pub map_insert_at : (i : ℕ) (a : A) (l : List A) → map f (insert_at i a l) ≡ insert_at i (f a) (map f l)
-  map_insert_at i a l = map-append f (take i l) (a ∷ drop i l) ∙ rw (map_take, map_drop)
+  map_insert_at i a l = map-append f (take i l) (a ∷ drop i l) ∙ rw (map_take f i l, map_drop f i l)
 
   pub map_remove_at : (i : ℕ) (l : List A) → map f (remove_at i l) ≡ remove_at i (map f l)
-  map_remove_at i l = map-append f (take i l) (drop (i + 1) l) ∙ rw (map_take, map_drop)
+  map_remove_at i l = map-append f (take i l) (drop (i + 1) l) ∙ rw (map_take f i l, map_drop f (i + 1) l)
 
   pub map_replace_at : (i : ℕ) (a : A) (l : List A) → map f (replace_at i a l) ≡ replace_at i (f a) (map f l)
-  map_replace_at i a l = map-append f (take i l) (a ∷ drop (i + 1) l) ∙ rw (map_take, map_drop)
+  map_replace_at i a l = map-append f (take i l) (a ∷ drop (i + 1) l) ∙ rw (map_take f i l, map_drop f (i + 1) l)
 
   -- a test of the images is a test of the elements
   pub first_index_map : (test : B → Bool) (own : A → Bool) (l : List A) → All (λ x. test (f x) ≡ own x) l → first_index test (map f l) ≡ first_index own l

@@ -11,7 +11,7 @@ use Rattle.std.proofs.Math.ListN.{length}
 use Rattle.std.proofs.lemmas.List.{length-map}
 use borrow.Author.Tests.{lt-ltb, le-ltb, ltb-true, ltb-false}
 use Rattle.spec_lists.specs.Lists.{if◌then◌else◌, any, All}
-use Rattle.spec_lists.specs.ListLaws.{all_map, all_member, get_or_member}
+use Rattle.spec_lists.proofs.ListLaws.{all_map, all_member, get_or_member}
 use Rattle.spec_lists.specs.Bytes.{number_of}
 use Rattle.spec_lists.specs.Order.{lex_less, upsert}
 use Rattle.bytes_records.specs.Positions.{first_index}

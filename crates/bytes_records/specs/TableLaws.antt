@@ -6,7 +6,7 @@ use Rattle.std.proofs.lemmas.List.{length-map, length-replicate, replicate-appen
 use Rattle.std.proofs.Math.ListN.{get_or-eq_default}
 use borrow.Author.Tests.{le-leb, lt-ltb, eq-eqb}
 use Rattle.spec_lists.specs.Lists.{All}
-use Rattle.spec_lists.specs.ListLaws.{all_append, all_take, all_drop}
+use Rattle.spec_lists.proofs.ListLaws.{all_append, all_take, all_drop}
 use Rattle.bytes_records.specs.Moves.{zeros}
 use Rattle.bytes_records.specs.Table.{Wide, table_bytes, HoldsRows, can_insert, can_remove, can_replace, can_move}
 

@@ -10,10 +10,10 @@ use lib.ListN.{length, drop, get_or, replicate, length-drop, length-replicate}
 use lib.Seq.{drop-cons, drop-nil, drop-drop, get_or-drop}
 use borrow.Author.Tests.{le-leb}
 use Rattle.spec_lists.specs.Lists.{if◌then◌else◌}
-use Rattle.spec_lists.specs.ListLaws.{and_left, and_right, test_cases}
+use Rattle.spec_lists.proofs.ListLaws.{and_left, and_right, test_cases}
 use Rattle.spec_text.specs.Syntax.{Range, tail, inside, sequences, After, expects, refused, lead, advance, is_utf8_after, is_utf8, characters}
-use Rattle.spec_text.specs.SyntaxLaws.{refused_stays}
-use Rattle.spec_text.specs.SequenceLaws.{counted_from}
+use Rattle.spec_text.proofs.SyntaxLaws.{refused_stays}
+use Rattle.spec_text.proofs.SequenceLaws.{counted_from}
 use Rattle.bytes_utf8.specs.Classes.{class_of, IsTailClass, tails, sequence, after_class}
 use Rattle.bytes_utf8.specs.Characters.{matches, length_after, character_length}
 use Rattle.bytes_utf8.proofs.TableLaws.{tail_class, lead_class}

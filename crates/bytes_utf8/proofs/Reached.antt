@@ -7,7 +7,7 @@ use native.Mathlib.Nat.{zero-add, add-zero, add_assoc, le_antisymm}
 use native.Mathlib.Omega.{arith}
 use lib.ListN.{length, get_or, take, drop, length-drop}
 use lib.Seq.{drop-length, drop-drop, get_or-drop}
-use Rattle.spec_lists.specs.ListLaws.{lent_from_lem}
+use Rattle.spec_lists.proofs.ListLaws.{lent_from_lem}
 use Rattle.spec_text.specs.Syntax.{After, is_utf8, characters}
 use Rattle.bytes_utf8.specs.Classes.{class_of, after_class}
 use Rattle.bytes_utf8.specs.Characters.{length_after, character_length, AsciiBetween, Reached}

@@ -9,7 +9,7 @@ use lib.Dec.{eqb, leb, ltb}
 use lib.ListN.{get_or}
 use borrow.Author.Tests.{eqb-true, eq-eqb, ltb-true}
 use Rattle.spec_lists.specs.Lists.{equal_lists}
-use Rattle.spec_lists.specs.ListLaws.{and_left, and_right, equal_lists_equal}
+use Rattle.spec_lists.proofs.ListLaws.{and_left, and_right, equal_lists_equal}
 use Rattle.spec_text.specs.Syntax.{Range, ◌⋯◌, inside, sequences, After, expects, refused, lead}
 use Rattle.bytes_utf8.specs.Classes.{class_of, after_class, tails, IsTailClass, IsClassTable}
 use Rattle.bytes_utf8.proofs.Below.{all_below, pass}

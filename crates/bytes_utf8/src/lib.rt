@@ -18,7 +18,7 @@ pub enum Utf8Check {
 }
 
 // How far a text was read: so many bytes, which are so many characters.
-#[derive(Drop)]
+#[derive(Clone, Copy)]
 struct Position {
     at: usize,
     characters: usize,

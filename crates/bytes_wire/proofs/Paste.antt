@@ -7,7 +7,7 @@ use native.Mathlib.Omega.{arith}
 use lib.ListN.{length, get_or, set}
 use lib.Seq.{paste, paste-suc, take-length}
 use Rattle.bytes_wire.specs.Write.{overwrite}
-use Rattle.bytes_wire.specs.WriteLaws.{has_room_lem, overwrite_in_place}
+use Rattle.bytes_wire.proofs.WriteLaws.{has_room_lem, overwrite_in_place}
 
 module _ (l : List ℕ) (at : ℕ) (bs : List ℕ) (room : at + length bs ≤ length l) where
   -- the byte at index i is written

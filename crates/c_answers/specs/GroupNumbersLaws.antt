@@ -10,7 +10,7 @@ use native.Mathlib.Omega.{arith}
 use borrow.Author.Tests.{leb-true, leb-false}
 use Rattle.std.proofs.Math.ListN.{take, length-set, length-append}
 use Rattle.std.proofs.Math.Seq.{take_all, take-append-le}
-use Rattle.spec_lists.specs.ListLaws.{test_cases}
+use Rattle.spec_lists.proofs.ListLaws.{test_cases}
 use Rattle.spec_group.specs.Group as model
 use Rattle.spec_group.specs.Group.{group_batches}
 use Rattle.session_group.specs.declared.GroupBatch.{GroupBatch}

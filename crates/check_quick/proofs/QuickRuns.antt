@@ -11,8 +11,8 @@ use Rattle.spec_patch.specs.Patch.{Envelope, Operation}
 use Rattle.spec_patch.specs.Edition.{Edition}
 use Rattle.spec_patch.specs.Reader.{Result, read, refused, onward, many}
 use Rattle.spec_patch.specs.Read.{read_operation, to_patch, read_patch}
-use Rattle.spec_patch.specs.Codec.{many_codec}
-use Rattle.spec_patch.specs.ReadLaws.{operation_codec}
+use Rattle.spec_patch.proofs.Codec.{many_codec}
+use Rattle.spec_patch.proofs.ReadLaws.{operation_codec}
 use Rattle.spec_checks.specs.Target.{MutationTarget, mutation_target}
 use Rattle.spec_checks.specs.PatchChecks.{before_self_lem}
 use Rattle.projection_patch.specs.Meaning.{operation_to, envelope_of, operation_of}

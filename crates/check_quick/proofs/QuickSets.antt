@@ -9,13 +9,13 @@ use borrow.Author.Tests.{lt-ltb, le-ltb}
 use lib.ListN.{length, take, drop, set, length-append, length-drop}
 use Rattle.spec_lists.specs.Lists.{if◌then◌else◌}
 use Rattle.spec_lists.specs.Bytes.{Bytes}
-use Rattle.spec_lists.specs.BytesLaws.{bytes_drop, length_little_endian}
+use Rattle.spec_lists.proofs.BytesLaws.{bytes_drop, length_little_endian}
 use Rattle.spec_patch.specs.Patch.{Envelope, Patch}
 use Rattle.spec_patch.specs.Edition.{Edition}
 use Rattle.spec_patch.specs.Encode.{u32, u64, encode_optional, encode_operation, encode_envelope, encode_counted, encode_patch}
 use Rattle.spec_patch.specs.Reader.{Result, read, refused, onward, many}
 use Rattle.spec_patch.specs.Read.{read_patch, SetReading, patches, fault, ended}
-use Rattle.spec_patch.specs.ReadLaws.{patch_codec}
+use Rattle.spec_patch.proofs.ReadLaws.{patch_codec}
 use Rattle.spec_checks.specs.Target.{MutationTarget}
 use Rattle.spec_projection.specs.Apply.{operations_of}
 use Rattle.projection_patch.specs.Meaning.{envelope_of}

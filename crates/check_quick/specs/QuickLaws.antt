@@ -4,10 +4,10 @@ use Rattle.std.proofs.Common.{sym, ap, ap₂, ◌∙◌, arith, ne_eqb}
 use mathlib.Core.List.{List, [], ◌∷◌, ◌++◌, map, flat_map, reverse, reverse-append}
 use Rattle.std.proofs.Math.Option.{Option, none, some}
 use Rattle.spec_lists.specs.Lists.{if◌then◌else◌, any, is_empty}
-use Rattle.spec_lists.specs.ListLaws.{any_reverse, empty_count}
+use Rattle.spec_lists.proofs.ListLaws.{any_reverse, empty_count}
 use Rattle.spec_lists.specs.Order.{upsert, sort_unique}
-use Rattle.spec_lists.specs.OrderLaws.{upsert_cases}
-use Rattle.spec_lists.specs.ListLaws.{any_map}
+use Rattle.spec_lists.proofs.OrderLaws.{upsert_cases}
+use Rattle.spec_lists.proofs.ListLaws.{any_map}
 use Rattle.spec_patch.specs.Patch.{Operation, Envelope, Patch}
 use Rattle.spec_checks.specs.Finding.{Finding, finding_key, report, check_each}
 use Rattle.spec_patch.specs.Read.{SetReading, patches, fault}

@@ -17,7 +17,7 @@ use Rattle.spec_checks.specs.PatchChecks.{raw_patch_findings, patch_findings}
 use Rattle.spec_checks.specs.SetChecks.{after_findings, raw_set_findings, set_findings}
 use Rattle.spec_checks.specs.Findings.{in_patch, in_set, Findings, first_findings, findings}
 use Rattle.spec_checks.specs.Answer.{record_length}
-use Rattle.spec_checks.specs.CountLaws.{raw_set_length}
+use Rattle.spec_checks.proofs.CountLaws.{raw_set_length}
 use Rattle.projection_patch.specs.Meaning.{envelope_of}
 use Rattle.projection_patch.specs.declared.patch.ProjectionPatch.{ProjectionPatch}
 use Rattle.patch_sets.specs.Walk.{head_of}

@@ -9,14 +9,14 @@ use lib.ListN.{length, take, drop, length-take}
 use lib.Seq.{take_all}
 use borrow.Author.Tests.{leb-true, leb-false}
 use Rattle.spec_lists.specs.Lists.{if◌then◌else◌}
-use Rattle.spec_lists.specs.ListLaws.{test_cases}
+use Rattle.spec_lists.proofs.ListLaws.{test_cases}
 use Rattle.spec_patch.specs.Patch.{Patch}
 use Rattle.spec_patch.specs.Read.{SetReading, patches, fault}
 use Rattle.spec_checks.specs.Finding.{Finding, finding_key}
 use Rattle.spec_checks.specs.Findings.{Place, in_patch, in_set, Findings, findings}
-use Rattle.spec_checks.specs.PartsLaws.{clean_of_findings, findings_of_clean}
+use Rattle.spec_checks.proofs.PartsLaws.{clean_of_findings, findings_of_clean}
 use Rattle.spec_checks.specs.Answer.{record_length, finding_words, fitting, write_findings, checked_list}
-use Rattle.spec_checks.specs.AnswerLaws.{finding_words_length, fitting_length, fitting_all}
+use Rattle.spec_checks.proofs.AnswerLaws.{finding_words_length, fitting_length, fitting_all}
 use Rattle.projection_patch.specs.ReadAnswers.{fault_to}
 use Rattle.projection_patch.specs.declared.read_values.ProjectionPatchReadFault.{ProjectionPatchReadFault}
 use Rattle.patch_sets.specs.SetAnswers.{operation_count_lem}

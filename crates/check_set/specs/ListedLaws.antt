@@ -6,10 +6,10 @@ use mathlib.Core.List.Memᴰ
 use mathlib.Core.List.{List, [], ◌∷◌, ◌++◌, append_assoc, flat_map, map, reverse, Memᴰ}
 use Rattle.std.proofs.Math.ListN.{length}
 use Rattle.std.proofs.lemmas.List.{length-reverse}
-use Rattle.spec_lists.specs.ListLaws.{any_reverse, empty_count}
+use Rattle.spec_lists.proofs.ListLaws.{any_reverse, empty_count}
 use Rattle.spec_lists.specs.Order.{sort_unique}
-use Rattle.spec_lists.specs.OrderLaws.{upsert_new}
-use Rattle.spec_lists.specs.ListLaws.{any_map}
+use Rattle.spec_lists.proofs.OrderLaws.{upsert_new}
+use Rattle.spec_lists.proofs.ListLaws.{any_map}
 use Rattle.spec_patch.specs.Sizes.{patch_operations}
 use Rattle.spec_patch.specs.Patch.{Operation, Patch}
 use Rattle.spec_checks.specs.Finding.{Finding, finding, finding_key, kind_number, report, check_each, empty_operations, duplicate_patch_id}
@@ -18,7 +18,7 @@ use Rattle.spec_checks.specs.PatchChecks.{before_self_lem, operation_findings, e
 use Rattle.spec_checks.specs.SetChecks.{duplicate_id_findings, previous_findings, after_findings}
 use Rattle.spec_checks.specs.Findings.{Place, in_patch, Findings, first_findings}
 use Rattle.spec_checks.specs.Answer.{record_length}
-use Rattle.spec_checks.specs.CountLaws.{raw_patch_length}
+use Rattle.spec_checks.proofs.CountLaws.{raw_patch_length}
 use Rattle.check_targets.specs.Targets.{target_numbers, target_seen}
 use Rattle.check_targets.specs.TargetsLaws.{seen_earlier}
 use Rattle.check_table.specs.FindingTable.{KeptFindings}

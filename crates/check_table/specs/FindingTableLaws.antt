@@ -7,9 +7,9 @@ use Rattle.std.proofs.Math.ListN.{length, take, drop, take-append-drop, length-a
 use borrow.Rule.Slice.PartMut.{mid_of, put_mid}
 use Rattle.std.proofs.lemmas.Bool.{lt-leb}
 use Rattle.spec_lists.specs.Lists.{if◌then◌else◌}
-use Rattle.spec_lists.specs.ListLaws.{flat_map_append}
+use Rattle.spec_lists.proofs.ListLaws.{flat_map_append}
 use Rattle.spec_lists.specs.Order.{lex_less, upsert, sort_unique}
-use Rattle.spec_lists.specs.OrderLaws.{lex_less_total, sort_unique_length, sort_unique_snoc}
+use Rattle.spec_lists.proofs.OrderLaws.{lex_less_total, sort_unique_length, sort_unique_snoc}
 use Rattle.bytes_records.specs.Moves.{push_front}
 use Rattle.bytes_records.proofs.Parts.{lent}
 use Rattle.bytes_records.specs.Keys.{order_of}
@@ -23,8 +23,8 @@ use Rattle.bytes_records.specs.declared.Place.{Place}
 use Rattle.bytes_records.specs.declared.Place.TheVariants.{Taken, Before}
 use Rattle.spec_checks.specs.Finding.{Finding, finding_key}
 use Rattle.spec_checks.specs.Answer.{record_length, finding_words}
-use Rattle.spec_checks.specs.AnswerLaws.{finding_words_length}
-use Rattle.spec_checks.specs.FindingsLaws.{finding_key_injective}
+use Rattle.spec_checks.proofs.AnswerLaws.{finding_words_length}
+use Rattle.spec_checks.proofs.FindingsLaws.{finding_key_injective}
 use Rattle.check_targets.specs.Threes.{three_at}
 use Rattle.check_table.specs.FindingTable.{findings_in, table_has_room, inserted_findings, inserted_count, inserted_numbers, KeptFindings}
 

@@ -11,7 +11,7 @@ ghost use Rattle.check_table.specs.FindingTable.{finding_of, findings_in, insert
 use bytes_records::Place;
 use bytes_records::keys::Order;
 
-#[derive(Drop)]
+#[derive(Clone, Copy)]
 pub struct Finding {
     pub kind: u64,
     pub domain: u64,

@@ -4,7 +4,7 @@ use Rattle.std.proofs.Common.{sym, ap, ◌∙◌, arith, mod-lt, eqb-true, lengt
 use mathlib.Core.List.{List, [], ◌∷◌, ◌++◌, flat_map}
 use Rattle.std.proofs.lemmas.Bool.{eqb-false}
 use Rattle.spec_lists.specs.Lists.{All}
-use Rattle.spec_lists.specs.ListLaws.{flat_map_append, test_cases, and_left, and_right}
+use Rattle.spec_lists.proofs.ListLaws.{flat_map_append, test_cases, and_left, and_right}
 use Rattle.spec_checks.specs.Target.{MutationTarget}
 use Rattle.check_targets.specs.Targets.{equal_targets, numbers_of, target_seen}
 use Rattle.check_targets.specs.Marks.{mark_places, mark_of, HasMark, Marked}

@@ -3,10 +3,10 @@ use Rattle.std.specs.Prelude.{ℕ, zero, suc, ◌+◌, ◌-◌, ◌≤◌, ◌<�
 use Rattle.std.proofs.Common.{sym, ap, ◌∙◌, arith, length-append, length-take, length-drop, take_at}
 use mathlib.Core.List.{List, [], ◌∷◌, ◌++◌, Memᴰ, append_assoc, flat_map, reverse}
 use Rattle.spec_lists.specs.Lists.{any}
-use Rattle.spec_lists.specs.ListLaws.{flat_map_append, any_reverse, any_member, member_any}
+use Rattle.spec_lists.proofs.ListLaws.{flat_map_append, any_reverse, any_member, member_any}
 use Rattle.spec_patch.specs.Patch.{Operation}
 use Rattle.spec_checks.specs.Target.{MutationTarget, mutation_target, same_target}
-use Rattle.spec_checks.specs.RulesLaws.{same_target_true, true_same_target}
+use Rattle.spec_checks.proofs.RulesLaws.{same_target_true, true_same_target}
 use Rattle.check_targets.specs.Targets.{equal_targets, numbers_of, target_numbers, target_seen, with_target}
 use Rattle.check_targets.specs.Threes.{three_at}
 

@@ -12,7 +12,7 @@ use projection_patch::contract_primitives::CollectionKey;
 use projection_patch::patch::{OptionalKey, ProjectionPatch, ProjectionPatchOperation};
 
 // The kind of operation by its canonical number, and the ids that tell it from others of that kind.
-#[derive(Drop)]
+#[derive(Clone, Copy)]
 pub struct MutationTarget {
     pub kind: u64,
     pub first: u64,

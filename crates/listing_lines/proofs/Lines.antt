@@ -6,10 +6,10 @@ use native.Mathlib.Numerals.{add-one}
 use native.Mathlib.Omega.{arith}
 use lib.ListN.{length, take, get_or}
 use Rattle.spec_lists.specs.Lists.{All}
-use Rattle.spec_lists.specs.ListLaws.{flat_map_append}
+use Rattle.spec_lists.proofs.ListLaws.{flat_map_append}
 use Rattle.bytes_printer.specs.declared.Printed.{Printed}
 use Rattle.bytes_printer.specs.Prints.{Prints}
-use Rattle.bytes_printer.specs.PrintsLaws.{◌⨾◌, prints_same}
+use Rattle.bytes_printer.proofs.PrintsLaws.{◌⨾◌, prints_same}
 use Rattle.listing_lines.specs.declared.RowKind.{RowKind}
 use Rattle.listing_lines.specs.RowKinds.{Element, FitsRow as FitsKind, row_of, line_of_row}
 

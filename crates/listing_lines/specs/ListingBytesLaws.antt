@@ -10,17 +10,17 @@ use Rattle.spec_patch.specs.Encode.{quad_byte, availability_byte}
 use Rattle.spec_patch.specs.Fits.{Storable, StorableBy}
 use Rattle.spec_patch.specs.Reader.{fault_number}
 use Rattle.spec_patch.specs.Read.{SetReading, patches, fault, read_set}
-use Rattle.spec_patch.specs.SetLaws.{was_encoded}
+use Rattle.spec_patch.proofs.SetLaws.{was_encoded}
 use Rattle.spec_checks.specs.Findings.{findings}
 use Rattle.spec_projection.specs.Projection.{Binding, NodeAvailability, Entry, Projection, empty}
 use Rattle.spec_projection.specs.Apply.{Outcome, done, stopped, operation_fault_number, apply_steps, replay_steps}
 use Rattle.spec_projection.specs.Valid.{FitsBinding, FitsNodeAvailability, FitsEntry, Valid}
-use Rattle.spec_projection.specs.ValidLaws.{empty_valid, apply_steps_valid, replay_steps_fit}
+use Rattle.spec_projection.proofs.ValidLaws.{empty_valid, apply_steps_valid, replay_steps_fit}
 use Rattle.spec_decimal.specs.Decimal.{digits, decimal, signed_decimal}
-use Rattle.spec_decimal.specs.DecimalLaws.{length_digits, digits_same}
-use Rattle.spec_decimal.specs.ReadLaws.{length_decimal, length_signed_decimal}
+use Rattle.spec_decimal.proofs.DecimalLaws.{length_digits, digits_same}
+use Rattle.spec_decimal.proofs.ReadLaws.{length_decimal, length_signed_decimal}
 use Rattle.spec_listing.specs.Escapes.{escaped}
-use Rattle.spec_listing.specs.EscapesLaws.{escaped_length}
+use Rattle.spec_listing.proofs.EscapesLaws.{escaped_length}
 use Rattle.spec_listing.specs.Listing.{fields, value_fields, binding_line, availability_line, entry_line, record_count, projection_lines, refusal_line, outcome_lines, reading_lines, listing}
 use Rattle.listing_lines.specs.ListingBytes.{refusal_line_bytes, value_field_bytes, binding_line_bytes, availability_line_bytes, entry_line_bytes, listing_bytes}
 

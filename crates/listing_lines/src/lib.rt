@@ -137,7 +137,7 @@ fn print_entry(out: &mut [u8], at: Printed, row: &[u8]) -> Printed
 }
 
 // The three kinds of rows.
-#[derive(Drop)]
+#[derive(Clone, Copy)]
 pub enum RowKind {
     Binding,
     Availability,

@@ -3,11 +3,11 @@ use Rattle.std.specs.Prelude.{ℕ, ◌+◌, ◌-◌, ◌≤◌, ◌≡◌, refl,
 use Rattle.std.proofs.Common.{sym, ap, ◌∙◌, arith, length-take}
 use Rattle.spec_lists.specs.Lists.{if◌then◌else◌}
 use Rattle.bytes_wire.specs.Write.{has_room, overwrite}
-use Rattle.bytes_wire.specs.WriteLaws.{room_true, overwrite_refused, drop_past_overwrite}
+use Rattle.bytes_wire.proofs.WriteLaws.{room_true, overwrite_refused, drop_past_overwrite}
 use Rattle.bytes_printer.specs.declared.Printed.{Printed}
 use Rattle.bytes_printer.specs.declared.Printed.TheVariants.{Next, NoRoom}
 use Rattle.bytes_printer.specs.Prints.{Prints}
-use Rattle.bytes_printer.specs.PrintsLaws.{whole_printed}
+use Rattle.bytes_printer.proofs.PrintsLaws.{whole_printed}
 use Rattle.patch_part_writer.specs.declared.written.WriteRefusal.TheVariants.{OutputTooShort}
 use Rattle.patch_part_writer.specs.declared.written.Written.{Written}
 use Rattle.patch_part_writer.specs.declared.written.Written.TheVariants.{Wrote, Refused}

@@ -11,10 +11,10 @@ use Rattle.spec_patch.specs.Sizes.{projection_bindings, projection_availabilitie
 use Rattle.spec_lists.specs.Order.{sort_unique}
 use Rattle.spec_projection.specs.Projection.{Entry, Projection, empty}
 use Rattle.spec_projection.specs.Valid.{FitsBinding, FitsNodeAvailability, FitsEntry, Valid}
-use Rattle.spec_projection.specs.ValidLaws.{empty_valid}
-use Rattle.spec_projection.specs.Determined.{projection_equal}
+use Rattle.spec_projection.proofs.ValidLaws.{empty_valid}
+use Rattle.spec_projection.proofs.Determined.{projection_equal}
 use Rattle.spec_lengths.specs.Lengths.{collections_in, lengths_in, collection_lengths, FitsLength}
-use Rattle.spec_lengths.specs.LengthsLaws.{few_lengths, lengths_fit}
+use Rattle.spec_lengths.proofs.LengthsLaws.{few_lengths, lengths_fit}
 use Rattle.bytes_records.specs.Moves.{zeros}
 use Rattle.bytes_records.specs.Table.{Wide, table_bytes, HoldsRows}
 use Rattle.bytes_records.specs.TableLaws.{length_flatten, holds, holds_none, holds_unique, holds_bytes}

@@ -9,7 +9,7 @@ ghost use Rattle.local_projection_state.specs.Stores.{Stores};
 ghost use Rattle.local_projection_state.specs.Faults.{application_fault_of};
 
 // How many rows of each table are used.
-#[derive(Drop)]
+#[derive(Clone, Copy)]
 pub struct ProjectionCounts {
     pub bindings: usize,
     pub availabilities: usize,
@@ -18,7 +18,7 @@ pub struct ProjectionCounts {
 
 // Each table has its rows in stored order, and zeros in every unused place. The lengths have no count: none of them is 0, so that the first
 // row that is all zeros ends them.
-#[derive(Drop)]
+#[derive(Clone, Copy)]
 pub struct LocalProjectionState {
     pub counts: ProjectionCounts,
     pub bindings: [u8; LocalProjectionState::BINDING_BYTES],
@@ -65,7 +65,7 @@ impl LocalProjectionState {
 }
 
 // Why an operation is refused.
-#[derive(Drop)]
+#[derive(Clone, Copy)]
 pub enum LocalProjectionApplicationError {
     KeyRule,
     ProjectionFull,

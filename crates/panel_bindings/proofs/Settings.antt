@@ -5,7 +5,7 @@ use mathlib.Core.List.{List, [], ◌∷◌, map}
 use lib.ListN.{length}
 use lib.Dec.{leb}
 use Rattle.spec_lists.specs.Lists.{if◌then◌else◌, All}
-use Rattle.spec_lists.specs.ListLaws.{all_map}
+use Rattle.spec_lists.proofs.ListLaws.{all_map}
 use Rattle.spec_lists.specs.Order.{upsert}
 use Rattle.spec_patch.specs.Sizes.{projection_bindings, projection_availabilities}
 use Rattle.spec_projection.specs.Projection.{Binding, NodeAvailability, Projection, binding_key, availability_key}

@@ -2,7 +2,7 @@
 use Rattle.std.specs.Prelude.{ℕ, suc, ◌+◌, ◌*◌, ◌≤◌, ◌<◌, ◌≡◌, Bool, true, false, List, leb, eqb, length}
 use Rattle.std.proofs.Common.{sym, ◌∙◌, suc-mul, le_of_mul-le-mul_right, lt_of_mul-lt-mul_right, le-mul_of_pos_right, arith, leb-true, leb-false}
 use Rattle.std.proofs.lemmas.Bool.{false≢true}
-use Rattle.spec_lists.specs.ListLaws.{and_right, test_cases}
+use Rattle.spec_lists.proofs.ListLaws.{and_right, test_cases}
 use Rattle.bytes_records.specs.Positions.{insert_at, remove_at, replace_at}
 use Rattle.bytes_records.specs.Table.{Wide, HoldsRows, Changed, can_insert, can_remove, can_replace}
 use Rattle.bytes_records.specs.TableLaws.{rows_fit, can_insert_lem, can_remove_lem, can_replace_lem}

@@ -3,7 +3,7 @@
 use Rattle.std.specs.Prelude.{ℕ, ◌+◌, ◌-◌, ◌*◌, ◌≤◌, ◌≡◌, refl, Bool, true, false, ◌&&◌, List, [], ◌∷◌, ◌++◌, map, leb, eqb, length, take, drop}
 use Rattle.std.proofs.Common.{sym, ap, ap₂, ◌∙◌, subst, map-id, zero-mul, mul-le-mul_right, arith, le-leb, leb-true, eq-eqb, eqb-true, take-append-drop, length-take-le}
 use Rattle.std.proofs.lemmas.List.{length-map, length-replicate}
-use Rattle.spec_lists.specs.ListLaws.{and_left, and_right}
+use Rattle.spec_lists.proofs.ListLaws.{and_left, and_right}
 use Rattle.spec_patch.specs.Sizes.{set_bytes, projection_bindings, projection_availabilities, projection_entries}
 use Rattle.spec_lists.specs.Lists.{if◌then◌else◌}
 use Rattle.spec_patch.specs.Edition.{Edition}
@@ -14,14 +14,14 @@ use Rattle.patch_walk.specs.Steps.{first_cursor, open_answer}
 use Rattle.patch_walk.specs.declared.SetCursor.{SetCursor}
 use Rattle.patch_walk.specs.declared.SetOpening.TheVariants as opening
 use Rattle.spec_lists.specs.Order.{sort_unique}
-use Rattle.spec_lists.specs.OrderLaws.{sort_unique_length}
+use Rattle.spec_lists.proofs.OrderLaws.{sort_unique_length}
 use Rattle.spec_projection.specs.Projection.{Entry, Projection}
 use Rattle.spec_projection.specs.Lookups.{entries_in}
 use Rattle.spec_projection.specs.Apply.{Outcome, done, stopped}
 use Rattle.spec_projection.specs.RowMap.{map_rows}
 use Rattle.spec_projection.specs.Valid.{Valid}
 use Rattle.spec_lengths.specs.Lengths.{length_record, collections_in, lengths_in, collection_lengths}
-use Rattle.spec_lengths.specs.LengthsAfter.{lengths_mapped}
+use Rattle.spec_lengths.proofs.LengthsAfter.{lengths_mapped}
 use Rattle.bytes_records.specs.Moves.{zeros, overwrite_rows}
 use Rattle.bytes_records.specs.MovesLaws.{length_zeros, drop_zeros}
 use Rattle.bytes_records.specs.TableLaws.{holds_none}
@@ -29,10 +29,10 @@ use Rattle.panel_rows.specs.Rows.{binding_bytes, availability_bytes, entry_bytes
 use Rattle.local_projection_state.specs.Stores.{Stored, StoredTables, StoredLengths}
 use Rattle.local_projection_state.specs.declared.ProjectionCounts.{ProjectionCounts}
 use Rattle.panel_plan.specs.Plan.{plan_of, numbered, binding_with, entry_with}
-use Rattle.panel_plan.specs.PlanValid.{plan_valid}
+use Rattle.panel_plan.proofs.PlanValid.{plan_valid}
 use Rattle.panel_plan.specs.PlanRows.{PlannedBindings, PlannedEntries, StoredPlan}
 use Rattle.panel_plan.specs.Resolved.{Resolution, resolving, resolved}
-use Rattle.panel_plan.specs.ResolvedLaws.{resolving_keeps}
+use Rattle.panel_plan.proofs.ResolvedLaws.{resolving_keeps}
 use Rattle.panel_steps.specs.Runs.{RunBecame}
 use Rattle.panel_steps.specs.declared.PlanRun.{PlanRun}
 use Rattle.panel_steps.specs.declared.PlanRun.TheVariants as plan

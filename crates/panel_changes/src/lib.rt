@@ -33,7 +33,7 @@ use projection_patch::read_values::ProjectionPatchReadFault;
 
 // How many rows each new table has, or why the set is not applied: BadTables is a table of another length, or a count over its
 // capacity.
-#[derive(Drop)]
+#[derive(Clone, Copy)]
 pub enum SetChange {
     Applied(ProjectionCounts),
     Refused(LocalProjectionApplicationError),

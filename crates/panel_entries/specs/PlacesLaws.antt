@@ -8,13 +8,13 @@ use mathlib.Core.List.{List, [], ◌∷◌, map}
 use Rattle.std.proofs.Math.Option.{Option, none, some}
 use native.Mathlib.Omega.{arith}
 use Rattle.spec_lists.specs.Lists.{if◌then◌else◌, any}
-use Rattle.spec_lists.specs.ListLaws.{test_cases, or_left, or_right}
+use Rattle.spec_lists.proofs.ListLaws.{test_cases, or_left, or_right}
 use Rattle.spec_patch.specs.Sizes.{projection_entries}
 use Rattle.spec_projection.specs.Projection.{Entry, Projection}
 use Rattle.spec_projection.specs.FirstMatch as first
 use Rattle.spec_projection.specs.FirstMatch.{insert_before_first, replace_first, remove_first}
 use Rattle.spec_projection.specs.Entries.{is_entry, is_later, contains, contains_neighbour, insert_last, insert_before, insert_entry, replace_entry, remove_entry}
-use Rattle.spec_projection.specs.EntriesLaws.{is_entry_collection, is_entry_key, remove_entry_gone}
+use Rattle.spec_projection.proofs.EntriesLaws.{is_entry_collection, is_entry_key, remove_entry_gone}
 use Rattle.spec_projection.specs.Valid.{Grouped}
 use Rattle.spec_projection.specs.Apply.{key_rule, projection_full, done, stopped, with_entries, apply_insert, apply_update, apply_remove, apply_move}
 use Rattle.bytes_records.specs.Positions.{insert_at, remove_at, replace_at, first_index}

@@ -6,7 +6,7 @@ use mathlib.Core.List.{List, [], ◌∷◌, ◌++◌, map, map-append, append-ni
 use native.Mathlib.Omega.{arith}
 use lib.ListN.{length, take, drop, length-append, length-map, drop_of_length-le}
 use lib.Seq.{take_all}
-use Rattle.spec_lists.specs.BytesLaws.{length_little_endian}
+use Rattle.spec_lists.proofs.BytesLaws.{length_little_endian}
 use Rattle.spec_patch.specs.Sizes.{projection_entries}
 use Rattle.spec_lengths.specs.Lengths.{CollectionLength, length_record}
 use Rattle.bytes_records.specs.Moves.{zeros}

@@ -11,15 +11,15 @@ use Rattle.std.proofs.lemmas.List.{length-map}
 use Rattle.std.proofs.Math.Seq.{drop_at}
 use Rattle.spec_lists.specs.Lists.{All, or_zero}
 use Rattle.spec_lists.specs.Bytes.{number_of}
-use Rattle.spec_lists.specs.ListLaws.{all_member, get_or_member, test_cases}
+use Rattle.spec_lists.proofs.ListLaws.{all_member, get_or_member, test_cases}
 use Rattle.spec_lists.specs.Order.{lookup}
-use Rattle.spec_lists.specs.BytesLaws.{length_little_endian}
+use Rattle.spec_lists.proofs.BytesLaws.{length_little_endian}
 use Rattle.spec_patch.specs.Sizes.{projection_entries}
 use Rattle.spec_patch.specs.Encode.{u64}
 use Rattle.spec_projection.specs.Projection.{Entry}
 use Rattle.spec_projection.specs.Valid.{FitsEntry}
 use Rattle.spec_lengths.specs.Lengths.{CollectionLength, FitsLength, length_of, length_found}
-use Rattle.spec_lengths.specs.LengthsLaws.{found_here, found_past}
+use Rattle.spec_lengths.proofs.LengthsLaws.{found_here, found_past}
 use Rattle.bytes_records.specs.Moves.{zeros}
 use Rattle.bytes_records.specs.MovesLaws.{length_zeros, drop_zeros}
 use Rattle.bytes_records.specs.TableLaws.{zeros_split, rows_used, rows_padded, rows_fit, before_length, row_split}

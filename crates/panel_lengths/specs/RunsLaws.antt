@@ -9,16 +9,16 @@ use Rattle.std.proofs.Math.Option.{none, some}
 use native.Mathlib.Omega.{arith}
 use Rattle.std.proofs.lemmas.Bool.{eqb-false}
 use Rattle.spec_lists.specs.Lists.{All, or_zero}
-use Rattle.spec_lists.specs.ListLaws.{all_map, test_cases}
+use Rattle.spec_lists.proofs.ListLaws.{all_map, test_cases}
 use Rattle.spec_lists.specs.Order.{lex_less, lookup, Ascending}
-use Rattle.spec_lists.specs.OrderLaws.{lex_less_less, above, alike}
-use Rattle.spec_lists.specs.LookupLaws.{lookup_below}
+use Rattle.spec_lists.proofs.OrderLaws.{lex_less_less, above, alike}
+use Rattle.spec_lists.proofs.LookupLaws.{lookup_below}
 use Rattle.spec_projection.specs.Projection.{Entry}
 use Rattle.spec_projection.specs.Lookups.{entries_in}
 use Rattle.spec_projection.specs.Valid.{Behind, Grouped}
-use Rattle.spec_projection.specs.CollectionLaws.{entries_in_own, entries_in_other}
+use Rattle.spec_projection.proofs.CollectionLaws.{entries_in_own, entries_in_other}
 use Rattle.spec_lengths.specs.Lengths.{CollectionLength, length_record, length_key, lengths_in, length_found, length_of}
-use Rattle.spec_lengths.specs.LengthsLaws.{non_zero, or_zero_lem, found_here, found_past, lengths_found, lengths_ascend, lengths_determined}
+use Rattle.spec_lengths.proofs.LengthsLaws.{non_zero, or_zero_lem, found_here, found_past, lengths_found, lengths_ascend, lengths_determined}
 use Rattle.panel_rows.specs.Rows.{id_width, field_at}
 use Rattle.panel_plan.specs.PlanRows.{planned_entry_width}
 use Rattle.panel_lengths.specs.Runs.{count_one, runs, leading, collections_from}

@@ -5,11 +5,11 @@ use mathlib.Core.List.{List, [], ◌∷◌, map}
 use mathlib.Core.Option
 use mathlib.Core.Option.{Option, none, some}
 use lib.ListN.{drop, get_or}
-use Rattle.spec_lists.specs.ListLaws.{all_map}
+use Rattle.spec_lists.proofs.ListLaws.{all_map}
 use Rattle.spec_patch.specs.Patch.{Value}
 use Rattle.spec_patch.specs.Fits.{Storable}
 use Rattle.spec_projection.specs.Projection.{Binding, NodeAvailability, Entry, Projection, binding_key, availability_key}
-use Rattle.spec_projection.specs.FirstMatchLaws.{find_first_all}
+use Rattle.spec_projection.proofs.FirstMatchLaws.{find_first_all}
 use Rattle.spec_projection.specs.Entries.{is_entry}
 use Rattle.spec_projection.specs.Lookups.{binding_of, binding_mark, availability_of, availability_mark, entry_of, entry_mark}
 use Rattle.spec_projection.specs.Valid.{FitsBinding, FitsNodeAvailability, FitsEntry, Valid}

@@ -7,10 +7,10 @@ use Rattle.std.proofs.Math.Bool.{true, false}
 use mathlib.Core.List.{List, [], ◌∷◌, map}
 use Rattle.std.proofs.Math.Option.{none, some}
 use Rattle.spec_lists.specs.Lists.{if◌then◌else◌, All}
-use Rattle.spec_lists.specs.ListLaws.{all_map}
+use Rattle.spec_lists.proofs.ListLaws.{all_map}
 use Rattle.spec_lists.specs.Order.{lex_less, lookup, Ascending}
-use Rattle.spec_lists.specs.OrderLaws.{lex_less_trans, lex_less_total, lex_less_irreflexive}
-use Rattle.spec_lists.specs.LookupLaws.{lookup_here, lookup_past, lookup_below}
+use Rattle.spec_lists.proofs.OrderLaws.{lex_less_trans, lex_less_total, lex_less_irreflexive}
+use Rattle.spec_lists.proofs.LookupLaws.{lookup_here, lookup_past, lookup_below}
 use Rattle.bytes_records.specs.Search.{next_place, place_of}
 use Rattle.bytes_records.specs.declared.Place.{Place}
 use Rattle.bytes_records.specs.declared.Place.TheVariants.{Taken, Before}

@@ -4,7 +4,7 @@ use Rattle.std.proofs.Common.{sym, ap, ◌∙◌, add-one, arith, drop_of_length
 use Rattle.std.proofs.Math.Option.{Option, none, some}
 use Rattle.std.proofs.Math.ListN.{get_elem?}
 use Rattle.spec_lists.specs.Lists.{All}
-use Rattle.spec_lists.specs.ListLaws.{test_cases, all_member, get_or_member}
+use Rattle.spec_lists.proofs.ListLaws.{test_cases, all_member, get_or_member}
 use Rattle.spec_projection.specs.Projection.{Entry}
 use Rattle.spec_projection.specs.Lookups.{KeyedValue, keyed_value, entries_in}
 use Rattle.spec_projection.specs.Valid.{FitsEntry}

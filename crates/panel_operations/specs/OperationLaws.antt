@@ -8,9 +8,9 @@ use Rattle.spec_patch.specs.Fits.{U64, FitsOperation}
 use Rattle.spec_projection.specs.Projection.{Projection}
 use Rattle.spec_projection.specs.Apply.{Outcome, done, stopped, apply_operation}
 use Rattle.spec_projection.specs.Effects.{binding_target, node_target, collection_target, target_of}
-use Rattle.spec_projection.specs.EffectsLaws.{collection_keeps, binding_keeps, availability_keeps}
+use Rattle.spec_projection.proofs.EffectsLaws.{collection_keeps, binding_keeps, availability_keeps}
 use Rattle.spec_projection.specs.Valid.{Valid}
-use Rattle.spec_projection.specs.ValidLaws.{apply_operation_valid}
+use Rattle.spec_projection.proofs.ValidLaws.{apply_operation_valid}
 use Rattle.projection_patch.specs.Meaning.{operation_of}
 use Rattle.projection_patch.specs.declared.patch.ProjectionPatchOperation.{ProjectionPatchOperation}
 use Rattle.projection_patch.specs.declared.patch.ProjectionPatchOperation.TheVariants.{SetBindingValue, SetNodeAvailability, CollectionInsert, CollectionUpdate, CollectionRemove, CollectionMove}

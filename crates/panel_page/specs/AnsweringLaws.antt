@@ -8,7 +8,7 @@ use Rattle.std.proofs.lemmas.Bool.{eqb-false}
 use Rattle.std.proofs.Math.ListN.{take, drop}
 use Rattle.std.proofs.lemmas.List.{length-map}
 use Rattle.std.proofs.Math.Seq.{take-suc, take-length, drop-length, append_snoc}
-use Rattle.spec_lists.specs.ListLaws.{test_cases, all_member, get_or_member}
+use Rattle.spec_lists.proofs.ListLaws.{test_cases, all_member, get_or_member}
 use Rattle.spec_projection.specs.Projection.{Entry}
 use Rattle.spec_projection.specs.Entries.{is_entry}
 use Rattle.spec_projection.specs.Lookups.{KeyedValue, keyed_value, entries_in}

@@ -9,7 +9,7 @@ use native.Mathlib.Omega.{arith}
 use borrow.Author.Tests.{eqb-true, eqb-false}
 use Rattle.std.proofs.Math.ListN.{length, get_or, get_or-replicate}
 use Rattle.std.proofs.Math.Seq.{get_or-set_same}
-use Rattle.spec_lists.specs.ListLaws.{test_cases}
+use Rattle.spec_lists.proofs.ListLaws.{test_cases}
 use Rattle.bytes_records.specs.Moves.{zeros}
 use Rattle.bytes_records.specs.MovesLaws.{length_zeros}
 use Rattle.panel_page.specs.Index.{key_places, index_place_of, last_below, Indexed, OnChain}

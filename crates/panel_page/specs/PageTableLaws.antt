@@ -8,15 +8,15 @@ use Rattle.std.proofs.Math.Option.{Option, none, some}
 use Rattle.std.proofs.lemmas.List.{length-map, take-append-le, drop-append-le}
 use Rattle.spec_lists.specs.Lists.{All}
 use Rattle.spec_lists.specs.Bytes.{little_endian, number_of}
-use Rattle.spec_lists.specs.ListLaws.{drop_behind, test_cases}
-use Rattle.spec_lists.specs.BytesLaws.{length_little_endian, number_of_little_endian}
+use Rattle.spec_lists.proofs.ListLaws.{drop_behind, test_cases}
+use Rattle.spec_lists.proofs.BytesLaws.{length_little_endian, number_of_little_endian}
 use Rattle.spec_patch.specs.Sizes.{projection_entries}
 use Rattle.spec_patch.specs.Encode.{u64}
 use Rattle.spec_projection.specs.Projection.{Entry, Projection}
 use Rattle.spec_projection.specs.Lookups.{entries_in, entries_of}
 use Rattle.spec_projection.specs.Valid.{FitsEntry, Valid}
 use Rattle.spec_page.specs.Page.{PageEntry, find_from, page_entry, page_rows}
-use Rattle.spec_page.specs.PageLaws.{page_length}
+use Rattle.spec_page.proofs.PageLaws.{page_length}
 use Rattle.bytes_records.specs.Moves.{zeros}
 use Rattle.bytes_records.specs.MovesLaws.{length_zeros}
 use Rattle.bytes_records.specs.Table.{Wide, HoldsRows}

@@ -1,1 +1,9 @@
 pub mod Numbered
+pub mod NumberedRowsLaws
+pub mod PlanExamples
+pub mod PlanLaws
+pub mod PlanRowsLaws
+pub mod PlanValid
+pub mod ResolvedLaws
+pub mod SetValuesLaws
+pub mod SourcesLaws

@@ -8,11 +8,11 @@ use native.Mathlib.Numerals.{add-one}
 use native.Mathlib.Omega.{arith}
 use lib.ListN.{length, take, drop, get_or, length-append, length-drop, drop_of_length-le}
 use lib.Seq.{take_at, length-take-le, take-length}
-use Rattle.spec_lists.specs.BytesLaws.{length_little_endian}
+use Rattle.spec_lists.proofs.BytesLaws.{length_little_endian}
 use Rattle.spec_patch.specs.Encode.{u64}
 use Rattle.bytes_records.specs.Moves as moves
 use Rattle.bytes_wire.specs.Write.{overwrite}
-use Rattle.bytes_wire.specs.WriteLaws.{has_room_lem, overwrite_in_place}
+use Rattle.bytes_wire.proofs.WriteLaws.{has_room_lem, overwrite_in_place}
 use Rattle.bytes_records.specs.Positions.{insert_at}
 use Rattle.bytes_records.specs.Table.{HoldsRows, Changed, can_insert}
 use Rattle.bytes_records.specs.TableLaws.{row_cons, row_width, can_insert_lem}

@@ -1,14 +1,6 @@
 pub mod Resolved
-pub mod ResolvedLaws
 pub mod Plan
-pub mod PlanLaws
-pub mod PlanValid
-pub mod PlanExamples
 pub mod SetValues
-pub mod SetValuesLaws
 pub mod PlanRows
-pub mod PlanRowsLaws
 pub mod NumberedRows
-pub mod NumberedRowsLaws
 pub mod Sources
-pub mod SourcesLaws

@@ -5,11 +5,11 @@ use Rattle.std.proofs.Math.Path.{ap}
 use Rattle.std.proofs.Math.Bool.{true, false}
 use mathlib.Core.List.{List}
 use Rattle.bytes_wire.specs.Write.{has_room, overwrite}
-use Rattle.bytes_wire.specs.WriteLaws.{overwrite_refused, drop_past_overwrite}
+use Rattle.bytes_wire.proofs.WriteLaws.{overwrite_refused, drop_past_overwrite}
 use Rattle.bytes_printer.specs.declared.Printed.{Printed}
 use Rattle.bytes_printer.specs.declared.Printed.TheVariants.{Next, NoRoom}
 use Rattle.bytes_printer.specs.Prints.{Prints}
-use Rattle.bytes_printer.specs.PrintsLaws.{whole_printed}
+use Rattle.bytes_printer.proofs.PrintsLaws.{whole_printed}
 use Rattle.panel_print.specs.declared.PrintRefusal.TheVariants.{OutputTooShort}
 use Rattle.panel_print.specs.declared.PrintAnswer.{PrintAnswer}
 use Rattle.panel_print.specs.declared.PrintAnswer.TheVariants.{Wrote, Refused}

@@ -5,7 +5,7 @@ use mathlib.Core.List.{List, [], ◌∷◌, ◌++◌, map, flat_map}
 use Rattle.std.proofs.Math.Seq.{drop-cons}
 use borrow.Author.Tests.{ltb-true, ltb-false, lt-ltb, le-ltb, le-leb, lt-leb, eq-eqb, ne_eqb}
 use Rattle.spec_lists.specs.Lists.{if◌then◌else◌, All}
-use Rattle.spec_lists.specs.ListLaws.{test_cases}
+use Rattle.spec_lists.proofs.ListLaws.{test_cases}
 use Rattle.spec_text.specs.Scalars.{Scalar, encode_scalar, encode_scalars}
 use Rattle.spec_panel_print.specs.Print.{text_width, blank, full_stop, line_end, delete_character, is_control, printed_character, blank_lead}
 use Rattle.spec_panel_print.specs.Flow.{flowed}

@@ -2,7 +2,7 @@
 use Rattle.std.specs.Prelude.{ℕ, ◌≡◌, refl, true, false, eqb}
 use Rattle.std.proofs.Common.{sym, ap, ◌∙◌}
 use mathlib.Core.List.{List, [], ◌∷◌, ◌++◌, append-nil, flat_map}
-use Rattle.spec_lists.specs.ListLaws.{test_cases, flat_map_append}
+use Rattle.spec_lists.proofs.ListLaws.{test_cases, flat_map_append}
 use Rattle.spec_projection.specs.Projection.{Entry, Projection}
 use Rattle.spec_projection.specs.Lookups.{KeyedValue, keyed_value, entries_in, entries_of}
 use Rattle.spec_panel_print.specs.Print.{entry_lines, collection_lines, line_octets, collection_print}

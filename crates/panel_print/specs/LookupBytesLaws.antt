@@ -3,18 +3,18 @@ use Rattle.std.specs.Prelude.{ℕ, suc, ◌-◌, ◌≤◌, ◌≡◌, refl, Lis
 use Rattle.std.proofs.Common.{sym, ap, ◌∙◌, arith, take_at}
 use borrow.Author.Tests.{eq-eqb, ne_eqb}
 use Rattle.spec_lists.specs.Lists.{All}
-use Rattle.spec_lists.specs.ListLaws.{if_cases}
+use Rattle.spec_lists.proofs.ListLaws.{if_cases}
 use Rattle.spec_patch.specs.Sizes.{text_bytes}
 use Rattle.spec_patch.specs.Patch.{Quad, N, F, T, S, Value, quad, signed, text, unsigned, score}
 use Rattle.spec_patch.specs.Fits.{Storable, StorableBy}
 use Rattle.spec_patch.specs.Encode.{quad_byte}
 use Rattle.spec_decimal.specs.Decimal.{decimal, signed_decimal}
-use Rattle.spec_decimal.specs.ReadLaws.{length_decimal}
+use Rattle.spec_decimal.proofs.ReadLaws.{length_decimal}
 use Rattle.spec_panel_print.specs.Decode.{scalars_of}
-use Rattle.spec_panel_print.specs.DecodeLaws.{utf8_decodes}
+use Rattle.spec_panel_print.proofs.DecodeLaws.{utf8_decodes}
 use Rattle.spec_panel_print.specs.Print.{printed_character, quad_letter, printed_value}
-use Rattle.spec_panel_print.specs.PrintLaws.{Printable, printed_value_printable, printable_scalar}
-use Rattle.spec_panel_print.specs.AsciiLaws.{Ascii, ascii_encode, letter_ascii, decimal_ascii, signed_ascii}
+use Rattle.spec_panel_print.proofs.PrintLaws.{Printable, printed_value_printable, printable_scalar}
+use Rattle.spec_panel_print.proofs.AsciiLaws.{Ascii, ascii_encode, letter_ascii, decimal_ascii, signed_ascii}
 use Rattle.spec_panel_print.specs.Flow.{flowed}
 use Rattle.bytes_records.specs.Moves.{zeros}
 use Rattle.panel_rows.specs.Lookup.{found_value}

@@ -5,7 +5,7 @@ use mathlib.Core.List.{List, ◌++◌, append_assoc, append-nil}
 use native.Mathlib.Omega.{arith}
 use lib.ListN.{length, length-append, drop_of_length-le}
 use Rattle.bytes_wire.specs.Write.{overwrite}
-use Rattle.bytes_wire.specs.WriteLaws.{has_room_lem, overwrite_in_place, overwrite_append}
+use Rattle.bytes_wire.proofs.WriteLaws.{has_room_lem, overwrite_in_place, overwrite_append}
 
 module _ (l : List ℕ) where
   -- bytes over as many others

@@ -9,16 +9,16 @@ use Rattle.std.proofs.Math.ListN.{length}
 use Rattle.std.proofs.lemmas.List.{length-replicate}
 use Rattle.std.proofs.Math.Seq.{get_or_at}
 use Rattle.spec_lists.specs.Bytes.{little_endian}
-use Rattle.spec_lists.specs.ListLaws.{test_cases}
-use Rattle.spec_lists.specs.BytesLaws.{length_little_endian, number_of_little_endian}
+use Rattle.spec_lists.proofs.ListLaws.{test_cases}
+use Rattle.spec_lists.proofs.BytesLaws.{length_little_endian, number_of_little_endian}
 use Rattle.spec_patch.specs.Patch.{Value, quad, signed, text, unsigned, score}
 use Rattle.spec_patch.specs.Edition.{v2, added_kinds, kinds, has_kind}
 use Rattle.spec_patch.specs.Encode.{u32, u64, encode_text, kind_of, value_body, encode_value, availability_byte}
 use Rattle.spec_patch.specs.Fits.{Storable, StorableBy, FitsValue}
 use Rattle.spec_patch.specs.Reader.{Result, read, Reader}
 use Rattle.spec_patch.specs.Read.{read_value_by}
-use Rattle.spec_patch.specs.Codec.{Codec, pair_codec, injective}
-use Rattle.spec_patch.specs.ReadLaws.{u64_codec, u32_codec, value_codec_by, value_any, availability_codec}
+use Rattle.spec_patch.proofs.Codec.{Codec, pair_codec, injective}
+use Rattle.spec_patch.proofs.ReadLaws.{u64_codec, u32_codec, value_codec_by, value_any, availability_codec}
 use Rattle.spec_projection.specs.Projection.{Binding, NodeAvailability, Entry, binding_key, availability_key}
 use Rattle.spec_projection.specs.Valid.{FitsBinding, FitsNodeAvailability, FitsEntry}
 use Rattle.spec_lengths.specs.Lengths.{CollectionLength, FitsLength}

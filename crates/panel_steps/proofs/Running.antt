@@ -10,7 +10,7 @@ use denote.Enum.Declared.{tag_of}
 use types.Run.{OneOf}
 use lib.ListN.{length, drop}
 use Rattle.spec_lists.specs.Lists.{All}
-use Rattle.spec_lists.specs.BytesLaws.{length_little_endian}
+use Rattle.spec_lists.proofs.BytesLaws.{length_little_endian}
 use Rattle.spec_patch.specs.Sizes.{projection_entries}
 use Rattle.spec_patch.specs.Edition.{Edition}
 use Rattle.spec_patch.specs.Patch.{unsigned, Operation, set_binding, set_availability, insert, update, remove, move, Patch}
@@ -35,12 +35,12 @@ use Rattle.patch_walk.specs.declared.SetStep.TheVariants as set-step
 use Rattle.local_projection_state.specs.declared.ProjectionCounts.{ProjectionCounts}
 use Rattle.panel_plan.specs.Resolved.{Resolution, resolved, resolved_outcome}
 use Rattle.panel_plan.specs.Plan.{new, resolution, plan_of, with_source}
-use Rattle.panel_plan.specs.PlanLaws.{plan_resolves, planned_operation_lem}
+use Rattle.panel_plan.proofs.PlanLaws.{plan_resolves, planned_operation_lem}
 use Rattle.panel_plan.specs.PlanRows.{StoredPlan}
-use Rattle.panel_plan.specs.PlanValid.{planned_fits}
+use Rattle.panel_plan.proofs.PlanValid.{planned_fits}
 use Rattle.panel_plan.specs.SetValues.{value_in, value_offset, StandsAt}
-use Rattle.panel_plan.specs.SetValuesLaws.{value_there, value_stands}
-use Rattle.panel_plan.specs.SourcesLaws.{plan_sourced, operation_sourced}
+use Rattle.panel_plan.proofs.SetValuesLaws.{value_there, value_stands}
+use Rattle.panel_plan.proofs.SourcesLaws.{plan_sourced, operation_sourced}
 use Rattle.local_projection_state.specs.declared.LocalProjectionApplicationError.{LocalProjectionApplicationError}
 use Rattle.panel_operations.specs.OperationChange.{planned_operation, OperationBecame, AfterRefusal}
 use Rattle.panel_operations.specs.OperationLaws.{planned_is}

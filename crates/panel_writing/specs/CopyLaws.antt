@@ -5,7 +5,7 @@ use Rattle.std.proofs.Common.{sym, ap, ◌∙◌, subst, arith, take-append-drop
 use Rattle.std.proofs.Math.Nat.{mul-le-mul_right, le-max_left, le-max_right, max-le}
 use borrow.Author.Tests.{le-leb, lt-leb, eq-eqb, ne_eqb, leb-true, eqb-true}
 use Rattle.std.proofs.Math.Dec.{leb, eqb}
-use Rattle.spec_lists.specs.ListLaws.{and_left, and_right}
+use Rattle.spec_lists.proofs.ListLaws.{and_left, and_right}
 use Rattle.spec_patch.specs.Sizes.{projection_availabilities}
 use Rattle.spec_projection.specs.Projection.{NodeAvailability}
 use Rattle.bytes_records.specs.Moves.{zeros}

@@ -10,16 +10,16 @@ use borrow.Author.Tests.{lt-ltb, le-ltb, le-leb, lt-leb, eq-eqb, ne_eqb, eqb-tru
 use Rattle.std.proofs.Math.ListN.{length, take, drop, get_or, length-append, length-drop, length-map}
 use Rattle.std.proofs.Math.Seq.{drop_at, length-take-le}
 use Rattle.spec_lists.specs.Lists.{All}
-use Rattle.spec_lists.specs.ListLaws.{and_left, and_right, all_map}
-use Rattle.spec_lists.specs.BytesLaws.{length_little_endian, number_of_little_endian}
+use Rattle.spec_lists.proofs.ListLaws.{and_left, and_right, all_map}
+use Rattle.spec_lists.proofs.BytesLaws.{length_little_endian, number_of_little_endian}
 use Rattle.spec_patch.specs.Sizes.{projection_entries}
 use Rattle.spec_patch.specs.Patch.{Value, N, quad, signed, text, unsigned, score}
 use Rattle.spec_patch.specs.Edition.{Edition}
 use Rattle.spec_patch.specs.Encode.{u64, encode_value}
 use Rattle.spec_patch.specs.Fits.{U64, Storable, StorableBy, FitsValue}
 use Rattle.spec_patch.specs.Read.{read_value_by, read_value}
-use Rattle.spec_patch.specs.ReadLaws.{value_codec, value_codec_by, value_any}
-use Rattle.spec_projection.specs.MapLaws.{all_image}
+use Rattle.spec_patch.proofs.ReadLaws.{value_codec, value_codec_by, value_any}
+use Rattle.spec_projection.proofs.MapLaws.{all_image}
 use Rattle.bytes_records.specs.Moves.{zeros, overwrite_rows}
 use Rattle.bytes_records.specs.MovesLaws.{drop_zeros}
 use Rattle.bytes_records.specs.Table.{Wide, HoldsRows, table_bytes}
@@ -29,7 +29,7 @@ use Rattle.panel_rows.specs.RowsLaws.{length_padded, written_encoded}
 use Rattle.local_projection_state.specs.Stores.{Stored}
 use Rattle.local_projection_state.specs.StoresLaws.{table_stored}
 use Rattle.panel_plan.specs.Plan.{old, new, value_from}
-use Rattle.panel_plan.specs.PlanLaws.{old_value, new_value}
+use Rattle.panel_plan.proofs.PlanLaws.{old_value, new_value}
 use Rattle.panel_plan.specs.PlanRows.{source_number, source_width}
 use Rattle.panel_plan.specs.SetValues.{value_read, value_in}
 use Rattle.panel_plan.specs.Sources.{Sourced, from_row, from_set}

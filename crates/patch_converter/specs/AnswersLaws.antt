@@ -13,9 +13,9 @@ use Rattle.spec_patch.specs.Reader.{malformed, over_capacity}
 use Rattle.spec_patch.specs.Read.{SetReading, patches, fault, read_set}
 use Rattle.spec_conversion.specs.Conversion as model
 use Rattle.spec_conversion.specs.Conversion.{other_edition, all_kinds, convert}
-use Rattle.spec_conversion.specs.ConversionLaws.{converts, length_other, same_list, one_letter}
+use Rattle.spec_conversion.proofs.ConversionLaws.{converts, length_other, same_list, one_letter}
 use Rattle.bytes_wire.specs.Write.{overwrite}
-use Rattle.bytes_wire.specs.WriteLaws.{has_room_lem, overwrite_in_place}
+use Rattle.bytes_wire.proofs.WriteLaws.{has_room_lem, overwrite_in_place}
 use Rattle.projection_patch.specs.ReadAnswers.{fault_of}
 use Rattle.projection_patch.specs.declared.read_values.ProjectionPatchReadFault.{ProjectionPatchReadFault}
 use Rattle.projection_patch.specs.declared.read_values.ProjectionPatchReadFault.TheVariants.{Malformed, OverCapacity}

@@ -8,9 +8,9 @@ use Rattle.spec_patch.specs.Fits.{U64, InRangeEnvelope}
 use Rattle.spec_patch.specs.Read.{patches, read_set}
 use Rattle.spec_import.specs.Import as model
 use Rattle.spec_import.specs.Import.{Term, lines, read_term, terms, faulty, read_terms, patch_of, import_patch, after_lines, import_terms}
-use Rattle.spec_import.specs.ImportLaws.{reads_import}
+use Rattle.spec_import.proofs.ImportLaws.{reads_import}
 use Rattle.bytes_wire.specs.Write.{overwrite}
-use Rattle.bytes_wire.specs.WriteLaws.{has_room_lem, overwrite_in_place}
+use Rattle.bytes_wire.proofs.WriteLaws.{has_room_lem, overwrite_in_place}
 use Rattle.patch_import.specs.declared.answer.ImportRefusal.{ImportRefusal}
 use Rattle.patch_import.specs.declared.answer.ImportRefusal.TheVariants.{OtherForm, OverCapacity, PatchInvalid, OutputTooShort}
 use Rattle.patch_import.specs.declared.answer.ImportAnswer.{ImportAnswer}

@@ -9,7 +9,7 @@ use Rattle.std.proofs.Math.Dec.{leb}
 use Rattle.std.proofs.Math.ListN.{length}
 use Rattle.std.proofs.lemmas.List.{length-map}
 use Rattle.spec_lists.specs.Lists.{if◌then◌else◌, is_empty}
-use Rattle.spec_lists.specs.ListLaws.{test_cases}
+use Rattle.spec_lists.proofs.ListLaws.{test_cases}
 use Rattle.spec_patch.specs.Sizes.{set_bytes}
 use Rattle.spec_patch.specs.Patch.{Envelope}
 use Rattle.spec_patch.specs.Edition.{Edition}

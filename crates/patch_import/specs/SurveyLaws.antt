@@ -6,8 +6,8 @@ use mathlib.Core.List.{List, [], ◌∷◌, ◌++◌, map, flat_map}
 use borrow.Author.Tests.{leb-true}
 use Rattle.std.proofs.Math.ListN.{length-append}
 use Rattle.spec_lists.specs.Lists.{All}
-use Rattle.spec_lists.specs.ListLaws.{and_left}
-use Rattle.spec_lists.specs.BytesLaws.{length_little_endian}
+use Rattle.spec_lists.proofs.ListLaws.{and_left}
+use Rattle.spec_lists.proofs.BytesLaws.{length_little_endian}
 use Rattle.spec_patch.specs.Sizes.{patch_operations, text_bytes}
 use Rattle.spec_patch.specs.TextRule.{few_bytes}
 use Rattle.spec_patch.specs.Patch.{Operation}
@@ -16,7 +16,7 @@ use Rattle.spec_checks.specs.Target.{mutation_target}
 use Rattle.spec_checks.specs.PatchChecks.{is_self, before_self_lem}
 use Rattle.spec_import.specs.Import as model
 use Rattle.spec_import.specs.Import.{Term, lines, keeps_text, Terms, terms, faulty, also, read_terms, insert_of}
-use Rattle.spec_import.specs.LineLaws.{KeptTerm}
+use Rattle.spec_import.proofs.LineLaws.{KeptTerm}
 use Rattle.projection_patch.specs.Meaning.{operation_of}
 use Rattle.patch_part_writer.specs.Parts.{size_within}
 use Rattle.patch_part_writer.specs.PartsLaws.{size_kept}

@@ -4,13 +4,13 @@ use Rattle.std.proofs.Math.Path.{◌≡◌, refl, sym, ap}
 use Rattle.std.proofs.Common.{◌∙◌, arith, ltb-true, ltb-false, length-append}
 use mathlib.Core.List.{List, [], ◌∷◌, ◌++◌, flat_map}
 use Rattle.std.specs.Prelude.{ltb, length, drop}
-use Rattle.spec_lists.specs.ListLaws.{test_cases}
+use Rattle.spec_lists.proofs.ListLaws.{test_cases}
 use Rattle.spec_patch.specs.Sizes.{patch_operations}
 use Rattle.spec_patch.specs.Encode.{encode_operation}
 use Rattle.spec_import.specs.Import.{Term, ImportRefusal, over_capacity, other_form, lines, Terms, terms, faulty, also, read_terms, insert_of}
-use Rattle.spec_import.specs.LineLaws.{terms_inj, lines_read}
+use Rattle.spec_import.proofs.LineLaws.{terms_inj, lines_read}
 use Rattle.bytes_wire.specs.Write.{overwrite}
-use Rattle.bytes_wire.specs.WriteLaws.{overwrite_append}
+use Rattle.bytes_wire.proofs.WriteLaws.{overwrite_append}
 use Rattle.patch_writer.proofs.Progress.{Next}
 use Rattle.patch_terms.specs.Places.{first_term_line}
 use Rattle.patch_terms.specs.Answers.{term_answer, line_to, line_answer, HoldsTerm}

@@ -13,8 +13,8 @@ use Rattle.spec_patch.specs.Edition.{Edition}
 use Rattle.spec_patch.specs.Read.{read_u32, read_u64}
 use Rattle.spec_explain.specs.ReadingRule.{quad_tag, availability_tag, score_range}
 use Rattle.spec_explain.specs.Locate.{Located, past, stop, Locator, stop_at, go_on, ◌⨟◌, field, by_row, locate_optional, locate_quad, locate_availability, locate_score, locate_value, locate_envelope}
-use Rattle.spec_explain.specs.SteadyLaws.{Steady}
-use Rattle.spec_explain.specs.SteadySetLaws.{steady_u64, steady_u32, steady_optional, steady_availability, steady_value}
+use Rattle.spec_explain.proofs.SteadyLaws.{Steady}
+use Rattle.spec_explain.proofs.SteadySetLaws.{steady_u64, steady_u32, steady_optional, steady_availability, steady_value}
 use Rattle.patch_locate.specs.Fields.{field_at_most, field_of, fields_of}
 
 -- ---- tags that end, as one test

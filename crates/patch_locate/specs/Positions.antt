@@ -7,12 +7,12 @@ use Rattle.std.proofs.lemmas.Bool.{lt-leb}
 use Rattle.std.proofs.Math.Dec.{leb}
 use Rattle.std.proofs.Math.ListN.{length, length-drop}
 use Rattle.spec_lists.specs.Lists.{if◌then◌else◌}
-use Rattle.spec_lists.specs.ListLaws.{test_cases}
+use Rattle.spec_lists.proofs.ListLaws.{test_cases}
 use Rattle.spec_patch.specs.Reader.{byte, number}
 use Rattle.spec_explain.specs.ReadingRule as model
 use Rattle.spec_explain.specs.Locate as locating
 use Rattle.spec_explain.specs.Locate.{Stop, Locator, stop_at, go_on, ◌⨟◌, field_then, field}
-use Rattle.spec_explain.specs.SteadyLaws.{Steady}
+use Rattle.spec_explain.proofs.SteadyLaws.{Steady}
 use Rattle.patch_locate.specs.Answers.{rule_to, reading_rule_of, located_answer}
 use Rattle.patch_locate.specs.Fields.{field_at_most}
 use Rattle.patch_locate.specs.declared.rules.ReadingRule.{ReadingRule}

@@ -16,8 +16,8 @@ use Rattle.spec_explain.specs.ReadingRule as model
 use Rattle.spec_explain.specs.ReadingRule.{wrong_heading}
 use Rattle.spec_explain.specs.Locate as locating
 use Rattle.spec_explain.specs.Locate.{Locator, stop_at, ◌⨟◌, field_then, repeated, counted, placed_stop, locate_patch, locate_letters, locate_patches, at_end, stop_of, from_start, locate}
-use Rattle.spec_explain.specs.SteadyLaws.{Steady, steady_within}
-use Rattle.spec_explain.specs.SteadySetLaws.{steady_operation, steady_patches}
+use Rattle.spec_explain.proofs.SteadyLaws.{Steady, steady_within}
+use Rattle.spec_explain.proofs.SteadySetLaws.{steady_operation, steady_patches}
 use Rattle.patch_locate.specs.Answers.{rule_to, reading_rule_of, inside_to, inside_of, located_answer, within_to, end_to, located_set}
 use Rattle.patch_locate.specs.Fields.{operation_in, patch_fields}
 use Rattle.patch_locate.specs.Positions.{stop_anywhere, stop_here, tag_lacking, tag_there}

@@ -5,9 +5,9 @@ use mathlib.Core.List.{List, [], ◌∷◌, ◌++◌}
 use native.Mathlib.Omega.{arith}
 use lib.ListN.{length, length-append}
 use Rattle.spec_lists.specs.Bytes.{little_endian}
-use Rattle.spec_lists.specs.BytesLaws.{length_little_endian}
+use Rattle.spec_lists.proofs.BytesLaws.{length_little_endian}
 use Rattle.bytes_wire.specs.Write.{overwrite}
-use Rattle.bytes_wire.specs.WriteLaws.{overwrite_append}
+use Rattle.bytes_wire.proofs.WriteLaws.{overwrite_append}
 use Rattle.projection_patch.specs.Widths.{past_key}
 
 -- the output is as it was but for the n bytes from index at on

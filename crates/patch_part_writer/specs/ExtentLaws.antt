@@ -1,7 +1,7 @@
 -- The bytes of a part of a patch list are as many as its extent says, where its text stands within the texts.
 use Rattle.std.specs.Prelude.{ℕ, ◌+◌, ◌≤◌, ◌≡◌, refl, List, ◌++◌, length, take, drop}
 use Rattle.std.proofs.Common.{arith, length-append, length-drop, length-take-le}
-use Rattle.spec_lists.specs.BytesLaws.{length_little_endian}
+use Rattle.spec_lists.proofs.BytesLaws.{length_little_endian}
 use Rattle.spec_patch.specs.Sizes.{text_bytes}
 use Rattle.spec_patch.specs.Edition.{Edition, letters}
 use Rattle.spec_patch.specs.Encode.{u32, encode_optional, encode_text, kind_of, value_body, encode_value, encode_operation, encode_envelope, heading}

@@ -6,7 +6,7 @@ use Rattle.std.proofs.lemmas.Bool.{lt-leb}
 use Rattle.spec_patch.specs.Sizes.{text_bytes}
 use Rattle.spec_patch.specs.Write as model
 use Rattle.bytes_wire.specs.Write.{has_room, overwrite}
-use Rattle.bytes_wire.specs.WriteLaws.{overwrite_refused}
+use Rattle.bytes_wire.proofs.WriteLaws.{overwrite_refused}
 use Rattle.projection_patch.specs.declared.patch.ProjectionPatchOperation.{ProjectionPatchOperation}
 use Rattle.patch_part_writer.specs.declared.written.Written.{Written}
 use Rattle.patch_part_writer.specs.declared.written.Written.TheVariants.{Wrote, Refused}

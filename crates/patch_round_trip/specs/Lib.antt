@@ -1,2 +1,1 @@
 pub mod SetFor
-pub mod SetForLaws

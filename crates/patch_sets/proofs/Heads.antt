@@ -10,16 +10,16 @@ use lib.ListN.{length, take, drop}
 use lib.Seq.{drop_at, drop-drop}
 use Rattle.spec_lists.specs.Lists.{if◌then◌else◌}
 use Rattle.spec_lists.specs.Bytes.{Bytes, number_of}
-use Rattle.spec_lists.specs.BytesLaws.{length_little_endian}
+use Rattle.spec_lists.proofs.BytesLaws.{length_little_endian}
 use Rattle.spec_patch.specs.Edition.{Edition, letters}
 use Rattle.spec_patch.specs.Encode.{u32, heading}
 use Rattle.spec_patch.specs.Reader.{Fault, Result, read, refused, malformed, onward, literal}
 use Rattle.spec_patch.specs.Read.{optional_after, read_optional}
-use Rattle.spec_patch.specs.Codec.{never, literal_codec}
+use Rattle.spec_patch.proofs.Codec.{never, literal_codec}
 use Rattle.bytes_wire.specs.Read.{first_number}
-use Rattle.bytes_wire.specs.ReadLaws.{number_at, number_bytes, first_of_little_endian}
+use Rattle.bytes_wire.proofs.ReadLaws.{number_at, number_bytes, first_of_little_endian}
 use Rattle.bytes_wire.specs.Prefix.{starts_with}
-use Rattle.bytes_wire.specs.PrefixLaws.{starts_true, starts_append}
+use Rattle.bytes_wire.proofs.PrefixLaws.{starts_true, starts_append}
 
 -- ---- an optional number is refused as malformed alone
 

@@ -9,7 +9,7 @@ use Rattle.spec_lists.specs.Bytes.{Bytes}
 use Rattle.spec_patch.specs.Sizes.{patch_operations}
 use Rattle.spec_patch.specs.Edition.{Edition}
 use Rattle.spec_patch.specs.Read.{read_count, read_envelope}
-use Rattle.spec_patch.specs.ReadLaws.{count_codec, envelope_codec}
+use Rattle.spec_patch.proofs.ReadLaws.{count_codec, envelope_codec}
 use Rattle.projection_patch.specs.Meaning.{envelope_to}
 use Rattle.projection_patch.specs.ReadAnswers.{anywhere, count_answer}
 use Rattle.projection_patch.specs.declared.patch.ProjectionPatch.{ProjectionPatch}

@@ -6,7 +6,7 @@ use mathlib.Core.List.{List}
 use native.Mathlib.Omega.{arith}
 use lib.ListN.{length, drop, length-drop}
 use Rattle.spec_lists.specs.Bytes.{Bytes}
-use Rattle.spec_lists.specs.BytesLaws.{bytes_drop}
+use Rattle.spec_lists.proofs.BytesLaws.{bytes_drop}
 use Rattle.spec_patch.specs.Sizes.{set_patches, patch_operations}
 use Rattle.spec_patch.specs.Edition.{Edition}
 use Rattle.spec_patch.specs.Read.{read_operation}
@@ -19,7 +19,7 @@ use Rattle.projection_patch.specs.declared.read_values.CountRead.{CountRead}
 use Rattle.projection_patch.specs.declared.read_values.CountRead.TheVariants as count-read
 use Rattle.projection_patch.specs.declared.read_operations.OperationRead.{OperationRead}
 use Rattle.projection_patch.specs.declared.read_operations.OperationRead.TheVariants as operation-read
-use Rattle.spec_lists.specs.ListLaws.{lent_from_lem}
+use Rattle.spec_lists.proofs.ListLaws.{lent_from_lem}
 use Rattle.projection_patch.proofs.Answers.{Got, NotGot, operation_got, no_operation}
 use Rattle.patch_sets.specs.Walk.{read_heading, read_head}
 use Rattle.patch_sets.specs.HeadLaws.{heading_codec, head_codec}

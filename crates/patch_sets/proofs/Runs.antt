@@ -6,14 +6,14 @@ use borrow.Author.Tests.{le-leb}
 use lib.ListN.{length, drop}
 use lib.Seq.{drop-drop}
 use Rattle.spec_lists.specs.Bytes.{Bytes}
-use Rattle.spec_lists.specs.BytesLaws.{bytes_drop}
+use Rattle.spec_lists.proofs.BytesLaws.{bytes_drop}
 use Rattle.spec_patch.specs.Sizes.{set_bytes, patch_operations}
 use Rattle.spec_patch.specs.Patch.{Operation, Patch}
 use Rattle.spec_patch.specs.Edition.{Edition}
 use Rattle.spec_patch.specs.Reader.{Result, read, refused, onward, followed, many}
 use Rattle.spec_patch.specs.Read.{read_operation, to_patch, read_patch, fault, ended, read_set}
-use Rattle.spec_patch.specs.Codec.{many_codec}
-use Rattle.spec_patch.specs.ReadLaws.{operation_codec, patch_codec}
+use Rattle.spec_patch.proofs.Codec.{many_codec}
+use Rattle.spec_patch.proofs.ReadLaws.{operation_codec, patch_codec}
 use Rattle.patch_sets.specs.Walk.{read_heading, read_head}
 use Rattle.patch_sets.specs.HeadLaws.{patches_by_heading, patch_by_head}
 use Rattle.projection_patch.specs.ReadAnswers.{anywhere}

@@ -9,8 +9,8 @@ use Rattle.spec_patch.specs.Encode.{heading}
 use Rattle.spec_patch.specs.Fits.{InRangeEnvelope}
 use Rattle.spec_patch.specs.Reader.{Fault, Result, read, refused, Reader, onward, followed, mapped, many, literal}
 use Rattle.spec_patch.specs.Read.{read_count, read_counted, read_operation, read_envelope, to_patch, read_patch, read_patches}
-use Rattle.spec_patch.specs.Codec.{Codec, iso_codec, pair_codec, literal_codec}
-use Rattle.spec_patch.specs.ReadLaws.{count_codec, envelope_codec}
+use Rattle.spec_patch.proofs.Codec.{Codec, iso_codec, pair_codec, literal_codec}
+use Rattle.spec_patch.proofs.ReadLaws.{count_codec, envelope_codec}
 use Rattle.patch_sets.specs.Walk.{read_heading, read_head, encode_heading, encode_head}
 
 pub heading_codec : (ed : Edition) → Codec (encode_heading ed) (λ (n : ℕ). n ≤ set_patches) (read_heading ed)

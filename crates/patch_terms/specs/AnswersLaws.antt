@@ -8,17 +8,17 @@ use Rattle.std.proofs.Math.Option.{Option, none, some}
 use borrow.Author.Tests.{eqb-true, eqb-false, le-leb, lt-leb}
 use Rattle.std.proofs.Math.ListN.{length, take, drop, length-drop}
 use Rattle.spec_lists.specs.Lists.{if◌then◌else◌}
-use Rattle.spec_lists.specs.ListLaws.{test_cases}
+use Rattle.spec_lists.proofs.ListLaws.{test_cases}
 use Rattle.spec_decimal.specs.Decimal.{read_decimal}
 use Rattle.spec_listing.specs.Escapes.{tab}
 use Rattle.spec_listing.specs.Split.{split}
-use Rattle.spec_listing.specs.SplitLaws.{split_whole, split_part}
+use Rattle.spec_listing.proofs.SplitLaws.{split_whole, split_part}
 use Rattle.spec_patch.specs.Sizes.{text_bytes}
 use Rattle.spec_patch.specs.TextRule.{allowed, few_characters}
 use Rattle.projection_patch.specs.TextRule.{judged, judgement}
 use Rattle.projection_patch.specs.declared.text_rule.TextJudgement.TheVariants.{Fits, Malformed, ManyCharacters}
 use Rattle.spec_import.specs.Import.{Term, term_with, term_of_fields, read_term, keeps_text}
-use Rattle.spec_import.specs.FormLaws.{some_part}
+use Rattle.spec_import.proofs.FormLaws.{some_part}
 use Rattle.patch_terms.specs.declared.TermRead.TheVariants.{Term as Read, OtherForm, OverCapacity}
 use Rattle.patch_terms.specs.Places.{byte_place_of}
 use Rattle.patch_terms.specs.PlacesLaws.{byte_place_of_within, place_lacks, place_found, place_none}

@@ -5,13 +5,13 @@ use Rattle.std.proofs.Common.{sym, ap₂, ◌∙◌, arith, length-append, lengt
 use Rattle.std.proofs.Math.Option.{Option, none, some}
 use borrow.Author.Tests.{lt-ltb, le-ltb}
 use Rattle.std.proofs.Math.ListN.{length}
-use Rattle.spec_lists.specs.ListLaws.{drop_behind, test_cases}
+use Rattle.spec_lists.proofs.ListLaws.{drop_behind, test_cases}
 use Rattle.spec_decimal.specs.Decimal.{decimal}
 use Rattle.spec_listing.specs.Escapes.{tab, newline}
 use Rattle.spec_patch.specs.Sizes.{patch_operations}
 use Rattle.spec_import.specs.Import.{Term, other_form, over_capacity, lines, read_term, keeps_text, terms, faulty, also, line_then, read_terms}
-use Rattle.spec_import.specs.LineLaws.{line_of}
-use Rattle.spec_import.specs.FormLaws.{form_exactly}
+use Rattle.spec_import.proofs.LineLaws.{line_of}
+use Rattle.spec_import.proofs.FormLaws.{form_exactly}
 use Rattle.patch_terms.specs.declared.TermRead.TheVariants as term-read
 use Rattle.patch_terms.specs.declared.LineRead.TheVariants as Line-read
 use Rattle.patch_terms.specs.Places.{byte_place_of, first_term_line}

@@ -6,7 +6,7 @@ use Rattle.std.proofs.Common.{sym, ◌∙◌, drop_of_length-le, take_all, drop-
 use mathlib.Core.List.{List, [], ◌∷◌, ◌++◌}
 use native.Mathlib.Omega.{arith}
 use borrow.Author.Tests.{eqb-true, eq-eqb, ne_eqb}
-use Rattle.spec_lists.specs.ListLaws.{test_cases}
+use Rattle.spec_lists.proofs.ListLaws.{test_cases}
 use Rattle.spec_listing.specs.Escapes.{newline}
 use Rattle.spec_listing.specs.Split.{prepend, lacks}
 use Rattle.spec_import.specs.Import.{lines}

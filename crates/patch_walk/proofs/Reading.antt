@@ -6,13 +6,13 @@ use mathlib.Core.List.{List}
 use native.Mathlib.Omega.{arith}
 use lib.ListN.{length, drop, length-drop, length-append, drop_of_length-le}
 use Rattle.spec_lists.specs.Bytes.{Bytes}
-use Rattle.spec_lists.specs.BytesLaws.{bytes_drop, length_little_endian}
+use Rattle.spec_lists.proofs.BytesLaws.{bytes_drop, length_little_endian}
 use Rattle.spec_patch.specs.Patch.{Envelope}
 use Rattle.spec_patch.specs.Edition.{Edition}
 use Rattle.spec_patch.specs.Encode.{u32, encode_envelope}
 use Rattle.spec_patch.specs.Read.{read_envelope, read_operation_by}
-use Rattle.spec_patch.specs.ReadLaws.{operation_codec_by}
-use Rattle.spec_patch.specs.StrictLaws.{operation_some}
+use Rattle.spec_patch.proofs.ReadLaws.{operation_codec_by}
+use Rattle.spec_patch.proofs.StrictLaws.{operation_some}
 use Rattle.projection_patch.specs.Meaning.{operation_to}
 use Rattle.projection_patch.specs.ReadAnswers.{anywhere, lent_from, operation_answer}
 use Rattle.projection_patch.specs.declared.patch.ProjectionPatch.{ProjectionPatch}
@@ -21,7 +21,7 @@ use Rattle.projection_patch.specs.declared.read_values.ProjectionPatchReadFault.
 use Rattle.projection_patch.specs.declared.read_values.ProjectionPatchReadFault.TheVariants.{Malformed}
 use Rattle.projection_patch.specs.declared.read_operations.OperationRead.{OperationRead}
 use Rattle.projection_patch.specs.declared.read_operations.OperationRead.TheVariants as operation-read
-use Rattle.spec_lists.specs.ListLaws.{lent_from_lem}
+use Rattle.spec_lists.proofs.ListLaws.{lent_from_lem}
 use Rattle.projection_patch.proofs.Answers.{operation_told, operation_got, got_some, retold, retold_refusal}
 use Rattle.patch_sets.specs.Walk.{read_head, encode_head}
 use Rattle.patch_sets.specs.HeadLaws.{head_codec}

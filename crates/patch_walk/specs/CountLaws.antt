@@ -2,8 +2,8 @@
 use Rattle.std.specs.Prelude.{ℕ, ◌+◌, ◌≤◌, ◌<◌, ◌≡◌, refl, Bool, List, leb, ltb, length, drop}
 use Rattle.std.proofs.Common.{arith, ltb-true}
 use Rattle.spec_lists.specs.Bytes.{Bytes}
-use Rattle.spec_lists.specs.BytesLaws.{bytes_drop}
-use Rattle.spec_lists.specs.ListLaws.{test_cases}
+use Rattle.spec_lists.proofs.BytesLaws.{bytes_drop}
+use Rattle.spec_lists.proofs.ListLaws.{test_cases}
 use Rattle.spec_patch.specs.Sizes.{set_bytes, set_patches, patch_operations}
 use Rattle.spec_patch.specs.Patch.{Operation, Envelope}
 use Rattle.spec_patch.specs.Edition.{Edition}

@@ -8,15 +8,15 @@ use borrow.Author.Tests.{ltb-true, ltb-false}
 use Rattle.std.proofs.Math.ListN.{length, drop_of_length-le}
 use Rattle.std.proofs.Math.Seq.{drop-cons}
 use Rattle.spec_lists.specs.Bytes.{Bytes}
-use Rattle.spec_lists.specs.BytesLaws.{bytes_drop}
-use Rattle.spec_lists.specs.ListLaws.{test_cases}
+use Rattle.spec_lists.proofs.BytesLaws.{bytes_drop}
+use Rattle.spec_lists.proofs.ListLaws.{test_cases}
 use Rattle.spec_patch.specs.Sizes.{set_bytes}
 use Rattle.spec_patch.specs.Patch.{Operation, Envelope, Patch}
 use Rattle.spec_patch.specs.Edition.{Edition}
 use Rattle.spec_patch.specs.Reader.{Fault, Result, read, refused, Reader, onward, many}
 use Rattle.spec_patch.specs.Read.{read_operation, to_patch, read_patch, ended, read_set}
-use Rattle.spec_patch.specs.Codec.{Codec, suffix, many_codec}
-use Rattle.spec_patch.specs.ReadLaws.{operation_codec, patch_codec}
+use Rattle.spec_patch.proofs.Codec.{Codec, suffix, many_codec}
+use Rattle.spec_patch.proofs.ReadLaws.{operation_codec, patch_codec}
 use Rattle.projection_patch.specs.Meaning.{operation_to}
 use Rattle.projection_patch.specs.ReadAnswers.{fault_to, answer, anywhere}
 use Rattle.patch_sets.specs.Walk.{read_heading, read_head}

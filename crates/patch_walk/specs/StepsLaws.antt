@@ -8,15 +8,15 @@ use native.Mathlib.Omega.{arith}
 use borrow.Author.Tests.{lt-ltb, le-ltb, le-leb}
 use Rattle.std.proofs.Math.ListN.{drop}
 use Rattle.spec_lists.specs.Bytes.{Bytes}
-use Rattle.spec_lists.specs.ListLaws.{lent_from_lem}
+use Rattle.spec_lists.proofs.ListLaws.{lent_from_lem}
 use Rattle.spec_patch.specs.Sizes.{set_bytes}
 use Rattle.spec_patch.specs.Patch.{Operation, Patch}
 use Rattle.spec_patch.specs.Edition.{Edition}
 use Rattle.spec_patch.specs.Encode.{u32, encode_operation, encode_envelope, encode_counted, encode_patch, heading, encode}
 use Rattle.spec_patch.specs.Reader.{read, Reader}
 use Rattle.spec_patch.specs.Read.{read_operation_by, patches, read_set}
-use Rattle.spec_patch.specs.ReadLaws.{reads_operation}
-use Rattle.spec_patch.specs.SetLaws.{was_encoded}
+use Rattle.spec_patch.proofs.ReadLaws.{reads_operation}
+use Rattle.spec_patch.proofs.SetLaws.{was_encoded}
 use Rattle.projection_patch.specs.Meaning.{operation_to, operation_of}
 use Rattle.projection_patch.specs.ReadAnswers.{answer, anywhere, lent_from}
 use Rattle.projection_patch.specs.TextLaws.{operation_encoded_back}

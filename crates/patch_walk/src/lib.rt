@@ -17,7 +17,7 @@ use projection_patch::read_values::{CountRead, ProjectionPatchReadFault};
 
 // Where a walk stands. The patch that was opened last has index patch_count - patches_left - 1, and the operation that comes next has
 // index operation_count - operations_left in it.
-#[derive(Drop)]
+#[derive(Clone, Copy)]
 pub struct SetCursor {
     pub at: usize,
     pub patch_count: usize,

@@ -8,7 +8,7 @@ use native.Mathlib.Omega.{arith}
 use lib.ListN.{length, get_or, take, drop}
 use lib.Seq.{drop-cons, get_or-take, length-take-le, drop-length}
 use Rattle.spec_lists.specs.Lists.{all}
-use Rattle.spec_lists.specs.ListLaws.{and_left, and_right}
+use Rattle.spec_lists.proofs.ListLaws.{and_left, and_right}
 use Rattle.projection_patch.specs.declared.patch.OptionalSurfaceId.TheVariants as surface
 use Rattle.projection_patch.specs.declared.patch.ProjectionQuadState.TheVariants as quad
 use Rattle.projection_patch.specs.declared.patch.ProjectionPatchValue.TheVariants.{Quad}

@@ -5,7 +5,7 @@ use mathlib.Core.List.{List, [], ◌++◌, append-nil}
 use native.Mathlib.Omega.{arith}
 use lib.ListN.{length, take, drop, length-append, take-append-drop}
 use Rattle.bytes_wire.specs.Write.{overwrite}
-use Rattle.bytes_wire.specs.WriteLaws.{has_room_lem, length_overwrite, overwrite_append, overwrite_in_place}
+use Rattle.bytes_wire.proofs.WriteLaws.{has_room_lem, length_overwrite, overwrite_append, overwrite_in_place}
 
 pub record Progress (start : List ℕ) (at : ℕ) (whole out : List ℕ) (next : ℕ) (rest : List ℕ) : Type 0 where
   pub same : overwrite out next rest ≡ overwrite start at whole

@@ -9,7 +9,7 @@ use lib.Dec.{leb}
 use lib.ListN.{length, take}
 use lib.Seq.{length-take-le}
 use Rattle.spec_lists.specs.Lists.{if◌then◌else◌, all}
-use Rattle.spec_lists.specs.ListLaws.{and_left, and_right}
+use Rattle.spec_lists.proofs.ListLaws.{and_left, and_right}
 use Rattle.spec_patch.specs.Sizes.{set_bytes, set_patches, text_bytes}
 use Rattle.spec_patch.specs.Edition.{Edition}
 use Rattle.spec_patch.specs.Encode.{encode}

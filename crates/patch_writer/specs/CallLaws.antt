@@ -8,9 +8,8 @@ use mathlib.Core.List.{List, [], ◌∷◌, ◌++◌, flat_map, append_assoc}
 use borrow.Author.Tests.{leb-true, le-leb}
 use Rattle.std.proofs.Math.Dec.{leb}
 use Rattle.std.proofs.Math.ListN.{length, length-append}
-use Rattle.std.proofs.lemmas.List.{length-map}
 use Rattle.spec_lists.specs.Lists.{if◌then◌else◌, all}
-use Rattle.spec_lists.specs.ListLaws.{and_left, and_right}
+use Rattle.spec_lists.proofs.ListLaws.{and_left, and_right}
 use Rattle.spec_lists.specs.Bytes.{Bytes}
 use Rattle.spec_patch.specs.Sizes.{set_patches, patch_operations}
 use Rattle.spec_patch.specs.Patch as model
@@ -18,11 +17,11 @@ use Rattle.spec_patch.specs.Edition.{Edition}
 use Rattle.spec_patch.specs.Encode.{u32, heading, encode_counted, encode_patch, encode}
 use Rattle.spec_patch.specs.Fits.{InRange, Fits}
 use Rattle.spec_patch.specs.Read.{patches, read_set}
-use Rattle.spec_patch.specs.SetLaws.{reads_back, was_encoded}
+use Rattle.spec_patch.proofs.SetLaws.{reads_back, was_encoded}
 use Rattle.spec_patch.specs.Write.{WriteRefusal, over_capacity, malformed, output_too_short, Written, wrote, refused, write, all_values, short_enough, well_formed, few_enough, within_capacities}
-use Rattle.spec_patch.specs.WriteLaws.{fits_of_tests, capacities_of_fits, well_formed_of_fits, few_of_fits}
+use Rattle.spec_patch.proofs.WriteLaws.{fits_of_tests, capacities_of_fits, well_formed_of_fits, few_of_fits}
 use Rattle.bytes_wire.specs.Write.{has_room, overwrite}
-use Rattle.bytes_wire.specs.WriteLaws.{take_overwrite, overwrite_in_place, overwrite_refused}
+use Rattle.bytes_wire.proofs.WriteLaws.{take_overwrite, overwrite_in_place, overwrite_refused}
 use Rattle.projection_patch.specs.declared.patch.OperationPlace.{OperationPlace}
 use Rattle.projection_patch.specs.declared.patch.ProjectionPatchSet.{ProjectionPatchSet}
 use Rattle.patch_part_writer.specs.declared.written.Written as call
@@ -42,7 +41,7 @@ pub record Arrays (set : ProjectionPatchSet) : Type 0 where
 pub passed_arrays : (set : ProjectionPatchSet) → PassedSet set → Arrays set
 passed_arrays set p =
     let fields = p.known.1.1 in
-    record { patches = sym (length-map set.patches _) ∙ fields.1.0.1.0.1; operations = sym (length-map set.operations _) ∙ fields.1.1.0.1.0.1 }
+    record { patches = fields.1.0.1.0.1; operations = fields.1.1.0.1.0.1 }
 
 -- ---- from the start of the output
 

@@ -9,8 +9,8 @@ use Rattle.spec_lists.specs.Bytes.{Bytes}
 use Rattle.spec_patch.specs.Edition.{Edition}
 use Rattle.spec_patch.specs.Reader.{Fault, Result, read, refused, malformed, Reader, followed, byte}
 use Rattle.spec_patch.specs.Read.{read_optional, read_availability, read_value_by, read_operation_by}
-use Rattle.spec_patch.specs.Codec.{Codec, suffix}
-use Rattle.spec_patch.specs.ReadLaws.{optional_codec, availability_codec, value_codec_by, operation_codec_by}
+use Rattle.spec_patch.proofs.Codec.{Codec, suffix}
+use Rattle.spec_patch.proofs.ReadLaws.{optional_codec, availability_codec, value_codec_by, operation_codec_by}
 use Rattle.projection_patch.specs.Meaning.{value_to, availability_to, operation_to}
 use Rattle.projection_patch.specs.ReadAnswers.{fault_to, answer, anywhere, optional_to, optional_answer, availability_answer, value_answer, operation_answer}
 use Rattle.projection_patch.specs.declared.patch.ProjectionNodeAvailability.{ProjectionNodeAvailability}

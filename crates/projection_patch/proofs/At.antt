@@ -12,7 +12,7 @@ use lib.IntN.{ℤ}
 use Rattle.spec_patch.specs.Reader.{Fault, read, refused, malformed, Result, Reader, onward, pair, byte, number}
 use Rattle.spec_patch.specs.Read.{read_u32, read_u64, read_i64}
 use Rattle.bytes_wire.specs.Read.{first_number, first_signed, number_u32, number_u64, number_i64}
-use Rattle.bytes_wire.specs.ReadLaws as wire
+use Rattle.bytes_wire.proofs.ReadLaws as wire
 use Rattle.bytes_wire.specs.declared.ReadU32.{ReadU32}
 use Rattle.bytes_wire.specs.declared.ReadU32.TheVariants as U32
 use Rattle.bytes_wire.specs.declared.ReadU64.{ReadU64}

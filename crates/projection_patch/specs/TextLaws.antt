@@ -10,7 +10,7 @@ use Rattle.spec_patch.specs.Edition.{Edition}
 use Rattle.spec_patch.specs.Encode.{u32, u64, encode_optional, quad_byte, availability_byte, encode_text, kind_of, value_body, encode_value, encode_operation}
 use Rattle.spec_patch.specs.Reader.{read}
 use Rattle.spec_patch.specs.Read.{read_operation_by}
-use Rattle.spec_patch.specs.ReadLaws.{operation_codec_by}
+use Rattle.spec_patch.proofs.ReadLaws.{operation_codec_by}
 use Rattle.projection_patch.specs.Meaning.{before_to, before_of, quad_to, quad_of, availability_to, availability_value_of, value_to, value_of, operation_to, operation_of}
 
 -- ---- the text of an operation, or no bytes where it has none

@@ -9,7 +9,7 @@ use crate::contract_primitives::{
 };
 
 // A patch; finding 13 reports 0.
-#[derive(Drop)]
+#[derive(Clone, Copy)]
 pub struct ProjectionPatchId(u64);
 
 impl ProjectionPatchId {
@@ -27,7 +27,7 @@ impl ProjectionPatchId {
 }
 
 // A stream of patches; finding 14 reports 0.
-#[derive(Drop)]
+#[derive(Clone, Copy)]
 pub struct ProjectionPatchStreamId(u64);
 
 impl ProjectionPatchStreamId {
@@ -45,7 +45,7 @@ impl ProjectionPatchStreamId {
 }
 
 // A patch's place in its stream.
-#[derive(Drop)]
+#[derive(Clone, Copy)]
 pub struct ProjectionPatchSequence(u64);
 
 impl ProjectionPatchSequence {
@@ -62,13 +62,13 @@ impl ProjectionPatchSequence {
     }
 }
 
-#[derive(Drop)]
+#[derive(Clone, Copy)]
 pub enum OptionalSurfaceId {
     None,
     Some(StaticSurfaceId),
 }
 
-#[derive(Drop)]
+#[derive(Clone, Copy)]
 pub struct ProjectionPatchEnvelope {
     pub patch_id: ProjectionPatchId,
     pub stream_id: ProjectionPatchStreamId,
@@ -81,7 +81,7 @@ pub struct ProjectionPatchEnvelope {
 }
 
 // The edition that a set is written in. The second has match scores.
-#[derive(Drop)]
+#[derive(Clone, Copy)]
 pub enum ProjectionPatchEdition {
     V1,
     V2,
@@ -98,7 +98,7 @@ impl ProjectionPatchEdition {
     }
 }
 
-#[derive(Drop)]
+#[derive(Clone, Copy)]
 pub enum ProjectionQuadState {
     N,
     F,
@@ -107,7 +107,7 @@ pub enum ProjectionQuadState {
 }
 
 // A text is the len bytes from start on, of the slice that is lent beside the value.
-#[derive(Drop)]
+#[derive(Clone, Copy)]
 pub enum ProjectionPatchValue {
     Quad(ProjectionQuadState),
     SignedScalar(i64),
@@ -116,7 +116,7 @@ pub enum ProjectionPatchValue {
     Score(u8),
 }
 
-#[derive(Drop)]
+#[derive(Clone, Copy)]
 pub enum ProjectionNodeAvailability {
     Available,
     Unavailable,
@@ -125,13 +125,13 @@ pub enum ProjectionNodeAvailability {
     Stale,
 }
 
-#[derive(Drop)]
+#[derive(Clone, Copy)]
 pub enum OptionalKey {
     None,
     Some(CollectionKey),
 }
 
-#[derive(Drop)]
+#[derive(Clone, Copy)]
 pub enum ProjectionPatchOperation {
     SetBindingValue {
         target: BindingTarget,
@@ -173,7 +173,7 @@ impl ProjectionPatchValue {
 }
 
 // A patch's head: its envelope, and how many operations follow it.
-#[derive(Drop)]
+#[derive(Clone, Copy)]
 pub struct ProjectionPatch {
     pub envelope: ProjectionPatchEnvelope,
     pub operation_count: usize,
@@ -185,14 +185,14 @@ impl ProjectionPatch {
 }
 
 // A place in a list of operations.
-#[derive(Drop)]
+#[derive(Clone, Copy)]
 pub struct OperationPlace {
     pub operation: ProjectionPatchOperation,
 }
 
 // A patch list by value: the first patch_count heads, and the operations of all their patches in order. No set that can be written has more
 // operations than there are places.
-#[derive(Drop)]
+#[derive(Clone, Copy)]
 pub struct ProjectionPatchSet {
     pub patch_count: usize,
     pub patches: [ProjectionPatch; ProjectionPatchSet::PATCHES],

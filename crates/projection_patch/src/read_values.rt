@@ -19,7 +19,7 @@ use crate::text_rule::TextJudgement;
 use bytes_wire::{ReadI64, ReadU32, ReadU64};
 
 // Why bytes are not read.
-#[derive(Drop)]
+#[derive(Clone, Copy)]
 pub enum ProjectionPatchReadFault {
     Malformed,
     OverCapacity,

@@ -8,18 +8,18 @@ use Rattle.spec_patch.specs.Patch.{Patch}
 use Rattle.spec_patch.specs.Edition.{Edition}
 use Rattle.spec_patch.specs.Reader.{Fault, fault_number}
 use Rattle.spec_patch.specs.Read.{SetReading, patches, fault, read_set}
-use Rattle.spec_patch.specs.SetLaws.{was_encoded}
+use Rattle.spec_patch.proofs.SetLaws.{was_encoded}
 use Rattle.spec_checks.specs.Finding.{Finding}
 use Rattle.spec_checks.specs.Findings.{Place, in_patch, in_set, Findings, findings}
 use Rattle.spec_checks.specs.Answer.{record_length, finding_words, fitting, checked_list}
-use Rattle.spec_checks.specs.AnswerLaws.{fitting_all, write_findings_front}
-use Rattle.spec_checks.specs.CountLaws.{findings_most}
+use Rattle.spec_checks.proofs.AnswerLaws.{fitting_all, write_findings_front}
+use Rattle.spec_checks.proofs.CountLaws.{findings_most}
 use Rattle.spec_decimal.specs.Decimal.{decimal}
 use Rattle.spec_listing.specs.Listing.{fields}
 use Rattle.spec_replay.specs.Answers.{place_field, finding_line, checked_line, check_lines}
 use Rattle.bytes_printer.specs.declared.Printed.{Printed}
 use Rattle.bytes_printer.specs.Prints.{spaced_field, Prints, Within}
-use Rattle.bytes_printer.specs.PrintsLaws.{◌⨾◌, ends_within}
+use Rattle.bytes_printer.proofs.PrintsLaws.{◌⨾◌, ends_within}
 use Rattle.projection_patch.specs.ReadAnswers.{fault_to, fault_of}
 use Rattle.projection_patch.specs.FaultLaws.{fault_back}
 use Rattle.projection_patch.specs.declared.read_values.ProjectionPatchReadFault.{ProjectionPatchReadFault}

@@ -13,7 +13,7 @@ use Rattle.spec_decimal.specs.Decimal.{decimal}
 use Rattle.spec_listing.specs.Listing.{fields}
 use Rattle.spec_replay.specs.Answers.{print_lines}
 use Rattle.bytes_wire.specs.Write.{has_room, overwrite}
-use Rattle.bytes_wire.specs.WriteLaws.{room_true, has_room_lem, overwrite_in_place}
+use Rattle.bytes_wire.proofs.WriteLaws.{room_true, has_room_lem, overwrite_in_place}
 use Rattle.panel_print.specs.Answers.{print_number, print_answer}
 use Rattle.panel_print.specs.declared.PrintRefusal.{PrintRefusal}
 use Rattle.panel_print.specs.declared.PrintRefusal.TheVariants.{OutputTooShort}

@@ -7,7 +7,7 @@ use lib.ListN.{length, take, get_or, length-take}
 use lib.Seq.{get_or-take}
 use Rattle.spec_checks.specs.Finding.{Finding, finding_key}
 use Rattle.spec_checks.specs.Answer.{record_length, finding_words}
-use Rattle.spec_checks.specs.AnswerLaws.{finding_words_length}
+use Rattle.spec_checks.proofs.AnswerLaws.{finding_words_length}
 use Rattle.script_answers.specs.CheckOf.{finding_told}
 
 -- the finding at a position of a list of numbers

@@ -4,7 +4,7 @@ use Rattle.std.proofs.Common.{sym, ap, ◌∙◌, append_assoc, append-nil}
 use Rattle.spec_listing.specs.Listing.{fields}
 use Rattle.bytes_printer.specs.declared.Printed.{Printed}
 use Rattle.bytes_printer.specs.Prints.{spaced_field, Prints}
-use Rattle.bytes_printer.specs.PrintsLaws.{◌⨾◌, prints_same}
+use Rattle.bytes_printer.proofs.PrintsLaws.{◌⨾◌, prints_same}
 use Rattle.script_answers.specs.OpenFields.{open_fields}
 
 open_fields_lem : (fs gs : List (List ℕ)) → open_fields fs ++ fields gs ≡ fields (fs ++ gs)

@@ -13,7 +13,7 @@ use Rattle.spec_patch.specs.Patch.{Value, quad, signed, text, unsigned, score}
 use Rattle.spec_listing.specs.Listing.{fields}
 use Rattle.spec_page.specs.Page as model
 use Rattle.spec_page.specs.Page.{PageEntry, page_entry, page_rows, page_number, page_refusal, table_left, page}
-use Rattle.spec_page.specs.PageLaws.{page_length}
+use Rattle.spec_page.proofs.PageLaws.{page_length}
 use Rattle.spec_replay.specs.Answers.{dash, row_line, answered_lines, page_lines}
 use Rattle.listing_lines.specs.LookupFields.{lookup_fields, found_fields}
 use Rattle.panel_rows.specs.Lookup.{found_value}

@@ -2,7 +2,7 @@
 use Rattle.std.specs.Prelude.{ℕ, ◌≤◌, min, ◌≡◌, List, leb, length}
 use Rattle.std.proofs.Common.{ap, ◌∙◌, arith, leb-true, leb-false, le-leb}
 use Rattle.std.proofs.lemmas.Bool.{lt-leb}
-use Rattle.spec_lists.specs.ListLaws.{test_cases}
+use Rattle.spec_lists.proofs.ListLaws.{test_cases}
 use Rattle.spec_panel_print.specs.PrintSizes.{print_bytes}
 use Rattle.spec_replay.specs.Answers.{print_lines}
 

@@ -3,7 +3,7 @@ use Rattle.std.specs.Prelude.{ℕ, ◌-◌, min, ◌≡◌, refl, Bool, true, fa
 use Rattle.std.proofs.Common.{sym, ap₂, subst, ◌∙◌, arith}
 use Rattle.std.proofs.Math.Path.{ap}
 use Rattle.std.proofs.Math.Option.{Option, none, some}
-use Rattle.spec_lists.specs.ListLaws.{map_take}
+use Rattle.spec_lists.proofs.ListLaws.{map_take}
 use Rattle.spec_patch.specs.Edition.{Edition}
 use Rattle.spec_session.specs.Batch.{BatchEnvelope, batch}
 use Rattle.spec_session.specs.Session.{Session, Limits, Creation, made, refused, create}

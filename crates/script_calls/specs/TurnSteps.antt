@@ -4,11 +4,11 @@ use Rattle.std.proofs.Math.Path.{refl, ap, subst}
 use Rattle.std.proofs.Common.{sym, ◌∙◌, arith, leb-true}
 use Rattle.std.proofs.Math.Option.{Option, none, some}
 use Rattle.spec_lists.specs.Lists.{if◌then◌else◌, between}
-use Rattle.spec_lists.specs.ListLaws.{and_left, and_right}
+use Rattle.spec_lists.proofs.ListLaws.{and_left, and_right}
 use Rattle.spec_session.specs.Session.{Cursor}
 use Rattle.spec_turns.specs.Turns as model
 use Rattle.spec_turns.specs.Turns.{Turns, senders, most_senders, SetUp, set_up, register, turn}
-use Rattle.spec_turns.specs.TurnsLaws.{new_turns_senders, register_senders, turn_senders}
+use Rattle.spec_turns.proofs.TurnsLaws.{new_turns_senders, register_senders, turn_senders}
 use Rattle.spec_replay.specs.Answers.{no_session_line, set_up_line}
 use Rattle.spec_replay.specs.Replay.{State, Step, onward, asked_turns, settled, turned, with_turns}
 use Rattle.bytes_printer.specs.declared.Printed.{Printed}

@@ -9,7 +9,7 @@ use borrow.Author.Tests.{eqb-true, eqb-false, leb-true, le-leb, lt-leb, eq-eqb, 
 use Rattle.spec_lists.specs.Lists.{if◌then◌else◌, any}
 use Rattle.spec_patch.specs.Sizes.{set_bytes}
 use Rattle.spec_patch.specs.Edition.{Edition}
-use Rattle.spec_lists.specs.ListLaws.{and_left, and_right, test_cases}
+use Rattle.spec_lists.proofs.ListLaws.{and_left, and_right, test_cases}
 use Rattle.spec_decimal.specs.Decimal.{read_decimal}
 use Rattle.spec_replay.specs.Hex.{read_hex}
 use Rattle.spec_replay.specs.Script.{Command, other, apply, Arguments, end, given, read_by, number_field, at_most, slot, numbered_edition, hex, stimuli, session_arguments, binding_arguments, batch_arguments, convert_arguments, depends_arguments, places_lent, print_arguments, bytes_lent, room_up_to, group_arguments, page_arguments, import_arguments, bound_arguments, keyed_arguments, values, marks, commands}

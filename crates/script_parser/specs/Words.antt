@@ -2,7 +2,7 @@
 use Rattle.std.specs.Prelude.{ℕ, suc, ◌≤◌, ◌≡◌, refl, List, [], ◌∷◌, map, eqb, length, get_or}
 use Rattle.std.proofs.Common.{arith}
 use Rattle.spec_lists.specs.Lists.{if◌then◌else◌, equal_lists}
-use Rattle.spec_lists.specs.ListLaws.{test_cases}
+use Rattle.spec_lists.proofs.ListLaws.{test_cases}
 use Rattle.spec_replay.specs.Script.{other, Arguments, given, Row, by_word}
 
 -- how many words stand before the field; all of them where it is none

@@ -25,7 +25,7 @@ use session_lifecycle::state::ShellLifecycleLimits;
 use words::FormAt;
 
 // The batch's envelope, and the declared count of target references.
-#[derive(Drop)]
+#[derive(Clone, Copy)]
 pub struct BatchLine {
     pub session_id: u64,
     pub sequence_no: u64,
@@ -35,7 +35,7 @@ pub struct BatchLine {
 }
 
 // A batch of a group, and how many bytes its set has.
-#[derive(Drop)]
+#[derive(Clone, Copy)]
 pub struct GroupMember {
     pub batch: BatchLine,
     pub edition: ProjectionPatchEdition,

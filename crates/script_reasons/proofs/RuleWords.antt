@@ -4,7 +4,7 @@ use mathlib.Core.Path.{◌≡◌, sym, ap}
 use mathlib.Core.List.{List}
 use Rattle.bytes_printer.specs.declared.Printed.{Printed}
 use Rattle.bytes_printer.specs.Prints.{spaced_field, Prints}
-use Rattle.bytes_printer.specs.PrintsLaws.{prints_same}
+use Rattle.bytes_printer.proofs.PrintsLaws.{prints_same}
 
 pub of_rule : {A : Type 0} (word : A → List ℕ) {rule found : A} {before after : List ℕ} {at r : Printed} → rule ≡ found → Prints before at (spaced_field (word found)) after r → Prints before at (spaced_field (word rule)) after r
 of_rule word is = prints_same (sym (ap (λ a. spaced_field (word a)) is))

@@ -7,14 +7,14 @@ use Rattle.std.proofs.Math.ListN.{length, drop, length-append}
 use Rattle.spec_lists.specs.Bytes.{Bytes}
 use Rattle.spec_patch.specs.Sizes.{set_bytes}
 use Rattle.spec_patch.specs.Edition.{Edition}
-use Rattle.spec_patch.specs.SetLaws.{was_encoded}
+use Rattle.spec_patch.proofs.SetLaws.{was_encoded}
 use Rattle.spec_decimal.specs.Decimal.{digits, decimal}
-use Rattle.spec_decimal.specs.ReadLaws.{length_decimal}
+use Rattle.spec_decimal.proofs.ReadLaws.{length_decimal}
 use Rattle.spec_dependencies.specs.Dependencies.{CollectionKey}
 use Rattle.spec_dependencies.specs.Answer.{pair_length, all_words, DependencyRefusal, unreadable, has_findings, output_too_short, refusal_number, Answered, dependencies_of}
-use Rattle.spec_dependencies.specs.AnswerLaws.{call_answers}
+use Rattle.spec_dependencies.proofs.AnswerLaws.{call_answers}
 use Rattle.spec_dependencies.specs.CallClaim.{never_given, too_short, listed, Called, not_read, with_findings, given}
-use Rattle.spec_dependencies.specs.Theorem.{lists_short}
+use Rattle.spec_dependencies.proofs.Theorem.{lists_short}
 use Rattle.spec_listing.specs.Listing.{fields}
 use Rattle.spec_replay.specs.Script.{ascii}
 use Rattle.spec_replay.specs.Answers.{key_line, first_keys, verdict_lines, dependency_lines}

@@ -15,7 +15,7 @@ use Rattle.spec_replay.specs.Replay.{State, onward, replay_line}
 use Rattle.bytes_printer.specs.declared.Printed.{Printed}
 use Rattle.bytes_printer.specs.declared.Printed.TheVariants.{Next}
 use Rattle.bytes_printer.specs.Prints.{Prints}
-use Rattle.bytes_printer.specs.PrintsLaws.{nothing_printed}
+use Rattle.bytes_printer.proofs.PrintsLaws.{nothing_printed}
 use Rattle.bytes_hex.specs.declared.Decoded.{Decoded}
 use Rattle.bytes_hex.specs.declared.Decoded.TheVariants as decoded
 use Rattle.bytes_hex.specs.Decoding.{decoding, decoded_into}

@@ -1,2 +1,1 @@
 pub mod Creation
-pub mod CreationLaws

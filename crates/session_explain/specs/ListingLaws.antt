@@ -11,7 +11,7 @@ use Rattle.spec_checks.specs.Findings.{findings}
 use Rattle.spec_projection.specs.Projection.{empty}
 use Rattle.spec_explain.specs.ReadingRule.{Unread}
 use Rattle.spec_explain.specs.Locate.{locate}
-use Rattle.spec_explain.specs.LocateLaws.{Agrees, reads, stops, locate_agrees}
+use Rattle.spec_explain.proofs.LocateLaws.{Agrees, reads, stops, locate_agrees}
 use Rattle.spec_explain.specs.Walk.{walk_patches}
 use Rattle.spec_explain.specs.Explain.{Explained, fine, ◌>>=◌, ◌>>◌, patches_read, patches_readable, no_findings, step_kept, applies, reason_of}
 use Rattle.spec_explain.specs.CallReasons.{explain_check, explain_listing}
@@ -42,5 +42,7 @@ module _ (ed : Edition) (set : List ℕ) {x : StepReason} (told : x ≡ found_to
   listing_read is {f} {a} {r} finds runs first = go (locate ed set) (read_set ed set) refl (locate_agrees ed set) told
     where
       go : (o : Option Unread) (y : SetReading) → read_set ed set ≡ y → Agrees ed o y → x ≡ found_to (reason_of (patches_readable o (patches_read y) >>= λ ps. fine tt)) → r ≡ found_to (reason_of (patches_readable o (patches_read y) >>= λ ps. found ps >> applied ps))
+      go (some u) (patches ps) q x6 e = elim x6 [ ]
+      go none (fault k) q x7 e = elim x7 [ ]
       go none (patches ps) q (reads qs) e = first ∙ ap₂ first_to (finds ps q) (runs ps q) ∙ first_then (found ps) (applied ps) ∙ sym (found_is (found ps >> applied ps))
       go (some u) (fault k) q (stops v g j) e = absurd (let z : steps.Fine ≡ steps.Because _ = sym is ∙ e in let w : ◌≡◌ {A = ℕ} 0 1 = cc in omega arith)

@@ -23,7 +23,7 @@ use Rattle.spec_session.specs.Lifecycle.{is_closed}
 use Rattle.spec_session.specs.Batch.{BatchEnvelope, pass, refuse, absent_targets, takes_number}
 use Rattle.spec_explain.specs.ReadingRule.{Unread}
 use Rattle.spec_explain.specs.Locate.{locate}
-use Rattle.spec_explain.specs.LocateLaws.{Agrees, reads, stops, locate_agrees}
+use Rattle.spec_explain.proofs.LocateLaws.{Agrees, reads, stops, locate_agrees}
 use Rattle.spec_explain.specs.Walk.{Walk, through, halted, walk_patches, tested}
 use Rattle.spec_explain.specs.Reason.{foreign_session, session_closed, counts_differ, cursor_mismatch}
 use Rattle.spec_explain.specs.Explain.{Explained, fine, because, ◌>>=◌, ◌>>◌, require_or, patches_read, patches_readable, no_findings, target_known, targets_known, next_number, step_kept, applies, explain_steps, over_declared, reason_of, withheld, given, under_cap}
@@ -45,9 +45,9 @@ use Rattle.session_lifecycle.specs.Meaning.{refusal_of}
 use Rattle.session_lifecycle.specs.declared.diagnostics.ShellRefusal.{ShellRefusal}
 use Rattle.session_gates.specs.Gates as gates
 use Rattle.session_gates.specs.Gates.{gate_of}
-use Rattle.session_gates.specs.GatesLaws.{operations_counted}
+use Rattle.session_gates.proofs.GatesLaws.{operations_counted}
 use Rattle.session_gates.specs.Lent.{Lent}
-use Rattle.session_gates.specs.LentLaws.{absent_is}
+use Rattle.session_gates.proofs.LentLaws.{absent_is}
 use Rattle.session_gates.specs.declared.gates.BatchGate.{BatchGate}
 use Rattle.session_gates.specs.declared.gates.BatchGate.TheVariants as gate
 use Rattle.session_explain.specs.Unknown.{unknown_to}
@@ -191,6 +191,8 @@ module _ (ed : Edition) (set nodes bindings collections : List ℕ) where
       by_found ps r l (f ∷ fs) e = some_found ps r l f fs e
 
       go : (o : Option Unread) (x : SetReading) → locate ed set ≡ o → read_set ed set ≡ x → Agrees ed o x → Inspected (inspection_answer nodes bindings collections x)
+      go (some u) (patches ps) l r x7 = elim x7 [ ]
+      go none (fault f) l r x8 = elim x8 [ ]
       go none (patches ps) l r (reads qs) = by_found ps r l (findings ps).found refl
       go (some u) (fault f) l r (stops v g is) = unread (fault_to f) u l
 
@@ -287,6 +289,8 @@ module _ (ed : Edition) (s : Session) (e : BatchEnvelope) (declared : ℕ) (set 
       after ps = no_findings (findings ps).place (findings ps).found >> clean_by s.catalogue s.limits s.cursor e declared (length ps) (length (operations_of ps)) (absent_targets s.catalogue (operations_of ps)) ps
 
       go : (a : Explained (Unit {0})) (o : Option Unread) (x : SetReading) → read_set ed set ≡ x → Agrees ed o x → step_to (a >> (patches_readable o (patches_read x) >>= after)) ≡ steps.Fine → (ps : List Patch) × (read_set ed set ≡ patches ps)
+      go (fine u) (some v) (patches ps) q g h = elim g [ ]
+      go (fine u) none (fault f) q g h = elim g [ ]
       go (because r) o x q g h = absurd (let z : ◌≡◌ {A = ℕ} 0 1 = cc in omega arith)
       go (fine u) none (patches ps) q (reads qs) h = (ps, q)
       go (fine u) (some v) (fault f) q (stops w k j) h = absurd (let z : ◌≡◌ {A = ℕ} 0 1 = cc in omega arith)

@@ -14,7 +14,7 @@ use Rattle.spec_explain.specs.Explain.{target_known}
 use Rattle.check_targets.specs.Targets.{target_numbers}
 use Rattle.check_quick.specs.Anchors.{anchored, absent_one, absent_among}
 use Rattle.session_gates.specs.Lent.{Lent}
-use Rattle.session_gates.specs.LentLaws.{absent_is}
+use Rattle.session_gates.proofs.LentLaws.{absent_is}
 
 -- the target of an operation is lent exactly if the catalogue has it
 pub known_is : (c : Catalogue) (nodes bindings collections : List ℕ) → Lent c nodes bindings collections → (o : Operation) → eqb (absent_one (anchored nodes bindings collections) (mutation_target o)) 0 ≡ target_known c o

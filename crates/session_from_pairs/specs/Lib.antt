@@ -1,4 +1,2 @@
 pub mod Pairs
-pub mod PairsLaws
 pub mod CreatesFrom
-pub mod CreatesFromLaws

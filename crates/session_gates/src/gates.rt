@@ -10,7 +10,7 @@ use session_lifecycle::state::{
     ProjectionReplayCursor, ShellLifecycle, ShellLifecycleLimits, ShellSessionId,
 };
 
-#[derive(Drop)]
+#[derive(Clone, Copy)]
 pub struct OrderedProjectionPatchBatchEnvelope {
     pub session_id: ShellSessionId,
     pub sequence_no: u64,

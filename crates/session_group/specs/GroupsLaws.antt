@@ -5,7 +5,7 @@ use Rattle.std.proofs.Common.{ap₂, ◌∙◌, add-one, arith, drop_of_length-l
 use borrow.Author.Tests.{eq-eqb, ne_eqb, leb-true, eqb-true, eqb-false, lt-leb, le-leb}
 use Rattle.std.proofs.lemmas.List.{length-map}
 use Rattle.std.proofs.Math.ListN.{get_or-map}
-use Rattle.spec_lists.specs.ListLaws.{and_left, and_right, test_cases}
+use Rattle.spec_lists.proofs.ListLaws.{and_left, and_right, test_cases}
 use Rattle.spec_group.specs.Group as model
 use Rattle.spec_group.specs.Group.{group_batches, total_bytes, is_group}
 use Rattle.projection_patch.specs.declared.patch.ProjectionPatchEdition.TheVariants.{V1}

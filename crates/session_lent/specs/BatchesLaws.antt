@@ -6,7 +6,7 @@ use mathlib.Core.List.{List, [], ◌∷◌, flat_map}
 use borrow.Author.Tests.{eq-eqb, ne_eqb, eqb-true}
 use Rattle.std.proofs.Math.ListN.{length}
 use Rattle.std.proofs.lemmas.List.{length-map}
-use Rattle.spec_lists.specs.ListLaws.{and_left}
+use Rattle.spec_lists.proofs.ListLaws.{and_left}
 use Rattle.spec_patch.specs.Patch.{Patch}
 use Rattle.spec_patch.specs.Edition.{Edition}
 use Rattle.spec_patch.specs.Read.{patches, read_set}
@@ -16,7 +16,7 @@ use Rattle.spec_session.specs.Session.{Limits, Cursor, at, Session}
 use Rattle.spec_session.specs.Diagnostics.{SessionRefusal, of_operation}
 use Rattle.spec_session.specs.Lifecycle.{Disposition, applied, no_change, rejected, LocalState, state_of}
 use Rattle.spec_session.specs.Batch.{BatchEnvelope, BatchAnswer, BatchStep, Check, pass, refuse, batch_checks, reject_batch, keep_session, advanced, apply_batch, candidate, commit, conclude_batch, batch}
-use Rattle.spec_session.specs.BatchLaws.{checks_passed}
+use Rattle.spec_session.proofs.BatchLaws.{checks_passed}
 use Rattle.session_lifecycle.specs.Meaning.{lifecycle_of, cursor_of, shell_state_of, limits_of}
 use Rattle.session_lifecycle.specs.declared.state.ShellLocalState.{ShellLocalState}
 use Rattle.session_lifecycle.specs.declared.state.ShellLifecycleLimits.{ShellLifecycleLimits}
@@ -27,7 +27,7 @@ use Rattle.panel_changes.specs.SetChangesLaws.{table_lengths_fit, stored_lengths
 use Rattle.panel_changes.specs.declared.SetChange.{SetChange}
 use Rattle.panel_changes.specs.declared.SetChange.TheVariants as change
 use Rattle.session_gates.specs.Gates.{erased, preflight_by}
-use Rattle.session_gates.specs.ErasedLaws.{erased_refused, erased_passed}
+use Rattle.session_gates.proofs.ErasedLaws.{erased_refused, erased_passed}
 use Rattle.session_gates.specs.Seen.{Seen}
 use Rattle.session_steps.specs.Answers.{disposition_told, batch_answer_of, rejected_at, answer_at, change_answer, Stopped, AnswerRow}
 use Rattle.session_steps.specs.AnswersLaws.{applied_told}
@@ -156,7 +156,7 @@ module _ (head nodes pairs collections b a e : List ℕ) (limits : ShellLifecycl
 
   module _ (m : Session) (l : List ℕ) (holds : LentSession head nodes pairs collections b a e l m) where
     limits_of_lem : limits_of limits ≡ m.limits
-    limits_of = limits_are ∙ limits_told head m holds.head_is
+    limits_of_lem = limits_are ∙ limits_told head m holds.head_is
 
     state_of_lem : shell_state_of state ≡ state_of m
     state_of_lem = state-is ∙ state_told head m holds.head_is

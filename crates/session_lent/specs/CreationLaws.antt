@@ -8,7 +8,7 @@ use borrow.Author.Tests.{le-leb, lt-leb, leb-true, leb-false, eq-eqb, eqb-true}
 use Rattle.std.proofs.Math.Dec.{leb, eqb}
 use Rattle.std.proofs.lemmas.List.{length-map}
 use Rattle.spec_lists.specs.Lists.{if◌then◌else◌}
-use Rattle.spec_lists.specs.ListLaws.{and_left, and_right}
+use Rattle.spec_lists.proofs.ListLaws.{and_left, and_right}
 use Rattle.spec_patch.specs.Sizes.{anchors, projection_bindings, projection_availabilities, projection_entries}
 use Rattle.spec_projection.specs.Projection.{empty}
 use Rattle.spec_session.specs.Session.{Limits, Catalogue, Creation, made, refused, too_many_anchors, new_session, anchors_fit, create}

@@ -6,7 +6,7 @@ use Rattle.std.proofs.Math.ListN.{set}
 use Rattle.spec_session.specs.Session.{Limits, Lifecycle, Session}
 use Rattle.spec_session.specs.Lifecycle.{Stimulus, applied, no_change, rejected, LocalState, LifecycleAnswer, state_of, with_lifecycle, lifecycle_step}
 use Rattle.spec_session.specs.ValidSession.{FewAnchors}
-use Rattle.spec_session.specs.ValidSessionLaws.{lifecycle_step_unchanged, lifecycle_step_rest}
+use Rattle.spec_session.proofs.ValidSessionLaws.{lifecycle_step_unchanged, lifecycle_step_rest}
 use Rattle.spec_lengths.specs.Lengths.{collection_lengths}
 use Rattle.session_gates.specs.Lent.{Lent}
 use Rattle.local_projection_state.specs.Stores.{StoredTables, StoredLengths, counts_of}

@@ -5,7 +5,7 @@ use Rattle.std.proofs.Common.{sym, ◌∙◌, arith}
 use Rattle.std.proofs.Math.Bool.{true, false}
 use mathlib.Core.List.{List, []}
 use Rattle.spec_lists.specs.Lists.{if◌then◌else◌}
-use Rattle.spec_lists.specs.ListLaws.{and_left, and_right}
+use Rattle.spec_lists.proofs.ListLaws.{and_left, and_right}
 use Rattle.spec_session.specs.Session.{Cursor, Session}
 use Rattle.spec_session.specs.Lifecycle.{LocalState, state_of}
 use Rattle.spec_group.specs.Group as model

@@ -1,9 +1,3 @@
 pub mod Memory
 pub mod Claim
 pub mod Calls
-pub mod StructLaws
-pub mod AnswerLaws
-pub mod CallLaws
-pub mod Theorem
-pub mod Instances
-pub mod Premises

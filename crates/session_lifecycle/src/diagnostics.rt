@@ -4,7 +4,7 @@ ghost use Rattle.spec_lists.specs.Lists.{or_zero};
 ghost use Rattle.spec_session.specs.Diagnostics.{session_number, stage_of, no_diagnostics, diagnostics_of};
 ghost use Rattle.session_lifecycle.specs.Meaning.{refusal_of, diagnostics_mean};
 
-#[derive(Drop)]
+#[derive(Clone, Copy)]
 pub enum ShellRefusal {
     SessionMismatch,
     SessionClosed,
@@ -61,7 +61,7 @@ impl ShellRefusal {
 }
 
 // All diagnostics of an answer are alike, so their code, stage and counts tell them.
-#[derive(Drop)]
+#[derive(Clone, Copy)]
 pub struct ShellDiagnostics {
     pub stable_code: u64,
     pub evaluation_stage: u64,

@@ -7,7 +7,7 @@ ghost use Rattle.session_lifecycle.specs.Meaning.{refusal_of, lifecycle_of, comm
 use crate::diagnostics::{ShellDiagnostics, ShellRefusal, apply_diagnostic_cap, no_diagnostics};
 use crate::state::{ShellLifecycle, ShellLifecycleLimits, ShellLocalState};
 
-#[derive(Drop)]
+#[derive(Clone, Copy)]
 pub enum ShellLifecycleCommand {
     Activate,
     Suspend,
@@ -15,7 +15,7 @@ pub enum ShellLifecycleCommand {
     Close,
 }
 
-#[derive(Drop)]
+#[derive(Clone, Copy)]
 pub enum ShellLifecycleStimulus {
     Command(ShellLifecycleCommand),
     ExplicitNoOp,
@@ -27,14 +27,14 @@ pub struct ShellTransitionInput {
     pub stimulus_bytes: u64,
 }
 
-#[derive(Drop)]
+#[derive(Clone, Copy)]
 pub enum ShellTransitionDisposition {
     Applied,
     NoChange,
     Rejected,
 }
 
-#[derive(Drop)]
+#[derive(Clone, Copy)]
 pub struct ShellTransitionResult {
     pub disposition: ShellTransitionDisposition,
     pub state: ShellLocalState,

@@ -1,8 +1,8 @@
 // What a session's answers tell of it, and the limits of one transition.
-#[derive(Drop)]
+#[derive(Clone, Copy)]
 pub struct ShellSessionId(pub u64);
 
-#[derive(Drop)]
+#[derive(Clone, Copy)]
 pub enum ShellLifecycle {
     Created,
     Active,
@@ -11,20 +11,20 @@ pub enum ShellLifecycle {
 }
 
 // The sequence number of the last batch that was applied.
-#[derive(Drop)]
+#[derive(Clone, Copy)]
 pub enum ProjectionReplayCursor {
     Uninitialized,
     At(u64),
 }
 
-#[derive(Drop)]
+#[derive(Clone, Copy)]
 pub struct ShellLocalState {
     pub session_id: ShellSessionId,
     pub lifecycle: ShellLifecycle,
     pub replay_cursor: ProjectionReplayCursor,
 }
 
-#[derive(Drop)]
+#[derive(Clone, Copy)]
 pub struct ShellLifecycleLimits {
     pub max_transition_stimulus_bytes: u64,
     pub max_diagnostics_per_transition: u64,

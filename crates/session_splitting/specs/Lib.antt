@@ -1,4 +1,2 @@
 pub mod Calls
 pub mod Claim
-pub mod CallsLaws
-pub mod Theorem

@@ -7,7 +7,7 @@ use Rattle.std.proofs.Math.ListN.{take}
 use Rattle.spec_patch.specs.Sizes.{anchors}
 use Rattle.spec_session.specs.Session.{Catalogue}
 use Rattle.active_projection_target_catalog.specs.Catalog.{pair_to, pair_numbers, catalogue_of}
-use Rattle.active_projection_target_catalog.specs.CatalogLaws.{pairs_again, take_held, pairs_taken}
+use Rattle.active_projection_target_catalog.proofs.CatalogLaws.{pairs_again, take_held, pairs_taken}
 use Rattle.active_projection_target_catalog.specs.declared.catalog.ActiveProjectionTargetCatalog.{ActiveProjectionTargetCatalog}
 use Rattle.session_gates.specs.Lent.{Lent}
 

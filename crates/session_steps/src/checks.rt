@@ -17,7 +17,7 @@ use session_gates::batch;
 use session_gates::gates::{BatchGate, OrderedProjectionPatchBatchEnvelope};
 use session_lifecycle::state::{ShellLifecycleLimits, ShellLocalState, ShellSessionId};
 
-#[derive(Drop)]
+#[derive(Clone, Copy)]
 pub struct ActivatedShellSessionContext {
     pub session_id: ShellSessionId,
     pub limits: ShellLifecycleLimits,

@@ -8,12 +8,12 @@ use Rattle.std.proofs.lemmas.Bool.{lt-leb}
 use Rattle.std.proofs.Math.ListN.{length, take, length-take}
 use Rattle.std.proofs.lemmas.List.{length-replicate, replicate-append-replicate, set-append_left}
 use Rattle.std.proofs.Math.Seq.{get_or-take}
-use Rattle.spec_lists.specs.ListLaws.{test_cases}
+use Rattle.spec_lists.proofs.ListLaws.{test_cases}
 use Rattle.spec_session.specs.Session.{Cursor}
 use Rattle.spec_turns.specs.Turns as model
 use Rattle.spec_turns.specs.Turns.{most_senders, new_turns, set_up, wrong_sender_count, register, refuse_register, start_waiting, turn, turn_for, spend_turn, next_sender, first_waiting, first_asked, number_after}
-use Rattle.spec_turns.specs.CircleLaws.{waits_within}
-use Rattle.spec_turns.specs.TurnsLaws.{named_waits}
+use Rattle.spec_turns.proofs.CircleLaws.{waits_within}
+use Rattle.spec_turns.proofs.TurnsLaws.{named_waits}
 use Rattle.session_turns.specs.declared.NamedSender.{NamedSender}
 use Rattle.session_turns.specs.declared.NamedSender.TheVariants.{Nobody, Sender}
 use Rattle.session_turns.specs.declared.SenderTurns.{SenderTurns}

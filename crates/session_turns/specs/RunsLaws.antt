@@ -5,8 +5,8 @@ use Rattle.std.proofs.lemmas.List.{length-map}
 use Rattle.spec_turns.specs.Turns as model
 use Rattle.spec_turns.specs.Turns.{senders, waits, register, turn}
 use Rattle.spec_turns.specs.Calls.{Call, registers, turn_call, answers, times_named, registers_again}
-use Rattle.spec_turns.specs.TurnsLaws.{register_senders, turn_senders}
-use Rattle.spec_turns.specs.Fairness.{named_in_one_circle, named_in_each_circle}
+use Rattle.spec_turns.proofs.TurnsLaws.{register_senders, turn_senders}
+use Rattle.spec_turns.proofs.Fairness.{named_in_one_circle, named_in_each_circle}
 use Rattle.session_turns.specs.declared.SenderTurns.{SenderTurns}
 use Rattle.session_turns.specs.declared.TurnAnswer.{TurnAnswer}
 use Rattle.session_turns.specs.Meaning.{turns_of, registration_to, turn_answer_to, turn_taken_to}

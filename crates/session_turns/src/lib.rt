@@ -8,14 +8,14 @@ ghost use Rattle.session_turns.specs.Meaning.{sender_of, turns_of, set_up_to, re
 
 use session_lifecycle::state::ProjectionReplayCursor;
 
-#[derive(Drop)]
+#[derive(Clone, Copy)]
 pub enum NamedSender {
     Nobody,
     Sender(usize),
 }
 
 // Of each sender, numbered from 0, whether it waits, and who was named last. Flags past the number of senders are never looked at.
-#[derive(Drop)]
+#[derive(Clone, Copy)]
 pub struct SenderTurns {
     pub senders: usize,
     pub waiting: [bool; SenderTurns::MOST_SENDERS],
@@ -37,7 +37,7 @@ impl SetUpRefusal {
     }
 }
 
-#[derive(Drop)]
+#[derive(Clone, Copy)]
 pub enum SetUpAnswer {
     Made,
     Refused(SetUpRefusal),
@@ -67,7 +67,7 @@ impl RegisterRefusal {
     }
 }
 
-#[derive(Drop)]
+#[derive(Clone, Copy)]
 pub enum RegisterAnswer {
     Registered,
     Refused(RegisterRefusal),
@@ -80,7 +80,7 @@ pub struct Registration {
 }
 
 // Whose turn it is, with the number for its batch.
-#[derive(Drop)]
+#[derive(Clone, Copy)]
 pub enum TurnAnswer {
     Nobody,
     Turn { sender: usize, number: u64 },

@@ -8,7 +8,7 @@ use native.Mathlib.Omega.{arith}
 use lib.ListN.{length, take, drop, length-take, length-drop, take-append-drop, drop_of_length-le}
 use lib.Seq.{drop_at, drop-drop}
 use borrow.Rule.Slice.PartMut.{mid_of, put_mid}
-use Rattle.spec_lists.specs.ListLaws.{lent_from_lem}
+use Rattle.spec_lists.proofs.ListLaws.{lent_from_lem}
 use Rattle.bytes_records.specs.Moves.{zeros}
 use Rattle.bytes_records.specs.Positions.{insert_at, move_at}
 use Rattle.bytes_records.specs.Table.{HoldsRows, Changed, can_insert, can_move}

@@ -7,12 +7,12 @@ use lib.Dec.{eqb}
 use lib.ListN.{length, take, drop, get_or, set, length-append}
 use lib.Seq.{set_at, take_at, drop_at, get_or_at}
 use Rattle.spec_lists.specs.Bytes.{number_of}
-use Rattle.spec_lists.specs.BytesLaws.{length_little_endian, number_of_little_endian}
+use Rattle.spec_lists.proofs.BytesLaws.{length_little_endian, number_of_little_endian}
 use Rattle.spec_patch.specs.Encode.{u64}
 use Rattle.spec_dependencies.specs.Settled.{Settled}
 use Rattle.bytes_records.specs.Moves.{zeros}
 use Rattle.bytes_wire.specs.Write.{overwrite}
-use Rattle.bytes_wire.specs.WriteLaws.{has_room_lem, overwrite_in_place, overwrite_append}
+use Rattle.bytes_wire.proofs.WriteLaws.{has_room_lem, overwrite_in_place, overwrite_append}
 use Rattle.set_dependencies.specs.SettledRows.{settled_key_at, at_start_at, present_at, flag, settled_row, row_width, FitsSettled}
 use Rattle.set_dependencies.specs.SettledRowsLaws.{flag_told}
 

@@ -12,7 +12,7 @@ use Rattle.spec_patch.specs.Encode.{encode_operation}
 use Rattle.spec_dependencies.specs.Expectations.{expectations}
 use Rattle.spec_dependencies.specs.Settled.{Settled, judge_all}
 use Rattle.spec_dependencies.specs.Dependencies.{SettlingWalk, contradicts, settle_on, settle_step, settle_operations, settle_patches}
-use Rattle.spec_dependencies.specs.CountLaws.{judge_all_length, expectations_bytes}
+use Rattle.spec_dependencies.proofs.CountLaws.{judge_all_length, expectations_bytes}
 use Rattle.projection_patch.specs.Meaning.{operation_of}
 use Rattle.projection_patch.specs.ReadAnswers.{lent_from}
 use Rattle.projection_patch.specs.declared.patch.ProjectionPatch.{ProjectionPatch}

@@ -7,15 +7,15 @@ use mathlib.Core.List.{List, ◌++◌, flat_map}
 use native.Mathlib.Omega.{arith}
 use Rattle.std.proofs.lemmas.Bool.{lt-leb}
 use Rattle.spec_lists.specs.Lists.{if◌then◌else◌, is_empty}
-use Rattle.spec_lists.specs.ListLaws.{flat_map_append}
+use Rattle.spec_lists.proofs.ListLaws.{flat_map_append}
 use Rattle.spec_patch.specs.Patch.{Patch}
 use Rattle.spec_patch.specs.Read.{SetReading, patches, fault}
 use Rattle.spec_checks.specs.Findings.{findings}
 use Rattle.spec_dependencies.specs.Settled.{Settled}
 use Rattle.spec_dependencies.specs.Dependencies.{SettlingWalk, settles, contradicts, key_words, keys_at_start, dependencies_by, dependencies}
 use Rattle.spec_dependencies.specs.Answer.{pair_length, all_words, has_findings, output_too_short, refused, answer_needs, answered, words_written, answer_by, answer_reading}
-use Rattle.spec_dependencies.specs.AnswerLaws.{all_words_length}
-use Rattle.spec_dependencies.specs.CountLaws.{keys_length}
+use Rattle.spec_dependencies.proofs.AnswerLaws.{all_words_length}
+use Rattle.spec_dependencies.proofs.CountLaws.{keys_length}
 use Rattle.projection_patch.specs.ReadAnswers.{fault_to}
 use Rattle.projection_patch.specs.declared.read_values.ProjectionPatchReadFault.{ProjectionPatchReadFault}
 use Rattle.check_findings.specs.Found.{is_found}

@@ -5,9 +5,9 @@ use Rattle.std.proofs.Math.Path.{refl}
 use mathlib.Core.List.{List, [], ◌∷◌}
 use Rattle.std.proofs.Common.{arith, eqb-true}
 use Rattle.std.proofs.lemmas.Bool.{eqb-false}
-use Rattle.spec_lists.specs.ListLaws.{test_cases, all_member, get_or_member}
+use Rattle.spec_lists.proofs.ListLaws.{test_cases, all_member, get_or_member}
 use Rattle.spec_lists.specs.Order.{lex_less, Ascending}
-use Rattle.spec_lists.specs.OrderLaws.{lex_less_total, lex_less_trans, lex_less_irreflexive, lex_less_self}
+use Rattle.spec_lists.proofs.OrderLaws.{lex_less_total, lex_less_trans, lex_less_irreflexive, lex_less_self}
 use Rattle.bytes_records.specs.Keys.{order_of}
 use Rattle.bytes_records.specs.Search.{next_place, place_of}
 use Rattle.bytes_records.specs.declared.Place.TheVariants.{Taken, Before}

@@ -5,10 +5,10 @@ use Rattle.std.proofs.Common.{◌∙◌}
 use mathlib.Core.List.{List, [], ◌∷◌}
 use Rattle.std.proofs.Math.Option.{none, some}
 use native.Mathlib.Omega.{arith}
-use Rattle.spec_lists.specs.ListLaws.{test_cases, all_map}
+use Rattle.spec_lists.proofs.ListLaws.{test_cases, all_map}
 use Rattle.spec_lists.specs.Order.{lex_less, lookup, Ascending}
-use Rattle.spec_lists.specs.OrderLaws.{lex_less_total, lex_less_irreflexive, lex_less_trans}
-use Rattle.spec_lists.specs.LookupLaws.{lookup_here, lookup_past, lookup_below}
+use Rattle.spec_lists.proofs.OrderLaws.{lex_less_total, lex_less_irreflexive, lex_less_trans}
+use Rattle.spec_lists.proofs.LookupLaws.{lookup_here, lookup_past, lookup_below}
 use Rattle.bytes_records.specs.Search.{next_place, place_of}
 use Rattle.bytes_records.specs.declared.Place.{Place}
 use Rattle.bytes_records.specs.declared.Place.TheVariants.{Taken, Before}

@@ -3,8 +3,8 @@ use Rattle.std.specs.Prelude.{ℕ, zero, suc, ◌*◌, ◌≤◌, ◌<◌, ◌�
 use Rattle.std.proofs.Common.{sym, ap, ◌∙◌, subst, arith, length-append, drop_at}
 use Rattle.std.proofs.lemmas.List.{length-replicate}
 use Rattle.spec_lists.specs.Lists.{All}
-use Rattle.spec_lists.specs.ListLaws.{all_map, all_member, get_or_member}
-use Rattle.spec_lists.specs.BytesLaws.{length_little_endian}
+use Rattle.spec_lists.proofs.ListLaws.{all_map, all_member, get_or_member}
+use Rattle.spec_lists.proofs.BytesLaws.{length_little_endian}
 use Rattle.spec_lists.specs.Order.{lex_less, Ascending}
 use Rattle.spec_dependencies.specs.Settled.{Settled, settled_key}
 use Rattle.bytes_records.specs.Keys.{leading_numbers}

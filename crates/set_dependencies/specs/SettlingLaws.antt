@@ -8,11 +8,11 @@ use Rattle.std.proofs.Math.ListN.{length}
 use Rattle.std.proofs.lemmas.List.{length-map}
 use Rattle.spec_lists.specs.Lists.{All}
 use Rattle.spec_lists.specs.Order.{Ascending, upsert}
-use Rattle.spec_lists.specs.OrderLaws.{upsert_all, upsert_ascending}
+use Rattle.spec_lists.proofs.OrderLaws.{upsert_all, upsert_ascending}
 use Rattle.spec_patch.specs.Fits.{U64}
 use Rattle.spec_dependencies.specs.Expectations.{Expectation}
 use Rattle.spec_dependencies.specs.Settled.{Settled, settled_key, settled_by, judge_by, judge, further_settled, judge_all}
-use Rattle.spec_dependencies.specs.CountLaws.{judge_all_length}
+use Rattle.spec_dependencies.proofs.CountLaws.{judge_all_length}
 use Rattle.bytes_records.specs.Positions.{insert_at, replace_at}
 use Rattle.bytes_records.specs.Table.{HoldsRows, Changed, can_replace}
 use Rattle.bytes_records.specs.TableLaws.{can_replace_lem}

@@ -16,7 +16,7 @@ use projection_patch::contract_primitives::{CollectionKey, StaticNodeId};
 use projection_patch::patch::{OptionalKey, ProjectionPatchOperation};
 
 // What an operation does with a key that it looks for: an added one must be absent, the others must be there; a taken one is gone afterwards.
-#[derive(Drop)]
+#[derive(Clone, Copy)]
 pub enum KeyUse {
     Added,
     Kept,

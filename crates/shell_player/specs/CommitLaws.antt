@@ -5,7 +5,7 @@ use Rattle.std.proofs.Math.Path.{ap, ap₂, subst}
 use mathlib.Core.List.{List, [], ◌∷◌, flat_map}
 use borrow.Author.Tests.{eq-eqb, ne_eqb, eqb-true}
 use Rattle.std.proofs.Math.ListN.{length}
-use Rattle.spec_lists.specs.ListLaws.{and_left}
+use Rattle.spec_lists.proofs.ListLaws.{and_left}
 use Rattle.spec_patch.specs.Patch.{Patch}
 use Rattle.spec_patch.specs.Edition.{Edition}
 use Rattle.spec_patch.specs.Read.{patches, read_set}
@@ -15,17 +15,17 @@ use Rattle.spec_session.specs.Session.{Limits, Cursor, at, Session}
 use Rattle.spec_session.specs.Diagnostics.{SessionRefusal, of_operation}
 use Rattle.spec_session.specs.Lifecycle.{applied, no_change, LocalState, state_of}
 use Rattle.spec_session.specs.Batch.{BatchEnvelope, BatchAnswer, Check, pass, refuse, batch_checks, reject_batch, keep_session, advanced, apply_batch, candidate, commit, conclude_batch, batch}
-use Rattle.spec_session.specs.BatchLaws.{checks_passed}
+use Rattle.spec_session.proofs.BatchLaws.{checks_passed}
 use Rattle.session_lifecycle.specs.Meaning.{cursor_of, shell_state_of}
 use Rattle.session_lifecycle.specs.declared.state.ShellLocalState.{ShellLocalState}
 use Rattle.active_projection_target_catalog.specs.Catalog.{catalogue_of}
-use Rattle.active_projection_target_catalog.specs.CatalogLaws.{catalogue_back}
+use Rattle.active_projection_target_catalog.proofs.CatalogLaws.{catalogue_back}
 use Rattle.local_projection_state.specs.declared.ProjectionCounts.{ProjectionCounts}
 use Rattle.panel_changes.specs.SetChanges.{StoredAfter, ChangeBecame}
 use Rattle.panel_changes.specs.declared.SetChange.{SetChange}
 use Rattle.panel_changes.specs.declared.SetChange.TheVariants as change
 use Rattle.session_gates.specs.Gates.{erased}
-use Rattle.session_gates.specs.ErasedLaws.{erased_refused, erased_passed}
+use Rattle.session_gates.proofs.ErasedLaws.{erased_refused, erased_passed}
 use Rattle.shell_player.specs.declared.session.ShellSession.{ShellSession}
 use Rattle.session_steps.specs.declared.answers.ProjectionPatchApplicationResult.{ProjectionPatchApplicationResult}
 use Rattle.shell_player.specs.declared.batch.ProjectionPatchBatch.{ProjectionPatchBatch}

@@ -4,7 +4,7 @@ use Rattle.std.proofs.Math.Path.{◌≡◌, sym, subst}
 use Rattle.std.proofs.Common.{ap, ap₂, ◌∙◌, arith}
 use Rattle.spec_session.specs.Session as model
 use Rattle.spec_session.specs.Lifecycle.{Stimulus, applied, no_change, rejected, LocalState, LifecycleAnswer, state_of, with_lifecycle, lifecycle_step}
-use Rattle.spec_session.specs.ValidSessionLaws.{lifecycle_step_unchanged, lifecycle_step_told, lifecycle_step_rest}
+use Rattle.spec_session.proofs.ValidSessionLaws.{lifecycle_step_unchanged, lifecycle_step_told, lifecycle_step_rest}
 use Rattle.session_lifecycle.specs.Meaning.{disposition_means, answer_of, limits_of, shell_state_of, bare}
 use Rattle.session_lifecycle.specs.MeaningLaws.{bare_answers}
 use Rattle.session_lifecycle.specs.declared.lifecycle.ShellTransitionDisposition.{ShellTransitionDisposition}

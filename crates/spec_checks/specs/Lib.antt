@@ -5,12 +5,4 @@ pub mod SetChecks
 pub mod Findings
 pub mod Answer
 pub mod Rules
-pub mod FindingLaws
-pub mod RulesLaws
-pub mod FindingsLaws
-pub mod PartsLaws
-pub mod AnswerLaws
-pub mod CountLaws
-pub mod KindLaws
-pub mod CheckExamples
 pub mod Opened

@@ -1,9 +1,1 @@
 pub mod Opened
-pub mod Examples
-pub mod SplitInstances
-pub mod TurnInstances
-pub mod TextInstances
-pub mod CutInstances
-pub mod EditionInstances
-pub mod GroupInstances
-pub mod LengthInstances

@@ -1,4 +1,2 @@
 pub mod Group
 pub mod Singly
-pub mod GroupLaws
-pub mod PiecesLaws

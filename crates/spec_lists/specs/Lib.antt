@@ -1,7 +1,3 @@
 pub mod Lists
-pub mod ListLaws
 pub mod Order
-pub mod OrderLaws
-pub mod LookupLaws
 pub mod Bytes
-pub mod BytesLaws

@@ -1,10 +1,2 @@
 pub mod FreeOrder
 pub mod Grouping
-pub mod Examples
-pub mod FreeOrderLaws
-pub mod GroupingLaws
-pub mod Verdict
-pub mod Rows
-pub mod Runs
-pub mod Theorem
-pub mod Premises

@@ -1,4 +1,1 @@
 pub mod Page
-pub mod PageExamples
-pub mod PageLaws
-pub mod PagePremises

@@ -1,12 +1,4 @@
 pub mod Decode
-pub mod DecodeLaws
 pub mod Print
-pub mod PrintLaws
-pub mod JoinLaws
-pub mod AsciiLaws
 pub mod PrintSizes
-pub mod PrintSizesLaws
 pub mod Flow
-pub mod FlowLaws
-pub mod PrintExamples
-pub mod PrintPremises

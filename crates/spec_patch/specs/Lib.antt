@@ -7,16 +7,7 @@ pub mod Fits
 pub mod Reader
 pub mod Read
 pub mod Write
-pub mod Codec
-pub mod ReadLaws
-pub mod SetLaws
-pub mod FitsLaws
-pub mod WriteLaws
-pub mod StrictLaws
 pub mod Former
-pub mod FormerLaws
-pub mod TextLaws
 pub mod LengthFirst
 pub mod CutOff
-pub mod CutLaws
 pub mod Opened

@@ -1,9 +1,6 @@
 pub mod Lines
 pub mod Hex
-pub mod HexLaws
 pub mod Script
 pub mod Answers
 pub mod Reasons
 pub mod Replay
-pub mod ReplayLaws
-pub mod ReplayExamples

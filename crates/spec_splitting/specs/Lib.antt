@@ -1,4 +1,1 @@
 pub mod Splitting
-pub mod Passing
-pub mod Runs
-pub mod Theorem

@@ -2,7 +2,7 @@
 use mathlib.Core.Path.{ap, ◌∙◌}
 use borrow.Author.Rules.{rules}
 use Rattle.spec_listing.specs.Listing.{fields, availability_line}
-use Rattle.bytes_printer.specs.PrintsLaws.{◌⨾◌, prints_same}
+use Rattle.bytes_printer.proofs.PrintsLaws.{◌⨾◌, prints_same}
 use Rattle.panel_rows.specs.Rows.{node_in, availability_in}
 use Rattle.panel_rows.specs.RowsLaws.{availability_node, availability_byte_lem}
 use Rattle.listing_lines.proofs.Rows.{same_record, none_more}

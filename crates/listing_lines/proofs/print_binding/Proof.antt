@@ -5,7 +5,7 @@ use lib.ListN.{drop}
 use Rattle.panel_rows.specs.Rows.{binding_value_at, node_in, slot_in}
 use Rattle.panel_rows.specs.RowsLaws.{binding_behind, binding_node, binding_slot}
 use Rattle.spec_listing.specs.Listing.{binding_line}
-use Rattle.bytes_printer.specs.PrintsLaws.{prints_same}
+use Rattle.bytes_printer.proofs.PrintsLaws.{prints_same}
 use Rattle.listing_lines.specs.LookupFields.{lookup_fields, found_fields}
 use Rattle.listing_lines.proofs.Rows.{same_record}
 use Rattle.listing_lines.proofs.print_binding.Statement.{statement}

@@ -5,7 +5,7 @@ use lib.ListN.{drop}
 use Rattle.panel_rows.specs.Rows.{entry_value_at, collection_in, key_in}
 use Rattle.panel_rows.specs.RowsLaws.{entry_behind, entry_collection, entry_key}
 use Rattle.spec_listing.specs.Listing.{entry_line}
-use Rattle.bytes_printer.specs.PrintsLaws.{prints_same}
+use Rattle.bytes_printer.proofs.PrintsLaws.{prints_same}
 use Rattle.listing_lines.specs.LookupFields.{lookup_fields, found_fields}
 use Rattle.listing_lines.proofs.Rows.{same_record}
 use Rattle.listing_lines.proofs.print_entry.Statement.{statement}

@@ -1,5 +1,5 @@
 -- `listing_lines::print_letter` meets its contract: a tab and the letter.
-use Rattle.bytes_printer.specs.PrintsLaws.{◌⨾◌}
+use Rattle.bytes_printer.proofs.PrintsLaws.{◌⨾◌}
 use borrow.Author.Rules.{rules}
 use Rattle.listing_lines.proofs.print_letter.Statement.{statement}
 use Rattle.listing_lines.proofs.print_letter.Tie as tie

@@ -7,7 +7,7 @@ use Rattle.spec_patch.specs.Sizes.{text_bytes}
 use Rattle.spec_listing.specs.Escapes.{escaped}
 use Rattle.spec_listing.specs.Listing.{fields}
 use Rattle.projection_patch.proofs.Texts.{just_there}
-use Rattle.bytes_printer.specs.PrintsLaws.{◌⨾◌, prints_same, ends_within}
+use Rattle.bytes_printer.proofs.PrintsLaws.{◌⨾◌, prints_same, ends_within}
 use Rattle.listing_lines.proofs.Rows.{front}
 use borrow.Author.Rules.{rules}
 use Rattle.listing_lines.proofs.print_text.Statement.{statement}

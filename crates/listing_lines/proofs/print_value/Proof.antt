@@ -7,7 +7,7 @@ use mir.Facts.{to_z-of_z}
 use borrow.Author.Rules.{rules, sfits_of}
 use Rattle.spec_decimal.specs.Decimal.{signed_decimal}
 use Rattle.spec_listing.specs.Listing.{fields}
-use Rattle.bytes_printer.specs.PrintsLaws.{◌⨾◌, prints_same}
+use Rattle.bytes_printer.proofs.PrintsLaws.{◌⨾◌, prints_same}
 use Rattle.listing_lines.specs.LookupFields.{quad_fields, signed_fields, unsigned_fields, score_fields, text_fields}
 use borrow.Author.Rules.{rules}
 use Rattle.listing_lines.proofs.print_value.Statement.{statement}

@@ -3,7 +3,7 @@ use mathlib.Core.Path.{sym, ap, ◌∙◌}
 use borrow.Author.Rules.{rules}
 use Rattle.spec_projection.specs.Projection.{empty}
 use Rattle.spec_listing.specs.Listing.{refusal_line}
-use Rattle.bytes_printer.specs.PrintsLaws.{prints_same}
+use Rattle.bytes_printer.proofs.PrintsLaws.{prints_same}
 use Rattle.projection_patch.specs.Meaning.{edition_of}
 use Rattle.listing_panel.specs.SetLines.{set_applied, set_refused}
 use Rattle.listing_panel.proofs.print_listing.Statement.{statement}

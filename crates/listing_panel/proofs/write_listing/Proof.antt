@@ -3,7 +3,7 @@ use Prim.Native.Nat.{ℕ}
 use native.Mathlib.Omega.{arith}
 use lib.ListN.{length-replicate}
 use borrow.Author.Rules.{rules}
-use Rattle.spec_lists.specs.BytesLaws.{bytes_of}
+use Rattle.spec_lists.proofs.BytesLaws.{bytes_of}
 use Rattle.spec_listing.specs.Listing.{listing}
 use Rattle.listing_lines.specs.ListingBytes.{listing_bytes}
 use Rattle.listing_lines.specs.ListingBytesLaws.{listing_fits}

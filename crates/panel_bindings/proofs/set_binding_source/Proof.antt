@@ -2,7 +2,7 @@
 use borrow.Author.Rules.{rules}
 use Rattle.spec_projection.specs.Projection.{binding_key}
 use Rattle.panel_plan.specs.PlanRows.{planned_binding_width, planned_binding_row}
-use Rattle.panel_plan.specs.PlanRowsLaws.{planned_binding_key}
+use Rattle.panel_plan.proofs.PlanRowsLaws.{planned_binding_key}
 use Rattle.panel_bindings.proofs.Settings.{binding_set}
 use Rattle.panel_bindings.proofs.set_binding_source.Statement.{statement}
 use Rattle.panel_bindings.proofs.set_binding_source.Tie as tie

@@ -2,7 +2,7 @@
 use mathlib.Core.Path.{refl, sym, ◌∙◌}
 use mathlib.Core.Bool.{false≢true}
 use Rattle.spec_projection.specs.Apply.{replay_steps, apply_steps}
-use Rattle.spec_projection.specs.ValidLaws.{apply_steps_valid, replay_steps_fit}
+use Rattle.spec_projection.proofs.ValidLaws.{apply_steps_valid, replay_steps_fit}
 use Rattle.projection_patch.specs.Meaning.{edition_of}
 use Rattle.panel_changes.specs.SetChangesLaws.{planned_counts, run_planned, run_refused, run_reads, run_left}
 use Rattle.panel_changes.specs.PlanMemoryLaws.{run_held}

@@ -2,8 +2,8 @@
 use mathlib.Core.Path.{◌≡◌, refl, sym, ◌∙◌}
 use mathlib.Core.Bool.{true, ◌&&◌, false≢true}
 use lib.ListN.{length}
-use Rattle.spec_lists.specs.BytesLaws.{bytes_of}
-use Rattle.spec_patch.specs.SetLaws.{was_encoded}
+use Rattle.spec_lists.proofs.BytesLaws.{bytes_of}
+use Rattle.spec_patch.proofs.SetLaws.{was_encoded}
 use Rattle.projection_patch.specs.Meaning.{edition_of}
 use Rattle.panel_changes.specs.SetChanges.{tables_fit, change_counts_fit}
 use Rattle.panel_changes.specs.SetChangesLaws.{fit_lengths, table_lengths_fit, stored_lengths, stored_counts, fit_arguments, opened_short}

@@ -8,7 +8,7 @@ use lib.ListN.{length, drop}
 use lib.Seq.{length-take-le, drop_at}
 use Rattle.bytes_records.proofs.Offsets.{fits}
 use Rattle.spec_page.specs.Page.{PageRefusal, table_left}
-use Rattle.spec_page.specs.PageLaws.{sixteen, fourteen, taken}
+use Rattle.spec_page.proofs.PageLaws.{sixteen, fourteen, taken}
 use Rattle.panel_page.specs.PageTable.{page_width, page_bytes, page_answer}
 use borrow.Author.Rules.{rules}
 use Rattle.panel_page.proofs.collection_page.Statement.{statement}

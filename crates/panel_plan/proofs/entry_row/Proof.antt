@@ -1,6 +1,6 @@
 -- `entry_row` meets its contract: four numbers, one behind another.
 use borrow.Author.Rules.{rules}
-use Rattle.spec_lists.specs.BytesLaws.{length_little_endian}
+use Rattle.spec_lists.proofs.BytesLaws.{length_little_endian}
 use Rattle.bytes_records.specs.MovesLaws.{length_zeros}
 use Rattle.panel_rows.specs.Rows.{id_width, mark_width}
 use Rattle.panel_rows.proofs.Filling.{four_fields}

@@ -5,8 +5,8 @@ use lib.ListN.{length-replicate}
 use borrow.Author.Rules.{rules}
 use Rattle.spec_panel_print.specs.Print.{collection_print}
 use Rattle.spec_panel_print.specs.PrintSizes.{print_bytes}
-use Rattle.spec_panel_print.specs.PrintSizesLaws.{print_fits}
-use Rattle.bytes_printer.specs.PrintsLaws.{prints_same}
+use Rattle.spec_panel_print.proofs.PrintSizesLaws.{print_fits}
+use Rattle.bytes_printer.proofs.PrintsLaws.{prints_same}
 use Rattle.panel_print.specs.EntriesPrintLaws.{rows_print}
 use Rattle.panel_print.specs.AnswersLaws.{printed_whole}
 use Rattle.panel_print.proofs.print_collection.Statement.{statement}

@@ -6,7 +6,7 @@ use mathlib.Core.Option.{none, some}
 use native.Mathlib.Omega.{arith}
 use borrow.Author.Rules.{rules}
 use lib.ListN.{length}
-use Rattle.spec_lists.specs.BytesLaws.{length_little_endian}
+use Rattle.spec_lists.proofs.BytesLaws.{length_little_endian}
 use Rattle.spec_patch.specs.Encode.{u64, encode_optional}
 use Rattle.projection_patch.specs.Widths.{past_key, past_no_neighbour, past_neighbour}
 use Rattle.projection_patch.specs.Meaning.{before_of, operation_of}

@@ -10,7 +10,7 @@ use Rattle.spec_patch.specs.Patch.{Envelope}
 use Rattle.spec_patch.specs.Edition.{Edition}
 use Rattle.spec_patch.specs.Encode.{encode}
 use Rattle.spec_import.specs.Import.{lines, read_terms, insert_of, patch_of, import_patch, import_terms, set_of}
-use Rattle.spec_import.specs.LineLaws.{LinesRead, lines_read}
+use Rattle.spec_import.proofs.LineLaws.{LinesRead, lines_read}
 use Rattle.projection_patch.specs.Meaning.{edition_of, envelope_of}
 use Rattle.projection_patch.specs.declared.patch.ProjectionPatch.{ProjectionPatch}
 use Rattle.patch_part_writer.specs.Extent.{head_size}

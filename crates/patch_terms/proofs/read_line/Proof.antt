@@ -8,7 +8,7 @@ use lib.Seq.{length-take-le}
 use borrow.Author.Rules.{rules}
 use Rattle.spec_listing.specs.Escapes.{newline}
 use Rattle.spec_import.specs.Import.{read_term}
-use Rattle.spec_lists.specs.ListLaws.{lent_from_lem}
+use Rattle.spec_lists.proofs.ListLaws.{lent_from_lem}
 use Rattle.patch_terms.specs.declared.TermRead.{TermRead}
 use Rattle.patch_terms.specs.Places.{byte_place_of, first_term_line}
 use Rattle.patch_terms.specs.PlacesLaws.{byte_place_of_within}

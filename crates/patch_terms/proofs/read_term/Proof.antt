@@ -9,7 +9,7 @@ use borrow.Author.Rules.{rules}
 use Rattle.spec_listing.specs.Escapes.{tab}
 use Rattle.spec_decimal.specs.Decimal.{read_decimal}
 use Rattle.bytes_decimal.specs.Read.{decimal_u64}
-use Rattle.spec_lists.specs.ListLaws.{lent_from_lem}
+use Rattle.spec_lists.proofs.ListLaws.{lent_from_lem}
 use Rattle.patch_terms.specs.Places.{byte_place_of}
 use Rattle.patch_terms.specs.PlacesLaws.{byte_place_of_within}
 use Rattle.patch_terms.specs.Answers.{judged_term}

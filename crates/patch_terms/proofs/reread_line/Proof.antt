@@ -10,7 +10,7 @@ use lib.Seq.{length-take-le, take-take}
 use Rattle.spec_decimal.specs.Decimal.{read_decimal}
 use Rattle.spec_listing.specs.Escapes.{tab, newline}
 use Rattle.bytes_decimal.specs.Read.{decimal_u64}
-use Rattle.spec_lists.specs.ListLaws.{lent_from_lem}
+use Rattle.spec_lists.proofs.ListLaws.{lent_from_lem}
 use Rattle.patch_terms.specs.declared.LineRead.TheVariants as Line-read
 use Rattle.patch_terms.specs.Places.{byte_place_of, first_term_line}
 use Rattle.patch_terms.specs.PlacesLaws.{byte_place_of_within}

@@ -6,7 +6,7 @@ use Rattle.spec_decimal.specs.Decimal.{decimal}
 use Rattle.spec_explain.specs.Reason.{reason_word}
 use Rattle.spec_listing.specs.Listing.{fields}
 use Rattle.spec_replay.specs.Reasons.{figure_fields, reason_line}
-use Rattle.bytes_printer.specs.PrintsLaws.{◌⨾◌, prints_same}
+use Rattle.bytes_printer.proofs.PrintsLaws.{◌⨾◌, prints_same}
 use Rattle.session_explain.specs.Meaning.{printed_reason_of}
 use Rattle.session_explain.specs.Numbers.{number_is}
 use borrow.Author.Rules.{rules}

@@ -42,7 +42,7 @@ use Rattle.session_lifecycle.specs.declared.lifecycle.ShellTransitionResult.{She
 use Rattle.shell_player.specs.declared.session.ShellSession.{ShellSession}
 use Rattle.shell_player.specs.declared.session.ShellTransition.{ShellTransition}
 use Rattle.session_apply.specs.Applied.{StepsInPlace}
-use Rattle.session_apply.specs.AppliedLaws.{stepped}
+use Rattle.session_apply.proofs.AppliedLaws.{stepped}
 use Rattle.shell_player.specs.contracts.session.ShellSession as T
 use Rattle.shell_player.proofs.session.ShellSession.TheLaws as T'
 use Rattle.shell_player.specs.contracts.session.ShellTransition as St

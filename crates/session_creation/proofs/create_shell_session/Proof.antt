@@ -2,7 +2,7 @@
 use mathlib.Core.Path.{sym, ap, ◌∙◌}
 use Rattle.active_projection_target_catalog.specs.declared.catalog.ActiveProjectionTargetCatalog.{ActiveProjectionTargetCatalog}
 use Rattle.shell_player.specs.Steps.{new_state}
-use Rattle.session_creation.specs.CreationLaws.{refused_creation, made_creation}
+use Rattle.session_creation.proofs.CreationLaws.{refused_creation, made_creation}
 use borrow.Author.Rules.{rules}
 use Rattle.session_creation.proofs.create_shell_session.Statement.{statement}
 use Rattle.session_creation.proofs.create_shell_session.Tie as tie

@@ -44,7 +44,7 @@ use Rattle.session_from_pairs.specs.Pairs.{anchors_of}
 use Rattle.session_creation.specs.declared.ShellSessionCreation.{ShellSessionCreation}
 use Rattle.session_creation.specs.Creation.{creation_with}
 use Rattle.session_from_pairs.specs.CreatesFrom.{CreatesFrom}
-use Rattle.session_from_pairs.specs.CreatesFromLaws.{copied_creates}
+use Rattle.session_from_pairs.proofs.CreatesFromLaws.{copied_creates}
 use Rattle.hand_proof_steps.proofs.Walk.{calls_lent}
 use Rattle.active_projection_target_catalog.specs.contracts.catalog.BindingPair as Bp
 use Rattle.session_lifecycle.specs.contracts.state.ShellLifecycleLimits as Li

@@ -4,7 +4,7 @@ use mathlib.Core.Path.{◌≡◌, sym}
 use native.Mathlib.Omega.{arith}
 use borrow.Author.Rules.{rules}
 use lib.ListN.{length}
-use Rattle.spec_lists.specs.ListLaws.{unmapped}
+use Rattle.spec_lists.proofs.ListLaws.{unmapped}
 use Rattle.spec_group.specs.Group.{group_batches}
 use Rattle.session_group.specs.Groups.{named_batch}
 use Rattle.session_group.specs.GroupsLaws.{named_cons, named_none, CountedDown, counted_start, counted_next, counted_over, counted_end}

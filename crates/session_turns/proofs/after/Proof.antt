@@ -2,7 +2,7 @@
 use mathlib.Core.Path.{sym}
 use native.Mathlib.Omega.{arith}
 use borrow.Author.Rules.{rules}
-use Rattle.spec_turns.specs.CircleLaws.{after_next, after_last}
+use Rattle.spec_turns.proofs.CircleLaws.{after_next, after_last}
 use Rattle.session_turns.proofs.after.Statement.{statement}
 use Rattle.session_turns.proofs.after.Tie as tie
 

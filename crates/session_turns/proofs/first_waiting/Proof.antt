@@ -3,7 +3,7 @@ use mathlib.Core.Path.{◌≡◌, refl, sym, ◌∙◌}
 use native.Mathlib.Omega.{arith}
 use lib.ListN.{length}
 use Rattle.spec_turns.specs.Turns.{first_waiting}
-use Rattle.spec_turns.specs.CircleLaws.{search_here, search_on, search_over}
+use Rattle.spec_turns.proofs.CircleLaws.{search_here, search_on, search_over}
 use Rattle.session_turns.specs.Meaning.{sender_of}
 use Rattle.session_turns.proofs.first_waiting.Statement.{statement}
 use Rattle.session_turns.proofs.first_waiting.Tie as tie

@@ -6,7 +6,7 @@ use native.Mathlib.Omega.{arith}
 use lib.ListN.{length}
 use borrow.Author.Rules.{rules}
 use Rattle.spec_replay.specs.Hex.{byte_pair, hex_field}
-use Rattle.bytes_printer.specs.PrintsLaws.{◌⨾◌, prints_same, ends_within}
+use Rattle.bytes_printer.proofs.PrintsLaws.{◌⨾◌, prints_same, ends_within}
 use Rattle.bytes_hex.proofs.printing.print_field_hex.Statement.{statement}
 use Rattle.bytes_hex.proofs.printing.print_field_hex.Tie as tie
 

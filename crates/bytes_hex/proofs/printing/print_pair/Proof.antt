@@ -4,7 +4,7 @@ use mathlib.Core.Path.{ap₂}
 use mathlib.Core.List.{[], ◌∷◌}
 use borrow.Author.Rules.{rules}
 use Rattle.spec_replay.specs.Hex.{byte_pair}
-use Rattle.bytes_printer.specs.PrintsLaws.{◌⨾◌, prints_same}
+use Rattle.bytes_printer.proofs.PrintsLaws.{◌⨾◌, prints_same}
 use Rattle.bytes_hex.proofs.printing.print_pair.Statement.{statement}
 use Rattle.bytes_hex.proofs.printing.print_pair.Tie as tie
 

@@ -7,7 +7,7 @@ use borrow.Author.Rules.{rules}
 use lib.ListN.{length, take}
 use Rattle.spec_replay.specs.Hex.{byte_pair}
 use Rattle.bytes_printer.specs.Prints.{Prints, Within}
-use Rattle.bytes_printer.specs.PrintsLaws.{lines_start, lines_turn, lines_end}
+use Rattle.bytes_printer.proofs.PrintsLaws.{lines_start, lines_turn, lines_end}
 use Rattle.bytes_hex.proofs.printing.print_pairs.Statement.{statement}
 use Rattle.bytes_hex.proofs.printing.print_pairs.Tie as tie
 

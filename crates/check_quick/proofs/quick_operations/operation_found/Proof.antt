@@ -1,7 +1,7 @@
 -- `check_quick::quick_operations::operation_found` meets its contract: the tests in their order.
 use mathlib.Core.Path.{refl, sym, ◌∙◌}
 use mathlib.Core.Bool.{true}
-use Rattle.spec_lists.specs.ListLaws.{or_true}
+use Rattle.spec_lists.proofs.ListLaws.{or_true}
 use Rattle.check_quick.specs.QuickLaws.{or_false}
 use borrow.Author.Rules.{rules}
 use Rattle.check_quick.proofs.quick_operations.operation_found.Statement.{statement}

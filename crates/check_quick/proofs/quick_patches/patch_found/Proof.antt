@@ -1,7 +1,7 @@
 -- `check_quick::quick_patches::patch_found` meets its contract: the tests in their order.
 use mathlib.Core.Path.{sym, ap, ◌∙◌}
 use borrow.Author.Tests.{eq-eqb, ne_eqb}
-use Rattle.spec_lists.specs.ListLaws.{or_true}
+use Rattle.spec_lists.proofs.ListLaws.{or_true}
 use Rattle.projection_patch.specs.Meaning.{envelope_of}
 use Rattle.check_findings.specs.Found.{is_found}
 use Rattle.check_quick.specs.Quick.{head_found}

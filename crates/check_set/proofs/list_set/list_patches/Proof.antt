@@ -5,7 +5,7 @@ use mathlib.Core.Bool.{false}
 use mathlib.Core.List.{List, []}
 use native.Mathlib.Omega.{arith}
 use lib.ListN.{length, length-set}
-use Rattle.spec_lists.specs.BytesLaws.{bytes_of}
+use Rattle.spec_lists.proofs.BytesLaws.{bytes_of}
 use Rattle.spec_patch.specs.Sizes.{set_patches}
 use Rattle.spec_patch.specs.Patch.{Patch}
 use Rattle.spec_patch.specs.Edition.{Edition}

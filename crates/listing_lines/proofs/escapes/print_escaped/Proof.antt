@@ -7,7 +7,7 @@ use borrow.Author.Rules.{rules}
 use lib.ListN.{length, take}
 use Rattle.spec_listing.specs.Escapes.{escaped_byte, escaped}
 use Rattle.bytes_printer.specs.Prints.{Prints, Within}
-use Rattle.bytes_printer.specs.PrintsLaws.{lines_start, lines_turn, lines_end}
+use Rattle.bytes_printer.proofs.PrintsLaws.{lines_start, lines_turn, lines_end}
 use Rattle.listing_lines.proofs.escapes.print_escaped.Statement.{statement}
 use Rattle.listing_lines.proofs.escapes.print_escaped.Tie as tie
 

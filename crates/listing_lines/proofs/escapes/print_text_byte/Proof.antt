@@ -1,6 +1,6 @@
 -- `listing_lines::escapes::print_text_byte` meets its contract: the tests are those of the definition.
 use borrow.Author.Rules.{rules}
-use Rattle.bytes_printer.specs.PrintsLaws.{prints_same}
+use Rattle.bytes_printer.proofs.PrintsLaws.{prints_same}
 use Rattle.listing_lines.proofs.TextBytes.{a_backslash, a_tab, a_newline, a_return, as_it_is}
 use Rattle.listing_lines.proofs.escapes.print_text_byte.Statement.{statement}
 use Rattle.listing_lines.proofs.escapes.print_text_byte.Tie as tie

@@ -9,7 +9,7 @@ use Rattle.spec_lists.specs.Lists.{All}
 use Rattle.bytes_records.specs.Table.{HoldsRows}
 use Rattle.bytes_records.specs.TableLaws.{not_too_many, holds_length}
 use Rattle.bytes_printer.specs.Prints.{Prints, Within}
-use Rattle.bytes_printer.specs.PrintsLaws.{lines_start, lines_end}
+use Rattle.bytes_printer.proofs.PrintsLaws.{lines_start, lines_end}
 use Rattle.listing_lines.specs.RowKinds.{Element, FitsRow, row_of, width_of, line_of_row, some_width}
 use Rattle.listing_lines.proofs.Lines.{element_at, line_more}
 use Rattle.listing_lines.proofs.tables.print_rows.Statement.{statement}

@@ -7,7 +7,7 @@ use borrow.Author.Rules.{rules}
 use Rattle.panel_rows.specs.Rows.{binding_row, availability_row, entry_row}
 use Rattle.spec_decimal.specs.Decimal.{decimal}
 use Rattle.spec_listing.specs.Listing.{fields, record_count, projection_lines}
-use Rattle.bytes_printer.specs.PrintsLaws.{◌⨾◌, prints_same, ends_within}
+use Rattle.bytes_printer.proofs.PrintsLaws.{◌⨾◌, prints_same, ends_within}
 use Rattle.bytes_records.specs.TableLaws.{holds_length}
 use Rattle.listing_lines.proofs.tables.print_tables.Statement.{statement}
 use Rattle.listing_lines.proofs.tables.print_tables.Tie as tie

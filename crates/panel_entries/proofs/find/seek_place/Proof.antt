@@ -2,7 +2,7 @@
 use mathlib.Core.Path.{ap, ◌∙◌}
 use mathlib.Core.List.{map}
 use borrow.Author.Rules.{rules}
-use Rattle.spec_lists.specs.ListLaws.{all_map}
+use Rattle.spec_lists.proofs.ListLaws.{all_map}
 use Rattle.spec_projection.specs.Entries.{is_later}
 use Rattle.spec_projection.specs.Valid.{FitsEntry}
 use Rattle.bytes_records.specs.PositionsLaws.{first_index_map}

@@ -10,7 +10,7 @@ use Rattle.spec_patch.specs.Sizes.{projection_entries}
 use Rattle.spec_projection.specs.Projection.{Projection}
 use Rattle.spec_projection.specs.Valid.{Valid}
 use Rattle.spec_lengths.specs.Lengths.{CollectionLength, collection_lengths, length_of, FitsLength}
-use Rattle.spec_lengths.specs.LengthsLaws.{length_kept, lengths_fit}
+use Rattle.spec_lengths.proofs.LengthsLaws.{length_kept, lengths_fit}
 use Rattle.local_projection_state.specs.Stores.{StoredLengths}
 use Rattle.panel_lengths.specs.LengthRowsLaws.{few_rows, lengths_past, lengths_ended, own_row, other_row}
 use Rattle.panel_lengths.proofs.lookup.collection_length.Statement.{statement}

@@ -4,7 +4,7 @@ use mathlib.Core.Path.{◌≡◌, ap, ap₂, ◌∙◌, subst}
 use mathlib.Core.List.{List, map}
 use native.Mathlib.Omega.{arith}
 use lib.ListN.{length, drop, get_or, length-drop}
-use Rattle.spec_lists.specs.BytesLaws.{length_little_endian}
+use Rattle.spec_lists.proofs.BytesLaws.{length_little_endian}
 use Rattle.panel_rows.specs.Rows.{entry_mark_at, key_in, filled_row}
 use Rattle.panel_rows.specs.RowsLaws.{entry_key}
 use Rattle.panel_page.specs.PageTable.{page_mark_at, page_width}

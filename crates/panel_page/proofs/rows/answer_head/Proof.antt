@@ -3,10 +3,10 @@ use mathlib.Core.Path.{◌∙◌}
 use mathlib.Core.List.{◌∷◌, append-nil}
 use native.Mathlib.Omega.{arith}
 use lib.ListN.{set}
-use Rattle.spec_lists.specs.BytesLaws.{length_little_endian}
+use Rattle.spec_lists.proofs.BytesLaws.{length_little_endian}
 use Rattle.spec_patch.specs.Encode.{u64}
 use Rattle.bytes_records.specs.Moves.{zeros}
-use Rattle.bytes_wire.specs.WriteLaws.{has_room_lem, overwrite_in_place}
+use Rattle.bytes_wire.proofs.WriteLaws.{has_room_lem, overwrite_in_place}
 use Rattle.panel_page.specs.PageTable.{found_width, position_width, page_mark_at}
 use borrow.Author.Rules.{rules}
 use Rattle.panel_page.proofs.rows.answer_head.Statement.{statement}

@@ -5,7 +5,7 @@ use Rattle.spec_patch.specs.Sizes.{projection_bindings}
 use Rattle.panel_rows.specs.Rows.{binding_value_at, binding_width, binding_row}
 use Rattle.panel_plan.specs.Plan.{binding_with}
 use Rattle.panel_plan.specs.PlanRows.{planned_binding_row}
-use Rattle.panel_plan.specs.NumberedRowsLaws.{binding_numbered, stored_numbered}
+use Rattle.panel_plan.proofs.NumberedRowsLaws.{binding_numbered, stored_numbered}
 use Rattle.panel_plan.proofs.fill.plan_bindings.Statement.{statement}
 use Rattle.panel_plan.proofs.fill.plan_bindings.Tie as tie
 

@@ -5,7 +5,7 @@ use Rattle.spec_patch.specs.Sizes.{projection_entries}
 use Rattle.panel_rows.specs.Rows.{entry_value_at, entry_width, entry_row}
 use Rattle.panel_plan.specs.Plan.{entry_with}
 use Rattle.panel_plan.specs.PlanRows.{planned_entry_row}
-use Rattle.panel_plan.specs.NumberedRowsLaws.{entry_numbered, stored_numbered}
+use Rattle.panel_plan.proofs.NumberedRowsLaws.{entry_numbered, stored_numbered}
 use Rattle.panel_plan.proofs.fill.plan_entries.Statement.{statement}
 use Rattle.panel_plan.proofs.fill.plan_entries.Tie as tie
 

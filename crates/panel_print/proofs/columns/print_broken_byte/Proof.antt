@@ -4,7 +4,7 @@ use mathlib.Core.Path.{sym, ap, ◌∙◌}
 use mathlib.Core.List.{[], ◌∷◌, ◌++◌}
 use borrow.Author.Rules.{rules}
 use Rattle.spec_panel_print.specs.Print.{line_end, blank_lead}
-use Rattle.bytes_printer.specs.PrintsLaws.{◌⨾◌, prints_same}
+use Rattle.bytes_printer.proofs.PrintsLaws.{◌⨾◌, prints_same}
 use Rattle.panel_print.specs.ByteFlowLaws.{broken_first, broken_next, broken_further}
 use Rattle.panel_print.proofs.columns.print_broken_byte.Statement.{statement}
 use Rattle.panel_print.proofs.columns.print_broken_byte.Tie as tie

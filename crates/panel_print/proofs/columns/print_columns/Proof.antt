@@ -8,7 +8,7 @@ use lib.ListN.{length, drop, get_or}
 use Rattle.spec_panel_print.specs.Print.{text_width}
 use Rattle.bytes_printer.specs.declared.Printed.{Printed}
 use Rattle.bytes_printer.specs.Prints.{Prints}
-use Rattle.bytes_printer.specs.PrintsLaws.{◌⨾◌, prints_same}
+use Rattle.bytes_printer.proofs.PrintsLaws.{◌⨾◌, prints_same}
 use Rattle.panel_print.specs.ByteFlow.{flowed_bytes, broken_byte}
 use Rattle.panel_print.specs.ByteFlowLaws.{flow_turn, flow_end}
 use Rattle.panel_print.proofs.columns.print_columns.Statement.{statement}

@@ -1,6 +1,6 @@
 -- `columns::print_line_break` meets its contract: the newline, then the spaces.
 use borrow.Author.Rules.{rules}
-use Rattle.bytes_printer.specs.PrintsLaws.{◌⨾◌}
+use Rattle.bytes_printer.proofs.PrintsLaws.{◌⨾◌}
 use Rattle.panel_print.proofs.columns.print_line_break.Statement.{statement}
 use Rattle.panel_print.proofs.columns.print_line_break.Tie as tie
 

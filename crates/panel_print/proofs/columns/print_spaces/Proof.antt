@@ -5,7 +5,7 @@ use native.Mathlib.Omega.{arith}
 use lib.ListN.{take, replicate}
 use borrow.Author.Rules.{rules}
 use Rattle.spec_panel_print.specs.Print.{text_width, blank}
-use Rattle.bytes_printer.specs.PrintsLaws.{prints_same}
+use Rattle.bytes_printer.proofs.PrintsLaws.{prints_same}
 use Rattle.panel_print.specs.ByteFlowLaws.{some_blanks}
 use Rattle.panel_print.proofs.columns.print_spaces.Statement.{statement}
 use Rattle.panel_print.proofs.columns.print_spaces.Tie as tie

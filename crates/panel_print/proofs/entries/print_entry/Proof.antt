@@ -4,8 +4,8 @@ use lib.ListN.{drop}
 use borrow.Author.Rules.{rules}
 use Rattle.spec_projection.specs.Lookups.{keyed_value}
 use Rattle.spec_panel_print.specs.Print.{key_lead}
-use Rattle.spec_panel_print.specs.FlowLaws.{entry_flows}
-use Rattle.bytes_printer.specs.PrintsLaws.{◌⨾◌, prints_same}
+use Rattle.spec_panel_print.proofs.FlowLaws.{entry_flows}
+use Rattle.bytes_printer.proofs.PrintsLaws.{◌⨾◌, prints_same}
 use Rattle.panel_rows.specs.Rows.{entry_value_at, key_in}
 use Rattle.panel_rows.specs.RowsLaws.{entry_key, entry_behind}
 use Rattle.panel_print.specs.ByteFlow.{flowed_bytes}

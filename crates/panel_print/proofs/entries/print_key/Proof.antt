@@ -7,7 +7,7 @@ use borrow.Author.Rules.{rules}
 use Rattle.spec_decimal.specs.Decimal.{decimal}
 use Rattle.spec_panel_print.specs.Print.{key_width, blank, key_lead}
 use Rattle.bytes_decimal.specs.PrintLaws.{digits_long, digits_behind}
-use Rattle.bytes_printer.specs.PrintsLaws.{◌⨾◌, prints_same}
+use Rattle.bytes_printer.proofs.PrintsLaws.{◌⨾◌, prints_same}
 use Rattle.panel_print.proofs.entries.print_key.Statement.{statement}
 use Rattle.panel_print.proofs.entries.print_key.Tie as tie
 

@@ -4,7 +4,7 @@ use borrow.Author.Rules.{rules}
 use borrow.Author.Tests.{eq-eqb, ne_eqb}
 use Rattle.spec_projection.specs.Projection.{Entry}
 use Rattle.spec_projection.specs.Valid.{FitsEntry}
-use Rattle.bytes_printer.specs.PrintsLaws.{prints_same, nothing_printed}
+use Rattle.bytes_printer.proofs.PrintsLaws.{prints_same, nothing_printed}
 use Rattle.panel_rows.specs.Rows.{collection_in, entry_row}
 use Rattle.panel_rows.specs.RowsLaws.{entry_collection}
 use Rattle.panel_print.specs.EntriesPrintLaws.{own_print, other_print}

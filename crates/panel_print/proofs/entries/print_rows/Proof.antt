@@ -10,7 +10,7 @@ use Rattle.spec_projection.specs.Projection.{Entry}
 use Rattle.spec_projection.specs.Valid.{FitsEntry}
 use Rattle.bytes_records.specs.Table.{HoldsRows}
 use Rattle.bytes_printer.specs.Prints.{Prints, Within}
-use Rattle.bytes_printer.specs.PrintsLaws.{lines_start, lines_turn, lines_end, ends_within}
+use Rattle.bytes_printer.proofs.PrintsLaws.{lines_start, lines_turn, lines_end, ends_within}
 use Rattle.panel_rows.specs.Rows.{entry_width, entry_row}
 use Rattle.panel_rows.specs.RowsLaws.{no_entry}
 use Rattle.panel_lookups.specs.NthLaws.{fits_at, row_at_entry}

@@ -6,7 +6,7 @@ use mir.Syntax.{w64}
 use mir.Facts.{to_z-of_z}
 use borrow.Author.Rules.{rules, sfits_of}
 use Rattle.spec_decimal.specs.Decimal.{signed_decimal}
-use Rattle.bytes_printer.specs.PrintsLaws.{prints_same}
+use Rattle.bytes_printer.proofs.PrintsLaws.{prints_same}
 use Rattle.panel_print.specs.LookupBytesLaws.{quad_bytes, signed_bytes, unsigned_bytes}
 use Rattle.panel_print.proofs.entries.print_scalar.Statement.{statement}
 use Rattle.panel_print.proofs.entries.print_scalar.Tie as tie

@@ -4,7 +4,7 @@ use mathlib.Core.Path.{refl, sym, ap, ◌∙◌}
 use native.Mathlib.Omega.{arith}
 use lib.ListN.{length-replicate}
 use borrow.Author.Rules.{rules}
-use Rattle.bytes_printer.specs.PrintsLaws.{prints_same}
+use Rattle.bytes_printer.proofs.PrintsLaws.{prints_same}
 use Rattle.panel_print.specs.ByteFlow.{flowed_bytes}
 use Rattle.panel_print.specs.LookupBytes.{scalar_most}
 use Rattle.panel_print.specs.LookupBytesLaws.{text_bytes_lem, no_text_bytes, scalar_few}

@@ -2,7 +2,7 @@
 use mathlib.Core.Path.{sym, ap, ◌∙◌}
 use borrow.Author.Rules.{rules}
 use borrow.Author.Tests.{eq-eqb, ne_eqb}
-use Rattle.spec_lists.specs.ListLaws.{or_true}
+use Rattle.spec_lists.proofs.ListLaws.{or_true}
 use Rattle.projection_patch.specs.Meaning.{envelope_of}
 use Rattle.check_findings.specs.Found.{is_found}
 use Rattle.check_quick.specs.Quick.{head_found}

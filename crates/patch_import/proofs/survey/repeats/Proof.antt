@@ -2,7 +2,7 @@
 use mathlib.Core.Path.{refl, sym, ◌∙◌}
 use mathlib.Core.Bool.{true}
 use borrow.Author.Rules.{rules}
-use Rattle.spec_lists.specs.ListLaws.{or_true}
+use Rattle.spec_lists.proofs.ListLaws.{or_true}
 use Rattle.check_quick.specs.QuickLaws.{or_false}
 use Rattle.patch_import.proofs.survey.repeats.Statement.{statement}
 use Rattle.patch_import.proofs.survey.repeats.Tie as tie

@@ -7,7 +7,7 @@ use borrow.Author.Rules.{rules}
 use lib.ListN.{length}
 use Rattle.spec_patch.specs.Encode.{u32, heading, encode_envelope}
 use Rattle.bytes_wire.specs.Write.{overwrite}
-use Rattle.bytes_wire.specs.WriteLaws.{length_overwrite}
+use Rattle.bytes_wire.proofs.WriteLaws.{length_overwrite}
 use Rattle.projection_patch.specs.Meaning.{edition_of, envelope_of}
 use Rattle.patch_part_writer.specs.Extent.{head_size}
 use Rattle.patch_part_writer.specs.ExtentLaws.{surface_small, length_heading, length_head}

@@ -4,7 +4,7 @@ use lib.ListN.{length, drop}
 use Rattle.spec_patch.specs.Sizes.{patch_operations}
 use Rattle.spec_explain.specs.ReadingRule.{operation_count_lem}
 use Rattle.spec_explain.specs.Locate.{counted, locate_envelope}
-use Rattle.spec_explain.specs.SteadySetLaws.{steady_envelope}
+use Rattle.spec_explain.proofs.SteadySetLaws.{steady_envelope}
 use Rattle.projection_patch.specs.Meaning.{edition_of}
 use Rattle.patch_locate.specs.Answers.{located_answer}
 use Rattle.patch_locate.specs.Fields.{operation_in, patch_fields}

@@ -6,7 +6,7 @@ use native.Mathlib.Omega.{arith}
 use lib.ListN.{length, drop}
 use Rattle.spec_patch.specs.Edition.{Edition}
 use Rattle.spec_explain.specs.Locate.{Locator, ◌⨟◌, repeated, locate_patch}
-use Rattle.spec_explain.specs.SteadySetLaws.{steady_patch}
+use Rattle.spec_explain.proofs.SteadySetLaws.{steady_patch}
 use Rattle.projection_patch.specs.Meaning.{edition_of}
 use Rattle.patch_locate.specs.Answers.{located_answer, within_to}
 use Rattle.patch_locate.specs.Fields.{patch_fields}

@@ -4,7 +4,7 @@ use Rattle.spec_patch.specs.Sizes.{set_patches}
 use Rattle.spec_patch.specs.Encode.{heading}
 use Rattle.spec_explain.specs.ReadingRule.{patch_count}
 use Rattle.spec_explain.specs.Locate.{counted, locate_patch, locate_letters, locate_patches}
-use Rattle.spec_explain.specs.SteadySetLaws.{steady_letters}
+use Rattle.spec_explain.proofs.SteadySetLaws.{steady_letters}
 use Rattle.projection_patch.specs.Meaning.{edition_of}
 use Rattle.patch_locate.specs.Positions.{locates_on, locates_stop}
 use borrow.Author.Rules.{rules}

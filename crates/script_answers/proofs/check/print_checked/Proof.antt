@@ -6,7 +6,7 @@ use borrow.Author.Rules.{rules}
 use Rattle.spec_decimal.specs.Decimal.{decimal}
 use Rattle.spec_listing.specs.Listing.{fields}
 use Rattle.spec_replay.specs.Answers.{place_field, checked_line}
-use Rattle.bytes_printer.specs.PrintsLaws.{◌⨾◌, prints_same}
+use Rattle.bytes_printer.proofs.PrintsLaws.{◌⨾◌, prints_same}
 use Rattle.script_answers.proofs.check.print_checked.Statement.{statement}
 use Rattle.script_answers.proofs.check.print_checked.Tie as tie
 

@@ -9,7 +9,7 @@ use Rattle.spec_checks.specs.Finding.{Finding}
 use Rattle.spec_checks.specs.Answer.{record_length, finding_words}
 use Rattle.spec_replay.specs.Answers.{finding_line}
 use Rattle.bytes_printer.specs.Prints.{Prints, Within}
-use Rattle.bytes_printer.specs.PrintsLaws.{prints_same, lines_start, lines_turn, lines_end}
+use Rattle.bytes_printer.proofs.PrintsLaws.{prints_same, lines_start, lines_turn, lines_end}
 use Rattle.script_answers.proofs.Records.{no_finding, words_there, finding_at}
 use Rattle.script_answers.proofs.check.print_findings.Statement.{statement}
 use Rattle.script_answers.proofs.check.print_findings.Tie as tie

@@ -4,7 +4,7 @@ use borrow.Author.Rules.{rules}
 use Rattle.spec_checks.specs.Findings.{Place}
 use Rattle.spec_replay.specs.Answers.{place_field}
 use Rattle.bytes_printer.specs.Prints.{spaced_field}
-use Rattle.bytes_printer.specs.PrintsLaws.{prints_same}
+use Rattle.bytes_printer.proofs.PrintsLaws.{prints_same}
 use Rattle.script_answers.proofs.Checks.{patch_place, set_place}
 use Rattle.script_answers.proofs.check.print_place.Statement.{statement}
 use Rattle.script_answers.proofs.check.print_place.Tie as tie

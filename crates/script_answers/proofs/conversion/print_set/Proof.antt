@@ -8,7 +8,7 @@ use lib.Seq.{take_at}
 use Rattle.spec_decimal.specs.Decimal.{decimal}
 use Rattle.spec_listing.specs.Listing.{fields}
 use Rattle.spec_replay.specs.Hex.{hex_field}
-use Rattle.bytes_printer.specs.PrintsLaws.{◌⨾◌, prints_same}
+use Rattle.bytes_printer.proofs.PrintsLaws.{◌⨾◌, prints_same}
 use borrow.Author.Rules.{rules}
 use Rattle.script_answers.proofs.conversion.print_set.Statement.{statement}
 use Rattle.script_answers.proofs.conversion.print_set.Tie as tie

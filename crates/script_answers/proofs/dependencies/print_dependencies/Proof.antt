@@ -5,7 +5,7 @@ use mathlib.Core.List.{[], ◌∷◌}
 use borrow.Author.Rules.{rules}
 use Rattle.spec_decimal.specs.Decimal.{decimal}
 use Rattle.spec_listing.specs.Listing.{fields}
-use Rattle.bytes_printer.specs.PrintsLaws.{prints_same}
+use Rattle.bytes_printer.proofs.PrintsLaws.{prints_same}
 use Rattle.script_answers.proofs.DependencyLines.{never_lines, needs_counted, needs_lines, refusal_lines}
 use Rattle.script_answers.proofs.dependencies.print_dependencies.Statement.{statement}
 use Rattle.script_answers.proofs.dependencies.print_dependencies.Tie as tie

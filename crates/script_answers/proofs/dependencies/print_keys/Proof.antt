@@ -8,7 +8,7 @@ use lib.ListN.{length, take}
 use Rattle.spec_dependencies.specs.Answer.{pair_length}
 use Rattle.spec_replay.specs.Answers.{key_line, first_keys}
 use Rattle.bytes_printer.specs.Prints.{Prints, Within}
-use Rattle.bytes_printer.specs.PrintsLaws.{prints_same, lines_start, lines_turn, lines_end}
+use Rattle.bytes_printer.proofs.PrintsLaws.{prints_same, lines_start, lines_turn, lines_end}
 use Rattle.script_answers.proofs.Keys.{no_key, keys_counted, key_at}
 use Rattle.script_answers.proofs.dependencies.print_keys.Statement.{statement}
 use Rattle.script_answers.proofs.dependencies.print_keys.Tie as tie

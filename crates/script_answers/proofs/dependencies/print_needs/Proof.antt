@@ -2,7 +2,7 @@
 use native.Mathlib.Omega.{arith}
 use borrow.Author.Rules.{rules}
 use Rattle.spec_replay.specs.Answers.{verdict_lines}
-use Rattle.bytes_printer.specs.PrintsLaws.{◌⨾◌, ends_within}
+use Rattle.bytes_printer.proofs.PrintsLaws.{◌⨾◌, ends_within}
 use Rattle.script_answers.proofs.dependencies.print_needs.Statement.{statement}
 use Rattle.script_answers.proofs.dependencies.print_needs.Tie as tie
 

@@ -1,7 +1,7 @@
 -- `script_answers::dependencies::print_verdict` meets its contract: the letter, 0, the word, two numbers and the end of the line.
 use borrow.Author.Rules.{rules}
 use Rattle.spec_listing.specs.Listing.{fields}
-use Rattle.bytes_printer.specs.PrintsLaws.{◌⨾◌}
+use Rattle.bytes_printer.proofs.PrintsLaws.{◌⨾◌}
 use Rattle.script_answers.proofs.dependencies.print_verdict.Statement.{statement}
 use Rattle.script_answers.proofs.dependencies.print_verdict.Tie as tie
 

@@ -5,7 +5,7 @@ use mathlib.Core.List.{List}
 use borrow.Author.Rules.{rules}
 use Rattle.spec_replay.specs.Answers.{cursor_field}
 use Rattle.bytes_printer.specs.Prints.{spaced_field}
-use Rattle.bytes_printer.specs.PrintsLaws.{prints_same}
+use Rattle.bytes_printer.proofs.PrintsLaws.{prints_same}
 use Rattle.session_lifecycle.specs.Meaning.{cursor_of}
 use Rattle.session_lifecycle.specs.declared.state.ProjectionReplayCursor.{ProjectionReplayCursor}
 use Rattle.script_answers.proofs.fields.print_cursor.Statement.{statement}

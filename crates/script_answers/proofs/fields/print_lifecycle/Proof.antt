@@ -5,7 +5,7 @@ use mathlib.Core.List.{List}
 use borrow.Author.Rules.{rules}
 use Rattle.spec_replay.specs.Answers.{lifecycle_field}
 use Rattle.bytes_printer.specs.Prints.{spaced_field}
-use Rattle.bytes_printer.specs.PrintsLaws.{prints_same}
+use Rattle.bytes_printer.proofs.PrintsLaws.{prints_same}
 use Rattle.session_lifecycle.specs.Meaning.{lifecycle_of}
 use Rattle.session_lifecycle.specs.declared.state.ShellLifecycle.{ShellLifecycle}
 use Rattle.script_answers.proofs.fields.print_lifecycle.Statement.{statement}

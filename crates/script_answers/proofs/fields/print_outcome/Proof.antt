@@ -1,7 +1,7 @@
 -- `script_answers::fields::print_outcome` meets its contract: five fields, one behind the other.
 use borrow.Author.Rules.{rules}
 use Rattle.spec_replay.specs.Answers.{session_fields}
-use Rattle.bytes_printer.specs.PrintsLaws.{◌⨾◌}
+use Rattle.bytes_printer.proofs.PrintsLaws.{◌⨾◌}
 use Rattle.script_answers.specs.OpenFields.{open_fields}
 use Rattle.script_answers.specs.OpenFieldsLaws.{last_open}
 use Rattle.script_answers.proofs.fields.print_outcome.Statement.{statement}

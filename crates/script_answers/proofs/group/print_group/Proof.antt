@@ -4,7 +4,7 @@ use mathlib.Core.Path.{sym, ap}
 use mathlib.Core.List.{List}
 use borrow.Author.Rules.{rules}
 use Rattle.spec_replay.specs.Answers.{group_lines}
-use Rattle.bytes_printer.specs.PrintsLaws.{prints_same}
+use Rattle.bytes_printer.proofs.PrintsLaws.{prints_same}
 use Rattle.session_group.specs.Groups.{group_answer_of}
 use Rattle.session_group.specs.declared.GroupAnswer.{GroupAnswer}
 use Rattle.script_answers.proofs.group.print_group.Statement.{statement}

@@ -2,7 +2,7 @@
 use borrow.Author.Rules.{rules}
 use Rattle.spec_listing.specs.Listing.{fields}
 use Rattle.spec_replay.specs.Answers.{group_lines}
-use Rattle.bytes_printer.specs.PrintsLaws.{◌⨾◌}
+use Rattle.bytes_printer.proofs.PrintsLaws.{◌⨾◌}
 use Rattle.script_answers.proofs.group.print_taken.Statement.{statement}
 use Rattle.script_answers.proofs.group.print_taken.Tie as tie
 

@@ -1,7 +1,7 @@
 -- `script_answers::page::print_answered` meets its contract: the letter, 0, the number of keys, and their lines.
 use borrow.Author.Rules.{rules}
 use Rattle.spec_listing.specs.Listing.{fields}
-use Rattle.bytes_printer.specs.PrintsLaws.{◌⨾◌, ends_within}
+use Rattle.bytes_printer.proofs.PrintsLaws.{◌⨾◌, ends_within}
 use Rattle.script_answers.proofs.page.print_answered.Statement.{statement}
 use Rattle.script_answers.proofs.page.print_answered.Tie as tie
 

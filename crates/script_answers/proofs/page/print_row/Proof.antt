@@ -1,7 +1,7 @@
 -- `script_answers::page::print_row` meets its contract: the position and the value where the key was found, else a dash.
 use borrow.Author.Rules.{rules}
 use Rattle.spec_listing.specs.Listing.{fields}
-use Rattle.bytes_printer.specs.PrintsLaws.{◌⨾◌, prints_same}
+use Rattle.bytes_printer.proofs.PrintsLaws.{◌⨾◌, prints_same}
 use Rattle.script_answers.specs.PageToldLaws.{row_found, row_not_found}
 use Rattle.script_answers.proofs.page.print_row.Statement.{statement}
 use Rattle.script_answers.proofs.page.print_row.Tie as tie

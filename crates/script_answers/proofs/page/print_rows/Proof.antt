@@ -9,7 +9,7 @@ use Rattle.spec_projection.specs.Projection.{Projection}
 use Rattle.spec_projection.specs.Valid.{Valid}
 use Rattle.spec_page.specs.Page.{page_entry}
 use Rattle.bytes_printer.specs.Prints.{Prints, Within}
-use Rattle.bytes_printer.specs.PrintsLaws.{prints_same, lines_start, lines_turn, lines_end}
+use Rattle.bytes_printer.proofs.PrintsLaws.{prints_same, lines_start, lines_turn, lines_end}
 use Rattle.panel_page.specs.PageTable.{page_width, page_bytes}
 use Rattle.panel_page.specs.PageTableLaws.{length_page, page_fits}
 use Rattle.script_answers.specs.PageTold.{row_lookup_line}

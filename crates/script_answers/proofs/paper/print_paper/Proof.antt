@@ -1,7 +1,7 @@
 -- `script_answers::paper::print_paper` meets its contract: the letter, 0, the number of bytes, the newline, and the bytes.
 use borrow.Author.Rules.{rules}
 use Rattle.spec_listing.specs.Listing.{fields}
-use Rattle.bytes_printer.specs.PrintsLaws.{◌⨾◌}
+use Rattle.bytes_printer.proofs.PrintsLaws.{◌⨾◌}
 use Rattle.script_answers.proofs.paper.print_paper.Statement.{statement}
 use Rattle.script_answers.proofs.paper.print_paper.Tie as tie
 

@@ -5,7 +5,7 @@ use borrow.Author.Rules.{rules}
 use Rattle.spec_session.specs.Lifecycle.{Disposition}
 use Rattle.spec_listing.specs.Listing.{fields}
 use Rattle.spec_replay.specs.Answers.{cursor_field, session_fields, batch_line}
-use Rattle.bytes_printer.specs.PrintsLaws.{◌⨾◌, prints_same}
+use Rattle.bytes_printer.proofs.PrintsLaws.{◌⨾◌, prints_same}
 use Rattle.session_lifecycle.specs.Meaning.{disposition_means, diagnostics_mean, cursor_of}
 use Rattle.script_answers.specs.OpenFieldsLaws.{line}
 use Rattle.script_answers.proofs.session.print_batch.Statement.{statement}

@@ -5,7 +5,7 @@ use mathlib.Core.List.{[], ◌∷◌}
 use borrow.Author.Rules.{rules}
 use Rattle.spec_decimal.specs.Decimal.{decimal}
 use Rattle.spec_listing.specs.Listing.{fields}
-use Rattle.bytes_printer.specs.PrintsLaws.{prints_same}
+use Rattle.bytes_printer.proofs.PrintsLaws.{prints_same}
 use Rattle.script_answers.proofs.Creations.{made_line, creation_refused}
 use Rattle.script_answers.proofs.session.print_creation.Statement.{statement}
 use Rattle.script_answers.proofs.session.print_creation.Tie as tie

@@ -4,7 +4,7 @@ use borrow.Author.Rules.{rules}
 use Rattle.spec_decimal.specs.Decimal.{decimal}
 use Rattle.spec_listing.specs.Listing.{fields}
 use Rattle.spec_replay.specs.Answers.{lifecycle_field, cursor_field, session_fields, lifecycle_line}
-use Rattle.bytes_printer.specs.PrintsLaws.{◌⨾◌}
+use Rattle.bytes_printer.proofs.PrintsLaws.{◌⨾◌}
 use Rattle.session_lifecycle.specs.Meaning.{disposition_means, diagnostics_mean, lifecycle_of, cursor_of}
 use Rattle.script_answers.specs.OpenFieldsLaws.{line}
 use Rattle.script_answers.proofs.session.print_lifecycle.Statement.{statement}

@@ -2,7 +2,7 @@
 use borrow.Author.Rules.{rules}
 use Rattle.spec_listing.specs.Listing.{fields}
 use Rattle.spec_replay.specs.Answers.{no_session_line}
-use Rattle.bytes_printer.specs.PrintsLaws.{◌⨾◌}
+use Rattle.bytes_printer.proofs.PrintsLaws.{◌⨾◌}
 use Rattle.script_answers.proofs.session.print_no_session.Statement.{statement}
 use Rattle.script_answers.proofs.session.print_no_session.Tie as tie
 

@@ -6,7 +6,7 @@ use borrow.Author.Rules.{rules}
 use Rattle.spec_decimal.specs.Decimal.{decimal}
 use Rattle.spec_listing.specs.Listing.{fields}
 use Rattle.spec_replay.specs.Answers.{register_line}
-use Rattle.bytes_printer.specs.PrintsLaws.{prints_same}
+use Rattle.bytes_printer.proofs.PrintsLaws.{prints_same}
 use Rattle.session_turns.specs.declared.RegisterAnswer.{RegisterAnswer}
 use Rattle.script_answers.specs.TurnAnswers.{register_answer_of}
 use Rattle.script_answers.proofs.turns.print_registration.Statement.{statement}

@@ -5,7 +5,7 @@ use mathlib.Core.List.{[], ◌∷◌}
 use borrow.Author.Rules.{rules}
 use Rattle.spec_decimal.specs.Decimal.{decimal}
 use Rattle.spec_listing.specs.Listing.{fields}
-use Rattle.bytes_printer.specs.PrintsLaws.{prints_same}
+use Rattle.bytes_printer.proofs.PrintsLaws.{prints_same}
 use Rattle.script_answers.proofs.SetUps.{set_up_line_lem, no_set_up_line}
 use Rattle.script_answers.proofs.turns.print_set_up.Statement.{statement}
 use Rattle.script_answers.proofs.turns.print_set_up.Tie as tie

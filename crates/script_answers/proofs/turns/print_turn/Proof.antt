@@ -5,7 +5,7 @@ use mathlib.Core.List.{List}
 use borrow.Author.Rules.{rules}
 use Rattle.spec_listing.specs.Listing.{fields}
 use Rattle.spec_replay.specs.Answers.{turn_line}
-use Rattle.bytes_printer.specs.PrintsLaws.{◌⨾◌, prints_same}
+use Rattle.bytes_printer.proofs.PrintsLaws.{◌⨾◌, prints_same}
 use Rattle.session_turns.specs.declared.TurnAnswer.{TurnAnswer}
 use Rattle.session_turns.specs.Runs.{turn_answer_of}
 use Rattle.script_answers.proofs.turns.print_turn.Statement.{statement}

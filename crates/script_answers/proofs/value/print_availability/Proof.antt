@@ -3,7 +3,7 @@ use mathlib.Core.List.{[], ◌∷◌}
 use borrow.Author.Rules.{rules}
 use Rattle.spec_decimal.specs.Decimal.{decimal}
 use Rattle.spec_listing.specs.Listing.{fields}
-use Rattle.bytes_printer.specs.PrintsLaws.{◌⨾◌, prints_same}
+use Rattle.bytes_printer.proofs.PrintsLaws.{◌⨾◌, prints_same}
 use Rattle.script_answers.specs.LookupLines.{availability_lookup_line, found_line_lem, not_found_line}
 use Rattle.script_answers.proofs.value.print_availability.Statement.{statement}
 use Rattle.script_answers.proofs.value.print_availability.Tie as tie

@@ -1,7 +1,7 @@
 -- `script_answers::value::print_mark` meets its contract: the mark where something was found, else a dash.
 use borrow.Author.Rules.{rules}
 use Rattle.spec_listing.specs.Listing.{fields}
-use Rattle.bytes_printer.specs.PrintsLaws.{◌⨾◌, prints_same}
+use Rattle.bytes_printer.proofs.PrintsLaws.{◌⨾◌, prints_same}
 use Rattle.script_answers.specs.LookupLines.{mark_found, mark_not_found}
 use Rattle.script_answers.proofs.value.print_mark.Statement.{statement}
 use Rattle.script_answers.proofs.value.print_mark.Tie as tie

@@ -1,7 +1,7 @@
 -- `script_answers::value::print_none` meets its contract: a dash and the end of the line.
 use borrow.Author.Rules.{rules}
 use Rattle.spec_listing.specs.Listing.{fields}
-use Rattle.bytes_printer.specs.PrintsLaws.{◌⨾◌}
+use Rattle.bytes_printer.proofs.PrintsLaws.{◌⨾◌}
 use Rattle.script_answers.proofs.value.print_none.Statement.{statement}
 use Rattle.script_answers.proofs.value.print_none.Tie as tie
 

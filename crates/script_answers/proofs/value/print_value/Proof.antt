@@ -1,6 +1,6 @@
 -- `script_answers::value::print_value` meets its contract: the value where one was found, else a dash.
 use borrow.Author.Rules.{rules}
-use Rattle.bytes_printer.specs.PrintsLaws.{◌⨾◌, prints_same}
+use Rattle.bytes_printer.proofs.PrintsLaws.{◌⨾◌, prints_same}
 use Rattle.listing_lines.specs.LookupFields.{lookup_fields}
 use Rattle.script_answers.specs.LookupLines.{value_lookup_line, found_line_lem, not_found_line}
 use Rattle.script_answers.proofs.value.print_value.Statement.{statement}

@@ -2,7 +2,7 @@
 use mathlib.Core.Path.{refl, ap}
 use Rattle.spec_replay.specs.Replay.{batched}
 use Rattle.spec_replay.specs.Answers.{batch_line}
-use Rattle.bytes_printer.specs.PrintsLaws.{prints_same}
+use Rattle.bytes_printer.proofs.PrintsLaws.{prints_same}
 use Rattle.script_calls.specs.ReplayHoldsLaws.{asked_there, asked_nowhere, step_goes_on, holds_latest, in_edition}
 use borrow.Author.Rules.{rules}
 use Rattle.script_calls.proofs.calls.apply_batch.Statement.{statement}

@@ -2,7 +2,7 @@
 use mathlib.Core.Path.{refl, ap}
 use Rattle.spec_replay.specs.Replay.{grouped}
 use Rattle.spec_replay.specs.Answers.{group_lines}
-use Rattle.bytes_printer.specs.PrintsLaws.{prints_same}
+use Rattle.bytes_printer.proofs.PrintsLaws.{prints_same}
 use Rattle.script_calls.specs.ReplayHoldsLaws.{asked_there, asked_nowhere, step_goes_on, holds_latest}
 use borrow.Author.Rules.{rules}
 use Rattle.script_calls.proofs.groups.apply_group.Statement.{statement}

@@ -1,6 +1,6 @@
 -- `script_calls::marks::availability_mark` meets its contract: the session there is is looked into, and stays.
 use mathlib.Core.Path.{refl, ap, ◌∙◌}
-use Rattle.bytes_printer.specs.PrintsLaws.{prints_same}
+use Rattle.bytes_printer.proofs.PrintsLaws.{prints_same}
 use Rattle.panel_rows.specs.declared.values.AvailabilityLookup.{AvailabilityLookup}
 use Rattle.script_answers.specs.LookupLines.{mark_lookup_line}
 use Rattle.script_calls.specs.MarkLaws.{node_mark_told}

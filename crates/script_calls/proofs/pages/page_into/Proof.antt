@@ -8,7 +8,7 @@ use lib.ListN.{length, take, drop, replicate, length-replicate}
 use lib.Seq.{length-take-le}
 use Rattle.spec_page.specs.Page.{page}
 use Rattle.spec_replay.specs.Answers.{page_lines}
-use Rattle.bytes_printer.specs.PrintsLaws.{prints_same}
+use Rattle.bytes_printer.proofs.PrintsLaws.{prints_same}
 use Rattle.panel_page.specs.PageTable.{page_width}
 use Rattle.script_calls.proofs.pages.page_into.Statement.{statement}
 use Rattle.script_calls.proofs.pages.page_into.Tie as tie

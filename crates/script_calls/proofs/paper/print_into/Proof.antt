@@ -7,8 +7,8 @@ use lib.ListN.{length, take, drop, replicate, length-replicate}
 use lib.Seq.{length-take-le}
 use Rattle.spec_panel_print.specs.Print.{collection_print}
 use Rattle.spec_panel_print.specs.PrintSizes.{print_bytes}
-use Rattle.spec_panel_print.specs.PrintSizesLaws.{print_fits}
-use Rattle.bytes_printer.specs.PrintsLaws.{prints_same}
+use Rattle.spec_panel_print.proofs.PrintSizesLaws.{print_fits}
+use Rattle.bytes_printer.proofs.PrintsLaws.{prints_same}
 use Rattle.script_calls.specs.PaperLaws.{longest_suffices}
 use Rattle.script_calls.proofs.paper.print_into.Statement.{statement}
 use Rattle.script_calls.proofs.paper.print_into.Tie as tie

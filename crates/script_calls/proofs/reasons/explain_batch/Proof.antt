@@ -3,7 +3,7 @@ use mathlib.Core.Path.{refl, ap}
 use Rattle.spec_patch.specs.Edition.{Edition}
 use Rattle.spec_explain.specs.Explain.{explain}
 use Rattle.spec_replay.specs.Reasons.{reason_line}
-use Rattle.bytes_printer.specs.PrintsLaws.{prints_same}
+use Rattle.bytes_printer.proofs.PrintsLaws.{prints_same}
 use Rattle.session_gates.specs.Gates.{batch_envelope_of}
 use Rattle.script_calls.specs.ReplayHoldsLaws.{asked_there, asked_nowhere, step_goes_on}
 use borrow.Author.Rules.{rules}

@@ -2,7 +2,7 @@
 use mathlib.Core.Path.{ap, ◌∙◌}
 use Rattle.spec_explain.specs.Explain.{Explanation}
 use Rattle.spec_replay.specs.Reasons.{reason_line}
-use Rattle.bytes_printer.specs.PrintsLaws.{prints_same}
+use Rattle.bytes_printer.proofs.PrintsLaws.{prints_same}
 use Rattle.session_explain.specs.Meaning.{explanation_of}
 use Rattle.session_explain.specs.MeaningLaws.{explanation_back}
 use borrow.Author.Rules.{rules}

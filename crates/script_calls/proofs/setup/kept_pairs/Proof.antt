@@ -4,7 +4,7 @@ use native.Mathlib.Omega.{arith}
 use lib.ListN.{length}
 use lib.Seq.{set_out}
 use borrow.Author.Rules.{rules}
-use Rattle.spec_lists.specs.ListLaws.{unmapped}
+use Rattle.spec_lists.proofs.ListLaws.{unmapped}
 use Rattle.spec_replay.specs.Replay.{kept_anchors}
 use Rattle.script_calls.proofs.setup.kept_pairs.Statement.{statement}
 use Rattle.script_calls.proofs.setup.kept_pairs.Tie as tie

@@ -2,7 +2,7 @@
 use mathlib.Core.Path.{refl, ap}
 use Rattle.spec_replay.specs.Replay.{turned}
 use Rattle.spec_replay.specs.Answers.{turn_line}
-use Rattle.bytes_printer.specs.PrintsLaws.{prints_same}
+use Rattle.bytes_printer.proofs.PrintsLaws.{prints_same}
 use Rattle.script_calls.specs.ReplayHoldsLaws.{step_goes_on}
 use Rattle.script_calls.specs.TurnSteps.{turns_asked, no_turns_asked, holds_turns, turned_next, turned_answer}
 use borrow.Author.Rules.{rules}

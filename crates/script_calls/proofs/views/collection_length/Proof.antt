@@ -1,6 +1,6 @@
 -- `script_calls::views::collection_length` meets its contract: the session there is is looked into, and stays.
 use mathlib.Core.Path.{refl, ap}
-use Rattle.bytes_printer.specs.PrintsLaws.{prints_same}
+use Rattle.bytes_printer.proofs.PrintsLaws.{prints_same}
 use Rattle.spec_replay.specs.Answers.{length_line}
 use Rattle.script_calls.specs.ReplayHoldsLaws.{asked_there, asked_nowhere, step_goes_on}
 use borrow.Author.Rules.{rules}

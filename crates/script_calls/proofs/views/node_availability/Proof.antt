@@ -1,6 +1,6 @@
 -- `script_calls::views::node_availability` meets its contract: the session there is is looked into, and stays.
 use mathlib.Core.Path.{refl, ap, ◌∙◌}
-use Rattle.bytes_printer.specs.PrintsLaws.{prints_same}
+use Rattle.bytes_printer.proofs.PrintsLaws.{prints_same}
 use Rattle.script_answers.specs.LookupLines.{availability_lookup_line, availability_looked_up}
 use Rattle.script_calls.specs.ReplayHoldsLaws.{asked_there, asked_nowhere, step_goes_on}
 use borrow.Author.Rules.{rules}

@@ -4,7 +4,7 @@ use mathlib.Core.Path.{sym, ap}
 use mathlib.Core.List.{List}
 use Rattle.spec_listing.specs.Listing.{fields}
 use Rattle.spec_replay.specs.Reasons.{figure_fields}
-use Rattle.bytes_printer.specs.PrintsLaws.{◌⨾◌, prints_same}
+use Rattle.bytes_printer.proofs.PrintsLaws.{◌⨾◌, prints_same}
 use Rattle.session_explain.specs.declared.reasons.BatchReason.{BatchReason}
 use Rattle.session_explain.specs.Meaning.{printed_reason_of}
 use borrow.Author.Rules.{rules}

@@ -1,6 +1,6 @@
 -- `script_reasons::figures::print_four` meets its contract: a field and three, and the end of the line.
 use Rattle.spec_listing.specs.Listing.{fields}
-use Rattle.bytes_printer.specs.PrintsLaws.{◌⨾◌}
+use Rattle.bytes_printer.proofs.PrintsLaws.{◌⨾◌}
 use borrow.Author.Rules.{rules}
 use Rattle.script_reasons.proofs.figures.print_four.Statement.{statement}
 use Rattle.script_reasons.proofs.figures.print_four.Tie as tie

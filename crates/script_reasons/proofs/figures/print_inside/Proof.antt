@@ -4,7 +4,7 @@ use mathlib.Core.Path.{sym, ap}
 use mathlib.Core.List.{List}
 use Rattle.spec_listing.specs.Listing.{fields}
 use Rattle.spec_replay.specs.Reasons.{inside_fields}
-use Rattle.bytes_printer.specs.PrintsLaws.{◌⨾◌, prints_same}
+use Rattle.bytes_printer.proofs.PrintsLaws.{◌⨾◌, prints_same}
 use Rattle.patch_locate.specs.Answers.{inside_of}
 use Rattle.patch_locate.specs.declared.rules.Inside.{Inside}
 use borrow.Author.Rules.{rules}

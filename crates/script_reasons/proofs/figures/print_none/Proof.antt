@@ -1,6 +1,6 @@
 -- `script_reasons::figures::print_none` meets its contract: the sign for none, and the end of the line.
 use Rattle.spec_listing.specs.Listing.{fields}
-use Rattle.bytes_printer.specs.PrintsLaws.{◌⨾◌}
+use Rattle.bytes_printer.proofs.PrintsLaws.{◌⨾◌}
 use borrow.Author.Rules.{rules}
 use Rattle.script_reasons.proofs.figures.print_none.Statement.{statement}
 use Rattle.script_reasons.proofs.figures.print_none.Tie as tie

@@ -4,7 +4,7 @@ use mathlib.Core.Path.{sym, ap}
 use mathlib.Core.List.{List}
 use Rattle.spec_replay.specs.Answers.{place_field}
 use Rattle.bytes_printer.specs.Prints.{spaced_field}
-use Rattle.bytes_printer.specs.PrintsLaws.{prints_same}
+use Rattle.bytes_printer.proofs.PrintsLaws.{prints_same}
 use Rattle.check_set.specs.declared.check_set.CheckPlace.{CheckPlace}
 use Rattle.session_explain.specs.Meaning.{finding_place_of}
 use borrow.Author.Rules.{rules}

@@ -4,7 +4,7 @@ use mathlib.Core.Path.{sym, ap}
 use mathlib.Core.List.{List, [], ◌∷◌}
 use Rattle.spec_listing.specs.Listing.{fields}
 use Rattle.spec_replay.specs.Reasons.{takes_field}
-use Rattle.bytes_printer.specs.PrintsLaws.{◌⨾◌, prints_same}
+use Rattle.bytes_printer.proofs.PrintsLaws.{◌⨾◌, prints_same}
 use Rattle.projection_patch.specs.ReadAnswers.{optional_of}
 use Rattle.projection_patch.specs.declared.read_values.OptionalNumber.{OptionalNumber}
 use borrow.Author.Rules.{rules}

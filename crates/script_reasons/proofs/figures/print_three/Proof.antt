@@ -1,6 +1,6 @@
 -- `script_reasons::figures::print_three` meets its contract: a field and two, and the end of the line.
 use Rattle.spec_listing.specs.Listing.{fields}
-use Rattle.bytes_printer.specs.PrintsLaws.{◌⨾◌}
+use Rattle.bytes_printer.proofs.PrintsLaws.{◌⨾◌}
 use borrow.Author.Rules.{rules}
 use Rattle.script_reasons.proofs.figures.print_three.Statement.{statement}
 use Rattle.script_reasons.proofs.figures.print_three.Tie as tie

@@ -1,6 +1,6 @@
 -- `script_reasons::figures::print_two` meets its contract: two fields, and the end of the line.
 use Rattle.spec_listing.specs.Listing.{fields}
-use Rattle.bytes_printer.specs.PrintsLaws.{◌⨾◌}
+use Rattle.bytes_printer.proofs.PrintsLaws.{◌⨾◌}
 use borrow.Author.Rules.{rules}
 use Rattle.script_reasons.proofs.figures.print_two.Statement.{statement}
 use Rattle.script_reasons.proofs.figures.print_two.Tie as tie

@@ -7,7 +7,7 @@ use borrow.Author.Rules.{rules}
 use lib.ListN.{take, drop, replicate}
 use Rattle.spec_dependencies.specs.Answer.{dependencies_of}
 use Rattle.spec_replay.specs.Answers.{dependency_lines}
-use Rattle.bytes_printer.specs.PrintsLaws.{prints_same}
+use Rattle.bytes_printer.proofs.PrintsLaws.{prints_same}
 use Rattle.projection_patch.specs.Meaning.{edition_of}
 use Rattle.script_replay.proofs.dependency_lines.depends_into.Statement.{statement}
 use Rattle.script_replay.proofs.dependency_lines.depends_into.Tie as tie

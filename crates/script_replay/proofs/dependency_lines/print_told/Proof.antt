@@ -1,5 +1,5 @@
 -- `script_replay::dependency_lines::print_told` meets its contract: the answer is printed, and the records from the lent numbers.
-use Rattle.spec_dependencies.specs.AnswerLaws.{records_fit}
+use Rattle.spec_dependencies.proofs.AnswerLaws.{records_fit}
 use Rattle.projection_patch.specs.Meaning.{edition_of}
 use borrow.Author.Rules.{rules}
 use Rattle.script_replay.proofs.dependency_lines.print_told.Statement.{statement}

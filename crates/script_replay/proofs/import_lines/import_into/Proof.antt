@@ -7,7 +7,7 @@ use lib.ListN.{length, take, drop, replicate, length-replicate}
 use lib.Seq.{length-take-le}
 use Rattle.spec_import.specs.Import.{import_terms}
 use Rattle.spec_replay.specs.Answers.{import_line}
-use Rattle.bytes_printer.specs.PrintsLaws.{prints_same}
+use Rattle.bytes_printer.proofs.PrintsLaws.{prints_same}
 use Rattle.projection_patch.specs.Meaning.{edition_of, envelope_of}
 use Rattle.script_replay.proofs.import_lines.import_into.Statement.{statement}
 use Rattle.script_replay.proofs.import_lines.import_into.Tie as tie

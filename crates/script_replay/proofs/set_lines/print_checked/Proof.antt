@@ -1,5 +1,5 @@
 -- `script_replay::set_lines::print_checked` meets its contract: the table has room for every record.
-use Rattle.spec_lists.specs.BytesLaws.{bytes_of}
+use Rattle.spec_lists.proofs.BytesLaws.{bytes_of}
 use Rattle.projection_patch.specs.Meaning.{edition_of}
 use borrow.Author.Rules.{rules}
 use Rattle.script_replay.proofs.set_lines.print_checked.Statement.{statement}

@@ -9,7 +9,7 @@ use Rattle.spec_import.specs.Import.{import_terms}
 use Rattle.spec_listing.specs.Listing.{listing}
 use Rattle.spec_replay.specs.Answers.{check_lines, conversion_line, dependency_lines, import_line}
 use Rattle.spec_replay.specs.Replay.{replay_line}
-use Rattle.bytes_printer.specs.PrintsLaws.{prints_same}
+use Rattle.bytes_printer.proofs.PrintsLaws.{prints_same}
 use Rattle.projection_patch.specs.Meaning.{envelope_of}
 use Rattle.script_parser.specs.Meaning.{with_set_of}
 use Rattle.script_parser.specs.declared.SetLine.{SetLine}

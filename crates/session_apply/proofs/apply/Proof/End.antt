@@ -41,7 +41,7 @@ use Rattle.shell_player.specs.declared.session.ShellSession.{ShellSession}
 use Rattle.shell_player.specs.declared.session.ShellTransition.{ShellTransition}
 use Rattle.shell_player.specs.Steps.{after_transition}
 use Rattle.session_apply.specs.Applied.{is_applied, Answers, StepsTo, Stepped, StepsInPlace}
-use Rattle.session_apply.specs.AppliedLaws.{in_place_next, in_place_same}
+use Rattle.session_apply.proofs.AppliedLaws.{in_place_next, in_place_same}
 use Rattle.hand_proof_steps.proofs.Walk.{guards, assigns_then, calls_plain, and_fact}
 use Rattle.shell_player.specs.contracts.session.ShellSession as T
 use Rattle.shell_player.proofs.session.ShellSession.TheLaws as T'

@@ -2,7 +2,7 @@
 use mathlib.Core.List.{List}
 use Prim.Native.Nat.{ℕ}
 use Rattle.spec_lists.specs.Bytes.{Bytes}
-use Rattle.spec_lists.specs.BytesLaws.{bytes_of}
+use Rattle.spec_lists.proofs.BytesLaws.{bytes_of}
 use Rattle.spec_patch.specs.Edition.{Edition}
 use Rattle.projection_patch.specs.Meaning.{edition_of}
 use Rattle.patch_walk.specs.StepsLaws.{opened_at, never_unopened}

@@ -53,7 +53,7 @@ use Rattle.active_projection_target_catalog.specs.declared.catalog.BindingPair.{
 use Rattle.active_projection_target_catalog.specs.Catalog.{no_pair}
 use Rattle.session_from_pairs.specs.declared.pairs.BindingAnchors.{BindingAnchors}
 use Rattle.session_from_pairs.specs.Pairs.{no_pairs, with_pair, anchors_of}
-use Rattle.session_from_pairs.specs.PairsLaws.{up_to_pair, starts, steps, all_copied}
+use Rattle.session_from_pairs.proofs.PairsLaws.{up_to_pair, starts, steps, all_copied}
 use Rattle.spec_patch.specs.Sizes.{anchors}
 use Rattle.hand_proof_steps.proofs.Walk.{calls_plain}
 use Rattle.active_projection_target_catalog.specs.contracts.catalog.BindingPair as Bp

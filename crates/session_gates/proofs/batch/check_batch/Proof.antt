@@ -1,7 +1,7 @@
 -- `check_batch` meets its contract: the preflight, then what the set must pass.
 use mathlib.Core.Path.{sym, ap, ◌∙◌}
 use Rattle.session_gates.specs.Gates.{gate_of}
-use Rattle.session_gates.specs.GatesLaws.{preflight_refused, preflight_passed}
+use Rattle.session_gates.proofs.GatesLaws.{preflight_refused, preflight_passed}
 use borrow.Author.Rules.{rules}
 use Rattle.session_gates.proofs.batch.check_batch.Statement.{statement}
 use Rattle.session_gates.proofs.batch.check_batch.Tie as tie

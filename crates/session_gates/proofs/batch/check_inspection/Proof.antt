@@ -2,7 +2,7 @@
 use mathlib.Core.Path.{sym, ap, ◌∙◌}
 use Rattle.spec_session.specs.Batch.{refuse}
 use Rattle.session_gates.specs.Gates.{gate_of, inspection_by}
-use Rattle.session_gates.specs.GatesLaws.{counts_refused, counts_passed}
+use Rattle.session_gates.proofs.GatesLaws.{counts_refused, counts_passed}
 use borrow.Author.Rules.{rules}
 use Rattle.session_gates.proofs.batch.check_inspection.Statement.{statement}
 use Rattle.session_gates.proofs.batch.check_inspection.Tie as tie

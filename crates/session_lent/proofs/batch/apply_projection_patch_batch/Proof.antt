@@ -3,7 +3,7 @@ use mathlib.Core.Path.{◌≡◌, refl, sym, ◌∙◌}
 use mathlib.Core.Bool.{Bool, true, ◌&&◌, false≢true}
 use lib.Dec.{eqb}
 use lib.ListN.{length}
-use Rattle.spec_lists.specs.ListLaws.{and_left, and_right}
+use Rattle.spec_lists.proofs.ListLaws.{and_left, and_right}
 use Rattle.panel_rows.specs.Rows.{length_bytes}
 use Rattle.session_lent.specs.LentSession.{anchors_shaped, half_shaped}
 use Rattle.session_lent.specs.BatchesLaws.{half_head}

@@ -3,7 +3,7 @@ use mathlib.Core.Path.{◌≡◌, refl, sym, ap, ◌∙◌}
 use mathlib.Core.Bool.{false≢true}
 use borrow.Author.Tests.{eq-eqb, eqb-true}
 use Rattle.spec_session.specs.Batch.{candidate}
-use Rattle.spec_session.specs.BatchLaws.{never_passes}
+use Rattle.spec_session.proofs.BatchLaws.{never_passes}
 use Rattle.session_gates.specs.Gates.{gate_of, check_counted}
 use Rattle.session_steps.specs.Answers.{rejected_row, unchanged_row}
 use Rattle.session_steps.specs.AnswersLaws.{same_rejection, change_row}

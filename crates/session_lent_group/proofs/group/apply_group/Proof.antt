@@ -5,8 +5,8 @@ use mathlib.Core.Bool.{true, false≢true}
 use mathlib.Core.List.{[]}
 use native.Mathlib.Omega.{arith}
 use lib.ListN.{length}
-use Rattle.spec_lists.specs.ListLaws.{unmapped, and_right}
-use Rattle.spec_lists.specs.ListLaws.{and_both}
+use Rattle.spec_lists.proofs.ListLaws.{unmapped, and_right}
+use Rattle.spec_lists.proofs.ListLaws.{and_both}
 use Rattle.spec_group.specs.Group.{group_batches}
 use Rattle.session_group.specs.GroupsLaws.{group_named}
 use Rattle.session_lent.specs.Head.{head_numbers}

@@ -2,7 +2,7 @@
 use mathlib.Core.Path.{refl, sym, ◌∙◌}
 use mathlib.Core.Bool.{true, false≢true}
 use mathlib.Core.List.{[]}
-use Rattle.spec_lists.specs.ListLaws.{and_left}
+use Rattle.spec_lists.proofs.ListLaws.{and_left}
 use Rattle.session_lent.specs.Halves.{anchors_with, half_with}
 use Rattle.session_lent_group.specs.LentGroups.{work_shaped, own_shaped}
 use borrow.Author.Rules.{rules}

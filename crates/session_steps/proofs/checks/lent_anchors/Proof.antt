@@ -3,7 +3,7 @@ use Prim.Native.Nat.{◌*◌}
 use mathlib.Core.Path.{◌≡◌}
 use native.Mathlib.Omega.{arith}
 use lib.ListN.{length}
-use Rattle.spec_lists.specs.ListLaws.{unmapped}
+use Rattle.spec_lists.proofs.ListLaws.{unmapped}
 use Rattle.spec_patch.specs.Sizes.{anchors}
 use Rattle.session_steps.specs.ChecksLaws.{lent_anchors}
 use borrow.Author.Rules.{rules}

@@ -5,12 +5,12 @@ use mathlib.Core.List.{List, []}
 use borrow.Author.Rules.{rules}
 use lib.ListN.{length}
 use Rattle.spec_lists.specs.Bytes.{Bytes}
-use Rattle.spec_lists.specs.BytesLaws.{bytes_of}
+use Rattle.spec_lists.proofs.BytesLaws.{bytes_of}
 use Rattle.spec_patch.specs.Sizes.{set_bytes}
 use Rattle.spec_patch.specs.Patch.{Patch}
 use Rattle.spec_patch.specs.Edition.{Edition}
 use Rattle.spec_patch.specs.Read.{patches, read_set}
-use Rattle.spec_patch.specs.SetLaws.{was_encoded}
+use Rattle.spec_patch.proofs.SetLaws.{was_encoded}
 use Rattle.spec_dependencies.specs.Dependencies.{SettlingWalk, settles, contradicts, settle_patches, dependencies_by, dependencies}
 use Rattle.spec_dependencies.specs.Settled.{Settled}
 use Rattle.spec_dependencies.specs.Answer.{answer_by}

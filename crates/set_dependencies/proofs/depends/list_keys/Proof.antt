@@ -11,8 +11,8 @@ use Rattle.spec_dependencies.specs.Settled.{Settled}
 use Rattle.spec_dependencies.specs.Dependencies.{settles, keys_at_start, dependencies_by}
 use Rattle.spec_dependencies.specs.Answer as spec
 use Rattle.spec_dependencies.specs.Answer.{pair_length, output_too_short, Answered, answered, answer_by}
-use Rattle.spec_dependencies.specs.AnswerLaws.{all_words_length}
-use Rattle.spec_dependencies.specs.CountLaws.{keys_length}
+use Rattle.spec_dependencies.proofs.AnswerLaws.{all_words_length}
+use Rattle.spec_dependencies.proofs.CountLaws.{keys_length}
 use Rattle.set_dependencies.specs.SettledRows.{SettledTable}
 use Rattle.set_dependencies.specs.SettlingLaws.{table_length}
 use Rattle.set_dependencies.specs.DependsAnswers.{depends_answer_to}

@@ -2,7 +2,7 @@
 use Prim.Native.Nat.{◌*◌}
 use native.Mathlib.Omega.{arith}
 use borrow.Author.Rules.{rules}
-use Rattle.spec_lists.specs.ListLaws.{lent_from_lem}
+use Rattle.spec_lists.proofs.ListLaws.{lent_from_lem}
 use Rattle.set_dependencies.specs.SettledRows.{row_width}
 use Rattle.set_dependencies.proofs.settled_rows.rows_from.Statement.{statement}
 use Rattle.set_dependencies.proofs.settled_rows.rows_from.Tie as tie

@@ -8,7 +8,7 @@ use Rattle.spec_patch.specs.Sizes.{anchors}
 use Rattle.active_projection_target_catalog.specs.declared.catalog.BindingPair.{BindingPair}
 use Rattle.session_from_pairs.specs.Pairs.{with_pair}
 use borrow.Author.Rules.{rules}
-use Rattle.spec_lists.specs.ListLaws.{unmapped}
+use Rattle.spec_lists.proofs.ListLaws.{unmapped}
 use Rattle.session_from_pairs.proofs.pairs.BindingAnchors.put.Statement.{statement}
 use Rattle.session_from_pairs.proofs.pairs.BindingAnchors.put.Tie as tie
 

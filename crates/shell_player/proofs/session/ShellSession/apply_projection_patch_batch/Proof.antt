@@ -10,7 +10,7 @@ use Rattle.spec_patch.specs.Read.{patches, read_set}
 use Rattle.spec_session.specs.Session.{at, Session}
 use Rattle.spec_session.specs.Lifecycle.{applied}
 use Rattle.spec_session.specs.Batch.{candidate, commit}
-use Rattle.spec_session.specs.BatchLaws.{never_passes}
+use Rattle.spec_session.proofs.BatchLaws.{never_passes}
 use Rattle.bytes_records.specs.Moves.{zeros}
 use Rattle.panel_rows.specs.Rows.{binding_bytes, availability_bytes, entry_bytes, length_bytes}
 use Rattle.local_projection_state.specs.declared.ProjectionCounts.{ProjectionCounts}

@@ -1,6 +1,6 @@
 -- `ShellSession::new` meets its contract.
 use Rattle.spec_projection.specs.Projection.{empty}
-use Rattle.spec_projection.specs.ValidLaws.{empty_valid}
+use Rattle.spec_projection.proofs.ValidLaws.{empty_valid}
 use Rattle.local_projection_state.specs.Stores.{stored_state}
 use Rattle.local_projection_state.specs.StoresLaws.{one_state, some_state}
 use Rattle.shell_player.specs.Steps.{new_state}

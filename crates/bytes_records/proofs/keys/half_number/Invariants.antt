@@ -1,0 +1,15 @@
+use mathlib.Core.Path.{◌≡◌}
+use Prim.Native.Nat.{◌-◌, ◌≤◌, ◌<◌}
+use native.Mathlib.Omega.{arith}
+use lib.ListN.{length, drop}
+use borrow.Author.Rules.{rules}
+use Rattle.spec_lists.specs.Bytes.{Bytes, number_of}
+use Rattle.spec_lists.proofs.BytesLaws.{bytes_of}
+use Rattle.bytes_records.proofs.Numbers.{number_start, number_turn, number_end, rest_small}
+use Rattle.bytes_records.proofs.keys.half_number.Given as goal
+
+abbrev pub invariant-loop-i : goal.invariant-loop-i
+invariant-loop-i l = (l.i ≤ length l.part) × (l.x ≡ number_of (drop l.i l.part))
+
+abbrev pub decreases-loop-i : goal.decreases-loop-i
+decreases-loop-i l = l.i

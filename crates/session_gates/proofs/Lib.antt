@@ -1,0 +1,4 @@
+pub mod CountedLaws
+pub mod ErasedLaws
+pub mod GatesLaws
+pub mod LentLaws

@@ -1,0 +1,2 @@
+pub mod ConversionInstances
+pub mod ConversionLaws

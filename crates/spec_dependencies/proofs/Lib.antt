@@ -1,0 +1,11 @@
+pub mod AnswerLaws
+pub mod CountLaws
+pub mod DependencyExamples
+pub mod DependencyInstances
+pub mod FirstContradictionLaws
+pub mod PresenceLaws
+pub mod RunLaws
+pub mod SettledLaws
+pub mod TableLaws
+pub mod Theorem
+pub mod WalkLaws

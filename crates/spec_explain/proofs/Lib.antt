@@ -1,0 +1,13 @@
+pub mod CallExamples
+pub mod CallReasonsLaws
+pub mod CapLaws
+pub mod ExplainExamples
+pub mod ExplainLaws
+pub mod FirstByteLaws
+pub mod LocateLaws
+pub mod OperationRuleLaws
+pub mod PlacedLaws
+pub mod ReadingExamples
+pub mod SteadyLaws
+pub mod SteadySetLaws
+pub mod WalkLaws

@@ -1,0 +1,4 @@
+pub mod LengthExamples
+pub mod LengthPremises
+pub mod LengthsAfter
+pub mod LengthsLaws

@@ -1,0 +1,4 @@
+pub mod BytesLaws
+pub mod ListLaws
+pub mod LookupLaws
+pub mod OrderLaws

@@ -1,0 +1,3 @@
+pub mod PageExamples
+pub mod PageLaws
+pub mod PagePremises

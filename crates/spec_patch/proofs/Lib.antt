@@ -1,0 +1,9 @@
+pub mod Codec
+pub mod CutLaws
+pub mod FitsLaws
+pub mod FormerLaws
+pub mod ReadLaws
+pub mod SetLaws
+pub mod StrictLaws
+pub mod TextLaws
+pub mod WriteLaws

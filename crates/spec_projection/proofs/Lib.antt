@@ -1,0 +1,16 @@
+pub mod ApplyExamples
+pub mod ApplyLaws
+pub mod CollectionLaws
+pub mod Determined
+pub mod EffectsLaws
+pub mod EntriesLaws
+pub mod FirstMatchLaws
+pub mod FoundLaws
+pub mod MapLaws
+pub mod MarkExamples
+pub mod MarkPremises
+pub mod MarksLaws
+pub mod OperationLaws
+pub mod RowMapLaws
+pub mod UnmarkedLaws
+pub mod ValidLaws

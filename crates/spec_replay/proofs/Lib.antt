@@ -1,0 +1,3 @@
+pub mod HexLaws
+pub mod ReplayExamples
+pub mod ReplayLaws
