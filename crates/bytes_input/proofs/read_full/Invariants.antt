@@ -1,7 +1,7 @@
 -- What stands before `done` is what was consumed; each turn but the last reads a byte or more.
 use Rattle.std.proofs.Common.{◌≡◌, ◌-◌, ◌≤◌, length, take}
 use Rattle.std.specs.Io.KnownBytes.{Consumes}
-use Rattle.full_reads.proofs.read_full.Given as goal
+use Rattle.bytes_input.proofs.read_full.Given as goal
 
 abbrev pub invariant-loop-done : goal.invariant-loop-done
 invariant-loop-done g l =
