@@ -385,6 +385,11 @@ class File:
                     self.turned_test = True
                     return "(ap not " + ".".join([var] + out) + ")"
                 whole = ".".join([var] + out)
+                if len(out) > 2 and out[1] == "ensures" and all(x == "1" for x in out[2:]):
+                    gives = self.f.gives_of(i, out)[len(out) - 2 :]
+                    base = ".".join([var] + out[:2])
+                    if len(gives) > 1:
+                        return "(" + ", ".join(f"{base}.{x}" for x in gives) + ")"
                 if out[-1] == "ensures" and len(out) > 1:
                     gives = self.f.gives_of(i, out)
                     if len(gives) > 1:
@@ -509,6 +514,11 @@ def by_clause(body, names):
         if more is None or more[0].strip():
             break
         parts = parts[:-1] + more[1]
+    if 1 < len(parts) < len(names):
+        rest = names[len(parts) - 1 :]
+        fields = "; ".join(f"{n} = {'search rules' if x == 'tt' else x}" for n, x in zip(names, parts[:-1]))
+        more = "; ".join(f"{n} = rest" + ".1" * k + ("" if k == len(rest) - 1 else ".0") for k, n in enumerate(rest))
+        return before + f"let rest = {parts[-1]} in record {{ {fields}; {more} }}"
     if len(parts) != len(names):
         return body
     return before + "record { " + "; ".join(f"{n} = {'search rules' if x == 'tt' else x}" for n, x in zip(names, parts)) + " }"
