@@ -14,8 +14,7 @@ use Rattle.patch_locate.specs.FieldsLaws.{score_is}
 use Rattle.patch_locate.specs.Positions.{stop_here}
 use Rattle.patch_locate.specs.declared.rules.ReadingRule.TheVariants as rules
 use borrow.Author.Rules.{rules}
-use Rattle.patch_locate.proofs.fields.score_behind.Statement.{statement}
-use Rattle.patch_locate.proofs.fields.score_behind.Tie as tie
+use Rattle.patch_locate.proofs.fields.score_behind.Goals as goal
 
 with_scores : (ed : Edition) (bs rest : List ℕ) → has_kind ed 5 ≡ true → by_row value_kind (score_row ed) bs 5 rest ≡ locate_score rest
 unfolding by_row score_row has_kind kinds added_kinds
@@ -27,20 +26,12 @@ unfolding by_row score_row has_kind kinds added_kinds
 without_scores v1 bs rest e = refl
 without_scores v2 bs rest e = absurd (let z : ◌≡◌ {A = ℕ} 0 1 = cc in omega arith)
 
-returns : tie.Need-returns
+pub returns-then-has_scores : goal.returns-then-has_scores
+returns-then-has_scores c =
+    c.byte_at_most.ensures
+    ∙ ap (located_answer (length c.args.part.now)) (sym (score_is (drop (c.args.at + 1) c.args.part.now)) ∙ sym (with_scores (edition_of c.args.edition) (drop c.args.at c.args.part.now) (drop (c.args.at + 1) c.args.part.now) (sym c.has_scores.ensures ∙ c.if-has_scores.true)))
+
+pub returns : goal.returns
 returns c =
-    let k = c.before.before in
-    let a = k.before.before.args in
-    c.byte-at-most.ensures
-    ∙ ap (located_answer (length a.part.now)) (sym (score_is (drop (a.at + 1) a.part.now)) ∙ sym (with_scores (edition_of a.edition) (drop a.at a.part.now) (drop (a.at + 1) a.part.now) (sym k.has-scores.ensures ∙ c.before.if1.true)))
-
-returns-2 : tie.Need-returns-2
-returns-2 c =
-    let k = c.before in
-    let a = k.before.before.args in
-    stop_here a.part.now a.at rules.ValueKind (omega arith)
-    ∙ ap (located_answer (length a.part.now)) (sym (without_scores (edition_of a.edition) (drop a.at a.part.now) (drop (a.at + 1) a.part.now) (sym k.has-scores.ensures ∙ c.if1.false)))
-
-pub score-behind-spec : {M : Type 1} → statement M
-score-behind-spec =
-    tie.close (tie.spec (λ c κs. search rules) (λ c. search rules) (λ c κs. search rules) returns returns-2)
+    stop_here c.args.part.now c.args.at rules.ValueKind (omega arith)
+    ∙ ap (located_answer (length c.args.part.now)) (sym (without_scores (edition_of c.args.edition) (drop c.args.at c.args.part.now) (drop (c.args.at + 1) c.args.part.now) (sym c.has_scores.ensures ∙ c.if-has_scores.false)))
