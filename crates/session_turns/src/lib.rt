@@ -22,7 +22,7 @@ pub struct SenderTurns {
     pub last: NamedSender,
 }
 
-#[derive(Drop)]
+#[derive(Clone, Copy)]
 pub enum SetUpRefusal {
     WrongSenderCount,
 }
@@ -50,7 +50,7 @@ pub struct TurnsSetUp {
     pub turns: SenderTurns,
 }
 
-#[derive(Drop)]
+#[derive(Clone, Copy)]
 pub enum RegisterRefusal {
     UnknownSender,
     AlreadyWaiting,
