@@ -19,7 +19,7 @@ returns-then-kind-eq1 c =
 pub returns-then-kind-eq2 : goal.returns-then-kind-eq2
 unfolding fields
 returns-then-kind-eq2 c =
-    let same = to_z-of_z (sfits_of {w = w64} c.type_inv.value.1.1.1.1.0.1) in
+    let same = to_z-of_z {w = w64} (search rules) in
     prints_same (ap (λ (y : ℤ). fields ((83 ∷ []) ∷ signed_decimal y ∷ [])) same ∙ ap fields (sym (signed_fields _ c.if-kind-eq2.true))) (c.print_letter-letter.ensures ⨾ c.print_field_i64-number.ensures ⨾ c.print_newline.ensures)
 
 pub returns-then-kind-eq4 : goal.returns-then-kind-eq4
