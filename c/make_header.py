@@ -107,7 +107,7 @@ def field_of(name, text):
 
 
 def structs_of(text):
-    for row in re.finditer(r"#\[repr\(C\)\]\npub struct (\w+) \{\n(.*?)\n\}", text, re.S):
+    for row in re.finditer(r"#\[repr\(C\)\]\n(?:#\[[^\n]*\]\n)*pub struct (\w+) \{\n(.*?)\n\}", text, re.S):
         body = "".join(field_of(name, kind) for name, kind in re.findall(r"pub (\w+): (.+),", row.group(2)))
         yield "\n%stypedef struct {\n%s} %s;\n" % (comment_before(text, row.start()), body, camel(row.group(1)))
 
@@ -121,7 +121,7 @@ def functions_of(text):
 
 
 def rule_names():
-    """The names of the rules 1 to 31, in the order that the law `word-at` is about."""
+    """The names of the rules 1 to 31, in the order that the law `word_at` is about."""
     table = re.search(r"^rule_words =\n(.*?)\[\]$", RULES.read_text(encoding="utf-8"), re.M | re.S).group(1)
     return re.findall(r'ascii "([^"]+)"', table)
 

@@ -44,7 +44,14 @@ def clauses(root):
                     asks = re.findall(r"(?m)^ *requires\*? *(\w*) *\{", head)
                     gives = re.findall(r"(?m)^ *ensures\*? *(\w*) *\{", head)
                     module = f[: -len(".rt")]
-                    found.setdefault((crate, m[1]), []).append((module, asks, gives))
+                    opened = head.find("(")
+                    depth, cut = 0, opened
+                    for cut in range(max(opened, 0), len(head)):
+                        depth += {"(": 1, "[": 1, "<": 1, ")": -1, "]": -1}.get(head[cut], 0)
+                        if depth == 0:
+                            break
+                    params = re.findall(r"(?:^|[(,]\s*)(?:mut\s+)?(\w+)\s*:(?!:)", head[opened:cut], re.M)
+                    found.setdefault((crate, m[1]), []).append((module, asks, gives, params))
     return found
 
 
@@ -54,7 +61,9 @@ class Function:
         self.known = known
         self.crate = crate
         parts = rel.replace("+", "").split(".")
+        self.last_params = []
         self.own = self.clauses_of("::".join([crate] + parts))
+        self.own_params = self.last_params
         places = rows["places"]
         self.index = {}
         self.new_place = rows["places_by_name"]
@@ -89,9 +98,9 @@ class Function:
         if len(those) > 1:
             near = [t for t in those if t[0] in parts[1:]] or those
             those = near
-        if not those or any(t[1:] != those[0][1:] for t in those):
+        if not those or any(t[1:3] != those[0][1:3] for t in those):
             return [], []
-        _, asks, gives = those[0]
+        _, asks, gives, self.last_params = those[0]
         return (asks if len(asks) > 1 else []), (gives if len(gives) > 1 else [])
 
     def named(self, names, rest):
@@ -110,6 +119,14 @@ class Function:
                 return rest
         return [names[n]] + rest[k:]
 
+    def gives_of(self, j, out):
+        callee = self.callee[j]
+        k = j
+        while callee is None and self.parent[k] is not None and out[0].startswith("in"):
+            k = self.parent[k]
+            callee = self.callee[k]
+        return self.clauses_of(callee or "")[1]
+
     def resolve(self, i, labels):
         found = self.resolve_plain(i, labels)
         if found is None or found[1] is None:
@@ -123,6 +140,9 @@ class Function:
                 callee = self.callee[k]
             asks, gives = self.clauses_of(callee or "")
             out = out[:2] + self.named(gives if out[1] == "ensures" else asks, out[2:])
+        numbered = re.fullmatch(r"t(\d+)", out[1]) if len(out) > 1 and out[0] == "args" else None
+        if numbered and out[1] not in self.own_params and int(numbered[1]) <= len(self.own_params):
+            out = ["args", self.own_params[int(numbered[1]) - 1]] + out[2:]
         if len(out) > 1 and out[0] == "requires":
             out = out[:1] + self.named(self.own[0], out[1:])
         return j, out
@@ -189,7 +209,7 @@ class Function:
             return i, out
         if best:
             return i, best[0]
-        return i, [{"pre": "requires"}.get(rest[0], rest[0])] + tail(rest[1:])
+        return i, [{"pre": "requires"}.get(rest[0], plain(rest[0]))] + tail(rest[1:])
 
 
 def tail(labels):
@@ -262,7 +282,6 @@ class File:
         self.turned_test = False
         self.first_place = {}
         self.place_functions = {}
-        self.place_lemmas = {}
 
     def place_types(self, text):
         def one(m):
@@ -282,8 +301,8 @@ class File:
         for _ in range(40):
             before = text
             for name, (steps, _) in self.place_functions.items():
-                text = re.sub(rf"\(\s*{re.escape(name)}\s+({NAME}(?:\.{NAME})*)\s*\)", lambda m: m[1] + steps, text)
-                text = re.sub(rf"(?<![\w.'-]){re.escape(name)}\s+({NAME}(?:\.{NAME})*)", lambda m: m[1] + steps, text)
+                text = re.sub(rf"\(\s*{re.escape(name)}\s+([A-Za-z_]{NAME[:-1]}*(?:\.{NAME})*)\s*\)", lambda m: m[1] + steps, text)
+                text = re.sub(rf"(?<![\w.'-]){re.escape(name)}\s+([A-Za-z_]{NAME[:-1]}*(?:\.{NAME})*)", lambda m: m[1] + steps, text)
             m = None
             for m in re.finditer(rf"let\s+({NAME})\s*=\s*({NAME}(?:\.{NAME})*)\s+in\s*", text):
                 if m[2].split(".")[0] in roots and re.search(r"\.", m[2]):
@@ -299,37 +318,6 @@ class File:
                 break
         return text
 
-    def inline(self, text, env):
-        """Writes out the lemmas over a place that are asked of an earlier one."""
-        for _ in range(40):
-            changed = False
-            for name, (place, var, sig, body, is_value) in self.place_lemmas.items():
-                for m in re.finditer(rf"(?<![\w.'-]){re.escape(name)}\s+(\(?)({NAME}(?:\.{NAME})*)(\)?)", text):
-                    root = m[2].split(".")[0]
-                    if root not in env:
-                        continue
-                    found = self.f.resolve(env[root][1], env[root][2] + m[2].split(".")[1:])
-                    if found is None or found[1] is not None or found[0] == env[root][1]:
-                        continue
-                    own = rf"(?<![\w.'-]){re.escape(var)}(?![\w'-])"
-                    filled = re.sub(own, lambda k: m[2], body).strip()
-                    if is_value:
-                        new = f"({filled})"
-                    else:
-                        typ = re.sub(own, lambda k: m[2], sig).strip()
-                        new = f"(let it : ({typ}) = {filled} in it)"
-                    if m[1] and not m[3]:
-                        continue
-                    end = m.end() - (1 if m[3] and not m[1] else 0)
-                    text = text[: m.start()] + new + text[end:]
-                    changed = True
-                    break
-                if changed:
-                    break
-            if not changed:
-                break
-        return text
-
     def asked(self, body, env, goal):
         """Gives each lemma over a place the record of that place."""
         for name, place in self.first_place.items():
@@ -341,7 +329,7 @@ class File:
                 if self.f.last_of(place) == self.f.last_of(env[root][1]):
                     new = var
                 else:
-                    new = f"(goal.at.{goal} {var}).{self.f.new_place[self.f.last_of(place)]}"
+                    new = f"(goal.at.{goal or self.f.new_place[self.f.last_of(env[root][1])]} {var}).{self.f.new_place[self.f.last_of(place)]}"
                 opened, closed = m[1] or "", m[3] or ""
                 if opened and closed:
                     opened = closed = ""
@@ -354,10 +342,7 @@ class File:
         """Writes the paths of body; env gives for a variable its place, or a path from one."""
         env = dict(env)
         body = self.expand(body, env)
-        if goal is None:
-            body = self.expand(self.inline(body, env), env)
-        else:
-            body = self.asked(body, env, goal)
+        body = self.asked(body, env, goal)
         for local, new in self.local_goal.items():
             if local != goal:
                 body = re.sub(rf"(?<![\w.'-]){re.escape(local)}(?![\w'-])", lambda m: new, body)
@@ -399,14 +384,21 @@ class File:
                 if len(out) > 1 and out[0].startswith("if-not-") and out[1] in ("true", "false") and not out[2:]:
                     self.turned_test = True
                     return "(ap not " + ".".join([var] + out) + ")"
-                return ".".join([var] + out)
+                whole = ".".join([var] + out)
+                if len(out) > 2 and out[1] == "ensures" and all(x == "1" for x in out[2:]):
+                    gives = self.f.gives_of(i, out)[len(out) - 2 :]
+                    base = ".".join([var] + out[:2])
+                    if len(gives) > 1:
+                        return "(" + ", ".join(f"{base}.{x}" for x in gives) + ")"
+                if out[-1] == "ensures" and len(out) > 1:
+                    gives = self.f.gives_of(i, out)
+                    if len(gives) > 1:
+                        return "(" + ", ".join(f"{whole}.{x}" for x in gives) + ")"
+                return whole
             if self.f.last_of(i) == self.f.last_of(place):
                 return var
             new = self.f.new_place[self.f.last_of(i)]
-            if goal is None:
-                self.left.append(f"place {new} of {m[0]} in a lemma")
-                return f"{m[0]}"
-            return f"(goal.at.{goal} {var}).{new}"
+            return f"(goal.at.{goal or self.f.new_place[self.f.last_of(place)]} {var}).{new}"
 
         return PATH.sub(one, text).replace("\x00", "")
 
@@ -444,7 +436,7 @@ class File:
                     positions[pos] = self.f.index[norm(pm[1])]
                 pos += 1
         sig = self.expand(sig, env_sig)
-        sig = self.place_types(self.paths(self.expand(self.inline(sig, env_sig), env_sig), env_sig, None))
+        sig = self.place_types(self.paths(self.asked(self.expand(sig, env_sig), env_sig, None), env_sig, None))
         out = lines[:start] + [sig]
         rest = "\n".join(lines[clause:])
         parts = re.split(rf"(?m)^(?={re.escape(name)}(?:\s|$))", rest)
@@ -522,6 +514,11 @@ def by_clause(body, names):
         if more is None or more[0].strip():
             break
         parts = parts[:-1] + more[1]
+    if 1 < len(parts) < len(names):
+        rest = names[len(parts) - 1 :]
+        fields = "; ".join(f"{n} = {'search rules' if x == 'tt' else x}" for n, x in zip(names, parts[:-1]))
+        more = "; ".join(f"{n} = rest" + ".1" * k + ("" if k == len(rest) - 1 else ".0") for k, n in enumerate(rest))
+        return before + f"let rest = {parts[-1]} in record {{ {fields}; {more} }}"
     if len(parts) != len(names):
         return body
     return before + "record { " + "; ".join(f"{n} = {'search rules' if x == 'tt' else x}" for n, x in zip(names, parts)) + " }"
@@ -590,12 +587,6 @@ def convert(crate, folder, function, text):
             if re.fullmatch(rf"{re.escape(m[6])}(\.before)*", chain):
                 file.place_functions[m[1]] = (chain[len(m[6]) :], o)
                 continue
-        m = re.match(rf"(?:pub |abbrev |unfoldable )*({NAME})\s*:\s*(?:{PLACE_TYPE}|\(({NAME})\s*:\s*{PLACE_TYPE}\s*\))\s*→(.*?)\n((?:unfolding[^\n]*\n)?)\1\s+({NAME})\s*=(.*)\Z", plain, re.S)
-        if m and norm(m[2] or m[5]) in f.index:
-            sig = m[7]
-            if m[4] and m[4] != m[9]:
-                sig = re.sub(rf"(?<![\w.'-]){re.escape(m[4])}(?![\w'-])", m[9], sig)
-            file.place_lemmas[m[1]] = (f.index[norm(m[2] or m[5])], m[9], sig, m[10], bool(re.match(r"(pub )?abbrev", plain)) and not m[4])
     others = [o for o in others if not any(o is k for _, k in file.place_functions.values())]
     for o in others:
         plain = "\n".join(l for l in o.split("\n") if not l.startswith("--"))

@@ -116,6 +116,6 @@ fn run(input: &mut [u8]) -> u64 {
 
 fn main(rt: HostRuntime) -> io::Result<()> {
     let mut input = [0u8; INPUT_BYTES];
-    let n = full_reads::read_full(&mut rt.reader(), &mut input)?;
+    let n = bytes_input::read_full(&mut rt.reader(), &mut input)?;
     rt.println(run(&mut input[..n]))
 }

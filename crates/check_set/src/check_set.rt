@@ -16,7 +16,7 @@ use projection_patch::patch::ProjectionPatchEdition;
 use projection_patch::read_values::ProjectionPatchReadFault;
 
 // Where the findings are: in the patch of an index from 0, or in the set.
-#[derive(Drop)]
+#[derive(Clone, Copy)]
 pub enum CheckPlace {
     Patch(usize),
     Set,

@@ -10,7 +10,7 @@ use mathlib.Core.Bool.{Bool, not}
 use mathlib.Core.List.{List, [], ◌∷◌}
 use seplogic.Ra.Ura.{Ura}
 use lib.Dec.{T}
-use mir.Syntax.{Name, Place, Opd as Operand, Rv as RValue, Body, skip, seq, assign, cond, call}
+use mir.Syntax.{Callee, Place, Opd as Operand, Rv as RValue, Body, skip, seq, assign, cond, call}
 use mir.Val.{Val, vbool}
 use base.Logic.{SProp, ent, sep, emp, via, emp∗, mono_l, fst∗, snd∗}
 use base.Fml.{ftrue}
@@ -45,17 +45,17 @@ module _ {M : Type 1} {𝓤 : Ura M} {𝓛 : Logic 𝓤} {K : Type 0} {Γ : List
   open 𝓛 use {H}
 
   module _ (R : RattleType) (vals : R.Denot → List Val) (tl : Tells R (Is R) vals) (Ens : R.Denot → SProp 𝓤) (φ : R.Denot → Type 0) (says-φ : (r : R.Denot) → ent 𝓤 (Ens r) (fact 𝓤 (φ r)))
-      (j : Item 𝓤) (Q : Val → SProp 𝓤) (same : (v : Val) → ent 𝓤 (Q v) (mean 𝓛 (later (some (λ (r : R.Denot). (j ⊛ ‵ (R.own r (v ∷ []))) ⊛ raw (Ens r)))))) where
+      (j : Item 𝓤) (Q : Val → SProp 𝓤) (same : (v : Val) → ent 𝓤 (Q v) (mean 𝓛 (later (some (λ (r : R.Denot). (j ⊛ ‵ (R.own_val r (v ∷ []))) ⊛ raw (Ens r)))))) where
     gave : K → (G : Val → Goal 𝓤 H) → ((v : Val) → Soaks (G v)) → ((r : R.Denot) → φ r → Is R r (vals r) → Seq K 𝓛 (j ∷ Γ) (G (only (vals r)))) → (v : Val) → Seq K 𝓛 (raw (Q v) ∷ Γ) (G v)
     gave t G soaks k v =
-        use1 𝓛 (later (some (λ (r : R.Denot). (j ⊛ ‵ (R.own r (v ∷ []))) ⊛ raw (Ens r)))) (same v) $ await t (soaks v) $ pick t (λ r. split t $ move t (1 ∷ []) $
+        use1 𝓛 (later (some (λ (r : R.Denot). (j ⊛ ‵ (R.own_val r (v ∷ []))) ⊛ raw (Ens r)))) (same v) $ await t (soaks v) $ pick t (λ r. split t $ move t (1 ∷ []) $
         use1 𝓛 (raw (fact 𝓤 (φ r))) (says-φ r) $ heard t (φ r) (λ e. split t $ move t (1 ∷ []) $ facts t R (Is R) (shows 𝓛 R) r (v ∷ []) (λ is.
         regoal t G (ap only (tl r (v ∷ []) is)) refl $ k r e (subst (λ (us : List Val). Is R r us) (tl r (v ∷ []) is) is))))
 
 module _ {M : Type 1} {𝓤 : Ura M} {𝓛 : Logic 𝓤} {K : Type 0} {Γ : List (Item 𝓤)} {C : Calls 𝓤 𝓛.H} {E : Env 𝓤 𝓛.H} where
   open 𝓛 use {H}
 
-  module _ (fm : FmC 𝓤 H 𝓛.laws C) {f : Name} {xs : List Operand} (c : Contract 𝓤) (met : Triple 𝓤 (C f) c) (x : c.Ghost) (pre : ent 𝓤 (emp 𝓤) (c.pre x)) where
+  module _ (fm : FmC 𝓤 H 𝓛.laws C) {f : Callee} {xs : List Operand} (c : Contract 𝓤) (met : Triple 𝓤 (C f) c) (x : c.Ghost) (pre : ent 𝓤 (emp 𝓤) (c.pre x)) where
     called : Opds K 𝓛 Γ E xs (c.args x) → (G : Val → Goal 𝓤 H) → ((v : Val) → Seq K 𝓛 (raw (c.post x v) ∷ Γ) (G v)) → ent 𝓤 (⋆ 𝓛 Γ) (H.⇛ (eval_opds 𝓤 H E xs (λ us. C f us (λ r. aim 𝓤 H (G r)))))
     called os G k =
         via 𝓤 (eval_opds 𝓤 H E xs (λ us. C f us (λ r. aim 𝓤 H (G r))))
@@ -70,16 +70,16 @@ module _ {M : Type 1} {𝓤 : Ura M} {𝓛 : Logic 𝓤} {K : Type 0} {Γ : List
   open 𝓛 use {H}
 
   module _ {p : Kit.Post 𝓤 H} {d : Place} where
-    pub calls_plain : K → FmC 𝓤 H 𝓛.laws C → {f : Name} {xs : List Operand} {rest : Body} (c : Contract 𝓤) → Triple 𝓤 (C f) c → (x : c.Ghost) → ent 𝓤 (emp 𝓤) (c.pre x) → Opds K 𝓛 Γ E xs (c.args x)
+    pub calls_plain : K → FmC 𝓤 H 𝓛.laws C → {f : Callee} {xs : List Operand} {rest : Body} (c : Contract 𝓤) → Triple 𝓤 (C f) c → (x : c.Ghost) → ent 𝓤 (emp 𝓤) (c.pre x) → Opds K 𝓛 Γ E xs (c.args x)
         → (R : RattleType) (vals : R.Denot → List Val) → Tells R (Is R) vals → (Ens : R.Denot → SProp 𝓤) (φ : R.Denot → Type 0) → ((r : R.Denot) → ent 𝓤 (Ens r) (fact 𝓤 (φ r)))
-        → ((v : Val) → ent 𝓤 (c.post x v) (mean 𝓛 (later (some (λ (r : R.Denot). (‵ ftrue ⊛ ‵ (R.own r (v ∷ []))) ⊛ raw (Ens r))))))
+        → ((v : Val) → ent 𝓤 (c.post x v) (mean 𝓛 (later (some (λ (r : R.Denot). (‵ ftrue ⊛ ‵ (R.own_val r (v ∷ []))) ⊛ raw (Ens r))))))
         → ((r : R.Denot) → φ r → Is R r (vals r) → Seq K 𝓛 Γ (lands C Λ E d (only (vals r)) rest p)) → Seq K 𝓛 Γ (runs C Λ E (seq (call f xs d) rest) p)
     calls_plain t fm {rest = rest} c met x pre os R vals tl Ens φ says-φ same k =
         record { prf = called fm c met x pre os (λ v. lands C Λ E d v rest p) (gave R vals tl Ens φ says-φ (‵ ftrue) (c.post x) same t (λ v. lands C Λ E d v rest p) (λ v. tt) (λ r e is. drop t $ k r e is)) }
 
-    pub calls_lent : K → FmC 𝓤 H 𝓛.laws C → {f : Name} {xs : List Operand} {rest : Body} (c : Contract 𝓤) → Triple 𝓤 (C f) c → (x : c.Ghost) (i j : Item 𝓤) → ent 𝓤 (mean 𝓛 i) (c.pre x) → Opds K 𝓛 (i ∷ Γ) E xs (c.args x)
+    pub calls_lent : K → FmC 𝓤 H 𝓛.laws C → {f : Callee} {xs : List Operand} {rest : Body} (c : Contract 𝓤) → Triple 𝓤 (C f) c → (x : c.Ghost) (i j : Item 𝓤) → ent 𝓤 (mean 𝓛 i) (c.pre x) → Opds K 𝓛 (i ∷ Γ) E xs (c.args x)
         → (R : RattleType) (vals : R.Denot → List Val) → Tells R (Is R) vals → (Ens : R.Denot → SProp 𝓤) (φ : R.Denot → Type 0) → ((r : R.Denot) → ent 𝓤 (Ens r) (fact 𝓤 (φ r)))
-        → ((v : Val) → ent 𝓤 (c.post x v) (mean 𝓛 (later (some (λ (r : R.Denot). (j ⊛ ‵ (R.own r (v ∷ []))) ⊛ raw (Ens r))))))
+        → ((v : Val) → ent 𝓤 (c.post x v) (mean 𝓛 (later (some (λ (r : R.Denot). (j ⊛ ‵ (R.own_val r (v ∷ []))) ⊛ raw (Ens r))))))
         → ((r : R.Denot) → φ r → Is R r (vals r) → Seq K 𝓛 (j ∷ Γ) (lands C Λ E d (only (vals r)) rest p)) → Seq K 𝓛 (i ∷ Γ) (runs C Λ E (seq (call f xs d) rest) p)
     calls_lent t fm {rest = rest} c met x i j pre os R vals tl Ens φ says-φ same k =
         calls_from t fm i (c.args x) (c.post x) (via 𝓤 (c.pre x) pre (met x)) os (gave R vals tl Ens φ says-φ j (c.post x) same t (λ v. lands C Λ E d v rest p) (λ v. tt) k)

@@ -15,7 +15,7 @@ pub fn list_input<R: Input + Print>(rt: &R, edition: ProjectionPatchEdition) -> 
 {
     // One byte more than a set may have is enough to tell that there are too many.
     let mut input = [0u8; ProjectionPatchSet::BYTES + 1];
-    let n = full_reads::read_full(&mut rt.reader(), &mut input)?;
+    let n = bytes_input::read_full(&mut rt.reader(), &mut input)?;
     let mut lines = [0u8; LISTING_BYTES];
     if let Written::Wrote(len) = listing_panel::write_listing(&input[0..n], edition, &mut lines) {
         rt.write_all(&lines[0..len])?;

@@ -18,7 +18,7 @@ pub struct ProjectionCounts {
 
 // Each table has its rows in stored order, and zeros in every unused place. The lengths have no count: none of them is 0, so that the first
 // row that is all zeros ends them.
-#[derive(Drop)]
+#[derive(Clone, Copy)]
 pub struct LocalProjectionState {
     pub counts: ProjectionCounts,
     pub bindings: [u8; LocalProjectionState::BINDING_BYTES],

@@ -1,5 +1,5 @@
 // The rules that end the reading of a set, and what a locator answers.
-#[derive(Drop)]
+#[derive(Clone, Copy)]
 pub enum ReadingRule {
     SetTooLong,
     WrongHeading,
@@ -19,7 +19,7 @@ pub enum ReadingRule {
 }
 
 // In no patch; in the patch of an index, before its operations; in an operation of a patch.
-#[derive(Drop)]
+#[derive(Clone, Copy)]
 pub enum Inside {
     Outside,
     Patch(usize),

@@ -37,7 +37,7 @@ impl ProjectionPatchReadFault {
     }
 }
 
-#[derive(Drop)]
+#[derive(Clone, Copy)]
 pub enum OptionalNumber {
     None,
     Some(u64),

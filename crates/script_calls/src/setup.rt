@@ -8,7 +8,7 @@ ghost use Rattle.script_calls.specs.SetsUp.{kept_count, anchored_replay, SetsUp}
 use active_projection_target_catalog::catalog::{ActiveProjectionTargetCatalog, BindingPair};
 use session_lifecycle::state::ShellLifecycleLimits;
 
-#[derive(Drop)]
+#[derive(Clone, Copy)]
 pub struct ReplaySetup {
     pub id: u64,
     pub limits: ShellLifecycleLimits,

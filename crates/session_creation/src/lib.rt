@@ -14,7 +14,7 @@ use session_steps::checks::ActivatedShellSessionContext;
 use shell_player::session::ShellSession;
 
 // Why there is no session.
-#[derive(Drop)]
+#[derive(Clone, Copy)]
 pub enum CreationRefusal {
     AnchorsOverCapacity,
 }
@@ -31,7 +31,7 @@ impl CreationRefusal {
     }
 }
 
-#[derive(Drop)]
+#[derive(Clone, Copy)]
 pub enum CreationAnswer {
     Created,
     Refused(CreationRefusal),

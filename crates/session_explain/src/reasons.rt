@@ -7,7 +7,7 @@ use patch_locate::rules::{Inside, ReadingRule};
 use projection_patch::read_values::OptionalNumber;
 
 // Which of the declared figures is over its limit.
-#[derive(Drop)]
+#[derive(Clone, Copy)]
 pub enum DeclaredLimit {
     Patches,
     Bytes,
@@ -15,7 +15,7 @@ pub enum DeclaredLimit {
 }
 
 // The rules by which an operation fails.
-#[derive(Drop)]
+#[derive(Clone, Copy)]
 pub enum OperationRule {
     KeyPresent,
     KeyAbsent,
@@ -26,7 +26,7 @@ pub enum OperationRule {
 }
 
 // In the order of a batch's steps. Patches and operations are told by their index from 0.
-#[derive(Drop)]
+#[derive(Clone, Copy)]
 pub enum BatchReason {
     ForeignSession { named: u64, own: u64 },
     SessionClosed,

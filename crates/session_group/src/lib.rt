@@ -19,7 +19,7 @@ use session_steps::answers::{
 use shell_player::session::ShellSession;
 
 // One batch of a group, and how many bytes its set has.
-#[derive(Drop)]
+#[derive(Clone, Copy)]
 pub struct GroupBatch {
     pub envelope: OrderedProjectionPatchBatchEnvelope,
     pub declared_target_reference_count: u64,

@@ -6,7 +6,7 @@ use session_group::GroupBatch;
 use session_steps::answers::ProjectionPatchApplicationResult;
 
 // A half by its place among those that are lent: the session's own, or one of the two to work in.
-#[derive(Drop)]
+#[derive(Clone, Copy)]
 pub enum LentHalf {
     Own,
     First,
@@ -14,7 +14,7 @@ pub enum LentHalf {
 }
 
 // The batches that are left: those from a place on, and the byte at which the set of the next one begins.
-#[derive(Drop)]
+#[derive(Clone, Copy)]
 pub struct GroupLeft {
     pub batches: [GroupBatch; GroupBatch::MOST],
     pub count: usize,

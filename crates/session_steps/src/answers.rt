@@ -13,7 +13,7 @@ use session_lifecycle::diagnostics;
 use session_lifecycle::diagnostics::{ShellDiagnostics, ShellRefusal};
 use session_lifecycle::state::ProjectionReplayCursor;
 
-#[derive(Drop)]
+#[derive(Clone, Copy)]
 pub enum ProjectionPatchApplicationDisposition {
     Applied,
     NoChange,

@@ -22,7 +22,7 @@ pub struct SenderTurns {
     pub last: NamedSender,
 }
 
-#[derive(Drop)]
+#[derive(Clone, Copy)]
 pub enum SetUpRefusal {
     WrongSenderCount,
 }
@@ -37,7 +37,7 @@ impl SetUpRefusal {
     }
 }
 
-#[derive(Drop)]
+#[derive(Clone, Copy)]
 pub enum SetUpAnswer {
     Made,
     Refused(SetUpRefusal),
@@ -50,7 +50,7 @@ pub struct TurnsSetUp {
     pub turns: SenderTurns,
 }
 
-#[derive(Drop)]
+#[derive(Clone, Copy)]
 pub enum RegisterRefusal {
     UnknownSender,
     AlreadyWaiting,
@@ -67,7 +67,7 @@ impl RegisterRefusal {
     }
 }
 
-#[derive(Drop)]
+#[derive(Clone, Copy)]
 pub enum RegisterAnswer {
     Registered,
     Refused(RegisterRefusal),
@@ -80,7 +80,7 @@ pub struct Registration {
 }
 
 // Whose turn it is, with the number for its batch.
-#[derive(Drop)]
+#[derive(Clone, Copy)]
 pub enum TurnAnswer {
     Nobody,
     Turn { sender: usize, number: u64 },

@@ -13,7 +13,7 @@ use session_lifecycle::state::{ProjectionReplayCursor, ShellLifecycle, ShellLoca
 use session_steps::checks::ActivatedShellSessionContext;
 use session_steps::states;
 
-#[derive(Drop)]
+#[derive(Clone, Copy)]
 pub struct ShellSession {
     pub context: ActivatedShellSessionContext,
     pub state: ShellLocalState,

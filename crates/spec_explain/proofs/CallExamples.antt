@@ -125,6 +125,6 @@ import_named (some r) = (import_number (import_refusal r), import_word r)
 -- in the order above, and a set that would be too long
 pub imports_named : map import_named (map (λ (x : ImportExample). x.reason) import_reason_examples ++ (some (set_over 32769) ∷ [])) ≡
     (15, ascii "line-fields") ∷ (15, ascii "line-key") ∷ (15, ascii "line-not-utf8") ∷ (12, ascii "line-text-length") ∷ (12, ascii "line-text-characters") ∷ (12, ascii "line-count")
-    ∷ (11, ascii "findings") ∷ (14, ascii "output-too-short") ∷ (0, []) ∷ (12, ascii "set_too_long_lem") ∷ []
+    ∷ (11, ascii "findings") ∷ (14, ascii "output-too-short") ∷ (0, []) ∷ (12, ascii "set-too-long") ∷ []
 unfolding import_number
 imports_named = refl

@@ -149,8 +149,8 @@ pub reasons_named : map (λ (x : ReasonExample). named x.reason) reason_examples
     (1, ascii "foreign-session") ∷ (2, ascii "closed") ∷ (4, ascii "declared-patches") ∷ (4, ascii "declared-bytes") ∷ (4, ascii "declared-patches-and-bytes")
     ∷ (10, ascii "bytes-left") ∷ (11, ascii "findings") ∷ (11, ascii "findings") ∷ (5, ascii "counts-differ") ∷ (5, ascii "counts-differ") ∷ (4, ascii "references")
     ∷ (6, ascii "unknown-target") ∷ (6, ascii "unknown-target") ∷ (7, ascii "cursor") ∷ (7, ascii "cursor")
-    ∷ (8, ascii "key_present_lem") ∷ (8, ascii "key-absent") ∷ (8, ascii "neighbour_absent_lem") ∷ (8, ascii "key-absent") ∷ (8, ascii "neighbour_absent_lem")
-    ∷ (9, ascii "bindings-full") ∷ (9, ascii "availabilities-full") ∷ (9, ascii "entries-full") ∷ (8, ascii "neighbour_absent_lem") ∷ (8, ascii "key_present_lem")
+    ∷ (8, ascii "key-present") ∷ (8, ascii "key-absent") ∷ (8, ascii "neighbour-absent") ∷ (8, ascii "key-absent") ∷ (8, ascii "neighbour-absent")
+    ∷ (9, ascii "bindings-full") ∷ (9, ascii "availabilities-full") ∷ (9, ascii "entries-full") ∷ (8, ascii "neighbour-absent") ∷ (8, ascii "key-present")
     ∷ (0, []) ∷ (0, []) ∷ []
 reasons_named = refl
 

@@ -112,12 +112,12 @@ named_reading (some u) = (fault_number (rule_fault u.rule), reading_word u.rule)
 
 -- of the examples above, in their order
 pub readings_named : map (λ (x : ReadingExample). named_reading x.stops) reading_examples ≡
-    (12, ascii "set_too_long_lem") ∷ (10, ascii "heading") ∷ (10, ascii "heading") ∷ (10, ascii "heading")
+    (12, ascii "set-too-long") ∷ (10, ascii "heading") ∷ (10, ascii "heading") ∷ (10, ascii "heading")
     ∷ (10, ascii "too-few-bytes") ∷ (10, ascii "too-few-bytes") ∷ (10, ascii "too-few-bytes") ∷ (12, ascii "patch-count") ∷ (10, ascii "bytes-left") ∷ (10, ascii "bytes-left")
     ∷ (10, ascii "too-few-bytes") ∷ (10, ascii "too-few-bytes") ∷ (10, ascii "optional") ∷ (12, ascii "operation-count") ∷ (12, ascii "operation-count")
     ∷ (10, ascii "too-few-bytes") ∷ (10, ascii "operation-tag") ∷ (10, ascii "too-few-bytes") ∷ (10, ascii "availability") ∷ (10, ascii "optional") ∷ (10, ascii "too-few-bytes")
     ∷ (10, ascii "value-kind") ∷ (10, ascii "value-kind") ∷ (10, ascii "quad") ∷ (10, ascii "score")
-    ∷ (10, ascii "too-few-bytes") ∷ (10, ascii "too-few-bytes") ∷ (12, ascii "text-length") ∷ (10, ascii "text_not_utf8") ∷ (12, ascii "text-characters")
+    ∷ (10, ascii "too-few-bytes") ∷ (10, ascii "too-few-bytes") ∷ (12, ascii "text-length") ∷ (10, ascii "text-not-utf8") ∷ (12, ascii "text-characters")
     ∷ (10, ascii "operation-tag") ∷ (10, ascii "operation-tag") ∷ (10, ascii "operation-tag") ∷ []
 unfolding fault_number
 readings_named = refl

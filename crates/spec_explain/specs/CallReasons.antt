@@ -136,7 +136,7 @@ import_refusal (no_import_room needed room) = imports.output_too_short
 
 abbrev pub import_word : ImportReason → List ℕ
 import_word (bad_line b) = line_word b.rule
-import_word (set_over n) = ascii "set_too_long_lem"
+import_word (set_over n) = ascii "set-too-long"
 import_word (patch_findings place n f) = ascii "findings"
 import_word (no_import_room needed room) = ascii "output-too-short"
 

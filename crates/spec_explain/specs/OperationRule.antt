@@ -24,9 +24,9 @@ operation_fault entries_full = projection_full
 
 -- the word of each rule
 abbrev pub operation_word : OperationRule → List ℕ
-operation_word key_present = ascii "key_present_lem"
+operation_word key_present = ascii "key-present"
 operation_word key_absent = ascii "key-absent"
-operation_word neighbour_absent = ascii "neighbour_absent_lem"
+operation_word neighbour_absent = ascii "neighbour-absent"
 operation_word bindings_full = ascii "bindings-full"
 operation_word availabilities_full = ascii "availabilities-full"
 operation_word entries_full = ascii "entries-full"

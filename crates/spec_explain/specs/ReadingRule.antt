@@ -27,7 +27,7 @@ rule_fault bytes_left = malformed
 
 -- the word of each rule
 abbrev pub reading_word : ReadingRule → List ℕ
-reading_word set_too_long = ascii "set_too_long_lem"
+reading_word set_too_long = ascii "set-too-long"
 reading_word wrong_heading = ascii "heading"
 reading_word too_few_bytes = ascii "too-few-bytes"
 reading_word operation_tag = ascii "operation-tag"
@@ -36,7 +36,7 @@ reading_word optional_tag = ascii "optional"
 reading_word availability_tag = ascii "availability"
 reading_word quad_tag = ascii "quad"
 reading_word score_range = ascii "score"
-reading_word not_utf8 = ascii "text_not_utf8"
+reading_word not_utf8 = ascii "text-not-utf8"
 reading_word patch_count = ascii "patch-count"
 reading_word operation_count_lem = ascii "operation-count"
 reading_word text_length = ascii "text-length"

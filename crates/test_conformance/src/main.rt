@@ -56,7 +56,7 @@ fn read_path(rt: &impl Files, path: &[u8], bytes: &mut [u8]) -> io::Result<usize
         return Err(io::Error::from(io::ErrorKind::InvalidInput));
     };
     let mut file = fs::open(rt, path)?;
-    full_reads::read_full(&mut file, bytes)
+    bytes_input::read_full(&mut file, bytes)
 }
 
 fn read_file(rt: &impl Files, name: &[u8], ending: &[u8], bytes: &mut [u8]) -> FileRead
@@ -217,7 +217,11 @@ fn run_index(
     run_cases(rt, &index[0..len], script, answers, &mut out)
 }
 
-fn run_both(rt: &(impl Files + Print), script: &mut [u8], answers: &mut [u8]) -> io::Result<()> {
+fn run_both(
+    rt: &(impl Files + Print),
+    script: &mut [u8; SCRIPT_BYTES],
+    answers: &mut [u8; ANSWERS_BYTES],
+) -> io::Result<()> {
     run_index(rt, b"index", script, answers)?;
     run_index(rt, b"rust_index", script, answers)
 }

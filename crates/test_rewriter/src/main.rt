@@ -98,8 +98,8 @@ fn rewrite_lines(rt: &impl Print, input: &[u8]) -> io::Result<()> {
     Ok(())
 }
 
-fn run(rt: &(impl Input + Print), input: &mut [u8]) -> io::Result<()> {
-    let n = full_reads::read_full(&mut rt.reader(), input)?;
+fn run(rt: &(impl Input + Print), input: &mut [u8; INPUT_BYTES]) -> io::Result<()> {
+    let n = bytes_input::read_full(&mut rt.reader(), input)?;
     rewrite_lines(rt, &input[0..n])
 }
 

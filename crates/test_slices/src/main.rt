@@ -17,7 +17,7 @@ const BYTES: usize = 32769;
 const ITEMS: usize = 1000;
 
 fn run(rt: &(impl Input + Print), list: u32, places: usize, item: &mut [u8]) -> io::Result<()> {
-    full_reads::read_full(&mut rt.reader(), item)?;
+    bytes_input::read_full(&mut rt.reader(), item)?;
     match list {
         1 => writes::write(rt, item, &writes::texts(), places),
         2 => writes::write(rt, item, &writes::wide_texts(), places),
@@ -29,7 +29,7 @@ fn run(rt: &(impl Input + Print), list: u32, places: usize, item: &mut [u8]) -> 
 fn next_item(rt: &(impl Input + Print)) -> io::Result<bool> {
     let mut lengths = [0u8; 12];
     let mut item = [0u8; BYTES];
-    if full_reads::read_full(&mut rt.reader(), &mut lengths)? < 12 {
+    if bytes_input::read_full(&mut rt.reader(), &mut lengths)? < 12 {
         return Ok(false);
     }
     let ReadU32::Read(list) = bytes_wire::read_u32_at(&lengths, 0) else {

@@ -34,7 +34,7 @@ also-read : (c : Start) (r : Written) (o : List ℕ)
     → let w = patch_set_bytes (edition_of c.args.edition) c.args.texts.now c.args.set in
     (r ≡ written_at c.args.out.now 0 w) × (o ≡ output_at c.args.out.now 0 w)
     → (r ≡ written_at c.args.out.now 0 w) × ((o ≡ output_at c.args.out.now 0 w) × ((n : ℕ) → r ≡ Wrote n → read_set (edition_of c.args.edition) (take n o) ≡ patches (list_of c.args.texts.now c.args.set)))
-also-read c r o h = (h.0, (h.1, written_read (edition_of c.args.edition) c.args.texts.now c.args.set (record { machine = _; known = c.well-formed.0 }) c.args.out.now r o h.0 h.1))
+also-read c r o h = (h.0, (h.1, written_read (edition_of c.args.edition) c.args.texts.now c.args.set (record { machine = _; known = c.well_formed.0 }) c.args.out.now r o h.0 h.1))
 
 abbrev ed : In-Within → Edition
 ed e = edition_of e.args.edition

@@ -14,9 +14,6 @@ use Rattle.patch_writer.proofs.Verdict.{heads_refused, HeadsWithin, heads_within
 use Rattle.patch_writer.proofs.survey.survey_set.Goals as goal
 use Rattle.patch_writer.proofs.survey.survey_set.Goals.{In-Within, In-Within-survey_operations, Start}
 
-arrays : (c : Start) → Arrays c.args.set
-arrays c = record { patches = search (rules, unmapped); operations = search (rules, unmapped) }
-
 abbrev ed : In-Within → Edition
 ed k = edition_of k.args.edition
 
@@ -34,8 +31,7 @@ few k = k.if-patch_count-gt-PATCHES.false
 
 small : (k : In-Within-survey_operations) → k.in-Within.bytes + k.in-Within-survey_operations.rest ≤ 69 * set_patches + (31 + text_bytes) * set_places
 small k =
-    let =.before.before.before.before.before.before k.before.before.before.before.before.before.before.before.before.before.before in
-    small_sum (edition_of start.args.edition) start.args.texts.now start.args.set _ _ _ _ ((let it : (k.args.set.patch_count ≤ set_patches) = k.if-patch_count-gt-PATCHES.false in it)) k.if-operations-gt-PLACES.false ((let it : (HeadsWithin (heads k.args.set) ((k.in-Within.operations)) k.in-Within.bytes) = heads_within _ _ _ (sym k.survey_heads.ensures ∙ k.in-Within.is) in it)) (passed k) (arrays start)
+    small_sum (edition_of k.args.edition) k.args.texts.now k.args.set _ _ _ _ ((let it : (k.args.set.patch_count ≤ set_patches) = k.if-patch_count-gt-PATCHES.false in it)) k.if-operations-gt-PLACES.false ((let it : (HeadsWithin (heads k.args.set) ((k.in-Within.operations)) k.in-Within.bytes) = heads_within _ _ _ (sym k.survey_heads.ensures ∙ k.in-Within.is) in it)) (passed k) ((let it : (Arrays k.args.set) = record { patches = search (rules, unmapped); operations = search (rules, unmapped) } in it))
 
 pub returns-then-patch_count-gt-PATCHES : goal.returns-then-patch_count-gt-PATCHES
 returns-then-patch_count-gt-PATCHES c = sym (many_patches (edition_of c.args.edition) c.args.texts.now c.args.set c.if-patch_count-gt-PATCHES.true)

@@ -1,0 +1,23 @@
+-- `patch_locate::fields::text_at` meets its contract: the length, then the text.
+use mathlib.Core.Path.{◌∙◌}
+use native.Mathlib.Omega.{arith}
+use Rattle.projection_patch.proofs.At.{NumberAt, u32_at, u32_short}
+use Rattle.patch_locate.specs.TextPositions.{text_behind, length_lacking}
+use borrow.Author.Rules.{rules}
+use Rattle.patch_locate.proofs.fields.text_at.Goals as goal
+use Rattle.patch_locate.proofs.fields.text_at.Goals.{In-Read}
+
+got : (c : In-Read) → NumberAt c.args.part.now c.args.at 4 c.in-Read.len
+got c =
+    u32_at c.args.part.now c.args.at c.in-Read.len c.read_u32_at.result c.read_u32_at.ensures c.in-Read.is
+
+pub text_from-requires : goal.text_from-requires
+text_from-requires c = omega (arith, (got c).room)
+
+pub returns-in-Read : goal.returns-in-Read
+returns-in-Read c =
+    c.text_from.ensures ∙ text_behind c.args.part.now c.args.at _ (got (goal.at.returns-in-Read c).In-Read).is
+
+pub returns-in-Short : goal.returns-in-Short
+returns-in-Short c =
+    c.stop_at.ensures ∙ length_lacking c.args.part.now c.args.at (u32_short c.args.part.now c.args.at c.read_u32_at.result c.read_u32_at.ensures c.in-Short.is)
