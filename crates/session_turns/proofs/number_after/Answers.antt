@@ -1,0 +1,19 @@
+-- `number_after` meets its contract.
+use borrow.Author.Rules.{rules}
+use borrow.Author.Tests.{lt-ltb, le-ltb}
+use Rattle.spec_patch.specs.Sizes.{largest_u64}
+use Rattle.spec_turns.specs.Turns.{number_after}
+use Rattle.session_lifecycle.specs.Meaning.{cursor_of}
+use Rattle.session_turns.proofs.number_after.Goals as goal
+
+pub returns-then-last-lt18446744073709551615 : goal.returns-then-last-lt18446744073709551615
+unfolding number_after cursor_of
+returns-then-last-lt18446744073709551615 c = rw (c.in-At.is, lt-ltb c.in-At.last largest_u64 c.if-last-lt18446744073709551615.true)
+
+pub returns-in-Uninitialized : goal.returns-in-Uninitialized
+unfolding number_after cursor_of
+returns-in-Uninitialized c = rw c.in-Uninitialized.is
+
+pub returns-else-last-lt18446744073709551615 : goal.returns-else-last-lt18446744073709551615
+unfolding number_after cursor_of
+returns-else-last-lt18446744073709551615 c = rw (c.in-At.is, le-ltb c.in-At.last largest_u64 c.if-last-lt18446744073709551615.false)
