@@ -16,8 +16,7 @@ use Rattle.check_findings.specs.InsertFindingsLaws.{Inserted, inserted_then}
 use Rattle.check_set.specs.Listed.{head_findings}
 use Rattle.check_set.specs.ListedLaws.{listed_patch}
 use borrow.Author.Rules.{rules}
-use Rattle.check_set.proofs.list_patch.list_patch.Statement.{statement}
-use Rattle.check_set.proofs.list_patch.list_patch.Tie as tie
+use Rattle.check_set.proofs.list_patch.list_patch.Goals as goal
 
 -- both lists are the patch's
 list_is : (p : Patch) (head : ProjectionPatch) (id : ℕ) → head ≡ head_to (head_of p) → id ≡ p.envelope.id
@@ -37,30 +36,20 @@ findings_of p head id placed same before middle after first last heads operation
     let list = list_is p head id placed same in
     (both.0 ∙ ap (λ (l : List Finding). (inserted_all l 0 before).0) list, both.1 ∙ ap (λ (l : List Finding). (inserted_all l 0 before).1) list)
 
-returns : tie.Need-returns
+pub returns-then-start-le-FEW : goal.returns-then-start-le-FEW
+returns-then-start-le-FEW c =
+    record {
+      listed = λ p ps placed same here.
+          let told = c.list_operations.ensures.listed p.operations ps here in
+          (findings_of p c.args.head c.args.start.patch_id placed same _ _ _ _ _ (c.list_head-first.ensures.counted, c.list_head-first.ensures.numbers) told.0, told.1);
+      patches = c.list_operations.ensures.patches;
+    }
+
+pub returns : goal.returns
 returns c =
-    let call = c.before.before.before.before in
-    let first = call.before.before.before.before.before.before.before.before in
-    let a = first.before.before.before.before.args in (
-      λ p ps placed same here.
-          let told = call.list-operations.ensures.0 p.operations ps here in
-          (findings_of p a.head a.start.patch_id placed same _ _ _ _ _ first.list-head.ensures told.0, told.1),
-      call.list-operations.ensures.1,
-    )
-
-returns-2 : tie.Need-returns-2
-returns-2 c =
-    let call = c.before.before.before.before in
-    let first = call.before.before.before.before.before.before.before.before in
-    let a = first.before.before.before.before.args in (
-      λ p ps placed same here.
-          let told = call.list-operations2.ensures.0 p.operations ps here in
-          (findings_of p a.head a.start.patch_id placed same _ _ _ _ _ first.list-head.ensures told.0, told.1),
-      call.list-operations2.ensures.1,
-    )
-
-pub list-patch-spec : {M : Type 1} → statement M
-list-patch-spec =
-    tie.close
-    (tie.spec (λ c κs. search rules) (λ c. search rules) (λ c. search rules) (λ c κs. search rules) (λ c. search rules) returns
-    (λ c. search rules) (λ c. search rules) (λ c κs. search rules) (λ c. search rules) returns-2)
+    record {
+      listed = λ p ps placed same here.
+          let told = c.list_operations-2.ensures.listed p.operations ps here in
+          (findings_of p c.args.head c.args.start.patch_id placed same _ _ _ _ _ (c.list_head-first.ensures.counted, c.list_head-first.ensures.numbers) told.0, told.1);
+      patches = c.list_operations-2.ensures.patches;
+    }
