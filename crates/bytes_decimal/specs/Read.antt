@@ -1,7 +1,7 @@
 -- What reading answers, and the steps of reading.
-use Rattle.std.specs.Prelude.{ℕ, ◌+◌, ◌-◌, ◌*◌, ◌^◌, ◌&&◌, List, ltb, ℤ}
+use Rattle.std.specs.Prelude.{ℕ, ◌+◌, ◌-◌, ◌*◌, ◌^◌, ◌&&◌, List, ltb, ℤ, if◌then◌else◌}
 use Rattle.std.proofs.Math.Option.{Option, none, some}
-use Rattle.spec_lists.specs.Lists.{if◌then◌else◌, all}
+use Rattle.spec_lists.specs.Lists.{all}
 use Rattle.spec_decimal.specs.Decimal.{is_digit, number_with}
 use Rattle.bytes_decimal.specs.declared.ReadU64.{ReadU64}
 use Rattle.bytes_decimal.specs.declared.ReadU64.TheVariants as U64

@@ -1,7 +1,7 @@
 -- What decoding answers and writes, and the steps of decoding.
-use Rattle.std.specs.Prelude.{ℕ, ◌+◌, ◌-◌, ◌*◌, ◌%◌, Bool, ◌&&◌, ◌||◌, List, [], ◌∷◌, leb, eqb, length}
+use Rattle.std.specs.Prelude.{ℕ, ◌+◌, ◌-◌, ◌*◌, ◌%◌, Bool, ◌&&◌, ◌||◌, List, [], ◌∷◌, leb, eqb, length, if◌then◌else◌}
 use Rattle.std.proofs.Math.Option.{Option, none, some}
-use Rattle.spec_lists.specs.Lists.{if◌then◌else◌, between, all}
+use Rattle.spec_lists.specs.Lists.{between, all}
 use Rattle.spec_decimal.specs.Decimal.{is_digit}
 use Rattle.bytes_wire.specs.Write.{overwrite}
 use Rattle.bytes_hex.specs.declared.Decoded.{Decoded}

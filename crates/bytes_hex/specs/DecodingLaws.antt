@@ -1,8 +1,8 @@
 -- Pairs of digits as the steps read them, and what a caller knows of decoded bytes.
-use Rattle.std.specs.Prelude.{ℕ, zero, suc, ◌+◌, ◌-◌, ◌*◌, ◌/◌, ◌%◌, ◌≤◌, ◌<◌, ◌≡◌, refl, Bool, true, false, ◌&&◌, List, [], ◌∷◌, leb, eqb, length, get_or, take}
+use Rattle.std.specs.Prelude.{ℕ, zero, suc, ◌+◌, ◌-◌, ◌*◌, ◌/◌, ◌%◌, ◌≤◌, ◌<◌, ◌≡◌, refl, Bool, true, false, ◌&&◌, List, [], ◌∷◌, leb, eqb, length, get_or, take, if◌then◌else◌}
 use Rattle.std.proofs.Common.{sym, ap, ◌∙◌, arith, le-leb, leb-true}
 use Rattle.std.proofs.Math.Option.{Option, none, some}
-use Rattle.spec_lists.specs.Lists.{if◌then◌else◌, all, equal_lists}
+use Rattle.spec_lists.specs.Lists.{all, equal_lists}
 use Rattle.spec_lists.proofs.ListLaws.{test_cases}
 use Rattle.spec_decimal.specs.Decimal.{is_digit}
 use Rattle.spec_replay.specs.Hex.{hex_digit, hex_byte, cons, hex_pairs, read_hex}

@@ -1,6 +1,5 @@
 -- Printing bytes at a position of a slice: as many of them as there is room for.
-use Rattle.std.specs.Prelude.{ℕ, ◌+◌, ◌-◌, ◌≤◌, ◌≡◌, List, ◌∷◌, ◌++◌, leb, length, take, drop}
-use Rattle.spec_lists.specs.Lists.{if◌then◌else◌}
+use Rattle.std.specs.Prelude.{ℕ, ◌+◌, ◌-◌, ◌≤◌, ◌≡◌, List, ◌∷◌, ◌++◌, leb, length, take, drop, if◌then◌else◌}
 use Rattle.bytes_printer.specs.declared.Printed.{Printed}
 use Rattle.bytes_printer.specs.declared.Printed.TheVariants.{Next, NoRoom}
 

@@ -10,7 +10,7 @@ use lib.ListN.{length, take, drop, get_or, length-take, length-drop, drop_of_len
 use lib.Seq.{take-take, take-add, drop_at, drop-drop}
 use borrow.Author.Tests.{ltb-true, ltb-false, eqb-true}
 use borrow.Rule.Slice.PartMut.{mid_of}
-use Rattle.spec_lists.specs.Lists.{if◌then◌else◌}
+use Rattle.std.specs.Prelude.{if◌then◌else◌}
 use Rattle.spec_lists.proofs.ListLaws.{and_left}
 use Rattle.spec_lists.specs.Order.{lex_less}
 use Rattle.bytes_records.specs.Positions.{first_index}

@@ -1,6 +1,5 @@
 -- The little-endian numbers that a row begins with, and how one key of numbers stands to another.
-use Rattle.std.specs.Prelude.{ℕ, List, [], ◌∷◌, take, drop}
-use Rattle.spec_lists.specs.Lists.{if◌then◌else◌}
+use Rattle.std.specs.Prelude.{ℕ, List, [], ◌∷◌, take, drop, if◌then◌else◌}
 use Rattle.spec_lists.specs.Bytes.{number_of}
 use Rattle.spec_lists.specs.Order.{lex_less}
 use Rattle.bytes_records.specs.declared.keys.Order.{Order}

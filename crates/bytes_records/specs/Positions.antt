@@ -1,6 +1,5 @@
 -- Positions in a list: what it is to insert, remove and replace there, and to look for the first element that passes a test.
-use Rattle.std.specs.Prelude.{ℕ, zero, suc, ◌+◌, Bool, List, [], ◌∷◌, ◌++◌, take, drop}
-use Rattle.spec_lists.specs.Lists.{if◌then◌else◌}
+use Rattle.std.specs.Prelude.{ℕ, zero, suc, ◌+◌, Bool, List, [], ◌∷◌, ◌++◌, take, drop, if◌then◌else◌}
 
 -- a before the element at i, or last where i is the length
 abbrev pub insert_at : {A : Type 0} → ℕ → A → List A → List A

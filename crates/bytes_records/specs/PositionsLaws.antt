@@ -2,14 +2,14 @@
 use Prim.Native.Nat.{ℕ, zero, suc, ◌+◌, ◌≤◌, ◌<◌}
 use Rattle.std.proofs.Math.Path.{◌≡◌, refl, ap}
 use Rattle.std.proofs.Common.{sym, ◌∙◌, ltb-true, ltb-false, length-append, take-append-drop}
-use Rattle.std.specs.Prelude.{Bool, ◌||◌, ltb, take, drop, get_or}
+use Rattle.std.specs.Prelude.{Bool, ◌||◌, ltb, take, drop, get_or, if◌then◌else◌}
 use Rattle.std.proofs.Math.Bool.{true, false}
 use Rattle.std.proofs.lemmas.Bool.{false≢true}
 use mathlib.Core.List.{List, [], ◌∷◌, map, map-append}
 use Rattle.std.proofs.Math.Numerals.{add-one}
 use native.Mathlib.Omega.{arith}
 use Rattle.std.proofs.Math.ListN.{length}
-use Rattle.spec_lists.specs.Lists.{if◌then◌else◌, any, All}
+use Rattle.spec_lists.specs.Lists.{any, All}
 use Rattle.spec_lists.proofs.ListLaws.{map_take, map_drop}
 use Rattle.bytes_records.specs.Positions.{insert_at, remove_at, replace_at, first_index}
 

@@ -1,6 +1,6 @@
 -- Searches in a list: for the first element that passes a test, and for the place of a key.
-use Rattle.std.specs.Prelude.{ℕ, zero, suc, ◌≤◌, ◌<◌, ◌+◌, Bool, ◌&&◌, List, [], ◌∷◌, ltb, eqb, length, take, drop, get_or}
-use Rattle.spec_lists.specs.Lists.{if◌then◌else◌, All}
+use Rattle.std.specs.Prelude.{ℕ, zero, suc, ◌≤◌, ◌<◌, ◌+◌, Bool, ◌&&◌, List, [], ◌∷◌, ltb, eqb, length, take, drop, get_or, if◌then◌else◌}
+use Rattle.spec_lists.specs.Lists.{All}
 use Rattle.spec_lists.specs.Bytes.{number_of}
 use Rattle.spec_lists.specs.Order.{lex_less}
 use Rattle.bytes_records.specs.Positions.{insert_at, replace_at, first_index}

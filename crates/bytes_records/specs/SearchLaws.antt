@@ -1,7 +1,7 @@
 -- Laws of searches: what an answer says, under a map, and how a place serves `upsert`.
 use Prim.Native.Nat.{ℕ, zero, suc, ◌-◌, ◌≤◌, ◌<◌, ◌+◌}
 use Rattle.std.proofs.Math.Path.{◌≡◌, refl, ap}
-use Rattle.std.specs.Prelude.{Bool, get_or}
+use Rattle.std.specs.Prelude.{Bool, get_or, if◌then◌else◌}
 use Rattle.std.proofs.Math.Bool.{true, false}
 use mathlib.Core.List.{List, [], ◌∷◌, map}
 use Rattle.std.proofs.Math.Numerals.{add-one}
@@ -10,7 +10,7 @@ use Rattle.std.proofs.Math.Dec.{ltb}
 use Rattle.std.proofs.Math.ListN.{length}
 use Rattle.std.proofs.lemmas.List.{length-map}
 use borrow.Author.Tests.{lt-ltb, le-ltb, ltb-true, ltb-false}
-use Rattle.spec_lists.specs.Lists.{if◌then◌else◌, any, All}
+use Rattle.spec_lists.specs.Lists.{any, All}
 use Rattle.spec_lists.proofs.ListLaws.{all_map, all_member, get_or_member}
 use Rattle.spec_lists.specs.Bytes.{number_of}
 use Rattle.spec_lists.specs.Order.{lex_less, upsert}

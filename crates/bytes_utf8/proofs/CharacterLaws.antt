@@ -9,7 +9,7 @@ use lib.Dec.{leb}
 use lib.ListN.{length, drop, get_or, replicate, length-drop, length-replicate}
 use lib.Seq.{drop-cons, drop-nil, drop-drop, get_or-drop}
 use borrow.Author.Tests.{le-leb}
-use Rattle.spec_lists.specs.Lists.{if◌then◌else◌}
+use Rattle.std.specs.Prelude.{if◌then◌else◌}
 use Rattle.spec_lists.proofs.ListLaws.{and_left, and_right, test_cases}
 use Rattle.spec_text.specs.Syntax.{Range, tail, inside, sequences, After, expects, refused, lead, advance, is_utf8_after, is_utf8, characters}
 use Rattle.spec_text.proofs.SyntaxLaws.{refused_stays}

@@ -1,7 +1,6 @@
 -- The character that a text begins with, rows of bytes below 0x80, and how far a text was read.
-use Rattle.std.specs.Prelude.{ℕ, zero, suc, ◌+◌, ◌*◌, ◌≤◌, ◌<◌, ◌≡◌, Bool, true, false, ◌&&◌, List, [], ◌∷◌, length, get_or, drop}
+use Rattle.std.specs.Prelude.{ℕ, zero, suc, ◌+◌, ◌*◌, ◌≤◌, ◌<◌, ◌≡◌, Bool, true, false, ◌&&◌, List, [], ◌∷◌, length, get_or, drop, if◌then◌else◌}
 use Rattle.std.specs.Int.Bits.{bit_and}
-use Rattle.spec_lists.specs.Lists.{if◌then◌else◌}
 use Rattle.spec_text.specs.Syntax.{Range, inside, sequences, After, expects, refused, lead, is_utf8, characters}
 
 -- The octets begin with one in each of the ranges.

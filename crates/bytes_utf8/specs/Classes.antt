@@ -1,6 +1,5 @@
 -- The classes of bytes, the table of them, and what the syntax allows after a byte of each class.
-use Rattle.std.specs.Prelude.{ℕ, ◌-◌, ◌≤◌, ◌<◌, ◌≡◌, List, [], ◌∷◌, eqb, ltb, get_or, replicate}
-use Rattle.spec_lists.specs.Lists.{if◌then◌else◌}
+use Rattle.std.specs.Prelude.{ℕ, ◌-◌, ◌≤◌, ◌<◌, ◌≡◌, List, [], ◌∷◌, eqb, ltb, get_or, replicate, if◌then◌else◌}
 use Rattle.spec_text.specs.Syntax.{Range, ◌⋯◌, tail, After, expects, refused}
 
 -- The class of a byte. Class 11 is of the bytes that stand in no sequence: 0xc0, 0xc1 and from 0xf5 on.

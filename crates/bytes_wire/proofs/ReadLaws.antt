@@ -1,5 +1,5 @@
 -- What an answer says of the bytes, once for every width; and that reading gives back what was written.
-use Rattle.std.specs.Prelude.{ℕ, ◌+◌, ◌-◌, ◌^◌, ◌≤◌, ◌<◌, Bool, List, ◌++◌, ℤ, length, take, drop}
+use Rattle.std.specs.Prelude.{ℕ, ◌+◌, ◌-◌, ◌^◌, ◌≤◌, ◌<◌, Bool, List, ◌++◌, ℤ, length, take, drop, if◌then◌else◌}
 use Rattle.std.proofs.Math.Path.{◌≡◌, refl}
 use Rattle.std.proofs.Common.{sym, ap₂, ◌∙◌, arith, length-append, take-append-drop, take_at, drop-drop, length-take-le, to_z}
 use Rattle.std.proofs.Math.Bool.{true, false}
@@ -8,7 +8,6 @@ use borrow.Author.Tests.{leb-true, leb-false, le-leb}
 use Rattle.std.proofs.Math.Dec.{leb}
 use Rattle.std.proofs.Math.ListN.{length-drop}
 use Rattle.std.specs.Int.{w64}
-use Rattle.spec_lists.specs.Lists.{if◌then◌else◌}
 use Rattle.spec_lists.specs.Bytes.{Bytes, little_endian, number_of}
 use Rattle.spec_lists.proofs.BytesLaws.{bytes_take, bytes_drop, length_little_endian, number_of_lt, number_of_little_endian, little_endian_number_of}
 use Rattle.bytes_wire.specs.Read.{first_number, first_signed}

@@ -1,9 +1,8 @@
 -- What reading a number answers: 01, 'Canonical bytes': all numbers are little-endian.
-use Rattle.std.specs.Prelude.{ℕ, List, leb, ℤ, length, take}
+use Rattle.std.specs.Prelude.{ℕ, List, leb, ℤ, length, take, if◌then◌else◌}
 use Rattle.std.proofs.Math.Option.{Option, none, some, map}
 use Rattle.std.specs.Int.{w64}
 use Rattle.std.proofs.Common.{to_z}
-use Rattle.spec_lists.specs.Lists.{if◌then◌else◌}
 use Rattle.spec_lists.specs.Bytes.{number_of}
 use Rattle.bytes_wire.specs.declared.ReadU8.{ReadU8}
 use Rattle.bytes_wire.specs.declared.ReadU8.TheVariants as U8

@@ -1,6 +1,5 @@
 -- What writing leaves: bytes in place of as many others, or, where they do not fit, the list as it was.
-use Rattle.std.specs.Prelude.{ℕ, ◌+◌, Bool, List, ◌++◌, leb, length, take, drop}
-use Rattle.spec_lists.specs.Lists.{if◌then◌else◌}
+use Rattle.std.specs.Prelude.{ℕ, ◌+◌, Bool, List, ◌++◌, leb, length, take, drop, if◌then◌else◌}
 
 -- a list has n elements from index at on
 unfoldable pub has_room : List ℕ → ℕ → ℕ → Bool

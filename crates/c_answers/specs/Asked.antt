@@ -1,7 +1,6 @@
 -- What is asked for by numbers: commands, editions, the envelope of a patch.
-use Rattle.std.specs.Prelude.{ℕ, Bool, ◌||◌, eqb}
+use Rattle.std.specs.Prelude.{ℕ, Bool, ◌||◌, eqb, if◌then◌else◌}
 use Rattle.std.proofs.Math.Option.{Option, none, some}
-use Rattle.spec_lists.specs.Lists.{if◌then◌else◌}
 use Rattle.spec_patch.specs.Edition.{Edition, v1, v2}
 use Rattle.spec_patch.specs.Patch.{Envelope}
 use Rattle.spec_session.specs.Lifecycle.{Stimulus, activate, suspend, resume, close, no_op}

@@ -1,7 +1,7 @@
 -- Which operations have a target that is none of the lent anchors: 01, step 7 of a batch.
-use Rattle.std.specs.Prelude.{ℕ, ◌+◌, Bool, eqb}
+use Rattle.std.specs.Prelude.{ℕ, ◌+◌, Bool, eqb, if◌then◌else◌}
 use mathlib.Core.List.{List, [], ◌∷◌, flat_map}
-use Rattle.spec_lists.specs.Lists.{if◌then◌else◌, any}
+use Rattle.spec_lists.specs.Lists.{any}
 use Rattle.spec_patch.specs.Patch.{Operation}
 use Rattle.spec_checks.specs.Target.{MutationTarget}
 use Rattle.check_targets.specs.Targets.{made_of, target_numbers}

@@ -1,8 +1,7 @@
 -- What the first pass answers, as definitions of what spec_patch reads and spec_checks finds.
-use Rattle.std.specs.Prelude.{ℕ, Bool, false, ◌||◌, ltb, length}
+use Rattle.std.specs.Prelude.{ℕ, Bool, false, ◌||◌, ltb, length, if◌then◌else◌}
 use mathlib.Core.List.{List, [], ◌++◌, flat_map}
 use Rattle.std.proofs.Math.Option.{Option, none, some}
-use Rattle.spec_lists.specs.Lists.{if◌then◌else◌}
 use Rattle.spec_patch.specs.Patch.{Operation, Envelope, Patch}
 use Rattle.spec_patch.specs.Reader.{Result, fault_number}
 use Rattle.spec_patch.specs.Read.{SetReading, patches, fault}

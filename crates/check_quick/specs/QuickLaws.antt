@@ -1,9 +1,9 @@
 -- What is told element by element is whether spec_checks finds anything.
-use Rattle.std.specs.Prelude.{ℕ, ◌+◌, ◌≤◌, ◌<◌, ◌≡◌, refl, Bool, true, false, ◌||◌, eqb, length}
+use Rattle.std.specs.Prelude.{ℕ, ◌+◌, ◌≤◌, ◌<◌, ◌≡◌, refl, Bool, true, false, ◌||◌, eqb, length, if◌then◌else◌}
 use Rattle.std.proofs.Common.{sym, ap, ap₂, ◌∙◌, arith, ne_eqb}
 use mathlib.Core.List.{List, [], ◌∷◌, ◌++◌, map, flat_map, reverse, reverse-append}
 use Rattle.std.proofs.Math.Option.{Option, none, some}
-use Rattle.spec_lists.specs.Lists.{if◌then◌else◌, any, is_empty}
+use Rattle.spec_lists.specs.Lists.{any, is_empty}
 use Rattle.spec_lists.proofs.ListLaws.{any_reverse, empty_count}
 use Rattle.spec_lists.specs.Order.{upsert, sort_unique}
 use Rattle.spec_lists.proofs.OrderLaws.{upsert_cases}

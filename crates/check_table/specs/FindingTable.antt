@@ -1,6 +1,5 @@
 -- Findings as three numbers each of a list, in order and without repeats: 01, 'Patch checks'.
-use Rattle.std.specs.Prelude.{ℕ, ◌+◌, ◌*◌, ◌≡◌, Bool, List, [], ◌∷◌, ◌++◌, leb, length, take, drop}
-use Rattle.spec_lists.specs.Lists.{if◌then◌else◌}
+use Rattle.std.specs.Prelude.{ℕ, ◌+◌, ◌*◌, ◌≡◌, Bool, List, [], ◌∷◌, ◌++◌, leb, length, take, drop, if◌then◌else◌}
 use Rattle.spec_lists.specs.Order.{upsert, sort_unique}
 use Rattle.spec_checks.specs.Finding as model
 use Rattle.spec_checks.specs.Answer.{record_length, finding_words}

@@ -1,12 +1,11 @@
 -- Laws of a table of findings: records and their numbers, and where a finding goes.
-use Rattle.std.specs.Prelude.{ℕ, zero, suc, ◌+◌, ◌*◌, ◌-◌, ◌≤◌, ◌<◌, ◌≡◌, refl, Bool, true, false, get_or, set}
+use Rattle.std.specs.Prelude.{ℕ, zero, suc, ◌+◌, ◌*◌, ◌-◌, ◌≤◌, ◌<◌, ◌≡◌, refl, Bool, true, false, get_or, set, if◌then◌else◌}
 use Rattle.std.proofs.Math.Path.{sym, ap}
 use Rattle.std.proofs.Common.{◌∙◌, add-zero, arith, length-take, length-drop, take_at, drop-drop, le-leb}
 use mathlib.Core.List.{List, [], ◌∷◌, ◌++◌, append_assoc, flat_map}
 use Rattle.std.proofs.Math.ListN.{length, take, drop, take-append-drop, length-append}
 use borrow.Rule.Slice.PartMut.{mid_of, put_mid}
 use Rattle.std.proofs.lemmas.Bool.{lt-leb}
-use Rattle.spec_lists.specs.Lists.{if◌then◌else◌}
 use Rattle.spec_lists.proofs.ListLaws.{flat_map_append}
 use Rattle.spec_lists.specs.Order.{lex_less, upsert, sort_unique}
 use Rattle.spec_lists.proofs.OrderLaws.{lex_less_total, sort_unique_length, sort_unique_snoc}

@@ -1,8 +1,8 @@
 -- Every listing is within its size.
-use Rattle.std.specs.Prelude.{ℕ, suc, ◌+◌, ◌*◌, ◌^◌, ◌≤◌, ◌<◌, ◌≡◌, refl, Bool, true, false, length}
+use Rattle.std.specs.Prelude.{ℕ, suc, ◌+◌, ◌*◌, ◌^◌, ◌≤◌, ◌<◌, ◌≡◌, refl, Bool, true, false, length, if◌then◌else◌}
 use Rattle.std.proofs.Common.{ap, zero-mul, suc-mul, arith, length-append}
 use mathlib.Core.List.{List, [], ◌∷◌, ◌++◌, flat_map}
-use Rattle.spec_lists.specs.Lists.{if◌then◌else◌, All, is_empty}
+use Rattle.spec_lists.specs.Lists.{All, is_empty}
 use Rattle.spec_lists.specs.Bytes.{Bytes}
 use Rattle.spec_patch.specs.Patch.{Patch, Availability, available, unavailable, hidden, pending, stale, Value, quad, signed, text, unsigned, score}
 use Rattle.spec_patch.specs.Edition.{Edition}

@@ -1,8 +1,7 @@
 -- The fields of a value that was looked up.
-use Rattle.std.specs.Prelude.{ℕ, ◌-◌, ◌≡◌, refl, List, [], ◌∷◌, eqb, length, take}
+use Rattle.std.specs.Prelude.{ℕ, ◌-◌, ◌≡◌, refl, List, [], ◌∷◌, eqb, length, take, if◌then◌else◌}
 use Rattle.std.proofs.Common.{ap, arith, take_at}
 use borrow.Author.Tests.{eq-eqb, ne_eqb}
-use Rattle.spec_lists.specs.Lists.{if◌then◌else◌}
 use Rattle.spec_patch.specs.Sizes.{text_bytes}
 use Rattle.spec_patch.specs.Patch.{Value, quad, signed, text, unsigned, score}
 use Rattle.spec_decimal.specs.Decimal.{decimal, signed_decimal}

@@ -1,7 +1,6 @@
 -- Lines that were printed are written whole, or not at all.
-use Rattle.std.specs.Prelude.{ℕ, ◌+◌, ◌-◌, ◌≤◌, ◌≡◌, refl, Bool, true, false, List, length, take, drop}
+use Rattle.std.specs.Prelude.{ℕ, ◌+◌, ◌-◌, ◌≤◌, ◌≡◌, refl, Bool, true, false, List, length, take, drop, if◌then◌else◌}
 use Rattle.std.proofs.Common.{sym, ap, ◌∙◌, arith, length-take}
-use Rattle.spec_lists.specs.Lists.{if◌then◌else◌}
 use Rattle.bytes_wire.specs.Write.{has_room, overwrite}
 use Rattle.bytes_wire.proofs.WriteLaws.{room_true, overwrite_refused, drop_past_overwrite}
 use Rattle.bytes_printer.specs.declared.Printed.{Printed}

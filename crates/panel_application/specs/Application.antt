@@ -1,6 +1,6 @@
 -- What a set does to a projection without a session, and what the code answers: 01's readings, patch checks and operations, in this order.
-use Rattle.std.specs.Prelude.{ℕ, ◌≡◌, List}
-use Rattle.spec_lists.specs.Lists.{if◌then◌else◌, is_empty}
+use Rattle.std.specs.Prelude.{ℕ, ◌≡◌, List, if◌then◌else◌}
+use Rattle.spec_lists.specs.Lists.{is_empty}
 use Rattle.spec_patch.specs.Edition.{Edition}
 use Rattle.spec_patch.specs.Reader.{fault_number}
 use Rattle.spec_patch.specs.Read.{SetReading, patches, fault, read_set}

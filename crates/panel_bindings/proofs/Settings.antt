@@ -4,7 +4,8 @@ use mathlib.Core.Path.{◌≡◌, ap, ◌∙◌, subst}
 use mathlib.Core.List.{List, [], ◌∷◌, map}
 use lib.ListN.{length}
 use lib.Dec.{leb}
-use Rattle.spec_lists.specs.Lists.{if◌then◌else◌, All}
+use Rattle.std.specs.Prelude.{if◌then◌else◌}
+use Rattle.spec_lists.specs.Lists.{All}
 use Rattle.spec_lists.proofs.ListLaws.{all_map}
 use Rattle.spec_lists.specs.Order.{upsert}
 use Rattle.spec_patch.specs.Sizes.{projection_bindings, projection_availabilities}

@@ -1,11 +1,10 @@
 -- Tables that store a projection are as long as they should be, a plan of it starts from them, and what is written of a plan stores what the
 -- plan stands for.
-use Rattle.std.specs.Prelude.{ℕ, ◌+◌, ◌-◌, ◌*◌, ◌≤◌, ◌≡◌, refl, Bool, true, false, ◌&&◌, List, [], ◌∷◌, ◌++◌, map, leb, eqb, length, take, drop}
+use Rattle.std.specs.Prelude.{ℕ, ◌+◌, ◌-◌, ◌*◌, ◌≤◌, ◌≡◌, refl, Bool, true, false, ◌&&◌, List, [], ◌∷◌, ◌++◌, map, leb, eqb, length, take, drop, if◌then◌else◌}
 use Rattle.std.proofs.Common.{sym, ap, ap₂, ◌∙◌, subst, map-id, zero-mul, mul-le-mul_right, arith, le-leb, leb-true, eq-eqb, eqb-true, take-append-drop, length-take-le}
 use Rattle.std.proofs.lemmas.List.{length-map, length-replicate}
 use Rattle.spec_lists.proofs.ListLaws.{and_left, and_right}
 use Rattle.spec_patch.specs.Sizes.{set_bytes, projection_bindings, projection_availabilities, projection_entries}
-use Rattle.spec_lists.specs.Lists.{if◌then◌else◌}
 use Rattle.spec_patch.specs.Edition.{Edition}
 use Rattle.projection_patch.specs.ReadAnswers.{answer, anywhere}
 use Rattle.projection_patch.specs.declared.read_values.ProjectionPatchReadFault.TheVariants.{OverCapacity}

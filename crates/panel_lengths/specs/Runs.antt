@@ -1,6 +1,5 @@
 -- How often each collection stands in a list that has equal ones side by side, as rows of a plan have them.
-use Rattle.std.specs.Prelude.{ℕ, zero, suc, ◌*◌, max, Bool, ◌&&◌, List, [], ◌∷◌, ◌++◌, map, leb, eqb, length, drop}
-use Rattle.spec_lists.specs.Lists.{if◌then◌else◌}
+use Rattle.std.specs.Prelude.{ℕ, zero, suc, ◌*◌, max, Bool, ◌&&◌, List, [], ◌∷◌, ◌++◌, map, leb, eqb, length, drop, if◌then◌else◌}
 use Rattle.spec_patch.specs.Sizes.{projection_entries}
 use Rattle.spec_lengths.specs.Lengths.{CollectionLength, length_record}
 use Rattle.bytes_records.specs.Table.{table_bytes}

@@ -2,11 +2,11 @@
 use Prim.Native.Nat.{ℕ, zero, suc}
 use Rattle.std.proofs.Math.Path.{◌≡◌, refl, subst}
 use Rattle.std.proofs.Common.{◌∙◌, arith}
-use Rattle.std.specs.Prelude.{◌≢◌, Bool, get_or}
+use Rattle.std.specs.Prelude.{◌≢◌, Bool, get_or, if◌then◌else◌}
 use Rattle.std.proofs.Math.Bool.{true, false}
 use mathlib.Core.List.{List, [], ◌∷◌, map}
 use Rattle.std.proofs.Math.Option.{none, some}
-use Rattle.spec_lists.specs.Lists.{if◌then◌else◌, All}
+use Rattle.spec_lists.specs.Lists.{All}
 use Rattle.spec_lists.proofs.ListLaws.{all_map}
 use Rattle.spec_lists.specs.Order.{lex_less, lookup, Ascending}
 use Rattle.spec_lists.proofs.OrderLaws.{lex_less_trans, lex_less_total, lex_less_irreflexive}

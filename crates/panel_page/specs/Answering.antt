@@ -1,7 +1,6 @@
 -- What the rows of a page are while the entries go by: those of a key's equals are written from the last to the first.
-use Rattle.std.specs.Prelude.{ℕ, List, ◌++◌, map, eqb, take, drop}
+use Rattle.std.specs.Prelude.{ℕ, List, ◌++◌, map, eqb, take, drop, if◌then◌else◌}
 use Rattle.std.proofs.Math.Option.{some}
-use Rattle.spec_lists.specs.Lists.{if◌then◌else◌}
 use Rattle.spec_projection.specs.Projection.{Entry}
 use Rattle.spec_projection.specs.Lookups.{keyed_value, entries_in}
 use Rattle.spec_page.specs.Page.{positioned, find_from}

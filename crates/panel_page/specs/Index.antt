@@ -1,6 +1,5 @@
 -- An index of a page's keys: each key has a place among few, and the keys of one place are a chain from the last to the first.
-use Rattle.std.specs.Prelude.{ℕ, zero, suc, ◌-◌, ◌%◌, ◌≤◌, ◌<◌, ◌≡◌, List, eqb, length, get_or}
-use Rattle.spec_lists.specs.Lists.{if◌then◌else◌}
+use Rattle.std.specs.Prelude.{ℕ, zero, suc, ◌-◌, ◌%◌, ◌≤◌, ◌<◌, ◌≡◌, List, eqb, length, get_or, if◌then◌else◌}
 
 abbrev pub key_places : ℕ
 key_places = 251

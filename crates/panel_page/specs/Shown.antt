@@ -1,6 +1,5 @@
 -- What the places of an answer table stand for while a page is filled: one whose first byte is 0 for a row of zeros.
-use Rattle.std.specs.Prelude.{ℕ, ◌≡◌, Bool, List, map, eqb, length, get_or, set}
-use Rattle.spec_lists.specs.Lists.{if◌then◌else◌}
+use Rattle.std.specs.Prelude.{ℕ, ◌≡◌, Bool, List, map, eqb, length, get_or, set, if◌then◌else◌}
 use Rattle.bytes_records.specs.Moves.{zeros}
 use Rattle.bytes_records.specs.Table.{HoldsRows}
 use Rattle.panel_page.specs.PageTable.{page_width}

@@ -1,7 +1,6 @@
 -- Sources as numbers, the plan that a batch starts from, and planned operations: a source is a row of the table before the batch, or a
 -- position in the bytes of the set.
-use Rattle.std.specs.Prelude.{ℕ, suc, ◌+◌, ◌-◌, List, [], ◌∷◌, map, ltb, get_or}
-use Rattle.spec_lists.specs.Lists.{if◌then◌else◌}
+use Rattle.std.specs.Prelude.{ℕ, suc, ◌+◌, ◌-◌, List, [], ◌∷◌, map, ltb, get_or, if◌then◌else◌}
 use Rattle.spec_patch.specs.Sizes.{projection_entries}
 use Rattle.spec_patch.specs.Patch.{Value, N, quad, signed, text, unsigned, score, Operation, set_binding, set_availability, insert, update, remove, move}
 use Rattle.spec_projection.specs.Projection.{Binding, Entry, Projection}

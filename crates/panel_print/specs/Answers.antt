@@ -1,6 +1,5 @@
 -- What the call that prints answers, and what holds of it whatever the table holds: 02, Job 10, 'Checks'.
-use Rattle.std.specs.Prelude.{ℕ, ◌≡◌, List, length, take, drop}
-use Rattle.spec_lists.specs.Lists.{if◌then◌else◌}
+use Rattle.std.specs.Prelude.{ℕ, ◌≡◌, List, length, take, drop, if◌then◌else◌}
 use Rattle.bytes_wire.specs.Write.{has_room}
 use Rattle.bytes_printer.specs.declared.Printed.{Printed}
 use Rattle.bytes_printer.specs.declared.Printed.TheVariants.{Next}

@@ -1,6 +1,5 @@
 -- The print of a value by its bytes, in one pass: a byte that begins a character takes a column, a further byte of it takes none.
-use Rattle.std.specs.Prelude.{ℕ, suc, ◌-◌, Bool, ◌&&◌, ◌||◌, List, [], ◌∷◌, ◌++◌, ltb, leb, eqb, replicate}
-use Rattle.spec_lists.specs.Lists.{if◌then◌else◌}
+use Rattle.std.specs.Prelude.{ℕ, suc, ◌-◌, Bool, ◌&&◌, ◌||◌, List, [], ◌∷◌, ◌++◌, ltb, leb, eqb, replicate, if◌then◌else◌}
 use Rattle.spec_panel_print.specs.Print.{text_width, blank, line_end, blank_lead, printed_character}
 
 -- RFC 3629: every byte but those from 80 to bf

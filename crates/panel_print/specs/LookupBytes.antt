@@ -1,6 +1,5 @@
 -- The bytes that a value which was looked up prints as, before control characters are shown and lines are broken.
-use Rattle.std.specs.Prelude.{ℕ, List, [], ◌∷◌, eqb, take}
-use Rattle.spec_lists.specs.Lists.{if◌then◌else◌}
+use Rattle.std.specs.Prelude.{ℕ, List, [], ◌∷◌, eqb, take, if◌then◌else◌}
 use Rattle.spec_decimal.specs.Decimal.{decimal, signed_decimal}
 use Rattle.panel_rows.specs.declared.values.ValueLookup.{ValueLookup}
 

@@ -1,7 +1,6 @@
 -- How a projection's records are stored: one row of bytes each, of one width for each table: the fields of its key, its mark, and its value. A
 -- value is its canonical bytes, padded with zeros to the longest. Beside them each collection's length has a row.
-use Rattle.std.specs.Prelude.{ℕ, ◌+◌, ◌-◌, ◌*◌, List, [], ◌∷◌, ◌++◌, leb, length, take, drop, get_or}
-use Rattle.spec_lists.specs.Lists.{if◌then◌else◌}
+use Rattle.std.specs.Prelude.{ℕ, ◌+◌, ◌-◌, ◌*◌, List, [], ◌∷◌, ◌++◌, leb, length, take, drop, get_or, if◌then◌else◌}
 use Rattle.spec_lists.specs.Bytes.{number_of}
 use Rattle.spec_patch.specs.Sizes.{text_bytes, projection_bindings, projection_availabilities, projection_entries}
 use Rattle.spec_patch.specs.Patch.{Value}

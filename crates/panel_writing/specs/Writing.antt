@@ -1,6 +1,5 @@
 -- The bytes that a plan's rows are written as, from any bytes of the plan, of the table before the batch and of the set.
-use Rattle.std.specs.Prelude.{ℕ, zero, suc, ◌+◌, ◌-◌, ◌*◌, ◌≤◌, ◌<◌, max, ◌≡◌, Bool, false, ◌&&◌, List, [], ◌∷◌, ◌++◌, ltb, leb, eqb, length, take, drop}
-use Rattle.spec_lists.specs.Lists.{if◌then◌else◌}
+use Rattle.std.specs.Prelude.{ℕ, zero, suc, ◌+◌, ◌-◌, ◌*◌, ◌≤◌, ◌<◌, max, ◌≡◌, Bool, false, ◌&&◌, List, [], ◌∷◌, ◌++◌, ltb, leb, eqb, length, take, drop, if◌then◌else◌}
 use Rattle.spec_patch.specs.Sizes.{projection_availabilities, projection_entries}
 use Rattle.spec_patch.specs.Patch.{Value}
 use Rattle.spec_patch.specs.Edition.{Edition}

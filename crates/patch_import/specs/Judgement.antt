@@ -1,6 +1,5 @@
 -- What is told of a set by its bytes, whether the patch checks find anything, and the room: 12, then 11, then 14.
-use Rattle.std.specs.Prelude.{ℕ, Bool, leb}
-use Rattle.spec_lists.specs.Lists.{if◌then◌else◌}
+use Rattle.std.specs.Prelude.{ℕ, Bool, leb, if◌then◌else◌}
 use Rattle.spec_patch.specs.Sizes.{set_bytes}
 use Rattle.patch_import.specs.declared.answer.ImportRefusal.TheVariants.{OverCapacity, PatchInvalid, OutputTooShort}
 use Rattle.patch_import.specs.declared.judgement.PatchJudgement.{PatchJudgement}

@@ -1,7 +1,6 @@
 -- What a locator of a part answers, as definitions of the way that spec_explain goes: positions count from the part's start.
-use Rattle.std.specs.Prelude.{ℕ, ◌-◌, ltb, length}
+use Rattle.std.specs.Prelude.{ℕ, ◌-◌, ltb, length, if◌then◌else◌}
 use Rattle.std.proofs.Math.Option.{Option, none, some}
-use Rattle.spec_lists.specs.Lists.{if◌then◌else◌}
 use Rattle.spec_explain.specs.ReadingRule as model
 use Rattle.spec_explain.specs.Locate as locating
 use Rattle.patch_locate.specs.declared.rules.ReadingRule.{ReadingRule}

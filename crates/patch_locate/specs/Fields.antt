@@ -1,6 +1,5 @@
 -- The fields of operations and envelopes as the code goes through them.
-use Rattle.std.specs.Prelude.{ℕ, true, List, [], ◌∷◌, leb, eqb}
-use Rattle.spec_lists.specs.Lists.{if◌then◌else◌}
+use Rattle.std.specs.Prelude.{ℕ, true, List, [], ◌∷◌, leb, eqb, if◌then◌else◌}
 use Rattle.spec_patch.specs.Sizes.{patch_operations}
 use Rattle.spec_patch.specs.TextRule.{few_bytes, allowed, few_characters}
 use Rattle.spec_patch.specs.Edition.{Edition}

@@ -1,13 +1,12 @@
 -- Loops over the fields of a set: what is left answers as the whole does; places and the end.
 use Prim.Native.Nat.{ℕ, suc, ◌+◌, ◌-◌, ◌≤◌, ◌<◌}
-use Rattle.std.specs.Prelude.{◌≡◌, refl, Bool, true, false, eqb, length}
+use Rattle.std.specs.Prelude.{◌≡◌, refl, Bool, true, false, eqb, length, if◌then◌else◌}
 use Rattle.std.proofs.Common.{sym, ◌∙◌, le-leb, lt-ltb, le-ltb, eq-eqb, ne_eqb, length-append, drop_of_length-le, drop-cons}
 use Rattle.std.proofs.Math.Path.{ap}
 use mathlib.Core.List.{List, [], ◌∷◌}
 use native.Mathlib.Omega.{arith}
 use Rattle.std.proofs.lemmas.Bool.{lt-leb}
 use Rattle.std.proofs.Math.ListN.{get_or, drop}
-use Rattle.spec_lists.specs.Lists.{if◌then◌else◌}
 use Rattle.spec_patch.specs.Sizes.{set_bytes}
 use Rattle.spec_patch.specs.Edition.{Edition}
 use Rattle.spec_patch.specs.Reader.{Fault, read, refused, byte}

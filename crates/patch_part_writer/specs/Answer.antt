@@ -1,6 +1,5 @@
 -- What a call that writes from a position on answers, and what it leaves of the output.
-use Rattle.std.specs.Prelude.{ℕ, ◌+◌, List, ◌++◌, leb, length, drop}
-use Rattle.spec_lists.specs.Lists.{if◌then◌else◌}
+use Rattle.std.specs.Prelude.{ℕ, ◌+◌, List, ◌++◌, leb, length, drop, if◌then◌else◌}
 use Rattle.spec_patch.specs.Write as model
 use Rattle.bytes_wire.specs.Write.{has_room, overwrite}
 use Rattle.patch_part_writer.specs.declared.written.WriteRefusal.{WriteRefusal}

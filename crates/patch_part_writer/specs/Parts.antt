@@ -1,6 +1,5 @@
 -- Whether a text keeps its capacity and stands within the texts, and the size of an operation whose text does.
-use Rattle.std.specs.Prelude.{ℕ, ◌+◌, List, Bool, leb, length}
-use Rattle.spec_lists.specs.Lists.{if◌then◌else◌}
+use Rattle.std.specs.Prelude.{ℕ, ◌+◌, List, Bool, leb, length, if◌then◌else◌}
 use Rattle.spec_patch.specs.Sizes.{text_bytes}
 use Rattle.projection_patch.specs.declared.patch.ProjectionPatchOperation.{ProjectionPatchOperation}
 use Rattle.patch_part_writer.specs.declared.extent.TextPlace.{TextPlace}

@@ -8,7 +8,7 @@ use native.Mathlib.Omega.{arith}
 use lib.Dec.{eqb, leb, lit<}
 use lib.ListN.{length, take, drop}
 use lib.Seq.{drop_at, drop-drop}
-use Rattle.spec_lists.specs.Lists.{if◌then◌else◌}
+use Rattle.std.specs.Prelude.{if◌then◌else◌}
 use Rattle.spec_lists.specs.Bytes.{Bytes, number_of}
 use Rattle.spec_lists.proofs.BytesLaws.{length_little_endian}
 use Rattle.spec_patch.specs.Edition.{Edition, letters}

@@ -1,7 +1,6 @@
 -- What reading a line answers, by the term that it holds.
-use Rattle.std.specs.Prelude.{ℕ, ◌+◌, ◌-◌, ◌≡◌, true, List, length}
+use Rattle.std.specs.Prelude.{ℕ, ◌+◌, ◌-◌, ◌≡◌, true, List, length, if◌then◌else◌}
 use Rattle.std.proofs.Math.Option.{Option, none, some}
-use Rattle.spec_lists.specs.Lists.{if◌then◌else◌}
 use Rattle.spec_patch.specs.TextRule.{allowed}
 use Rattle.spec_import.specs.Import.{Term, read_term, keeps_text}
 use Rattle.patch_terms.specs.declared.TermRead.{TermRead}

@@ -1,6 +1,5 @@
 -- Where a byte stands, and the first line of a list.
-use Rattle.std.specs.Prelude.{ℕ, suc, List, [], ◌∷◌, eqb, take, drop}
-use Rattle.spec_lists.specs.Lists.{if◌then◌else◌}
+use Rattle.std.specs.Prelude.{ℕ, suc, List, [], ◌∷◌, eqb, take, drop, if◌then◌else◌}
 use Rattle.spec_listing.specs.Escapes.{newline}
 
 -- the index of the first such byte, or the length

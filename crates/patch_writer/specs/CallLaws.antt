@@ -1,6 +1,6 @@
 -- A set is written as spec_patch writes the list that it stands for, wherever its counts fit and its texts lie within the texts; what was
 -- written is read back as the same list; and what is read is written back byte for byte.
-use Rattle.std.specs.Prelude.{ℕ, ◌+◌, ◌≤◌, Bool, ◌&&◌, take, drop}
+use Rattle.std.specs.Prelude.{ℕ, ◌+◌, ◌≤◌, Bool, ◌&&◌, take, drop, if◌then◌else◌}
 use Rattle.std.proofs.Math.Path.{◌≡◌, refl, sym, ap, ap₂}
 use Rattle.std.proofs.Common.{◌∙◌, arith, length-take-le}
 use Rattle.std.proofs.Math.Bool.{true, false}
@@ -8,7 +8,7 @@ use mathlib.Core.List.{List, [], ◌∷◌, ◌++◌, flat_map, append_assoc}
 use borrow.Author.Tests.{leb-true, le-leb}
 use Rattle.std.proofs.Math.Dec.{leb}
 use Rattle.std.proofs.Math.ListN.{length, length-append}
-use Rattle.spec_lists.specs.Lists.{if◌then◌else◌, all}
+use Rattle.spec_lists.specs.Lists.{all}
 use Rattle.spec_lists.proofs.ListLaws.{and_left, and_right}
 use Rattle.spec_lists.specs.Bytes.{Bytes}
 use Rattle.spec_patch.specs.Sizes.{set_patches, patch_operations}

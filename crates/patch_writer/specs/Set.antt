@@ -1,7 +1,7 @@
 -- The patch list that a set by value stands for, its texts lent beside it, and what writing it gives: 01, 'Rejections', and 02,
 -- 'Job 5' and 'Job 13': 12, then 10, then 12 for the characters of texts, then 14.
-use Rattle.std.specs.Prelude.{ℕ, ◌+◌, Bool, ◌&&◌, List, [], ◌∷◌, map, leb, take, drop}
-use Rattle.spec_lists.specs.Lists.{if◌then◌else◌, all}
+use Rattle.std.specs.Prelude.{ℕ, ◌+◌, Bool, ◌&&◌, List, [], ◌∷◌, map, leb, take, drop, if◌then◌else◌}
+use Rattle.spec_lists.specs.Lists.{all}
 use Rattle.spec_patch.specs.Sizes.{set_bytes, set_patches, patch_operations}
 use Rattle.spec_patch.specs.Patch as model
 use Rattle.spec_patch.specs.Edition.{Edition}

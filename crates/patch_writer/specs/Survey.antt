@@ -1,7 +1,7 @@
 -- What the passes over a set answer before anything is written.
-use Rattle.std.specs.Prelude.{ℕ, ◌+◌, ◌≤◌, ◌≡◌, true, ◌&&◌, leb, length, take, drop}
+use Rattle.std.specs.Prelude.{ℕ, ◌+◌, ◌≤◌, ◌≡◌, true, ◌&&◌, leb, length, take, drop, if◌then◌else◌}
 use mathlib.Core.List.{List, flat_map}
-use Rattle.spec_lists.specs.Lists.{if◌then◌else◌, all}
+use Rattle.spec_lists.specs.Lists.{all}
 use Rattle.spec_patch.specs.TextRule.{allowed, few_characters}
 use Rattle.spec_patch.specs.Sizes.{set_bytes, highest_score}
 use Rattle.spec_patch.specs.Edition.{Edition, has_kind}

@@ -1,8 +1,7 @@
 -- What the readers answer, as definitions of what spec_patch reads. Of a part of n bytes with a rest of r, the position behind what was read
 -- is n - r.
-use Rattle.std.specs.Prelude.{ℕ, ◌-◌, List, [], leb, length, take, drop}
+use Rattle.std.specs.Prelude.{ℕ, ◌-◌, List, [], leb, length, take, drop, if◌then◌else◌}
 use Rattle.std.proofs.Math.Option.{Option, none, some}
-use Rattle.spec_lists.specs.Lists.{if◌then◌else◌}
 use Rattle.spec_patch.specs.Patch as model
 use Rattle.spec_patch.specs.Reader.{Fault, malformed, over_capacity, Result, read, refused}
 use Rattle.projection_patch.specs.Meaning.{node_to, key_to, value_to, availability_to, operation_to}

@@ -1,6 +1,5 @@
 -- What the rule of texts says of one that is checked: RFC 3629 first, then its characters.
-use Rattle.std.specs.Prelude.{ℕ, Bool, true, List}
-use Rattle.spec_lists.specs.Lists.{if◌then◌else◌}
+use Rattle.std.specs.Prelude.{ℕ, Bool, true, List, if◌then◌else◌}
 use Rattle.spec_patch.specs.TextRule.{allowed, few_characters}
 use Rattle.projection_patch.specs.declared.text_rule.TextJudgement.{TextJudgement}
 use Rattle.projection_patch.specs.declared.text_rule.TextJudgement.TheVariants.{Fits, Malformed, ManyCharacters}

@@ -1,12 +1,11 @@
 // Reading of counts, optional numbers and values. A reader takes a part and a position in it, and answers what stands there with the
 // position behind it, or the fault. Every position may be asked for.
-ghost use Rattle.std.specs.Prelude.{◌≡◌, ◌+◌, ◌-◌, ◌≤◌, length, drop};
+ghost use Rattle.std.specs.Prelude.{◌≡◌, ◌+◌, ◌-◌, ◌≤◌, length, drop, if◌then◌else◌};
 ghost use Rattle.std.proofs.Math.Option.{some};
 ghost use Rattle.spec_patch.specs.Edition.{has_kind};
 ghost use Rattle.spec_patch.specs.Patch as model;
 ghost use Rattle.spec_patch.specs.Reader.{fault_number, malformed, refused, mapped};
 ghost use Rattle.spec_patch.specs.Read.{read_u64, read_i64, read_count, read_quad, text_body, read_text_by, read_optional, read_availability, read_score, read_value_by, read_value};
-ghost use Rattle.spec_lists.specs.Lists.{if◌then◌else◌};
 ghost use Rattle.bytes_wire.specs.Read.{first_number};
 ghost use Rattle.projection_patch.specs.Meaning.{edition_of};
 ghost use Rattle.projection_patch.specs.ReadAnswers.{fault_of, numbers_answer, count_answer, optional_answer, availability_answer, value_answer, lent_part};

@@ -1,6 +1,5 @@
 -- What the fields of a set-up stand for in spec_replay.
-use Rattle.std.specs.Prelude.{ℕ, ◌+◌, ◌-◌, ◌≤◌, ◌≡◌, List, ◌++◌, map, ltb, length, replicate}
-use Rattle.spec_lists.specs.Lists.{if◌then◌else◌}
+use Rattle.std.specs.Prelude.{ℕ, ◌+◌, ◌-◌, ◌≤◌, ◌≡◌, List, ◌++◌, map, ltb, length, replicate, if◌then◌else◌}
 use Rattle.spec_session.specs.Session.{Catalogue}
 use Rattle.spec_replay.specs.Replay.{Setup, kept_anchors}
 use Rattle.active_projection_target_catalog.specs.Catalog.{pair_of, no_pair}

@@ -1,6 +1,5 @@
 -- The fields of a line behind a place in it, and what the answers of this crate stand for: how reading goes on.
-use Rattle.std.specs.Prelude.{ℕ, zero, suc, ◌+◌, ◌-◌, ◌≡◌, List, [], ◌∷◌, ◌++◌, ltb, eqb, length, drop, replicate}
-use Rattle.spec_lists.specs.Lists.{if◌then◌else◌}
+use Rattle.std.specs.Prelude.{ℕ, zero, suc, ◌+◌, ◌-◌, ◌≡◌, List, [], ◌∷◌, ◌++◌, ltb, eqb, length, drop, replicate, if◌then◌else◌}
 use Rattle.spec_replay.specs.Lines.{space, split}
 use Rattle.spec_replay.specs.Hex.{read_hex}
 use Rattle.spec_replay.specs.Script.{Command, other, Arguments, end, given, number_field, hex}

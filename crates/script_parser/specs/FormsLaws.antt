@@ -1,12 +1,12 @@
 -- The forms are the arguments of spec_replay's tables.
-use Rattle.std.specs.Prelude.{ℕ, zero, suc, ◌+◌, ◌%◌, ◌≤◌, ◌<◌, ◌≡◌, Bool, true, false, not, ◌&&◌, eqb, get_or}
+use Rattle.std.specs.Prelude.{ℕ, zero, suc, ◌+◌, ◌%◌, ◌≤◌, ◌<◌, ◌≡◌, Bool, true, false, not, ◌&&◌, eqb, get_or, if◌then◌else◌}
 use Rattle.std.proofs.Math.Path.{refl}
 use Rattle.std.proofs.Common.{sym, ap, subst, ◌∙◌, arith}
 use mathlib.Core.List.{List, [], ◌∷◌}
 use Rattle.std.proofs.Math.Option.{Option, none, some}
 use Rattle.std.proofs.Math.Dec.{leb}
 use borrow.Author.Tests.{eqb-true, eqb-false, leb-true, le-leb, lt-leb, eq-eqb, ne_eqb}
-use Rattle.spec_lists.specs.Lists.{if◌then◌else◌, any}
+use Rattle.spec_lists.specs.Lists.{any}
 use Rattle.spec_patch.specs.Sizes.{set_bytes}
 use Rattle.spec_patch.specs.Edition.{Edition}
 use Rattle.spec_lists.proofs.ListLaws.{and_left, and_right, test_cases}

@@ -1,6 +1,5 @@
 -- What the fields of a page stand for: how reading goes on.
-use Rattle.std.specs.Prelude.{ℕ, List, take}
-use Rattle.spec_lists.specs.Lists.{if◌then◌else◌}
+use Rattle.std.specs.Prelude.{ℕ, List, take, if◌then◌else◌}
 use Rattle.spec_replay.specs.Script.{Command, page, other}
 use Rattle.script_parser.specs.declared.keys.KeyFields.{KeyFields}
 use Rattle.script_parser.specs.declared.keys.PageFields.{PageFields}

@@ -1,10 +1,9 @@
 -- The keys of a page, read field by field.
 use Prim.Native.Nat.{ℕ, suc, ◌+◌, ◌-◌, ◌≤◌, ◌<◌}
-use Rattle.std.specs.Prelude.{◌≡◌, refl, Bool, false, List, [], ◌∷◌, ◌++◌, length, take, set}
+use Rattle.std.specs.Prelude.{◌≡◌, refl, Bool, false, List, [], ◌∷◌, ◌++◌, length, take, set, if◌then◌else◌}
 use Rattle.std.proofs.Math.Path.{sym, ap}
 use Rattle.std.proofs.Common.{◌∙◌, append_assoc, append-nil, add-one, length-set, take-suc-set}
 use native.Mathlib.Omega.{arith}
-use Rattle.spec_lists.specs.Lists.{if◌then◌else◌}
 use Rattle.spec_replay.specs.Lines.{space}
 use Rattle.spec_replay.specs.Script.{Command, page, other, Arguments, number_field, read_by, at_most, up_to_end, places_of_page, line_keys, page_arguments}
 use Rattle.script_parser.specs.Fields.{fields_after, numbers, filled, number_then, NumberAfter}

@@ -1,7 +1,6 @@
 -- What a field of a batch stands for: how reading goes on, whatever follows.
-use Rattle.std.specs.Prelude.{ℕ, List}
+use Rattle.std.specs.Prelude.{ℕ, List, if◌then◌else◌}
 use Rattle.std.proofs.Math.Option.{some}
-use Rattle.spec_lists.specs.Lists.{if◌then◌else◌}
 use Rattle.spec_group.specs.Group.{GroupBatch}
 use Rattle.spec_replay.specs.Script.{Command, group, other, given, numbered_edition}
 use Rattle.script_parser.specs.Forms.{number_in}

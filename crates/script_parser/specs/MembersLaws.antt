@@ -1,13 +1,12 @@
 -- The batches of a group, read field by field.
 use Prim.Native.Nat.{ℕ, suc, ◌+◌, ◌-◌, ◌≤◌, ◌<◌}
-use Rattle.std.specs.Prelude.{◌≡◌, refl, Bool, false, length, get_or, take, set}
+use Rattle.std.specs.Prelude.{◌≡◌, refl, Bool, false, length, get_or, take, set, if◌then◌else◌}
 use Rattle.std.proofs.Math.Path.{sym, ap}
 use Rattle.std.proofs.Common.{◌∙◌, add-one, length-set, drop-cons, take-suc-set, length-take-le}
 use mathlib.Core.List.{List, [], ◌∷◌, ◌++◌, map, append_assoc, append-nil, map-append}
 use native.Mathlib.Omega.{arith}
 use Rattle.std.proofs.Math.ListN.{drop, length-drop}
 use Rattle.std.proofs.Math.Seq.{take_all}
-use Rattle.spec_lists.specs.Lists.{if◌then◌else◌}
 use Rattle.spec_decimal.specs.Decimal.{read_decimal}
 use Rattle.spec_group.specs.Group.{GroupBatch}
 use Rattle.spec_replay.specs.Lines.{space, split}

@@ -1,7 +1,7 @@
 -- Tables of words: a field is sought among them, and its number tells the meaning.
-use Rattle.std.specs.Prelude.{ℕ, suc, ◌≤◌, ◌≡◌, refl, List, [], ◌∷◌, map, eqb, length, get_or}
+use Rattle.std.specs.Prelude.{ℕ, suc, ◌≤◌, ◌≡◌, refl, List, [], ◌∷◌, map, eqb, length, get_or, if◌then◌else◌}
 use Rattle.std.proofs.Common.{arith}
-use Rattle.spec_lists.specs.Lists.{if◌then◌else◌, equal_lists}
+use Rattle.spec_lists.specs.Lists.{equal_lists}
 use Rattle.spec_lists.proofs.ListLaws.{test_cases}
 use Rattle.spec_replay.specs.Script.{other, Arguments, given, Row, by_word}
 

@@ -1,8 +1,7 @@
 -- The batches of a line are those that a call names.
-use Rattle.std.specs.Prelude.{ℕ, ◌+◌, ◌≤◌, ◌<◌, ◌≡◌, refl, Bool, true, false, List, [], ◌∷◌, ◌++◌, map, leb, length, take, set, get_or}
+use Rattle.std.specs.Prelude.{ℕ, ◌+◌, ◌≤◌, ◌<◌, ◌≡◌, refl, Bool, true, false, List, [], ◌∷◌, ◌++◌, map, leb, length, take, set, get_or, if◌then◌else◌}
 use Rattle.std.proofs.Common.{sym, ap, ap₂, ◌∙◌, add-one, arith, leb-true, leb-false, length-take, length-set, take-take, take_all, take-suc, take-suc-set, length-take-le}
 use Rattle.std.proofs.lemmas.List.{map-append, length-map}
-use Rattle.spec_lists.specs.Lists.{if◌then◌else◌}
 use Rattle.spec_lists.proofs.ListLaws.{map_take, test_cases}
 use Rattle.spec_group.specs.Group as model
 use Rattle.spec_group.specs.Group.{group_batches}

@@ -1,5 +1,5 @@
 -- Laws of the lines: what prints nothing, and what a decoded set is.
-use Rattle.std.specs.Prelude.{ℕ, ◌-◌, ◌≤◌, ◌<◌, Bool, List, [], drop}
+use Rattle.std.specs.Prelude.{ℕ, ◌-◌, ◌≤◌, ◌<◌, Bool, List, [], drop, if◌then◌else◌}
 use Rattle.std.proofs.Math.Path.{◌≡◌, refl, ap}
 use Rattle.std.proofs.Common.{sym, subst, ◌∙◌, length-drop}
 use Rattle.std.proofs.Math.Bool.{true, false}
@@ -8,7 +8,6 @@ use native.Mathlib.Omega.{arith}
 use borrow.Author.Tests.{lt-leb, leb-true}
 use Rattle.std.proofs.Math.Dec.{leb}
 use Rattle.std.proofs.Math.ListN.{length, take}
-use Rattle.spec_lists.specs.Lists.{if◌then◌else◌}
 use Rattle.spec_replay.specs.Hex.{read_hex}
 use Rattle.spec_replay.specs.Script.{Command, other, line_bytes, given, command}
 use Rattle.spec_replay.specs.Replay.{State, onward, replay_line}

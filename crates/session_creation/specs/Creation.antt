@@ -1,6 +1,5 @@
 -- Creation: 01, 'Rejections born of the input' (13) and 'Sizes'.
-use Rattle.std.specs.Prelude.{ℕ, ◌≡◌, Bool, ◌&&◌, List, [], map, leb, length}
-use Rattle.spec_lists.specs.Lists.{if◌then◌else◌}
+use Rattle.std.specs.Prelude.{ℕ, ◌≡◌, Bool, ◌&&◌, List, [], map, leb, length, if◌then◌else◌}
 use Rattle.spec_patch.specs.Sizes.{anchors}
 use Rattle.spec_projection.specs.Projection.{empty}
 use Rattle.spec_session.specs.Session as model

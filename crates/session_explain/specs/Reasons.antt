@@ -1,7 +1,6 @@
 -- What the reasons of spec_explain are as the types of this crate.
-use Rattle.std.specs.Prelude.{ℕ, eqb}
+use Rattle.std.specs.Prelude.{ℕ, eqb, if◌then◌else◌}
 use Rattle.std.proofs.Math.Option.{Option, none, some}
-use Rattle.spec_lists.specs.Lists.{if◌then◌else◌}
 use Rattle.spec_session.specs.Session.{Limits}
 use Rattle.spec_session.specs.Batch.{BatchEnvelope}
 use Rattle.spec_explain.specs.OperationRule as operations

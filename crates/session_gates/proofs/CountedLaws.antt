@@ -1,8 +1,7 @@
 -- Every refusal of the steps comes with a logical count that fits it.
-use Rattle.std.specs.Prelude.{ℕ, ◌≡◌, refl, Bool, true, false, eqb}
+use Rattle.std.specs.Prelude.{ℕ, ◌≡◌, refl, Bool, true, false, eqb, if◌then◌else◌}
 use Rattle.std.proofs.Common.{arith, lt-ltb}
 use Rattle.std.proofs.lemmas.Bool.{eqb-false}
-use Rattle.spec_lists.specs.Lists.{if◌then◌else◌}
 use Rattle.spec_lists.proofs.ListLaws.{test_cases}
 use Rattle.spec_session.specs.Session.{Lifecycle, Cursor, Limits}
 use Rattle.spec_session.specs.Diagnostics.{SessionRefusal, session_mismatch, session_closed, limit_exceeded, counts_differ, cursor_mismatch, of_reading}

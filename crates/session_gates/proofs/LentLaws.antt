@@ -1,10 +1,10 @@
 -- The targets that are absent from the lent anchors are those that are absent from the catalogue.
-use Rattle.std.specs.Prelude.{ℕ, ◌+◌, ◌≡◌, Bool, ◌&&◌}
+use Rattle.std.specs.Prelude.{ℕ, ◌+◌, ◌≡◌, Bool, ◌&&◌, if◌then◌else◌}
 use Rattle.std.proofs.Math.Path.{refl, ap, ap₂}
 use Rattle.std.proofs.Common.{◌∙◌}
 use mathlib.Core.List.{List, [], ◌∷◌, map, flat_map}
 use Rattle.std.proofs.Math.Dec.{eqb}
-use Rattle.spec_lists.specs.Lists.{if◌then◌else◌, any}
+use Rattle.spec_lists.specs.Lists.{any}
 use Rattle.spec_patch.specs.Patch.{Operation, set_binding, set_availability, insert, update, remove, move}
 use Rattle.spec_checks.specs.Target.{mutation_target}
 use Rattle.spec_projection.specs.Effects.{target_of}

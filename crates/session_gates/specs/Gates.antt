@@ -1,7 +1,6 @@
 -- The steps of a batch, by what each of them looks at: 01, 'One batch, from entry to leaf'. `GatesLaws.antt` proves that in their order they are
 -- `batch_checks`.
-use Rattle.std.specs.Prelude.{ℕ, ◌≡◌, Bool, true, not, ◌&&◌, ◌||◌, List, leb, ltb, eqb}
-use Rattle.spec_lists.specs.Lists.{if◌then◌else◌}
+use Rattle.std.specs.Prelude.{ℕ, ◌≡◌, Bool, true, not, ◌&&◌, ◌||◌, List, leb, ltb, eqb, if◌then◌else◌}
 use Rattle.spec_patch.specs.Patch.{Patch}
 use Rattle.spec_session.specs.Session.{Lifecycle, Cursor, Limits}
 use Rattle.spec_session.specs.Diagnostics.{SessionRefusal, session_number, session_mismatch, session_closed, limit_exceeded, counts_differ, cursor_mismatch, checks_failed, of_reading}

@@ -1,6 +1,5 @@
 -- What the types of a group stand for in spec_group, and what its call hands back: 02, 'Job 12'.
-use Rattle.std.specs.Prelude.{ℕ, ◌<◌, ◌≡◌, Bool, ◌&&◌, List, map, leb, eqb, length, take}
-use Rattle.spec_lists.specs.Lists.{if◌then◌else◌}
+use Rattle.std.specs.Prelude.{ℕ, ◌<◌, ◌≡◌, Bool, ◌&&◌, List, map, leb, eqb, length, take, if◌then◌else◌}
 use Rattle.spec_session.specs.Session.{Session}
 use Rattle.spec_group.specs.Group as model
 use Rattle.spec_group.specs.Group.{group_batches, total_bytes, is_group, group_number, group}

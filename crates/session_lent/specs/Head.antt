@@ -1,6 +1,5 @@
 -- The head of a lent session, as a list of numbers: what each of them tells, and the heads that calls write.
-use Rattle.std.specs.Prelude.{ℕ, List, [], ◌∷◌, eqb, length, get_or}
-use Rattle.spec_lists.specs.Lists.{if◌then◌else◌}
+use Rattle.std.specs.Prelude.{ℕ, List, [], ◌∷◌, eqb, length, get_or, if◌then◌else◌}
 use Rattle.spec_session.specs.Session.{Lifecycle, created, active, suspended, closed, Cursor, uninitialized, at, Limits, Session}
 use Rattle.spec_session.specs.Lifecycle.{LocalState}
 use Rattle.local_projection_state.specs.declared.ProjectionCounts.{ProjectionCounts}

@@ -1,10 +1,9 @@
 -- The head of a session tells that session's state, limits and counts, and the heads that calls write are those of the next sessions.
-use Rattle.std.specs.Prelude.{ℕ, ◌≡◌, refl, eqb, length, get_or}
+use Rattle.std.specs.Prelude.{ℕ, ◌≡◌, refl, eqb, length, get_or, if◌then◌else◌}
 use Rattle.std.proofs.Common.{sym, ap₂, ◌∙◌, arith, eq-eqb, ne_eqb}
 use Rattle.std.proofs.Math.Path.{ap}
 use mathlib.Core.List.{List, [], ◌∷◌}
 use Rattle.std.proofs.Math.ListN.{set}
-use Rattle.spec_lists.specs.Lists.{if◌then◌else◌}
 use Rattle.spec_projection.specs.Projection.{Projection, empty}
 use Rattle.spec_session.specs.Session.{Lifecycle, created, active, suspended, closed, Cursor, uninitialized, at, Limits, Catalogue, Session, new_session}
 use Rattle.spec_session.specs.Lifecycle.{LocalState, state_of, with_lifecycle}

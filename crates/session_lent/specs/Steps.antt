@@ -1,6 +1,5 @@
 -- What the calls on lent slices answer and leave, for any slices whatever and for those that hold a session.
-use Rattle.std.specs.Prelude.{ℕ, ◌%◌, ◌≡◌, Bool, ◌&&◌, List, eqb, length, set}
-use Rattle.spec_lists.specs.Lists.{if◌then◌else◌}
+use Rattle.std.specs.Prelude.{ℕ, ◌%◌, ◌≡◌, Bool, ◌&&◌, List, eqb, length, set, if◌then◌else◌}
 use Rattle.spec_session.specs.Session.{Session, Limits, Creation, made, refused}
 use Rattle.spec_session.specs.Lifecycle.{Stimulus, LifecycleStep, lifecycle_step}
 use Rattle.bytes_records.specs.Moves.{zeros}

@@ -1,7 +1,6 @@
 -- What a group on lent slices answers and leaves: 02, 'Job 12'. The session's own half and the anchors stay by their type; the two halves to work in
 -- are told.
-use Rattle.std.specs.Prelude.{ℕ, ◌<◌, ◌≡◌, Bool, true, false, ◌&&◌, List, [], eqb, length}
-use Rattle.spec_lists.specs.Lists.{if◌then◌else◌}
+use Rattle.std.specs.Prelude.{ℕ, ◌<◌, ◌≡◌, Bool, true, false, ◌&&◌, List, [], eqb, length, if◌then◌else◌}
 use Rattle.spec_session.specs.Session.{Session}
 use Rattle.spec_group.specs.Group as model
 use Rattle.spec_group.specs.Group.{is_group, group_number, group}

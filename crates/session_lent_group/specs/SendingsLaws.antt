@@ -1,9 +1,8 @@
 -- Batches on their way between halves: a batch that is sent leaves a shorter rest, which ends as the whole does.
-use Rattle.std.specs.Prelude.{ℕ, ◌+◌, ◌-◌, ◌≤◌, ◌<◌, ◌≡◌, refl, length, get_or, take, drop}
+use Rattle.std.specs.Prelude.{ℕ, ◌+◌, ◌-◌, ◌≤◌, ◌<◌, ◌≡◌, refl, length, get_or, take, drop, if◌then◌else◌}
 use Rattle.std.proofs.Math.Path.{sym, ap}
 use Rattle.std.proofs.Common.{subst, ◌∙◌, arith, drop-drop}
 use mathlib.Core.List.{List, ◌∷◌}
-use Rattle.spec_lists.specs.Lists.{if◌then◌else◌}
 use Rattle.spec_session.specs.Session.{Session}
 use Rattle.spec_session.specs.Batch.{BatchAnswer, BatchStep}
 use Rattle.spec_splitting.specs.Splitting.{is_rejected}

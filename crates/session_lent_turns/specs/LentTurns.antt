@@ -1,6 +1,5 @@
 -- Turns in eleven lent numbers: how many senders there are, of each of eight whether it waits, and who was last named.
-use Rattle.std.specs.Prelude.{ℕ, ◌≡◌, Bool, true, false, not, List, [], ◌∷◌, eqb, length, get_or}
-use Rattle.spec_lists.specs.Lists.{if◌then◌else◌}
+use Rattle.std.specs.Prelude.{ℕ, ◌≡◌, Bool, true, false, not, List, [], ◌∷◌, eqb, length, get_or, if◌then◌else◌}
 use Rattle.spec_session.specs.Session.{Cursor}
 use Rattle.spec_turns.specs.Turns as model
 use Rattle.session_turns.specs.Meaning.{set_up_to, registration_to, turn_taken_to, turns_of}

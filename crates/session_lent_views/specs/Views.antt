@@ -1,8 +1,7 @@
 -- What the calls that read a lent session answer, for any slices whatever and for those that hold a session. A call is lent the slices that it
 -- reads, and no others.
-use Rattle.std.specs.Prelude.{ℕ, ◌/◌, ◌≡◌, Bool, true, false, List, length}
+use Rattle.std.specs.Prelude.{ℕ, ◌/◌, ◌≡◌, Bool, true, false, List, length, if◌then◌else◌}
 use Rattle.std.proofs.Math.Option.{none}
-use Rattle.spec_lists.specs.Lists.{if◌then◌else◌}
 use Rattle.spec_patch.specs.Sizes.{projection_entries}
 use Rattle.spec_projection.specs.Lookups.{binding_of, binding_mark, availability_of, availability_mark, entry_of, entry_mark, entry_at, entry_count}
 use Rattle.spec_session.specs.Session.{Session}

@@ -1,8 +1,7 @@
 -- The answer of a lifecycle step depends on the limits and the state alone.
-use Rattle.std.specs.Prelude.{ℕ, ◌≤◌, ◌<◌, ◌≡◌, refl, Bool, true, false, leb}
+use Rattle.std.specs.Prelude.{ℕ, ◌≤◌, ◌<◌, ◌≡◌, refl, Bool, true, false, leb, if◌then◌else◌}
 use Rattle.std.proofs.Math.Option.{Option, none, some}
 use borrow.Author.Tests.{le-leb, lt-leb}
-use Rattle.spec_lists.specs.Lists.{if◌then◌else◌}
 use Rattle.spec_session.specs.Session.{Lifecycle, Session}
 use Rattle.spec_session.specs.Diagnostics.{session_closed, wrong_lifecycle, limit_exceeded}
 use Rattle.spec_session.specs.Lifecycle.{Stimulus, Disposition, LifecycleStep, lifecycle_step, reject_lifecycle, enter_lifecycle, state_of, transition, is_closed, with_lifecycle, disposition_of}

@@ -1,12 +1,12 @@
 -- The answer of the call, by what its steps answer.
-use Rattle.std.specs.Prelude.{ℕ, ◌+◌, ◌*◌, ◌≤◌, ◌<◌, refl, Bool, length}
+use Rattle.std.specs.Prelude.{ℕ, ◌+◌, ◌*◌, ◌≤◌, ◌<◌, refl, Bool, length, if◌then◌else◌}
 use Rattle.std.proofs.Math.Path.{◌≡◌}
 use Rattle.std.proofs.Common.{sym, ap, ◌∙◌, le-leb, length-append}
 use Rattle.std.proofs.Math.Bool.{true, false, not}
 use mathlib.Core.List.{List, ◌++◌, flat_map}
 use native.Mathlib.Omega.{arith}
 use Rattle.std.proofs.lemmas.Bool.{lt-leb}
-use Rattle.spec_lists.specs.Lists.{if◌then◌else◌, is_empty}
+use Rattle.spec_lists.specs.Lists.{is_empty}
 use Rattle.spec_lists.proofs.ListLaws.{flat_map_append}
 use Rattle.spec_patch.specs.Patch.{Patch}
 use Rattle.spec_patch.specs.Read.{SetReading, patches, fault}

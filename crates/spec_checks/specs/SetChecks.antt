@@ -1,6 +1,6 @@
 -- The findings of a set, kinds 1, 4, 5, 7, 8, 9, 11 and 12: 01, 'Patch checks'; `validate_patch_set` of the Rust.
-use Rattle.std.specs.Prelude.{◌+◌, Bool, not, List, [], ◌∷◌, ◌++◌, eqb}
-use Rattle.spec_lists.specs.Lists.{if◌then◌else◌, any}
+use Rattle.std.specs.Prelude.{◌+◌, Bool, not, List, [], ◌∷◌, ◌++◌, eqb, if◌then◌else◌}
+use Rattle.spec_lists.specs.Lists.{any}
 use Rattle.spec_lists.specs.Order.{sort_unique}
 use Rattle.spec_patch.specs.Sizes.{largest_u64}
 use Rattle.spec_patch.specs.Patch.{Envelope, Patch}

@@ -1,6 +1,6 @@
 -- What a conversion gives is read in the other edition as the same patch list, and converted back it is the same set. It succeeds exactly for
 -- a set that is read, has no value of a kind that is missing, and finds room; and it changes one letter.
-use Rattle.std.specs.Prelude.{ℕ, ◌+◌, ◌≤◌, Bool, false, not, ◌&&◌, ◌||◌, ◌↔◌, eqb}
+use Rattle.std.specs.Prelude.{ℕ, ◌+◌, ◌≤◌, Bool, false, not, ◌&&◌, ◌||◌, ◌↔◌, eqb, if◌then◌else◌}
 use Rattle.std.proofs.Math.Path.{◌≡◌, refl, sym, ap, ap₂}
 use Rattle.std.proofs.Common.{subst, ◌∙◌, arith, length-append}
 use Rattle.std.proofs.Math.Bool.{true}
@@ -10,7 +10,7 @@ use borrow.Author.Tests.{leb-true, le-leb}
 use Rattle.std.proofs.Math.Dec.{leb}
 use Rattle.std.proofs.Math.ListN.{length, take, drop}
 use Rattle.std.proofs.Math.Seq.{take_at}
-use Rattle.spec_lists.specs.Lists.{if◌then◌else◌, all, any}
+use Rattle.spec_lists.specs.Lists.{all, any}
 use Rattle.spec_lists.proofs.ListLaws.{and_left, and_right, drop_behind}
 use Rattle.spec_lists.specs.Bytes.{Bytes}
 use Rattle.spec_lists.proofs.BytesLaws.{length_little_endian}

@@ -1,6 +1,5 @@
 -- Converting a set into another edition: 02, 'Job 13'. The patch list stays, and only the edition changes that it is written in.
-use Rattle.std.specs.Prelude.{ℕ, Bool, true, false, not, List, leb, length}
-use Rattle.spec_lists.specs.Lists.{if◌then◌else◌}
+use Rattle.std.specs.Prelude.{ℕ, Bool, true, false, not, List, leb, length, if◌then◌else◌}
 use Rattle.spec_patch.specs.Patch.{Value, quad, signed, text, unsigned, score, Patch}
 use Rattle.spec_patch.specs.Edition.{Edition, v1, v2, has_kind}
 use Rattle.spec_patch.specs.Encode.{kind_of, encode}

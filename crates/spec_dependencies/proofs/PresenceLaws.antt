@@ -1,12 +1,12 @@
 -- An operation of a projection meets its expectations exactly if it fails by no key rule, and leaves the keys as it says.
-use Rattle.std.specs.Prelude.{ℕ, ◌≡◌, Bool, true, false, ◌&&◌, ◌||◌, ◌≢◌, ◌↔◌, eqb, leb, length}
+use Rattle.std.specs.Prelude.{ℕ, ◌≡◌, Bool, true, false, ◌&&◌, ◌||◌, ◌≢◌, ◌↔◌, eqb, leb, length, if◌then◌else◌}
 use Rattle.std.proofs.Math.Path.{refl}
 use Rattle.std.proofs.Common.{sym, ap, ◌∙◌, arith, eqb-true, ne_eqb}
 use Rattle.std.proofs.lemmas.Bool.{false≢true}
 use Rattle.std.proofs.Math.Bool.{and-false}
 use mathlib.Core.List.{List, [], ◌∷◌}
 use Rattle.std.proofs.Math.Option.{Option, none, some}
-use Rattle.spec_lists.specs.Lists.{if◌then◌else◌, any}
+use Rattle.spec_lists.specs.Lists.{any}
 use Rattle.spec_lists.proofs.ListLaws.{and_left, and_right, or_second, test_cases}
 use Rattle.spec_lists.specs.Order.{upsert}
 use Rattle.spec_patch.specs.Sizes.{projection_bindings, projection_availabilities, projection_entries}

@@ -1,7 +1,7 @@
 -- The call on a set: its refusals, its answer, and what it writes into a lent list of numbers. 02, Job 8.
-use Rattle.std.specs.Prelude.{ℕ, leb, length, drop}
+use Rattle.std.specs.Prelude.{ℕ, leb, length, drop, if◌then◌else◌}
 use mathlib.Core.List.{List, ◌++◌, flat_map}
-use Rattle.spec_lists.specs.Lists.{if◌then◌else◌, is_empty}
+use Rattle.spec_lists.specs.Lists.{is_empty}
 use Rattle.spec_patch.specs.Edition.{Edition}
 use Rattle.spec_patch.specs.Reader.{Fault, fault_number}
 use Rattle.spec_patch.specs.Read.{SetReading, patches, fault, read_set}

@@ -1,8 +1,7 @@
 -- What a set depends on: one walk over its operations, and the answer. 02, Job 8.
-use Rattle.std.specs.Prelude.{ℕ, ◌+◌, Bool, true, false, List, [], ◌∷◌}
+use Rattle.std.specs.Prelude.{ℕ, ◌+◌, Bool, true, false, List, [], ◌∷◌, if◌then◌else◌}
 use Rattle.std.specs.Bool.{beq}
 use Rattle.std.proofs.Math.Option.{Option, none, some}
-use Rattle.spec_lists.specs.Lists.{if◌then◌else◌}
 use Rattle.spec_patch.specs.Patch.{Operation, Patch}
 use Rattle.spec_dependencies.specs.Expectations.{expectations}
 use Rattle.spec_dependencies.specs.Settled.{Settled, judge_all}

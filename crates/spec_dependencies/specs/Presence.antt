@@ -1,6 +1,5 @@
 -- Which keys the collections hold, and what expectations make of it, without a table: the meaning that the table of settled keys is held against.
-use Rattle.std.specs.Prelude.{ℕ, ◌≡◌, Bool, ◌&&◌, List, [], ◌∷◌, eqb}
-use Rattle.spec_lists.specs.Lists.{if◌then◌else◌}
+use Rattle.std.specs.Prelude.{ℕ, ◌≡◌, Bool, ◌&&◌, List, [], ◌∷◌, eqb, if◌then◌else◌}
 use Rattle.spec_projection.specs.Projection.{Projection}
 use Rattle.spec_projection.specs.Entries.{contains}
 use Rattle.spec_dependencies.specs.Expectations.{Expectation}

@@ -1,9 +1,9 @@
 -- The reasons of the check, the listing, the conversion and a term list: there is one exactly where the call refuses, and it has the refusal's number.
-use Rattle.std.specs.Prelude.{ℕ, suc, ◌+◌, ◌<◌, ◌≡◌, refl, Bool, true, false, ◌&&◌, leb, ltb, length}
+use Rattle.std.specs.Prelude.{ℕ, suc, ◌+◌, ◌<◌, ◌≡◌, refl, Bool, true, false, ◌&&◌, leb, ltb, length, if◌then◌else◌}
 use Rattle.std.proofs.Common.{sym, ap, ◌∙◌, arith, leb-false}
 use mathlib.Core.List.{List, [], ◌∷◌, ◌++◌, flat_map}
 use Rattle.std.proofs.Math.Option.{Option, none, some}
-use Rattle.spec_lists.specs.Lists.{if◌then◌else◌, all, is_empty}
+use Rattle.spec_lists.specs.Lists.{all, is_empty}
 use Rattle.spec_lists.proofs.ListLaws.{all_test_append, test_cases}
 use Rattle.spec_patch.specs.Sizes.{set_bytes, patch_operations}
 use Rattle.spec_patch.specs.TextRule.{few_bytes, allowed, few_characters}

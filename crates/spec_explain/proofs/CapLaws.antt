@@ -1,12 +1,11 @@
 -- The reason's number is the batch's before the cap, and under the cap the call tells what the batch's answer tells.
-use Rattle.std.specs.Prelude.{ℕ, suc, min, ◌≡◌, Bool, List}
+use Rattle.std.specs.Prelude.{ℕ, suc, min, ◌≡◌, Bool, List, if◌then◌else◌}
 use Rattle.std.proofs.Math.Path.{refl, sym, ap}
 use Rattle.std.proofs.Common.{◌∙◌, arith}
 use Rattle.std.proofs.Math.Bool.{true, false}
 use Rattle.std.proofs.Math.Option.{Option, none, some}
 use borrow.Author.Tests.{ne_eqb, eq-eqb, eqb-true, eqb-false}
 use Rattle.std.proofs.Math.Dec.{eqb}
-use Rattle.spec_lists.specs.Lists.{if◌then◌else◌}
 use Rattle.spec_patch.specs.Edition.{Edition}
 use Rattle.spec_session.specs.Session.{Session}
 use Rattle.spec_session.specs.Diagnostics.{SessionRefusal, session_number, Diagnostics, diagnostics_of}

@@ -1,5 +1,5 @@
 -- A reason is given exactly where the batch is rejected, and it is the batch's refusal; what it says holds.
-use Rattle.std.specs.Prelude.{ℕ, ◌+◌, Bool, not, ◌&&◌, ◌||◌, ◌↔◌, ltb, length}
+use Rattle.std.specs.Prelude.{ℕ, ◌+◌, Bool, not, ◌&&◌, ◌||◌, ◌↔◌, ltb, length, if◌then◌else◌}
 use Rattle.std.proofs.Math.Path.{◌≡◌, refl, ap, subst}
 use Rattle.std.proofs.Common.{sym, ◌∙◌, arith, leb-true, leb-false, eqb-true, ne_eqb, eq-eqb}
 use Rattle.std.proofs.Math.Bool.{true, false}
@@ -7,7 +7,7 @@ use mathlib.Core.List.{List, [], ◌∷◌, ◌++◌}
 use Rattle.std.proofs.Math.Option.{Option, none, some}
 use Rattle.std.proofs.lemmas.Bool.{eqb-false}
 use Rattle.std.proofs.Math.Dec.{leb, eqb}
-use Rattle.spec_lists.specs.Lists.{if◌then◌else◌, all, is_empty}
+use Rattle.spec_lists.specs.Lists.{all, is_empty}
 use Rattle.spec_lists.proofs.ListLaws.{test_cases, and_left, and_right, or_left, or_right}
 use Rattle.spec_patch.specs.Sizes.{largest_u64}
 use Rattle.spec_patch.specs.Patch.{Operation, Patch}

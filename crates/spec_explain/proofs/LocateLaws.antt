@@ -3,11 +3,11 @@
 use Prim.Native.Nat.{ℕ, zero, suc}
 use Rattle.std.proofs.Math.Path.{◌≡◌, refl, ap}
 use Rattle.std.proofs.Common.{sym, ◌∙◌, arith}
-use Rattle.std.specs.Prelude.{Bool, ◌||◌, leb, eqb, length, take, drop}
+use Rattle.std.specs.Prelude.{Bool, ◌||◌, leb, eqb, length, take, drop, if◌then◌else◌}
 use Rattle.std.proofs.Math.Bool.{true, false}
 use mathlib.Core.List.{List, [], ◌∷◌}
 use Rattle.std.proofs.Math.Option.{Option, none, some}
-use Rattle.spec_lists.specs.Lists.{if◌then◌else◌, any}
+use Rattle.spec_lists.specs.Lists.{any}
 use Rattle.spec_patch.specs.Sizes.{set_bytes, set_patches, patch_operations, highest_score}
 use Rattle.spec_patch.specs.TextRule.{few_bytes, allowed, few_characters}
 use Rattle.spec_patch.specs.Patch.{Value, quad, signed, text, unsigned, score, Patch, N, F, T, S, available, unavailable, hidden, pending, stale}

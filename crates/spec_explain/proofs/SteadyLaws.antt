@@ -1,9 +1,8 @@
 -- A field is passed, or stopped at, by the bytes up to its end: what follows them changes nothing, and without them reading breaks off at the
 -- field. One law for each way of putting locators together.
-use Rattle.std.specs.Prelude.{ℕ, ◌+◌, ◌≡◌, refl, Bool, true, false, List, [], ◌∷◌, ◌++◌, leb, length, take, drop}
+use Rattle.std.specs.Prelude.{ℕ, ◌+◌, ◌≡◌, refl, Bool, true, false, List, [], ◌∷◌, ◌++◌, leb, length, take, drop, if◌then◌else◌}
 use Rattle.std.proofs.Common.{sym, ap, ◌∙◌, append_assoc, arith, le-leb, leb-true, leb-false, take-append-drop, length-append, take_at, drop_at, length-take-le}
 use Rattle.std.proofs.lemmas.Bool.{lt-leb}
-use Rattle.spec_lists.specs.Lists.{if◌then◌else◌}
 use Rattle.spec_lists.specs.Bytes.{number_of}
 use Rattle.spec_patch.specs.Reader.{Fault, malformed, Result, read, refused, Reader, byte, bytes, number}
 use Rattle.spec_explain.specs.ReadingRule.{ReadingRule, too_few_bytes, Inside, outside}

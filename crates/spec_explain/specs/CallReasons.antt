@@ -1,8 +1,7 @@
 -- Why the check, the listing, the conversion and the bringing in of a term list refuse: 01, 'Patch checks' and 'Listing', and 02, 'Job 13' and 'Job 1'.
 -- Their numbers come under no cap.
-use Rattle.std.specs.Prelude.{ℕ, suc, ◌≡◌, true, List, [], ◌∷◌, ◌++◌, leb, ltb, length}
+use Rattle.std.specs.Prelude.{ℕ, suc, ◌≡◌, true, List, [], ◌∷◌, ◌++◌, leb, ltb, length, if◌then◌else◌}
 use Rattle.std.proofs.Math.Option.{Option, none, some}
-use Rattle.spec_lists.specs.Lists.{if◌then◌else◌}
 use Rattle.spec_decimal.specs.Decimal.{read_decimal}
 use Rattle.spec_patch.specs.Sizes.{set_bytes, patch_operations}
 use Rattle.spec_patch.specs.TextRule.{few_bytes, allowed, few_characters}

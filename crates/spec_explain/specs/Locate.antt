@@ -1,8 +1,7 @@
 -- Where the reading of a set stops, and by which rule. What is read is told by `read_set`; here only the way through the fields is followed, and a
 -- field is told by the bytes from it to the end. 01, 'Canonical bytes' and step 4; 02, 'Job 5', 'Job 6' and 'Job 13'.
-use Rattle.std.specs.Prelude.{ℕ, zero, suc, ◌-◌, true, List, [], ◌∷◌, leb, eqb, length}
+use Rattle.std.specs.Prelude.{ℕ, zero, suc, ◌-◌, true, List, [], ◌∷◌, leb, eqb, length, if◌then◌else◌}
 use Rattle.std.proofs.Math.Option.{Option, none, some}
-use Rattle.spec_lists.specs.Lists.{if◌then◌else◌}
 use Rattle.spec_patch.specs.Sizes.{set_bytes, set_patches, patch_operations, highest_score}
 use Rattle.spec_patch.specs.TextRule.{few_bytes, allowed, few_characters}
 use Rattle.spec_patch.specs.Edition.{Edition, v1, v2}

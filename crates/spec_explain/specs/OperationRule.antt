@@ -1,7 +1,6 @@
 -- The rules by which an operation fails on a projection: 01, 'Projection'.
-use Rattle.std.specs.Prelude.{ℕ, suc, ◌<◌, ◌≡◌, true, false, List, length}
+use Rattle.std.specs.Prelude.{ℕ, suc, ◌<◌, ◌≡◌, true, false, List, length, if◌then◌else◌}
 use Rattle.std.proofs.Math.Option.{Option}
-use Rattle.spec_lists.specs.Lists.{if◌then◌else◌}
 use Rattle.spec_lists.specs.Order.{upsert}
 use Rattle.spec_listing.specs.Ascii.{ascii}
 use Rattle.spec_patch.specs.Sizes.{projection_bindings, projection_availabilities, projection_entries}

@@ -1,6 +1,5 @@
 -- Several batches, or none: 02, 'Job 12'. Their sets lie end to end in one list of bytes.
-use Rattle.std.specs.Prelude.{ℕ, ◌+◌, Bool, ◌&&◌, List, [], ◌∷◌, leb, eqb, length, take, drop}
-use Rattle.spec_lists.specs.Lists.{if◌then◌else◌}
+use Rattle.std.specs.Prelude.{ℕ, ◌+◌, Bool, ◌&&◌, List, [], ◌∷◌, leb, eqb, length, take, drop, if◌then◌else◌}
 use Rattle.spec_patch.specs.Edition.{Edition}
 use Rattle.spec_session.specs.Session.{Cursor, Session}
 use Rattle.spec_session.specs.Batch.{BatchEnvelope, BatchAnswer, BatchStep, batch}

@@ -1,8 +1,8 @@
 -- Bringing in a term list, 02, 'Job 1': lines of a key, a tab and a text become one patch of inserts, each placed last.
-use Rattle.std.specs.Prelude.{ℕ, suc, Bool, true, ◌&&◌, leb, ltb, eqb, length}
+use Rattle.std.specs.Prelude.{ℕ, suc, Bool, true, ◌&&◌, leb, ltb, eqb, length, if◌then◌else◌}
 use mathlib.Core.List.{List, [], ◌∷◌, ◌++◌, map, flat_map}
 use Rattle.std.proofs.Math.Option.{Option, none, some}
-use Rattle.spec_lists.specs.Lists.{if◌then◌else◌, is_empty}
+use Rattle.spec_lists.specs.Lists.{is_empty}
 use Rattle.spec_decimal.specs.Decimal.{decimal, read_decimal}
 use Rattle.spec_listing.specs.Escapes.{tab, newline}
 use Rattle.spec_listing.specs.Split.{prepend, split}

@@ -1,6 +1,6 @@
 -- The lengths that are kept ascend by collection, are at least 1 each and not more than the entries, and a collection's length is the number of
 -- its entries.
-use Rattle.std.specs.Prelude.{ℕ, zero, suc, ◌≤◌, ◌≡◌, ◌≢◌, Bool, true, false, eqb, length}
+use Rattle.std.specs.Prelude.{ℕ, zero, suc, ◌≤◌, ◌≡◌, ◌≢◌, Bool, true, false, eqb, length, if◌then◌else◌}
 use Rattle.std.proofs.Math.Path.{refl, ap}
 use Rattle.std.proofs.Common.{sym, ◌∙◌, arith, eqb-true, eq-eqb}
 use Rattle.std.proofs.lemmas.Bool.{false≢true, eqb-false}
@@ -9,7 +9,7 @@ use mathlib.Core.List.{Memᴰ}
 use Rattle.std.proofs.Math.Option
 use Rattle.std.proofs.Math.Option.{Option, none, some}
 use Rattle.std.proofs.lemmas.List.{length-map}
-use Rattle.spec_lists.specs.Lists.{if◌then◌else◌, any, All, or_zero}
+use Rattle.spec_lists.specs.Lists.{any, All, or_zero}
 use Rattle.spec_lists.proofs.ListLaws.{or_second, all_member, any_member, member_any, test_cases}
 use Rattle.spec_lists.specs.Order.{lookup, sort_unique, Ascending}
 use Rattle.spec_lists.proofs.OrderLaws.{sort_unique_ascending, sort_unique_member, sort_unique_length, member_sort_unique}

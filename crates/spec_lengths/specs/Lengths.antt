@@ -1,8 +1,8 @@
 -- Each collection's length, kept with the collection: 02, Job 3. A collection without entries has no row, and reads 0.
-use Rattle.std.specs.Prelude.{ℕ, zero, suc, ◌+◌, ◌-◌, ◌≤◌, List, [], ◌∷◌, map, eqb, length}
+use Rattle.std.specs.Prelude.{ℕ, zero, suc, ◌+◌, ◌-◌, ◌≤◌, List, [], ◌∷◌, map, eqb, length, if◌then◌else◌}
 use Rattle.std.proofs.Math.Option
 use Rattle.std.proofs.Math.Option.{Option}
-use Rattle.spec_lists.specs.Lists.{if◌then◌else◌, or_zero}
+use Rattle.spec_lists.specs.Lists.{or_zero}
 use Rattle.spec_lists.specs.Order.{upsert, sort_unique, lookup}
 use Rattle.spec_patch.specs.Fits.{U64}
 use Rattle.spec_patch.specs.Patch.{Operation, set_binding, set_availability, insert, update, remove, move}

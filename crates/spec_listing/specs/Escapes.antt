@@ -1,9 +1,8 @@
 -- A text within a line: 02, Job 2. A backslash prints as two, a tab, a newline and a carriage return as a backslash and a letter, every
 -- other byte as it is.
-use Rattle.std.specs.Prelude.{ℕ, ◌≡◌, true, eqb}
+use Rattle.std.specs.Prelude.{ℕ, ◌≡◌, true, eqb, if◌then◌else◌}
 use mathlib.Core.List.{List, [], ◌∷◌, flat_map}
 use Rattle.std.proofs.Math.Option.{Option, none, some}
-use Rattle.spec_lists.specs.Lists.{if◌then◌else◌}
 use Rattle.spec_listing.specs.Split.{lacks, cons}
 
 abbrev pub tab : ℕ

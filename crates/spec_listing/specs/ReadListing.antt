@@ -1,9 +1,9 @@
 -- A listing read back: 02, Job 2. Its lines stand between the newlines, and the fields of a line between the tabs. No line shows a mark, so
 -- a record is read without it: 02, Job 11.
-use Rattle.std.specs.Prelude.{ℕ, List, [], ◌∷◌, ◌++◌, map, eqb, length}
+use Rattle.std.specs.Prelude.{ℕ, List, [], ◌∷◌, ◌++◌, map, eqb, length, if◌then◌else◌}
 use Rattle.std.proofs.Math.Option
 use Rattle.std.proofs.Math.Option.{Option, none, some, bind}
-use Rattle.spec_lists.specs.Lists.{if◌then◌else◌, is_empty, equal_lists}
+use Rattle.spec_lists.specs.Lists.{is_empty, equal_lists}
 use Rattle.spec_patch.specs.Patch.{Value, quad, signed, text, unsigned, score}
 use Rattle.spec_patch.specs.Reader.{Reader, Result, read, refused}
 use Rattle.spec_patch.specs.Read.{quad_after, availability_after}

@@ -1,7 +1,7 @@
 -- Bytes parted by a separator: lines, and the fields of a line.
-use Rattle.std.specs.Prelude.{ℕ, Bool, not, List, [], ◌∷◌, eqb}
+use Rattle.std.specs.Prelude.{ℕ, Bool, not, List, [], ◌∷◌, eqb, if◌then◌else◌}
 use Rattle.std.proofs.Math.Option.{Option, none, some, map}
-use Rattle.spec_lists.specs.Lists.{if◌then◌else◌, all}
+use Rattle.spec_lists.specs.Lists.{all}
 
 -- a byte before the first part
 unfoldable pub prepend : ℕ → List (List ℕ) → List (List ℕ)

@@ -1,11 +1,11 @@
 -- Laws of tests, and of properties of all elements.
-use Rattle.std.specs.Prelude.{◌≡◌, refl, Bool, true, false, ◌&&◌, ◌||◌, ℕ, zero, suc, ◌-◌, ◌<◌, eqb, length, get_or, take, drop}
+use Rattle.std.specs.Prelude.{◌≡◌, refl, Bool, true, false, ◌&&◌, ◌||◌, ℕ, zero, suc, ◌-◌, ◌<◌, eqb, length, get_or, take, drop, if◌then◌else◌}
 use Rattle.std.proofs.Common.{sym, ap, ◌∙◌, subst, ⊎_elim, arith, length-drop, drop_at, take_all, eqb-true, eq-eqb, ne_eqb}
 use mathlib.Core.List.{List, [], ◌∷◌, ◌++◌, append_assoc, map, flat_map, reverse, reverse-cons, reverse-reverse}
 use mathlib.Core.List.Memᴰ
 use mathlib.Core.List.{Memᴰ}
 use Rattle.std.proofs.lemmas.List.{length-map}
-use Rattle.spec_lists.specs.Lists.{if◌then◌else◌, all, any, equal_lists, is_empty, All}
+use Rattle.spec_lists.specs.Lists.{all, any, equal_lists, is_empty, All}
 
 -- ---- tests
 

@@ -2,12 +2,6 @@
 use Rattle.std.specs.Prelude.{Bool, true, false, ◌&&◌, ◌||◌, List, [], ◌∷◌, leb, ℕ}
 use Rattle.std.proofs.Math.Option.{Option, none, some}
 
-infix 5 if◌then◌else◌
--- `if test then this else that`
-abbrev pub if◌then◌else◌ : {A : Type 0} → Bool → A → A → A
-if true then a else b = a
-if false then a else b = b
-
 -- low ≤ n ≤ high
 abbrev pub between : ℕ → ℕ → ℕ → Bool
 between low high n = leb low n && leb n high

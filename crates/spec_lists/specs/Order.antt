@@ -1,7 +1,7 @@
 -- Lists in ascending order of a key, which is a short list of numbers: bindings by (node, slot), findings by (kind, domain, secondary).
-use Rattle.std.specs.Prelude.{ℕ, ◌≡◌, Bool, true, false, ◌&&◌, ◌||◌, List, [], ◌∷◌, ltb, eqb}
+use Rattle.std.specs.Prelude.{ℕ, ◌≡◌, Bool, true, false, ◌&&◌, ◌||◌, List, [], ◌∷◌, ltb, eqb, if◌then◌else◌}
 use Rattle.std.proofs.Math.Option.{Option, none, some}
-use Rattle.spec_lists.specs.Lists.{if◌then◌else◌, equal_lists, All}
+use Rattle.spec_lists.specs.Lists.{equal_lists, All}
 
 -- the lexicographic order: the first difference decides
 unfoldable pub lex_less : List ℕ → List ℕ → Bool

@@ -1,9 +1,8 @@
 -- Grouping by targets keeps the order on each target, if every operation is on one of them and none stands twice.
-use Rattle.std.specs.Prelude.{◌≡◌, refl, ◌≢◌, true, false, not}
+use Rattle.std.specs.Prelude.{◌≡◌, refl, ◌≢◌, true, false, not, if◌then◌else◌}
 use Rattle.std.proofs.Common.{sym, ap, ◌∙◌}
 use Rattle.std.proofs.lemmas.Bool.{false≢true, not-true}
 use mathlib.Core.List.{List, [], ◌∷◌, ◌++◌, flat_map, append-nil}
-use Rattle.spec_lists.specs.Lists.{if◌then◌else◌}
 use Rattle.spec_lists.proofs.ListLaws.{and_left, and_right, test_cases}
 use Rattle.spec_patch.specs.Patch.{Operation}
 use Rattle.spec_projection.specs.Effects.{Target, target_of}

@@ -1,9 +1,8 @@
 -- What a run leaves: the list of each collection follows from that collection's operations alone, bindings and availabilities from what is
 -- set. No other order of the operations is run on the way.
-use Rattle.std.specs.Prelude.{◌≡◌, refl, ◌≢◌, true, List, [], ◌∷◌}
+use Rattle.std.specs.Prelude.{◌≡◌, refl, ◌≢◌, true, List, [], ◌∷◌, if◌then◌else◌}
 use Rattle.std.proofs.Common.{ap, ◌∙◌, subst, arith}
 use Rattle.std.proofs.Math.Option.{Option, none, some}
-use Rattle.spec_lists.specs.Lists.{if◌then◌else◌}
 use Rattle.spec_patch.specs.Patch.{Operation, set_binding, set_availability, insert, update, remove, move}
 use Rattle.spec_projection.specs.Projection.{Projection, binding_key, availability_key}
 use Rattle.spec_projection.specs.Lookups.{KeyedValue}

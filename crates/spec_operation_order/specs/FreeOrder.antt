@@ -1,7 +1,6 @@
 -- When operations may be put into another order: 02, Job 9. A target is what an operation is on: one binding (node and slot), one node's
 -- availability, or one collection as a whole; the patch checks, for their part, tell its keys apart.
-use Rattle.std.specs.Prelude.{ℕ, ◌+◌, ◌≤◌, ◌≡◌, ◌≢◌, ◌⊎◌, Bool, false, ◌&&◌, List, [], ◌∷◌, eqb, length}
-use Rattle.spec_lists.specs.Lists.{if◌then◌else◌}
+use Rattle.std.specs.Prelude.{ℕ, ◌+◌, ◌≤◌, ◌≡◌, ◌≢◌, ◌⊎◌, Bool, false, ◌&&◌, List, [], ◌∷◌, eqb, length, if◌then◌else◌}
 use Rattle.spec_patch.specs.Sizes.{projection_entries}
 use Rattle.spec_patch.specs.Patch.{Operation, set_binding, set_availability, insert, update, remove, move}
 use Rattle.spec_projection.specs.Projection.{Projection}

@@ -1,6 +1,5 @@
 -- The print of an entry in one pass, as code writes it: character after character, with a line break before one that has no column left.
-use Rattle.std.specs.Prelude.{ℕ, suc, ◌-◌, List, [], ◌∷◌, ◌++◌, eqb, replicate}
-use Rattle.spec_lists.specs.Lists.{if◌then◌else◌}
+use Rattle.std.specs.Prelude.{ℕ, suc, ◌-◌, List, [], ◌∷◌, ◌++◌, eqb, replicate, if◌then◌else◌}
 use Rattle.spec_text.specs.Scalars.{encode_scalar}
 use Rattle.spec_panel_print.specs.Print.{text_width, blank, line_end, blank_lead}
 

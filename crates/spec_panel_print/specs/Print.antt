@@ -1,9 +1,9 @@
 -- A collection on paper: 02, Job 10. Every line has three columns: a key, two spaces, a part of the printed value. A character is one scalar
 -- value of RFC 3629.
-use Rattle.std.specs.Prelude.{ℕ, zero, suc, ◌+◌, ◌-◌, ◌/◌, Bool, false, ◌||◌, ltb, eqb, length, take, drop, replicate}
+use Rattle.std.specs.Prelude.{ℕ, zero, suc, ◌+◌, ◌-◌, ◌/◌, Bool, false, ◌||◌, ltb, eqb, length, take, drop, replicate, if◌then◌else◌}
 use mathlib.Core.List.{List, [], ◌∷◌, ◌++◌, map, flat_map}
 use Rattle.std.proofs.Math.Option.{Option}
-use Rattle.spec_lists.specs.Lists.{if◌then◌else◌, is_empty}
+use Rattle.spec_lists.specs.Lists.{is_empty}
 use Rattle.spec_text.specs.Scalars.{encode_scalars}
 use Rattle.spec_patch.specs.Patch.{Quad, N, F, T, S, Value, quad, signed, text, unsigned, score}
 use Rattle.spec_projection.specs.Projection.{Projection}

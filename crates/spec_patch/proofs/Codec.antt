@@ -4,9 +4,9 @@ use Prim.Native.Nat.{ℕ, zero, suc, ◌+◌, ◌-◌, ◌^◌, ◌≤◌, ◌<�
 use Rattle.std.proofs.Math.Path.{◌≡◌, refl, sym, ap, ap₂}
 use Rattle.std.proofs.Common.{◌∙◌, subst, arith, le-leb, leb-true, leb-false, eq-eqb, eqb-true, take-append-drop, length-append, length-drop, drop_of_length-le, take_at, drop_at, drop-drop, length-take-le}
 use mathlib.Core.List.{List, [], ◌∷◌, ◌++◌, append_assoc, flat_map}
-use Rattle.std.specs.Prelude.{Bool, true, false, take, drop, leb, eqb}
+use Rattle.std.specs.Prelude.{Bool, true, false, take, drop, leb, eqb, if◌then◌else◌}
 use Rattle.std.proofs.Math.ListN.{length}
-use Rattle.spec_lists.specs.Lists.{if◌then◌else◌, All}
+use Rattle.spec_lists.specs.Lists.{All}
 use Rattle.spec_lists.specs.Bytes.{Bytes, number_of, little_endian}
 use Rattle.spec_lists.proofs.BytesLaws.{bytes_take, bytes_drop, bytes_right, length_little_endian, number_of_little_endian, little_endian_number_of, number_of_lt}
 use Rattle.spec_patch.specs.Reader.{Fault, malformed, Result, read, refused, Reader, onward, followed, mapped, pair, checked, or_tag, no_tag, many, nothing, byte, bytes, number, literal}

@@ -1,7 +1,7 @@
 -- What telling a text cut off from one too long has changed in reading, and nothing else: every list of bytes is read as it was, or a text in
 -- it is cut off, and then it was 12 and is 10. One law for each way of putting readers together.
 use Prim.Native.Nat.{ℕ, zero, suc, ◌≤◌, ◌<◌, ◌^◌}
-use Rattle.std.specs.Prelude.{◌≡◌, Bool, eqb, take}
+use Rattle.std.specs.Prelude.{◌≡◌, Bool, eqb, take, if◌then◌else◌}
 use Rattle.std.proofs.Math.Path.{refl}
 use Rattle.std.proofs.Common.{sym, ap, subst, ◌∙◌, arith, lit<}
 use Rattle.std.proofs.Math.Bool.{true, false}
@@ -10,7 +10,6 @@ use borrow.Author.Tests.{le-leb, lt-leb, leb-true, leb-false}
 use Rattle.std.proofs.Math.Dec.{leb}
 use Rattle.std.proofs.Math.ListN.{length}
 use Rattle.std.proofs.Math.Seq.{length-take-le}
-use Rattle.spec_lists.specs.Lists.{if◌then◌else◌}
 use Rattle.spec_lists.specs.Bytes.{Bytes}
 use Rattle.spec_lists.proofs.BytesLaws.{bytes_right}
 use Rattle.spec_patch.specs.Sizes.{set_bytes, set_patches, patch_operations, text_bytes}

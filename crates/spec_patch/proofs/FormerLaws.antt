@@ -1,12 +1,11 @@
 -- Every text and every set that was accepted before characters were counted is accepted still, and read as the same list. What one reader reads
 -- another reads alike: one law for each way of putting readers together.
 use Prim.Native.Nat.{ℕ, zero, suc, ◌≤◌}
-use Rattle.std.specs.Prelude.{◌≡◌, refl, Bool, leb, eqb, length}
+use Rattle.std.specs.Prelude.{◌≡◌, refl, Bool, leb, eqb, length, if◌then◌else◌}
 use Rattle.std.proofs.Common.{sym, ◌∙◌, arith, le-leb, leb-true}
 use Rattle.std.proofs.Math.Path.{ap}
 use Rattle.std.proofs.Math.Bool.{true, false}
 use mathlib.Core.List.{List, [], ◌∷◌}
-use Rattle.spec_lists.specs.Lists.{if◌then◌else◌}
 use Rattle.spec_text.specs.Syntax.{is_utf8, characters}
 use Rattle.spec_text.proofs.SyntaxLaws.{characters_few}
 use Rattle.spec_patch.specs.Sizes.{set_bytes, set_patches, patch_operations, text_characters, text_bytes, former_text_bytes}

@@ -1,13 +1,13 @@
 -- The reader is strict: a patch list in range whose canonical bytes are read at all fits. So a reader that passes is proof of the
 -- capacities, and nothing has to be asked of the list beforehand.
-use Rattle.std.specs.Prelude.{ℕ, ◌≤◌, ◌<◌, ◌^◌, ◌≡◌, Bool, false, leb}
+use Rattle.std.specs.Prelude.{ℕ, ◌≤◌, ◌<◌, ◌^◌, ◌≡◌, Bool, false, leb, if◌then◌else◌}
 use Rattle.std.proofs.Math.Path.{refl}
 use Rattle.std.proofs.Math.Bool.{true}
 use mathlib.Core.List.{List, [], ◌∷◌, ◌++◌, append_assoc, append-nil, flat_map}
 use native.Mathlib.Omega.{arith}
 use Rattle.std.proofs.Common.{leb-true, lit<}
 use Rattle.std.proofs.Math.ListN.{length, length-append}
-use Rattle.spec_lists.specs.Lists.{if◌then◌else◌, All}
+use Rattle.spec_lists.specs.Lists.{All}
 use Rattle.spec_lists.proofs.BytesLaws.{length_little_endian}
 use Rattle.spec_text.specs.Syntax.{is_utf8}
 use Rattle.spec_patch.specs.TextRule.{few_bytes, few_characters}

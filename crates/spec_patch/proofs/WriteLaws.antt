@@ -1,11 +1,11 @@
 -- Given room, the writer succeeds exactly for the lists that fit, and reading its bytes gives the list back.
-use Rattle.std.specs.Prelude.{ℕ, ◌≤◌, false, List, ◌↔◌, length}
+use Rattle.std.specs.Prelude.{ℕ, ◌≤◌, false, List, ◌↔◌, length, if◌then◌else◌}
 use Rattle.std.proofs.Math.Path.{◌≡◌, refl}
 use Rattle.std.proofs.Common.{ap, ◌∙◌, arith}
 use Rattle.std.proofs.Math.Bool.{Bool, true}
 use borrow.Author.Tests.{leb-true, le-leb}
 use Rattle.std.proofs.Math.Dec.{leb}
-use Rattle.spec_lists.specs.Lists.{if◌then◌else◌, all, All}
+use Rattle.spec_lists.specs.Lists.{all, All}
 use Rattle.spec_lists.proofs.ListLaws.{and_left, and_right, all_map, all_of_test, test_of_all}
 use Rattle.spec_patch.specs.Sizes.{set_bytes, set_patches, patch_operations, text_bytes, highest_score}
 use Rattle.spec_patch.specs.Patch.{Value, quad, signed, text, unsigned, score, Operation, set_binding, set_availability, insert, update, remove, move, Patch}

@@ -1,10 +1,9 @@
 -- Reading a set: 01, 'Canonical bytes' and step 4, and 02, 'Job 5' and 'Job 6'. The first fault in reading decides. What is read of texts is a reader that
 -- the others are given (`…With`), so that reading under another rule of texts is told in a line each.
-use Rattle.std.specs.Prelude.{ℕ, Bool, true, List, [], ◌∷◌, leb, length, ℤ}
+use Rattle.std.specs.Prelude.{ℕ, Bool, true, List, [], ◌∷◌, leb, length, ℤ, if◌then◌else◌}
 use Rattle.std.proofs.Math.Option.{Option, none, some}
 use Rattle.std.specs.Int.{w64}
 use Rattle.std.proofs.Common.{to_z}
-use Rattle.spec_lists.specs.Lists.{if◌then◌else◌}
 use Rattle.spec_patch.specs.TextRule.{few_bytes, allowed, few_characters}
 use Rattle.spec_patch.specs.Sizes.{set_bytes, set_patches, patch_operations, highest_score}
 use Rattle.spec_patch.specs.Patch.{Quad, N, F, T, S, Availability, available, unavailable, hidden, pending, stale, Value, quad, signed, text, unsigned, score, Operation, set_binding, set_availability, insert, update, remove, move, Envelope, Patch}

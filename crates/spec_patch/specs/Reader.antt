@@ -1,7 +1,6 @@
 -- Reading from the start of a list of bytes: what was read with the bytes that are left, or the fault that ended the reading.
 -- Each way of putting readers together is defined here, and has its law in `Codec`.
-use Rattle.std.specs.Prelude.{ℕ, zero, suc, ◌≡◌, List, [], ◌∷◌, Bool, length, take, drop, leb, eqb}
-use Rattle.spec_lists.specs.Lists.{if◌then◌else◌}
+use Rattle.std.specs.Prelude.{ℕ, zero, suc, ◌≡◌, List, [], ◌∷◌, Bool, length, take, drop, leb, eqb, if◌then◌else◌}
 use Rattle.spec_lists.specs.Bytes.{number_of}
 
 -- why bytes are not read

@@ -1,6 +1,6 @@
 -- The writer: 01, 'Rejections', and 02, 'Job 5' and 'Job 13': it tests 12 for the capacities, then 10, then 12 for the characters of texts, then 14.
-use Rattle.std.specs.Prelude.{ℕ, Bool, true, ◌&&◌, List, leb, length}
-use Rattle.spec_lists.specs.Lists.{if◌then◌else◌, all}
+use Rattle.std.specs.Prelude.{ℕ, Bool, true, ◌&&◌, List, leb, length, if◌then◌else◌}
+use Rattle.spec_lists.specs.Lists.{all}
 use Rattle.spec_patch.specs.TextRule.{few_bytes, allowed, few_characters}
 use Rattle.spec_patch.specs.Sizes.{set_bytes, set_patches, patch_operations, highest_score}
 use Rattle.spec_patch.specs.Patch.{Value, quad, signed, text, unsigned, score, Operation, set_binding, set_availability, insert, update, remove, move, Patch}

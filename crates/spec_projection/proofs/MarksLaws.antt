@@ -1,5 +1,5 @@
 -- The mark of a stored row is the id of the last patch in the run that gave it its value, or the mark that it had.
-use Rattle.std.specs.Prelude.{ℕ, ◌≡◌, refl, true, false, ◌&&◌}
+use Rattle.std.specs.Prelude.{ℕ, ◌≡◌, refl, true, false, ◌&&◌, if◌then◌else◌}
 use Rattle.std.proofs.Math.Path.{sym}
 use Rattle.std.proofs.Common.{ap, ◌∙◌}
 use Rattle.std.proofs.Math.Bool.{false≢true}
@@ -7,7 +7,6 @@ use mathlib.Core.List.{List, [], ◌∷◌, head-eq_of_cons-eq, tail-eq_of_cons-
 use Rattle.std.proofs.Math.Option.{Option, none, some, map, some-ne-none, or_else}
 use borrow.Author.Tests.{eqb-true, eqb-false, eq-eqb}
 use Rattle.std.proofs.Math.Dec.{eqb}
-use Rattle.spec_lists.specs.Lists.{if◌then◌else◌}
 use Rattle.spec_lists.proofs.ListLaws.{and_left, and_right, test_cases}
 use Rattle.spec_lists.specs.Order.{upsert}
 use Rattle.spec_lists.proofs.LookupLaws.{lookup_upsert, lookup_upsert_other}

@@ -1,13 +1,12 @@
 -- A change of rows that keeps their keys commutes with every operation, for done and stopped alike, whatever the projection; and it keeps the
 -- stored order.
-use Rattle.std.specs.Prelude.{ℕ, ◌≡◌, Bool, true, false, not, leb, length}
+use Rattle.std.specs.Prelude.{ℕ, ◌≡◌, Bool, true, false, not, leb, length, if◌then◌else◌}
 use Rattle.std.proofs.Math.Path.{refl, ap, ap₂}
 use Rattle.std.proofs.Common.{◌∙◌}
 use mathlib.Core.List.{List, [], ◌∷◌, map}
 use Rattle.std.proofs.Math.Option
 use Rattle.std.proofs.Math.Option.{Option, none, some}
 use Rattle.std.proofs.Math.ListN.{length-map}
-use Rattle.spec_lists.specs.Lists.{if◌then◌else◌}
 use Rattle.spec_lists.specs.Order.{upsert}
 use Rattle.spec_lists.proofs.ListLaws.{any_map}
 use Rattle.spec_patch.specs.Sizes.{projection_bindings, projection_availabilities, projection_entries}

@@ -1,8 +1,7 @@
 -- The six operations on a projection, and patches applied as steps: 01, 'Projection', and step 9 of a batch.
-use Rattle.std.specs.Prelude.{ℕ, not, leb, length}
+use Rattle.std.specs.Prelude.{ℕ, not, leb, length, if◌then◌else◌}
 use mathlib.Core.List.{List, [], ◌∷◌, map, flat_map}
 use Rattle.std.proofs.Math.Option.{Option, none, some}
-use Rattle.spec_lists.specs.Lists.{if◌then◌else◌}
 use Rattle.spec_lists.specs.Order.{upsert}
 use Rattle.spec_patch.specs.Sizes.{projection_bindings, projection_availabilities, projection_entries}
 use Rattle.spec_patch.specs.Patch.{Operation, set_binding, set_availability, insert, update, remove, move, Patch}

@@ -1,7 +1,6 @@
 -- The first element of a list that passes a test: found, replaced, taken out, or another one inserted before it.
-use Rattle.std.specs.Prelude.{Bool, List, [], ◌∷◌}
+use Rattle.std.specs.Prelude.{Bool, List, [], ◌∷◌, if◌then◌else◌}
 use Rattle.std.proofs.Math.Option.{Option, none, some}
-use Rattle.spec_lists.specs.Lists.{if◌then◌else◌}
 
 -- the first element that passes, or none
 unfoldable pub find_first : {A : Type 0} → (A → Bool) → List A → Option A

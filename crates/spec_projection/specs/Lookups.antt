@@ -1,8 +1,7 @@
 -- Lookups answer the value or none, its mark beside it, and a collection's entries in their order: 01, 'Projection', and 02, Job 11.
-use Rattle.std.specs.Prelude.{ℕ, List, [], ◌∷◌, eqb, length}
+use Rattle.std.specs.Prelude.{ℕ, List, [], ◌∷◌, eqb, length, if◌then◌else◌}
 use Rattle.std.proofs.Math.Option.{Option, map}
 use Rattle.std.proofs.Math.ListN.{get_elem?}
-use Rattle.spec_lists.specs.Lists.{if◌then◌else◌}
 use Rattle.spec_lists.specs.Order.{lookup}
 use Rattle.spec_patch.specs.Patch.{Value, Availability}
 use Rattle.spec_projection.specs.Projection.{Binding, NodeAvailability, Entry, Projection, binding_key, availability_key}

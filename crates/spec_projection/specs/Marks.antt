@@ -1,7 +1,6 @@
 -- Marks: 02, Job 11. A projection without them, and the patch that last gave a row its value.
-use Rattle.std.specs.Prelude.{ℕ, Bool, false, ◌&&◌, List, [], ◌∷◌, map, eqb}
+use Rattle.std.specs.Prelude.{ℕ, Bool, false, ◌&&◌, List, [], ◌∷◌, map, eqb, if◌then◌else◌}
 use Rattle.std.proofs.Math.Option.{Option, none, some, or_else}
-use Rattle.spec_lists.specs.Lists.{if◌then◌else◌}
 use Rattle.spec_patch.specs.Patch.{Operation, set_binding, set_availability, insert, update, remove, move}
 use Rattle.spec_projection.specs.Projection.{Projection}
 use Rattle.spec_projection.specs.Lookups.{binding_mark, availability_mark, entry_mark}

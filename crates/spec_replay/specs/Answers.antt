@@ -1,8 +1,7 @@
 -- What each call of a replay prints, as bytes: a letter, then fields with a tab before each, and the newline.
-use Rattle.std.specs.Prelude.{ℕ, zero, suc, ◌+◌, leb, length, get_or, take, drop}
+use Rattle.std.specs.Prelude.{ℕ, zero, suc, ◌+◌, leb, length, get_or, take, drop, if◌then◌else◌}
 use mathlib.Core.List.{List, [], ◌∷◌, ◌++◌, flat_map}
 use Rattle.std.proofs.Math.Option.{Option, none, some}
-use Rattle.spec_lists.specs.Lists.{if◌then◌else◌}
 use Rattle.spec_patch.specs.Patch.{Value, Availability}
 use Rattle.spec_patch.specs.Encode.{availability_byte}
 use Rattle.spec_patch.specs.Reader.{fault_number}

@@ -1,8 +1,8 @@
 -- Bytes in lower-case hex.
-use Rattle.std.specs.Prelude.{ℕ, ◌+◌, ◌-◌, ◌*◌, ◌/◌, ◌%◌, ltb, eqb}
+use Rattle.std.specs.Prelude.{ℕ, ◌+◌, ◌-◌, ◌*◌, ◌/◌, ◌%◌, ltb, eqb, if◌then◌else◌}
 use mathlib.Core.List.{List, [], ◌∷◌, flat_map}
 use Rattle.std.proofs.Math.Option.{Option, none, some}
-use Rattle.spec_lists.specs.Lists.{if◌then◌else◌, between, equal_lists}
+use Rattle.spec_lists.specs.Lists.{between, equal_lists}
 use Rattle.spec_decimal.specs.Decimal.{is_digit}
 unfoldable pub use Rattle.spec_listing.specs.Split.{cons}
 

@@ -1,7 +1,7 @@
 -- The commands of a replay script, one to a line, as bytes: the table `commands`, and the fields of each above it.
-use Rattle.std.specs.Prelude.{ℕ, zero, suc, Bool, true, List, [], ◌∷◌, leb, eqb, length}
+use Rattle.std.specs.Prelude.{ℕ, zero, suc, Bool, true, List, [], ◌∷◌, leb, eqb, length, if◌then◌else◌}
 use Rattle.std.proofs.Math.Option.{Option, none, some, map}
-use Rattle.spec_lists.specs.Lists.{if◌then◌else◌, equal_lists}
+use Rattle.spec_lists.specs.Lists.{equal_lists}
 use Rattle.spec_decimal.specs.Decimal.{read_decimal}
 use Rattle.spec_patch.specs.Sizes.{set_bytes}
 use Rattle.spec_patch.specs.Patch.{Envelope}

@@ -1,9 +1,9 @@
 -- Every refusal of a session answer has a stage, and no number past 12 has one; the numbers of reading and applying are the session's.
-use Rattle.std.specs.Prelude.{ℕ, zero, suc, min, ◌≤◌, ◌<◌, ◌≡◌, refl, Bool, true, false, List, [], ◌∷◌, eqb, length}
+use Rattle.std.specs.Prelude.{ℕ, zero, suc, min, ◌≤◌, ◌<◌, ◌≡◌, refl, Bool, true, false, List, [], ◌∷◌, eqb, length, if◌then◌else◌}
 use Rattle.std.proofs.Common.{sym, eqb-true, arith}
 use Rattle.std.proofs.Math.Option.{none, some}
 use Rattle.std.proofs.Math.ListN.{get_elem?}
-use Rattle.spec_lists.specs.Lists.{if◌then◌else◌, or_zero}
+use Rattle.spec_lists.specs.Lists.{or_zero}
 use Rattle.spec_patch.specs.Reader.{Fault, fault_number}
 use Rattle.spec_patch.specs.Reader as reading
 use Rattle.spec_projection.specs.Apply.{OperationFault, operation_fault_number}

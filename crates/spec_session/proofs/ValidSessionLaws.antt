@@ -1,9 +1,9 @@
 -- The invariant holds at creation and after every lifecycle and batch step; and a lifecycle step that is rejected leaves the session as it
 -- was.
-use Rattle.std.specs.Prelude.{ℕ, ◌≡◌, refl, Bool, true, false, List, leb, eqb, length}
+use Rattle.std.specs.Prelude.{ℕ, ◌≡◌, refl, Bool, true, false, List, leb, eqb, length, if◌then◌else◌}
 use Rattle.std.proofs.Common.{sym, ap, subst, arith, leb-true}
 use Rattle.std.proofs.Math.Option.{Option, none, some}
-use Rattle.spec_lists.specs.Lists.{if◌then◌else◌, All}
+use Rattle.spec_lists.specs.Lists.{All}
 use Rattle.spec_lists.proofs.ListLaws.{and_left, and_right}
 use Rattle.spec_lists.specs.Bytes.{Bytes}
 use Rattle.spec_patch.specs.Sizes.{anchors}

@@ -1,6 +1,6 @@
 -- One batch, from entry to leaf: 01's steps 1 to 9.
-use Rattle.std.specs.Prelude.{ℕ, ◌+◌, Bool, true, false, not, ◌&&◌, ◌||◌, List, [], ◌∷◌, leb, ltb, eqb, length}
-use Rattle.spec_lists.specs.Lists.{if◌then◌else◌, any, is_empty}
+use Rattle.std.specs.Prelude.{ℕ, ◌+◌, Bool, true, false, not, ◌&&◌, ◌||◌, List, [], ◌∷◌, leb, ltb, eqb, length, if◌then◌else◌}
+use Rattle.spec_lists.specs.Lists.{any, is_empty}
 use Rattle.spec_patch.specs.Sizes.{largest_u64}
 use Rattle.spec_patch.specs.Patch.{Operation, Patch}
 use Rattle.spec_patch.specs.Edition.{Edition}

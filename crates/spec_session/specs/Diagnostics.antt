@@ -1,8 +1,8 @@
 -- Refusals in session answers, their numbers and stages, and diagnostics under the cap: 01, 'Rejections' and 'Diagnostics under the cap'.
-use Rattle.std.specs.Prelude.{ℕ, zero, suc, min, List, [], ◌∷◌, eqb}
+use Rattle.std.specs.Prelude.{ℕ, zero, suc, min, List, [], ◌∷◌, eqb, if◌then◌else◌}
 use Rattle.std.proofs.Math.Option.{Option, none}
 use Rattle.std.proofs.Math.ListN.{get_elem?}
-use Rattle.spec_lists.specs.Lists.{if◌then◌else◌, or_zero}
+use Rattle.spec_lists.specs.Lists.{or_zero}
 use Rattle.spec_patch.specs.Reader.{Fault}
 use Rattle.spec_patch.specs.Reader as reading
 use Rattle.spec_projection.specs.Apply.{OperationFault}

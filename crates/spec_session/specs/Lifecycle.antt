@@ -1,7 +1,6 @@
 -- The lifecycle step: 01, 'Lifecycle'.
-use Rattle.std.specs.Prelude.{ℕ, Bool, true, false, leb}
+use Rattle.std.specs.Prelude.{ℕ, Bool, true, false, leb, if◌then◌else◌}
 use Rattle.std.proofs.Math.Option.{Option, none, some}
-use Rattle.spec_lists.specs.Lists.{if◌then◌else◌}
 use Rattle.spec_session.specs.Session.{Lifecycle, created, active, suspended, closed, Cursor, Session}
 use Rattle.spec_session.specs.Diagnostics.{SessionRefusal, session_closed, wrong_lifecycle, limit_exceeded, Diagnostics, no_diagnostics, diagnostics_of}
 

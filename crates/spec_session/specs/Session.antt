@@ -1,6 +1,5 @@
 -- A session and its creation: 01, 'Lifecycle' and 'Rejections'.
-use Rattle.std.specs.Prelude.{ℕ, Bool, ◌&&◌, List, leb, length}
-use Rattle.spec_lists.specs.Lists.{if◌then◌else◌}
+use Rattle.std.specs.Prelude.{ℕ, Bool, ◌&&◌, List, leb, length, if◌then◌else◌}
 use Rattle.spec_patch.specs.Sizes.{anchors}
 use Rattle.spec_projection.specs.Projection.{Projection, empty}
 

@@ -1,9 +1,8 @@
 -- Octets that match a sequence of ranges, and how the syntax reads them.
-use Rattle.std.specs.Prelude.{ℕ, zero, suc, ◌+◌, ◌≤◌, ◌<◌, ◌≡◌, refl, ◌⊎◌, true, false, List, [], ◌∷◌, ◌++◌, leb, get_or}
+use Rattle.std.specs.Prelude.{ℕ, zero, suc, ◌+◌, ◌≤◌, ◌<◌, ◌≡◌, refl, ◌⊎◌, true, false, List, [], ◌∷◌, ◌++◌, leb, get_or, if◌then◌else◌}
 use Rattle.std.proofs.Common.{◌∙◌, ap, inl, inr, zero-add, arith, le-leb}
 use Rattle.std.proofs.Math.Bool.{and-false}
 use Rattle.std.proofs.lemmas.Bool.{lt-leb}
-use Rattle.spec_lists.specs.Lists.{if◌then◌else◌}
 use Rattle.spec_text.specs.Syntax.{Range, inside, sequences, After, expects, lead, advance, whole, is_utf8_after, characters_after, is_utf8, characters}
 
 pub inside_of : (r : Range) (b : ℕ) → r.low ≤ b → b ≤ r.high → inside r b ≡ true

@@ -1,9 +1,8 @@
 -- A text in the syntax splits into the octets of its first character and a text in the syntax, and so it is an encoding.
-use Rattle.std.specs.Prelude.{ℕ, ◌≡◌, refl, Bool, true, false}
+use Rattle.std.specs.Prelude.{ℕ, ◌≡◌, refl, Bool, true, false, if◌then◌else◌}
 use Rattle.std.proofs.Common.{sym, ◌∙◌, ap, ap₂, subst, inl, inr, ⊎_elim}
 use Rattle.std.proofs.lemmas.Bool.{false≢true}
 use mathlib.Core.List.{List, [], ◌∷◌, ◌++◌, flat_map}
-use Rattle.spec_lists.specs.Lists.{if◌then◌else◌}
 use Rattle.spec_text.specs.Scalars.{encode_scalars, Encoded}
 use Rattle.spec_text.specs.Syntax.{Range, inside, sequences, After, expects, refused, lead, is_utf8_after, is_utf8}
 use Rattle.spec_text.proofs.SyntaxLaws.{inside_true, refused_stays}

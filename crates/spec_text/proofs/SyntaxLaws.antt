@@ -1,8 +1,8 @@
 -- A text in the syntax consists of bytes: every range of the syntax ends below 256. It has no more characters than bytes.
-use Rattle.std.specs.Prelude.{ℕ, ◌+◌, ◌≤◌, ◌<◌, ◌≡◌, refl, Bool, true, false, List, [], ◌∷◌, leb, ltb, length}
+use Rattle.std.specs.Prelude.{ℕ, ◌+◌, ◌≤◌, ◌<◌, ◌≡◌, refl, Bool, true, false, List, [], ◌∷◌, leb, ltb, length, if◌then◌else◌}
 use Rattle.std.proofs.Common.{sym, ◌∙◌, arith, leb-true, ltb-true}
 use Rattle.std.proofs.lemmas.Bool.{false≢true}
-use Rattle.spec_lists.specs.Lists.{if◌then◌else◌, all}
+use Rattle.spec_lists.specs.Lists.{all}
 use Rattle.spec_lists.proofs.ListLaws.{and_left, and_right}
 use Rattle.spec_lists.specs.Bytes.{Bytes}
 use Rattle.spec_text.specs.Syntax.{Range, inside, sequences, After, expects, refused, lead, advance, whole, is_utf8_after, characters_after, is_utf8, characters}

@@ -1,7 +1,7 @@
 -- RFC 3629, section 3: the encoding of scalar values. An octet is a number, and a text a list of octets.
-use Rattle.std.specs.Prelude.{ℕ, ◌+◌, ◌/◌, ◌%◌, ◌≤◌, ◌≡◌, ltb}
+use Rattle.std.specs.Prelude.{ℕ, ◌+◌, ◌/◌, ◌%◌, ◌≤◌, ◌≡◌, ltb, if◌then◌else◌}
 use mathlib.Core.List.{List, [], ◌∷◌, flat_map}
-use Rattle.spec_lists.specs.Lists.{if◌then◌else◌, All}
+use Rattle.spec_lists.specs.Lists.{All}
 
 -- A scalar value is at most 0x10ffff, and no surrogate.
 abbrev pub Scalar : ℕ → Type 0

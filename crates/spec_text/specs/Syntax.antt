@@ -1,6 +1,6 @@
 -- RFC 3629, section 4: the syntax of UTF-8 as octet sequences, and the number of characters.
-use Rattle.std.specs.Prelude.{ℕ, ◌+◌, Bool, true, false, List, [], ◌∷◌}
-use Rattle.spec_lists.specs.Lists.{if◌then◌else◌, between}
+use Rattle.std.specs.Prelude.{ℕ, ◌+◌, Bool, true, false, List, [], ◌∷◌, if◌then◌else◌}
+use Rattle.spec_lists.specs.Lists.{between}
 
 infix 60 ◌⋯◌
 -- A range of octets, both ends included: %x80-BF is `0x80 ⋯ 0xbf`.

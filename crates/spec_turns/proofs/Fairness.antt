@@ -1,8 +1,7 @@
 -- Nobody is held off: 02, Job 14. Both claims are the last theorems here; they hold of every list of calls, from any turns on.
-use Rattle.std.specs.Prelude.{ℕ, zero, suc, ◌+◌, ◌*◌, ◌≤◌, ◌<◌, ◌≡◌, true, false, List, [], ◌∷◌, ◌⊎◌, eqb, length, take}
+use Rattle.std.specs.Prelude.{ℕ, zero, suc, ◌+◌, ◌*◌, ◌≤◌, ◌<◌, ◌≡◌, true, false, List, [], ◌∷◌, ◌⊎◌, eqb, length, take, if◌then◌else◌}
 use Rattle.std.proofs.Common.{sym, ap, ◌∙◌, inl, inr, add-mul, one-mul, lt_of_mul-lt-mul_right, arith, eqb-true}
 use Rattle.std.proofs.lemmas.Bool.{false≢true}
-use Rattle.spec_lists.specs.Lists.{if◌then◌else◌}
 use Rattle.spec_lists.proofs.ListLaws.{and_left, and_right, test_cases, or_second}
 use Rattle.spec_session.specs.Session.{Cursor}
 use Rattle.spec_turns.specs.Turns.{Turns, senders, waits, register, TurnAnswer, turn}

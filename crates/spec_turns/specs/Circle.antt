@@ -1,6 +1,5 @@
 -- Whose turn it is, said without a search: how far ahead a sender is, and who is nearest.
-use Rattle.std.specs.Prelude.{ℕ, ◌+◌, ◌-◌, ◌≤◌, ◌≡◌, Bool, true, false, List, leb, length, get_or}
-use Rattle.spec_lists.specs.Lists.{if◌then◌else◌}
+use Rattle.std.specs.Prelude.{ℕ, ◌+◌, ◌-◌, ◌≤◌, ◌≡◌, Bool, true, false, List, leb, length, get_or, if◌then◌else◌}
 use Rattle.spec_turns.specs.Turns.{Turns, senders, first_asked}
 
 -- in a circle of n one sender stands so many places ahead of another

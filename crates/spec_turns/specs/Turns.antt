@@ -1,7 +1,7 @@
 -- Turns among senders: set-up, registering, the turn call. 02, Job 14. Senders are numbered from 0 on.
-use Rattle.std.specs.Prelude.{ℕ, zero, suc, ◌+◌, Bool, true, false, List, leb, ltb, length, get_or, set, replicate}
+use Rattle.std.specs.Prelude.{ℕ, zero, suc, ◌+◌, Bool, true, false, List, leb, ltb, length, get_or, set, replicate, if◌then◌else◌}
 use Rattle.std.proofs.Math.Option.{Option, none, some}
-use Rattle.spec_lists.specs.Lists.{if◌then◌else◌, between}
+use Rattle.spec_lists.specs.Lists.{between}
 use Rattle.spec_patch.specs.Sizes.{largest_u64}
 use Rattle.spec_session.specs.Session.{Cursor, uninitialized, at}
 

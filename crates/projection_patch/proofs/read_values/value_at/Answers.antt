@@ -6,7 +6,7 @@ use mathlib.Core.List.{List}
 use native.Mathlib.Omega.{arith}
 use borrow.Author.Tests.{ne_eqb}
 use lib.ListN.{length, get_or, drop}
-use Rattle.spec_lists.specs.Lists.{if◌then◌else◌}
+use Rattle.std.specs.Prelude.{if◌then◌else◌}
 use Rattle.spec_patch.specs.Edition.{Edition, kinds, has_kind}
 use Rattle.spec_patch.specs.Reader.{Reader, Result, refused, malformed}
 use Rattle.spec_patch.specs.Patch.{Value}

@@ -5,7 +5,7 @@ use mathlib.Core.Bool.{Bool, true, false}
 use native.Mathlib.Omega.{arith}
 use lib.ListN.{take, drop}
 use borrow.Author.Rules.{rules}
-use Rattle.spec_lists.specs.Lists.{if◌then◌else◌}
+use Rattle.std.specs.Prelude.{if◌then◌else◌}
 use Rattle.spec_replay.specs.Script.{page, other}
 use Rattle.spec_replay.specs.Replay.{replay_line}
 use Rattle.script_parser.specs.Keys.{page_then}
