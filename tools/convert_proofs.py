@@ -180,7 +180,7 @@ class Function:
         if not rest:
             return i, None
         first = norm(rest[0])
-        if first not in ("args", "pre", "requires", "ranges", "lifetimes", "well_formed"):
+        if first not in ("args", "pre", "fits", "requires", "ranges", "lifetimes", "well_formed"):
             i, first = self.at_label(start, i, first)
         for name, label in self.typed[i]:
             if norm(label) == first and rest[1:2] == ["given"]:
@@ -209,7 +209,7 @@ class Function:
             return i, out
         if best:
             return i, best[0]
-        return i, [{"pre": "requires"}.get(rest[0], plain(rest[0]))] + tail(rest[1:])
+        return i, [{"pre": "requires", "fits": "ranges"}.get(rest[0], plain(rest[0]))] + tail(rest[1:])
 
 
 def tail(labels):
@@ -406,6 +406,11 @@ class File:
         """A lemma or a definition over a place's record."""
         lines = block.split("\n")
         start = next(k for k, l in enumerate(lines) if not l.startswith("--"))
+        m = re.match(rf"module _ \(({NAME}) : {PLACE_TYPE}\) where$", lines[start])
+        if m and norm(m[2]) in self.f.index:
+            env = {m[1]: (m[1], self.f.index[norm(m[2])], [])}
+            rest = self.paths(self.asked(self.expand("\n".join(lines[start + 1 :]), env), env, None), env, None)
+            return "\n".join(lines[:start] + [self.place_types(lines[start]), self.place_types(rest)])
         m = re.match(rf"((?:pub |abbrev |unfoldable )*)({NAME})\s*:", lines[start])
         if not m:
             self.left.append("a block that is not read: " + lines[start][:80])
@@ -593,6 +598,10 @@ def convert(crate, folder, function, text):
         m = re.match(rf"(?:pub |abbrev |unfoldable )*({NAME})\s*:\s*(?:\(\s*{NAME}\s*:\s*)?{PLACE_TYPE}", plain)
         if m and norm(m[2]) in f.index:
             file.first_place[m[1]] = f.index[norm(m[2])]
+        m = re.match(rf"module _ \({NAME} : {PLACE_TYPE}\) where", plain)
+        if m and norm(m[1]) in f.index:
+            for local in re.findall(rf"(?m)^ +(?:pub |abbrev |unfoldable )*({NAME}) :(?=\s)", plain):
+                file.first_place[local] = f.index[norm(m[1])]
     # goals by name
     answers = {}
 
