@@ -672,13 +672,15 @@ def convert(crate, folder, function, text):
         moved = [names[i] for i in range(n) if changed[i]]
         if len(params) not in (n + len(moved), n + len(moved) + 1):
             file.left.append(f"loop {old}: {len(params)} parameters for {n} + {len(moved)}")
+        words = set(re.findall(NAME, body))
+        live = next(x for x in ("l", "s", "w", "z", "live") if x not in words - set(params))
         sub = {}
         for i, p in enumerate(params[:n]):
-            sub[p] = f"l.{names[i]}" if not changed[i] else f"l.initial.{names[i]}"
+            sub[p] = f"{live}.{names[i]}" if not changed[i] else f"{live}.initial.{names[i]}"
         for i, p in enumerate(params[n : n + len(moved)]):
-            sub[p] = f"l.{moved[i]}"
+            sub[p] = f"{live}.{moved[i]}"
         if len(params) > n + len(moved):
-            sub[params[-1]] = "l.fn"
+            sub[params[-1]] = f"{live}.fn"
 
         def one(m):
             if m[1] in sub:
@@ -686,7 +688,7 @@ def convert(crate, folder, function, text):
             return m[0]
 
         body = PATH.sub(one, body)
-        inv_out.append(f"abbrev pub {kind}-{new} : goal.{kind}-{new}\n{kind}-{new} l ={body.rstrip()}")
+        inv_out.append(f"abbrev pub {kind}-{new} : goal.{kind}-{new}\n{kind}-{new} {live} ={body.rstrip()}")
     module = f"Rattle.{name}.proofs.{base}"
     written = {}
     if file.turned_test:
