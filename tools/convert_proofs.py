@@ -312,7 +312,7 @@ class File:
             if m:
                 path, name = m[2], m[1]
                 rest = text[m.end() :]
-                rest = re.sub(rf"(?<![\w.'-]){re.escape(name)}(?![\w'-])", lambda k: path, rest)
+                rest = re.sub(rf"(?<![\w.'-]){re.escape(name)}(?![\w'-])(?!\s=\s)", lambda k: path, rest)
                 text = text[: m.start()] + rest
             if text == before:
                 break
