@@ -199,13 +199,13 @@ class Function:
             rest = [rest[0]] + ["invariant" if rest[1:2] == ["inv"] else x for x in rest[1:2]] + rest[2:]
             out = [self.new_label[i]] + tail(rest[1:])
             params = self.rows["params"].get(self.callee[i] or "")
-            if params and len(rest) > 2 and rest[1] in ("last", "new") and rest[2] in ("0", "1"):
+            if params and len(rest) > 2 and rest[1] in ("last", "new", "auto") and rest[2] in ("0", "1"):
                 n, m = 0, 2
                 while m < len(rest) and rest[m] == "1" and n < len(params) - 1:
                     n, m = n + 1, m + 1
                 if m < len(rest) and rest[m] == "0":
                     m += 1
-                out = [self.new_label[i], "new", params[n]] + tail(rest[m:])
+                out = [self.new_label[i], rest[1].replace("last", "new"), params[n]] + tail(rest[m:])
             return i, out
         if best:
             return i, best[0]
@@ -280,6 +280,7 @@ class File:
         self.head = []
         self.local_goal = {}
         self.turned_test = False
+        self.one_of = False
         self.first_place = {}
         self.place_functions = {}
 
@@ -385,6 +386,9 @@ class File:
                     self.turned_test = True
                     return "(ap not " + ".".join([var] + out) + ")"
                 whole = ".".join([var] + out)
+                if re.fullmatch(r"keys\d+", out[-1]):
+                    self.one_of = True
+                    return f"(one_of {whole})"
                 if len(out) > 2 and out[1] == "ensures" and all(x == "1" for x in out[2:]):
                     gives = self.f.gives_of(i, out)[len(out) - 2 :]
                     base = ".".join([var] + out[:2])
@@ -691,6 +695,8 @@ def convert(crate, folder, function, text):
         inv_out.append(f"abbrev pub {kind}-{new} : goal.{kind}-{new}\n{kind}-{new} {live} ={body.rstrip()}")
     module = f"Rattle.{name}.proofs.{base}"
     written = {}
+    if file.one_of:
+        uses += ["use borrow.Enum.Refused.{opened as one_of}"]
     if file.turned_test:
         uses += ["use mathlib.Core.Path.{ap}", "use mathlib.Core.Bool.{not}"]
     uses_text = "\n".join(uses)

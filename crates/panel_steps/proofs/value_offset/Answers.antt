@@ -12,8 +12,7 @@ use Rattle.projection_patch.specs.Widths.{past_key, past_no_neighbour, past_neig
 use Rattle.projection_patch.specs.Meaning.{before_of, operation_of}
 use Rattle.projection_patch.specs.declared.patch.ProjectionPatchOperation.{ProjectionPatchOperation}
 use Rattle.panel_plan.specs.SetValues.{value_offset}
-use Rattle.panel_steps.proofs.value_offset.Statement.{statement}
-use Rattle.panel_steps.proofs.value_offset.Tie as tie
+use Rattle.panel_steps.proofs.value_offset.Goals as goal
 
 abbrev offset : ProjectionPatchOperation → ℕ
 offset o = value_offset (operation_of [] o)
@@ -26,37 +25,30 @@ neighbour : (k : ℕ) → past_key + length (encode_optional (some k)) ≡ past_
 unfolding encode_optional
 neighbour k = omega (arith, length_little_endian 8 k)
 
-returns : tie.Need-returns
+pub returns-in-SetBindingValue : goal.returns-in-SetBindingValue
 unfolding value_offset
-returns c = sym (ap offset c.enum_told.given.1)
+returns-in-SetBindingValue c = sym (ap offset c.in-SetBindingValue.is)
 
-returns-2 : tie.Need-returns-2
+pub returns-in-SetNodeAvailability : goal.returns-in-SetNodeAvailability
 unfolding value_offset
-returns-2 c = sym (ap offset c.enum-told2.given.1)
+returns-in-SetNodeAvailability c = sym (ap offset c.in-SetNodeAvailability.is)
 
-returns-3 : tie.Need-returns-3
+pub returns-in-None : goal.returns-in-None
 unfolding value_offset
-returns-3 c = sym (ap offset c.before.before.before.operation.given.1 ∙ ap (λ b. past_key + length (encode_optional (before_of b))) c.enum-told3.given.1 ∙ no_neighbour)
+returns-in-None c = sym (ap offset c.in-CollectionInsert.is ∙ ap (λ b. past_key + length (encode_optional (before_of b))) c.in-None.is ∙ no_neighbour)
 
-returns-4 : tie.Need-returns-4
+pub returns-in-Some : goal.returns-in-Some
 unfolding value_offset
-returns-4 c = sym (ap offset c.before.before.before.operation.given.1 ∙ ap (λ b. past_key + length (encode_optional (before_of b))) c.enum-told4.given.1 ∙ neighbour _)
+returns-in-Some c = sym (ap offset c.in-CollectionInsert.is ∙ ap (λ b. past_key + length (encode_optional (before_of b))) c.in-Some.is ∙ neighbour _)
 
-returns-5 : tie.Need-returns-5
+pub returns-in-CollectionUpdate : goal.returns-in-CollectionUpdate
 unfolding value_offset
-returns-5 c = sym (ap offset c.enum-told5.given.1)
+returns-in-CollectionUpdate c = sym (ap offset c.in-CollectionUpdate.is)
 
-returns-6 : tie.Need-returns-6
+pub returns-in-CollectionRemove : goal.returns-in-CollectionRemove
 unfolding value_offset
-returns-6 c = sym (ap offset c.enum-told6.given.1)
+returns-in-CollectionRemove c = sym (ap offset c.in-CollectionRemove.is)
 
-returns-7 : tie.Need-returns-7
+pub returns-in-CollectionMove : goal.returns-in-CollectionMove
 unfolding value_offset
-returns-7 c = sym (ap offset c.enum-told7.given.1)
-
-pub value-offset-spec : {M : Type 1} → statement M
-value-offset-spec =
-    tie.close
-    (tie.spec (λ c. search rules) (λ c. search rules) (λ c. search rules) (λ c. search rules) (λ c. search rules)
-    (λ c. search rules) (λ c. search rules) (λ c. search rules) returns returns-2 returns-3 returns-4 returns-5 returns-6
-    returns-7)
+returns-in-CollectionMove c = sym (ap offset c.in-CollectionMove.is)
