@@ -313,7 +313,11 @@ class File:
             if m:
                 path, name = m[2], m[1]
                 rest = text[m.end() :]
-                rest = re.sub(rf"(?<![\w.'-]){re.escape(name)}(?![\w'-])(?!\s=\s)", lambda k: path, rest)
+                def told(k, rest=rest, path=path):
+                    is_field = re.search(r"[{;]\s*$", rest[: k.start()]) and re.match(r"\s*=\s", rest[k.end() :])
+                    return k[0] if is_field else path
+
+                rest = re.sub(rf"(?<![\w.'-]){re.escape(name)}(?![\w'-])", told, rest)
                 text = text[: m.start()] + rest
             if text == before:
                 break
