@@ -79,6 +79,8 @@ class Function:
         self.goal = {}
         for (old, new), (place, _) in zip(rows["needs"], rows["asked_at"]):
             self.goal.setdefault(norm(old), (new, self.index[norm(place)]))
+            self.goal.setdefault(norm(new), (new, self.index[norm(place)]))
+            self.goal.setdefault(re.sub(r"^part_", "slice_bounds_", norm(old)), (new, self.index[norm(place)]))
         self.order = [(new, self.index[norm(place)]) for (old, new), (place, _) in zip(rows["needs"], rows["asked_at"])]
         self.loops = {norm(old): (new, names, changed) for ((old, new), names), changed in zip(rows["loops"], rows["changed"])}
 
