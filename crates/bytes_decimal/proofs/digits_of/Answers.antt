@@ -1,7 +1,6 @@
 -- `bytes_decimal::digits_of` meets its contract. The invariant: the digits of what is left stand before those that are stored.
 use native.Mathlib.Omega.{arith}
-use borrow.Author.Rules.{rules}
-use Rattle.bytes_decimal.proofs.Printing.{StoredDigits, stored_start, digit_left, start_inside, stored_turn, stored_end}
+use Rattle.bytes_decimal.proofs.Printing.{stored_start, digit_left, start_inside, stored_turn, stored_end}
 use Rattle.bytes_decimal.proofs.digits_of.Goals as goal
 
 pub loop-rest-init : goal.loop-rest-init

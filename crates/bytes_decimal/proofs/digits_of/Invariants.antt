@@ -1,6 +1,4 @@
-use native.Mathlib.Omega.{arith}
-use borrow.Author.Rules.{rules}
-use Rattle.bytes_decimal.proofs.Printing.{StoredDigits, stored_start, digit_left, start_inside, stored_turn, stored_end}
+use Rattle.bytes_decimal.proofs.Printing.{StoredDigits}
 use Rattle.bytes_decimal.proofs.digits_of.Given as goal
 
 abbrev pub invariant-loop-rest : goal.invariant-loop-rest

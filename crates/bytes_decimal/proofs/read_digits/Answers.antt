@@ -1,10 +1,7 @@
 -- `bytes_decimal::read_digits` meets its contract. The invariant: from the number so far, what is left of the text reads as the whole does.
-use Prim.Native.Nat.{◌-◌, ◌^◌, ◌<◌}
-use mathlib.Core.Path.{◌≡◌, refl, sym, ap, ◌∙◌}
+use mathlib.Core.Path.{refl, sym, ap, ◌∙◌}
 use native.Mathlib.Omega.{arith}
-use lib.ListN.{length, drop}
-use borrow.Author.Rules.{rules}
-use Rattle.bytes_decimal.specs.Read.{read_digits, decimal_u64}
+use Rattle.bytes_decimal.specs.Read.{decimal_u64}
 use Rattle.bytes_decimal.proofs.Reading.{next_digit, no_digit, last_digit}
 use Rattle.bytes_decimal.proofs.read_digits.Goals as goal
 

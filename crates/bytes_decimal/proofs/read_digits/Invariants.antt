@@ -1,10 +1,7 @@
 use Prim.Native.Nat.{◌-◌, ◌^◌, ◌<◌}
-use mathlib.Core.Path.{◌≡◌, refl, sym, ap, ◌∙◌}
-use native.Mathlib.Omega.{arith}
+use mathlib.Core.Path.{◌≡◌}
 use lib.ListN.{length, drop}
-use borrow.Author.Rules.{rules}
-use Rattle.bytes_decimal.specs.Read.{read_digits, decimal_u64}
-use Rattle.bytes_decimal.proofs.Reading.{next_digit, no_digit, last_digit}
+use Rattle.bytes_decimal.specs.Read.{read_digits}
 use Rattle.bytes_decimal.proofs.read_digits.Given as goal
 
 abbrev pub invariant-loop-i : goal.invariant-loop-i

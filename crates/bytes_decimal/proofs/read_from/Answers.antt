@@ -1,7 +1,5 @@
 -- `bytes_decimal::read_from` meets its contract: no byte, a leading zero, and digits that are read as they stand.
 use mathlib.Core.Path.{sym, ◌∙◌}
-use mathlib.Core.Logic.{⊎_elim}
-use borrow.Author.Rules.{rules}
 use Rattle.bytes_decimal.proofs.Reading.{none_empty, zero_leads, no_zero_leads}
 use Rattle.bytes_decimal.proofs.read_from.Goals as goal
 use Rattle.bytes_decimal.proofs.read_from.Goals.{then-text-from-eq48+else-text-from-gt1, else-text-from-eq48}

@@ -1,6 +1,5 @@
 -- `bytes_decimal::read_i64` meets its contract: the first byte decides the sign, and the rest is read as a magnitude.
 use mathlib.Core.Path.{sym, ap, ◌∙◌}
-use borrow.Author.Rules.{rules}
 use Rattle.spec_decimal.specs.Decimal.{positive, negative}
 use Rattle.bytes_decimal.specs.Read.{decimal_u64}
 use Rattle.bytes_decimal.proofs.Signs.{positive_none, negative_none, signed_empty, signed_minus, signed_other}

@@ -7,7 +7,6 @@ use lib.IntN.{ℤ, negsuc}
 use mir.Syntax.{w64}
 use mir.Val.{to_z, of_z}
 use mir.Facts.{to_z-of_z, to_z_pos}
-use borrow.Author.Rules.{rules}
 use Rattle.bytes_wire.proofs.Complement.{flip, flip_pos}
 use Rattle.bytes_decimal.proofs.Signs.{negative_zero, negative_fits, negative_exceeds}
 use Rattle.bytes_decimal.proofs.to_negative.Goals as goal

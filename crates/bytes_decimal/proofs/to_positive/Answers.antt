@@ -4,7 +4,6 @@ use mathlib.Core.Option.{some}
 use lib.IntN.{ℤ}
 use mir.Syntax.{w64}
 use mir.Facts.{to_z_pos}
-use borrow.Author.Rules.{rules}
 use Rattle.bytes_decimal.proofs.Signs.{positive_fits, positive_exceeds}
 use Rattle.bytes_decimal.proofs.to_positive.Goals as goal
 

@@ -1,7 +1,6 @@
 -- `bytes_decimal::with_digit` meets its contract: a byte below or above the digits, a number that would exceed a u64, and one that fits.
 use mathlib.Core.Path.{sym}
 use native.Mathlib.Omega.{arith}
-use borrow.Author.Rules.{rules}
 use Rattle.bytes_decimal.proofs.Reading.{below_digits, above_digits, digit_fits, digit_exceeds}
 use Rattle.bytes_decimal.proofs.with_digit.Goals as goal
 
