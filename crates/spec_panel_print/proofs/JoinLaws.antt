@@ -11,7 +11,8 @@ use Rattle.spec_patch.specs.Patch.{Value, quad, signed, text, unsigned, score, N
 use Rattle.spec_patch.specs.Fits.{U64}
 use Rattle.spec_projection.specs.Lookups.{KeyedValue}
 use Rattle.spec_decimal.specs.Decimal.{digits, decimal, signed_decimal, is_digit, is_numeral, read_decimal}
-use Rattle.spec_decimal.proofs.DecimalLaws.{all_digits, is_digit_range}
+use Rattle.spec_decimal.proofs.DecimalLaws.{all_digits}
+use Rattle.spec_decimal.proofs.DigitLaws.{is_digit_range}
 use Rattle.spec_decimal.proofs.ReadLaws.{length_decimal, read_decimal_decimal}
 use Rattle.spec_panel_print.specs.Print.{key_width, lead_width, text_width, blank, quad_letter, printed_value, line_count, text_pieces, column_of, key_lead, blank_lead, laid_out, printed_lines, entry_lines, text_columns, without_end_spaces, ends_in_space, without_first_spaces, key_of}
 use Rattle.spec_panel_print.proofs.PrintLaws.{key_lead_length}
