@@ -1,39 +1,24 @@
 -- The set for a list has arrays of the right lengths, and is the set of that list: so whatever is read is written back byte for byte.
-use Rattle.std.specs.Prelude.{ℕ, suc, ◌+◌, ◌*◌, ◌-◌, ◌≤◌, ◌≡◌, refl, Bool, true, ◌&&◌, drop}
-use Rattle.std.proofs.Common.{sym, ap₂, ◌∙◌, arith, drop_at, drop-drop}
+use Rattle.std.specs.Prelude.{ℕ, ◌-◌, ◌≡◌, true}
+use Rattle.std.proofs.Common.{sym, ◌∙◌, arith}
 use Rattle.std.proofs.Math.Path.{ap}
-use mathlib.Core.List.{List, [], ◌∷◌, ◌++◌, map, flat_map, append_assoc, append-nil, map-append}
-use Rattle.std.proofs.Math.Option.{Option, none, some}
+use mathlib.Core.List.{List, ◌++◌, map, map-append}
 use borrow.Author.Tests.{le-leb}
 use Rattle.std.proofs.Math.ListN.{length, take, length-append, length-map, length-replicate}
-use Rattle.std.proofs.Math.Seq.{take_at, take-length}
-use Rattle.spec_lists.specs.Lists.{All, all}
-use Rattle.spec_lists.proofs.ListLaws.{map_take, map_drop}
+use Rattle.std.proofs.Math.Seq.{take_at}
+use Rattle.spec_lists.specs.Lists.{all}
 use Rattle.spec_lists.specs.Bytes.{Bytes}
-use Rattle.spec_patch.specs.Sizes.{set_patches, patch_operations}
+use Rattle.spec_patch.specs.Sizes.{set_patches}
 use Rattle.spec_patch.specs.Patch as model
 use Rattle.spec_patch.specs.Edition.{Edition}
-use Rattle.spec_patch.specs.Encode.{u32, heading, encode_operation, encode_patch, encode_counted, encode}
-use Rattle.spec_patch.specs.Fits.{FitsPatch, Fits}
+use Rattle.spec_patch.specs.Fits.{Fits}
 use Rattle.spec_patch.specs.Read.{patches, read_set}
 use Rattle.spec_patch.proofs.SetLaws.{was_encoded}
 use Rattle.spec_patch.specs.Write.{wrote}
-use Rattle.projection_patch.specs.Meaning.{before_of, surface_to, surface_of, envelope_to, envelope_of, value_to, value_of, operation_to, operation_of}
-use Rattle.projection_patch.specs.TextLaws.{text_in, text_of, text_within, operation_encoded_back}
 use Rattle.projection_patch.specs.declared.patch.ProjectionPatch.{ProjectionPatch}
-use Rattle.projection_patch.specs.declared.patch.OperationPlace.{OperationPlace}
-use Rattle.projection_patch.specs.declared.patch.OptionalSurfaceId.{OptionalSurfaceId}
-use Rattle.projection_patch.specs.declared.patch.OptionalSurfaceId.TheVariants as surface
-use Rattle.projection_patch.specs.declared.patch.ProjectionPatchValue.{ProjectionPatchValue}
-use Rattle.projection_patch.specs.declared.patch.ProjectionPatchValue.TheVariants.{Quad, SignedScalar, UnsignedScalar, Text, Score}
-use Rattle.projection_patch.specs.declared.patch.ProjectionPatchOperation.{ProjectionPatchOperation}
-use Rattle.projection_patch.specs.declared.patch.ProjectionPatchOperation.TheVariants.{SetBindingValue, SetNodeAvailability, CollectionInsert, CollectionUpdate, CollectionRemove, CollectionMove}
-use Rattle.patch_part_writer.specs.Extent.{surface_size, operation_size, value_text, operation_text}
-use Rattle.patch_part_writer.specs.ExtentLaws.{length_heading}
-use Rattle.patch_writer.specs.Set.{set_places, operation_at, list_from, heads, list_of, operation_total, used, head_sizes, operation_sizes, few_operations, counts_fit, inside_at, patch_set_bytes}
-use Rattle.patch_writer.specs.SetLaws.{size_list}
+use Rattle.patch_writer.specs.Set.{set_places, operation_at, list_from, heads, list_of, operation_total, used, counts_fit, inside_at, patch_set_bytes}
 use Rattle.patch_writer.specs.CallLaws.{Arrays, written_back}
-use Rattle.patch_round_trip.specs.SetFor.{shift_value, shift, places_from, operations_for, texts_for, head_for, no_head, no_place, places_for, spare_heads, spare_places, set_for}
+use Rattle.patch_round_trip.specs.SetFor.{operations_for, texts_for, head_for, no_head, no_place, places_for, spare_heads, spare_places, set_for}
 use Rattle.patch_round_trip.proofs.SetForLaws.{length_places, total, few_heads, list_back, stand, total_places, inside, enough_places}
 
 module _ (ed : Edition) (ps : List model.Patch) (fits : Fits ed ps) where

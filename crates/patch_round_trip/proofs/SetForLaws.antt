@@ -1,23 +1,19 @@
 -- The set for a list stands for it: its places for the operations, its heads for the patches. Its arrays hold every list that fits.
-use Rattle.std.specs.Prelude.{ℕ, suc, ◌+◌, ◌*◌, ◌-◌, ◌≤◌, ◌≡◌, refl, Bool, true, ◌&&◌, drop}
+use Rattle.std.specs.Prelude.{ℕ, suc, ◌+◌, ◌*◌, ◌≤◌, ◌≡◌, refl, Bool, true, ◌&&◌, drop}
 use Rattle.std.proofs.Common.{sym, ap₂, ◌∙◌, arith, drop_at, drop-drop}
 use Rattle.std.proofs.Math.Path.{ap}
-use mathlib.Core.List.{List, [], ◌∷◌, ◌++◌, map, flat_map, append_assoc, append-nil, map-append}
+use mathlib.Core.List.{List, [], ◌∷◌, ◌++◌, map, flat_map, append_assoc, append-nil}
 use Rattle.std.proofs.Math.Option.{Option, none, some}
 use borrow.Author.Tests.{le-leb}
-use Rattle.std.proofs.Math.ListN.{length, take, length-append, length-map, length-replicate}
+use Rattle.std.proofs.Math.ListN.{length, take, length-append, length-map}
 use Rattle.std.proofs.Math.Seq.{take_at, take-length}
 use Rattle.spec_lists.specs.Lists.{All, all}
 use Rattle.spec_lists.proofs.ListLaws.{map_take, map_drop}
-use Rattle.spec_lists.specs.Bytes.{Bytes}
-use Rattle.spec_patch.specs.Sizes.{set_patches, patch_operations}
+use Rattle.spec_patch.specs.Sizes.{patch_operations}
 use Rattle.spec_patch.specs.Patch as model
 use Rattle.spec_patch.specs.Edition.{Edition}
 use Rattle.spec_patch.specs.Encode.{u32, heading, encode_operation, encode_patch, encode_counted, encode}
 use Rattle.spec_patch.specs.Fits.{FitsPatch, Fits}
-use Rattle.spec_patch.specs.Read.{patches, read_set}
-use Rattle.spec_patch.proofs.SetLaws.{was_encoded}
-use Rattle.spec_patch.specs.Write.{wrote}
 use Rattle.projection_patch.specs.Meaning.{before_of, surface_to, surface_of, envelope_to, envelope_of, value_to, value_of, operation_to, operation_of}
 use Rattle.projection_patch.specs.TextLaws.{text_in, text_of, text_within, operation_encoded_back}
 use Rattle.projection_patch.specs.declared.patch.ProjectionPatch.{ProjectionPatch}
@@ -30,10 +26,9 @@ use Rattle.projection_patch.specs.declared.patch.ProjectionPatchOperation.{Proje
 use Rattle.projection_patch.specs.declared.patch.ProjectionPatchOperation.TheVariants.{SetBindingValue, SetNodeAvailability, CollectionInsert, CollectionUpdate, CollectionRemove, CollectionMove}
 use Rattle.patch_part_writer.specs.Extent.{surface_size, operation_size, value_text, operation_text}
 use Rattle.patch_part_writer.specs.ExtentLaws.{length_heading}
-use Rattle.patch_writer.specs.Set.{set_places, operation_at, list_from, heads, list_of, operation_total, used, head_sizes, operation_sizes, few_operations, counts_fit, inside_at, patch_set_bytes}
+use Rattle.patch_writer.specs.Set.{set_places, operation_at, list_from, operation_total, head_sizes, operation_sizes, few_operations, inside_at}
 use Rattle.patch_writer.specs.SetLaws.{size_list}
-use Rattle.patch_writer.specs.CallLaws.{Arrays, written_back}
-use Rattle.patch_round_trip.specs.SetFor.{shift_value, shift, places_from, operations_for, texts_for, head_for, no_head, no_place, places_for, spare_heads, spare_places, set_for}
+use Rattle.patch_round_trip.specs.SetFor.{shift_value, shift, places_from, operations_for, texts_for, head_for, places_for}
 
 -- ---- operations and their texts
 

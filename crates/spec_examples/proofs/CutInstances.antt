@@ -1,7 +1,6 @@
 -- Texts cut off, 02, 'Job 6', at its ends: one table of computed tests, as they are read now and as they were, and a set that the theorem on
 -- what has changed is about.
-use Rattle.std.specs.Prelude.{ℕ, ◌+◌, ◌-◌, ◌≡◌, refl, Bool, true, ◌&&◌, T, eqb, length, take, drop, replicate}
-use Rattle.std.proofs.Common.{sym, ◌∙◌, arith}
+use Rattle.std.specs.Prelude.{ℕ, ◌+◌, ◌-◌, ◌≡◌, refl, Bool, ◌&&◌, T, eqb, length, take, drop, replicate}
 use mathlib.Core.List.{List, [], ◌∷◌, ◌++◌, flat_map}
 use Rattle.spec_lists.specs.Lists.{all}
 use Rattle.spec_lists.specs.Bytes.{Bytes}
@@ -10,9 +9,7 @@ use Rattle.spec_patch.specs.Edition.{v1}
 use Rattle.spec_patch.specs.Encode.{u32, heading, encode}
 use Rattle.spec_patch.specs.Reader.{malformed, over_capacity, fault_number}
 use Rattle.spec_patch.specs.Read.{SetReading, patches, fault, read_set}
-use Rattle.spec_patch.specs.LengthFirst.{patches_over, length_first_text, length_first_set}
-use Rattle.spec_patch.specs.CutOff.{CutOff, SetChange, as_before, changed}
-use Rattle.spec_patch.proofs.CutLaws.{set_changed}
+use Rattle.spec_patch.specs.LengthFirst.{length_first_text, length_first_set}
 use Rattle.spec_examples.proofs.TextInstances.{updating}
 use Rattle.spec_examples.specs.Opened.{opened_all}
 

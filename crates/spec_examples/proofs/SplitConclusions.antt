@@ -1,17 +1,8 @@
 -- What the theorem on split batches says of the instances of SplitInstances.
-use Rattle.std.specs.Prelude.{ℕ, ◌+◌, ◌≡◌, refl, List, [], ◌∷◌, length}
-use Rattle.std.proofs.Math.Option.{Option, none, some}
-use Rattle.std.proofs.Common.{arith}
-use Rattle.spec_patch.specs.Patch.{Operation, Patch, unsigned, score, set_availability, insert, remove, pending}
+use Rattle.std.specs.Prelude.{[], ◌∷◌}
 use Rattle.spec_patch.specs.Edition.{v1, v2}
-use Rattle.spec_patch.specs.Fits.{OperationHolds, InRangeValue, OptionalU64}
-use Rattle.spec_projection.specs.Projection.{empty}
-use Rattle.spec_projection.specs.Lookups.{availability_mark, entry_mark}
-use Rattle.spec_projection.specs.Apply.{key_rule}
-use Rattle.spec_session.specs.Session.{uninitialized, Session, active}
-use Rattle.spec_splitting.specs.Splitting.{Piece, piece_envelope, references, send, continue, is_rejected, send_all, patches_of, Given, Applies, AllApply, FailsAtOperation, StopsAtPiece}
+use Rattle.spec_splitting.specs.Splitting.{send, send_all, AllApply, StopsAtPiece}
 use Rattle.spec_splitting.proofs.Theorem.{whole_and_pieces}
-use Rattle.spec_examples.specs.Opened.{opened_all}
 use Rattle.spec_examples.proofs.SplitInstances.{start_session, piece, first, scored, second, failing_patch, pieces, given_pieces, premise_applies, failing_pieces, given_failing, premise_fails}
 
 -- and so do the two pieces

@@ -10,8 +10,7 @@ use Rattle.spec_projection.specs.Projection.{empty}
 use Rattle.spec_projection.specs.Lookups.{availability_mark, entry_mark}
 use Rattle.spec_projection.specs.Apply.{key_rule}
 use Rattle.spec_session.specs.Session.{uninitialized, Session, active}
-use Rattle.spec_splitting.specs.Splitting.{Piece, piece_envelope, references, send, continue, is_rejected, send_all, patches_of, Given, Applies, AllApply, FailsAtOperation, StopsAtPiece}
-use Rattle.spec_splitting.proofs.Theorem.{whole_and_pieces}
+use Rattle.spec_splitting.specs.Splitting.{Piece, piece_envelope, references, send, continue, is_rejected, send_all, patches_of, Given, Applies, FailsAtOperation}
 use Rattle.spec_examples.specs.Opened.{opened_all}
 
 unfoldable pub patch_numbered : ℕ → List Operation → Patch
