@@ -180,7 +180,7 @@ class Function:
         if not rest:
             return i, None
         first = norm(rest[0])
-        if first not in ("args", "pre", "requires", "ranges", "lifetimes", "well_formed"):
+        if first not in ("args", "pre", "fits", "requires", "ranges", "lifetimes", "well_formed"):
             i, first = self.at_label(start, i, first)
         for name, label in self.typed[i]:
             if norm(label) == first and rest[1:2] == ["given"]:
@@ -199,17 +199,17 @@ class Function:
             rest = [rest[0]] + ["invariant" if rest[1:2] == ["inv"] else x for x in rest[1:2]] + rest[2:]
             out = [self.new_label[i]] + tail(rest[1:])
             params = self.rows["params"].get(self.callee[i] or "")
-            if params and len(rest) > 2 and rest[1] in ("last", "new") and rest[2] in ("0", "1"):
+            if params and len(rest) > 2 and rest[1] in ("last", "new", "auto") and rest[2] in ("0", "1"):
                 n, m = 0, 2
                 while m < len(rest) and rest[m] == "1" and n < len(params) - 1:
                     n, m = n + 1, m + 1
                 if m < len(rest) and rest[m] == "0":
                     m += 1
-                out = [self.new_label[i], "new", params[n]] + tail(rest[m:])
+                out = [self.new_label[i], rest[1].replace("last", "new"), params[n]] + tail(rest[m:])
             return i, out
         if best:
             return i, best[0]
-        return i, [{"pre": "requires"}.get(rest[0], plain(rest[0]))] + tail(rest[1:])
+        return i, [{"pre": "requires", "fits": "ranges"}.get(rest[0], plain(rest[0]))] + tail(rest[1:])
 
 
 def tail(labels):
@@ -280,6 +280,7 @@ class File:
         self.head = []
         self.local_goal = {}
         self.turned_test = False
+        self.one_of = False
         self.first_place = {}
         self.place_functions = {}
 
@@ -312,7 +313,7 @@ class File:
             if m:
                 path, name = m[2], m[1]
                 rest = text[m.end() :]
-                rest = re.sub(rf"(?<![\w.'-]){re.escape(name)}(?![\w'-])", lambda k: path, rest)
+                rest = re.sub(rf"(?<![\w.'-]){re.escape(name)}(?![\w'-])(?!\s=\s)", lambda k: path, rest)
                 text = text[: m.start()] + rest
             if text == before:
                 break
@@ -385,6 +386,9 @@ class File:
                     self.turned_test = True
                     return "(ap not " + ".".join([var] + out) + ")"
                 whole = ".".join([var] + out)
+                if re.fullmatch(r"keys\d+", out[-1]):
+                    self.one_of = True
+                    return f"(one_of {whole})"
                 if len(out) > 2 and out[1] == "ensures" and all(x == "1" for x in out[2:]):
                     gives = self.f.gives_of(i, out)[len(out) - 2 :]
                     base = ".".join([var] + out[:2])
@@ -406,6 +410,11 @@ class File:
         """A lemma or a definition over a place's record."""
         lines = block.split("\n")
         start = next(k for k, l in enumerate(lines) if not l.startswith("--"))
+        m = re.match(rf"module _ \(({NAME}) : {PLACE_TYPE}\) where$", lines[start])
+        if m and norm(m[2]) in self.f.index:
+            env = {m[1]: (m[1], self.f.index[norm(m[2])], [])}
+            rest = self.paths(self.asked(self.expand("\n".join(lines[start + 1 :]), env), env, None), env, None)
+            return "\n".join(lines[:start] + [self.place_types(lines[start]), self.place_types(rest)])
         m = re.match(rf"((?:pub |abbrev |unfoldable )*)({NAME})\s*:", lines[start])
         if not m:
             self.left.append("a block that is not read: " + lines[start][:80])
@@ -593,6 +602,10 @@ def convert(crate, folder, function, text):
         m = re.match(rf"(?:pub |abbrev |unfoldable )*({NAME})\s*:\s*(?:\(\s*{NAME}\s*:\s*)?{PLACE_TYPE}", plain)
         if m and norm(m[2]) in f.index:
             file.first_place[m[1]] = f.index[norm(m[2])]
+        m = re.match(rf"module _ \({NAME} : {PLACE_TYPE}\) where", plain)
+        if m and norm(m[1]) in f.index:
+            for local in re.findall(rf"(?m)^ +(?:pub |abbrev |unfoldable )*({NAME}) :(?=\s)", plain):
+                file.first_place[local] = f.index[norm(m[1])]
     # goals by name
     answers = {}
 
@@ -663,13 +676,15 @@ def convert(crate, folder, function, text):
         moved = [names[i] for i in range(n) if changed[i]]
         if len(params) not in (n + len(moved), n + len(moved) + 1):
             file.left.append(f"loop {old}: {len(params)} parameters for {n} + {len(moved)}")
+        words = set(re.findall(NAME, body))
+        live = next(x for x in ("l", "s", "w", "z", "live") if x not in words - set(params))
         sub = {}
         for i, p in enumerate(params[:n]):
-            sub[p] = f"l.{names[i]}" if not changed[i] else f"l.initial.{names[i]}"
+            sub[p] = f"{live}.{names[i]}" if not changed[i] else f"{live}.initial.{names[i]}"
         for i, p in enumerate(params[n : n + len(moved)]):
-            sub[p] = f"l.{moved[i]}"
+            sub[p] = f"{live}.{moved[i]}"
         if len(params) > n + len(moved):
-            sub[params[-1]] = "l.fn"
+            sub[params[-1]] = f"{live}.fn"
 
         def one(m):
             if m[1] in sub:
@@ -677,9 +692,11 @@ def convert(crate, folder, function, text):
             return m[0]
 
         body = PATH.sub(one, body)
-        inv_out.append(f"abbrev pub {kind}-{new} : goal.{kind}-{new}\n{kind}-{new} l ={body.rstrip()}")
+        inv_out.append(f"abbrev pub {kind}-{new} : goal.{kind}-{new}\n{kind}-{new} {live} ={body.rstrip()}")
     module = f"Rattle.{name}.proofs.{base}"
     written = {}
+    if file.one_of:
+        uses += ["use borrow.Enum.Refused.{opened as one_of}"]
     if file.turned_test:
         uses += ["use mathlib.Core.Path.{ap}", "use mathlib.Core.Bool.{not}"]
     uses_text = "\n".join(uses)

@@ -1,7 +1,7 @@
 -- `bytes_records::find_pair_place` meets its contract. The invariant: every row before position `place` is below the two numbers.
 use mathlib.Core.Path.{◌≡◌, sym, ◌∙◌}
 use mathlib.Core.List.{List, [], ◌∷◌}
-use Prim.Native.Nat.{ℕ, ◌+◌, ◌-◌, ◌*◌, ◌≤◌}
+use Prim.Native.Nat.{ℕ, ◌+◌, ◌*◌, ◌≤◌}
 use native.Mathlib.Omega.{arith}
 use lib.ListN.{length, get_or}
 use borrow.Author.Rules.{rules}
@@ -11,7 +11,7 @@ use Rattle.bytes_records.specs.Keys.{leading_numbers, order_of}
 use Rattle.bytes_records.specs.Search.{PlaceWithin}
 use Rattle.bytes_records.proofs.Offsets.{end_le, fits, fits_not}
 use Rattle.bytes_records.proofs.Changes.{row_is}
-use Rattle.bytes_records.proofs.Searches.{Placed, placed_none, placed_more, placed_taken, placed_before, placed_all}
+use Rattle.bytes_records.proofs.Searches.{placed_none, placed_more, placed_taken, placed_before, placed_all}
 use Rattle.bytes_records.proofs.find_pair_place.Goals as goal
 use Rattle.bytes_records.proofs.find_pair_place.Goals.{After-compare, In-loop-place}
 

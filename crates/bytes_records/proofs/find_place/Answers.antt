@@ -1,6 +1,5 @@
 -- `bytes_records::find_place` meets its contract: a second number of no bytes decides nothing.
 use mathlib.Core.Path.{◌∙◌}
-use borrow.Author.Rules.{rules}
 use Rattle.bytes_records.specs.SearchLaws.{place_one}
 use Rattle.bytes_records.proofs.find_place.Goals as goal
 

@@ -1,7 +1,6 @@
 -- `bytes_utf8::ascii_end` meets its contract: the loop's invariant is the claim of the position reached.
-use Prim.Native.Nat.{◌+◌, ◌-◌}
+use Prim.Native.Nat.{◌+◌}
 use mathlib.Core.Path.{sym, ◌∙◌}
-use lib.ListN.{length}
 use borrow.Author.Rules.{rules}
 use Rattle.bytes_utf8.specs.Characters.{AsciiBetween}
 use Rattle.bytes_utf8.proofs.AsciiLaws.{ascii_none, ascii_joined, ascii_one}

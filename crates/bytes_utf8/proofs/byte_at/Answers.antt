@@ -1,6 +1,5 @@
 -- `bytes_utf8::byte_at` meets its contract.
 use native.Mathlib.Omega.{arith}
-use borrow.Author.Rules.{rules}
 use Rattle.bytes_utf8.proofs.AsciiLaws.{tells_byte}
 use Rattle.bytes_utf8.proofs.byte_at.Goals as goal
 

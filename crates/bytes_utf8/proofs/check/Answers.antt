@@ -1,7 +1,6 @@
 -- `bytes_utf8::check` meets its contract: a text of groups below 0x80 has as many characters as bytes, and the table for any other is right.
 use mathlib.Core.Path.{refl, sym}
 use native.Mathlib.Omega.{arith}
-use borrow.Author.Rules.{rules}
 use Rattle.bytes_utf8.specs.Classes.{class_of}
 use Rattle.bytes_utf8.proofs.TableLaws.{class_table}
 use Rattle.bytes_utf8.proofs.Reached.{reached_front, reached_end}

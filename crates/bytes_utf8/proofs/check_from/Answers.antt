@@ -1,11 +1,8 @@
 -- `bytes_utf8::check_from` meets its contract. The loop's invariant is `Reached`; its measure is what is left of the text.
-use Prim.Native.Nat.{◌-◌}
 use mathlib.Core.Path.{refl, sym}
 use native.Mathlib.Omega.{arith}
-use lib.ListN.{length}
 use borrow.Author.Rules.{rules}
 use Rattle.bytes_utf8.specs.Classes.{after_class}
-use Rattle.bytes_utf8.specs.Characters.{Reached}
 use Rattle.bytes_utf8.proofs.Reached.{reached_front, reached_ascii, reached_end, reached_refused}
 use Rattle.bytes_utf8.proofs.check_from.Goals as goal
 

@@ -1,5 +1,4 @@
 -- `bytes_utf8::class_of` meets its contract: the table that it is lent has the class of each byte.
-use borrow.Author.Rules.{rules}
 use Rattle.bytes_utf8.proofs.class_of.Goals as goal
 
 pub returns : goal.returns

@@ -3,7 +3,6 @@ use Prim.Native.Nat.{◌+◌, ◌-◌}
 use mathlib.Core.Path.{◌≡◌}
 use native.Mathlib.Omega.{arith}
 use lib.ListN.{length}
-use borrow.Author.Rules.{rules}
 use Rattle.bytes_utf8.proofs.AsciiLaws.{ascii_fewer, ascii_joined}
 use Rattle.bytes_utf8.proofs.front_end.Goals as goal
 

@@ -1,9 +1,4 @@
 -- `bytes_utf8::groups_end` meets its contract: the loop's invariant is the claim of the position reached.
-use Prim.Native.Nat.{◌-◌}
-use lib.ListN.{length}
-use borrow.Author.Rules.{rules}
-use borrow.Author.Tests.{not-false}
-use Rattle.bytes_utf8.specs.Characters.{AsciiBetween}
 use Rattle.bytes_utf8.proofs.AsciiLaws.{ascii_none, ascii_joined}
 use Rattle.bytes_utf8.proofs.groups_end.Goals as goal
 

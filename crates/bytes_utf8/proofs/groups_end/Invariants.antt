@@ -1,9 +1,6 @@
 use Prim.Native.Nat.{◌-◌}
 use lib.ListN.{length}
-use borrow.Author.Rules.{rules}
-use borrow.Author.Tests.{not-false}
 use Rattle.bytes_utf8.specs.Characters.{AsciiBetween}
-use Rattle.bytes_utf8.proofs.AsciiLaws.{ascii_none, ascii_joined}
 use Rattle.bytes_utf8.proofs.groups_end.Given as goal
 
 abbrev pub invariant-loop-i : goal.invariant-loop-i

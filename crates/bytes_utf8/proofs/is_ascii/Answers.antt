@@ -2,7 +2,6 @@
 use Prim.Native.Nat.{◌+◌}
 use mathlib.Core.Path.{◌≡◌}
 use native.Mathlib.Omega.{arith}
-use borrow.Author.Rules.{rules}
 use borrow.Author.Tests.{eqb-true}
 use Rattle.bytes_utf8.proofs.AsciiLaws.{ascii_joined}
 use Rattle.bytes_utf8.proofs.is_ascii.Goals as goal

@@ -1,7 +1,6 @@
 -- `bytes_utf8::other_end` meets its contract.
 use mathlib.Core.Path.{refl}
 use native.Mathlib.Omega.{arith}
-use borrow.Author.Rules.{rules}
 use Rattle.bytes_utf8.specs.Classes.{after_class}
 use Rattle.bytes_utf8.proofs.other_end.Goals as goal
 

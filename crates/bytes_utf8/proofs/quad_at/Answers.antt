@@ -1,7 +1,6 @@
 -- `bytes_utf8::quad_at` meets its contract.
 use mathlib.Core.Path.{refl}
 use native.Mathlib.Omega.{arith}
-use borrow.Author.Rules.{rules}
 use Rattle.bytes_utf8.proofs.AsciiLaws.{tells_more}
 use Rattle.bytes_utf8.proofs.quad_at.Goals as goal
 

@@ -1,6 +1,5 @@
 use Prim.Native.Nat.{◌-◌, ◌≤◌}
 use lib.ListN.{length}
-use borrow.Author.Rules.{rules}
 use Rattle.bytes_utf8.specs.Characters.{Reached}
 use Rattle.bytes_utf8.proofs.row_end.Given as goal
 

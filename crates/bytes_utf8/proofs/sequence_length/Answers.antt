@@ -1,14 +1,9 @@
 -- `bytes_utf8::sequence_length` meets its contract. The loop's invariant: the tails that are left stand there exactly if all do.
-use Prim.Native.Nat.{◌-◌, ◌≤◌}
+use Prim.Native.Nat.{◌-◌}
 use mathlib.Core.Path.{◌≡◌, ◌∙◌}
 use mathlib.Core.Bool.{true, false}
-use mathlib.Core.List.{◌∷◌}
 use native.Mathlib.Omega.{arith}
-use lib.ListN.{replicate, drop}
-use borrow.Author.Rules.{rules}
-use borrow.Author.Tests.{not-false, not-true}
-use Rattle.spec_text.specs.Syntax.{tail}
-use Rattle.bytes_utf8.specs.Classes.{tails}
+use lib.ListN.{drop}
 use Rattle.bytes_utf8.specs.Characters.{matches}
 use Rattle.bytes_utf8.proofs.CharacterLaws.{matches_told, tails_told, sequence_there, sequence_missing}
 use Rattle.bytes_utf8.proofs.sequence_length.Goals as goal

@@ -1,15 +1,10 @@
 use Prim.Native.Nat.{◌-◌, ◌≤◌}
-use mathlib.Core.Path.{◌≡◌, ◌∙◌}
-use mathlib.Core.Bool.{true, false}
+use mathlib.Core.Path.{◌≡◌}
 use mathlib.Core.List.{◌∷◌}
-use native.Mathlib.Omega.{arith}
 use lib.ListN.{replicate, drop}
-use borrow.Author.Rules.{rules}
-use borrow.Author.Tests.{not-false, not-true}
 use Rattle.spec_text.specs.Syntax.{tail}
 use Rattle.bytes_utf8.specs.Classes.{tails}
 use Rattle.bytes_utf8.specs.Characters.{matches}
-use Rattle.bytes_utf8.proofs.CharacterLaws.{matches_told, tails_told, sequence_there, sequence_missing}
 use Rattle.bytes_utf8.proofs.sequence_length.Given as goal
 
 abbrev pub invariant-loop-i : goal.invariant-loop-i

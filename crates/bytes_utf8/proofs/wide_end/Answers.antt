@@ -1,8 +1,8 @@
 -- `bytes_utf8::wide_end` meets its contract. The loop's invariant is `Reached`.
-use Prim.Native.Nat.{◌+◌, ◌-◌, ◌≤◌}
+use Prim.Native.Nat.{◌+◌}
 use mathlib.Core.Path.{◌≡◌, sym, ap, ◌∙◌}
 use native.Mathlib.Omega.{arith}
-use lib.ListN.{length, drop}
+use lib.ListN.{drop}
 use borrow.Author.Rules.{rules}
 use Rattle.spec_lists.proofs.ListLaws.{lent_from_lem}
 use Rattle.bytes_utf8.specs.Characters.{character_length, Reached}

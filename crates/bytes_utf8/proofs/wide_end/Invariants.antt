@@ -1,11 +1,6 @@
-use Prim.Native.Nat.{◌+◌, ◌-◌, ◌≤◌}
-use mathlib.Core.Path.{◌≡◌, sym, ap, ◌∙◌}
-use native.Mathlib.Omega.{arith}
-use lib.ListN.{length, drop}
-use borrow.Author.Rules.{rules}
-use Rattle.spec_lists.proofs.ListLaws.{lent_from_lem}
-use Rattle.bytes_utf8.specs.Characters.{character_length, Reached}
-use Rattle.bytes_utf8.proofs.Reached.{reached_character}
+use Prim.Native.Nat.{◌-◌, ◌≤◌}
+use lib.ListN.{length}
+use Rattle.bytes_utf8.specs.Characters.{Reached}
 use Rattle.bytes_utf8.proofs.wide_end.Given as goal
 
 abbrev pub invariant-loop-at : goal.invariant-loop-at

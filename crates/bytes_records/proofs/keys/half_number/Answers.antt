@@ -1,10 +1,8 @@
 -- `bytes_records::keys::half_number` meets its contract. The invariant: the number is that of the bytes from i on.
-use mathlib.Core.Path.{◌≡◌}
-use Prim.Native.Nat.{◌-◌, ◌≤◌, ◌<◌}
+use Prim.Native.Nat.{◌-◌, ◌<◌}
 use native.Mathlib.Omega.{arith}
-use lib.ListN.{length, drop}
 use borrow.Author.Rules.{rules}
-use Rattle.spec_lists.specs.Bytes.{Bytes, number_of}
+use Rattle.spec_lists.specs.Bytes.{Bytes}
 use Rattle.spec_lists.proofs.BytesLaws.{bytes_of}
 use Rattle.bytes_records.proofs.Numbers.{number_start, number_turn, number_end, rest_small}
 use Rattle.bytes_records.proofs.keys.half_number.Goals as goal

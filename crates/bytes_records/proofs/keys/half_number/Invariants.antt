@@ -1,11 +1,7 @@
 use mathlib.Core.Path.{◌≡◌}
-use Prim.Native.Nat.{◌-◌, ◌≤◌, ◌<◌}
-use native.Mathlib.Omega.{arith}
+use Prim.Native.Nat.{◌≤◌}
 use lib.ListN.{length, drop}
-use borrow.Author.Rules.{rules}
-use Rattle.spec_lists.specs.Bytes.{Bytes, number_of}
-use Rattle.spec_lists.proofs.BytesLaws.{bytes_of}
-use Rattle.bytes_records.proofs.Numbers.{number_start, number_turn, number_end, rest_small}
+use Rattle.spec_lists.specs.Bytes.{number_of}
 use Rattle.bytes_records.proofs.keys.half_number.Given as goal
 
 abbrev pub invariant-loop-i : goal.invariant-loop-i

@@ -1,12 +1,11 @@
 -- `bytes_records::moves::clear` meets its contract. The invariant: the first i bytes are 0, and the rest are as they were.
-use mathlib.Core.Path.{◌≡◌, ap, ◌∙◌}
-use mathlib.Core.List.{List, ◌++◌}
-use Prim.Native.Nat.{ℕ, ◌≤◌, ◌-◌}
+use mathlib.Core.Path.{ap, ◌∙◌}
+use mathlib.Core.List.{List}
+use Prim.Native.Nat.{ℕ}
 use native.Mathlib.Omega.{arith}
-use lib.ListN.{length, drop, set, length-set}
+use lib.ListN.{set, length-set}
 use borrow.Author.Rules.{rules}
 use borrow.Author.Fill.{fill_more}
-use Rattle.bytes_records.specs.Moves.{zeros}
 use Rattle.bytes_records.proofs.Turns.{fill_end}
 use Rattle.bytes_records.proofs.moves.clear.Goals as goal
 

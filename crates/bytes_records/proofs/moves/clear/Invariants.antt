@@ -1,12 +1,8 @@
-use mathlib.Core.Path.{◌≡◌, ap, ◌∙◌}
-use mathlib.Core.List.{List, ◌++◌}
-use Prim.Native.Nat.{ℕ, ◌≤◌, ◌-◌}
-use native.Mathlib.Omega.{arith}
-use lib.ListN.{length, drop, set, length-set}
-use borrow.Author.Rules.{rules}
-use borrow.Author.Fill.{fill_more}
+use mathlib.Core.Path.{◌≡◌}
+use mathlib.Core.List.{◌++◌}
+use Prim.Native.Nat.{◌≤◌, ◌-◌}
+use lib.ListN.{length, drop}
 use Rattle.bytes_records.specs.Moves.{zeros}
-use Rattle.bytes_records.proofs.Turns.{fill_end}
 use Rattle.bytes_records.proofs.moves.clear.Given as goal
 
 abbrev pub invariant-loop-i : goal.invariant-loop-i

@@ -1,9 +1,7 @@
 -- `bytes_records::moves::copy` meets its contract. The invariant: the first i bytes are the source's, and the rest are as they were.
-use mathlib.Core.Path.{◌≡◌}
-use Prim.Native.Nat.{◌≤◌, ◌-◌}
-use lib.ListN.{length, length-set}
+use lib.ListN.{length-set}
 use borrow.Author.Rules.{rules}
-use Rattle.bytes_records.proofs.Turns.{copied_turn, copy_turn, copy_end}
+use Rattle.bytes_records.proofs.Turns.{copy_turn, copy_end}
 use Rattle.bytes_records.proofs.moves.copy.Goals as goal
 
 pub loop-i-preserved : goal.loop-i-preserved

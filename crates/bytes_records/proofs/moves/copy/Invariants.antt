@@ -1,8 +1,7 @@
 use mathlib.Core.Path.{◌≡◌}
 use Prim.Native.Nat.{◌≤◌, ◌-◌}
-use lib.ListN.{length, length-set}
-use borrow.Author.Rules.{rules}
-use Rattle.bytes_records.proofs.Turns.{copied_turn, copy_turn, copy_end}
+use lib.ListN.{length}
+use Rattle.bytes_records.proofs.Turns.{copied_turn}
 use Rattle.bytes_records.proofs.moves.copy.Given as goal
 
 abbrev pub invariant-loop-i : goal.invariant-loop-i

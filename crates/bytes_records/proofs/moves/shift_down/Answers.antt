@@ -1,9 +1,6 @@
 -- `bytes_records::moves::shift_down` meets its contract. The invariant: the list is `down by i` of what it was.
-use mathlib.Core.Path.{◌≡◌}
-use Prim.Native.Nat.{◌≤◌, ◌-◌}
-use lib.ListN.{length}
 use borrow.Author.Rules.{rules}
-use Rattle.bytes_records.proofs.Turns.{down, down_turn, down_end}
+use Rattle.bytes_records.proofs.Turns.{down_turn, down_end}
 use Rattle.bytes_records.proofs.moves.shift_down.Goals as goal
 
 pub loop-i-preserved : goal.loop-i-preserved

@@ -1,8 +1,7 @@
 use mathlib.Core.Path.{◌≡◌}
 use Prim.Native.Nat.{◌≤◌, ◌-◌}
 use lib.ListN.{length}
-use borrow.Author.Rules.{rules}
-use Rattle.bytes_records.proofs.Turns.{down, down_turn, down_end}
+use Rattle.bytes_records.proofs.Turns.{down}
 use Rattle.bytes_records.proofs.moves.shift_down.Given as goal
 
 abbrev pub invariant-loop-i : goal.invariant-loop-i

@@ -1,9 +1,6 @@
 -- `bytes_records::moves::shift_up` meets its contract. The invariant: the list is `up by i` of what it was.
-use mathlib.Core.Path.{◌≡◌}
-use Prim.Native.Nat.{◌≤◌, ◌-◌}
-use lib.ListN.{length}
 use borrow.Author.Rules.{rules}
-use Rattle.bytes_records.proofs.Turns.{up, up_start, up_turn, up_end}
+use Rattle.bytes_records.proofs.Turns.{up_start, up_turn, up_end}
 use Rattle.bytes_records.proofs.moves.shift_up.Goals as goal
 
 pub loop-i-init : goal.loop-i-init

@@ -1,8 +1,7 @@
 use mathlib.Core.Path.{◌≡◌}
-use Prim.Native.Nat.{◌≤◌, ◌-◌}
+use Prim.Native.Nat.{◌≤◌}
 use lib.ListN.{length}
-use borrow.Author.Rules.{rules}
-use Rattle.bytes_records.proofs.Turns.{up, up_start, up_turn, up_end}
+use Rattle.bytes_records.proofs.Turns.{up}
 use Rattle.bytes_records.proofs.moves.shift_up.Given as goal
 
 abbrev pub invariant-loop-i : goal.invariant-loop-i

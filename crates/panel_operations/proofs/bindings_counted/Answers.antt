@@ -1,0 +1,11 @@
+-- `bindings_counted` meets its contract, case by case.
+use mathlib.Core.Path.{sym, ap}
+use borrow.Author.Rules.{rules}
+use Rattle.panel_operations.specs.OperationChange.{counted_change, bindings_now}
+use Rattle.panel_operations.proofs.bindings_counted.Goals as goal
+
+pub returns-in-Applied : goal.returns-in-Applied
+returns-in-Applied c = sym (ap (counted_change (bindings_now c.args.counts)) c.in-Applied.is)
+
+pub returns-in-Refused : goal.returns-in-Refused
+returns-in-Refused c = sym (ap (counted_change (bindings_now c.args.counts)) c.in-Refused.is)

@@ -1,0 +1,82 @@
+-- `settle_steps` meets its contract: what is left, from what is settled now, gives what the whole walk gives; the measure is the bytes left.
+use Prim.Native.Nat.{ℕ, ◌-◌, ◌≤◌}
+use mathlib.Core.Path.{◌≡◌, refl, subst}
+use mathlib.Core.Bool.{false}
+use mathlib.Core.List.{List, []}
+use native.Mathlib.Omega.{arith}
+use borrow.Author.Rules.{rules}
+use lib.ListN.{length}
+use Rattle.spec_patch.specs.Sizes.{set_bytes}
+use Rattle.spec_patch.specs.Edition.{Edition}
+use Rattle.spec_patch.specs.Patch.{Patch}
+use Rattle.spec_dependencies.specs.Dependencies.{settle_patches}
+use Rattle.projection_patch.specs.Meaning.{edition_of}
+use Rattle.patch_walk.specs.Steps.{StepWithin, AtSteps}
+use Rattle.patch_walk.specs.StepsLaws.{visited, opened, done, never_refused}
+use Rattle.patch_walk.specs.declared.SetStep.{SetStep}
+use Rattle.set_dependencies.specs.SettledRows.{SettledIn, no_places}
+use Rattle.set_dependencies.proofs.Walking.{SettlingRun, settling_start, settling_end, settling_head, settling_on, settling_contradicts}
+use Rattle.set_dependencies.proofs.walk_set.settle_steps.Goals as goal
+use Rattle.set_dependencies.proofs.walk_set.settle_steps.Goals.{After-next_step}
+
+abbrev set : After-next_step → List ℕ
+set k = k.args.set.now
+
+abbrev told : After-next_step → Edition
+told k = edition_of k.args.edition
+
+within : (k : After-next_step) (r : SetStep) → k.next_step.result ≡ r → StepWithin k.loop-next.cursor (length (set k)) r
+within k r q = subst (StepWithin k.loop-next.cursor (length (set k))) q k.next_step.ensures.within
+
+pub loop-next-init : goal.loop-next-init
+loop-next-init c = (refl, omega arith, omega arith, λ ps short here stored. settling_start _ _ ps here stored)
+
+pub overflow_add-opened : goal.overflow_add-opened
+overflow_add-opened c = let on = within (goal.at.overflow_add-opened c).After-next_step _ c.in-Head.is in omega (arith, on.0, on.1)
+
+pub loop-next-smaller-in-Head : goal.loop-next-smaller-in-Head
+loop-next-smaller-in-Head c = let on = within (goal.at.loop-next-smaller-in-Head c).After-next_step _ c.in-Head.is in omega (arith, on.0, on.1)
+
+pub loop-next-preserved-in-Head : goal.loop-next-preserved-in-Head
+loop-next-preserved-in-Head c =
+    let on = within (goal.at.loop-next-preserved-in-Head c).After-next_step _ c.in-Head.is in (
+      c.loop-next.invariant.0,
+      omega (arith, on.0),
+      omega arith,
+      λ ps short here stored. let w = c.loop-next.invariant.3 ps short here stored in settling_head (told (goal.at.loop-next-preserved-in-Head c).After-next_step) (set (goal.at.loop-next-preserved-in-Head c).After-next_step) _ w (opened false (told (goal.at.loop-next-preserved-in-Head c).After-next_step) (set (goal.at.loop-next-preserved-in-Head c).After-next_step) c.loop-next.cursor w.here c.next_step.ensures.is _ _ c.in-Head.is),
+    )
+
+pub overflow_add-index : goal.overflow_add-index
+overflow_add-index c = let on = within (goal.at.overflow_add-index c).After-next_step _ c.in-Operation.is in omega (arith, on.0, on.1)
+
+pub loop-next-smaller : goal.loop-next-smaller
+loop-next-smaller c = let on = within (goal.at.loop-next-smaller c).After-next_step _ c.in-Operation.is in omega (arith, on.0, on.1)
+
+pub loop-next-preserved : goal.loop-next-preserved
+loop-next-preserved c =
+    let on = within (goal.at.loop-next-preserved c).After-next_step _ c.in-Operation.is in (
+      search rules,
+      omega (arith, on.0),
+      omega (arith, on.0),
+      λ ps short here stored.
+          let w = c.loop-next.invariant.3 ps short here stored in
+          settling_on (told (goal.at.loop-next-preserved c).After-next_step) (set (goal.at.loop-next-preserved c).After-next_step) _ w (visited false (told (goal.at.loop-next-preserved c).After-next_step) (set (goal.at.loop-next-preserved c).After-next_step) c.loop-next.cursor w.here c.next_step.ensures.is _ _ c.in-Operation.is) short _ c.settle_operation.ensures c.in-Settled.is,
+    )
+
+pub returns-in-Contradiction : goal.returns-in-Contradiction
+returns-in-Contradiction c =
+    λ ps short here stored.
+    let w = c.loop-next.invariant.3 ps short here stored in
+    settling_contradicts (told (goal.at.returns-in-Contradiction c).After-next_step) (set (goal.at.returns-in-Contradiction c).After-next_step) _ w (visited false (told (goal.at.returns-in-Contradiction c).After-next_step) (set (goal.at.returns-in-Contradiction c).After-next_step) c.loop-next.cursor w.here c.next_step.ensures.is _ _ c.in-Operation.is) short _ c.settle_operation.ensures c.in-Contradiction.is
+
+pub returns-in-End : goal.returns-in-End
+returns-in-End c =
+    λ ps short here stored.
+    let w = c.loop-next.invariant.3 ps short here stored in
+    settling_end (told (goal.at.returns-in-End c).After-next_step) (set (goal.at.returns-in-End c).After-next_step) _ w (done false (told (goal.at.returns-in-End c).After-next_step) (set (goal.at.returns-in-End c).After-next_step) c.loop-next.cursor w.here c.next_step.ensures.is c.in-End.is)
+
+pub returns-in-Refused : goal.returns-in-Refused
+returns-in-Refused c =
+    λ ps short here stored.
+    let w = c.loop-next.invariant.3 ps short here stored in
+    absurd (never_refused false (told (goal.at.returns-in-Refused c).After-next_step) (set (goal.at.returns-in-Refused c).After-next_step) c.loop-next.cursor w.here c.next_step.ensures.is _ c.in-Refused.is)
