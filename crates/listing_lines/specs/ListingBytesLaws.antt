@@ -18,7 +18,8 @@ use Rattle.spec_projection.specs.Valid.{FitsBinding, FitsNodeAvailability, FitsE
 use Rattle.spec_projection.proofs.ValidLaws.{empty_valid, apply_steps_valid, replay_steps_fit}
 use Rattle.spec_decimal.specs.Decimal.{digits, decimal, signed_decimal}
 use Rattle.spec_decimal.proofs.DecimalLaws.{length_digits, digits_same}
-use Rattle.spec_decimal.proofs.ReadLaws.{length_decimal, length_signed_decimal}
+use Rattle.spec_decimal.proofs.ReadLaws.{length_decimal}
+use Rattle.spec_decimal.proofs.SignedLaws.{length_signed_decimal}
 use Rattle.spec_listing.specs.Escapes.{escaped}
 use Rattle.spec_listing.proofs.EscapesLaws.{escaped_length}
 use Rattle.spec_listing.specs.Listing.{fields, value_fields, binding_line, availability_line, entry_line, record_count, projection_lines, refusal_line, outcome_lines, reading_lines, listing}

@@ -1,1 +1,2 @@
 pub mod SetForLaws
+pub mod ReadThenWritten

@@ -1,23 +1,19 @@
--- The set for a list stands for it, and its arrays hold every list that fits: so whatever is read is written back byte for byte.
-use Rattle.std.specs.Prelude.{ℕ, suc, ◌+◌, ◌*◌, ◌-◌, ◌≤◌, ◌≡◌, refl, Bool, true, ◌&&◌, drop}
+-- The set for a list stands for it: its places for the operations, its heads for the patches. Its arrays hold every list that fits.
+use Rattle.std.specs.Prelude.{ℕ, suc, ◌+◌, ◌*◌, ◌≤◌, ◌≡◌, refl, Bool, true, ◌&&◌, drop}
 use Rattle.std.proofs.Common.{sym, ap₂, ◌∙◌, arith, drop_at, drop-drop}
 use Rattle.std.proofs.Math.Path.{ap}
-use mathlib.Core.List.{List, [], ◌∷◌, ◌++◌, map, flat_map, append_assoc, append-nil, map-append}
+use mathlib.Core.List.{List, [], ◌∷◌, ◌++◌, map, flat_map, append_assoc, append-nil}
 use Rattle.std.proofs.Math.Option.{Option, none, some}
 use borrow.Author.Tests.{le-leb}
-use Rattle.std.proofs.Math.ListN.{length, take, length-append, length-map, length-replicate}
+use Rattle.std.proofs.Math.ListN.{length, take, length-append, length-map}
 use Rattle.std.proofs.Math.Seq.{take_at, take-length}
 use Rattle.spec_lists.specs.Lists.{All, all}
 use Rattle.spec_lists.proofs.ListLaws.{map_take, map_drop}
-use Rattle.spec_lists.specs.Bytes.{Bytes}
-use Rattle.spec_patch.specs.Sizes.{set_patches, patch_operations}
+use Rattle.spec_patch.specs.Sizes.{patch_operations}
 use Rattle.spec_patch.specs.Patch as model
 use Rattle.spec_patch.specs.Edition.{Edition}
 use Rattle.spec_patch.specs.Encode.{u32, heading, encode_operation, encode_patch, encode_counted, encode}
 use Rattle.spec_patch.specs.Fits.{FitsPatch, Fits}
-use Rattle.spec_patch.specs.Read.{patches, read_set}
-use Rattle.spec_patch.proofs.SetLaws.{was_encoded}
-use Rattle.spec_patch.specs.Write.{wrote}
 use Rattle.projection_patch.specs.Meaning.{before_of, surface_to, surface_of, envelope_to, envelope_of, value_to, value_of, operation_to, operation_of}
 use Rattle.projection_patch.specs.TextLaws.{text_in, text_of, text_within, operation_encoded_back}
 use Rattle.projection_patch.specs.declared.patch.ProjectionPatch.{ProjectionPatch}
@@ -30,10 +26,9 @@ use Rattle.projection_patch.specs.declared.patch.ProjectionPatchOperation.{Proje
 use Rattle.projection_patch.specs.declared.patch.ProjectionPatchOperation.TheVariants.{SetBindingValue, SetNodeAvailability, CollectionInsert, CollectionUpdate, CollectionRemove, CollectionMove}
 use Rattle.patch_part_writer.specs.Extent.{surface_size, operation_size, value_text, operation_text}
 use Rattle.patch_part_writer.specs.ExtentLaws.{length_heading}
-use Rattle.patch_writer.specs.Set.{set_places, operation_at, list_from, heads, list_of, operation_total, used, head_sizes, operation_sizes, few_operations, counts_fit, inside_at, patch_set_bytes}
+use Rattle.patch_writer.specs.Set.{set_places, operation_at, list_from, operation_total, head_sizes, operation_sizes, few_operations, inside_at}
 use Rattle.patch_writer.specs.SetLaws.{size_list}
-use Rattle.patch_writer.specs.CallLaws.{Arrays, written_back}
-use Rattle.patch_round_trip.specs.SetFor.{shift_value, shift, places_from, operations_for, texts_for, head_for, no_head, no_place, places_for, spare_heads, spare_places, set_for}
+use Rattle.patch_round_trip.specs.SetFor.{shift_value, shift, places_from, operations_for, texts_for, head_for, places_for}
 
 -- ---- operations and their texts
 
@@ -94,7 +89,7 @@ places_inside texts at (o ∷ os) h =
     (le-leb (text.start + text.len) (length texts) (operation_inside at size (length texts) o (text_within o) (omega (arith, long))))
     (places_inside texts (at + size) os (omega (arith, long)))
 
-length_places : (at : ℕ) (os : List model.Operation) → length (places_from at os) ≡ length os
+pub length_places : (at : ℕ) (os : List model.Operation) → length (places_from at os) ≡ length os
 unfolding places_from
 length_places at [] = refl
 length_places at (o ∷ os) = ap suc (length_places (at + length (encode_operation o)) os)
@@ -111,12 +106,12 @@ envelope_back e =
     (λ (s : Option ℕ). record { id = e.id; stream = e.stream; document = e.document; surface = s; previous = e.previous; revision = e.revision; epoch = e.epoch; sequence = e.sequence })
     (surface_back e.surface)
 
-total : (ps : List model.Patch) → operation_total (map head_for ps) ≡ length (operations_for ps)
+pub total : (ps : List model.Patch) → operation_total (map head_for ps) ≡ length (operations_for ps)
 unfolding operation_total flat_map
 total [] = refl
 total (p ∷ ps) = ap (λ (n : ℕ). length p.operations + n) (total ps) ∙ sym (length-append p.operations (operations_for ps))
 
-few_heads : (ed : Edition) (ps : List model.Patch) → All (FitsPatch ed) ps → all few_operations (map head_for ps) ≡ true
+pub few_heads : (ed : Edition) (ps : List model.Patch) → All (FitsPatch ed) ps → all few_operations (map head_for ps) ≡ true
 few_heads ed [] h = refl
 few_heads ed (p ∷ ps) h = ap₂ (λ (a b : Bool). a && b) (le-leb (length p.operations) patch_operations h.0.few) (few_heads ed ps h.1)
 
@@ -128,7 +123,7 @@ few_operations_lem ed (p ∷ ps) h = omega (arith, length-append p.operations (o
 -- ---- the list
 
 -- heads and places stand for the list, whatever is in the places behind
-list_back : (texts : List ℕ) (ps : List model.Patch) (places : List OperationPlace) (more : List model.Operation) → map (operation_at texts) places ≡ operations_for ps ++ more
+pub list_back : (texts : List ℕ) (ps : List model.Patch) (places : List OperationPlace) (more : List model.Operation) → map (operation_at texts) places ≡ operations_for ps ++ more
     → list_from texts (map head_for ps) places ≡ ps
 unfolding list_from flat_map
 list_back texts [] places more e = refl
@@ -165,16 +160,16 @@ operation_sizes_lem (p ∷ ps) = omega (arith, at_least_ten p.operation, operati
     at_least_ten (CollectionMove c k b) = omega arith
 
 module _ (ed : Edition) (ps : List model.Patch) (fits : Fits ed ps) where
-  stand : map (operation_at (texts_for ps)) (places_for ps) ≡ operations_for ps
+  pub stand : map (operation_at (texts_for ps)) (places_for ps) ≡ operations_for ps
   stand = places_back [] (operations_for ps)
 
-  total_places : operation_total (map head_for ps) ≡ length (places_for ps)
+  pub total_places : operation_total (map head_for ps) ≡ length (places_for ps)
   total_places = total ps ∙ sym (length_places 0 (operations_for ps))
 
   whole : take (operation_total (map head_for ps)) (places_for ps) ≡ places_for ps
   whole = ap (λ (n : ℕ). take n (places_for ps)) total_places ∙ take-length (places_for ps)
 
-  inside : all (inside_at (texts_for ps)) (places_for ps) ≡ true
+  pub inside : all (inside_at (texts_for ps)) (places_for ps) ≡ true
   inside = places_inside (texts_for ps) 0 (operations_for ps) (omega arith)
 
   size : length (flat_map encode_patch ps) ≡ head_sizes (map head_for ps) + operation_sizes (places_for ps)
@@ -204,44 +199,3 @@ module _ (ed : Edition) (ps : List model.Patch) (fits : Fits ed ps) where
         length_places 0 (operations_for ps),
         few_operations_lem ed ps fits.patches,
       )
-
-  arrays : Arrays (set_for ps)
-  unfolding set_for
-  arrays = record {
-    patches = length-append (map head_for ps) (spare_heads ps) ∙ omega (arith, length-map ps head_for, length-replicate (set_patches - length ps) no_head, fits.few);
-    operations = length-append (places_for ps) (spare_places ps) ∙ omega (arith, length_places 0 (operations_for ps), length-replicate (set_places - length (operations_for ps)) no_place, enough_places);
-  }
-
-  heads_are : heads (set_for ps) ≡ map head_for ps
-  unfolding set_for
-  heads_are = take_at (map head_for ps) (spare_heads ps) (length ps) (length-map ps head_for)
-
-  used_are : used (set_for ps) ≡ places_for ps
-  unfolding set_for
-  used_are =
-      ap (λ (hs : List ProjectionPatch). take (operation_total hs) (set_for ps).operations) heads_are
-      ∙ take_at (places_for ps) (spare_places ps) (operation_total (map head_for ps)) (sym total_places)
-
-  counts : counts_fit (set_for ps) ≡ true
-  unfolding counts_fit set_for
-  counts =
-      rw (
-        le-leb (length ps) set_patches fits.few,
-        heads_are,
-        few_heads ed ps fits.patches,
-        le-leb (operation_total (map head_for ps)) set_places (omega (arith, total ps, enough_places)),
-      )
-
-  -- the set stands for the list
-  pub list_is : list_of (texts_for ps) (set_for ps) ≡ ps
-  unfolding set_for
-  list_is =
-      let f = operation_at (texts_for ps) in
-      ap (λ (hs : List ProjectionPatch). list_from (texts_for ps) hs (set_for ps).operations) heads_are
-      ∙ list_back (texts_for ps) ps (places_for ps ++ spare_places ps) (map f (spare_places ps)) (map-append f (places_for ps) (spare_places ps) ∙ ap (λ (os : List model.Operation). os ++ map f (spare_places ps)) stand)
-
--- whatever is read is written back byte for byte, from the set for it
-pub read_then_written : (ed : Edition) (bs : List ℕ) → Bytes bs → (ps : List model.Patch) → read_set ed bs ≡ patches ps → patch_set_bytes ed (texts_for ps) (set_for ps) ≡ wrote bs
-read_then_written ed bs all_bytes ps e =
-    let fits = (was_encoded ed bs ps all_bytes e).1 in
-    written_back (texts_for ps) (set_for ps) (arrays ed ps fits) (counts ed ps fits) ed (ap (all (inside_at (texts_for ps))) (used_are ed ps fits) ∙ inside ed ps fits) bs all_bytes (e ∙ ap patches (sym (list_is ed ps fits)))

@@ -203,13 +203,6 @@ unfolding other_edition
 other_other v1 = refl
 other_other v2 = refl
 
--- a set that is converted into the other edition and back is the same set
-pub convert_back : (from : Edition) (set : List ℕ) → Bytes set → (room : ℕ) (bs : List ℕ) → convert from set room ≡ converted bs
-    → (room' : ℕ) → length set ≤ room' → convert (other_edition from) bs room' ≡ converted set
-unfolding convert
-convert_back from set all_bytes room bs e room' enough =
-    ap (λ (ed : Edition). convert_to (other_edition from) ed bs room') (other_other from) ∙ there_and_back from (other_edition from) set all_bytes room bs e room' enough
-
 -- a kind is among more kinds too
 among_more : (l m : List ℕ) (k : ℕ) → any (eqb k) l ≡ true → any (eqb k) (l ++ m) ≡ true
 among_more [] m k e = absurd (false≢true e)

@@ -1,2 +1,3 @@
 pub mod ConversionInstances
 pub mod ConversionLaws
+pub mod ConvertBack

@@ -1,10 +1,11 @@
 -- Laws of digits: how many there are, what number they spell, and that a numeral is what is printed of its number.
-use Rattle.std.specs.Prelude.{ℕ, zero, suc, ◌+◌, ◌-◌, ◌*◌, ◌/◌, ◌%◌, ◌^◌, ◌≤◌, ◌<◌, ◌≡◌, refl, true, false, not, List, [], ◌∷◌, ◌++◌, ltb, leb, eqb, length}
-use Rattle.std.proofs.Common.{sym, ap, ◌∙◌, append_assoc, append-nil, mod-lt, pow-suc, add-zero, arith, lit<, length-append, ltb-true, ltb-false, leb-true, lt-ltb, le-ltb, le-leb, ne_eqb}
+use Rattle.std.specs.Prelude.{ℕ, zero, suc, ◌+◌, ◌-◌, ◌*◌, ◌/◌, ◌%◌, ◌^◌, ◌≤◌, ◌<◌, ◌≡◌, refl, true, false, not, List, [], ◌∷◌, ◌++◌, ltb, eqb, length}
+use Rattle.std.proofs.Common.{sym, ap, ◌∙◌, append_assoc, append-nil, mod-lt, pow-suc, add-zero, arith, lit<, length-append, ltb-true, ltb-false, lt-ltb, le-ltb, ne_eqb}
 use Rattle.std.proofs.lemmas.Bool.{eqb-false, not-true}
 use Rattle.spec_lists.specs.Lists.{all}
 use Rattle.spec_lists.proofs.ListLaws.{and_left, and_right, test_cases}
 use Rattle.spec_decimal.specs.Decimal.{digit, digits, is_digit, is_numeral, number_with}
+use Rattle.spec_decimal.proofs.DigitLaws.{digit_is_digit, is_digit_range}
 
 -- ---- digits
 
@@ -21,12 +22,6 @@ digits_last k n h = rw (lt-ltb n 10 h)
 pub digits_more : (k n : ℕ) → 10 ≤ n → digits (suc k) n ≡ digits k (n / 10) ++ (digit (n % 10) ∷ [])
 unfolding digits
 digits_more k n h = rw (le-ltb n 10 h)
-
-pub digit_is_digit : (d : ℕ) → d < 10 → is_digit (digit d) ≡ true
-digit_is_digit d h = rw (le-leb 48 (48 + d) (omega arith), le-leb (48 + d) 57 (omega arith))
-
-pub is_digit_range : (b : ℕ) → is_digit b ≡ true → (48 ≤ b) × (b ≤ 57)
-is_digit_range b e = (leb-true 48 b (and_left (leb 48 b) (leb b 57) e), leb-true b 57 (and_right (leb 48 b) (leb b 57) e))
 
 all_digits_append : (a b : List ℕ) → all is_digit a ≡ true → all is_digit b ≡ true → all is_digit (a ++ b) ≡ true
 all_digits_append [] b h g = g

@@ -1,7 +1,6 @@
 -- Texts cut off, 02, 'Job 6', at its ends: one table of computed tests, as they are read now and as they were, and a set that the theorem on
 -- what has changed is about.
-use Rattle.std.specs.Prelude.{ℕ, ◌+◌, ◌-◌, ◌≡◌, refl, Bool, true, ◌&&◌, T, eqb, length, take, drop, replicate}
-use Rattle.std.proofs.Common.{sym, ◌∙◌, arith}
+use Rattle.std.specs.Prelude.{ℕ, ◌+◌, ◌-◌, ◌≡◌, refl, Bool, ◌&&◌, T, eqb, length, take, drop, replicate}
 use mathlib.Core.List.{List, [], ◌∷◌, ◌++◌, flat_map}
 use Rattle.spec_lists.specs.Lists.{all}
 use Rattle.spec_lists.specs.Bytes.{Bytes}
@@ -10,9 +9,7 @@ use Rattle.spec_patch.specs.Edition.{v1}
 use Rattle.spec_patch.specs.Encode.{u32, heading, encode}
 use Rattle.spec_patch.specs.Reader.{malformed, over_capacity, fault_number}
 use Rattle.spec_patch.specs.Read.{SetReading, patches, fault, read_set}
-use Rattle.spec_patch.specs.LengthFirst.{patches_over, length_first_text, length_first_set}
-use Rattle.spec_patch.specs.CutOff.{CutOff, SetChange, as_before, changed}
-use Rattle.spec_patch.proofs.CutLaws.{set_changed}
+use Rattle.spec_patch.specs.LengthFirst.{length_first_text, length_first_set}
 use Rattle.spec_examples.proofs.TextInstances.{updating}
 use Rattle.spec_examples.specs.Opened.{opened_all}
 
@@ -79,22 +76,14 @@ cuts_hold = tt
 pub cut_set : List ℕ
 cut_set = ending 241 (letters 240)
 
-was_12 : length_first_set v1 cut_set ≡ fault over_capacity
+pub was_12 : length_first_set v1 cut_set ≡ fault over_capacity
 unfolding cut_set letters but ending length_first_text length_first_set updating flat_map opened_all
 was_12 = refl
 
-is_10 : read_set v1 cut_set ≡ fault malformed
+pub is_10 : read_set v1 cut_set ≡ fault malformed
 unfolding cut_set letters but ending updating flat_map opened_all
 is_10 = refl
 
-all_bytes : Bytes cut_set
+pub all_bytes : Bytes cut_set
 unfolding cut_set letters but ending updating flat_map opened_all
 all_bytes = bytes_if (ending 241 (letters 240)) refl
-
--- a text in it is cut off
-pub is_cut_off : CutOff true (patches_over v1) cut_set
-is_cut_off = by_change (set_changed v1 cut_set all_bytes)
-  where
-    by_change : SetChange v1 cut_set → CutOff true (patches_over v1) cut_set
-    by_change (as_before e) = absurd (let z : ◌≡◌ {A = ℕ} 0 1 = cc (sym was_12 ∙ e ∙ is_10) in omega arith)
-    by_change (changed within c before now) = c

@@ -1,8 +1,10 @@
 pub mod CutInstances
+pub mod CutTheoremMet
 pub mod EditionInstances
 pub mod Examples
 pub mod GroupInstances
 pub mod LengthInstances
 pub mod SplitInstances
+pub mod SplitConclusions
 pub mod TextInstances
 pub mod TurnInstances

@@ -10,8 +10,7 @@ use Rattle.spec_projection.specs.Projection.{empty}
 use Rattle.spec_projection.specs.Lookups.{availability_mark, entry_mark}
 use Rattle.spec_projection.specs.Apply.{key_rule}
 use Rattle.spec_session.specs.Session.{uninitialized, Session, active}
-use Rattle.spec_splitting.specs.Splitting.{Piece, piece_envelope, references, send, continue, is_rejected, send_all, patches_of, Given, Applies, AllApply, FailsAtOperation, StopsAtPiece}
-use Rattle.spec_splitting.proofs.Theorem.{whole_and_pieces}
+use Rattle.spec_splitting.specs.Splitting.{Piece, piece_envelope, references, send, continue, is_rejected, send_all, patches_of, Given, Applies, FailsAtOperation}
 use Rattle.spec_examples.specs.Opened.{opened_all}
 
 unfoldable pub patch_numbered : ℕ → List Operation → Patch
@@ -62,10 +61,6 @@ pub premise_applies : Applies (send v2 start_session 40 (piece (scored ∷ secon
 unfolding opened_all send piece_envelope references start_session piece scored second patch_numbered
 premise_applies = refl
 
--- and so do the two pieces
-pub conclusion_applies : AllApply 40 (send v2 start_session 40 (piece (scored ∷ second ∷ []))) pieces (send_all v2 start_session 40 pieces)
-conclusion_applies = (whole_and_pieces v2 start_session 40 _ pieces given_pieces).applies premise_applies
-
 -- rows are marked by their patches, 1 and 2, and not by the numbers of the batches, 40 and 41: 02, Job 11
 abbrev pub split_marks : Session → List (Option ℕ)
 split_marks s = entry_mark s.projection 9 1 ∷ availability_mark s.projection 5 ∷ []
@@ -87,9 +82,6 @@ given_failing = record { in_range = omega arith; cut = refl; non_empty = omega a
 pub premise_fails : FailsAtOperation v1 start_session 40 (piece (first ∷ failing_patch ∷ []))
 unfolding opened_all piece_envelope references start_session piece first failing_patch patch_numbered
 premise_fails = record { patches = first ∷ failing_patch ∷ []; passes = refl; fault = key_rule; fails = refl }
-
-pub conclusion_fails : StopsAtPiece start_session 40 (piece (first ∷ failing_patch ∷ [])) premise_fails.fault (send v1 start_session 40 (piece (first ∷ failing_patch ∷ []))).answer.diagnostics failing_pieces (send_all v1 start_session 40 failing_pieces)
-conclusion_fails = (whole_and_pieces v1 start_session 40 _ failing_pieces given_failing).fails premise_fails
 
 -- the refusal is 8, of two answers
 pub fails_with_8 : ((send v1 start_session 40 (piece (first ∷ failing_patch ∷ []))).answer.diagnostics.code ≡ 8) × (length (send_all v1 start_session 40 failing_pieces).answers ≡ 2)

@@ -1,9 +1,9 @@
--- What the patch checks ask of a patch of inserts: there is a line, no key occurs twice, and the numbers that the caller gives are in order.
-use Rattle.std.specs.Prelude.{ℕ, ◌≤◌, ◌<◌, ◌↔◌, ◌≢◌, length}
+-- The patch checks find nothing of a patch of inserts exactly where it is as Clean says.
+use Rattle.std.specs.Prelude.{ℕ, ◌≤◌, ◌<◌, ◌↔◌, length}
 use Rattle.std.proofs.Math.Path.{◌≡◌, refl, ap}
 use Rattle.std.proofs.Common.{sym, ◌∙◌}
 use mathlib.Core.List.Memᴰ
-use mathlib.Core.List.{List, [], ◌∷◌, ◌++◌, map, Memᴰ, map-append}
+use mathlib.Core.List.{List, [], ◌∷◌, ◌++◌, map, map-append}
 use native.Mathlib.Omega.{arith}
 use Rattle.spec_lists.proofs.ListLaws.{no_members}
 use Rattle.spec_patch.specs.Patch.{Envelope, Patch}
@@ -17,18 +17,7 @@ use Rattle.spec_checks.proofs.RulesLaws.{patch_rule}
 use Rattle.spec_checks.proofs.FindingsLaws.{patch_reported}
 use Rattle.spec_lists.specs.Order.{sort_unique}
 use Rattle.spec_import.specs.Import.{Term, insert_of, patch_of}
-
--- no key is that of an earlier term
-abbrev pub Once : List Term → Type 0
-Once ts = (a : List Term) (t : Term) (b : List Term) → ts ≡ a ++ (t ∷ b) → (u : Term) → Memᴰ u a → u.key ≢ t.key
-
--- what the checks ask
-pub record InOrder (e : Envelope) (ts : List Term) : Type 0 where
-  pub lines : ts ≢ []
-  pub once : Once ts
-  pub id : e.id ≢ 0
-  pub stream : e.stream ≢ 0
-  pub above : e.previous < e.revision
+use Rattle.spec_import.specs.Clean.{InOrder}
 
 -- where a map stands apart, so does what it is of
 map_parts : {A B : Type 0} (f : A → B) (l : List A) (x : List B) (y : B) (z : List B) → map f l ≡ x ++ (y ∷ z)

@@ -11,8 +11,10 @@ use Rattle.spec_patch.specs.Fits.{U64, U32, Storable, StorableBy}
 use Rattle.spec_patch.specs.Read.{quad_after, availability_after}
 use Rattle.spec_projection.specs.Marks.{unmarked}
 use Rattle.spec_decimal.specs.Decimal.{decimal, signed_decimal, digits, is_digit, read_decimal}
-use Rattle.spec_decimal.proofs.DecimalLaws.{all_digits, is_digit_range}
-use Rattle.spec_decimal.proofs.ReadLaws.{read_decimal_decimal, read_signed_decimal_signed_decimal}
+use Rattle.spec_decimal.proofs.DecimalLaws.{all_digits}
+use Rattle.spec_decimal.proofs.DigitLaws.{is_digit_range}
+use Rattle.spec_decimal.proofs.ReadLaws.{read_decimal_decimal}
+use Rattle.spec_decimal.proofs.SignedLaws.{read_signed_decimal_signed_decimal}
 use Rattle.spec_listing.specs.Escapes.{tab, newline, carriage_return, Plain}
 use Rattle.spec_listing.proofs.EscapesLaws.{unescaped_escaped, plain_append, escaped_plain}
 use Rattle.spec_listing.specs.Split.{split, lacks, cons}

@@ -5,4 +5,4 @@ pub mod Premises
 pub mod Rows
 pub mod Runs
 pub mod Theorem
-pub mod Verdict
+pub mod VerdictLaws

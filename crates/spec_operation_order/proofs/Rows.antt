@@ -16,7 +16,7 @@ use Rattle.spec_patch.specs.Patch.{Operation, set_binding, set_availability, ins
 use Rattle.spec_projection.specs.Projection.{Binding, NodeAvailability, binding_key, availability_key}
 use Rattle.spec_projection.specs.Effects.{target_of, binding_target, node_target}
 use Rattle.spec_operation_order.specs.FreeOrder.{Exchanges, unchanged, exchange, behind, further}
-use Rattle.spec_operation_order.proofs.Verdict.{put, sets_binding, sets_availability}
+use Rattle.spec_operation_order.specs.Verdict.{put, sets_binding, sets_availability}
 
 -- the rows that a list of operations sets
 unfoldable pub put_all : {A : Type 0} → (A → List ℕ) → (Operation → Option A) → List A → List Operation → List A

@@ -14,7 +14,8 @@ use Rattle.spec_projection.specs.Effects.{Target, binding_target, node_target, c
 use Rattle.spec_projection.proofs.EffectsLaws.{own_collection, other_collections}
 use Rattle.spec_operation_order.specs.FreeOrder.{operations_on, apply_operations}
 use Rattle.spec_operation_order.proofs.FreeOrderLaws.{target_cases, on_own, on_other}
-use Rattle.spec_operation_order.proofs.Verdict.{keys_fit, values_at, sets_binding, sets_availability, FitsCapacities, Leaves, Verdict, verdict}
+use Rattle.spec_operation_order.specs.Verdict.{keys_fit, values_at, sets_binding, sets_availability, FitsCapacities, Leaves, Verdict}
+use Rattle.spec_operation_order.proofs.VerdictLaws.{verdict}
 use Rattle.spec_operation_order.proofs.Rows.{put_all}
 
 -- a collection's list after its operations, or none where a key or a neighbour does not fit

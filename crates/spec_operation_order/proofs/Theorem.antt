@@ -16,7 +16,8 @@ use Rattle.spec_operation_order.specs.FreeOrder.{operations_on, OrderKept, Excha
 use Rattle.spec_operation_order.proofs.FreeOrderLaws.{on_own, kept_exactly}
 use Rattle.spec_operation_order.specs.Grouping.{grouped_by, distinct, covers}
 use Rattle.spec_operation_order.proofs.GroupingLaws.{grouping_keeps}
-use Rattle.spec_operation_order.proofs.Verdict.{values_at, put, sets_binding, sets_availability, WithinCapacities, VerdictPlace, Leaves, Verdict, verdict}
+use Rattle.spec_operation_order.specs.Verdict.{values_at, put, sets_binding, sets_availability, WithinCapacities, VerdictPlace, Leaves, Verdict}
+use Rattle.spec_operation_order.proofs.VerdictLaws.{verdict}
 use Rattle.spec_operation_order.proofs.Rows.{put_all, put_all_grows, bindings_exchange, availabilities_exchange}
 use Rattle.spec_operation_order.proofs.Runs.{list_after, rest_after, ran}
 

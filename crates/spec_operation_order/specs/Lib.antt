@@ -1,2 +1,3 @@
 pub mod FreeOrder
 pub mod Grouping
+pub mod Verdict

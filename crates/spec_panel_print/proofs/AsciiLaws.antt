@@ -7,7 +7,8 @@ use Rattle.spec_lists.proofs.ListLaws.{and_left, and_right, flat_map_append, all
 use Rattle.spec_text.specs.Scalars.{encode_scalar, encode_scalars}
 use Rattle.spec_patch.specs.Patch.{Quad, N, F, T, S}
 use Rattle.spec_decimal.specs.Decimal.{digits, decimal, signed_decimal, is_digit}
-use Rattle.spec_decimal.proofs.DecimalLaws.{all_digits, is_digit_range}
+use Rattle.spec_decimal.proofs.DecimalLaws.{all_digits}
+use Rattle.spec_decimal.proofs.DigitLaws.{is_digit_range}
 use Rattle.spec_panel_print.specs.Print.{key_width, lead_width, blank, quad_letter, key_lead}
 use Rattle.spec_panel_print.proofs.PrintLaws.{key_lead_length}
 

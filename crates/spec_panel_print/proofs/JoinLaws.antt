@@ -11,10 +11,12 @@ use Rattle.spec_patch.specs.Patch.{Value, quad, signed, text, unsigned, score, N
 use Rattle.spec_patch.specs.Fits.{U64}
 use Rattle.spec_projection.specs.Lookups.{KeyedValue}
 use Rattle.spec_decimal.specs.Decimal.{digits, decimal, signed_decimal, is_digit, is_numeral, read_decimal}
-use Rattle.spec_decimal.proofs.DecimalLaws.{all_digits, is_digit_range}
+use Rattle.spec_decimal.proofs.DecimalLaws.{all_digits}
+use Rattle.spec_decimal.proofs.DigitLaws.{is_digit_range}
 use Rattle.spec_decimal.proofs.ReadLaws.{length_decimal, read_decimal_decimal}
 use Rattle.spec_panel_print.specs.Print.{key_width, lead_width, text_width, blank, quad_letter, printed_value, line_count, text_pieces, column_of, key_lead, blank_lead, laid_out, printed_lines, entry_lines, text_columns, without_end_spaces, ends_in_space, without_first_spaces, key_of}
 use Rattle.spec_panel_print.proofs.PrintLaws.{key_lead_length}
+use Rattle.spec_panel_print.proofs.PaddingLaws.{padding_dropped}
 
 -- ---- how many lines
 
@@ -70,20 +72,6 @@ columns_joined key l =
     )
 
 -- ---- without the padding
-
-only_spaces : (n : ℕ) → without_end_spaces (replicate n blank) ≡ []
-unfolding without_end_spaces
-only_spaces zero = refl
-only_spaces (suc n) = rw (only_spaces n)
-
-padding_dropped : (l : List ℕ) (n : ℕ) → ends_in_space l ≡ false → without_end_spaces (l ++ replicate n blank) ≡ l
-unfolding without_end_spaces ends_in_space
-padding_dropped [] n h = only_spaces n
-padding_dropped (c ∷ []) n h = rw (h, only_spaces n)
-padding_dropped (c ∷ d ∷ l) n h =
-    test_cases (eqb c blank)
-    (λ t. rw (t, padding_dropped (d ∷ l) n h))
-    (λ t. rw (t, padding_dropped (d ∷ l) n h))
 
 -- Joining the text columns and dropping the spaces at the end returns the printed value, if that does not end in a space.
 pub columns_back : (e : KeyedValue) → ends_in_space (printed_value e.value) ≡ false → without_end_spaces (text_columns (entry_lines e)) ≡ printed_value e.value

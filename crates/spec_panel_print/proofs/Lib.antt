@@ -1,6 +1,7 @@
 pub mod AsciiLaws
 pub mod DecodeLaws
 pub mod FlowLaws
+pub mod PaddingLaws
 pub mod JoinLaws
 pub mod PrintExamples
 pub mod PrintLaws

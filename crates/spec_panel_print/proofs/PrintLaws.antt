@@ -15,7 +15,8 @@ use Rattle.spec_projection.specs.Projection.{Entry, Projection}
 use Rattle.spec_projection.specs.Lookups.{KeyedValue, keyed_value, entries_in, entries_of}
 use Rattle.spec_projection.specs.Valid.{FitsEntry, Valid}
 use Rattle.spec_decimal.specs.Decimal.{digits, decimal, signed_decimal, is_digit}
-use Rattle.spec_decimal.proofs.DecimalLaws.{all_digits, is_digit_range}
+use Rattle.spec_decimal.proofs.DecimalLaws.{all_digits}
+use Rattle.spec_decimal.proofs.DigitLaws.{is_digit_range}
 use Rattle.spec_decimal.proofs.ReadLaws.{length_decimal}
 use Rattle.spec_panel_print.specs.Decode.{scalars_of}
 use Rattle.spec_panel_print.proofs.DecodeLaws.{utf8_decodes}

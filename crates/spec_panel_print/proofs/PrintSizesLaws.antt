@@ -14,7 +14,8 @@ use Rattle.spec_projection.specs.Projection.{Entry, Projection}
 use Rattle.spec_projection.specs.Lookups.{KeyedValue, keyed_value, entries_in, entries_of}
 use Rattle.spec_projection.specs.Valid.{Valid}
 use Rattle.spec_decimal.specs.Decimal.{decimal, signed_decimal}
-use Rattle.spec_decimal.proofs.ReadLaws.{length_decimal, length_signed_decimal}
+use Rattle.spec_decimal.proofs.ReadLaws.{length_decimal}
+use Rattle.spec_decimal.proofs.SignedLaws.{length_signed_decimal}
 use Rattle.spec_panel_print.specs.Decode.{scalars_of}
 use Rattle.spec_panel_print.proofs.DecodeLaws.{utf8_decodes}
 use Rattle.spec_panel_print.specs.Print.{lead_width, text_width, blank, delete_character, is_control, printed_character, quad_letter, printed_value, line_count, text_pieces, column_of, key_lead, blank_lead, laid_out, printed_lines, entry_lines, collection_lines, line_octets, collection_print}

@@ -2,6 +2,7 @@ pub mod ApplyExamples
 pub mod ApplyLaws
 pub mod CollectionLaws
 pub mod Determined
+pub mod DeterminedByLookups
 pub mod EffectsLaws
 pub mod EntriesLaws
 pub mod FirstMatchLaws
