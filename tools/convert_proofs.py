@@ -51,6 +51,8 @@ def clauses(root):
                         if depth == 0:
                             break
                     params = re.findall(r"(?:^|[(,]\s*)(?:mut\s+)?(\w+)\s*:(?!:)", head[opened:cut], re.M)
+                    if re.match(r"\(\s*(&\s*(mut\s+)?|mut\s+)?self\b", head[opened:cut]):
+                        params.insert(0, "self")
                     found.setdefault((crate, m[1]), []).append((module, asks, gives, params))
     return found
 
@@ -199,6 +201,8 @@ class Function:
             return i, best[0]
         if norm(self.old_label[i]) == first:
             rest = [rest[0]] + ["invariant" if rest[1:2] == ["inv"] else x for x in rest[1:2]] + rest[2:]
+            if re.match(r"if-|loop.*-test$", self.new_label[i]) and len(rest) > 1:
+                rest = [rest[0], {"taken": "true", "left": "false"}.get(rest[1], rest[1])] + rest[2:]
             out = [self.new_label[i]] + tail(rest[1:])
             params = self.rows["params"].get(self.callee[i] or "")
             if params and len(rest) > 2 and rest[1] in ("last", "new", "auto") and rest[2] in ("0", "1"):

@@ -7,16 +7,11 @@ use Rattle.local_projection_state.specs.declared.ProjectionCounts.{ProjectionCou
 use Rattle.session_lifecycle.specs.declared.state.ShellLocalState.{ShellLocalState}
 use Rattle.session_steps.specs.declared.checks.ActivatedShellSessionContext.{ActivatedShellSessionContext}
 use Rattle.shell_player.specs.Batches.{session_of}
-use Rattle.shell_player.proofs.tables.with_tables.Statement.{statement}
-use Rattle.shell_player.proofs.tables.with_tables.Tie as tie
+use Rattle.shell_player.proofs.tables.with_tables.Goals as goal
 
 -- equal tables make equal sessions
 same_tables : (c : ActivatedShellSessionContext) (t : ShellLocalState) (n : ProjectionCounts) {b b' a a' e e' l l' : List ℕ} → b ≡ b' → a ≡ a' → e ≡ e' → l ≡ l' → session_of c t n b a e l ≡ session_of c t n b' a' e' l'
 same_tables c t n p q r s = rw (p, q, r, s) refl
 
-returns : tie.Need-returns
-returns c = same_tables _ _ _ c.before.before.before.before.before.before.put-bindings.ensures c.before.before.before.before.put-availability.ensures c.before.before.put_entries.ensures c.put-lengths.ensures
-
-pub with-tables-spec : {M : Type 1} → statement M
-with-tables-spec =
-    tie.close (tie.spec (λ c κs. search rules) (λ c κs. search rules) (λ c κs. search rules) (λ c κs. search rules) returns)
+pub returns : goal.returns
+returns c = same_tables _ _ _ c.put_bindings.ensures c.put_availability.ensures c.put_entries.ensures c.put_lengths.ensures

@@ -1,0 +1,6 @@
+-- `ShellSession::binding_value` meets its contract: the lookup in the table of the session's projection.
+use borrow.Author.Rules.{rules}
+use Rattle.shell_player.proofs.session.ShellSession.binding_value.Goals as goal
+
+pub returns : goal.returns
+returns c = λ m h. c.binding_value.ensures m.projection h.projection.tables.bindings h.projection.tables.valid
