@@ -1,4 +1,5 @@
 -- `check_set::list_operations::list_operations` meets its contract: what is left makes of the table what the whole makes of the first; the measure is the operations left.
+use borrow.Enum.Refused.{opened as one_of}
 use Prim.Native.Nat.{ℕ, ◌+◌, ◌*◌, ◌≤◌, ◌<◌}
 use mathlib.Core.Path.{◌≡◌, refl, sym, ap, ◌∙◌, subst}
 use mathlib.Core.Bool.{false}
@@ -54,7 +55,7 @@ shape_of-marks-in_default c = marks-long (goal.at.shape_of-marks-in_default c).A
 
 pub returns-in_default : goal.returns-in_default
 returns-in_default c =
-    record { listed = λ os ps here. absurd (operation_matches false (edition (goal.at.returns-in_default c).After-next_step) (set (goal.at.returns-in_default c).After-next_step) c.loop-cursor.cursor c.next_step.ensures.is _ ps (c.loop-cursor.invariant.1.1.1.1.1.1 os ps here).here (some_left (goal.at.returns-in_default c).After-next_step) c.in_default.in_default-own.keys2); patches = c.loop-cursor.invariant.1.1.1.1.0 }
+    record { listed = λ os ps here. absurd (operation_matches false (edition (goal.at.returns-in_default c).After-next_step) (set (goal.at.returns-in_default c).After-next_step) c.loop-cursor.cursor c.next_step.ensures.is _ ps (c.loop-cursor.invariant.1.1.1.1.1.1 os ps here).here (some_left (goal.at.returns-in_default c).After-next_step) (one_of c.in_default.in_default-own.keys2)); patches = c.loop-cursor.invariant.1.1.1.1.0 }
 
 pub seen_by_mark-seen-requires : goal.seen_by_mark-seen-requires
 seen_by_mark-seen-requires c = (omega (arith, some_left (goal.at.seen_by_mark-seen-requires c).After-next_step), c.loop-cursor.invariant.1.1.1.1.1.0)

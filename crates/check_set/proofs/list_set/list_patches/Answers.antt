@@ -1,4 +1,5 @@
 -- `check_set::list_set::list_patches` meets its contract: no patch that is done has findings, and the table holds those of the set so far; the measure is the patches left.
+use borrow.Enum.Refused.{opened as one_of}
 use Prim.Native.Nat.{ℕ, ◌+◌, ◌≤◌, ◌<◌}
 use mathlib.Core.Path.{◌≡◌, refl, sym, ap, ◌∙◌, subst}
 use mathlib.Core.Bool.{false}
@@ -44,7 +45,7 @@ loop-cursor-init c = (omega (arith, c.requires), (refl, (search rules, λ ps her
 
 pub returns-in_default : goal.returns-in_default
 returns-in_default c =
-    λ ps here. absurd (head_matches false (edition (goal.at.returns-in_default c).After-next_step) (set (goal.at.returns-in_default c).After-next_step) c.loop-cursor.cursor c.next_step.ensures.is _ (c.loop-cursor.invariant.1.1.1 ps here).here (some_left (goal.at.returns-in_default c).After-next_step) c.in_default.in_default-own.keys2)
+    λ ps here. absurd (head_matches false (edition (goal.at.returns-in_default c).After-next_step) (set (goal.at.returns-in_default c).After-next_step) c.loop-cursor.cursor c.next_step.ensures.is _ (c.loop-cursor.invariant.1.1.1 ps here).here (some_left (goal.at.returns-in_default c).After-next_step) (one_of c.in_default.in_default-own.keys2))
 
 pub list_patch-patch-requires : goal.list_patch-patch-requires
 list_patch-patch-requires c = omega (arith, (counts (goal.at.list_patch-patch-requires c).After-next_step _ c.in-Head.is).1)
