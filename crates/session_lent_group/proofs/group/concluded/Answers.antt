@@ -15,8 +15,7 @@ use Rattle.session_lent_group.specs.Sendings.{standing}
 use Rattle.session_lent_group.specs.declared.places.LentRun.{LentRun}
 use Rattle.session_lent_group.specs.LentGroups.{ConcludedAs}
 use borrow.Author.Rules.{rules}
-use Rattle.session_lent_group.proofs.group.concluded.Statement.{statement}
-use Rattle.session_lent_group.proofs.group.concluded.Tie as tie
+use Rattle.session_lent_group.proofs.group.concluded.Goals as goal
 
 ended_as : (x : LentRun) (half : LentHalf) (count : ℕ) (own first second : List ℕ) → x ≡ run.Ended half → (c : ProjectionReplayCursor) → cursor_of c ≡ (state_at (standing half own first second)).cursor → ConcludedAs x count own first second (Answered (Taken count c) half)
 ended_as x half count own first second is c told = subst (λ (y : LentRun). ConcludedAs y count own first second (Answered (Taken count c) half)) (sym is) (c, (told, refl))
@@ -26,17 +25,10 @@ broke_as : (x : LentRun) (i : ℕ) (a : ProjectionPatchApplicationResult) (count
 broke_as x i a count own first second is c told =
     subst (λ (y : LentRun). ConcludedAs y count own first second (Answered (RefusedAt i (record { disposition = a.disposition; diagnostics = a.diagnostics; replay_cursor = c })) Own)) (sym is) (c, (told, refl))
 
-returns : tie.Need-returns
-returns c =
-    let a = c.before.before.before.before.before.before.before.args in
-    ended_as a.run _ a.count a.own.now a.first.now a.second.now c.before.before.run.given.1 c.cursor-in.result c.cursor-in.ensures
+pub returns-in-Ended : goal.returns-in-Ended
+returns-in-Ended c =
+    ended_as c.args.run _ c.args.count c.args.own.now c.args.first.now c.args.second.now c.in-Ended.is c.cursor_in-cursor.result c.cursor_in-cursor.ensures
 
-returns-2 : tie.Need-returns-2
-returns-2 c =
-    let a = c.before.before.before.before.before.before.before.before.args in
-    broke_as a.run _ _ a.count a.own.now a.first.now a.second.now c.before.before.before.run2.given.1 c.head-cursor.result c.head-cursor.ensures
-
-pub concluded-spec : {M : Type 1} → statement M
-concluded-spec =
-    tie.close
-    (tie.spec (λ c. search rules) (λ c κs. search rules) (λ c. search rules) (λ c κs. search rules) returns returns-2)
+pub returns-in-Broke : goal.returns-in-Broke
+returns-in-Broke c =
+    broke_as c.args.run _ _ c.args.count c.args.own.now c.args.first.now c.args.second.now c.in-Broke.is c.head_cursor-replay_cursor.result c.head_cursor-replay_cursor.ensures
