@@ -36,21 +36,6 @@ returns-in-Broke c =
     let after = half_with c.send_until_applied-sending.new.to_head c.send_until_applied-sending.new.to_bindings c.send_until_applied-sending.new.to_availability c.send_until_applied-sending.new.to_entries c.send_until_applied-sending.new.to_lengths in
     own_broke anchors c.args.head.now c.args.bindings.now c.args.availability.now c.args.entries.now first second after c.args.sets.now c.args.left c.in-Broke.place c.in-Broke.result (subst (λ (x : LentSending). SentAs anchors c.args.head.now c.args.bindings.now c.args.availability.now c.args.entries.now c.args.sets.now c.args.left first after x) c.in-Broke.is (c.send_until_applied-sending.ensures.holding, c.send_until_applied-sending.ensures.whatever)) in record { holding = all.0; whatever = all.1 }
 
-pub shape_of-first_head-in-Moved : goal.shape_of-first_head-in-Moved
-shape_of-first_head-in-Moved c = c.send_between.auto.head ∙ c.send_until_applied-sending.kept.1.1.1.1.1.1.1.1.1.0
-
-pub shape_of-first_bindings-in-Moved : goal.shape_of-first_bindings-in-Moved
-shape_of-first_bindings-in-Moved c = c.send_between.auto.bindings ∙ c.send_until_applied-sending.kept.1.1.1.1.1.1.1.1.1.1.0
-
-pub shape_of-first_availability-in-Moved : goal.shape_of-first_availability-in-Moved
-shape_of-first_availability-in-Moved c = c.send_between.auto.availability ∙ c.send_until_applied-sending.kept.1.1.1.1.1.1.1.1.1.1.1.0
-
-pub shape_of-first_entries-in-Moved : goal.shape_of-first_entries-in-Moved
-shape_of-first_entries-in-Moved c = c.send_between.auto.entries ∙ c.send_until_applied-sending.kept.1.1.1.1.1.1.1.1.1.1.1.1.0
-
-pub shape_of-first_lengths-in-Moved : goal.shape_of-first_lengths-in-Moved
-shape_of-first_lengths-in-Moved c = c.send_between.auto.lengths ∙ c.send_until_applied-sending.kept.1.1.1.1.1.1.1.1.1.1.1.1.1.0
-
 pub returns-in-Moved : goal.returns-in-Moved
 returns-in-Moved c =
     let all = let anchors = anchors_with c.args.nodes.now c.args.pairs.now c.args.collections.now in
