@@ -1,0 +1,14 @@
+-- `session_explain::checks::explain_set` meets its contract, by what the pass over the set found.
+use mathlib.Core.Path.{◌∙◌}
+use Rattle.session_explain.specs.StepsLaws.{set_unread, set_found, set_clean}
+use borrow.Author.Rules.{rules}
+use Rattle.session_explain.proofs.checks.explain_set.Goals as goal
+
+pub returns-in-Refused : goal.returns-in-Refused
+returns-in-Refused c = λ k lent. c.explain_check.ensures ∙ set_unread _ _ _ _ _ k lent _ _ _ _ c.inspect_set.ensures c.in-Refused.is
+
+pub returns-in-Found : goal.returns-in-Found
+returns-in-Found c = λ k lent. set_found _ _ _ _ _ k lent _ _ _ _ c.inspect_set.ensures c.in-Found.is _ c.explain_findings.ensures
+
+pub returns-in-Clean : goal.returns-in-Clean
+returns-in-Clean c = λ k lent. set_clean _ _ _ _ _ k lent _ _ _ _ c.inspect_set.ensures c.in-Clean.is _ (λ ps r. c.explain_clean.ensures k ps lent r)
