@@ -11,9 +11,9 @@ loop-i-init c = (omega arith, c.none-anchors.ensures ∙ starts c.args.pairs.now
 
 pub loop-i-preserved : goal.loop-i-preserved
 loop-i-preserved c = (
-    omega arith,
-    c.put-anchors.ensures ∙ ap (λ (a : BindingAnchors). with_pair a c.loop-i.i (get_or c.args.pairs.now c.loop-i.i no_pair)) c.loop-i.invariant.1 ∙ steps c.args.pairs.now c.loop-i.i (omega arith) (omega arith),
-  )
+  omega arith,
+  c.put-anchors.ensures ∙ ap (λ (a : BindingAnchors). with_pair a c.loop-i.i (get_or c.args.pairs.now c.loop-i.i no_pair)) c.loop-i.invariant.1 ∙ steps c.args.pairs.now c.loop-i.i (omega arith) (omega arith),
+)
 
 pub returns : goal.returns
 returns c = c.loop-i.invariant.1 ∙ all_copied c.args.pairs.now c.loop-i.i (omega arith)
