@@ -43,5 +43,5 @@ returns-in-Moved t c =
     let from'' = half_with c.send_between.new.to_head c.send_between.new.to_bindings c.send_between.new.to_availability c.send_between.new.to_entries c.send_between.new.to_lengths in
     let rest = subst (λ (x : GroupLeft). RanBetween anchors after from c.args.sets.now x to'' from'' c.send_between.result) c.left_from.ensures (c.send_between.ensures.holding, c.send_between.ensures.whatever) in
     let all = subst (λ (x : LentRun). RanBetween anchors from to c.args.sets.now c.args.left from'' to'' x) (sym c.turned.ensures)
-        (between_moved anchors from to after c.args.sets.now c.args.left c.in-Moved.place c.in-Moved.at (c.in-Moved.ensures.holding, c.in-Moved.ensures.whatever) from'' to'' c.send_between.result rest) in
+    (between_moved anchors from to after c.args.sets.now c.args.left c.in-Moved.place c.in-Moved.at (c.in-Moved.ensures.holding, c.in-Moved.ensures.whatever) from'' to'' c.send_between.result rest) in
     record { holding = all.0; whatever = all.1 }
