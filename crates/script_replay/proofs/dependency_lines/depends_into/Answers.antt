@@ -9,8 +9,7 @@ use Rattle.spec_dependencies.specs.Answer.{dependencies_of}
 use Rattle.spec_replay.specs.Answers.{dependency_lines}
 use Rattle.bytes_printer.proofs.PrintsLaws.{prints_same}
 use Rattle.projection_patch.specs.Meaning.{edition_of}
-use Rattle.script_replay.proofs.dependency_lines.depends_into.Statement.{statement}
-use Rattle.script_replay.proofs.dependency_lines.depends_into.Tie as tie
+use Rattle.script_replay.proofs.dependency_lines.depends_into.Goals as goal
 
 -- the first of many zeros
 first_zeros : (n room : ℕ) → room ≤ n → take room (replicate {A = ℕ} n 0) ≡ replicate room 0
@@ -23,13 +22,6 @@ lent_zeros n room h =
     let same : room - 0 ≡ room = omega arith in
     ap (λ (k : ℕ). take k (replicate {A = ℕ} n 0)) same ∙ first_zeros n room h
 
-returns : tie.Need-returns
+pub returns : goal.returns
 returns c =
-    let printed = c.before.before.before in
-    let args = printed.before.before.before.before.before.args in
-    prints_same (ap (λ (l : List ℕ). dependency_lines (dependencies_of (edition_of args.edition) args.set.now l)) (lent_zeros 65536 args.room (search rules))) printed.print-told.ensures
-
-pub depends-into-spec : {M : Type 1} → statement M
-depends-into-spec =
-    tie.close
-    (tie.spec (λ c. search rules) (λ c. search rules) (λ c. search rules) (λ c κs. search rules) (λ c. search rules) returns)
+    prints_same (ap (λ (l : List ℕ). dependency_lines (dependencies_of (edition_of c.args.edition) c.args.set.now l)) (lent_zeros 65536 c.args.room (search rules))) c.print_told.ensures

@@ -9,21 +9,13 @@ use Rattle.spec_conversion.specs.Conversion.{convert}
 use Rattle.spec_replay.specs.Answers.{conversion_line}
 use Rattle.bytes_printer.proofs.PrintsLaws.{prints_same}
 use Rattle.projection_patch.specs.Meaning.{edition_of}
-use Rattle.script_replay.proofs.set_lines.convert_into.Statement.{statement}
-use Rattle.script_replay.proofs.set_lines.convert_into.Tie as tie
+use Rattle.script_replay.proofs.set_lines.convert_into.Goals as goal
 
 lent_length : (n room : ℕ) → room ≤ n → length (take (room - 0) (drop 0 (replicate {A = ℕ} n 0))) ≡ room
 lent_length n room h =
     let same : room - 0 ≡ room = omega arith in
     length-take-le (room - 0) (replicate n 0) (omega (arith, length-replicate {A = ℕ} n 0)) ∙ same
 
-returns : tie.Need-returns
+pub returns : goal.returns
 returns c =
-    let printed = c.before.before.before in
-    let args = printed.before.before.before.before.before.args in
-    prints_same (ap (λ (n : ℕ). conversion_line (convert (edition_of args.edition) args.set.now n)) (lent_length 65536 args.room (search rules))) printed.print-converted.ensures
-
-pub convert-into-spec : {M : Type 1} → statement M
-convert-into-spec =
-    tie.close
-    (tie.spec (λ c. search rules) (λ c. search rules) (λ c. search rules) (λ c κs. search rules) (λ c. search rules) returns)
+    prints_same (ap (λ (n : ℕ). conversion_line (convert (edition_of c.args.edition) c.args.set.now n)) (lent_length 65536 c.args.room (search rules))) c.print_converted.ensures

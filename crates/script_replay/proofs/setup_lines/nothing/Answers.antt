@@ -2,12 +2,8 @@
 use mathlib.Core.Path.{refl}
 use Rattle.spec_replay.specs.Replay.{replay_line}
 use Rattle.script_replay.specs.LineLaws.{silent_step}
-use Rattle.script_replay.proofs.setup_lines.nothing.Statement.{statement}
-use Rattle.script_replay.proofs.setup_lines.nothing.Tie as tie
+use Rattle.script_replay.proofs.setup_lines.nothing.Goals as goal
 
-returns : tie.Need-returns
+pub returns : goal.returns
 unfolding replay_line
 returns c = λ m h n out. silent_step _ out _ m refl refl h
-
-pub nothing-spec : {M : Type 1} → statement M
-nothing-spec = tie.close (tie.spec returns)
