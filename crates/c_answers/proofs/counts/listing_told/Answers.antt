@@ -1,0 +1,11 @@
+-- `listing_told` meets its contract.
+use mathlib.Core.Path.{sym, ap, ◌∙◌}
+use Rattle.c_answers.specs.Counts.{listing_told}
+use borrow.Author.Rules.{rules}
+use Rattle.c_answers.proofs.counts.listing_told.Goals as goal
+
+pub returns-in-Answered : goal.returns-in-Answered
+returns-in-Answered c = c.written_to.ensures ∙ ap listing_told (sym c.in-Answered.is)
+
+pub returns-in-NoSession : goal.returns-in-NoSession
+returns-in-NoSession c = c.not_counted.ensures ∙ ap listing_told (sym c.in-NoSession.is)
