@@ -1,5 +1,0 @@
-pub mod SetupLines
-pub mod LineLaws
-pub mod GroupLaws
-pub mod AnswerBytes
-pub mod AnswerBytesLaws
