@@ -1,0 +1,69 @@
+// Reading and checks of one set.
+use check_quick::quick_set;
+use check_quick::quick_set::QuickCheck;
+use check_set::check_set as set_check;
+use check_set::check_set::PatchSetCheck;
+use patch_walk::SetRead;
+use projection_patch::patch::ProjectionPatchEdition;
+
+// The surface of the first patch, which no rule looks at; a new one for each use keeps the uses apart.
+const SURFACE: usize = 60;
+
+// Numbers of the records that are lent to the check. Those of more findings are only counted.
+const LENT: usize = 48;
+
+// The number of operations, or the refusal's number.
+fn read(set: &[u8]) -> u64 {
+    match patch_walk::read_set(set, ProjectionPatchEdition::V1) {
+        SetRead::Read {
+            patch_count: _,
+            operation_count,
+        } => operation_count as u64,
+        SetRead::Refused(fault) => fault.number(),
+    }
+}
+
+// The number of operations where there is no finding, or the refusal's number.
+fn quick_check(set: &[u8]) -> u64 {
+    match quick_set::quick_check(set, ProjectionPatchEdition::V1) {
+        QuickCheck::Clean {
+            patch_count: _,
+            operation_count,
+        } => operation_count as u64,
+        QuickCheck::Found => 11,
+        QuickCheck::Refused(fault) => fault.number(),
+    }
+}
+
+// The number of findings, or the refusal's number.
+fn check(set: &[u8], findings: &mut [u64]) -> u64 {
+    match set_check::check(set, ProjectionPatchEdition::V1, findings) {
+        PatchSetCheck::Checked {
+            place: _,
+            logical,
+            written: _,
+        } => logical as u64,
+        PatchSetCheck::Refused(fault) => fault.number(),
+    }
+}
+
+fn use_once(way: u8, set: &[u8], findings: &mut [u64]) -> u64 {
+    match way {
+        b'r' => read(set),
+        b'q' => quick_check(set),
+        _ => check(set, findings),
+    }
+}
+
+// The last answer.
+pub(crate) fn use_often(way: u8, set: &mut [u8], times: u64) -> u64 {
+    let mut findings = [0u64; LENT];
+    let mut last = 0;
+    let mut left = times;
+    while 0 < left {
+        bytes_wire::write_u64_at(set, SURFACE, left);
+        last = use_once(way, set, &mut findings);
+        left -= 1;
+    }
+    last
+}

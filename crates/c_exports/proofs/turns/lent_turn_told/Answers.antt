@@ -1,0 +1,8 @@
+-- `lent_turn_told` meets its contract.
+use mathlib.Core.Path.{sym, ap}
+use Rattle.c_exports.specs.Turns.{lent_turn_told}
+use borrow.Author.Rules.{rules}
+use Rattle.c_exports.proofs.turns.lent_turn_told.Goals as goal
+
+pub returns-in-NoTurns : goal.returns-in-NoTurns
+returns-in-NoTurns c = ap lent_turn_told (sym c.in-NoTurns.is)

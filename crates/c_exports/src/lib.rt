@@ -1,0 +1,21 @@
+// The calls that C, and whatever calls C, makes on a session in its own memory and on the bytes of sets: include/geysertray.h declares them.
+// Tables and heads are pointers to arrays of their length; anchors, sets and outputs are a pointer and a length. All of them stand in this
+// crate, since an archive has the exported functions of one.
+#![tactic(auto)]
+
+pub mod bytes;
+pub mod explain;
+pub mod group;
+pub mod session;
+pub mod turns;
+pub mod views;
+
+ghost use Rattle.std.specs.Prelude.{◌≡◌};
+
+// The version of the library: 1000000 times the major number, 1000 times the minor one, and the patch number.
+#[unsafe(no_mangle)]
+pub extern "C" fn geysertray_version() -> u64
+    ensures { result ≡ 1000000 }
+{
+    1000000
+}

@@ -1,0 +1,5 @@
+pub mod SetupLines
+pub mod LineLaws
+pub mod GroupLaws
+pub mod AnswerBytes
+pub mod AnswerBytesLaws
