@@ -2,7 +2,7 @@
    line end, and three sets, each after its length as a u32: one that fills the panel, one that is applied to it and one that takes it back. Prints
    how many batches were applied.
 
-   cc -std=c11 -O2 -Wall -Wextra -Wpedantic -Iinclude c/bench.c crates/c_exports/out/libc_exports.a -o bench_lent */
+   cc -std=c11 -O2 -Wall -Wextra -Wpedantic -Iinclude c/bench.c crates/c_exports_c/out/libc_exports_c.a -o bench_lent */
 #include "geysertray.h"
 #include <stdio.h>
 #include <stdlib.h>

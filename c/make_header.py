@@ -1,7 +1,7 @@
 #!/usr/bin/env python3
 """The declarations of include/geysertray.h and the names of rules in the bindings, made from the Rattle source of the exported calls.
 
-    c/make_header.py --check    whether the files have just these
+    c/make_header.py --check    whether the files have just these, and the exports of c_exports_c are the calls of c_exports
     c/make_header.py --write    writes them into the files
 """
 
@@ -12,6 +12,7 @@ from pathlib import Path
 ROOT = Path(__file__).resolve().parent.parent
 ANSWERS = [ROOT / "crates" / "c_answers" / "src" / name for name in ("answers.rt", "groups.rt", "counts.rt", "values.rt", "sets.rt", "figures.rt", "explanations.rt")] + [ROOT / "crates" / "c_exports" / "src" / "turns.rt"]
 CALLS = [ROOT / "crates" / "c_exports" / "src" / name for name in ("lib.rt", "session.rt", "group.rt", "views.rt", "bytes.rt", "turns.rt", "explain.rt")]
+EXPORTS = [ROOT / "crates" / "c_exports_c" / "src" / path.name for path in CALLS]
 RULES = ROOT / "crates" / "c_answers" / "specs" / "Explanations.antt"
 HEADER = ROOT / "include" / "geysertray.h"
 PYTHON = ROOT / "bindings" / "python" / "geysertray.py"
@@ -113,11 +114,16 @@ def structs_of(text):
 
 
 def functions_of(text):
-    for row in re.finditer(r'pub extern "C" fn (\w+)(?:<\'a>)?\((.*?)\) -> (\w+)\n', text, re.S):
+    for row in re.finditer(r'^pub (?:extern "C" )?fn (geysertray_\w+)(?:<\'a>)?\((.*?)\) -> (\w+)\n', text, re.S | re.M):
         parameters = [part for name, kind in re.findall(r"(\w+): ((?:&(?:'a )?(?:mut )?)?\[[^\]]*\]|&?\w+)", row.group(2)) for part in type_of(kind, name)]
         kind = SCALARS.get(row.group(3)) or camel(row.group(3))
         listed = "\n    %s" % ",\n    ".join(parameters) if parameters else "void"
         yield "\n%s%s %s(%s);\n" % (comment_before(text, row.start()), kind, row.group(1), listed)
+
+
+def calls_in(paths):
+    """The C declarations of the calls in these files, without their comments."""
+    return [re.sub(r"/\*.*?\*/\n", "", declared, flags=re.S) for path in paths for declared in functions_of(path.read_text(encoding="utf-8"))]
 
 
 def rule_names():
@@ -164,6 +170,9 @@ def files_made():
 
 def main(argument):
     fault = 0
+    if calls_in(EXPORTS) != calls_in(CALLS):
+        print("c_exports_c exports other calls than c_exports has", file=sys.stderr)
+        fault = 1
     for path, made in files_made():
         if argument == "--write":
             path.write_text(made, encoding="utf-8")

@@ -1,7 +1,7 @@
 /* A panel in C: creation, a batch that is applied, batches that are refused and leave every byte, a step; what the panel then holds; and the calls on
    bytes. Each line that fails is told, and the status is 1.
 
-   cc -std=c11 -Wall -Wextra -Wpedantic -Iinclude c/panel_test.c crates/c_exports/out/libc_exports.a -o panel_test */
+   cc -std=c11 -Wall -Wextra -Wpedantic -Iinclude c/panel_test.c crates/c_exports_c/out/libc_exports_c.a -o panel_test */
 #include "geysertray.h"
 #include <stdio.h>
 #include <string.h>

@@ -69,8 +69,8 @@ abbrev pub taken_to : Cursor → GeysertrayAnswer
 taken_to c = record { disposition = 0; number = 0; stage = 0; logical = 0; emitted = 0; has_cursor = cursor_kind c; cursor = cursor_number c }
 
 -- 17: every other number but that of the rejection is 0
-abbrev pub not_aGroup_to : GeysertrayAnswer
-not_aGroup_to = record { disposition = 2; number = group_number; stage = 0; logical = 0; emitted = 0; has_cursor = 0; cursor = 0 }
+abbrev pub not_a_group_to : GeysertrayAnswer
+not_a_group_to = record { disposition = 2; number = group_number; stage = 0; logical = 0; emitted = 0; has_cursor = 0; cursor = 0 }
 
 abbrev pub group_with : (count place half : ℕ) → GeysertrayAnswer → GeysertrayGroupAnswer
 group_with count place half answer = record { count = count; place = place; half = half; answer = answer }
@@ -81,7 +81,7 @@ group_absent d = group_with 0 0 0 (session_absent d)
 
 -- with the number of the half
 abbrev pub group_to : ℕ → GroupAnswer → GeysertrayGroupAnswer
-group_to half NotAGroup = group_with 0 0 half not_aGroup_to
+group_to half NotAGroup = group_with 0 0 half not_a_group_to
 group_to half (Taken n c) = group_with n 0 half (taken_to (cursor_of c))
 group_to half (RefusedAt i a) = group_with 0 i half (answer_to (batch_answer_of a))
 

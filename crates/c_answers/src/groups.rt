@@ -3,7 +3,7 @@ ghost use Rattle.std.specs.Prelude.{◌≡◌, ◌&&◌, min, length};
 ghost use Rattle.spec_group.specs.Group.{group_batches};
 ghost use Rattle.session_lifecycle.specs.Meaning.{cursor_of};
 ghost use Rattle.session_group.specs.Groups.{batch_means, Names};
-ghost use Rattle.c_answers.specs.GroupNumbers.{batch_numbers, batch_of_numbers, batch_count, batches_told, editions_known, half_number, taken_to, not_aGroup_to, group_with, group_absent, group_to, group_told};
+ghost use Rattle.c_answers.specs.GroupNumbers.{batch_numbers, batch_of_numbers, batch_count, batches_told, editions_known, half_number, taken_to, not_a_group_to, group_with, group_absent, group_to, group_told};
 
 use crate::answers::GeysertrayAnswer;
 use crate::{answers, asked};
@@ -138,7 +138,7 @@ fn taken_to(cursor: ProjectionReplayCursor) -> GeysertrayAnswer
 }
 
 fn not_a_group() -> GeysertrayAnswer
-    ensures { result ≡ not_aGroup_to }
+    ensures { result ≡ not_a_group_to }
 {
     GeysertrayAnswer {
         disposition: 2,

@@ -23,12 +23,7 @@ use set_dependencies::depends;
 const NO_SUCH: u64 = 4;
 
 // Checks a set: records of three numbers, kind, domain and secondary, as many as fit; 12 or 10 for a set that does not read.
-#[unsafe(no_mangle)]
-pub extern "C" fn geysertray_check(
-    set: &[u8],
-    edition: u64,
-    findings: &mut [u64],
-) -> GeysertrayChecked
+pub fn geysertray_check(set: &[u8], edition: u64, findings: &mut [u64]) -> GeysertrayChecked
     ensures told { result ≡ by_edition edition (λ e. check_told (check_answer (read_set e set.now) (length findings.old))) (unchecked_set 4 0) }
     ensures written { findings.new ≡ by_edition edition (λ e. check_numbers (read_set e set.now) findings.old) findings.old }
 {
@@ -41,8 +36,7 @@ pub extern "C" fn geysertray_check(
 
 // Brings a term list in as a set of one patch, of this envelope (has_surface 0: no surface): an insert for each line; the count is that of the
 // bytes. 15 for a line of another form, 12, 11 for what the patch checks find, 14. What is behind the set stays.
-#[unsafe(no_mangle)]
-pub extern "C" fn geysertray_import_terms(
+pub fn geysertray_import_terms(
     list: &[u8],
     edition: u64,
     collection: u64,
@@ -81,8 +75,7 @@ pub extern "C" fn geysertray_import_terms(
 
 // Converts a set of an edition into the other; the count is that of the bytes. 12 or 10 for a set that does not read, 18 for a value that the
 // other edition lacks, 14. What is behind the set stays.
-#[unsafe(no_mangle)]
-pub extern "C" fn geysertray_convert(set: &[u8], edition: u64, out: &mut [u8]) -> GeysertrayCount
+pub fn geysertray_convert(set: &[u8], edition: u64, out: &mut [u8]) -> GeysertrayCount
     ensures told { result ≡ by_edition edition (λ e. conversion_told (conversion_answer (convert e set.now (length out.old)))) (not_counted 4) }
     ensures written { out.new ≡ by_edition edition (λ e. conversion_output out.old (convert e set.now (length out.old))) out.old }
 {
@@ -94,12 +87,7 @@ pub extern "C" fn geysertray_convert(set: &[u8], edition: u64, out: &mut [u8]) -
 }
 
 // Writes the listing of a set on an empty panel; the count is that of the bytes. A set that is refused is listed as `E` and the number; 14.
-#[unsafe(no_mangle)]
-pub extern "C" fn geysertray_set_listing(
-    set: &[u8],
-    edition: u64,
-    out: &mut [u8],
-) -> GeysertrayCount
+pub fn geysertray_set_listing(set: &[u8], edition: u64, out: &mut [u8]) -> GeysertrayCount
     ensures told { result ≡ by_edition edition (λ e. written_to (written_at out.old 0 (write_model.wrote (listing e set.now)))) (not_counted 4) }
     ensures written { out.new ≡ by_edition edition (λ e. output_at out.old 0 (write_model.wrote (listing e set.now))) out.old }
 {
@@ -112,12 +100,7 @@ pub extern "C" fn geysertray_set_listing(
 
 // What a set depends on: two numbers for each key, collection and key, first of those that must be there at the start, then of those that must
 // be absent. 12 or 10 for a set that does not read, 11 for what the patch checks find, 14; these and never write nothing.
-#[unsafe(no_mangle)]
-pub extern "C" fn geysertray_depends(
-    set: &[u8],
-    edition: u64,
-    out: &mut [u64],
-) -> GeysertrayDependencies
+pub fn geysertray_depends(set: &[u8], edition: u64, out: &mut [u64]) -> GeysertrayDependencies
     ensures told { result ≡ by_edition edition (λ e. dependencies_told (depends_answer_to (dependencies_of e set.now out.old).answer)) (not_told 4 0) }
     ensures written { out.new ≡ by_edition edition (λ e. (dependencies_of e set.now out.old).output) out.old }
 {

@@ -11,8 +11,7 @@ use session_lifecycle::state::ShellSessionId;
 const NO_SUCH: u64 = 4;
 
 // By which rule geysertray_batch would refuse a batch with these arguments, and with which figures. It takes longer than the batch.
-#[unsafe(no_mangle)]
-pub extern "C" fn geysertray_explain(
+pub fn geysertray_explain(
     head: &[u64; head::NUMBERS],
     nodes: &[u64],
     pairs: &[u64],

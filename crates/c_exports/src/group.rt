@@ -13,8 +13,7 @@ const NO_SUCH: u64 = 4;
 // Several batches as if sent singly in order, or none. A batch is seven numbers: session id, sequence number, patch count, stimulus bytes, target
 // references, edition and the bytes of its set. The half that is read stays; the answer tells in which half the session stands, and the two that are
 // lent to work in can be lent to a later call, whatever came of the group.
-#[unsafe(no_mangle)]
-pub extern "C" fn geysertray_group<'a>(
+pub fn geysertray_group<'a>(
     head: &[u64; head::NUMBERS],
     nodes: &[u64],
     pairs: &[u64],

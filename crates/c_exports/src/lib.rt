@@ -13,8 +13,7 @@ pub mod views;
 ghost use Rattle.std.specs.Prelude.{◌≡◌};
 
 // The version of the library: 1000000 times the major number, 1000 times the minor one, and the patch number.
-#[unsafe(no_mangle)]
-pub extern "C" fn geysertray_version() -> u64
+pub fn geysertray_version() -> u64
     ensures { result ≡ 1000000 }
 {
     1000000

@@ -17,8 +17,7 @@ const NO_SUCH: u64 = 4;
 const LAST_COMMAND: u64 = 4;
 
 // Makes a new session in one half of a panel's memory: 0, or 13 for too many anchors of a kind, or 3 where the numbers of the bindings are no pairs.
-#[unsafe(no_mangle)]
-pub extern "C" fn geysertray_create(
+pub fn geysertray_create(
     id: u64,
     stimulus_bytes: u64,
     diagnostics: u64,
@@ -58,8 +57,7 @@ pub extern "C" fn geysertray_create(
 }
 
 // One lifecycle step: 0 Activate, 1 Suspend, 2 Resume, 3 Close, 4 the explicit no-op.
-#[unsafe(no_mangle)]
-pub extern "C" fn geysertray_lifecycle_step(
+pub fn geysertray_lifecycle_step(
     head: &mut [u64; head::NUMBERS],
     command: u64,
     stimulus_bytes: u64,
@@ -79,8 +77,7 @@ pub extern "C" fn geysertray_lifecycle_step(
 
 // One batch, from one half of a panel's memory to the other, which has the next session where the answer is Applied and is left otherwise. It
 // is planned in memory of zeros, which are zeros again after the call.
-#[unsafe(no_mangle)]
-pub extern "C" fn geysertray_batch<'a>(
+pub fn geysertray_batch<'a>(
     head: &[u64; head::NUMBERS],
     nodes: &[u64],
     pairs: &[u64],

@@ -41,8 +41,7 @@ fn lent_set_up_told(answer: LentSetUp) -> u64
 }
 
 // Sets turns up for one to eight senders, of whom nobody waits: 0, or 21 for any other number, which leaves the numbers.
-#[unsafe(no_mangle)]
-pub extern "C" fn geysertray_turns_set_up(
+pub fn geysertray_turns_set_up(
     turns: &mut [u64; session_lent_turns::NUMBERS],
     senders: usize,
 ) -> u64
@@ -71,8 +70,7 @@ fn lent_register_told(answer: LentRegistration) -> u64
 }
 
 // The sender of a number from 0 waits from now on: 0; 19 for a number out of the range, 20 for one that waits already, which leave the numbers.
-#[unsafe(no_mangle)]
-pub extern "C" fn geysertray_turns_register(
+pub fn geysertray_turns_register(
     turns: &mut [u64; session_lent_turns::NUMBERS],
     sender: usize,
 ) -> u64
@@ -117,8 +115,7 @@ fn lent_turn_told(answer: LentTurn) -> GeysertrayTurn
 
 // Names the sender whose turn it is, which then waits no more, with the number for its batch: the one after the session's cursor, whose two
 // numbers stand in its head. With none waiting the numbers stay.
-#[unsafe(no_mangle)]
-pub extern "C" fn geysertray_turns_next(
+pub fn geysertray_turns_next(
     turns: &mut [u64; session_lent_turns::NUMBERS],
     has_cursor: u64,
     cursor: u64,

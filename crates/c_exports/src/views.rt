@@ -19,8 +19,7 @@ use session_lent::head;
 use session_lent_views::{listing, lookups, page, print};
 
 // The value of a binding.
-#[unsafe(no_mangle)]
-pub extern "C" fn geysertray_binding_value(
+pub fn geysertray_binding_value(
     head: &[u64; head::NUMBERS],
     bindings: &[u8; LocalProjectionState::BINDING_BYTES],
     node: u64,
@@ -33,8 +32,7 @@ pub extern "C" fn geysertray_binding_value(
 }
 
 // The availability of a node.
-#[unsafe(no_mangle)]
-pub extern "C" fn geysertray_node_availability(
+pub fn geysertray_node_availability(
     head: &[u64; head::NUMBERS],
     availability: &[u8; LocalProjectionState::AVAILABILITY_BYTES],
     node: u64,
@@ -46,8 +44,7 @@ pub extern "C" fn geysertray_node_availability(
 }
 
 // The value of a collection's key.
-#[unsafe(no_mangle)]
-pub extern "C" fn geysertray_entry_value(
+pub fn geysertray_entry_value(
     head: &[u64; head::NUMBERS],
     entries: &[u8; LocalProjectionState::ENTRY_BYTES],
     collection: u64,
@@ -60,8 +57,7 @@ pub extern "C" fn geysertray_entry_value(
 }
 
 // How many entries a collection has, counted in the table of entries.
-#[unsafe(no_mangle)]
-pub extern "C" fn geysertray_entry_count(
+pub fn geysertray_entry_count(
     head: &[u64; head::NUMBERS],
     entries: &[u8; LocalProjectionState::ENTRY_BYTES],
     collection: u64,
@@ -73,8 +69,7 @@ pub extern "C" fn geysertray_entry_count(
 }
 
 // The entry at a position of a collection, from 0.
-#[unsafe(no_mangle)]
-pub extern "C" fn geysertray_entry_at(
+pub fn geysertray_entry_at(
     head: &[u64; head::NUMBERS],
     entries: &[u8; LocalProjectionState::ENTRY_BYTES],
     collection: u64,
@@ -87,8 +82,7 @@ pub extern "C" fn geysertray_entry_at(
 }
 
 // How many entries a collection has, told by the table of lengths alone.
-#[unsafe(no_mangle)]
-pub extern "C" fn geysertray_collection_length(
+pub fn geysertray_collection_length(
     head: &[u64; head::NUMBERS],
     lengths: &[u8; LocalProjectionState::LENGTH_BYTES],
     collection: u64,
@@ -101,8 +95,7 @@ pub extern "C" fn geysertray_collection_length(
 
 // Looks up to 64 keys of a collection up together: a row of GEYSERTRAY_PAGE_WIDTH bytes for each, in their order, and the count is that of the
 // rows; 16 for more keys, 14 for too little room. What is behind the rows stays.
-#[unsafe(no_mangle)]
-pub extern "C" fn geysertray_collection_page(
+pub fn geysertray_collection_page(
     head: &[u64; head::NUMBERS],
     entries: &[u8; LocalProjectionState::ENTRY_BYTES],
     collection: u64,
@@ -116,8 +109,7 @@ pub extern "C" fn geysertray_collection_page(
 }
 
 // Takes a row of a page apart. Of other bytes it tells some value, or none.
-#[unsafe(no_mangle)]
-pub extern "C" fn geysertray_page_row(row: &[u8; PageLookup::WIDTH]) -> GeysertrayPagePlace
+pub fn geysertray_page_row(row: &[u8; PageLookup::WIDTH]) -> GeysertrayPagePlace
     ensures { (a : Option PageEntry) → FitsAnswer a → row.now ≡ answer_row a → result ≡ place_told (page_lookup a) }
 {
     let place = PageLookup::read(row);
@@ -125,8 +117,7 @@ pub extern "C" fn geysertray_page_row(row: &[u8; PageLookup::WIDTH]) -> Geysertr
 }
 
 // Prints a collection for paper, whole or not at all; the count is that of the bytes; 14 for too little room. What is behind them stays.
-#[unsafe(no_mangle)]
-pub extern "C" fn geysertray_print_collection(
+pub fn geysertray_print_collection(
     head: &[u64; head::NUMBERS],
     entries: &[u8; LocalProjectionState::ENTRY_BYTES],
     collection: u64,
@@ -139,8 +130,7 @@ pub extern "C" fn geysertray_print_collection(
 }
 
 // Writes the listing of a session's panel, whole or not at all; the count is that of the bytes; 14 for too little room. What is behind them stays.
-#[unsafe(no_mangle)]
-pub extern "C" fn geysertray_listing(
+pub fn geysertray_listing(
     head: &[u64; head::NUMBERS],
     bindings: &[u8; LocalProjectionState::BINDING_BYTES],
     availability: &[u8; LocalProjectionState::AVAILABILITY_BYTES],

@@ -13,7 +13,7 @@ use Rattle.spec_checks.specs.PatchChecks.{before_self_lem, operation_findings}
 use Rattle.projection_patch.specs.Meaning.{operation_of}
 use Rattle.projection_patch.specs.declared.patch.ProjectionPatchOperation.{ProjectionPatchOperation}
 use Rattle.patch_walk.specs.Steps.{step_answer, AtSteps}
-use Rattle.patch_walk.specs.StepsLaws.{Visited, visited}
+use Rattle.patch_walk.proofs.StepsLaws.{Visited, visited}
 use Rattle.patch_walk.specs.declared.SetCursor.{SetCursor}
 use Rattle.patch_walk.specs.declared.SetStep.{SetStep}
 use Rattle.patch_walk.specs.declared.SetStep.TheVariants as set-step

@@ -23,7 +23,7 @@ use Rattle.projection_patch.specs.declared.patch.ProjectionPatch.{ProjectionPatc
 use Rattle.patch_sets.specs.Walk.{head_of}
 use Rattle.patch_sets.specs.SetAnswers.{head_to}
 use Rattle.patch_walk.specs.Steps.{step_answer, AtSteps}
-use Rattle.patch_walk.specs.StepsLaws.{Opened, opened}
+use Rattle.patch_walk.proofs.StepsLaws.{Opened, opened}
 use Rattle.patch_walk.specs.declared.SetCursor.{SetCursor}
 use Rattle.patch_walk.specs.declared.SetStep.{SetStep}
 use Rattle.patch_walk.specs.declared.SetStep.TheVariants as set-step

@@ -1,3 +1,4 @@
-pub mod Rows
 pub mod Lines
+pub mod ListingBytesLaws
+pub mod Rows
 pub mod TextBytes

@@ -1,4 +1,3 @@
 pub mod LookupFields
 pub mod RowKinds
 pub mod ListingBytes
-pub mod ListingBytesLaws

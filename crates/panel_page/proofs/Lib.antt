@@ -1,1 +1,3 @@
+pub mod AnsweringLaws
+pub mod IndexLaws
 pub mod PlacesLent

@@ -28,7 +28,7 @@ use Rattle.projection_patch.specs.declared.patch.ProjectionPatch.{ProjectionPatc
 use Rattle.projection_patch.specs.declared.patch.ProjectionPatchOperation.{ProjectionPatchOperation}
 use Rattle.projection_patch.specs.declared.patch.ProjectionPatchOperation.TheVariants.{SetBindingValue, SetNodeAvailability, CollectionInsert, CollectionUpdate, CollectionRemove, CollectionMove}
 use Rattle.patch_walk.specs.Steps.{step_answer, StepWithin, AtSteps}
-use Rattle.patch_walk.specs.StepsLaws.{Visited, Opened, visited, opened, done as all_done, never_refused}
+use Rattle.patch_walk.proofs.StepsLaws.{Visited, Opened, visited, opened, done as all_done, never_refused}
 use Rattle.patch_walk.specs.declared.SetCursor.{SetCursor}
 use Rattle.patch_walk.specs.declared.SetStep.{SetStep}
 use Rattle.patch_walk.specs.declared.SetStep.TheVariants as set-step

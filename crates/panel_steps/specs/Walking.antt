@@ -12,7 +12,7 @@ use Rattle.spec_explain.specs.Walk.{Walk, through, halted, walk_on, walk_step, w
 use Rattle.projection_patch.specs.declared.patch.ProjectionPatch.{ProjectionPatch}
 use Rattle.projection_patch.specs.declared.patch.ProjectionPatchOperation.{ProjectionPatchOperation}
 use Rattle.patch_walk.specs.Steps.{AtSteps}
-use Rattle.patch_walk.specs.StepsLaws.{Visited, Opened}
+use Rattle.patch_walk.proofs.StepsLaws.{Visited, Opened}
 use Rattle.patch_walk.specs.declared.SetCursor.{SetCursor}
 
 module _ {S : Type 0} (step : S → ℕ → Operation → Option S) (ed : Edition) (set : List ℕ) (whole : Walk S) where

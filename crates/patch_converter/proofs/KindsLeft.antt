@@ -12,7 +12,7 @@ use Rattle.spec_conversion.specs.Conversion.{kind_in, all_kinds}
 use Rattle.projection_patch.specs.declared.patch.ProjectionPatch.{ProjectionPatch}
 use Rattle.projection_patch.specs.declared.patch.ProjectionPatchOperation.{ProjectionPatchOperation}
 use Rattle.patch_walk.specs.Steps.{AtSteps}
-use Rattle.patch_walk.specs.StepsLaws.{Visited, Opened}
+use Rattle.patch_walk.proofs.StepsLaws.{Visited, Opened}
 use Rattle.patch_walk.specs.declared.SetCursor.{SetCursor}
 
 -- an edition with scores has every kind

@@ -19,7 +19,7 @@ use Rattle.spec_import.specs.Import.{Term, lines, keeps_text, Terms, terms, faul
 use Rattle.spec_import.proofs.LineLaws.{KeptTerm}
 use Rattle.projection_patch.specs.Meaning.{operation_of}
 use Rattle.patch_part_writer.specs.Parts.{size_within}
-use Rattle.patch_part_writer.specs.PartsLaws.{size_kept}
+use Rattle.patch_part_writer.proofs.PartsLaws.{size_kept}
 use Rattle.patch_part_writer.specs.ExtentLaws.{length_text, length_operation}
 use Rattle.check_targets.specs.Targets.{numbers_of, target_numbers, target_seen}
 use Rattle.check_quick.specs.Quick.{operation_found, found_from}

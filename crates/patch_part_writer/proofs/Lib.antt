@@ -1,3 +1,4 @@
 -- Laws that belong to no one function.
-pub mod Flags
 mod Stored
+pub mod Flags
+pub mod PartsLaws

@@ -2,4 +2,3 @@ pub mod Extent
 pub mod ExtentLaws
 pub mod Answer
 pub mod Parts
-pub mod PartsLaws

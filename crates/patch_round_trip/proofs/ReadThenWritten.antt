@@ -17,7 +17,7 @@ use Rattle.spec_patch.proofs.SetLaws.{was_encoded}
 use Rattle.spec_patch.specs.Write.{wrote}
 use Rattle.projection_patch.specs.declared.patch.ProjectionPatch.{ProjectionPatch}
 use Rattle.patch_writer.specs.Set.{set_places, operation_at, list_from, heads, list_of, operation_total, used, counts_fit, inside_at, patch_set_bytes}
-use Rattle.patch_writer.specs.CallLaws.{Arrays, written_back}
+use Rattle.patch_writer.proofs.CallLaws.{Arrays, written_back}
 use Rattle.patch_round_trip.specs.SetFor.{operations_for, texts_for, head_for, no_head, no_place, places_for, spare_heads, spare_places, set_for}
 use Rattle.patch_round_trip.proofs.SetForLaws.{length_places, total, few_heads, list_back, stand, total_places, inside, enough_places}
 

@@ -1,2 +1,3 @@
-pub mod Reading
 pub mod Matches
+pub mod Reading
+pub mod StepsLaws

@@ -10,7 +10,7 @@ use denote.Enum.Declared.{tag_of}
 use Rattle.spec_patch.specs.Patch.{Operation, Patch}
 use Rattle.spec_patch.specs.Edition.{Edition}
 use Rattle.patch_walk.specs.Steps.{step_answer, AtSteps}
-use Rattle.patch_walk.specs.StepsLaws.{operation_is, head_is}
+use Rattle.patch_walk.proofs.StepsLaws.{operation_is, head_is}
 use Rattle.patch_walk.specs.declared.SetCursor.{SetCursor}
 use Rattle.patch_walk.specs.declared.SetStep.{SetStep}
 use Rattle.patch_walk.specs.contracts.SetStep.{the_type}

@@ -1,5 +1,4 @@
 pub mod Steps
-pub mod StepsLaws
 pub mod SetReads
 pub mod SetReadsLaws
 pub mod CountLaws

@@ -2,6 +2,7 @@
 mod Elements
 mod Surveyed
 mod Verdict
-pub mod Progress
 mod Turns
 mod Judged
+pub mod CallLaws
+pub mod Progress

@@ -15,9 +15,9 @@ use Rattle.projection_patch.specs.declared.patch.ProjectionPatchSet.{ProjectionP
 use Rattle.patch_part_writer.specs.Extent.{head_size, operation_size, operation_text, WithinTexts}
 use Rattle.patch_part_writer.specs.ExtentLaws.{length_head, length_operation}
 use Rattle.patch_part_writer.specs.Parts.{size_within}
-use Rattle.patch_part_writer.specs.PartsLaws.{size_kept}
+use Rattle.patch_part_writer.proofs.PartsLaws.{size_kept}
 use Rattle.patch_writer.specs.Set.{set_places, operation_at, list_from, heads, operation_total, few_operations, short_at, inside_at}
-use Rattle.patch_writer.specs.CallLaws.{Arrays, few_patches, few_operations_lem, places_suffice, many_heads}
+use Rattle.patch_writer.proofs.CallLaws.{Arrays, few_patches, few_operations_lem, places_suffice, many_heads}
 use Rattle.patch_writer.specs.Survey.{ReadyToWrite}
 use Rattle.patch_writer.proofs.Elements.{left_cons, whole_cons, each_passes, no_patch, no_text_place}
 use Rattle.patch_writer.proofs.Progress.{Next}

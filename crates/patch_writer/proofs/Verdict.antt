@@ -29,7 +29,7 @@ use Rattle.patch_part_writer.specs.Answer.{write_refusal_of}
 use Rattle.patch_part_writer.specs.Extent.{operation_text}
 use Rattle.patch_part_writer.specs.ExtentLaws.{operation_small}
 use Rattle.patch_writer.specs.Set.{set_places, heads, list_of, used, operation_total, head_sizes, operation_sizes, set_size, few_operations, short_at, inside_at, allowed_at, few_at, counts_fit, capacities_kept, patch_set_bytes}
-use Rattle.patch_writer.specs.CallLaws.{Arrays, allowed_inside}
+use Rattle.patch_writer.proofs.CallLaws.{Arrays, allowed_inside}
 use Rattle.patch_writer.specs.Survey.{head_survey, judged_values, operation_survey, by_values, surveyed, set_survey}
 use Rattle.patch_writer.proofs.Surveyed.{head_small}
 

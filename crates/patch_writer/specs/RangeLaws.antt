@@ -5,6 +5,7 @@ use denote.Laws.{Is}
 use denote.Shadow.{shadow}
 use denote.Array.{each}
 use denote.RattleType.{RattleType}
+use denote.Struct.Field.{Field}
 use denote.Struct.Declared as structs
 use denote.Enum.Declared as enums
 use Rattle.spec_lists.specs.Lists.{All}
@@ -89,11 +90,18 @@ operation_in_range texts (CollectionMove c k b) vs h =
 
 -- ---- the arrays of a set
 
-each_holds : (R : RattleType) (P : R.Denot → Type 0) → ((x : R.Denot) (vs : List Val) → Is R x vs → P x)
+each_holds : (F : Field) (P : F.Value → Type 0) → ((x : F.Value) (vs : List Val) → Is F.row (F.into x) vs → P x)
+    → (xs : List F.Value) (us : List Val) → shadow (each F.row.Denot F.row.own_val (map F.into xs) us) → All P xs
+each_holds F P f [] us h = tt
+each_holds F P f (x ∷ xs) [] h = absurd h
+each_holds F P f (x ∷ xs) (u ∷ us) h = (f x (u ∷ []) h.0, each_holds F P f xs us h.1)
+
+-- the same of values of a type, as the arrays of a struct hold them
+each_of_type_holds : (R : RattleType) (P : R.Denot → Type 0) → ((x : R.Denot) (vs : List Val) → Is R x vs → P x)
     → (xs : List R.Denot) (us : List Val) → shadow (each R.Denot R.own_val xs us) → All P xs
-each_holds R P f [] us h = tt
-each_holds R P f (x ∷ xs) [] h = absurd h
-each_holds R P f (x ∷ xs) (u ∷ us) h = (f x (u ∷ []) h.0, each_holds R P f xs us h.1)
+each_of_type_holds R P f [] us h = tt
+each_of_type_holds R P f (x ∷ xs) [] h = absurd h
+each_of_type_holds R P f (x ∷ xs) (u ∷ us) h = (f x (u ∷ []) h.0, each_of_type_holds R P f xs us h.1)
 
 abbrev InRangeHead : ProjectionPatch → Type 0
 InRangeHead p = InRangeEnvelope (envelope_of p.envelope)
@@ -107,10 +115,10 @@ pub record PassedSet (set : ProjectionPatchSet) : Type 0 where
   pub known : Is (structs.row setType.the_type) set machine
 
 heads_in_range : (set : ProjectionPatchSet) → PassedSet set → All InRangeHead set.patches
-heads_in_range set p = each_holds patchType.the_row InRangeHead (λ h vs k. envelope_in_range h.envelope _ k.1.1.0) set.patches _ p.known.1.1.1.0.1.1
+heads_in_range set p = each_of_type_holds patchType.the_row InRangeHead (λ h vs k. envelope_in_range h.envelope _ k.1.1.0) set.patches _ p.known.1.1.1.0.1.1
 
 places_in_range : (texts : List ℕ) (set : ProjectionPatchSet) → PassedSet set → All (InRangePlace texts) set.operations
-places_in_range texts set p = each_holds placeType.the_row (InRangePlace texts) (λ o vs k. operation_in_range texts o.operation _ k.1.1.0) set.operations _ p.known.1.1.1.1.0.1.1
+places_in_range texts set p = each_of_type_holds placeType.the_row (InRangePlace texts) (λ o vs k. operation_in_range texts o.operation _ k.1.1.0) set.operations _ p.known.1.1.1.1.0.1.1
 
 -- ---- the list
 

@@ -1,7 +1,7 @@
 // Answers a replay script from standard input, line by line: docs/DECISIONS.md, 'Replay'.
 #![tactic(auto)]
 
-ghost use Rattle.std.specs.Prelude.{◌≤◌, ◌<◌, length, IfOk};
+ghost use Rattle.std.specs.Prelude.{◌≡◌, ◌≤◌, ◌<◌, length, take, IfOk};
 
 use bytes_printer::Printed;
 use script_calls::state::ReplayState;
@@ -111,7 +111,8 @@ fn run_lines(
 // Reads behind the bytes that are kept, and answers where the bytes end then. A line that is too long is not read on.
 fn read_behind<R: Read>(reader: &mut R, input: &mut [u8], kept: usize) -> io::Result<usize>
     requires { kept ≤ length input.old }
-    ensures { IfOk result (λ end. (kept ≤ end) × (end ≤ length input.new)) }
+    ensures end { IfOk result (λ end. (kept ≤ end) × (end ≤ length input.new)) }
+    ensures kept { take kept input.new ≡ take kept input.old }
 {
     if ScriptCommand::LINE_BYTES < kept {
         return Ok(kept);

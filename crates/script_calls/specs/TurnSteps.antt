@@ -20,7 +20,7 @@ use Rattle.session_turns.specs.declared.Registration.{Registration}
 use Rattle.session_turns.specs.declared.TurnTaken.{TurnTaken}
 use Rattle.session_turns.specs.Meaning.{set_up_to, registration_to, turn_taken_to, Registers, TakesTurn}
 use Rattle.session_turns.specs.Runs.{turn_answer_of}
-use Rattle.session_turns.specs.RunsLaws.{answer_back}
+use Rattle.session_turns.proofs.RunsLaws.{answer_back}
 use Rattle.script_answers.specs.TurnAnswers.{register_answer_of, registration_told}
 use Rattle.script_calls.specs.TurnsHeld.{held_turns, TurnsHeld, after_set_up}
 use Rattle.script_calls.specs.TurnsHeldLaws.{turns_there, turns_nowhere, told_turns, held_next}

@@ -2,4 +2,3 @@ pub mod SetupLines
 pub mod LineLaws
 pub mod GroupLaws
 pub mod AnswerBytes
-pub mod AnswerBytesLaws

@@ -1,5 +1,5 @@
 -- The session that is left behind the reference is the step's, stored or not.
-use Rattle.std.specs.Prelude.{◌≡◌, refl, false}
+use Rattle.std.specs.Prelude.{◌≡◌, refl, Bool, true, false, not, T}
 use Rattle.std.proofs.Common.{sym, ap, subst, ◌∙◌}
 use Rattle.session_lifecycle.specs.declared.lifecycle.ShellTransitionDisposition.{ShellTransitionDisposition}
 use Rattle.session_lifecycle.specs.declared.lifecycle.ShellTransitionDisposition.TheVariants.{Applied, NoChange, Rejected}
@@ -22,6 +22,10 @@ unstored s Applied t e = cc
 unstored s NoChange t e = refl
 unstored s Rejected t e = refl
 
+untrue : (y : Bool) → T (not y) → y ≡ false
+untrue true z = absurd z
+untrue false z = refl
+
 in_place_at : (s : ShellSession) (i : ShellTransitionInput) (r : ShellTransition) (t : ShellSession) → Stepped s i r → t ≡ r.session → StepsInPlace s i r.result t
 in_place_at s i r t h e = record { stored = e ∙ next_is s r h.0; holding = subst (StepsTo s i r.result) (sym e) h.1.0; answered = h.1.1 }
 
@@ -30,9 +34,13 @@ module _ (s : ShellSession) (i : ShellTransitionInput) (r : ShellTransition) (by
   pub in_place_next : StepsInPlace s i r.result r.session
   in_place_next = in_place_at s i r r.session by_value refl
 
-  -- and nothing is, where the test of the answer fails
-  pub in_place_same : is_applied r.result.disposition ≡ false → StepsInPlace s i r.result s
-  in_place_same e = in_place_at s i r s by_value (unstored s r.result.disposition r.result.state e ∙ sym (next_is s r by_value.0))
+  -- and nothing is, where the answer is not Applied
+  pub in_place_unstored : is_applied r.result.disposition ≡ false → StepsInPlace s i r.result s
+  in_place_unstored e = in_place_at s i r s by_value (unstored s r.result.disposition r.result.state e ∙ sym (next_is s r by_value.0))
+
+  -- or where a test of it fails
+  pub in_place_same : (y : Bool) → y ≡ is_applied r.result.disposition → T (not y) → StepsInPlace s i r.result s
+  in_place_same y e z = in_place_unstored (sym e ∙ untrue y z)
 
 -- the same as a step by value
 pub stepped : (s : ShellSession) (i : ShellTransitionInput) (r : ShellTransitionResult) (t : ShellSession) → StepsInPlace s i r t → Stepped s i (record { session = t; result = r })

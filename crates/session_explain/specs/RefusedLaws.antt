@@ -15,7 +15,7 @@ use Rattle.spec_explain.specs.Explain.{step_kept}
 use Rattle.projection_patch.specs.Meaning.{operation_of}
 use Rattle.projection_patch.specs.ReadAnswers.{lent_from}
 use Rattle.projection_patch.specs.declared.patch.ProjectionPatchOperation.{ProjectionPatchOperation}
-use Rattle.patch_walk.specs.StepsLaws.{Visited}
+use Rattle.patch_walk.proofs.StepsLaws.{Visited}
 use Rattle.patch_walk.specs.declared.SetCursor.{SetCursor}
 use Rattle.panel_plan.specs.Plan.{resolution}
 use Rattle.panel_plan.specs.Resolved.{Resolution, resolved_entry, resolving, resolved}

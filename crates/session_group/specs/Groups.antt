@@ -36,7 +36,7 @@ names_group count places bytes = leb 1 count && (leb count group_batches && eqb 
 -- ---- the answers
 
 unfoldable pub group_answer_of : GroupAnswer → model.GroupAnswer
-group_answer_of NotAGroup = model.not_aGroup
+group_answer_of NotAGroup = model.not_a_group
 group_answer_of (Taken n c) = model.taken n (cursor_of c)
 group_answer_of (RefusedAt i a) = model.refused_at i (batch_answer_of a)
 

@@ -1,4 +1,3 @@
 pub mod Meaning
 pub mod MeaningLaws
 pub mod Runs
-pub mod RunsLaws

@@ -19,7 +19,7 @@ use Rattle.projection_patch.specs.declared.patch.ProjectionPatch.{ProjectionPatc
 use Rattle.projection_patch.specs.declared.patch.ProjectionPatchOperation.{ProjectionPatchOperation}
 use Rattle.projection_patch.specs.declared.patch.ProjectionPatchOperation.TheVariants.{SetBindingValue, SetNodeAvailability, CollectionInsert, CollectionUpdate, CollectionRemove, CollectionMove}
 use Rattle.patch_walk.specs.Steps.{AtSteps}
-use Rattle.patch_walk.specs.StepsLaws.{Visited, Opened}
+use Rattle.patch_walk.proofs.StepsLaws.{Visited, Opened}
 use Rattle.patch_walk.specs.declared.SetCursor.{SetCursor}
 use Rattle.set_dependencies.specs.SettledRows.{SettledIn, no_places}
 use Rattle.set_dependencies.specs.declared.settled_rows.SettledPlaces.{SettledPlaces}

@@ -4,14 +4,12 @@ use Rattle.std.proofs.Common.{ap, subst, arith, length-append}
 use Rattle.std.specs.Bool.{beq}
 use mathlib.Core.List.{List, [], ◌∷◌, flat_map}
 use Rattle.std.proofs.Math.Option.{Option, none, some, none-ne-some, some-injective}
-use Rattle.spec_lists.proofs.ListLaws.{flat_map_append, test_cases}
+use Rattle.spec_lists.proofs.ListLaws.{test_cases}
 use Rattle.spec_lists.proofs.BytesLaws.{length_little_endian}
 use Rattle.spec_lists.specs.Order.{upsert}
 use Rattle.spec_lists.proofs.OrderLaws.{upsert_cases}
-use Rattle.spec_patch.specs.Edition.{Edition}
-use Rattle.spec_patch.specs.Encode.{encode_optional, encode_value, encode_operation, encode_counted, encode_patch, encode}
-use Rattle.spec_projection.specs.Apply.{operations_of}
-use Rattle.spec_patch.specs.Patch.{Patch, Operation, set_binding, set_availability, insert, update, remove, move}
+use Rattle.spec_patch.specs.Encode.{encode_optional, encode_value, encode_operation}
+use Rattle.spec_patch.specs.Patch.{Operation, set_binding, set_availability, insert, update, remove, move}
 use Rattle.spec_dependencies.specs.Expectations.{Expectation, neighbour, expectations}
 use Rattle.spec_dependencies.specs.Settled.{Settled, settled_key, judge_by, judge, judge_all}
 use Rattle.spec_dependencies.specs.Dependencies.{keys_at_start}
@@ -82,18 +80,3 @@ expectations_bytes (update c k v) = simp (length-append, length_little_endian) (
 expectations_bytes (remove c k) = simp (length-append, length_little_endian) (omega arith)
 expectations_bytes (move c k none) = simp (length-append, length_little_endian) (omega arith)
 expectations_bytes (move c k (some n)) = simp (length-append, length_little_endian) (omega arith)
-
-operations_bytes : (os : List Operation) → 13 * length (flat_map expectations os) ≤ length (flat_map encode_operation os)
-unfolding flat_map
-operations_bytes [] = omega arith
-operations_bytes (o ∷ os) = simp length-append (omega (arith, expectations_bytes o, operations_bytes os))
-
-patches_bytes : (ps : List Patch) → 13 * length (flat_map expectations (operations_of ps)) ≤ length (flat_map encode_patch ps)
-unfolding flat_map operations_of encode_patch encode_counted
-patches_bytes [] = omega arith
-patches_bytes (p ∷ ps) = simp (flat_map_append, length-append) (omega (arith, operations_bytes p.operations, patches_bytes ps))
-
--- so a set within its 32,768 bytes expects at most 2,520 keys
-pub expected_bytes : (ed : Edition) (ps : List Patch) → 13 * length (flat_map expectations (operations_of ps)) ≤ length (encode ed ps)
-unfolding encode encode_counted
-expected_bytes ed ps = simp length-append (omega (arith, patches_bytes ps))

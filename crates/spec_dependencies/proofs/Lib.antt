@@ -2,6 +2,7 @@ pub mod AnswerLaws
 pub mod CountLaws
 pub mod DependencyExamples
 pub mod DependencyInstances
+pub mod ExpectedBytesLaws
 pub mod FirstContradictionLaws
 pub mod PresenceLaws
 pub mod RunLaws

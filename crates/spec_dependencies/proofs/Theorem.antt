@@ -19,7 +19,8 @@ use Rattle.spec_dependencies.specs.Presence.{presence, Accepts}
 use Rattle.spec_dependencies.specs.Claim.{AppliesTo, Each, Meets, ListsInOrder}
 use Rattle.spec_dependencies.proofs.SettledLaws.{current_none, starts_none, accepted, accepting, judge_all_ascending}
 use Rattle.spec_dependencies.proofs.TableLaws.{keys_ascending, starts_keys, keys_starts, keys_apart}
-use Rattle.spec_dependencies.proofs.CountLaws.{judge_all_length, all_expectations_length, keys_length, expected_bytes}
+use Rattle.spec_dependencies.proofs.CountLaws.{judge_all_length, all_expectations_length, keys_length}
+use Rattle.spec_dependencies.proofs.ExpectedBytesLaws.{expected_bytes}
 use Rattle.spec_dependencies.proofs.RunLaws.{expectations_of, applies_accepts, accepts_not_key}
 use Rattle.spec_dependencies.proofs.WalkLaws.{table_of, walk_table}
 

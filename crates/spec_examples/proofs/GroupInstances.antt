@@ -9,7 +9,7 @@ use Rattle.spec_patch.specs.Patch.{Patch}
 use Rattle.spec_session.specs.Session.{Cursor, uninitialized, at}
 use Rattle.spec_projection.specs.Lookups.{KeyedValue, entries_of}
 use Rattle.spec_splitting.specs.Splitting.{piece_envelope, references, is_rejected}
-use Rattle.spec_group.specs.Group.{GroupBatch, total_bytes, is_group, send_first, run_group, GroupAnswer, not_aGroup, taken, refused_at, group_number, with_cursor, conclude_group, GroupStep, group}
+use Rattle.spec_group.specs.Group.{GroupBatch, total_bytes, is_group, send_first, run_group, GroupAnswer, not_a_group, taken, refused_at, group_number, with_cursor, conclude_group, GroupStep, group}
 use Rattle.spec_group.specs.Singly.{piece_batch, TakenAsWhole, RefusedAsWhole}
 use Rattle.spec_group.proofs.PiecesLaws.{group_as_whole}
 use Rattle.spec_examples.specs.Opened.{opened_all}
@@ -23,7 +23,7 @@ start_batch ed n ps = piece_batch ed start_session n (piece ps)
 
 -- the answer of a group, as numbers: how many were taken; or 0, the place and the number of the refusal; or the number of what is no group
 numbers : GroupAnswer → List ℕ
-numbers not_aGroup = group_number ∷ []
+numbers not_a_group = group_number ∷ []
 numbers (taken n c) = n ∷ []
 numbers (refused_at i a) = 0 ∷ i ∷ a.diagnostics.code ∷ []
 

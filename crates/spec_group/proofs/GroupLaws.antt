@@ -6,7 +6,7 @@ use Rattle.spec_lists.proofs.ListLaws.{and_left, and_right}
 use Rattle.spec_session.specs.Session.{Cursor, Session}
 use Rattle.spec_session.specs.Batch.{BatchAnswer}
 use Rattle.spec_splitting.specs.Splitting.{Run, is_rejected, continue}
-use Rattle.spec_group.specs.Group.{group_batches, GroupBatch, total_bytes, is_group, send_first, ended, broke, run_group, not_aGroup, with_cursor, conclude_group, group}
+use Rattle.spec_group.specs.Group.{group_batches, GroupBatch, total_bytes, is_group, send_first, ended, broke, run_group, not_a_group, with_cursor, conclude_group, group}
 use Rattle.spec_group.specs.Singly.{singly, WasTaken, AllOrNone}
 
 true_not_false : {C : Type 0} {b : Bool} → b ≡ true → b ≡ false → C
@@ -76,9 +76,9 @@ all_or_none s bs sets g = record {
 }
 
 -- what is no group leaves the session
-pub not_a_group : (s : Session) (bs : List GroupBatch) (sets : List ℕ) → is_group bs sets ≡ false → group s bs sets ≡ record { next = s; answer = not_aGroup }
+pub not_a_group_lem : (s : Session) (bs : List GroupBatch) (sets : List ℕ) → is_group bs sets ≡ false → group s bs sets ≡ record { next = s; answer = not_a_group }
 unfolding group
-not_a_group s bs sets g = rw g
+not_a_group_lem s bs sets g = rw g
 
 -- a group has one to eight batches, and their lengths add up
 pub is_group_lem : (bs : List GroupBatch) (sets : List ℕ) → is_group bs sets ≡ true → (1 ≤ length bs) × ((length bs ≤ 8) × (total_bytes bs ≡ length sets))

@@ -43,7 +43,7 @@ run_group place s (b ∷ bs) sets =
 
 -- no group; all taken, with the cursor afterwards; or the place of the first refused batch with its answer
 pub data GroupAnswer : Type 0 where
-  not_aGroup : GroupAnswer
+  not_a_group : GroupAnswer
   taken : (count : ℕ) → Cursor → GroupAnswer
   refused_at : (place : ℕ) → BatchAnswer → GroupAnswer
 
@@ -53,7 +53,7 @@ group_number = 17
 
 -- how many batches were taken
 unfoldable pub taken_count : GroupAnswer → ℕ
-taken_count not_aGroup = 0
+taken_count not_a_group = 0
 taken_count (taken n c) = n
 taken_count (refused_at i a) = 0
 
@@ -74,4 +74,4 @@ conclude_group s n (broke place a) = record { next = s; answer = refused_at plac
 unfoldable pub group : Session → List GroupBatch → List ℕ → GroupStep
 group s bs sets =
     if is_group bs sets then conclude_group s (length bs) (run_group 0 s bs sets)
-    else record { next = s; answer = not_aGroup }
+    else record { next = s; answer = not_a_group }

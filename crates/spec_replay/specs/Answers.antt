@@ -22,7 +22,7 @@ use Rattle.spec_dependencies.specs.Answer.{DependencyAnswer, answer_never, answe
 use Rattle.spec_import.specs.Import as imports
 use Rattle.spec_import.specs.Import.{Imported, imported, import_number}
 use Rattle.spec_page.specs.Page.{PageEntry, PageRefusal, page_number, Page}
-use Rattle.spec_group.specs.Group.{GroupAnswer, not_aGroup, taken, refused_at, group_number}
+use Rattle.spec_group.specs.Group.{GroupAnswer, not_a_group, taken, refused_at, group_number}
 use Rattle.spec_decimal.specs.Decimal.{decimal}
 use Rattle.spec_listing.specs.Listing.{fields, value_fields}
 use Rattle.spec_replay.specs.Hex.{hex_field}
@@ -147,7 +147,7 @@ print_lines room print = if leb (length print) room then (79 ∷ fields (decimal
 
 -- group: U and 17; U, 0, how many were taken, the cursor; or U, 0, 0, the place of the first refused batch, and its answer as a line of its own
 unfoldable pub group_lines : GroupAnswer → List ℕ
-group_lines not_aGroup = 85 ∷ fields (decimal group_number ∷ [])
+group_lines not_a_group = 85 ∷ fields (decimal group_number ∷ [])
 group_lines (taken n c) = 85 ∷ fields (decimal 0 ∷ decimal n ∷ cursor_field c ∷ [])
 group_lines (refused_at i a) = (85 ∷ fields (decimal 0 ∷ decimal 0 ∷ decimal i ∷ [])) ++ batch_line a
 

@@ -6,7 +6,7 @@ use borrow.Author.Rules.{rules}
 use Rattle.spec_lists.proofs.BytesLaws.{bytes_of}
 use Rattle.spec_listing.specs.Listing.{listing}
 use Rattle.listing_lines.specs.ListingBytes.{listing_bytes}
-use Rattle.listing_lines.specs.ListingBytesLaws.{listing_fits}
+use Rattle.listing_lines.proofs.ListingBytesLaws.{listing_fits}
 use Rattle.projection_patch.specs.Meaning.{edition_of}
 use Rattle.listing_panel.specs.WrittenLaws.{printed_holds}
 use Rattle.listing_panel.proofs.write_listing.Goals as goal

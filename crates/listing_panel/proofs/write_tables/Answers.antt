@@ -5,7 +5,7 @@ use lib.ListN.{length-replicate}
 use borrow.Author.Rules.{rules}
 use Rattle.spec_listing.specs.Listing.{projection_lines}
 use Rattle.listing_lines.specs.ListingBytes.{listing_bytes}
-use Rattle.listing_lines.specs.ListingBytesLaws.{projection_fits}
+use Rattle.listing_lines.proofs.ListingBytesLaws.{projection_fits}
 use Rattle.listing_panel.specs.WrittenLaws.{printed_holds}
 use Rattle.listing_panel.proofs.write_tables.Goals as goal
 

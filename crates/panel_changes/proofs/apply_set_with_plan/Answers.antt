@@ -7,7 +7,7 @@ use Rattle.spec_patch.proofs.SetLaws.{was_encoded}
 use Rattle.projection_patch.specs.Meaning.{edition_of}
 use Rattle.panel_changes.specs.SetChanges.{tables_fit, change_counts_fit}
 use Rattle.panel_changes.specs.SetChangesLaws.{fit_lengths, table_lengths_fit, stored_lengths, stored_counts, fit_arguments, opened_short}
-use Rattle.patch_walk.specs.StepsLaws.{opened_at, never_unopened}
+use Rattle.patch_walk.proofs.StepsLaws.{opened_at, never_unopened}
 use borrow.Author.Rules.{rules}
 use Rattle.panel_changes.proofs.apply_set_with_plan.Goals as goal
 

@@ -14,7 +14,7 @@ use Rattle.spec_projection.specs.Valid.{Valid}
 use Rattle.projection_patch.specs.Widths.{past_neighbour}
 use Rattle.projection_patch.specs.Meaning.{edition_of, operation_of}
 use Rattle.patch_walk.specs.Steps.{step_answer, AtSteps}
-use Rattle.patch_walk.specs.StepsLaws.{visited}
+use Rattle.patch_walk.proofs.StepsLaws.{visited}
 use Rattle.panel_plan.specs.Plan.{plan_of}
 use Rattle.panel_plan.specs.PlanRows.{StoredPlan}
 use Rattle.panel_steps.proofs.Running.{offset_small, operation_within, opened_within, Running, Turned, turned_on, turned_stop, run_start, run_opened, run_ended, some_operation, fits_planned, run_turn}

@@ -1,7 +1,7 @@
 -- `apply` meets its contract: the session that is left behind the reference is the step's, stored or not.
 use Rattle.std.proofs.Common.{sym, ◌∙◌}
 use Rattle.session_apply.specs.Applied.{Stepped}
-use Rattle.session_apply.proofs.AppliedLaws.{in_place_next, in_place_same}
+use Rattle.session_apply.proofs.AppliedLaws.{in_place_next, in_place_unstored}
 use Rattle.session_apply.proofs.apply.Goals as goal
 use Rattle.session_apply.proofs.apply.Goals.{After-transition-step}
 
@@ -15,4 +15,4 @@ returns-then-is_applied c =
 
 pub returns-else-is_applied : goal.returns-else-is_applied
 returns-else-is_applied c =
-    in_place_same c.args.session.now c.args.input c.transition-step.result (stepped (goal.at.returns-else-is_applied c).After-transition-step) (sym c.is_applied.ensures ∙ c.if-is_applied.false)
+    in_place_unstored c.args.session.now c.args.input c.transition-step.result (stepped (goal.at.returns-else-is_applied c).After-transition-step) (sym c.is_applied.ensures ∙ c.if-is_applied.false)

@@ -9,7 +9,7 @@ use Rattle.spec_patch.specs.Edition.{Edition}
 use Rattle.spec_patch.specs.Read.{patches, read_set}
 use Rattle.spec_checks.specs.Findings.{in_patch, in_set, findings}
 use Rattle.projection_patch.specs.Meaning.{edition_of}
-use Rattle.patch_walk.specs.StepsLaws.{opened_at, never_unopened}
+use Rattle.patch_walk.proofs.StepsLaws.{opened_at, never_unopened}
 use Rattle.patch_walk.specs.CountLaws.{OpeningCounts, opening_counts}
 use Rattle.check_set.specs.Listed.{FindingsListedAs}
 use Rattle.check_set.proofs.Written.{answer_is, numbers_are}

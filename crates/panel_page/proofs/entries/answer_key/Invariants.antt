@@ -7,9 +7,9 @@ use lib.ListN.{length}
 use Rattle.panel_rows.specs.Rows.{filled_row}
 use Rattle.panel_page.specs.PageTable.{page_width}
 use Rattle.panel_page.specs.Index.{index_place_of, OnChain}
-use Rattle.panel_page.specs.IndexLaws.{last_le, on_chain, chain_start, chain_next}
+use Rattle.panel_page.proofs.IndexLaws.{last_le, on_chain, chain_start, chain_next}
 use Rattle.panel_page.specs.Answering.{answering, mixed}
-use Rattle.panel_page.specs.AnsweringLaws.{mixed_start, mixed_end, chain_passed}
+use Rattle.panel_page.proofs.AnsweringLaws.{mixed_start, mixed_end, chain_passed}
 use Rattle.panel_page.specs.Shown.{Shows}
 use Rattle.panel_page.proofs.entries.answer_key.Given as goal
 

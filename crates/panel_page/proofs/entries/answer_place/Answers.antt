@@ -6,7 +6,7 @@ use lib.ListN.{length, get_or}
 use Rattle.panel_rows.specs.Rows.{filled_row}
 use Rattle.panel_page.specs.PageTable.{page_width}
 use Rattle.panel_page.specs.Answering.{answering}
-use Rattle.panel_page.specs.AnsweringLaws.{mixed_same, mixed_replaced, answering_own, answering_other}
+use Rattle.panel_page.proofs.AnsweringLaws.{mixed_same, mixed_replaced, answering_own, answering_other}
 use Rattle.panel_page.proofs.PlacesLent.{place_shown}
 use Rattle.panel_page.specs.Shown.{Shows}
 use Rattle.panel_page.proofs.entries.answer_place.Goals as goal

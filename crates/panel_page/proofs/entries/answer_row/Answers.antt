@@ -10,7 +10,7 @@ use Rattle.spec_projection.specs.Valid.{FitsEntry}
 use Rattle.panel_rows.specs.Rows.{collection_in, entry_row}
 use Rattle.panel_rows.specs.RowsLaws.{entry_collection}
 use Rattle.panel_page.specs.Answering.{answering, page_answer_of, answers_in}
-use Rattle.panel_page.specs.AnsweringLaws.{entries_own, entries_other, answers_own, answers_other}
+use Rattle.panel_page.proofs.AnsweringLaws.{entries_own, entries_other, answers_own, answers_other}
 use borrow.Author.Rules.{rules}
 use Rattle.panel_page.specs.Shown.{Shows}
 use Rattle.panel_page.proofs.entries.answer_row.Goals as goal

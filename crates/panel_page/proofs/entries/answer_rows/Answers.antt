@@ -17,7 +17,7 @@ use Rattle.panel_rows.specs.RowsLaws.{no_entry}
 use Rattle.panel_lookups.specs.NthLaws.{fits_at, row_at_entry}
 use Rattle.bytes_records.specs.TableLaws.{holds_length}
 use Rattle.panel_page.specs.Answering.{answers_in}
-use Rattle.panel_page.specs.AnsweringLaws.{absent_before}
+use Rattle.panel_page.proofs.AnsweringLaws.{absent_before}
 use Rattle.panel_page.specs.Shown.{Shows}
 use Rattle.panel_page.proofs.entries.answer_rows.Goals as goal
 

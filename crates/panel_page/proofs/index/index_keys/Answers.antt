@@ -5,7 +5,7 @@ use native.Mathlib.Omega.{arith}
 use borrow.Author.Rules.{rules}
 use lib.ListN.{length, get_or, set}
 use Rattle.panel_page.specs.Index.{Indexed}
-use Rattle.panel_page.specs.IndexLaws.{index_start, index_turn}
+use Rattle.panel_page.proofs.IndexLaws.{index_start, index_turn}
 use Rattle.panel_page.proofs.index.index_keys.Goals as goal
 
 pub loop-i-init : goal.loop-i-init

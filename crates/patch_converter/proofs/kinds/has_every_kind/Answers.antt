@@ -7,7 +7,7 @@ use Rattle.spec_lists.specs.Bytes.{Bytes}
 use Rattle.spec_lists.proofs.BytesLaws.{bytes_of}
 use Rattle.spec_patch.specs.Edition.{Edition}
 use Rattle.projection_patch.specs.Meaning.{edition_of}
-use Rattle.patch_walk.specs.StepsLaws.{opened_at, never_unopened}
+use Rattle.patch_walk.proofs.StepsLaws.{opened_at, never_unopened}
 use Rattle.patch_converter.proofs.KindsLeft.{every_list}
 use Rattle.patch_converter.proofs.kinds.has_every_kind.Goals as goal
 use Rattle.patch_converter.proofs.kinds.has_every_kind.Goals.{After-open_set}

@@ -4,7 +4,7 @@ use mathlib.Core.Path.{sym, subst, ◌∙◌}
 use borrow.Author.Rules.{rules}
 use Rattle.spec_patch.specs.Sizes.{text_bytes}
 use Rattle.patch_part_writer.specs.declared.extent.TextPlace.{TextPlace}
-use Rattle.patch_part_writer.specs.PartsLaws.{size_kept, size_over}
+use Rattle.patch_part_writer.proofs.PartsLaws.{size_kept, size_over}
 use Rattle.patch_part_writer.proofs.extent.operation_size.Goals as goal
 
 pub returns-then-text-gt-TEXT_BYTES : goal.returns-then-text-gt-TEXT_BYTES

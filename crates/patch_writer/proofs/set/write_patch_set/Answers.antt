@@ -19,9 +19,9 @@ use Rattle.patch_part_writer.specs.declared.written.Written.{Written}
 use Rattle.patch_part_writer.specs.declared.written.Written.TheVariants.{Wrote}
 use Rattle.patch_part_writer.specs.Answer.{written_at, output_at}
 use Rattle.patch_part_writer.specs.ExtentLaws.{length_heading}
-use Rattle.patch_part_writer.specs.PartsLaws.{answers_refusal, answers_short, answers_wrote}
+use Rattle.patch_part_writer.proofs.PartsLaws.{answers_refusal, answers_short, answers_wrote}
 use Rattle.patch_writer.specs.Set.{list_of, patch_set_bytes}
-use Rattle.patch_writer.specs.CallLaws.{Arrays, few_patches, encode_parts, patches_fit, encode_size, written_read}
+use Rattle.patch_writer.proofs.CallLaws.{Arrays, few_patches, encode_parts, patches_fit, encode_size, written_read}
 use Rattle.patch_writer.proofs.Verdict.{survey_refused, SurveyWithin, survey_within}
 use Rattle.patch_writer.proofs.set.write_patch_set.Goals as goal
 use Rattle.patch_writer.proofs.set.write_patch_set.Goals.{In-Within, Start}

@@ -12,7 +12,7 @@ use Rattle.projection_patch.specs.declared.patch.OperationPlace.{OperationPlace}
 use Rattle.projection_patch.specs.declared.text_rule.TextJudgement.{TextJudgement}
 use Rattle.patch_part_writer.specs.declared.extent.TextPlace.{TextPlace}
 use Rattle.patch_part_writer.specs.ExtentLaws.{operation_small}
-use Rattle.patch_part_writer.specs.PartsLaws.{size_kept}
+use Rattle.patch_part_writer.proofs.PartsLaws.{size_kept}
 use Rattle.patch_writer.specs.Set.{set_places}
 use Rattle.patch_writer.specs.Survey.{worse}
 use Rattle.patch_writer.proofs.Elements.{no_text_place, left_cons, left_none}

@@ -9,7 +9,7 @@ use Rattle.spec_patch.specs.Sizes.{set_patches, text_bytes}
 use Rattle.spec_patch.specs.Edition.{Edition}
 use Rattle.projection_patch.specs.Meaning.{edition_of}
 use Rattle.patch_writer.specs.Set.{set_places, heads}
-use Rattle.patch_writer.specs.CallLaws.{Arrays}
+use Rattle.patch_writer.proofs.CallLaws.{Arrays}
 use Rattle.patch_writer.proofs.Verdict.{heads_refused, HeadsWithin, heads_within, operations_refused, OperationsWithin, operations_within, many_patches, many_operations, many_places, long_text, both_passed, small_sum}
 use Rattle.patch_writer.proofs.survey.survey_set.Goals as goal
 use Rattle.patch_writer.proofs.survey.survey_set.Goals.{In-Within, In-Within-survey_operations, Start}

@@ -8,7 +8,7 @@ use Rattle.spec_lists.proofs.BytesLaws.{bytes_of}
 use Rattle.spec_patch.specs.Sizes.{projection_bindings, projection_entries}
 use Rattle.spec_patch.specs.Edition.{Edition}
 use Rattle.projection_patch.specs.Meaning.{edition_of}
-use Rattle.patch_walk.specs.StepsLaws.{opened_at, never_unopened}
+use Rattle.patch_walk.proofs.StepsLaws.{opened_at, never_unopened}
 use Rattle.bytes_records.specs.Moves.{zeros}
 use Rattle.panel_rows.specs.Rows.{availability_bytes}
 use Rattle.panel_plan.specs.PlanRows.{planned_binding_row, planned_binding_width, planned_entry_row, planned_entry_width, PlannedBindings, PlannedEntries}

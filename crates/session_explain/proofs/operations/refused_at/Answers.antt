@@ -5,7 +5,7 @@ use native.Mathlib.Omega.{arith}
 use Prim.Native.Nat.{ℕ, ◌-◌}
 use Rattle.projection_patch.specs.Meaning.{edition_of}
 use Rattle.projection_patch.specs.ReadAnswers.{lent_from}
-use Rattle.patch_walk.specs.StepsLaws.{visited}
+use Rattle.patch_walk.proofs.StepsLaws.{visited}
 use Rattle.panel_steps.proofs.Running.{some_operation}
 use Rattle.session_explain.specs.RefusedLaws.{halt_told}
 use borrow.Author.Rules.{rules}

@@ -5,7 +5,7 @@ use Rattle.spec_lists.specs.Bytes.{Bytes}
 use Rattle.spec_lists.proofs.BytesLaws.{bytes_of}
 use Rattle.spec_patch.specs.Edition.{Edition}
 use Rattle.projection_patch.specs.Meaning.{edition_of}
-use Rattle.patch_walk.specs.StepsLaws.{opened_at, never_unopened}
+use Rattle.patch_walk.proofs.StepsLaws.{opened_at, never_unopened}
 use borrow.Author.Rules.{rules}
 use Rattle.session_explain.proofs.targets.first_unknown.Goals as goal
 use Rattle.session_explain.proofs.targets.first_unknown.Goals.{After-open_set}

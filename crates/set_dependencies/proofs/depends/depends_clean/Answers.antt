@@ -15,7 +15,7 @@ use Rattle.spec_dependencies.specs.Dependencies.{SettlingWalk, settles, contradi
 use Rattle.spec_dependencies.specs.Settled.{Settled}
 use Rattle.spec_dependencies.specs.Answer.{answer_by}
 use Rattle.projection_patch.specs.Meaning.{edition_of}
-use Rattle.patch_walk.specs.StepsLaws.{opened_at, never_unopened}
+use Rattle.patch_walk.proofs.StepsLaws.{opened_at, never_unopened}
 use Rattle.set_dependencies.specs.SettledRows.{SettledTable, SettledIn}
 use Rattle.set_dependencies.specs.SettledRowsLaws.{start_within, settled_rows_lem, none_settled}
 use Rattle.set_dependencies.specs.SetSettling.{SetSettlesTo}

@@ -17,7 +17,7 @@ use Rattle.spec_page.specs.Page.{positioned, find_from}
 use Rattle.bytes_records.specs.Positions.{replace_at}
 use Rattle.panel_page.specs.PageTable.{answer_row}
 use Rattle.panel_page.specs.Index.{index_place_of, last_below}
-use Rattle.panel_page.specs.IndexLaws.{last_le, last_passes}
+use Rattle.panel_page.proofs.IndexLaws.{last_le, last_passes}
 use Rattle.panel_page.specs.Answering.{answering, mixed, page_answer_of, answers_in}
 
 -- ---- rows that are written from the last key to the first
