@@ -1,6 +1,5 @@
 // The calls that C, and whatever calls C, makes on a session in its own memory and on the bytes of sets: include/geysertray.h declares them.
-// Tables and heads are pointers to arrays of their length; anchors, sets and outputs are a pointer and a length. All of them stand in this
-// crate, since an archive has the exported functions of one.
+// Tables and heads are pointers to arrays of their length; anchors, sets and outputs are a pointer and a length. `c_exports_c` exports them.
 #![tactic(auto)]
 
 pub mod bytes;
