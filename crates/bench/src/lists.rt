@@ -1,5 +1,5 @@
 // Writing of one list: a patch of 128 bindings, each with the text that the data is.
-use patch_part_writer::written::Written;
+use patch_part_writer::written::WriteRefusal;
 use patch_writer::set::write_patch_set;
 use projection_patch::binding_graph::{BindingSlot, BindingTarget};
 use projection_patch::contract_primitives::{Epoch, Revision, StaticDocumentId, StaticNodeId};
@@ -52,10 +52,10 @@ fn list(len: usize) -> ProjectionPatchSet {
     }
 }
 
-fn bytes(written: Written) -> u64 {
+fn bytes(written: Result<usize, WriteRefusal>) -> u64 {
     match written {
-        Written::Wrote(n) => n as u64,
-        Written::Refused(_) => 0,
+        Ok(n) => n as u64,
+        Err(_) => 0,
     }
 }
 

@@ -1,12 +1,11 @@
 -- What the calls that count or write answer, as three numbers.
-use Rattle.std.specs.Prelude.{ℕ}
+use Rattle.std.specs.Prelude.{ℕ, Result, Ok, Err}
 use Rattle.spec_patch.specs.Write.{write_number}
 use Rattle.spec_page.specs.Page.{page_number}
 use Rattle.spec_import.specs.Import.{import_number}
 use Rattle.spec_conversion.specs.Conversion.{conversion_number}
 use Rattle.patch_part_writer.specs.Answer.{write_refusal_of}
-use Rattle.patch_part_writer.specs.declared.written.Written.{Written}
-use Rattle.patch_part_writer.specs.declared.written.Written.TheVariants as written
+use Rattle.patch_part_writer.specs.declared.written.WriteRefusal.{WriteRefusal}
 use Rattle.panel_page.specs.PageTable as page
 use Rattle.panel_page.specs.declared.PageAnswer.{PageAnswer}
 use Rattle.panel_page.specs.declared.PageAnswer.TheVariants as page-answer
@@ -48,9 +47,9 @@ count_told (counting.Answered n) = counted_to n
 count_told counting.NoSession = not_counted 3
 
 -- bytes written, or 14
-abbrev pub written_to : Written → GeysertrayCount
-written_to (written.Wrote n) = counted_to n
-written_to (written.Refused f) = refused_to (write_number (write_refusal_of f))
+abbrev pub written_to : Result ℕ WriteRefusal → GeysertrayCount
+written_to (Ok n) = counted_to n
+written_to (Err f) = refused_to (write_number (write_refusal_of f))
 
 abbrev pub listing_told : LentListing → GeysertrayCount
 listing_told (listing.Answered w) = written_to w

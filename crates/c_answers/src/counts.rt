@@ -6,7 +6,7 @@ use panel_page::PageAnswer;
 use panel_print::PrintAnswer;
 use patch_converter::ConversionAnswer;
 use patch_import::answer::ImportAnswer;
-use patch_part_writer::written::Written;
+use patch_part_writer::written::WriteRefusal;
 use session_lent_views::listing::LentListing;
 use session_lent_views::lookups::LentCount;
 use session_lent_views::page::LentPage;
@@ -62,12 +62,12 @@ pub fn count_told(answer: LentCount) -> GeysertrayCount
     }
 }
 
-pub fn written_to(answer: Written) -> GeysertrayCount
+pub fn written_to(answer: Result<usize, WriteRefusal>) -> GeysertrayCount
     ensures { result ≡ written_to answer }
 {
     match answer {
-        Written::Wrote(n) => counted(n),
-        Written::Refused(refusal) => refused(refusal.number()),
+        Ok(n) => counted(n),
+        Err(refusal) => refused(refusal.number()),
     }
 }
 

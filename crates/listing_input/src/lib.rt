@@ -5,7 +5,6 @@ ghost use Rattle.std.specs.Prelude.{◌≤◌, IfOk};
 ghost use Rattle.listing_lines.specs.ListingBytes.{listing_bytes};
 
 use listing_lines::tables::LISTING_BYTES;
-use patch_part_writer::written::Written;
 use projection_patch::patch::{ProjectionPatchEdition, ProjectionPatchSet};
 use std::io;
 
@@ -17,7 +16,7 @@ pub fn list_input<R: Input + Print>(rt: &R, edition: ProjectionPatchEdition) -> 
     let mut input = [0u8; ProjectionPatchSet::BYTES + 1];
     let n = bytes_input::read_full(&mut rt.reader(), &mut input)?;
     let mut lines = [0u8; LISTING_BYTES];
-    if let Written::Wrote(len) = listing_panel::write_listing(&input[0..n], edition, &mut lines) {
+    if let Ok(len) = listing_panel::write_listing(&input[0..n], edition, &mut lines) {
         rt.write_all(&lines[0..len])?;
         return Ok(len);
     }

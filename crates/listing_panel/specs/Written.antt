@@ -1,11 +1,10 @@
 -- What writing lines into a lent slice answers and leaves.
-use Rattle.std.specs.Prelude.{ℕ, ◌≡◌, List, length, take, drop}
+use Rattle.std.specs.Prelude.{ℕ, ◌≡◌, List, length, take, drop, Result, Ok, Err}
 use Rattle.spec_patch.specs.Write as model
 use Rattle.bytes_printer.specs.declared.Printed.{Printed}
 use Rattle.bytes_printer.specs.declared.Printed.TheVariants.{Next}
 use Rattle.patch_part_writer.specs.Answer.{written_at, output_at}
-use Rattle.patch_part_writer.specs.declared.written.Written.{Written}
-use Rattle.patch_part_writer.specs.declared.written.Written.TheVariants.{Wrote, Refused}
+use Rattle.patch_part_writer.specs.declared.written.WriteRefusal.{WriteRefusal}
 
 -- the lines stand at the start of a text, and their printing ended behind them
 pub record HoldsLines (text : List ℕ) (end : Printed) (lines : List ℕ) : Type 0 where
@@ -13,11 +12,11 @@ pub record HoldsLines (text : List ℕ) (end : Printed) (lines : List ℕ) : Typ
   pub bytes : take (length lines) text ≡ lines
 
 -- the lines at the start of the slice and their number, or 14 and nothing: every other byte stays
-pub record Writes (before lines after : List ℕ) (r : Written) : Type 0 where
+pub record Writes (before lines after : List ℕ) (r : Result ℕ WriteRefusal) : Type 0 where
   pub answer : r ≡ written_at before 0 (model.wrote lines)
   pub output : after ≡ output_at before 0 (model.wrote lines)
 
 -- what holds of any answer: a refusal leaves every byte, and so many bytes written leave those behind them
-abbrev pub KeptLines : List ℕ → List ℕ → Written → Type 0
-KeptLines before after (Wrote n) = drop n after ≡ drop n before
-KeptLines before after (Refused f) = after ≡ before
+abbrev pub KeptLines : List ℕ → List ℕ → Result ℕ WriteRefusal → Type 0
+KeptLines before after (Ok n) = drop n after ≡ drop n before
+KeptLines before after (Err f) = after ≡ before

@@ -1,5 +1,5 @@
 -- Lines that were printed are written whole, or not at all.
-use Rattle.std.specs.Prelude.{ℕ, ◌+◌, ◌-◌, ◌≤◌, ◌≡◌, refl, Bool, true, false, List, length, take, drop, if◌then◌else◌}
+use Rattle.std.specs.Prelude.{ℕ, ◌+◌, ◌-◌, ◌≤◌, ◌≡◌, refl, Bool, true, false, List, length, take, drop, Result, Ok, Err, if◌then◌else◌}
 use Rattle.std.proofs.Common.{sym, ap, ◌∙◌, arith, length-take}
 use Rattle.bytes_wire.specs.Write.{has_room, overwrite}
 use Rattle.bytes_wire.proofs.WriteLaws.{room_true, overwrite_refused, drop_past_overwrite}
@@ -8,8 +8,7 @@ use Rattle.bytes_printer.specs.declared.Printed.TheVariants.{Next, NoRoom}
 use Rattle.bytes_printer.specs.Prints.{Prints}
 use Rattle.bytes_printer.proofs.PrintsLaws.{whole_printed}
 use Rattle.patch_part_writer.specs.declared.written.WriteRefusal.TheVariants.{OutputTooShort}
-use Rattle.patch_part_writer.specs.declared.written.Written.{Written}
-use Rattle.patch_part_writer.specs.declared.written.Written.TheVariants.{Wrote, Refused}
+use Rattle.patch_part_writer.specs.declared.written.WriteRefusal.{WriteRefusal}
 use Rattle.listing_panel.specs.Written.{HoldsLines, Writes}
 
 -- lines that fit, printed from the start of a text, stand there
@@ -36,12 +35,12 @@ module _ (text : List ℕ) (end : Printed) (lines : List ℕ) (h : HoldsLines te
 -- ---- what was written
 
 module _ (before lines after : List ℕ) (n : ℕ) (size : n ≡ length lines) (is : after ≡ overwrite before 0 lines) where
-  pub wrote_lines : has_room before 0 (length lines) ≡ true → Writes before lines after (Wrote n)
+  pub wrote_lines : has_room before 0 (length lines) ≡ true → Writes before lines after (Ok n)
   wrote_lines room =
       let none_before : 0 + length lines ≡ length lines = omega arith in
-      record { answer = ap Wrote (size ∙ sym none_before) ∙ rw room; output = is }
+      record { answer = ap Ok (size ∙ sym none_before) ∙ rw room; output = is }
 
-  pub refused_lines : has_room before 0 (length lines) ≡ false → Writes before lines after (Refused OutputTooShort)
+  pub refused_lines : has_room before 0 (length lines) ≡ false → Writes before lines after (Err OutputTooShort)
   refused_lines full = record { answer = rw full; output = is }
 
 module _ (before bytes after : List ℕ) (is : after ≡ overwrite before 0 bytes) where
@@ -55,11 +54,11 @@ module _ (before bytes after : List ℕ) (is : after ≡ overwrite before 0 byte
 
 -- ---- what a caller has of lines that were written
 
-module _ {before lines after : List ℕ} {r : Written} (w : Writes before lines after r) where
+module _ {before lines after : List ℕ} {r : Result ℕ WriteRefusal} (w : Writes before lines after r) where
   -- an answer counts bytes of the slice
-  pub wrote_within : (n : ℕ) → r ≡ Wrote n → n ≤ length before
+  pub wrote_within : (n : ℕ) → r ≡ Ok n → n ≤ length before
   wrote_within n e = go (has_room before 0 (length lines)) refl (sym e ∙ w.answer)
     where
-      go : (t : Bool) → has_room before 0 (length lines) ≡ t → Wrote n ≡ (if t then Wrote (0 + length lines) else Refused OutputTooShort) → n ≤ length before
+      go : (t : Bool) → has_room before 0 (length lines) ≡ t → Ok n ≡ (if t then Ok (0 + length lines) else Err OutputTooShort) → n ≤ length before
       go true room q = let same : n ≡ 0 + length lines = cc in omega (arith, room_true before 0 (length lines) room)
       go false full q = absurd (let z : ◌≡◌ {A = ℕ} 0 1 = cc in omega arith)

@@ -16,24 +16,24 @@ use bytes_printer::Printed;
 use listing_lines::tables;
 use listing_lines::tables::LISTING_BYTES;
 use local_projection_state::{LocalProjectionState, ProjectionCounts};
-use patch_part_writer::written::{WriteRefusal, Written};
+use patch_part_writer::written::WriteRefusal;
 use projection_patch::patch::ProjectionPatchEdition;
 
 // Writes the lines that were printed from the start of text up to a position.
-fn write_lines(text: &[u8], end: Printed, out: &mut [u8]) -> Written
+fn write_lines(text: &[u8], end: Printed, out: &mut [u8]) -> Result<usize, WriteRefusal>
     ensures lines { (lines : List ℕ) → HoldsLines text.now end lines → Writes out.old lines out.new result }
     ensures kept { KeptLines out.old out.new result }
 {
     let Printed::Next(len) = end else {
-        return Written::Refused(WriteRefusal::OutputTooShort);
+        return Err(WriteRefusal::OutputTooShort);
     };
     if text.len() < len {
-        return Written::Refused(WriteRefusal::OutputTooShort);
+        return Err(WriteRefusal::OutputTooShort);
     }
     if bytes_wire::write_bytes_at(out, 0, &text[0..len]) {
-        return Written::Wrote(len);
+        return Ok(len);
     }
-    Written::Refused(WriteRefusal::OutputTooShort)
+    Err(WriteRefusal::OutputTooShort)
 }
 
 // Writes the listing of what three tables store. Of tables that store no projection it writes some lines, or answers 14.
@@ -43,7 +43,7 @@ pub fn write_tables(
     entries: &[u8],
     counts: ProjectionCounts,
     out: &mut [u8],
-) -> Written
+) -> Result<usize, WriteRefusal>
     ensures lines { (p : Projection) → Stored binding_row binding_width projection_bindings counts.bindings bindings.now p.bindings
         → Stored availability_row availability_width projection_availabilities counts.availabilities availability.now p.availabilities
         → Stored entry_row entry_width projection_entries counts.entries entries.now p.entries → Valid p
@@ -57,7 +57,7 @@ pub fn write_tables(
 }
 
 // Writes the listing of what a state stores.
-pub fn write_projection(state: LocalProjectionState, out: &mut [u8]) -> Written
+pub fn write_projection(state: LocalProjectionState, out: &mut [u8]) -> Result<usize, WriteRefusal>
     ensures lines { (p : Projection) → Stores state p → Writes out.old (projection_lines p) out.new result }
     ensures kept { KeptLines out.old out.new result }
 {
@@ -89,7 +89,7 @@ pub fn print_listing(
 }
 
 // Writes the listing of a set.
-pub fn write_listing(set: &[u8], edition: ProjectionPatchEdition, out: &mut [u8]) -> Written
+pub fn write_listing(set: &[u8], edition: ProjectionPatchEdition, out: &mut [u8]) -> Result<usize, WriteRefusal>
     ensures { Writes out.old (listing (edition_of edition) set.now) out.new result }
 {
     let mut text = [0u8; LISTING_BYTES];

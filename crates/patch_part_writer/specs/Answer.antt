@@ -1,11 +1,9 @@
 -- What a call that writes from a position on answers, and what it leaves of the output.
-use Rattle.std.specs.Prelude.{ℕ, ◌+◌, List, ◌++◌, leb, length, drop, if◌then◌else◌}
+use Rattle.std.specs.Prelude.{ℕ, ◌+◌, List, ◌++◌, leb, length, drop, Result, Ok, Err, if◌then◌else◌}
 use Rattle.spec_patch.specs.Write as model
 use Rattle.bytes_wire.specs.Write.{has_room, overwrite}
 use Rattle.patch_part_writer.specs.declared.written.WriteRefusal.{WriteRefusal}
 use Rattle.patch_part_writer.specs.declared.written.WriteRefusal.TheVariants.{OverCapacity, Malformed, OutputTooShort}
-use Rattle.patch_part_writer.specs.declared.written.Written.{Written}
-use Rattle.patch_part_writer.specs.declared.written.Written.TheVariants.{Wrote, Refused}
 
 abbrev pub write_refusal_of : WriteRefusal → model.WriteRefusal
 write_refusal_of OverCapacity = model.over_capacity
@@ -18,9 +16,9 @@ refusal_to model.malformed = Malformed
 refusal_to model.output_too_short = OutputTooShort
 
 -- the position behind the bytes where there is room for them, else 14
-abbrev pub written_at : List ℕ → ℕ → model.Written → Written
-written_at out at (model.wrote bs) = if has_room out at (length bs) then Wrote (at + length bs) else Refused OutputTooShort
-written_at out at (model.refused n) = Refused (refusal_to n)
+abbrev pub written_at : List ℕ → ℕ → model.Written → Result ℕ WriteRefusal
+written_at out at (model.wrote bs) = if has_room out at (length bs) then Ok (at + length bs) else Err OutputTooShort
+written_at out at (model.refused n) = Err (refusal_to n)
 
 -- the bytes in their place where there is room for them; a refusal leaves every byte as it was
 abbrev pub output_at : List ℕ → ℕ → model.Written → List ℕ
@@ -35,9 +33,9 @@ with_room room (model.wrote bs) = if leb (length bs) room then model.wrote bs el
 with_room room (model.refused n) = model.refused n
 
 -- the length
-abbrev pub write_answer_of : model.Written → Written
-write_answer_of (model.wrote bs) = Wrote (length bs)
-write_answer_of (model.refused n) = Refused (refusal_to n)
+abbrev pub write_answer_of : model.Written → Result ℕ WriteRefusal
+write_answer_of (model.wrote bs) = Ok (length bs)
+write_answer_of (model.refused n) = Err (refusal_to n)
 
 -- the bytes, and the rest of the output as it was
 abbrev pub output_of : List ℕ → model.Written → List ℕ

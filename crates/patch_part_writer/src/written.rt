@@ -1,9 +1,9 @@
-// What writing answers.
+// Why a list is not written. What writes answers with the position behind what was written, or with this.
 ghost use Rattle.std.specs.Prelude.{◌≡◌};
 ghost use Rattle.spec_patch.specs.Write.{write_number};
 ghost use Rattle.patch_part_writer.specs.Answer.{write_refusal_of};
 
-#[derive(Drop)]
+#[derive(Clone, Copy)]
 pub enum WriteRefusal {
     OverCapacity,
     Malformed,
@@ -12,6 +12,7 @@ pub enum WriteRefusal {
 
 impl WriteRefusal {
     // 01's number.
+    #[tactic(auto, unfolding(spec_patch::specs::Write::write_number))]
     pub fn number(self) -> u64
         ensures { result ≡ write_number (write_refusal_of self) }
     {
@@ -21,11 +22,4 @@ impl WriteRefusal {
             WriteRefusal::OutputTooShort => 14,
         }
     }
-}
-
-// Wrote gives the position behind what was written.
-#[derive(Drop)]
-pub enum Written {
-    Wrote(usize),
-    Refused(WriteRefusal),
 }

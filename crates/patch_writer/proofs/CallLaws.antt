@@ -1,6 +1,6 @@
 -- A set is written as spec_patch writes the list that it stands for, wherever its counts fit and its texts lie within the texts; what was
 -- written is read back as the same list; and what is read is written back byte for byte.
-use Rattle.std.specs.Prelude.{ℕ, ◌+◌, ◌≤◌, Bool, ◌&&◌, take, drop, if◌then◌else◌}
+use Rattle.std.specs.Prelude.{ℕ, ◌+◌, ◌≤◌, Bool, ◌&&◌, take, drop, Result, Ok, Err, if◌then◌else◌}
 use Rattle.std.proofs.Math.Path.{◌≡◌, refl, sym, ap, ap₂}
 use Rattle.std.proofs.Common.{◌∙◌, arith, length-take-le}
 use Rattle.std.proofs.Math.Bool.{true, false}
@@ -24,8 +24,7 @@ use Rattle.bytes_wire.specs.Write.{has_room, overwrite}
 use Rattle.bytes_wire.proofs.WriteLaws.{take_overwrite, overwrite_in_place, overwrite_refused}
 use Rattle.projection_patch.specs.declared.patch.OperationPlace.{OperationPlace}
 use Rattle.projection_patch.specs.declared.patch.ProjectionPatchSet.{ProjectionPatchSet}
-use Rattle.patch_part_writer.specs.declared.written.Written as call
-use Rattle.patch_part_writer.specs.declared.written.Written.TheVariants.{Wrote, Refused}
+use Rattle.patch_part_writer.specs.declared.written.WriteRefusal as call
 use Rattle.patch_part_writer.specs.declared.written.WriteRefusal.TheVariants.{OutputTooShort}
 use Rattle.patch_part_writer.specs.Answer.{refusal_to, written_at, output_at, with_room, write_answer_of, output_of}
 use Rattle.patch_part_writer.specs.ExtentLaws.{length_heading}
@@ -55,7 +54,7 @@ module _ (out : List ℕ) where
   call_answer (wrote bs) = go (leb (length bs) (length out)) refl
     where
       go : (t : Bool) → leb (length bs) (length out) ≡ t → written_at out 0 (wrote bs) ≡ write_answer_of (with_room (length out) (wrote bs))
-      go true e = rw (from_start (length bs), e) (ap Wrote (omega arith))
+      go true e = rw (from_start (length bs), e) (ap Ok (omega arith))
       go false e = rw (from_start (length bs), e)
 
   pub call_output : (w : Written) → output_at out 0 w ≡ output_of out (with_room (length out) w)
@@ -193,14 +192,14 @@ module _ (ed : Edition) (texts : List ℕ) (set : ProjectionPatchSet) where
   counted e = and_left (counts_fit set) _ e
 
   -- what the call wrote, the reader reads as the same list
-  pub written_read : PassedSet set → (out : List ℕ) (r : call.Written) (o : List ℕ) → r ≡ written_at out 0 (patch_set_bytes ed texts set) → o ≡ output_at out 0 (patch_set_bytes ed texts set)
-      → (n : ℕ) → r ≡ Wrote n → read_set ed (take n o) ≡ patches (list_of texts set)
+  pub written_read : PassedSet set → (out : List ℕ) (r : Result ℕ call.WriteRefusal) (o : List ℕ) → r ≡ written_at out 0 (patch_set_bytes ed texts set) → o ≡ output_at out 0 (patch_set_bytes ed texts set)
+      → (n : ℕ) → r ≡ Ok n → read_set ed (take n o) ≡ patches (list_of texts set)
   written_read passed out r o answer output n e = ap (λ (l : List ℕ). read_set ed (take n l)) output ∙ by_result (patch_set_bytes ed texts set) refl (sym answer ∙ e)
     where
-      never : {C : Type 0} (w : WriteRefusal) → Refused (refusal_to w) ≡ Wrote n → C
+      never : {C : Type 0} (w : WriteRefusal) → Err (refusal_to w) ≡ Ok n → C
       never w e = absurd (let z : ◌≡◌ {A = ℕ} 0 1 = cc in omega arith)
 
-      by_room : (bs : List ℕ) → patch_set_bytes ed texts set ≡ wrote bs → (t : Bool) → has_room out 0 (length bs) ≡ t → (if t then Wrote (0 + length bs) else Refused OutputTooShort) ≡ Wrote n
+      by_room : (bs : List ℕ) → patch_set_bytes ed texts set ≡ wrote bs → (t : Bool) → has_room out 0 (length bs) ≡ t → (if t then Ok (0 + length bs) else Err OutputTooShort) ≡ Ok n
           → read_set ed (take n (overwrite out 0 bs)) ≡ patches (list_of texts set)
       by_room bs is true room e =
           let s = call_success bs is in
@@ -209,17 +208,17 @@ module _ (ed : Edition) (texts : List ℕ) (set : ProjectionPatchSet) where
           ap (read_set ed) (ap (λ (k : ℕ). take k (overwrite out 0 bs)) position ∙ take_overwrite out 0 bs (length bs) refl room ∙ s.bytes) ∙ reads_back ed (list_of texts set) fits
       by_room bs is false room e = never output_too_short e
 
-      by_result : (w : Written) → patch_set_bytes ed texts set ≡ w → written_at out 0 w ≡ Wrote n → read_set ed (take n (output_at out 0 w)) ≡ patches (list_of texts set)
+      by_result : (w : Written) → patch_set_bytes ed texts set ≡ w → written_at out 0 w ≡ Ok n → read_set ed (take n (output_at out 0 w)) ≡ patches (list_of texts set)
       by_result (wrote bs) is e = by_room bs is (has_room out 0 (length bs)) refl e
       by_result (refused w) is e = never w e
 
   -- what the reader read as the list of a set, the call writes back byte for byte, given room
   pub read_written : PassedSet set → counts_fit set ≡ true → all (inside_at texts) (used set) ≡ true → (bs : List ℕ) → Bytes bs → read_set ed bs ≡ patches (list_of texts set)
-      → (out : List ℕ) → length bs ≤ length out → (written_at out 0 (patch_set_bytes ed texts set) ≡ Wrote (length bs)) × (take (length bs) (output_at out 0 (patch_set_bytes ed texts set)) ≡ bs)
+      → (out : List ℕ) → length bs ≤ length out → (written_at out 0 (patch_set_bytes ed texts set) ≡ Ok (length bs)) × (take (length bs) (output_at out 0 (patch_set_bytes ed texts set)) ≡ bs)
   read_written passed fit inside bs all_bytes e out enough =
       let back = written_back texts set (passed_arrays set passed) fit ed inside bs all_bytes e in
       let room = from_start out (length bs) ∙ le-leb (length bs) (length out) enough in
       let position : 0 + length bs ≡ length bs = omega arith in (
-        ap (written_at out 0) back ∙ rw room (ap Wrote position),
+        ap (written_at out 0) back ∙ rw room (ap Ok position),
         ap (λ (w : Written). take (length bs) (output_at out 0 w)) back ∙ ap (λ (k : ℕ). take k (overwrite out 0 bs)) (sym position) ∙ take_overwrite out 0 bs (length bs) refl room,
       )

@@ -6,7 +6,6 @@ ghost use Rattle.spec_patch.specs.Encode.{encode_patch};
 ghost use Rattle.spec_patch.specs.Read.{patches, read_set};
 ghost use Rattle.bytes_wire.specs.Write.{overwrite};
 ghost use Rattle.projection_patch.specs.Meaning.{edition_of};
-ghost use Rattle.patch_part_writer.specs.declared.written.Written.TheVariants.{Wrote};
 ghost use Rattle.patch_part_writer.specs.Answer.{written_at, output_at};
 ghost use Rattle.patch_writer.specs.Set.{list_of, patch_set_bytes};
 ghost use Rattle.patch_writer.specs.Survey.{ReadyToWrite};
@@ -15,7 +14,7 @@ use crate::survey::{Survey, survey_set};
 use patch_part_writer::extent::{HEADING_BYTES, head_size, operation_size};
 use patch_part_writer::head::{store_head, store_heading};
 use patch_part_writer::operation::store_operation;
-use patch_part_writer::written::{WriteRefusal, Written};
+use patch_part_writer::written::WriteRefusal;
 use projection_patch::patch::{ProjectionPatchEdition, ProjectionPatchSet};
 
 // Each turn writes a head, or the next operation of the patch whose head was written last. Gives the position behind the list.
@@ -64,19 +63,19 @@ pub fn write_patch_set(
     texts: &[u8],
     edition: ProjectionPatchEdition,
     out: &mut [u8],
-) -> Written
+) -> Result<usize, WriteRefusal>
     ensures value { result ≡ written_at out.old 0 (patch_set_bytes (edition_of edition) texts.now set) }
     ensures out_after { out.new ≡ output_at out.old 0 (patch_set_bytes (edition_of edition) texts.now set) }
-    ensures by_index { (n : ℕ) → result ≡ Wrote n → read_set (edition_of edition) (take n out.new) ≡ patches (list_of texts.now set) }
+    ensures by_index { (n : ℕ) → result ≡ Ok n → read_set (edition_of edition) (take n out.new) ≡ patches (list_of texts.now set) }
 {
     match survey_set(set, texts, edition) {
-        Survey::Refused(refusal) => Written::Refused(refusal),
+        Survey::Refused(refusal) => Err(refusal),
         Survey::Within { operations, bytes } => {
             if out.len() < bytes {
-                return Written::Refused(WriteRefusal::OutputTooShort);
+                return Err(WriteRefusal::OutputTooShort);
             }
             store_heading(out, 0, set.patch_count, edition);
-            Written::Wrote(write_patches(set, operations, texts, out, HEADING_BYTES))
+            Ok(write_patches(set, operations, texts, out, HEADING_BYTES))
         }
     }
 }

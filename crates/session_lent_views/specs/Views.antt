@@ -18,7 +18,6 @@ use Rattle.panel_print.specs.Answers.{print_answer, OthersKept}
 use Rattle.panel_print.specs.declared.PrintAnswer.{PrintAnswer}
 use Rattle.panel_page.specs.PageTable as page
 use Rattle.panel_page.specs.PageTable.{page_width, page_bytes, page_answer}
-use Rattle.patch_part_writer.specs.declared.written.Written.{Written}
 use Rattle.listing_panel.specs.Written.{Writes, KeptLines}
 use Rattle.session_lent.specs.Head.{counts_at}
 use Rattle.session_lent.specs.LentSession.{LentSession, half_shaped, table_shaped, bindings_shaped, availabilities_shaped, entries_shaped}

@@ -1,13 +1,13 @@
 // The listing of a lent session's projection.
 ghost use Rattle.session_lent_views.specs.Views.{ListingCall};
 
-use patch_part_writer::written::Written;
+use patch_part_writer::written::WriteRefusal;
 use session_lent::{head, shape};
 
 // What was written, or that the slices cannot hold a session.
 #[derive(Drop)]
 pub enum LentListing {
-    Answered(Written),
+    Answered(Result<usize, WriteRefusal>),
     NoSession,
 }
 

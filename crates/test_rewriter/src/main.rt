@@ -8,7 +8,6 @@ ghost use Rattle.std.specs.Prelude.{◌-◌, ◌≤◌, length};
 mod lists;
 
 use bytes_hex::Decoded;
-use patch_part_writer::written::Written;
 use patch_writer::set::write_patch_set;
 use projection_patch::patch::{ProjectionPatchEdition, ProjectionPatchSet};
 use std::io;
@@ -50,7 +49,7 @@ fn rewrite_in(rt: &impl Print, set: &[u8], edition: ProjectionPatchEdition) -> i
     let mut out = [0u8; ProjectionPatchSet::BYTES];
     if read.is_read {
         let list = read.list;
-        if let Written::Wrote(n) = write_patch_set(list, set, edition, &mut out) {
+        if let Ok(n) = write_patch_set(list, set, edition, &mut out) {
             if n <= ProjectionPatchSet::BYTES {
                 print_line(rt, &out[0..n])?;
                 return Ok(true);

@@ -2,7 +2,7 @@
 ghost use Rattle.std.specs.Prelude.{◌<◌};
 
 use crate::lists;
-use patch_part_writer::written::{WriteRefusal, Written};
+use patch_part_writer::written::WriteRefusal;
 use patch_writer::set::write_patch_set;
 use projection_patch::patch::{ProjectionPatchEdition, ProjectionPatchSet};
 use std::io;
@@ -39,10 +39,10 @@ fn show_digest(rt: &impl Print, bytes: &[u8]) -> io::Result<()> {
     println!(rt; " {digest:08x}")
 }
 
-fn show_answer(rt: &impl Print, written: Written) -> io::Result<()> {
+fn show_answer(rt: &impl Print, written: Result<usize, WriteRefusal>) -> io::Result<()> {
     match written {
-        Written::Wrote(n) => print!(rt; "wrote {n}"),
-        Written::Refused(refusal) => {
+        Ok(n) => print!(rt; "wrote {n}"),
+        Err(refusal) => {
             let number = refusal.number();
             print!(rt; "refused {number}")
         }
@@ -85,9 +85,9 @@ pub(crate) fn wide_texts() -> [u8; WIDE_TEXTS] {
 }
 
 // Writes into the first places of the output.
-fn write_front(set: ProjectionPatchSet, lent: &[u8], out: &mut [u8], places: usize) -> Written {
+fn write_front(set: ProjectionPatchSet, lent: &[u8], out: &mut [u8], places: usize) -> Result<usize, WriteRefusal> {
     if out.len() < places {
-        return Written::Refused(WriteRefusal::OutputTooShort);
+        return Err(WriteRefusal::OutputTooShort);
     }
     write_patch_set(set, lent, ProjectionPatchEdition::V1, &mut out[0..places])
 }

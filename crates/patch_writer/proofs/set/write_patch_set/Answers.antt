@@ -15,8 +15,8 @@ use Rattle.bytes_wire.specs.Write.{overwrite}
 use Rattle.bytes_wire.proofs.WriteLaws.{length_overwrite, overwrite_append}
 use Rattle.projection_patch.specs.Meaning.{edition_of}
 use Rattle.projection_patch.specs.declared.patch.ProjectionPatchSet.{ProjectionPatchSet}
-use Rattle.patch_part_writer.specs.declared.written.Written.{Written}
-use Rattle.patch_part_writer.specs.declared.written.Written.TheVariants.{Wrote}
+use Rattle.std.specs.Prelude.{Result, Ok}
+use Rattle.patch_part_writer.specs.declared.written.WriteRefusal.{WriteRefusal}
 use Rattle.patch_part_writer.specs.Answer.{written_at, output_at}
 use Rattle.patch_part_writer.specs.ExtentLaws.{length_heading}
 use Rattle.patch_part_writer.proofs.PartsLaws.{answers_refusal, answers_short, answers_wrote}
@@ -30,10 +30,10 @@ arrays : (c : Start) → Arrays c.args.set
 arrays c = record { patches = search (rules, unmapped); operations = search (rules, unmapped) }
 
 -- with what both clauses say of an answer and an output, what was written is read back
-also-read : (c : Start) (r : Written) (o : List ℕ)
+also-read : (c : Start) (r : Result ℕ WriteRefusal) (o : List ℕ)
     → let w = patch_set_bytes (edition_of c.args.edition) c.args.texts.now c.args.set in
     (r ≡ written_at c.args.out.now 0 w) × (o ≡ output_at c.args.out.now 0 w)
-    → (r ≡ written_at c.args.out.now 0 w) × ((o ≡ output_at c.args.out.now 0 w) × ((n : ℕ) → r ≡ Wrote n → read_set (edition_of c.args.edition) (take n o) ≡ patches (list_of c.args.texts.now c.args.set)))
+    → (r ≡ written_at c.args.out.now 0 w) × ((o ≡ output_at c.args.out.now 0 w) × ((n : ℕ) → r ≡ Ok n → read_set (edition_of c.args.edition) (take n o) ≡ patches (list_of c.args.texts.now c.args.set)))
 also-read c r o h = (h.0, (h.1, written_read (edition_of c.args.edition) c.args.texts.now c.args.set (record { machine = _; known = c.well_formed.0 }) c.args.out.now r o h.0 h.1))
 
 abbrev ed : In-Within → Edition
@@ -94,4 +94,4 @@ returns-else-out-bytes c =
     ∙ ap (overwrite c.args.out.now 0) (sym (encode_parts (texts (goal.at.returns-else-out-bytes c).In-Within) (set (goal.at.returns-else-out-bytes c).In-Within) (arrays (goal.at.returns-else-out-bytes c).Start) (surveyed (goal.at.returns-else-out-bytes c).In-Within).fit (ed (goal.at.returns-else-out-bytes c).In-Within))) in
     let answered = answers_wrote c.args.out.now 0 (surveyed (goal.at.returns-else-out-bytes c).In-Within).result (35 + length (body (goal.at.returns-else-out-bytes c).In-Within)) (encoded-size (goal.at.returns-else-out-bytes c).In-Within ∙ sym (sized (goal.at.returns-else-out-bytes c).In-Within)) (le-leb (0 + (35 + length (body (goal.at.returns-else-out-bytes c).In-Within))) (length c.args.out.now) (omega arith)) c.write_patches.new.out all in
     let position : 35 + length (body (goal.at.returns-else-out-bytes c).In-Within) ≡ 0 + (35 + length (body (goal.at.returns-else-out-bytes c).In-Within)) = omega arith in
-    also-read (goal.at.returns-else-out-bytes c).Start _ _ (ap Wrote (c.write_patches.ensures.value ∙ position) ∙ answered.0, answered.1) in record { value = all.0; out_after = all.1.0; by_index = all.1.1 }
+    also-read (goal.at.returns-else-out-bytes c).Start _ _ (ap Ok (c.write_patches.ensures.value ∙ position) ∙ answered.0, answered.1) in record { value = all.0; out_after = all.1.0; by_index = all.1.1 }
