@@ -4,7 +4,6 @@ ghost use mathlib.Core.List.{flat_map};
 ghost use Rattle.spec_replay.specs.Hex.{hex_character, byte_pair, hex_field};
 ghost use Rattle.bytes_printer.specs.Prints.{spaced_field, Prints, Within};
 
-use bytes_printer::Printed;
 
 fn hex_character(digit: u8) -> u8
     requires { digit < 16 }
@@ -16,7 +15,7 @@ fn hex_character(digit: u8) -> u8
     87 + digit
 }
 
-fn print_pair(out: &mut [u8], at: Printed, byte: u8) -> Printed
+fn print_pair(out: &mut [u8], at: Option<usize>, byte: u8) -> Option<usize>
     ensures { Prints out.old at (byte_pair byte) out.new result }
 {
     let high = hex_character(byte / 16);
@@ -25,7 +24,7 @@ fn print_pair(out: &mut [u8], at: Printed, byte: u8) -> Printed
     bytes_printer::print_byte(out, first, low)
 }
 
-fn print_pairs(out: &mut [u8], from: Printed, bytes: &[u8]) -> Printed
+fn print_pairs(out: &mut [u8], from: Option<usize>, bytes: &[u8]) -> Option<usize>
     ensures { Within out.old from
         → Prints out.old from (flat_map byte_pair bytes.now) out.new result }
 {
@@ -39,7 +38,7 @@ fn print_pairs(out: &mut [u8], from: Printed, bytes: &[u8]) -> Printed
 }
 
 // A tab, then two digits for each byte, or a dash for no bytes.
-pub fn print_field_hex(out: &mut [u8], at: Printed, bytes: &[u8]) -> Printed
+pub fn print_field_hex(out: &mut [u8], at: Option<usize>, bytes: &[u8]) -> Option<usize>
     ensures { Prints out.old at (spaced_field (hex_field bytes.now)) out.new result }
 {
     let start = bytes_printer::print_byte(out, at, 9);

@@ -6,43 +6,30 @@ ghost use Rattle.std.specs.Prelude.{[], ◌∷◌};
 ghost use Rattle.spec_decimal.specs.Decimal.{decimal, signed_decimal};
 ghost use Rattle.bytes_printer.specs.Prints.{spaced_field, line_feed, Prints};
 
-// The position behind what was printed, or that it did not fit.
-#[derive(Drop)]
-pub enum Printed {
-    Next(usize),
-    NoRoom,
-}
-
-pub fn print_bytes(out: &mut [u8], at: Printed, text: &[u8]) -> Printed
+// Each answers the position behind what it printed, or None where that did not fit. What it takes is such an answer: from None it prints nothing and
+// answers None, so that a line is a chain of calls with no test between them.
+pub fn print_bytes(out: &mut [u8], at: Option<usize>, text: &[u8]) -> Option<usize>
     ensures { Prints out.old at text.now out.new result }
 {
-    let Printed::Next(from) = at else {
-        return Printed::NoRoom;
-    };
-    if out.len() < from {
-        return Printed::NoRoom;
+    let from = at?;
+    let room = out.len().checked_sub(from)?;
+    let count = text.len().min(room);
+    out[from..from + count].copy_from_slice(&text[..count]);
+    if count < text.len() {
+        None
+    } else {
+        Some(from + count)
     }
-    let mut to = from;
-    let mut i: usize = 0;
-    while i < text.len() {
-        if out.len() <= to {
-            return Printed::NoRoom;
-        }
-        out[to] = text[i];
-        to += 1;
-        i += 1;
-    }
-    Printed::Next(to)
 }
 
-pub fn print_byte(out: &mut [u8], at: Printed, byte: u8) -> Printed
+pub fn print_byte(out: &mut [u8], at: Option<usize>, byte: u8) -> Option<usize>
     ensures { Prints out.old at (byte ∷ []) out.new result }
 {
     let one = [byte; 1];
     print_bytes(out, at, &one)
 }
 
-pub fn print_u64(out: &mut [u8], at: Printed, n: u64) -> Printed
+pub fn print_u64(out: &mut [u8], at: Option<usize>, n: u64) -> Option<usize>
     ensures { Prints out.old at (decimal n) out.new result }
 {
     let digits = bytes_decimal::digits_of(n);
@@ -52,7 +39,7 @@ pub fn print_u64(out: &mut [u8], at: Printed, n: u64) -> Printed
 }
 
 // Of a number below 0 a minus sign and the digits of its magnitude.
-pub fn print_i64(out: &mut [u8], at: Printed, z: i64) -> Printed
+pub fn print_i64(out: &mut [u8], at: Option<usize>, z: i64) -> Option<usize>
     ensures { Prints out.old at (signed_decimal z) out.new result }
 {
     if z < 0 {
@@ -64,28 +51,28 @@ pub fn print_i64(out: &mut [u8], at: Printed, z: i64) -> Printed
 }
 
 // A tab, then the field.
-pub fn print_field_bytes(out: &mut [u8], at: Printed, text: &[u8]) -> Printed
+pub fn print_field_bytes(out: &mut [u8], at: Option<usize>, text: &[u8]) -> Option<usize>
     ensures { Prints out.old at (spaced_field text.now) out.new result }
 {
     let start = print_byte(out, at, 9);
     print_bytes(out, start, text)
 }
 
-pub fn print_field_u64(out: &mut [u8], at: Printed, n: u64) -> Printed
+pub fn print_field_u64(out: &mut [u8], at: Option<usize>, n: u64) -> Option<usize>
     ensures { Prints out.old at (spaced_field (decimal n)) out.new result }
 {
     let start = print_byte(out, at, 9);
     print_u64(out, start, n)
 }
 
-pub fn print_field_i64(out: &mut [u8], at: Printed, z: i64) -> Printed
+pub fn print_field_i64(out: &mut [u8], at: Option<usize>, z: i64) -> Option<usize>
     ensures { Prints out.old at (spaced_field (signed_decimal z)) out.new result }
 {
     let start = print_byte(out, at, 9);
     print_i64(out, start, z)
 }
 
-pub fn print_newline(out: &mut [u8], at: Printed) -> Printed
+pub fn print_newline(out: &mut [u8], at: Option<usize>) -> Option<usize>
     ensures { Prints out.old at (line_feed ∷ []) out.new result }
 {
     print_byte(out, at, 10)

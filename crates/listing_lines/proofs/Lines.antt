@@ -5,9 +5,9 @@ use mathlib.Core.List.{List, [], ◌∷◌, ◌++◌, append-nil, map, flat_map}
 use native.Mathlib.Numerals.{add-one}
 use native.Mathlib.Omega.{arith}
 use lib.ListN.{length, take, get_or}
+use Rattle.std.specs.Prelude.{Option}
 use Rattle.spec_lists.specs.Lists.{All}
 use Rattle.spec_lists.proofs.ListLaws.{flat_map_append}
-use Rattle.bytes_printer.specs.declared.Printed.{Printed}
 use Rattle.bytes_printer.specs.Prints.{Prints}
 use Rattle.bytes_printer.proofs.PrintsLaws.{◌⨾◌, prints_same}
 use Rattle.listing_lines.specs.declared.RowKind.{RowKind}
@@ -29,7 +29,7 @@ module _ {A : Type 0} (Fits : A → Type 0) (row : A → List ℕ) where
       record { element = e.element; fits = e.fits; stored = e.stored; more = ap (λ (l : List A). x ∷ l) e.more }
 
   -- the line of the element at a position, behind those before it
-  pub line_more : (line : A → List ℕ) (xs : List A) (i : ℕ) (e : ElementAt Fits row xs i) {l m n : List ℕ} {at r s : Printed} → Prints l at (flat_map line (take i xs)) m r → Prints m r (line e.element) n s
+  pub line_more : (line : A → List ℕ) (xs : List A) (i : ℕ) (e : ElementAt Fits row xs i) {l m n : List ℕ} {at r s : Option ℕ} → Prints l at (flat_map line (take i xs)) m r → Prints m r (line e.element) n s
       → Prints l at (flat_map line (take (i + 1) xs)) n s
   unfolding flat_map
   line_more line xs i e p q =
@@ -41,6 +41,6 @@ module _ {A : Type 0} (Fits : A → Type 0) (row : A → List ℕ) where
 
 -- ---- the kind of a row, as a match told it
 
-pub kind_told : {row l m : List ℕ} {at r : Printed} {kind k : RowKind} → kind ≡ k → ((x : Element k) → FitsKind k x → row ≡ row_of k x → Prints l at (line_of_row k x) m r)
+pub kind_told : {row l m : List ℕ} {at r : Option ℕ} {kind k : RowKind} → kind ≡ k → ((x : Element k) → FitsKind k x → row ≡ row_of k x → Prints l at (line_of_row k x) m r)
     → (x : Element kind) → FitsKind kind x → row ≡ row_of kind x → Prints l at (line_of_row kind x) m r
 kind_told {row} {l} {m} {at} {r} is p = subst (λ (k : RowKind). (x : Element k) → FitsKind k x → row ≡ row_of k x → Prints l at (line_of_row k x) m r) (sym is) p

@@ -3,9 +3,8 @@ ghost use Rattle.std.specs.Prelude.{[], ◌∷◌};
 ghost use Rattle.spec_listing.specs.Escapes.{backslash, escaped_byte, escaped};
 ghost use Rattle.bytes_printer.specs.Prints.{Prints, Within};
 
-use bytes_printer::Printed;
 
-fn print_escape(out: &mut [u8], at: Printed, letter: u8) -> Printed
+fn print_escape(out: &mut [u8], at: Option<usize>, letter: u8) -> Option<usize>
     ensures { Prints out.old at (backslash ∷ letter ∷ []) out.new result }
 {
     let first = bytes_printer::print_byte(out, at, 92);
@@ -13,7 +12,7 @@ fn print_escape(out: &mut [u8], at: Printed, letter: u8) -> Printed
 }
 
 // One byte of a text: a backslash, a tab, a newline or a carriage return as two, any other as it is.
-fn print_text_byte(out: &mut [u8], at: Printed, byte: u8) -> Printed
+fn print_text_byte(out: &mut [u8], at: Option<usize>, byte: u8) -> Option<usize>
     ensures { Prints out.old at (escaped_byte byte) out.new result }
 {
     if byte == 92 {
@@ -31,7 +30,7 @@ fn print_text_byte(out: &mut [u8], at: Printed, byte: u8) -> Printed
     bytes_printer::print_byte(out, at, byte)
 }
 
-pub(crate) fn print_escaped(out: &mut [u8], from: Printed, text: &[u8]) -> Printed
+pub(crate) fn print_escaped(out: &mut [u8], from: Option<usize>, text: &[u8]) -> Option<usize>
     ensures { Within out.old from
         → Prints out.old from (escaped text.now) out.new result }
 {

@@ -15,14 +15,13 @@ ghost use Rattle.panel_rows.specs.Rows.{binding_row, availability_row, entry_row
 ghost use Rattle.listing_lines.specs.LookupFields.{lookup_fields};
 ghost use Rattle.listing_lines.specs.RowKinds.{Element, FitsRow, row_of, line_of_row};
 
-use bytes_printer::Printed;
 use panel_rows::fields as row_fields;
 use panel_rows::values::ValueLookup;
 use projection_patch::patch::ProjectionPatchValue;
 use projection_patch::read_values;
 
 // A field of one letter.
-fn print_letter(out: &mut [u8], at: Printed, letter: u8) -> Printed
+fn print_letter(out: &mut [u8], at: Option<usize>, letter: u8) -> Option<usize>
     ensures { Prints out.old at (spaced_field (letter ∷ [])) out.new result }
 {
     let tab = bytes_printer::print_byte(out, at, 9);
@@ -30,7 +29,7 @@ fn print_letter(out: &mut [u8], at: Printed, letter: u8) -> Printed
 }
 
 // The letter of a kind, a number, and the end of the line.
-fn print_kind_number(out: &mut [u8], at: Printed, letter: u8, n: u64) -> Printed
+fn print_kind_number(out: &mut [u8], at: Option<usize>, letter: u8, n: u64) -> Option<usize>
     ensures { Prints out.old at (fields ((letter ∷ []) ∷ decimal n ∷ [])) out.new result }
 {
     let kind = print_letter(out, at, letter);
@@ -39,7 +38,7 @@ fn print_kind_number(out: &mut [u8], at: Printed, letter: u8, n: u64) -> Printed
 }
 
 // The kind and the value of a lookup, and the end of the line. A kind that is none of the others is printed as a text.
-pub fn print_value(out: &mut [u8], at: Printed, value: ValueLookup) -> Printed
+pub fn print_value(out: &mut [u8], at: Option<usize>, value: ValueLookup) -> Option<usize>
     ensures { Prints out.old at (fields (lookup_fields value)) out.new result }
 {
     let kind = value.kind;
@@ -67,7 +66,7 @@ fn at_most(n: usize, most: usize) -> usize
 }
 
 // The kind T, the escaped text of a lookup and the end of the line.
-fn print_text(out: &mut [u8], at: Printed, value: ValueLookup) -> Printed
+fn print_text(out: &mut [u8], at: Option<usize>, value: ValueLookup) -> Option<usize>
     ensures { Prints out.old at (fields ((84 ∷ []) ∷ escaped (take value.text_len value.text) ∷ [])) out.new result }
 {
     let text = value.text;
@@ -79,7 +78,7 @@ fn print_text(out: &mut [u8], at: Printed, value: ValueLookup) -> Printed
 }
 
 // A letter and one number.
-pub fn print_number_line(out: &mut [u8], at: Printed, letter: u8, n: u64) -> Printed
+pub fn print_number_line(out: &mut [u8], at: Option<usize>, letter: u8, n: u64) -> Option<usize>
     ensures { Prints out.old at (letter ∷ fields (decimal n ∷ [])) out.new result }
 {
     let start = bytes_printer::print_byte(out, at, letter);
@@ -90,12 +89,12 @@ pub fn print_number_line(out: &mut [u8], at: Printed, letter: u8, n: u64) -> Pri
 // A letter, two numbers and a value.
 fn print_record(
     out: &mut [u8],
-    at: Printed,
+    at: Option<usize>,
     letter: u8,
     a: u64,
     b: u64,
     value: ValueLookup,
-) -> Printed
+) -> Option<usize>
     ensures { Prints out.old at (letter ∷ fields (decimal a ∷ decimal b ∷ lookup_fields value)) out.new result }
 {
     let start = bytes_printer::print_byte(out, at, letter);
@@ -104,7 +103,7 @@ fn print_record(
     print_value(out, second, value)
 }
 
-fn print_binding(out: &mut [u8], at: Printed, row: &[u8]) -> Printed
+fn print_binding(out: &mut [u8], at: Option<usize>, row: &[u8]) -> Option<usize>
     ensures { (b : Binding) → FitsBinding b → row.now ≡ binding_row b
         → Prints out.old at (binding_line b) out.new result }
 {
@@ -114,7 +113,7 @@ fn print_binding(out: &mut [u8], at: Printed, row: &[u8]) -> Printed
     print_record(out, at, 66, node, slot, value)
 }
 
-fn print_availability(out: &mut [u8], at: Printed, row: &[u8]) -> Printed
+fn print_availability(out: &mut [u8], at: Option<usize>, row: &[u8]) -> Option<usize>
     ensures { (a : NodeAvailability) → FitsNodeAvailability a → row.now ≡ availability_row a
         → Prints out.old at (availability_line a) out.new result }
 {
@@ -126,7 +125,7 @@ fn print_availability(out: &mut [u8], at: Printed, row: &[u8]) -> Printed
     bytes_printer::print_newline(out, second)
 }
 
-fn print_entry(out: &mut [u8], at: Printed, row: &[u8]) -> Printed
+fn print_entry(out: &mut [u8], at: Option<usize>, row: &[u8]) -> Option<usize>
     ensures { (e : Entry) → FitsEntry e → row.now ≡ entry_row e
         → Prints out.old at (entry_line e) out.new result }
 {
@@ -144,7 +143,7 @@ pub enum RowKind {
     Entry,
 }
 
-pub(crate) fn print_row(out: &mut [u8], at: Printed, kind: RowKind, row: &[u8]) -> Printed
+pub(crate) fn print_row(out: &mut [u8], at: Option<usize>, kind: RowKind, row: &[u8]) -> Option<usize>
     ensures { (x : Element kind) → FitsRow kind x → row.now ≡ row_of kind x
         → Prints out.old at (line_of_row kind x) out.new result }
 {

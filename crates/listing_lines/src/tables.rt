@@ -13,7 +13,6 @@ ghost use Rattle.local_projection_state.specs.Stores.{Stored, Stores};
 ghost use Rattle.listing_lines.specs.RowKinds.{Element, FitsRow, row_of, width_of, line_of_row};
 
 use crate::RowKind;
-use bytes_printer::Printed;
 use local_projection_state::{LocalProjectionState, ProjectionCounts};
 use projection_patch::patch::ProjectionPatchValue;
 
@@ -35,13 +34,13 @@ fn row_width(kind: RowKind) -> usize
 }
 
 // The line of each row of a table. A table that is too short for its count answers NoRoom.
-fn print_rows(out: &mut [u8], from: Printed, kind: RowKind, table: &[u8], count: usize) -> Printed
+fn print_rows(out: &mut [u8], from: Option<usize>, kind: RowKind, table: &[u8], count: usize) -> Option<usize>
     ensures { (xs : List (Element kind)) → All (FitsRow kind) xs → HoldsRows (width_of kind) count table.now (map (row_of kind) xs) → Within out.old from
         → Prints out.old from (flat_map (line_of_row kind) xs) out.new result }
 {
     let width = row_width(kind);
     if table.len() / width < count {
-        return Printed::NoRoom;
+        return None;
     }
     let mut at = from;
     let mut i: usize = 0;
@@ -73,12 +72,12 @@ fn record_count(counts: ProjectionCounts) -> u64
 // P and the record count, then the records of three tables in stored order.
 pub fn print_tables(
     out: &mut [u8],
-    at: Printed,
+    at: Option<usize>,
     bindings: &[u8],
     availability: &[u8],
     entries: &[u8],
     counts: ProjectionCounts,
-) -> Printed
+) -> Option<usize>
     ensures { (p : Projection) → Stored binding_row binding_width projection_bindings counts.bindings bindings.now p.bindings
         → Stored availability_row availability_width projection_availabilities counts.availabilities availability.now p.availabilities
         → Stored entry_row entry_width projection_entries counts.entries entries.now p.entries → Valid p
@@ -98,7 +97,7 @@ pub fn print_tables(
 }
 
 // The listing of what a state stores.
-pub fn print_projection(out: &mut [u8], at: Printed, state: LocalProjectionState) -> Printed
+pub fn print_projection(out: &mut [u8], at: Option<usize>, state: LocalProjectionState) -> Option<usize>
     ensures { (p : Projection) → Stores state p → Prints out.old at (projection_lines p) out.new result }
 {
     let counts = state.counts;

@@ -1,14 +1,12 @@
 -- What writing lines into a lent slice answers and leaves.
-use Rattle.std.specs.Prelude.{ℕ, ◌≡◌, List, length, take, drop, Result, Ok, Err}
+use Rattle.std.specs.Prelude.{ℕ, ◌≡◌, List, length, take, drop, Result, Ok, Err, Option, Some}
 use Rattle.spec_patch.specs.Write as model
-use Rattle.bytes_printer.specs.declared.Printed.{Printed}
-use Rattle.bytes_printer.specs.declared.Printed.TheVariants.{Next}
 use Rattle.patch_part_writer.specs.Answer.{written_at, output_at}
 use Rattle.patch_part_writer.specs.declared.written.WriteRefusal.{WriteRefusal}
 
 -- the lines stand at the start of a text, and their printing ended behind them
-pub record HoldsLines (text : List ℕ) (end : Printed) (lines : List ℕ) : Type 0 where
-  pub position : end ≡ Next (length lines)
+pub record HoldsLines (text : List ℕ) (end : Option ℕ) (lines : List ℕ) : Type 0 where
+  pub position : end ≡ Some (length lines)
   pub bytes : take (length lines) text ≡ lines
 
 -- the lines at the start of the slice and their number, or 14 and nothing: every other byte stays

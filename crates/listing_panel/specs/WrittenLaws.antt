@@ -1,10 +1,8 @@
 -- Lines that were printed are written whole, or not at all.
-use Rattle.std.specs.Prelude.{ℕ, ◌+◌, ◌-◌, ◌≤◌, ◌≡◌, refl, Bool, true, false, List, length, take, drop, Result, Ok, Err, if◌then◌else◌}
+use Rattle.std.specs.Prelude.{ℕ, ◌+◌, ◌-◌, ◌≤◌, ◌≡◌, refl, Bool, true, false, List, length, take, drop, Result, Ok, Err, if◌then◌else◌, Option, Some, None}
 use Rattle.std.proofs.Common.{sym, ap, ◌∙◌, arith, length-take}
 use Rattle.bytes_wire.specs.Write.{has_room, overwrite}
 use Rattle.bytes_wire.proofs.WriteLaws.{room_true, overwrite_refused, drop_past_overwrite}
-use Rattle.bytes_printer.specs.declared.Printed.{Printed}
-use Rattle.bytes_printer.specs.declared.Printed.TheVariants.{Next, NoRoom}
 use Rattle.bytes_printer.specs.Prints.{Prints}
 use Rattle.bytes_printer.proofs.PrintsLaws.{whole_printed}
 use Rattle.patch_part_writer.specs.declared.written.WriteRefusal.TheVariants.{OutputTooShort}
@@ -12,22 +10,22 @@ use Rattle.patch_part_writer.specs.declared.written.WriteRefusal.{WriteRefusal}
 use Rattle.listing_panel.specs.Written.{HoldsLines, Writes}
 
 -- lines that fit, printed from the start of a text, stand there
-pub printed_holds : {before lines text : List ℕ} {end : Printed} → Prints before (Next 0) lines text end → length lines ≤ length before → HoldsLines text end lines
+pub printed_holds : {before lines text : List ℕ} {end : Option ℕ} → Prints before (Some 0) lines text end → length lines ≤ length before → HoldsLines text end lines
 printed_holds p h = let w = whole_printed p h in record { position = w.0; bytes = w.1 }
 
 -- ---- by the position where printing ended
 
-module _ (text : List ℕ) (end : Printed) (lines : List ℕ) (h : HoldsLines text end lines) where
-  pub has_ended : end ≡ NoRoom → ⊥
+module _ (text : List ℕ) (end : Option ℕ) (lines : List ℕ) (h : HoldsLines text end lines) where
+  pub has_ended : end ≡ None → ⊥
   has_ended e = let z : ◌≡◌ {A = ℕ} 0 1 = cc h.position in omega arith
 
-  pub ended_at : (n : ℕ) → end ≡ Next n → n ≡ length lines
+  pub ended_at : (n : ℕ) → end ≡ Some n → n ≡ length lines
   ended_at n e = cc h.position
 
-  pub within_text : (n : ℕ) → end ≡ Next n → n ≤ length text
+  pub within_text : (n : ℕ) → end ≡ Some n → n ≤ length text
   within_text n e = omega (arith, ended_at n e, ap length h.bytes, length-take (length lines) text)
 
-  pub text_part : (n : ℕ) → end ≡ Next n → take (n - 0) (drop 0 text) ≡ lines
+  pub text_part : (n : ℕ) → end ≡ Some n → take (n - 0) (drop 0 text) ≡ lines
   text_part n e =
       let same : n - 0 ≡ length lines = omega (arith, ended_at n e) in
       ap (λ (k : ℕ). take k text) same ∙ h.bytes

@@ -12,7 +12,6 @@ ghost use Rattle.panel_rows.specs.Rows.{binding_width, availability_width, entry
 ghost use Rattle.local_projection_state.specs.Stores.{Stored, Stores};
 ghost use Rattle.listing_panel.specs.Written.{HoldsLines, Writes, KeptLines};
 
-use bytes_printer::Printed;
 use listing_lines::tables;
 use listing_lines::tables::LISTING_BYTES;
 use local_projection_state::{LocalProjectionState, ProjectionCounts};
@@ -20,20 +19,17 @@ use patch_part_writer::written::WriteRefusal;
 use projection_patch::patch::ProjectionPatchEdition;
 
 // Writes the lines that were printed from the start of text up to a position.
-fn write_lines(text: &[u8], end: Printed, out: &mut [u8]) -> Result<usize, WriteRefusal>
+fn write_lines(text: &[u8], end: Option<usize>, out: &mut [u8]) -> Result<usize, WriteRefusal>
     ensures lines { (lines : List ℕ) → HoldsLines text.now end lines → Writes out.old lines out.new result }
     ensures kept { KeptLines out.old out.new result }
 {
-    let Printed::Next(len) = end else {
-        return Err(WriteRefusal::OutputTooShort);
-    };
-    if text.len() < len {
-        return Err(WriteRefusal::OutputTooShort);
+    let len = end.ok_or(WriteRefusal::OutputTooShort)?;
+    let lines = text.get(..len).ok_or(WriteRefusal::OutputTooShort)?;
+    if bytes_wire::write_bytes_at(out, 0, lines) {
+        Ok(len)
+    } else {
+        Err(WriteRefusal::OutputTooShort)
     }
-    if bytes_wire::write_bytes_at(out, 0, &text[0..len]) {
-        return Ok(len);
-    }
-    Err(WriteRefusal::OutputTooShort)
 }
 
 // Writes the listing of what three tables store. Of tables that store no projection it writes some lines, or answers 14.
@@ -51,7 +47,7 @@ pub fn write_tables(
     ensures kept { KeptLines out.old out.new result }
 {
     let mut text = [0u8; LISTING_BYTES];
-    let start = Printed::Next(0);
+    let start = Some(0);
     let end = tables::print_tables(&mut text, start, bindings, availability, entries, counts);
     write_lines(&text, end, out)
 }
@@ -71,10 +67,10 @@ pub fn write_projection(state: LocalProjectionState, out: &mut [u8]) -> Result<u
 // Prints the listing of a set: that of an empty projection after it, or the line of its refusal.
 pub fn print_listing(
     out: &mut [u8],
-    at: Printed,
+    at: Option<usize>,
     set: &[u8],
     edition: ProjectionPatchEdition,
-) -> Printed
+) -> Option<usize>
     ensures { Prints out.old at (listing (edition_of edition) set.now) out.new result }
 {
     let empty = LocalProjectionState::empty();
@@ -93,7 +89,7 @@ pub fn write_listing(set: &[u8], edition: ProjectionPatchEdition, out: &mut [u8]
     ensures { Writes out.old (listing (edition_of edition) set.now) out.new result }
 {
     let mut text = [0u8; LISTING_BYTES];
-    let start = Printed::Next(0);
+    let start = Some(0);
     let end = print_listing(&mut text, start, set, edition);
     write_lines(&text, end, out)
 }

@@ -1,16 +1,14 @@
 -- What the call that prints answers, and what holds of it whatever the table holds: 02, Job 10, 'Checks'.
-use Rattle.std.specs.Prelude.{ℕ, ◌≡◌, List, length, take, drop, if◌then◌else◌}
+use Rattle.std.specs.Prelude.{ℕ, ◌≡◌, List, length, take, drop, if◌then◌else◌, Option, Some}
 use Rattle.bytes_wire.specs.Write.{has_room}
-use Rattle.bytes_printer.specs.declared.Printed.{Printed}
-use Rattle.bytes_printer.specs.declared.Printed.TheVariants.{Next}
 use Rattle.panel_print.specs.declared.PrintRefusal.{PrintRefusal}
 use Rattle.panel_print.specs.declared.PrintRefusal.TheVariants.{OutputTooShort}
 use Rattle.panel_print.specs.declared.PrintAnswer.{PrintAnswer}
 use Rattle.panel_print.specs.declared.PrintAnswer.TheVariants.{Wrote, Refused}
 
 -- a print stands at the start of a text, and its printing ended behind it
-pub record PrintedWhole (text : List ℕ) (end : Printed) (print : List ℕ) : Type 0 where
-  pub position : end ≡ Next (length print)
+pub record PrintedWhole (text : List ℕ) (end : Option ℕ) (print : List ℕ) : Type 0 where
+  pub position : end ≡ Some (length print)
   pub bytes : take (length print) text ≡ print
 
 -- 14 for an output that is too short

@@ -1,13 +1,11 @@
 -- A print that was made is written whole, or not at all.
-use Rattle.std.specs.Prelude.{ℕ, ◌+◌, ◌≤◌, ◌≡◌, refl, length, take, drop}
+use Rattle.std.specs.Prelude.{ℕ, ◌+◌, ◌≤◌, ◌≡◌, refl, length, take, drop, Option, Some, None}
 use Rattle.std.proofs.Common.{sym, ◌∙◌, arith, length-take}
 use Rattle.std.proofs.Math.Path.{ap}
 use Rattle.std.proofs.Math.Bool.{true, false}
 use mathlib.Core.List.{List}
 use Rattle.bytes_wire.specs.Write.{has_room, overwrite}
 use Rattle.bytes_wire.proofs.WriteLaws.{overwrite_refused, drop_past_overwrite}
-use Rattle.bytes_printer.specs.declared.Printed.{Printed}
-use Rattle.bytes_printer.specs.declared.Printed.TheVariants.{Next, NoRoom}
 use Rattle.bytes_printer.specs.Prints.{Prints}
 use Rattle.bytes_printer.proofs.PrintsLaws.{whole_printed}
 use Rattle.panel_print.specs.declared.PrintRefusal.TheVariants.{OutputTooShort}
@@ -16,16 +14,16 @@ use Rattle.panel_print.specs.declared.PrintAnswer.TheVariants.{Wrote, Refused}
 use Rattle.panel_print.specs.Answers.{PrintedWhole, print_answer}
 
 -- what fits is printed whole
-pub printed_whole : {before print text : List ℕ} {end : Printed} → Prints before (Next 0) print text end → length print ≤ length before → PrintedWhole text end print
+pub printed_whole : {before print text : List ℕ} {end : Option ℕ} → Prints before (Some 0) print text end → length print ≤ length before → PrintedWhole text end print
 printed_whole p h = let w = whole_printed p h in record { position = w.0; bytes = w.1 }
 
 -- ---- where printing ended
 
-module _ {text : List ℕ} {end : Printed} {print : List ℕ} (h : PrintedWhole text end print) where
-  pub some_end : end ≡ NoRoom → ⊥
+module _ {text : List ℕ} {end : Option ℕ} {print : List ℕ} (h : PrintedWhole text end print) where
+  pub some_end : end ≡ None → ⊥
   some_end e = let z : ◌≡◌ {A = ℕ} 0 1 = cc h.position in omega arith
 
-  module _ (n : ℕ) (e : end ≡ Next n) where
+  module _ (n : ℕ) (e : end ≡ Some n) where
     pub ends_at : n ≡ length print
     ends_at = cc h.position
 

@@ -4,7 +4,6 @@ ghost use Rattle.spec_panel_print.specs.Print.{text_width, blank, line_end, blan
 ghost use Rattle.bytes_printer.specs.Prints.{Prints};
 ghost use Rattle.panel_print.specs.ByteFlow.{begins_character, column_after, broken_byte, flowed_bytes};
 
-use bytes_printer::Printed;
 
 const TEXT_WIDTH: usize = 58;
 
@@ -16,7 +15,7 @@ const DELETE: u8 = 127;
 
 const FULL_STOP: u8 = 46;
 
-pub(crate) fn print_spaces(out: &mut [u8], at: Printed, n: usize) -> Printed
+pub(crate) fn print_spaces(out: &mut [u8], at: Option<usize>, n: usize) -> Option<usize>
     requires { n ≤ text_width }
     ensures { Prints out.old at (replicate n blank) out.new result }
 {
@@ -24,7 +23,7 @@ pub(crate) fn print_spaces(out: &mut [u8], at: Printed, n: usize) -> Printed
     bytes_printer::print_bytes(out, at, &spaces[0..n])
 }
 
-fn print_line_break(out: &mut [u8], at: Printed) -> Printed
+fn print_line_break(out: &mut [u8], at: Option<usize>) -> Option<usize>
     ensures { Prints out.old at (line_end ∷ blank_lead) out.new result }
 {
     let line = bytes_printer::print_newline(out, at);
@@ -68,7 +67,7 @@ fn column_after(column: usize, byte: u8) -> usize
 }
 
 // Prints a byte, behind a line break if it begins a character and the line is full.
-fn print_broken_byte(out: &mut [u8], at: Printed, column: usize, byte: u8) -> Printed
+fn print_broken_byte(out: &mut [u8], at: Option<usize>, column: usize, byte: u8) -> Option<usize>
     ensures { Prints out.old at (broken_byte column byte) out.new result }
 {
     let shown = shown_byte(byte);
@@ -83,7 +82,7 @@ fn print_broken_byte(out: &mut [u8], at: Printed, column: usize, byte: u8) -> Pr
 }
 
 // Prints the bytes of a value in lines whose last is padded and ended.
-pub(crate) fn print_columns(out: &mut [u8], from: Printed, bytes: &[u8]) -> Printed
+pub(crate) fn print_columns(out: &mut [u8], from: Option<usize>, bytes: &[u8]) -> Option<usize>
     ensures { Prints out.old from (flowed_bytes 0 bytes.now) out.new result }
 {
     let mut at = from;

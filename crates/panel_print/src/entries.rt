@@ -8,14 +8,12 @@ ghost use Rattle.spec_projection.specs.Valid.{FitsEntry};
 ghost use Rattle.spec_panel_print.specs.Print.{key_lead};
 ghost use Rattle.bytes_records.specs.Table.{HoldsRows};
 ghost use Rattle.bytes_printer.specs.Prints.{Prints, Within};
-ghost use Rattle.bytes_printer.specs.declared.Printed.TheVariants.{Next};
 ghost use Rattle.panel_rows.specs.Rows.{entry_width, entry_row};
 ghost use Rattle.panel_print.specs.ByteFlow.{flowed_bytes};
 ghost use Rattle.panel_print.specs.LookupBytes.{letter_of, scalar_bytes, lookup_bytes};
 ghost use Rattle.panel_print.specs.EntriesPrint.{entry_print, row_print};
 
 use crate::columns;
-use bytes_printer::Printed;
 use panel_rows::values::ValueLookup;
 use panel_rows::{fields, values};
 
@@ -23,7 +21,7 @@ use panel_rows::{fields, values};
 const SCALAR_BYTES: usize = 21;
 
 // The key, right-aligned, and two spaces: the spaces before it are as many as the digits that it does not have.
-fn print_key(out: &mut [u8], at: Printed, key: u64) -> Printed
+fn print_key(out: &mut [u8], at: Option<usize>, key: u64) -> Option<usize>
     ensures { Prints out.old at (key_lead key) out.new result }
 {
     let digits = bytes_decimal::digits_of(key);
@@ -49,10 +47,10 @@ fn quad_letter(number: u8) -> u8
     83
 }
 
-fn print_scalar(out: &mut [u8], value: ValueLookup) -> Printed
-    ensures { Prints out.old (Next 0) (scalar_bytes value) out.new result }
+fn print_scalar(out: &mut [u8], value: ValueLookup) -> Option<usize>
+    ensures { Prints out.old (Some 0) (scalar_bytes value) out.new result }
 {
-    let start = Printed::Next(0);
+    let start = Some(0);
     if value.kind == 1 {
         return bytes_printer::print_byte(out, start, quad_letter(value.quad));
     }
@@ -62,7 +60,7 @@ fn print_scalar(out: &mut [u8], value: ValueLookup) -> Printed
     bytes_printer::print_u64(out, start, value.unsigned)
 }
 
-fn print_value(out: &mut [u8], at: Printed, value: ValueLookup) -> Printed
+fn print_value(out: &mut [u8], at: Option<usize>, value: ValueLookup) -> Option<usize>
     ensures { Prints out.old at (flowed_bytes 0 (lookup_bytes value)) out.new result }
 {
     if value.kind == 3 {
@@ -70,14 +68,12 @@ fn print_value(out: &mut [u8], at: Printed, value: ValueLookup) -> Printed
         return columns::print_columns(out, at, fields::key_part(&text, value.text_len));
     }
     let mut scalar = [0u8; SCALAR_BYTES];
-    let Printed::Next(len) = print_scalar(&mut scalar, value) else {
-        return Printed::NoRoom;
-    };
+    let len = print_scalar(&mut scalar, value)?;
     columns::print_columns(out, at, fields::key_part(&scalar, len))
 }
 
 // The lines of the entry in a row. Its mark is not printed.
-fn print_entry(out: &mut [u8], at: Printed, row: &[u8]) -> Printed
+fn print_entry(out: &mut [u8], at: Option<usize>, row: &[u8]) -> Option<usize>
     ensures { (e : Entry) → FitsEntry e → row.now ≡ entry_row e
         → Prints out.old at (entry_print (keyed_value e)) out.new result }
 {
@@ -88,7 +84,7 @@ fn print_entry(out: &mut [u8], at: Printed, row: &[u8]) -> Printed
 }
 
 // The lines of a row's entry if it is one of the collection, else nothing.
-fn print_row(out: &mut [u8], at: Printed, row: &[u8], collection: u64) -> Printed
+fn print_row(out: &mut [u8], at: Option<usize>, row: &[u8], collection: u64) -> Option<usize>
     ensures { (e : Entry) → FitsEntry e → row.now ≡ entry_row e → Within out.old at
         → Prints out.old at (row_print collection e) out.new result }
 {
@@ -101,17 +97,17 @@ fn print_row(out: &mut [u8], at: Printed, row: &[u8], collection: u64) -> Printe
 // The lines of a collection's entries. A table that is too short for its count answers NoRoom.
 pub(crate) fn print_rows(
     out: &mut [u8],
-    from: Printed,
+    from: Option<usize>,
     table: &[u8],
     count: usize,
     collection: u64,
-) -> Printed
+) -> Option<usize>
     ensures { (es : List Entry) → All FitsEntry es → HoldsRows entry_width count table.now (map entry_row es) → Within out.old from
         → Prints out.old from (flat_map (row_print collection) es) out.new result }
 {
     let width = panel_rows::ENTRY_WIDTH;
     if table.len() / width < count {
-        return Printed::NoRoom;
+        return None;
     }
     let mut at = from;
     let mut i: usize = 0;

@@ -14,7 +14,6 @@ ghost use Rattle.panel_rows.specs.Rows.{entry_width, entry_row};
 ghost use Rattle.local_projection_state.specs.Stores.{Stored};
 ghost use Rattle.panel_print.specs.Answers.{print_number, print_answer, OthersKept, PrintedWhole};
 
-use bytes_printer::Printed;
 use local_projection_state::LocalProjectionState;
 use projection_patch::patch::ProjectionPatchValue;
 
@@ -48,12 +47,12 @@ pub enum PrintAnswer {
 }
 
 // Writes what was printed from the start of text up to a position.
-fn write_print(text: &[u8], end: Printed, out: &mut [u8]) -> PrintAnswer
+fn write_print(text: &[u8], end: Option<usize>, out: &mut [u8]) -> PrintAnswer
     ensures printed { (print : List ℕ) → PrintedWhole text.now end print
         → (result ≡ print_answer out.old print) × (out.new ≡ overwrite out.old 0 print) }
     ensures kept { OthersKept out.old out.new result }
 {
-    let Printed::Next(len) = end else {
+    let Some(len) = end else {
         return PrintAnswer::Refused(PrintRefusal::OutputTooShort);
     };
     if text.len() < len {
@@ -73,7 +72,7 @@ pub fn print_collection(table: &[u8], count: usize, collection: u64, out: &mut [
     ensures kept { OthersKept out.old out.new result }
 {
     let mut text = [0u8; PRINT_BYTES];
-    let start = Printed::Next(0);
+    let start = Some(0);
     let end = entries::print_rows(&mut text, start, table, count, collection);
     write_print(&text, end, out)
 }

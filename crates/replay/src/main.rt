@@ -3,7 +3,6 @@
 
 ghost use Rattle.std.specs.Prelude.{◌≡◌, ◌≤◌, ◌<◌, length, take, IfOk};
 
-use bytes_printer::Printed;
 use script_calls::state::ReplayState;
 use script_parser::ScriptCommand;
 use script_replay::ANSWER_BYTES;
@@ -29,18 +28,18 @@ struct Progress {
 }
 
 // Where an answer of the given length ends behind the used bytes; one that has no room is left out.
-fn end_of_answer(printed: Printed, used: usize, len: usize) -> usize
+fn end_of_answer(printed: Option<usize>, used: usize, len: usize) -> usize
     requires { used ≤ len }
     ensures { result ≤ len }
 {
     match printed {
-        Printed::Next(count) => {
+        Some(count) => {
             if len - used < count {
                 return used;
             }
             used + count
         }
-        Printed::NoRoom => used,
+        None => used,
     }
 }
 
@@ -136,7 +135,7 @@ fn print_rest(rt: &impl Print, number: u64, kept: usize) -> io::Result<()> {
         return Ok(());
     }
     let mut out = [0u8; 32];
-    let start = Printed::Next(0);
+    let start = Some(0);
     let printed = script_answers::session::print_other(&mut out, start, number);
     let end = end_of_answer(printed, 0, 32);
     rt.write_all(&out[0..end])

@@ -4,6 +4,7 @@ use mathlib.Core.Path.{◌≡◌, refl, sym, ap, ap₂, ◌∙◌}
 use mathlib.Core.List.{List, [], ◌∷◌, flat_map}
 use native.Mathlib.Omega.{arith}
 use lib.ListN.{length, take}
+use Rattle.std.specs.Prelude.{Option}
 use Rattle.spec_patch.specs.Patch.{Patch}
 use Rattle.spec_patch.specs.Edition.{Edition}
 use Rattle.spec_patch.specs.Reader.{Fault, fault_number}
@@ -17,7 +18,6 @@ use Rattle.spec_checks.proofs.CountLaws.{findings_most}
 use Rattle.spec_decimal.specs.Decimal.{decimal}
 use Rattle.spec_listing.specs.Listing.{fields}
 use Rattle.spec_replay.specs.Answers.{place_field, finding_line, checked_line, check_lines}
-use Rattle.bytes_printer.specs.declared.Printed.{Printed}
 use Rattle.bytes_printer.specs.Prints.{spaced_field, Prints, Within}
 use Rattle.bytes_printer.proofs.PrintsLaws.{◌⨾◌, ends_within}
 use Rattle.projection_patch.specs.ReadAnswers.{fault_to, fault_of}
@@ -80,7 +80,7 @@ module _ (ed : Edition) (set : List ℕ) (answer : PatchSetCheck) (records : Lis
   check_refused_lines f is = refused_reading (read_set ed set) (length h.lent) f (sym is ∙ h.answered)
 
   -- the line of the place and the count, and a line for each record
-  module _ {l m n : List ℕ} {at r s : Printed} (p : CheckPlace) (logical written : ℕ) (is : answer ≡ set-check.Checked p logical written)
+  module _ {l m n : List ℕ} {at r s : Option ℕ} (p : CheckPlace) (logical written : ℕ) (is : answer ≡ set-check.Checked p logical written)
       (head : (f : Findings) → p ≡ place_to f.place → logical ≡ length f.found → Prints l at (checked_line f) m r)
       (more : (fs : List Finding) → length fs ≡ logical → take (record_length * logical) records ≡ finding_words fs → Within m r → Prints m r (flat_map finding_line fs) n s) where
     reading_lines : (reading : SetReading) → read_set ed set ≡ reading → Prints l at (check_lines reading) n s

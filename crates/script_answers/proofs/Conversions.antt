@@ -4,6 +4,7 @@ use mathlib.Core.Path.{◌≡◌, refl, ap, ◌∙◌}
 use mathlib.Core.List.{List, [], ◌∷◌}
 use native.Mathlib.Omega.{arith}
 use lib.ListN.{length, drop}
+use Rattle.std.specs.Prelude.{Option}
 use Rattle.spec_conversion.specs.Conversion as model
 use Rattle.spec_conversion.specs.Conversion.{conversion_number}
 use Rattle.spec_decimal.specs.Decimal.{decimal}
@@ -13,13 +14,12 @@ use Rattle.patch_converter.specs.Answers.{conversion_refusal_of, conversion_refu
 use Rattle.patch_converter.specs.declared.ConversionRefusal.{ConversionRefusal}
 use Rattle.patch_converter.specs.declared.ConversionAnswer.{ConversionAnswer}
 use Rattle.patch_converter.specs.declared.ConversionAnswer.TheVariants.{Converted, Refused}
-use Rattle.bytes_printer.specs.declared.Printed.{Printed}
 use Rattle.bytes_printer.specs.Prints.{Prints}
 use Rattle.script_answers.specs.ConversionOf.{ConversionOf}
 use Rattle.script_answers.specs.SetPrints.{PrintsSet}
 
 -- the set stands in the output from its start on
-pub converted_line : (c : model.Converted) (answer : ConversionAnswer) (written : List ℕ) → ConversionOf c answer written → (n : ℕ) → answer ≡ Converted n → {out after : List ℕ} {at r : Printed}
+pub converted_line : (c : model.Converted) (answer : ConversionAnswer) (written : List ℕ) → ConversionOf c answer written → (n : ℕ) → answer ≡ Converted n → {out after : List ℕ} {at r : Option ℕ}
     → PrintsSet 84 n written out at after r → Prints out at (conversion_line c) after r
 unfolding conversion_line
 converted_line (model.converted bs) answer written h n is prints = prints bs (drop (length bs) h.lent) (cc (is, h.answered)) h.written

@@ -4,6 +4,7 @@ use mathlib.Core.Path.{◌≡◌, refl, ap, ◌∙◌}
 use mathlib.Core.List.{List, [], ◌∷◌}
 use native.Mathlib.Omega.{arith}
 use lib.ListN.{length, drop}
+use Rattle.std.specs.Prelude.{Option}
 use Rattle.spec_import.specs.Import as model
 use Rattle.spec_import.specs.Import.{import_number}
 use Rattle.spec_decimal.specs.Decimal.{decimal}
@@ -13,13 +14,12 @@ use Rattle.patch_import.specs.Answers.{import_refusal_of, import_refusal_to}
 use Rattle.patch_import.specs.declared.answer.ImportRefusal.{ImportRefusal}
 use Rattle.patch_import.specs.declared.answer.ImportAnswer.{ImportAnswer}
 use Rattle.patch_import.specs.declared.answer.ImportAnswer.TheVariants.{Imported, Refused}
-use Rattle.bytes_printer.specs.declared.Printed.{Printed}
 use Rattle.bytes_printer.specs.Prints.{Prints}
 use Rattle.script_answers.specs.ImportOf.{ImportOf}
 use Rattle.script_answers.specs.SetPrints.{PrintsSet}
 
 -- the set stands in the output from its start on
-pub imported_line : (c : model.Imported) (answer : ImportAnswer) (written : List ℕ) → ImportOf c answer written → (n : ℕ) → answer ≡ Imported n → {out after : List ℕ} {at r : Printed}
+pub imported_line : (c : model.Imported) (answer : ImportAnswer) (written : List ℕ) → ImportOf c answer written → (n : ℕ) → answer ≡ Imported n → {out after : List ℕ} {at r : Option ℕ}
     → PrintsSet 73 n written out at after r → Prints out at (import_line c) after r
 unfolding import_line
 imported_line (model.imported bs) answer written h n is prints = prints bs (drop (length bs) h.lent) (cc (is, h.answered)) h.written

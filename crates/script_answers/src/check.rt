@@ -11,10 +11,9 @@ ghost use Rattle.bytes_printer.specs.Prints.{spaced_field, Prints, Within};
 ghost use Rattle.check_set.specs.CheckAnswers.{place_to};
 ghost use Rattle.script_answers.specs.CheckOf.{finding_told, CheckOf};
 
-use bytes_printer::Printed;
 use check_set::check_set::{CheckPlace, PatchSetCheck};
 
-fn print_finding(out: &mut [u8], at: Printed, kind: u64, domain: u64, secondary: u64) -> Printed
+fn print_finding(out: &mut [u8], at: Option<usize>, kind: u64, domain: u64, secondary: u64) -> Option<usize>
     ensures { Prints out.old at (finding_line (finding_told kind domain secondary)) out.new result }
 {
     let letter = bytes_printer::print_byte(out, at, 70);
@@ -25,12 +24,12 @@ fn print_finding(out: &mut [u8], at: Printed, kind: u64, domain: u64, secondary:
 }
 
 // A line for each of the first count records, of three numbers each.
-fn print_findings(out: &mut [u8], from: Printed, records: &[u64], count: usize) -> Printed
+fn print_findings(out: &mut [u8], from: Option<usize>, records: &[u64], count: usize) -> Option<usize>
     ensures { (fs : List Finding) → length fs ≡ count → take (record_length * count) records.now ≡ finding_words fs → Within out.old from
         → Prints out.old from (flat_map finding_line fs) out.new result }
 {
     if records.len() / 3 < count {
-        return Printed::NoRoom;
+        return None;
     }
     let mut at = from;
     let mut i: usize = 0;
@@ -45,7 +44,7 @@ fn print_findings(out: &mut [u8], from: Printed, records: &[u64], count: usize) 
     at
 }
 
-fn print_place(out: &mut [u8], at: Printed, place: CheckPlace) -> Printed
+fn print_place(out: &mut [u8], at: Option<usize>, place: CheckPlace) -> Option<usize>
     ensures { (p : Place) → place ≡ place_to p → Prints out.old at (spaced_field (place_field p)) out.new result }
 {
     match place {
@@ -54,7 +53,7 @@ fn print_place(out: &mut [u8], at: Printed, place: CheckPlace) -> Printed
     }
 }
 
-fn print_checked(out: &mut [u8], at: Printed, place: CheckPlace, logical: usize) -> Printed
+fn print_checked(out: &mut [u8], at: Option<usize>, place: CheckPlace, logical: usize) -> Option<usize>
     ensures { (f : Findings) → place ≡ place_to f.place → logical ≡ length f.found → Prints out.old at (checked_line f) out.new result }
 {
     let letter = bytes_printer::print_byte(out, at, 75);
@@ -65,7 +64,7 @@ fn print_checked(out: &mut [u8], at: Printed, place: CheckPlace, logical: usize)
 }
 
 // What the check of a set answered and wrote, where it was lent room for every record.
-pub fn print_check(out: &mut [u8], at: Printed, answer: PatchSetCheck, records: &[u64]) -> Printed
+pub fn print_check(out: &mut [u8], at: Option<usize>, answer: PatchSetCheck, records: &[u64]) -> Option<usize>
     ensures { (ed : Edition) (set : List ℕ) → CheckOf ed set answer records.now → Prints out.old at (check_lines (read_set ed set)) out.new result }
 {
     match answer {

@@ -6,21 +6,20 @@ ghost use Rattle.script_answers.specs.ConversionOf.{ConversionOf};
 ghost use Rattle.script_answers.specs.SetPrints.{PrintsSet};
 
 use bytes_hex::printing;
-use bytes_printer::Printed;
 use patch_converter::ConversionAnswer;
 
 // The letter of the call, 0, and in hex the set that stands at the start of what was written. What is cut short is not printed.
 pub(crate) fn print_set(
     out: &mut [u8],
-    at: Printed,
+    at: Option<usize>,
     letter: u8,
     written: &[u8],
     len: usize,
-) -> Printed
+) -> Option<usize>
     ensures { PrintsSet letter len written.now out.old at out.new result }
 {
     if written.len() < len {
-        return Printed::NoRoom;
+        return None;
     }
     let start = bytes_printer::print_byte(out, at, letter);
     let zero = bytes_printer::print_field_u64(out, start, 0);
@@ -31,10 +30,10 @@ pub(crate) fn print_set(
 // What a conversion answered and wrote.
 pub fn print_conversion(
     out: &mut [u8],
-    at: Printed,
+    at: Option<usize>,
     answer: ConversionAnswer,
     written: &[u8],
-) -> Printed
+) -> Option<usize>
     ensures { (c : model.Converted) → ConversionOf c answer written.now → Prints out.old at (conversion_line c) out.new result }
 {
     match answer {

@@ -8,11 +8,10 @@ ghost use Rattle.spec_replay.specs.Answers.{key_line, first_keys, verdict_lines,
 ghost use Rattle.bytes_printer.specs.Prints.{Prints, Within};
 ghost use Rattle.script_answers.specs.DependenciesTold.{collection_key_of, DependenciesTold};
 
-use bytes_printer::Printed;
 use set_dependencies::depends::DependenciesAnswer;
 use set_dependencies::write_keys;
 
-fn print_key(out: &mut [u8], at: Printed, collection: u64, key: u64) -> Printed
+fn print_key(out: &mut [u8], at: Option<usize>, collection: u64, key: u64) -> Option<usize>
     ensures { Prints out.old at (key_line (collection_key_of collection key)) out.new result }
 {
     let letter = bytes_printer::print_byte(out, at, 81);
@@ -22,12 +21,12 @@ fn print_key(out: &mut [u8], at: Printed, collection: u64, key: u64) -> Printed
 }
 
 // A line for each of the first count records, of two numbers each.
-fn print_keys(out: &mut [u8], from: Printed, words: &[u64], count: usize) -> Printed
+fn print_keys(out: &mut [u8], from: Option<usize>, words: &[u64], count: usize) -> Option<usize>
     ensures { pair_length * count ≤ length words.now → Within out.old from
         → Prints out.old from (flat_map key_line (first_keys count words.now)) out.new result }
 {
     if words.len() / write_keys::PAIR < count {
-        return Printed::NoRoom;
+        return None;
     }
     let mut at = from;
     let mut i: usize = 0;
@@ -42,7 +41,7 @@ fn print_keys(out: &mut [u8], from: Printed, words: &[u64], count: usize) -> Pri
 }
 
 // D, 0, a word and two numbers.
-fn print_verdict(out: &mut [u8], at: Printed, word: &[u8], first: usize, second: usize) -> Printed
+fn print_verdict(out: &mut [u8], at: Option<usize>, word: &[u8], first: usize, second: usize) -> Option<usize>
     ensures { Prints out.old at (68 ∷ fields (decimal 0 ∷ word.now ∷ decimal first ∷ decimal second ∷ [])) out.new result }
 {
     let letter = bytes_printer::print_byte(out, at, 68);
@@ -53,23 +52,23 @@ fn print_verdict(out: &mut [u8], at: Printed, word: &[u8], first: usize, second:
     bytes_printer::print_newline(out, two)
 }
 
-fn print_never(out: &mut [u8], at: Printed, patch: usize, operation: usize) -> Printed
+fn print_never(out: &mut [u8], at: Option<usize>, patch: usize, operation: usize) -> Option<usize>
     ensures { (words : List ℕ) → Prints out.old at (verdict_lines (answer_never patch operation) words) out.new result }
 {
     print_verdict(out, at, b"never", patch, operation)
 }
 
 // Both counts, and the records that were written.
-fn print_needs(out: &mut [u8], at: Printed, held: usize, lacked: usize, written: &[u64]) -> Printed
+fn print_needs(out: &mut [u8], at: Option<usize>, held: usize, lacked: usize, written: &[u64]) -> Option<usize>
     ensures { pair_length * (held + lacked) ≤ length written.now
         → Prints out.old at (verdict_lines (answer_needs held lacked) written.now) out.new result }
 {
     let most = written.len() / write_keys::PAIR;
     if most < held {
-        return Printed::NoRoom;
+        return None;
     }
     if most - held < lacked {
-        return Printed::NoRoom;
+        return None;
     }
     let head = print_verdict(out, at, b"needs", held, lacked);
     print_keys(out, head, written, held + lacked)
@@ -78,10 +77,10 @@ fn print_needs(out: &mut [u8], at: Printed, held: usize, lacked: usize, written:
 // What the call answered and wrote.
 pub fn print_dependencies(
     out: &mut [u8],
-    at: Printed,
+    at: Option<usize>,
     answer: DependenciesAnswer,
     written: &[u64],
-) -> Printed
+) -> Option<usize>
     ensures { (a : Answered) → DependenciesTold a answer written.now
         → Prints out.old at (dependency_lines a) out.new result }
 {

@@ -5,16 +5,15 @@ ghost use Rattle.bytes_printer.specs.Prints.{spaced_field, Prints};
 ghost use Rattle.session_lifecycle.specs.Meaning.{disposition_means, diagnostics_mean, lifecycle_of, cursor_of};
 ghost use Rattle.script_answers.specs.OpenFields.{open_fields};
 
-use bytes_printer::Printed;
 use session_lifecycle::diagnostics::ShellDiagnostics;
 use session_lifecycle::lifecycle::ShellTransitionDisposition;
 use session_lifecycle::state::{ProjectionReplayCursor, ShellLifecycle};
 
 fn print_disposition(
     out: &mut [u8],
-    at: Printed,
+    at: Option<usize>,
     disposition: ShellTransitionDisposition,
-) -> Printed
+) -> Option<usize>
     ensures { Prints out.old at (spaced_field (disposition_field (disposition_means disposition))) out.new result }
 {
     match disposition {
@@ -30,7 +29,7 @@ fn print_disposition(
     }
 }
 
-pub fn print_lifecycle(out: &mut [u8], at: Printed, lifecycle: ShellLifecycle) -> Printed
+pub fn print_lifecycle(out: &mut [u8], at: Option<usize>, lifecycle: ShellLifecycle) -> Option<usize>
     ensures { Prints out.old at (spaced_field (lifecycle_field (lifecycle_of lifecycle))) out.new result }
 {
     match lifecycle {
@@ -41,7 +40,7 @@ pub fn print_lifecycle(out: &mut [u8], at: Printed, lifecycle: ShellLifecycle) -
     }
 }
 
-pub fn print_cursor(out: &mut [u8], at: Printed, cursor: ProjectionReplayCursor) -> Printed
+pub fn print_cursor(out: &mut [u8], at: Option<usize>, cursor: ProjectionReplayCursor) -> Option<usize>
     ensures { Prints out.old at (spaced_field (cursor_field (cursor_of cursor))) out.new result }
 {
     match cursor {
@@ -53,10 +52,10 @@ pub fn print_cursor(out: &mut [u8], at: Printed, cursor: ProjectionReplayCursor)
 // Disposition, code, stage, logical and emitted count.
 pub fn print_outcome(
     out: &mut [u8],
-    at: Printed,
+    at: Option<usize>,
     disposition: ShellTransitionDisposition,
     diagnostics: ShellDiagnostics,
-) -> Printed
+) -> Option<usize>
     ensures { Prints out.old at (open_fields (session_fields (disposition_means disposition) (diagnostics_mean diagnostics) [])) out.new result }
 {
     let word = print_disposition(out, at, disposition);

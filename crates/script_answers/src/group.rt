@@ -7,13 +7,12 @@ ghost use Rattle.session_steps.specs.Answers.{batch_answer_of};
 ghost use Rattle.session_group.specs.Groups.{group_answer_of};
 
 use crate::{fields, session};
-use bytes_printer::Printed;
 use session_group::GroupAnswer;
 use session_lifecycle::state::ProjectionReplayCursor;
 use session_steps::answers::ProjectionPatchApplicationResult;
 
 // How many batches were taken, and the cursor afterwards.
-fn print_taken(out: &mut [u8], at: Printed, count: usize, cursor: ProjectionReplayCursor) -> Printed
+fn print_taken(out: &mut [u8], at: Option<usize>, count: usize, cursor: ProjectionReplayCursor) -> Option<usize>
     ensures { Prints out.old at (group_lines (taken count (cursor_of cursor))) out.new result }
 {
     let letter = bytes_printer::print_byte(out, at, 85);
@@ -26,10 +25,10 @@ fn print_taken(out: &mut [u8], at: Printed, count: usize, cursor: ProjectionRepl
 // None was taken: the place of the first refused batch, and its own answer.
 fn print_refused(
     out: &mut [u8],
-    at: Printed,
+    at: Option<usize>,
     place: usize,
     answer: ProjectionPatchApplicationResult,
-) -> Printed
+) -> Option<usize>
     ensures { Prints out.old at (group_lines (refused_at place (batch_answer_of answer))) out.new result }
 {
     let letter = bytes_printer::print_byte(out, at, 85);
@@ -40,7 +39,7 @@ fn print_refused(
     session::print_batch(out, line, answer)
 }
 
-pub fn print_group(out: &mut [u8], at: Printed, answer: GroupAnswer) -> Printed
+pub fn print_group(out: &mut [u8], at: Option<usize>, answer: GroupAnswer) -> Option<usize>
     ensures { Prints out.old at (group_lines (group_answer_of answer)) out.new result }
 {
     match answer {

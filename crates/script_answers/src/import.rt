@@ -5,11 +5,10 @@ ghost use Rattle.bytes_printer.specs.Prints.{Prints};
 ghost use Rattle.script_answers.specs.ImportOf.{ImportOf};
 
 use crate::conversion;
-use bytes_printer::Printed;
 use patch_import::answer::ImportAnswer;
 
 // What bringing in a list answered and wrote.
-pub fn print_import(out: &mut [u8], at: Printed, answer: ImportAnswer, written: &[u8]) -> Printed
+pub fn print_import(out: &mut [u8], at: Option<usize>, answer: ImportAnswer, written: &[u8]) -> Option<usize>
     ensures { (c : model.Imported) → ImportOf c answer written.now → Prints out.old at (import_line c) out.new result }
 {
     match answer {

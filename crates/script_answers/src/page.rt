@@ -13,12 +13,11 @@ ghost use Rattle.panel_page.specs.PageTable.{page_bytes};
 ghost use Rattle.script_answers.specs.PageTold.{row_lookup_line, PageTold};
 
 use crate::value;
-use bytes_printer::Printed;
 use panel_page::PageAnswer;
 use panel_page::rows::PageLookup;
 
 // M, the position and the value of a key that was found; a dash for one that was not.
-fn print_row(out: &mut [u8], at: Printed, lookup: PageLookup) -> Printed
+fn print_row(out: &mut [u8], at: Option<usize>, lookup: PageLookup) -> Option<usize>
     ensures { Prints out.old at (row_lookup_line lookup) out.new result }
 {
     let letter = bytes_printer::print_byte(out, at, 77);
@@ -31,12 +30,12 @@ fn print_row(out: &mut [u8], at: Printed, lookup: PageLookup) -> Printed
 }
 
 // A line for each of the first count places of an answer table.
-fn print_rows(out: &mut [u8], from: Printed, table: &[u8], count: usize) -> Printed
+fn print_rows(out: &mut [u8], from: Option<usize>, table: &[u8], count: usize) -> Option<usize>
     ensures { (p : Projection) (c : ℕ) (keys rest : List ℕ) → Valid p → length keys ≡ count → table.now ≡ page_bytes p c keys ++ rest → Within out.old from
         → Prints out.old from (flat_map row_line (page_rows p c keys)) out.new result }
 {
     if table.len() / PageLookup::WIDTH < count {
-        return Printed::NoRoom;
+        return None;
     }
     let mut at = from;
     let mut i: usize = 0;
@@ -50,7 +49,7 @@ fn print_rows(out: &mut [u8], from: Printed, table: &[u8], count: usize) -> Prin
 }
 
 // Y, 0, the number of keys, and the places of the keys.
-fn print_answered(out: &mut [u8], at: Printed, table: &[u8], count: usize) -> Printed
+fn print_answered(out: &mut [u8], at: Option<usize>, table: &[u8], count: usize) -> Option<usize>
     ensures { (p : Projection) (c : ℕ) (keys rest : List ℕ) → Valid p → length keys ≡ count → table.now ≡ page_bytes p c keys ++ rest
         → Prints out.old at ((89 ∷ fields (decimal 0 ∷ decimal count ∷ [])) ++ flat_map row_line (page_rows p c keys)) out.new result }
 {
@@ -62,7 +61,7 @@ fn print_answered(out: &mut [u8], at: Printed, table: &[u8], count: usize) -> Pr
 }
 
 // What the call answered, and the answer table that it left.
-pub fn print_page(out: &mut [u8], at: Printed, answer: PageAnswer, table: &[u8]) -> Printed
+pub fn print_page(out: &mut [u8], at: Option<usize>, answer: PageAnswer, table: &[u8]) -> Option<usize>
     ensures { (p : Projection) (c : ℕ) (keys : List ℕ) (places : ℕ) → PageTold p c keys places answer table.now
         → Prints out.old at (page_lines (length keys) (page p c keys (replicate places none))) out.new result }
 {

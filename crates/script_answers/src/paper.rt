@@ -6,11 +6,10 @@ ghost use Rattle.spec_replay.specs.Answers.{print_lines};
 ghost use Rattle.bytes_printer.specs.Prints.{Prints};
 ghost use Rattle.script_answers.specs.PrintTold.{PrintTold};
 
-use bytes_printer::Printed;
 use panel_print::PrintAnswer;
 
 // O, 0 and the number of bytes; behind the newline these bytes as they are.
-fn print_paper(out: &mut [u8], at: Printed, bytes: &[u8]) -> Printed
+fn print_paper(out: &mut [u8], at: Option<usize>, bytes: &[u8]) -> Option<usize>
     ensures { Prints out.old at ((79 ∷ fields (decimal 0 ∷ decimal (length bytes.now) ∷ [])) ++ bytes.now) out.new result }
 {
     let letter = bytes_printer::print_byte(out, at, 79);
@@ -21,14 +20,14 @@ fn print_paper(out: &mut [u8], at: Printed, bytes: &[u8]) -> Printed
 }
 
 // What a print answered and wrote.
-pub fn print_collection(out: &mut [u8], at: Printed, answer: PrintAnswer, written: &[u8]) -> Printed
+pub fn print_collection(out: &mut [u8], at: Option<usize>, answer: PrintAnswer, written: &[u8]) -> Option<usize>
     ensures { (lent print : List ℕ) → PrintTold lent print answer written.now
         → Prints out.old at (print_lines (length lent) print) out.new result }
 {
     match answer {
         PrintAnswer::Wrote(len) => {
             if written.len() < len {
-                return Printed::NoRoom;
+                return None;
             }
             print_paper(out, at, &written[0..len])
         }

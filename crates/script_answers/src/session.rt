@@ -8,14 +8,13 @@ ghost use Rattle.session_steps.specs.Answers.{disposition_told, batch_answer_of}
 ghost use Rattle.script_answers.specs.CreationAnswers.{creation_to};
 
 use crate::fields;
-use bytes_printer::Printed;
 use session_creation::CreationAnswer;
 use session_lifecycle::lifecycle::{ShellTransitionDisposition, ShellTransitionResult};
 use session_steps::answers::{
     ProjectionPatchApplicationDisposition, ProjectionPatchApplicationResult,
 };
 
-pub fn print_creation(out: &mut [u8], at: Printed, answer: CreationAnswer) -> Printed
+pub fn print_creation(out: &mut [u8], at: Option<usize>, answer: CreationAnswer) -> Option<usize>
     ensures { (c : Creation) → answer ≡ creation_to c → Prints out.old at (creation_line c) out.new result }
 {
     match answer {
@@ -26,7 +25,7 @@ pub fn print_creation(out: &mut [u8], at: Printed, answer: CreationAnswer) -> Pr
     }
 }
 
-pub fn print_lifecycle(out: &mut [u8], at: Printed, res: ShellTransitionResult) -> Printed
+pub fn print_lifecycle(out: &mut [u8], at: Option<usize>, res: ShellTransitionResult) -> Option<usize>
     ensures { Prints out.old at (lifecycle_line (answer_of res)) out.new result }
 {
     let disposition = res.disposition;
@@ -55,7 +54,7 @@ fn transition_disposition(
     }
 }
 
-pub fn print_batch(out: &mut [u8], at: Printed, res: ProjectionPatchApplicationResult) -> Printed
+pub fn print_batch(out: &mut [u8], at: Option<usize>, res: ProjectionPatchApplicationResult) -> Option<usize>
     ensures { Prints out.old at (batch_line (batch_answer_of res)) out.new result }
 {
     let told = res.disposition;
@@ -69,7 +68,7 @@ pub fn print_batch(out: &mut [u8], at: Printed, res: ProjectionPatchApplicationR
 }
 
 // The answer to a call of a session where there is none.
-pub fn print_no_session(out: &mut [u8], at: Printed) -> Printed
+pub fn print_no_session(out: &mut [u8], at: Option<usize>) -> Option<usize>
     ensures { Prints out.old at no_session_line out.new result }
 {
     let letter = bytes_printer::print_byte(out, at, 78);
@@ -77,7 +76,7 @@ pub fn print_no_session(out: &mut [u8], at: Printed) -> Printed
 }
 
 // The answer to a line that is no command.
-pub fn print_other(out: &mut [u8], at: Printed, number: u64) -> Printed
+pub fn print_other(out: &mut [u8], at: Option<usize>, number: u64) -> Option<usize>
     ensures { Prints out.old at (other_line number) out.new result }
 {
     listing_lines::print_number_line(out, at, 63, number)

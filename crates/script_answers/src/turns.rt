@@ -7,10 +7,9 @@ ghost use Rattle.session_turns.specs.Meaning.{set_up_to};
 ghost use Rattle.session_turns.specs.Runs.{turn_answer_of};
 ghost use Rattle.script_answers.specs.TurnAnswers.{register_answer_of};
 
-use bytes_printer::Printed;
 use session_turns::{RegisterAnswer, SetUpAnswer, TurnAnswer};
 
-pub fn print_set_up(out: &mut [u8], at: Printed, answer: SetUpAnswer) -> Printed
+pub fn print_set_up(out: &mut [u8], at: Option<usize>, answer: SetUpAnswer) -> Option<usize>
     ensures { (s : SetUp) → answer ≡ (set_up_to s).answer → Prints out.old at (set_up_line s) out.new result }
 {
     match answer {
@@ -21,7 +20,7 @@ pub fn print_set_up(out: &mut [u8], at: Printed, answer: SetUpAnswer) -> Printed
     }
 }
 
-pub fn print_registration(out: &mut [u8], at: Printed, answer: RegisterAnswer) -> Printed
+pub fn print_registration(out: &mut [u8], at: Option<usize>, answer: RegisterAnswer) -> Option<usize>
     ensures { Prints out.old at (register_line (register_answer_of answer)) out.new result }
 {
     match answer {
@@ -32,7 +31,7 @@ pub fn print_registration(out: &mut [u8], at: Printed, answer: RegisterAnswer) -
     }
 }
 
-pub fn print_turn(out: &mut [u8], at: Printed, answer: TurnAnswer) -> Printed
+pub fn print_turn(out: &mut [u8], at: Option<usize>, answer: TurnAnswer) -> Option<usize>
     ensures { Prints out.old at (turn_line (turn_answer_of answer)) out.new result }
 {
     let letter = bytes_printer::print_byte(out, at, 74);

@@ -5,17 +5,16 @@ ghost use Rattle.spec_replay.specs.Answers.{dash};
 ghost use Rattle.bytes_printer.specs.Prints.{Prints};
 ghost use Rattle.script_answers.specs.LookupLines.{value_lookup_line, availability_lookup_line, mark_lookup_line};
 
-use bytes_printer::Printed;
 use panel_rows::values::{AvailabilityLookup, ValueLookup};
 
-pub(crate) fn print_none(out: &mut [u8], at: Printed) -> Printed
+pub(crate) fn print_none(out: &mut [u8], at: Option<usize>) -> Option<usize>
     ensures { Prints out.old at (fields (dash ∷ [])) out.new result }
 {
     let none = bytes_printer::print_field_bytes(out, at, b"-");
     bytes_printer::print_newline(out, none)
 }
 
-pub fn print_value(out: &mut [u8], at: Printed, lookup: ValueLookup) -> Printed
+pub fn print_value(out: &mut [u8], at: Option<usize>, lookup: ValueLookup) -> Option<usize>
     ensures { Prints out.old at (value_lookup_line lookup) out.new result }
 {
     let letter = bytes_printer::print_byte(out, at, 86);
@@ -25,7 +24,7 @@ pub fn print_value(out: &mut [u8], at: Printed, lookup: ValueLookup) -> Printed
     print_none(out, letter)
 }
 
-pub fn print_availability(out: &mut [u8], at: Printed, lookup: AvailabilityLookup) -> Printed
+pub fn print_availability(out: &mut [u8], at: Option<usize>, lookup: AvailabilityLookup) -> Option<usize>
     ensures { Prints out.old at (availability_lookup_line lookup) out.new result }
 {
     let letter = bytes_printer::print_byte(out, at, 86);
@@ -38,7 +37,7 @@ pub fn print_availability(out: &mut [u8], at: Printed, lookup: AvailabilityLooku
 }
 
 // The mark of what was found.
-pub fn print_mark(out: &mut [u8], at: Printed, found: bool, mark: u64) -> Printed
+pub fn print_mark(out: &mut [u8], at: Option<usize>, found: bool, mark: u64) -> Option<usize>
     ensures { Prints out.old at (mark_lookup_line found mark) out.new result }
 {
     let letter = bytes_printer::print_byte(out, at, 88);

@@ -1,9 +1,8 @@
 -- What the state of a replay stores, and what a line does: spec_replay's steps on the struct.
-use Rattle.std.specs.Prelude.{ℕ, ◌≡◌, Bool, true, false, List}
+use Rattle.std.specs.Prelude.{ℕ, ◌≡◌, Bool, true, false, List, Some}
 use Rattle.std.proofs.Math.Option.{Option, none, some}
 use Rattle.spec_session.specs.Session.{Session}
 use Rattle.spec_replay.specs.Replay.{State, Step, onward, stops}
-use Rattle.bytes_printer.specs.declared.Printed.TheVariants.{Next}
 use Rattle.bytes_printer.specs.Prints.{Prints}
 use Rattle.projection_patch.specs.Meaning.{edition_of}
 use Rattle.shell_player.specs.Holds.{Holds}
@@ -33,8 +32,8 @@ pub record ReplayHolds (s : ReplayState) (m : State) : Type 0 where
 -- what a line does to a state and a slice: the state afterwards, and as much of its answer as fits from the slice's start on; where the
 -- replay stops the state stays
 abbrev pub SteppedBy : ReplayState → List ℕ → List ℕ → ReplayStep → Step → Type 0
-SteppedBy s before after r (onward m printed) = (r.stopped ≡ false) × (ReplayHolds r.state m × Prints before (Next 0) printed after r.printed)
-SteppedBy s before after r (stops printed) = (r.stopped ≡ true) × ((r.state ≡ s) × Prints before (Next 0) printed after r.printed)
+SteppedBy s before after r (onward m printed) = (r.stopped ≡ false) × (ReplayHolds r.state m × Prints before (Some 0) printed after r.printed)
+SteppedBy s before after r (stops printed) = (r.stopped ≡ true) × ((r.state ≡ s) × Prints before (Some 0) printed after r.printed)
 
 pub record ReplayStepped (s : ReplayState) (before after : List ℕ) (r : ReplayStep) (step : Step) : Type 0 where
   pub is : SteppedBy s before after r step

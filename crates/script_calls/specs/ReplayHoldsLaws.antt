@@ -1,5 +1,6 @@
 -- What a call does to a replay: a session is asked for, and there is one that answers, or none; a creation takes the place of what there was.
-use Rattle.std.specs.Prelude.{ℕ, ◌-◌, min, ◌≡◌, refl, Bool, true, false, List, map, take}
+use Rattle.std.specs.Prelude as code
+use Rattle.std.specs.Prelude.{ℕ, ◌-◌, min, ◌≡◌, refl, Bool, true, false, List, map, take, Some}
 use Rattle.std.proofs.Common.{sym, ap₂, subst, ◌∙◌, arith}
 use Rattle.std.proofs.Math.Path.{ap}
 use Rattle.std.proofs.Math.Option.{Option, none, some}
@@ -9,8 +10,6 @@ use Rattle.spec_session.specs.Batch.{BatchEnvelope, batch}
 use Rattle.spec_session.specs.Session.{Session, Limits, Creation, made, refused, create}
 use Rattle.spec_replay.specs.Answers.{no_session_line, creation_line}
 use Rattle.spec_replay.specs.Replay.{Setup, State, Step, onward, stops, asked, created, batched, with_session, kept_anchors}
-use Rattle.bytes_printer.specs.declared.Printed.{Printed}
-use Rattle.bytes_printer.specs.declared.Printed.TheVariants.{Next}
 use Rattle.bytes_printer.specs.Prints.{Prints}
 use Rattle.projection_patch.specs.Meaning.{edition_of}
 use Rattle.projection_patch.specs.declared.patch.ProjectionPatchEdition.{ProjectionPatchEdition}
@@ -67,10 +66,10 @@ module _ (s : ReplayState) (m : State) (h : ReplayHolds s m) where
 
 module _ {s : ReplayState} {before after : List ℕ} where
   -- a step that goes on, by its parts
-  pub step_goes_on : {r : ReplayStep} {m : State} {printed : List ℕ} → r.stopped ≡ false → ReplayHolds r.state m → Prints before (Next 0) printed after r.printed → ReplayStepped s before after r (onward m printed)
+  pub step_goes_on : {r : ReplayStep} {m : State} {printed : List ℕ} → r.stopped ≡ false → ReplayHolds r.state m → Prints before (Some 0) printed after r.printed → ReplayStepped s before after r (onward m printed)
   step_goes_on e h p = record { is = (e, (h, p)) }
 
-  pub step_stops : (r : ReplayStep) {printed : List ℕ} → r.stopped ≡ true → r.state ≡ s → Prints before (Next 0) printed after r.printed → ReplayStepped s before after r (stops printed)
+  pub step_stops : (r : ReplayStep) {printed : List ℕ} → r.stopped ≡ true → r.state ≡ s → Prints before (Some 0) printed after r.printed → ReplayStepped s before after r (stops printed)
   step_stops r e same p = record { is = (e, (same, p)) }
 
 -- a batch in the edition that the struct stores is one in the edition of the replay
@@ -80,7 +79,7 @@ in_edition {s} {before} {after} {r} m own is x e references set step = subst (λ
 
 -- a creation takes the place of what there was
 pub created_step : (s : ReplayState) (m : State) → ReplayHolds s m → (c : Creation) (r : ShellSessionCreation) → Creates c r → (b : Bool) → b ≡ is_created r.answer
-    → (before after : List ℕ) (p : Printed) → Prints before (Next 0) (creation_line c) after p
+    → (before after : List ℕ) (p : code.Option ℕ) → Prints before (Some 0) (creation_line c) after p
     → ReplayStepped s before after (record { state = record { setup = s.setup; exists = b; session = r.session; turns = s.turns; edition = s.edition }; printed = p; stopped = false }) (created m c)
 unfolding created Creates is_created with_session
 created_step s m h (made x) r k b e before after p printed = step_goes_on refl (record { setup_is = h.setup_is; session_is = rw (e, k.0) k.1; turns_are = h.turns_are; edition_is = h.edition_is }) printed

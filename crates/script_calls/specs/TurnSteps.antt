@@ -1,5 +1,6 @@
 -- What a line on turns does to a replay: there are senders whose turns answer, or none; a set-up takes the place of the one before.
-use Rattle.std.specs.Prelude.{ℕ, ◌≤◌, ◌<◌, ◌≡◌, Bool, true, false, List, leb, if◌then◌else◌}
+use Rattle.std.specs.Prelude as code
+use Rattle.std.specs.Prelude.{ℕ, ◌≤◌, ◌<◌, ◌≡◌, Bool, true, false, List, leb, if◌then◌else◌, Some}
 use Rattle.std.proofs.Math.Path.{refl, ap, subst}
 use Rattle.std.proofs.Common.{sym, ◌∙◌, arith, leb-true}
 use Rattle.std.proofs.Math.Option.{Option, none, some}
@@ -11,8 +12,6 @@ use Rattle.spec_turns.specs.Turns.{Turns, senders, most_senders, SetUp, set_up, 
 use Rattle.spec_turns.proofs.TurnsLaws.{new_turns_senders, register_senders, turn_senders}
 use Rattle.spec_replay.specs.Answers.{no_session_line, set_up_line}
 use Rattle.spec_replay.specs.Replay.{State, Step, onward, asked_turns, settled, turned, with_turns}
-use Rattle.bytes_printer.specs.declared.Printed.{Printed}
-use Rattle.bytes_printer.specs.declared.Printed.TheVariants.{Next}
 use Rattle.bytes_printer.specs.Prints.{Prints}
 use Rattle.session_turns.specs.declared.SenderTurns.{SenderTurns}
 use Rattle.session_turns.specs.declared.TurnsSetUp.{TurnsSetUp}
@@ -97,8 +96,8 @@ few_made k = by (between 1 most_senders k) refl
     by true e = (omega (arith, new_turns_senders k, leb-true 1 k (and_left (leb 1 k) (leb k most_senders) e)), omega (arith, new_turns_senders k, leb-true k most_senders (and_right (leb 1 k) (leb k most_senders) e)))
     by false e = tt
 
-module _ (s : ReplayState) (m : State) (h : ReplayHolds s m) (r : TurnsSetUp) (x : SenderTurns) (chosen : x ≡ after_set_up s.turns r.answer r.turns) (before after : List ℕ) (p : Printed) where
-  settled_as : (u : SetUp) → FewMade u → r ≡ set_up_to u → Prints before (Next 0) (set_up_line u) after p
+module _ (s : ReplayState) (m : State) (h : ReplayHolds s m) (r : TurnsSetUp) (x : SenderTurns) (chosen : x ≡ after_set_up s.turns r.answer r.turns) (before after : List ℕ) (p : code.Option ℕ) where
+  settled_as : (u : SetUp) → FewMade u → r ≡ set_up_to u → Prints before (Some 0) (set_up_line u) after p
       → ReplayStepped s before after (record { state = with_latest_turns s x; printed = p; stopped = false }) (settled m u)
   unfolding settled set_up_to after_set_up held_turns with_turns
   settled_as (model.made t) few is printed =
@@ -108,6 +107,6 @@ module _ (s : ReplayState) (m : State) (h : ReplayHolds s m) (r : TurnsSetUp) (x
       let own : x ≡ s.turns = chosen ∙ ap (λ (k : TurnsSetUp). after_set_up s.turns k.answer k.turns) is in
       step_goes_on refl (record { setup_is = h.setup_is; session_is = h.session_is; turns_are = subst (λ (u : SenderTurns). TurnsHeld u m.turns) (sym own) h.turns_are; edition_is = h.edition_is }) printed
 
-  pub settled_step : (k : ℕ) → r ≡ set_up_to (set_up k) → Prints before (Next 0) (set_up_line (set_up k)) after p
+  pub settled_step : (k : ℕ) → r ≡ set_up_to (set_up k) → Prints before (Some 0) (set_up_line (set_up k)) after p
       → ReplayStepped s before after (record { state = with_latest_turns s x; printed = p; stopped = false }) (settled m (set_up k))
   settled_step k = settled_as (set_up k) (few_made k)

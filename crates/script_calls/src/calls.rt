@@ -13,7 +13,6 @@ ghost use Rattle.script_calls.specs.ReplayHolds.{is_created, ReplayHolds, Replay
 use crate::setup::ReplaySetup;
 use crate::state;
 use crate::state::{ReplayState, ReplayStep};
-use bytes_printer::Printed;
 use script_answers::session;
 use session_creation::{CreationAnswer, ShellSessionCreation};
 use session_gates::gates::OrderedProjectionPatchBatchEnvelope;
@@ -28,7 +27,7 @@ pub fn apply(state: ReplayState, input: ShellTransitionInput, out: &mut [u8]) ->
         let session = state.session;
         let step = session_apply::applied_once(session, input);
         let result = step.result;
-        let start = Printed::Next(0);
+        let start = Some(0);
         let printed = session::print_lifecycle(out, start, result);
         let after = step.session;
         let next = state::with_latest(state, after);
@@ -57,7 +56,7 @@ pub fn apply_batch(
         let edition = state.edition;
         let step = session.apply_projection_patch_batch(envelope, references, set, edition);
         let result = step.result;
-        let start = Printed::Next(0);
+        let start = Some(0);
         let printed = session::print_batch(out, start, result);
         let after = step.session;
         let next = state::with_latest(state, after);
@@ -118,7 +117,7 @@ pub fn create_latest(state: ReplayState, out: &mut [u8]) -> ReplayStep
     let setup = state.setup;
     let creation = create_session(setup);
     let answer = creation.answer;
-    let start = Printed::Next(0);
+    let start = Some(0);
     let printed = session::print_creation(out, start, answer);
     let session = creation.session;
     let exists = is_created(answer);

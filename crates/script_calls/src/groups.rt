@@ -8,7 +8,6 @@ ghost use Rattle.script_calls.specs.ReplayHolds.{ReplayHolds, ReplayStepped};
 
 use crate::state;
 use crate::state::{ReplayState, ReplayStep};
-use bytes_printer::Printed;
 use script_answers::group;
 use session_group::GroupBatch;
 
@@ -27,7 +26,7 @@ pub fn apply_group(
         let session = state.session;
         let step = session_group::apply_projection_patch_batches(session, batches, count, sets);
         let answer = step.answer;
-        let start = Printed::Next(0);
+        let start = Some(0);
         let printed = group::print_group(out, start, answer);
         let after = step.session;
         let next = state::with_latest(state, after);

@@ -7,7 +7,6 @@ ghost use Rattle.script_calls.specs.ReplayHolds.{ReplayHolds, ReplayStepped};
 
 use crate::state;
 use crate::state::{ReplayState, ReplayStep};
-use bytes_printer::Printed;
 use script_answers::value;
 
 // The mark of a binding.
@@ -18,7 +17,7 @@ pub fn binding_mark(state: ReplayState, node: u64, slot: u32, out: &mut [u8]) ->
     if state.exists {
         let session = state.session;
         let lookup = session.binding_value(node, slot);
-        let start = Printed::Next(0);
+        let start = Some(0);
         let printed = value::print_mark(out, start, lookup.found, lookup.mark);
         return ReplayStep {
             state,
@@ -37,7 +36,7 @@ pub fn availability_mark(state: ReplayState, node: u64, out: &mut [u8]) -> Repla
     if state.exists {
         let session = state.session;
         let lookup = session.node_availability(node);
-        let start = Printed::Next(0);
+        let start = Some(0);
         let printed = value::print_mark(out, start, lookup.found, lookup.mark);
         return ReplayStep {
             state,
@@ -56,7 +55,7 @@ pub fn entry_mark(state: ReplayState, collection: u64, key: u64, out: &mut [u8])
     if state.exists {
         let session = state.session;
         let lookup = session.entry_value(collection, key);
-        let start = Printed::Next(0);
+        let start = Some(0);
         let printed = value::print_mark(out, start, lookup.found, lookup.mark);
         return ReplayStep {
             state,

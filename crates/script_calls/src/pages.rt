@@ -5,7 +5,6 @@ ghost use Rattle.spec_session.specs.Session.{Session};
 ghost use Rattle.spec_page.specs.Page.{page};
 ghost use Rattle.spec_replay.specs.Answers.{page_lines};
 ghost use Rattle.spec_replay.specs.Replay.{State, asked, onward};
-ghost use Rattle.bytes_printer.specs.declared.Printed.TheVariants.{Next};
 ghost use Rattle.bytes_printer.specs.Prints.{Prints};
 ghost use Rattle.panel_page.specs.PageTable.{page_width};
 ghost use Rattle.shell_player.specs.Holds.{Holds};
@@ -13,7 +12,6 @@ ghost use Rattle.script_calls.specs.ReplayHolds.{ReplayHolds, ReplayStepped};
 
 use crate::state;
 use crate::state::{ReplayState, ReplayStep};
-use bytes_printer::Printed;
 use panel_page::rows::PageLookup;
 use shell_player::session::ShellSession;
 
@@ -26,12 +24,12 @@ fn page_lent(
     keys: &[u64],
     lent: &mut [u8],
     out: &mut [u8],
-) -> Printed
+) -> Option<usize>
     ensures { (m : Session) → Holds session m
-        → Prints out.old (Next 0) (page_lines (length keys.now) (page m.projection collection keys.now (replicate (length lent.old / page_width) none))) out.new result }
+        → Prints out.old (Some 0) (page_lines (length keys.now) (page m.projection collection keys.now (replicate (length lent.old / page_width) none))) out.new result }
 {
     let answer = session_views::page::collection_page(session, collection, keys, lent);
-    let start = Printed::Next(0);
+    let start = Some(0);
     script_answers::page::print_page(out, start, answer, lent)
 }
 
@@ -42,9 +40,9 @@ fn page_into(
     room: u8,
     keys: &[u64],
     out: &mut [u8],
-) -> Printed
+) -> Option<usize>
     ensures { (m : Session) → Holds session m
-        → Prints out.old (Next 0) (page_lines (length keys.now) (page m.projection collection keys.now (replicate room none))) out.new result }
+        → Prints out.old (Some 0) (page_lines (length keys.now) (page m.projection collection keys.now (replicate room none))) out.new result }
 {
     let mut lent = [0u8; PAGE_BYTES];
     let end = room as usize * PageLookup::WIDTH;

@@ -5,14 +5,12 @@ ghost use Rattle.spec_panel_print.specs.Print.{collection_print};
 ghost use Rattle.spec_panel_print.specs.PrintSizes.{print_bytes};
 ghost use Rattle.spec_replay.specs.Answers.{print_lines};
 ghost use Rattle.spec_replay.specs.Replay.{State, asked, onward};
-ghost use Rattle.bytes_printer.specs.declared.Printed.TheVariants.{Next};
 ghost use Rattle.bytes_printer.specs.Prints.{Prints};
 ghost use Rattle.shell_player.specs.Holds.{Holds};
 ghost use Rattle.script_calls.specs.ReplayHolds.{ReplayHolds, ReplayStepped};
 
 use crate::state;
 use crate::state::{ReplayState, ReplayStep};
-use bytes_printer::Printed;
 use panel_print::PRINT_BYTES;
 use shell_player::session::ShellSession;
 
@@ -26,19 +24,19 @@ fn lent_bytes(room: u64) -> usize
     PRINT_BYTES
 }
 
-fn print_lent(session: ShellSession, collection: u64, lent: &mut [u8], out: &mut [u8]) -> Printed
+fn print_lent(session: ShellSession, collection: u64, lent: &mut [u8], out: &mut [u8]) -> Option<usize>
     ensures { (m : Session) → Holds session m
-        → Prints out.old (Next 0) (print_lines (length lent.old) (collection_print m.projection collection)) out.new result }
+        → Prints out.old (Some 0) (print_lines (length lent.old) (collection_print m.projection collection)) out.new result }
 {
     let answer = session_views::print::print_collection(session, collection, lent);
-    let start = Printed::Next(0);
+    let start = Some(0);
     script_answers::paper::print_collection(out, start, answer, lent)
 }
 
 // A print into so many bytes, all zero.
-fn print_into(session: ShellSession, collection: u64, room: u64, out: &mut [u8]) -> Printed
+fn print_into(session: ShellSession, collection: u64, room: u64, out: &mut [u8]) -> Option<usize>
     ensures { (m : Session) → Holds session m
-        → Prints out.old (Next 0) (print_lines room (collection_print m.projection collection)) out.new result }
+        → Prints out.old (Some 0) (print_lines room (collection_print m.projection collection)) out.new result }
 {
     let mut lent = [0u8; PRINT_BYTES];
     let end = lent_bytes(room);

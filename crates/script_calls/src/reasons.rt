@@ -3,7 +3,6 @@ ghost use Rattle.spec_session.specs.Session.{Session};
 ghost use Rattle.spec_explain.specs.Explain.{explain};
 ghost use Rattle.spec_replay.specs.Reasons.{reason_line};
 ghost use Rattle.spec_replay.specs.Replay.{State, asked, onward};
-ghost use Rattle.bytes_printer.specs.declared.Printed.TheVariants.{Next};
 ghost use Rattle.bytes_printer.specs.Prints.{Prints};
 ghost use Rattle.projection_patch.specs.Meaning.{edition_of};
 ghost use Rattle.session_gates.specs.Gates.{batch_envelope_of};
@@ -12,7 +11,6 @@ ghost use Rattle.script_calls.specs.ReplayHolds.{ReplayHolds, ReplayStepped};
 
 use crate::state;
 use crate::state::{ReplayState, ReplayStep};
-use bytes_printer::Printed;
 use projection_patch::patch::ProjectionPatchEdition;
 use session_gates::gates::OrderedProjectionPatchBatchEnvelope;
 use shell_player::session::ShellSession;
@@ -24,14 +22,14 @@ fn print_explained(
     set: &[u8],
     edition: ProjectionPatchEdition,
     out: &mut [u8],
-) -> Printed
+) -> Option<usize>
     ensures { (m : Session) → Holds session m
-        → Prints out.old (Next 0) (reason_line (explain (edition_of edition) m (batch_envelope_of envelope) references set.now)) out.new result }
+        → Prints out.old (Some 0) (reason_line (explain (edition_of edition) m (batch_envelope_of envelope) references set.now)) out.new result }
 {
     let explanation = session_explain::batch::explain_batch(
         session, envelope, references, set, edition,
     );
-    let start = Printed::Next(0);
+    let start = Some(0);
     script_reasons::print_reason(out, start, explanation)
 }
 

@@ -5,7 +5,6 @@ ghost use Rattle.spec_replay.specs.Answers.{no_session_line};
 ghost use Rattle.script_calls.specs.ReplayHolds.{ReplayHolds, ReplayStepped, with_latest, with_latest_turns};
 
 use crate::setup::ReplaySetup;
-use bytes_printer::Printed;
 use projection_patch::patch::ProjectionPatchEdition;
 use script_answers::session;
 use session_turns::SenderTurns;
@@ -25,7 +24,7 @@ pub struct ReplayState {
 #[derive(Drop)]
 pub struct ReplayStep {
     pub state: ReplayState,
-    pub printed: Printed,
+    pub printed: Option<usize>,
     pub stopped: bool,
 }
 
@@ -51,7 +50,7 @@ pub fn with_turns(state: ReplayState, turns: SenderTurns) -> ReplayState
 pub fn no_session(state: ReplayState, out: &mut [u8]) -> ReplayStep
     ensures { (m : State) → ReplayHolds state m → ReplayStepped state out.old out.new result (onward m no_session_line) }
 {
-    let start = Printed::Next(0);
+    let start = Some(0);
     let printed = session::print_no_session(out, start);
     ReplayStep {
         state,

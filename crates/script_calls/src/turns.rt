@@ -10,7 +10,6 @@ ghost use Rattle.script_calls.specs.ReplayHolds.{ReplayHolds, ReplayStepped};
 
 use crate::state;
 use crate::state::{ReplayState, ReplayStep};
-use bytes_printer::Printed;
 use session_lifecycle::state::ProjectionReplayCursor;
 use session_turns::{SenderTurns, SetUpAnswer};
 
@@ -31,7 +30,7 @@ pub fn set_up(state: ReplayState, senders: u64, out: &mut [u8]) -> ReplayStep
     let own = state.turns;
     let step = SenderTurns::new(senders as usize);
     let answer = step.answer;
-    let start = Printed::Next(0);
+    let start = Some(0);
     let printed = script_answers::turns::print_set_up(out, start, answer);
     let made = step.turns;
     let after = after_set_up(own, answer, made);
@@ -52,7 +51,7 @@ pub fn register(state: ReplayState, sender: u64, out: &mut [u8]) -> ReplayStep
     if 0 < own.senders {
         let step = own.register(sender as usize);
         let answer = step.answer;
-        let start = Printed::Next(0);
+        let start = Some(0);
         let printed = script_answers::turns::print_registration(out, start, answer);
         let waiting = step.turns;
         let next = state::with_turns(state, waiting);
@@ -74,7 +73,7 @@ fn turn_at(state: ReplayState, cursor: ProjectionReplayCursor, out: &mut [u8]) -
     if 0 < own.senders {
         let step = own.turn(cursor);
         let answer = step.answer;
-        let start = Printed::Next(0);
+        let start = Some(0);
         let printed = script_answers::turns::print_turn(out, start, answer);
         let spent = step.turns;
         let next = state::with_turns(state, spent);

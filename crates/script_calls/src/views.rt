@@ -8,7 +8,6 @@ ghost use Rattle.script_calls.specs.ReplayHolds.{ReplayHolds, ReplayStepped};
 
 use crate::state;
 use crate::state::{ReplayState, ReplayStep};
-use bytes_printer::Printed;
 use script_answers::value;
 
 // The projection as a listing.
@@ -19,7 +18,7 @@ pub fn show(state: ReplayState, out: &mut [u8]) -> ReplayStep
     if state.exists {
         let session = state.session;
         let projection = session.local_projection;
-        let start = Printed::Next(0);
+        let start = Some(0);
         let printed = listing_lines::tables::print_projection(out, start, projection);
         return ReplayStep {
             state,
@@ -38,7 +37,7 @@ pub fn binding_value(state: ReplayState, node: u64, slot: u32, out: &mut [u8]) -
     if state.exists {
         let session = state.session;
         let lookup = session.binding_value(node, slot);
-        let start = Printed::Next(0);
+        let start = Some(0);
         let printed = value::print_value(out, start, lookup);
         return ReplayStep {
             state,
@@ -57,7 +56,7 @@ pub fn node_availability(state: ReplayState, node: u64, out: &mut [u8]) -> Repla
     if state.exists {
         let session = state.session;
         let lookup = session.node_availability(node);
-        let start = Printed::Next(0);
+        let start = Some(0);
         let printed = value::print_availability(out, start, lookup);
         return ReplayStep {
             state,
@@ -76,7 +75,7 @@ pub fn entry_value(state: ReplayState, collection: u64, key: u64, out: &mut [u8]
     if state.exists {
         let session = state.session;
         let lookup = session.entry_value(collection, key);
-        let start = Printed::Next(0);
+        let start = Some(0);
         let printed = value::print_value(out, start, lookup);
         return ReplayStep {
             state,
@@ -95,7 +94,7 @@ pub fn collection_length(state: ReplayState, collection: u64, out: &mut [u8]) ->
     if state.exists {
         let session = state.session;
         let length = session.collection_length(collection);
-        let start = Printed::Next(0);
+        let start = Some(0);
         let printed = listing_lines::print_number_line(out, start, 90, length);
         return ReplayStep {
             state,

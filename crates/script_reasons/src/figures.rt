@@ -9,13 +9,12 @@ ghost use Rattle.projection_patch.specs.ReadAnswers.{optional_of};
 ghost use Rattle.patch_locate.specs.Answers.{inside_of};
 ghost use Rattle.session_explain.specs.Meaning.{finding_place_of, printed_reason_of};
 
-use bytes_printer::Printed;
 use check_set::check_set::CheckPlace;
 use patch_locate::rules::Inside;
 use projection_patch::read_values::OptionalNumber;
 use session_explain::reasons::BatchReason;
 
-fn print_two(out: &mut [u8], at: Printed, a: u64, b: u64) -> Printed
+fn print_two(out: &mut [u8], at: Option<usize>, a: u64, b: u64) -> Option<usize>
     ensures { Prints out.old at (fields (decimal a ∷ decimal b ∷ [])) out.new result }
 {
     let first = bytes_printer::print_field_u64(out, at, a);
@@ -23,14 +22,14 @@ fn print_two(out: &mut [u8], at: Printed, a: u64, b: u64) -> Printed
     bytes_printer::print_newline(out, second)
 }
 
-fn print_three(out: &mut [u8], at: Printed, a: u64, b: u64, c: u64) -> Printed
+fn print_three(out: &mut [u8], at: Option<usize>, a: u64, b: u64, c: u64) -> Option<usize>
     ensures { Prints out.old at (fields (decimal a ∷ decimal b ∷ decimal c ∷ [])) out.new result }
 {
     let first = bytes_printer::print_field_u64(out, at, a);
     print_two(out, first, b, c)
 }
 
-fn print_four(out: &mut [u8], at: Printed, a: u64, b: u64, c: u64, d: u64) -> Printed
+fn print_four(out: &mut [u8], at: Option<usize>, a: u64, b: u64, c: u64, d: u64) -> Option<usize>
     ensures { Prints out.old at (fields (decimal a ∷ decimal b ∷ decimal c ∷ decimal d ∷ [])) out.new result }
 {
     let first = bytes_printer::print_field_u64(out, at, a);
@@ -38,14 +37,14 @@ fn print_four(out: &mut [u8], at: Printed, a: u64, b: u64, c: u64, d: u64) -> Pr
 }
 
 // None, and the end of the line.
-fn print_none(out: &mut [u8], at: Printed) -> Printed
+fn print_none(out: &mut [u8], at: Option<usize>) -> Option<usize>
     ensures { Prints out.old at (fields (dash ∷ [])) out.new result }
 {
     let none = bytes_printer::print_field_bytes(out, at, b"-");
     bytes_printer::print_newline(out, none)
 }
 
-fn print_inside(out: &mut [u8], at: Printed, inside: Inside) -> Printed
+fn print_inside(out: &mut [u8], at: Option<usize>, inside: Inside) -> Option<usize>
     ensures { Prints out.old at (fields (inside_fields (inside_of inside))) out.new result }
 {
     match inside {
@@ -61,7 +60,7 @@ fn print_inside(out: &mut [u8], at: Printed, inside: Inside) -> Printed
     }
 }
 
-fn print_takes(out: &mut [u8], at: Printed, takes: OptionalNumber) -> Printed
+fn print_takes(out: &mut [u8], at: Option<usize>, takes: OptionalNumber) -> Option<usize>
     ensures { Prints out.old at (fields (takes_field (optional_of takes) ∷ [])) out.new result }
 {
     match takes {
@@ -73,7 +72,7 @@ fn print_takes(out: &mut [u8], at: Printed, takes: OptionalNumber) -> Printed
     }
 }
 
-fn print_place(out: &mut [u8], at: Printed, place: CheckPlace) -> Printed
+fn print_place(out: &mut [u8], at: Option<usize>, place: CheckPlace) -> Option<usize>
     ensures { Prints out.old at (spaced_field (place_field (finding_place_of place))) out.new result }
 {
     match place {
@@ -83,7 +82,7 @@ fn print_place(out: &mut [u8], at: Printed, place: CheckPlace) -> Printed
 }
 
 // The figures of a reason.
-pub fn print_figures(out: &mut [u8], at: Printed, reason: BatchReason) -> Printed
+pub fn print_figures(out: &mut [u8], at: Option<usize>, reason: BatchReason) -> Option<usize>
     ensures { Prints out.old at (fields (figure_fields (printed_reason_of reason))) out.new result }
 {
     match reason {

@@ -9,11 +9,10 @@ ghost use Rattle.spec_replay.specs.Reasons.{reason_line};
 ghost use Rattle.bytes_printer.specs.Prints.{Prints};
 ghost use Rattle.session_explain.specs.Meaning.{printed_reason_of, explanation_of};
 
-use bytes_printer::Printed;
 use session_explain::numbers;
 use session_explain::reasons::{BatchExplanation, BatchReason};
 
-fn print_given(out: &mut [u8], at: Printed, reason: BatchReason) -> Printed
+fn print_given(out: &mut [u8], at: Option<usize>, reason: BatchReason) -> Option<usize>
     ensures { Prints out.old at (reason_line (given (printed_reason_of reason))) out.new result }
 {
     let letter = bytes_printer::print_byte(out, at, 87);
@@ -23,7 +22,7 @@ fn print_given(out: &mut [u8], at: Printed, reason: BatchReason) -> Printed
 }
 
 // The answer of explain.
-pub fn print_reason(out: &mut [u8], at: Printed, explanation: BatchExplanation) -> Printed
+pub fn print_reason(out: &mut [u8], at: Option<usize>, explanation: BatchExplanation) -> Option<usize>
     ensures { Prints out.old at (reason_line (explanation_of explanation)) out.new result }
 {
     match explanation {

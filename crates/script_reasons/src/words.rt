@@ -7,11 +7,10 @@ ghost use Rattle.bytes_printer.specs.Prints.{spaced_field, Prints};
 ghost use Rattle.patch_locate.specs.Answers.{reading_rule_of};
 ghost use Rattle.session_explain.specs.Meaning.{limit_of, operation_rule_of, printed_reason_of};
 
-use bytes_printer::Printed;
 use patch_locate::rules::ReadingRule;
 use session_explain::reasons::{BatchReason, DeclaredLimit, OperationRule};
 
-fn print_limit(out: &mut [u8], at: Printed, which: DeclaredLimit) -> Printed
+fn print_limit(out: &mut [u8], at: Option<usize>, which: DeclaredLimit) -> Option<usize>
     ensures { Prints out.old at (spaced_field (limit_word (limit_of which))) out.new result }
 {
     match which {
@@ -25,7 +24,7 @@ fn print_limit(out: &mut [u8], at: Printed, which: DeclaredLimit) -> Printed
     }
 }
 
-fn print_reading(out: &mut [u8], at: Printed, rule: ReadingRule) -> Printed
+fn print_reading(out: &mut [u8], at: Option<usize>, rule: ReadingRule) -> Option<usize>
     ensures { Prints out.old at (spaced_field (reading_word (reading_rule_of rule))) out.new result }
 {
     match rule {
@@ -55,7 +54,7 @@ fn print_reading(out: &mut [u8], at: Printed, rule: ReadingRule) -> Printed
     }
 }
 
-fn print_operation(out: &mut [u8], at: Printed, rule: OperationRule) -> Printed
+fn print_operation(out: &mut [u8], at: Option<usize>, rule: OperationRule) -> Option<usize>
     ensures { Prints out.old at (spaced_field (operation_word (operation_rule_of rule))) out.new result }
 {
     match rule {
@@ -77,7 +76,7 @@ fn print_operation(out: &mut [u8], at: Printed, rule: OperationRule) -> Printed
 }
 
 // The rule's name.
-pub fn print_word(out: &mut [u8], at: Printed, reason: BatchReason) -> Printed
+pub fn print_word(out: &mut [u8], at: Option<usize>, reason: BatchReason) -> Option<usize>
     ensures { Prints out.old at (spaced_field (reason_word (printed_reason_of reason))) out.new result }
 {
     match reason {

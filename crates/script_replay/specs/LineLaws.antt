@@ -1,5 +1,6 @@
 -- Laws of the lines: what prints nothing, and what a decoded set is.
-use Rattle.std.specs.Prelude.{ℕ, ◌-◌, ◌≤◌, ◌<◌, Bool, List, [], drop, if◌then◌else◌}
+use Rattle.std.specs.Prelude as code
+use Rattle.std.specs.Prelude.{ℕ, ◌-◌, ◌≤◌, ◌<◌, Bool, List, [], drop, if◌then◌else◌, Some}
 use Rattle.std.proofs.Math.Path.{◌≡◌, refl, ap}
 use Rattle.std.proofs.Common.{sym, subst, ◌∙◌, length-drop}
 use Rattle.std.proofs.Math.Bool.{true, false}
@@ -11,8 +12,6 @@ use Rattle.std.proofs.Math.ListN.{length, take}
 use Rattle.spec_replay.specs.Hex.{read_hex}
 use Rattle.spec_replay.specs.Script.{Command, other, line_bytes, given, command}
 use Rattle.spec_replay.specs.Replay.{State, onward, replay_line}
-use Rattle.bytes_printer.specs.declared.Printed.{Printed}
-use Rattle.bytes_printer.specs.declared.Printed.TheVariants.{Next}
 use Rattle.bytes_printer.specs.Prints.{Prints}
 use Rattle.bytes_printer.proofs.PrintsLaws.{nothing_printed}
 use Rattle.bytes_hex.specs.declared.Decoded.{Decoded}
@@ -31,14 +30,14 @@ use Rattle.script_calls.specs.ReplayHoldsLaws.{step_goes_on}
 use Rattle.script_replay.specs.SetupLines.{next_setup, setup_line}
 
 -- a line that prints nothing leaves the slice as it was
-pub silent_step : (s : ReplayState) (l : List ℕ) (r : ReplayStep) (m : State) → r.stopped ≡ false → r.printed ≡ Next 0 → ReplayHolds r.state m → ReplayStepped s l l r (onward m [])
-silent_step s l r m goes unprinted h = step_goes_on goes h (subst (λ (p : Printed). Prints l (Next 0) [] l p) (sym unprinted) (nothing_printed l (Next 0) (omega arith)))
+pub silent_step : (s : ReplayState) (l : List ℕ) (r : ReplayStep) (m : State) → r.stopped ≡ false → r.printed ≡ Some 0 → ReplayHolds r.state m → ReplayStepped s l l r (onward m [])
+silent_step s l r m goes unprinted h = step_goes_on goes h (subst (λ (p : code.Option ℕ). Prints l (Some 0) [] l p) (sym unprinted) (nothing_printed l (Some 0) (omega arith)))
 
 -- a line for the next creation
 pub set_up_step : (s : ReplayState) (m : State) → ReplayHolds s m → (t : ReplaySetup) (line : SetupLine) → SetsUp t (next_setup m.setup line) → (n : ℕ) (l : List ℕ)
-    → ReplayStepped s l l (record { state = record { setup = t; exists = s.exists; session = s.session; turns = s.turns; edition = s.edition }; printed = Next 0; stopped = false }) (replay_line n m (setup_of line))
+    → ReplayStepped s l l (record { state = record { setup = t; exists = s.exists; session = s.session; turns = s.turns; edition = s.edition }; printed = Some 0; stopped = false }) (replay_line n m (setup_of line))
 set_up_step s m h t line new n l =
-    subst (ReplayStepped s l l (record { state = record { setup = t; exists = s.exists; session = s.session; turns = s.turns; edition = s.edition }; printed = Next 0; stopped = false })) (setup_line n m line)
+    subst (ReplayStepped s l l (record { state = record { setup = t; exists = s.exists; session = s.session; turns = s.turns; edition = s.edition }; printed = Some 0; stopped = false })) (setup_line n m line)
     (silent_step s l _ _ refl refl (record { setup_is = new; session_is = h.session_is; turns_are = h.turns_are; edition_is = h.edition_is }))
 
 -- ---- lines

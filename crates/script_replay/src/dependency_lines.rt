@@ -2,11 +2,9 @@
 ghost use Rattle.std.specs.Prelude.{replicate};
 ghost use Rattle.spec_dependencies.specs.Answer.{dependencies_of};
 ghost use Rattle.spec_replay.specs.Answers.{dependency_lines};
-ghost use Rattle.bytes_printer.specs.declared.Printed.TheVariants.{Next};
 ghost use Rattle.bytes_printer.specs.Prints.{Prints};
 ghost use Rattle.projection_patch.specs.Meaning.{edition_of};
 
-use bytes_printer::Printed;
 use projection_patch::patch::ProjectionPatchEdition;
 use script_answers::dependencies;
 
@@ -18,11 +16,11 @@ fn print_told(
     edition: ProjectionPatchEdition,
     lent: &mut [u64],
     out: &mut [u8],
-) -> Printed
-    ensures { Prints out.old (Next 0) (dependency_lines (dependencies_of (edition_of edition) set.now lent.old)) out.new result }
+) -> Option<usize>
+    ensures { Prints out.old (Some 0) (dependency_lines (dependencies_of (edition_of edition) set.now lent.old)) out.new result }
 {
     let answer = set_dependencies::depends::depends(set, edition, lent);
-    let start = Printed::Next(0);
+    let start = Some(0);
     dependencies::print_dependencies(out, start, answer, lent)
 }
 
@@ -32,8 +30,8 @@ pub(crate) fn depends_into(
     edition: ProjectionPatchEdition,
     room: u16,
     out: &mut [u8],
-) -> Printed
-    ensures { Prints out.old (Next 0) (dependency_lines (dependencies_of (edition_of edition) set.now (replicate room 0))) out.new result }
+) -> Option<usize>
+    ensures { Prints out.old (Some 0) (dependency_lines (dependencies_of (edition_of edition) set.now (replicate room 0))) out.new result }
 {
     let mut lent = [0u64; PLACES];
     let end = room as usize;

@@ -2,11 +2,9 @@
 ghost use Rattle.std.specs.Prelude.{length};
 ghost use Rattle.spec_import.specs.Import.{import_terms};
 ghost use Rattle.spec_replay.specs.Answers.{import_line};
-ghost use Rattle.bytes_printer.specs.declared.Printed.TheVariants.{Next};
 ghost use Rattle.bytes_printer.specs.Prints.{Prints};
 ghost use Rattle.projection_patch.specs.Meaning.{edition_of, envelope_of};
 
-use bytes_printer::Printed;
 use projection_patch::patch::{ProjectionPatchEdition, ProjectionPatchEnvelope};
 use script_parser::ImportLine;
 
@@ -20,11 +18,11 @@ fn print_imported(
     envelope: ProjectionPatchEnvelope,
     lent: &mut [u8],
     out: &mut [u8],
-) -> Printed
-    ensures { Prints out.old (Next 0) (import_line (import_terms (edition_of edition) collection (envelope_of envelope) list.now (length lent.old))) out.new result }
+) -> Option<usize>
+    ensures { Prints out.old (Some 0) (import_line (import_terms (edition_of edition) collection (envelope_of envelope) list.now (length lent.old))) out.new result }
 {
     let answer = patch_import::import_terms(list, edition, collection, envelope, lent);
-    let start = Printed::Next(0);
+    let start = Some(0);
     script_answers::import::print_import(out, start, answer, lent)
 }
 
@@ -34,8 +32,8 @@ pub(crate) fn import_into(
     edition: ProjectionPatchEdition,
     wanted: ImportLine,
     out: &mut [u8],
-) -> Printed
-    ensures { Prints out.old (Next 0) (import_line (import_terms (edition_of edition) wanted.collection (envelope_of wanted.envelope) list.now wanted.room)) out.new result }
+) -> Option<usize>
+    ensures { Prints out.old (Some 0) (import_line (import_terms (edition_of edition) wanted.collection (envelope_of wanted.envelope) list.now wanted.room)) out.new result }
 {
     let mut lent = [0u8; LENT_BYTES];
     let end = wanted.room as usize;

@@ -5,7 +5,6 @@ ghost use Rattle.spec_replay.specs.Script.{line_bytes};
 ghost use Rattle.spec_conversion.specs.Conversion.{convert};
 ghost use Rattle.spec_replay.specs.Answers.{check_lines, conversion_line};
 ghost use Rattle.spec_replay.specs.Replay.{State, onward, replay_line};
-ghost use Rattle.bytes_printer.specs.declared.Printed.TheVariants.{Next};
 ghost use Rattle.bytes_printer.specs.Prints.{Prints};
 ghost use Rattle.projection_patch.specs.Meaning.{edition_of};
 ghost use Rattle.script_parser.specs.Meaning.{set_from, with_set_of};
@@ -13,7 +12,6 @@ ghost use Rattle.script_calls.specs.ReplayHolds.{ReplayHolds, ReplayStepped};
 
 use crate::{batch_lines, dependency_lines, import_lines, setup_lines};
 use bytes_hex::Decoded;
-use bytes_printer::Printed;
 use projection_patch::patch::ProjectionPatchEdition;
 use script_calls::state::{ReplayState, ReplayStep};
 use script_parser::SetLine;
@@ -24,12 +22,12 @@ const RECORD_NUMBERS: usize = check_set::list_set::FindingsListed::NUMBERS;
 // The longest set that a line can spell.
 const SET_BYTES: usize = 65536;
 
-fn print_checked(set: &[u8], edition: ProjectionPatchEdition, out: &mut [u8]) -> Printed
-    ensures { Prints out.old (Next 0) (check_lines (read_set (edition_of edition) set.now)) out.new result }
+fn print_checked(set: &[u8], edition: ProjectionPatchEdition, out: &mut [u8]) -> Option<usize>
+    ensures { Prints out.old (Some 0) (check_lines (read_set (edition_of edition) set.now)) out.new result }
 {
     let mut records = [0u64; RECORD_NUMBERS];
     let answer = check_set::check_set::check(set, edition, &mut records);
-    let start = Printed::Next(0);
+    let start = Some(0);
     script_answers::check::print_check(out, start, answer, &records)
 }
 
@@ -38,17 +36,17 @@ fn print_converted(
     edition: ProjectionPatchEdition,
     lent: &mut [u8],
     out: &mut [u8],
-) -> Printed
-    ensures { Prints out.old (Next 0) (conversion_line (convert (edition_of edition) set.now (length lent.old))) out.new result }
+) -> Option<usize>
+    ensures { Prints out.old (Some 0) (conversion_line (convert (edition_of edition) set.now (length lent.old))) out.new result }
 {
     let answer = patch_converter::convert(set, edition, lent);
-    let start = Printed::Next(0);
+    let start = Some(0);
     script_answers::conversion::print_conversion(out, start, answer, lent)
 }
 
 // A conversion into so many bytes, all zero.
-fn convert_into(set: &[u8], edition: ProjectionPatchEdition, room: u16, out: &mut [u8]) -> Printed
-    ensures { Prints out.old (Next 0) (conversion_line (convert (edition_of edition) set.now room)) out.new result }
+fn convert_into(set: &[u8], edition: ProjectionPatchEdition, room: u16, out: &mut [u8]) -> Option<usize>
+    ensures { Prints out.old (Some 0) (conversion_line (convert (edition_of edition) set.now room)) out.new result }
 {
     let mut lent = [0u8; SET_BYTES];
     let end = room as usize;
@@ -56,8 +54,8 @@ fn convert_into(set: &[u8], edition: ProjectionPatchEdition, room: u16, out: &mu
 }
 
 // The state stays where something was printed.
-fn answered(state: ReplayState, printed: Printed) -> ReplayStep
-    ensures { (m : State) → ReplayHolds state m → (before after lines : List ℕ) → Prints before (Next 0) lines after printed → ReplayStepped state before after result (onward m lines) }
+fn answered(state: ReplayState, printed: Option<usize>) -> ReplayStep
+    ensures { (m : State) → ReplayHolds state m → (before after lines : List ℕ) → Prints before (Some 0) lines after printed → ReplayStepped state before after result (onward m lines) }
 {
     ReplayStep {
         state,
@@ -78,7 +76,7 @@ fn use_set(state: ReplayState, wanted: SetLine, set: &[u8], out: &mut [u8]) -> R
             answered(state, printed)
         }
         SetLine::List => {
-            let start = Printed::Next(0);
+            let start = Some(0);
             let printed = listing_panel::print_listing(out, start, set, edition);
             answered(state, printed)
         }

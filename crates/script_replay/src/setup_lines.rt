@@ -11,7 +11,6 @@ ghost use Rattle.script_calls.specs.ReplayHolds.{ReplayHolds, ReplayStepped};
 ghost use Rattle.script_replay.specs.SetupLines.{next_setup};
 
 use active_projection_target_catalog::catalog::{ActiveProjectionTargetCatalog, BindingPair};
-use bytes_printer::Printed;
 use projection_patch::patch::ProjectionPatchEdition;
 use script_answers::session;
 use script_calls::setup::ReplaySetup;
@@ -59,7 +58,7 @@ pub(crate) fn nothing(state: ReplayState) -> ReplayStep
 {
     ReplayStep {
         state,
-        printed: Printed::Next(0),
+        printed: Some(0),
         stopped: false,
     }
 }
@@ -89,7 +88,7 @@ pub(crate) fn set_up(state: ReplayState, line: SetupLine) -> ReplayStep
     next.setup = setup;
     ReplayStep {
         state: next,
-        printed: Printed::Next(0),
+        printed: Some(0),
         stopped: false,
     }
 }
@@ -110,7 +109,7 @@ pub(crate) fn in_edition(state: ReplayState, edition: ProjectionPatchEdition) ->
     };
     ReplayStep {
         state: next,
-        printed: Printed::Next(0),
+        printed: Some(0),
         stopped: false,
     }
 }
@@ -119,7 +118,7 @@ pub(crate) fn in_edition(state: ReplayState, edition: ProjectionPatchEdition) ->
 pub(crate) fn other(state: ReplayState, number: u64, out: &mut [u8]) -> ReplayStep
     ensures { ReplayStepped state out.old out.new result (stops (other_line number)) }
 {
-    let start = Printed::Next(0);
+    let start = Some(0);
     let printed = session::print_other(out, start, number);
     ReplayStep {
         state,

@@ -4,7 +4,6 @@
 
 ghost use Rattle.std.specs.Prelude.{◌-◌, ◌≤◌, length, IfOk};
 
-use bytes_printer::Printed;
 use script_calls::state::{ReplayState, ReplayStep};
 use script_replay::ANSWER_BYTES;
 use std::rt::Files;
@@ -102,7 +101,7 @@ fn run_part(
 }
 
 // Compares what was printed with the answers from an index on.
-fn compare(printed: Printed, out: &[u8], answers: &[u8], from: usize) -> Compared
+fn compare(printed: Option<usize>, out: &[u8], answers: &[u8], from: usize) -> Compared
     requires { from ≤ length answers.now }
     ensures { result.end ≤ length answers.now }
 {
@@ -110,7 +109,7 @@ fn compare(printed: Printed, out: &[u8], answers: &[u8], from: usize) -> Compare
         is_same: false,
         end: from,
     };
-    if let Printed::Next(len) = printed {
+    if let Some(len) = printed {
         if out.len() < len {
             return compared;
         }

@@ -1,5 +1,4 @@
 -- `bytes_printer::print_field_bytes` meets its contract: a tab, and the field behind it.
-use borrow.Author.Rules.{rules}
 use Rattle.bytes_printer.proofs.PrintsLaws.{◌⨾◌}
 use Rattle.bytes_printer.proofs.print_field_bytes.Goals as goal
 

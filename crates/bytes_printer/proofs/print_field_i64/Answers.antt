@@ -1,7 +1,6 @@
 -- `bytes_printer::print_field_i64` meets its contract: a tab, and the field behind it.
 use mathlib.Core.Path.{ap}
 use mir.Facts.{to_z-of_z}
-use borrow.Author.Rules.{rules}
 use Rattle.spec_decimal.specs.Decimal.{signed_decimal}
 use Rattle.bytes_printer.proofs.PrintsLaws.{◌⨾◌, prints_same}
 use Rattle.bytes_printer.proofs.print_field_i64.Goals as goal

@@ -1,5 +1,4 @@
 -- `bytes_printer::print_field_u64` meets its contract: a tab, and the field behind it.
-use borrow.Author.Rules.{rules}
 use Rattle.bytes_printer.proofs.PrintsLaws.{◌⨾◌}
 use Rattle.bytes_printer.proofs.print_field_u64.Goals as goal
 

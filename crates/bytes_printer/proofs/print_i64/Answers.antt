@@ -7,7 +7,6 @@ use mir.Facts.{to_z-of_z}
 use Rattle.bytes_wire.proofs.Complement.{Below, below, AtLeast, at_least}
 use Rattle.bytes_printer.proofs.PrintsLaws.{◌⨾◌, prints_same}
 use Rattle.bytes_printer.proofs.Signs.{signed_below, signed_at_least}
-use borrow.Author.Rules.{rules}
 use Rattle.bytes_printer.proofs.print_i64.Goals as goal
 use Rattle.bytes_printer.proofs.print_i64.Goals.{After-print_u64-arg-1, Else-z-lt0, Then-z-lt0}
 

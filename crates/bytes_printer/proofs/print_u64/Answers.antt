@@ -1,6 +1,5 @@
 -- `bytes_printer::print_u64` meets its contract: the digits are what stands in their array from their start on.
 use native.Mathlib.Omega.{arith}
-use borrow.Author.Rules.{rules}
 use Rattle.bytes_decimal.specs.PrintLaws.{digits_long, digits_behind}
 use Rattle.bytes_printer.proofs.PrintsLaws.{prints_same}
 use Rattle.bytes_printer.proofs.print_u64.Goals as goal

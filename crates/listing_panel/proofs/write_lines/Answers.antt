@@ -16,28 +16,28 @@ returns-in_default c =
 
 pub returns-then-text-len : goal.returns-then-text-len
 returns-then-text-len c =
-    record { lines = (λ lines h. absurd (omega (arith, within_text c.args.text.now c.args.end lines h c.in-Next.len c.in-Next.is))); kept = refl }
+    record { lines = (λ lines h. absurd (omega (arith, within_text c.args.text.now c.args.end lines h c.in-Some.len c.in-Some.is))); kept = refl }
 
 pub returns-then-write_bytes_at : goal.returns-then-write_bytes_at
 returns-then-write_bytes_at c =
-    let part = take (c.in-Next.len - 0) c.args.text.now in
+    let part = take (c.in-Some.len - 0) c.args.text.now in
     let room = sym c.write_bytes_at.ensures.value ∙ c.if-write_bytes_at.true in
-    let whole : c.in-Next.len - 0 ≡ c.in-Next.len = omega arith in record {
+    let whole : c.in-Some.len - 0 ≡ c.in-Some.len = omega arith in record {
       lines = (λ lines h.
-          let same = text_part c.args.text.now c.args.end lines h c.in-Next.len c.in-Next.is in
-          wrote_lines c.args.out.now lines _ c.in-Next.len (ended_at c.args.text.now c.args.end lines h c.in-Next.len c.in-Next.is)
+          let same = text_part c.args.text.now c.args.end lines h c.in-Some.len c.in-Some.is in
+          wrote_lines c.args.out.now lines _ c.in-Some.len (ended_at c.args.text.now c.args.end lines h c.in-Some.len c.in-Some.is)
           (c.write_bytes_at.ensures.out_after ∙ ap (overwrite c.args.out.now 0) same)
           (ap (λ (l : List ℕ). has_room c.args.out.now 0 (length l)) (sym same) ∙ room));
-      kept = kept_behind c.args.out.now part _ c.write_bytes_at.ensures.out_after c.in-Next.len (length-take-le (c.in-Next.len - 0) c.args.text.now (omega arith) ∙ whole) room;
+      kept = kept_behind c.args.out.now part _ c.write_bytes_at.ensures.out_after c.in-Some.len (length-take-le (c.in-Some.len - 0) c.args.text.now (omega arith) ∙ whole) room;
     }
 
 pub returns : goal.returns
 returns c =
-    let part = take (c.in-Next.len - 0) c.args.text.now in
+    let part = take (c.in-Some.len - 0) c.args.text.now in
     let full = sym c.write_bytes_at.ensures.value ∙ c.if-write_bytes_at.false in record {
       lines = (λ lines h.
-          let same = text_part c.args.text.now c.args.end lines h c.in-Next.len c.in-Next.is in
-          refused_lines c.args.out.now lines _ c.in-Next.len (ended_at c.args.text.now c.args.end lines h c.in-Next.len c.in-Next.is)
+          let same = text_part c.args.text.now c.args.end lines h c.in-Some.len c.in-Some.is in
+          refused_lines c.args.out.now lines _ c.in-Some.len (ended_at c.args.text.now c.args.end lines h c.in-Some.len c.in-Some.is)
           (c.write_bytes_at.ensures.out_after ∙ ap (overwrite c.args.out.now 0) same)
           (ap (λ (l : List ℕ). has_room c.args.out.now 0 (length l)) (sym same) ∙ full));
       kept = kept_whole c.args.out.now part _ c.write_bytes_at.ensures.out_after full;

@@ -13,16 +13,16 @@ returns-in_default c = record { printed = (λ print h. absurd (some_end h c.in_d
 
 pub returns-then-text-len : goal.returns-then-text-len
 returns-then-text-len c =
-    record { printed = (λ print h. absurd (omega (arith, ends_in_text h c.in-Next.len c.in-Next.is))); kept = refl }
+    record { printed = (λ print h. absurd (omega (arith, ends_in_text h c.in-Some.len c.in-Some.is))); kept = refl }
 
 pub returns-then-write_bytes_at : goal.returns-then-write_bytes_at
 returns-then-write_bytes_at c =
-    let whole : c.in-Next.len - 0 ≡ c.in-Next.len = omega arith in
-    let part = take (c.in-Next.len - 0) c.args.text.now in
-    let room = sym c.write_bytes_at.ensures.value ∙ c.if-write_bytes_at.true in record { printed = (λ print h. print_written c.args.out.now part _ c.write_bytes_at.ensures.out_after room print (whole_part h c.in-Next.len c.in-Next.is (c.in-Next.len - 0) whole) c.in-Next.len (ends_at h c.in-Next.len c.in-Next.is)); kept = behind_stays c.args.out.now part _ c.write_bytes_at.ensures.out_after c.in-Next.len (length-take-le (c.in-Next.len - 0) c.args.text.now (omega arith) ∙ whole) room }
+    let whole : c.in-Some.len - 0 ≡ c.in-Some.len = omega arith in
+    let part = take (c.in-Some.len - 0) c.args.text.now in
+    let room = sym c.write_bytes_at.ensures.value ∙ c.if-write_bytes_at.true in record { printed = (λ print h. print_written c.args.out.now part _ c.write_bytes_at.ensures.out_after room print (whole_part h c.in-Some.len c.in-Some.is (c.in-Some.len - 0) whole) c.in-Some.len (ends_at h c.in-Some.len c.in-Some.is)); kept = behind_stays c.args.out.now part _ c.write_bytes_at.ensures.out_after c.in-Some.len (length-take-le (c.in-Some.len - 0) c.args.text.now (omega arith) ∙ whole) room }
 
 pub returns : goal.returns
 returns c =
-    let whole : c.in-Next.len - 0 ≡ c.in-Next.len = omega arith in
-    let part = take (c.in-Next.len - 0) c.args.text.now in
-    let full = sym c.write_bytes_at.ensures.value ∙ c.if-write_bytes_at.false in record { printed = (λ print h. print_refused c.args.out.now part _ c.write_bytes_at.ensures.out_after full print (whole_part h c.in-Next.len c.in-Next.is (c.in-Next.len - 0) whole)); kept = all_stays c.args.out.now part _ c.write_bytes_at.ensures.out_after full }
+    let whole : c.in-Some.len - 0 ≡ c.in-Some.len = omega arith in
+    let part = take (c.in-Some.len - 0) c.args.text.now in
+    let full = sym c.write_bytes_at.ensures.value ∙ c.if-write_bytes_at.false in record { printed = (λ print h. print_refused c.args.out.now part _ c.write_bytes_at.ensures.out_after full print (whole_part h c.in-Some.len c.in-Some.is (c.in-Some.len - 0) whole)); kept = all_stays c.args.out.now part _ c.write_bytes_at.ensures.out_after full }

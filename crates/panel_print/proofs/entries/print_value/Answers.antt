@@ -22,4 +22,4 @@ returns-in_default c =
 pub returns : goal.returns
 returns c =
     let made = printed_whole c.print_scalar.ensures (omega (arith, scalar_few c.args.value, length-replicate {A = ℕ} scalar_most 0)) in
-    prints_same (ap (flowed_bytes 0) (c.key_part-2.ensures ∙ whole_part made c.in-Next.len c.in-Next.is _ refl ∙ sym (no_text_bytes c.args.value c.if-value-eq3.false))) c.print_columns-2.ensures
+    prints_same (ap (flowed_bytes 0) (c.key_part-2.ensures ∙ whole_part made c.in-Some.len c.in-Some.is _ refl ∙ sym (no_text_bytes c.args.value c.if-value-eq3.false))) c.print_columns-2.ensures
