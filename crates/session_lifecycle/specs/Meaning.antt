@@ -1,5 +1,6 @@
 -- What the types of this crate stand for in spec_session.
-use Rattle.std.specs.Prelude.{[]}
+use Rattle.std.specs.Prelude as code
+use Rattle.std.specs.Prelude.{[], ◌≡◌, ℕ}
 use Rattle.std.proofs.Math.Option.{Option, none, some}
 use Rattle.spec_projection.specs.Projection.{empty}
 use Rattle.spec_session.specs.Session as model
@@ -21,8 +22,6 @@ use Rattle.session_lifecycle.specs.declared.lifecycle.ShellLifecycleStimulus.The
 use Rattle.session_lifecycle.specs.declared.lifecycle.ShellTransitionDisposition.{ShellTransitionDisposition}
 use Rattle.session_lifecycle.specs.declared.lifecycle.ShellTransitionDisposition.TheVariants.{Applied, NoChange, Rejected}
 use Rattle.session_lifecycle.specs.declared.lifecycle.ShellTransitionResult.{ShellTransitionResult}
-use Rattle.session_lifecycle.specs.declared.lifecycle.LifecycleCandidate.{LifecycleCandidate}
-use Rattle.session_lifecycle.specs.declared.lifecycle.LifecycleCandidate.TheVariants.{Enters, Invalid}
 
 -- ---- refusals and diagnostics
 
@@ -94,9 +93,9 @@ unfoldable pub stimulus_of : ShellLifecycleStimulus → step.Stimulus
 stimulus_of (Command c) = command_of c
 stimulus_of ExplicitNoOp = step.no_op
 
-unfoldable pub candidate_of : LifecycleCandidate → Option model.Lifecycle
-candidate_of (Enters l) = some (lifecycle_of l)
-candidate_of Invalid = none
+abbrev pub candidate_of : code.Option ShellLifecycle → Option model.Lifecycle
+candidate_of (code.Some l) = some (lifecycle_of l)
+candidate_of code.None = none
 
 unfoldable pub disposition_means : ShellTransitionDisposition → step.Disposition
 disposition_means Applied = step.applied
@@ -110,3 +109,8 @@ answer_of r = record {
   stimulus_bytes = r.stimulus_bytes;
   diagnostics = diagnostics_mean r.diagnostics;
 }
+
+-- what a step comes to that enters a lifecycle or refuses
+abbrev pub entered_or_refused : model.Session → step.Stimulus → ℕ → code.Result ShellLifecycle ShellRefusal → step.LifecycleStep
+entered_or_refused s u b (code.Ok l) = step.enter_lifecycle s b (step.disposition_of u) (lifecycle_of l)
+entered_or_refused s u b (code.Err r) = step.reject_lifecycle s b (refusal_of r)

@@ -1,5 +1,5 @@
 // Refusals of session answers, and diagnostics under the cap.
-ghost use Rattle.std.specs.Prelude.{◌≡◌, min};
+ghost use Rattle.std.specs.Prelude.{◌≡◌};
 ghost use Rattle.spec_lists.specs.Lists.{or_zero};
 ghost use Rattle.spec_session.specs.Diagnostics.{session_number, stage_of, no_diagnostics, diagnostics_of};
 ghost use Rattle.session_lifecycle.specs.Meaning.{refusal_of, diagnostics_mean};
@@ -81,23 +81,15 @@ pub fn no_diagnostics() -> ShellDiagnostics
     }
 }
 
-fn least(a: u64, b: u64) -> u64
-    ensures { result ≡ min a b }
-{
-    if a < b { a } else { b }
-}
-
 // So many diagnostics of a refusal, under the cap.
 pub fn apply_diagnostic_cap(cap: u64, refusal: ShellRefusal, logical: u64) -> ShellDiagnostics
     ensures { diagnostics_mean result ≡ diagnostics_of cap (refusal_of refusal) logical }
 {
-    let emitted = least(logical, cap);
+    let emitted = logical.min(cap);
     if emitted == 0 {
         return ShellDiagnostics {
-            stable_code: 0,
-            evaluation_stage: 0,
             logical_diagnostic_count: logical,
-            emitted_diagnostic_count: 0,
+            ..no_diagnostics()
         };
     }
     ShellDiagnostics {

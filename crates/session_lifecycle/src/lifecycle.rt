@@ -1,8 +1,8 @@
 // The lifecycle transition of a session, on its limits and its state.
 ghost use Rattle.std.specs.Prelude.{◌≡◌};
-ghost use Rattle.spec_session.specs.Session.{Limits, created, active, suspended};
+ghost use Rattle.spec_session.specs.Session.{Limits};
 ghost use Rattle.spec_session.specs.Lifecycle.{transition, is_closed, disposition_of, reject_lifecycle, enter_lifecycle, lifecycle_step};
-ghost use Rattle.session_lifecycle.specs.Meaning.{refusal_of, lifecycle_of, command_of, stimulus_of, candidate_of, disposition_means, answer_of, limits_of, shell_state_of, bare};
+ghost use Rattle.session_lifecycle.specs.Meaning.{refusal_of, lifecycle_of, command_of, stimulus_of, candidate_of, disposition_means, answer_of, limits_of, shell_state_of, bare, entered_or_refused};
 
 use crate::diagnostics::{ShellDiagnostics, ShellRefusal, apply_diagnostic_cap, no_diagnostics};
 use crate::state::{ShellLifecycle, ShellLifecycleLimits, ShellLocalState};
@@ -21,7 +21,7 @@ pub enum ShellLifecycleStimulus {
     ExplicitNoOp,
 }
 
-#[derive(Drop)]
+#[derive(Clone, Copy)]
 pub struct ShellTransitionInput {
     pub stimulus: ShellLifecycleStimulus,
     pub stimulus_bytes: u64,
@@ -42,54 +42,23 @@ pub struct ShellTransitionResult {
     pub stimulus_bytes: u64,
 }
 
-// The lifecycle that a command enters, if the pair is listed.
-#[derive(Drop)]
-pub enum LifecycleCandidate {
-    Enters(ShellLifecycle),
-    Invalid,
-}
-
 pub fn is_closed(lifecycle: ShellLifecycle) -> bool
     ensures { result ≡ is_closed (lifecycle_of lifecycle) }
 {
-    match lifecycle {
-        ShellLifecycle::Created => false,
-        ShellLifecycle::Active => false,
-        ShellLifecycle::Suspended => false,
-        ShellLifecycle::Closed => true,
-    }
+    matches!(lifecycle, ShellLifecycle::Closed)
 }
 
-fn from_created(command: ShellLifecycleCommand) -> LifecycleCandidate
-    ensures { candidate_of result ≡ transition created (command_of command) }
+// The lifecycle that a command enters, if the pair is listed.
+fn entered_by(previous: ShellLifecycle, command: ShellLifecycleCommand) -> Option<ShellLifecycle>
+    ensures { candidate_of result ≡ transition (lifecycle_of previous) (command_of command) }
 {
-    match command {
-        ShellLifecycleCommand::Activate => LifecycleCandidate::Enters(ShellLifecycle::Active),
-        ShellLifecycleCommand::Suspend => LifecycleCandidate::Invalid,
-        ShellLifecycleCommand::Resume => LifecycleCandidate::Invalid,
-        ShellLifecycleCommand::Close => LifecycleCandidate::Enters(ShellLifecycle::Closed),
-    }
-}
-
-fn from_active(command: ShellLifecycleCommand) -> LifecycleCandidate
-    ensures { candidate_of result ≡ transition active (command_of command) }
-{
-    match command {
-        ShellLifecycleCommand::Activate => LifecycleCandidate::Invalid,
-        ShellLifecycleCommand::Suspend => LifecycleCandidate::Enters(ShellLifecycle::Suspended),
-        ShellLifecycleCommand::Resume => LifecycleCandidate::Invalid,
-        ShellLifecycleCommand::Close => LifecycleCandidate::Enters(ShellLifecycle::Closed),
-    }
-}
-
-fn from_suspended(command: ShellLifecycleCommand) -> LifecycleCandidate
-    ensures { candidate_of result ≡ transition suspended (command_of command) }
-{
-    match command {
-        ShellLifecycleCommand::Activate => LifecycleCandidate::Invalid,
-        ShellLifecycleCommand::Suspend => LifecycleCandidate::Invalid,
-        ShellLifecycleCommand::Resume => LifecycleCandidate::Enters(ShellLifecycle::Active),
-        ShellLifecycleCommand::Close => LifecycleCandidate::Enters(ShellLifecycle::Closed),
+    match (previous, command) {
+        (ShellLifecycle::Created, ShellLifecycleCommand::Activate) => Some(ShellLifecycle::Active),
+        (ShellLifecycle::Active, ShellLifecycleCommand::Suspend) => Some(ShellLifecycle::Suspended),
+        (ShellLifecycle::Suspended, ShellLifecycleCommand::Resume) => Some(ShellLifecycle::Active),
+        (ShellLifecycle::Closed, ShellLifecycleCommand::Close) => None,
+        (_, ShellLifecycleCommand::Close) => Some(ShellLifecycle::Closed),
+        _ => None,
     }
 }
 
@@ -97,17 +66,12 @@ fn from_suspended(command: ShellLifecycleCommand) -> LifecycleCandidate
 fn calculate_candidate_lifecycle(
     previous: ShellLifecycle,
     stimulus: ShellLifecycleStimulus,
-) -> LifecycleCandidate
+) -> Option<ShellLifecycle>
     ensures { candidate_of result ≡ transition (lifecycle_of previous) (stimulus_of stimulus) }
 {
     match stimulus {
-        ShellLifecycleStimulus::ExplicitNoOp => LifecycleCandidate::Enters(previous),
-        ShellLifecycleStimulus::Command(command) => match previous {
-            ShellLifecycle::Created => from_created(command),
-            ShellLifecycle::Active => from_active(command),
-            ShellLifecycle::Suspended => from_suspended(command),
-            ShellLifecycle::Closed => LifecycleCandidate::Invalid,
-        },
+        ShellLifecycleStimulus::ExplicitNoOp => Some(previous),
+        ShellLifecycleStimulus::Command(command) => entered_by(previous, command),
     }
 }
 
@@ -145,23 +109,38 @@ fn enter(
 ) -> ShellTransitionResult
     ensures { (l : Limits) → answer_of result ≡ (enter_lifecycle (bare l (shell_state_of previous)) input.stimulus_bytes (disposition_of (stimulus_of input.stimulus)) (lifecycle_of lifecycle)).answer }
 {
-    let stimulus = input.stimulus;
-    let session_id = previous.session_id;
-    let replay_cursor = previous.replay_cursor;
-    let state = ShellLocalState {
-        session_id,
-        lifecycle,
-        replay_cursor,
-    };
     ShellTransitionResult {
-        disposition: disposition_of(stimulus),
-        state,
+        disposition: disposition_of(input.stimulus),
+        state: ShellLocalState {
+            lifecycle,
+            ..previous
+        },
         diagnostics: no_diagnostics(),
         stimulus_bytes: input.stimulus_bytes,
     }
 }
 
 // Closed is refused first, then a pair that is not listed, then a byte figure over the limit.
+fn entered_lifecycle(
+    limits: ShellLifecycleLimits,
+    previous: ShellLocalState,
+    input: ShellTransitionInput,
+) -> Result<ShellLifecycle, ShellRefusal>
+    ensures { entered_or_refused (bare (limits_of limits) (shell_state_of previous)) (stimulus_of input.stimulus) input.stimulus_bytes result
+        ≡ lifecycle_step (bare (limits_of limits) (shell_state_of previous)) (stimulus_of input.stimulus) input.stimulus_bytes }
+{
+    if is_closed(previous.lifecycle) {
+        return Err(ShellRefusal::SessionClosed);
+    }
+    let lifecycle = calculate_candidate_lifecycle(previous.lifecycle, input.stimulus).ok_or(
+        ShellRefusal::InvalidLifecycle,
+    )?;
+    if limits.max_transition_stimulus_bytes < input.stimulus_bytes {
+        return Err(ShellRefusal::ResourceLimitExceeded);
+    }
+    Ok(lifecycle)
+}
+
 pub fn evaluate_lifecycle_transition(
     limits: ShellLifecycleLimits,
     previous: ShellLocalState,
@@ -169,21 +148,8 @@ pub fn evaluate_lifecycle_transition(
 ) -> ShellTransitionResult
     ensures { answer_of result ≡ (lifecycle_step (bare (limits_of limits) (shell_state_of previous)) (stimulus_of input.stimulus) input.stimulus_bytes).answer }
 {
-    let current = previous.lifecycle;
-    let stimulus = input.stimulus;
-    let bytes = input.stimulus_bytes;
-    if is_closed(current) {
-        return reject(limits, previous, bytes, ShellRefusal::SessionClosed);
-    }
-    match calculate_candidate_lifecycle(current, stimulus) {
-        LifecycleCandidate::Invalid => {
-            reject(limits, previous, bytes, ShellRefusal::InvalidLifecycle)
-        }
-        LifecycleCandidate::Enters(lifecycle) => {
-            if limits.max_transition_stimulus_bytes < bytes {
-                return reject(limits, previous, bytes, ShellRefusal::ResourceLimitExceeded);
-            }
-            enter(previous, input, lifecycle)
-        }
+    match entered_lifecycle(limits, previous, input) {
+        Ok(lifecycle) => enter(previous, input, lifecycle),
+        Err(refusal) => reject(limits, previous, input.stimulus_bytes, refusal),
     }
 }

@@ -1,6 +1,5 @@
 -- `disposition_of` meets its contract: commands are applied, the no-op changes nothing.
 use mathlib.Core.Path.{◌≡◌, refl, sym, ap, ◌∙◌}
-use borrow.Author.Rules.{rules}
 use Rattle.spec_session.specs.Lifecycle as step
 use Rattle.spec_session.specs.Lifecycle.{disposition_of}
 use Rattle.session_lifecycle.specs.Meaning.{command_of, stimulus_of, disposition_means}

@@ -1,6 +1,5 @@
 -- `enter` meets its contract.
 use Rattle.spec_session.specs.Lifecycle.{enter_lifecycle, with_lifecycle, state_of}
-use borrow.Author.Rules.{rules}
 use Rattle.session_lifecycle.proofs.lifecycle.enter.Goals as goal
 
 pub returns : goal.returns

@@ -3,7 +3,6 @@ use mathlib.Core.Path.{ap}
 use Rattle.spec_session.specs.Diagnostics.{Diagnostics}
 use Rattle.spec_session.specs.Lifecycle.{rejected, reject_lifecycle, state_of}
 use Rattle.session_lifecycle.specs.Meaning.{shell_state_of, disposition_means}
-use borrow.Author.Rules.{rules}
 use Rattle.session_lifecycle.proofs.lifecycle.reject.Goals as goal
 
 pub returns : goal.returns
