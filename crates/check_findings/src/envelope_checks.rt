@@ -4,45 +4,36 @@ ghost use Rattle.projection_patch.specs.Meaning.{envelope_of};
 ghost use Rattle.spec_checks.specs.Finding.{report};
 ghost use Rattle.spec_checks.specs.PatchChecks.{envelope_findings};
 ghost use Rattle.spec_checks.specs.SetChecks.{sequence_findings, pair_findings};
-ghost use Rattle.check_findings.specs.EnvelopeChecks.{envelope_row, surface_id_of, envelope_listed, pair_listed};
+ghost use Rattle.check_findings.specs.EnvelopeChecks.{envelope_row, optional_listed, envelope_listed, pair_listed};
 
 use check_table::Finding;
 use projection_patch::patch::ProjectionPatchEnvelope;
 
-#[derive(Drop)]
-pub enum OptionalFinding {
-    None,
-    Some(Finding),
-}
-
 // Findings 10, 13 and 14.
-#[derive(Drop)]
+#[derive(Clone, Copy)]
 pub struct EnvelopeFindings {
-    pub revision: OptionalFinding,
-    pub patch_id: OptionalFinding,
-    pub stream_id: OptionalFinding,
+    pub revision: Option<Finding>,
+    pub patch_id: Option<Finding>,
+    pub stream_id: Option<Finding>,
 }
 
 // Findings 7, 8, 9, and one of 12, 5, 11 and 1.
-#[derive(Drop)]
+#[derive(Clone, Copy)]
 pub struct PairFindings {
-    pub document: OptionalFinding,
-    pub epoch: OptionalFinding,
-    pub stream: OptionalFinding,
-    pub sequence: OptionalFinding,
+    pub document: Option<Finding>,
+    pub epoch: Option<Finding>,
+    pub stream: Option<Finding>,
+    pub sequence: Option<Finding>,
 }
 
-pub fn report_if(test: bool, kind: u64, domain: u64, secondary: u64) -> OptionalFinding
-    ensures { surface_id_of result ≡ report test (envelope_row kind domain secondary) }
+pub fn report_if(test: bool, kind: u64, domain: u64, secondary: u64) -> Option<Finding>
+    ensures { optional_listed result ≡ report test (envelope_row kind domain secondary) }
 {
-    if test {
-        return OptionalFinding::Some(Finding {
-            kind,
-            domain,
-            secondary,
-        });
-    }
-    OptionalFinding::None
+    test.then_some(Finding {
+        kind,
+        domain,
+        secondary,
+    })
 }
 
 pub fn envelope_findings(envelope: ProjectionPatchEnvelope) -> EnvelopeFindings
@@ -63,14 +54,14 @@ pub fn envelope_findings(envelope: ProjectionPatchEnvelope) -> EnvelopeFindings
 fn sequence_finding(
     before: ProjectionPatchEnvelope,
     envelope: ProjectionPatchEnvelope,
-) -> OptionalFinding
-    ensures { surface_id_of result ≡ sequence_findings (envelope_of before) (envelope_of envelope) }
+) -> Option<Finding>
+    ensures { optional_listed result ≡ sequence_findings (envelope_of before) (envelope_of envelope) }
 {
     let last = before.sequence.raw();
     let last_id = before.patch_id.raw();
     let sequence = envelope.sequence.raw();
     let id = envelope.patch_id.raw();
-    if last == 0xffff_ffff_ffff_ffff {
+    if last == u64::MAX {
         return report_if(true, 12, last_id, last);
     }
     if sequence == last {

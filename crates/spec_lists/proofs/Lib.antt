@@ -2,3 +2,4 @@ pub mod BytesLaws
 pub mod ListLaws
 pub mod LookupLaws
 pub mod OrderLaws
+pub mod AnyLaws

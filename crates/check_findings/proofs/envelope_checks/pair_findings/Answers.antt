@@ -1,12 +1,10 @@
 -- `check_findings::envelope_checks::pair_findings` meets its contract.
 use Rattle.spec_checks.specs.Finding.{kind_number}
 use Rattle.spec_checks.specs.SetChecks.{pair_findings}
-use Rattle.check_findings.specs.EnvelopeChecks.{pair_listed}
-use borrow.Author.Rules.{rules}
 use Rattle.check_findings.proofs.envelope_checks.pair_findings.Goals as goal
 
 pub returns : goal.returns
-unfolding pair_listed pair_findings kind_number
+unfolding pair_findings kind_number
 returns c =
     rw (
       c.report_if.ensures,

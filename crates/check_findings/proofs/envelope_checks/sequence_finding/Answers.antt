@@ -2,7 +2,6 @@
 use mathlib.Core.Path.{sym, ap, ◌∙◌}
 use Prim.Native.Nat.{ℕ, ◌+◌}
 use Rattle.check_findings.specs.EnvelopeChecksLaws.{overflow_is, duplicate_is, chain_is, out_of_order_is}
-use borrow.Author.Rules.{rules}
 use Rattle.check_findings.proofs.envelope_checks.sequence_finding.Goals as goal
 
 pub returns-then-last : goal.returns-then-last

@@ -1,27 +1,18 @@
--- `check_findings::found::pair_found` meets its contract: the first that is there decides.
-use mathlib.Core.Path.{sym, ◌∙◌}
-use Rattle.check_findings.specs.EnvelopeChecks.{pair_listed}
-use Rattle.check_findings.specs.FoundLaws.{found_first, found_second}
-use borrow.Author.Rules.{rules}
+-- `check_findings::found::pair_found` meets its contract: the tests are those of the list, one after the other.
+use Rattle.std.proofs.Common.{arith}
+use Rattle.std.proofs.lemmas.Bool.Decides.{nat_tests}
+use Rattle.check_findings.specs.FoundLaws.{found_optional, found_next}
 use Rattle.check_findings.proofs.found.pair_found.Goals as goal
+use Rattle.check_findings.proofs.found.pair_found.Goals.{then-is_some, else-is_some, then-is_some-2, else-is_some-2}
 
-pub returns-then-is_found : goal.returns-then-is_found
-unfolding pair_listed
-returns-then-is_found c = sym (found_first _ _ (sym c.is_found.ensures ∙ c.if-is_found.true))
+pub returns-then-is_some-3 : goal.returns-then-is_some-3
+returns-then-is_some-3 c = rw (found_next, found_next, found_next, found_optional) (elim c.if-is_some-2.branch [
+  | then-is_some-2 w ↦ elim c.if-is_some.branch [ then-is_some v ↦ grind (arith, nat_tests) | else-is_some v ↦ grind (arith, nat_tests) ]
+  | else-is_some-2 w ↦ elim c.if-is_some.branch [ then-is_some v ↦ grind (arith, nat_tests) | else-is_some v ↦ grind (arith, nat_tests) ]
+])
 
-pub returns-then-is_found-2 : goal.returns-then-is_found-2
-unfolding pair_listed
-returns-then-is_found-2 c =
-    sym (found_second _ _ (sym c.is_found.ensures ∙ c.if-is_found.false) ∙ found_first _ _ (sym c.is_found-2.ensures ∙ c.if-is_found-2.true))
-
-pub returns-then-is_found-3 : goal.returns-then-is_found-3
-unfolding pair_listed
-returns-then-is_found-3 c =
-    sym (found_second _ _ (sym c.is_found.ensures ∙ c.if-is_found.false) ∙ found_second _ _ (sym c.is_found-2.ensures ∙ c.if-is_found-2.false)
-    ∙ found_first _ _ (sym c.is_found-3.ensures ∙ c.if-is_found-3.true))
-
-pub returns : goal.returns
-unfolding pair_listed
-returns c =
-    c.is_found-4.ensures ∙ sym (found_second _ _ (sym c.is_found.ensures ∙ c.if-is_found.false) ∙ found_second _ _ (sym c.is_found-2.ensures ∙ c.if-is_found-2.false)
-    ∙ found_second _ _ (sym c.is_found-3.ensures ∙ c.if-is_found-3.false))
+pub returns-else-is_some-3 : goal.returns-else-is_some-3
+returns-else-is_some-3 c = rw (found_next, found_next, found_next, found_optional) (elim c.if-is_some-2.branch [
+  | then-is_some-2 w ↦ elim c.if-is_some.branch [ then-is_some v ↦ grind (arith, nat_tests) | else-is_some v ↦ grind (arith, nat_tests) ]
+  | else-is_some-2 w ↦ elim c.if-is_some.branch [ then-is_some v ↦ grind (arith, nat_tests) | else-is_some v ↦ grind (arith, nat_tests) ]
+])

@@ -1,10 +1,7 @@
 -- `check_findings::insert_findings::insert_pair_findings` meets its contract: four findings in their order.
-use Rattle.check_findings.specs.EnvelopeChecks.{pair_listed}
 use Rattle.check_findings.specs.InsertFindingsLaws.{inserted_then}
-use borrow.Author.Rules.{rules}
 use Rattle.check_findings.proofs.insert_findings.insert_pair_findings.Goals as goal
 
 pub returns : goal.returns
-unfolding pair_listed
 returns c =
     let all = inserted_then _ _ _ _ _ _ _ _ (c.insert_optional-one.ensures.counted, c.insert_optional-one.ensures.numbers) (inserted_then _ _ _ _ _ _ _ _ (c.insert_optional-two.ensures.counted, c.insert_optional-two.ensures.numbers) (inserted_then _ _ _ _ _ _ _ _ (c.insert_optional-three.ensures.counted, c.insert_optional-three.ensures.numbers) (c.insert_optional.ensures.counted, c.insert_optional.ensures.numbers))) in record { counted = all.0; numbers = all.1 }
