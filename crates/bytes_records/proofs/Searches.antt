@@ -20,9 +20,9 @@ use Rattle.bytes_records.specs.TableLaws.{rows_fit, row_at_lem, row_cons}
 use Rattle.bytes_records.specs.Keys.{order_of}
 use Rattle.bytes_records.specs.Search.{first_row_number, is_pair, Rising, Starts, next_place, place_of, later}
 use Rattle.bytes_records.specs.SearchLaws.{rising_at, later_none, later_next}
-use Rattle.bytes_records.specs.declared.Place.TheVariants.{Taken, Before}
-use Rattle.bytes_records.specs.declared.keys.Order.TheVariants.{Below, Same, Above}
 use Rattle.bytes_records.proofs.Offsets.{end_le}
+use Rattle.std.specs.Prelude.{Ok, Err}
+use Rattle.std.specs.declared.cmp.Ordering.TheVariants.{Less, Equal, Greater}
 
 -- the lent part that is the row's first eight bytes
 pub row_head_is : {w n : ℕ} {l : List ℕ} (m : List (List ℕ)) (t : HoldsRows w n l m) (i : ℕ) → i < n → 8 ≤ w
@@ -73,29 +73,29 @@ module _ (m : List (List ℕ)) (rising : Rising m) (id second : ℕ) where
 
 -- which test decided how a key stands to another
 module _ (a b : List ℕ) where
-  below_tests : order_of a b ≡ Below → (lex_less b a ≡ false) × (lex_less a b ≡ true)
+  below_tests : order_of a b ≡ Less → (lex_less b a ≡ false) × (lex_less a b ≡ true)
   unfolding order_of
   below_tests e = go (lex_less b a) (lex_less a b) e
     where
-      go : (s t : Bool) → (if s then Above else if t then Below else Same) ≡ Below → (s ≡ false) × (t ≡ true)
+      go : (s t : Bool) → (if s then Greater else if t then Less else Equal) ≡ Less → (s ≡ false) × (t ≡ true)
       go true t e = let z : ◌≡◌ {A = ℕ} 0 1 = cc in absurd (omega arith)
       go false true e = (refl, refl)
       go false false e = let z : ◌≡◌ {A = ℕ} 0 1 = cc in absurd (omega arith)
 
-  same_tests : order_of a b ≡ Same → (lex_less b a ≡ false) × (lex_less a b ≡ false)
+  same_tests : order_of a b ≡ Equal → (lex_less b a ≡ false) × (lex_less a b ≡ false)
   unfolding order_of
   same_tests e = go (lex_less b a) (lex_less a b) e
     where
-      go : (s t : Bool) → (if s then Above else if t then Below else Same) ≡ Same → (s ≡ false) × (t ≡ false)
+      go : (s t : Bool) → (if s then Greater else if t then Less else Equal) ≡ Equal → (s ≡ false) × (t ≡ false)
       go true t e = let z : ◌≡◌ {A = ℕ} 0 1 = cc in absurd (omega arith)
       go false true e = let z : ◌≡◌ {A = ℕ} 0 1 = cc in absurd (omega arith)
       go false false e = (refl, refl)
 
-  above_tests : order_of a b ≡ Above → lex_less b a ≡ true
+  above_tests : order_of a b ≡ Greater → lex_less b a ≡ true
   unfolding order_of
   above_tests e = go (lex_less b a) (lex_less a b) e
     where
-      go : (s t : Bool) → (if s then Above else if t then Below else Same) ≡ Above → s ≡ true
+      go : (s t : Bool) → (if s then Greater else if t then Less else Equal) ≡ Greater → s ≡ true
       go true t e = refl
       go false true e = let z : ◌≡◌ {A = ℕ} 0 1 = cc in absurd (omega arith)
       go false false e = let z : ◌≡◌ {A = ℕ} 0 1 = cc in absurd (omega arith)
@@ -115,28 +115,28 @@ module _ (key : List ℕ → List ℕ) (k : List ℕ) where
       here : place_of key k (drop i m) ≡ place_of key k (get_or m i [] ∷ drop (i + 1) m)
       here = ap (place_of key k) (row_cons t i below)
 
-      pub placed_more : order_of (key (get_or m i [])) k ≡ Below → Placed (i + 1) m
+      pub placed_more : order_of (key (get_or m i [])) k ≡ Less → Placed (i + 1) m
       unfolding place_of Placed
       placed_more e =
           let tests = below_tests (key (get_or m i [])) k e in
           let on : place_of key k (drop i m) ≡ next_place (place_of key k (drop (i + 1) m)) = here ∙ rw (tests.0, tests.1) in
           placed ∙ ap (later i) on ∙ later_next i (place_of key k (drop (i + 1) m))
 
-      pub placed_taken : order_of (key (get_or m i [])) k ≡ Same → place_of key k m ≡ Taken i
+      pub placed_taken : order_of (key (get_or m i [])) k ≡ Equal → place_of key k m ≡ Ok i
       unfolding place_of Placed
       placed_taken e =
           let tests = same_tests (key (get_or m i [])) k e in
-          let on : place_of key k (drop i m) ≡ Taken 0 = here ∙ rw (tests.0, tests.1) in
-          placed ∙ ap (later i) on ∙ ap Taken (add-zero i)
+          let on : place_of key k (drop i m) ≡ Ok 0 = here ∙ rw (tests.0, tests.1) in
+          placed ∙ ap (later i) on ∙ ap Ok (add-zero i)
 
-      pub placed_before : order_of (key (get_or m i [])) k ≡ Above → place_of key k m ≡ Before i
+      pub placed_before : order_of (key (get_or m i [])) k ≡ Greater → place_of key k m ≡ Err i
       unfolding place_of Placed
       placed_before e =
-          let on : place_of key k (drop i m) ≡ Before 0 = here ∙ rw (above_tests (key (get_or m i [])) k e) in
-          placed ∙ ap (later i) on ∙ ap Before (add-zero i)
+          let on : place_of key k (drop i m) ≡ Err 0 = here ∙ rw (above_tests (key (get_or m i [])) k e) in
+          placed ∙ ap (later i) on ∙ ap Err (add-zero i)
 
-    pub placed_all : n ≤ i → i ≤ n → place_of key k m ≡ Before n
+    pub placed_all : n ≤ i → i ≤ n → place_of key k m ≡ Err n
     unfolding place_of Placed
     placed_all past within =
         let gone : length m ≤ i = omega (arith, t.counted) in
-        placed ∙ ap (λ (rest : List (List ℕ)). later i (place_of key k rest)) (drop_of_length-le m gone) ∙ ap Before (omega arith)
+        placed ∙ ap (λ (rest : List (List ℕ)). later i (place_of key k rest)) (drop_of_length-le m gone) ∙ ap Err (omega arith)

@@ -2,8 +2,8 @@
 use Rattle.std.specs.Prelude.{ℕ, List, [], ◌∷◌, take, drop, if◌then◌else◌}
 use Rattle.spec_lists.specs.Bytes.{number_of}
 use Rattle.spec_lists.specs.Order.{lex_less}
-use Rattle.bytes_records.specs.declared.keys.Order.{Order}
-use Rattle.bytes_records.specs.declared.keys.Order.TheVariants.{Below, Same, Above}
+use Rattle.std.specs.declared.cmp.Ordering.{Ordering}
+use Rattle.std.specs.declared.cmp.Ordering.TheVariants.{Less, Equal, Greater}
 
 -- the numbers that a row begins with, each of so many bytes
 unfoldable pub leading_numbers : List ℕ → List ℕ → List ℕ
@@ -11,5 +11,5 @@ leading_numbers [] row = []
 leading_numbers (n ∷ sizes) row = number_of (take n row) ∷ leading_numbers sizes (drop n row)
 
 -- how key a stands to key b
-unfoldable pub order_of : List ℕ → List ℕ → Order
-order_of a b = if lex_less b a then Above else if lex_less a b then Below else Same
+unfoldable pub order_of : List ℕ → List ℕ → Ordering
+order_of a b = if lex_less b a then Greater else if lex_less a b then Less else Equal

@@ -4,10 +4,7 @@ use Rattle.spec_lists.specs.Lists.{All}
 use Rattle.spec_lists.specs.Bytes.{number_of}
 use Rattle.spec_lists.specs.Order.{lex_less}
 use Rattle.bytes_records.specs.Positions.{insert_at, replace_at, first_index}
-use Rattle.bytes_records.specs.declared.Found.{Found}
-use Rattle.bytes_records.specs.declared.Found.TheVariants.{At, Absent}
-use Rattle.bytes_records.specs.declared.Place.{Place}
-use Rattle.bytes_records.specs.declared.Place.TheVariants.{Taken, Before}
+use Rattle.std.specs.Prelude.{Option, Some, None, Result, Ok, Err}
 
 -- ---- the numbers of eight bytes that a row begins with
 
@@ -37,40 +34,40 @@ pub record Starts (id at : ℕ) (rows : List (List ℕ)) : Type 0 where
 
 -- ---- the first element that passes a test
 
-unfoldable pub find_first_row : {A : Type 0} → (A → Bool) → List A → Found
-find_first_row test l = if ltb (first_index test l) (length l) then At (first_index test l) else Absent
+unfoldable pub find_first_row : {A : Type 0} → (A → Bool) → List A → Option ℕ
+find_first_row test l = if ltb (first_index test l) (length l) then Some (first_index test l) else None
 
 -- what was found is one of n
-unfoldable pub WithinRows : ℕ → Found → Type 0
-WithinRows n (At i) = i < n
-WithinRows n Absent = Unit {0}
+unfoldable pub WithinRows : ℕ → Option ℕ → Type 0
+WithinRows n (Some i) = i < n
+WithinRows n None = Unit {0}
 
 -- ---- the place of a key in a list that ascends by keys, as `upsert` goes through it
 
 -- the same place with one more element in front
-unfoldable pub next_place : Place → Place
-next_place (Taken i) = Taken (suc i)
-next_place (Before i) = Before (suc i)
+unfoldable pub next_place : Result ℕ ℕ → Result ℕ ℕ
+next_place (Ok i) = Ok (suc i)
+next_place (Err i) = Err (suc i)
 
 -- the same place with i elements in front
-abbrev pub later : ℕ → Place → Place
-later i (Taken j) = Taken (i + j)
-later i (Before j) = Before (i + j)
+abbrev pub later : ℕ → Result ℕ ℕ → Result ℕ ℕ
+later i (Ok j) = Ok (i + j)
+later i (Err j) = Err (i + j)
 
 -- the first element that is not below the key: it has that key, or an element of the key goes before it
-unfoldable pub place_of : {A : Type 0} → (A → List ℕ) → List ℕ → List A → Place
-place_of key k [] = Before zero
+unfoldable pub place_of : {A : Type 0} → (A → List ℕ) → List ℕ → List A → Result ℕ ℕ
+place_of key k [] = Err zero
 place_of key k (x ∷ xs) =
-    if lex_less k (key x) then Before zero else
+    if lex_less k (key x) then Err zero else
     if lex_less (key x) k then next_place (place_of key k xs) else
-    Taken zero
+    Ok zero
 
 -- a at its place: over the element of its key, or inserted before the one that is there
-unfoldable pub upsert_at : {A : Type 0} → Place → A → List A → List A
-upsert_at (Taken i) a l = replace_at i a l
-upsert_at (Before i) a l = insert_at i a l
+unfoldable pub upsert_at : {A : Type 0} → Result ℕ ℕ → A → List A → List A
+upsert_at (Ok i) a l = replace_at i a l
+upsert_at (Err i) a l = insert_at i a l
 
 -- the place of one of n, or one to insert before one of them or last
-unfoldable pub PlaceWithin : ℕ → Place → Type 0
-PlaceWithin n (Taken i) = i < n
-PlaceWithin n (Before i) = i ≤ n
+unfoldable pub PlaceWithin : ℕ → Result ℕ ℕ → Type 0
+PlaceWithin n (Ok i) = i < n
+PlaceWithin n (Err i) = i ≤ n

@@ -18,42 +18,40 @@ use Rattle.bytes_records.specs.Positions.{first_index}
 use Rattle.bytes_records.specs.PositionsLaws.{first_index_map, first_index_le, first_passes, first_le, any_lt, any_none, map_insert_at, map_replace_at}
 use Rattle.bytes_records.specs.Keys.{leading_numbers}
 use Rattle.bytes_records.specs.Search.{first_row_number, is_above, Rising, Starts, find_first_row, next_place, place_of, upsert_at, later}
-use Rattle.bytes_records.specs.declared.Found.TheVariants.{At, Absent}
-use Rattle.bytes_records.specs.declared.Place.{Place}
-use Rattle.bytes_records.specs.declared.Place.TheVariants.{Taken, Before}
+use Rattle.std.specs.Prelude.{Some, None, Result, Ok, Err}
 
 -- ---- the first element that passes a test
 
 module _ {A : Type 0} (test : A → Bool) (l : List A) where
   -- what was found is the first, and one passes
-  pub find_at : (i : ℕ) → find_first_row test l ≡ At i → (i ≡ first_index test l) × (i < length l) × (any test l ≡ true)
+  pub find_at : (i : ℕ) → find_first_row test l ≡ Some i → (i ≡ first_index test l) × (i < length l) × (any test l ≡ true)
   unfolding find_first_row
   find_at i e = go (ltb (first_index test l) (length l)) refl (any test l) refl e
     where
       go : (t : Bool) → ltb (first_index test l) (length l) ≡ t → (s : Bool) → any test l ≡ s
-          → (if t then At (first_index test l) else Absent) ≡ At i → (i ≡ first_index test l) × (i < length l) × (s ≡ true)
+          → (if t then Some (first_index test l) else None) ≡ Some i → (i ≡ first_index test l) × (i < length l) × (s ≡ true)
       go true f true g e =
           let same : i ≡ first_index test l = cc in
           (same, omega (arith, ltb-true (first_index test l) (length l) f), refl)
       go true f false g e = absurd (omega (arith, ltb-true (first_index test l) (length l) f, any_none test l g))
       go false f s g e = let z : ◌≡◌ {A = ℕ} 0 1 = cc in absurd (omega arith)
 
-  pub find_absent : find_first_row test l ≡ Absent → any test l ≡ false
+  pub find_absent : find_first_row test l ≡ None → any test l ≡ false
   unfolding find_first_row
   find_absent e = go (ltb (first_index test l) (length l)) refl (any test l) refl e
     where
       go : (t : Bool) → ltb (first_index test l) (length l) ≡ t → (s : Bool) → any test l ≡ s
-          → (if t then At (first_index test l) else Absent) ≡ Absent → s ≡ false
+          → (if t then Some (first_index test l) else None) ≡ None → s ≡ false
       go true f s g e = let z : ◌≡◌ {A = ℕ} 0 1 = cc in absurd (omega arith)
       go false f true g e = absurd (omega (arith, ltb-false (first_index test l) (length l) f, any_lt test l g))
       go false f false g e = refl
 
   -- a search that stopped at i, or at the end
-  pub find_stopped : (i : ℕ) → first_index test l ≡ i → i < length l → find_first_row test l ≡ At i
+  pub find_stopped : (i : ℕ) → first_index test l ≡ i → i < length l → find_first_row test l ≡ Some i
   unfolding find_first_row
   find_stopped i e h = rw (e, lt-ltb i (length l) h)
 
-  pub find_ended : first_index test l ≡ length l → find_first_row test l ≡ Absent
+  pub find_ended : first_index test l ≡ length l → find_first_row test l ≡ None
   unfolding find_first_row
   find_ended e = rw (e, le-ltb (length l) (length l) (omega arith))
 
@@ -122,18 +120,18 @@ module _ {A : Type 0} (key : A → List ℕ) where
   upsert_place a [] = refl
   upsert_place a (x ∷ l) = go (lex_less (key a) (key x)) (lex_less (key x) (key a)) (place_of key (key a) l) (upsert_place a l)
     where
-      go : (s t : Bool) (p : Place) → upsert key a l ≡ upsert_at p a l
+      go : (s t : Bool) (p : Result ℕ ℕ) → upsert key a l ≡ upsert_at p a l
           → (if s then a ∷ x ∷ l else if t then x ∷ upsert key a l else a ∷ l)
-          ≡ upsert_at (if s then Before zero else if t then next_place p else Taken zero) a (x ∷ l)
+          ≡ upsert_at (if s then Err zero else if t then next_place p else Ok zero) a (x ∷ l)
       go true t p ih = refl
-      go false true (Taken i) ih = rw add-one (ap (λ m. x ∷ m) (rw add-one at ih))
-      go false true (Before i) ih = ap (λ m. x ∷ m) ih
+      go false true (Ok i) ih = rw add-one (ap (λ m. x ∷ m) (rw add-one at ih))
+      go false true (Err i) ih = ap (λ m. x ∷ m) ih
       go false false p ih = refl
 
-pub map_upsert_at : {A B : Type 0} (f : A → B) (p : Place) (a : A) (l : List A) → map f (upsert_at p a l) ≡ upsert_at p (f a) (map f l)
+pub map_upsert_at : {A B : Type 0} (f : A → B) (p : Result ℕ ℕ) (a : A) (l : List A) → map f (upsert_at p a l) ≡ upsert_at p (f a) (map f l)
 unfolding upsert_at
-map_upsert_at f (Taken i) a l = map_replace_at f i a l
-map_upsert_at f (Before i) a l = map_insert_at f i a l
+map_upsert_at f (Ok i) a l = map_replace_at f i a l
+map_upsert_at f (Err i) a l = map_insert_at f i a l
 
 -- a second number of no bytes decides nothing
 pub place_one : (n x : ℕ) (rows : List (List ℕ))
@@ -144,11 +142,11 @@ place_one n x (row ∷ rows) = rw (place_one n x rows)
 
 -- ---- places with elements in front
 
-pub later_none : (p : Place) → p ≡ later 0 p
-later_none (Taken j) = rw zero-add
-later_none (Before j) = rw zero-add
+pub later_none : (p : Result ℕ ℕ) → p ≡ later 0 p
+later_none (Ok j) = rw zero-add
+later_none (Err j) = rw zero-add
 
-pub later_next : (i : ℕ) (p : Place) → later i (next_place p) ≡ later (i + 1) p
+pub later_next : (i : ℕ) (p : Result ℕ ℕ) → later i (next_place p) ≡ later (i + 1) p
 unfolding next_place
-later_next i (Taken j) = ap Taken (omega arith)
-later_next i (Before j) = ap Before (omega arith)
+later_next i (Ok j) = ap Ok (omega arith)
+later_next i (Err j) = ap Err (omega arith)

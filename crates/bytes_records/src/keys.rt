@@ -3,13 +3,7 @@ ghost use Rattle.std.specs.Prelude.{[], ◌∷◌, ◌≡◌, ◌+◌, ◌≤◌
 ghost use Rattle.spec_lists.specs.Bytes.{number_of};
 ghost use Rattle.bytes_records.specs.Keys.{leading_numbers, order_of};
 
-// How one key stands to another.
-#[derive(Drop)]
-pub enum Order {
-    Below,
-    Same,
-    Above,
-}
+use std::cmp::Ordering;
 
 fn wide(x: u8) -> u64
     ensures { result ≡ x }
@@ -43,24 +37,12 @@ pub fn number_of(part: &[u8]) -> u64
 }
 
 // How the two numbers that row begins with stand to id and second: eight bytes, and so many behind them.
-pub fn compare(row: &[u8], id: u64, size: usize, second: u64) -> Order
+pub fn compare(row: &[u8], id: u64, size: usize, second: u64) -> Ordering
     requires { (size ≤ 8) × (8 + size ≤ length row.now) }
     ensures { result ≡ order_of (leading_numbers (8 ∷ size ∷ []) row.now) (id ∷ second ∷ []) }
 {
-    let own = number_of(&row[..8]);
-    if own < id {
-        return Order::Below;
+    match number_of(&row[..8]).cmp(&id) {
+        Ordering::Equal => number_of(&row[8..8 + size]).cmp(&second),
+        unequal => unequal,
     }
-    if id < own {
-        return Order::Above;
-    }
-    let end = 8 + size;
-    let behind = number_of(&row[8..end]);
-    if behind < second {
-        return Order::Below;
-    }
-    if second < behind {
-        return Order::Above;
-    }
-    Order::Same
 }

@@ -8,24 +8,10 @@ ghost use Rattle.bytes_records.specs.Table.{HoldsRows, Changed, can_insert, can_
 ghost use Rattle.bytes_records.specs.Keys.{leading_numbers};
 ghost use Rattle.bytes_records.specs.Search.{is_above, is_pair, Rising, Starts, find_first_row, WithinRows, place_of, PlaceWithin};
 
-use keys::Order;
+use std::cmp::Ordering;
 
 pub mod keys;
 pub mod moves;
-
-// The position of a record, if there is one.
-#[derive(Drop)]
-pub enum Found {
-    At(usize),
-    Absent,
-}
-
-// Where a record of a key stands, or the position before which it is to be inserted.
-#[derive(Drop)]
-pub enum Place {
-    Taken(usize),
-    Before(usize),
-}
 
 // Inserts row before the record at position `at`, or last. Answers whether it could: there is such a position, row is
 // one record wide, and there is room.
@@ -183,32 +169,31 @@ fn find_start(table: &[u8], width: usize, count: usize, id: u64) -> usize
 }
 
 // The first record that begins with the numbers id and second, in a table that rises by the first.
-pub fn find_pair(table: &[u8], width: usize, count: usize, id: u64, second: u64) -> Found
+pub fn find_pair(table: &[u8], width: usize, count: usize, id: u64, second: u64) -> Option<usize>
     requires { 16 ≤ width }
     ensures first { (rows : List (List ℕ)) → HoldsRows width count table.now rows → Rising rows
         → result ≡ find_first_row (is_pair id second) rows }
     ensures within { WithinRows count result }
 {
     if table.len() / width < count {
-        return Found::Absent;
+        return None;
     }
-    let mut at = find_start(table, width, count, id);
-    while at < count {
+    let start = find_start(table, width, count, id);
+    for at in start..count {
         let from = at * width;
         let middle = from + 8;
         let end = middle + 8;
         if keys::number_of(&table[from..middle]) != id {
-            return Found::Absent;
+            return None;
         }
         if keys::number_of(&table[middle..end]) == second {
-            return Found::At(at);
+            return Some(at);
         }
-        at += 1;
     }
-    Found::Absent
+    None
 }
 
-// The place of a record that begins with the number id and, behind it, the number second of so many bytes, in a table
+// Where a record stands, or else the position before which it is to be inserted: of the record that begins with the number id and, behind it, the number second of so many bytes, in a table
 // that ascends by the two.
 pub fn find_pair_place(
     table: &[u8],
@@ -217,35 +202,33 @@ pub fn find_pair_place(
     id: u64,
     size: usize,
     second: u64,
-) -> Place
+) -> Result<usize, usize>
     requires { (size ≤ 8) × (8 + size ≤ width) }
     ensures first { (rows : List (List ℕ)) → HoldsRows width count table.now rows
         → result ≡ place_of (leading_numbers (8 ∷ size ∷ [])) (id ∷ second ∷ []) rows }
     ensures within { PlaceWithin count result }
 {
     if table.len() / width < count {
-        return Place::Before(count);
+        return Err(count);
     }
-    let mut place = 0;
-    while place < count {
+    for place in 0..count {
         let from = place * width;
         let end = from + width;
         match keys::compare(&table[from..end], id, size, second) {
-            Order::Below => {}
-            Order::Same => {
-                return Place::Taken(place);
+            Ordering::Less => {}
+            Ordering::Equal => {
+                return Ok(place);
             }
-            Order::Above => {
-                return Place::Before(place);
+            Ordering::Greater => {
+                return Err(place);
             }
         }
-        place += 1;
     }
-    Place::Before(count)
+    Err(count)
 }
 
 // The place of a record that begins with the number id, in a table that ascends by it.
-pub fn find_place(table: &[u8], width: usize, count: usize, id: u64) -> Place
+pub fn find_place(table: &[u8], width: usize, count: usize, id: u64) -> Result<usize, usize>
     requires { 8 ≤ width }
     ensures first { (rows : List (List ℕ)) → HoldsRows width count table.now rows
         → result ≡ place_of (leading_numbers (8 ∷ [])) (id ∷ []) rows }

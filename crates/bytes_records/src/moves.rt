@@ -1,5 +1,4 @@
-// Moves of bytes inside one lent slice, in place. The loops are plain, one byte at a time: the compiler makes them copies
-// of vectors.
+// Moves of bytes inside one lent slice, in place.
 ghost use Rattle.std.specs.Prelude.{◌≡◌, ◌++◌, ◌-◌, ◌≤◌, length, take, drop};
 ghost use Rattle.bytes_records.specs.Moves.{zeros, overwrite_rows, push_front, push_back, pop_front};
 
@@ -8,49 +7,33 @@ pub fn copy(source: &[u8], target: &mut [u8])
     requires { length source.now ≤ length target.old }
     ensures { target.new ≡ overwrite_rows source.now target.old }
 {
-    let mut i = 0;
-    while i < source.len() {
-        target[i] = source[i];
-        i += 1;
-    }
+    target[..source.len()].copy_from_slice(source);
 }
 
-// Copies each byte of s to the position `by` above it, the last first. The last `by` bytes are lost, and the first `by`
+// Copies each byte of s to the position `by` above it. The last `by` bytes are lost, and the first `by`
 // stay.
 fn shift_up(s: &mut [u8], by: usize)
     requires { by ≤ length s.old }
     ensures { s.new ≡ take by s.old ++ take (length s.old - by) s.old }
 {
-    let mut i = s.len();
-    while by < i {
-        i -= 1;
-        s[i] = s[i - by];
-    }
+    let end = s.len() - by;
+    s.copy_within(..end, by);
 }
 
-// Copies each byte of s to the position `by` below it, the first first. The first `by` bytes are lost, and the last `by`
+// Copies each byte of s to the position `by` below it. The first `by` bytes are lost, and the last `by`
 // stay.
 fn shift_down(s: &mut [u8], by: usize)
     requires { by ≤ length s.old }
     ensures { s.new ≡ drop by s.old ++ drop (length s.old - by) s.old }
 {
-    let end = s.len() - by;
-    let mut i = 0;
-    while i < end {
-        s[i] = s[i + by];
-        i += 1;
-    }
+    s.copy_within(by.., 0);
 }
 
 // Sets every byte of s to 0.
 pub fn clear(s: &mut [u8])
     ensures { s.new ≡ zeros (length s.old) }
 {
-    let mut i = 0;
-    while i < s.len() {
-        s[i] = 0;
-        i += 1;
-    }
+    s.fill(0);
 }
 
 // Inserts r before the bytes of s, whose last ones are lost.

@@ -12,20 +12,19 @@ use Rattle.spec_lists.proofs.OrderLaws.{lex_less_total, sort_unique_length, sort
 use Rattle.bytes_records.specs.Moves.{push_front}
 use Rattle.bytes_records.proofs.Parts.{lent}
 use Rattle.bytes_records.specs.Keys.{order_of}
-use Rattle.bytes_records.specs.declared.keys.Order.{Order}
-use Rattle.bytes_records.specs.declared.keys.Order.TheVariants.{Below, Same, Above}
 use Rattle.bytes_records.specs.Positions.{insert_at}
 use Rattle.bytes_records.specs.PositionsLaws.{length_insert_at}
 use Rattle.bytes_records.specs.Search.{next_place, place_of, upsert_at, PlaceWithin, later}
 use Rattle.bytes_records.specs.SearchLaws.{upsert_place, later_next}
-use Rattle.bytes_records.specs.declared.Place.{Place}
-use Rattle.bytes_records.specs.declared.Place.TheVariants.{Taken, Before}
 use Rattle.spec_checks.specs.Finding.{Finding, finding_key}
 use Rattle.spec_checks.specs.Answer.{record_length, finding_words}
 use Rattle.spec_checks.proofs.AnswerLaws.{finding_words_length}
 use Rattle.spec_checks.proofs.FindingsLaws.{finding_key_injective}
 use Rattle.check_targets.specs.Threes.{three_at}
 use Rattle.check_table.specs.FindingTable.{findings_in, table_has_room, inserted_findings, inserted_count, inserted_numbers, KeptFindings}
+use Rattle.std.specs.Prelude.{Result, Ok, Err}
+use Rattle.std.specs.declared.cmp.Ordering.{Ordering}
+use Rattle.std.specs.declared.cmp.Ordering.TheVariants.{Less, Equal, Greater}
 
 -- ---- records and their numbers
 
@@ -55,16 +54,16 @@ findings_few (k ∷ d ∷ s ∷ ns) h = absurd (omega arith)
 -- ---- the place of a finding
 
 -- the place by how the first element stands to the key, given the place among the others
-abbrev by_order : Order → Place → Place
-by_order Below p = next_place p
-by_order Same p = Taken zero
-by_order Above p = Before zero
+abbrev by_order : Ordering → Result ℕ ℕ → Result ℕ ℕ
+by_order Less p = next_place p
+by_order Equal p = Ok zero
+by_order Greater p = Err zero
 
 place_order : {A : Type 0} (key : A → List ℕ) (k : List ℕ) (x : A) (xs : List A) → place_of key k (x ∷ xs) ≡ by_order (order_of (key x) k) (place_of key k xs)
 unfolding place_of order_of
 place_order key k x xs = go (lex_less k (key x)) (lex_less (key x) k) (place_of key k xs)
   where
-    go : (s t : Bool) (p : Place) → (if s then Before zero else if t then next_place p else Taken zero) ≡ by_order (if s then Above else if t then Below else Same) p
+    go : (s t : Bool) (p : Result ℕ ℕ) → (if s then Err zero else if t then next_place p else Ok zero) ≡ by_order (if s then Greater else if t then Less else Equal) p
     go true t p = refl
     go false true p = refl
     go false false p = refl
@@ -77,7 +76,7 @@ module _ (f : Finding) (ns : List ℕ) (at i : ℕ) where
   abbrev own : Finding
   own = record { kind = get_or ns at 0; domain = get_or ns (at + 1) 0; secondary = get_or ns (at + 2) 0 }
 
-  module _ (within : at + 3 ≤ length ns) (o : Order) (e : order_of (finding_key own) (finding_key f) ≡ o) where
+  module _ (within : at + 3 ≤ length ns) (o : Ordering) (e : order_of (finding_key own) (finding_key f) ≡ o) where
     placed_turn : place_of finding_key (finding_key f) (findings_in (drop at ns)) ≡ by_order o (place_of finding_key (finding_key f) (findings_in (drop (at + 3) ns)))
     unfolding findings_in
     placed_turn =
@@ -85,42 +84,42 @@ module _ (f : Finding) (ns : List ℕ) (at i : ℕ) where
         ∙ place_order finding_key (finding_key f) own (findings_in (drop (at + 3) ns))
         ∙ ap (λ q. by_order q (place_of finding_key (finding_key f) (findings_in (drop (at + 3) ns)))) e
 
-    pub placed_below : FindingPlaced → o ≡ Below → place_of finding_key (finding_key f) (findings_in ns) ≡ later (i + 1) (place_of finding_key (finding_key f) (findings_in (drop (at + 3) ns)))
+    pub placed_below : FindingPlaced → o ≡ Less → place_of finding_key (finding_key f) (findings_in ns) ≡ later (i + 1) (place_of finding_key (finding_key f) (findings_in (drop (at + 3) ns)))
     placed_below p h = p ∙ ap (later i) (placed_turn ∙ ap (λ q. by_order q (place_of finding_key (finding_key f) (findings_in (drop (at + 3) ns)))) h) ∙ later_next i (place_of finding_key (finding_key f) (findings_in (drop (at + 3) ns)))
 
-    pub placed_same : FindingPlaced → o ≡ Same → place_of finding_key (finding_key f) (findings_in ns) ≡ Taken i
-    placed_same p h = p ∙ ap (later i) (placed_turn ∙ ap (λ q. by_order q (place_of finding_key (finding_key f) (findings_in (drop (at + 3) ns)))) h) ∙ ap Taken (add-zero i)
+    pub placed_same : FindingPlaced → o ≡ Equal → place_of finding_key (finding_key f) (findings_in ns) ≡ Ok i
+    placed_same p h = p ∙ ap (later i) (placed_turn ∙ ap (λ q. by_order q (place_of finding_key (finding_key f) (findings_in (drop (at + 3) ns)))) h) ∙ ap Ok (add-zero i)
 
-    pub placed_above : FindingPlaced → o ≡ Above → place_of finding_key (finding_key f) (findings_in ns) ≡ Before i
-    placed_above p h = p ∙ ap (later i) (placed_turn ∙ ap (λ q. by_order q (place_of finding_key (finding_key f) (findings_in (drop (at + 3) ns)))) h) ∙ ap Before (add-zero i)
+    pub placed_above : FindingPlaced → o ≡ Greater → place_of finding_key (finding_key f) (findings_in ns) ≡ Err i
+    placed_above p h = p ∙ ap (later i) (placed_turn ∙ ap (λ q. by_order q (place_of finding_key (finding_key f) (findings_in (drop (at + 3) ns)))) h) ∙ ap Err (add-zero i)
 
-  pub placed_last : FindingPlaced → length (drop at ns) < 3 → place_of finding_key (finding_key f) (findings_in ns) ≡ Before i
+  pub placed_last : FindingPlaced → length (drop at ns) < 3 → place_of finding_key (finding_key f) (findings_in ns) ≡ Err i
   unfolding place_of
-  placed_last p h = p ∙ ap (λ l. later i (place_of finding_key (finding_key f) l)) (findings_few (drop at ns) h) ∙ ap Before (add-zero i)
+  placed_last p h = p ∙ ap (λ l. later i (place_of finding_key (finding_key f) l)) (findings_few (drop at ns) h) ∙ ap Err (add-zero i)
 
 -- ---- a finding that is there already
 
-abbrev IsTaken : Place → Type 0
-IsTaken (Taken i) = Unit {0}
-IsTaken (Before i) = ⊥
+abbrev IsTaken : Result ℕ ℕ → Type 0
+IsTaken (Ok i) = Unit {0}
+IsTaken (Err i) = ⊥
 
 upsert_same : (f : Finding) (fs : List Finding) → IsTaken (place_of finding_key (finding_key f) fs) → upsert finding_key f fs ≡ fs
 unfolding upsert place_of next_place
 upsert_same f [] h = absurd h
 upsert_same f (g ∷ fs) h = go (lex_less (finding_key f) (finding_key g)) refl (lex_less (finding_key g) (finding_key f)) refl (place_of finding_key (finding_key f) fs) (upsert_same f fs) h
   where
-    go : (s : Bool) → lex_less (finding_key f) (finding_key g) ≡ s → (t : Bool) → lex_less (finding_key g) (finding_key f) ≡ t → (p : Place)
-        → (IsTaken p → upsert finding_key f fs ≡ fs) → IsTaken (if s then Before zero else if t then next_place p else Taken zero)
+    go : (s : Bool) → lex_less (finding_key f) (finding_key g) ≡ s → (t : Bool) → lex_less (finding_key g) (finding_key f) ≡ t → (p : Result ℕ ℕ)
+        → (IsTaken p → upsert finding_key f fs ≡ fs) → IsTaken (if s then Err zero else if t then next_place p else Ok zero)
         → (if s then f ∷ g ∷ fs else if t then g ∷ upsert finding_key f fs else f ∷ fs) ≡ g ∷ fs
     go true a t b p ih h = absurd h
-    go false a true b (Taken i) ih h = ap (λ l. g ∷ l) (ih tt)
-    go false a true b (Before i) ih h = absurd h
+    go false a true b (Ok i) ih h = ap (λ l. g ∷ l) (ih tt)
+    go false a true b (Err i) ih h = absurd h
     go false a false b p ih h = ap (λ x. x ∷ fs) (finding_key_injective f g (lex_less_total (finding_key f) (finding_key g) a b))
 
-pub upsert_kept : (f : Finding) (fs : List Finding) (i : ℕ) → place_of finding_key (finding_key f) fs ≡ Taken i → upsert finding_key f fs ≡ fs
+pub upsert_kept : (f : Finding) (fs : List Finding) (i : ℕ) → place_of finding_key (finding_key f) fs ≡ Ok i → upsert finding_key f fs ≡ fs
 upsert_kept f fs i e = upsert_same f fs (rw e tt)
 
-pub upsert_before : (f : Finding) (fs : List Finding) (i : ℕ) → place_of finding_key (finding_key f) fs ≡ Before i → upsert finding_key f fs ≡ insert_at i f fs
+pub upsert_before : (f : Finding) (fs : List Finding) (i : ℕ) → place_of finding_key (finding_key f) fs ≡ Err i → upsert finding_key f fs ≡ insert_at i f fs
 unfolding upsert_at
 upsert_before f fs i e = upsert_place finding_key f fs ∙ rw e
 
@@ -186,7 +185,7 @@ pushed_three (x ∷ []) moved a b c h e = absurd (omega arith)
 pushed_three (x ∷ y ∷ []) moved a b c h e = absurd (omega arith)
 pushed_three (x ∷ y ∷ z ∷ s) moved a b c h e = ap (λ l. set (set (set l 0 a) 1 b) 2 c) e
 
-pub within_before : (n i : ℕ) (p : Place) → PlaceWithin n p → p ≡ Before i → i ≤ n
+pub within_before : (n i : ℕ) (p : Result ℕ ℕ) → PlaceWithin n p → p ≡ Err i → i ≤ n
 unfolding PlaceWithin
 within_before n i p w e = rw e at w
 
@@ -216,7 +215,7 @@ module _ (f : Finding) (count : ℕ) (ns : List ℕ) where
     unfolding inserted_numbers table_has_room
     numbers_are fs e = rw (le-leb (record_length * count + record_length) (length ns) room) (sym (ap (λ l. finding_words l ++ drop (record_length * length l) ns) e))
 
-    pub there_already : (i : ℕ) → place_of finding_key (finding_key f) held ≡ Taken i → (count ≡ inserted_count f count ns) × (ns ≡ inserted_numbers f count ns)
+    pub there_already : (i : ℕ) → place_of finding_key (finding_key f) held ≡ Ok i → (count ≡ inserted_count f count ns) × (ns ≡ inserted_numbers f count ns)
     unfolding inserted_findings
     there_already i e =
         let same = upsert_kept f held i e in (
@@ -224,7 +223,7 @@ module _ (f : Finding) (count : ℕ) (ns : List ℕ) where
           sym (ap (λ l. l ++ drop (record_length * length held) ns) held_words ∙ ap (λ n. take (record_length * count) ns ++ drop (record_length * n) ns) held_count ∙ take-append-drop (record_length * count) ns) ∙ numbers_are held same,
         )
 
-    pub one_more : (i : ℕ) → place_of finding_key (finding_key f) held ≡ Before i → i ≤ count → (ys : List ℕ)
+    pub one_more : (i : ℕ) → place_of finding_key (finding_key f) held ≡ Err i → i ≤ count → (ys : List ℕ)
         → ys ≡ push_front (finding_key f) (mid_of (record_length * i) (record_length * count + record_length - record_length * i) ns)
         → (count + 1 ≡ inserted_count f count ns) × (put_mid (record_length * i) (record_length * count + record_length - record_length * i) ns ys ≡ inserted_numbers f count ns)
     unfolding inserted_findings

@@ -8,8 +8,7 @@ ghost use Rattle.bytes_records.specs.Search.{place_of, PlaceWithin};
 ghost use Rattle.spec_checks.specs.Finding.{finding_key};
 ghost use Rattle.check_table.specs.FindingTable.{finding_of, findings_in, inserted_count, inserted_numbers};
 
-use bytes_records::Place;
-use bytes_records::keys::Order;
+use std::cmp::Ordering;
 
 #[derive(Clone, Copy)]
 pub struct Finding {
@@ -19,32 +18,32 @@ pub struct Finding {
 }
 
 // How one finding stands to another.
-fn compare(own: Finding, other: Finding) -> Order
+fn compare(own: Finding, other: Finding) -> Ordering
     ensures { result ≡ order_of (finding_key (finding_of own)) (finding_key (finding_of other)) }
 {
     if own.kind < other.kind {
-        return Order::Below;
+        return Ordering::Less;
     }
     if other.kind < own.kind {
-        return Order::Above;
+        return Ordering::Greater;
     }
     if own.domain < other.domain {
-        return Order::Below;
+        return Ordering::Less;
     }
     if other.domain < own.domain {
-        return Order::Above;
+        return Ordering::Greater;
     }
     if own.secondary < other.secondary {
-        return Order::Below;
+        return Ordering::Less;
     }
     if other.secondary < own.secondary {
-        return Order::Above;
+        return Ordering::Greater;
     }
-    Order::Same
+    Ordering::Equal
 }
 
 // The place of a finding among the records.
-fn finding_place(records: &[u64], finding: Finding) -> Place
+fn finding_place(records: &[u64], finding: Finding) -> Result<usize, usize>
     ensures place { result ≡ place_of finding_key (finding_key (finding_of finding)) (findings_in records.now) }
     ensures within { PlaceWithin (length records.now / 3) result }
 {
@@ -62,18 +61,18 @@ fn finding_place(records: &[u64], finding: Finding) -> Place
             },
             finding,
         ) {
-            Order::Below => {}
-            Order::Same => {
-                return Place::Taken(place);
+            Ordering::Less => {}
+            Ordering::Equal => {
+                return Ok(place);
             }
-            Order::Above => {
-                return Place::Before(place);
+            Ordering::Greater => {
+                return Err(place);
             }
         }
         at += 3;
         place += 1;
     }
-    Place::Before(place)
+    Err(place)
 }
 
 // Copies each number of s to the position three above it, the last first. The last three are lost, and the first three stay.
@@ -110,8 +109,8 @@ pub fn insert_finding(records: &mut [u64], count: usize, finding: Finding) -> us
     }
     let used = 3 * count;
     match finding_place(&records[..used], finding) {
-        Place::Taken(_) => count,
-        Place::Before(place) => {
+        Ok(_) => count,
+        Err(place) => {
             let from = 3 * place;
             let end = used + 3;
             push_finding(&mut records[from..end], finding);

@@ -9,13 +9,13 @@ use Rattle.spec_projection.specs.Projection.{Projection}
 use Rattle.spec_projection.specs.Apply.{projection_full, Outcome, done, stopped}
 use Rattle.bytes_records.specs.Search.{place_of, upsert_at}
 use Rattle.bytes_records.specs.SearchLaws.{place_map, upsert_place, map_upsert_at}
-use Rattle.bytes_records.specs.declared.Place.{Place}
 use Rattle.local_projection_state.specs.Stores.{Stored}
 use Rattle.local_projection_state.specs.Faults.{application_fault_of}
 use Rattle.panel_bindings.specs.Change.{Became, RowsBecame}
 use Rattle.local_projection_state.specs.declared.LocalProjectionApplicationError.{LocalProjectionApplicationError}
 use Rattle.panel_bindings.specs.declared.TableChange.{TableChange}
 use Rattle.panel_bindings.specs.declared.TableChange.TheVariants.{Applied, Refused}
+use Rattle.std.specs.Prelude.{Result}
 
 module _ (Next : ℕ → Projection → Type 0) where
   pub became_done : {x : Outcome} (n : ℕ) {q : Projection} → x ≡ done q → Next n q → Became Next (Applied n) x
@@ -28,7 +28,7 @@ module _ (Next : ℕ → Projection → Type 0) where
 
 module _ {A : Type 0} (row : A → List ℕ) (key : A → List ℕ) (rowKey : List ℕ → List ℕ) (width capacity : ℕ) where
   -- the place that the rows tell is the one that `upsert` goes to
-  pub upserted_rows : (a : A) (l : List A) (place : Place) → All (λ x. rowKey (row x) ≡ key x) l → place ≡ place_of rowKey (key a) (map row l) → upsert_at place (row a) (map row l) ≡ map row (upsert key a l)
+  pub upserted_rows : (a : A) (l : List A) (place : Result ℕ ℕ) → All (λ x. rowKey (row x) ≡ key x) l → place ≡ place_of rowKey (key a) (map row l) → upsert_at place (row a) (map row l) ≡ map row (upsert key a l)
   upserted_rows a l place h e =
       ap (λ s. upsert_at s (row a) (map row l)) (e ∙ place_map row rowKey key (key a) l h)
       ∙ sym (map_upsert_at row (place_of key (key a) l) a l) ∙ ap (map row) (sym (upsert_place key a l))

@@ -16,7 +16,6 @@ ghost use Rattle.local_projection_state.specs.Stores.{Stored};
 ghost use Rattle.panel_plan.specs.PlanRows.{PlannedBindings};
 ghost use Rattle.panel_bindings.specs.Change.{Became, KeptTable, RowsBecame};
 
-use bytes_records::Place;
 use local_projection_state::LocalProjectionApplicationError;
 use projection_patch::patch::ProjectionNodeAvailability;
 
@@ -28,18 +27,24 @@ pub enum TableChange {
 }
 
 // Writes row at its place: over the row of its key, or inserted before the one that is there.
-fn upsert_row(table: &mut [u8], width: usize, count: usize, place: Place, row: &[u8]) -> TableChange
+fn upsert_row(
+    table: &mut [u8],
+    width: usize,
+    count: usize,
+    place: Result<usize, usize>,
+    row: &[u8],
+) -> TableChange
     requires { 0 < width }
     ensures made { (capacity : ℕ) (rows : List (List ℕ)) → length table.old ≡ capacity * width → HoldsRows width count table.old rows
         → Wide width row.now → PlaceWithin count place → RowsBecame width capacity (upsert_at place row.now rows) table.new result }
     ensures kept { KeptTable result table.old table.new }
 {
     match place {
-        Place::Taken(at) => {
+        Ok(at) => {
             bytes_records::replace_record(table, width, count, at, row);
             TableChange::Applied(count)
         }
-        Place::Before(at) => {
+        Err(at) => {
             if bytes_records::insert_record(table, width, count, at, row) {
                 return TableChange::Applied(count + 1);
             }

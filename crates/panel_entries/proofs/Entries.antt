@@ -18,8 +18,6 @@ use Rattle.bytes_records.specs.PositionsLaws.{map_insert_at, map_remove_at, map_
 use Rattle.bytes_records.specs.Table.{Wide, HoldsRows, Changed, can_insert, can_remove, can_replace}
 use Rattle.bytes_records.specs.Search.{find_first_row, WithinRows}
 use Rattle.bytes_records.specs.SearchLaws.{find_at}
-use Rattle.bytes_records.specs.declared.Found.{Found}
-use Rattle.bytes_records.specs.declared.Found.TheVariants.{At, Absent}
 use Rattle.panel_plan.specs.PlanRows.{planned_entry_width, planned_entry_row, PlannedEntries}
 use Rattle.panel_bindings.specs.Change.{Became}
 use Rattle.panel_bindings.specs.ChangeLaws.{became_done, became_stopped}
@@ -29,21 +27,23 @@ use Rattle.local_projection_state.specs.declared.LocalProjectionApplicationError
 use Rattle.panel_bindings.specs.declared.TableChange.TheVariants.{Applied, Refused}
 use Rattle.panel_entries.specs.Places.{place_before, PositionWithin, place_before_other, without_at}
 use Rattle.panel_entries.specs.PlacesLaws.{update_found, update_absent, remove_found, remove_absent, insert_present, insert_no_neighbour, insert_there, moved, move_absent, move_no_neighbour, move_there}
+use Rattle.std.specs.Prelude as code
+use Rattle.std.specs.Prelude.{Some, None}
 
 -- ---- what the answer of a search says of a position
 
-pub within_at : {n : ℕ} (r : Found) (i : ℕ) → r ≡ At i → WithinRows n r → i < n
+pub within_at : {n : ℕ} (r : code.Option ℕ) (i : ℕ) → r ≡ Some i → WithinRows n r → i < n
 unfolding WithinRows
 within_at r i e h = subst (WithinRows _) e h
 
-pub position_at : {n : ℕ} (r : Found) (i : ℕ) → r ≡ At i → PositionWithin n r → i ≤ n
+pub position_at : {n : ℕ} (r : code.Option ℕ) (i : ℕ) → r ≡ Some i → PositionWithin n r → i ≤ n
 unfolding PositionWithin
 position_at r i e h = subst (PositionWithin _) e h
 
-pub within_position : (n : ℕ) (r : Found) → WithinRows n r → PositionWithin n r
+pub within_position : (n : ℕ) (r : code.Option ℕ) → WithinRows n r → PositionWithin n r
 unfolding WithinRows PositionWithin
-within_position n (At i) h = omega arith
-within_position n Absent h = tt
+within_position n (Some i) h = omega arith
+within_position n None h = tt
 
 -- the table of entries, with so many rows, stores those of a projection
 abbrev pub NextEntry : List ℕ → ℕ → Projection → Type 0
@@ -52,24 +52,24 @@ NextEntry table n q = PlannedEntries n table q.entries
 -- ---- refusals
 
 module _ (exit : List ℕ) (p : Projection) where
-  pub not_updated : (e : Entry) → find_first_row (is_entry e.collection e.key) p.entries ≡ Absent → Became (NextEntry exit) (Refused KeyRule) (apply_update p e)
+  pub not_updated : (e : Entry) → find_first_row (is_entry e.collection e.key) p.entries ≡ None → Became (NextEntry exit) (Refused KeyRule) (apply_update p e)
   not_updated e h = became_stopped (NextEntry exit) KeyRule (update_absent p e h)
 
-  pub not_removed : (c k : ℕ) → find_first_row (is_entry c k) p.entries ≡ Absent → Became (NextEntry exit) (Refused KeyRule) (apply_remove p c k)
+  pub not_removed : (c k : ℕ) → find_first_row (is_entry c k) p.entries ≡ None → Became (NextEntry exit) (Refused KeyRule) (apply_remove p c k)
   not_removed c k h = became_stopped (NextEntry exit) KeyRule (remove_absent p c k h)
 
   module _ (before : Option ℕ) (e : Entry) where
-    pub key_present_lem : (i : ℕ) → find_first_row (is_entry e.collection e.key) p.entries ≡ At i → Became (NextEntry exit) (Refused KeyRule) (apply_insert p before e)
+    pub key_present_lem : (i : ℕ) → find_first_row (is_entry e.collection e.key) p.entries ≡ Some i → Became (NextEntry exit) (Refused KeyRule) (apply_insert p before e)
     key_present_lem i h = became_stopped (NextEntry exit) KeyRule (insert_present p before e i h)
 
-    pub neighbour_missing : find_first_row (is_entry e.collection e.key) p.entries ≡ Absent → place_before e.collection before p.entries ≡ Absent → Became (NextEntry exit) (Refused KeyRule) (apply_insert p before e)
+    pub neighbour_missing : find_first_row (is_entry e.collection e.key) p.entries ≡ None → place_before e.collection before p.entries ≡ None → Became (NextEntry exit) (Refused KeyRule) (apply_insert p before e)
     neighbour_missing absent h = became_stopped (NextEntry exit) KeyRule (insert_no_neighbour p before e absent h)
 
   module _ (v : Valid p) (c k : ℕ) (before : Option ℕ) where
-    pub not_moved : find_first_row (is_entry c k) p.entries ≡ Absent → Became (NextEntry exit) (Refused KeyRule) (apply_move p before (first.find_first (is_entry c k) p.entries))
+    pub not_moved : find_first_row (is_entry c k) p.entries ≡ None → Became (NextEntry exit) (Refused KeyRule) (apply_move p before (first.find_first (is_entry c k) p.entries))
     not_moved h = became_stopped (NextEntry exit) KeyRule (move_absent p v.entries c k before h)
 
-    pub no_other : (i : ℕ) → find_first_row (is_entry c k) p.entries ≡ At i → place_before_other c k before p.entries ≡ Absent → Became (NextEntry exit) (Refused KeyRule) (apply_move p before (first.find_first (is_entry c k) p.entries))
+    pub no_other : (i : ℕ) → find_first_row (is_entry c k) p.entries ≡ Some i → place_before_other c k before p.entries ≡ None → Became (NextEntry exit) (Refused KeyRule) (apply_move p before (first.find_first (is_entry c k) p.entries))
     no_other i there h = became_stopped (NextEntry exit) KeyRule (move_no_neighbour p v.entries c k before i there h)
 
 -- ---- changes
@@ -80,17 +80,17 @@ module _ {n : ℕ} {table : List ℕ} (exit : List ℕ) (same : length exit ≡ 
   unfolding with_entries
   next es e h = record { size = same ∙ s.size; rows = subst (HoldsRows planned_entry_width _ exit) e h }
 
-  below : (c k i : ℕ) → find_first_row (is_entry c k) p.entries ≡ At i → i < n
+  below : (c k i : ℕ) → find_first_row (is_entry c k) p.entries ≡ Some i → i < n
   below c k i h = omega (arith, (find_at (is_entry c k) p.entries i h).1, length-map p.entries planned_entry_row, s.rows.counted)
 
   module _ (e : Entry) (row : List ℕ) (is : row ≡ planned_entry_row e) (wide : Wide planned_entry_width row) (at : ℕ) {answer : Bool} where
-    pub updated : find_first_row (is_entry e.collection e.key) p.entries ≡ At at → Changed planned_entry_width n n (replace_at at row) (can_replace (length table) planned_entry_width n at row) table exit answer
+    pub updated : find_first_row (is_entry e.collection e.key) p.entries ≡ Some at → Changed planned_entry_width n n (replace_at at row) (can_replace (length table) planned_entry_width n at row) table exit answer
         → Became (NextEntry exit) (Applied n) (apply_update p e)
     updated h c =
         became_done (NextEntry exit) n (update_found p e at h)
         (next (replace_at at e p.entries) (ap (λ x. replace_at at x (map planned_entry_row p.entries)) is ∙ sym (map_replace_at planned_entry_row at e p.entries)) (rows_replaced s.rows at row (below _ _ at h) wide c))
 
-    module _ (before : Option ℕ) (absent : find_first_row (is_entry e.collection e.key) p.entries ≡ Absent) (there : place_before e.collection before p.entries ≡ At at)
+    module _ (before : Option ℕ) (absent : find_first_row (is_entry e.collection e.key) p.entries ≡ None) (there : place_before e.collection before p.entries ≡ Some at)
         (c : Changed planned_entry_width n (n + 1) (insert_at at row) (can_insert (length table) planned_entry_width n at row) table exit answer) where
       image : insert_at at row (map planned_entry_row p.entries) ≡ map planned_entry_row (insert_at at e p.entries)
       image = ap (λ x. insert_at at x (map planned_entry_row p.entries)) is ∙ sym (map_insert_at planned_entry_row at e p.entries)
@@ -108,14 +108,14 @@ module _ {n : ℕ} {table : List ℕ} (exit : List ℕ) (same : length exit ≡ 
           let over : projection_entries < length (insert_at at e p.entries) = omega (arith, rows_full s.rows at projection_entries s.size row h wide t c, length_insert_at at e p.entries) in
           rw (insert_there p before e absent at there, lt-leb (length (insert_at at e p.entries)) projection_entries over)
 
-  pub removed_there : (c k at : ℕ) {answer : Bool} → find_first_row (is_entry c k) p.entries ≡ At at → Changed planned_entry_width n (n - 1) (remove_at at) (can_remove (length table) planned_entry_width n at) table exit answer
+  pub removed_there : (c k at : ℕ) {answer : Bool} → find_first_row (is_entry c k) p.entries ≡ Some at → Changed planned_entry_width n (n - 1) (remove_at at) (can_remove (length table) planned_entry_width n at) table exit answer
       → Became (NextEntry exit) (Applied (n - 1)) (apply_remove p c k)
   removed_there c k at h change =
       became_done (NextEntry exit) (n - 1) (remove_found p c k at h)
       (next (remove_at at p.entries) (sym (map_remove_at planned_entry_row at p.entries)) (rows_removed s.rows at (below c k at h) change))
 
   module _ (v : Valid p) (c k : ℕ) (before : Option ℕ) where
-    pub moved_there : (i j : ℕ) → find_first_row (is_entry c k) p.entries ≡ At i → place_before_other c k before p.entries ≡ At j
+    pub moved_there : (i j : ℕ) → find_first_row (is_entry c k) p.entries ≡ Some i → place_before_other c k before p.entries ≡ Some j
         → ((rows : List (List ℕ)) → HoldsRows planned_entry_width n table rows → HoldsRows planned_entry_width n exit (insert_at (without_at i j) (get_or rows i []) (remove_at i rows))) → Became (NextEntry exit) (Applied n) (apply_move p before (first.find_first (is_entry c k) p.entries))
     moved_there i j there h change =
         let g = moved p v.entries c k before i there in

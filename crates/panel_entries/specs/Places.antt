@@ -5,8 +5,8 @@ use Rattle.spec_projection.specs.Projection.{Entry}
 use Rattle.spec_projection.specs.Entries.{is_entry, is_later}
 use Rattle.bytes_records.specs.Positions.{first_index}
 use Rattle.bytes_records.specs.Search.{find_first_row}
-use Rattle.bytes_records.specs.declared.Found.{Found}
-use Rattle.bytes_records.specs.declared.Found.TheVariants.{At, Absent}
+use Rattle.std.specs.Prelude as code
+use Rattle.std.specs.Prelude.{Some, None}
 
 -- a neighbour by a test and a number: whether one is named, and its key
 unfoldable pub neighbour_of : Bool → ℕ → Option ℕ
@@ -21,14 +21,14 @@ neighbour_key none = 0
 neighbour_key (some k) = k
 
 -- before the neighbour, if it is there; or before the first entry of a later collection
-unfoldable pub place_before : ℕ → Option ℕ → List Entry → Found
-place_before c none es = At (first_index (is_later c) es)
+unfoldable pub place_before : ℕ → Option ℕ → List Entry → code.Option ℕ
+place_before c none es = Some (first_index (is_later c) es)
 place_before c (some k) es = find_first_row (is_entry c k) es
 
 -- one of n, or behind them
-unfoldable pub PositionWithin : ℕ → Found → Type 0
-PositionWithin n (At i) = i ≤ n
-PositionWithin n Absent = Unit {0}
+unfoldable pub PositionWithin : ℕ → code.Option ℕ → Type 0
+PositionWithin n (Some i) = i ≤ n
+PositionWithin n None = Unit {0}
 
 -- the neighbour is the key itself
 unfoldable pub is_itself : ℕ → Option ℕ → Bool
@@ -36,8 +36,8 @@ is_itself k none = false
 is_itself k (some b) = eqb b k
 
 -- the place of another entry than the key's own
-unfoldable pub place_before_other : ℕ → ℕ → Option ℕ → List Entry → Found
-place_before_other c k before es = if is_itself k before then Absent else place_before c before es
+unfoldable pub place_before_other : ℕ → ℕ → Option ℕ → List Entry → code.Option ℕ
+place_before_other c k before es = if is_itself k before then None else place_before c before es
 
 -- a position once the element before it, or at another place, is taken out
 unfoldable pub without_at : ℕ → ℕ → ℕ

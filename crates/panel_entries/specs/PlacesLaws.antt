@@ -21,9 +21,9 @@ use Rattle.bytes_records.specs.Positions.{insert_at, remove_at, replace_at, firs
 use Rattle.bytes_records.specs.PositionsLaws.{insert_first, remove_first_lem, replace_first_lem, any_lt}
 use Rattle.bytes_records.specs.Search.{find_first_row}
 use Rattle.bytes_records.specs.SearchLaws.{find_at, find_absent, find_stopped}
-use Rattle.bytes_records.specs.declared.Found.TheVariants.{At, Absent}
 use Rattle.panel_plan.specs.PlanRows.{planned_entry_row}
 use Rattle.panel_entries.specs.Places.{neighbour_of, is_placed, neighbour_key, place_before, is_itself, place_before_other, without_at}
+use Rattle.std.specs.Prelude.{Some, None}
 
 -- a test and a number tell the neighbour
 neighbour_told : (b : Option ℕ) → neighbour_of (is_placed b) (neighbour_key b) ≡ b
@@ -52,30 +52,30 @@ module _ {A : Type 0} (test : A → Bool) where
 -- ---- update and remove
 
 module _ (p : Projection) where
-  pub update_found : (e : Entry) (i : ℕ) → find_first_row (is_entry e.collection e.key) p.entries ≡ At i → apply_update p e ≡ done (with_entries p (replace_at i e p.entries))
+  pub update_found : (e : Entry) (i : ℕ) → find_first_row (is_entry e.collection e.key) p.entries ≡ Some i → apply_update p e ≡ done (with_entries p (replace_at i e p.entries))
   unfolding apply_update contains replace_entry
   update_found e i h =
       let f = find_at (is_entry e.collection e.key) p.entries i h in
       rw (f.2, f.0) (ap (λ es. done (with_entries p es)) (replace_at_first (is_entry e.collection e.key) e p.entries f.2))
 
-  pub update_absent : (e : Entry) → find_first_row (is_entry e.collection e.key) p.entries ≡ Absent → apply_update p e ≡ stopped key_rule
+  pub update_absent : (e : Entry) → find_first_row (is_entry e.collection e.key) p.entries ≡ None → apply_update p e ≡ stopped key_rule
   unfolding apply_update contains
   update_absent e h = rw (find_absent (is_entry e.collection e.key) p.entries h)
 
-  pub remove_found : (c k i : ℕ) → find_first_row (is_entry c k) p.entries ≡ At i → apply_remove p c k ≡ done (with_entries p (remove_at i p.entries))
+  pub remove_found : (c k i : ℕ) → find_first_row (is_entry c k) p.entries ≡ Some i → apply_remove p c k ≡ done (with_entries p (remove_at i p.entries))
   unfolding apply_remove contains remove_entry
   remove_found c k i h =
       let f = find_at (is_entry c k) p.entries i h in
       rw (f.2, f.0) (ap (λ es. done (with_entries p es)) (remove_at_first (is_entry c k) p.entries))
 
-  pub remove_absent : (c k : ℕ) → find_first_row (is_entry c k) p.entries ≡ Absent → apply_remove p c k ≡ stopped key_rule
+  pub remove_absent : (c k : ℕ) → find_first_row (is_entry c k) p.entries ≡ None → apply_remove p c k ≡ stopped key_rule
   unfolding apply_remove contains
   remove_absent c k h = rw (find_absent (is_entry c k) p.entries h)
 
 -- ---- insert
 
 -- the neighbour is there, and the entry goes to its position
-pub neighbour_at : (before : Option ℕ) (e : Entry) (es : List Entry) (i : ℕ) → place_before e.collection before es ≡ At i
+pub neighbour_at : (before : Option ℕ) (e : Entry) (es : List Entry) (i : ℕ) → place_before e.collection before es ≡ Some i
     → (contains_neighbour e.collection before es ≡ true) × (insert_entry before e es ≡ insert_at i e es)
 unfolding place_before contains_neighbour contains insert_entry insert_last insert_before
 neighbour_at none e es i h =
@@ -85,22 +85,22 @@ neighbour_at (some k) e es i h =
     let f = find_at (is_entry e.collection k) es i h in
     (f.2, insert_at_first (is_entry e.collection k) e es ∙ ap (λ n. insert_at n e es) (sym f.0))
 
-pub neighbour_absent_lem : (c : ℕ) (before : Option ℕ) (es : List Entry) → place_before c before es ≡ Absent → contains_neighbour c before es ≡ false
+pub neighbour_absent_lem : (c : ℕ) (before : Option ℕ) (es : List Entry) → place_before c before es ≡ None → contains_neighbour c before es ≡ false
 unfolding place_before contains_neighbour contains
 neighbour_absent_lem c none es h = let z : ◌≡◌ {A = ℕ} 0 1 = cc in absurd (omega arith)
 neighbour_absent_lem c (some k) es h = find_absent (is_entry c k) es h
 
 module _ (p : Projection) (before : Option ℕ) (e : Entry) where
-  pub insert_present : (i : ℕ) → find_first_row (is_entry e.collection e.key) p.entries ≡ At i → apply_insert p before e ≡ stopped key_rule
+  pub insert_present : (i : ℕ) → find_first_row (is_entry e.collection e.key) p.entries ≡ Some i → apply_insert p before e ≡ stopped key_rule
   unfolding apply_insert contains
   insert_present i h = rw (find_at (is_entry e.collection e.key) p.entries i h).2
 
-  module _ (absent : find_first_row (is_entry e.collection e.key) p.entries ≡ Absent) where
-    pub insert_no_neighbour : place_before e.collection before p.entries ≡ Absent → apply_insert p before e ≡ stopped key_rule
+  module _ (absent : find_first_row (is_entry e.collection e.key) p.entries ≡ None) where
+    pub insert_no_neighbour : place_before e.collection before p.entries ≡ None → apply_insert p before e ≡ stopped key_rule
     unfolding apply_insert contains
     insert_no_neighbour h = rw (find_absent (is_entry e.collection e.key) p.entries absent, neighbour_absent_lem e.collection before p.entries h)
 
-    pub insert_there : (i : ℕ) → place_before e.collection before p.entries ≡ At i
+    pub insert_there : (i : ℕ) → place_before e.collection before p.entries ≡ Some i
         → apply_insert p before e ≡ (if leb (length (insert_at i e p.entries)) projection_entries then done (with_entries p (insert_at i e p.entries)) else stopped projection_full)
     unfolding apply_insert contains
     insert_there i h =
@@ -151,7 +151,7 @@ module _ {A : Type 0} (test : A → Bool) {B : Type 0} (f : A → B) where
       (λ e. let r = first_found l (rw e at h) in
       rw e (record { element = r.element; passes = r.passes; found = rw e r.found; at = r.at; image = r.image; below = omega (arith, r.below) }))
 
-  pub found_at : (l : List A) (i : ℕ) → find_first_row test l ≡ At i → FoundAt test f l i
+  pub found_at : (l : List A) (i : ℕ) → find_first_row test l ≡ Some i → FoundAt test f l i
   found_at l i h =
       let g = find_at test l i h in
       subst (FoundAt test f l) (sym g.0) (first_found l g.2)
@@ -171,11 +171,11 @@ not_later c k e is = le-ltb c e.collection (omega (arith, is_entry_collection c 
 
 module _ (c k : ℕ) (es : List Entry) (i : ℕ) (g : FoundAt (is_entry c k) planned_entry_row es i) where
   -- the neighbour's place once the entry is taken out
-  place_without : (before : Option ℕ) (j : ℕ) → is_itself k before ≡ false → place_before c before es ≡ At j → place_before c before (remove_at i es) ≡ At (without_at i j)
+  place_without : (before : Option ℕ) (j : ℕ) → is_itself k before ≡ false → place_before c before es ≡ Some j → place_before c before (remove_at i es) ≡ Some (without_at i j)
   unfolding place_before is_itself
   place_without none j n h =
       let same : first_index (is_later c) es ≡ j = cc in
-      ap At (first_without (is_later c) es i g.element g.below (rw (g.at g.element) (not_later c k g.element g.passes)) ∙ ap (without_at i) same)
+      ap Some (first_without (is_later c) es i g.element g.below (rw (g.at g.element) (not_later c k g.element g.passes)) ∙ ap (without_at i) same)
   place_without (some b) j n h =
       let f = find_at (is_entry c b) es j h in
       let fails : is_entry c b (get_or es i g.element) ≡ false = rw (g.at g.element) (other_key c k b g.element g.passes n) in
@@ -184,7 +184,7 @@ module _ (c k : ℕ) (es : List Entry) (i : ℕ) (g : FoundAt (is_entry c k) pla
       (omega (arith, any_lt (is_entry c b) (remove_at i es) (any_without (is_entry c b) es i g.element g.below fails ∙ f.2)))
 
   -- the neighbour is gone, or was not there
-  none_without : Grouped es → remove_entry c k es ≡ remove_at i es → (before : Option ℕ) → place_before_other c k before es ≡ Absent → contains_neighbour c before (remove_at i es) ≡ false
+  none_without : Grouped es → remove_entry c k es ≡ remove_at i es → (before : Option ℕ) → place_before_other c k before es ≡ None → contains_neighbour c before (remove_at i es) ≡ false
   unfolding place_before_other place_before is_itself contains_neighbour contains
   none_without ordered out none h = let z : ◌≡◌ {A = ℕ} 0 1 = cc in absurd (omega arith)
   none_without ordered out (some b) h = test_cases (eqb b k)
@@ -193,11 +193,11 @@ module _ (c k : ℕ) (es : List Entry) (i : ℕ) (g : FoundAt (is_entry c k) pla
       ∙ find_absent (is_entry c b) es (rw f at h))
 
 module _ (p : Projection) (ordered : Grouped p.entries) (c k : ℕ) (before : Option ℕ) where
-  pub move_absent : find_first_row (is_entry c k) p.entries ≡ Absent → apply_move p before (first.find_first (is_entry c k) p.entries) ≡ stopped key_rule
+  pub move_absent : find_first_row (is_entry c k) p.entries ≡ None → apply_move p before (first.find_first (is_entry c k) p.entries) ≡ stopped key_rule
   unfolding apply_move
   move_absent h = rw (found_none (is_entry c k) p.entries (find_absent (is_entry c k) p.entries h))
 
-  module _ (i : ℕ) (there : find_first_row (is_entry c k) p.entries ≡ At i) where
+  module _ (i : ℕ) (there : find_first_row (is_entry c k) p.entries ≡ Some i) where
     abbrev pub moved : FoundAt (is_entry c k) planned_entry_row p.entries i
     moved = found_at (is_entry c k) planned_entry_row p.entries i there
 
@@ -211,12 +211,12 @@ module _ (p : Projection) (ordered : Grouped p.entries) (c k : ℕ) (before : Op
     rest_is : remove_entry moved.element.collection moved.element.key p.entries ≡ remove_at i p.entries
     rest_is = ap₂ (λ x y. remove_entry x y p.entries) own_collection (is_entry_key c k moved.element moved.passes) ∙ out
 
-    pub move_no_neighbour : place_before_other c k before p.entries ≡ Absent → apply_move p before (first.find_first (is_entry c k) p.entries) ≡ stopped key_rule
+    pub move_no_neighbour : place_before_other c k before p.entries ≡ None → apply_move p before (first.find_first (is_entry c k) p.entries) ≡ stopped key_rule
     unfolding apply_move
     move_no_neighbour h =
         rw (moved.found, rest_is, own_collection, none_without c k p.entries i moved ordered out before h)
 
-    pub move_there : (j : ℕ) → place_before_other c k before p.entries ≡ At j
+    pub move_there : (j : ℕ) → place_before_other c k before p.entries ≡ Some j
         → apply_move p before (first.find_first (is_entry c k) p.entries) ≡ done (with_entries p (insert_at (without_at i j) moved.element (remove_at i p.entries)))
     unfolding apply_move place_before_other
     move_there j h =

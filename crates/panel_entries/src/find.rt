@@ -11,11 +11,16 @@ ghost use Rattle.panel_plan.specs.PlanRows.{planned_entry_width, planned_entry_r
 ghost use Rattle.panel_entries.specs.EntryRows.{KeyedRow};
 ghost use Rattle.panel_entries.specs.Places.{neighbour_of, is_placed, neighbour_key, place_before, PositionWithin, is_itself, place_before_other};
 
-use bytes_records::Found;
 use projection_patch::patch::OptionalKey;
 
 // The position of a collection's key, in rows of any width.
-pub fn find_entry(table: &[u8], width: usize, count: usize, collection: u64, key: u64) -> Found
+pub fn find_entry(
+    table: &[u8],
+    width: usize,
+    count: usize,
+    collection: u64,
+    key: u64,
+) -> Option<usize>
     requires { 16 ≤ width }
     ensures first { (row : Entry → List ℕ) → KeyedRow row → (es : List Entry) → All FitsEntry es → Grouped es → HoldsRows width count table.now (map row es)
         → result ≡ find_first_row (is_entry collection key) es }
@@ -51,7 +56,7 @@ pub fn seek_place(
     collection: u64,
     placed: bool,
     neighbour: u64,
-) -> Found
+) -> Option<usize>
     ensures first { (es : List Entry) → All FitsEntry es → Grouped es → HoldsRows planned_entry_width count table.now (map planned_entry_row es)
         → result ≡ place_before collection (neighbour_of placed neighbour) es }
     ensures within { PositionWithin count result }
@@ -60,11 +65,16 @@ pub fn seek_place(
     if placed {
         return find_entry(table, width, count, collection, neighbour);
     }
-    Found::At(bytes_records::find_above(table, width, count, collection))
+    Some(bytes_records::find_above(table, width, count, collection))
 }
 
 // The same of an optional key.
-pub fn place_before(table: &[u8], count: usize, collection: u64, before: OptionalKey) -> Found
+pub fn place_before(
+    table: &[u8],
+    count: usize,
+    collection: u64,
+    before: OptionalKey,
+) -> Option<usize>
     ensures first { (es : List Entry) → All FitsEntry es → Grouped es → HoldsRows planned_entry_width count table.now (map planned_entry_row es)
         → result ≡ place_before collection (before_of before) es }
     ensures within { PositionWithin count result }
@@ -94,13 +104,13 @@ pub fn place_before_other(
     collection: u64,
     key: u64,
     before: OptionalKey,
-) -> Found
+) -> Option<usize>
     ensures first { (es : List Entry) → All FitsEntry es → Grouped es → HoldsRows planned_entry_width count table.now (map planned_entry_row es)
         → result ≡ place_before_other collection key (before_of before) es }
     ensures within { PositionWithin count result }
 {
     if is_itself(key, before) {
-        return Found::Absent;
+        return None;
     }
     seek_place(
         table,

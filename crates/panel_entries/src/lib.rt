@@ -18,7 +18,6 @@ ghost use Rattle.panel_plan.specs.PlanRows.{planned_entry_width, PlannedEntries}
 ghost use Rattle.panel_bindings.specs.Change.{Became, KeptTable};
 ghost use Rattle.panel_entries.specs.Places.{without_at};
 
-use bytes_records::Found;
 use local_projection_state::LocalProjectionApplicationError;
 use panel_bindings::TableChange;
 use projection_patch::patch::OptionalKey;
@@ -38,12 +37,12 @@ pub fn update_entry(
     ensures kept { KeptTable result table.old table.new }
 {
     match find::find_entry(table, panel_plan::ENTRY_WIDTH, count, collection, key) {
-        Found::At(at) => {
+        Some(at) => {
             let row = panel_plan::entry_row(collection, key, mark, source);
             bytes_records::replace_record(table, panel_plan::ENTRY_WIDTH, count, at, &row);
             TableChange::Applied(count)
         }
-        Found::Absent => TableChange::Refused(LocalProjectionApplicationError::KeyRule),
+        None => TableChange::Refused(LocalProjectionApplicationError::KeyRule),
     }
 }
 
@@ -54,11 +53,11 @@ pub fn remove_entry(table: &mut [u8], count: usize, collection: u64, key: u64) -
     ensures kept { KeptTable result table.old table.new }
 {
     match find::find_entry(table, panel_plan::ENTRY_WIDTH, count, collection, key) {
-        Found::At(at) => {
+        Some(at) => {
             bytes_records::remove_record(table, panel_plan::ENTRY_WIDTH, count, at);
             TableChange::Applied(count - 1)
         }
-        Found::Absent => TableChange::Refused(LocalProjectionApplicationError::KeyRule),
+        None => TableChange::Refused(LocalProjectionApplicationError::KeyRule),
     }
 }
 
@@ -77,7 +76,7 @@ pub fn insert_entry(
         (apply_insert p (before_of before) (record { collection = collection; key = key; mark = mark; value = unsigned source })) }
     ensures kept { KeptTable result table.old table.new }
 {
-    if let Found::At(_) = find::find_entry(table, panel_plan::ENTRY_WIDTH, count, collection, key) {
+    if let Some(_) = find::find_entry(table, panel_plan::ENTRY_WIDTH, count, collection, key) {
         return TableChange::Refused(LocalProjectionApplicationError::KeyRule);
     }
     match find::seek_place(
@@ -87,14 +86,14 @@ pub fn insert_entry(
         find::has_neighbour(before),
         find::neighbour_key(before),
     ) {
-        Found::At(at) => {
+        Some(at) => {
             let row = panel_plan::entry_row(collection, key, mark, source);
             if bytes_records::insert_record(table, panel_plan::ENTRY_WIDTH, count, at, &row) {
                 return TableChange::Applied(count + 1);
             }
             TableChange::Refused(LocalProjectionApplicationError::ProjectionFull)
         }
-        Found::Absent => TableChange::Refused(LocalProjectionApplicationError::KeyRule),
+        None => TableChange::Refused(LocalProjectionApplicationError::KeyRule),
     }
 }
 
@@ -131,13 +130,13 @@ pub fn move_entry(
     ensures kept { KeptTable result table.old table.new }
 {
     match find::find_entry(table, panel_plan::ENTRY_WIDTH, count, collection, key) {
-        Found::At(from) => match find::place_before_other(table, count, collection, key, before) {
-            Found::At(to) => {
+        Some(from) => match find::place_before_other(table, count, collection, key, before) {
+            Some(to) => {
                 move_row(table, count, from, to);
                 TableChange::Applied(count)
             }
-            Found::Absent => TableChange::Refused(LocalProjectionApplicationError::KeyRule),
+            None => TableChange::Refused(LocalProjectionApplicationError::KeyRule),
         },
-        Found::Absent => TableChange::Refused(LocalProjectionApplicationError::KeyRule),
+        None => TableChange::Refused(LocalProjectionApplicationError::KeyRule),
     }
 }

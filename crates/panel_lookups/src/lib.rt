@@ -14,7 +14,6 @@ ghost use Rattle.panel_rows.specs.Rows.{binding_width, availability_width, entry
 ghost use Rattle.local_projection_state.specs.Stores.{Stored};
 ghost use Rattle.panel_rows.specs.Lookup.{value_lookup, availability_lookup};
 
-use bytes_records::{Found, Place};
 use panel_entries::find;
 use panel_rows::values::{AvailabilityLookup, ValueLookup};
 use panel_rows::{fields, values};
@@ -33,11 +32,11 @@ pub fn binding_value(table: &[u8], count: usize, node: u64, slot: u32) -> ValueL
         panel_rows::SLOT_WIDTH,
         slot as u64,
     ) {
-        Place::Taken(at) => {
+        Ok(at) => {
             let row = bytes_records::record_at(table, width, count, at);
             values::stored_value(row, panel_rows::BINDING_VALUE, fields::binding_mark(row))
         }
-        Place::Before(_) => values::no_value(),
+        Err(_) => values::no_value(),
     }
 }
 
@@ -69,8 +68,8 @@ pub fn node_availability(table: &[u8], count: usize, node: u64) -> AvailabilityL
 {
     let width = panel_rows::AVAILABILITY_WIDTH;
     match bytes_records::find_place(table, width, count, node) {
-        Place::Taken(at) => stored_availability(bytes_records::record_at(table, width, count, at)),
-        Place::Before(_) => no_availability(),
+        Ok(at) => stored_availability(bytes_records::record_at(table, width, count, at)),
+        Err(_) => no_availability(),
     }
 }
 
@@ -81,10 +80,10 @@ pub fn entry_value(table: &[u8], count: usize, collection: u64, key: u64) -> Val
 {
     let width = panel_rows::ENTRY_WIDTH;
     match find::find_entry(table, width, count, collection, key) {
-        Found::At(at) => {
+        Some(at) => {
             let row = bytes_records::record_at(table, width, count, at);
             values::stored_value(row, panel_rows::ENTRY_VALUE, fields::entry_mark(row))
         }
-        Found::Absent => values::no_value(),
+        None => values::no_value(),
     }
 }

@@ -12,7 +12,6 @@ ghost use Rattle.panel_rows.specs.Rows.{entry_width, entry_row};
 ghost use Rattle.local_projection_state.specs.Stores.{Stored};
 ghost use Rattle.panel_lookups.specs.Nth.{counts_for, Nth, entry_lookup};
 
-use bytes_records::Found;
 use panel_rows::values::ValueLookup;
 use panel_rows::{fields, values};
 
@@ -54,24 +53,24 @@ pub fn entry_count(table: &[u8], count: usize, collection: u64) -> usize
 }
 
 // The position of a collection's entry, by its position in the collection.
-fn find_nth(table: &[u8], count: usize, collection: u64, position: usize) -> Found
+fn find_nth(table: &[u8], count: usize, collection: u64, position: usize) -> Option<usize>
     ensures { (es : List Entry) → All FitsEntry es → HoldsRows entry_width count table.now (map entry_row es)
         → Nth collection position es result }
 {
     if table.len() / panel_rows::ENTRY_WIDTH < count {
-        return Found::Absent;
+        return None;
     }
     let mut left = position;
     let mut i: usize = 0;
     while i < count {
         let n = counts_for(table, count, i, collection);
         if left < n {
-            return Found::At(i);
+            return Some(i);
         }
         left -= n;
         i += 1;
     }
-    Found::Absent
+    None
 }
 
 fn no_entry() -> EntryLookup
@@ -97,7 +96,7 @@ pub fn entry_at(table: &[u8], count: usize, collection: u64, position: usize) ->
 {
     let width = panel_rows::ENTRY_WIDTH;
     match find_nth(table, count, collection, position) {
-        Found::At(i) => stored_entry(bytes_records::record_at(table, width, count, i)),
-        Found::Absent => no_entry(),
+        Some(i) => stored_entry(bytes_records::record_at(table, width, count, i)),
+        None => no_entry(),
     }
 }

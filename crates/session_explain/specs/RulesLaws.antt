@@ -7,7 +7,6 @@ use Rattle.spec_projection.specs.Projection.{Projection}
 use Rattle.spec_projection.specs.Entries.{is_entry, contains}
 use Rattle.bytes_records.specs.Search.{find_first_row}
 use Rattle.bytes_records.specs.SearchLaws.{find_at, find_absent}
-use Rattle.bytes_records.specs.declared.Found.TheVariants.{At, Absent}
 use Rattle.panel_entries.specs.Places.{place_before}
 use Rattle.panel_entries.specs.PlacesLaws.{neighbour_at, neighbour_absent_lem}
 use Rattle.spec_explain.specs.OperationRule.{key_present, key_absent, neighbour_absent, entries_full, rule_of}
@@ -20,28 +19,29 @@ use Rattle.projection_patch.specs.declared.patch.ProjectionPatchOperation.{Proje
 use Rattle.projection_patch.specs.declared.patch.ProjectionPatchOperation.TheVariants.{CollectionInsert, CollectionMove}
 use Rattle.session_explain.specs.Reasons.{operation_rule_to}
 use Rattle.session_explain.specs.declared.reasons.OperationRule.{OperationRule}
+use Rattle.std.specs.Prelude.{Some, None}
 
 module _ (p : Projection) (c k : ℕ) (before : Option ℕ) where
   module _ (v : Value) where
-    pub rule_insert_present : (i : ℕ) → find_first_row (is_entry c k) p.entries ≡ At i → operation_rule_to key_present ≡ operation_rule_to (rule_of p (insert c k before v))
+    pub rule_insert_present : (i : ℕ) → find_first_row (is_entry c k) p.entries ≡ Some i → operation_rule_to key_present ≡ operation_rule_to (rule_of p (insert c k before v))
     unfolding rule_of contains
     rule_insert_present i h = rw (find_at (is_entry c k) p.entries i h).2
 
-    module _ (absent : find_first_row (is_entry c k) p.entries ≡ Absent) where
-      pub rule_insert_full : (i : ℕ) → place_before c before p.entries ≡ At i → operation_rule_to entries_full ≡ operation_rule_to (rule_of p (insert c k before v))
+    module _ (absent : find_first_row (is_entry c k) p.entries ≡ None) where
+      pub rule_insert_full : (i : ℕ) → place_before c before p.entries ≡ Some i → operation_rule_to entries_full ≡ operation_rule_to (rule_of p (insert c k before v))
       unfolding rule_of contains
       rule_insert_full i h =
           rw (find_absent (is_entry c k) p.entries absent, (neighbour_at before (record { collection = c; key = k; mark = 0; value = v }) p.entries i h).0)
 
-      pub rule_insert_no_neighbour : place_before c before p.entries ≡ Absent → operation_rule_to neighbour_absent ≡ operation_rule_to (rule_of p (insert c k before v))
+      pub rule_insert_no_neighbour : place_before c before p.entries ≡ None → operation_rule_to neighbour_absent ≡ operation_rule_to (rule_of p (insert c k before v))
       unfolding rule_of contains
       rule_insert_no_neighbour h = rw (find_absent (is_entry c k) p.entries absent, neighbour_absent_lem c before p.entries h)
 
-  pub rule_move_no_neighbour : (i : ℕ) → find_first_row (is_entry c k) p.entries ≡ At i → operation_rule_to neighbour_absent ≡ operation_rule_to (rule_of p (move c k before))
+  pub rule_move_no_neighbour : (i : ℕ) → find_first_row (is_entry c k) p.entries ≡ Some i → operation_rule_to neighbour_absent ≡ operation_rule_to (rule_of p (move c k before))
   unfolding rule_of contains
   rule_move_no_neighbour i h = rw (find_at (is_entry c k) p.entries i h).2
 
-  pub rule_move_absent : find_first_row (is_entry c k) p.entries ≡ Absent → operation_rule_to key_absent ≡ operation_rule_to (rule_of p (move c k before))
+  pub rule_move_absent : find_first_row (is_entry c k) p.entries ≡ None → operation_rule_to key_absent ≡ operation_rule_to (rule_of p (move c k before))
   unfolding rule_of contains
   rule_move_absent h = rw (find_absent (is_entry c k) p.entries h)
 

@@ -9,7 +9,6 @@ ghost use Rattle.panel_plan.specs.PlanRows.{PlannedEntries};
 ghost use Rattle.session_explain.specs.Reasons.{operation_rule_to};
 
 use crate::reasons::OperationRule;
-use bytes_records::Found;
 use panel_entries::find;
 use projection_patch::patch::{OptionalKey, ProjectionPatchOperation};
 
@@ -23,18 +22,12 @@ fn insert_rule(
 ) -> OperationRule
     ensures { (p : Projection) (v : Value) → PlannedEntries count entries.now p.entries → Valid p → result ≡ operation_rule_to (rule_of p (insert collection key (before_of before) v)) }
 {
-    if let Found::At(_) = find::find_entry(
-        entries,
-        panel_plan::ENTRY_WIDTH,
-        count,
-        collection,
-        key,
-    ) {
+    if let Some(_) = find::find_entry(entries, panel_plan::ENTRY_WIDTH, count, collection, key) {
         return OperationRule::KeyPresent;
     }
     match find::place_before(entries, count, collection, before) {
-        Found::At(_) => OperationRule::EntriesFull,
-        Found::Absent => OperationRule::NeighbourAbsent,
+        Some(_) => OperationRule::EntriesFull,
+        None => OperationRule::NeighbourAbsent,
     }
 }
 
@@ -49,8 +42,8 @@ fn move_rule(
     ensures { (p : Projection) → PlannedEntries count entries.now p.entries → Valid p → result ≡ operation_rule_to (rule_of p (move collection key (before_of before))) }
 {
     match find::find_entry(entries, panel_plan::ENTRY_WIDTH, count, collection, key) {
-        Found::At(_) => OperationRule::NeighbourAbsent,
-        Found::Absent => OperationRule::KeyAbsent,
+        Some(_) => OperationRule::NeighbourAbsent,
+        None => OperationRule::KeyAbsent,
     }
 }
 

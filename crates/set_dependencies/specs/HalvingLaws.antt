@@ -10,8 +10,8 @@ use Rattle.spec_lists.specs.Order.{lex_less, Ascending}
 use Rattle.spec_lists.proofs.OrderLaws.{lex_less_total, lex_less_trans, lex_less_irreflexive, lex_less_self}
 use Rattle.bytes_records.specs.Keys.{order_of}
 use Rattle.bytes_records.specs.Search.{next_place, place_of}
-use Rattle.bytes_records.specs.declared.Place.TheVariants.{Taken, Before}
-use Rattle.bytes_records.specs.declared.keys.Order.TheVariants.{Below, Same, Above}
+use Rattle.std.specs.Prelude.{Ok, Err}
+use Rattle.std.specs.declared.cmp.Ordering.TheVariants.{Less, Equal, Greater}
 
 -- ---- how one key stands to another
 
@@ -19,17 +19,17 @@ pub lex_less_not : (a b : List ℕ) → lex_less a b ≡ true → lex_less b a �
 lex_less_not a b h = test_cases (lex_less b a) (λ k. absurd (lex_less_irreflexive a (lex_less_trans a b a h k))) (λ k. k)
 
 module _ (a b : List ℕ) where
-  told : {P : Type 0} → (lex_less b a ≡ true → order_of a b ≡ Above → P) → (lex_less a b ≡ true → order_of a b ≡ Below → P) → (a ≡ b → order_of a b ≡ Same → P) → P
+  told : {P : Type 0} → (lex_less b a ≡ true → order_of a b ≡ Greater → P) → (lex_less a b ≡ true → order_of a b ≡ Less → P) → (a ≡ b → order_of a b ≡ Equal → P) → P
   unfolding order_of
   told above below same = test_cases (lex_less b a) (λ s. above s (rw s)) (λ s. test_cases (lex_less a b) (λ t. below t (rw (s, t))) (λ t. same (lex_less_total a b t s) (rw (s, t))))
 
-  pub told_below : order_of a b ≡ Below → lex_less a b ≡ true
+  pub told_below : order_of a b ≡ Less → lex_less a b ≡ true
   told_below e = told (λ s f. let z : ◌≡◌ {A = ℕ} 0 1 = cc in absurd (omega arith)) (λ s f. s) (λ s f. let z : ◌≡◌ {A = ℕ} 0 1 = cc in absurd (omega arith))
 
-  pub told_same : order_of a b ≡ Same → a ≡ b
+  pub told_same : order_of a b ≡ Equal → a ≡ b
   told_same e = told (λ s f. let z : ◌≡◌ {A = ℕ} 0 1 = cc in absurd (omega arith)) (λ s f. let z : ◌≡◌ {A = ℕ} 0 1 = cc in absurd (omega arith)) (λ s f. s)
 
-  pub told_above : order_of a b ≡ Above → lex_less b a ≡ true
+  pub told_above : order_of a b ≡ Greater → lex_less b a ≡ true
   told_above e = told (λ s f. s) (λ s f. let z : ◌≡◌ {A = ℕ} 0 1 = cc in absurd (omega arith)) (λ s f. let z : ◌≡◌ {A = ℕ} 0 1 = cc in absurd (omega arith))
 
 -- ---- positions
@@ -50,7 +50,7 @@ module _ {A : Type 0} (key : A → List ℕ) (d : A) where
     pub between_all : (l : List A) (n : ℕ) → length l ≡ n → Between 0 n l
     between_all l n e = record { below = λ i h. absurd (omega arith); above = λ i h b. absurd (omega arith) }
 
-    pub between_none : (n : ℕ) (l : List A) → n ≤ length l → Between n n l → place_of key k l ≡ Before n
+    pub between_none : (n : ℕ) (l : List A) → n ≤ length l → Between n n l → place_of key k l ≡ Err n
     unfolding place_of next_place
     between_none zero [] h s = refl
     between_none (suc n) [] h s = absurd (omega arith)
@@ -60,7 +60,7 @@ module _ {A : Type 0} (key : A → List ℕ) (d : A) where
         let rest : Between n n l = record { below = λ i b. s.below (suc i) (omega arith); above = λ i b c. s.above (suc i) (omega arith) (omega arith) } in
         rw (lex_less_not (key x) k first, first, between_none n l (omega arith) rest)
 
-    taken : (n : ℕ) (l : List A) → n < length l → ((i : ℕ) → i < n → lex_less (key (get_or l i d)) k ≡ true) → key (get_or l n d) ≡ k → place_of key k l ≡ Taken n
+    taken : (n : ℕ) (l : List A) → n < length l → ((i : ℕ) → i < n → lex_less (key (get_or l i d)) k ≡ true) → key (get_or l n d) ≡ k → place_of key k l ≡ Ok n
     unfolding place_of next_place
     taken n [] h below e = absurd (omega arith)
     taken zero (x ∷ l) h below e = rw (e, lex_less_self k)
@@ -70,7 +70,7 @@ module _ {A : Type 0} (key : A → List ℕ) (d : A) where
 
     module _ (l : List A) (ascending : Ascending key l) (low high middle : ℕ) (s : Between low high l) (within : middle < length l) where
       -- the element in the middle is below the key, above it, or of it
-      pub between_above : order_of (key (get_or l middle d)) k ≡ Below → Between (middle + 1) high l
+      pub between_above : order_of (key (get_or l middle d)) k ≡ Less → Between (middle + 1) high l
       between_above e = record { below = go; above = s.above }
         where
           go : (i : ℕ) → i < middle + 1 → lex_less (key (get_or l i d)) k ≡ true
@@ -78,7 +78,7 @@ module _ {A : Type 0} (key : A → List ℕ) (d : A) where
               (λ f. rw (eqb-true i middle f) (told_below _ k e))
               (λ f. lex_less_trans (key (get_or l i d)) (key (get_or l middle d)) k (ascending_at l ascending i middle (omega (arith, eqb-false i middle f)) within) (told_below _ k e))
 
-      pub between_below : order_of (key (get_or l middle d)) k ≡ Above → Between low middle l
+      pub between_below : order_of (key (get_or l middle d)) k ≡ Greater → Between low middle l
       between_below e = record { below = s.below; above = go }
         where
           go : (i : ℕ) → middle ≤ i → i < length l → lex_less k (key (get_or l i d)) ≡ true
@@ -86,7 +86,7 @@ module _ {A : Type 0} (key : A → List ℕ) (d : A) where
               (λ f. rw (eqb-true i middle f) (told_above _ k e))
               (λ f. lex_less_trans k (key (get_or l middle d)) (key (get_or l i d)) (told_above _ k e) (ascending_at l ascending middle i (omega (arith, eqb-false i middle f)) b))
 
-      pub between_taken : order_of (key (get_or l middle d)) k ≡ Same → place_of key k l ≡ Taken middle
+      pub between_taken : order_of (key (get_or l middle d)) k ≡ Equal → place_of key k l ≡ Ok middle
       between_taken e =
           let same = told_same (key (get_or l middle d)) k e in
           taken middle l within (λ i h. rw same at (ascending_at l ascending i middle h within)) same

@@ -10,19 +10,18 @@ use Rattle.spec_lists.specs.Order.{lex_less, lookup, Ascending}
 use Rattle.spec_lists.proofs.OrderLaws.{lex_less_total, lex_less_irreflexive, lex_less_trans}
 use Rattle.spec_lists.proofs.LookupLaws.{lookup_here, lookup_past, lookup_below}
 use Rattle.bytes_records.specs.Search.{next_place, place_of}
-use Rattle.bytes_records.specs.declared.Place.{Place}
-use Rattle.bytes_records.specs.declared.Place.TheVariants.{Taken, Before}
+use Rattle.std.specs.Prelude.{Result, Ok, Err}
 
 module _ {A : Type 0} (key : A → List ℕ) (k : List ℕ) (d : A) where
   -- what a place says of a lookup
-  abbrev pub PlaceTells : Place → List A → Type 0
-  PlaceTells (Taken i) l = (i < length l) × (lookup key k l ≡ some (get_or l i d))
-  PlaceTells (Before i) l = (i ≤ length l) × (lookup key k l ≡ none)
+  abbrev pub PlaceTells : Result ℕ ℕ → List A → Type 0
+  PlaceTells (Ok i) l = (i < length l) × (lookup key k l ≡ some (get_or l i d))
+  PlaceTells (Err i) l = (i ≤ length l) × (lookup key k l ≡ none)
 
-  past : (x : A) (l : List A) → lex_less (key x) k ≡ true → (p : Place) → PlaceTells p l → PlaceTells (next_place p) (x ∷ l)
+  past : (x : A) (l : List A) → lex_less (key x) k ≡ true → (p : Result ℕ ℕ) → PlaceTells p l → PlaceTells (next_place p) (x ∷ l)
   unfolding next_place
-  past x l h (Taken i) t = (omega (arith, t.0), lookup_past key k x l (λ e. lex_less_irreflexive k (rw e at h)) ∙ t.1)
-  past x l h (Before i) t = (omega (arith, t.0), lookup_past key k x l (λ e. lex_less_irreflexive k (rw e at h)) ∙ t.1)
+  past x l h (Ok i) t = (omega (arith, t.0), lookup_past key k x l (λ e. lex_less_irreflexive k (rw e at h)) ∙ t.1)
+  past x l h (Err i) t = (omega (arith, t.0), lookup_past key k x l (λ e. lex_less_irreflexive k (rw e at h)) ∙ t.1)
 
   pub place_tells : (l : List A) → Ascending key l → PlaceTells (place_of key k l) l
   unfolding place_of lookup

@@ -18,8 +18,6 @@ use Rattle.bytes_records.specs.Table.{HoldsRows, Changed, can_replace}
 use Rattle.bytes_records.specs.TableLaws.{can_replace_lem}
 use Rattle.bytes_records.specs.Search.{place_of, upsert_at}
 use Rattle.bytes_records.specs.SearchLaws.{upsert_place, map_upsert_at}
-use Rattle.bytes_records.specs.declared.Place.{Place}
-use Rattle.bytes_records.specs.declared.Place.TheVariants.{Taken, Before}
 use Rattle.set_dependencies.specs.SettledRows.{settled_row, row_width, FitsSettled, SettledTable, RowsIn, SettledIn}
 use Rattle.set_dependencies.specs.SettledRowsLaws.{row_wide, no_key, settled_rows_lem}
 use Rattle.set_dependencies.specs.PlaceLaws.{PlaceTells, place_tells}
@@ -27,6 +25,7 @@ use Rattle.set_dependencies.specs.Settling.{SettlesAgain, SettlesTo}
 use Rattle.set_dependencies.specs.declared.settled_rows.SettledPlaces.{SettledPlaces}
 use Rattle.set_dependencies.specs.declared.settling.Settling.{Settling}
 use Rattle.set_dependencies.specs.declared.settling.Settling.TheVariants as settling
+use Rattle.std.specs.Prelude.{Result, Ok, Err}
 
 pub table_length : {count : ℕ} {table : List ℕ} (t : List Settled) → SettledTable count table t → length t ≡ count
 table_length t s = sym (length-map t settled_row) ∙ s.rows.counted
@@ -35,10 +34,10 @@ pub places_length : {p : SettledPlaces} {table : List ℕ} (t : List Settled) �
 places_length t s = table_length t (settled_rows_lem s)
 
 module _ (e : Expectation) (fits : U64 e.collection × U64 e.key) (t : List Settled) (fit : All FitsSettled t) (ascending : Ascending settled_key t) where
-  abbrev place : Place
+  abbrev place : Result ℕ ℕ
   place = place_of settled_key (e.collection ∷ e.key ∷ []) t
 
-  tells : (p : Place) → place ≡ p → PlaceTells settled_key (e.collection ∷ e.key ∷ []) no_key p t
+  tells : (p : Result ℕ ℕ) → place ≡ p → PlaceTells settled_key (e.collection ∷ e.key ∷ []) no_key p t
   tells p is = subst (λ q. PlaceTells settled_key (e.collection ∷ e.key ∷ []) no_key q t) is (place_tells settled_key (e.collection ∷ e.key ∷ []) no_key t ascending)
 
   module _ (b : Bool) where
@@ -47,7 +46,7 @@ module _ (e : Expectation) (fits : U64 e.collection × U64 e.key) (t : List Sett
     more = upsert settled_key (settled_by b e) t
 
     -- their rows are the rows with its row at its place
-    more_rows : (p : Place) → place ≡ p → upsert_at p (settled_row (settled_by b e)) (map settled_row t) ≡ map settled_row more
+    more_rows : (p : Result ℕ ℕ) → place ≡ p → upsert_at p (settled_row (settled_by b e)) (map settled_row t) ≡ map settled_row more
     unfolding settled_by settled_key
     more_rows p is = ap (λ q. upsert_at q (settled_row (settled_by b e)) (map settled_row t)) (sym is) ∙ sym (map_upsert_at settled_row place (settled_by b e) t) ∙ ap (map settled_row) (sym (upsert_place settled_key (settled_by b e) t))
 
@@ -60,17 +59,17 @@ module _ (e : Expectation) (fits : U64 e.collection × U64 e.key) (t : List Sett
 
   -- ---- a key that is settled already
 
-  module _ (at : ℕ) (is : place ≡ Taken at) where
+  module _ (at : ℕ) (is : place ≡ Ok at) where
     -- its row
     abbrev old : Settled
     old = get_or t at no_key
 
     pub old_within : at < length t
-    old_within = (tells (Taken at) is).0
+    old_within = (tells (Ok at) is).0
 
     pub contradicts_old : beq old.now e.expected ≡ false → (count : ℕ) (exit : List ℕ) → SettlesAgain (judge e t) count false exit
     unfolding judge judge_by
-    contradicts_old a count exit = rw ((tells (Taken at) is).1, a) tt
+    contradicts_old a count exit = rw ((tells (Ok at) is).1, a) tt
 
     pub settles_again : beq old.now e.expected ≡ true → {count : ℕ} {table : List ℕ} → SettledTable count table t → (exit row : List ℕ) → row ≡ settled_row (settled_by old.at_start e) → {answer : Bool}
         → Changed row_width count count (replace_at at row) (can_replace (length table) row_width count at row) table exit answer → SettlesAgain (judge e t) count answer exit
@@ -80,27 +79,27 @@ module _ (e : Expectation) (fits : U64 e.collection × U64 e.key) (t : List Sett
         let done = c.told ∙ can_replace_lem s.rows at row (omega (arith, old_within, table_length t s)) wide in
         let h = c.made done (map settled_row t) s.rows in
         let kept : SettledTable count exit (more old.at_start) = record {
-          rows = subst (HoldsRows row_width count exit) (ap (λ x. replace_at at x (map settled_row t)) r ∙ more_rows old.at_start (Taken at) is) h;
+          rows = subst (HoldsRows row_width count exit) (ap (λ x. replace_at at x (map settled_row t)) r ∙ more_rows old.at_start (Ok at) is) h;
           fit = more_fit old.at_start;
           ascending = more_ascending old.at_start;
         } in
-        rw (done, (tells (Taken at) is).1, a) kept
+        rw (done, (tells (Ok at) is).1, a) kept
 
   -- ---- a key that is not settled yet
 
-  module _ (at : ℕ) (is : place ≡ Before at) where
+  module _ (at : ℕ) (is : place ≡ Err at) where
     pub first_within : at ≤ length t
-    first_within = (tells (Before at) is).0
+    first_within = (tells (Err at) is).0
 
     pub settles_first : (p : SettledPlaces) (exit row : List ℕ) → row ≡ settled_row (settled_by e.expected e) → RowsIn p exit (insert_at at row (map settled_row t)) → SettlesTo (judge e t) (settling.Settled p) exit
     unfolding judge judge_by upsert_at
     settles_first p exit row r h =
         let kept : SettledIn p exit (more e.expected) = record {
-          rows = subst (RowsIn p exit) (ap (λ x. insert_at at x (map settled_row t)) r ∙ more_rows e.expected (Before at) is) h;
+          rows = subst (RowsIn p exit) (ap (λ x. insert_at at x (map settled_row t)) r ∙ more_rows e.expected (Err at) is) h;
           fit = more_fit e.expected;
           ascending = more_ascending e.expected;
         } in
-        rw (tells (Before at) is).1 kept
+        rw (tells (Err at) is).1 kept
 
 -- ---- one expectation after another
 

@@ -6,18 +6,24 @@ ghost use Rattle.bytes_records.specs.Keys.{leading_numbers};
 ghost use Rattle.bytes_records.specs.Search.{place_of, PlaceWithin};
 ghost use Rattle.set_dependencies.specs.SettledRows.{row_fields};
 
-use bytes_records::keys::Order;
-use bytes_records::{Place, keys};
+use bytes_records::keys;
+use std::cmp::Ordering;
 
 // The place of a record that begins with the numbers id and second.
-pub fn find_by_halving(table: &[u8], width: usize, count: usize, id: u64, second: u64) -> Place
+pub fn find_by_halving(
+    table: &[u8],
+    width: usize,
+    count: usize,
+    id: u64,
+    second: u64,
+) -> Result<usize, usize>
     requires { 16 ≤ width }
     ensures first { (rows : List (List ℕ)) → HoldsRows width count table.now rows → Ascending (leading_numbers row_fields) rows
         → result ≡ place_of (leading_numbers row_fields) (id ∷ second ∷ []) rows }
     ensures within { PlaceWithin count result }
 {
     if table.len() / width < count {
-        return Place::Before(count);
+        return Err(count);
     }
     let mut low = 0;
     let mut high = count;
@@ -26,16 +32,16 @@ pub fn find_by_halving(table: &[u8], width: usize, count: usize, id: u64, second
         let from = middle * width;
         let end = from + width;
         match keys::compare(&table[from..end], id, 8, second) {
-            Order::Below => {
+            Ordering::Less => {
                 low = middle + 1;
             }
-            Order::Same => {
-                return Place::Taken(middle);
+            Ordering::Equal => {
+                return Ok(middle);
             }
-            Order::Above => {
+            Ordering::Greater => {
                 high = middle;
             }
         }
     }
-    Place::Before(low)
+    Err(low)
 }

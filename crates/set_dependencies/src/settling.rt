@@ -3,7 +3,6 @@ ghost use Rattle.std.specs.Prelude.{◌≡◌, List, [], ◌∷◌, ◌<◌};
 ghost use Rattle.spec_dependencies.specs.Expectations.{neighbour, expectations};
 ghost use Rattle.spec_dependencies.specs.Settled.{Settled, settled_key, judge};
 ghost use Rattle.bytes_records.specs.Search.{place_of};
-ghost use Rattle.bytes_records.specs.declared.Place.TheVariants.{Taken, Before};
 ghost use Rattle.projection_patch.specs.Meaning.{before_of, operation_of};
 ghost use Rattle.set_dependencies.specs.SettledRows.{row_capacity, SettledTable, SettledIn};
 ghost use Rattle.set_dependencies.specs.Settling.{expected_of, left_of, expectation_of, SettlesAgain, SettlesTo, Judges};
@@ -11,7 +10,6 @@ ghost use Rattle.set_dependencies.specs.declared.settling.Settling.TheVariants a
 
 use crate::settled_rows::{SettledKey, SettledPlaces};
 use crate::{find_settled, insert_settled, settled_rows};
-use bytes_records::Place;
 use projection_patch::contract_primitives::{CollectionKey, StaticNodeId};
 use projection_patch::patch::{OptionalKey, ProjectionPatchOperation};
 
@@ -64,7 +62,7 @@ fn settle_again(
     key: u64,
     key_use: KeyUse,
 ) -> bool
-    ensures { (t : List Settled) → SettledTable count rows.old t → place_of settled_key (collection ∷ key ∷ []) t ≡ Taken at
+    ensures { (t : List Settled) → SettledTable count rows.old t → place_of settled_key (collection ∷ key ∷ []) t ≡ Ok at
         → SettlesAgain (judge (expectation_of collection key key_use) t) count result rows.new }
 {
     let row = bytes_records::record_at(rows, settled_rows::WIDTH, count, at);
@@ -90,7 +88,7 @@ fn settle_first(
     key: u64,
     key_use: KeyUse,
 ) -> SettledPlaces
-    ensures { (t : List Settled) → SettledIn places table.old t → place_of settled_key (collection ∷ key ∷ []) t ≡ Before at
+    ensures { (t : List Settled) → SettledIn places table.old t → place_of settled_key (collection ∷ key ∷ []) t ≡ Err at
         → places.count < row_capacity → SettlesTo (judge (expectation_of collection key key_use) t) (settling.Settled result) table.new }
 {
     let row = settled_rows::settled_row(SettledKey {
@@ -115,7 +113,7 @@ fn settle(
 {
     let rows = settled_rows::rows_from(table, places.start);
     match find_settled::find_by_halving(rows, settled_rows::WIDTH, places.count, collection, key) {
-        Place::Taken(at) => {
+        Ok(at) => {
             if table.len() / settled_rows::WIDTH < places.start {
                 return Settling::Contradiction;
             }
@@ -132,9 +130,7 @@ fn settle(
             }
             Settling::Contradiction
         }
-        Place::Before(at) => Settling::Settled(settle_first(
-            table, places, at, collection, key, key_use,
-        )),
+        Err(at) => Settling::Settled(settle_first(table, places, at, collection, key, key_use)),
     }
 }
 

@@ -47,8 +47,8 @@ loop-at-init c = (
   search rules,
   search rules,
   λ m t rising. (
-    c.find_start-at.ensures.start m t rising,
-    pair_start m rising c.args.id c.args.second c.find_start-at.result (c.find_start-at.ensures.start m t rising) (omega (arith, t.counted, c.find_start-at.ensures.within)),
+    c.find_start-start.ensures.start m t rising,
+    pair_start m rising c.args.id c.args.second c.find_start-start.result (c.find_start-start.ensures.start m t rising) (omega (arith, t.counted, c.find_start-start.ensures.within)),
   ),
 )
 

@@ -43,19 +43,19 @@ overflow_add-end c = omega (arith, placed c)
 pub slice_bounds-compare-end : goal.slice_bounds-compare-end
 slice_bounds-compare-end c = omega (arith, placed c)
 
-pub returns-in-Same : goal.returns-in-Same
+pub returns-in-Equal : goal.returns-in-Equal
 unfolding PlaceWithin
-returns-in-Same c =
-    record { first = (λ m t. sym (placed_taken _ _ m t c.loop-place.place (c.loop-place.invariant.1 m t) c.loop-place-test.true (compared-row (goal.at.returns-in-Same c).After-compare m t ∙ c.in-Same.is))); within = search rules }
+returns-in-Equal c =
+    record { first = (λ m t. sym (placed_taken _ _ m t c.loop-place.place (c.loop-place.invariant.1 m t) c.loop-place-test.true (compared-row (goal.at.returns-in-Equal c).After-compare m t ∙ c.in-Equal.is))); within = search rules }
 
-pub returns-in-Above : goal.returns-in-Above
+pub returns-in-Greater : goal.returns-in-Greater
 unfolding PlaceWithin
-returns-in-Above c =
-    record { first = (λ m t. sym (placed_before _ _ m t c.loop-place.place (c.loop-place.invariant.1 m t) c.loop-place-test.true (compared-row (goal.at.returns-in-Above c).After-compare m t ∙ c.in-Above.is))); within = search rules }
+returns-in-Greater c =
+    record { first = (λ m t. sym (placed_before _ _ m t c.loop-place.place (c.loop-place.invariant.1 m t) c.loop-place-test.true (compared-row (goal.at.returns-in-Greater c).After-compare m t ∙ c.in-Greater.is))); within = search rules }
 
 pub loop-place-preserved : goal.loop-place-preserved
 loop-place-preserved c =
-    (search rules, λ m t. placed_more _ _ m t c.loop-place.place (c.loop-place.invariant.1 m t) c.loop-place-test.true (compared-row (goal.at.loop-place-preserved c).After-compare m t ∙ c.in-Below.is))
+    (search rules, λ m t. placed_more _ _ m t c.loop-place.place (c.loop-place.invariant.1 m t) c.loop-place-test.true (compared-row (goal.at.loop-place-preserved c).After-compare m t ∙ c.in-Less.is))
 
 pub returns : goal.returns
 unfolding PlaceWithin

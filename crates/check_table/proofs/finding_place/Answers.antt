@@ -13,19 +13,19 @@ use Rattle.check_table.proofs.finding_place.Goals as goal
 pub loop-at-init : goal.loop-at-init
 loop-at-init c = (search rules, search rules, later_none _)
 
-pub returns-in-Same : goal.returns-in-Same
+pub returns-in-Equal : goal.returns-in-Equal
 unfolding PlaceWithin
-returns-in-Same c =
-    record { place = sym (placed_same _ _ c.loop-at.at c.loop-at.place (search rules) _ (sym c.compare.ensures) c.loop-at.invariant.2 c.in-Same.is); within = omega (arith, c.loop-at.invariant.0, c.loop-at.invariant.1, c.loop-at-test.true) }
+returns-in-Equal c =
+    record { place = sym (placed_same _ _ c.loop-at.at c.loop-at.place (search rules) _ (sym c.compare.ensures) c.loop-at.invariant.2 c.in-Equal.is); within = omega (arith, c.loop-at.invariant.0, c.loop-at.invariant.1, c.loop-at-test.true) }
 
-pub returns-in-Above : goal.returns-in-Above
+pub returns-in-Greater : goal.returns-in-Greater
 unfolding PlaceWithin
-returns-in-Above c =
-    record { place = sym (placed_above _ _ c.loop-at.at c.loop-at.place (search rules) _ (sym c.compare.ensures) c.loop-at.invariant.2 c.in-Above.is); within = omega (arith, c.loop-at.invariant.0, c.loop-at.invariant.1, c.loop-at-test.true) }
+returns-in-Greater c =
+    record { place = sym (placed_above _ _ c.loop-at.at c.loop-at.place (search rules) _ (sym c.compare.ensures) c.loop-at.invariant.2 c.in-Greater.is); within = omega (arith, c.loop-at.invariant.0, c.loop-at.invariant.1, c.loop-at-test.true) }
 
 pub loop-at-preserved : goal.loop-at-preserved
 loop-at-preserved c =
-    (search rules, omega (arith, c.loop-at.invariant.1), placed_below _ _ c.loop-at.at c.loop-at.place (search rules) _ (sym c.compare.ensures) c.loop-at.invariant.2 c.in-Below.is)
+    (search rules, omega (arith, c.loop-at.invariant.1), placed_below _ _ c.loop-at.at c.loop-at.place (search rules) _ (sym c.compare.ensures) c.loop-at.invariant.2 c.in-Less.is)
 
 pub returns : goal.returns
 unfolding PlaceWithin

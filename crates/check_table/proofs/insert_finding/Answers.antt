@@ -6,12 +6,12 @@ use lib.ListN.{length-take, length-drop}
 use Rattle.check_table.specs.FindingTableLaws.{within_before, table_full, there_already, one_more}
 use borrow.Author.Rules.{rules}
 use Rattle.check_table.proofs.insert_finding.Goals as goal
-use Rattle.check_table.proofs.insert_finding.Goals.{In-Before}
+use Rattle.check_table.proofs.insert_finding.Goals.{In-Err}
 
 -- the place is among the records or behind them
-below : (c : In-Before) → c.in-Before.place ≤ c.args.count
+below : (c : In-Err) → c.in-Err.place ≤ c.args.count
 below c =
-    omega (arith, within_before _ _ _ c.finding_place.ensures.within c.in-Before.is, length-take (3 * c.args.count) c.args.records.now)
+    omega (arith, within_before _ _ _ c.finding_place.ensures.within c.in-Err.is, length-take (3 * c.args.count) c.args.records.now)
 
 pub returns-then-records-count : goal.returns-then-records-count
 returns-then-records-count c = let all = table_full _ _ _ (search rules) in record { counted = all.0; numbers = all.1 }
@@ -33,12 +33,12 @@ pub slice_bounds-push_finding-start : goal.slice_bounds-push_finding-start
 slice_bounds-push_finding-start c = omega (arith, below c)
 
 pub push_finding-requires : goal.push_finding-requires
-push_finding-requires c = simp (length-take, length-drop) (omega (arith, below (goal.at.push_finding-requires c).In-Before))
+push_finding-requires c = simp (length-take, length-drop) (omega (arith, below (goal.at.push_finding-requires c).In-Err))
 
-pub returns-in-Taken : goal.returns-in-Taken
-returns-in-Taken c =
-    let all = there_already _ c.args.count c.args.records.now (search rules) c.in-Taken.field-0 (sym c.finding_place.ensures.place ∙ c.in-Taken.is) in record { counted = all.0; numbers = all.1 }
+pub returns-in-Ok : goal.returns-in-Ok
+returns-in-Ok c =
+    let all = there_already _ c.args.count c.args.records.now (search rules) c.in-Ok.field-0 (sym c.finding_place.ensures.place ∙ c.in-Ok.is) in record { counted = all.0; numbers = all.1 }
 
-pub returns-in-Before : goal.returns-in-Before
-returns-in-Before c =
-    let all = one_more _ c.args.count c.args.records.now (search rules) c.in-Before.place (sym c.finding_place.ensures.place ∙ c.in-Before.is) (below (goal.at.returns-in-Before c).In-Before) _ c.push_finding.ensures in record { counted = all.0; numbers = all.1 }
+pub returns-in-Err : goal.returns-in-Err
+returns-in-Err c =
+    let all = one_more _ c.args.count c.args.records.now (search rules) c.in-Err.place (sym c.finding_place.ensures.place ∙ c.in-Err.is) (below (goal.at.returns-in-Err c).In-Err) _ c.push_finding.ensures in record { counted = all.0; numbers = all.1 }

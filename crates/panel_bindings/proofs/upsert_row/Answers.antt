@@ -12,12 +12,12 @@ overflow_add-result c =
 
 pub returns-then-insert_record : goal.returns-then-insert_record
 returns-then-insert_record c =
-    record { made = upsert_inserted (search rules) (search rules) _ _ _ c.in-Before.is c.if-insert_record.true c.insert_record.ensures; kept = search rules }
+    record { made = upsert_inserted (search rules) (search rules) _ _ _ c.in-Err.is c.if-insert_record.true c.insert_record.ensures; kept = search rules }
 
-pub returns-in-Taken : goal.returns-in-Taken
-returns-in-Taken c =
-    record { made = upsert_taken (search rules) (search rules) _ _ _ c.in-Taken.is c.replace_record.ensures; kept = search rules }
+pub returns-in-Ok : goal.returns-in-Ok
+returns-in-Ok c =
+    record { made = upsert_taken (search rules) (search rules) _ _ _ c.in-Ok.is c.replace_record.ensures; kept = search rules }
 
 pub returns-else-insert_record : goal.returns-else-insert_record
 returns-else-insert_record c =
-    record { made = upsert_full (search rules) (search rules) _ _ _ c.in-Before.is c.if-insert_record.false c.insert_record.ensures; kept = c.insert_record.ensures.kept c.if-insert_record.false }
+    record { made = upsert_full (search rules) (search rules) _ _ _ c.in-Err.is c.if-insert_record.false c.insert_record.ensures; kept = c.insert_record.ensures.kept c.if-insert_record.false }

@@ -28,11 +28,11 @@ placed c es fit grouped t =
 row_wide : (c : After-entry_row-row) → Wide planned_entry_width c.entry_row-row.result
 row_wide c = search rules
 
-pub returns-in-At : goal.returns-in-At
-returns-in-At c =
+pub returns-in-Some : goal.returns-in-Some
+returns-in-Some c =
     record {
       made = (λ p s v.
-          key_present_lem c.args.table.now p _ _ _ (sym (c.find_entry.ensures.first planned_entry_row planned_keyed p.entries v.fit_entries v.entries s.rows) ∙ c.in-At.is));
+          key_present_lem c.args.table.now p _ _ _ (sym (c.find_entry.ensures.first planned_entry_row planned_keyed p.entries v.fit_entries v.entries s.rows) ∙ c.in-Some.is));
       kept = refl;
     }
 
@@ -45,7 +45,7 @@ returns-then-insert_record c =
       made = (λ p s v.
           inserted_there c.insert_record.new.table (search rules) p s _ c.entry_row-row.result c.entry_row-row.ensures (row_wide (goal.at.returns-then-insert_record c).After-entry_row-row) _ _
           (sym (c.find_entry.ensures.first planned_entry_row planned_keyed p.entries v.fit_entries v.entries s.rows) ∙ c.in_default.is)
-          (sym (placed (goal.at.returns-then-insert_record c).After-seek_place p.entries v.fit_entries v.entries s.rows) ∙ c.in-At-seek_place.is) c.insert_record.ensures c.if-insert_record.true);
+          (sym (placed (goal.at.returns-then-insert_record c).After-seek_place p.entries v.fit_entries v.entries s.rows) ∙ c.in-Some-seek_place.is) c.insert_record.ensures c.if-insert_record.true);
       kept = search rules;
     }
 
@@ -55,17 +55,17 @@ returns-else-insert_record c =
       made = (λ p s v.
           inserted_nowhere c.insert_record.new.table (search rules) p s _ c.entry_row-row.result c.entry_row-row.ensures (row_wide (goal.at.returns-else-insert_record c).After-entry_row-row) _ _
           (sym (c.find_entry.ensures.first planned_entry_row planned_keyed p.entries v.fit_entries v.entries s.rows) ∙ c.in_default.is)
-          (sym (placed (goal.at.returns-else-insert_record c).After-seek_place p.entries v.fit_entries v.entries s.rows) ∙ c.in-At-seek_place.is) c.insert_record.ensures
-          (position_at _ _ c.in-At-seek_place.is c.seek_place.ensures.within) c.if-insert_record.false);
+          (sym (placed (goal.at.returns-else-insert_record c).After-seek_place p.entries v.fit_entries v.entries s.rows) ∙ c.in-Some-seek_place.is) c.insert_record.ensures
+          (position_at _ _ c.in-Some-seek_place.is c.seek_place.ensures.within) c.if-insert_record.false);
       kept = c.insert_record.ensures.kept c.if-insert_record.false;
     }
 
-pub returns-in-Absent : goal.returns-in-Absent
-returns-in-Absent c =
+pub returns-in-None : goal.returns-in-None
+returns-in-None c =
     record {
       made = (λ p s v.
           neighbour_missing c.args.table.now p _ _
           (sym (c.find_entry.ensures.first planned_entry_row planned_keyed p.entries v.fit_entries v.entries s.rows) ∙ c.in_default.is)
-          (sym (placed (goal.at.returns-in-Absent c).After-seek_place p.entries v.fit_entries v.entries s.rows) ∙ c.in-Absent.is));
+          (sym (placed (goal.at.returns-in-None c).After-seek_place p.entries v.fit_entries v.entries s.rows) ∙ c.in-None.is));
       kept = refl;
     }

@@ -8,21 +8,21 @@ use Rattle.panel_entries.proofs.Entries.{within_at, removed_there, not_removed}
 use Rattle.panel_entries.proofs.remove_entry.Goals as goal
 
 pub overflow_sub-result : goal.overflow_sub-result
-overflow_sub-result c = omega (arith, within_at _ _ c.in-At.is c.find_entry.ensures.within)
+overflow_sub-result c = omega (arith, within_at _ _ c.in-Some.is c.find_entry.ensures.within)
 
-pub returns-in-At : goal.returns-in-At
-returns-in-At c =
+pub returns-in-Some : goal.returns-in-Some
+returns-in-Some c =
     record {
       made = (λ p s v.
           removed_there c.remove_record.new.table (search rules) p s _ _ _
-          (sym (c.find_entry.ensures.first planned_entry_row planned_keyed p.entries v.fit_entries v.entries s.rows) ∙ c.in-At.is) c.remove_record.ensures);
+          (sym (c.find_entry.ensures.first planned_entry_row planned_keyed p.entries v.fit_entries v.entries s.rows) ∙ c.in-Some.is) c.remove_record.ensures);
       kept = search rules;
     }
 
-pub returns-in-Absent : goal.returns-in-Absent
-returns-in-Absent c =
+pub returns-in-None : goal.returns-in-None
+returns-in-None c =
     record {
       made = (λ p s v.
-          not_removed c.args.table.now p _ _ (sym (c.find_entry.ensures.first planned_entry_row planned_keyed p.entries v.fit_entries v.entries s.rows) ∙ c.in-Absent.is));
+          not_removed c.args.table.now p _ _ (sym (c.find_entry.ensures.first planned_entry_row planned_keyed p.entries v.fit_entries v.entries s.rows) ∙ c.in-None.is));
       kept = refl;
     }

@@ -6,19 +6,19 @@ use Rattle.panel_entries.specs.EntryRowsLaws.{planned_keyed}
 use Rattle.panel_entries.proofs.Entries.{updated, not_updated}
 use Rattle.panel_entries.proofs.update_entry.Goals as goal
 
-pub returns-in-At : goal.returns-in-At
-returns-in-At c =
+pub returns-in-Some : goal.returns-in-Some
+returns-in-Some c =
     record {
       made = (λ p s v.
           updated c.replace_record.new.table (search rules) p s _ c.entry_row-row.result c.entry_row-row.ensures (search rules) _
-          (sym (c.find_entry.ensures.first planned_entry_row planned_keyed p.entries v.fit_entries v.entries s.rows) ∙ c.in-At.is) c.replace_record.ensures);
+          (sym (c.find_entry.ensures.first planned_entry_row planned_keyed p.entries v.fit_entries v.entries s.rows) ∙ c.in-Some.is) c.replace_record.ensures);
       kept = search rules;
     }
 
-pub returns-in-Absent : goal.returns-in-Absent
-returns-in-Absent c =
+pub returns-in-None : goal.returns-in-None
+returns-in-None c =
     record {
       made = (λ p s v.
-          not_updated c.args.table.now p _ (sym (c.find_entry.ensures.first planned_entry_row planned_keyed p.entries v.fit_entries v.entries s.rows) ∙ c.in-Absent.is));
+          not_updated c.args.table.now p _ (sym (c.find_entry.ensures.first planned_entry_row planned_keyed p.entries v.fit_entries v.entries s.rows) ∙ c.in-None.is));
       kept = refl;
     }

@@ -7,12 +7,12 @@ use Rattle.spec_projection.specs.Entries.{is_later}
 use Rattle.spec_projection.specs.Valid.{FitsEntry}
 use Rattle.bytes_records.specs.PositionsLaws.{first_index_map}
 use Rattle.bytes_records.specs.Search.{is_above}
-use Rattle.bytes_records.specs.declared.Found.TheVariants.{At}
 use Rattle.panel_plan.specs.PlanRows.{planned_entry_row}
 use Rattle.panel_entries.specs.EntryRowsLaws.{planned_keyed, entry_above, entries_rising}
 use Rattle.panel_entries.specs.Places.{neighbour_of, place_before, PositionWithin}
 use Rattle.panel_entries.proofs.Entries.{within_position}
 use Rattle.panel_entries.proofs.find.seek_place.Goals as goal
+use Rattle.std.specs.Prelude.{Some}
 
 pub returns-then-placed : goal.returns-then-placed
 unfolding place_before neighbour_of
@@ -25,6 +25,6 @@ returns c =
     record {
       first = (λ es fit grouped t.
           rw c.if-placed.false
-          (ap At (c.find_above.ensures.first (map planned_entry_row es) t (entries_rising planned_keyed es fit grouped) ∙ first_index_map planned_entry_row (is_above c.args.collection) (is_later c.args.collection) es (all_map FitsEntry _ (entry_above planned_keyed c.args.collection) es fit))));
+          (ap Some (c.find_above.ensures.first (map planned_entry_row es) t (entries_rising planned_keyed es fit grouped) ∙ first_index_map planned_entry_row (is_above c.args.collection) (is_later c.args.collection) es (all_map FitsEntry _ (entry_above planned_keyed c.args.collection) es fit))));
       within = c.find_above.ensures.within;
     }

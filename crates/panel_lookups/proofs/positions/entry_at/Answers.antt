@@ -7,15 +7,15 @@ use Rattle.panel_rows.specs.Rows.{entry_row}
 use Rattle.panel_lookups.specs.Nth.{Nth, entry_lookup}
 use Rattle.panel_lookups.proofs.positions.entry_at.Goals as goal
 
-pub returns-in-At : goal.returns-in-At
+pub returns-in-Some : goal.returns-in-Some
 unfolding entry_at entries_of
-returns-in-At c =
+returns-in-Some c =
     λ p s v.
-    let nth = subst (Nth c.args.collection c.args.position p.entries) c.in-At.is (c.find_nth.ensures p.entries v.fit_entries s.rows) in
+    let nth = subst (Nth c.args.collection c.args.position p.entries) c.in-Some.is (c.find_nth.ensures p.entries v.fit_entries s.rows) in
     c.stored_entry.ensures nth.entry nth.fits (c.record_at.ensures.row (map entry_row p.entries) s.rows ∙ nth.row) ∙ sym (ap entry_lookup nth.is)
 
-pub returns-in-Absent : goal.returns-in-Absent
+pub returns-in-None : goal.returns-in-None
 unfolding entry_at entries_of
-returns-in-Absent c =
+returns-in-None c =
     λ p s v.
-    c.no_entry.ensures ∙ sym (ap entry_lookup (subst (Nth c.args.collection c.args.position p.entries) c.in-Absent.is (c.find_nth.ensures p.entries v.fit_entries s.rows)))
+    c.no_entry.ensures ∙ sym (ap entry_lookup (subst (Nth c.args.collection c.args.position p.entries) c.in-None.is (c.find_nth.ensures p.entries v.fit_entries s.rows)))

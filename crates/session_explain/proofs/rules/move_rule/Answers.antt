@@ -6,8 +6,8 @@ use Rattle.session_explain.specs.RulesLaws.{rule_move_no_neighbour, rule_move_ab
 use borrow.Author.Rules.{rules}
 use Rattle.session_explain.proofs.rules.move_rule.Goals as goal
 
-pub returns-in-At : goal.returns-in-At
-returns-in-At c = λ p s v. rule_move_no_neighbour p _ _ _ _ (sym (c.find_entry.ensures.first planned_entry_row planned_keyed p.entries v.fit_entries v.entries s.rows) ∙ c.in-At.is)
+pub returns-in-Some : goal.returns-in-Some
+returns-in-Some c = λ p s v. rule_move_no_neighbour p _ _ _ _ (sym (c.find_entry.ensures.first planned_entry_row planned_keyed p.entries v.fit_entries v.entries s.rows) ∙ c.in-Some.is)
 
-pub returns-in-Absent : goal.returns-in-Absent
-returns-in-Absent c = λ p s v. rule_move_absent p _ _ _ (sym (c.find_entry.ensures.first planned_entry_row planned_keyed p.entries v.fit_entries v.entries s.rows) ∙ c.in-Absent.is)
+pub returns-in-None : goal.returns-in-None
+returns-in-None c = λ p s v. rule_move_absent p _ _ _ (sym (c.find_entry.ensures.first planned_entry_row planned_keyed p.entries v.fit_entries v.entries s.rows) ∙ c.in-None.is)

@@ -46,23 +46,23 @@ overflow_add-end c = omega (arith, placed c)
 pub slice_bounds-compare-end : goal.slice_bounds-compare-end
 slice_bounds-compare-end c = omega (arith, placed c)
 
-pub loop-low-preserved-in-Below : goal.loop-low-preserved-in-Below
-loop-low-preserved-in-Below c = (
+pub loop-low-preserved-in-Less : goal.loop-low-preserved-in-Less
+loop-low-preserved-in-Less c = (
   search rules,
   search rules,
-  λ m t a. between_above (leading_numbers row_fields) [] _ m a _ _ (middle (goal.at.loop-low-preserved-in-Below c).At-loop-low) (c.loop-low.invariant.2 m t a) (omega (arith, t.counted)) (compared-row (goal.at.loop-low-preserved-in-Below c).After-compare m t ∙ c.in-Below.is),
+  λ m t a. between_above (leading_numbers row_fields) [] _ m a _ _ (middle (goal.at.loop-low-preserved-in-Less c).At-loop-low) (c.loop-low.invariant.2 m t a) (omega (arith, t.counted)) (compared-row (goal.at.loop-low-preserved-in-Less c).After-compare m t ∙ c.in-Less.is),
 )
 
-pub returns-in-Same : goal.returns-in-Same
+pub returns-in-Equal : goal.returns-in-Equal
 unfolding PlaceWithin
-returns-in-Same c =
-    record { first = (λ m t a. sym (between_taken (leading_numbers row_fields) [] _ m a _ _ (middle (goal.at.returns-in-Same c).At-loop-low) (c.loop-low.invariant.2 m t a) (omega (arith, t.counted)) (compared-row (goal.at.returns-in-Same c).After-compare m t ∙ c.in-Same.is))); within = search rules }
+returns-in-Equal c =
+    record { first = (λ m t a. sym (between_taken (leading_numbers row_fields) [] _ m a _ _ (middle (goal.at.returns-in-Equal c).At-loop-low) (c.loop-low.invariant.2 m t a) (omega (arith, t.counted)) (compared-row (goal.at.returns-in-Equal c).After-compare m t ∙ c.in-Equal.is))); within = search rules }
 
 pub loop-low-preserved : goal.loop-low-preserved
 loop-low-preserved c = (
   search rules,
   search rules,
-  λ m t a. between_below (leading_numbers row_fields) [] _ m a _ _ (middle (goal.at.loop-low-preserved c).At-loop-low) (c.loop-low.invariant.2 m t a) (omega (arith, t.counted)) (compared-row (goal.at.loop-low-preserved c).After-compare m t ∙ c.in-Above.is),
+  λ m t a. between_below (leading_numbers row_fields) [] _ m a _ _ (middle (goal.at.loop-low-preserved c).At-loop-low) (c.loop-low.invariant.2 m t a) (omega (arith, t.counted)) (compared-row (goal.at.loop-low-preserved c).After-compare m t ∙ c.in-Greater.is),
 )
 
 pub returns : goal.returns

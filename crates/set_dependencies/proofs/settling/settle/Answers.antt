@@ -31,7 +31,7 @@ again : (k : After-settle_again) (b : Bool) → k.settle_again.result ≡ b → 
     → SettlesAgain (settled k t) k.args.places.count b k.settle_again.new.rows
 again k b is t s =
     subst (λ (b : Bool). SettlesAgain (settled k t) k.args.places.count b k.settle_again.new.rows) is
-    (k.settle_again.ensures t (rows_lent s) (placed (goal.at.After-settle_again k).After-find_by_halving t s ∙ k.in-Taken.is))
+    (k.settle_again.ensures t (rows_lent s) (placed (goal.at.After-settle_again k).After-find_by_halving t s ∙ k.in-Ok.is))
 
 pub returns-then-table-places : goal.returns-then-table-places
 returns-then-table-places c = λ t s room. absurd (omega (arith, s.rows.size, s.rows.low, c.if-table-places.true))
@@ -42,6 +42,6 @@ returns-then-settle_again c = λ t s room. settles_in s (settled (goal.at.return
 pub returns-else-settle_again : goal.returns-else-settle_again
 returns-else-settle_again c = λ t s room. contradicts_in (settled (goal.at.returns-else-settle_again c).After-settle_again t) c.args.places.count c.settle_again.new.rows _ (again (goal.at.returns-else-settle_again c).After-settle_again _ c.if-settle_again.false t s)
 
-pub returns-in-Before : goal.returns-in-Before
-returns-in-Before c = λ t s room.
-    c.settle_first.ensures t s (placed (goal.at.returns-in-Before c).After-find_by_halving t s ∙ c.in-Before.is) room
+pub returns-in-Err : goal.returns-in-Err
+returns-in-Err c = λ t s room.
+    c.settle_first.ensures t s (placed (goal.at.returns-in-Err c).After-find_by_halving t s ∙ c.in-Err.is) room

@@ -8,13 +8,13 @@ use Rattle.spec_patch.specs.Fits.{U64}
 use Rattle.spec_dependencies.specs.Expectations.{Expectation}
 use Rattle.spec_dependencies.specs.Settled.{Settled, settled_key, settled_by}
 use Rattle.bytes_records.specs.Search.{place_of}
-use Rattle.bytes_records.specs.declared.Place.TheVariants.{Taken}
 use Rattle.set_dependencies.specs.SettledRows.{settled_row, settled_of, SettledTable}
 use Rattle.set_dependencies.specs.SettledRowsLaws.{no_key, row_of, row_fits, not_true, not_false}
 use Rattle.set_dependencies.specs.Settling.{expected_of, expectation_of}
 use Rattle.set_dependencies.specs.SettlingLaws.{old_within, contradicts_old, settles_again}
 use Rattle.set_dependencies.proofs.settling.settle_again.Goals as goal
 use Rattle.set_dependencies.proofs.settling.settle_again.Goals.{After-settled_key-old}
+use Rattle.std.specs.Prelude.{Ok}
 
 module _ (k : After-settled_key-old) where
   abbrev e : Expectation
@@ -23,7 +23,7 @@ module _ (k : After-settled_key-old) where
   fits : U64 k.args.collection × U64 k.args.key
   fits = (k.ranges.collection.fits, k.ranges.key.fits)
 
-  module _ (t : List Settled) (s : SettledTable k.args.count k.args.rows.now t) (is : place_of settled_key (k.args.collection ∷ k.args.key ∷ []) t ≡ Taken k.args.at) where
+  module _ (t : List Settled) (s : SettledTable k.args.count k.args.rows.now t) (is : place_of settled_key (k.args.collection ∷ k.args.key ∷ []) t ≡ Ok k.args.at) where
     -- what was read is the key's row
     old_is : settled_of k.settled_key-old.result ≡ get_or t k.args.at no_key
     old_is =
