@@ -54,12 +54,9 @@ pub fn pair_numbers(
     ensures { result ≡ flat_map pair_numbers pairs }
 {
     let mut numbers = [0u64; ActiveProjectionTargetCatalog::PAIR_NUMBERS];
-    let mut i = 0;
-    while i < ActiveProjectionTargetCatalog::ANCHORS {
-        let pair = pairs[i];
+    for (i, pair) in pairs.iter().enumerate() {
         numbers[2 * i] = pair.node;
         numbers[2 * i + 1] = pair.slot as u64;
-        i += 1;
     }
     numbers
 }
@@ -69,13 +66,7 @@ pub fn padded_ids(ids: &[u64]) -> [u64; ActiveProjectionTargetCatalog::ANCHORS]
     ensures { result ≡ padded_pairs 0 ids.now }
 {
     let mut anchors = [0u64; ActiveProjectionTargetCatalog::ANCHORS];
-    let mut i = 0;
-    while i < ActiveProjectionTargetCatalog::ANCHORS {
-        if ids.len() <= i {
-            return anchors;
-        }
-        anchors[i] = ids[i];
-        i += 1;
-    }
+    let count = ids.len().min(ActiveProjectionTargetCatalog::ANCHORS);
+    anchors[..count].copy_from_slice(&ids[..count]);
     anchors
 }

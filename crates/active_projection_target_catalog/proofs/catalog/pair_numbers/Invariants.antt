@@ -1,17 +1,10 @@
-use Prim.Native.Nat.{◌-◌, ◌*◌, ◌≤◌}
+use Prim.Native.Nat.{◌*◌}
 use mathlib.Core.Path.{◌≡◌}
-use native.Mathlib.Omega.{arith}
 use mathlib.Core.List.{flat_map}
 use lib.ListN.{length, take}
 use Rattle.spec_patch.specs.Sizes.{anchors}
 use Rattle.active_projection_target_catalog.specs.Catalog.{pair_numbers}
-use Rattle.active_projection_target_catalog.proofs.CatalogLaws.{one_more_pair, all_pairs}
-use borrow.Author.Rules.{rules}
-use Rattle.spec_lists.proofs.ListLaws.{unmapped}
 use Rattle.active_projection_target_catalog.proofs.catalog.pair_numbers.Given as goal
 
 abbrev pub invariant-loop-i : goal.invariant-loop-i
-invariant-loop-i l = (l.i ≤ anchors) × ((length l.numbers ≡ 2 * anchors) × (take (2 * l.i) l.numbers ≡ flat_map pair_numbers (take l.i l.pairs)))
-
-abbrev pub decreases-loop-i : goal.decreases-loop-i
-decreases-loop-i l = anchors - l.i
+invariant-loop-i l = (length l.numbers ≡ 2 * anchors) × (take (2 * l.i) l.numbers ≡ flat_map pair_numbers (take l.i l.fn.pairs))

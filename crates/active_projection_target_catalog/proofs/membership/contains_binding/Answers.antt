@@ -1,18 +1,10 @@
-use Prim.Native.Nat.{◌-◌, ◌≤◌}
-use mathlib.Core.Path.{◌≡◌, sym, ◌∙◌}
-use lib.ListN.{length, drop, length-drop}
-use Rattle.active_projection_target_catalog.specs.Catalog.{pair_seen}
-use Rattle.active_projection_target_catalog.proofs.CatalogLaws.{pair_seen_here, pair_seen_on, pair_seen_end}
-use borrow.Author.Rules.{rules}
+-- `contains_binding` meets its contract: the pairs of numbers are those that the list is made of.
+use Rattle.std.specs.Prelude.{eqb, [], ◌∷◌}
+use Rattle.std.specs.List.{list_any}
+use Rattle.std.proofs.Common.{ap, ◌∙◌}
+use lib.Pointwise.{pointwise}
+use Rattle.active_projection_target_catalog.proofs.CatalogLaws.{seen_in_pairs}
 use Rattle.active_projection_target_catalog.proofs.membership.contains_binding.Goals as goal
 
-pub returns-then-same_pair : goal.returns-then-same_pair
-returns-then-same_pair c =
-    sym (c.loop-i.invariant.1 ∙ pair_seen_here _ _ _ c.loop-i.i (search rules) (sym c.same_pair.ensures ∙ c.if-same_pair.true))
-
-pub loop-i-preserved : goal.loop-i-preserved
-loop-i-preserved c =
-    (search rules, c.loop-i.invariant.1 ∙ pair_seen_on _ _ _ c.loop-i.i (search rules) (sym c.same_pair.ensures ∙ c.if-same_pair.false))
-
 pub returns : goal.returns
-returns c = sym (c.loop-i.invariant.1 ∙ pair_seen_end _ _ _ (simp length-drop (search rules)))
+returns c = c.contains.ensures.value ∙ ap (list_any (λ y. pointwise eqb y (c.args.node ∷ c.args.slot ∷ []))) c.as_chunks.ensures.front ∙ seen_in_pairs _ _ _

@@ -1,5 +1,4 @@
 use Rattle.active_projection_target_catalog.specs.Catalog.{catalog_with}
-use borrow.Author.Rules.{rules}
 use Rattle.active_projection_target_catalog.proofs.catalog.ActiveProjectionTargetCatalog.from_snapshot.Goals as goal
 
 pub returns : goal.returns
