@@ -3,9 +3,7 @@ use Prim.Native.Nat.{ℕ, ◌-◌, ◌≤◌, ◌<◌}
 use mathlib.Core.Path.{◌≡◌}
 use mathlib.Core.Bool.{true, false}
 use native.Mathlib.Omega.{arith}
-use lib.Dec.{leb}
-use borrow.Author.Tests.{le-leb, lt-leb, leb-true, leb-false}
-use Rattle.spec_lists.proofs.ListLaws.{test_cases}
+use borrow.Author.Tests.{le-leb, lt-leb}
 use Rattle.bytes_hex.specs.Decoding.{is_hex_digit, hex_value}
 
 module _ (b : ℕ) where
@@ -30,6 +28,3 @@ module _ (b : ℕ) where
   unfolding is_hex_digit hex_value
   above_letters h =
       (rw (le-leb 48 b (omega arith), lt-leb b 57 (omega arith), le-leb 97 b (omega arith), lt-leb b 102 h), rw (le-leb 48 b (omega arith), lt-leb b 57 (omega arith), le-leb 97 b (omega arith), lt-leb b 102 h))
-
-  pub letter_test : 97 ≤ b → is_hex_digit b ≡ leb b 102
-  letter_test h = test_cases (leb b 102) (λ t. rw t (letter h (omega (arith, leb-true b 102 t))).0) (λ t. rw t (above_letters (omega (arith, leb-false b 102 t))).0)

@@ -1,11 +1,11 @@
 -- What decoding answers and writes, and the steps of decoding.
-use Rattle.std.specs.Prelude.{ℕ, ◌+◌, ◌-◌, ◌*◌, ◌%◌, Bool, ◌&&◌, ◌||◌, List, [], ◌∷◌, leb, eqb, length, if◌then◌else◌}
+use Rattle.std.specs.Prelude.{ℕ, ◌+◌, ◌-◌, ◌*◌, ◌%◌, Bool, ◌&&◌, ◌||◌, List, [], ◌∷◌, leb, eqb, length, if◌then◌else◌, Result, Ok, Err}
 use Rattle.std.proofs.Math.Option.{Option, none, some}
 use Rattle.spec_lists.specs.Lists.{between, all}
 use Rattle.spec_decimal.specs.Decimal.{is_digit}
 use Rattle.bytes_wire.specs.Write.{overwrite}
-use Rattle.bytes_hex.specs.declared.Decoded.{Decoded}
-use Rattle.bytes_hex.specs.declared.Decoded.TheVariants as Answer
+use Rattle.bytes_hex.specs.declared.HexRefusal.{HexRefusal}
+use Rattle.bytes_hex.specs.declared.HexRefusal.TheVariants.{Malformed, NoRoom}
 
 -- ---- the steps
 
@@ -29,9 +29,9 @@ pair_bytes (h ∷ l ∷ rest) = (16 * hex_value h + hex_value l) ∷ pair_bytes 
 -- ---- the answer
 
 -- of what a text spells, with so much room
-unfoldable pub decoding : ℕ → Option (List ℕ) → Decoded
-decoding room none = Answer.Malformed
-decoding room (some bs) = if leb (length bs) room then Answer.Bytes (length bs) else Answer.NoRoom
+unfoldable pub decoding : ℕ → Option (List ℕ) → Result ℕ HexRefusal
+decoding room none = Err Malformed
+decoding room (some bs) = if leb (length bs) room then Ok (length bs) else Err NoRoom
 
 -- the lent bytes after the call: those that were decoded from the start on, then what stood there; unchanged where there is no room
 unfoldable pub decoded_into : List ℕ → Option (List ℕ) → List ℕ

@@ -1,5 +1,5 @@
 -- Pairs of digits as the steps read them, and what a caller knows of decoded bytes.
-use Rattle.std.specs.Prelude.{ℕ, zero, suc, ◌+◌, ◌-◌, ◌*◌, ◌/◌, ◌%◌, ◌≤◌, ◌<◌, ◌≡◌, refl, Bool, true, false, ◌&&◌, List, [], ◌∷◌, leb, eqb, length, get_or, take, if◌then◌else◌}
+use Rattle.std.specs.Prelude.{ℕ, zero, suc, ◌+◌, ◌*◌, ◌/◌, ◌%◌, ◌≤◌, ◌<◌, ◌≡◌, refl, Bool, true, false, ◌&&◌, List, [], ◌∷◌, leb, eqb, length, get_or, take, if◌then◌else◌, Ok, Err}
 use Rattle.std.proofs.Common.{sym, ap, ◌∙◌, arith, le-leb, leb-true}
 use Rattle.std.proofs.Math.Option.{Option, none, some}
 use Rattle.spec_lists.specs.Lists.{all, equal_lists}
@@ -8,7 +8,7 @@ use Rattle.spec_decimal.specs.Decimal.{is_digit}
 use Rattle.spec_replay.specs.Hex.{hex_digit, hex_byte, cons, hex_pairs, read_hex}
 use Rattle.bytes_wire.specs.Write.{has_room, overwrite}
 use Rattle.bytes_wire.proofs.WriteLaws.{has_room_lem, take_overwrite}
-use Rattle.bytes_hex.specs.declared.Decoded.TheVariants as Answer
+use Rattle.bytes_hex.specs.declared.HexRefusal.TheVariants.{NoRoom}
 use Rattle.bytes_hex.specs.Decoding.{is_hex_digit, hex_value, is_pairs, pair_bytes, decoding, decoded_into}
 
 pub digit_some : (b : ℕ) → is_hex_digit b ≡ true → hex_digit b ≡ some (hex_value b)
@@ -60,7 +60,7 @@ pair_bytes_at (x ∷ y ∷ rest) (suc i) h =
 -- ---- callers
 
 -- where so many bytes were decoded, they are what the text spells
-pub decoded_part : (out : List ℕ) (x : Option (List ℕ)) (n : ℕ) → decoding (length out) x ≡ Answer.Bytes n → x ≡ some (take n (decoded_into out x))
+pub decoded_part : (out : List ℕ) (x : Option (List ℕ)) (n : ℕ) → decoding (length out) x ≡ Ok n → x ≡ some (take n (decoded_into out x))
 unfolding decoding decoded_into
 decoded_part out none n e = cc
 decoded_part out (some bs) n e =
@@ -94,11 +94,11 @@ decoded_length (b ∷ text) bs e =
     (λ t. pairs_length (b ∷ text) bs (rw t at e))
 
 -- with room for half of a text there is always room
-pub always_room : (text : List ℕ) (room : ℕ) → length text ≤ 2 * room → decoding room (read_hex text) ≡ Answer.NoRoom → ⊥
+pub always_room : (text : List ℕ) (room : ℕ) → length text ≤ 2 * room → decoding room (read_hex text) ≡ Err NoRoom → ⊥
 unfolding decoding
 always_room text room h = by_reading (read_hex text) refl
   where
-    by_reading : (x : Option (List ℕ)) → read_hex text ≡ x → decoding room x ≡ Answer.NoRoom → ⊥
+    by_reading : (x : Option (List ℕ)) → read_hex text ≡ x → decoding room x ≡ Err NoRoom → ⊥
     by_reading none e n = let z : ◌≡◌ {A = ℕ} 0 1 = cc in omega arith
     by_reading (some bs) e n =
         let room-left : length bs ≤ room = omega (arith, decoded_length text bs e) in

@@ -4,15 +4,15 @@ ghost use mathlib.Core.List.{flat_map};
 ghost use Rattle.spec_replay.specs.Hex.{hex_character, byte_pair, hex_field};
 ghost use Rattle.bytes_printer.specs.Prints.{spaced_field, Prints, Within};
 
-
 fn hex_character(digit: u8) -> u8
     requires { digit < 16 }
     ensures { result ≡ hex_character digit }
 {
     if digit < 10 {
-        return 48 + digit;
+        b'0' + digit
+    } else {
+        b'a' + (digit - 10)
     }
-    87 + digit
 }
 
 fn print_pair(out: &mut [u8], at: Option<usize>, byte: u8) -> Option<usize>
@@ -29,10 +29,8 @@ fn print_pairs(out: &mut [u8], from: Option<usize>, bytes: &[u8]) -> Option<usiz
         → Prints out.old from (flat_map byte_pair bytes.now) out.new result }
 {
     let mut at = from;
-    let mut i: usize = 0;
-    while i < bytes.len() {
-        at = print_pair(out, at, bytes[i]);
-        i += 1;
+    for &byte in bytes {
+        at = print_pair(out, at, byte);
     }
     at
 }

@@ -17,7 +17,7 @@ ghost use Rattle.script_parser.specs.Fields.{fields_after};
 ghost use Rattle.script_parser.specs.Forms.{last_arguments, form_arguments, form_count, form_at};
 ghost use Rattle.script_parser.specs.Meaning.{script_command_of};
 
-use bytes_hex::Decoded;
+use bytes_hex::HexRefusal;
 use fields::{HexField, NumberFields};
 use projection_patch::patch::{ProjectionPatchEdition, ProjectionPatchEnvelope};
 use session_lifecycle::lifecycle::ShellTransitionInput;
@@ -179,13 +179,10 @@ pub fn parse_line(line: &[u8]) -> ScriptCommand
 }
 
 // Decodes the hex that starts at index from and reaches to the end of the line.
-pub fn decode_set(line: &[u8], from: usize, out: &mut [u8]) -> Decoded
+pub fn decode_set(line: &[u8], from: usize, out: &mut [u8]) -> Result<usize, HexRefusal>
     ensures value { result ≡ decoding (length out.old) (read_hex (drop from line.now)) }
     ensures out_after { out.new ≡ decoded_into out.old (read_hex (drop from line.now)) }
 {
-    if from < line.len() {
-        bytes_hex::decode_hex(&line[from..], out)
-    } else {
-        Decoded::Malformed
-    }
+    let text = line.get(from..).ok_or(HexRefusal::Malformed)?;
+    bytes_hex::decode_hex(text, out)
 }

@@ -10,7 +10,6 @@ ghost use Rattle.script_parser.specs.Meaning.{member_of, first_members, set_from
 ghost use Rattle.script_calls.specs.ReplayHolds.{ReplayHolds, ReplayStepped};
 
 use crate::setup_lines;
-use bytes_hex::Decoded;
 use script_calls::groups;
 use script_calls::state::{ReplayState, ReplayStep};
 use script_parser::members::GroupFields;
@@ -72,9 +71,8 @@ fn send_group(
     let batches = first_batches(members);
     let mut sets = [0u8; SETS_BYTES];
     match script_parser::decode_set(line, from, &mut sets) {
-        Decoded::Bytes(len) => groups::apply_group(state, batches, count, &sets[0..len], out),
-        Decoded::Malformed => setup_lines::other(state, number, out),
-        Decoded::NoRoom => setup_lines::other(state, number, out),
+        Ok(len) => groups::apply_group(state, batches, count, &sets[0..len], out),
+        Err(_) => setup_lines::other(state, number, out),
     }
 }
 

@@ -11,7 +11,6 @@ ghost use Rattle.script_parser.specs.Meaning.{set_from, with_set_of};
 ghost use Rattle.script_calls.specs.ReplayHolds.{ReplayHolds, ReplayStepped};
 
 use crate::{batch_lines, dependency_lines, import_lines, setup_lines};
-use bytes_hex::Decoded;
 use projection_patch::patch::ProjectionPatchEdition;
 use script_calls::state::{ReplayState, ReplayStep};
 use script_parser::SetLine;
@@ -110,8 +109,7 @@ pub(crate) fn run_with_set(
 {
     let mut set = [0u8; SET_BYTES];
     match script_parser::decode_set(line, from, &mut set) {
-        Decoded::Bytes(len) => use_set(state, wanted, &set[0..len], out),
-        Decoded::Malformed => setup_lines::other(state, number, out),
-        Decoded::NoRoom => setup_lines::other(state, number, out),
+        Ok(len) => use_set(state, wanted, &set[0..len], out),
+        Err(_) => setup_lines::other(state, number, out),
     }
 }

@@ -7,7 +7,6 @@ ghost use Rattle.std.specs.Prelude.{◌-◌, ◌≤◌, length};
 
 mod lists;
 
-use bytes_hex::Decoded;
 use patch_writer::set::write_patch_set;
 use projection_patch::patch::{ProjectionPatchEdition, ProjectionPatchSet};
 use std::io;
@@ -71,7 +70,7 @@ fn rewrite(rt: &impl Print, set: &[u8]) -> io::Result<()> {
 
 fn rewrite_line(rt: &impl Print, line: &[u8]) -> io::Result<()> {
     let mut set = [0u8; ProjectionPatchSet::BYTES];
-    if let Decoded::Bytes(n) = bytes_hex::decode_hex(line, &mut set) {
+    if let Ok(n) = bytes_hex::decode_hex(line, &mut set) {
         if n <= ProjectionPatchSet::BYTES {
             return rewrite(rt, &set[0..n]);
         }
