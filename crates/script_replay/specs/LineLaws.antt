@@ -1,6 +1,6 @@
 -- Laws of the lines: what prints nothing, and what a decoded set is.
 use Rattle.std.specs.Prelude as code
-use Rattle.std.specs.Prelude.{ℕ, ◌-◌, ◌≤◌, ◌<◌, Bool, List, [], drop, if◌then◌else◌, Some}
+use Rattle.std.specs.Prelude.{ℕ, ◌-◌, ◌≤◌, ◌<◌, Bool, List, [], drop, if◌then◌else◌, Some, Result, Ok, Err}
 use Rattle.std.proofs.Math.Path.{◌≡◌, refl, ap}
 use Rattle.std.proofs.Common.{sym, subst, ◌∙◌, length-drop}
 use Rattle.std.proofs.Math.Bool.{true, false}
@@ -14,8 +14,8 @@ use Rattle.spec_replay.specs.Script.{Command, other, line_bytes, given, command}
 use Rattle.spec_replay.specs.Replay.{State, onward, replay_line}
 use Rattle.bytes_printer.specs.Prints.{Prints}
 use Rattle.bytes_printer.proofs.PrintsLaws.{nothing_printed}
-use Rattle.bytes_hex.specs.declared.Decoded.{Decoded}
-use Rattle.bytes_hex.specs.declared.Decoded.TheVariants as decoded
+use Rattle.bytes_hex.specs.declared.HexRefusal.{HexRefusal}
+use Rattle.bytes_hex.specs.declared.HexRefusal.TheVariants.{Malformed, NoRoom}
 use Rattle.bytes_hex.specs.Decoding.{decoding, decoded_into}
 use Rattle.bytes_hex.specs.DecodingLaws.{decoded_part, always_room}
 use Rattle.script_parser.specs.Meaning.{set_from, setup_of, script_command_of}
@@ -57,10 +57,10 @@ parsed_as line p c told e = ap (script_command_of line) (sym e) ∙ told
 
 -- ---- sets in hex
 
-module _ (line : List ℕ) (from : ℕ) (next : List ℕ → Command) (lent after : List ℕ) (r : Decoded)
+module _ (line : List ℕ) (from : ℕ) (next : List ℕ → Command) (lent after : List ℕ) (r : Result ℕ HexRefusal)
     (told : r ≡ decoding (length lent) (read_hex (drop from line))) where
   -- the bytes that were decoded
-  pub set_is : after ≡ decoded_into lent (read_hex (drop from line)) → (n : ℕ) → r ≡ decoded.Bytes n → set_from line from next ≡ next (take (n - 0) after)
+  pub set_is : after ≡ decoded_into lent (read_hex (drop from line)) → (n : ℕ) → r ≡ Ok n → set_from line from next ≡ next (take (n - 0) after)
   unfolding given
   set_is left n e =
       let same : n - 0 ≡ n = omega arith in
@@ -68,30 +68,35 @@ module _ (line : List ℕ) (from : ℕ) (next : List ℕ → Command) (lent afte
       ap (λ (o : Option (List ℕ)). given o next) one ∙ ap next (ap (take n) (sym left) ∙ ap (λ (k : ℕ). take k after) (sym same))
 
   -- they are within what was lent
-  pub set_within : (n : ℕ) → r ≡ decoded.Bytes n → n ≤ length lent
+  pub set_within : (n : ℕ) → r ≡ Ok n → n ≤ length lent
   unfolding decoding
   set_within n e = go (read_hex (drop from line)) (sym told ∙ e)
     where
-      go : (o : Option (List ℕ)) → decoding (length lent) o ≡ decoded.Bytes n → n ≤ length lent
+      go : (o : Option (List ℕ)) → decoding (length lent) o ≡ Ok n → n ≤ length lent
       go none h = absurd (let z : ◌≡◌ {A = ℕ} 0 1 = cc in omega arith)
       go (some bs) h = by (leb (length bs) (length lent)) refl h
         where
-          by : (t : Bool) → leb (length bs) (length lent) ≡ t → (if t then decoded.Bytes (length bs) else decoded.NoRoom) ≡ decoded.Bytes n → n ≤ length lent
+          by : (t : Bool) → leb (length bs) (length lent) ≡ t → (if t then Ok (length bs) else Err NoRoom) ≡ Ok n → n ≤ length lent
           by true few h = let same : length bs ≡ n = cc in omega (arith, leb-true (length bs) (length lent) few)
           by false few h = absurd (let z : ◌≡◌ {A = ℕ} 0 1 = cc in omega arith)
 
-  pub no_set_bytes : r ≡ decoded.Malformed → set_from line from next ≡ other
+  pub no_set_bytes : r ≡ Err Malformed → set_from line from next ≡ other
   unfolding given decoding
   no_set_bytes e = go (read_hex (drop from line)) (sym told ∙ e)
     where
-      go : (o : Option (List ℕ)) → decoding (length lent) o ≡ decoded.Malformed → given o next ≡ other
+      go : (o : Option (List ℕ)) → decoding (length lent) o ≡ Err Malformed → given o next ≡ other
       go none h = refl
       go (some bs) h = never (leb (length bs) (length lent)) h
         where
-          never : (t : Bool) → (if t then decoded.Bytes (length bs) else decoded.NoRoom) ≡ decoded.Malformed → next bs ≡ other
+          never : (t : Bool) → (if t then Ok (length bs) else Err NoRoom) ≡ Err Malformed → next bs ≡ other
           never true h = absurd (let z : ◌≡◌ {A = ℕ} 0 1 = cc in omega arith)
           never false h = absurd (let z : ◌≡◌ {A = ℕ} 0 1 = cc in omega arith)
 
   -- there is always room for what a line spells
-  pub line_has_room : 65536 ≤ length lent → length line ≤ line_bytes → r ≡ decoded.NoRoom → ⊥
+  pub line_has_room : 65536 ≤ length lent → length line ≤ line_bytes → r ≡ Err NoRoom → ⊥
   line_has_room room short e = always_room (drop from line) (length lent) (omega (arith, length-drop from line)) (sym told ∙ e)
+
+  -- whatever the refusal, the line spells no set
+  pub no_set : 65536 ≤ length lent → length line ≤ line_bytes → (e : HexRefusal) → r ≡ Err e → set_from line from next ≡ other
+  no_set room short Malformed e = no_set_bytes e
+  no_set room short NoRoom e = absurd (line_has_room room short e)
